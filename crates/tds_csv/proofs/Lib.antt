@@ -1,0 +1,12 @@
+pub mod ConversionLaws
+pub mod Rows
+pub mod Utf8Test
+pub mod Characters
+pub mod Utf16Steps
+pub mod Leading
+pub mod Utf8Stops
+pub mod Utf8Pushing
+pub mod Cuts
+pub mod Spares
+pub mod Sinks
+pub mod Singles

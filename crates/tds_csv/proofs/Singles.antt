@@ -1,0 +1,26 @@
+-- Data whose bytes each stand alone, put a run after the other.
+use Rattle.std.proofs.Common.{◌≡◌, ◌∙◌, ◌≤◌, ℕ, ◌-◌, List, ◌++◌, take, drop, sym, ap, subst, arith}
+use Rattle.std.proofs.lemmas.List.{take-append-drop}
+use lib.Seq.{take-add}
+use Rattle.tds_packet.specs.declared.fault.Stop.{Stop}
+use Rattle.tds_csv.specs.Sinks.{Held, Puts, Breaks}
+use Rattle.tds_csv.proofs.Sinks.{Puts-trans, Breaks-after, Breaks-longer}
+
+pub joined : (t e : ℕ) (xs : List ℕ) → t ≤ e → take t xs ++ take (e - t) (drop t xs) ≡ take e xs
+joined t e xs h = sym (take-add t (e - t) xs) ∙ ap (λ k. take k xs) {y = e} (omega arith)
+
+module _ (text : List ℕ → List ℕ) (appends : (x y : List ℕ) → text (x ++ y) ≡ text x ++ text y) where
+  runs : (t e : ℕ) (xs : List ℕ) → t ≤ e → text (take t xs) ++ text (take (e - t) (drop t xs)) ≡ text (take e xs)
+  runs t e xs h = sym (appends (take t xs) (take (e - t) (drop t xs))) ∙ ap text (joined t e xs h)
+
+  -- one more run was put
+  pub runs-more : (a b d : Held) (t e : ℕ) (xs : List ℕ) → t ≤ e → Puts a b (text (take t xs)) → Puts b d (text (take (e - t) (drop t xs))) → Puts a d (text (take e xs))
+  runs-more a b d t e xs h p q = subst (Puts a d) (runs t e xs h) (Puts-trans a b d (text (take t xs)) (text (take (e - t) (drop t xs))) p q)
+
+  -- a write failed in the next run
+  pub runs-break : (a b d : Held) (t e : ℕ) (xs : List ℕ) (stop : Stop) → t ≤ e → Puts a b (text (take t xs)) → Breaks b d (text (take (e - t) (drop t xs))) stop → Breaks a d (text xs) stop
+  runs-break a b d t e xs stop h p q =
+      let all : text (take e xs) ++ text (drop e xs) ≡ text xs = sym (appends (take e xs) (drop e xs)) ∙ ap text (take-append-drop e xs) in
+      let broke = Breaks-after a b d (text (take t xs)) (text (take (e - t) (drop t xs))) stop p q in
+      subst (λ l. Breaks a d l stop) all
+      (Breaks-longer a d (text (take e xs)) (text (drop e xs)) stop (subst (λ l. Breaks a d l stop) (runs t e xs h) broke))

@@ -1,0 +1,19 @@
+use Rattle.std.proofs.Common.{◌≡◌, ◌-◌, ◌≤◌, ℕ, List, false, length, drop}
+use Rattle.tds_csv.specs.Joining.{Leads}
+use Rattle.tds_csv.specs.Sinks.{held, Puts, IsReady, IsOnSameSink}
+use Rattle.tds_csv.specs.Utf16 as utf16
+use Rattle.tds_csv.proofs.utf16_joiner.put_from.Given as goal
+
+-- the text so far was put
+abbrev pub invariant-loop-at : goal.invariant-loop-at
+invariant-loop-at g l = record {
+  ready : IsReady l.sink;
+  same : IsOnSameSink l.initial.sink l.sink;
+  going : l.sink.failed ≡ false;
+  within : l.at ≤ length l.bytes;
+  after : l.from ≤ l.at;
+  puts : (out : List ℕ) × Puts (held g.W.Write.contents l.initial.sink) (held g.W.Write.contents l.sink) out × Leads utf16.rest utf16.text (drop l.from l.bytes) (drop l.at l.bytes) out;
+}
+
+abbrev pub decreases-loop-at : goal.decreases-loop-at
+decreases-loop-at g l = length l.bytes - l.at

@@ -1,0 +1,71 @@
+-- The conversions of the data of long values to text, by name, with tests of their facts.
+use Rattle.std.specs.Prelude.{ℕ, ◌==◌, ◌%◌, Bool, true, not, List, ◌∷◌, ◌++◌, length, is_some}
+use Rattle.std.specs.Str.{is_utf8}
+use Rattle.std.specs.Str.Lossy.{utf8_error_len}
+use Rattle.tds_csv.specs.Joining.{emit}
+use Rattle.tds_csv.specs.Quoting.{quote, quoted_field, binary_mark, binary_field}
+use Rattle.tds_csv.specs.Binary as binary
+use Rattle.tds_csv.specs.Windows1252 as windows_1252
+use Rattle.tds_csv.specs.Utf16 as utf16
+use Rattle.tds_csv.specs.Utf8 as utf8
+
+-- how the data of a long value becomes text
+pub data Conversion : Type 0 where
+  HexDigits : Conversion
+  Utf16Text : Conversion
+  Windows1252Text : Conversion
+  Utf8Text : Conversion
+
+-- the data is whole
+abbrev pub IsFit : Conversion → List ℕ → Type 0
+IsFit HexDigits bytes = binary.IsFit bytes
+IsFit Utf16Text bytes = utf16.IsFit bytes
+IsFit Windows1252Text bytes = windows_1252.IsFit bytes
+IsFit Utf8Text bytes = utf8.IsFit bytes
+
+-- some whole data begins so
+abbrev pub Begins : Conversion → List ℕ → Type 0
+Begins HexDigits bytes = binary.IsFit bytes
+Begins Utf16Text bytes = Unit {0}
+Begins Windows1252Text bytes = windows_1252.IsFit bytes
+Begins Utf8Text bytes = utf8.Begins bytes
+
+-- the bytes at the end whose text depends on what follows
+abbrev pub conversion_rest : Conversion → List ℕ → List ℕ
+conversion_rest HexDigits bytes = binary.rest bytes
+conversion_rest Utf16Text bytes = utf16.rest bytes
+conversion_rest Windows1252Text bytes = windows_1252.rest bytes
+conversion_rest Utf8Text bytes = utf8.rest bytes
+
+-- the text of whole data
+abbrev pub conversion_text : Conversion → List ℕ → List ℕ
+conversion_text HexDigits bytes = binary.text bytes
+conversion_text Utf16Text bytes = utf16.text bytes
+conversion_text Windows1252Text bytes = windows_1252.text bytes
+conversion_text Utf8Text bytes = utf8.text bytes
+
+-- how many bytes a unit of the data has
+abbrev pub unit : Conversion → ℕ
+unit Utf16Text = 2
+unit conversion = 1
+
+-- the test whether the data is whole
+abbrev pub is_fit : Conversion → List ℕ → Bool
+is_fit Utf16Text bytes = length bytes % 2 == 0
+is_fit Utf8Text bytes = is_utf8 bytes
+is_fit conversion bytes = true
+
+-- the test whether some whole data begins so: in UTF-8 std finds no fault behind the last whole character
+abbrev pub is_begun : Conversion → List ℕ → Bool
+is_begun Utf8Text bytes = not (is_some (utf8_error_len (utf8.rest bytes)))
+is_begun conversion bytes = true
+
+-- the field of whole data
+abbrev pub long_field : Conversion → List ℕ → List ℕ
+long_field HexDigits bytes = binary_field (conversion_text HexDigits bytes)
+long_field conversion bytes = quoted_field (conversion_text conversion bytes)
+
+-- the field of data that is still open
+abbrev pub open_field : Conversion → List ℕ → List ℕ
+open_field HexDigits bytes = binary_mark ++ emit (conversion_rest HexDigits) (conversion_text HexDigits) bytes
+open_field conversion bytes = quote ∷ emit (conversion_rest conversion) (conversion_text conversion) bytes

@@ -1,0 +1,38 @@
+-- A conversion of bytes that come in pieces. Each conversion has four words on the whole of the bytes so far:
+--     fit bytes      the bytes are whole, so they have a text
+--     begins bytes   bytes that are fit may begin so
+--     rest bytes     those at the end whose text depends on what follows
+--     text bytes     the text of fit bytes
+use Rattle.std.specs.Prelude.{◌≡◌, ℕ, ◌-◌, ◌≤◌, List, ◌++◌, length, take}
+
+-- the bytes without their rest
+abbrev pub settled : (List ℕ → List ℕ) → List ℕ → List ℕ
+settled rest bytes = take (length bytes - length (rest bytes)) bytes
+
+-- the text that is fixed whatever follows
+abbrev pub emit : (List ℕ → List ℕ) → (List ℕ → List ℕ) → List ℕ → List ℕ
+emit rest text bytes = text (settled rest bytes)
+
+-- what lets a joiner keep the rest alone and forget all else
+pub record JoinsPieces (fit begins : List ℕ → Type 0) (rest text : List ℕ → List ℕ) : Type 0 where
+  -- a piece adds the text of the rest followed by the piece
+  pub emits : (a b : List ℕ) → begins (a ++ b) → emit rest text (a ++ b) ≡ emit rest text a ++ emit rest text (rest a ++ b)
+  -- and leaves the rest of both
+  pub keeps : (a b : List ℕ) → begins (a ++ b) → rest (a ++ b) ≡ rest (rest a ++ b)
+  -- three bytes hold what is withheld
+  pub short : (bytes : List ℕ) → begins bytes → length (rest bytes) ≤ 3
+  -- at the end the text of the rest completes the text
+  pub ends : (bytes : List ℕ) → fit bytes → text bytes ≡ emit rest text bytes ++ text (rest bytes)
+  -- and the rest tells whether the bytes are fit
+  pub fit_rest : (bytes : List ℕ) → fit bytes → fit (rest bytes)
+  pub fit_whole : (bytes : List ℕ) → begins bytes → fit (rest bytes) → fit bytes
+  -- what begins, began at each moment before
+  pub front : (a b : List ℕ) → begins (a ++ b) → begins a
+  -- and what follows the rest may follow the whole, and the other way round
+  pub inward : (a b : List ℕ) → begins (a ++ b) → begins (rest a ++ b)
+  pub outward : (a b : List ℕ) → begins (rest a ++ b) → begins (a ++ b)
+
+-- the fixed text of some bytes is `out` and then that of others, after which as much is withheld
+pub record Leads (rest text : List ℕ → List ℕ) (bytes others out : List ℕ) : Type 0 where
+  pub emits : emit rest text bytes ≡ out ++ emit rest text others
+  pub keeps : rest bytes ≡ rest others

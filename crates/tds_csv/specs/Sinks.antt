@@ -1,0 +1,60 @@
+-- A sink as contracts see it, and what calls do to it.
+use Rattle.std.specs.Prelude.{◌≡◌, ℕ, ◌+◌, ◌-◌, ◌*◌, ◌^◌, ◌<◌, ◌≤◌, false, List, [], ◌++◌, length, take, Option}
+use Rattle.std.specs.Io.KnownBytes.{Appends}
+use Rattle.tds_meter.specs.Counts.{counted, one_more}
+use Rattle.tds_packet.specs.declared.fault.Fault.TheVariants.{WriteFailed}
+use Rattle.tds_packet.specs.declared.fault.Place.TheVariants.{Text}
+use Rattle.tds_packet.specs.declared.fault.Stop.{Stop}
+use Rattle.tds_csv.specs.declared.sink.Sink.{Sink}
+
+-- what the writer has, where that is known; what waits; how many bytes were delivered; and the writer's count of failures
+pub record Held : Type 0 where
+  pub had : Option (List ℕ)
+  pub waiting : List ℕ
+  pub delivered : ℕ
+  pub failures : ℕ
+
+-- the sink as contracts see it, where this tells the bytes that its writer has
+abbrev pub held : {W : Type 0} → (W → Option (List ℕ)) → Sink W → Held
+held contents s = record { had = contents s.to.now.device; waiting = s.output.now.bytes; delivered = s.delivered; failures = s.to.now.failures }
+
+-- a sink on a writer, to which nothing was put
+abbrev pub fresh : Option (List ℕ) → ℕ → Held
+fresh had failures = record { had = had; waiting = []; delivered = 0; failures = failures }
+
+-- A piece was added, and these bytes delivered: what is delivered and what waits grew by the piece.
+abbrev pub Adds : Held → Held → List ℕ → List ℕ → Type 0
+Adds old new sent piece = Appends old.had new.had sent × (old.waiting ++ piece ≡ sent ++ new.waiting) × (new.delivered ≡ counted old.delivered (length sent))
+
+-- the stop of a sink
+abbrev pub stop_of : Held → Stop
+stop_of h = record { fault = WriteFailed; place = Text h.delivered }
+
+-- The piece was added, and blocks of 4,096 bytes delivered.
+abbrev pub Puts : Held → Held → List ℕ → Type 0
+Puts old new piece = (sent : List ℕ) × (blocks : ℕ) × Adds old new sent piece × (length sent ≡ 4096 * blocks) × (new.failures ≡ old.failures)
+
+-- A write failed in the block behind so many, and what the writer didn't take of it waits: a beginning of the piece was added.
+abbrev pub Breaks : Held → Held → List ℕ → Stop → Type 0
+Breaks old new piece stop = (sent : List ℕ) × (blocks : ℕ) × (n : ℕ) × Adds old new sent (take n piece) × (n ≤ length piece) × (4096 * blocks ≤ length sent) × (length sent < 4096 * (blocks + 1))
+    × (length sent + length new.waiting ≡ 4096 * (blocks + 1)) × (stop ≡ stop_of new) × (new.failures ≡ one_more old.failures)
+
+-- All was delivered.
+abbrev pub Sends : Held → Held → Type 0
+Sends old new = (sent : List ℕ) × Adds old new sent [] × (new.waiting ≡ []) × (new.failures ≡ old.failures)
+
+-- All was delivered, and the writer was flushed.
+abbrev pub Finishes : Held → Held → Type 0
+Finishes old new = (sent : List ℕ) × Adds old new sent [] × (new.waiting ≡ []) × (new.failures ≡ old.failures) × (old.failures < 2 ^ 64 - 1)
+
+-- A write or the flush failed.
+abbrev pub FinishFails : Held → Held → Stop → Type 0
+FinishFails old new stop = (sent : List ℕ) × Adds old new sent [] × (stop ≡ stop_of new) × (new.failures ≡ one_more old.failures)
+
+-- It has room for a block, and less than one waits unless it has stopped.
+abbrev pub IsReady : {W : Type 0} → Sink W → Type 0
+IsReady s = (4096 ≤ s.output.now.room) × (s.failed ≡ false → length s.output.now.bytes < 4096) × (s.delivered ≤ 2 ^ 64 - 1) × (s.output.now.peak ≤ s.output.now.room)
+
+-- It is on the same writer and area.
+abbrev pub IsOnSameSink : {W : Type 0} → Sink W → Sink W → Type 0
+IsOnSameSink old new = (new.to.ghost_name ≡ old.to.ghost_name) × (new.output.ghost_name ≡ old.output.ghost_name) × (new.output.now.room ≡ old.output.now.room)

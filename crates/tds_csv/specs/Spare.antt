@@ -1,0 +1,25 @@
+-- A sink whose room is lent for writing.
+use Rattle.std.specs.Prelude.{◌^◌, ◌-◌, ◌≤◌, ℕ, List, [], Option, length, replicate, take}
+use Rattle.std.specs.Borrow.{Lends, Fml, RattleType, MutBor, Array, u8}
+use mir.Syntax.{named}
+use Rattle.tds_meter.specs.Lent.{with_tail}
+use Rattle.tds_meter.specs.Space.{appended}
+use Rattle.tds_csv.specs.declared.sink.Sink.{Sink}
+use Rattle.tds_csv.specs.contracts.sink.Sink.{the_row}
+use Rattle.tds_csv.specs.Sinks.{Held, held}
+
+-- n bytes stand behind those that wait, and these are written over them
+abbrev pub with_spare : {W : Type 0} → Sink W → ℕ → List ℕ → Sink W
+with_spare s n written = record s { output = record s.output { now = with_tail (appended s.output.now (replicate n 0)) (length s.output.now.bytes) written } }
+
+-- The sink ends with n bytes behind those that wait: what the lent bytes end as.
+abbrev pub LendsSpare : (W : RattleType) → MutBor (Sink W.Denot) → ℕ → MutBor (List ℕ) → Fml
+LendsSpare W s n r = Lends (the_row (record { mir = named 0; lft = [] }) W) (Array u8 0) s r (with_spare s.now n)
+
+-- It has room for a block.
+abbrev pub IsLent : {W : Type 0} → Sink W → Type 0
+IsLent s = (4096 ≤ s.output.now.room) × (s.delivered ≤ 2 ^ 64 - 1) × (s.output.now.peak ≤ s.output.now.room)
+
+-- the sink without the bytes that stand behind the first ones, so many, that wait
+abbrev pub held_before : {W : Type 0} → (W → Option (List ℕ)) → Sink W → ℕ → Held
+held_before contents s waiting = record (held contents s) { waiting = take waiting s.output.now.bytes }

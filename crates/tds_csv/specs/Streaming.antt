@@ -1,0 +1,41 @@
+-- What a call that reads by a grammar and puts the text of what it reads does, on success and on each stop.
+use Rattle.std.specs.Prelude.{◌≡◌, ◌⊎◌, ◌<◌, ℕ, Bool, true, false, List, ◌++◌, length}
+use Rattle.tds_packet.specs.declared.fault.Fault.{Fault}
+use Rattle.tds_packet.specs.declared.fault.Stop.{Stop}
+use Rattle.tds_packet.specs.Elements.{Grammar, Spelt, IsNext}
+use Rattle.tds_packet.specs.Seen.{Seen, Takes, IsBetween}
+use Rattle.tds_packet.specs.Reading.{StopsReading}
+use Rattle.tds_csv.specs.Sinks.{Held, Puts, Breaks}
+
+-- What the text of one state has more than that of another was put.
+abbrev pub PutsText : {S : Type 0} → (S → List ℕ) → S → S → Held → Held → Type 0
+PutsText text from to before after = (added : List ℕ) × (text from ++ added ≡ text to) × Puts before after added
+
+-- Whole elements were read, which lead from one state to another, and the text between them was put.
+pub record Streams {S : Type 0} (g : Grammar S Fault) (text : S → List ℕ) (from : S) (old new : Seen) (before after : Held) (to : S) : Type 0 where
+  pub bytes : List ℕ
+  pub spelt : Spelt g from bytes to
+  pub takes : Takes old new bytes (length bytes)
+  pub puts : PutsText text from to before after
+
+-- Whole elements were read, and the text put; then the next element was read, and a write of its text failed.
+pub record BreaksStreaming {S : Type 0} (g : Grammar S Fault) (text : S → List ℕ) (from : S) (old new : Seen) (before after : Held) (at : S) (stop : Stop) : Type 0 where
+  pub bytes : List ℕ
+  pub element : List ℕ
+  pub spelt : Spelt g from bytes at
+  pub next : IsNext g at element
+  pub takes : Takes old new (bytes ++ element) (length (bytes ++ element))
+  pub between : IsBetween new
+  pub middle : Held
+  pub few : length middle.waiting < 4096
+  pub puts : PutsText text from at before middle
+  pub more : List ℕ
+  pub text_is : text at ++ more ≡ text (g.add at element)
+  pub breaks : Breaks middle after more stop
+
+-- Such a call stopped: in reading, with the text of the state that it reached, or in writing. It began behind so many bytes of the payload.
+pub record StopsStreaming {S : Type 0} (g : Grammar S Fault) (text : S → List ℕ) (from : S) (old new : Seen) (place : ℕ) (before after : Held) (failed : Bool) (stop : Stop) : Type 0 where
+  pub at : S
+  pub cause :
+      (StopsReading g from old new place at stop × PutsText text from at before after × (failed ≡ false))
+      ⊎ (BreaksStreaming g text from old new before after at stop × (failed ≡ true))

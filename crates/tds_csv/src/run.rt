@@ -1,0 +1,101 @@
+// A run of text on its way to a sink.
+ghost use Rattle.std.specs.Prelude.{◌≡◌, ◌+◌, ◌<◌, ◌≤◌, [], ◌∷◌, ◌++◌, length};
+ghost use Rattle.std.specs.Char.{encode_utf8};
+ghost use Rattle.tds_csv.specs.Quoting.{doubled};
+
+use std::marker::Model;
+
+// At most `N` bytes of text.
+#[derive(Drop)]
+pub(crate) struct Run<const N: usize> {
+    bytes: [u8; N],
+    len: usize,
+}
+
+impl<const N: usize> Model for Run<N> {
+    ghost use Rattle.std.specs.Prelude.{List, ℕ, ◌≤◌, take};
+
+    ghost Value = { List ℕ };
+
+    ghost view = { λ r. take r.len r.bytes };
+
+    ghost invariant = { λ r. r.len ≤ N };
+}
+
+impl<const N: usize> Run<N> {
+    pub(crate) fn new() -> Run<N>
+        ensures { result ≡ [] }
+    {
+        Run {
+            bytes: [0; N],
+            len: 0,
+        }
+    }
+
+    pub(crate) fn bytes(&self) -> &[u8]
+        ensures value { result.now ≡ self.now }
+        ensures fits { length self.now ≤ N }
+    {
+        &self.bytes[..self.len]
+    }
+
+    pub(crate) fn clear(&mut self)
+        ensures { self.new ≡ [] }
+    {
+        self.len = 0;
+    }
+
+    pub(crate) fn extend(&mut self, piece: &[u8])
+        requires { length self.old + length piece.now ≤ N }
+        ensures { self.new ≡ self.old ++ piece.now }
+    {
+        let from = self.len;
+        let end = from + piece.len();
+        let all = &mut self.bytes[..];
+        all[from..end].copy_from_slice(piece);
+        self.len = end;
+    }
+
+    fn push(&mut self, byte: u8)
+        requires { length self.old < N }
+        ensures { self.new ≡ self.old ++ byte ∷ [] }
+    {
+        self.bytes[self.len] = byte;
+        self.len += 1;
+    }
+
+    // Adds a character in UTF-8.
+    pub(crate) fn push_character(&mut self, code: u32)
+        requires range { code < 1114112 }
+        requires room { length self.old + 4 ≤ N }
+        ensures { self.new ≡ self.old ++ encode_utf8 code }
+    {
+        if code < 0x80 {
+            self.push(code as u8);
+        } else if code < 0x800 {
+            self.push((0xC0 + code / 64) as u8);
+            self.push((0x80 + code % 64) as u8);
+        } else if code < 0x1_0000 {
+            self.push((0xE0 + code / 4096) as u8);
+            self.push((0x80 + code / 64 % 64) as u8);
+            self.push((0x80 + code % 64) as u8);
+        } else {
+            self.push((0xF0 + code / 262144) as u8);
+            self.push((0x80 + code / 4096 % 64) as u8);
+            self.push((0x80 + code / 64 % 64) as u8);
+            self.push((0x80 + code % 64) as u8);
+        }
+    }
+
+    // Adds a character in UTF-8, and a quote twice.
+    pub(crate) fn push_quoted(&mut self, code: u32)
+        requires range { code < 1114112 }
+        requires room { length self.old + 4 ≤ N }
+        ensures { self.new ≡ self.old ++ doubled (encode_utf8 code) }
+    {
+        self.push_character(code);
+        if code == 0x22 {
+            self.push(0x22);
+        }
+    }
+}

@@ -1,0 +1,312 @@
+// Text on its way to a writer.
+ghost use Rattle.std.specs.Prelude.{replicate, drop, ◌≡◌, codes, ◌+◌, ◌-◌, ◌<◌, ◌≤◌, [], ◌∷◌, List, ℕ, true, false, if◌then◌else◌, length, take, IfOk, OnOk, OnErr, MatchResult, IfErr, Err, is_ok};
+ghost use Rattle.tds_csv.specs.Quoting.{binary_mark, line_end, null_field, quote};
+ghost use Rattle.std.specs.Borrow.{sem};
+ghost use Rattle.tds_csv.specs.Spare.{IsLent, LendsSpare, held_before};
+ghost use Rattle.tds_csv.specs.Sinks.{Breaks, FinishFails, Finishes, IsOnSameSink, IsReady, Puts, Sends, fresh, held, stop_of};
+
+use std::io::Write;
+use tds_meter::Area;
+use tds_packet::{Counted, Fault, Place, Stop};
+
+/// How many bytes are delivered at a time.
+const BLOCK: usize = 4096;
+
+/// Text on its way to a writer. What is put waits in the output area, all of which is delivered each
+/// time that it holds 4,096 bytes. After [`Fault::WriteFailed`] each call answers the same stop.
+#[derive(Drop)]
+pub struct Sink<'a, W> {
+    to: &'a mut Counted<W>,
+    output: &'a mut Area,
+    delivered: u64,
+    failed: bool,
+}
+
+impl<'a, W: Write> Sink<'a, W> {
+    /// A sink on a writer. The area has room for 4,096 bytes or more, and is emptied.
+    pub fn new(to: &'a mut Counted<W>, output: &'a mut Area) -> Sink<'a, W>
+        requires room { 4096 ≤ output.old.room }
+        requires peak { output.old.peak ≤ output.old.room }
+        ensures ready { IsReady result }
+        ensures going { result.failed ≡ false }
+        ensures to { result.to.ghost_name ≡ to.entry.ghost_name }
+        ensures output { result.output.ghost_name ≡ output.entry.ghost_name }
+        ensures room { result.output.now.room ≡ output.old.room }
+        ensures held { held W.contents result ≡ fresh (W.contents to.old.device) to.old.failures }
+    {
+        output.clear();
+        Sink {
+            to,
+            output,
+            delivered: 0,
+            failed: false,
+        }
+    }
+
+    /// How many bytes the writer took. The count stops at 18,446,744,073,709,551,615.
+    pub fn delivered(&self) -> u64
+        ensures { result ≡ self.now.delivered }
+    {
+        self.delivered
+    }
+
+    /// How many bytes wait.
+    pub fn waiting(&self) -> u64
+        ensures { result ≡ length self.now.output.now.bytes }
+    {
+        self.output.bytes().len() as u64
+    }
+
+    /// The stop of a write or flush that failed.
+    pub fn failure(&self) -> Option<Stop>
+        ensures { result ≡ (if self.now.failed then Some (stop_of (held W.contents self.now)) else None) }
+    {
+        if self.failed {
+            return Some(self.stop());
+        }
+        None
+    }
+
+    fn stop(&self) -> Stop
+        ensures { result ≡ record { fault = Fault.WriteFailed; place = Place.Text self.now.delivered } }
+    {
+        Stop {
+            fault: Fault::WriteFailed,
+            place: Place::Text(self.delivered),
+        }
+    }
+
+    // Delivers what waits.
+    fn deliver(&mut self) -> Result<(), Stop>
+        requires room { 4096 ≤ self.old.output.now.room }
+        requires peak { self.old.output.now.peak ≤ self.old.output.now.room }
+        requires going { self.old.failed ≡ false }
+        ensures ready { IsReady self.new }
+        ensures same { IsOnSameSink self.old self.new }
+        ensures failed { self.new.failed ≡ (if is_ok result then false else true) }
+        ensures gives { MatchResult result
+            (λ _. Sends (held W.contents self.old) (held W.contents self.new))
+            (λ stop. FinishFails (held W.contents self.old) (held W.contents self.new) stop) }
+        ensures rest { OnErr result (0 < length self.new.output.now.bytes) }
+    {
+        match self.to.deliver(self.output.bytes()) {
+            Ok(()) => {
+                self.delivered = self.delivered.saturating_add(self.output.len() as u64);
+                self.output.clear();
+                Ok(())
+            }
+            Err(taken) => {
+                self.delivered = self.delivered.saturating_add(taken as u64);
+                self.output.drop_front(taken);
+                self.failed = true;
+                Err(self.stop())
+            }
+        }
+    }
+
+    // Adds a piece for which there is room, and delivers a full chunk.
+    fn push(&mut self, piece: &[u8]) -> Result<(), Stop>
+        requires ready { IsReady self.old }
+        requires going { self.old.failed ≡ false }
+        requires fits { length self.old.output.now.bytes + length piece.now ≤ 4096 }
+        ensures ready { IsReady self.new }
+        ensures same { IsOnSameSink self.old self.new }
+        ensures failed { self.new.failed ≡ (if is_ok result then false else true) }
+        ensures gives { MatchResult result
+            (λ _. Puts (held W.contents self.old) (held W.contents self.new) piece.now)
+            (λ stop. Breaks (held W.contents self.old) (held W.contents self.new) piece.now stop) }
+    {
+        let Ok(()) = self.output.append(piece) else {
+            unreachable!()
+        };
+        if self.output.len() == BLOCK {
+            return self.deliver();
+        }
+        Ok(())
+    }
+
+    /// Adds a piece to the text. Where a write fails, a beginning of the piece was added.
+    pub fn put(&mut self, piece: &[u8]) -> Result<(), Stop>
+        requires { IsReady self.old }
+        ensures ready { IsReady self.new }
+        ensures same { IsOnSameSink self.old self.new }
+        ensures failed { self.new.failed ≡ (if is_ok result then false else true) }
+        ensures gives { MatchResult result
+            (λ _. Puts (held W.contents self.old) (held W.contents self.new) piece.now)
+            (λ stop. self.old.failed ≡ false → Breaks (held W.contents self.old) (held W.contents self.new) piece.now stop) }
+        ensures again { self.old.failed ≡ true → (result ≡ Err (stop_of (held W.contents self.old))) × (self.new ≡ self.old) }
+    {
+        if self.failed {
+            return Err(self.stop());
+        }
+        let mut taken = 0;
+        while taken < piece.len() {
+            let n = (piece.len() - taken).min(BLOCK - self.output.len());
+            if let Err(stop) = self.push(&piece[taken..taken + n]) {
+                return Err(stop);
+            }
+            taken += n;
+        }
+        Ok(())
+    }
+
+    /// A field that is NULL.
+    pub fn null(&mut self) -> Result<(), Stop>
+        requires { IsReady self.old }
+        ensures ready { IsReady self.new }
+        ensures same { IsOnSameSink self.old self.new }
+        ensures failed { self.new.failed ≡ (if is_ok result then false else true) }
+        ensures gives { MatchResult result
+            (λ _. Puts (held W.contents self.old) (held W.contents self.new) null_field)
+            (λ stop. self.old.failed ≡ false → Breaks (held W.contents self.old) (held W.contents self.new) null_field stop) }
+        ensures again { self.old.failed ≡ true → (result ≡ Err (stop_of (held W.contents self.old))) × (self.new ≡ self.old) }
+    {
+        self.put(b"NULL")
+    }
+
+    /// The text of a scalar field.
+    pub fn plain(&mut self, field: &[u8]) -> Result<(), Stop>
+        requires { IsReady self.old }
+        ensures ready { IsReady self.new }
+        ensures same { IsOnSameSink self.old self.new }
+        ensures failed { self.new.failed ≡ (if is_ok result then false else true) }
+        ensures gives { MatchResult result
+            (λ _. Puts (held W.contents self.old) (held W.contents self.new) field.now)
+            (λ stop. self.old.failed ≡ false → Breaks (held W.contents self.old) (held W.contents self.new) field.now stop) }
+        ensures again { self.old.failed ≡ true → (result ≡ Err (stop_of (held W.contents self.old))) × (self.new ≡ self.old) }
+    {
+        self.put(field)
+    }
+
+    /// The quote before a field of characters.
+    pub fn open_quoted(&mut self) -> Result<(), Stop>
+        requires { IsReady self.old }
+        ensures ready { IsReady self.new }
+        ensures same { IsOnSameSink self.old self.new }
+        ensures failed { self.new.failed ≡ (if is_ok result then false else true) }
+        ensures gives { MatchResult result
+            (λ _. Puts (held W.contents self.old) (held W.contents self.new) (quote ∷ []))
+            (λ stop. self.old.failed ≡ false → Breaks (held W.contents self.old) (held W.contents self.new) (quote ∷ []) stop) }
+        ensures again { self.old.failed ≡ true → (result ≡ Err (stop_of (held W.contents self.old))) × (self.new ≡ self.old) }
+    {
+        self.put(b"\"")
+    }
+
+    /// The quote behind a field of characters.
+    pub fn close_quoted(&mut self) -> Result<(), Stop>
+        requires { IsReady self.old }
+        ensures ready { IsReady self.new }
+        ensures same { IsOnSameSink self.old self.new }
+        ensures failed { self.new.failed ≡ (if is_ok result then false else true) }
+        ensures gives { MatchResult result
+            (λ _. Puts (held W.contents self.old) (held W.contents self.new) (quote ∷ []))
+            (λ stop. self.old.failed ≡ false → Breaks (held W.contents self.old) (held W.contents self.new) (quote ∷ []) stop) }
+        ensures again { self.old.failed ≡ true → (result ≡ Err (stop_of (held W.contents self.old))) × (self.new ≡ self.old) }
+    {
+        self.put(&[b'"'])
+    }
+
+    /// The mark before the digits of a binary field.
+    pub fn open_binary(&mut self) -> Result<(), Stop>
+        requires { IsReady self.old }
+        ensures ready { IsReady self.new }
+        ensures same { IsOnSameSink self.old self.new }
+        ensures failed { self.new.failed ≡ (if is_ok result then false else true) }
+        ensures gives { MatchResult result
+            (λ _. Puts (held W.contents self.old) (held W.contents self.new) binary_mark)
+            (λ stop. self.old.failed ≡ false → Breaks (held W.contents self.old) (held W.contents self.new) binary_mark stop) }
+        ensures again { self.old.failed ≡ true → (result ≡ Err (stop_of (held W.contents self.old))) × (self.new ≡ self.old) }
+    {
+        self.put(b"0x")
+    }
+
+    /// The comma between two fields.
+    pub fn comma(&mut self) -> Result<(), Stop>
+        requires { IsReady self.old }
+        ensures ready { IsReady self.new }
+        ensures same { IsOnSameSink self.old self.new }
+        ensures failed { self.new.failed ≡ (if is_ok result then false else true) }
+        ensures gives { MatchResult result
+            (λ _. Puts (held W.contents self.old) (held W.contents self.new) (codes ","))
+            (λ stop. self.old.failed ≡ false → Breaks (held W.contents self.old) (held W.contents self.new) (codes ",") stop) }
+        ensures again { self.old.failed ≡ true → (result ≡ Err (stop_of (held W.contents self.old))) × (self.new ≡ self.old) }
+    {
+        self.put(b",")
+    }
+
+    /// The end of a line.
+    pub fn line_end(&mut self) -> Result<(), Stop>
+        requires { IsReady self.old }
+        ensures ready { IsReady self.new }
+        ensures same { IsOnSameSink self.old self.new }
+        ensures failed { self.new.failed ≡ (if is_ok result then false else true) }
+        ensures gives { MatchResult result
+            (λ _. Puts (held W.contents self.old) (held W.contents self.new) line_end)
+            (λ stop. self.old.failed ≡ false → Breaks (held W.contents self.old) (held W.contents self.new) line_end stop) }
+        ensures again { self.old.failed ≡ true → (result ≡ Err (stop_of (held W.contents self.old))) × (self.new ≡ self.old) }
+    {
+        self.put(b"\r\n")
+    }
+
+    /// How many bytes may be put before the next delivery is due.
+    pub fn room(&self) -> usize
+        ensures { result ≡ 4096 - length self.now.output.now.bytes }
+    {
+        BLOCK.saturating_sub(self.output.len())
+    }
+
+    /// Lends room behind the bytes that wait, to be written and then kept by [`Sink::keep`].
+    pub fn spare(&mut self, n: usize) -> &mut [u8]
+        requires ready { IsReady self.old }
+        requires fits { length self.old.output.now.bytes + n ≤ 4096 }
+        ensures* lends { sem 𝓛 (LendsSpare W.row self.entry n result) }
+        ensures value { result.now ≡ replicate n 0 }
+    {
+        self.output.grow_within(n)
+    }
+
+    /// Puts the first bytes, so many, that were written into the room lent by [`Sink::spare`] where
+    /// so many bytes waited, and takes the others away.
+    pub fn keep(&mut self, waiting: usize, made: usize) -> Result<(), Stop>
+        requires lent { IsLent self.old }
+        requires going { self.old.failed ≡ false }
+        requires room { waiting + made ≤ 4096 }
+        requires within { waiting + made ≤ length self.old.output.now.bytes }
+        ensures ready { IsReady self.new }
+        ensures same { IsOnSameSink self.old self.new }
+        ensures failed { self.new.failed ≡ (if is_ok result then false else true) }
+        ensures gives { let piece = take made (drop waiting self.old.output.now.bytes) in MatchResult result
+            (λ _. Puts (held_before W.contents self.old waiting) (held W.contents self.new) piece)
+            (λ stop. Breaks (held_before W.contents self.old waiting) (held W.contents self.new) piece stop) }
+    {
+        self.output.truncate(waiting + made);
+        if self.output.len() == BLOCK {
+            return self.deliver();
+        }
+        Ok(())
+    }
+
+    /// Delivers what waits and flushes the writer.
+    pub fn finish(&mut self) -> Result<(), Stop>
+        requires { IsReady self.old }
+        ensures ready { IsReady self.new }
+        ensures same { IsOnSameSink self.old self.new }
+        ensures failed { self.new.failed ≡ (if is_ok result then false else true) }
+        ensures gives { MatchResult result
+            (λ _. Finishes (held W.contents self.old) (held W.contents self.new))
+            (λ stop. self.old.failed ≡ false → FinishFails (held W.contents self.old) (held W.contents self.new) stop) }
+        ensures again { self.old.failed ≡ true → (result ≡ Err (stop_of (held W.contents self.old))) × (self.new ≡ self.old) }
+    {
+        if self.failed {
+            return Err(self.stop());
+        }
+        if let Err(stop) = self.deliver() {
+            return Err(stop);
+        }
+        if self.to.flush() {
+            return Ok(());
+        }
+        self.failed = true;
+        Err(self.stop())
+    }
+}

@@ -1,0 +1,112 @@
+// Characters of text in UTF-16.
+ghost use Rattle.std.specs.Prelude.{◌≡◌, ◌+◌, ◌-◌, ◌*◌, ◌<◌, ◌≤◌, ◌%◌, ◌++◌, [], length, drop, slice_index, MatchOption, IfSome};
+ghost use Rattle.std.specs.Char.{IsScalar, encode_utf8};
+ghost use Rattle.std.specs.Char.Utf16.{is_high_surrogate, is_low_surrogate};
+ghost use Rattle.tds_csv.specs.Joining.{emit};
+ghost use Rattle.tds_csv.specs.Utf16 as utf16;
+ghost use Rattle.tds_csv.specs.Utf16Next.{IsNext};
+
+use crate::run::Run;
+
+// A character, and how many bytes it takes.
+#[derive(Clone, Copy)]
+pub(crate) struct Character {
+    pub(crate) code: u32,
+    pub(crate) len: usize,
+}
+
+// The unit at a place.
+fn unit(bytes: &[u8], at: usize) -> u32
+    requires { at + 1 < length bytes.now }
+    ensures value { result ≡ slice_index bytes.now at + 256 * slice_index bytes.now (at + 1) }
+    ensures range { result < 65536 }
+{
+    u32::from(bytes[at]) + 256 * u32::from(bytes[at + 1])
+}
+
+fn is_high(unit: u32) -> bool
+    ensures { result ≡ is_high_surrogate unit }
+{
+    0xD800 <= unit && unit < 0xDC00
+}
+
+fn is_low(unit: u32) -> bool
+    ensures { result ≡ is_low_surrogate unit }
+{
+    0xDC00 <= unit && unit < 0xE000
+}
+
+// The character at a place, which U+FFFD stands for where a surrogate has no partner. `None` where
+// that depends on what follows.
+pub(crate) fn next_character(bytes: &[u8], at: usize) -> Option<Character>
+    requires { at ≤ length bytes.now }
+    ensures gives { MatchOption result
+        (utf16.rest (drop at bytes.now) ≡ drop at bytes.now)
+        (λ next. IsNext (drop at bytes.now) next.code next.len) }
+    ensures range { IfSome result (λ next. next.code < 1114112) }
+    ensures some { IfSome result (λ next. 2 ≤ next.len) }
+    ensures within { IfSome result (λ next. at + next.len ≤ length bytes.now) }
+    ensures long { IfSome result (λ next. next.len < 4 → next.code < 65536) }
+    ensures even { IfSome result (λ next. next.len % 2 ≡ 0) }
+    ensures scalar { IfSome result (λ next. IsScalar next.code) }
+{
+    if bytes.len() - at < 2 {
+        return None;
+    }
+    let first = unit(bytes, at);
+    if !is_high(first) {
+        let code = if is_low(first) { 0xFFFD } else { first };
+        return Some(Character { code, len: 2 });
+    }
+    if bytes.len() - at < 4 {
+        return None;
+    }
+    let second = unit(bytes, at + 2);
+    if !is_low(second) {
+        return Some(Character {
+            code: 0xFFFD,
+            len: 2,
+        });
+    }
+    Some(Character {
+        code: 0x1_0000 + (first - 0xD800) * 0x400 + (second - 0xDC00),
+        len: 4,
+    })
+}
+
+// The character at a place in whole data, which U+FFFD stands for where a surrogate has no partner.
+pub(crate) fn character_at(bytes: &[u8], at: usize) -> Character
+    requires some { at + 2 ≤ length bytes.now }
+    requires whole { (length bytes.now - at) % 2 ≡ 0 }
+    ensures spells { utf16.characters (drop at bytes.now) ≡ encode_utf8 result.code ++ utf16.characters (drop (at + result.len) bytes.now) }
+    ensures range { result.code < 1114112 }
+    ensures some { 2 ≤ result.len }
+    ensures within { at + result.len ≤ length bytes.now }
+    ensures even { result.len % 2 ≡ 0 }
+    ensures scalar { IsScalar result.code }
+{
+    match next_character(bytes, at) {
+        Some(next) => next,
+        None => Character {
+            code: 0xFFFD,
+            len: 2,
+        },
+    }
+}
+
+// Adds the text of the characters that are fixed, and says how many bytes they are.
+pub(crate) fn convert(bytes: &[u8], run: &mut Run<200>) -> usize
+    requires short { length bytes.now ≤ 128 }
+    requires empty { run.old ≡ [] }
+    ensures text { run.new ≡ emit utf16.rest utf16.text bytes.now }
+    ensures within { result ≤ length bytes.now }
+    ensures rest { drop result bytes.now ≡ utf16.rest bytes.now }
+    ensures most { length bytes.now ≤ result + 3 }
+{
+    let mut at = 0;
+    while let Some(next) = next_character(bytes, at) {
+        run.push_quoted(next.code);
+        at += next.len;
+    }
+    at
+}

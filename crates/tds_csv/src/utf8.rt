@@ -1,0 +1,50 @@
+// Where bytes stop being text in UTF-8.
+ghost use Rattle.std.specs.Prelude.{◌≡◌, ◌<◌, ◌≤◌, length, drop, take, if◌then◌else◌};
+ghost use Rattle.std.specs.Int.{is_in_range};
+ghost use Rattle.tds_csv.specs.Joining.{emit};
+ghost use Rattle.tds_csv.specs.Quoting.{doubled};
+ghost use Rattle.tds_csv.specs.Utf8 as utf8;
+ghost use Rattle.tds_csv.specs.Utf8Scan.{StopsAt};
+
+// How many of the first bytes are whole characters, and how many begin a text.
+#[derive(Clone, Copy)]
+pub(crate) struct Scan {
+    pub(crate) whole: usize,
+    pub(crate) good: usize,
+}
+
+// How many bytes of a fault of this length, that begins with this byte, could begin a character.
+fn good_of(first: u8, len: usize) -> usize
+    ensures { result ≡ (if is_in_range 0xC2 0xF4 first then len else 0) }
+{
+    if 0xC2 <= first && first <= 0xF4 {
+        len
+    } else {
+        0
+    }
+}
+
+pub(crate) fn scan_text(bytes: &[u8]) -> Scan
+    ensures within { result.whole ≤ length bytes.now }
+    ensures order { result.whole ≤ result.good }
+    ensures most { result.good ≤ length bytes.now }
+    ensures text { emit utf8.rest utf8.text bytes.now ≡ doubled (take result.whole bytes.now) }
+    ensures rest { drop result.whole bytes.now ≡ utf8.rest bytes.now }
+    ensures begins { result.good ≡ length bytes.now → utf8.Begins bytes.now }
+    ensures stops { result.good < length bytes.now → StopsAt bytes.now result.whole result.good }
+{
+    match str::from_utf8(bytes) {
+        Ok(_) => Scan {
+            whole: bytes.len(),
+            good: bytes.len(),
+        },
+        Err(error) => {
+            let whole = error.valid_up_to();
+            let good = match error.error_len() {
+                Some(len) => whole + good_of(bytes[whole], len),
+                None => bytes.len(),
+            };
+            Scan { whole, good }
+        }
+    }
+}

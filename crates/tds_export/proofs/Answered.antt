@@ -1,0 +1,480 @@
+-- What an export answers, where its reader and writer tell their bytes.
+use Rattle.std.proofs.Common.{◌≡◌, ◌∙◌, ◌⊎◌, inl, inr, ℕ, ◌+◌, ◌*◌, ◌-◌, ◌/◌, ◌^◌, ◌%◌, ◌<◌, ◌≤◌, Bool, true, false, List, [], ◌∷◌, ◌++◌, length, take, drop, min, refl, sym, ap, subst, arith, append_assoc, append-nil, length-append, length-take-le, take-append-drop}
+use Rattle.std.specs.Prelude.{Option, Some, None, Result, Ok, Err}
+use Rattle.std.proofs.lemmas.Grind.{flat_map-append}
+use Rattle.std.proofs.lemmas.Nat.{div-mul-add}
+use Rattle.std.proofs.Math.Seq.{take-append_seam, drop-append_seam, take-append-add}
+use Rattle.std.proofs.lemmas.List.{take-append-le}
+use native.Mathlib.Decide.{dec_le}
+use Rattle.std.specs.Io.KnownBytes.{Appends, Consumes}
+use Rattle.tds_meter.specs.Counts.{Rose, counted, one_more}
+use Rattle.tds_meter.specs.Space.{Space}
+use Rattle.tds_packet.specs.declared.fault.Fault.{Fault}
+use Rattle.tds_packet.specs.declared.fault.Fault.TheVariants.{MessageEnded, NotYet, ReadFailed, WriteFailed}
+use Rattle.tds_packet.specs.declared.fault.Place.{Place}
+use Rattle.tds_packet.specs.declared.fault.Place.TheVariants.{Wire, Payload, Text}
+use Rattle.tds_packet.specs.declared.fault.Stop.{Stop}
+use Rattle.tds_packet.specs.Elements.{AreBytes, Grammar, Longest, Progress, Reading, Spelt, feed_all}
+use Rattle.tds_packet.specs.Packets.{AreBefore, AreMessage, Packet, packet_bytes, payload_of, wire_of}
+use Rattle.tds_packet.specs.Seen.{Ends, Seen, Takes, begun}
+use Rattle.tds_packet.specs.Reading.{CutsNext}
+use Rattle.tds_packet.proofs.ElementLaws.{AreBytes-back, AreBytes-front, Spelt-append, Spelt-one, Told, feed-Spelt, feed_all-append, longest_cut, no_further, some_longest, told}
+use Rattle.tds_packet.proofs.Fronts.{Begins, EndsMessage, InLast, StopsBehind, ends_front, in_last, over_front, takes_begins, wire_goes_on}
+use Rattle.tds_csv.specs.Sinks.{Adds, Breaks, FinishFails, Finishes, Held, Puts, stop_of}
+use Rattle.tds_csv.specs.Streaming.{BreaksStreaming, PutsText}
+use Rattle.tds_csv.proofs.Sinks.{Adds-trans}
+use Rattle.tds_rows.specs.declared.Charset.{Charset}
+use Rattle.tds_export.specs.declared.report.Report.{Report}
+use Rattle.tds_export.specs.declared.report.Stopped.{Stopped}
+use Rattle.tds_export.specs.declared.standing.Standing.{Standing}
+use Rattle.tds_export.specs.Tokens.{Token, error_text, first_error, message_text, is_final, text}
+use Rattle.tds_export.specs.Response.{Accepted}
+use Rattle.tds_export.specs.Export.{AfterStop, Comes, IsKept, IsNeeded, Keeps, Packets, Reported, Reads, Run, Stops, StopsInText, grammar, report_of}
+use Rattle.tds_export.specs.Built.{is_built}
+use Rattle.tds_export.specs.Reading.{Part, response, response_start, text_so_far}
+use Rattle.tds_export.specs.Running.{Completes, FailsAtEnd, Halts, HaltsReading, HaltsWriting, IsHolding, ReadsWhole, RunStops, Stalls, behind}
+use Rattle.tds_export.specs.Ended.{Exports, Given, IsReader, IsWriter, StopsExport, Tells, Tidied, begun_at, fresh_at, run_of}
+use Rattle.tds_export.proofs.Growth.{text_along}
+use Rattle.tds_export.proofs.GrowthBound.{bounded_along}
+use Rattle.tds_export.proofs.ResponseMeaning.{response_is_spelt}
+use Rattle.tds_export.proofs.Outcomes.{ReaderSide, ended_in_payload, kept_at, refused_in_payload, start, stopped_on_wire, unbuilt_in_payload}
+use Rattle.tds_export.proofs.Texts.{rose}
+
+-- ---- how a run that read stops
+
+-- whole elements were read, and the payload stopped before the next was whole
+cut_stops : (run : Run) (q : Seen) (area : Space) (at : Part) (bytes : List ℕ) (stop : Stop) → ReaderSide run q area → Spelt (grammar run) response_start bytes at → (c : CutsNext (grammar run) (start run) q bytes 0 at stop) → IsHolding area at
+    → run.gained ++ run.waiting ≡ text_so_far at → Stops run stop.fault stop.place
+cut_stops run q area at bytes stop side spelt c holds text =
+    let size = run.limits.packet_size in
+    let limit = run.limits.max_wire in
+    let zero : (n : ℕ) → 0 + n ≡ n = λ n. omega arith in
+    elim (ends_front size limit run.read_failures_before run.input run.left q (bytes ++ c.part) c.own side.bytes side.left c.ends) [
+      | inl m ↦ elim c.stop_is [
+        | inl e ↦ subst (λ (s : Stop). Stops run s.fault s.place) (sym (e.1.2 ∙ ap (λ n. record { fault = e.1.0; place = Payload n }) (zero (length bytes)))) (inl (ended_in_payload run q area at bytes c.part c.own e.1.0 side spelt c.cut m e.1.1 holds text))
+        | inr e ↦ absurd (e.0 (ap (λ (s : Stop). s.fault) m.ended))
+      ]
+      | inr x ↦ elim c.stop_is [
+        | inl e ↦ absurd (goes_on run q bytes c.part c.own x e.0)
+        | inr e ↦ subst (λ (s : Stop). Stops run s.fault s.place) (sym e.1) (subst (Stops run c.own.fault) (sym x.place) (stopped_on_wire run q area at bytes c.part c.own rose side spelt c.cut x holds text))
+      ]
+    ]
+  where
+    goes_on : (run : Run) (q : Seen) (bytes part : List ℕ) (own : Stop) → (x : StopsBehind run.limits.packet_size run.limits.max_wire run.input (bytes ++ part) run.read_failures_before q.failures own) → own.fault ≡ MessageEnded → ⊥
+    goes_on run q bytes part own x e = elim x.cause [
+      | inl y ↦ (let differ : ReadFailed ≡ MessageEnded = sym y.0 ∙ e in cc)
+      | inr y ↦ wire_goes_on run.limits.packet_size run.limits.max_wire run.input x.packets own.fault y.0 e
+    ]
+
+pub stalled : (run : Run) (q : Seen) (area : Space) (at : Part) (stop : Stop) → ReaderSide run q area → Stalls (grammar run) is_built response_start (start run) q 0 at stop → IsHolding area at → run.gained ++ run.waiting ≡ text_so_far at → Stops run stop.fault stop.place
+stalled run q area at stop side (inl s) holds text = elim s.cause [
+  | inl r ↦ subst (Stops run stop.fault) (sym (r.1 ∙ ap Payload (zero (length s.bytes)))) (inl (refused_in_payload run q area at s.bytes stop.fault side s.spelt r.0 holds text))
+  | inr c ↦ cut_stops run q area at s.bytes stop side s.spelt c holds text
+]
+  where
+    zero : (n : ℕ) → 0 + n ≡ n
+    zero n = omega arith
+stalled run q area at stop side (inr u) holds text = subst (λ (s : Stop). Stops run s.fault s.place) (sym (u.stop_is ∙ ap (λ n. record { fault = NotYet; place = Payload n }) (zero (length u.bytes)))) (inr (refl, unbuilt_in_payload run q area at stop 0 side u holds text))
+  where
+    zero : (n : ℕ) → 0 + n ≡ n
+    zero n = omega arith
+
+-- ---- the text
+
+known_left : (old new : Option (List ℕ)) (input read : List ℕ) → old ≡ Some input → Consumes old new read → (left : List ℕ) × (new ≡ Some left)
+known_left old None input read e c = absurd (subst (λ o. Consumes o None read) e c)
+known_left old (Some left) input read e c = (left, refl)
+
+known_has : (old new : Option (List ℕ)) (had sent : List ℕ) → old ≡ Some had → Appends old new sent → new ≡ Some (had ++ sent)
+known_has old None had sent e a = absurd (subst (λ o. Appends o None sent) e a)
+known_has old (Some has) had sent e a = ap Some (subst (λ o. Appends o (Some has) sent) e a)
+
+-- the writer gained the first bytes of a text, and the others wait
+record Delivers (given : Given) (had : List ℕ) (l : Held) (text : List ℕ) : Type 0 where
+  gained : List ℕ
+  has : given.has ≡ Some (had ++ gained)
+  all : gained ++ given.waiting ≡ text
+  delivered : l.delivered ≡ counted 0 (length gained)
+
+delivers : (given : Given) (had : List ℕ) (l : Held) (sent text : List ℕ) → given.had ≡ Some had → IsWriter given l → Adds (fresh_at given) l sent text → Delivers given had l text
+delivers given had l sent text e writer a = record {
+  gained = sent;
+  has = sym writer.has ∙ known_has given.had l.had had sent e a.0;
+  all = ap (λ w. sent ++ w) (sym writer.waiting) ∙ sym a.1;
+  delivered = a.2;
+}
+
+-- the payload of packets is shorter than their wire, and of bytes where that is
+payload_short : (packets : List Packet) → length (payload_of packets) ≤ length (wire_of packets)
+payload_short [] = omega arith
+payload_short (p ∷ packets) = omega (arith, payload_short packets, length-append p.body (payload_of packets), length-append (packet_bytes p) (wire_of packets), length-append p.id p.body)
+
+AreBytes-append : (a b : List ℕ) → AreBytes a → AreBytes b → AreBytes (a ++ b)
+AreBytes-append [] b p q = q
+AreBytes-append (x ∷ a) b p q = (p.0, AreBytes-append a b p.1 q)
+
+payload_bytes : (packets : List Packet) → AreBytes (wire_of packets) → AreBytes (payload_of packets)
+payload_bytes [] h = tt
+payload_bytes (p ∷ packets) h = AreBytes-append p.body (payload_of packets) (AreBytes-back (4 ∷ p.status ∷ (8 + length p.body) / 256 ∷ (8 + length p.body) % 256 ∷ p.id) p.body (AreBytes-front (packet_bytes p) (wire_of packets) h)) (payload_bytes packets (AreBytes-back (packet_bytes p) (wire_of packets) h))
+
+-- the text so far is within 64 times the limit of the wire
+fits_at : (run : Run) (packets : List Packet) (rest : List ℕ) (place : ℕ) (part : Part) (n : ℕ) → AreBytes run.input → wire_of packets ++ rest ≡ run.input → length (wire_of packets) ≤ run.limits.max_wire
+    → Spelt (grammar run) response_start (take place (payload_of packets)) part → n ≤ length (text_so_far part) → n ≤ 64 * run.limits.max_wire
+fits_at run packets rest place part n are begin within spelt few =
+    let payload = payload_of packets in
+    let bytes : AreBytes payload = payload_bytes packets (AreBytes-front (wire_of packets) rest (subst AreBytes (sym begin) are)) in
+    let front : AreBytes (take place payload) = AreBytes-front (take place payload) (drop place payload) (subst AreBytes (sym (take-append-drop place payload)) bytes) in
+    let most : length (text_so_far part) ≤ 64 * length (take place payload) = bounded_along run.charset run.limits.column_room part (take place payload) front spelt in
+    omega (arith, few, most, within, payload_short packets, ap length (take-append-drop place payload), length-append (take place payload) (drop place payload))
+
+fits : (run : Run) (fault : Fault) (place : Place) → AreBytes run.input → Stops run fault place → length (run.gained ++ run.waiting) ≤ 64 * run.limits.max_wire
+fits run fault (Payload place) are (inl x) = fits_at run x.packets run.left place x.part (length (run.gained ++ run.waiting)) are x.stands.begin x.stands.within x.leads.spelt (omega (arith, ap length x.written))
+fits run fault (Payload place) are (inr x) = let y = x.1 in fits_at run y.packets run.left place y.part (length (run.gained ++ run.waiting)) are y.stands.begin y.stands.within y.comes.spelt (omega (arith, ap length y.written))
+fits run fault (Wire taken) are x = fits_at run x.packets x.rest x.place x.part (length (run.gained ++ run.waiting)) are x.begin x.within x.leads.spelt (omega (arith, ap length x.written))
+fits run fault (Text written) are x = fits_at run x.packets run.left x.place x.part (length (run.gained ++ run.waiting)) are x.stands.begin x.stands.within x.leads.spelt (omega (arith, ap length x.begins, length-append (run.gained ++ run.waiting) x.more))
+
+-- the count of the bytes delivered is exact
+exact : (run : Run) (delivered : ℕ) → delivered ≡ counted 0 (length run.gained) → length (run.gained ++ run.waiting) ≤ 64 * run.limits.max_wire → delivered ≡ length run.gained
+exact run delivered e few = let most = run.limits.max_wire_in_range in omega (arith, e, few, most.1, length-append run.gained run.waiting)
+
+-- ---- where the reader stands
+
+ends_read : (p q : Seen) (bytes : List ℕ) (stop : Stop) → Ends p q bytes stop → (read : List ℕ) × Consumes p.left q.left read
+ends_read p q bytes stop (inl x) = (x.0.0, x.0.1)
+ends_read p q bytes stop (inr (inl x)) = (x.0.0, x.0.1)
+ends_read p q bytes stop (inr (inr x)) = (x.0.0 ++ x.0.1, x.0.2)
+
+stalls_read : (g : Grammar Part Fault) (from : Part) (p q : Seen) (place : ℕ) (at : Part) (stop : Stop) → Stalls g is_built from p q place at stop → (read : List ℕ) × Consumes p.left q.left read
+stalls_read g from p q place at stop (inl s) = elim s.cause [ inl r ↦ (r.0.takes.0, r.0.takes.1.0) | inr c ↦ ends_read p q (s.bytes ++ c.part) c.own c.ends ]
+stalls_read g from p q place at stop (inr u) = (u.takes.0, u.takes.1.0)
+
+-- ---- a run that stopped in reading
+
+stop_reading : (given : Given) (input had left : List ℕ) (q : Seen) (middle l : Held) (stop : Stop) → AreBytes input → given.input ≡ Some input → given.had ≡ Some had → q.left ≡ Some left → IsReader given q → IsWriter given l → given.notice ≡ []
+    → HaltsReading (response given.charset given.limits.column_room) response_start (begun_at given) q 0 (fresh_at given) middle given.description stop → Tidied middle l
+    → (gained : List ℕ) × (given.has ≡ Some (had ++ gained)) × AfterStop (run_of given input left gained) (record { fault = stop.fault; place = stop.place; written = l.delivered; unwritten = length l.waiting })
+stop_reading given input had left q middle l stop are e1 e2 ql reader writer none y t =
+    let p = subst (Puts (fresh_at given) middle) y.puts.1 y.puts.2 in
+    let adds = Adds-trans (fresh_at given) middle l p.0 t.0 (text_so_far y.at) [] p.2 t.1 in
+    let d = delivers given had l (p.0 ++ t.0) (text_so_far y.at ++ []) e2 writer adds in
+    let run = run_of given input left d.gained in
+    let same = d.all ∙ append-nil (text_so_far y.at) in
+    let side : ReaderSide run q given.description = record { bytes = are; left = ql; failures = reader.failures; description = refl } in
+    let first : begun_at given ≡ start run = ap (λ i. begun given.limits.packet_size given.limits.max_wire i given.read_failures_before) e1 in
+    let stalls = subst (λ (a : Seen). Stalls (grammar run) is_built response_start a q 0 y.at stop) first y.stalls in
+    let stops : Stops run stop.fault stop.place = stalled run q given.description y.at stop side stalls y.holds same in (
+      d.gained,
+      d.has,
+      record {
+        stop = stops;
+        written = exact run l.delivered d.delivered (fits run stop.fault stop.place are stops);
+        unwritten = ap length writer.waiting;
+        no_notice = none;
+        none_waits = λ calm. elim t.2 [
+          | inl x ↦ sym writer.waiting ∙ x.0
+          | inr x ↦ absurd (calm (subst (λ n. Rose given.write_failures_before n) writer.failures (subst (λ n. Rose n l.failures) p.4 x)))
+        ];
+      },
+    )
+
+-- ---- a run that stopped in writing
+
+-- what follows whole elements leads from where they lead
+abbrev Grammars : Type 0
+Grammars = Grammar Part Fault
+
+rest_leads : (g : Grammars) (s t u : Part) (a b : List ℕ) → Spelt g s a t → Spelt g s (a ++ b) u → Spelt g t b u
+unfolding Told
+rest_leads g s t u a b h k =
+    let whole : feed_all g (Reading s []) (a ++ b) ≡ Reading u [] = feed-Spelt g s (a ++ b) u k in
+    let front : feed_all g (Reading s []) a ≡ Reading t [] = feed-Spelt g s a t h in
+    let rest : feed_all g (Reading t []) b ≡ Reading u [] = ap (λ p. feed_all g p b) (sym front) ∙ sym (feed_all-append g (Reading s []) a b) ∙ whole in
+    let r = subst (λ p. Told g t b p) rest (told g t b) in
+    subst (λ v. Spelt g t v u) (sym (r.1 ∙ append-nil r.0)) r.2
+
+-- the longest part of a payload that begins with these bytes has their text, and more of it
+longest_text : (charset : Charset) (room : ℕ) (bytes more : List ℕ) (p q : Part) (place : ℕ) → Spelt (response charset room) response_start bytes p → Longest (response charset room) response_start (bytes ++ more) place q → (rest : List ℕ) × (text_so_far p ++ rest ≡ text_so_far q)
+longest_text charset room bytes more p q place h l =
+    let g = response charset room in
+    let least : length bytes ≤ place = l.longest (length bytes) p (omega (arith, length-append bytes more)) (subst (λ v. Spelt g response_start v p) (sym (take-append_seam bytes more)) h) in
+    let n = place - length bytes in
+    let sum : length bytes + n ≡ place = omega (arith, least) in
+    let split : take place (bytes ++ more) ≡ bytes ++ take n more = ap (λ v. take v (bytes ++ more)) (sym sum) ∙ take-append-add bytes more n in
+    text_along charset room p q (take n more) (rest_leads g response_start p q bytes (take n more) h (subst (λ v. Spelt g response_start v q) split l.spelt))
+
+-- a part that fewer bytes lead to has no more text than that before the last element
+earlier_text : (charset : Charset) (room : ℕ) (bytes element : List ℕ) (p q : Part) (place : ℕ) → Spelt (response charset room) response_start bytes p → length element ≡ (response charset room).size p → place < length (bytes ++ element)
+    → Spelt (response charset room) response_start (take place (bytes ++ element)) q → length (text_so_far q) ≤ length (text_so_far p)
+earlier_text charset room bytes element p q place h whole less k = elim (dec_le place (length bytes)) [
+  | yes below ↦
+      (let front : take place (bytes ++ element) ≡ take place bytes = take-append-le place bytes element below in
+      let rest = text_along charset room q p (drop place bytes) (rest_leads (response charset room) response_start q p (take place bytes) (drop place bytes) (subst (λ v. Spelt (response charset room) response_start v q) front k) (subst (λ v. Spelt (response charset room) response_start v p) (sym (take-append-drop place bytes)) h)) in
+      omega (arith, ap length rest.1, length-append (text_so_far q) rest.0))
+  | no above ↦
+      (let n = place - length bytes in
+      let sum : length bytes + n ≡ place = omega (arith, above) in
+      let split : take place (bytes ++ element) ≡ bytes ++ take n element = ap (λ v. take v (bytes ++ element)) (sym sum) ∙ take-append-add bytes element n in
+      let few : length (take n element) ≡ n = length-take-le n element (omega (arith, less, sum, length-append bytes element)) in
+      let none : take n element ≡ [] = no_further (response charset room) response_start bytes p (take n element) q h (λ i a b. omega (arith, few, less, sum, whole, length-append bytes element)) (subst (λ v. Spelt (response charset room) response_start v q) split k) in
+      absurd (omega (arith, ap length none, few, sum, above)))
+]
+
+-- the writer broke: the last packet read was needed to fill the block
+broken : (run : Run) (given : Given) (had : List ℕ) (q : Seen) (k : Held) (at : Part) (stop : Stop) → ReaderSide run q given.description → given.charset ≡ run.charset → (x : BreaksStreaming (grammar run) text_so_far response_start (start run) q (fresh_at given) k at stop)
+    → IsHolding given.description ((grammar run).add at x.element) → (gained : run.gained ≡ (subst (Puts (fresh_at given) x.middle) x.puts.1 x.puts.2).0 ++ x.breaks.0) → k.waiting ≡ run.waiting → k.failures ≡ run.write_failures → run.write_failures_before ≡ given.write_failures_before
+    → k.delivered ≡ counted 0 (length run.gained) → StopsInText run WriteFailed (length run.gained)
+broken run given had q k at stop side charset x holds gained waiting failures before delivered =
+    let g = grammar run in
+    let size = run.limits.packet_size in
+    let limit = run.limits.max_wire in
+    let f = run.read_failures_before in
+    let be = x.bytes ++ x.element in
+    let p = subst (Puts (fresh_at given) x.middle) x.puts.1 x.puts.2 in
+    let y = x.breaks in
+    let to = g.add at x.element in
+    let adds = Adds-trans (fresh_at given) x.middle k p.0 y.0 (text_so_far at) (take y.2 x.more) p.2 y.3 in
+    let all : run.gained ++ run.waiting ≡ text_so_far at ++ take y.2 x.more = ap (λ v. v ++ run.waiting) gained ∙ ap (λ w. (p.0 ++ y.0) ++ w) (sym waiting) ∙ sym adds.1 in
+    let spelt : Spelt g response_start be to = Spelt-append g response_start x.bytes at x.element to x.spelt (Spelt-one g at x.element x.next) in
+    let more = (q.future []).bytes in
+    let b = takes_begins size limit f run.input run.left q be (length be) side.bytes side.left x.takes x.between in
+    let payload = payload_of b.packets in
+    let longest = some_longest g response_start payload in
+    let beyond = longest_text run.charset run.limits.column_room be more to longest.1 longest.0 spelt (subst (λ v. Longest g response_start v longest.0 longest.1) b.payload_is longest.2) in
+    let element_some : 0 < length x.element = x.next.some in
+    let element_whole : length x.element ≡ g.size at = x.next.whole in
+    let some : 0 < length be = omega (arith, element_some, length-append x.bytes x.element) in
+    let l = in_last size limit f (length be) run.input run.left q be (be ++ more) side.left x.takes b (omega (arith, some, length-append be more)) in
+    let early = some_longest g response_start (payload_of l.before) in
+    let within : early.0 ≤ length (payload_of l.before) = early.2.within in
+    let fewer : length (payload_of l.before) < length be = l.earlier in
+    let joined : payload ≡ payload_of l.before ++ payload_of (l.last ∷ []) = ap payload_of (sym l.split) ∙ flat_map-append (λ (v : Packet). v.body) l.before (l.last ∷ []) in
+    let front : take early.0 (payload_of l.before) ≡ take early.0 be = sym (take-append-le early.0 (payload_of l.before) (payload_of (l.last ∷ [])) within) ∙ ap (take early.0) (sym joined ∙ b.payload_is) ∙ take-append-le early.0 be more (omega (arith, within, fewer)) in
+    let short = earlier_text run.charset run.limits.column_room x.bytes x.element at early.1 early.0 x.spelt element_whole (omega (arith, within, fewer)) (subst (λ v. Spelt g response_start v early.1) front early.2.spelt) in
+    let blocks = p.1 + y.1 in
+    let lens = length-append p.0 y.0 in
+    let total : length (run.gained ++ run.waiting) ≡ 4096 * (blocks + 1) = omega (arith, ap length gained, ap length waiting, length-append run.gained run.waiting, lens, p.3, y.7) in
+    let rest = length run.gained - 4096 * blocks in
+    let split : length run.gained ≡ blocks * 4096 + rest = omega (arith, ap length gained, lens, p.3, y.5) in
+    let small : rest < 4096 = omega (arith, ap length gained, lens, p.3, y.6) in
+    let floor : length run.gained / 4096 ≡ blocks = ap (λ v. v / 4096) split ∙ div-mul-add blocks 4096 rest small in
+    let chunks : length (run.gained ++ run.waiting) ≡ 4096 * (length run.gained / 4096 + 1) = total ∙ ap (λ v. 4096 * (v + 1)) (sym floor) in
+    let before_len : length (text_so_far at) ≡ length p.0 + length x.middle.waiting = ap length p.2.1 ∙ length-append p.0 x.middle.waiting in
+    let passes : length (text_so_far at) < length (run.gained ++ run.waiting) = omega (arith, before_len, p.3, x.few, total) in
+    let text_more : (run.gained ++ run.waiting) ++ (drop y.2 x.more ++ beyond.0) ≡ text_so_far longest.1 =
+    sym (append_assoc (run.gained ++ run.waiting) (drop y.2 x.more) beyond.0) ∙ ap (λ v. (v ++ drop y.2 x.more) ++ beyond.0) all ∙ ap (λ v. v ++ beyond.0) (append_assoc (text_so_far at) (take y.2 x.more) (drop y.2 x.more) ∙ ap (λ v. text_so_far at ++ v) (take-append-drop y.2 x.more) ∙ x.text_is) ∙ beyond.1 in
+    record {
+      packets = b.packets;
+      place = longest.0;
+      part = longest.1;
+      more = drop y.2 x.more ++ beyond.0;
+      stands = record { begin = b.begin; each = b.each; within = b.within };
+      leads = longest.2;
+      fault_is = refl;
+      written_is = refl;
+      begins = text_more;
+      needed = inr (l.before, l.last, early.0, early.1, l.split, early.2, chunks, omega (arith, short, passes));
+      failed = subst (λ n. Rose n run.write_failures) (sym before) (subst (λ n. Rose given.write_failures_before n) (sym (y.9 ∙ ap one_more p.4) ∙ failures) (rose given.write_failures_before));
+      kept = (
+        length be,
+        to,
+        record { within = omega (arith, ap length b.payload_is, length-append be more); spelt = subst (λ v. Spelt g response_start v to) (sym (ap (take (length be)) b.payload_is ∙ take-append_seam be more)) spelt },
+        subst (λ a. IsKept a to.tokens to.at (drop (length be) payload)) (sym side.description) (kept_at given.description to.tokens to.at (drop (length be) payload) holds.bytes),
+      );
+    }
+
+-- ---- a run that read the whole response
+
+-- the whole message was read: it is an accepted response
+record WholeMessage (run : Run) (q : Seen) (area : Space) (tokens : List Token) : Type 0 where
+  packets : List Packet
+  stands : Packets run packets
+  accepted : Accepted run.charset run.limits.packet_size run.limits.column_room run.limits.max_wire tokens packets run.input
+  leads : Reads run packets (length (payload_of packets)) (behind tokens)
+  spelt : Spelt (grammar run) response_start (payload_of packets) (behind tokens)
+  kept : IsKept run.description tokens (behind tokens).at (drop (length (payload_of packets)) (payload_of packets))
+  read_same : run.read_failures ≡ run.read_failures_before
+
+whole_message_of : (run : Run) (q : Seen) (area : Space) (old new : Held) → ReaderSide run q area → (x : ReadsWhole (grammar run) response_start (start run) q old new area) → WholeMessage run q area x.tokens
+whole_message_of run q area old new side x =
+    let g = grammar run in
+    let size = run.limits.packet_size in
+    let limit = run.limits.max_wire in
+    let m = over_front size limit run.read_failures_before run.input run.left q x.bytes (length x.bytes + 1) side.bytes side.left x.takes x.over in
+    let payload = payload_of m.packets in
+    let spelt : Spelt g response_start payload (behind x.tokens) = subst (λ v. Spelt g response_start v (behind x.tokens)) (sym m.payload_is) x.spelt in
+    let bytes : AreBytes payload = payload_bytes m.packets (AreBytes-front (wire_of m.packets) run.left (subst AreBytes (sym m.begin) side.bytes)) in
+    record {
+      packets = m.packets;
+      stands = record { begin = m.begin; each = inl m.each; within = m.within };
+      accepted = record {
+        wire = wire_of m.packets;
+        unread = run.left;
+        begins = sym m.begin;
+        message = record { spelt = refl; each = m.each; within = m.within };
+        response = response_is_spelt run.charset run.limits.column_room payload x.tokens bytes x.final spelt;
+      };
+      leads = subst (λ v. Longest g response_start v (length payload) (behind x.tokens)) (append-nil payload) (longest_cut g response_start payload [] (behind x.tokens) spelt (omega arith));
+      spelt = spelt;
+      kept = subst (λ a. IsKept a x.tokens (behind x.tokens).at (drop (length payload) payload)) (sym side.description) (kept_at area x.tokens (behind x.tokens).at (drop (length payload) payload) x.holds.bytes);
+      read_same = sym side.failures ∙ m.same;
+    }
+
+text_behind : (tokens : List Token) → text_so_far (behind tokens) ≡ text tokens
+text_behind tokens = append-nil (text tokens)
+
+-- all of a payload
+take_payload : (l : List ℕ) → take (length l) l ≡ l
+take_payload l = ap (λ v. take (length l) v) (sym (append-nil l)) ∙ take-append_seam l []
+
+-- the last delivery failed
+failed_at_end : (run : Run) (given : Given) (q : Seen) (middle k : Held) (tokens : List Token) (stop : Stop) → AreBytes run.input → WholeMessage run q given.description tokens → run.gained ++ run.waiting ≡ text tokens → Rose run.write_failures_before run.write_failures → StopsInText run WriteFailed (length run.gained)
+failed_at_end run given q middle k tokens stop are w same rose_so = record {
+  packets = w.packets;
+  place = length (payload_of w.packets);
+  part = behind tokens;
+  more = [];
+  stands = w.stands;
+  leads = w.leads;
+  fault_is = refl;
+  written_is = refl;
+  begins = append-nil (run.gained ++ run.waiting) ∙ same ∙ sym (text_behind tokens);
+  needed = inl (tokens, w.accepted, same);
+  failed = rose_so;
+  kept = (length (payload_of w.packets), behind tokens, record { within = omega arith; spelt = subst (λ v. Spelt (grammar run) response_start v (behind tokens)) (sym (take_payload (payload_of w.packets))) w.spelt }, w.kept);
+}
+
+-- the count of failures didn't rise
+not_rose : (f : ℕ) → f < 2 ^ 64 - 1 → Rose f f → ⊥
+not_rose f h (inl x) = omega (arith, x)
+not_rose f h (inr x) = omega (arith, h, x.0)
+
+-- ---- what an export answers
+
+stop_writing : (given : Given) (input had left : List ℕ) (q : Seen) (k l : Held) (stop : Stop) → AreBytes input → given.input ≡ Some input → given.had ≡ Some had → q.left ≡ Some left → IsReader given q → IsWriter given l → given.notice ≡ []
+    → HaltsWriting (response given.charset given.limits.column_room) response_start (begun_at given) q (fresh_at given) k given.description stop → l ≡ k
+    → (gained : List ℕ) × (given.has ≡ Some (had ++ gained)) × AfterStop (run_of given input left gained) (record { fault = stop.fault; place = stop.place; written = l.delivered; unwritten = length l.waiting })
+stop_writing given input had left q k l stop are e1 e2 ql reader writer none y same =
+    let first : begun_at given ≡ start (run_of given input left []) = ap (λ i. begun given.limits.packet_size given.limits.max_wire i given.read_failures_before) e1 in
+    let x = subst (λ (a : Seen). HaltsWriting (response given.charset given.limits.column_room) response_start a q (fresh_at given) k given.description stop) first y in
+    let p = subst (Puts (fresh_at given) x.breaks.middle) x.breaks.puts.1 x.breaks.puts.2 in
+    let b = x.breaks.breaks in
+    let adds = subst (λ (v : Held). Adds (fresh_at given) v (p.0 ++ b.0) (text_so_far x.at ++ take b.2 x.breaks.more)) (sym same) (Adds-trans (fresh_at given) x.breaks.middle k p.0 b.0 (text_so_far x.at) (take b.2 x.breaks.more) p.2 b.3) in
+    let d = delivers given had l (p.0 ++ b.0) (text_so_far x.at ++ take b.2 x.breaks.more) e2 writer adds in (
+      p.0 ++ b.0,
+      sym writer.has ∙ known_has given.had l.had had (p.0 ++ b.0) e2 adds.0,
+      (let run = run_of given input left (p.0 ++ b.0) in
+          let side : ReaderSide run q given.description = record { bytes = are; left = ql; failures = reader.failures; description = refl } in
+          let waits : k.waiting ≡ run.waiting = ap (λ (v : Held). v.waiting) (sym same) ∙ writer.waiting in
+          let fails : k.failures ≡ run.write_failures = ap (λ (v : Held). v.failures) (sym same) ∙ writer.failures in
+          let told : k.delivered ≡ l.delivered = ap (λ (v : Held). v.delivered) (sym same) in
+          let stops = broken run given had q k x.at stop side refl x.breaks x.holds refl waits fails refl (told ∙ adds.2) in
+          let written = exact run l.delivered adds.2 (fits run WriteFailed (Text (length run.gained)) are stops) in
+          let is : stop ≡ record { fault = WriteFailed; place = Text (length run.gained) } = b.8 ∙ ap (λ n. record { fault = WriteFailed; place = Text n }) (told ∙ written) in
+          record {
+            stop = subst (λ (s : Stop). Stops run s.fault s.place) (sym is) stops;
+            written = written;
+            unwritten = ap length writer.waiting;
+            no_notice = none;
+            none_waits = λ calm. absurd (calm stops.failed);
+          }),
+    )
+
+stop_at_end : (given : Given) (input had left : List ℕ) (q : Seen) (k l : Held) (stop : Stop) → AreBytes input → given.input ≡ Some input → given.had ≡ Some had → q.left ≡ Some left → IsReader given q → IsWriter given l → given.notice ≡ []
+    → FailsAtEnd (response given.charset given.limits.column_room) response_start (begun_at given) q (fresh_at given) k given.description stop → l ≡ k
+    → (gained : List ℕ) × (given.has ≡ Some (had ++ gained)) × AfterStop (run_of given input left gained) (record { fault = stop.fault; place = stop.place; written = l.delivered; unwritten = length l.waiting })
+stop_at_end given input had left q k l stop are e1 e2 ql reader writer none y same =
+    let first : begun_at given ≡ start (run_of given input left []) = ap (λ i. begun given.limits.packet_size given.limits.max_wire i given.read_failures_before) e1 in
+    let x = subst (λ (a : Seen). FailsAtEnd (response given.charset given.limits.column_room) response_start a q (fresh_at given) k given.description stop) first y in
+    let p = subst (Puts (fresh_at given) x.middle) x.whole.puts.1 x.whole.puts.2 in
+    let tokens = x.whole.tokens in
+    let adds = subst (λ (v : Held). Adds (fresh_at given) v (p.0 ++ x.fails.0) (text_so_far (behind tokens) ++ [])) (sym same) (Adds-trans (fresh_at given) x.middle k p.0 x.fails.0 (text_so_far (behind tokens)) [] p.2 x.fails.1) in
+    let d = delivers given had l (p.0 ++ x.fails.0) (text_so_far (behind tokens) ++ []) e2 writer adds in (
+      d.gained,
+      d.has,
+      (let run = run_of given input left d.gained in
+          let side : ReaderSide run q given.description = record { bytes = are; left = ql; failures = reader.failures; description = refl } in
+          let whole = whole_message_of run q given.description (fresh_at given) x.middle side x.whole in
+          let fails : k.failures ≡ run.write_failures = ap (λ (v : Held). v.failures) (sym same) ∙ writer.failures in
+          let told : k.delivered ≡ l.delivered = ap (λ (v : Held). v.delivered) (sym same) in
+          let rises : Rose given.write_failures_before given.write_failures = subst (λ n. Rose given.write_failures_before n) (sym (x.fails.3 ∙ ap one_more p.4) ∙ fails) (rose given.write_failures_before) in
+          let stops = failed_at_end run given q x.middle k tokens stop are whole (d.all ∙ append-nil (text_so_far (behind tokens)) ∙ text_behind tokens) rises in
+          let written = exact run l.delivered d.delivered (fits run WriteFailed (Text (length run.gained)) are stops) in
+          let is : stop ≡ record { fault = WriteFailed; place = Text (length run.gained) } = x.fails.2 ∙ ap (λ n. record { fault = WriteFailed; place = Text n }) (told ∙ written) in
+          record {
+            stop = subst (λ (s : Stop). Stops run s.fault s.place) (sym is) stops;
+            written = written;
+            unwritten = ap length writer.waiting;
+            no_notice = none;
+            none_waits = λ calm. absurd (calm rises);
+          }),
+    )
+
+-- what a run that stopped read
+stops_read : (given : Given) (q : Seen) (k : Held) (failed : Bool) (stop : Stop) → RunStops (response given.charset given.limits.column_room) response_start (begun_at given) q 0 (fresh_at given) k given.description failed stop → (read : List ℕ) × Consumes given.input q.left read
+stops_read given q k failed stop (inl (inl y)) = stalls_read (response given.charset given.limits.column_room) response_start (begun_at given) q 0 y.0.at stop y.0.stalls
+stops_read given q k failed stop (inl (inr y)) = (y.0.breaks.takes.0, y.0.breaks.takes.1.0)
+stops_read given q k failed stop (inr y) = (y.0.whole.takes.0, y.0.whole.takes.1.0)
+
+stopped_of : (given : Given) (input had left : List ℕ) (q : Seen) (k l : Held) (failed : Bool) (stop : Stop) → AreBytes input → given.input ≡ Some input → given.had ≡ Some had → q.left ≡ Some left → IsReader given q → IsWriter given l → given.notice ≡ []
+    → RunStops (response given.charset given.limits.column_room) response_start (begun_at given) q 0 (fresh_at given) k given.description failed stop → (failed ≡ false → Tidied k l) → (failed ≡ true → l ≡ k)
+    → (gained : List ℕ) × (given.has ≡ Some (had ++ gained)) × AfterStop (run_of given input left gained) (record { fault = stop.fault; place = stop.place; written = l.delivered; unwritten = length l.waiting })
+stopped_of given input had left q k l failed stop are e1 e2 ql reader writer none (inl (inl y)) tidy same = stop_reading given input had left q k l stop are e1 e2 ql reader writer none y.0 (tidy y.1)
+stopped_of given input had left q k l failed stop are e1 e2 ql reader writer none (inl (inr y)) tidy same = stop_writing given input had left q k l stop are e1 e2 ql reader writer none y.0 (same y.1)
+stopped_of given input had left q k l failed stop are e1 e2 ql reader writer none (inr y) tidy same = stop_at_end given input had left q k l stop are e1 e2 ql reader writer none y.0 (same y.1)
+
+pub stop_tells : (given : Given) (stopped : Stopped) → given.notice ≡ [] → StopsExport given stopped → Tells given (Err stopped)
+unfolding Tells
+stop_tells given stopped none x = λ input had are e1 e2.
+    let read = stops_read given x.seen x.middle x.failed x.stop x.stops in
+    let left = known_left given.input x.seen.left input read.0 e1 read.1 in
+    let all = stopped_of given input had left.0 x.seen x.middle x.held x.failed x.stop are e1 e2 left.1 x.reader x.writer none x.stops x.tidied x.same in
+    (left.0, all.0, sym x.reader.left ∙ left.1, all.1, subst (λ s. AfterStop (run_of given input left.0 all.0) s) (sym x.stopped_is) all.2)
+
+-- a message has bytes
+some_wire : (size : ℕ) (packets : List Packet) → AreMessage size packets → 0 < length (wire_of packets)
+some_wire size [] h = absurd h
+some_wire size (p ∷ packets) h = omega arith
+
+-- so some were read, and no count of failures stands at the greatest
+some_read : (old : Option (List ℕ)) (input left read wire : List ℕ) → old ≡ Some left → Consumes (Some input) old read → wire ++ left ≡ input → 0 < length wire → 0 < length read
+some_read old input left read wire e c begin some = let split : input ≡ read ++ left = subst (λ o. Consumes (Some input) o read) e c in omega (arith, ap length split, ap length begin, some, length-append read left, length-append wire left)
+
+pub report_tells : (given : Given) (report : Report) → given.notice ≡ [] → Exports given report → Tells given (Ok report)
+unfolding Tells
+report_tells given report none x = λ input had are e1 e2.
+    let first : begun_at given ≡ start (run_of given input [] []) = ap (λ i. begun given.limits.packet_size given.limits.max_wire i given.read_failures_before) e1 in
+    let y = subst (λ (a : Seen). Completes (response given.charset given.limits.column_room) response_start a x.seen (fresh_at given) x.held x.standing given.description) first x.completes in
+    let left = known_left (Some input) x.seen.left input y.whole.takes.0 refl y.whole.takes.1.0 in
+    let p = subst (Puts (fresh_at given) y.middle) y.whole.puts.1 y.whole.puts.2 in
+    let f = y.finishes in
+    let tokens = y.whole.tokens in
+    let adds = Adds-trans (fresh_at given) y.middle x.held p.0 f.0 (text_so_far (behind tokens)) [] p.2 f.1 in
+    let d = delivers given had x.held (p.0 ++ f.0) (text_so_far (behind tokens) ++ []) e2 x.writer adds in
+    let run = run_of given input left.0 d.gained in
+    let side : ReaderSide run x.seen given.description = record { bytes = are; left = left.1; failures = x.reader.failures; description = refl } in
+    let whole = whole_message_of run x.seen given.description (fresh_at given) y.middle side y.whole in
+    let empty : run.waiting ≡ [] = sym x.writer.waiting ∙ f.2 in
+    let same : run.gained ++ run.waiting ≡ text tokens = d.all ∙ append-nil (text_so_far (behind tokens)) ∙ text_behind tokens in
+    let gained : run.gained ≡ text tokens = sym (append-nil run.gained) ∙ ap (λ w. run.gained ++ w) (sym empty) ∙ same in
+    let few = fits_at run whole.packets left.0 (length (payload_of whole.packets)) (behind tokens) (length (run.gained ++ run.waiting)) are whole.stands.begin whole.stands.within
+    (subst (λ v. Spelt (grammar run) response_start v (behind tokens)) (sym (take_payload (payload_of whole.packets))) whole.spelt) (omega (arith, ap length same, ap length (text_behind tokens))) in
+    let written : x.held.delivered ≡ length (text tokens) = exact run x.held.delivered d.delivered few ∙ ap length gained in
+    let moved = some_read x.seen.left input left.0 y.whole.takes.0 (wire_of whole.packets) left.1 y.whole.takes.1.0 whole.stands.begin (some_wire given.limits.packet_size whole.packets whole.accepted.message.each) in
+    let calm_read : Rose given.read_failures_before given.read_failures → ⊥ = λ r. not_rose given.read_failures_before (y.whole.takes.4.1 moved) (subst (λ n. Rose given.read_failures_before n) whole.read_same r) in (
+      left.0,
+      d.gained,
+      sym x.reader.left ∙ left.1,
+      d.has,
+      record {
+        tokens = tokens;
+        packets = whole.packets;
+        accepted = whole.accepted;
+        stands = whole.stands;
+        report_is = x.report_is ∙ ap (λ n. record x.standing.report { written = n }) written ∙ y.tracks.report;
+        written = gained;
+        none_waits = empty;
+        notice = none ∙ sym (ap message_text y.tracks.no_error);
+        kept = whole.kept;
+        no_failure = (calm_read, λ r. not_rose given.write_failures_before (subst (λ n. n < 2 ^ 64 - 1) p.4 f.4) (subst (λ n. Rose given.write_failures_before n) (sym x.writer.failures ∙ f.3 ∙ p.4) r));
+      },
+    )

@@ -1,0 +1,192 @@
+-- What a text that grows is, and what the cells and rows that are read add to it.
+use Rattle.std.proofs.Common.{◌≡◌, ℕ, ◌+◌, ◌-◌, ◌<◌, Bool, true, false, List, [], ◌∷◌, ◌++◌, length, refl, sym, ◌∙◌, ap, subst, inl, inr, append_assoc, append-nil, arith}
+use Rattle.std.specs.Prelude.{◌⊎◌, ◌%◌, Option, Some, None, ◌==◌, ◌&&◌, ◌||◌, nat_lt, map, codes, if◌then◌else◌}
+use Rattle.std.proofs.lemmas.List.{map-append}
+use Rattle.tds_values.specs.Numbers.{little}
+use Rattle.tds_csv.specs.Joining.{emit}
+use Rattle.tds_csv.specs.Quoting.{quote, joined, line, line_end, null_field, binary_mark}
+use Rattle.tds_csv.specs.Conversion.{Conversion, HexDigits, Utf16Text, Windows1252Text, Utf8Text, conversion_rest, conversion_text, unit, is_fit, is_begun, long_field, open_field}
+use Rattle.tds_csv.proofs.ConversionLaws.{joins_by_name, fit_by_test, begun_by_test}
+use Rattle.tds_packet.specs.Elements.{IsNext}
+use Rattle.tds_packet.specs.declared.fault.Fault.{Fault}
+use Rattle.tds_packet.specs.declared.fault.Fault.TheVariants.{BadText, OddText, PlpLength}
+use Rattle.tds_packet.proofs.Choices.{choose, eq_true, lt_true, or_true, and_true}
+use Rattle.tds_columns.specs.Description.{Column}
+use Rattle.tds_rows.specs.declared.Charset.{Charset}
+use Rattle.tds_rows.specs.Cells.{Cell, Null, DataCell, field, shape, CellPart, ScalarBytes, ScalarLength, ShortLength, ShortData, Total, ChunkLength, ChunkData, WholeCell, cell_start, cell_add, cell, field_so_far, unless, is_total, within_total, end_of_chunks, chunk_fault}
+use Rattle.tds_rows.specs.Rows.{RowPart, Bitmap, InCell, WholeRow, next_cell, with_cell, row_add, row, with_field, row_so_far}
+
+-- the second text begins with the first
+abbrev pub Grows : List ℕ → List ℕ → Type 0
+Grows a b = (more : List ℕ) × (a ++ more ≡ b)
+
+-- a text grows to itself
+pub grows_same : (a : List ℕ) → Grows a a
+grows_same a = ([], append-nil a)
+
+-- the empty text grows to any
+pub grows_all : (b : List ℕ) → Grows [] b
+grows_all b = (b, refl)
+
+-- growth goes on
+pub grows_trans : (a b c : List ℕ) → Grows a b → Grows b c → Grows a c
+grows_trans a b c h k = (h.0 ++ k.0, sym (append_assoc a h.0 k.0) ∙ ap (λ v. v ++ k.0) h.1 ∙ k.1)
+
+-- what stands in front stays
+pub grows_under : (x a b : List ℕ) → Grows a b → Grows (x ++ a) (x ++ b)
+grows_under x a b h = (h.0, append_assoc x a h.0 ∙ ap (λ v. x ++ v) h.1)
+
+-- a text that ends more
+pub grows_by : (a b : List ℕ) → Grows a (a ++ b)
+grows_by a b = (b, refl)
+
+-- a comma and more behind a field
+comma : (f rest : List ℕ) → Grows f ((f ++ codes ",") ++ rest)
+comma f rest = (codes "," ++ rest, sym (append_assoc f (codes ",") rest))
+
+-- more fields
+pub joined_more : (fs gs : List (List ℕ)) → Grows (joined fs) (joined (fs ++ gs))
+joined_more [] gs = grows_all (joined gs)
+joined_more (f ∷ []) [] = grows_same f
+joined_more (f ∷ []) (g ∷ gs) = comma f (joined (g ∷ gs))
+joined_more (f ∷ h ∷ fs) gs = grows_under (f ++ codes ",") (joined (h ∷ fs)) (joined (h ∷ (fs ++ gs))) (joined_more (h ∷ fs) gs)
+
+-- more of the last field
+pub joined_last : (fs : List (List ℕ)) (a b : List ℕ) → Grows a b → Grows (joined (fs ++ a ∷ [])) (joined (fs ++ b ∷ []))
+joined_last [] a b h = h
+joined_last (f ∷ []) a b h = grows_under (f ++ codes ",") a b h
+joined_last (f ∷ g ∷ fs) a b h = grows_under (f ++ codes ",") (joined (g ∷ (fs ++ a ∷ []))) (joined (g ∷ (fs ++ b ∷ []))) (joined_last (g ∷ fs) a b h)
+
+-- the text of a field that may not be there yet
+abbrev pub OptionGrows : Option (List ℕ) → Option (List ℕ) → Type 0
+OptionGrows None b = Unit {0}
+OptionGrows (Some a) None = ⊥
+OptionGrows (Some a) (Some b) = Grows a b
+
+-- more of the field that is read
+pub with_field_grows : (cells : List Cell) (a b : Option (List ℕ)) → OptionGrows a b → Grows (joined (with_field cells a)) (joined (with_field cells b))
+with_field_grows cells None None h = grows_same (joined (map field cells))
+with_field_grows cells None (Some b) h = joined_more (map field cells) (b ∷ [])
+with_field_grows cells (Some a) None h = absurd h
+with_field_grows cells (Some a) (Some b) h = joined_last (map field cells) a b h
+
+-- ---- a field
+
+-- a piece adds to the fixed text
+emits_by_name : (c : Conversion) (a b : List ℕ) → is_begun c (a ++ b) ≡ true → Grows (emit (conversion_rest c) (conversion_text c) a) (emit (conversion_rest c) (conversion_text c) (a ++ b))
+emits_by_name c a b h = (emit (conversion_rest c) (conversion_text c) (conversion_rest c a ++ b), sym ((joins_by_name c).emits a b ((begun_by_test c (a ++ b)).0 h)))
+
+-- the whole text begins with the fixed text
+ends_by_name : (c : Conversion) (a : List ℕ) → is_fit c a ≡ true → Grows (emit (conversion_rest c) (conversion_text c) a) (conversion_text c a)
+ends_by_name c a h = (conversion_text c (conversion_rest c a), sym ((joins_by_name c).ends a ((fit_by_test c a).0 h)))
+
+-- more data
+pub open_grows : (c : Conversion) (a b : List ℕ) → is_begun c (a ++ b) ≡ true → Grows (open_field c a) (open_field c (a ++ b))
+open_grows HexDigits a b h = grows_under binary_mark (emit (conversion_rest HexDigits) (conversion_text HexDigits) a) (emit (conversion_rest HexDigits) (conversion_text HexDigits) (a ++ b)) (emits_by_name HexDigits a b h)
+open_grows Utf16Text a b h = grows_under (quote ∷ []) (emit (conversion_rest Utf16Text) (conversion_text Utf16Text) a) (emit (conversion_rest Utf16Text) (conversion_text Utf16Text) (a ++ b)) (emits_by_name Utf16Text a b h)
+open_grows Windows1252Text a b h = grows_under (quote ∷ []) (emit (conversion_rest Windows1252Text) (conversion_text Windows1252Text) a) (emit (conversion_rest Windows1252Text) (conversion_text Windows1252Text) (a ++ b)) (emits_by_name Windows1252Text a b h)
+open_grows Utf8Text a b h = grows_under (quote ∷ []) (emit (conversion_rest Utf8Text) (conversion_text Utf8Text) a) (emit (conversion_rest Utf8Text) (conversion_text Utf8Text) (a ++ b)) (emits_by_name Utf8Text a b h)
+
+-- the text behind its mark, and the closing quote
+closing : (x a b : List ℕ) → Grows a b → Grows (x ++ a) (x ++ (b ++ quote ∷ []))
+closing x a b h = grows_under x a (b ++ quote ∷ []) (grows_trans a b (b ++ quote ∷ []) h (grows_by b (quote ∷ [])))
+
+-- the end of the data
+pub long_grows : (c : Conversion) (a : List ℕ) → is_fit c a ≡ true → Grows (open_field c a) (long_field c a)
+long_grows HexDigits a h = grows_under binary_mark (emit (conversion_rest HexDigits) (conversion_text HexDigits) a) (conversion_text HexDigits a) (ends_by_name HexDigits a h)
+long_grows Utf16Text a h = closing (quote ∷ []) (emit (conversion_rest Utf16Text) (conversion_text Utf16Text) a) (conversion_text Utf16Text a) (ends_by_name Utf16Text a h)
+long_grows Windows1252Text a h = closing (quote ∷ []) (emit (conversion_rest Windows1252Text) (conversion_text Windows1252Text) a) (conversion_text Windows1252Text a) (ends_by_name Windows1252Text a h)
+long_grows Utf8Text a h = closing (quote ∷ []) (emit (conversion_rest Utf8Text) (conversion_text Utf8Text) a) (conversion_text Utf8Text a) (ends_by_name Utf8Text a h)
+
+-- ---- a cell
+
+-- a test that gave no fault holds
+pub unless_none : (b : Bool) (f : Fault) → unless b f ≡ None → b ≡ true
+unless_none true f h = refl
+unless_none false f h = cc
+
+-- a test that let something else be judged holds, and that gave no fault
+guard_none : (b : Bool) (o : Option Fault) (f : Fault) → (if b then o else Some f) ≡ None → (b ≡ true) × (o ≡ None)
+guard_none true o f h = (refl, h)
+guard_none false o f h = cc
+
+-- what is chosen by a test that holds gave no fault
+first_none : (b : Bool) (o p : Option Fault) → b ≡ true → (if b then o else p) ≡ None → o ≡ None
+first_none true o p z h = h
+first_none false o p z h = cc
+
+-- the last byte of a short value leaves it fit
+pub last_fit : (left : ℕ) (b : Bool) → (nat_lt 0 left || b) ≡ true → (left == 0) ≡ true → b ≡ true
+last_fit left b h z = go (or_true (nat_lt 0 left) b h)
+  where
+    go : ((nat_lt 0 left ≡ true) ⊎ (b ≡ true)) → b ≡ true
+    go (inl t) = let some : 0 < left = lt_true 0 left t in let none : left ≡ 0 = eq_true left 0 z in absurd (omega arith)
+    go (inr t) = t
+
+-- what ends the chunks leaves the data fit
+pub end_fit : (column : ℕ) (c : Conversion) (total : Option ℕ) (content : List ℕ) (n : ℕ) → chunk_fault column c total content n ≡ None → (n == 0) ≡ true → is_fit c content ≡ true
+end_fit column c total content n h z =
+    let o : end_of_chunks column c total content ≡ None = first_none (n == 0) (end_of_chunks column c total content) (unless (within_total total (length content + n)) (PlpLength column)) z h in
+    let inner = guard_none (is_total total (length content)) (if length content % unit c == 0 then unless (is_fit c content) (BadText column) else Some (OddText column)) (PlpLength column) o in
+    let last = guard_none (length content % unit c == 0) (unless (is_fit c content) (BadText column)) (OddText column) inner.1 in
+    unless_none (is_fit c content) (BadText column) last.1
+
+module _ (column : ℕ) where
+  -- each element of a cell adds to its text
+  pub cell_grows : (p : CellPart) (e : List ℕ) → IsNext (cell column) p e → OptionGrows (field_so_far p) (field_so_far (cell_add p e))
+  cell_grows (ScalarBytes k i) e n = tt
+  cell_grows (ScalarLength k) e n = tt
+  cell_grows (ShortLength c) e n = tt
+  cell_grows (Total c) e n = tt
+  cell_grows (WholeCell x) e n = grows_same (field x)
+  cell_grows (ShortData c left content) e n =
+      let free = and_true (is_begun c (content ++ e)) (nat_lt 0 left || is_fit c (content ++ e)) (unless_none (is_begun c (content ++ e) && (nat_lt 0 left || is_fit c (content ++ e))) (BadText column) n.free) in
+      let one : Grows (open_field c content) (open_field c (content ++ e)) = open_grows c content e free.0 in
+      choose (λ p. OptionGrows (Some (open_field c content)) (field_so_far p)) (left == 0) (WholeCell (DataCell c (content ++ e))) (ShortData c (left - 1) (content ++ e))
+      (λ z. grows_trans (open_field c content) (open_field c (content ++ e)) (long_field c (content ++ e)) one (long_grows c (content ++ e) (last_fit left (is_fit c (content ++ e)) free.1 z)))
+      (λ z. one)
+  cell_grows (ChunkLength c total content) e n =
+      choose (λ p. OptionGrows (Some (open_field c content)) (field_so_far p)) (little e == 0) (WholeCell (DataCell c content)) (ChunkData c total (little e - 1) content)
+      (λ z. long_grows c content (end_fit column c total content (little e) n.free z))
+      (λ z. grows_same (open_field c content))
+  cell_grows (ChunkData c total left content) e n =
+      let one : Grows (open_field c content) (open_field c (content ++ e)) = open_grows c content e (unless_none (is_begun c (content ++ e)) (BadText column) n.free) in
+      choose (λ p. OptionGrows (Some (open_field c content)) (field_so_far p)) (left == 0) (ChunkLength c total (content ++ e)) (ChunkData c total (left - 1) (content ++ e))
+      (λ z. one)
+      (λ z. one)
+
+-- ---- a row
+
+-- one more cell is one more field
+one_more_field : (cells : List Cell) (c : Cell) → map field (cells ++ c ∷ []) ≡ map field cells ++ field c ∷ []
+one_more_field cells c = map-append field cells (c ∷ [])
+
+module _ (charset : Charset) where
+  -- the cells to come begin
+  pub next_grows : (cells : List Cell) (ks : List (Column × Bool)) → Grows (joined (map field cells)) (row_so_far (next_cell charset cells ks))
+  next_grows cells [] = grows_by (joined (map field cells)) line_end
+  next_grows cells ((k, true) ∷ ks) =
+      grows_trans (joined (map field cells)) (joined (map field (cells ++ Null ∷ []))) (row_so_far (next_cell charset (cells ++ Null ∷ []) ks))
+      (subst (λ v. Grows (joined (map field cells)) (joined v)) (sym (one_more_field cells Null)) (joined_more (map field cells) (null_field ∷ [])))
+      (next_grows (cells ++ Null ∷ []) ks)
+  next_grows cells ((k, false) ∷ ks) = with_field_grows cells None (field_so_far (cell_start k.kind (shape charset k.kind))) tt
+
+  -- a cell in its row
+  with_cell_grows : (cells : List Cell) (ks : List (Column × Bool)) (p : CellPart) → Grows (joined (with_field cells (field_so_far p))) (row_so_far (with_cell charset cells ks p))
+  with_cell_grows cells ks (WholeCell c) = subst (λ v. Grows (joined v) (row_so_far (next_cell charset (cells ++ c ∷ []) ks))) (one_more_field cells c) (next_grows (cells ++ c ∷ []) ks)
+  with_cell_grows cells ks (ScalarBytes k i) = grows_same (joined (map field cells))
+  with_cell_grows cells ks (ScalarLength k) = grows_same (joined (map field cells))
+  with_cell_grows cells ks (ShortLength c) = grows_same (joined (map field cells))
+  with_cell_grows cells ks (Total c) = grows_same (joined (map field cells))
+  with_cell_grows cells ks (ShortData c left content) = grows_same (joined (map field cells ++ open_field c content ∷ []))
+  with_cell_grows cells ks (ChunkLength c total content) = grows_same (joined (map field cells ++ open_field c content ∷ []))
+  with_cell_grows cells ks (ChunkData c total left content) = grows_same (joined (map field cells ++ open_field c content ∷ []))
+
+  -- each element of a row adds to its text
+  pub row_grows : (p : RowPart) (e : List ℕ) → IsNext (row charset) p e → Grows (row_so_far p) (row_so_far (row_add charset p e))
+  row_grows (Bitmap columns) e n = grows_all (row_so_far (row_add charset (Bitmap columns) e))
+  row_grows (WholeRow cells) e n = grows_same (line (map field cells))
+  row_grows (InCell cells part ks) e n =
+      grows_trans (joined (with_field cells (field_so_far part))) (joined (with_field cells (field_so_far (cell_add part e)))) (row_so_far (with_cell charset cells ks (cell_add part e)))
+      (with_field_grows cells (field_so_far part) (field_so_far (cell_add part e)) (cell_grows (length cells) part e (record { some = n.some; whole = n.whole; free = n.free })))
+      (with_cell_grows cells ks (cell_add part e))

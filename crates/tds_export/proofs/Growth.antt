@@ -1,0 +1,247 @@
+-- What is read grows by each element: the text so far, and the greatest span.
+use Rattle.std.proofs.Common.{◌≡◌, ◌∙◌, ℕ, ◌+◌, ◌-◌, ◌*◌, ◌≤◌, true, false, List, [], ◌∷◌, ◌++◌, length, max, refl, sym, ap, subst, append-nil, arith, length-append}
+use Rattle.std.specs.Prelude.{Option, Some, None, ◌==◌, ◌||◌, map, is_some, slice_index, unwrap_or, if◌then◌else◌}
+use Rattle.tds_values.specs.declared.kind.Kind.{Kind}
+use Rattle.tds_values.specs.Numbers.{little}
+use Rattle.tds_values.specs.TypeInfo.{rest_length, kind_of}
+use Rattle.tds_values.proofs.TypeInfoLemmas.{bare_type}
+use Rattle.tds_packet.specs.Elements.{IsNext, Leads, Spelt}
+use Rattle.tds_packet.specs.declared.fault.RefusedKind.{RefusedKind}
+use Rattle.tds_packet.specs.declared.fault.Fault.{Fault}
+use Rattle.tds_packet.specs.declared.fault.Fault.TheVariants.{BadTypeInfo}
+use Rattle.tds_packet.proofs.Choices.{choose, eq_true, is_some_value}
+use Rattle.tds_csv.specs.Quoting.{line}
+use Rattle.tds_columns.specs.Description.{Column, ColumnHead, ColumnInfo, NameCount, NameUnits, DescriptionPart, BeforeCount, NoDescription, InColumn, WholeDescription, with_column, with_kind, with_type, with_units, add_described, description, first_of_two, refused_kind, refused_type, span, too_long, type_fault}
+use Rattle.tds_rows.specs.declared.Charset.{Charset}
+use Rattle.tds_rows.specs.Cells.{field}
+use Rattle.tds_rows.specs.Rows.{RowPart, Bitmap, InCell, WholeRow, row_start, nbc_row_start, row_add, row_so_far}
+use Rattle.tds_export.specs.ReturnValue.{ReturnPart, ReturnOrdinal, ReturnNameCount, ReturnName, ReturnHead, ReturnInfo, InReturnCell, WholeReturn, return_add}
+use Rattle.tds_export.specs.Response.{more}
+use Rattle.tds_export.specs.Tokens.{Token, Metadata, NoMetadata, Row, ReturnStatus, Returned, Done, DoneInProc, described_after, greatest_span, span_of, text, text_after}
+use Rattle.tds_export.specs.Reading.{AnOrder, AnEnvChange, AnError, AnInfo, Open, Between, Describing, InRow, InReturn, TokenLength, TokenBody, Status, DoneFields, DoneInProcFields, Part, response, bodied, after_byte, open_span, open_text, part_add, span_so_far, start_of_row, text_so_far, with_described, with_return, with_row, with_token}
+use Rattle.tds_export.proofs.Growing.{Grows, grows_all, grows_same, grows_trans, grows_under, row_grows}
+use Rattle.tds_export.proofs.TokenLaws.{begun_after, greatest_span-append, text_after-snoc}
+
+-- a part by its tokens and where it is read
+abbrev pub part_at : List Token → Open → Part
+part_at tokens at = record { tokens = tokens; at = at }
+
+-- what a token byte other than that of a row begins
+abbrev pub IsFresh : Open → Type 0
+IsFresh (Describing d) = d ≡ BeforeCount
+IsFresh (InRow part) = ⊥
+IsFresh at = Unit {0}
+
+-- the cases of a token byte
+pub byte_cases : (charset : Charset) (P : Part → Type 0) (tokens : List Token) (x : ℕ) → ((at : Open) → IsFresh at → P (part_at tokens at)) → P (start_of_row tokens (row_start charset) (described_after None tokens)) → P (start_of_row tokens nbc_row_start (described_after None tokens)) → P (after_byte charset tokens x)
+byte_cases charset P tokens x same row nbc =
+    choose P (x == 0x81) (record { tokens = tokens; at = Describing BeforeCount }) _ (λ z. same (Describing BeforeCount) refl) (λ z1.
+    choose P (x == 0xD1) (start_of_row tokens (row_start charset) (described_after None tokens)) _ (λ z. row) (λ z2.
+    choose P (x == 0xD2) (start_of_row tokens nbc_row_start (described_after None tokens)) _ (λ z. nbc) (λ z3.
+    choose P (x == 0xA9) (record { tokens = tokens; at = TokenLength AnOrder }) _ (λ z. same (TokenLength AnOrder) tt) (λ z4.
+    choose P (x == 0xE3) (record { tokens = tokens; at = TokenLength AnEnvChange }) _ (λ z. same (TokenLength AnEnvChange) tt) (λ z5.
+    choose P (x == 0xAA) (record { tokens = tokens; at = TokenLength AnError }) _ (λ z. same (TokenLength AnError) tt) (λ z6.
+    choose P (x == 0xAB) (record { tokens = tokens; at = TokenLength AnInfo }) _ (λ z. same (TokenLength AnInfo) tt) (λ z7.
+    choose P (x == 0x79) (record { tokens = tokens; at = Status }) _ (λ z. same Status tt) (λ z8.
+    choose P ((x == 0xFD) || (x == 0xFE)) (record { tokens = tokens; at = DoneFields }) _ (λ z. same DoneFields tt) (λ z9.
+    choose P (x == 0xFF) (record { tokens = tokens; at = DoneInProcFields }) _ (λ z. same DoneInProcFields tt) (λ z10.
+    choose P (x == 0xAC) (record { tokens = tokens; at = InReturn ReturnOrdinal }) _ (λ z. same (InReturn ReturnOrdinal) tt) (λ z11. same Between tt)))))))))))
+
+-- ---- the text
+
+-- a token that is whole
+token_grows : (tokens : List Token) (t : Token) → Grows (text tokens ++ []) (text_so_far (with_token tokens t))
+token_grows tokens t =
+    let m : List ℕ = text_after (begun_after false tokens) (t ∷ []) in
+    (m, ap (λ v. v ++ m) (append-nil (text tokens)) ∙ sym (append-nil (text tokens ++ m)) ∙ ap (λ v. v ++ []) (sym (text_after-snoc false tokens t)))
+
+-- what has just begun has no text
+fresh_text : (at : Open) → IsFresh at → open_text at ≡ []
+fresh_text (InRow part) h = absurd h
+fresh_text at h = refl
+
+-- what has just begun leaves the text
+same_grows : (tokens : List Token) (at : Open) → IsFresh at → Grows (text tokens ++ []) (text_so_far (part_at tokens at))
+same_grows tokens at h = subst (λ v. Grows (text tokens ++ []) (text tokens ++ v)) (sym (fresh_text at h)) (grows_same (text tokens ++ []))
+
+-- a row in its response
+with_row_grows : (tokens : List Token) (part : RowPart) → Grows (text tokens ++ row_so_far part) (text_so_far (with_row tokens part))
+with_row_grows tokens (Bitmap columns) = grows_same (text tokens ++ [])
+with_row_grows tokens (InCell cells part ks) = grows_same (text tokens ++ row_so_far (InCell cells part ks))
+with_row_grows tokens (WholeRow cells) = ([], ap (λ v. v ++ []) (ap (λ v. text tokens ++ v) (sym (append-nil (line (map field cells)))) ∙ sym (text_after-snoc false tokens (Row cells))))
+
+-- a row that begins
+start_grows : (tokens : List Token) (start : List Column → RowPart) (current : Option (List Column)) → Grows (text tokens ++ []) (text_so_far (start_of_row tokens start current))
+start_grows tokens start None = grows_same (text tokens ++ [])
+start_grows tokens start (Some columns) = grows_trans (text tokens ++ []) (text tokens ++ row_so_far (start columns)) (text_so_far (with_row tokens (start columns))) (grows_under (text tokens) [] (row_so_far (start columns)) (grows_all (row_so_far (start columns)))) (with_row_grows tokens (start columns))
+
+-- a description in its response
+with_described_grows : (tokens : List Token) (d : DescriptionPart) → Grows (text tokens ++ []) (text_so_far (with_described tokens d))
+with_described_grows tokens BeforeCount = grows_same (text tokens ++ [])
+with_described_grows tokens NoDescription = token_grows tokens NoMetadata
+with_described_grows tokens (InColumn bytes count columns place) = grows_same (text tokens ++ [])
+with_described_grows tokens (WholeDescription bytes columns) = token_grows tokens (Metadata bytes columns)
+
+-- a return value in its response
+with_return_grows : (tokens : List Token) (part : ReturnPart) → Grows (text tokens ++ []) (text_so_far (with_return tokens part))
+with_return_grows tokens ReturnOrdinal = grows_same (text tokens ++ [])
+with_return_grows tokens ReturnNameCount = grows_same (text tokens ++ [])
+with_return_grows tokens (ReturnName n) = grows_same (text tokens ++ [])
+with_return_grows tokens (ReturnHead name) = grows_same (text tokens ++ [])
+with_return_grows tokens (ReturnInfo name byte) = grows_same (text tokens ++ [])
+with_return_grows tokens (InReturnCell name kind part) = grows_same (text tokens ++ [])
+with_return_grows tokens (WholeReturn r) = token_grows tokens (Returned r)
+
+-- ---- the span
+
+-- a token that is whole
+token_span : (tokens : List Token) (t : Token) (n : ℕ) → n ≤ span_of t → max (greatest_span tokens) n ≤ span_so_far (with_token tokens t)
+token_span tokens t n h = omega (arith, greatest_span-append tokens (t ∷ []))
+
+-- a row in its response
+with_row_span : (tokens : List Token) (part : RowPart) → max (greatest_span tokens) 0 ≤ span_so_far (with_row tokens part)
+with_row_span tokens (Bitmap columns) = omega arith
+with_row_span tokens (InCell cells part ks) = omega arith
+with_row_span tokens (WholeRow cells) = token_span tokens (Row cells) 0 (omega arith)
+
+-- a row that begins
+start_span : (tokens : List Token) (start : List Column → RowPart) (current : Option (List Column)) → max (greatest_span tokens) 0 ≤ span_so_far (start_of_row tokens start current)
+start_span tokens start None = omega arith
+start_span tokens start (Some columns) = with_row_span tokens (start columns)
+
+-- a description in its response
+with_described_span : (tokens : List Token) (d : DescriptionPart) → max (greatest_span tokens) (span d) ≤ span_so_far (with_described tokens d)
+with_described_span tokens BeforeCount = omega arith
+with_described_span tokens NoDescription = token_span tokens NoMetadata 2 (omega arith)
+with_described_span tokens (InColumn bytes count columns place) = omega arith
+with_described_span tokens (WholeDescription bytes columns) = token_span tokens (Metadata bytes columns) (length bytes + 0) (omega arith)
+
+-- a return value in its response
+with_return_span : (tokens : List Token) (part : ReturnPart) → max (greatest_span tokens) 0 ≤ span_so_far (with_return tokens part)
+with_return_span tokens ReturnOrdinal = omega arith
+with_return_span tokens ReturnNameCount = omega arith
+with_return_span tokens (ReturnName n) = omega arith
+with_return_span tokens (ReturnHead name) = omega arith
+with_return_span tokens (ReturnInfo name byte) = omega arith
+with_return_span tokens (InReturnCell name kind part) = omega arith
+with_return_span tokens (WholeReturn r) = token_span tokens (Returned r) 0 (omega arith)
+
+-- a type byte that is accepted
+known_type : (i byte : ℕ) (o : Option ℕ) (y : Option Fault) → first_of_two (type_fault i byte o) y ≡ None → (n : ℕ) × (o ≡ Some n)
+known_type i byte (Some n) y h = (n, refl)
+known_type i byte None y h = go (refused_kind byte) h
+  where
+    go : (r : Option RefusedKind) → first_of_two (refused_type i byte r) y ≡ None → (n : ℕ) × (None ≡ Some n)
+    go (Some k) e = cc
+    go None e = cc
+
+-- type information that is accepted has a kind
+some_kind : (i : ℕ) (o : Option Kind) → (if is_some o then None else Some (BadTypeInfo i)) ≡ None → is_some o ≡ true
+some_kind i (Some k) q = refl
+some_kind i None q = cc
+
+-- a column that is whole
+with_column_span : (bytes : List ℕ) (count : ℕ) (columns : List Column) (c : Column) → length bytes ≤ span (with_column bytes count columns c)
+with_column_span bytes count columns c =
+    choose (λ d. length bytes ≤ span d) (length columns + 1 == count) (WholeDescription bytes (columns ++ c ∷ [])) (InColumn bytes count (columns ++ c ∷ []) ColumnHead)
+    (λ z. omega arith) (λ z. omega arith)
+
+-- a type byte
+type_span : (bytes : List ℕ) (count : ℕ) (columns : List Column) (byte n : ℕ) → rest_length byte ≡ Some n → length bytes ≤ span (with_type bytes count columns byte n)
+type_span bytes count columns byte n known =
+    choose (λ d. length bytes ≤ span d) (n == 0) (with_kind bytes count columns (kind_of (byte ∷ []))) (InColumn bytes count columns (ColumnInfo byte))
+    (λ z. let k = bare_type byte (known ∙ ap (λ v. Some v) (eq_true n 0 z)) in subst (λ o. length bytes ≤ span (with_kind bytes count columns o)) (sym k.1) (omega arith))
+    (λ z. omega arith)
+
+module _ (room : ℕ) where
+  -- each element of a description adds to its span
+  description_span : (d : DescriptionPart) (e : List ℕ) → IsNext (description room) d e → span d ≤ span (add_described d e)
+  description_span NoDescription e n = omega arith
+  description_span (WholeDescription bytes columns) e n = omega arith
+  description_span BeforeCount e n =
+      let two : length e ≡ 2 = n.whole in
+      choose (λ d. 2 ≤ span d) (little e == 0xFFFF) NoDescription (InColumn e (little e) [] ColumnHead) (λ z. omega arith) (λ z. omega arith)
+  description_span (InColumn bytes count columns ColumnHead) e n =
+      let l : length (bytes ++ e) ≡ length bytes + 7 = length-append bytes e ∙ ap (λ v. length bytes + v) n.whole in
+      let k = known_type (length columns) (slice_index e 6) (rest_length (slice_index e 6)) (too_long room (length bytes + 7) ((unwrap_or (rest_length (slice_index e 6)) 0 + 1) + 8 * (count - (length columns + 1)))) n.free in
+      subst (λ v. v ≤ span (with_type (bytes ++ e) count columns (slice_index e 6) (unwrap_or (rest_length (slice_index e 6)) 0))) l
+      (subst (λ o. length (bytes ++ e) ≤ span (with_type (bytes ++ e) count columns (slice_index e 6) (unwrap_or o 0))) (sym k.1) (type_span (bytes ++ e) count columns (slice_index e 6) k.0 k.1))
+  description_span (InColumn bytes count columns (ColumnInfo byte)) e n =
+      let l : length (bytes ++ e) ≡ length bytes + unwrap_or (rest_length byte) 0 = length-append bytes e ∙ ap (λ v. length bytes + v) n.whole in
+      let k = is_some_value (kind_of (byte ∷ e)) (some_kind (length columns) (kind_of (byte ∷ e)) n.free) in
+      subst (λ v. v ≤ span (with_kind (bytes ++ e) count columns (kind_of (byte ∷ e)))) l
+      (subst (λ o. length (bytes ++ e) ≤ span (with_kind (bytes ++ e) count columns o)) (sym k.1) (omega arith))
+  description_span (InColumn bytes count columns (NameCount kind)) e n =
+      let l : length (bytes ++ e) ≡ length bytes + 1 = length-append bytes e ∙ ap (λ v. length bytes + v) n.whole in
+      subst (λ v. v ≤ span (with_units (bytes ++ e) count columns kind (slice_index e 0))) l
+      (choose (λ d. length (bytes ++ e) ≤ span d) (slice_index e 0 == 0) (with_column (bytes ++ e) count columns (record { kind = kind; name = [] })) (InColumn (bytes ++ e) count columns (NameUnits kind (2 * slice_index e 0)))
+      (λ z. with_column_span (bytes ++ e) count columns (record { kind = kind; name = [] })) (λ z. omega arith))
+  description_span (InColumn bytes count columns (NameUnits kind m)) e n =
+      let l : length (bytes ++ e) ≡ length bytes + m = length-append bytes e ∙ ap (λ v. length bytes + v) n.whole in
+      subst (λ v. v ≤ span (with_column (bytes ++ e) count columns (record { kind = kind; name = e }))) l (with_column_span (bytes ++ e) count columns (record { kind = kind; name = e }))
+
+module _ (charset : Charset) (room : ℕ) where
+  -- each element adds to the text, by where it is read
+  part_grows : (tokens : List Token) (at : Open) (e : List ℕ) → IsNext (response charset room) (part_at tokens at) e → Grows (text tokens ++ open_text at) (text_so_far (part_add charset tokens at e))
+  part_grows tokens Between e n = byte_cases charset (λ p. Grows (text tokens ++ []) (text_so_far p)) tokens (slice_index e 0) (same_grows tokens) (start_grows tokens (row_start charset) (described_after None tokens)) (start_grows tokens nbc_row_start (described_after None tokens))
+  part_grows tokens (Describing d) e n = with_described_grows tokens (add_described d e)
+  part_grows tokens (InRow part) e n =
+      grows_trans (text tokens ++ row_so_far part) (text tokens ++ row_so_far (row_add charset part e)) (text_so_far (with_row tokens (row_add charset part e)))
+      (grows_under (text tokens) (row_so_far part) (row_so_far (row_add charset part e)) (row_grows charset part e (record { some = n.some; whole = n.whole; free = n.free })))
+      (with_row_grows tokens (row_add charset part e))
+  part_grows tokens (InReturn part) e n = with_return_grows tokens (return_add part e)
+  part_grows tokens (TokenLength b) e n = choose (λ p. Grows (text tokens ++ []) (text_so_far p)) (little e == 0) (with_token tokens (bodied b [])) (part_at tokens (TokenBody b (little e))) (λ z. token_grows tokens (bodied b [])) (λ z. grows_same (text tokens ++ []))
+  part_grows tokens (TokenBody b m) e n = token_grows tokens (bodied b e)
+  part_grows tokens Status e n = token_grows tokens (ReturnStatus (little e))
+  part_grows tokens DoneFields e n = token_grows tokens (Done (more e))
+  part_grows tokens DoneInProcFields e n = token_grows tokens (DoneInProc (more e))
+
+  -- each element adds to the span, by where it is read
+  part_span : (tokens : List Token) (at : Open) (e : List ℕ) → IsNext (response charset room) (part_at tokens at) e → max (greatest_span tokens) (open_span at) ≤ span_so_far (part_add charset tokens at e)
+  part_span tokens Between e n = byte_cases charset (λ p. max (greatest_span tokens) 0 ≤ span_so_far p) tokens (slice_index e 0) (λ at q. omega arith) (start_span tokens (row_start charset) (described_after None tokens)) (start_span tokens nbc_row_start (described_after None tokens))
+  part_span tokens (Describing d) e n =
+      let one : span d ≤ span (add_described d e) = description_span room d e (record { some = n.some; whole = n.whole; free = n.free }) in
+      let two : max (greatest_span tokens) (span (add_described d e)) ≤ span_so_far (with_described tokens (add_described d e)) = with_described_span tokens (add_described d e) in
+      larger (greatest_span tokens) (span d) (span (add_described d e)) (span_so_far (with_described tokens (add_described d e))) one two
+    where
+      larger : (g a b c : ℕ) → a ≤ b → max g b ≤ c → max g a ≤ c
+      larger g a b c h k = omega arith
+  part_span tokens (InRow part) e n = with_row_span tokens (row_add charset part e)
+  part_span tokens (InReturn part) e n = with_return_span tokens (return_add part e)
+  part_span tokens (TokenLength b) e n = choose (λ p. max (greatest_span tokens) 0 ≤ span_so_far p) (little e == 0) (with_token tokens (bodied b [])) (part_at tokens (TokenBody b (little e))) (λ z. token_span tokens (bodied b []) 0 (omega arith)) (λ z. omega arith)
+  part_span tokens (TokenBody b m) e n = token_span tokens (bodied b e) 0 (omega arith)
+  part_span tokens Status e n = token_span tokens (ReturnStatus (little e)) 0 (omega arith)
+  part_span tokens DoneFields e n = token_span tokens (Done (more e)) 0 (omega arith)
+  part_span tokens DoneInProcFields e n = token_span tokens (DoneInProc (more e)) 0 (omega arith)
+
+  -- each element adds to the text so far
+  pub text_grows : (p : Part) (e : List ℕ) → IsNext (response charset room) p e → (more : List ℕ) × (text_so_far p ++ more ≡ text_so_far ((response charset room).add p e))
+  text_grows p e n = part_grows p.tokens p.at e n
+
+  -- and to the greatest span
+  pub span_grows : (p : Part) (e : List ℕ) → IsNext (response charset room) p e → span_so_far p ≤ span_so_far ((response charset room).add p e)
+  span_grows p e n = part_span p.tokens p.at e n
+
+  -- all elements add to the text
+  text_leads : (p q : Part) (es : List (List ℕ)) → Leads (response charset room) p es q → Grows (text_so_far p) (text_so_far q)
+  text_leads p q [] h = subst (λ v. Grows (text_so_far p) (text_so_far v)) h (grows_same (text_so_far p))
+  text_leads p q (e ∷ es) h = grows_trans (text_so_far p) (text_so_far ((response charset room).add p e)) (text_so_far q) (text_grows p e h.0) (text_leads ((response charset room).add p e) q es h.1)
+
+  -- all elements add to the span
+  span_leads : (p q : Part) (es : List (List ℕ)) → Leads (response charset room) p es q → span_so_far p ≤ span_so_far q
+  span_leads p q [] h = subst (λ v. span_so_far p ≤ span_so_far v) h (omega arith)
+  span_leads p q (e ∷ es) h =
+      let one : span_so_far p ≤ span_so_far ((response charset room).add p e) = span_grows p e h.0 in
+      let two : span_so_far ((response charset room).add p e) ≤ span_so_far q = span_leads ((response charset room).add p e) q es h.1 in
+      through (span_so_far p) (span_so_far ((response charset room).add p e)) (span_so_far q) one two
+    where
+      through : (a b c : ℕ) → a ≤ b → b ≤ c → a ≤ c
+      through a b c h k = omega arith
+
+  -- and so do all elements between two states
+  pub text_along : (p q : Part) (bytes : List ℕ) → Spelt (response charset room) p bytes q → (more : List ℕ) × (text_so_far p ++ more ≡ text_so_far q)
+  text_along p q bytes s = text_leads p q s.elements s.leads
+
+  -- and to the span
+  pub span_along : (p q : Part) (bytes : List ℕ) → Spelt (response charset room) p bytes q → span_so_far p ≤ span_so_far q
+  span_along p q bytes s = span_leads p q s.elements s.leads

@@ -1,0 +1,165 @@
+-- How an export ended, told of the packets of its input.
+use Rattle.std.proofs.Common.{◌≡◌, ◌∙◌, ◌⊎◌, inl, inr, ℕ, ◌+◌, ◌*◌, ◌-◌, ◌/◌, ◌^◌, ◌<◌, ◌≤◌, Bool, true, false, List, [], ◌∷◌, ◌++◌, length, take, drop, min, refl, sym, ap, subst, arith, append_assoc, append-nil, length-append}
+use Rattle.std.specs.Prelude.{Option, Some, None, Result, Ok, Err, if◌then◌else◌}
+use Rattle.std.proofs.Math.Seq.{take-append_seam, drop-append_seam, take-length as take_all}
+use Rattle.std.proofs.lemmas.List.{take-append-le}
+use Rattle.std.specs.Io.KnownBytes.{Appends}
+use Rattle.tds_meter.specs.declared.limits.Limits.{Limits}
+use Rattle.tds_meter.specs.Counts.{Rose, counted, one_more}
+use Rattle.tds_meter.specs.Space.{Space}
+use Rattle.tds_packet.specs.declared.fault.Fault.{Fault}
+use Rattle.tds_packet.specs.declared.fault.Fault.TheVariants.{EndWithoutDone, MessageEnded, NotYet, ReadFailed, WriteFailed}
+use Rattle.tds_packet.specs.declared.fault.Place.{Place}
+use Rattle.tds_packet.specs.declared.fault.Place.TheVariants.{Wire, Payload, Text}
+use Rattle.tds_packet.specs.declared.fault.Stop.{Stop}
+use Rattle.tds_packet.specs.Elements.{AreBytes, Grammar, IsNext, IsRefused, Longest, Spelt}
+use Rattle.tds_packet.specs.Packets.{AreBefore, AreMessage, Packet, payload_of, wire_of}
+use Rattle.tds_packet.specs.Seen.{Ends, IsBetween, IsOver, Seen, Takes, begun}
+use Rattle.tds_packet.specs.Reading.{CutsNext, RefusesNext, StopsReading, IsCutStop}
+use Rattle.tds_packet.proofs.ElementLaws.{Spelt-append, Spelt-one, longest_cut, longest_refused, some_longest}
+use Rattle.tds_packet.proofs.Fronts.{Begins, EndsMessage, InLast, StopsBehind, ends_front, in_last, over_front, takes_begins}
+use Rattle.tds_columns.specs.Description.{DescriptionPart, description_bytes}
+use Rattle.tds_csv.specs.Sinks.{Adds, Breaks, FinishFails, Finishes, Held, Puts, fresh}
+use Rattle.tds_csv.specs.Streaming.{PutsText}
+use Rattle.tds_rows.specs.declared.Charset.{Charset}
+use Rattle.tds_export.specs.declared.report.Stopped.{Stopped}
+use Rattle.tds_export.specs.Tokens.{Token, encoded_after}
+use Rattle.tds_export.specs.Export.{Comes, EndsInLast, IsKept, Keeps, Packets, Reads, Refuses, Run, StopsInPayload, StopsOnWire, StopsUnbuilt, grammar}
+use Rattle.tds_export.specs.Built.{is_built}
+use Rattle.tds_export.specs.Reading.{Describing, Open, Part, response, response_start, text_so_far}
+use Rattle.tds_export.specs.Running.{HaltsReading, IsHolding, ReadsUnbuilt, Stalls, description_of}
+
+-- what the area holds at a part is kept, whatever follows
+pub kept_at : (area : Space) (tokens : List Token) (at : Open) (rest : List ℕ) → area.bytes ≡ description_of tokens at → IsKept area.bytes tokens at rest
+kept_at area tokens (Describing d) rest e = (rest, ap (λ l. l ++ rest) e)
+kept_at area tokens at rest e = e
+
+-- the reader's side of a run that began at the front of its input
+pub record ReaderSide (run : Run) (q : Seen) (area : Space) : Type 0 where
+  pub bytes : AreBytes run.input
+  pub left : q.left ≡ Some run.left
+  pub failures : q.failures ≡ run.read_failures
+  pub description : run.description ≡ area.bytes
+
+abbrev pub start : Run → Seen
+start run = begun run.limits.packet_size run.limits.max_wire (Some run.input) run.read_failures_before
+
+packets_of : (run : Run) (payload : List ℕ) (b : Begins run.limits.packet_size run.limits.max_wire run.input run.left payload) → Packets run b.packets
+packets_of run payload b = record { begin = b.begin; each = b.each; within = b.within }
+
+-- an element's end lies in the last of the packets that were needed for it
+ends_in_last : (run : Run) (part : Part) (packets : List Packet) (bytes element : List ℕ) → length element ≡ (grammar run).size part → InLast run.limits.packet_size packets (length (bytes ++ element)) → EndsInLast run packets (length bytes) part
+ends_in_last run part packets bytes element whole l = record {
+  before = l.before;
+  last = l.last;
+  split = l.split;
+  none_last = l.none_last;
+  later = omega (arith, l.earlier, length-append bytes element, whole);
+}
+
+-- a payload that begins with whole elements and one more
+split_payload : (bytes element more payload : List ℕ) → payload ≡ (bytes ++ element) ++ more → (payload ≡ bytes ++ (element ++ more)) × (drop (length bytes) payload ≡ element ++ more) × (take (length bytes) payload ≡ bytes)
+split_payload bytes element more payload e =
+    let all : payload ≡ bytes ++ (element ++ more) = e ∙ append_assoc bytes element more in
+    (all, ap (drop (length bytes)) all ∙ drop-append_seam bytes (element ++ more), ap (take (length bytes)) all ∙ take-append_seam bytes (element ++ more))
+
+-- an element was refused
+pub refused_in_payload : (run : Run) (q : Seen) (area : Space) (part : Part) (bytes : List ℕ) (fault : Fault) → ReaderSide run q area → Spelt (grammar run) response_start bytes part → RefusesNext (grammar run) (start run) q bytes part fault → IsHolding area part
+    → run.gained ++ run.waiting ≡ text_so_far part → StopsInPayload run fault (length bytes)
+refused_in_payload run q area part bytes fault side spelt x holds text =
+    let g = grammar run in
+    let e = x.element in
+    let more = (q.future []).bytes in
+    let n = length (bytes ++ e) in
+    let b = takes_begins run.limits.packet_size run.limits.max_wire run.read_failures_before run.input run.left q (bytes ++ e) n side.bytes side.left x.takes x.between in
+    let s = split_payload bytes e more (payload_of b.packets) b.payload_is in
+    let some : 0 < length e = x.some in
+    let whole : length e ≡ g.size part = x.whole in
+    let l = in_last run.limits.packet_size run.limits.max_wire run.read_failures_before n run.input run.left q (bytes ++ e) ((bytes ++ e) ++ more) side.left x.takes b (omega (arith, some, length-append (bytes ++ e) more, length-append bytes e)) in
+    let refused : IsRefused g part (e ++ more) fault = record {
+      some = omega (arith, some, whole);
+      whole = omega (arith, whole, length-append e more);
+      first = ap (λ k. g.fault part (take k (e ++ more))) (sym whole) ∙ ap (g.fault part) (take-append_seam e more) ∙ x.first;
+    } in
+    record {
+      packets = b.packets;
+      part = part;
+      stands = packets_of run ((bytes ++ e) ++ more) b;
+      leads = subst (λ p. Longest g response_start p (length bytes) part) (sym s.0) (longest_refused g response_start bytes (e ++ more) part fault spelt refused);
+      first = inl (subst (λ r. IsRefused g part r fault) (sym s.1) refused, ends_in_last run part b.packets bytes e whole l);
+      written = text;
+      kept = subst (λ a. IsKept a part.tokens part.at (drop (length bytes) (payload_of b.packets))) (sym side.description) (kept_at area part.tokens part.at (drop (length bytes) (payload_of b.packets)) holds.bytes);
+    }
+
+-- an element wasn't built
+pub unbuilt_in_payload : (run : Run) (q : Seen) (area : Space) (part : Part) (stop : Stop) (place : ℕ) → ReaderSide run q area → (x : ReadsUnbuilt (grammar run) is_built response_start (start run) q place part stop) → IsHolding area part
+    → run.gained ++ run.waiting ≡ text_so_far part → StopsUnbuilt run (length x.bytes)
+unbuilt_in_payload run q area part stop place side x holds text =
+    let g = grammar run in
+    let bytes = x.bytes in
+    let e = x.element in
+    let more = (q.future []).bytes in
+    let n = length (bytes ++ e) in
+    let b = takes_begins run.limits.packet_size run.limits.max_wire run.read_failures_before run.input run.left q (bytes ++ e) n side.bytes side.left x.takes x.between in
+    let s = split_payload bytes e more (payload_of b.packets) b.payload_is in
+    let some : 0 < length e = x.some in
+    let whole : length e ≡ g.size part = x.whole in
+    let l = in_last run.limits.packet_size run.limits.max_wire run.read_failures_before n run.input run.left q (bytes ++ e) ((bytes ++ e) ++ more) side.left x.takes b (omega (arith, some, length-append (bytes ++ e) more, length-append bytes e)) in
+    record {
+      packets = b.packets;
+      part = part;
+      stands = packets_of run ((bytes ++ e) ++ more) b;
+      comes = record { within = omega (arith, ap length s.0, length-append bytes (e ++ more)); spelt = subst (λ v. Spelt g response_start v part) (sym s.2) x.spelt };
+      whole = omega (arith, ap length s.0, length-append bytes (e ++ more), length-append e more, whole);
+      unbuilt = ap (λ r. is_built part (take (g.size part) r)) s.1 ∙ ap (λ k. is_built part (take k (e ++ more))) (sym whole) ∙ ap (is_built part) (take-append_seam e more) ∙ x.unbuilt;
+      in_last = ends_in_last run part b.packets bytes e whole l;
+      written = text;
+      kept = subst (λ a. IsKept a part.tokens part.at (drop (length bytes) (payload_of b.packets))) (sym side.description) (kept_at area part.tokens part.at (drop (length bytes) (payload_of b.packets)) holds.bytes);
+    }
+
+-- the bytes behind a state, where they hold no whole element
+rest_of : (bytes part payload : List ℕ) → payload ≡ bytes ++ part → drop (length bytes) payload ≡ part
+rest_of bytes part payload e = ap (drop (length bytes)) e ∙ drop-append_seam bytes part
+
+-- the message ended
+pub ended_in_payload : (run : Run) (q : Seen) (area : Space) (part : Part) (bytes cut : List ℕ) (own : Stop) (fault : Fault) → ReaderSide run q area → Spelt (grammar run) response_start bytes part → length cut < (grammar run).size part
+    → EndsMessage run.limits.packet_size run.limits.max_wire run.input run.left (bytes ++ cut) run.read_failures_before q.failures own → (grammar run).end_fault part ≡ Some fault → IsHolding area part
+    → run.gained ++ run.waiting ≡ text_so_far part → StopsInPayload run fault (length bytes)
+ended_in_payload run q area part bytes cut own fault side spelt short m end holds text =
+    let g = grammar run in
+    let rest = rest_of bytes cut (payload_of m.packets) m.payload_is in
+    record {
+      packets = m.packets;
+      part = part;
+      stands = record { begin = m.begin; each = inl m.each; within = m.within };
+      leads = subst (λ p. Longest g response_start p (length bytes) part) (sym m.payload_is) (longest_cut g response_start bytes cut part spelt short);
+      first = inr (m.each, (λ some. subst (λ r. length r < g.size part) (sym rest) short), end);
+      written = text;
+      kept = subst (λ a. IsKept a part.tokens part.at (drop (length bytes) (payload_of m.packets))) (sym side.description) (kept_at area part.tokens part.at (drop (length bytes) (payload_of m.packets)) holds.bytes);
+    }
+
+-- the payload stopped on the wire
+pub stopped_on_wire : (run : Run) (q : Seen) (area : Space) (part : Part) (bytes cut : List ℕ) (stop : Stop) (rose : (f : ℕ) → Rose f (one_more f)) → ReaderSide run q area → Spelt (grammar run) response_start bytes part → length cut < (grammar run).size part
+    → (x : StopsBehind run.limits.packet_size run.limits.max_wire run.input (bytes ++ cut) run.read_failures_before q.failures stop) → IsHolding area part
+    → run.gained ++ run.waiting ≡ text_so_far part → StopsOnWire run stop.fault (length (wire_of x.packets))
+stopped_on_wire run q area part bytes cut stop rose side spelt short x holds text =
+    let g = grammar run in
+    let rest = rest_of bytes cut (payload_of x.packets) x.payload_is in
+    record {
+      packets = x.packets;
+      rest = x.more;
+      place = length bytes;
+      part = part;
+      begin = x.begin;
+      before = x.each;
+      within = x.within;
+      taken_is = refl;
+      first = elim x.cause [
+        | inl c ↦ inl (c.0, subst (Rose run.read_failures_before) (sym c.1 ∙ side.failures) (rose run.read_failures_before))
+        | inr c ↦ inr c.0
+      ];
+      leads = subst (λ p. Longest g response_start p (length bytes) part) (sym x.payload_is) (longest_cut g response_start bytes cut part spelt short);
+      none_refused = λ f r. (let w : g.size part ≤ length (drop (length bytes) (payload_of x.packets)) = r.whole in omega (arith, w, ap length rest, short));
+      written = text;
+      kept = subst (λ a. IsKept a part.tokens part.at (drop (length bytes) (payload_of x.packets))) (sym side.description) (kept_at area part.tokens part.at (drop (length bytes) (payload_of x.packets)) holds.bytes);
+    }

@@ -1,0 +1,129 @@
+-- The tokens of a response, one after another.
+use Rattle.std.proofs.Common.{◌≡◌, ◌∙◌, ◌⊎◌, inl, inr, ℕ, ◌+◌, ◌-◌, ◌^◌, ◌<◌, ◌≤◌, Bool, true, false, List, [], ◌∷◌, ◌++◌, length, refl, sym, ap, subst, arith, append_assoc, append-nil, length-append}
+use Rattle.std.specs.Prelude.{Option, Some, None, if◌then◌else◌}
+use Rattle.tds_meter.specs.Space.{Space, empty}
+use Rattle.tds_packet.specs.declared.fault.Fault.{Fault}
+use Rattle.tds_packet.specs.declared.fault.Fault.TheVariants.{EndWithoutDone, MessageEnded}
+use Rattle.tds_packet.specs.declared.fault.Place.{Place}
+use Rattle.tds_packet.specs.declared.fault.Place.TheVariants.{Payload}
+use Rattle.tds_packet.specs.declared.fault.Stop.{Stop}
+use Rattle.tds_packet.specs.Elements.{Grammar, Spelt}
+use Rattle.tds_packet.specs.Coming.{Coming, before}
+use Rattle.tds_packet.specs.Seen.{Seen, Takes, Ends, IsOver}
+use Rattle.tds_packet.specs.Reading.{Reads, StopsReading, IsCutStop}
+use Rattle.tds_packet.proofs.ElementLaws.{Spelt-append, Spelt-none}
+use Rattle.std.proofs.KnownBytes.{Consumes-nil}
+use Rattle.tds_packet.proofs.Futures.{Ends-after, Takes-none, Takes-trans}
+use Rattle.tds_csv.specs.Sinks.{FinishFails, Finishes, Held}
+use Rattle.tds_csv.specs.Streaming.{BreaksStreaming, PutsText, Streams}
+use Rattle.tds_csv.proofs.Sinks.{Puts-none, Puts-trans}
+use Rattle.tds_rows.specs.declared.Charset.{Charset}
+use Rattle.tds_export.specs.declared.standing.Standing.{Standing}
+use Rattle.tds_export.specs.Tokens.{Token, is_final}
+use Rattle.tds_export.specs.Built.{is_built}
+use Rattle.tds_export.specs.Reading.{Part, response, response_start, text_so_far}
+use Rattle.tds_export.specs.Running.{Completes, FailsAtEnd, Halts, HaltsReading, HaltsWriting, IsHolding, ReadsToken, ReadsWhole, RunStops, Stalls, Tracks, behind}
+use Rattle.tds_export.proofs.Steps.{cut_at_once, stalls_after, takes_both}
+use Rattle.tds_export.proofs.TokenSteps.{same_text}
+
+-- whole tokens were read and their text put
+pub record Runs (g : Grammar Part Fault) (old new : Seen) (place place' : ℕ) (before after : Held) (standing : Standing) (area : Space) : Type 0 where
+  pub tokens : List Token
+  pub streams : Streams g text_so_far response_start old new before after (behind tokens)
+  pub place_is : place' ≡ place + length streams.bytes
+  pub tracks : Tracks standing tokens
+  pub holds : IsHolding area (behind tokens)
+
+pub runs_none : (charset : Charset) (room : ℕ) (a : Seen) (place : ℕ) (h : Held) (standing : Standing) (area : Space) → h.delivered ≤ 2 ^ 64 - 1 → Tracks standing [] → area ≡ empty area.room → Runs (response charset room) a a place place h h standing area
+runs_none charset room a place h standing area d tracks is = record {
+  tokens = [];
+  streams = record { bytes = []; spelt = Spelt-none (response charset room) response_start; takes = Takes-none a 0; puts = ([], refl, Puts-none h d) };
+  place_is = omega arith;
+  tracks = tracks;
+  holds = record { bytes = ap (λ (s : Space). s.bytes) is; peak = omega (arith, ap (λ (s : Space). s.peak) is) };
+}
+
+puts_both : (p q r : Part) (h i k : Held) → PutsText text_so_far p q h i → PutsText text_so_far q r i k → PutsText text_so_far p r h k
+puts_both p q r h i k x y = (x.0 ++ y.0, sym (append_assoc (text_so_far p) x.0 y.0) ∙ ap (λ l. l ++ y.0) x.1 ∙ y.1, Puts-trans h i k x.0 y.0 x.2 y.2)
+
+pub runs_more : (g : Grammar Part Fault) (a b c : Seen) (p q r : ℕ) (h i k : Held) (s t : Standing) (area area' : Space) → (x : Runs g a b p q h i s area) → ReadsToken g (behind x.tokens) x.tokens b c q r i k t area' → Runs g a c p r h k t area'
+runs_more g a b c p q r h i k s t area area' x y = record {
+  tokens = x.tokens ++ y.token ∷ [];
+  streams = record {
+    bytes = x.streams.bytes ++ y.streams.bytes;
+    spelt = Spelt-append g response_start x.streams.bytes (behind x.tokens) y.streams.bytes (behind (x.tokens ++ y.token ∷ [])) x.streams.spelt y.streams.spelt;
+    takes = takes_both a b c x.streams.bytes y.streams.bytes x.streams.takes y.streams.takes;
+    puts = puts_both response_start (behind x.tokens) (behind (x.tokens ++ y.token ∷ [])) h i k x.streams.puts y.streams.puts;
+  };
+  place_is = y.place_is ∙ omega (arith, x.place_is, length-append x.streams.bytes y.streams.bytes);
+  tracks = y.tracks;
+  holds = y.holds;
+}
+
+pub halts_after : (charset : Charset) (room : ℕ) (a b c : Seen) (p q : ℕ) (h i k : Held) (s : Standing) (area area' : Space) (failed : Bool) (stop : Stop) → (x : Runs (response charset room) a b p q h i s area)
+    → Halts (response charset room) (behind x.tokens) b c q i k area' failed stop → Halts (response charset room) response_start a c p h k area' failed stop
+halts_after charset room a b c p q h i k s area area' failed stop x (inl y) = inl (
+  record {
+    at = y.0.at;
+    stalls = stalls_after (response charset room) is_built response_start (behind x.tokens) a b c p y.0.at stop (record { bytes = x.streams.bytes; spelt = x.streams.spelt; takes = x.streams.takes })
+        (subst (λ n. Stalls (response charset room) is_built (behind x.tokens) b c n y.0.at stop) x.place_is y.0.stalls);
+    puts = puts_both response_start (behind x.tokens) y.0.at h i k x.streams.puts y.0.puts;
+    holds = y.0.holds;
+  },
+  y.1,
+)
+halts_after charset room a b c p q h i k s area area' failed stop x (inr y) = inr (
+  record {
+    at = y.0.at;
+    breaks = record {
+      bytes = x.streams.bytes ++ y.0.breaks.bytes;
+      element = y.0.breaks.element;
+      spelt = Spelt-append (response charset room) response_start x.streams.bytes (behind x.tokens) y.0.breaks.bytes y.0.at x.streams.spelt y.0.breaks.spelt;
+      next = y.0.breaks.next;
+      takes = subst (λ l. Takes a c l (length l)) (sym (append_assoc x.streams.bytes y.0.breaks.bytes y.0.breaks.element)) (takes_both a b c x.streams.bytes (y.0.breaks.bytes ++ y.0.breaks.element) x.streams.takes y.0.breaks.takes);
+      between = y.0.breaks.between;
+      middle = y.0.breaks.middle;
+      few = y.0.breaks.few;
+      puts = puts_both response_start (behind x.tokens) y.0.at h i y.0.breaks.middle x.streams.puts y.0.breaks.puts;
+      more = y.0.breaks.more;
+      text_is = y.0.breaks.text_is;
+      breaks = y.0.breaks.breaks;
+    };
+    holds = y.0.holds;
+  },
+  y.1,
+)
+
+-- ---- the message's end
+
+-- a message that is over stops there
+over_ends : (b : Seen) (o : IsOver b) → Ends b b [] o.0
+over_ends b o = inl (([], Consumes-nil b.left, o.2), refl)
+
+module _ (charset : Charset) (room : ℕ) (a b c : Seen) (p q : ℕ) (h k : Held) (s : Standing) (area : Space) (x : Runs (response charset room) a b p q h k s area) (t : Takes b c [] 1) (o : IsOver c) where
+  -- the message ended behind the last token, which wasn't final
+  pub halts_end : (failed : Bool) → failed ≡ false → k.delivered ≤ 2 ^ 64 - 1 → s.is_final ≡ false → Halts (response charset room) response_start a c p h k area failed (record { fault = EndWithoutDone; place = Payload q })
+  halts_end failed going d open_end =
+      let end : (response charset room).end_fault (behind x.tokens) ≡ Some EndWithoutDone = ap (λ v. if v then None else Some EndWithoutDone) (sym x.tracks.final ∙ open_end) in
+      let is : IsCutStop q ((response charset room).end_fault (behind x.tokens)) o.0 (record { fault = EndWithoutDone; place = Payload q }) = inl (o.1, (EndWithoutDone, end, refl)) in
+      let cut = cut_at_once (response charset room) (behind x.tokens) b c q [] o.0 (record { fault = EndWithoutDone; place = Payload q }) (omega arith) (Ends-after b c c [] [] 1 o.0 t (over_ends c o)) is in
+      halts_after charset room a b c p q h k k s area area failed (record { fault = EndWithoutDone; place = Payload q }) x
+      (inl (record { at = behind x.tokens; stalls = inl cut; puts = same_text (behind x.tokens) (behind x.tokens) k refl d; holds = x.holds }, going))
+
+  abbrev pub reads_whole : s.is_final ≡ true → ReadsWhole (response charset room) response_start a c h k area
+  reads_whole final = record {
+    tokens = x.tokens;
+    bytes = x.streams.bytes;
+    spelt = x.streams.spelt;
+    takes = subst (λ l. Takes a c l (length x.streams.bytes + 1)) (append-nil x.streams.bytes) (Takes-trans a b c x.streams.bytes [] (length x.streams.bytes) 1 (omega arith) x.streams.takes t);
+    puts = x.streams.puts;
+    over = o;
+    final = sym x.tracks.final ∙ final;
+    holds = x.holds;
+  }
+
+  pub completes : (l : Held) → s.is_final ≡ true → Finishes k l → Completes (response charset room) response_start a c h l s area
+  completes l final f = record { middle = k; whole = reads_whole final; tracks = x.tracks; finishes = f }
+
+  pub fails_at_end : (l : Held) (stop : Stop) → s.is_final ≡ true → FinishFails k l stop → FailsAtEnd (response charset room) response_start a c h l area stop
+  fails_at_end l stop final f = record { middle = k; whole = reads_whole final; fails = f }

@@ -1,0 +1,62 @@
+-- What an export delivered.
+use Rattle.std.proofs.Common.{◌≡◌, ◌∙◌, ◌⊎◌, inl, inr, ℕ, ◌+◌, ◌*◌, ◌-◌, ◌/◌, ◌^◌, ◌<◌, ◌≤◌, Bool, true, false, List, [], ◌∷◌, ◌++◌, length, take, drop, min, refl, sym, ap, subst, arith, nat_lt, append_assoc, append-nil, length-append, Option, Some, None, Result, Ok, Err, MatchResult}
+use Rattle.std.proofs.lemmas.Bool.Decides.{nat_tests}
+use Rattle.tds_meter.specs.Counts.{Rose, one_more}
+use Rattle.tds_packet.specs.declared.fault.Stop.{Stop}
+use Rattle.tds_csv.specs.Sinks.{Adds, FinishFails, Finishes, Held}
+use Rattle.tds_packet.specs.Seen.{Seen}
+use Rattle.tds_export.specs.declared.report.Report.{Report}
+use Rattle.tds_export.specs.declared.report.Stopped.{Stopped}
+use Rattle.tds_export.specs.declared.standing.Standing.{Standing}
+use Rattle.tds_export.specs.Reading.{response, response_start}
+use Rattle.tds_export.specs.Running.{Completes, RunStops}
+use Rattle.tds_export.specs.Ended.{Exports, Given, IsReader, IsWriter, StopsExport, Tidied, begun_at, fresh_at}
+
+rose_from : (f : ℕ) (b : Bool) → nat_lt f (2 ^ 64 - 1) ≡ b → Rose f (one_more f)
+rose_from f true e = let low : f < 2 ^ 64 - 1 = grind (arith, nat_tests) in inl (omega (arith, low))
+rose_from f false e = let high : 2 ^ 64 - 1 ≤ f = grind (arith, nat_tests) in inr (high, omega (arith, high))
+
+-- a call that fails raises the count
+pub rose : (f : ℕ) → Rose f (one_more f)
+rose f = rose_from f (nat_lt f (2 ^ 64 - 1)) refl
+
+-- however the last delivery ended
+pub tidied : {U : Type 0} (h k : Held) (failed : Bool) (r : Result U Stop) → failed ≡ false → MatchResult r (λ _. Finishes h k) (λ stop. failed ≡ false → FinishFails h k stop) → Tidied h k
+tidied h k failed (Ok u) going x = (x.0, x.1, inl (x.2, x.3))
+tidied h k failed (Err e) going x = let y = x going in (y.0, y.1, inr (subst (Rose h.failures) (sym y.3) (rose h.failures)))
+
+-- ---- what an export leaves, from what its calls did
+
+pub exports : (given : Given) (a q : Seen) (h k : Held) (room : ℕ) (standing : Standing) (report : Report) → a ≡ begun_at given → h ≡ fresh_at given → room ≡ given.limits.column_room → IsReader given q → IsWriter given k
+    → Completes (response given.charset room) response_start a q h k standing given.description → report ≡ record standing.report { written = k.delivered } → Exports given report
+exports given a q h k room standing report e1 e2 e3 reader writer x is = record {
+  seen = q;
+  held = k;
+  standing = standing;
+  reader = reader;
+  writer = writer;
+  completes = subst (λ r. Completes (response given.charset r) response_start (begun_at given) q (fresh_at given) k standing given.description) e3
+      (subst (λ v. Completes (response given.charset room) response_start (begun_at given) q v k standing given.description) e2
+      (subst (λ v. Completes (response given.charset room) response_start v q h k standing given.description) e1 x));
+  report_is = is;
+}
+
+pub stops_export : (given : Given) (a q : Seen) (h k l : Held) (room place : ℕ) (failed : Bool) (stop : Stop) (stopped : Stopped) → a ≡ begun_at given → h ≡ fresh_at given → room ≡ given.limits.column_room → place ≡ 0 → IsReader given q → IsWriter given l
+    → RunStops (response given.charset room) response_start a q place h k given.description failed stop → (failed ≡ false → Tidied k l) → (failed ≡ true → l ≡ k)
+    → stopped ≡ record { fault = stop.fault; place = stop.place; written = l.delivered; unwritten = length l.waiting } → StopsExport given stopped
+stops_export given a q h k l room place failed stop stopped e1 e2 e3 e4 reader writer x tidy same is = record {
+  seen = q;
+  middle = k;
+  held = l;
+  failed = failed;
+  stop = stop;
+  reader = reader;
+  writer = writer;
+  stops = subst (λ n. RunStops (response given.charset given.limits.column_room) response_start (begun_at given) q n (fresh_at given) k given.description failed stop) e4
+      (subst (λ r. RunStops (response given.charset r) response_start (begun_at given) q place (fresh_at given) k given.description failed stop) e3
+      (subst (λ v. RunStops (response given.charset room) response_start (begun_at given) q place v k given.description failed stop) e2
+      (subst (λ v. RunStops (response given.charset room) response_start v q place h k given.description failed stop) e1 x)));
+  tidied = tidy;
+  same = same;
+  stopped_is = is;
+}

@@ -1,0 +1,143 @@
+-- Tokens by their first bytes.
+use Rattle.std.proofs.Common.{◌≡◌, ◌≢◌, ◌∙◌, ◌⊎◌, inl, inr, ℕ, ◌+◌, ◌<◌, ◌≤◌, ◌^◌, ◌-◌, Bool, true, false, List, [], ◌∷◌, ◌++◌, length, refl, sym, ap, subst, arith, append_assoc, append-nil, length-append}
+use Rattle.std.specs.Prelude.{Option, Some, None, if◌then◌else◌}
+use Rattle.tds_values.specs.declared.kind.Kind.TheVariants.{Int4}
+use Rattle.tds_meter.specs.Space.{Space}
+use Rattle.tds_packet.specs.declared.fault.Fault.{Fault}
+use Rattle.tds_packet.specs.declared.fault.Fault.TheVariants.{MessageEnded, NotYet, RefusedToken, RowWithoutColumns}
+use Rattle.tds_packet.specs.declared.fault.Place.{Place}
+use Rattle.tds_packet.specs.declared.fault.Place.TheVariants.{Payload}
+use Rattle.tds_packet.specs.declared.fault.Stop.{Stop}
+use Rattle.tds_packet.specs.Elements.{Grammar, IsNext, Spelt}
+use Rattle.tds_packet.specs.Seen.{Seen, Takes, Ends, IsBetween}
+use Rattle.tds_packet.specs.Reading.{Reads, StopsReading}
+use Rattle.tds_packet.proofs.ElementLaws.{Spelt-append, Spelt-one}
+use Rattle.tds_columns.specs.Description.{Column}
+use Rattle.tds_csv.specs.Sinks.{Held}
+use Rattle.tds_csv.specs.Streaming.{BreaksStreaming, PutsText, Streams}
+use Rattle.tds_rows.specs.declared.Charset.{Charset}
+use Rattle.tds_rows.specs.Rows.{row_start}
+use Rattle.tds_export.specs.declared.standing.Standing.{Standing}
+use Rattle.tds_export.specs.Tokens.{Token, described_after, is_final}
+use Rattle.tds_export.specs.Built.{is_built, is_built_token}
+use Rattle.tds_export.specs.Reading.{Part, is_row_byte, is_token_byte, response, row_byte_fault, start_of_row, text_so_far}
+use Rattle.tds_export.specs.Running.{Halts, HaltsReading, HaltsWriting, IsDescribed, IsHolding, IsRefusal, ReadsToken, ReadsUnbuilt, Stalls, behind, in_done, in_metadata, in_row}
+use Rattle.tds_export.proofs.Steps.{cut_at_once, reads_one, refused_at_once, stalls_after, takes_both, unbuilt_at_once}
+use Rattle.tds_export.proofs.TokenSteps.{same_text}
+
+-- a token byte that is accepted
+pub record BeginsToken (charset : Charset) (room : ℕ) (tokens : List Token) (byte : ℕ) (to : Part) : Type 0 where
+  pub next : IsNext (response charset room) (behind tokens) (byte ∷ [])
+  pub to_is : (response charset room).add (behind tokens) (byte ∷ []) ≡ to
+  pub text_is : text_so_far (behind tokens) ≡ text_so_far to
+
+pub begins_metadata : (charset : Charset) (room : ℕ) (tokens : List Token) (byte : ℕ) → byte ≡ 0x81 → BeginsToken charset room tokens byte (in_metadata tokens)
+begins_metadata charset room tokens byte e = subst (λ b. BeginsToken charset room tokens b (in_metadata tokens)) (sym e) (record { next = record { some = omega arith; whole = refl; free = refl }; to_is = refl; text_is = refl })
+
+pub begins_done : (charset : Charset) (room : ℕ) (tokens : List Token) (byte : ℕ) → (byte ≡ 0xFD) ⊎ (byte ≡ 0xFE) → BeginsToken charset room tokens byte (in_done tokens)
+begins_done charset room tokens byte (inl e) = subst (λ b. BeginsToken charset room tokens b (in_done tokens)) (sym e) (record { next = record { some = omega arith; whole = refl; free = refl }; to_is = refl; text_is = refl })
+begins_done charset room tokens byte (inr e) = subst (λ b. BeginsToken charset room tokens b (in_done tokens)) (sym e) (record { next = record { some = omega arith; whole = refl; free = refl }; to_is = refl; text_is = refl })
+
+pub begins_row : (charset : Charset) (room : ℕ) (tokens : List Token) (byte : ℕ) (described : Bool) → byte ≡ 0xD1 → described ≡ true → IsDescribed described (described_after None tokens) → BeginsToken charset room tokens byte (in_row tokens)
+begins_row charset room tokens byte described e d k =
+    let known = subst (λ b. IsDescribed b (described_after None tokens)) d k in
+    subst (λ b. BeginsToken charset room tokens b (in_row tokens)) (sym e) (record {
+      next = record { some = omega arith; whole = refl; free = ap (row_byte_fault true) known.1 };
+      to_is = ap (start_of_row tokens (row_start charset)) known.1;
+      text_is = refl;
+    })
+
+module _ (charset : Charset) (room : ℕ) (tokens : List Token) (byte : ℕ) (to : Part) (begins : BeginsToken charset room tokens byte to) where
+  puts_before : (q : Part) (h k : Held) → PutsText text_so_far to q h k → PutsText text_so_far (behind tokens) q h k
+  puts_before q h k p = (p.0, ap (λ l. l ++ p.0) begins.text_is ∙ p.1, p.2)
+
+  abbrev first : (a b : Seen) → Takes a b (byte ∷ []) 1 → Reads (response charset room) (behind tokens) a b to
+  first a b t = reads_one (response charset room) (behind tokens) a b (byte ∷ []) to begins.next t begins.to_is
+
+  -- a token is read behind its first byte
+  pub reads_behind_byte : (a b c : Seen) (place middle place' : ℕ) (h k : Held) (standing : Standing) (area : Space) → Takes a b (byte ∷ []) 1 → middle ≡ place + 1 → ReadsToken (response charset room) to tokens b c middle place' h k standing area
+      → ReadsToken (response charset room) (behind tokens) tokens a c place place' h k standing area
+  reads_behind_byte a b c place middle place' h k standing area t at r = record {
+    token = r.token;
+    streams = record {
+      bytes = (byte ∷ []) ++ r.streams.bytes;
+      spelt = Spelt-append (response charset room) (behind tokens) (byte ∷ []) to r.streams.bytes (behind (tokens ++ r.token ∷ [])) (first a b t).spelt r.streams.spelt;
+      takes = takes_both a b c (byte ∷ []) r.streams.bytes t r.streams.takes;
+      puts = puts_before (behind (tokens ++ r.token ∷ [])) h k r.streams.puts;
+    };
+    place_is = r.place_is ∙ omega (arith, at, length-append (byte ∷ []) r.streams.bytes);
+    tracks = r.tracks;
+    holds = r.holds;
+  }
+
+  -- and so it stops
+  pub halts_behind_byte : (a b c : Seen) (place middle : ℕ) (h k : Held) (area : Space) (failed : Bool) (stop : Stop) → Takes a b (byte ∷ []) 1 → middle ≡ place + 1 → Halts (response charset room) to b c middle h k area failed stop
+      → Halts (response charset room) (behind tokens) a c place h k area failed stop
+  halts_behind_byte a b c place middle h k area failed stop t at (inl x) = inl (
+    record {
+      at = x.0.at;
+      stalls = stalls_after (response charset room) is_built (behind tokens) to a b c place x.0.at stop (first a b t) (subst (λ n. Stalls (response charset room) is_built to b c n x.0.at stop) at x.0.stalls);
+      puts = puts_before x.0.at h k x.0.puts;
+      holds = x.0.holds;
+    },
+    x.1,
+  )
+  halts_behind_byte a b c place middle h k area failed stop t at (inr x) = inr (
+    record {
+      at = x.0.at;
+      breaks = record {
+        bytes = (byte ∷ []) ++ x.0.breaks.bytes;
+        element = x.0.breaks.element;
+        spelt = Spelt-append (response charset room) (behind tokens) (byte ∷ []) to x.0.breaks.bytes x.0.at (first a b t).spelt x.0.breaks.spelt;
+        next = x.0.breaks.next;
+        takes = takes_both a b c (byte ∷ []) (x.0.breaks.bytes ++ x.0.breaks.element) t x.0.breaks.takes;
+        between = x.0.breaks.between;
+        middle = x.0.breaks.middle;
+        few = x.0.breaks.few;
+        puts = puts_before x.0.at h x.0.breaks.middle x.0.breaks.puts;
+        more = x.0.breaks.more;
+        text_is = x.0.breaks.text_is;
+        breaks = x.0.breaks.breaks;
+      };
+      holds = x.0.holds;
+    },
+    x.1,
+  )
+
+-- ---- a byte that begins no token, or one that isn't built
+
+refused : (charset : Charset) (room : ℕ) (tokens : List Token) (a b : Seen) (place byte : ℕ) (described : Bool) (fault : Fault) → IsDescribed described (described_after None tokens) → IsRefusal described byte fault → Takes a b (byte ∷ []) 1 → IsBetween b
+    → Stalls (response charset room) is_built (behind tokens) a b place (behind tokens) (record { fault = fault; place = Payload place })
+refused charset room tokens a b place byte described fault k (inl x) t between =
+    let first : (response charset room).fault (behind tokens) (byte ∷ []) ≡ Some fault = ap (λ v. if v then row_byte_fault (is_row_byte byte) (described_after None tokens) else Some (RefusedToken byte)) x.1 ∙ ap Some (sym x.0) in
+    inl (refused_at_once (response charset room) (behind tokens) a b place (byte ∷ []) fault (omega arith) refl first t between)
+refused charset room tokens a b place byte described fault k (inr (inl x)) t between =
+    let none : described_after None tokens ≡ None = subst (λ d. IsDescribed d (described_after None tokens)) x.1 k in
+    let first : (response charset room).fault (behind tokens) (byte ∷ []) ≡ Some fault = elim x.2 [
+      | inl e ↦ subst (λ v. (response charset room).fault (behind tokens) (v ∷ []) ≡ Some fault) (sym e) (ap (row_byte_fault true) none ∙ ap Some (sym x.0))
+      | inr e ↦ subst (λ v. (response charset room).fault (behind tokens) (v ∷ []) ≡ Some fault) (sym e) (ap (row_byte_fault true) none ∙ ap Some (sym x.0))
+    ] in
+    inl (refused_at_once (response charset room) (behind tokens) a b place (byte ∷ []) fault (omega arith) refl first t between)
+refused charset room tokens a b place byte described fault k (inr (inr x)) t between =
+    inr (subst (λ f. ReadsUnbuilt (response charset room) is_built (behind tokens) a b place (behind tokens) (record { fault = f; place = Payload place })) (sym x.0)
+    (unbuilt_at_once (response charset room) is_built (behind tokens) a b place (byte ∷ []) (omega arith) refl x.1 t between))
+
+pub halts_at_byte : (charset : Charset) (room : ℕ) (tokens : List Token) (a b : Seen) (place byte : ℕ) (described : Bool) (fault : Fault) (h : Held) (area : Space) (failed : Bool) → h.delivered ≤ 2 ^ 64 - 1 → failed ≡ false → IsHolding area (behind tokens)
+    → IsDescribed described (described_after None tokens) → IsRefusal described byte fault → Takes a b (byte ∷ []) 1 → IsBetween b → Halts (response charset room) (behind tokens) a b place h h area failed (record { fault = fault; place = Payload place })
+halts_at_byte charset room tokens a b place byte described fault h area failed d going holds k why t between =
+    inl (record { at = behind tokens; stalls = refused charset room tokens a b place byte described fault k why t between; puts = same_text (behind tokens) (behind tokens) h refl d; holds = holds }, going)
+
+-- ---- the payload stopped between tokens
+
+pub halts_between : (charset : Charset) (room : ℕ) (tokens : List Token) (a b : Seen) (place : ℕ) (stop : Stop) (h : Held) (area : Space) (failed : Bool) → h.delivered ≤ 2 ^ 64 - 1 → failed ≡ false → IsHolding area (behind tokens)
+    → Ends a b [] stop → (stop.fault ≡ MessageEnded → ⊥) → Halts (response charset room) (behind tokens) a b place h h area failed stop
+halts_between charset room tokens a b place stop h area failed d going holds ends other =
+    inl (
+      record {
+        at = behind tokens;
+        stalls = inl (cut_at_once (response charset room) (behind tokens) a b place [] stop stop (omega arith) ends (inr (other, refl)));
+        puts = same_text (behind tokens) (behind tokens) h refl d;
+        holds = holds;
+      },
+      going,
+    )

@@ -1,0 +1,151 @@
+-- What one more token adds to a response.
+use Rattle.std.proofs.Common.{◌≡◌, ◌≢◌, ◌∙◌, ℕ, ◌+◌, ◌<◌, ◌≤◌, Bool, true, false, List, [], ◌∷◌, ◌++◌, length, max, refl, sym, ap, subst, arith, append_assoc, append-nil}
+use Rattle.std.specs.Prelude.{Option, Some, None, nat_lt, ◌||◌, map, if◌then◌else◌, option_map}
+use Rattle.std.proofs.lemmas.Bool.Decides.{nat_tests}
+use Rattle.tds_columns.specs.Description.{Column}
+use Rattle.tds_csv.specs.Quoting.{line}
+use Rattle.tds_rows.specs.Cells.{Cell, field}
+use Rattle.tds_values.specs.declared.kind.Kind.TheVariants.{Int4}
+use Rattle.tds_export.specs.declared.report.Report.{Report}
+use Rattle.tds_export.specs.declared.standing.Standing.{Standing}
+use Rattle.tds_export.specs.Tokens.{Notice, Token, Metadata, NoMetadata, Row, Order, EnvChange, Error, Info, ReturnStatus, Returned, Done, DoneInProc, between, described_after, encoded_after, first_error, greatest_span, header_line, how_many, is_error, is_final, is_info, is_return, is_row, is_set, return_status_after, span_of, text, text_after}
+use Rattle.tds_export.specs.Export.{report_of, server_error, signed}
+use Rattle.tds_export.specs.Running.{IsDescribed, Tracks}
+use Rattle.tds_export.proofs.ResponseLaws.{described_after-append}
+
+-- whether a set has begun after these tokens
+abbrev pub begun_after : Bool → List Token → Bool
+begun_after begun [] = begun
+begun_after begun (Metadata bytes columns ∷ ts) = begun_after true ts
+begun_after begun (t ∷ ts) = begun_after begun ts
+
+pub text_after-snoc : (begun : Bool) (ts : List Token) (t : Token) → text_after begun (ts ++ t ∷ []) ≡ text_after begun ts ++ text_after (begun_after begun ts) (t ∷ [])
+text_after-snoc begun [] t = refl
+text_after-snoc begun (Metadata bytes columns ∷ ts) t = ap (λ l. (between begun ++ header_line columns) ++ l) (text_after-snoc true ts t) ∙ sym (append_assoc (between begun ++ header_line columns) (text_after true ts) (text_after (begun_after true ts) (t ∷ [])))
+text_after-snoc begun (Row cells ∷ ts) t = ap (λ l. line (map field cells) ++ l) (text_after-snoc begun ts t) ∙ sym (append_assoc (line (map field cells)) (text_after begun ts) (text_after (begun_after begun ts) (t ∷ [])))
+text_after-snoc begun (u ∷ ts) t = text_after-snoc begun ts t
+
+begun_true : (ts : List Token) → begun_after true ts ≡ true
+begun_true [] = refl
+begun_true (Metadata bytes columns ∷ ts) = begun_true ts
+begun_true (u ∷ ts) = begun_true ts
+
+some_sets : (n : ℕ) → nat_lt 0 (1 + n) ≡ true
+some_sets n = grind (arith, nat_tests)
+
+-- a set has begun where there is one
+pub begun_where_sets : (ts : List Token) → begun_after false ts ≡ nat_lt 0 (how_many is_set ts)
+begun_where_sets [] = refl
+begun_where_sets (Metadata bytes columns ∷ ts) = begun_true ts ∙ sym (some_sets (how_many is_set ts))
+begun_where_sets (NoMetadata ∷ ts) = begun_where_sets ts
+begun_where_sets (Row cells ∷ ts) = begun_where_sets ts
+begun_where_sets (Order body ∷ ts) = begun_where_sets ts
+begun_where_sets (EnvChange body ∷ ts) = begun_where_sets ts
+begun_where_sets (Error n ∷ ts) = begun_where_sets ts
+begun_where_sets (Info n ∷ ts) = begun_where_sets ts
+begun_where_sets (ReturnStatus n ∷ ts) = begun_where_sets ts
+begun_where_sets (Returned r ∷ ts) = begun_where_sets ts
+begun_where_sets (Done m ∷ ts) = begun_where_sets ts
+begun_where_sets (DoneInProc m ∷ ts) = begun_where_sets ts
+
+count_if : (b : Bool) (n m : ℕ) → (if b then 1 + (n + m) else n + m) ≡ (if b then 1 + n else n) + m
+count_if true n m = omega arith
+count_if false n m = refl
+
+pub how_many-snoc : (p : Token → Bool) (ts : List Token) (t : Token) → how_many p (ts ++ t ∷ []) ≡ how_many p ts + how_many p (t ∷ [])
+how_many-snoc p [] t = omega arith
+how_many-snoc p (u ∷ ts) t = ap (λ n. if p u then 1 + n else n) (how_many-snoc p ts t) ∙ count_if (p u) (how_many p ts) (how_many p (t ∷ []))
+
+-- a token that says nothing of errors and statuses
+abbrev pub is_silent : Token → Bool
+is_silent (Error n) = false
+is_silent (ReturnStatus n) = false
+is_silent t = true
+
+silent_error : (t : Token) → is_silent t ≡ true → first_error (t ∷ []) ≡ None
+silent_error (Error n) h = cc
+silent_error (ReturnStatus n) h = cc
+silent_error t h = refl
+
+silent_status : (before : Option ℕ) (t : Token) → is_silent t ≡ true → return_status_after before (t ∷ []) ≡ before
+silent_status before (Error n) h = cc
+silent_status before (ReturnStatus n) h = cc
+silent_status before t h = refl
+
+first_error-snoc : (ts : List Token) (t : Token) → is_silent t ≡ true → first_error (ts ++ t ∷ []) ≡ first_error ts
+first_error-snoc [] t h = silent_error t h
+first_error-snoc (Error n ∷ ts) t h = refl
+first_error-snoc (u ∷ ts) t h = first_error-snoc ts t h
+
+return_status-snoc : (before : Option ℕ) (ts : List Token) (t : Token) → is_silent t ≡ true → return_status_after before (ts ++ t ∷ []) ≡ return_status_after before ts
+return_status-snoc before [] t h = silent_status before t h
+return_status-snoc before (ReturnStatus n ∷ ts) t h = return_status-snoc (Some n) ts t h
+return_status-snoc before (u ∷ ts) t h = return_status-snoc before ts t h
+
+pub encoded_after-append : (before : List ℕ) (a b : List Token) → encoded_after before (a ++ b) ≡ encoded_after (encoded_after before a) b
+encoded_after-append before [] b = refl
+encoded_after-append before (Metadata bytes columns ∷ a) b = encoded_after-append bytes a b
+encoded_after-append before (NoMetadata ∷ a) b = encoded_after-append [] a b
+encoded_after-append before (t ∷ a) b = encoded_after-append before a b
+
+pub greatest_span-append : (a b : List Token) → greatest_span (a ++ b) ≡ max (greatest_span a) (greatest_span b)
+greatest_span-append [] b = omega arith
+greatest_span-append (t ∷ a) b = omega (arith, greatest_span-append a b)
+
+pub is_final-snoc : (ts : List Token) (t : Token) → is_final (ts ++ t ∷ []) ≡ is_final (t ∷ [])
+is_final-snoc [] t = refl
+is_final-snoc (u ∷ []) t = refl
+is_final-snoc (u ∷ v ∷ ts) t = is_final-snoc (v ∷ ts) t
+
+-- the report with one more token, but for what was written
+report-snoc : (ts : List Token) (t : Token) → is_silent t ≡ true → report_of (ts ++ t ∷ []) ≡ record {
+  sets = how_many is_set ts + how_many is_set (t ∷ []);
+  rows = how_many is_row ts + how_many is_row (t ∷ []);
+  errors = how_many is_error ts + how_many is_error (t ∷ []);
+  infos = how_many is_info ts + how_many is_info (t ∷ []);
+  first_error = option_map server_error (first_error ts);
+  return_status = option_map signed (return_status_after None ts);
+  written = length (text (ts ++ t ∷ []));
+  return_values = how_many is_return ts + how_many is_return (t ∷ []);
+}
+report-snoc ts t h = rw (how_many-snoc is_set ts t, how_many-snoc is_row ts t, how_many-snoc is_error ts t, how_many-snoc is_info ts t, how_many-snoc is_return ts t, first_error-snoc ts t h, return_status-snoc None ts t h) refl
+
+none : (n : ℕ) → n + 0 ≡ n
+none n = omega arith
+
+-- ---- what is tracked, with one more token
+
+pub tracks_done : (s : Standing) (ts : List Token) (m final : Bool) → Tracks s ts → final ≡ (if m then false else true) → Tracks (record s { is_final = final }) (ts ++ Done m ∷ [])
+tracks_done s ts m final k e = record {
+  report = ap (λ (r : Report). record r { written = length (text (ts ++ Done m ∷ [])) }) k.report ∙ sym (report-snoc ts (Done m) refl ∙ rw (none (how_many is_set ts), none (how_many is_row ts), none (how_many is_error ts), none (how_many is_info ts), none (how_many is_return ts)) refl);
+  described = subst (IsDescribed s.described) (sym (described_after-append None ts (Done m ∷ []))) k.described;
+  final = e ∙ sym (is_final-snoc ts (Done m));
+  no_error = first_error-snoc ts (Done m) refl ∙ k.no_error;
+}
+
+pub tracks_none : (s : Standing) (ts : List Token) → Tracks s ts → Tracks (record s { described = false; is_final = false }) (ts ++ NoMetadata ∷ [])
+tracks_none s ts k = record {
+  report = ap (λ (r : Report). record r { written = length (text (ts ++ NoMetadata ∷ [])) }) k.report ∙ sym (report-snoc ts NoMetadata refl ∙ rw (none (how_many is_set ts), none (how_many is_row ts), none (how_many is_error ts), none (how_many is_info ts), none (how_many is_return ts)) refl);
+  described = described_after-append None ts (NoMetadata ∷ []);
+  final = sym (is_final-snoc ts NoMetadata);
+  no_error = first_error-snoc ts NoMetadata refl ∙ k.no_error;
+}
+
+pub tracks_metadata : (s : Standing) (ts : List Token) (bytes name : List ℕ) → Tracks s ts
+    → Tracks (record s { report = record s.report { sets = s.report.sets + 1 }; described = true; is_final = false }) (ts ++ Metadata bytes (record { kind = Int4; name = name } ∷ []) ∷ [])
+tracks_metadata s ts bytes name k =
+    let t = Metadata bytes (record { kind = Int4; name = name } ∷ []) in
+    record {
+      report = ap (λ (r : Report). record r { sets = r.sets + 1; written = length (text (ts ++ t ∷ [])) }) k.report ∙ sym (report-snoc ts t refl ∙ rw (none (how_many is_row ts), none (how_many is_error ts), none (how_many is_info ts), none (how_many is_return ts)) refl);
+      described = (name, described_after-append None ts (t ∷ []));
+      final = sym (is_final-snoc ts t);
+      no_error = first_error-snoc ts t refl ∙ k.no_error;
+    }
+
+pub tracks_row : (s : Standing) (ts : List Token) (cells : List Cell) → Tracks s ts → Tracks (record s { report = record s.report { rows = s.report.rows + 1 }; is_final = false }) (ts ++ Row cells ∷ [])
+tracks_row s ts cells k = record {
+  report = ap (λ (r : Report). record r { rows = r.rows + 1; written = length (text (ts ++ Row cells ∷ [])) }) k.report ∙ sym (report-snoc ts (Row cells) refl ∙ rw (none (how_many is_set ts), none (how_many is_error ts), none (how_many is_info ts), none (how_many is_return ts)) refl);
+  described = subst (IsDescribed s.described) (sym (described_after-append None ts (Row cells ∷ []))) k.described;
+  final = sym (is_final-snoc ts (Row cells));
+  no_error = first_error-snoc ts (Row cells) refl ∙ k.no_error;
+}

@@ -1,0 +1,264 @@
+-- The tokens that are built, as they are read and their text is put.
+use Rattle.std.proofs.Common.{◌≡◌, ◌≢◌, ◌∙◌, ◌⊎◌, inl, inr, ℕ, ◌+◌, ◌*◌, ◌-◌, ◌%◌, ◌^◌, ◌<◌, ◌≤◌, Bool, true, false, List, [], ◌∷◌, ◌++◌, length, take, drop, max, refl, sym, ap, subst, arith, le_refl, append_assoc, append-nil, length-append, length-take, suc, zero}
+use Rattle.std.specs.Prelude.{Option, Some, None, Ok, nat_lt, ◌==◌, is_ok, map, slice_index, if◌then◌else◌}
+use Rattle.std.proofs.lemmas.Bool.Decides.{nat_tests}
+use Rattle.tds_values.specs.declared.kind.Kind.TheVariants.{Int4}
+use Rattle.tds_values.specs.declared.scalar.ScalarValue.{ScalarValue}
+use Rattle.tds_values.specs.Scalar.{read_of}
+use Rattle.tds_meter.specs.Space.{Space}
+use Rattle.tds_packet.specs.declared.fault.Fault.{Fault}
+use Rattle.tds_packet.specs.declared.fault.Fault.TheVariants.{BadValue, MessageEnded}
+use Rattle.tds_packet.specs.declared.fault.Stop.{Stop}
+use Rattle.tds_packet.specs.Elements.{Grammar, IsNext, Spelt}
+use Rattle.tds_packet.specs.Seen.{Seen, Takes, Ends, IsBetween, began_at}
+use Rattle.tds_packet.specs.Reading.{Reads, StopsReading}
+use Rattle.tds_packet.proofs.ElementLaws.{Spelt-none, Spelt-one, one_state}
+use Rattle.tds_columns.specs.Description.{BeforeCount, Column, DescriptionPart, InColumn, NoDescription, WholeDescription, described_size, description, description_bytes, span}
+use Rattle.tds_csv.specs.Conversion.{Utf16Text, long_field}
+use Rattle.tds_csv.specs.Quoting.{line}
+use Rattle.tds_csv.specs.Sinks.{Breaks, Held, Puts}
+use Rattle.tds_csv.specs.Streaming.{BreaksStreaming, PutsText, Streams}
+use Rattle.tds_csv.proofs.Sinks.{Puts-none}
+use Rattle.tds_rows.specs.declared.Charset.{Charset}
+use Rattle.tds_rows.specs.Cells.{ScalarCell, WholeCell, field, unless, value_part}
+use Rattle.tds_rows.specs.Rows.{with_cell}
+use Rattle.tds_export.specs.declared.standing.Standing.{Standing}
+use Rattle.tds_export.specs.declared.report.Report.{Report}
+use Rattle.tds_export.specs.Tokens.{Token, Metadata, NoMetadata, Row, Done, between, encoded_after, greatest_span, header_line, how_many, is_set, span_of, text, text_after}
+use Rattle.tds_export.specs.Response.{more}
+use Rattle.tds_export.specs.Built.{is_built, is_built_description}
+use Rattle.tds_export.specs.Export.{report_of}
+use Rattle.tds_export.specs.Reading.{Describing, Part, response, span_so_far, text_so_far, with_described, with_row}
+use Rattle.tds_export.specs.Running.{Describes, Halts, HaltsReading, HaltsWriting, IsHolding, ReadsToken, Stalls, StallsDescribing, Tracks, behind, in_done, in_metadata, in_row, one_int}
+use Rattle.tds_export.proofs.DescriptionSteps.{began_is_cut}
+use Rattle.tds_export.proofs.Lifts.{LastInside, last_inside, reads_inside, stalls_inside, stalls_size}
+use Rattle.tds_export.proofs.ResponseLaws.{description_in_response}
+use Rattle.tds_export.proofs.Steps.{cut_at_once, reads_one}
+use Rattle.tds_export.proofs.TokenLaws.{begun_after, begun_where_sets, encoded_after-append, greatest_span-append, text_after-snoc, tracks_done, tracks_metadata, tracks_none, tracks_row}
+
+-- nothing more is put for the same text
+pub same_text : (p q : Part) (h : Held) → text_so_far p ≡ text_so_far q → h.delivered ≤ 2 ^ 64 - 1 → PutsText text_so_far p q h h
+same_text p q h e d = ([], append-nil (text_so_far p) ∙ e, Puts-none h d)
+
+-- what a description area holds behind one more token
+holds-snoc : (area : Space) (tokens : List Token) (t : Token) → encoded_after (encoded_after [] tokens) (t ∷ []) ≡ encoded_after [] tokens → IsHolding area (behind tokens) → IsHolding area (behind (tokens ++ t ∷ []))
+holds-snoc area tokens t e h = record {
+  bytes = h.bytes ∙ sym (encoded_after-append [] tokens (t ∷ []) ∙ e);
+  peak = omega (arith, h.peak, greatest_span-append tokens (t ∷ []));
+}
+
+-- the next element of an open token is cut
+pub token_cut : (charset : Charset) (room : ℕ) (s : Part) (a b : Seen) (place n k : ℕ) (bytes : List ℕ) (own stop : Stop) → (response charset room).size s ≡ n → (response charset room).end_fault s ≡ Some MessageEnded → k < n → length bytes ≡ n
+    → Ends a b (take k bytes) own → stop ≡ began_at place own → StopsReading (response charset room) s a b place s stop
+token_cut charset room s a b place n k bytes own stop size end less len ends is =
+    cut_at_once (response charset room) s a b place (take k bytes) own stop (omega (arith, less, len, size, length-take k bytes)) ends
+    (began_is_cut place ((response charset room).end_fault s) own stop end is)
+
+-- ---- DONE
+
+final_or_more : (n : ℕ) → (n % 2 == 0) ≡ (if n % 2 == 1 then false else true)
+final_or_more n = go (n % 2) (omega arith)
+  where
+    go : (m : ℕ) → m < 2 → (m == 0) ≡ (if m == 1 then false else true)
+    go zero h = refl
+    go (suc zero) h = refl
+    go (suc (suc m)) h = absurd (omega arith)
+
+pub done_reads : (charset : Charset) (room : ℕ) (area : Space) (sink : Held) (tokens : List Token) (standing : Standing) (fields : List ℕ) (a b : Seen) (place place' : ℕ) → place' ≡ place + length fields → sink.delivered ≤ 2 ^ 64 - 1 → Tracks standing tokens → IsHolding area (behind tokens)
+    → length fields ≡ 12 → Takes a b fields (length fields)
+    → ReadsToken (response charset room) (in_done tokens) tokens a b place place' sink sink (record standing { is_final = slice_index fields 0 % 2 == 0 }) area
+done_reads charset room area sink tokens standing fields a b place place' at d tracks holds len takes =
+    let t = Done (more fields) in
+    record {
+      token = t;
+      streams = record {
+        bytes = fields;
+        spelt = Spelt-one (response charset room) (in_done tokens) fields (record { some = omega (arith, len); whole = len; free = refl });
+        takes = takes;
+        puts = same_text (in_done tokens) (behind (tokens ++ t ∷ [])) sink (ap (λ l. l ++ []) (sym (text_after-snoc false tokens t ∙ append-nil (text tokens)))) d;
+      };
+      place_is = at;
+      tracks = tracks_done standing tokens (more fields) (slice_index fields 0 % 2 == 0) tracks (final_or_more (slice_index fields 0));
+      holds = holds-snoc area tokens t refl holds;
+    }
+
+-- ---- ROW
+
+row_next : (charset : Charset) (room : ℕ) (tokens : List Token) (bytes : List ℕ) (value : ScalarValue) → length bytes ≡ 4 → read_of Int4 bytes ≡ Ok value → IsNext (response charset room) (in_row tokens) bytes
+row_next charset room tokens bytes value len is = record { some = omega (arith, len); whole = len; free = ap (λ r. unless (is_ok r) (BadValue 0)) is }
+
+row_to : (charset : Charset) (room : ℕ) (tokens : List Token) (bytes : List ℕ) (value : ScalarValue) → read_of Int4 bytes ≡ Ok value → (response charset room).add (in_row tokens) bytes ≡ behind (tokens ++ Row (ScalarCell value ∷ []) ∷ [])
+row_to charset room tokens bytes value is = ap (λ r. with_row tokens (with_cell charset [] [] (value_part r))) is
+
+row_text : (tokens : List Token) (value : ScalarValue) → text_so_far (in_row tokens) ++ line (field (ScalarCell value) ∷ []) ≡ text_so_far (behind (tokens ++ Row (ScalarCell value ∷ []) ∷ []))
+row_text tokens value =
+    let cells = ScalarCell value ∷ [] in
+    ap (λ l. l ++ line (map field cells)) (append-nil (text tokens)) ∙ ap (λ l. text tokens ++ l) (sym (append-nil (line (map field cells)))) ∙ sym (append-nil (text tokens ++ (line (map field cells) ++ [])))
+    ∙ ap (λ l. l ++ []) (sym (text_after-snoc false tokens (Row cells)))
+
+pub row_reads : (charset : Charset) (room : ℕ) (area : Space) (before after : Held) (tokens : List Token) (standing : Standing) (bytes : List ℕ) (value : ScalarValue) (a b : Seen) (place place' : ℕ) → place' ≡ place + length bytes → Tracks standing tokens → IsHolding area (behind tokens)
+    → length bytes ≡ 4 → read_of Int4 bytes ≡ Ok value → Takes a b bytes (length bytes) → Puts before after (line (field (ScalarCell value) ∷ []))
+    → ReadsToken (response charset room) (in_row tokens) tokens a b place place' before after (record standing { report = record standing.report { rows = standing.report.rows + 1 }; is_final = false }) area
+row_reads charset room area before after tokens standing bytes value a b place place' at tracks holds len is takes puts =
+    let cells = ScalarCell value ∷ [] in
+    let reads = reads_one (response charset room) (in_row tokens) a b bytes (behind (tokens ++ Row cells ∷ [])) (row_next charset room tokens bytes value len is) takes (row_to charset room tokens bytes value is) in
+    record {
+      token = Row cells;
+      streams = record { bytes = bytes; spelt = reads.spelt; takes = takes; puts = (line (map field cells), row_text tokens value, puts) };
+      place_is = at;
+      tracks = tracks_row standing tokens cells tracks;
+      holds = holds-snoc area tokens (Row cells) refl holds;
+    }
+
+pub row_breaks : (charset : Charset) (room : ℕ) (area : Space) (before after : Held) (tokens : List Token) (bytes : List ℕ) (value : ScalarValue) (a b : Seen) (stop : Stop) → IsHolding area (behind tokens)
+    → before.delivered ≤ 2 ^ 64 - 1 → length before.waiting < 4096 → length bytes ≡ 4 → read_of Int4 bytes ≡ Ok value → Takes a b bytes (length bytes) → IsBetween b → Breaks before after (line (field (ScalarCell value) ∷ [])) stop
+    → HaltsWriting (response charset room) (in_row tokens) a b before after area stop
+row_breaks charset room area before after tokens bytes value a b stop holds d few len is takes between breaks =
+    let cells = ScalarCell value ∷ [] in
+    let to = row_to charset room tokens bytes value is in
+    record {
+      at = in_row tokens;
+      breaks = record {
+        bytes = [];
+        element = bytes;
+        spelt = Spelt-none (response charset room) (in_row tokens);
+        next = row_next charset room tokens bytes value len is;
+        takes = takes;
+        between = between;
+        middle = before;
+        few = few;
+        puts = same_text (in_row tokens) (in_row tokens) before refl d;
+        more = line (map field cells);
+        text_is = row_text tokens value ∙ ap text_so_far (sym to);
+        breaks = breaks;
+      };
+      holds = subst (IsHolding area) (sym to) (holds-snoc area tokens (Row cells) refl holds);
+    }
+
+pub halts_reading : (charset : Charset) (room : ℕ) (s : Part) (a b : Seen) (place : ℕ) (h : Held) (area : Space) (failed : Bool) (stop : Stop) → h.delivered ≤ 2 ^ 64 - 1 → failed ≡ false → IsHolding area s → StopsReading (response charset room) s a b place s stop
+    → Halts (response charset room) s a b place h h area failed stop
+halts_reading charset room s a b place h area failed stop d going holds stops = inl (record { at = s; stalls = inl stops; puts = same_text s s h refl d; holds = holds }, going)
+
+-- ---- COLMETADATA
+
+sets_are : (standing : Standing) (tokens : List Token) → Tracks standing tokens → standing.report.sets ≡ how_many is_set tokens
+sets_are standing tokens tracks = ap (λ (r : Report). r.sets) tracks.report
+
+header_text : (standing : Standing) (tokens : List Token) (bytes name : List ℕ) → Tracks standing tokens
+    → text_so_far (in_metadata tokens) ++ (between (nat_lt 0 standing.report.sets) ++ line (long_field Utf16Text name ∷ [])) ≡ text_so_far (behind (tokens ++ Metadata bytes (record { kind = Int4; name = name } ∷ []) ∷ []))
+header_text standing tokens bytes name tracks =
+    let columns : List Column = record { kind = Int4; name = name } ∷ [] in
+    let begun : nat_lt 0 standing.report.sets ≡ begun_after false tokens = ap (nat_lt 0) (sets_are standing tokens tracks) ∙ sym (begun_where_sets tokens) in
+    let header = between (begun_after false tokens) ++ header_line columns in
+    ap (λ b. (text tokens ++ []) ++ (between b ++ header_line columns)) begun ∙ ap (λ l. l ++ header) (append-nil (text tokens)) ∙ ap (λ l. text tokens ++ l) (sym (append-nil header))
+    ∙ sym (append-nil (text tokens ++ (header ++ []))) ∙ ap (λ l. l ++ []) (sym (text_after-snoc false tokens (Metadata bytes columns)))
+
+pub none_reads : (charset : Charset) (room : ℕ) (area old_area : Space) (sink : Held) (tokens : List Token) (standing : Standing) (a b : Seen) (place place' : ℕ) → sink.delivered ≤ 2 ^ 64 - 1 → Tracks standing tokens → IsHolding old_area (behind tokens)
+    → Describes room BeforeCount a b place place' old_area.peak area NoDescription
+    → ReadsToken (response charset room) (in_metadata tokens) tokens a b place place' sink sink (record standing { described = false; is_final = false }) area
+none_reads charset room area old_area sink tokens standing a b place place' d tracks holds x =
+    let r = reads_inside (description room) (response charset room) (with_described tokens) (description_in_response charset room tokens) BeforeCount a b NoDescription x.reads in
+    record {
+      token = NoMetadata;
+      streams = record {
+        bytes = r.bytes;
+        spelt = r.spelt;
+        takes = r.takes;
+        puts = same_text (in_metadata tokens) (behind (tokens ++ NoMetadata ∷ [])) sink (ap (λ l. l ++ []) (sym (text_after-snoc false tokens NoMetadata ∙ append-nil (text tokens)))) d;
+      };
+      place_is = x.place_is;
+      tracks = tracks_none standing tokens tracks;
+      holds = record {
+        bytes = x.kept ∙ sym (encoded_after-append [] tokens (NoMetadata ∷ []));
+        peak = omega (arith, x.bound, holds.peak, greatest_span-append tokens (NoMetadata ∷ []));
+      };
+    }
+
+metadata_holds : (area old_area : Space) (tokens : List Token) (columns : List Column) (peak : area.peak ≤ max old_area.peak (length area.bytes + 0)) → IsHolding old_area (behind tokens) → IsHolding area (behind (tokens ++ Metadata area.bytes columns ∷ []))
+metadata_holds area old_area tokens columns peak holds = record {
+  bytes = sym (encoded_after-append [] tokens (Metadata area.bytes columns ∷ []));
+  peak = omega (arith, peak, holds.peak, greatest_span-append tokens (Metadata area.bytes columns ∷ []));
+}
+
+pub metadata_reads : (charset : Charset) (room : ℕ) (area old_area : Space) (before after : Held) (tokens : List Token) (standing : Standing) (a b : Seen) (place place' : ℕ) → Tracks standing tokens → IsHolding old_area (behind tokens)
+    → Describes room BeforeCount a b place place' old_area.peak area (one_int area.bytes) → Puts before after (between (nat_lt 0 standing.report.sets) ++ line (long_field Utf16Text (drop 10 area.bytes) ∷ []))
+    → ReadsToken (response charset room) (in_metadata tokens) tokens a b place place' before after (record standing { report = record standing.report { sets = standing.report.sets + 1 }; described = true; is_final = false }) area
+metadata_reads charset room area old_area before after tokens standing a b place place' tracks holds x puts =
+    let name = drop 10 area.bytes in
+    let columns : List Column = record { kind = Int4; name = name } ∷ [] in
+    let r = reads_inside (description room) (response charset room) (with_described tokens) (description_in_response charset room tokens) BeforeCount a b (one_int area.bytes) x.reads in
+    record {
+      token = Metadata area.bytes columns;
+      streams = record { bytes = r.bytes; spelt = r.spelt; takes = r.takes; puts = (between (nat_lt 0 standing.report.sets) ++ line (long_field Utf16Text name ∷ []), header_text standing tokens area.bytes name tracks, puts) };
+      place_is = x.place_is;
+      tracks = tracks_metadata standing tokens area.bytes name tracks;
+      holds = metadata_holds area old_area tokens columns x.bound holds;
+    }
+
+open_text_none : (tokens : List Token) (d : DescriptionPart) → 0 < described_size d → text_so_far (with_described tokens d) ≡ text_so_far (in_metadata tokens)
+open_text_none tokens BeforeCount h = refl
+open_text_none tokens (InColumn bytes count columns place) h = refl
+open_text_none tokens NoDescription h = absurd (omega arith)
+open_text_none tokens (WholeDescription bytes columns) h = absurd (omega arith)
+
+some_bytes : (room : ℕ) (area bytes : List ℕ) → Spelt (description room) BeforeCount bytes (one_int area) → 0 < length bytes
+some_bytes room area [] h = absurd (let same : one_int area ≡ BeforeCount = one_state (description room) BeforeCount [] (one_int area) BeforeCount h (Spelt-none (description room) BeforeCount) in cc)
+some_bytes room area (x ∷ bytes) h = omega arith
+
+pub metadata_breaks : (charset : Charset) (room : ℕ) (area old_area : Space) (before after : Held) (tokens : List Token) (standing : Standing) (a b : Seen) (place place' : ℕ) (stop : Stop) → before.delivered ≤ 2 ^ 64 - 1 → length before.waiting < 4096 → Tracks standing tokens → IsHolding old_area (behind tokens)
+    → Describes room BeforeCount a b place place' old_area.peak area (one_int area.bytes) → IsBetween b → Breaks before after (between (nat_lt 0 standing.report.sets) ++ line (long_field Utf16Text (drop 10 area.bytes) ∷ [])) stop
+    → HaltsWriting (response charset room) (in_metadata tokens) a b before after area stop
+metadata_breaks charset room area old_area before after tokens standing a b place place' stop d few tracks holds x between_b breaks =
+    let name = drop 10 area.bytes in
+    let header = between (nat_lt 0 standing.report.sets) ++ line (long_field Utf16Text name ∷ []) in
+    let l = last_inside (description room) (response charset room) (with_described tokens) (description_in_response charset room tokens) BeforeCount x.reads.bytes (one_int area.bytes) x.reads.spelt (some_bytes room area.bytes x.reads.bytes x.reads.spelt) in
+    let open_text = open_text_none tokens l.at l.size in
+    record {
+      at = with_described tokens l.at;
+      breaks = record {
+        bytes = l.front;
+        element = l.element;
+        spelt = l.spelt;
+        next = l.next;
+        takes = subst (λ v. Takes a b v (length v)) (sym l.joined) x.reads.takes;
+        between = between_b;
+        middle = before;
+        few = few;
+        puts = same_text (in_metadata tokens) (with_described tokens l.at) before (sym open_text) d;
+        more = header;
+        text_is = ap (λ t. t ++ header) open_text ∙ header_text standing tokens area.bytes name tracks ∙ ap text_so_far (sym l.to_is);
+        breaks = breaks;
+      };
+      holds = subst (IsHolding area) (sym l.to_is) (metadata_holds area old_area tokens (record { kind = Int4; name = name } ∷ []) x.bound holds);
+    }
+
+end_is : (charset : Charset) (room : ℕ) (tokens : List Token) (d : DescriptionPart) → 0 < described_size d → (response charset room).end_fault (with_described tokens d) ≡ (description room).end_fault d
+end_is charset room tokens BeforeCount h = refl
+end_is charset room tokens (InColumn bytes count columns place) h = refl
+end_is charset room tokens NoDescription h = absurd (omega arith)
+end_is charset room tokens (WholeDescription bytes columns) h = absurd (omega arith)
+
+built_is : (tokens : List Token) (d : DescriptionPart) → 0 < described_size d → (e : List ℕ) → is_built (with_described tokens d) e ≡ is_built_description d e
+built_is tokens BeforeCount h e = refl
+built_is tokens (InColumn bytes count columns place) h e = refl
+built_is tokens NoDescription h e = absurd (omega arith)
+built_is tokens (WholeDescription bytes columns) h e = absurd (omega arith)
+
+open_holds : (area : Space) (tokens : List Token) (k : ℕ) (d : DescriptionPart) → 0 < described_size d → area.bytes ≡ description_bytes d → area.peak ≤ max k (span d) → k ≤ max (greatest_span tokens) 0 → IsHolding area (with_described tokens d)
+open_holds area tokens k BeforeCount h e p q = record { bytes = e; peak = omega (arith, p, q) }
+open_holds area tokens k (InColumn bytes count columns place) h e p q = record { bytes = e; peak = omega (arith, p, q) }
+open_holds area tokens k NoDescription h e p q = absurd (omega arith)
+open_holds area tokens k (WholeDescription bytes columns) h e p q = absurd (omega arith)
+
+pub metadata_stalls : (charset : Charset) (room : ℕ) (area old_area : Space) (sink : Held) (tokens : List Token) (a b : Seen) (place : ℕ) (stop : Stop) → sink.delivered ≤ 2 ^ 64 - 1 → IsHolding old_area (behind tokens)
+    → StallsDescribing room BeforeCount a b place old_area.peak area stop
+    → HaltsReading (response charset room) (in_metadata tokens) a b place sink sink area stop
+metadata_stalls charset room area old_area sink tokens a b place stop d holds x =
+    let inside = description_in_response charset room tokens in
+    let some = stalls_size (description room) (response charset room) (with_described tokens) inside is_built_description BeforeCount a b place x.at stop x.stalls in
+    record {
+      at = with_described tokens x.at;
+      stalls = stalls_inside (description room) (response charset room) (with_described tokens) inside is_built_description is_built BeforeCount a b place x.at stop (end_is charset room tokens x.at some) (built_is tokens x.at some) x.stalls;
+      puts = same_text (in_metadata tokens) (with_described tokens x.at) sink (sym (open_text_none tokens x.at some)) d;
+      holds = open_holds area tokens old_area.peak x.at some x.kept x.bound holds.peak;
+    }

@@ -1,0 +1,24 @@
+use Rattle.std.proofs.Common.{◌≡◌, ◌-◌, ◌+◌, ◌≤◌, ℕ, List, [], None, false, length}
+use Rattle.tds_packet.specs.Payloads.{IsOnSame, IsSound, seen}
+use Rattle.tds_csv.specs.Sinks.{IsOnSameSink, IsReady, held}
+use Rattle.tds_rows.specs.declared.Charset.{Charset}
+use Rattle.tds_export.specs.Reading.{response}
+use Rattle.tds_export.proofs.RunSteps.{Runs}
+use Rattle.tds_export.proofs.run.run.Given as goal
+
+abbrev pub invariant-tokens : goal.invariant-tokens
+invariant-tokens g l = record {
+  sound : IsSound l.payload;
+  going : l.payload.stopped ≡ None;
+  ready : IsReady l.sink;
+  writing : l.sink.failed ≡ false;
+  same : IsOnSame l.initial.payload l.payload;
+  same_sink : IsOnSameSink l.initial.sink l.sink;
+  room : l.area.room ≡ l.initial.area.room;
+  counted : l.standing.report.sets + l.standing.report.rows ≤ l.payload.place;
+  runs : (charset : Charset) → Runs (response charset l.initial.area.room) (seen g.R.Read.remaining l.initial.payload) (seen g.R.Read.remaining l.payload) l.initial.payload.place l.payload.place
+      (held g.W.Write.contents l.initial.sink) (held g.W.Write.contents l.sink) l.standing l.area;
+}
+
+abbrev pub decreases-tokens : goal.decreases-tokens
+decreases-tokens g l = l.payload.max_wire - l.payload.place

@@ -1,0 +1,28 @@
+use Rattle.std.proofs.Common.{◌≡◌, [], rules}
+use Rattle.tds_csv.specs.Sinks.{held}
+use Rattle.tds_export.proofs.HeaderTexts.{end_breaks, end_puts, end_stopped, push_breaks, push_stopped}
+use Rattle.tds_export.proofs.set.put_units.Goals as goal
+
+pub stop_in-requires : goal.stop_in-requires
+stop_in-requires g c =
+    push_stopped c.in-Err.fault c.new-joiner.result.kept c.push.new.self.kept (held g.W.Write.contents c.args.sink.now) (held g.W.Write.contents c.push.new.sink) c.args.sink.now.failed c.args.units.now c.in-Err.ensures.gives
+
+pub returns-in-Err-clause-gives : goal.returns-in-Err-clause-gives
+returns-in-Err-clause-gives g c =
+    push_breaks c.in-Err.fault c.stop_in.result c.new-joiner.result.kept c.push.new.self.kept (held g.W.Write.contents c.args.sink.now) (held g.W.Write.contents c.push.new.sink) c.args.sink.now.failed c.args.units.now
+    c.new-joiner.ensures.withheld c.requires.going c.requires.even c.in-Err.ensures.gives c.stop_in.ensures
+
+pub stop_in-requires-in-Err-end : goal.stop_in-requires-in-Err-end
+stop_in-requires-in-Err-end g c =
+    end_stopped c.in-Err-end.fault c.new-joiner.result.kept c.end.new.self.kept c.push.new.self.kept (held g.W.Write.contents c.args.sink.now) (held g.W.Write.contents c.end.new.sink) (held g.W.Write.contents c.push.new.sink) c.push.new.sink.failed c.args.units.now
+    c.new-joiner.ensures.withheld c.requires.even c.in_default.ensures.gives c.in-Err-end.ensures.gives
+
+pub returns-in-Ok-clause-gives : goal.returns-in-Ok-clause-gives
+returns-in-Ok-clause-gives g c =
+    end_puts c.new-joiner.result.kept c.end.new.self.kept c.push.new.self.kept (held g.W.Write.contents c.args.sink.now) (held g.W.Write.contents c.end.new.sink) (held g.W.Write.contents c.push.new.sink) c.args.units.now
+    c.new-joiner.ensures.withheld c.requires.even c.in_default.ensures.gives c.in-Ok.ensures.gives
+
+pub returns-in-Err-end-clause-gives : goal.returns-in-Err-end-clause-gives
+returns-in-Err-end-clause-gives g c =
+    end_breaks c.in-Err-end.fault c.stop_in-in-Err-end.result c.new-joiner.result.kept c.end.new.self.kept c.push.new.self.kept (held g.W.Write.contents c.args.sink.now) (held g.W.Write.contents c.end.new.sink) (held g.W.Write.contents c.push.new.sink) c.push.new.sink.failed c.args.units.now
+    c.new-joiner.ensures.withheld c.in_default.ensures.failed c.requires.even c.in_default.ensures.gives c.in-Err-end.ensures.gives c.stop_in-in-Err-end.ensures

@@ -1,0 +1,24 @@
+-- Which elements of a response are built. It shrinks to none that isn't as the exporter grows.
+use Rattle.std.specs.Prelude.{◌==◌, ◌||◌, ℕ, Bool, true, List, slice_index}
+use Rattle.tds_values.specs.Numbers.{little}
+use Rattle.tds_columns.specs.Description.{DescriptionPart, BeforeCount, ColumnHead, InColumn}
+use Rattle.tds_export.specs.Reading.{Open, Between, Describing, Part}
+
+-- a COLMETADATA, ROW, DONE or DONEPROC
+abbrev pub is_built_token : ℕ → Bool
+is_built_token byte = (byte == 0x81) || (byte == 0xD1) || (byte == 0xFD) || (byte == 0xFE)
+
+-- one column, of type byte 0x38, or no metadata
+abbrev pub is_built_description : DescriptionPart → List ℕ → Bool
+is_built_description BeforeCount element = (little element == 1) || (little element == 0xFFFF)
+is_built_description (InColumn bytes count columns ColumnHead) element = slice_index element 6 == 0x38
+is_built_description d element = true
+
+abbrev pub is_built_open : Open → List ℕ → Bool
+is_built_open Between element = is_built_token (slice_index element 0)
+is_built_open (Describing d) element = is_built_description d element
+is_built_open at element = true
+
+-- whether the next element of a response is built, by what stands before it
+abbrev pub is_built : Part → List ℕ → Bool
+is_built p element = is_built_open p.at element

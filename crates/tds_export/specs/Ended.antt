@@ -1,0 +1,105 @@
+-- How an export ended, as contracts see it where reader and writer may not tell their bytes.
+use Rattle.std.specs.Prelude.{◌≡◌, ◌⊎◌, ℕ, Bool, true, false, List, [], ◌++◌, length, Option, Some, Result}
+use Rattle.tds_meter.specs.declared.limits.Limits.{Limits}
+use Rattle.tds_meter.specs.Counts.{Rose}
+use Rattle.tds_meter.specs.Space.{Space}
+use Rattle.tds_packet.specs.declared.fault.Stop.{Stop}
+use Rattle.tds_packet.specs.Seen.{Seen, begun}
+use Rattle.tds_csv.specs.Sinks.{Adds, Held, fresh}
+use Rattle.tds_rows.specs.declared.Charset.{Charset}
+use Rattle.tds_export.specs.declared.report.Report.{Report}
+use Rattle.tds_export.specs.declared.report.Stopped.{Stopped}
+use Rattle.tds_export.specs.declared.standing.Standing.{Standing}
+use Rattle.tds_packet.specs.Elements.{AreBytes}
+use Rattle.tds_export.specs.Export.{Outcome, Run}
+use Rattle.tds_export.specs.Reading.{response, response_start}
+use Rattle.tds_export.specs.Running.{Completes, RunStops}
+
+-- what an export was given, and what it left
+pub record Given : Type 0 where
+  pub charset : Charset
+  pub limits : Limits
+  -- what the reader still gives, and what the writer has, where that is known
+  pub input : Option (List ℕ)
+  pub left : Option (List ℕ)
+  pub had : Option (List ℕ)
+  pub has : Option (List ℕ)
+  -- the bytes that wait, those of the notice area, and the description area
+  pub waiting : List ℕ
+  pub notice : List ℕ
+  pub description : Space
+  -- the counts of failures
+  pub read_failures : ℕ
+  pub read_failures_before : ℕ
+  pub write_failures : ℕ
+  pub write_failures_before : ℕ
+
+-- the payload before the first packet
+abbrev pub begun_at : Given → Seen
+begun_at given = begun given.limits.packet_size given.limits.max_wire given.input given.read_failures_before
+
+-- the sink before the first byte of text
+abbrev pub fresh_at : Given → Held
+fresh_at given = fresh given.had given.write_failures_before
+
+-- The payload is that of the reader.
+pub record IsReader (given : Given) (seen : Seen) : Type 0 where
+  pub left : seen.left ≡ given.left
+  pub failures : seen.failures ≡ given.read_failures
+
+-- The sink is that of the writer.
+pub record IsWriter (given : Given) (held : Held) : Type 0 where
+  pub has : held.had ≡ given.has
+  pub waiting : held.waiting ≡ given.waiting
+  pub failures : held.failures ≡ given.write_failures
+
+-- What waited was delivered and the writer flushed, or one of the two failed.
+abbrev pub Tidied : Held → Held → Type 0
+Tidied old new = (sent : List ℕ) × Adds old new sent [] × (((new.waiting ≡ []) × (new.failures ≡ old.failures)) ⊎ Rose old.failures new.failures)
+
+-- The response was read whole, and its text delivered.
+pub record Exports (given : Given) (report : Report) : Type 0 where
+  pub seen : Seen
+  pub held : Held
+  pub standing : Standing
+  pub reader : IsReader given seen
+  pub writer : IsWriter given held
+  pub completes : Completes (response given.charset given.limits.column_room) response_start (begun_at given) seen (fresh_at given) held standing given.description
+  pub report_is : report ≡ record standing.report { written = held.delivered }
+
+-- It stopped, and what waited was delivered unless the writer had failed.
+pub record StopsExport (given : Given) (stopped : Stopped) : Type 0 where
+  pub seen : Seen
+  pub middle : Held
+  pub held : Held
+  pub failed : Bool
+  pub stop : Stop
+  pub reader : IsReader given seen
+  pub writer : IsWriter given held
+  pub stops : RunStops (response given.charset given.limits.column_room) response_start (begun_at given) seen 0 (fresh_at given) middle given.description failed stop
+  pub tidied : failed ≡ false → Tidied middle held
+  pub same : failed ≡ true → held ≡ middle
+  pub stopped_is : stopped ≡ record { fault = stop.fault; place = stop.place; written = held.delivered; unwritten = length held.waiting }
+
+-- the run of an export whose reader and writer tell their bytes
+abbrev pub run_of : Given → List ℕ → List ℕ → List ℕ → Run
+run_of given input left gained = record {
+  charset = given.charset;
+  limits = given.limits;
+  input = input;
+  left = left;
+  gained = gained;
+  waiting = given.waiting;
+  notice = given.notice;
+  description = given.description.bytes;
+  description_peak = given.description.peak;
+  read_failures = given.read_failures;
+  read_failures_before = given.read_failures_before;
+  write_failures = given.write_failures;
+  write_failures_before = given.write_failures_before;
+}
+
+-- A reader that told its bytes and a writer that told those that it had still do, and the export answers what they make of the response.
+unfoldable pub Tells : Given → Result Report Stopped → Type 0
+Tells given result = (input : List ℕ) (had : List ℕ) → AreBytes input → given.input ≡ Some input → given.had ≡ Some had →
+    (left : List ℕ) × (gained : List ℕ) × (given.left ≡ Some left) × (given.has ≡ Some (had ++ gained)) × Outcome (run_of given input left gained) result

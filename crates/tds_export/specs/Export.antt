@@ -1,0 +1,223 @@
+-- What an export answers and leaves.
+use Rattle.std.specs.Prelude.{◌≡◌, ◌+◌, ◌*◌, ◌-◌, ◌/◌, ◌^◌, ◌<◌, ◌≤◌, ◌⊎◌, ℕ, ℤ, pos, negsuc, false, List, [], ◌∷◌, ◌++◌, length, take, drop, Some, Result, Ok, Err, if◌then◌else◌, nat_lt, option_map}
+use Rattle.tds_meter.specs.declared.limits.Limits.{Limits}
+use Rattle.tds_meter.specs.Counts.{Rose}
+use Rattle.tds_packet.specs.declared.fault.Fault.{Fault}
+use Rattle.tds_packet.specs.declared.fault.Fault.TheVariants.{NotYet, ReadFailed, WriteFailed}
+use Rattle.tds_packet.specs.declared.fault.Place.{Place}
+use Rattle.tds_packet.specs.declared.fault.Place.TheVariants.{Wire, Payload, Text}
+use Rattle.tds_packet.specs.Elements.{Grammar, Spelt, Longest, IsRefused, IsCut}
+use Rattle.tds_packet.specs.Packets.{Packet, wire_of, payload_of, AreBefore, AreMessage, Front, WireFault}
+use Rattle.tds_columns.specs.Description.{description_bytes}
+use Rattle.tds_rows.specs.declared.Charset.{Charset}
+use Rattle.tds_export.specs.declared.report.Report.{Report}
+use Rattle.tds_export.specs.declared.report.ServerError.{ServerError}
+use Rattle.tds_export.specs.declared.report.Stopped.{Stopped}
+use Rattle.tds_export.specs.Tokens.{Notice, Token, text, is_set, is_row, is_error, is_info, is_return, how_many, first_error, return_status, error_text, encoded_after}
+use Rattle.tds_export.specs.Response.{Accepted}
+use Rattle.tds_export.specs.Reading.{Open, Describing, Part, response, response_start, text_so_far, span_so_far}
+use Rattle.tds_export.specs.Built.{is_built}
+
+-- what a run was given, and what it left, where reader and writer tell their bytes
+pub record Run : Type 0 where
+  pub charset : Charset
+  pub limits : Limits
+  -- the reader's bytes before and after
+  pub input : List ℕ
+  pub left : List ℕ
+  -- what the writer gained
+  pub gained : List ℕ
+  -- the bytes of three areas, and the peak of one
+  pub waiting : List ℕ
+  pub notice : List ℕ
+  pub description : List ℕ
+  pub description_peak : ℕ
+  -- the counts of failures after the run and before it
+  pub read_failures : ℕ
+  pub read_failures_before : ℕ
+  pub write_failures : ℕ
+  pub write_failures_before : ℕ
+
+-- four bytes as a signed number
+abbrev pub signed : ℕ → ℤ
+signed n = if nat_lt n (2 ^ 31) then pos n else negsuc (2 ^ 32 - n - 1)
+
+abbrev pub server_error : Notice → ServerError
+server_error n = record { number = signed n.number; state = n.state; class = n.class; line = signed n.line_number }
+
+-- the report of tokens
+abbrev pub report_of : List Token → Report
+report_of tokens = record {
+  sets = how_many is_set tokens;
+  rows = how_many is_row tokens;
+  errors = how_many is_error tokens;
+  infos = how_many is_info tokens;
+  first_error = option_map server_error (first_error tokens);
+  return_status = option_map signed (return_status tokens);
+  written = length (text tokens);
+  return_values = how_many is_return tokens;
+}
+
+-- The packets stand at the beginning of the input, none but the last marked as the last, and the reader has come to their end.
+pub record Packets (run : Run) (packets : List Packet) : Type 0 where
+  pub begin : wire_of packets ++ run.left ≡ run.input
+  pub each : AreMessage run.limits.packet_size packets ⊎ AreBefore run.limits.packet_size packets
+  pub within : length (wire_of packets) ≤ run.limits.max_wire
+
+-- how the response of a run is read
+abbrev pub grammar : Run → Grammar Part Fault
+grammar run = response run.charset run.limits.column_room
+
+-- The payload of the packets leads to this part of a response, and no more of it leads further.
+abbrev pub Reads : Run → List Packet → ℕ → Part → Type 0
+Reads run packets place part = Longest (grammar run) response_start (payload_of packets) place part
+
+-- So many bytes of the payload of the packets lead to this part of a response.
+pub record Comes (run : Run) (packets : List Packet) (place : ℕ) (part : Part) : Type 0 where
+  pub within : place ≤ length (payload_of packets)
+  pub spelt : Spelt (grammar run) response_start (take place (payload_of packets)) part
+
+-- The element that follows in the payload of the packets has this fault.
+abbrev pub Refuses : Run → List Packet → ℕ → Part → Fault → Type 0
+Refuses run packets place part fault = IsRefused (grammar run) part (drop place (payload_of packets)) fault
+
+-- The element's end lies in the last of the packets.
+pub record EndsInLast (run : Run) (packets : List Packet) (place : ℕ) (part : Part) : Type 0 where
+  pub before : List Packet
+  pub last : Packet
+  pub split : before ++ last ∷ [] ≡ packets
+  pub none_last : AreBefore run.limits.packet_size before
+  pub later : length (payload_of before) < place + (grammar run).size part
+
+-- The description area has the current description, or a beginning of the one that is read.
+abbrev pub IsKept : List ℕ → List Token → Open → List ℕ → Type 0
+IsKept area tokens (Describing d) rest = (after : List ℕ) × (area ++ after ≡ description_bytes d ++ rest)
+IsKept area tokens at rest = area ≡ encoded_after [] tokens
+
+abbrev pub Keeps : Run → List Packet → ℕ → Part → Type 0
+Keeps run packets place part = IsKept run.description part.tokens part.at (drop place (payload_of packets))
+
+-- The response is whole, and all of its text was written.
+pub record Reported (run : Run) (report : Report) : Type 0 where
+  pub tokens : List Token
+  pub packets : List Packet
+  pub accepted : Accepted run.charset run.limits.packet_size run.limits.column_room run.limits.max_wire tokens packets run.input
+  pub stands : Packets run packets
+  pub report_is : report ≡ report_of tokens
+  pub written : run.gained ≡ text tokens
+  pub none_waits : run.waiting ≡ []
+  pub notice : run.notice ≡ error_text tokens
+  pub kept : run.description ≡ encoded_after [] tokens
+  pub no_failure : (Rose run.read_failures_before run.read_failures → ⊥) × (Rose run.write_failures_before run.write_failures → ⊥)
+
+-- Stopped in the payload: an element is refused, or the message ends where it may not.
+pub record StopsInPayload (run : Run) (fault : Fault) (place : ℕ) : Type 0 where
+  pub packets : List Packet
+  pub part : Part
+  pub stands : Packets run packets
+  pub leads : Reads run packets place part
+  pub first :
+      (Refuses run packets place part fault × EndsInLast run packets place part)
+      ⊎ (AreMessage run.limits.packet_size packets × IsCut (grammar run) part (drop place (payload_of packets)) × ((grammar run).end_fault part ≡ Some fault))
+  pub written : run.gained ++ run.waiting ≡ text_so_far part
+  pub kept : Keeps run packets place part
+
+-- Stopped in the payload: the next element is one that isn't built yet.
+pub record StopsUnbuilt (run : Run) (place : ℕ) : Type 0 where
+  pub packets : List Packet
+  pub part : Part
+  pub stands : Packets run packets
+  pub comes : Comes run packets place part
+  pub whole : place + (grammar run).size part ≤ length (payload_of packets)
+  pub unbuilt : is_built part (take ((grammar run).size part) (drop place (payload_of packets))) ≡ false
+  pub in_last : EndsInLast run packets place part
+  pub written : run.gained ++ run.waiting ≡ text_so_far part
+  pub kept : Keeps run packets place part
+
+-- Stopped on the wire, behind whole packets: as if the input had these packets alone.
+pub record StopsOnWire (run : Run) (fault : Fault) (taken : ℕ) : Type 0 where
+  pub packets : List Packet
+  pub rest : List ℕ
+  pub place : ℕ
+  pub part : Part
+  pub begin : wire_of packets ++ rest ≡ run.input
+  pub before : AreBefore run.limits.packet_size packets
+  pub within : length (wire_of packets) ≤ run.limits.max_wire
+  pub taken_is : taken ≡ length (wire_of packets)
+  pub first : ((fault ≡ ReadFailed) × Rose run.read_failures_before run.read_failures) ⊎ WireFault run.limits.packet_size run.limits.max_wire run.input packets fault
+  pub leads : Reads run packets place part
+  pub none_refused : (f : Fault) → Refuses run packets place part f → ⊥
+  pub written : run.gained ++ run.waiting ≡ text_so_far part
+  pub kept : Keeps run packets place part
+
+-- The text kept is that of a whole response; or the output area was full, and the last packet read was needed to fill it.
+abbrev pub IsNeeded : Run → List Packet → Type 0
+IsNeeded run packets =
+    ((tokens : List Token) × Accepted run.charset run.limits.packet_size run.limits.column_room run.limits.max_wire tokens packets run.input × (run.gained ++ run.waiting ≡ text tokens))
+    ⊎ ((before : List Packet) × (last : Packet) × (place : ℕ) × (earlier : Part) × (before ++ last ∷ [] ≡ packets) × Reads run before place earlier
+    × (length (run.gained ++ run.waiting) ≡ 4096 * (length run.gained / 4096 + 1)) × (length (text_so_far earlier) < length (run.gained ++ run.waiting)))
+
+-- Stopped by the writer.
+pub record StopsInText (run : Run) (fault : Fault) (written : ℕ) : Type 0 where
+  pub packets : List Packet
+  pub place : ℕ
+  pub part : Part
+  pub more : List ℕ
+  pub stands : Packets run packets
+  pub leads : Reads run packets place part
+  pub fault_is : fault ≡ WriteFailed
+  pub written_is : written ≡ length run.gained
+  pub begins : (run.gained ++ run.waiting) ++ more ≡ text_so_far part
+  pub needed : IsNeeded run packets
+  pub failed : Rose run.write_failures_before run.write_failures
+  pub kept : (n : ℕ) × (earlier : Part) × Comes run packets n earlier × Keeps run packets n earlier
+
+abbrev pub Stops : Run → Fault → Place → Type 0
+Stops run fault (Payload place) = StopsInPayload run fault place ⊎ ((fault ≡ NotYet) × StopsUnbuilt run place)
+Stops run fault (Wire taken) = StopsOnWire run fault taken
+Stops run fault (Text written) = StopsInText run fault written
+
+-- What every stop leaves.
+pub record AfterStop (run : Run) (stopped : Stopped) : Type 0 where
+  pub stop : Stops run stopped.fault stopped.place
+  pub written : stopped.written ≡ length run.gained
+  pub unwritten : stopped.unwritten ≡ length run.waiting
+  pub no_notice : run.notice ≡ []
+  pub none_waits : (Rose run.write_failures_before run.write_failures → ⊥) → run.waiting ≡ []
+
+abbrev pub Outcome : Run → Result Report Stopped → Type 0
+Outcome run (Ok report) = Reported run report
+Outcome run (Err stopped) = AfterStop run stopped
+
+-- No description passed the span of a COLMETADATA at the front of the input.
+pub record Bounded (run : Run) : Type 0 where
+  pub packets : List Packet
+  pub place : ℕ
+  pub part : Part
+  pub front : Front run.limits.packet_size run.limits.max_wire run.input packets
+  pub leads : Reads run packets place part
+  pub description : run.description_peak ≤ span_so_far part
+
+-- What an export answers and leaves.
+pub record Answer (run : Run) (result : Result Report Stopped) : Type 0 where
+  pub outcome : Outcome run result
+  pub bounded : Bounded run
+
+-- The run answers the report of these tokens, and has written their text.
+pub record Succeeds (run : Run) (tokens : List Token) (packets : List Packet) (result : Result Report Stopped) : Type 0 where
+  pub report_is : result ≡ Ok (report_of tokens)
+  pub written : run.gained ≡ text tokens
+  pub notice : run.notice ≡ error_text tokens
+  pub stands : Packets run packets
+
+-- It met what isn't built yet.
+abbrev pub IsUnbuilt : Result Report Stopped → Type 0
+IsUnbuilt (Ok report) = ⊥
+IsUnbuilt (Err stopped) = stopped.fault ≡ NotYet
+
+-- Where the input begins with an accepted response and neither count of failures rose, the run succeeds, but for what isn't built yet.
+abbrev pub SucceedsIfAccepted : Run → Result Report Stopped → Type 0
+SucceedsIfAccepted run result = (tokens : List Token) (packets : List Packet) →
+    Accepted run.charset run.limits.packet_size run.limits.column_room run.limits.max_wire tokens packets run.input →
+    (Rose run.read_failures_before run.read_failures → ⊥) → (Rose run.write_failures_before run.write_failures → ⊥) →
+    Succeeds run tokens packets result ⊎ IsUnbuilt result

@@ -1,0 +1,17 @@
+-- Why a joiner stopped whose data has whole units.
+use Rattle.std.specs.Prelude.{◌≡◌}
+use Rattle.tds_packet.specs.declared.fault.Stop.{Stop}
+use Rattle.tds_csv.specs.declared.joiner.JoinFault.{JoinFault}
+use Rattle.tds_csv.specs.declared.joiner.JoinFault.TheVariants.{Stopped, Odd, BadText}
+
+-- The sink stopped.
+abbrev pub IsStopped : JoinFault → Type 0
+IsStopped (Stopped stop) = Unit {0}
+IsStopped Odd = ⊥
+IsStopped (BadText k) = ⊥
+
+-- It stopped so.
+abbrev pub IsStopIn : JoinFault → Stop → Type 0
+IsStopIn (Stopped stop) is = is ≡ stop
+IsStopIn Odd is = ⊥
+IsStopIn (BadText k) is = ⊥

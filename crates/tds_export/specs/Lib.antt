@@ -1,0 +1,12 @@
+pub mod ReturnValue
+pub mod Tokens
+pub mod Response
+pub mod Reading
+pub mod Completion
+pub mod Elements
+pub mod Joined
+pub mod Built
+pub mod Export
+pub mod Running
+pub mod Laws
+pub mod Ended

@@ -1,0 +1,197 @@
+-- How a response is read, element by element, and what stands after each element.
+use Rattle.std.specs.Prelude.{◌==◌, ◌&&◌, ◌||◌, ◌+◌, ◌*◌, ℕ, Bool, true, false, not, List, [], ◌∷◌, ◌++◌, length, take, drop, max, Option, Some, None, if◌then◌else◌, nat_lt, nat_le, slice_index}
+use Rattle.tds_values.specs.Numbers.{little}
+use Rattle.tds_columns.specs.Description.{Column, DescriptionPart, BeforeCount, NoDescription, WholeDescription, described_size, described_fault, add_described, span}
+use Rattle.tds_rows.specs.declared.Charset.{Charset}
+use Rattle.tds_rows.specs.Rows.{RowPart, WholeRow, row_start, nbc_row_start, row_size, row_fault, row_add, row_so_far}
+use Rattle.tds_packet.specs.Elements.{Grammar}
+use Rattle.tds_packet.specs.declared.fault.Fault.{Fault}
+use Rattle.tds_packet.specs.declared.fault.Fault.TheVariants.{MessageEnded, EndWithoutDone, RefusedToken, RowWithoutColumns, BadNotice}
+use Rattle.tds_export.specs.ReturnValue.{ReturnPart, ReturnOrdinal, WholeReturn, return_size, return_fault, return_add}
+use Rattle.tds_export.specs.Tokens.{Notice, Token, Metadata, NoMetadata, Row, Order, EnvChange, Error, Info, ReturnStatus, Returned, Done, DoneInProc, described_after, is_final, text, greatest_span}
+use Rattle.tds_export.specs.Response.{more}
+
+-- a token whose body is read whole
+pub data Bodied : Type 0 where
+  AnOrder : Bodied
+  AnEnvChange : Bodied
+  AnError : Bodied
+  AnInfo : Bodied
+
+-- where a response is read
+pub data Open : Type 0 where
+  -- between tokens
+  Between : Open
+  -- in a COLMETADATA
+  Describing : DescriptionPart → Open
+  -- in a ROW or NBCROW
+  InRow : RowPart → Open
+  -- in a RETURNVALUE
+  InReturn : ReturnPart → Open
+  -- before the Length of a token with a body, and before its body
+  TokenLength : Bodied → Open
+  TokenBody : Bodied → ℕ → Open
+  -- before the four bytes of a RETURNSTATUS
+  Status : Open
+  -- before the twelve bytes of a DONE or DONEPROC, and of a DONEINPROC
+  DoneFields : Open
+  DoneInProcFields : Open
+
+-- a response as far as it is read: its whole tokens, and what is read of the next one
+pub record Part : Type 0 where
+  pub tokens : List Token
+  pub at : Open
+
+abbrev pub response_start : Part
+response_start = record { tokens = []; at = Between }
+
+-- the token is whole
+abbrev pub with_token : List Token → Token → Part
+with_token tokens t = record { tokens = tokens ++ t ∷ []; at = Between }
+
+-- a description in its response
+abbrev pub with_described : List Token → DescriptionPart → Part
+with_described tokens NoDescription = with_token tokens NoMetadata
+with_described tokens (WholeDescription bytes columns) = with_token tokens (Metadata bytes columns)
+with_described tokens d = record { tokens = tokens; at = Describing d }
+
+-- a row in its response
+abbrev pub with_row : List Token → RowPart → Part
+with_row tokens (WholeRow cells) = with_token tokens (Row cells)
+with_row tokens part = record { tokens = tokens; at = InRow part }
+
+-- a return value in its response
+abbrev pub with_return : List Token → ReturnPart → Part
+with_return tokens (WholeReturn r) = with_token tokens (Returned r)
+with_return tokens part = record { tokens = tokens; at = InReturn part }
+
+-- a row begins under the columns, where there are any
+abbrev pub start_of_row : List Token → (List Column → RowPart) → Option (List Column) → Part
+start_of_row tokens start None = record { tokens = tokens; at = Between }
+start_of_row tokens start (Some columns) = with_row tokens (start columns)
+
+-- the token bytes
+abbrev pub after_byte : Charset → List Token → ℕ → Part
+after_byte charset tokens byte =
+    if byte == 0x81 then record { tokens = tokens; at = Describing BeforeCount }
+    else if byte == 0xD1 then start_of_row tokens (row_start charset) (described_after None tokens)
+    else if byte == 0xD2 then start_of_row tokens nbc_row_start (described_after None tokens)
+    else if byte == 0xA9 then record { tokens = tokens; at = TokenLength AnOrder }
+    else if byte == 0xE3 then record { tokens = tokens; at = TokenLength AnEnvChange }
+    else if byte == 0xAA then record { tokens = tokens; at = TokenLength AnError }
+    else if byte == 0xAB then record { tokens = tokens; at = TokenLength AnInfo }
+    else if byte == 0x79 then record { tokens = tokens; at = Status }
+    else if (byte == 0xFD) || (byte == 0xFE) then record { tokens = tokens; at = DoneFields }
+    else if byte == 0xFF then record { tokens = tokens; at = DoneInProcFields }
+    else if byte == 0xAC then record { tokens = tokens; at = InReturn ReturnOrdinal }
+    else record { tokens = tokens; at = Between }
+
+abbrev pub is_token_byte : ℕ → Bool
+is_token_byte byte = (byte == 0x81) || (byte == 0xD1) || (byte == 0xD2) || (byte == 0xA9) || (byte == 0xE3) || (byte == 0xAA) || (byte == 0xAB) || (byte == 0x79) || (byte == 0xFD) || (byte == 0xFE) || (byte == 0xFF) || (byte == 0xAC)
+
+abbrev pub is_row_byte : ℕ → Bool
+is_row_byte byte = (byte == 0xD1) || (byte == 0xD2)
+
+-- a row wants columns
+abbrev pub row_byte_fault : Bool → Option (List Column) → Option Fault
+row_byte_fault true None = Some RowWithoutColumns
+row_byte_fault row columns = None
+
+abbrev pub token_fault : List Token → ℕ → Option Fault
+token_fault tokens byte = if is_token_byte byte then row_byte_fault (is_row_byte byte) (described_after None tokens) else Some (RefusedToken byte)
+
+-- where the names and the line number of a notice's body begin
+abbrev pub server_at : List ℕ → ℕ
+server_at body = 8 + 2 * little (take 2 (drop 6 body))
+
+abbrev pub procedure_at : List ℕ → ℕ
+procedure_at body = server_at body + 1 + 2 * slice_index body (server_at body)
+
+abbrev pub line_at : List ℕ → ℕ
+line_at body = procedure_at body + 1 + 2 * slice_index body (procedure_at body)
+
+-- whether the inner lengths of a notice's body stay within it
+abbrev pub holds_notice : List ℕ → Bool
+holds_notice body = nat_lt (server_at body) (length body) && nat_lt (procedure_at body) (length body) && nat_le (line_at body + 4) (length body)
+
+abbrev pub notice_of : List ℕ → Notice
+notice_of body = record {
+  number = little (take 4 body);
+  state = slice_index body 4;
+  class = slice_index body 5;
+  message = take (2 * little (take 2 (drop 6 body))) (drop 8 body);
+  line_number = little (take 4 (drop (line_at body) body));
+}
+
+abbrev pub bodied : Bodied → List ℕ → Token
+bodied AnOrder body = Order body
+bodied AnEnvChange body = EnvChange body
+bodied AnError body = Error (notice_of body)
+bodied AnInfo body = Info (notice_of body)
+
+abbrev pub is_notice : Bodied → Bool
+is_notice AnError = true
+is_notice AnInfo = true
+is_notice b = false
+
+abbrev pub part_size : Open → ℕ
+part_size Between = 1
+part_size (Describing d) = described_size d
+part_size (InRow part) = row_size part
+part_size (InReturn part) = return_size part
+part_size (TokenLength b) = 2
+part_size (TokenBody b n) = n
+part_size Status = 4
+part_size DoneFields = 12
+part_size DoneInProcFields = 12
+
+abbrev pub part_fault : ℕ → List Token → Open → List ℕ → Option Fault
+part_fault room tokens Between element = token_fault tokens (slice_index element 0)
+part_fault room tokens (Describing d) element = described_fault room d element
+part_fault room tokens (InRow part) element = row_fault part element
+part_fault room tokens (InReturn part) element = return_fault part element
+part_fault room tokens (TokenLength b) element = if is_notice b && nat_lt (little element) 14 then Some BadNotice else None
+part_fault room tokens (TokenBody b n) element = if is_notice b && not (holds_notice element) then Some BadNotice else None
+part_fault room tokens at element = None
+
+abbrev pub part_add : Charset → List Token → Open → List ℕ → Part
+part_add charset tokens Between element = after_byte charset tokens (slice_index element 0)
+part_add charset tokens (Describing d) element = with_described tokens (add_described d element)
+part_add charset tokens (InRow part) element = with_row tokens (row_add charset part element)
+part_add charset tokens (InReturn part) element = with_return tokens (return_add part element)
+part_add charset tokens (TokenLength b) element = if little element == 0 then with_token tokens (bodied b []) else record { tokens = tokens; at = TokenBody b (little element) }
+part_add charset tokens (TokenBody b n) element = with_token tokens (bodied b element)
+part_add charset tokens Status element = with_token tokens (ReturnStatus (little element))
+part_add charset tokens DoneFields element = with_token tokens (Done (more element))
+part_add charset tokens DoneInProcFields element = with_token tokens (DoneInProc (more element))
+
+abbrev pub part_end : List Token → Open → Option Fault
+part_end tokens Between = if is_final tokens then None else Some EndWithoutDone
+part_end tokens at = Some MessageEnded
+
+-- How a response is read.
+abbrev pub response : Charset → ℕ → Grammar Part Fault
+response charset room = record {
+  size = λ p. part_size p.at;
+  fault = λ p element. part_fault room p.tokens p.at element;
+  add = λ p element. part_add charset p.tokens p.at element;
+  end_fault = λ p. part_end p.tokens p.at;
+}
+
+-- the text so far of a token that is read
+abbrev pub open_text : Open → List ℕ
+open_text (InRow part) = row_so_far part
+open_text at = []
+
+-- the text so far
+abbrev pub text_so_far : Part → List ℕ
+text_so_far p = text p.tokens ++ open_text p.at
+
+-- the span of a COLMETADATA that is read
+abbrev pub open_span : Open → ℕ
+open_span (Describing d) = span d
+open_span at = 0
+
+-- the greatest span of a COLMETADATA so far
+abbrev pub span_so_far : Part → ℕ
+span_so_far p = max (greatest_span p.tokens) (open_span p.at)

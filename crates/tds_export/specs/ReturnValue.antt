@@ -1,0 +1,111 @@
+-- The value that a procedure returns (MS-TDS, RETURNVALUE).
+use Rattle.std.specs.Prelude.{◌≡◌, ◌==◌, ◌+◌, ◌*◌, ◌<◌, ℕ, List, [], ◌∷◌, ◌++◌, length, Option, Some, None, if◌then◌else◌, slice_index, unwrap_or, is_some}
+use Rattle.tds_values.specs.declared.kind.Kind.{Kind}
+use Rattle.tds_values.specs.TypeInfo.{IsTypeInfo, rest_length, kind_of}
+use Rattle.tds_packet.specs.Elements.{Grammar}
+use Rattle.tds_packet.specs.declared.fault.Fault.{Fault}
+use Rattle.tds_packet.specs.declared.fault.Fault.TheVariants.{MessageEnded, BadTypeInfo}
+use Rattle.tds_columns.specs.Description.{type_fault}
+use Rattle.tds_rows.specs.declared.Charset.{Charset}
+use Rattle.tds_rows.specs.declared.Charset.TheVariants.{Windows1252}
+use Rattle.tds_rows.specs.Cells.{Cell, shape, SpellsCell, CellPart, WholeCell, cell_start, cell_size, cell_fault, cell_add}
+
+-- what a RETURNVALUE says: a name in UTF-16 units, a kind and a value of it
+pub record ReturnValue : Type 0 where
+  pub name : List ℕ
+  pub kind : Kind
+  pub value : Cell
+
+-- what stands in faults for the number of a column
+abbrev pub return_column : ℕ
+return_column = 65535
+
+-- The value is passed over, so its single-byte text may be any bytes: it is read in a set that has a character for each byte.
+abbrev pub return_charset : Charset
+return_charset = Windows1252
+
+-- The bytes are an ordinal and the name.
+pub record SpellsReturnName (name bytes : List ℕ) : Type 0 where
+  pub ordinal : List ℕ
+  pub units : ℕ
+  pub spelt : bytes ≡ ordinal ++ units ∷ name
+  pub two : length ordinal ≡ 2
+  pub counted : length name ≡ 2 * units
+  pub byte : units < 256
+
+-- The bytes spell the return value: an ordinal and a name, then status, UserType, Flags, type information and a value of the kind.
+pub record SpellsReturnValue (r : ReturnValue) (bytes : List ℕ) : Type 0 where
+  pub front : List ℕ
+  pub ignored : List ℕ
+  pub info : List ℕ
+  pub value : List ℕ
+  pub spelt : bytes ≡ front ++ ((ignored ++ info) ++ value)
+  pub named : SpellsReturnName r.name front
+  pub seven : length ignored ≡ 7
+  pub type : IsTypeInfo r.kind info
+  pub cell : SpellsCell r.kind (shape return_charset r.kind) r.value value
+
+-- a return value as far as it is read
+pub data ReturnPart : Type 0 where
+  -- before the ordinal, the count of the name's units, and the units
+  ReturnOrdinal : ReturnPart
+  ReturnNameCount : ReturnPart
+  ReturnName : ℕ → ReturnPart
+  -- before the eight bytes that end with the type byte, behind this name
+  ReturnHead : List ℕ → ReturnPart
+  -- before the bytes that follow this type byte
+  ReturnInfo : List ℕ → ℕ → ReturnPart
+  -- in the value of this kind
+  InReturnCell : List ℕ → Kind → CellPart → ReturnPart
+  -- all of it
+  WholeReturn : ReturnValue → ReturnPart
+
+-- a value in its token: once whole, the token is whole
+abbrev pub with_value : List ℕ → Kind → CellPart → ReturnPart
+with_value name kind (WholeCell c) = WholeReturn (record { name = name; kind = kind; value = c })
+with_value name kind part = InReturnCell name kind part
+
+-- its kind is known
+abbrev pub with_return_kind : List ℕ → Option Kind → ReturnPart
+with_return_kind name (Some kind) = with_value name kind (cell_start kind (shape return_charset kind))
+with_return_kind name None = ReturnOrdinal
+
+-- its type byte is read, and so many bytes of type information follow
+abbrev pub with_return_type : List ℕ → ℕ → ℕ → ReturnPart
+with_return_type name byte rest = if rest == 0 then with_return_kind name (kind_of (byte ∷ [])) else ReturnInfo name byte
+
+-- its name has so many units
+abbrev pub with_return_units : ℕ → ReturnPart
+with_return_units units = if units == 0 then ReturnHead [] else ReturnName (2 * units)
+
+abbrev pub return_size : ReturnPart → ℕ
+return_size ReturnOrdinal = 2
+return_size ReturnNameCount = 1
+return_size (ReturnName n) = n
+return_size (ReturnHead name) = 8
+return_size (ReturnInfo name byte) = unwrap_or (rest_length byte) 0
+return_size (InReturnCell name kind part) = cell_size part
+return_size (WholeReturn r) = 0
+
+abbrev pub return_fault : ReturnPart → List ℕ → Option Fault
+return_fault (ReturnHead name) element = type_fault return_column (slice_index element 7) (rest_length (slice_index element 7))
+return_fault (ReturnInfo name byte) element = if is_some (kind_of (byte ∷ element)) then None else Some (BadTypeInfo return_column)
+return_fault (InReturnCell name kind part) element = cell_fault return_column part element
+return_fault part element = None
+
+abbrev pub return_add : ReturnPart → List ℕ → ReturnPart
+return_add ReturnOrdinal element = ReturnNameCount
+return_add ReturnNameCount element = with_return_units (slice_index element 0)
+return_add (ReturnName n) element = ReturnHead element
+return_add (ReturnHead name) element = with_return_type name (slice_index element 7) (unwrap_or (rest_length (slice_index element 7)) 0)
+return_add (ReturnInfo name byte) element = with_return_kind name (kind_of (byte ∷ element))
+return_add (InReturnCell name kind part) element = with_value name kind (cell_add part element)
+return_add (WholeReturn r) element = WholeReturn r
+
+abbrev pub return_end : ReturnPart → Option Fault
+return_end (WholeReturn r) = None
+return_end part = Some MessageEnded
+
+-- How a return value is read, behind its token byte.
+abbrev pub return_value : Grammar ReturnPart Fault
+return_value = record { size = return_size; fault = return_fault; add = return_add; end_fault = return_end }

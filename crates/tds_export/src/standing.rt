@@ -1,0 +1,36 @@
+// What an export knows of the tokens that it has read.
+ghost use Rattle.std.specs.Prelude.{◌≡◌, [], None};
+ghost use Rattle.tds_export.specs.Running.{Tracks};
+
+use crate::report::Report;
+
+/// What is known of the tokens read so far: the report, but for what was written; whether columns
+/// are described; and whether the last token is a final DONE or DONEPROC.
+#[derive(Debug, Clone, Copy)]
+pub(crate) struct Standing {
+    pub(crate) report: Report,
+    pub(crate) described: bool,
+    pub(crate) is_final: bool,
+}
+
+impl Standing {
+    /// Before the first token.
+    pub(crate) fn new() -> Standing
+        ensures { Tracks result [] }
+    {
+        Standing {
+            report: Report {
+                sets: 0,
+                rows: 0,
+                errors: 0,
+                infos: 0,
+                first_error: None,
+                return_status: None,
+                written: 0,
+                return_values: 0,
+            },
+            described: false,
+            is_final: false,
+        }
+    }
+}

@@ -1,0 +1,5 @@
+pub mod LimitFaults
+pub mod Counts
+pub mod Space
+pub mod Lent
+pub mod Rooms

@@ -1,0 +1,20 @@
+-- What contracts see of an area of bytes.
+use Rattle.std.specs.Prelude.{ℕ, max, List, [], ◌++◌, length}
+
+-- the bytes that stand there, the most that may, and the most that stood there since it was made or last emptied for a new run
+pub record Space : Type 0 where
+  pub bytes : List ℕ
+  pub room : ℕ
+  pub peak : ℕ
+
+-- nothing, in this room
+abbrev pub empty : ℕ → Space
+empty room = record { bytes = []; room = room; peak = 0 }
+
+-- other bytes, and the peak as it was
+abbrev pub holding : Space → List ℕ → Space
+holding s bytes = record { bytes = bytes; room = s.room; peak = s.peak }
+
+-- a piece behind its bytes, and the peak raised to their length
+abbrev pub appended : Space → List ℕ → Space
+appended s piece = record { bytes = s.bytes ++ piece; room = s.room; peak = max s.peak (length (s.bytes ++ piece)) }

@@ -1,0 +1,188 @@
+// A list of bytes with a room and a peak.
+ghost use Rattle.std.specs.Borrow.{sem};
+ghost use Rattle.std.specs.Prelude.{◌≡◌, ◌+◌, ◌-◌, ◌<◌, ◌≤◌, ◌==◌, [], length, take, drop, replicate, IfOk, OnOk, OnErr};
+ghost use Rattle.tds_meter.specs.Lent.{LendsNew, LendsTail};
+ghost use Rattle.tds_meter.specs.Space.{empty, holding, appended};
+
+use std::alloc::Global;
+use std::marker::Model;
+
+/// Memory was refused.
+#[derive(Debug, Clone, Copy, PartialEq, Eq)]
+pub struct OutOfMemory;
+
+/// An area has no room for what was to be added.
+#[derive(Debug, Clone, Copy, PartialEq, Eq)]
+pub struct Full;
+
+/// A list of bytes with a room, the most bytes that may stand in it, and a peak, the most that did
+/// since it was made or last restarted. Its memory is taken once, when it is made.
+#[derive(Drop)]
+pub struct Area {
+    // as long as the room; the bytes are the first `len`
+    store: Vec<u8>,
+    len: usize,
+    peak: usize,
+}
+
+impl Model for Area {
+    ghost use Rattle.std.specs.Prelude.{◌≤◌, take, vec_len};
+    ghost use Rattle.tds_meter.specs.Space.{Space};
+
+    ghost Value = { Space };
+
+    ghost view = { λ a. record { bytes = take a.len a.store.items; room = vec_len a.store; peak = a.peak } };
+
+    ghost invariant = { λ a. (a.len ≤ a.peak) × (a.peak ≤ vec_len a.store) × (vec_len a.store ≤ 67108864) };
+}
+
+impl Area {
+    /// An empty area with this room, in bytes. It takes the memory of the whole room.
+    pub fn new(alloc: Global, room: usize) -> Result<Area, OutOfMemory>
+        requires { room ≤ 67108864 }
+        ensures { IfOk result (λ area. area ≡ empty room) }
+    {
+        let mut store = Vec::new(alloc);
+        match store.resize(room, 0) {
+            Ok(()) => Ok(Area {
+                store,
+                len: 0,
+                peak: 0,
+            }),
+            Err(_) => Err(OutOfMemory),
+        }
+    }
+
+    /// The bytes that stand in it.
+    pub fn bytes(&self) -> &[u8]
+        ensures value { result.now ≡ self.now.bytes }
+        ensures fits { length self.now.bytes ≤ self.now.room }
+    {
+        &self.store[..self.len]
+    }
+
+    /// How many bytes stand in it.
+    pub fn len(&self) -> usize
+        ensures value { result ≡ length self.now.bytes }
+        ensures bound { result ≤ 67108864 }
+    {
+        self.len
+    }
+
+    /// Whether no byte stands in it.
+    pub fn is_empty(&self) -> bool
+        ensures { result ≡ (length self.now.bytes == 0) }
+    {
+        self.len == 0
+    }
+
+    /// The most bytes that may stand in it.
+    pub fn room(&self) -> usize
+        ensures { result ≡ self.now.room }
+    {
+        self.store.len()
+    }
+
+    /// How many more bytes may stand in it.
+    pub fn free(&self) -> usize
+        ensures value { result ≡ self.now.room - length self.now.bytes }
+        ensures fits { length self.now.bytes + result ≡ self.now.room }
+    {
+        self.room() - self.len
+    }
+
+    /// The most bytes that stood in it since it was made or last restarted.
+    pub fn peak(&self) -> usize
+        ensures value { result ≡ self.now.peak }
+        ensures bound { result ≤ 67108864 }
+    {
+        self.peak
+    }
+
+    /// Takes all bytes away. The peak stays.
+    pub fn clear(&mut self)
+        ensures { self.new ≡ holding self.old [] }
+    {
+        self.len = 0;
+    }
+
+    /// Takes all but the first `n` bytes away. The peak stays.
+    pub fn truncate(&mut self, n: usize)
+        ensures { self.new ≡ holding self.old (take n self.old.bytes) }
+    {
+        self.len = self.len.min(n);
+    }
+
+    /// Takes the first `n` bytes away. The peak stays.
+    pub fn drop_front(&mut self, n: usize)
+        requires { n ≤ length self.old.bytes }
+        ensures { self.new ≡ holding self.old (drop n self.old.bytes) }
+    {
+        self.store.copy_within(n..self.len, 0);
+        self.len -= n;
+    }
+
+    /// Adds a piece at the end. [`Full`] where there is no room for it: nothing has changed then.
+    pub fn append(&mut self, piece: &[u8]) -> Result<(), Full>
+        ensures ok { OnOk result (self.new ≡ appended self.old piece.now) }
+        ensures err { OnErr result (self.new ≡ self.old) }
+        ensures full { OnErr result (self.old.room < length self.old.bytes + length piece.now) }
+        ensures fits { OnOk result (length self.old.bytes + length piece.now ≤ self.old.room) }
+    {
+        if piece.len() > self.free() {
+            return Err(Full);
+        }
+        let end = self.len + piece.len();
+        self.store.slice_mut(self.len..end).copy_from_slice(piece);
+        self.len = end;
+        self.peak = self.peak.max(end);
+        Ok(())
+    }
+
+    /// Adds `n` zero bytes at the end. [`Full`] where there is no room: nothing has changed then.
+    pub fn extend(&mut self, n: usize) -> Result<(), Full>
+        ensures ok { OnOk result (self.new ≡ appended self.old (replicate n 0)) }
+        ensures err { OnErr result (self.new ≡ self.old) }
+        ensures full { OnErr result (self.old.room < length self.old.bytes + n) }
+        ensures fits { OnOk result (length self.old.bytes + n ≤ self.old.room) }
+    {
+        if n > self.free() {
+            return Err(Full);
+        }
+        let end = self.len + n;
+        self.store.slice_mut(self.len..end).fill(0);
+        self.len = end;
+        self.peak = self.peak.max(end);
+        Ok(())
+    }
+
+    /// The bytes from a place on, to be written over.
+    pub fn tail(&mut self, from: usize) -> &mut [u8]
+        requires { from ≤ length self.old.bytes }
+        ensures* lends { sem 𝓛 (LendsTail self.entry from result) }
+        ensures value { result.now ≡ drop from self.old.bytes }
+    {
+        self.store.slice_mut(from..self.len)
+    }
+
+    /// Adds `n` zero bytes at the end, and lends them for writing.
+    pub fn grow_within(&mut self, n: usize) -> &mut [u8]
+        requires { length self.old.bytes + n ≤ self.old.room }
+        ensures* lends { sem 𝓛 (LendsNew self.entry n result) }
+        ensures value { result.now ≡ replicate n 0 }
+    {
+        let len = self.len();
+        let Ok(()) = self.extend(n) else {
+            unreachable!()
+        };
+        self.tail(len)
+    }
+
+    /// Takes all bytes away, and sets the peak to 0.
+    pub(crate) fn restart(&mut self)
+        ensures { self.new ≡ empty self.old.room }
+    {
+        self.clear();
+        self.peak = 0;
+    }
+}

@@ -1,0 +1,205 @@
+// Areas and limits with ample memory.
+use super::*;
+use std::mem::swap;
+use std::process::Abort;
+use std::test::Fail;
+
+const LEAST: (u16, u32, u64) = (512, 10, 8);
+
+const GREATEST: (u16, u32, u64) = (32_767, 67_108_864, 72_057_594_037_927_936);
+
+#[test]
+fn accepts_the_edges_of_each_range(rt: HostRuntime) -> Result<(), Fail> {
+    for (packet_size, column_room, max_wire) in [LEAST, (4_096, 1_048_576, 1 << 40), GREATEST] {
+        let limits = Limits::new(packet_size, column_room, max_wire)?;
+        assert_eq!(rt; limits.packet_size(), packet_size);
+        assert_eq!(rt; limits.column_room(), column_room);
+        assert_eq!(rt; limits.max_wire(), max_wire);
+    }
+    Ok(())
+}
+
+// Each row: the numbers, the fault, and its text.
+#[test]
+fn names_the_first_number_out_of_its_range(rt: HostRuntime) {
+    let packet = "the packet size isn't 512 to 32,767";
+    let column = "the column room isn't 10 to 67,108,864 bytes";
+    let wire = "the wire limit isn't 8 to 72,057,594,037,927,936 bytes";
+    let past = 72_057_594_037_927_937;
+    for (packet_size, column_room, max_wire, fault, text) in [
+        (511, 10, 8, LimitFault::PacketSize, packet),
+        (32_768, 10, 8, LimitFault::PacketSize, packet),
+        (512, 9, 8, LimitFault::ColumnRoom, column),
+        (512, 67_108_865, 8, LimitFault::ColumnRoom, column),
+        (512, 10, 7, LimitFault::MaxWire, wire),
+        (512, 10, past, LimitFault::MaxWire, wire),
+        (0, 0, 0, LimitFault::PacketSize, packet),
+        (
+            65_535,
+            4_294_967_295,
+            u64::MAX,
+            LimitFault::PacketSize,
+            packet,
+        ),
+        (512, 0, 0, LimitFault::ColumnRoom, column),
+        (32_767, 67_108_865, past, LimitFault::ColumnRoom, column),
+    ] {
+        match Limits::new(packet_size, column_room, max_wire) {
+            Ok(limits) => assert!(rt; false, "{limits:?}"),
+            Err(given) => {
+                assert_eq!(rt; given, fault, "{packet_size} {column_room} {max_wire}");
+                let shown = format!(in rt.alloc(); "{given}").expect(&rt, "ample memory");
+                assert_eq!(rt; shown.as_str(), text);
+            }
+        }
+    }
+}
+
+// What an area holds, and its peak.
+fn check_area(rt: &impl Abort, area: &Area, bytes: &[u8], peak: usize) {
+    assert_eq!(rt; area.bytes(), bytes);
+    assert_eq!(rt; area.len(), bytes.len());
+    assert_eq!(rt; area.is_empty(), bytes.is_empty());
+    assert_eq!(rt; area.room(), 6);
+    assert_eq!(rt; area.free() + bytes.len(), 6);
+    assert_eq!(rt; area.peak(), peak);
+}
+
+#[test]
+fn an_area_keeps_its_bytes_and_its_peak(rt: HostRuntime) -> Result<(), Fail> {
+    let mut area = Area::new(rt.alloc(), 6)?;
+    check_area(&rt, &area, b"", 0);
+    assert_eq!(rt; area.append(b"abcd"), Ok(()));
+    check_area(&rt, &area, b"abcd", 4);
+    // one byte too many: nothing has changed
+    assert_eq!(rt; area.append(b"efg"), Err(Full));
+    assert_eq!(rt; area.extend(3), Err(Full));
+    assert_eq!(rt; area.extend(usize::MAX), Err(Full));
+    check_area(&rt, &area, b"abcd", 4);
+    // an exactly full room, to which nothing can still be added
+    assert_eq!(rt; area.append(b"ef"), Ok(()));
+    assert_eq!(rt; area.append(b""), Ok(()));
+    assert_eq!(rt; area.append(b"g"), Err(Full));
+    check_area(&rt, &area, b"abcdef", 6);
+    assert!(rt; area.len() == 6);
+    area.drop_front(2);
+    check_area(&rt, &area, b"cdef", 6);
+    area.truncate(9);
+    check_area(&rt, &area, b"cdef", 6);
+    area.truncate(1);
+    check_area(&rt, &area, b"c", 6);
+    // zeros, where other bytes stood before
+    assert_eq!(rt; area.extend(2), Ok(()));
+    check_area(&rt, &area, b"c\0\0", 6);
+    area.clear();
+    check_area(&rt, &area, b"", 6);
+    area.restart();
+    check_area(&rt, &area, b"", 0);
+    Ok(())
+}
+
+#[test]
+fn an_area_lends_its_end(rt: HostRuntime) -> Result<(), Fail> {
+    let mut area = Area::new(rt.alloc(), 6)?;
+    assert_eq!(rt; area.append(b"ab"), Ok(()));
+    assert!(rt; area.free() >= 3);
+    let lent = area.grow_within(3);
+    assert_eq!(rt; &*lent, b"\0\0\0".as_slice());
+    lent.copy_from_slice(b"cde");
+    check_area(&rt, &area, b"abcde", 5);
+    assert!(rt; area.len() == 5);
+    area.tail(1).reverse();
+    check_area(&rt, &area, b"aedcb", 5);
+    assert!(rt; area.len() == 5);
+    assert_eq!(rt; area.tail(5).len(), 0);
+    Ok(())
+}
+
+// The rooms of the six, and that they hold nothing.
+fn check_empty(rt: &impl Abort, areas: &Areas, restarts: u64) {
+    assert!(rt; areas.intact());
+    for (area, room) in [
+        (&areas.packet, 512),
+        (&areas.description, 10),
+        (&areas.token, 65_536),
+        (&areas.output, 4_096),
+        (&areas.notice, 512),
+        (&areas.small, 128),
+    ] {
+        assert_eq!(rt; area.room(), room);
+        assert_eq!(rt; area.len(), 0);
+        assert_eq!(rt; area.peak(), 0);
+    }
+    assert_eq!(rt; areas.held(), 0);
+    assert_eq!(rt; areas.peak_rest(), 0);
+    assert_eq!(rt; areas.restarts(), restarts);
+}
+
+#[test]
+fn areas_count_what_they_hold(rt: HostRuntime) -> Result<(), Fail> {
+    let limits = Limits::new(512, 10, 8)?;
+    let mut areas = Areas::new(rt.alloc(), limits)?;
+    assert_eq!(rt; areas.limits().packet_size(), 512);
+    assert_eq!(rt; areas.limits().column_room(), 10);
+    assert_eq!(rt; areas.limits().max_wire(), 8);
+    check_empty(&rt, &areas, 0);
+    // lengths of which no two sums are the same
+    assert_eq!(rt; areas.packet.extend(1), Ok(()));
+    assert_eq!(rt; areas.description.extend(2), Ok(()));
+    assert_eq!(rt; areas.token.extend(4), Ok(()));
+    assert_eq!(rt; areas.output.append(b"12345678"), Ok(()));
+    assert_eq!(rt; areas.notice.append(b"0123456789abcdef"), Ok(()));
+    assert_eq!(rt; areas.small.extend(32), Ok(()));
+    assert_eq!(rt; areas.held(), 63);
+    assert_eq!(rt; areas.description_held(), 2);
+    assert_eq!(rt; areas.description_peak(), 2);
+    assert_eq!(rt; areas.peak_rest(), 61);
+    assert_eq!(rt; areas.waiting(), b"12345678".as_slice());
+    assert_eq!(rt; areas.error_text(), b"0123456789abcdef".as_slice());
+    areas.token.clear();
+    areas.description.clear();
+    assert_eq!(rt; areas.held(), 57);
+    assert_eq!(rt; areas.description_held(), 0);
+    assert_eq!(rt; areas.description_peak(), 2);
+    assert_eq!(rt; areas.peak_rest(), 61);
+    assert!(rt; areas.intact());
+    areas.restart();
+    check_empty(&rt, &areas, 1);
+    areas.restart();
+    check_empty(&rt, &areas, 2);
+    Ok(())
+}
+
+#[test]
+fn exchanged_areas_are_not_intact(rt: HostRuntime) -> Result<(), Fail> {
+    let limits = Limits::new(4_096, 65_536, 8)?;
+    let mut areas = Areas::new(rt.alloc(), limits)?;
+    assert!(rt; areas.intact());
+    // equal rooms
+    swap(&mut areas.packet, &mut areas.output);
+    swap(&mut areas.description, &mut areas.token);
+    assert!(rt; areas.intact());
+    swap(&mut areas.notice, &mut areas.small);
+    assert!(rt; !areas.intact());
+    areas.restart();
+    assert!(rt; !areas.intact());
+    swap(&mut areas.notice, &mut areas.small);
+    assert!(rt; areas.intact());
+    swap(&mut areas.packet, &mut areas.token);
+    assert!(rt; !areas.intact());
+    Ok(())
+}
+
+// The greatest rooms are had where memory is ample.
+#[test]
+fn the_greatest_rooms_are_had(rt: HostRuntime) -> Result<(), Fail> {
+    let limits = Limits::new(32_767, 67_108_864, 72_057_594_037_927_936)?;
+    let areas = Areas::new(rt.alloc(), limits)?;
+    assert_eq!(rt; areas.packet.room(), 32_767);
+    assert_eq!(rt; areas.description.room(), 67_108_864);
+    assert!(rt; areas.intact());
+    for room in [0, 1, 67_108_864] {
+        assert_eq!(rt; Area::new(rt.alloc(), room)?.room(), room);
+    }
+    Ok(())
+}

@@ -1,0 +1,11 @@
+pub mod Choices
+pub mod ComingLaws
+pub mod MessageLaws
+pub mod ElementLaws
+pub mod PacketLaws
+pub mod WireVectors
+pub mod Joins
+pub mod Futures
+pub mod PayloadLaws
+pub mod Parts
+pub mod Fronts

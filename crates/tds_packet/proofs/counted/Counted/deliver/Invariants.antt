@@ -1,0 +1,14 @@
+use Rattle.std.proofs.Common.{◌-◌, ◌≤◌, length, take}
+use Rattle.std.specs.Io.KnownBytes.{Appends}
+use Rattle.tds_packet.specs.Filling.{Stays}
+use Rattle.tds_packet.proofs.counted.Counted.deliver.Given as goal
+
+abbrev pub invariant-loop-taken : goal.invariant-loop-taken
+invariant-loop-taken g l = record {
+  within : l.taken ≤ length l.bytes;
+  stays : Stays l.initial.self.failures l.self.failures (take l.taken l.bytes);
+  written : Appends (g.W.Write.contents l.initial.self.device) (g.W.Write.contents l.self.device) (take l.taken l.bytes);
+}
+
+abbrev pub decreases-loop-taken : goal.decreases-loop-taken
+decreases-loop-taken g l = length l.bytes - l.taken

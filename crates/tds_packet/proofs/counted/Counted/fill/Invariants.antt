@@ -1,0 +1,15 @@
+use Rattle.std.proofs.Common.{◌≡◌, ◌-◌, ◌≤◌, length, take}
+use Rattle.std.specs.Io.KnownBytes.{Consumes}
+use Rattle.tds_packet.specs.Filling.{Stays}
+use Rattle.tds_packet.proofs.counted.Counted.fill.Given as goal
+
+abbrev pub invariant-loop-at : goal.invariant-loop-at
+invariant-loop-at g l = record {
+  same : length l.to ≡ length l.initial.to;
+  within : l.at ≤ length l.to;
+  stays : Stays l.initial.self.failures l.self.failures (take l.at l.to);
+  read : Consumes (g.R.Read.remaining l.initial.self.device) (g.R.Read.remaining l.self.device) (take l.at l.to);
+}
+
+abbrev pub decreases-loop-at : goal.decreases-loop-at
+decreases-loop-at g l = length l.to - l.at

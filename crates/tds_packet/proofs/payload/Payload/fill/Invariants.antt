@@ -1,0 +1,18 @@
+use Rattle.std.proofs.Common.{◌≡◌, ◌+◌, ◌-◌, ◌≤◌, length, take, None}
+use Rattle.tds_packet.specs.Seen.{Takes}
+use Rattle.tds_packet.specs.Payloads.{seen, IsSound, IsOnSame}
+use Rattle.tds_packet.proofs.payload.Payload.fill.Given as goal
+
+abbrev pub invariant-loop-at : goal.invariant-loop-at
+invariant-loop-at g l = record {
+  sound : IsSound l.self;
+  same : IsOnSame l.initial.self l.self;
+  start : l.start ≡ l.initial.self.place;
+  within : l.at ≤ length l.to;
+  place : l.self.place ≡ l.initial.self.place + l.at;
+  going : l.self.stopped ≡ None;
+  takes : Takes (seen g.R.Read.remaining l.initial.self) (seen g.R.Read.remaining l.self) (take l.at l.to) l.at;
+}
+
+abbrev pub decreases-loop-at : goal.decreases-loop-at
+decreases-loop-at g l = length l.to - l.at

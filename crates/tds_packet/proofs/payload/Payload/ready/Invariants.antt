@@ -1,0 +1,17 @@
+use Rattle.std.proofs.Common.{◌≡◌, ◌-◌, ◌<◌, [], None, length}
+use Rattle.tds_packet.specs.Seen.{Takes}
+use Rattle.tds_packet.specs.Payloads.{seen, IsSound, IsOnSame}
+use Rattle.tds_packet.proofs.payload.Payload.ready.Given as goal
+
+abbrev pub invariant-loop-self : goal.invariant-loop-self
+invariant-loop-self g l = record {
+  sound : IsSound l.self;
+  same : IsOnSame l.initial.self l.self;
+  lazy : l.initial.self.at < length l.initial.self.packet.now.bytes → l.self ≡ l.initial.self;
+  place : l.self.place ≡ l.initial.self.place;
+  going : l.self.stopped ≡ None;
+  gives : Takes (seen g.R.Read.remaining l.initial.self) (seen g.R.Read.remaining l.self) [] 1;
+}
+
+abbrev pub decreases-loop-self : goal.decreases-loop-self
+decreases-loop-self g l = l.self.max_wire - l.self.wire

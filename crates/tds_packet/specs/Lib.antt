@@ -1,0 +1,10 @@
+pub mod Faults
+pub mod Elements
+pub mod Packets
+pub mod Coming
+pub mod Filling
+pub mod Reads
+pub mod Seen
+pub mod Payloads
+pub mod Reading
+pub mod Laws

@@ -1,0 +1,15 @@
+//! Faults, counted devices, and the payload of a message in packets (MS-TDS, Packets).
+#![tactic(auto)]
+
+mod counted;
+mod fault;
+pub mod laws;
+mod packet;
+mod payload;
+pub mod rig;
+#[cfg(test)]
+mod tests;
+
+pub use counted::Counted;
+pub use fault::{Fault, Place, RefusedKind, Stop};
+pub use payload::Payload;

@@ -1,0 +1,99 @@
+// One packet.
+ghost use Rattle.std.specs.Prelude.{◌≡◌, ◌+◌, ◌^◌, ◌<◌, ◌≤◌, length, IfErr, IfOk};
+ghost use Rattle.tds_packet.specs.Reads.{FillsOrFaults, IsOfPackets, PacketRead, header_of};
+
+use crate::counted::{Counted, Short};
+use crate::fault::Fault;
+use byteorder::{BigEndian, ByteOrder};
+use std::io::Read;
+use tds_meter::Area;
+
+/// The Type of a packet of a tabular result (MS-TDS, Packet Header).
+const TABULAR_RESULT: u8 = 0x04;
+
+/// What a header says: the packet's Length, 8 or more, and whether the packet is the last.
+#[derive(Debug, Clone, Copy)]
+pub(crate) struct Header {
+    pub(crate) length: u16,
+    pub(crate) last: bool,
+}
+
+// Judges a header behind so many bytes of the wire: its Type, its Length, the limit of the wire.
+fn judge(header: &[u8], room: usize, max_wire: u64, wire: u64) -> Result<Header, Fault>
+    requires whole { length header.now ≡ 8 }
+    requires within { wire ≤ 2 ^ 56 }
+    ensures value { result ≡ header_of room max_wire wire header.now }
+    ensures fits { IfOk result (λ h. (8 ≤ h.length) × (h.length ≤ room) × (wire + h.length ≤ max_wire)) }
+    ensures fault { IfErr result (λ fault. IsOfPackets fault) }
+{
+    if header[0] != TABULAR_RESULT {
+        return Err(Fault::WrongPacketType(header[0]));
+    }
+    let length = BigEndian::read_u16(&header[2..4]);
+    if length < 8 || usize::from(length) > room {
+        return Err(Fault::BadPacketLength(length));
+    }
+    if wire + u64::from(length) > max_wire {
+        return Err(Fault::ResponseTooLong);
+    }
+    Ok(Header {
+        length,
+        last: header[1] % 2 == 1,
+    })
+}
+
+fn fill<R: Read>(from: &mut Counted<R>, to: &mut [u8]) -> Result<(), Fault>
+    ensures read { FillsOrFaults (R.remaining from.old.device) (R.remaining from.new.device) from.old.failures from.new.failures to.new result }
+    ensures fault { IfErr result (λ fault. IsOfPackets fault) }
+{
+    match from.fill(to) {
+        Ok(()) => Ok(()),
+        Err(Short::Ended) => Err(Fault::InputEnded),
+        Err(Short::Failed) => Err(Fault::ReadFailed),
+    }
+}
+
+fn read_body<R: Read>(from: &mut Counted<R>, packet: &mut Area, n: usize) -> Result<(), Fault>
+    requires fits { n ≤ packet.old.room }
+    requires peak { packet.old.peak ≤ packet.old.room }
+    ensures bytes { FillsOrFaults (R.remaining from.old.device) (R.remaining from.new.device) from.old.failures from.new.failures packet.new.bytes result }
+    ensures len { length packet.new.bytes ≡ n }
+    ensures room { packet.new.room ≡ packet.old.room }
+    ensures peak { packet.new.peak ≤ packet.new.room }
+    ensures fault { IfErr result (λ fault. IsOfPackets fault) }
+{
+    packet.clear();
+    let body = packet.grow_within(n);
+    fill(from, body)
+}
+
+/// Reads the next packet of a message, of whose wire so many bytes were read: its header, and then
+/// its body into the area, whose room is the greatest packet size. After a fault what stands in the
+/// area isn't fixed.
+pub(crate) fn read_packet<R: Read>(
+    from: &mut Counted<R>,
+    packet: &mut Area,
+    max_wire: u64,
+    wire: u64,
+) -> Result<Header, Fault>
+    requires within { wire ≤ 2 ^ 56 }
+    requires peak { packet.old.peak ≤ packet.old.room }
+    ensures read { PacketRead packet.old.room max_wire wire (R.remaining from.old.device) (R.remaining from.new.device) from.old.failures from.new.failures packet.new.bytes result }
+    ensures room { packet.new.room ≡ packet.old.room }
+    ensures peak { packet.new.peak ≤ packet.new.room }
+    ensures fits { IfOk result (λ h. (length packet.new.bytes + 8 ≡ h.length) × (wire + h.length ≤ max_wire)) }
+    ensures fault { IfErr result (λ fault. IsOfPackets fault) }
+{
+    let mut header = [0u8; 8];
+    if let Err(fault) = fill(from, &mut header) {
+        return Err(fault);
+    }
+    let room = packet.room();
+    match judge(&header, room, max_wire, wire) {
+        Ok(head) => match read_body(from, packet, usize::from(head.length) - 8) {
+            Ok(()) => Ok(head),
+            Err(fault) => Err(fault),
+        },
+        Err(fault) => Err(fault),
+    }
+}

@@ -1,0 +1,325 @@
+// The bytes that the packets of one message carry.
+ghost use Rattle.std.specs.Borrow.{sem};
+ghost use Rattle.std.specs.Prelude.{◌≡◌, ℕ, ◌+◌, ◌^◌, ◌<◌, ◌≤◌, [], ◌∷◌, true, false, None, Some, Err, length, take, IfErr, IfOk, IfSome, IsTrue, MatchResult, OnErr, OnOk, is_ok, if◌then◌else◌};
+ghost use Rattle.tds_packet.specs.declared.fault.Stop.{Stop};
+ghost use Rattle.tds_packet.specs.Payloads.{IsOnSame, IsSound, RestsPayload, buffered, seen};
+ghost use Rattle.tds_packet.specs.Reads.{IsOfPackets};
+ghost use Rattle.tds_packet.specs.Seen.{Ends, IsBetween, IsNotOver, IsOver, Takes, began_at, begun};
+
+use crate::counted::Counted;
+use crate::fault::{Fault, Place, Stop};
+use crate::packet::read_packet;
+use std::io::Read;
+use tds_meter::Area;
+
+/// The payload of one message: the bodies of its packets, joined. A packet is read only when a byte
+/// is asked for, or the end, and the packets before it are used up and none of them was the last;
+/// its bytes are handed out only when the whole packet has been read. Not one byte behind the last
+/// packet is read. After a stop each later call answers the same stop and reads nothing.
+#[derive(Drop)]
+pub struct Payload<'a, R> {
+    from: &'a mut Counted<R>,
+    packet: &'a mut Area,
+    // how many bytes of the packet are handed out
+    at: usize,
+    // whether the packet is the last
+    last: bool,
+    // the bytes of the packets read, headers included
+    wire: u64,
+    max_wire: u64,
+    place: u64,
+    stopped: Option<Stop>,
+}
+
+impl<'a, R: Read> Payload<'a, R> {
+    /// The message that comes next. The area's room is the greatest packet size, in bytes; the area
+    /// is emptied. The limit counts the bytes of the wire, headers included.
+    pub fn new(from: &'a mut Counted<R>, packet: &'a mut Area, max_wire: u64) -> Payload<'a, R>
+        requires room { (512 ≤ packet.old.room) × (packet.old.room ≤ 32767) }
+        requires limit { max_wire ≤ 72057594037927936 }
+        requires peak { packet.old.peak ≤ packet.old.room }
+        ensures sound { IsSound result }
+        ensures from { result.from.ghost_name ≡ from.entry.ghost_name }
+        ensures packet { result.packet.ghost_name ≡ packet.entry.ghost_name }
+        ensures room { result.packet.now.room ≡ packet.old.room }
+        ensures limit { result.max_wire ≡ max_wire }
+        ensures place { result.place ≡ 0 }
+        ensures going { result.stopped ≡ None }
+        ensures seen { seen R.remaining result ≡ begun packet.old.room max_wire (R.remaining from.old.device) from.old.failures }
+        ensures between { IsBetween (seen R.remaining result) }
+    {
+        packet.clear();
+        Payload {
+            from,
+            packet,
+            at: 0,
+            last: false,
+            wire: 0,
+            max_wire,
+            place: 0,
+            stopped: None,
+        }
+    }
+
+    /// How many bytes were handed out. Those of a call that stopped aren't.
+    pub fn place(&self) -> u64
+        ensures { result ≡ self.now.place }
+    {
+        self.place
+    }
+
+    // Reads a packet.
+    fn advance(&mut self) -> Result<(), Stop>
+        requires sound { IsSound self.old }
+        requires empty { self.old.at ≡ length self.old.packet.now.bytes }
+        requires more { self.old.last ≡ false }
+        requires going { self.old.stopped ≡ None }
+        ensures sound { IsSound self.new }
+        ensures same { IsOnSame self.old self.new }
+        ensures place { self.new.place ≡ self.old.place }
+        ensures further { OnOk result (self.old.wire < self.new.wire) }
+        ensures going { OnOk result (self.new.stopped ≡ None) }
+        ensures stopped { IfErr result (λ stop. self.new.stopped ≡ Some stop) }
+        ensures fault { IfErr result (λ stop. IsOfPackets stop.fault) }
+        ensures gives { MatchResult result
+            (λ _. Takes (seen R.remaining self.old) (seen R.remaining self.new) [] 1)
+            (λ stop. Ends (seen R.remaining self.old) (seen R.remaining self.new) [] stop) }
+    {
+        match read_packet(self.from, self.packet, self.max_wire, self.wire) {
+            Ok(head) => {
+                self.at = 0;
+                self.last = head.last;
+                self.wire += u64::from(head.length);
+                Ok(())
+            }
+            Err(fault) => {
+                self.packet.clear();
+                self.at = 0;
+                let stop = Stop {
+                    fault,
+                    place: Place::Wire(self.wire),
+                };
+                self.stopped = Some(stop);
+                Err(stop)
+            }
+        }
+    }
+
+    // Sees to it that a byte stands ready.
+    fn ready(&mut self) -> Result<(), Stop>
+        requires { IsSound self.old }
+        ensures sound { IsSound self.new }
+        ensures same { IsOnSame self.old self.new }
+        ensures place { self.new.place ≡ self.old.place }
+        ensures stands { OnOk result (self.new.at < length self.new.packet.now.bytes) }
+        ensures again { IfSome self.old.stopped (λ stop. (result ≡ Err stop) × (self.new ≡ self.old)) }
+        ensures lazy { self.old.at < length self.old.packet.now.bytes → self.new.from.now ≡ self.old.from.now }
+        ensures stopped { IfErr result (λ stop. self.new.stopped ≡ Some stop) }
+        ensures going { OnOk result (self.new.stopped ≡ None) }
+        ensures gives { MatchResult result
+            (λ _. Takes (seen R.remaining self.old) (seen R.remaining self.new) [] 1)
+            (λ stop. Ends (seen R.remaining self.old) (seen R.remaining self.new) [] stop) }
+        ensures ended { IfErr result (λ stop. stop.fault ≡ Fault.MessageEnded → self.old.stopped ≡ None → (self.new.last ≡ true) × (self.new.at ≡ length self.new.packet.now.bytes)) }
+        ensures over { IfErr result (λ stop. stop.fault ≡ Fault.MessageEnded → self.old.stopped ≡ None → Takes (seen R.remaining self.old) (seen R.remaining (record self.new { stopped = None })) [] 1) }
+    {
+        if let Some(stop) = self.stopped {
+            return Err(stop);
+        }
+        while self.at == self.packet.len() {
+            if self.last {
+                let stop = Stop {
+                    fault: Fault::MessageEnded,
+                    place: Place::Payload(self.place),
+                };
+                self.stopped = Some(stop);
+                return Err(stop);
+            }
+            if let Err(stop) = self.advance() {
+                return Err(stop);
+            }
+        }
+        Ok(())
+    }
+
+    /// The next byte.
+    pub fn next(&mut self) -> Result<u8, Stop>
+        requires { IsSound self.old }
+        ensures sound { IsSound self.new }
+        ensures same { IsOnSame self.old self.new }
+        ensures place { self.new.place ≡ (if is_ok result then self.old.place + 1 else self.old.place) }
+        ensures gives { MatchResult result
+            (λ byte. Takes (seen R.remaining self.old) (seen R.remaining self.new) (byte ∷ []) 1)
+            (λ stop. Ends (seen R.remaining self.old) (seen R.remaining self.new) [] stop) }
+        ensures between { OnOk result (IsBetween (seen R.remaining self.new)) }
+        ensures again { IfSome self.old.stopped (λ stop. (result ≡ Err stop) × (self.new ≡ self.old)) }
+        ensures stopped { IfErr result (λ stop. self.new.stopped ≡ Some stop) }
+        ensures going { OnOk result (self.new.stopped ≡ None) }
+        ensures lazy { self.old.at < length self.old.packet.now.bytes → self.new.from.now ≡ self.old.from.now }
+    {
+        match self.ready() {
+            Ok(()) => Ok(self.take()),
+            Err(stop) => Err(stop),
+        }
+    }
+
+    // Hands out a byte that stands ready.
+    fn take(&mut self) -> u8
+        requires sound { IsSound self.old }
+        requires stands { self.old.at < length self.old.packet.now.bytes }
+        requires going { self.old.stopped ≡ None }
+        ensures sound { IsSound self.new }
+        ensures same { IsOnSame self.old self.new }
+        ensures place { self.new.place ≡ self.old.place + 1 }
+        ensures gives { Takes (seen R.remaining self.old) (seen R.remaining self.new) (result ∷ []) 1 }
+        ensures going { self.new.stopped ≡ None }
+        ensures from { self.new.from.now ≡ self.old.from.now }
+    {
+        let byte = self.packet.bytes()[self.at];
+        self.at += 1;
+        self.place += 1;
+        byte
+    }
+
+    /// Fills a slice with the next bytes. A message that ends before the slice is full stops the
+    /// call at the place where it began, and none of its bytes counts as handed out.
+    pub fn fill(&mut self, to: &mut [u8]) -> Result<(), Stop>
+        requires { IsSound self.old }
+        ensures sound { IsSound self.new }
+        ensures same { IsOnSame self.old self.new }
+        ensures place { self.new.place ≡ (if is_ok result then self.old.place + length to.new else self.old.place) }
+        ensures all { OnOk result (Takes (seen R.remaining self.old) (seen R.remaining self.new) to.new (length to.new)) }
+        ensures between { OnOk result (IsBetween (seen R.remaining self.new)) }
+        ensures part { IfErr result (λ stop. self.old.stopped ≡ None →
+            (n : ℕ) × (own : Stop) × (n < length to.new) × Ends (seen R.remaining self.old) (seen R.remaining self.new) (take n to.new) own × (stop ≡ began_at self.old.place own)) }
+        ensures again { IfSome self.old.stopped (λ stop. (result ≡ Err stop) × (self.new ≡ self.old)) }
+        ensures stopped { IfErr result (λ stop. self.new.stopped ≡ Some stop) }
+        ensures going { OnOk result (self.new.stopped ≡ None) }
+    {
+        if let Some(stop) = self.stopped {
+            return Err(stop);
+        }
+        let start = self.place;
+        let mut at = 0;
+        while at < to.len() {
+            match self.piece(to.len() - at) {
+                Ok(bytes) => {
+                    let end = at + bytes.len();
+                    to[at..end].copy_from_slice(bytes);
+                    at = end;
+                }
+                Err(stop) => return Err(self.cut(stop, start)),
+            }
+        }
+        Ok(())
+    }
+
+    // The stop of a call of many bytes: where the message ended, it is at the call's beginning.
+    fn cut(&mut self, stop: Stop, start: u64) -> Stop
+        requires sound { IsSound self.old }
+        requires stopped { self.old.stopped ≡ Some stop }
+        requires start { start ≤ self.old.place }
+        ensures sound { IsSound self.new }
+        ensures same { IsOnSame self.old self.new }
+        ensures place { self.new.place ≡ start }
+        ensures from { self.new.from.now ≡ self.old.from.now }
+        ensures stopped { self.new.stopped ≡ Some result }
+        ensures rest { self.new ≡ record self.old { place = start; stopped = Some result } }
+        ensures value { result ≡ began_at start stop }
+    {
+        self.place = start;
+        match stop.fault {
+            Fault::MessageEnded => {
+                let cut = Stop {
+                    fault: stop.fault,
+                    place: Place::Payload(start),
+                };
+                self.stopped = Some(cut);
+                cut
+            }
+            _ => stop,
+        }
+    }
+
+    /// Whether every byte was handed out, and the last packet is among those read.
+    pub fn at_end(&mut self) -> Result<bool, Stop>
+        requires { IsSound self.old }
+        ensures sound { IsSound self.new }
+        ensures same { IsOnSame self.old self.new }
+        ensures place { self.new.place ≡ self.old.place }
+        ensures gives { MatchResult result
+            (λ _. Takes (seen R.remaining self.old) (seen R.remaining self.new) [] 1)
+            (λ stop. Ends (seen R.remaining self.old) (seen R.remaining self.new) [] stop) }
+        ensures between { OnOk result (IsBetween (seen R.remaining self.new)) }
+        ensures over { IfOk result (λ end. IsTrue end → IsOver (seen R.remaining self.new)) }
+        ensures lies { IfOk result (λ end. end ≡ false → 0 < length (buffered self.new)) }
+        ensures goes_on { IfErr result (λ stop. self.old.stopped ≡ None → stop.fault ≡ Fault.MessageEnded → ⊥) }
+        ensures more { IfOk result (λ end. end ≡ false → IsNotOver (seen R.remaining self.new)) }
+        ensures again { IfSome self.old.stopped (λ stop. (result ≡ Err stop) × (self.new ≡ self.old)) }
+        ensures stopped { IfErr result (λ stop. self.new.stopped ≡ Some stop) }
+        ensures going { OnOk result (self.new.stopped ≡ None) }
+    {
+        if let Some(stop) = self.stopped {
+            return Err(stop);
+        }
+        match self.ready() {
+            Ok(()) => Ok(false),
+            Err(stop) => match stop.fault {
+                Fault::MessageEnded => {
+                    self.stopped = None;
+                    Ok(true)
+                }
+                _ => Err(stop),
+            },
+        }
+    }
+
+    /// Between 1 and `max` next bytes, where they lie in the packet area.
+    pub fn piece(&mut self, max: usize) -> Result<&[u8], Stop>
+        requires sound { IsSound self.old }
+        requires some { 0 < max }
+        ensures len { IfOk result (λ bytes. (0 < length bytes.now) × (length bytes.now ≤ max)) }
+        ensures* after { sem 𝓛 (RestsPayload R.row self.entry (λ new.
+            IsSound new × IsOnSame self.old new
+            × MatchResult result
+            (λ bytes. Takes (seen R.remaining self.old) (seen R.remaining new) bytes.now 1 × IsBetween (seen R.remaining new)
+            × (new.place ≡ self.old.place + length bytes.now) × (new.stopped ≡ None))
+            (λ stop. Ends (seen R.remaining self.old) (seen R.remaining new) [] stop × (new.place ≡ self.old.place) × (new.stopped ≡ Some stop))
+            × IfSome self.old.stopped (λ stop. (result ≡ Err stop) × (new ≡ self.old)))) }
+    {
+        if let Err(stop) = self.ready() {
+            return Err(stop);
+        }
+        let start = self.at;
+        let n = max.min(self.packet.len() - start);
+        self.at += n;
+        self.place += n as u64;
+        let bytes = self.packet.bytes();
+        Ok(&bytes[start..start + n])
+    }
+
+    /// The bytes that come next, as far as they lie in the packet area already. It reads nothing.
+    pub fn lying(&self) -> &[u8]
+        requires { IsSound self.now }
+        ensures { result.now ≡ buffered self.now }
+    {
+        &self.packet.bytes()[self.at..]
+    }
+
+    /// Passes over the first `n` of the bytes that lie in the packet area. It reads nothing.
+    pub fn pass(&mut self, n: usize)
+        requires sound { IsSound self.old }
+        requires lie { n ≤ length (buffered self.old) }
+        ensures sound { IsSound self.new }
+        ensures same { IsOnSame self.old self.new }
+        ensures place { self.new.place ≡ self.old.place + n }
+        ensures stopped { self.new.stopped ≡ self.old.stopped }
+        ensures from { self.new.from.now ≡ self.old.from.now }
+        ensures gives { Takes (seen R.remaining self.old) (seen R.remaining self.new) (take n (buffered self.old)) 0 }
+        ensures between { self.old.stopped ≡ None → IsBetween (seen R.remaining self.new) }
+    {
+        let held = self.packet.len();
+        prove!(self.at + n <= held);
+        self.at += n;
+        self.place += n as u64;
+    }
+}

@@ -1,0 +1,351 @@
+// Packets and devices in memory.
+ghost use Rattle.std.specs.Prelude.{◌≤◌};
+ghost use Rattle.tds_packet.specs.Payloads.{IsSound};
+
+use super::*;
+use crate::rig::{Failing, RepeatingReader, ScriptedReader, ScriptedWriter};
+use std::alloc::{AllocError, Global};
+use std::io::Read;
+use std::test::Fail;
+use tds_meter::Area;
+
+// One packet of 39 bytes.
+const PACKET: [u8; 39] = [
+    0x04, 0x01, 0x00, 0x27, 0x00, 0x00, 0x01, 0x00, 0x81, 0x01, 0x00, 0x00, 0x00, 0x00, 0x00, 0x08,
+    0x00, 0x38, 0x01, 0x61, 0x00, 0xD1, 0x2A, 0x00, 0x00, 0x00, 0xFD, 0x10, 0x00, 0xC1, 0x00, 0x01,
+    0x00, 0x00, 0x00, 0x00, 0x00, 0x00, 0x00,
+];
+
+// A packet with no body that isn't the last.
+const EMPTY: [u8; 8] = [0x04, 0x00, 0x00, 0x08, 0x00, 0x00, 0x01, 0x00];
+
+// How a payload is read to its end.
+#[derive(Debug, Clone, Copy)]
+enum By {
+    Next,
+    Fill,
+    Piece,
+}
+
+// What came of a payload.
+#[derive(Debug, Drop)]
+struct Outcome {
+    bytes: Vec<u8>,
+    stop: Option<Stop>,
+    place: u64,
+    // each call after the stop answered the same stop
+    again: bool,
+}
+
+const fn at_wire(fault: Fault, place: u64) -> Option<Stop> {
+    Some(Stop {
+        fault,
+        place: Place::Wire(place),
+    })
+}
+
+// The packet's payload in packets of one byte each, with an empty one before each but the first.
+fn in_single_bytes(alloc: Global, empty: bool) -> Result<Vec<u8>, AllocError> {
+    let mut wire = Vec::new(alloc);
+    for (i, byte) in PACKET[8..].iter().enumerate() {
+        if empty && i > 0 {
+            wire.extend_from_slice(&EMPTY)?;
+        }
+        let status = if i == 30 { 0x01 } else { 0x00 };
+        wire.extend_from_slice(&[0x04, status, 0x00, 0x09, 0x00, 0x00, 0x01, 0x00, *byte])?;
+    }
+    Ok(wire)
+}
+
+// Reads to the stop, and no more than 100 calls.
+fn drain<R: Read>(
+    payload: &mut Payload<'_, R>,
+    by: By,
+    bytes: &mut Vec<u8>,
+) -> Result<Option<Stop>, AllocError>
+    requires { IsSound payload.old }
+    ensures { IsSound payload.new }
+{
+    for _ in 0..100 {
+        match by {
+            By::Next => match payload.next() {
+                Ok(byte) => bytes.push(byte)?,
+                Err(stop) => return Ok(Some(stop)),
+            },
+            By::Fill => {
+                let mut part = [0; 4];
+                match payload.fill(&mut part) {
+                    Ok(()) => bytes.extend_from_slice(&part)?,
+                    Err(stop) => return Ok(Some(stop)),
+                }
+            }
+            By::Piece => match payload.piece(3) {
+                Ok(part) => bytes.extend_from_slice(part)?,
+                Err(stop) => return Ok(Some(stop)),
+            },
+        }
+    }
+    Ok(None)
+}
+
+// Each call answers this stop.
+fn stays_stopped<R: Read>(payload: &mut Payload<'_, R>, stop: Stop) -> bool
+    requires { IsSound payload.old }
+    ensures { IsSound payload.new }
+{
+    payload.next() == Err(stop)
+        && payload.at_end() == Err(stop)
+        && payload.fill(&mut [0; 2]) == Err(stop)
+        && payload.lying().is_empty()
+        && payload.piece(1).err() == Some(stop)
+}
+
+fn read<R: Read>(
+    alloc: Global,
+    by: By,
+    from: &mut Counted<R>,
+    max_wire: u64,
+) -> Result<Outcome, Fail>
+    requires { max_wire ≤ 72057594037927936 }
+{
+    let mut area = Area::new(alloc, 512)?;
+    let mut bytes = Vec::new(alloc);
+    let mut payload = Payload::new(from, &mut area, max_wire);
+    let stop = drain(&mut payload, by, &mut bytes)?;
+    let place = payload.place();
+    let again = match stop {
+        Some(stop) => stays_stopped(&mut payload, stop),
+        None => false,
+    };
+    Ok(Outcome {
+        bytes,
+        stop,
+        place,
+        again,
+    })
+}
+
+#[test]
+fn faults_have_numbers(rt: HostRuntime) {
+    let column = 7;
+    let index = 7;
+    let kind = RefusedKind::Xml;
+    for (fault, number) in [
+        (Fault::NotYet, 0),
+        (Fault::ReadFailed, 1),
+        (Fault::InputEnded, 2),
+        (Fault::WrongPacketType(3), 3),
+        (Fault::BadPacketLength(7), 4),
+        (Fault::ResponseTooLong, 5),
+        (Fault::RefusedToken(1), 6),
+        (Fault::MessageEnded, 7),
+        (Fault::EndWithoutDone, 8),
+        (Fault::NoColumns, 9),
+        (Fault::RefusedColumn { index, kind }, 10),
+        (Fault::UnknownType { index, byte: 1 }, 11),
+        (Fault::BadTypeInfo { index }, 12),
+        (Fault::DescriptionTooLong, 13),
+        (Fault::RowWithoutColumns, 14),
+        (Fault::BadValueLength { column }, 15),
+        (Fault::BadValue { column }, 16),
+        (Fault::OddText { column }, 17),
+        (Fault::PlpLength { column }, 18),
+        (Fault::BadNotice, 19),
+        (Fault::WriteFailed, 20),
+        (Fault::BadText { column }, 21),
+    ] {
+        assert_eq!(rt; fault.number(), number, "{fault:?}");
+    }
+}
+
+#[test]
+fn bytes_are_delivered(rt: HostRuntime) {
+    let text = b"delivered";
+    for (most, failing, answer, failures, writes) in [
+        (1, Failing::Never, Ok(()), 0, 9),
+        (4, Failing::Never, Ok(()), 0, 3),
+        (2, Failing::AfterBytes(5), Err(5), 1, 4),
+        (2, Failing::ZeroAfterBytes(5), Err(5), 1, 4),
+        (4, Failing::AfterBytes(0), Err(0), 1, 1),
+        (4, Failing::AtWrite(1), Err(4), 1, 2),
+        (4, Failing::InFlush, Ok(()), 0, 3),
+    ] {
+        let mut to = Counted::new(ScriptedWriter::new(most, failing));
+        assert_eq!(rt; to.deliver(text), answer, "{failing:?}");
+        assert_eq!(rt; to.failures(), failures, "{failing:?}");
+        assert_eq!(rt; to.device().writes(), writes, "{failing:?}");
+        let taken = match answer {
+            Ok(()) => 9,
+            Err(k) => k,
+        };
+        assert_eq!(rt; to.device().taken(), taken, "{failing:?}");
+        assert_eq!(rt; Some(to.device().kept()), text.get(..taken), "{failing:?}");
+        let flushed = failing != Failing::InFlush;
+        assert_eq!(rt; to.flush(), flushed, "{failing:?}");
+        assert_eq!(rt;
+            to.failures(),
+            if flushed { failures } else { 1 },
+            "{failing:?}"
+        );
+        assert_eq!(rt; to.into_device().flushes(), 1, "{failing:?}");
+    }
+}
+
+#[test]
+fn packets_of_one_byte_are_joined(rt: HostRuntime) -> Result<(), Fail> {
+    let alloc = rt.alloc();
+    for (by, length, place) in [(By::Next, 31, 31), (By::Fill, 28, 28), (By::Piece, 31, 31)] {
+        for empty in [false, true] {
+            for most in [1, 5, 1000] {
+                let wire = in_single_bytes(alloc, empty)?;
+                let mut from = Counted::new(ScriptedReader::new(&wire, most));
+                let out = read(alloc, by, &mut from, 72057594037927936)?;
+                assert_eq!(rt;
+                    Some(out.bytes.as_slice()),
+                    PACKET[8..].get(..length),
+                    "{by:?}"
+                );
+                let stop = Stop {
+                    fault: Fault::MessageEnded,
+                    place: Place::Payload(place),
+                };
+                assert_eq!(rt; out.stop, Some(stop), "{by:?}");
+                assert_eq!(rt; out.place, place, "{by:?}");
+                assert!(rt; out.again, "{by:?}");
+                assert_eq!(rt; from.failures(), 0, "{by:?}");
+            }
+        }
+    }
+    Ok(())
+}
+
+#[test]
+fn packets_are_judged(rt: HostRuntime) -> Result<(), Fail> {
+    let alloc = rt.alloc();
+    let ended = Some(Stop {
+        fault: Fault::MessageEnded,
+        place: Place::Payload(31),
+    });
+    for (at, byte, max_wire, handed, stop, left) in [
+        (0, 0x04, 39, 31, ended, 0),
+        (0, 0x04, 38, 0, at_wire(Fault::ResponseTooLong, 0), 31),
+        (0, 0x03, 39, 0, at_wire(Fault::WrongPacketType(3), 0), 31),
+        (3, 0x07, 39, 0, at_wire(Fault::BadPacketLength(7), 0), 31),
+        (
+            2,
+            0x02,
+            39,
+            0,
+            at_wire(Fault::BadPacketLength(0x227), 0),
+            31,
+        ),
+        (3, 0x28, 40, 0, at_wire(Fault::InputEnded, 0), 0),
+    ] {
+        let mut wire = PACKET;
+        wire[at] = byte;
+        let mut from = Counted::new(ScriptedReader::new(&wire, 10));
+        let out = read(alloc, By::Next, &mut from, max_wire)?;
+        assert_eq!(rt; out.stop, stop);
+        assert_eq!(rt; out.bytes.len(), handed);
+        assert_eq!(rt; out.place, handed as u64);
+        assert!(rt; out.again);
+        assert_eq!(rt; from.device().left().len(), left);
+        assert_eq!(rt; from.failures(), 0);
+    }
+    Ok(())
+}
+
+#[test]
+fn a_length_above_the_packet_size_is_refused(rt: HostRuntime) -> Result<(), Fail> {
+    let mut wire = [0; 513];
+    wire[..8].copy_from_slice(&[0x04, 0x01, 0x02, 0x01, 0x00, 0x00, 0x01, 0x00]);
+    let mut from = Counted::new(ScriptedReader::new(&wire, 1000));
+    let out = read(rt.alloc(), By::Piece, &mut from, 1000)?;
+    assert_eq!(rt; out.stop, at_wire(Fault::BadPacketLength(513), 0));
+    assert!(rt; out.again);
+    Ok(())
+}
+
+#[test]
+fn nothing_of_a_cut_packet_is_handed_out(rt: HostRuntime) -> Result<(), Fail> {
+    for by in [By::Next, By::Fill, By::Piece] {
+        let mut from = Counted::new(ScriptedReader::new(&PACKET[..38], 1000));
+        let out = read(rt.alloc(), by, &mut from, 1000)?;
+        assert_eq!(rt; out.stop, at_wire(Fault::InputEnded, 0), "{by:?}");
+        assert!(rt; out.bytes.is_empty() && out.again, "{by:?}");
+        assert_eq!(rt; from.device().left().len(), 0, "{by:?}");
+    }
+    Ok(())
+}
+
+#[test]
+fn nothing_behind_the_last_packet_is_read(rt: HostRuntime) -> Result<(), Fail> {
+    let mut wire = PACKET.to_vec(rt.alloc())?;
+    wire.push(0xFF)?;
+    let mut from = Counted::new(ScriptedReader::new(&wire, 1000));
+    let mut area = Area::new(rt.alloc(), 512)?;
+    let mut payload = Payload::new(&mut from, &mut area, 1000);
+    let mut bytes = [0; 31];
+    assert_eq!(rt; payload.fill(&mut bytes), Ok(()));
+    assert_eq!(rt; bytes.as_slice(), &PACKET[8..]);
+    assert_eq!(rt; payload.at_end(), Ok(true));
+    assert_eq!(rt; payload.place(), 31);
+    assert_eq!(rt; from.device().left(), [0xFF].as_slice());
+    Ok(())
+}
+
+#[test]
+fn a_piece_lies_at_the_front(rt: HostRuntime) -> Result<(), Fail> {
+    let mut from = Counted::new(ScriptedReader::new(&PACKET, 1000));
+    let mut area = Area::new(rt.alloc(), 512)?;
+    let mut payload = Payload::new(&mut from, &mut area, 1000);
+    assert_eq!(rt; payload.at_end(), Ok(false));
+    let n = match payload.piece(4) {
+        Ok(piece) => {
+            assert!(rt; !piece.is_empty() && piece.len() <= 4);
+            assert!(rt; PACKET[8..].starts_with(piece));
+            piece.len()
+        }
+        Err(_) => 0,
+    };
+    assert_eq!(rt; payload.place(), n as u64);
+    assert_eq!(rt; Some(payload.lying()), PACKET[8..].get(n..));
+    let more = payload.lying().len();
+    payload.pass(more);
+    assert_eq!(rt; payload.place(), 31);
+    assert_eq!(rt; payload.at_end(), Ok(true));
+    Ok(())
+}
+
+#[test]
+fn a_failed_read_stops_behind_whole_packets(rt: HostRuntime) -> Result<(), Fail> {
+    let alloc = rt.alloc();
+    let wire = in_single_bytes(alloc, false)?;
+    for (fails_at, whole) in [(0, 0), (8, 0), (9, 1), (100, 11), (278, 30)] {
+        let mut from = Counted::new(ScriptedReader::failing(&wire, 4, fails_at));
+        let out = read(alloc, By::Next, &mut from, 1000)?;
+        assert_eq!(rt;
+            out.stop,
+            at_wire(Fault::ReadFailed, 9 * whole),
+            "{fails_at}"
+        );
+        assert_eq!(rt; out.place, whole, "{fails_at}");
+        assert!(rt; out.again, "{fails_at}");
+        assert_eq!(rt; from.failures(), 1, "{fails_at}");
+    }
+    Ok(())
+}
+
+#[test]
+fn empty_packets_end_at_the_limit(rt: HostRuntime) -> Result<(), Fail> {
+    let reader = RepeatingReader::new(&EMPTY, &EMPTY, 1_000_000, &PACKET);
+    let mut from = Counted::new(reader);
+    let out = read(rt.alloc(), By::Next, &mut from, 4096)?;
+    assert_eq!(rt; out.stop, at_wire(Fault::ResponseTooLong, 4096));
+    assert!(rt; out.bytes.is_empty() && out.again);
+    let reader = RepeatingReader::new(&EMPTY, &EMPTY, 40, &PACKET);
+    let mut from = Counted::new(reader);
+    let out = read(rt.alloc(), By::Next, &mut from, 4096)?;
+    assert_eq!(rt; out.bytes.as_slice(), &PACKET[8..]);
+    Ok(())
+}

@@ -1,0 +1,13 @@
+pub mod CalendarLemmas
+pub mod DigitLemmas
+pub mod HexLemmas
+pub mod JiffDates
+pub mod Joining
+pub mod LocalLemmas
+pub mod LocalSizes
+pub mod Rows
+pub mod TableLemmas
+pub mod TextLengths
+pub mod TypeInfoLemmas
+pub mod WordLemmas
+pub mod WrittenLemmas

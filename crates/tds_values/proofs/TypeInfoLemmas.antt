@@ -1,0 +1,83 @@
+-- The type byte decides how many bytes a TYPE_INFO has, so none begins another, and each describes one kind.
+use Rattle.std.proofs.Common.{◌≡◌, ℕ, true, false, cond, nat_eq, List, [], ◌∷◌, ◌++◌, length, take, Option, Some, None, refl, sym, ap, subst, ◌∙◌, arith}
+use Rattle.std.specs.Prelude.{option_and_then, ◌==◌, ◌||◌, Bool}
+use Rattle.std.proofs.lemmas.Bool.Decides.{nat_tests}
+use Rattle.std.proofs.lemmas.List.{take_at}
+use Rattle.tds_values.specs.declared.kind.Kind.{Kind}
+use Rattle.tds_values.specs.declared.kind.Kind.TheVariants as kinds
+use Rattle.tds_values.specs.Kind.{is_valid}
+use Rattle.tds_values.specs.TypeInfo.{is_decimal_type, rest_length, named_kind, valid_kind, kind_after, kind_of, IsTypeInfo}
+
+valid_some : (k j : Kind) → valid_kind j ≡ Some k → is_valid k ≡ true
+valid_some k j h =
+    elim (is_valid j) as (λ t. is_valid j ≡ t → cond t (Some j) None ≡ Some k → is_valid k ≡ true)
+    [ true ↦ λ e h. let same : j ≡ k = cc in subst (λ i. is_valid i ≡ true) same e | false ↦ λ e h. cc ] refl h
+
+and_then_valid : (k : Kind) (o : Option Kind) → option_and_then valid_kind o ≡ Some k → is_valid k ≡ true
+and_then_valid k None h = cc
+and_then_valid k (Some j) h = valid_some k j h
+
+after_some : (k : Kind) (b : ℕ) (rest : List ℕ) (o : Option ℕ) → kind_after b rest o ≡ Some k → (o ≡ Some (length rest)) × (is_valid k ≡ true)
+after_some k b rest None h = cc
+after_some k b rest (Some n) h =
+    elim (nat_eq (length rest) n) as (λ t. nat_eq (length rest) n ≡ t → cond t (option_and_then valid_kind (named_kind b rest)) None ≡ Some k
+    → (Some n ≡ Some (length rest)) × (is_valid k ≡ true))
+    [ true ↦ λ e h. (let same : n ≡ length rest = equal n (length rest) e in ap Some same, and_then_valid k (named_kind b rest) h) | false ↦ λ e h. cc ] refl h
+  where
+    equal : (n m : ℕ) → nat_eq m n ≡ true → n ≡ m
+    equal n m e = grind (arith, nat_tests)
+
+-- the numbers of a TYPE_INFO are allowed
+pub valid_of : (k : Kind) (bytes : List ℕ) → IsTypeInfo k bytes → is_valid k ≡ true
+valid_of k [] h = cc
+valid_of k (b ∷ rest) h = (after_some k b rest (rest_length b) h).1
+
+-- the type byte decides the length
+pub rest_length_of : (k : Kind) (b : ℕ) (rest : List ℕ) → IsTypeInfo k (b ∷ rest) → rest_length b ≡ Some (length rest)
+rest_length_of k b rest h = (after_some k b rest (rest_length b) h).0
+
+same_start : (p q x y : List ℕ) → length p ≡ length q → p ++ x ≡ q ++ y → p ≡ q
+same_start p q x y n e = sym (take_at p x (length p) refl) ∙ ap (take (length p)) e ∙ take_at q y (length p) (sym n)
+
+-- no TYPE_INFO begins another
+pub one_type_info : (k j : Kind) (a c x y : List ℕ) → IsTypeInfo k a → IsTypeInfo j c → a ++ x ≡ c ++ y → (a ≡ c) × (k ≡ j)
+one_type_info k j [] c x y h g e = cc
+one_type_info k j (b ∷ p) [] x y h g e = cc
+one_type_info k j (b ∷ p) (d ∷ q) x y h g e =
+    let byte : b ≡ d = cc in
+    let tail : p ++ x ≡ q ++ y = cc in
+    let lengths : Some (length p) ≡ Some (length q) = sym (rest_length_of k b p h) ∙ ap rest_length byte ∙ rest_length_of j d q g in
+    let long : length p ≡ length q = cc in
+    let same : p ≡ q = same_start p q x y long tail in
+    let bytes : b ∷ p ≡ d ∷ q = λ i. byte i ∷ same i in
+    let kinds : Some k ≡ Some j = sym h ∙ ap kind_of bytes ∙ g in
+    (bytes, cc)
+
+-- what follows the other type bytes isn't nothing
+some_rest : (p q r s : Bool) → cond {A = Option ℕ} p (Some 1) (cond {A = Option ℕ} q (Some 3) (cond {A = Option ℕ} r (Some 2) (cond {A = Option ℕ} s (Some 7) None))) ≡ Some 0 → ⊥
+some_rest true q r s h = cc
+some_rest false true r s h = cc
+some_rest false false true s h = cc
+some_rest false false false true h = cc
+some_rest false false false false h = cc
+
+bare_cases : (a b c d e f g h i j : Bool) (o : Option ℕ) → (o ≡ Some 0 → ⊥) → cond (a || b || c || d || e || f || g || h || i || j) (Some 0) o ≡ Some 0 → (k : Kind) × (option_and_then valid_kind (cond a (Some kinds.Int1) (cond b (Some kinds.Bit) (cond c (Some kinds.Int2) (cond d (Some kinds.Int4) (cond e (Some kinds.Int8) (cond f (Some kinds.DateTime4) (cond g (Some kinds.DateTime8) (cond h (Some kinds.Money4) (cond i (Some kinds.Money8) (cond j (Some kinds.Date) (None))))))))))) ≡ Some k)
+bare_cases true b c d e f g h i j o m z = (kinds.Int1, refl)
+bare_cases false true c d e f g h i j o m z = (kinds.Bit, refl)
+bare_cases false false true d e f g h i j o m z = (kinds.Int2, refl)
+bare_cases false false false true e f g h i j o m z = (kinds.Int4, refl)
+bare_cases false false false false true f g h i j o m z = (kinds.Int8, refl)
+bare_cases false false false false false true g h i j o m z = (kinds.DateTime4, refl)
+bare_cases false false false false false false true h i j o m z = (kinds.DateTime8, refl)
+bare_cases false false false false false false false true i j o m z = (kinds.Money4, refl)
+bare_cases false false false false false false false false true j o m z = (kinds.Money8, refl)
+bare_cases false false false false false false false false false true o m z = (kinds.Date, refl)
+bare_cases false false false false false false false false false false o m z = absurd (m z)
+
+-- a type byte after which nothing follows describes a kind
+pub bare_type : (byte : ℕ) → rest_length byte ≡ Some 0 → (k : Kind) × (kind_of (byte ∷ []) ≡ Some k)
+unfolding rest_length named_kind
+bare_type byte h =
+    let p = (byte == 0x24 || byte == 0x26 || byte == 0x68 || byte == 0x6E || byte == 0x6F || byte == 0x29 || byte == 0x2A || byte == 0x2B) in let q = (is_decimal_type byte) in let r = (byte == 0xA5 || byte == 0xAD) in let s = (byte == 0xA7 || byte == 0xAF || byte == 0xE7 || byte == 0xEF) in
+    let found = bare_cases (byte == 0x30) (byte == 0x32) (byte == 0x34) (byte == 0x38) (byte == 0x7F) (byte == 0x3A) (byte == 0x3D) (byte == 0x7A) (byte == 0x3C) (byte == 0x28) (cond {A = Option ℕ} p (Some 1) (cond {A = Option ℕ} q (Some 3) (cond {A = Option ℕ} r (Some 2) (cond {A = Option ℕ} s (Some 7) None)))) (some_rest p q r s) h in
+    (found.0, ap (λ o. kind_after byte [] o) h ∙ found.1)

@@ -1,0 +1,55 @@
+-- Digits as the bytes of one number.
+use Rattle.std.proofs.Common.{◌≡◌, ℕ, zero, suc, ◌+◌, ◌*◌, ◌/◌, ◌%◌, ◌^◌, ◌<◌, List, [], ◌∷◌, ◌++◌, refl, sym, ap, ◌∙◌, arith, take, length}
+use Rattle.std.proofs.Math.Nat.{pow-succ', div-div-eq-div-mul}
+use Rattle.tds_values.specs.ScalarText.{last_digits}
+use Rattle.tds_values.specs.Words.{word_of, bytes_of}
+use Rattle.tds_values.proofs.DigitLemmas.{last_digits-add}
+use Rattle.tds_values.proofs.TextLengths.{length-last_digits}
+
+-- each number is a byte
+abbrev pub AreBytes : List ℕ → Type 0
+AreBytes [] = Unit {0}
+AreBytes (b ∷ bytes) = (b < 256) × AreBytes bytes
+
+bytes-append : (xs ys : List ℕ) → AreBytes xs → AreBytes ys → AreBytes (xs ++ ys)
+bytes-append [] ys h g = g
+bytes-append (x ∷ xs) ys h g = (h.0, bytes-append xs ys h.1 g)
+
+digits_are_bytes : (k n : ℕ) → AreBytes (last_digits k n)
+digits_are_bytes zero n = tt
+digits_are_bytes (suc k) n = bytes-append (last_digits k (n / 10)) ((48 + n % 10) ∷ []) (digits_are_bytes k (n / 10)) (omega arith, tt)
+
+-- the low bytes of a number give back what it was made of
+bytes_of-word_of : (xs : List ℕ) → AreBytes xs → bytes_of (length xs) (word_of xs) ≡ xs
+bytes_of-word_of [] h = refl
+bytes_of-word_of (x ∷ xs) h =
+    let b = h.0 in
+    let low : (x + 256 * word_of xs) % 256 ≡ x = omega arith in
+    let high : (x + 256 * word_of xs) / 256 ≡ word_of xs = omega arith in
+    (λ i. low i ∷ bytes_of (length xs) (high i)) ∙ ap (λ t. x ∷ t) (bytes_of-word_of xs h.1)
+
+-- a shift takes the first bytes away
+word_of-shift : (xs ys : List ℕ) → AreBytes xs → word_of (xs ++ ys) / 256 ^ length xs ≡ word_of ys
+word_of-shift [] ys h = let e : word_of ys / 1 ≡ word_of ys = omega arith in e
+word_of-shift (x ∷ xs) ys h =
+    let b = h.0 in
+    let high : (x + 256 * word_of (xs ++ ys)) / 256 ≡ word_of (xs ++ ys) = omega arith in
+    ap (λ p. (x + 256 * word_of (xs ++ ys)) / p) (pow-succ' 256 (length xs)) ∙ sym (div-div-eq-div-mul (x + 256 * word_of (xs ++ ys)) 256 (256 ^ length xs))
+    ∙ ap (λ m. m / 256 ^ length xs) high ∙ word_of-shift xs ys h.1
+
+-- of a digits in a word, a shift leaves the last k
+pub shifted_digits : (a k n : ℕ) → bytes_of k (word_of (last_digits (a + k) n) / 256 ^ a) ≡ last_digits k n
+shifted_digits a k n =
+    let first = last_digits a (n / 10 ^ k) in
+    let last = last_digits k n in
+    ap (λ t. bytes_of k (word_of t / 256 ^ a)) (last_digits-add a k n)
+    ∙ ap (λ m. bytes_of k (word_of (first ++ last) / 256 ^ m)) (sym (length-last_digits a (n / 10 ^ k)))
+    ∙ ap (bytes_of k) (word_of-shift first last (digits_are_bytes a (n / 10 ^ k)))
+    ∙ ap (λ m. bytes_of m (word_of last)) (sym (length-last_digits k n))
+    ∙ bytes_of-word_of last (digits_are_bytes k n)
+
+pub take-bytes_of : (k j w : ℕ) → take k (bytes_of (k + j) w) ≡ bytes_of k w
+take-bytes_of zero j w = refl
+take-bytes_of (suc k) j w =
+    let e : suc k + j ≡ suc (k + j) = omega arith in
+    ap (λ m. take (suc k) (bytes_of m w)) e ∙ ap (λ t. w % 256 ∷ t) (take-bytes_of k j (w / 256))

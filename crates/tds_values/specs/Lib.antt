@@ -1,0 +1,12 @@
+pub mod Calendar
+pub mod Hex
+pub mod Kind
+pub mod LocalTime
+pub mod Numbers
+pub mod Scalar
+pub mod ScalarRange
+pub mod ScalarText
+pub mod TimeOfDay
+pub mod TypeInfo
+pub mod Words
+pub mod Written

@@ -1,0 +1,16 @@
+-- The text of a value in the front of a slice.
+use Rattle.std.specs.Prelude.{◌≡◌, ℕ, ◌≤◌, List, take, Result, Ok, Err}
+use Rattle.tds_values.specs.declared.scalar.ScalarValue.{ScalarValue}
+use Rattle.tds_values.specs.declared.scalar.ValueFault.{ValueFault}
+use Rattle.tds_values.specs.ScalarText.{text_of}
+
+-- the first n bytes are the text of the value, and at most 41
+abbrev pub IsText : ScalarValue → ℕ → List ℕ → Type 0
+IsText value n bytes = (take n bytes ≡ text_of value) × (n ≤ 41)
+
+-- what was read is written, or its fault is answered
+abbrev pub IsWritten : Result ScalarValue ValueFault → Result ℕ ValueFault → List ℕ → Type 0
+IsWritten (Ok value) (Ok n) bytes = IsText value n bytes
+IsWritten (Err fault) (Err answer) bytes = answer ≡ fault
+IsWritten (Ok value) (Err answer) bytes = ⊥
+IsWritten (Err fault) (Ok n) bytes = ⊥

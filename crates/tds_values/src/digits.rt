@@ -1,0 +1,156 @@
+// Digits and other bytes, written to a slice from a place on. Each call answers the place behind what it wrote.
+ghost use Rattle.std.specs.Prelude.{◌≡◌, ◌+◌, ◌-◌, ◌<◌, ◌≤◌, ◌^◌, ◌/◌, ◌*◌, [], ◌∷◌, ◌++◌, ◌⊎◌, take, length, decimal};
+ghost use Rattle.tds_values.specs.ScalarText.{last_digits, minus_if};
+ghost use Rattle.tds_values.specs.Words.{word_of, bytes_of};
+
+// The two digits of each number below 100.
+static PAIRS: [u8; 200] =
+    *b"00010203040506070809101112131415161718192021222324252627282930313233343536373839404142434445464748495051525354555657585960616263646566676869707172737475767778798081828384858687888990919293949596979899";
+
+// The same as numbers of two bytes, the first digit in the low one.
+static WORDS: [u16; 100] = [
+    12336, 12592, 12848, 13104, 13360, 13616, 13872, 14128, 14384, 14640, 12337, 12593, 12849,
+    13105, 13361, 13617, 13873, 14129, 14385, 14641, 12338, 12594, 12850, 13106, 13362, 13618,
+    13874, 14130, 14386, 14642, 12339, 12595, 12851, 13107, 13363, 13619, 13875, 14131, 14387,
+    14643, 12340, 12596, 12852, 13108, 13364, 13620, 13876, 14132, 14388, 14644, 12341, 12597,
+    12853, 13109, 13365, 13621, 13877, 14133, 14389, 14645, 12342, 12598, 12854, 13110, 13366,
+    13622, 13878, 14134, 14390, 14646, 12343, 12599, 12855, 13111, 13367, 13623, 13879, 14135,
+    14391, 14647, 12344, 12600, 12856, 13112, 13368, 13624, 13880, 14136, 14392, 14648, 12345,
+    12601, 12857, 13113, 13369, 13625, 13881, 14137, 14393, 14649,
+];
+
+#[inline(always)]
+pub(crate) fn put_byte(to: &mut [u8], at: usize, byte: u8) -> usize
+    requires { at < length to.old }
+    ensures end { result ≡ at + 1 }
+    ensures written { take result to.new ≡ take at to.old ++ byte ∷ [] }
+{
+    to[at] = byte;
+    at + 1
+}
+
+// The sign, where a number is negative.
+#[inline(always)]
+pub(crate) fn put_minus(to: &mut [u8], at: usize, negative: bool) -> usize
+    requires { at < length to.old }
+    ensures end { result ≤ at + 1 }
+    ensures written { take result to.new ≡ take at to.old ++ minus_if negative }
+{
+    to[at] = b'-';
+    at + negative as usize
+}
+
+// Two digits.
+#[inline(always)]
+pub(crate) fn put_two(to: &mut [u8], at: usize, n: u32) -> usize
+    requires room { at + 2 ≤ length to.old }
+    requires small { n < 100 }
+    ensures end { result ≡ at + 2 }
+    ensures written { take result to.new ≡ take at to.old ++ last_digits 2 n }
+{
+    let k = n as usize * 2;
+    let at = put_byte(to, at, PAIRS[k]);
+    put_byte(to, at, PAIRS[k + 1])
+}
+
+// Two digits as one number, the first digit in its low byte.
+#[inline(always)]
+fn pair(n: u32) -> u64
+    requires { n < 100 }
+    ensures { result ≡ word_of (last_digits 2 n) }
+{
+    WORDS[n as usize] as u64
+}
+
+// Eight digits as one number, the first digit in its lowest byte.
+#[inline(always)]
+fn word(n: u32) -> u64
+    requires { n < 100000000 }
+    ensures { result ≡ word_of (last_digits 8 n) }
+{
+    let high = n / 10000;
+    let low = n % 10000;
+    pair(high / 100)
+        + pair(high % 100) * 0x1_0000
+        + pair(low / 100) * 0x1_0000_0000
+        + pair(low % 100) * 0x1_0000_0000_0000
+}
+
+// The eight bytes of a number, the lowest first.
+#[inline(always)]
+fn put_word(to: &mut [u8], at: usize, word: u64) -> usize
+    requires { at + 8 ≤ length to.old }
+    ensures end { result ≡ at + 8 }
+    ensures written { take result to.new ≡ take at to.old ++ bytes_of 8 word }
+{
+    let at = put_byte(to, at, (word % 256) as u8);
+    let at = put_byte(to, at, (word / 0x100 % 256) as u8);
+    let at = put_byte(to, at, (word / 0x1_0000 % 256) as u8);
+    let at = put_byte(to, at, (word / 0x100_0000 % 256) as u8);
+    let at = put_byte(to, at, (word / 0x1_0000_0000 % 256) as u8);
+    let at = put_byte(to, at, (word / 0x100_0000_0000 % 256) as u8);
+    let at = put_byte(to, at, (word / 0x1_0000_0000_0000 % 256) as u8);
+    put_byte(to, at, (word / 0x100_0000_0000_0000 % 256) as u8)
+}
+
+// The last k digits of eight.
+#[inline(always)]
+pub(crate) fn put_tail(to: &mut [u8], at: usize, k: usize, n: u32) -> usize
+    requires room { at + 8 ≤ length to.old }
+    requires some { 1 ≤ k }
+    requires few { k ≤ 8 }
+    requires small { n < 100000000 }
+    ensures end { result ≡ at + k }
+    ensures written { take result to.new ≡ take at to.old ++ last_digits k n }
+{
+    put_word(to, at, word(n) >> (8 * (8 - k) as u32));
+    at + k
+}
+
+// How many of eight digits are needed.
+#[inline(always)]
+fn needed(n: u32) -> usize
+    requires { n < 100000000 }
+    ensures low { 1 ≤ result }
+    ensures high { result ≤ 8 }
+    ensures fits { n < 10 ^ result }
+    ensures needed { (result ≡ 1) ⊎ (10 ^ (result - 1) ≤ n) }
+{
+    let large = n >= 10000;
+    let four = if large { n / 10000 } else { n };
+    let wide = four >= 100;
+    let two = if wide { four / 100 } else { four };
+    1 + 4 * large as usize + 2 * wide as usize + (two >= 10) as usize
+}
+
+// A number of at most eight digits.
+#[inline(always)]
+fn put_short(to: &mut [u8], at: usize, n: u32) -> usize
+    requires room { at + 8 ≤ length to.old }
+    requires small { n < 100000000 }
+    ensures end { result ≤ at + 8 }
+    ensures written { take result to.new ≡ take at to.old ++ decimal n }
+{
+    put_tail(to, at, needed(n), n)
+}
+
+// A number without needless zeros.
+#[inline(always)]
+pub(crate) fn put_number(to: &mut [u8], at: usize, n: u64) -> usize
+    requires { at + 24 ≤ length to.old }
+    ensures end { result ≤ at + 24 }
+    ensures written { take result to.new ≡ take at to.old ++ decimal n }
+{
+    if n < 100000000 {
+        return put_short(to, at, n as u32);
+    }
+    let low = (n % 100000000) as u32;
+    if n < 10000000000000000 {
+        let at = put_short(to, at, (n / 100000000) as u32);
+        return put_tail(to, at, 8, low);
+    }
+    let middle = (n / 100000000 % 100000000) as u32;
+    let at = put_short(to, at, (n / 10000000000000000) as u32);
+    let at = put_tail(to, at, 8, middle);
+    put_tail(to, at, 8, low)
+}

@@ -1,0 +1,20 @@
+//! The kinds of column of a TDS 7.4 result, and the values and texts of the scalar kinds.
+#![tactic(auto)]
+
+mod digits;
+mod guid;
+mod kind;
+mod laws;
+mod moments;
+mod numbers;
+mod scalar;
+#[cfg(test)]
+mod tests;
+mod text;
+mod write;
+
+pub use kind::{Kind, Reach};
+pub use laws::{one_date, one_type_info, short_texts};
+pub use scalar::{Scalar, ScalarValue, ValueFault, read_scalar};
+pub use text::{ScalarText, scalar_text};
+pub use write::write_scalar;

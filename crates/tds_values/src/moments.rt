@@ -1,0 +1,136 @@
+// The texts of dates and times, written to a slice from a place on.
+ghost use Rattle.std.specs.Prelude.{◌≡◌, ◌+◌, ◌*◌, ◌/◌, ◌<◌, ◌≤◌, ◌^◌, ◌++◌, take, length, codes, unsigned_abs};
+ghost use Rattle.tds_values.specs.ScalarText.{date_text, seconds_text, minutes_text, fraction_text, time_text, ticks_text, offset_text, date_and_time};
+
+use crate::digits::{put_byte, put_tail, put_two};
+use jiff_core::civil::Date;
+
+// YYYY-MM-DD.
+#[inline(always)]
+pub(crate) fn put_date(to: &mut [u8], at: usize, day: u32) -> usize
+    requires room { at + 10 ≤ length to.old }
+    requires day { day ≤ 3652058 }
+    ensures end { result ≡ at + 10 }
+    ensures written { take result to.new ≡ take at to.old ++ date_text day }
+{
+    let date = Date::from_days_since_min(day + 3652425);
+    let year = date.year.unsigned_abs() as u32;
+    let at = put_two(to, at, year / 100);
+    let at = put_two(to, at, year % 100);
+    let at = put_byte(to, at, b'-');
+    let at = put_two(to, at, date.month as u32);
+    let at = put_byte(to, at, b'-');
+    put_two(to, at, date.day as u32)
+}
+
+// HH:MM.
+#[inline(always)]
+fn put_minutes(to: &mut [u8], at: usize, minutes: u32) -> usize
+    requires room { at + 5 ≤ length to.old }
+    requires day { minutes < 1440 }
+    ensures end { result ≡ at + 5 }
+    ensures written { take result to.new ≡ take at to.old ++ minutes_text minutes }
+{
+    let at = put_two(to, at, minutes / 60);
+    let at = put_byte(to, at, b':');
+    put_two(to, at, minutes % 60)
+}
+
+// HH:MM:SS.
+#[inline(always)]
+pub(crate) fn put_clock(to: &mut [u8], at: usize, seconds: u32) -> usize
+    requires room { at + 8 ≤ length to.old }
+    requires day { seconds < 86400 }
+    ensures end { result ≡ at + 8 }
+    ensures written { take result to.new ≡ take at to.old ++ seconds_text seconds }
+{
+    let at = put_minutes(to, at, seconds / 60);
+    let at = put_byte(to, at, b':');
+    put_two(to, at, seconds % 60)
+}
+
+// The whole seconds of a number of units of a scale.
+#[inline(always)]
+pub(crate) fn seconds_in(scale: u8, units: u64) -> u64
+    requires { scale ≤ 7 }
+    ensures { result ≡ units / 10 ^ scale }
+{
+    match scale {
+        0 => units,
+        1 => units / 10,
+        2 => units / 100,
+        3 => units / 1000,
+        4 => units / 10000,
+        5 => units / 100000,
+        6 => units / 1000000,
+        _ => units / 10000000,
+    }
+}
+
+// A point and the digits of a fraction of a second; nothing at scale 0.
+#[inline(always)]
+fn put_part(to: &mut [u8], at: usize, scale: u8, units: u64) -> usize
+    requires room { at + 9 ≤ length to.old }
+    requires scale { scale ≤ 7 }
+    ensures end { result ≤ at + 1 + scale }
+    ensures written { take result to.new ≡ take at to.old ++ fraction_text scale units }
+{
+    if scale == 0 {
+        return at;
+    }
+    let at = put_byte(to, at, b'.');
+    put_tail(to, at, scale as usize, (units % 100000000) as u32)
+}
+
+// The seconds since midnight and a fraction of one.
+#[inline(always)]
+pub(crate) fn put_time(to: &mut [u8], at: usize, seconds: u32, scale: u8, units: u64) -> usize
+    requires room { at + 17 ≤ length to.old }
+    requires day { seconds < 86400 }
+    requires scale { scale ≤ 7 }
+    ensures end { result ≤ at + 9 + scale }
+    ensures written { take result to.new ≡ take at to.old ++ (seconds_text seconds ++ fraction_text scale units) }
+{
+    let at = put_clock(to, at, seconds);
+    put_part(to, at, scale, units)
+}
+
+// A date and a time.
+#[inline(always)]
+pub(crate) fn put_moment(to: &mut [u8], day: u32, seconds: u32, scale: u8, units: u64) -> usize
+    requires room { 28 ≤ length to.old }
+    requires date { day ≤ 3652058 }
+    requires time { seconds < 86400 }
+    requires scale { scale ≤ 7 }
+    ensures end { result ≤ 20 + scale }
+    ensures written { take result to.new ≡ date_and_time day (seconds_text seconds ++ fraction_text scale units) }
+{
+    let at = put_date(to, 0, day);
+    let at = put_byte(to, at, b' ');
+    put_time(to, at, seconds, scale, units)
+}
+
+// HH:MM:SS.mmm of a number of 1/300 seconds.
+#[inline(always)]
+pub(crate) fn put_ticks(to: &mut [u8], at: usize, ticks: u32) -> usize
+    requires room { at + 17 ≤ length to.old }
+    requires day { ticks < 25920000 }
+    ensures end { result ≡ at + 12 }
+    ensures written { take result to.new ≡ take at to.old ++ ticks_text ticks }
+{
+    let at = put_clock(to, at, ticks / 300);
+    let at = put_byte(to, at, b'.');
+    put_tail(to, at, 3, (10 * (ticks % 300) + 1) / 3)
+}
+
+// +HH:MM or -HH:MM.
+#[inline(always)]
+pub(crate) fn put_offset(to: &mut [u8], at: usize, offset: i16) -> usize
+    requires room { at + 6 ≤ length to.old }
+    requires offset { unsigned_abs offset ≤ 840 }
+    ensures end { result ≡ at + 6 }
+    ensures written { take result to.new ≡ take at to.old ++ offset_text offset }
+{
+    let at = put_byte(to, at, if offset < 0 { b'-' } else { b'+' });
+    put_minutes(to, at, offset.unsigned_abs() as u32)
+}
