@@ -29,7 +29,7 @@ use Rattle.tds_export.specs.declared.report.Stopped.{Stopped}
 use Rattle.tds_export.specs.declared.standing.Standing.{Standing}
 use Rattle.tds_export.specs.Tokens.{Token, error_text, first_error, message_text, is_final, text}
 use Rattle.tds_export.specs.Response.{Accepted}
-use Rattle.tds_export.specs.Export.{AfterStop, Comes, IsKept, IsNeeded, Keeps, Packets, Reported, Reads, Run, Stops, StopsInText, grammar, report_of}
+use Rattle.tds_export.specs.Export.{AfterStop, Answer, Bounded, Comes, IsKept, IsNeeded, Keeps, Packets, Reported, Reads, Run, Stops, StopsInText, grammar, report_of}
 use Rattle.tds_export.specs.Built.{is_built}
 use Rattle.tds_export.specs.Reading.{Part, response, response_start, text_so_far}
 use Rattle.tds_export.specs.Running.{Completes, FailsAtEnd, Halts, HaltsReading, HaltsWriting, IsHolding, ReadsWhole, RunStops, Stalls, behind}
@@ -38,6 +38,9 @@ use Rattle.tds_export.proofs.Growth.{text_along}
 use Rattle.tds_export.proofs.GrowthBound.{bounded_along}
 use Rattle.tds_export.proofs.ResponseMeaning.{response_is_spelt}
 use Rattle.tds_export.proofs.Outcomes.{ReaderSide, ended_in_payload, kept_at, refused_in_payload, start, stopped_on_wire, unbuilt_in_payload}
+use Rattle.tds_export.proofs.Leading.{rest_leads}
+use Rattle.tds_export.proofs.Peaks.{bounded, reached_broken, reached_stalled, reached_whole}
+use Rattle.tds_export.proofs.Successes.{outcome_succeeds}
 use Rattle.tds_export.proofs.Texts.{rose}
 
 -- ---- how a run that read stops
@@ -178,19 +181,6 @@ stop_reading given input had left q middle l stop are e1 e2 ql reader writer non
     )
 
 -- ---- a run that stopped in writing
-
--- what follows whole elements leads from where they lead
-abbrev Grammars : Type 0
-Grammars = Grammar Part Fault
-
-rest_leads : (g : Grammars) (s t u : Part) (a b : List ℕ) → Spelt g s a t → Spelt g s (a ++ b) u → Spelt g t b u
-unfolding Told
-rest_leads g s t u a b h k =
-    let whole : feed_all g (Reading s []) (a ++ b) ≡ Reading u [] = feed-Spelt g s (a ++ b) u k in
-    let front : feed_all g (Reading s []) a ≡ Reading t [] = feed-Spelt g s a t h in
-    let rest : feed_all g (Reading t []) b ≡ Reading u [] = ap (λ p. feed_all g p b) (sym front) ∙ sym (feed_all-append g (Reading s []) a b) ∙ whole in
-    let r = subst (λ p. Told g t b p) rest (told g t b) in
-    subst (λ v. Spelt g t v u) (sym (r.1 ∙ append-nil r.0)) r.2
 
 -- the longest part of a payload that begins with these bytes has their text, and more of it
 longest_text : (charset : Charset) (room : ℕ) (bytes more : List ℕ) (p q : Part) (place : ℕ) → Spelt (response charset room) response_start bytes p → Longest (response charset room) response_start (bytes ++ more) place q → (rest : List ℕ) × (text_so_far p ++ rest ≡ text_so_far q)
@@ -422,13 +412,34 @@ stopped_of given input had left q k l failed stop are e1 e2 ql reader writer non
 stopped_of given input had left q k l failed stop are e1 e2 ql reader writer none (inl (inr y)) tidy same = stop_writing given input had left q k l stop are e1 e2 ql reader writer none y.0 (same y.1)
 stopped_of given input had left q k l failed stop are e1 e2 ql reader writer none (inr y) tidy same = stop_at_end given input had left q k l stop are e1 e2 ql reader writer none y.0 (same y.1)
 
+stop_bounded : (given : Given) (input left gained : List ℕ) (q : Seen) (k : Held) (failed : Bool) (stop : Stop) → AreBytes input → given.input ≡ Some input → q.left ≡ Some left
+    → RunStops (response given.charset given.limits.column_room) response_start (begun_at given) q 0 (fresh_at given) k given.description failed stop → Bounded (run_of given input left gained)
+stop_bounded given input left gained q k failed stop are e ql (inl (inl y)) =
+    let run = run_of given input left gained in
+    let first : begun_at given ≡ start run = ap (λ i. begun given.limits.packet_size given.limits.max_wire i given.read_failures_before) e in
+    let stalls = subst (λ (a : Seen). Stalls (grammar run) is_built response_start a q 0 y.0.at stop) first y.0.stalls in
+    bounded run y.0.at are (reached_stalled run q y.0.at stop are ql stalls) y.0.holds.peak
+stop_bounded given input left gained q k failed stop are e ql (inl (inr y)) =
+    let run = run_of given input left gained in
+    let first : begun_at given ≡ start run = ap (λ i. begun given.limits.packet_size given.limits.max_wire i given.read_failures_before) e in
+    let x = subst (λ (a : Seen). HaltsWriting (grammar run) response_start a q (fresh_at given) k given.description stop) first y.0 in
+    bounded run ((grammar run).add x.at x.breaks.element) are (reached_broken run q (fresh_at given) k given.description stop x are ql) x.holds.peak
+stop_bounded given input left gained q k failed stop are e ql (inr y) =
+    let run = run_of given input left gained in
+    let first : begun_at given ≡ start run = ap (λ i. begun given.limits.packet_size given.limits.max_wire i given.read_failures_before) e in
+    let x = subst (λ (a : Seen). ReadsWhole (grammar run) response_start a q (fresh_at given) y.0.middle given.description) first y.0.whole in
+    bounded run (behind x.tokens) are (reached_whole run q (fresh_at given) y.0.middle given.description x are ql) x.holds.peak
+
 pub stop_tells : (given : Given) (stopped : Stopped) → given.notice ≡ [] → StopsExport given stopped → Tells given (Err stopped)
 unfolding Tells
 stop_tells given stopped none x = λ input had are e1 e2.
     let read = stops_read given x.seen x.middle x.failed x.stop x.stops in
     let left = known_left given.input x.seen.left input read.0 e1 read.1 in
     let all = stopped_of given input had left.0 x.seen x.middle x.held x.failed x.stop are e1 e2 left.1 x.reader x.writer none x.stops x.tidied x.same in
-    (left.0, all.0, sym x.reader.left ∙ left.1, all.1, subst (λ s. AfterStop (run_of given input left.0 all.0) s) (sym x.stopped_is) all.2)
+    let run = run_of given input left.0 all.0 in
+    let outcome = subst (λ s. AfterStop run s) (sym x.stopped_is) all.2 in
+    let most = stop_bounded given input left.0 all.0 x.seen x.middle x.failed x.stop are e1 left.1 x.stops in
+    (left.0, all.0, sym x.reader.left ∙ left.1, all.1, record { outcome = outcome; bounded = most }, outcome_succeeds run (Err stopped) outcome)
 
 -- a message has bytes
 some_wire : (size : ℕ) (packets : List Packet) → AreMessage size packets → 0 < length (wire_of packets)
@@ -460,21 +471,18 @@ report_tells given report none x = λ input had are e1 e2.
     (subst (λ v. Spelt (grammar run) response_start v (behind tokens)) (sym (take_payload (payload_of whole.packets))) whole.spelt) (omega (arith, ap length same, ap length (text_behind tokens))) in
     let written : x.held.delivered ≡ length (text tokens) = exact run x.held.delivered d.delivered few ∙ ap length gained in
     let moved = some_read x.seen.left input left.0 y.whole.takes.0 (wire_of whole.packets) left.1 y.whole.takes.1.0 whole.stands.begin (some_wire given.limits.packet_size whole.packets whole.accepted.message.each) in
-    let calm_read : Rose given.read_failures_before given.read_failures → ⊥ = λ r. not_rose given.read_failures_before (y.whole.takes.4.1 moved) (subst (λ n. Rose given.read_failures_before n) whole.read_same r) in (
-      left.0,
-      d.gained,
-      sym x.reader.left ∙ left.1,
-      d.has,
-      record {
-        tokens = tokens;
-        packets = whole.packets;
-        accepted = whole.accepted;
-        stands = whole.stands;
-        report_is = x.report_is ∙ ap (λ n. record x.standing.report { written = n }) written ∙ y.tracks.report;
-        written = gained;
-        none_waits = empty;
-        notice = none ∙ sym (ap message_text y.tracks.no_error);
-        kept = whole.kept;
-        no_failure = (calm_read, λ r. not_rose given.write_failures_before (subst (λ n. n < 2 ^ 64 - 1) p.4 f.4) (subst (λ n. Rose given.write_failures_before n) (sym x.writer.failures ∙ f.3 ∙ p.4) r));
-      },
-    )
+    let calm_read : Rose given.read_failures_before given.read_failures → ⊥ = λ r. not_rose given.read_failures_before (y.whole.takes.4.1 moved) (subst (λ n. Rose given.read_failures_before n) whole.read_same r) in
+    let outcome : Reported run report = record {
+      tokens = tokens;
+      packets = whole.packets;
+      accepted = whole.accepted;
+      stands = whole.stands;
+      report_is = x.report_is ∙ ap (λ n. record x.standing.report { written = n }) written ∙ y.tracks.report;
+      written = gained;
+      none_waits = empty;
+      notice = none ∙ sym (ap message_text y.tracks.no_error);
+      kept = whole.kept;
+      no_failure = (calm_read, λ r. not_rose given.write_failures_before (subst (λ n. n < 2 ^ 64 - 1) p.4 f.4) (subst (λ n. Rose given.write_failures_before n) (sym x.writer.failures ∙ f.3 ∙ p.4) r));
+    } in
+    let most = bounded run (behind tokens) are (reached_whole run x.seen (fresh_at given) y.middle given.description y.whole are left.1) y.whole.holds.peak in
+    (left.0, d.gained, sym x.reader.left ∙ left.1, d.has, record { outcome = outcome; bounded = most }, outcome_succeeds run (Ok report) outcome)

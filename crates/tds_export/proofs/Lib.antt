@@ -24,4 +24,7 @@ pub mod GrowthBound
 pub mod Outcomes
 pub mod Texts
 pub mod PayloadFaults
+pub mod Leading
 pub mod Answered
+pub mod Successes
+pub mod Peaks

@@ -11,7 +11,7 @@ use Rattle.tds_export.specs.declared.report.Report.{Report}
 use Rattle.tds_export.specs.declared.report.Stopped.{Stopped}
 use Rattle.tds_export.specs.declared.standing.Standing.{Standing}
 use Rattle.tds_packet.specs.Elements.{AreBytes}
-use Rattle.tds_export.specs.Export.{Outcome, Run}
+use Rattle.tds_export.specs.Export.{Answer, Run, SucceedsIfAccepted}
 use Rattle.tds_export.specs.Reading.{response, response_start}
 use Rattle.tds_export.specs.Running.{Completes, RunStops}
 
@@ -99,7 +99,7 @@ run_of given input left gained = record {
   write_failures_before = given.write_failures_before;
 }
 
--- A reader that told its bytes and a writer that told those that it had still do, and the export answers what they make of the response.
+-- A reader that told its bytes and a writer that told those that it had still do, and the export answers what they make of the response; of an accepted one its report, but for a device that fails and for what isn't built.
 unfoldable pub Tells : Given → Result Report Stopped → Type 0
 Tells given result = (input : List ℕ) (had : List ℕ) → AreBytes input → given.input ≡ Some input → given.had ≡ Some had →
-    (left : List ℕ) × (gained : List ℕ) × (given.left ≡ Some left) × (given.has ≡ Some (had ++ gained)) × Outcome (run_of given input left gained) result
+    (left : List ℕ) × (gained : List ℕ) × (given.left ≡ Some left) × (given.has ≡ Some (had ++ gained)) × Answer (run_of given input left gained) result × SucceedsIfAccepted (run_of given input left gained) result

@@ -9,11 +9,11 @@ use Rattle.tds_packet.proofs.ElementLaws.{Spelt-append, feed-Spelt, feed_all-app
 use Rattle.tds_packet.proofs.PacketLaws.{before_packet, packet_is_read, length-packet_bytes}
 
 module _ (size limit : ℕ) where
-  abbrev behind : List Packet → WirePart
+  abbrev pub behind : List Packet → WirePart
   behind packets = record { packets = packets; place = BehindLast }
 
   -- a message is read to its end
-  message_is_read : (done packets : List Packet) → AreMessage size packets → length (wire_of (done ++ packets)) ≤ limit → Spelt (wire size limit) (before_packet size limit done) (wire_of packets) (behind (done ++ packets))
+  pub message_is_read : (done packets : List Packet) → AreMessage size packets → length (wire_of (done ++ packets)) ≤ limit → Spelt (wire size limit) (before_packet size limit done) (wire_of packets) (behind (done ++ packets))
   message_is_read done [] h f = absurd h
   message_is_read done (p ∷ []) h f =
       let la : length (wire_of (done ++ p ∷ [])) ≡ length (wire_of done) + length (packet_bytes p ++ []) = ap (λ v. length v) (flat_map-append packet_bytes done (p ∷ [])) ∙ length-append (wire_of done) (packet_bytes p ++ []) in
@@ -30,7 +30,7 @@ module _ (size limit : ℕ) where
       Spelt-append (wire size limit) (before_packet size limit done) (packet_bytes p) (before_packet size limit (done ++ p ∷ [])) (wire_of (q ∷ packets)) (behind (done ++ p ∷ q ∷ packets)) one (subst (λ v. Spelt (wire size limit) (before_packet size limit (done ++ p ∷ [])) (wire_of (q ∷ packets)) (behind v)) same more)
 
   -- and nothing behind it
-  read_to_end : (packets : List Packet) (w more : List ℕ) → Message size limit packets w → feed_all (wire size limit) (Reading no_wire []) (w ++ more) ≡ Reading (behind packets) more
+  pub read_to_end : (packets : List Packet) (w more : List ℕ) → Message size limit packets w → feed_all (wire size limit) (Reading no_wire []) (w ++ more) ≡ Reading (behind packets) more
   read_to_end packets w more m =
       let s : Spelt (wire size limit) no_wire w (behind packets) = subst (λ v. Spelt (wire size limit) no_wire v (behind packets)) m.spelt (message_is_read [] packets m.each (subst (λ v. length v ≤ limit) (sym m.spelt) m.within)) in
       feed_all-append (wire size limit) (Reading no_wire []) w more ∙ ap (λ p. feed_all (wire size limit) p more) (feed-Spelt (wire size limit) no_wire w (behind packets) s) ∙ feed_part (wire size limit) (behind packets) [] more (λ k a b q. omega arith)

@@ -1,0 +1,109 @@
+-- How much of a description was held in an export: no more than the span of one at the front of the input.
+use Rattle.std.proofs.Common.{◌≡◌, ◌∙◌, ◌⊎◌, inl, inr, ℕ, ◌+◌, ◌-◌, ◌<◌, ◌≤◌, Bool, true, false, List, [], ◌∷◌, ◌++◌, length, take, drop, refl, sym, ap, subst, arith, append_assoc, append-nil, length-append, take-append-drop}
+use Rattle.std.specs.Prelude.{Option, Some, None}
+use Rattle.std.proofs.lemmas.Grind.{flat_map-append}
+use Rattle.std.proofs.Math.Seq.{take-append_seam, take-append-add}
+use Rattle.tds_meter.specs.declared.limits.Limits.{Limits}
+use Rattle.tds_meter.specs.Space.{Space}
+use Rattle.tds_packet.specs.declared.fault.Fault.{Fault}
+use Rattle.tds_packet.specs.declared.fault.Stop.{Stop}
+use Rattle.tds_packet.specs.Elements.{AreBytes, Grammar, Longest, Spelt, feed_all, Reading}
+use Rattle.tds_packet.specs.Packets.{AreBefore, AreMessage, Front, Message, Packet, WirePart, no_wire, payload_of, wire, wire_of}
+use Rattle.tds_packet.specs.Seen.{Seen, Takes, IsBetween, begun}
+use Rattle.tds_packet.proofs.ElementLaws.{Spelt-append, Spelt-induct, Spelt-one, some_longest}
+use Rattle.tds_packet.proofs.PacketLaws.{before_are_read, before_packet, read_front}
+use Rattle.tds_packet.proofs.MessageLaws.{behind as behind_last, message_is_read}
+use Rattle.tds_packet.proofs.Fronts.{ends_front, over_front, takes_begins}
+use Rattle.tds_csv.specs.Sinks.{Held}
+use Rattle.tds_rows.specs.declared.Charset.{Charset}
+use Rattle.tds_export.specs.Export.{Bounded, Run, grammar}
+use Rattle.tds_export.specs.Built.{is_built}
+use Rattle.tds_export.specs.Reading.{Part, response, response_start, span_so_far}
+use Rattle.tds_export.specs.Running.{HaltsReading, HaltsWriting, ReadsWhole, Stalls, behind}
+use Rattle.tds_export.proofs.Growth.{span_along}
+use Rattle.tds_export.proofs.Leading.{rest_leads}
+use Rattle.tds_export.proofs.Outcomes.{ReaderSide, start}
+use Rattle.tds_export.proofs.Successes.{BeginsWith, begins_added}
+
+-- a part of a response was read from whole packets at the front of an input
+pub record Reached (charset : Charset) (limits : Limits) (input : List ℕ) (at : Part) : Type 0 where
+  pub packets : List Packet
+  pub rest : List ℕ
+  pub begin : wire_of packets ++ rest ≡ input
+  pub each : AreMessage limits.packet_size packets ⊎ AreBefore limits.packet_size packets
+  pub within : length (wire_of packets) ≤ limits.max_wire
+  pub bytes : List ℕ
+  pub more : List ℕ
+  pub spelt : Spelt (response charset limits.column_room) response_start bytes at
+  pub payload_is : payload_of packets ≡ bytes ++ more
+
+-- what follows such bytes, up to the longest part
+further : {S : Type 0} (g : Grammar S Fault) (from to last : S) (bytes more : List ℕ) (place : ℕ) → Spelt g from bytes to → Longest g from (bytes ++ more) place last → (rest : List ℕ) × Spelt g to rest last
+further g from to last bytes more place h l =
+    let least : length bytes ≤ place = l.longest (length bytes) to (omega (arith, length-append bytes more)) (subst (λ v. Spelt g from v to) (sym (take-append_seam bytes more)) h) in
+    let n = place - length bytes in
+    let sum : length bytes + n ≡ place = omega (arith, least) in
+    let split : take place (bytes ++ more) ≡ bytes ++ take n more = ap (λ v. take v (bytes ++ more)) (sym sum) ∙ take-append-add bytes more n in
+    (take n more, rest_leads g from to last bytes (take n more) h (subst (λ v. Spelt g from v last) split l.spelt))
+
+-- whole packets at the front of an input begin those that are read of it at most
+front_begins : (size limit : ℕ) (input rest : List ℕ) (packets : List Packet) (w : WirePart) (taken : ℕ) → wire_of packets ++ rest ≡ input → (AreMessage size packets ⊎ AreBefore size packets) → length (wire_of packets) ≤ limit → Longest (wire size limit) no_wire input taken w → BeginsWith w.packets packets
+front_begins size limit input rest packets w taken begin (inl each) within l =
+    let s = message_is_read size limit [] packets each within in
+    let f = further (wire size limit) no_wire (behind_last size limit packets) w (wire_of packets) rest taken s (subst (λ v. Longest (wire size limit) no_wire v taken w) (sym begin) l) in
+    Spelt-induct (wire size limit) (λ v b. BeginsWith v.packets packets) (λ v b element h n. begins_added packets v.packets v.place element h) (behind_last size limit packets) ([], append-nil packets) f.0 w f.1
+front_begins size limit input rest packets w taken begin (inr each) within l =
+    let s = before_are_read size limit [] packets each within in
+    let f = further (wire size limit) no_wire (before_packet size limit packets) w (wire_of packets) rest taken s (subst (λ v. Longest (wire size limit) no_wire v taken w) (sym begin) l) in
+    Spelt-induct (wire size limit) (λ v b. BeginsWith v.packets packets) (λ v b element h n. begins_added packets v.packets v.place element h) (before_packet size limit packets) ([], append-nil packets) f.0 w f.1
+
+pub bounded : (run : Run) (at : Part) → AreBytes run.input → Reached run.charset run.limits run.input at → run.description_peak ≤ span_so_far at → Bounded run
+bounded run at are r peak =
+    let size = run.limits.packet_size in
+    let limit = run.limits.max_wire in
+    let g = grammar run in
+    let l = some_longest (wire size limit) no_wire run.input in
+    let front = l.1.packets in
+    let b = front_begins size limit run.input r.rest r.packets l.1 l.0 r.begin r.each r.within l.2 in
+    let split : payload_of front ≡ r.bytes ++ (r.more ++ payload_of b.0) = ap payload_of (sym b.1) ∙ flat_map-append (λ (v : Packet). v.body) r.packets b.0 ∙ ap (λ v. v ++ payload_of b.0) r.payload_is ∙ append_assoc r.bytes r.more (payload_of b.0) in
+    let longest = some_longest g response_start (payload_of front) in
+    let f = further g response_start at longest.1 r.bytes (r.more ++ payload_of b.0) longest.0 r.spelt (subst (λ v. Longest g response_start v longest.0 longest.1) split longest.2) in
+    let least : span_so_far at ≤ span_so_far longest.1 = span_along run.charset run.limits.column_room at longest.1 f.0 f.1 in
+    record { packets = front; place = longest.0; part = longest.1; front = read_front size limit run.input l.0 l.1 are l.2; leads = longest.2; description = omega (arith, peak, least) }
+
+taken : (run : Run) (q : Seen) (at : Part) (bytes behind : List ℕ) (n : ℕ) → AreBytes run.input → q.left ≡ Some run.left → Takes (start run) q (bytes ++ behind) n → IsBetween q → Spelt (grammar run) response_start bytes at → Reached run.charset run.limits run.input at
+taken run q at bytes behind n are left t between spelt =
+    let b = takes_begins run.limits.packet_size run.limits.max_wire run.read_failures_before run.input run.left q (bytes ++ behind) n are left t between in
+    record { packets = b.packets; rest = run.left; begin = b.begin; each = b.each; within = b.within; bytes = bytes; more = behind ++ (q.future []).bytes; spelt = spelt; payload_is = b.payload_is ∙ append_assoc bytes behind (q.future []).bytes }
+
+pub reached_stalled : (run : Run) (q : Seen) (at : Part) (stop : Stop) → AreBytes run.input → q.left ≡ Some run.left → Stalls (grammar run) is_built response_start (start run) q 0 at stop → Reached run.charset run.limits run.input at
+reached_stalled run q at stop are left (inl s) = elim s.cause [
+  | inl r ↦ taken run q at s.bytes r.0.element (length (s.bytes ++ r.0.element)) are left r.0.takes r.0.between s.spelt
+  | inr c ↦ elim (ends_front run.limits.packet_size run.limits.max_wire run.read_failures_before run.input run.left q (s.bytes ++ c.part) c.own are left c.ends) [
+    | inl m ↦ record { packets = m.packets; rest = run.left; begin = m.begin; each = inl m.each; within = m.within; bytes = s.bytes; more = c.part; spelt = s.spelt; payload_is = m.payload_is }
+    | inr x ↦ record { packets = x.packets; rest = x.more; begin = x.begin; each = inr x.each; within = x.within; bytes = s.bytes; more = c.part; spelt = s.spelt; payload_is = x.payload_is }
+  ]
+]
+reached_stalled run q at stop are left (inr u) = taken run q at u.bytes u.element (length (u.bytes ++ u.element)) are left u.takes u.between u.spelt
+
+pub reached_broken : (run : Run) (q : Seen) (old new : Held) (area : Space) (stop : Stop) (x : HaltsWriting (grammar run) response_start (start run) q old new area stop) → AreBytes run.input → q.left ≡ Some run.left → Reached run.charset run.limits run.input ((grammar run).add x.at x.breaks.element)
+reached_broken run q old new area stop x are left =
+    let be = x.breaks.bytes ++ x.breaks.element in
+    let to = (grammar run).add x.at x.breaks.element in
+    let b = takes_begins run.limits.packet_size run.limits.max_wire run.read_failures_before run.input run.left q be (length be) are left x.breaks.takes x.breaks.between in
+    record {
+      packets = b.packets;
+      rest = run.left;
+      begin = b.begin;
+      each = b.each;
+      within = b.within;
+      bytes = be;
+      more = (q.future []).bytes;
+      spelt = Spelt-append (grammar run) response_start x.breaks.bytes x.at x.breaks.element to x.breaks.spelt (Spelt-one (grammar run) x.at x.breaks.element x.breaks.next);
+      payload_is = b.payload_is;
+    }
+
+pub reached_whole : (run : Run) (q : Seen) (old new : Held) (area : Space) (x : ReadsWhole (grammar run) response_start (start run) q old new area) → AreBytes run.input → q.left ≡ Some run.left → Reached run.charset run.limits run.input (behind x.tokens)
+reached_whole run q old new area x are left =
+    let m = over_front run.limits.packet_size run.limits.max_wire run.read_failures_before run.input run.left q x.bytes (length x.bytes + 1) are left x.takes x.over in
+    record { packets = m.packets; rest = run.left; begin = m.begin; each = inl m.each; within = m.within; bytes = x.bytes; more = []; spelt = x.spelt; payload_is = m.payload_is ∙ sym (append-nil x.bytes) }

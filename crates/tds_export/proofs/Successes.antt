@@ -1,0 +1,125 @@
+-- What an export answers of an accepted response: it succeeds, but for a device that fails and for what isn't built.
+use Rattle.std.proofs.Common.{◌≡◌, ◌∙◌, ◌⊎◌, inl, inr, ℕ, ◌+◌, ◌-◌, ◌<◌, ◌≤◌, Bool, true, false, List, [], ◌∷◌, ◌++◌, length, take, drop, refl, sym, ap, subst, arith, append_assoc, append-nil, length-append, take-append-drop}
+use Rattle.std.specs.Prelude.{◌==◌, Option, Some, None, Result, Ok, Err, if◌then◌else◌}
+use Rattle.std.proofs.lemmas.Grind.{flat_map-append}
+use Rattle.std.proofs.lemmas.List.{take-append-le}
+use Rattle.tds_packet.specs.declared.fault.Fault.{Fault}
+use Rattle.tds_packet.specs.declared.fault.Fault.TheVariants.{EndWithoutDone, NotYet}
+use Rattle.tds_packet.specs.declared.fault.Place.{Place}
+use Rattle.tds_packet.specs.declared.fault.Place.TheVariants.{Wire, Payload, Text}
+use Rattle.tds_packet.specs.Elements.{IsRefused, Longest, Progress, Reading, Spelt, feed_all}
+use Rattle.tds_packet.specs.Packets.{AreBefore, AreMessage, BeforeBody, BeforeHeader, BehindLast, Message, Packet, WireFault, WirePart, WirePlace, header_length, no_wire, packet_of, payload_of, wire, wire_add, wire_end, wire_of, wire_size, with_packet}
+use Rattle.tds_packet.proofs.ElementLaws.{Spelt-induct, Told, feed-Spelt, feed_all-append, longest_cut, one_longest, read_longest, told}
+use Rattle.tds_packet.proofs.PacketLaws.{before_are_read, before_packet}
+use Rattle.tds_packet.proofs.MessageLaws.{behind as behind_last, one_message, read_to_end}
+use Rattle.tds_rows.specs.declared.Charset.{Charset}
+use Rattle.tds_meter.specs.Counts.{Rose}
+use Rattle.tds_export.specs.declared.report.Report.{Report}
+use Rattle.tds_export.specs.declared.report.Stopped.{Stopped}
+use Rattle.tds_export.specs.Tokens.{Token, is_final}
+use Rattle.tds_export.specs.Response.{Accepted, Response}
+use Rattle.tds_export.specs.Export.{IsUnbuilt, Outcome, Packets, Run, Stops, Succeeds, SucceedsIfAccepted, grammar}
+use Rattle.tds_export.specs.Reading.{Part, response, response_start}
+use Rattle.tds_export.specs.Running.{behind}
+use Rattle.tds_export.proofs.ResponseLaws.{refused_response, response_is_read}
+use Rattle.tds_export.proofs.SuccessLaws.{reported_succeeds}
+
+-- ---- packets at the front of a message
+
+-- a list of packets begins with another
+abbrev pub BeginsWith : List Packet → List Packet → Type 0
+BeginsWith packets front = (tail : List Packet) × (front ++ tail ≡ packets)
+
+one_of : (P : WirePart → Type 0) (b : Bool) (x y : WirePart) → P x → P y → P (if b then x else y)
+one_of P true x y p q = p
+one_of P false x y p q = q
+
+begins_more : (front packets : List Packet) (p : Packet) → BeginsWith packets front → BeginsWith (packets ++ p ∷ []) front
+begins_more front packets p h = (h.0 ++ p ∷ [], sym (append_assoc front h.0 (p ∷ [])) ∙ ap (λ l. l ++ p ∷ []) h.1)
+
+pub begins_added : (front packets : List Packet) (place : WirePlace) (element : List ℕ) → BeginsWith packets front → BeginsWith (wire_add packets place element).packets front
+begins_added front packets BeforeHeader element h = one_of (λ w. BeginsWith w.packets front) (header_length element == 8) (with_packet packets (packet_of element [])) (record { packets = packets; place = BeforeBody element }) (begins_more front packets (packet_of element []) h) h
+begins_added front packets (BeforeBody header) element h = begins_more front packets (packet_of header element) h
+begins_added front packets BehindLast element h = h
+
+-- whole packets at the front of an input, none of which is the last, begin the message there
+before_begins : (size limit : ℕ) (front packets : List Packet) (wires rest unread : List ℕ) → AreBefore size front → length (wire_of front) ≤ limit → Message size limit packets wires → wire_of front ++ rest ≡ wires ++ unread → BeginsWith packets front
+unfolding Told
+before_begins size limit front packets wires rest unread each within m e =
+    let g = wire size limit in
+    let at = before_packet size limit front in
+    let first : feed_all g (Reading no_wire []) (wire_of front) ≡ Reading at [] = feed-Spelt g no_wire (wire_of front) at (before_are_read size limit [] front each within) in
+    let fed : feed_all g (Reading at []) rest ≡ Reading (behind_last size limit packets) unread =
+    ap (λ p. feed_all g p rest) (sym first) ∙ sym (feed_all-append g (Reading no_wire []) (wire_of front) rest) ∙ ap (feed_all g (Reading no_wire [])) e ∙ read_to_end size limit packets wires unread m in
+    let t = subst (λ p. Told g at rest p) fed (told g at rest) in
+    Spelt-induct g (λ w b. BeginsWith w.packets front) (λ w b element h n. begins_added front w.packets w.place element h) at ([], append-nil front) t.0 (behind_last size limit packets) t.2
+
+-- the wire of a message has no fault
+no_wire_fault : (size limit : ℕ) (input wires unread : List ℕ) (packets read : List Packet) (fault : Fault) → Message size limit packets wires → input ≡ wires ++ unread → WireFault size limit input read fault → ⊥
+no_wire_fault size limit input wires unread packets read fault m e f =
+    let g = wire size limit in
+    let fed : feed_all g (Reading no_wire []) input ≡ Reading (behind_last size limit packets) unread = ap (feed_all g (Reading no_wire [])) e ∙ read_to_end size limit packets wires unread m in
+    let l = read_longest g no_wire input (Reading (behind_last size limit packets) unread) (subst (λ p. Told g no_wire input p) fed (told g no_wire input)) in
+    let same : f.read ≡ behind_last size limit packets = (one_longest g no_wire input f.taken (length l.0) f.read (behind_last size limit packets) f.longest l.2).1 in
+    elim f.first [
+      | inl r ↦ nothing (wire_size f.read.place) (ap (λ (w : WirePart). wire_size w.place) same) r.some
+      | inr r ↦ no_end f.read.place (ap (λ (w : WirePart). w.place) same) r.1
+    ]
+  where
+    no_end : (place : WirePlace) → place ≡ BehindLast → wire_end place ≡ Some fault → ⊥
+    no_end BeforeHeader e h = cc
+    no_end (BeforeBody header) e h = cc
+    no_end BehindLast e h = cc
+
+    nothing : (n : ℕ) → n ≡ 0 → 0 < n → ⊥
+    nothing n e h = omega (arith, e, h)
+
+-- ---- no stop of an accepted response is one of the input
+
+ended_accepted : (run : Run) (tokens : List Token) (payload : List ℕ) (place : ℕ) (part : Part) (fault : Fault) → Response run.charset run.limits.column_room tokens payload → Longest (grammar run) response_start payload place part → (grammar run).end_fault part ≡ Some fault → ⊥
+ended_accepted run tokens payload place part fault r l end =
+    let g = grammar run in
+    let read = response_is_read run.charset run.limits.column_room tokens payload r in
+    let all = subst (λ v. Longest g response_start v (length payload) (behind tokens)) (append-nil payload) (longest_cut g response_start payload [] (behind tokens) read (omega arith)) in
+    let same : part ≡ behind tokens = (one_longest g response_start payload place (length payload) part (behind tokens) l all).1 in
+    let ends : g.end_fault (behind tokens) ≡ Some fault = ap g.end_fault (sym same) ∙ end in
+    final_ends (is_final tokens) r.final fault ends
+  where
+    final_ends : (b : Bool) → b ≡ true → (fault : Fault) → (if b then None else Some EndWithoutDone) ≡ Some fault → ⊥
+    final_ends true e fault h = cc
+    final_ends false e fault h = cc
+
+refused_accepted : (run : Run) (tokens : List Token) (payload more : List ℕ) (place : ℕ) (part : Part) (fault : Fault) → Response run.charset run.limits.column_room tokens (payload ++ more) → Longest (grammar run) response_start payload place part → IsRefused (grammar run) part (drop place payload) fault → ⊥
+refused_accepted run tokens payload more place part fault r l refused =
+    let n = place + (grammar run).size part in
+    let split : payload ++ more ≡ take n payload ++ (drop n payload ++ more) = ap (λ v. v ++ more) (sym (take-append-drop n payload)) ∙ append_assoc (take n payload) (drop n payload) more in
+    refused_response run.charset run.limits.column_room payload place part fault (drop n payload ++ more) tokens l refused (subst (λ v. Response run.charset run.limits.column_room tokens v) split r)
+
+-- the packets read are those of the message, or begin it
+read_begin : (run : Run) (tokens : List Token) (read packets : List Packet) → Packets run read → (a : Accepted run.charset run.limits.packet_size run.limits.column_room run.limits.max_wire tokens packets run.input) → (more : List ℕ) × (payload_of packets ≡ payload_of read ++ more)
+read_begin run tokens read packets p a = elim p.each [
+  | inl h ↦ (let same = one_message run.limits.packet_size run.limits.max_wire read packets (wire_of read) a.wire run.left a.unread (record { spelt = refl; each = h; within = p.within }) a.message (p.begin ∙ a.begins) in
+      ([], ap payload_of (sym same) ∙ sym (append-nil (payload_of read))))
+  | inr h ↦ (let b = before_begins run.limits.packet_size run.limits.max_wire read packets a.wire run.left a.unread h p.within a.message (p.begin ∙ a.begins) in
+      (payload_of b.0, ap payload_of (sym b.1) ∙ flat_map-append (λ (v : Packet). v.body) read b.0))
+]
+
+only_unbuilt : (run : Run) (fault : Fault) (place : Place) → Stops run fault place → (tokens : List Token) (packets : List Packet) → Accepted run.charset run.limits.packet_size run.limits.column_room run.limits.max_wire tokens packets run.input
+    → (Rose run.read_failures_before run.read_failures → ⊥) → (Rose run.write_failures_before run.write_failures → ⊥) → fault ≡ NotYet
+only_unbuilt run fault (Payload place) (inl x) tokens packets a reads writes = elim x.first [
+  | inl r ↦ (let b = read_begin run tokens x.packets packets x.stands a in
+      absurd (refused_accepted run tokens (payload_of x.packets) b.0 place x.part fault (subst (λ v. Response run.charset run.limits.column_room tokens v) b.1 a.response) x.leads r.0))
+  | inr r ↦ (let same = one_message run.limits.packet_size run.limits.max_wire x.packets packets (wire_of x.packets) a.wire run.left a.unread (record { spelt = refl; each = r.0; within = x.stands.within }) a.message (x.stands.begin ∙ a.begins) in
+      absurd (ended_accepted run tokens (payload_of x.packets) place x.part fault (subst (λ v. Response run.charset run.limits.column_room tokens (payload_of v)) (sym same) a.response) x.leads r.2))
+]
+only_unbuilt run fault (Payload place) (inr x) tokens packets a reads writes = x.0
+only_unbuilt run fault (Wire taken) x tokens packets a reads writes = elim x.first [
+  | inl r ↦ absurd (reads r.1)
+  | inr r ↦ absurd (no_wire_fault run.limits.packet_size run.limits.max_wire run.input a.wire a.unread packets x.packets fault a.message a.begins r)
+]
+only_unbuilt run fault (Text written) x tokens packets a reads writes = absurd (writes x.failed)
+
+-- an answer that is true of an accepted response is its report
+pub outcome_succeeds : (run : Run) (result : Result Report Stopped) → Outcome run result → SucceedsIfAccepted run result
+outcome_succeeds run (Ok report) r = reported_succeeds run report r
+outcome_succeeds run (Err stopped) r = λ tokens packets a reads writes. inr (only_unbuilt run stopped.fault stopped.place r.stop tokens packets a reads writes)
