@@ -1,7 +1,7 @@
 -- Tokens of a response, and what they say (MS-TDS, Packet Data Token Stream Definition).
-use Rattle.std.specs.Prelude.{◌+◌, ℕ, Bool, true, false, List, [], ◌∷◌, ◌++◌, length, take, map, max, Option, Some, None, if◌then◌else◌}
-use Rattle.std.specs.Str.Lossy.{utf8_valid_len}
+use Rattle.std.specs.Prelude.{◌+◌, ℕ, Bool, true, false, List, [], ◌∷◌, ◌++◌, length, map, max, Option, Some, None, if◌then◌else◌}
 use Rattle.tds_csv.specs.Conversion.{Utf16Text, long_field}
+use Rattle.tds_csv.specs.Cutting.{whole_within}
 use Rattle.tds_csv.specs.Quoting.{line, line_end}
 use Rattle.tds_csv.specs.Utf16.{characters}
 use Rattle.tds_columns.specs.Description.{Column}
@@ -122,10 +122,6 @@ span_of t = 0
 abbrev pub greatest_span : List Token → ℕ
 greatest_span [] = 0
 greatest_span (t ∷ ts) = max (span_of t) (greatest_span ts)
-
--- the longest beginning of whole characters within the room
-abbrev pub whole_within : ℕ → List ℕ → List ℕ
-whole_within room text = take (utf8_valid_len (take room text)) text
 
 -- the message of an error in UTF-8, within 512 bytes
 abbrev pub message_text : Option Notice → List ℕ
