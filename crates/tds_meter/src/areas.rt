@@ -116,7 +116,8 @@ impl Areas {
 
     /// The message of the first error, in UTF-8.
     pub fn error_text(&self) -> &[u8]
-        ensures { result.now ≡ self.now.notice.bytes }
+        ensures value { result.now ≡ self.now.notice.bytes }
+        ensures fits { length self.now.notice.bytes ≤ self.now.notice.room }
     {
         self.notice.bytes()
     }

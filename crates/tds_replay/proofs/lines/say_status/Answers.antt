@@ -1,0 +1,15 @@
+use Rattle.std.proofs.Common.{rules, ap, SFits, w32}
+use Rattle.std.proofs.lemmas.Int.{to_z-of_z}
+use Rattle.tds_replay.specs.Lines.{status_line}
+use Rattle.tds_replay.proofs.Sayings.{nothing_said}
+use Rattle.tds_replay.proofs.lines.say_status.Goals as goal
+
+pub returns-in_default : goal.returns-in_default
+unfolding status_line
+returns-in_default g c = nothing_said _ _ _ (ap status_line c.in_default.is)
+
+pub returns : goal.returns
+unfolding status_line
+returns g c =
+    let fits : SFits w32 c.in-Some.status = search rules in
+    rw (c.in-Some.is, ← to_z-of_z w32 c.in-Some.status fits) c.say.ensures

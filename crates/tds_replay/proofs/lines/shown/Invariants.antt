@@ -1,0 +1,6 @@
+use Rattle.std.proofs.Common.{◌≡◌, map, take}
+use Rattle.tds_replay.specs.Lines.{shown_byte}
+use Rattle.tds_replay.proofs.lines.shown.Given as goal
+
+abbrev pub invariant-bytes : goal.invariant-bytes
+invariant-bytes l = l.text.items ≡ map shown_byte (take l.byte-index l.message)

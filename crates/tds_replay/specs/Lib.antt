@@ -1,0 +1,5 @@
+pub mod Jobs
+pub mod Lines
+pub mod Performing
+pub mod Saying
+pub mod Statuses

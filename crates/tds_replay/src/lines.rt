@@ -1,0 +1,283 @@
+// The lines on standard error.
+ghost use Rattle.arrayvec.specs.ArrayVec.{array_vec_len};
+ghost use Rattle.std.specs.Prelude.{◌≡◌, ◌≤◌, ◌++◌, Ok, Some, length, map, flat_map};
+ghost use Rattle.tds_replay.specs.Lines.{answer_lines, counts_line, error_line, fault_fields, fault_name as name_of_fault, kind_name as name_of_kind, memory_line, place_number, place_unit, piece_text, shown_byte, status_line, stop_line, text_of, values_line};
+ghost use Rattle.tds_replay.specs.Saying.{Says};
+
+use crate::pieces::{Piece, Unsaid, say};
+use arrayvec::ArrayVec;
+use std::io::Write;
+use tds_export::{Report, ServerError, Stopped};
+use tds_packet::{Counted, Fault, Place, RefusedKind};
+
+/// The most bytes of a message that is kept.
+const MESSAGE_ROOM: usize = 512;
+
+// The name of a fault.
+fn fault_name(fault: &Fault) -> &'static [u8]
+    ensures { result.now ≡ name_of_fault fault.now }
+{
+    match fault {
+        Fault::NotYet => b"NotYet",
+        Fault::ReadFailed => b"ReadFailed",
+        Fault::InputEnded => b"InputEnded",
+        Fault::WrongPacketType(_) => b"WrongPacketType",
+        Fault::BadPacketLength(_) => b"BadPacketLength",
+        Fault::ResponseTooLong => b"ResponseTooLong",
+        Fault::RefusedToken(_) => b"RefusedToken",
+        Fault::MessageEnded => b"MessageEnded",
+        Fault::EndWithoutDone => b"EndWithoutDone",
+        Fault::NoColumns => b"NoColumns",
+        Fault::RefusedColumn { .. } => b"RefusedColumn",
+        Fault::UnknownType { .. } => b"UnknownType",
+        Fault::BadTypeInfo { .. } => b"BadTypeInfo",
+        Fault::DescriptionTooLong => b"DescriptionTooLong",
+        Fault::RowWithoutColumns => b"RowWithoutColumns",
+        Fault::BadValueLength { .. } => b"BadValueLength",
+        Fault::BadValue { .. } => b"BadValue",
+        Fault::OddText { .. } => b"OddText",
+        Fault::PlpLength { .. } => b"PlpLength",
+        Fault::BadNotice => b"BadNotice",
+        Fault::WriteFailed => b"WriteFailed",
+        Fault::BadText { .. } => b"BadText",
+    }
+}
+
+// The name of a refused kind.
+fn kind_name(kind: RefusedKind) -> &'static [u8]
+    ensures { result.now ≡ name_of_kind kind }
+{
+    match kind {
+        RefusedKind::Flt4 => b"FLT4",
+        RefusedKind::Flt8 => b"FLT8",
+        RefusedKind::FltN => b"FLTN",
+        RefusedKind::Text => b"TEXT",
+        RefusedKind::NText => b"NTEXT",
+        RefusedKind::Image => b"IMAGE",
+        RefusedKind::SsVariant => b"SSVARIANT",
+        RefusedKind::Udt => b"UDT",
+        RefusedKind::Xml => b"XML",
+    }
+}
+
+// Writes the fields of a fault in order, each after a space.
+fn say_fields<W: Write>(notes: &mut Counted<W>, fault: &Fault) -> Result<(), Unsaid>
+    ensures { Says (W.contents notes.old.device) notes.old.failures (W.contents notes.new.device) notes.new.failures (fault_fields fault.now) result }
+{
+    match *fault {
+        Fault::WrongPacketType(byte) | Fault::RefusedToken(byte) => {
+            say(notes, &[Piece::Text(b" "), Piece::Byte(byte)])
+        }
+        Fault::RefusedColumn { index, kind } => say(
+            notes,
+            &[
+                Piece::Text(b" "),
+                Piece::Number(u64::from(index)),
+                Piece::Text(b" "),
+                Piece::Text(kind_name(kind)),
+            ],
+        ),
+        Fault::UnknownType { index, byte } => say(
+            notes,
+            &[
+                Piece::Text(b" "),
+                Piece::Number(u64::from(index)),
+                Piece::Text(b" "),
+                Piece::Byte(byte),
+            ],
+        ),
+        Fault::BadPacketLength(n)
+        | Fault::BadTypeInfo { index: n }
+        | Fault::BadValueLength { column: n }
+        | Fault::BadValue { column: n }
+        | Fault::OddText { column: n }
+        | Fault::PlpLength { column: n }
+        | Fault::BadText { column: n } => {
+            say(notes, &[Piece::Text(b" "), Piece::Number(u64::from(n))])
+        }
+        _ => Ok(()),
+    }
+}
+
+// What a place counts, and how many of them lie before it.
+fn place_parts(place: &Place) -> (&'static [u8], u64)
+    ensures unit { result.0.now ≡ place_unit place.now }
+    ensures number { result.1 ≡ place_number place.now }
+{
+    match *place {
+        Place::Wire(n) => (b"wire", n),
+        Place::Payload(n) => (b"payload", n),
+        Place::Text(n) => (b"text", n),
+    }
+}
+
+// Writes the line of a stop.
+fn say_stop<W: Write>(notes: &mut Counted<W>, stopped: &Stopped) -> Result<(), Unsaid>
+    ensures { Says (W.contents notes.old.device) notes.old.failures (W.contents notes.new.device) notes.new.failures (stop_line stopped.now) result }
+{
+    say(
+        notes,
+        &[
+            Piece::Text(b"fault "),
+            Piece::Number(u64::from(stopped.fault.number())),
+            Piece::Text(b" "),
+            Piece::Text(fault_name(&stopped.fault)),
+        ],
+    )?;
+    say_fields(notes, &stopped.fault)?;
+    let (unit, number) = place_parts(&stopped.place);
+    say(
+        notes,
+        &[
+            Piece::Text(b" at "),
+            Piece::Text(unit),
+            Piece::Text(b" "),
+            Piece::Number(number),
+            Piece::Text(b", written "),
+            Piece::Number(stopped.written),
+            Piece::Text(b", unwritten "),
+            Piece::Number(stopped.unwritten),
+            Piece::Text(b"\n"),
+        ],
+    )
+}
+
+// Writes the line of a report's counts.
+fn say_counts<W: Write>(notes: &mut Counted<W>, report: &Report) -> Result<(), Unsaid>
+    ensures { Says (W.contents notes.old.device) notes.old.failures (W.contents notes.new.device) notes.new.failures (counts_line report.now) result }
+{
+    say(
+        notes,
+        &[
+            Piece::Text(b"sets "),
+            Piece::Number(report.sets),
+            Piece::Text(b" rows "),
+            Piece::Number(report.rows),
+            Piece::Text(b" errors "),
+            Piece::Number(report.errors),
+            Piece::Text(b" infos "),
+            Piece::Number(report.infos),
+            Piece::Text(b" written "),
+            Piece::Number(report.written),
+            Piece::Text(b"\n"),
+        ],
+    )
+}
+
+// Writes the line of the values that procedures returned, if there are any.
+fn say_values<W: Write>(notes: &mut Counted<W>, values: u64) -> Result<(), Unsaid>
+    ensures { Says (W.contents notes.old.device) notes.old.failures (W.contents notes.new.device) notes.new.failures (values_line values) result }
+{
+    if values == 0 {
+        return Ok(());
+    }
+    say(
+        notes,
+        &[
+            Piece::Text(b"return values "),
+            Piece::Number(values),
+            Piece::Text(b"\n"),
+        ],
+    )
+}
+
+// Writes the line of the last return status, if there is one.
+fn say_status<W: Write>(notes: &mut Counted<W>, status: Option<i32>) -> Result<(), Unsaid>
+    ensures { Says (W.contents notes.old.device) notes.old.failures (W.contents notes.new.device) notes.new.failures (status_line status) result }
+{
+    let Some(status) = status else {
+        return Ok(());
+    };
+    say(
+        notes,
+        &[
+            Piece::Text(b"return status "),
+            Piece::Signed(status),
+            Piece::Text(b"\n"),
+        ],
+    )
+}
+
+// A message as it is printed: control characters are spaces.
+fn shown(message: &[u8]) -> ArrayVec<u8, MESSAGE_ROOM>
+    requires { length message.now ≤ 512 }
+    ensures { result.items ≡ map shown_byte message.now }
+{
+    let mut text = ArrayVec::new();
+    'bytes: for &byte in message {
+        text.push(if byte < b' ' || byte == 0x7F {
+            b' '
+        } else {
+            byte
+        });
+    }
+    text
+}
+
+// Writes the line of the first error with its message, if there is one.
+fn say_error<W: Write>(
+    notes: &mut Counted<W>,
+    error: &Option<ServerError>,
+    message: &[u8],
+) -> Result<(), Unsaid>
+    requires { length message.now ≤ 512 }
+    ensures { Says (W.contents notes.old.device) notes.old.failures (W.contents notes.new.device) notes.new.failures (error_line error.now message.now) result }
+{
+    let Some(error) = error else {
+        return Ok(());
+    };
+    let text = shown(message);
+    say(
+        notes,
+        &[
+            Piece::Text(b"server error "),
+            Piece::Signed(error.number),
+            Piece::Text(b", state "),
+            Piece::Number(u64::from(error.state)),
+            Piece::Text(b", class "),
+            Piece::Number(u64::from(error.class)),
+            Piece::Text(b", line "),
+            Piece::Signed(error.line),
+            Piece::Text(b": "),
+            Piece::Text(text.as_slice()),
+            Piece::Text(b"\n"),
+        ],
+    )
+}
+
+// Writes the lines of a report.
+fn say_report<W: Write>(
+    notes: &mut Counted<W>,
+    report: &Report,
+    message: &[u8],
+) -> Result<(), Unsaid>
+    requires { length message.now ≤ 512 }
+    ensures { Says (W.contents notes.old.device) notes.old.failures (W.contents notes.new.device) notes.new.failures (answer_lines (Ok report.now) message.now) result }
+{
+    say_counts(notes, report)?;
+    say_values(notes, report.return_values)?;
+    say_status(notes, report.return_status)?;
+    say_error(notes, &report.first_error, message)
+}
+
+/// Writes the lines of an export's answer, with the message of the first error.
+pub(crate) fn say_answer<W: Write>(
+    notes: &mut Counted<W>,
+    answer: &Result<Report, Stopped>,
+    message: &[u8],
+) -> Result<(), Unsaid>
+    requires { length message.now ≤ 512 }
+    ensures { Says (W.contents notes.old.device) notes.old.failures (W.contents notes.new.device) notes.new.failures (answer_lines answer.now message.now) result }
+{
+    match answer {
+        Ok(report) => say_report(notes, report, message),
+        Err(stopped) => say_stop(notes, stopped),
+    }
+}
+
+/// Writes the line of want of memory.
+pub(crate) fn say_want_of_memory<W: Write>(notes: &mut Counted<W>) -> Result<(), Unsaid>
+    ensures { Says (W.contents notes.old.device) notes.old.failures (W.contents notes.new.device) notes.new.failures memory_line result }
+{
+    say(notes, &[Piece::Text(b"want of memory\n")])
+}

@@ -1,0 +1,68 @@
+// The pieces of a line on standard error.
+ghost use Rattle.std.specs.Prelude.{◌≡◌, ◌++◌, take};
+ghost use Rattle.tds_replay.specs.Lines.{piece_text, text_of};
+ghost use Rattle.tds_replay.specs.Saying.{Says};
+
+use itoa::Buffer;
+use std::io::Write;
+use tds_packet::Counted;
+
+/// A piece of a line.
+#[derive(Debug, Clone, Copy)]
+pub(crate) enum Piece<'a> {
+    /// Text as it stands.
+    Text(&'a [u8]),
+    /// A number in decimal.
+    Number(u64),
+    /// A number in decimal, with its sign where it is negative.
+    Signed(i32),
+    /// A byte as `0x` and two lower-case hexadecimal digits.
+    Byte(u8),
+}
+
+/// A write failed, which its device counted.
+#[derive(Debug, Clone, Copy)]
+pub(crate) struct Unsaid;
+
+// Writes bytes.
+fn put<W: Write>(notes: &mut Counted<W>, bytes: &[u8]) -> Result<(), Unsaid>
+    ensures { Says (W.contents notes.old.device) notes.old.failures (W.contents notes.new.device) notes.new.failures bytes.now result }
+{
+    match notes.deliver(bytes) {
+        Ok(()) => Ok(()),
+        Err(_) => Err(Unsaid),
+    }
+}
+
+// Writes a byte as `0x` and two digits.
+fn put_byte<W: Write>(notes: &mut Counted<W>, byte: u8) -> Result<(), Unsaid>
+    ensures { Says (W.contents notes.old.device) notes.old.failures (W.contents notes.new.device) notes.new.failures (piece_text (Piece.Byte byte)) result }
+{
+    let mut text = *b"0x00";
+    match hex::encode_to_slice([byte], &mut text[2..]) {
+        Ok(()) => put(notes, &text),
+        Err(_) => unreachable!(),
+    }
+}
+
+// Writes a piece.
+fn say_piece<W: Write>(notes: &mut Counted<W>, piece: &Piece) -> Result<(), Unsaid>
+    ensures { Says (W.contents notes.old.device) notes.old.failures (W.contents notes.new.device) notes.new.failures (piece_text piece.now) result }
+{
+    match *piece {
+        Piece::Text(text) => put(notes, text),
+        Piece::Number(n) => put(notes, Buffer::new().format(n).as_bytes()),
+        Piece::Signed(n) => put(notes, Buffer::new().format(n).as_bytes()),
+        Piece::Byte(byte) => put_byte(notes, byte),
+    }
+}
+
+/// Writes pieces, one after the other, until a write fails.
+pub(crate) fn say<W: Write>(notes: &mut Counted<W>, pieces: &[Piece]) -> Result<(), Unsaid>
+    ensures { Says (W.contents notes.old.device) notes.old.failures (W.contents notes.new.device) notes.new.failures (text_of pieces.now) result }
+{
+    'pieces: for piece in pieces {
+        say_piece(notes, piece)?;
+    }
+    Ok(())
+}
