@@ -1,27 +1,26 @@
 -- The elements of a description of one column, as they are read into its area.
-use Rattle.std.proofs.Common.{◌≡◌, ◌≢◌, ◌∙◌, ◌⊎◌, inl, inr, ℕ, ◌+◌, ◌*◌, ◌-◌, ◌%◌, ◌<◌, ◌≤◌, List, [], ◌∷◌, ◌++◌, length, take, drop, max, refl, sym, ap, subst, arith, le_refl, append-nil, length-append}
-use Rattle.std.specs.Prelude.{Bool, true, false, Option, Some, None, nat_lt, ◌==◌, slice_index, unwrap_or, if◌then◌else◌}
+use Rattle.std.proofs.Common.{◌≡◌, ◌≢◌, ◌∙◌, inl, inr, ℕ, ◌+◌, ◌*◌, ◌-◌, ◌%◌, ◌<◌, ◌≤◌, List, [], ◌∷◌, ◌++◌, length, take, drop, max, refl, sym, ap, subst, arith, le_refl, length-append}
+use Rattle.std.specs.Prelude.{true, false, Option, Some, None, nat_lt, ◌==◌, slice_index, unwrap_or, if◌then◌else◌}
 use Rattle.std.proofs.lemmas.Bool.Decides.{nat_tests}
 use Rattle.std.proofs.lemmas.List.{get_or-append-add}
 use Rattle.std.proofs.Math.Seq.{drop-append_seam, take-append_seam}
 use Rattle.std.proofs.Math.ListN.{drop_of_length-le}
 use Rattle.byteorder.specs.Endian.{little_number}
 use Rattle.tds_values.specs.Numbers.{little}
-use Rattle.tds_values.specs.TypeInfo.{named_kind, rest_length}
-use Rattle.tds_values.specs.declared.kind.Kind.TheVariants.{Int4}
+use Rattle.tds_values.specs.TypeInfo.{kind_of, rest_length}
+use Rattle.tds_values.specs.declared.kind.Kind.{Kind}
 use Rattle.tds_meter.specs.Space.{Space, appended, holding}
 use Rattle.tds_packet.specs.declared.fault.Fault.{Fault}
-use Rattle.tds_packet.specs.declared.fault.Fault.TheVariants.{DescriptionTooLong, MessageEnded, NoColumns, NotYet}
-use Rattle.tds_packet.specs.declared.fault.Place.{Place}
+use Rattle.tds_packet.specs.declared.fault.Fault.TheVariants.{DescriptionTooLong, MessageEnded, NoColumns}
 use Rattle.tds_packet.specs.declared.fault.Place.TheVariants.{Payload}
 use Rattle.tds_packet.specs.declared.fault.Stop.{Stop}
 use Rattle.tds_packet.specs.Elements.{IsNext}
-use Rattle.tds_packet.specs.Seen.{Seen, Takes, IsBetween, began_at, place_at}
+use Rattle.tds_packet.specs.Seen.{Seen, Takes, began_at, place_at}
 use Rattle.tds_packet.specs.Reading.{IsCutStop, Reads}
-use Rattle.tds_columns.specs.Description.{BeforeCount, ColumnHead, Column, DescriptionPart, InColumn, NameCount, NameUnits, NoDescription, WholeDescription, count_fault, description, description_bytes, described_end, described_size, first_of_two, span, too_long, type_fault, with_count, with_type}
+use Rattle.tds_columns.specs.Description.{BeforeCount, DescriptionPart, InColumn, NameUnits, NoDescription, WholeDescription, count_fault, description, description_bytes, described_end, described_size, first_of_two, span, too_long, type_fault, with_count, with_kind, with_type}
 use Rattle.tds_export.specs.Built.{is_built_description}
 use Rattle.tds_export.specs.Elements.{TakesInto, EndsInto}
-use Rattle.tds_export.specs.Running.{Describes, HasName, IsCountFault, ReadsUnbuilt, Stalls, StallsDescribing, one_count, one_head, one_int}
+use Rattle.tds_export.specs.Running.{Describes, HasName, IsCountFault, IsFixed, IsFixedType, IsTypeFault, ReadsUnbuilt, Stalls, StallsDescribing, one_column, one_count, one_head}
 use Rattle.tds_export.proofs.Steps.{cut_at_once, reads_both, reads_one, refused_at_once, stalls_after, unbuilt_at_once}
 
 -- a call of many bytes and a cut element of an open token stop alike
@@ -158,34 +157,35 @@ head_size element e = omega (arith, e)
 abbrev head_fault : ℕ → ℕ → ℕ → Option Fault
 head_fault room n byte = first_of_two (type_fault 0 byte (rest_length byte)) (too_long room (n + 7) ((unwrap_or (rest_length byte) 0 + 1) + 8 * (1 - (0 + 1))))
 
-int_head_free : (room n : ℕ) → n ≡ 2 → 10 ≤ room → head_fault room n 0x38 ≡ None
-unfolding rest_length
-int_head_free room n two fits = ap (λ v. if v then Some DescriptionTooLong else None) (test_false room ((n + 7) + 1) (omega (arith, two, fits)))
+-- a type byte of a kind of fixed length begins its name at once
+fixed_head_free : (room n byte : ℕ) → rest_length byte ≡ Some 0 → n ≡ 2 → 10 ≤ room → head_fault room n byte ≡ None
+fixed_head_free room n byte rest two fits =
+    ap (λ r. first_of_two (type_fault 0 byte r) (too_long room (n + 7) ((unwrap_or r 0 + 1) + 8 * (1 - (0 + 1))))) rest
+    ∙ ap (λ v. if v then Some DescriptionTooLong else None) (test_false room ((n + 7) + 1) (omega (arith, two, fits)))
 
-int_head_to : (bytes : List ℕ) → with_type bytes 1 [] 0x38 (unwrap_or (rest_length 0x38) 0) ≡ one_count bytes
-unfolding rest_length named_kind
-int_head_to bytes = refl
+fixed_head_to : (bytes : List ℕ) (byte : ℕ) (kind : Kind) → rest_length byte ≡ Some 0 → kind_of (byte ∷ []) ≡ Some kind → with_type bytes 1 [] byte (unwrap_or (rest_length byte) 0) ≡ one_count kind bytes
+fixed_head_to bytes byte kind rest is = ap (λ r. with_type bytes 1 [] byte (unwrap_or r 0)) rest ∙ ap (with_kind bytes 1 []) is
 
--- the type byte is 0x38
-pub head_int : (room : ℕ) (a b : Seen) (before after : Space) (place place' : ℕ) → 10 ≤ room → length before.bytes ≡ 2 → TakesInto a b before after 7 → slice_index after.bytes 8 ≡ 0x38 → place' ≡ place + 7
-    → Describes room (one_head before.bytes) a b place place' before.peak after (one_count after.bytes) × (length after.bytes ≡ 9)
-head_int room a b before after place place' fits two t int at =
+-- the type byte is that of a kind of fixed length
+pub head_fixed : (kind : Kind) (room : ℕ) (a b : Seen) (before after : Space) (place place' : ℕ) → 10 ≤ room → length before.bytes ≡ 2 → TakesInto a b before after 7 → IsFixedType (slice_index after.bytes 8) kind → place' ≡ place + 7
+    → Describes room (one_head before.bytes) a b place place' before.peak after (one_count kind after.bytes) × (length after.bytes ≡ 9) × IsFixed kind
+head_fixed kind room a b before after place place' fits two t is at =
     let e = t.element in
     let bytes : after.bytes ≡ before.bytes ++ e = ap (λ (s : Space). s.bytes) t.stands in
-    let byte : slice_index e 6 ≡ 0x38 = sym (index_behind 2 before.bytes e 6 two) ∙ ap (λ l. slice_index l 8) (sym bytes) ∙ int in
+    let byte : slice_index after.bytes 8 ≡ slice_index e 6 = ap (λ l. slice_index l 8) bytes ∙ index_behind 2 before.bytes e 6 two in
+    let fixed : IsFixedType (slice_index e 6) kind = subst (λ n. IsFixedType n kind) byte is in
     let len : length after.bytes ≡ 9 = omega (arith, ap length bytes, length-append before.bytes e, t.whole, two) in
-    let free : (description room).fault (one_head before.bytes) e ≡ None =
-    subst (λ n. head_fault room (length before.bytes) n ≡ None) (sym byte) (int_head_free room (length before.bytes) two fits) in
-    let to : (description room).add (one_head before.bytes) e ≡ one_count after.bytes =
-    subst (λ n. with_type (before.bytes ++ e) 1 [] n (unwrap_or (rest_length n) 0) ≡ one_count after.bytes) (sym byte) (int_head_to (before.bytes ++ e) ∙ ap one_count (sym bytes)) in (
+    let free : (description room).fault (one_head before.bytes) e ≡ None = fixed_head_free room (length before.bytes) (slice_index e 6) fixed.0 two fits in
+    let to : (description room).add (one_head before.bytes) e ≡ one_count kind after.bytes = fixed_head_to (before.bytes ++ e) (slice_index e 6) kind fixed.0 fixed.1 ∙ ap (one_count kind) (sym bytes) in (
       record {
-        reads = reads_one (description room) (one_head before.bytes) a b e (one_count after.bytes) (record { some = head_size e t.whole; whole = t.whole; free = free }) (subst (λ k. Takes a b e k) (sym t.whole) t.takes) to;
+        reads = reads_one (description room) (one_head before.bytes) a b e (one_count kind after.bytes) (record { some = head_size e t.whole; whole = t.whole; free = free }) (subst (λ k. Takes a b e k) (sym t.whole) t.takes) to;
         place_is = at ∙ ap (λ k. place + k) (sym t.whole);
         kept = refl;
         bound = omega (arith, grown_peak before e after 2 7 t.stands two t.whole, len);
         further = omega (arith, len, two);
       },
       len,
+      fixed.2,
     )
 
 cut_to : (before : Space) (element : List ℕ) (after cut : Space) (n : ℕ) → after ≡ appended before element → length before.bytes ≡ n → cut ≡ holding after (take n after.bytes) → (cut.bytes ≡ before.bytes) × (cut.peak ≡ max before.peak (length before.bytes + length element))
@@ -194,80 +194,90 @@ cut_to before element after cut n is len e = (
   ap (λ (s : Space). s.peak) e ∙ ap (λ (s : Space). s.peak) is ∙ ap (λ k. max before.peak k) (length-append before.bytes element),
 )
 
--- any other type byte isn't built
-pub head_stops : (room : ℕ) (a b : Seen) (before after cut : Space) (place : ℕ) → length before.bytes ≡ 2 → TakesInto a b before after 7 → slice_index after.bytes 8 ≢ 0x38 → cut ≡ holding after (take 2 after.bytes)
-    → StallsDescribing room (one_head before.bytes) a b place before.peak cut (record { fault = NotYet; place = Payload place })
-head_stops room a b before after cut place two t other e =
-    let element = t.element in
-    let bytes : after.bytes ≡ before.bytes ++ element = ap (λ (s : Space). s.bytes) t.stands in
-    let byte : slice_index after.bytes 8 ≡ slice_index element 6 = ap (λ l. slice_index l 8) bytes ∙ index_behind 2 before.bytes element 6 two in
-    let unbuilt : is_built_description (one_head before.bytes) element ≡ false = differ (slice_index element 6) 0x38 (λ same. other (byte ∙ same)) in
-    let back = cut_to before element after cut 2 t.stands two e in
+-- any other type byte is refused, or isn't built
+pub head_stops : (room : ℕ) (a b : Seen) (before after cut : Space) (place : ℕ) (fault : Fault) → length before.bytes ≡ 2 → TakesInto a b before after 7 → IsTypeFault (slice_index after.bytes 8) fault → cut ≡ holding after (take 2 after.bytes)
+    → StallsDescribing room (one_head before.bytes) a b place before.peak cut (record { fault = fault; place = Payload place })
+head_stops room a b before after cut place fault two t why e =
+    let back = cut_to before t.element after cut 2 t.stands two e in
     record {
       at = one_head before.bytes;
-      stalls = inr (unbuilt_at_once (description room) is_built_description (one_head before.bytes) a b place element (head_size element t.whole) t.whole unbuilt (subst (λ k. Takes a b element k) (sym t.whole) t.takes) t.between);
+      stalls = stalls (subst (λ n. IsTypeFault n fault) byte why);
       kept = back.0;
       bound = omega (arith, back.1, t.whole, two);
       further = le_refl (span (one_head before.bytes));
     }
+  where
+    byte : slice_index after.bytes 8 ≡ slice_index t.element 6
+    byte = ap (λ (s : Space). slice_index s.bytes 8) t.stands ∙ index_behind 2 before.bytes t.element 6 two
+
+    takes : Takes a b t.element (length t.element)
+    takes = subst (λ k. Takes a b t.element k) (sym t.whole) t.takes
+
+    stalls : IsTypeFault (slice_index t.element 6) fault → Stalls (description room) is_built_description (one_head before.bytes) a b place (one_head before.bytes) (record { fault = fault; place = Payload place })
+    stalls (inl x) =
+        let first : (description room).fault (one_head before.bytes) t.element ≡ Some fault = ap (λ f. first_of_two f (too_long room (length before.bytes + 7) ((unwrap_or (rest_length (slice_index t.element 6)) 0 + 1) + 8 * (1 - (0 + 1))))) x in
+        inl (refused_at_once (description room) (one_head before.bytes) a b place t.element fault (head_size t.element t.whole) t.whole first takes t.between)
+    stalls (inr x) =
+        inr (subst (λ f. ReadsUnbuilt (description room) is_built_description (one_head before.bytes) a b place (one_head before.bytes) (record { fault = f; place = Payload place })) (sym x.0)
+        (unbuilt_at_once (description room) is_built_description (one_head before.bytes) a b place t.element (head_size t.element t.whole) t.whole x.1 takes t.between))
 
 -- ---- the column's name
 
 -- the count of its units is too great
-pub name_stops : (room : ℕ) (a b : Seen) (before after cut : Space) (place : ℕ) → length before.bytes ≡ 9 → TakesInto a b before after 1 → room < 10 + 2 * slice_index after.bytes 9 → cut ≡ holding after (take 9 after.bytes)
-    → StallsDescribing room (one_count before.bytes) a b place before.peak cut (record { fault = DescriptionTooLong; place = Payload place })
-name_stops room a b before after cut place nine t long e =
+pub name_stops : (kind : Kind) (room : ℕ) (a b : Seen) (before after cut : Space) (place : ℕ) → length before.bytes ≡ 9 → TakesInto a b before after 1 → room < 10 + 2 * slice_index after.bytes 9 → cut ≡ holding after (take 9 after.bytes)
+    → StallsDescribing room (one_count kind before.bytes) a b place before.peak cut (record { fault = DescriptionTooLong; place = Payload place })
+name_stops kind room a b before after cut place nine t long e =
     let element = t.element in
     let bytes : after.bytes ≡ before.bytes ++ element = ap (λ (s : Space). s.bytes) t.stands in
     let byte : slice_index after.bytes 9 ≡ slice_index element 0 = ap (λ l. slice_index l 9) bytes ∙ index_behind 9 before.bytes element 0 nine in
-    let first : (description room).fault (one_count before.bytes) element ≡ Some DescriptionTooLong =
+    let first : (description room).fault (one_count kind before.bytes) element ≡ Some DescriptionTooLong =
     ap (λ v. if v then Some DescriptionTooLong else None) (test_true room ((length before.bytes + 1) + (2 * slice_index element 0 + 0)) (omega (arith, long, byte, nine))) in
     let back = cut_to before element after cut 9 t.stands nine e in
     let one : length element ≡ 1 = t.whole in
     record {
-      at = one_count before.bytes;
-      stalls = inl (refused_at_once (description room) (one_count before.bytes) a b place element DescriptionTooLong (omega (arith, one)) t.whole first (subst (λ k. Takes a b element k) (sym t.whole) t.takes) t.between);
+      at = one_count kind before.bytes;
+      stalls = inl (refused_at_once (description room) (one_count kind before.bytes) a b place element DescriptionTooLong (omega (arith, one)) t.whole first (subst (λ k. Takes a b element k) (sym t.whole) t.takes) t.between);
       kept = back.0;
       bound = omega (arith, back.1, t.whole, nine);
-      further = le_refl (span (one_count before.bytes));
+      further = le_refl (span (one_count kind before.bytes));
     }
 
 -- the state behind the count of the units
-abbrev pub after_count : List ℕ → ℕ → DescriptionPart
-after_count bytes units = if units == 0 then WholeDescription bytes (record { kind = Int4; name = [] } ∷ []) else InColumn bytes 1 [] (NameUnits Int4 (2 * units))
+abbrev pub after_count : Kind → List ℕ → ℕ → DescriptionPart
+after_count kind bytes units = if units == 0 then WholeDescription bytes (record { kind = kind; name = [] } ∷ []) else InColumn bytes 1 [] (NameUnits kind (2 * units))
 
-count_free : (room : ℕ) (before : Space) (element : List ℕ) (after : Space) → length before.bytes ≡ 9 → after ≡ appended before element → 10 + 2 * slice_index after.bytes 9 ≤ room → (description room).fault (one_count before.bytes) element ≡ None
-count_free room before element after nine is fits =
+count_free : (kind : Kind) (room : ℕ) (before : Space) (element : List ℕ) (after : Space) → length before.bytes ≡ 9 → after ≡ appended before element → 10 + 2 * slice_index after.bytes 9 ≤ room → (description room).fault (one_count kind before.bytes) element ≡ None
+count_free kind room before element after nine is fits =
     let byte : slice_index after.bytes 9 ≡ slice_index element 0 = ap (λ (s : Space). slice_index s.bytes 9) is ∙ index_behind 9 before.bytes element 0 nine in
     ap (λ v. if v then Some DescriptionTooLong else None) (test_false room ((length before.bytes + 1) + (2 * slice_index element 0 + 0)) (omega (arith, fits, byte, nine)))
 
-count_to : (room : ℕ) (before : Space) (element : List ℕ) (after : Space) → length before.bytes ≡ 9 → after ≡ appended before element → (description room).add (one_count before.bytes) element ≡ after_count after.bytes (slice_index after.bytes 9)
-count_to room before element after nine is =
+count_to : (kind : Kind) (room : ℕ) (before : Space) (element : List ℕ) (after : Space) → length before.bytes ≡ 9 → after ≡ appended before element → (description room).add (one_count kind before.bytes) element ≡ after_count kind after.bytes (slice_index after.bytes 9)
+count_to kind room before element after nine is =
     let bytes : after.bytes ≡ before.bytes ++ element = ap (λ (s : Space). s.bytes) is in
     let byte : slice_index after.bytes 9 ≡ slice_index element 0 = ap (λ l. slice_index l 9) bytes ∙ index_behind 9 before.bytes element 0 nine in
-    ap (λ l. after_count l (slice_index element 0)) (sym bytes) ∙ ap (after_count after.bytes) (sym byte)
+    ap (λ l. after_count kind l (slice_index element 0)) (sym bytes) ∙ ap (after_count kind after.bytes) (sym byte)
 
 one_some : (element : List ℕ) → length element ≡ 1 → 0 < length element
 one_some element e = omega (arith, e)
 
-abbrev count_read : (room : ℕ) (a b : Seen) (before after : Space) → length before.bytes ≡ 9 → (t : TakesInto a b before after 1) → 10 + 2 * slice_index after.bytes 9 ≤ room → (to : DescriptionPart) → after_count after.bytes (slice_index after.bytes 9) ≡ to
-    → Reads (description room) (one_count before.bytes) a b to
-count_read room a b before after nine t fits to is =
-    reads_one (description room) (one_count before.bytes) a b t.element to (record { some = one_some t.element t.whole; whole = t.whole; free = count_free room before t.element after nine t.stands fits })
-    (subst (λ k. Takes a b t.element k) (sym t.whole) t.takes) (count_to room before t.element after nine t.stands ∙ is)
+abbrev count_read : (kind : Kind) (room : ℕ) (a b : Seen) (before after : Space) → length before.bytes ≡ 9 → (t : TakesInto a b before after 1) → 10 + 2 * slice_index after.bytes 9 ≤ room → (to : DescriptionPart) → after_count kind after.bytes (slice_index after.bytes 9) ≡ to
+    → Reads (description room) (one_count kind before.bytes) a b to
+count_read kind room a b before after nine t fits to is =
+    reads_one (description room) (one_count kind before.bytes) a b t.element to (record { some = one_some t.element t.whole; whole = t.whole; free = count_free kind room before t.element after nine t.stands fits })
+    (subst (λ k. Takes a b t.element k) (sym t.whole) t.takes) (count_to kind room before t.element after nine t.stands ∙ is)
 
 ten : (before : Space) (element : List ℕ) (after : Space) → length before.bytes ≡ 9 → length element ≡ 1 → after ≡ appended before element → length after.bytes ≡ 10
 ten before element after nine one is = omega (arith, ap (λ (s : Space). length s.bytes) is, length-append before.bytes element, nine, one)
 
-pub name_none : (room : ℕ) (a b : Seen) (before after : Space) (place place' : ℕ) → length before.bytes ≡ 9 → (t : TakesInto a b before after 1) → 10 ≤ room → slice_index after.bytes 9 ≡ 0 → place' ≡ place + 1
-    → Describes room (one_count before.bytes) a b place place' before.peak after (one_int after.bytes)
-name_none room a b before after place place' nine t fits zero at =
+pub name_none : (kind : Kind) (room : ℕ) (a b : Seen) (before after : Space) (place place' : ℕ) → length before.bytes ≡ 9 → (t : TakesInto a b before after 1) → 10 ≤ room → slice_index after.bytes 9 ≡ 0 → place' ≡ place + 1
+    → Describes room (one_count kind before.bytes) a b place place' before.peak after (one_column kind after.bytes)
+name_none kind room a b before after place place' nine t fits zero at =
     let len = ten before t.element after nine t.whole t.stands in
     let short : length after.bytes ≤ 10 = omega (arith, len) in
     let no_name : [] ≡ drop 10 after.bytes = sym (drop_of_length-le after.bytes short) in
-    let is : after_count after.bytes (slice_index after.bytes 9) ≡ one_int after.bytes = ap (after_count after.bytes) zero ∙ ap (λ l. WholeDescription after.bytes (record { kind = Int4; name = l } ∷ [])) no_name in
+    let is : after_count kind after.bytes (slice_index after.bytes 9) ≡ one_column kind after.bytes = ap (after_count kind after.bytes) zero ∙ ap (λ l. WholeDescription after.bytes (record { kind = kind; name = l } ∷ [])) no_name in
     record {
-      reads = count_read room a b before after nine t (omega (arith, fits, zero)) (one_int after.bytes) is;
+      reads = count_read kind room a b before after nine t (omega (arith, fits, zero)) (one_column kind after.bytes) is;
       place_is = at ∙ ap (λ k. place + k) (sym t.whole);
       kept = refl;
       bound = omega (arith, grown_peak before t.element after 9 1 t.stands nine t.whole, len);
@@ -275,27 +285,27 @@ name_none room a b before after place place' nine t fits zero at =
     }
 
 -- behind the count of the units, of which there are some
-abbrev in_name : List ℕ → DescriptionPart
-in_name bytes = InColumn bytes 1 [] (NameUnits Int4 (2 * slice_index bytes 9))
+abbrev in_name : Kind → List ℕ → DescriptionPart
+in_name kind bytes = InColumn bytes 1 [] (NameUnits kind (2 * slice_index bytes 9))
 
-in_name_is : (bytes : List ℕ) → slice_index bytes 9 ≢ 0 → after_count bytes (slice_index bytes 9) ≡ in_name bytes
-in_name_is bytes some = ap (λ v. if v then WholeDescription bytes (record { kind = Int4; name = [] } ∷ []) else in_name bytes) (differ (slice_index bytes 9) 0 some)
+in_name_is : (kind : Kind) (bytes : List ℕ) → slice_index bytes 9 ≢ 0 → after_count kind bytes (slice_index bytes 9) ≡ in_name kind bytes
+in_name_is kind bytes some = ap (λ v. if v then WholeDescription bytes (record { kind = kind; name = [] } ∷ []) else in_name kind bytes) (differ (slice_index bytes 9) 0 some)
 
-pub name_units : (room : ℕ) (a b c : Seen) (before middle after : Space) (place place' : ℕ) → length before.bytes ≡ 9 → (t : TakesInto a b before middle 1) → 10 + 2 * slice_index middle.bytes 9 ≤ room → slice_index middle.bytes 9 ≢ 0
+pub name_units : (kind : Kind) (room : ℕ) (a b c : Seen) (before middle after : Space) (place place' : ℕ) → length before.bytes ≡ 9 → (t : TakesInto a b before middle 1) → 10 + 2 * slice_index middle.bytes 9 ≤ room → slice_index middle.bytes 9 ≢ 0
     → (u : TakesInto b c middle after (2 * slice_index middle.bytes 9)) → place' ≡ (place + 1) + 2 * slice_index middle.bytes 9
-    → Describes room (one_count before.bytes) a c place place' before.peak after (one_int after.bytes)
-name_units room a b c before middle after place place' nine t fits some u at =
+    → Describes room (one_count kind before.bytes) a c place place' before.peak after (one_column kind after.bytes)
+name_units kind room a b c before middle after place place' nine t fits some u at =
     let name = u.element in
     let len = ten before t.element middle nine t.whole t.stands in
     let bytes : after.bytes ≡ middle.bytes ++ name = ap (λ (s : Space). s.bytes) u.stands in
     let name_is : name ≡ drop 10 after.bytes = sym (ap (drop 10) bytes ∙ ap (λ k. drop k (middle.bytes ++ name)) (sym len) ∙ drop-append_seam middle.bytes name) in
-    let is : WholeDescription (middle.bytes ++ name) (record { kind = Int4; name = name } ∷ []) ≡ one_int after.bytes =
-    ap (λ l. WholeDescription l (record { kind = Int4; name = name } ∷ [])) (sym bytes) ∙ ap (λ l. WholeDescription after.bytes (record { kind = Int4; name = l } ∷ [])) name_is in
+    let is : WholeDescription (middle.bytes ++ name) (record { kind = kind; name = name } ∷ []) ≡ one_column kind after.bytes =
+    ap (λ l. WholeDescription l (record { kind = kind; name = name } ∷ [])) (sym bytes) ∙ ap (λ l. WholeDescription after.bytes (record { kind = kind; name = l } ∷ [])) name_is in
     let units : length name ≡ 2 * slice_index middle.bytes 9 = u.whole in
-    let last = reads_one (description room) (in_name middle.bytes) b c name (one_int after.bytes) (record { some = omega (arith, units, positive (slice_index middle.bytes 9) some); whole = u.whole; free = refl })
+    let last = reads_one (description room) (in_name kind middle.bytes) b c name (one_column kind after.bytes) (record { some = omega (arith, units, positive (slice_index middle.bytes 9) some); whole = u.whole; free = refl })
     (subst (λ k. Takes b c name k) (sym u.whole) u.takes) is in
     record {
-      reads = reads_both (description room) (one_count before.bytes) (in_name middle.bytes) (one_int after.bytes) a b c (count_read room a b before middle nine t fits (in_name middle.bytes) (in_name_is middle.bytes some)) last;
+      reads = reads_both (description room) (one_count kind before.bytes) (in_name kind middle.bytes) (one_column kind after.bytes) a b c (count_read kind room a b before middle nine t fits (in_name kind middle.bytes) (in_name_is kind middle.bytes some)) last;
       place_is = at ∙ omega (arith, length-append t.element name, t.whole, units);
       kept = refl;
       bound = omega (arith, grown_peak before t.element middle 9 1 t.stands nine t.whole, ap (λ (s : Space). s.peak) u.stands, ap length bytes, length-append middle.bytes name, len);
@@ -305,17 +315,17 @@ name_units room a b c before middle after place place' nine t fits some u at =
     positive : (n : ℕ) → n ≢ 0 → 0 < n
     positive n h = omega (arith, h)
 
-pub name_cut : (room : ℕ) (a b c : Seen) (before middle after : Space) (place : ℕ) (stop : Stop) → length before.bytes ≡ 9 → (t : TakesInto a b before middle 1) → 10 + 2 * slice_index middle.bytes 9 ≤ room → slice_index middle.bytes 9 ≢ 0
+pub name_cut : (kind : Kind) (room : ℕ) (a b c : Seen) (before middle after : Space) (place : ℕ) (stop : Stop) → length before.bytes ≡ 9 → (t : TakesInto a b before middle 1) → 10 + 2 * slice_index middle.bytes 9 ≤ room → slice_index middle.bytes 9 ≢ 0
     → EndsInto b c middle after (place + 1) (2 * slice_index middle.bytes 9) stop
-    → StallsDescribing room (one_count before.bytes) a c place before.peak after stop
-name_cut room a b c before middle after place stop nine t fits some e =
+    → StallsDescribing room (one_count kind before.bytes) a c place before.peak after stop
+name_cut kind room a b c before middle after place stop nine t fits some e =
     let len = ten before t.element middle nine t.whole t.stands in
-    let first = count_read room a b before middle nine t fits (in_name middle.bytes) (in_name_is middle.bytes some) in
-    let cut = description_cut room (in_name middle.bytes) b c middle after (place + 1) (2 * slice_index middle.bytes 9) stop e refl refl refl refl in
+    let first = count_read kind room a b before middle nine t fits (in_name kind middle.bytes) (in_name_is kind middle.bytes some) in
+    let cut = description_cut room (in_name kind middle.bytes) b c middle after (place + 1) (2 * slice_index middle.bytes 9) stop e refl refl refl refl in
     let at : place + 1 ≡ place + length t.element = ap (λ k. place + k) (sym t.whole) in
     record {
       at = cut.at;
-      stalls = stalls_after (description room) is_built_description (one_count before.bytes) (in_name middle.bytes) a b c place cut.at stop first (subst (λ p. Stalls (description room) is_built_description (in_name middle.bytes) b c p cut.at stop) at cut.stalls);
+      stalls = stalls_after (description room) is_built_description (one_count kind before.bytes) (in_name kind middle.bytes) a b c place cut.at stop first (subst (λ p. Stalls (description room) is_built_description (in_name kind middle.bytes) b c p cut.at stop) at cut.stalls);
       kept = cut.kept;
       bound = omega (arith, cut.bound, grown_peak before t.element middle 9 1 t.stands nine t.whole, len);
       further = omega (arith, len, nine);

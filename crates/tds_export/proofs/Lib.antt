@@ -10,6 +10,7 @@ pub mod SuccessLaws
 pub mod Utf8Vectors
 pub mod Vectors
 pub mod Steps
+pub mod TypeBytes
 pub mod DescriptionSteps
 pub mod HeaderTexts
 pub mod TokenLaws

@@ -1,39 +1,38 @@
 -- The tokens that are built, as they are read and their text is put.
-use Rattle.std.proofs.Common.{◌≡◌, ◌≢◌, ◌∙◌, ◌⊎◌, inl, inr, ℕ, ◌+◌, ◌*◌, ◌-◌, ◌%◌, ◌^◌, ◌<◌, ◌≤◌, Bool, true, false, List, [], ◌∷◌, ◌++◌, length, take, drop, max, refl, sym, ap, subst, arith, le_refl, append_assoc, append-nil, length-append, length-take, suc, zero}
-use Rattle.std.specs.Prelude.{Option, Some, None, Ok, nat_lt, ◌==◌, is_ok, map, slice_index, if◌then◌else◌}
-use Rattle.std.proofs.lemmas.Bool.Decides.{nat_tests}
-use Rattle.tds_values.specs.declared.kind.Kind.TheVariants.{Int4}
+use Rattle.std.proofs.Common.{◌≡◌, ◌∙◌, inl, ℕ, ◌+◌, ◌-◌, ◌%◌, ◌^◌, ◌<◌, ◌≤◌, Bool, true, false, List, [], ◌∷◌, ◌++◌, length, take, drop, max, refl, sym, ap, subst, arith, append-nil, length-take, suc, zero}
+use Rattle.std.specs.Prelude.{Some, None, Ok, nat_lt, ◌==◌, is_ok, map, slice_index, if◌then◌else◌}
+use Rattle.tds_values.specs.declared.kind.Kind.{Kind}
+use Rattle.tds_values.specs.declared.kind.Kind.TheVariants as kinds
 use Rattle.tds_values.specs.declared.scalar.ScalarValue.{ScalarValue}
 use Rattle.tds_values.specs.Scalar.{read_of}
 use Rattle.tds_meter.specs.Space.{Space}
-use Rattle.tds_packet.specs.declared.fault.Fault.{Fault}
 use Rattle.tds_packet.specs.declared.fault.Fault.TheVariants.{BadValue, MessageEnded}
+use Rattle.tds_packet.specs.declared.fault.Place.TheVariants.{Payload}
 use Rattle.tds_packet.specs.declared.fault.Stop.{Stop}
-use Rattle.tds_packet.specs.Elements.{Grammar, IsNext, Spelt}
+use Rattle.tds_packet.specs.Elements.{IsNext, Spelt}
 use Rattle.tds_packet.specs.Seen.{Seen, Takes, Ends, IsBetween, began_at}
-use Rattle.tds_packet.specs.Reading.{Reads, StopsReading}
+use Rattle.tds_packet.specs.Reading.{StopsReading}
 use Rattle.tds_packet.proofs.ElementLaws.{Spelt-none, Spelt-one, one_state}
 use Rattle.tds_columns.specs.Description.{BeforeCount, Column, DescriptionPart, InColumn, NoDescription, WholeDescription, described_size, description, description_bytes, span}
 use Rattle.tds_csv.specs.Conversion.{Utf16Text, long_field}
 use Rattle.tds_csv.specs.Quoting.{line}
 use Rattle.tds_csv.specs.Sinks.{Breaks, Held, Puts}
-use Rattle.tds_csv.specs.Streaming.{BreaksStreaming, PutsText, Streams}
+use Rattle.tds_csv.specs.Streaming.{PutsText}
 use Rattle.tds_csv.proofs.Sinks.{Puts-none}
 use Rattle.tds_rows.specs.declared.Charset.{Charset}
-use Rattle.tds_rows.specs.Cells.{ScalarCell, WholeCell, field, unless, value_part}
+use Rattle.tds_rows.specs.Cells.{ScalarCell, field, unless, value_part}
 use Rattle.tds_rows.specs.Rows.{with_cell}
 use Rattle.tds_export.specs.declared.standing.Standing.{Standing}
 use Rattle.tds_export.specs.declared.report.Report.{Report}
-use Rattle.tds_export.specs.Tokens.{Token, Metadata, NoMetadata, Row, Done, between, encoded_after, greatest_span, header_line, how_many, is_set, span_of, text, text_after}
+use Rattle.tds_export.specs.Tokens.{Token, Metadata, NoMetadata, Row, Done, between, encoded_after, greatest_span, header_line, how_many, is_set, text}
 use Rattle.tds_export.specs.Response.{more}
 use Rattle.tds_export.specs.Built.{is_built, is_built_description}
-use Rattle.tds_export.specs.Export.{report_of}
-use Rattle.tds_export.specs.Reading.{Describing, Part, response, span_so_far, text_so_far, with_described, with_row}
-use Rattle.tds_export.specs.Running.{Describes, Halts, HaltsReading, HaltsWriting, IsHolding, ReadsToken, Stalls, StallsDescribing, Tracks, behind, in_done, in_metadata, in_row, one_int}
+use Rattle.tds_export.specs.Reading.{Part, response, text_so_far, with_described, with_row}
+use Rattle.tds_export.specs.Running.{Describes, Halts, HaltsReading, HaltsWriting, IsFixed, IsHolding, ReadsLine, ReadsToken, StallsDescribing, Tracks, behind, in_done, in_metadata, in_row, length_of, one_column}
 use Rattle.tds_export.proofs.DescriptionSteps.{began_is_cut}
-use Rattle.tds_export.proofs.Lifts.{LastInside, last_inside, reads_inside, stalls_inside, stalls_size}
+use Rattle.tds_export.proofs.Lifts.{last_inside, reads_inside, stalls_inside, stalls_size}
 use Rattle.tds_export.proofs.ResponseLaws.{description_in_response}
-use Rattle.tds_export.proofs.Steps.{cut_at_once, reads_one}
+use Rattle.tds_export.proofs.Steps.{cut_at_once, reads_one, refused_at_once}
 use Rattle.tds_export.proofs.TokenLaws.{begun_after, begun_where_sets, encoded_after-append, greatest_span-append, text_after-snoc, tracks_done, tracks_metadata, tracks_none, tracks_row}
 
 -- nothing more is put for the same text
@@ -84,56 +83,85 @@ done_reads charset room area sink tokens standing fields a b place place' at d t
 
 -- ---- ROW
 
-row_next : (charset : Charset) (room : ℕ) (tokens : List Token) (bytes : List ℕ) (value : ScalarValue) → length bytes ≡ 4 → read_of Int4 bytes ≡ Ok value → IsNext (response charset room) (in_row tokens) bytes
-row_next charset room tokens bytes value len is = record { some = omega (arith, len); whole = len; free = ap (λ r. unless (is_ok r) (BadValue 0)) is }
+-- the values of a kind of fixed length have some bytes
+fixed_some : (kind : Kind) → IsFixed kind → 0 < length_of kind
+fixed_some kinds.Int1 h = omega arith
+fixed_some kinds.Int2 h = omega arith
+fixed_some kinds.Int4 h = omega arith
+fixed_some kinds.Int8 h = omega arith
+fixed_some kinds.Bit h = omega arith
+fixed_some kinds.Money4 h = omega arith
+fixed_some kinds.Money8 h = omega arith
+fixed_some kinds.DateTime4 h = omega arith
+fixed_some kinds.DateTime8 h = omega arith
+fixed_some kind h = cc
 
-row_to : (charset : Charset) (room : ℕ) (tokens : List Token) (bytes : List ℕ) (value : ScalarValue) → read_of Int4 bytes ≡ Ok value → (response charset room).add (in_row tokens) bytes ≡ behind (tokens ++ Row (ScalarCell value ∷ []) ∷ [])
-row_to charset room tokens bytes value is = ap (λ r. with_row tokens (with_cell charset [] [] (value_part r))) is
+bytes_some : (kind : Kind) (bytes : List ℕ) → IsFixed kind → length bytes ≡ length_of kind → 0 < length bytes
+bytes_some kind bytes fixed len = omega (arith, fixed_some kind fixed, len)
 
-row_text : (tokens : List Token) (value : ScalarValue) → text_so_far (in_row tokens) ++ line (field (ScalarCell value) ∷ []) ≡ text_so_far (behind (tokens ++ Row (ScalarCell value ∷ []) ∷ []))
-row_text tokens value =
+row_next : (charset : Charset) (room : ℕ) (kind : Kind) (tokens : List Token) (bytes : List ℕ) (value : ScalarValue) → IsFixed kind → length bytes ≡ length_of kind → read_of kind bytes ≡ Ok value → IsNext (response charset room) (in_row kind tokens) bytes
+row_next charset room kind tokens bytes value fixed len is = record { some = bytes_some kind bytes fixed len; whole = len; free = ap (λ r. unless (is_ok r) (BadValue 0)) is }
+
+row_to : (charset : Charset) (room : ℕ) (kind : Kind) (tokens : List Token) (bytes : List ℕ) (value : ScalarValue) → read_of kind bytes ≡ Ok value → (response charset room).add (in_row kind tokens) bytes ≡ behind (tokens ++ Row (ScalarCell value ∷ []) ∷ [])
+row_to charset room kind tokens bytes value is = ap (λ r. with_row tokens (with_cell charset [] [] (value_part r))) is
+
+row_text : (kind : Kind) (tokens : List Token) (value : ScalarValue) → text_so_far (in_row kind tokens) ++ line (field (ScalarCell value) ∷ []) ≡ text_so_far (behind (tokens ++ Row (ScalarCell value ∷ []) ∷ []))
+row_text kind tokens value =
     let cells = ScalarCell value ∷ [] in
     ap (λ l. l ++ line (map field cells)) (append-nil (text tokens)) ∙ ap (λ l. text tokens ++ l) (sym (append-nil (line (map field cells)))) ∙ sym (append-nil (text tokens ++ (line (map field cells) ++ [])))
     ∙ ap (λ l. l ++ []) (sym (text_after-snoc false tokens (Row cells)))
 
-pub row_reads : (charset : Charset) (room : ℕ) (area : Space) (before after : Held) (tokens : List Token) (standing : Standing) (bytes : List ℕ) (value : ScalarValue) (a b : Seen) (place place' : ℕ) → place' ≡ place + length bytes → Tracks standing tokens → IsHolding area (behind tokens)
-    → length bytes ≡ 4 → read_of Int4 bytes ≡ Ok value → Takes a b bytes (length bytes) → Puts before after (line (field (ScalarCell value) ∷ []))
-    → ReadsToken (response charset room) (in_row tokens) tokens a b place place' before after (record standing { report = record standing.report { rows = standing.report.rows + 1 }; is_final = false }) area
-row_reads charset room area before after tokens standing bytes value a b place place' at tracks holds len is takes puts =
+pub row_reads : (charset : Charset) (room : ℕ) (kind : Kind) (area : Space) (before after : Held) (tokens : List Token) (standing : Standing) (piece : List ℕ) (a b : Seen) (place place' : ℕ) → IsFixed kind → Tracks standing tokens → IsHolding area (behind tokens)
+    → ReadsLine kind a b place place' piece → Puts before after piece
+    → ReadsToken (response charset room) (in_row kind tokens) tokens a b place place' before after (record standing { report = record standing.report { rows = standing.report.rows + 1 }; is_final = false }) area
+row_reads charset room kind area before after tokens standing piece a b place place' fixed tracks holds x puts =
+    let value = x.row.0 in
     let cells = ScalarCell value ∷ [] in
-    let reads = reads_one (response charset room) (in_row tokens) a b bytes (behind (tokens ++ Row cells ∷ [])) (row_next charset room tokens bytes value len is) takes (row_to charset room tokens bytes value is) in
+    let reads = reads_one (response charset room) (in_row kind tokens) a b x.bytes (behind (tokens ++ Row cells ∷ [])) (row_next charset room kind tokens x.bytes value fixed x.whole x.row.1) x.takes (row_to charset room kind tokens x.bytes value x.row.1) in
     record {
       token = Row cells;
-      streams = record { bytes = bytes; spelt = reads.spelt; takes = takes; puts = (line (map field cells), row_text tokens value, puts) };
-      place_is = at;
+      streams = record { bytes = x.bytes; spelt = reads.spelt; takes = x.takes; puts = (line (map field cells), row_text kind tokens value, subst (Puts before after) x.row.2 puts) };
+      place_is = x.place_is;
       tracks = tracks_row standing tokens cells tracks;
       holds = holds-snoc area tokens (Row cells) refl holds;
     }
 
-pub row_breaks : (charset : Charset) (room : ℕ) (area : Space) (before after : Held) (tokens : List Token) (bytes : List ℕ) (value : ScalarValue) (a b : Seen) (stop : Stop) → IsHolding area (behind tokens)
-    → before.delivered ≤ 2 ^ 64 - 1 → length before.waiting < 4096 → length bytes ≡ 4 → read_of Int4 bytes ≡ Ok value → Takes a b bytes (length bytes) → IsBetween b → Breaks before after (line (field (ScalarCell value) ∷ [])) stop
-    → HaltsWriting (response charset room) (in_row tokens) a b before after area stop
-row_breaks charset room area before after tokens bytes value a b stop holds d few len is takes between breaks =
+pub row_breaks : (charset : Charset) (room : ℕ) (kind : Kind) (area : Space) (before after : Held) (tokens : List Token) (piece : List ℕ) (a b : Seen) (place place' : ℕ) (stop : Stop) → IsFixed kind → IsHolding area (behind tokens)
+    → before.delivered ≤ 2 ^ 64 - 1 → length before.waiting < 4096 → ReadsLine kind a b place place' piece → Breaks before after piece stop
+    → HaltsWriting (response charset room) (in_row kind tokens) a b before after area stop
+row_breaks charset room kind area before after tokens piece a b place place' stop fixed holds d few x breaks =
+    let value = x.row.0 in
     let cells = ScalarCell value ∷ [] in
-    let to = row_to charset room tokens bytes value is in
+    let to = row_to charset room kind tokens x.bytes value x.row.1 in
     record {
-      at = in_row tokens;
+      at = in_row kind tokens;
       breaks = record {
         bytes = [];
-        element = bytes;
-        spelt = Spelt-none (response charset room) (in_row tokens);
-        next = row_next charset room tokens bytes value len is;
-        takes = takes;
-        between = between;
+        element = x.bytes;
+        spelt = Spelt-none (response charset room) (in_row kind tokens);
+        next = row_next charset room kind tokens x.bytes value fixed x.whole x.row.1;
+        takes = x.takes;
+        between = x.between;
         middle = before;
         few = few;
-        puts = same_text (in_row tokens) (in_row tokens) before refl d;
+        puts = same_text (in_row kind tokens) (in_row kind tokens) before refl d;
         more = line (map field cells);
-        text_is = row_text tokens value ∙ ap text_so_far (sym to);
-        breaks = breaks;
+        text_is = row_text kind tokens value ∙ ap text_so_far (sym to);
+        breaks = subst (λ l. Breaks before after l stop) x.row.2 breaks;
       };
       holds = subst (IsHolding area) (sym to) (holds-snoc area tokens (Row cells) refl holds);
     }
+
+-- the bytes of a row's value are cut
+pub row_cut : (charset : Charset) (room : ℕ) (kind : Kind) (tokens : List Token) (a b : Seen) (place n k : ℕ) (bytes : List ℕ) (own stop : Stop) → length_of kind ≡ n → k < n → length bytes ≡ n
+    → Ends a b (take k bytes) own → stop ≡ began_at place own → StopsReading (response charset room) (in_row kind tokens) a b place (in_row kind tokens) stop
+row_cut charset room kind tokens a b place n k bytes own stop size less len ends is = token_cut charset room (in_row kind tokens) a b place n k bytes own stop size refl less len ends is
+
+-- a row's value is out of range
+pub row_refused : (charset : Charset) (room : ℕ) (kind : Kind) (tokens : List Token) (a b : Seen) (place : ℕ) (bytes : List ℕ) → IsFixed kind → length bytes ≡ length_of kind → is_ok (read_of kind bytes) ≡ false
+    → Takes a b bytes (length bytes) → IsBetween b → StopsReading (response charset room) (in_row kind tokens) a b place (in_row kind tokens) (record { fault = BadValue 0; place = Payload place })
+row_refused charset room kind tokens a b place bytes fixed len bad takes between =
+    refused_at_once (response charset room) (in_row kind tokens) a b place bytes (BadValue 0) (bytes_some kind bytes fixed len) len (ap (λ v. unless v (BadValue 0)) bad) takes between
 
 pub halts_reading : (charset : Charset) (room : ℕ) (s : Part) (a b : Seen) (place : ℕ) (h : Held) (area : Space) (failed : Bool) (stop : Stop) → h.delivered ≤ 2 ^ 64 - 1 → failed ≡ false → IsHolding area s → StopsReading (response charset room) s a b place s stop
     → Halts (response charset room) s a b place h h area failed stop
@@ -144,10 +172,10 @@ halts_reading charset room s a b place h area failed stop d going holds stops = 
 sets_are : (standing : Standing) (tokens : List Token) → Tracks standing tokens → standing.report.sets ≡ how_many is_set tokens
 sets_are standing tokens tracks = ap (λ (r : Report). r.sets) tracks.report
 
-header_text : (standing : Standing) (tokens : List Token) (bytes name : List ℕ) → Tracks standing tokens
-    → text_so_far (in_metadata tokens) ++ (between (nat_lt 0 standing.report.sets) ++ line (long_field Utf16Text name ∷ [])) ≡ text_so_far (behind (tokens ++ Metadata bytes (record { kind = Int4; name = name } ∷ []) ∷ []))
-header_text standing tokens bytes name tracks =
-    let columns : List Column = record { kind = Int4; name = name } ∷ [] in
+header_text : (kind : Kind) (standing : Standing) (tokens : List Token) (bytes name : List ℕ) → Tracks standing tokens
+    → text_so_far (in_metadata tokens) ++ (between (nat_lt 0 standing.report.sets) ++ line (long_field Utf16Text name ∷ [])) ≡ text_so_far (behind (tokens ++ Metadata bytes (record { kind = kind; name = name } ∷ []) ∷ []))
+header_text kind standing tokens bytes name tracks =
+    let columns : List Column = record { kind = kind; name = name } ∷ [] in
     let begun : nat_lt 0 standing.report.sets ≡ begun_after false tokens = ap (nat_lt 0) (sets_are standing tokens tracks) ∙ sym (begun_where_sets tokens) in
     let header = between (begun_after false tokens) ++ header_line columns in
     ap (λ b. (text tokens ++ []) ++ (between b ++ header_line columns)) begun ∙ ap (λ l. l ++ header) (append-nil (text tokens)) ∙ ap (λ l. text tokens ++ l) (sym (append-nil header))
@@ -155,7 +183,7 @@ header_text standing tokens bytes name tracks =
 
 pub none_reads : (charset : Charset) (room : ℕ) (area old_area : Space) (sink : Held) (tokens : List Token) (standing : Standing) (a b : Seen) (place place' : ℕ) → sink.delivered ≤ 2 ^ 64 - 1 → Tracks standing tokens → IsHolding old_area (behind tokens)
     → Describes room BeforeCount a b place place' old_area.peak area NoDescription
-    → ReadsToken (response charset room) (in_metadata tokens) tokens a b place place' sink sink (record standing { described = false; is_final = false }) area
+    → ReadsToken (response charset room) (in_metadata tokens) tokens a b place place' sink sink (record standing { column = None; is_final = false }) area
 none_reads charset room area old_area sink tokens standing a b place place' d tracks holds x =
     let r = reads_inside (description room) (response charset room) (with_described tokens) (description_in_response charset room tokens) BeforeCount a b NoDescription x.reads in
     record {
@@ -180,18 +208,18 @@ metadata_holds area old_area tokens columns peak holds = record {
   peak = omega (arith, peak, holds.peak, greatest_span-append tokens (Metadata area.bytes columns ∷ []));
 }
 
-pub metadata_reads : (charset : Charset) (room : ℕ) (area old_area : Space) (before after : Held) (tokens : List Token) (standing : Standing) (a b : Seen) (place place' : ℕ) → Tracks standing tokens → IsHolding old_area (behind tokens)
-    → Describes room BeforeCount a b place place' old_area.peak area (one_int area.bytes) → Puts before after (between (nat_lt 0 standing.report.sets) ++ line (long_field Utf16Text (drop 10 area.bytes) ∷ []))
-    → ReadsToken (response charset room) (in_metadata tokens) tokens a b place place' before after (record standing { report = record standing.report { sets = standing.report.sets + 1 }; described = true; is_final = false }) area
-metadata_reads charset room area old_area before after tokens standing a b place place' tracks holds x puts =
+pub metadata_reads : (kind : Kind) (charset : Charset) (room : ℕ) (area old_area : Space) (before after : Held) (tokens : List Token) (standing : Standing) (a b : Seen) (place place' : ℕ) → Tracks standing tokens → IsHolding old_area (behind tokens)
+    → Describes room BeforeCount a b place place' old_area.peak area (one_column kind area.bytes) → Puts before after (between (nat_lt 0 standing.report.sets) ++ line (long_field Utf16Text (drop 10 area.bytes) ∷ []))
+    → ReadsToken (response charset room) (in_metadata tokens) tokens a b place place' before after (record standing { report = record standing.report { sets = standing.report.sets + 1 }; column = Some kind; is_final = false }) area
+metadata_reads kind charset room area old_area before after tokens standing a b place place' tracks holds x puts =
     let name = drop 10 area.bytes in
-    let columns : List Column = record { kind = Int4; name = name } ∷ [] in
-    let r = reads_inside (description room) (response charset room) (with_described tokens) (description_in_response charset room tokens) BeforeCount a b (one_int area.bytes) x.reads in
+    let columns : List Column = record { kind = kind; name = name } ∷ [] in
+    let r = reads_inside (description room) (response charset room) (with_described tokens) (description_in_response charset room tokens) BeforeCount a b (one_column kind area.bytes) x.reads in
     record {
       token = Metadata area.bytes columns;
-      streams = record { bytes = r.bytes; spelt = r.spelt; takes = r.takes; puts = (between (nat_lt 0 standing.report.sets) ++ line (long_field Utf16Text name ∷ []), header_text standing tokens area.bytes name tracks, puts) };
+      streams = record { bytes = r.bytes; spelt = r.spelt; takes = r.takes; puts = (between (nat_lt 0 standing.report.sets) ++ line (long_field Utf16Text name ∷ []), header_text kind standing tokens area.bytes name tracks, puts) };
       place_is = x.place_is;
-      tracks = tracks_metadata standing tokens area.bytes name tracks;
+      tracks = tracks_metadata standing tokens kind area.bytes name tracks;
       holds = metadata_holds area old_area tokens columns x.bound holds;
     }
 
@@ -201,17 +229,17 @@ open_text_none tokens (InColumn bytes count columns place) h = refl
 open_text_none tokens NoDescription h = absurd (omega arith)
 open_text_none tokens (WholeDescription bytes columns) h = absurd (omega arith)
 
-some_bytes : (room : ℕ) (area bytes : List ℕ) → Spelt (description room) BeforeCount bytes (one_int area) → 0 < length bytes
-some_bytes room area [] h = absurd (let same : one_int area ≡ BeforeCount = one_state (description room) BeforeCount [] (one_int area) BeforeCount h (Spelt-none (description room) BeforeCount) in cc)
-some_bytes room area (x ∷ bytes) h = omega arith
+some_bytes : (kind : Kind) (room : ℕ) (area bytes : List ℕ) → Spelt (description room) BeforeCount bytes (one_column kind area) → 0 < length bytes
+some_bytes kind room area [] h = absurd (let same : one_column kind area ≡ BeforeCount = one_state (description room) BeforeCount [] (one_column kind area) BeforeCount h (Spelt-none (description room) BeforeCount) in cc)
+some_bytes kind room area (x ∷ bytes) h = omega arith
 
-pub metadata_breaks : (charset : Charset) (room : ℕ) (area old_area : Space) (before after : Held) (tokens : List Token) (standing : Standing) (a b : Seen) (place place' : ℕ) (stop : Stop) → before.delivered ≤ 2 ^ 64 - 1 → length before.waiting < 4096 → Tracks standing tokens → IsHolding old_area (behind tokens)
-    → Describes room BeforeCount a b place place' old_area.peak area (one_int area.bytes) → IsBetween b → Breaks before after (between (nat_lt 0 standing.report.sets) ++ line (long_field Utf16Text (drop 10 area.bytes) ∷ [])) stop
+pub metadata_breaks : (kind : Kind) (charset : Charset) (room : ℕ) (area old_area : Space) (before after : Held) (tokens : List Token) (standing : Standing) (a b : Seen) (place place' : ℕ) (stop : Stop) → before.delivered ≤ 2 ^ 64 - 1 → length before.waiting < 4096 → Tracks standing tokens → IsHolding old_area (behind tokens)
+    → Describes room BeforeCount a b place place' old_area.peak area (one_column kind area.bytes) → IsBetween b → Breaks before after (between (nat_lt 0 standing.report.sets) ++ line (long_field Utf16Text (drop 10 area.bytes) ∷ [])) stop
     → HaltsWriting (response charset room) (in_metadata tokens) a b before after area stop
-metadata_breaks charset room area old_area before after tokens standing a b place place' stop d few tracks holds x between_b breaks =
+metadata_breaks kind charset room area old_area before after tokens standing a b place place' stop d few tracks holds x between_b breaks =
     let name = drop 10 area.bytes in
     let header = between (nat_lt 0 standing.report.sets) ++ line (long_field Utf16Text name ∷ []) in
-    let l = last_inside (description room) (response charset room) (with_described tokens) (description_in_response charset room tokens) BeforeCount x.reads.bytes (one_int area.bytes) x.reads.spelt (some_bytes room area.bytes x.reads.bytes x.reads.spelt) in
+    let l = last_inside (description room) (response charset room) (with_described tokens) (description_in_response charset room tokens) BeforeCount x.reads.bytes (one_column kind area.bytes) x.reads.spelt (some_bytes kind room area.bytes x.reads.bytes x.reads.spelt) in
     let open_text = open_text_none tokens l.at l.size in
     record {
       at = with_described tokens l.at;
@@ -226,10 +254,10 @@ metadata_breaks charset room area old_area before after tokens standing a b plac
         few = few;
         puts = same_text (in_metadata tokens) (with_described tokens l.at) before (sym open_text) d;
         more = header;
-        text_is = ap (λ t. t ++ header) open_text ∙ header_text standing tokens area.bytes name tracks ∙ ap text_so_far (sym l.to_is);
+        text_is = ap (λ t. t ++ header) open_text ∙ header_text kind standing tokens area.bytes name tracks ∙ ap text_so_far (sym l.to_is);
         breaks = breaks;
       };
-      holds = subst (IsHolding area) (sym l.to_is) (metadata_holds area old_area tokens (record { kind = Int4; name = name } ∷ []) x.bound holds);
+      holds = subst (IsHolding area) (sym l.to_is) (metadata_holds area old_area tokens (record { kind = kind; name = name } ∷ []) x.bound holds);
     }
 
 end_is : (charset : Charset) (room : ℕ) (tokens : List Token) (d : DescriptionPart) → 0 < described_size d → (response charset room).end_fault (with_described tokens d) ≡ (description room).end_fault d

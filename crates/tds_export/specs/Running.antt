@@ -1,6 +1,8 @@
 -- What the calls inside an export do.
-use Rattle.std.specs.Prelude.{◌≡◌, ◌≢◌, ◌⊎◌, ◌+◌, ◌*◌, ◌%◌, ◌<◌, ◌≤◌, ℕ, Bool, true, false, List, [], ◌∷◌, ◌++◌, length, drop, max, Option, Some, None, Ok}
-use Rattle.tds_values.specs.declared.kind.Kind.TheVariants.{Int4}
+use Rattle.std.specs.Prelude.{◌≡◌, ◌≢◌, ◌⊎◌, ◌+◌, ◌*◌, ◌%◌, ◌<◌, ◌≤◌, ℕ, Bool, true, false, List, [], ◌∷◌, ◌++◌, length, drop, max, Option, Some, None, Ok, is_some, unwrap_or}
+use Rattle.tds_values.specs.declared.kind.Kind.{Kind}
+use Rattle.tds_values.specs.Kind.{fixed_length}
+use Rattle.tds_values.specs.TypeInfo.{kind_of, rest_length}
 use Rattle.tds_values.specs.declared.scalar.ScalarValue.{ScalarValue}
 use Rattle.tds_values.specs.Scalar.{read_of}
 use Rattle.tds_csv.specs.Quoting.{line}
@@ -16,19 +18,27 @@ use Rattle.tds_packet.specs.declared.fault.Stop.{Stop}
 use Rattle.tds_packet.specs.Elements.{Grammar, Spelt}
 use Rattle.tds_packet.specs.Seen.{Seen, Takes, IsBetween, IsOver}
 use Rattle.tds_packet.specs.Reading.{Reads, StopsReading}
-use Rattle.tds_columns.specs.Description.{BeforeCount, Column, ColumnHead, DescriptionPart, InColumn, NameCount, WholeDescription, description, description_bytes, span}
+use Rattle.tds_columns.specs.Description.{BeforeCount, Column, ColumnHead, DescriptionPart, InColumn, NameCount, WholeDescription, description, description_bytes, span, type_fault}
 use Rattle.tds_csv.specs.Sinks.{Held, Finishes, FinishFails}
 use Rattle.tds_csv.specs.Streaming.{PutsText, Streams, BreaksStreaming}
 use Rattle.tds_export.specs.declared.standing.Standing.{Standing}
-use Rattle.tds_export.specs.Built.{is_built, is_built_description, is_built_token}
+use Rattle.tds_export.specs.Built.{is_built, is_built_description, is_built_token, is_built_type}
 use Rattle.tds_export.specs.Export.{report_of}
 use Rattle.tds_export.specs.Reading.{Between, Describing, DoneFields, InRow, Open, Part, is_token_byte, text_so_far, span_so_far}
 use Rattle.tds_export.specs.Tokens.{Token, described_after, encoded_after, first_error, is_final, text}
 
--- The current description is that of one column of type byte 0x38, or there is none.
-abbrev pub IsDescribed : Bool → Option (List Column) → Type 0
-IsDescribed false columns = columns ≡ None
-IsDescribed true columns = (name : List ℕ) × (columns ≡ Some (record { kind = Int4; name = name } ∷ []))
+-- The values of the kind have a fixed length.
+abbrev pub IsFixed : Kind → Type 0
+IsFixed kind = is_some (fixed_length kind) ≡ true
+
+-- how many bytes each of them has
+abbrev pub length_of : Kind → ℕ
+length_of kind = unwrap_or (fixed_length kind) 0
+
+-- The current description is that of one column of this kind, or there is none.
+abbrev pub IsDescribed : Option Kind → Option (List Column) → Type 0
+IsDescribed None columns = columns ≡ None
+IsDescribed (Some kind) columns = (name : List ℕ) × (columns ≡ Some (record { kind = kind; name = name } ∷ []))
 
 -- the bytes of a description that is open, or of the current one
 abbrev pub description_of : List Token → Open → List ℕ
@@ -44,10 +54,10 @@ pub record IsHolding (area : Space) (part : Part) : Type 0 where
 abbrev pub behind : List Token → Part
 behind tokens = record { tokens = tokens; at = Between }
 
--- What stands after these tokens is known: the report but for what was written, whether columns are described, and whether the last token is a final one. None is an error.
+-- What stands after these tokens is known: the report but for what was written, which column is described, and whether the last token is a final one. None is an error.
 pub record Tracks (standing : Standing) (tokens : List Token) : Type 0 where
   pub report : record standing.report { written = length (text tokens) } ≡ report_of tokens
-  pub described : IsDescribed standing.described (described_after None tokens)
+  pub described : IsDescribed standing.column (described_after None tokens)
   pub final : standing.is_final ≡ is_final tokens
   pub no_error : first_error tokens ≡ None
 
@@ -91,28 +101,46 @@ pub record Describes (room : ℕ) (from : DescriptionPart) (old new : Seen) (pla
   pub bound : area.peak ≤ max peak (span to)
   pub further : span from ≤ span to
 
--- The text is the line of a row of one number of these bytes.
-abbrev pub int_line : List ℕ → List ℕ → Type 0
-int_line bytes text = (value : ScalarValue) × (read_of Int4 bytes ≡ Ok value) × (text ≡ line (field (ScalarCell value) ∷ []))
+-- The type byte is that of this kind, whose values have a fixed length and which nothing follows.
+abbrev pub IsFixedType : ℕ → Kind → Type 0
+IsFixedType byte kind = (rest_length byte ≡ Some 0) × (kind_of (byte ∷ []) ≡ Some kind) × IsFixed kind
 
--- The byte begins a token of this kind, where columns are described or not.
-abbrev pub IsOfKind : Bool → ℕ → TokenKind → Type 0
-IsOfKind described byte kinds.Metadata = byte ≡ 0x81
-IsOfKind described byte kinds.Row = (byte ≡ 0xD1) × (described ≡ true)
-IsOfKind described byte kinds.Done = (byte ≡ 0xFD) ⊎ (byte ≡ 0xFE)
+-- The type byte of the first column is refused with this fault, or isn't built.
+abbrev pub IsTypeFault : ℕ → Fault → Type 0
+IsTypeFault byte fault =
+    (type_fault 0 byte (rest_length byte) ≡ Some fault) ⊎ ((fault ≡ NotYet) × (is_built_type byte (rest_length byte) ≡ false))
+
+-- The text is the line of a row of one value of these bytes.
+abbrev pub IsRowLine : Kind → List ℕ → List ℕ → Type 0
+IsRowLine kind bytes text = (value : ScalarValue) × (read_of kind bytes ≡ Ok value) × (text ≡ line (field (ScalarCell value) ∷ []))
+
+-- A value was read, and this text is the line of its row.
+pub record ReadsLine (kind : Kind) (old new : Seen) (place place' : ℕ) (text : List ℕ) : Type 0 where
+  pub bytes : List ℕ
+  pub whole : length bytes ≡ length_of kind
+  pub takes : Takes old new bytes (length bytes)
+  pub between : IsBetween new
+  pub place_is : place' ≡ place + length bytes
+  pub row : IsRowLine kind bytes text
+
+-- The byte begins a token of this kind, where this column is described or none.
+abbrev pub IsOfKind : Option Kind → ℕ → TokenKind → Type 0
+IsOfKind column byte kinds.Metadata = byte ≡ 0x81
+IsOfKind column byte (kinds.Row kind) = (byte ≡ 0xD1) × (column ≡ Some kind)
+IsOfKind column byte kinds.Done = (byte ≡ 0xFD) ⊎ (byte ≡ 0xFE)
 
 -- The byte is refused with this fault, or isn't built.
-abbrev pub IsRefusal : Bool → ℕ → Fault → Type 0
-IsRefusal described byte fault =
+abbrev pub IsRefusal : Option Kind → ℕ → Fault → Type 0
+IsRefusal column byte fault =
     ((fault ≡ RefusedToken byte) × (is_token_byte byte ≡ false))
-    ⊎ (((fault ≡ RowWithoutColumns) × (described ≡ false) × ((byte ≡ 0xD1) ⊎ (byte ≡ 0xD2))) ⊎ ((fault ≡ NotYet) × (is_built_token byte ≡ false)))
+    ⊎ (((fault ≡ RowWithoutColumns) × (column ≡ None) × ((byte ≡ 0xD1) ⊎ (byte ≡ 0xD2))) ⊎ ((fault ≡ NotYet) × (is_built_token byte ≡ false)))
 
 -- where the tokens that are built are read, behind their token bytes
 abbrev pub in_metadata : List Token → Part
 in_metadata tokens = record { tokens = tokens; at = Describing BeforeCount }
 
-abbrev pub in_row : List Token → Part
-in_row tokens = record { tokens = tokens; at = InRow (InCell [] (ScalarBytes Int4 4) []) }
+abbrev pub in_row : Kind → List Token → Part
+in_row kind tokens = record { tokens = tokens; at = InRow (InCell [] (ScalarBytes kind (length_of kind)) []) }
 
 abbrev pub in_done : List Token → Part
 in_done tokens = record { tokens = tokens; at = DoneFields }
@@ -128,15 +156,15 @@ pub record HasName (bytes : List ℕ) : Type 0 where
   pub begins : 10 ≤ length bytes
   pub even : length (drop 10 bytes) % 2 ≡ 0
 
--- a description of one column: behind its Count, behind its type byte, and whole with its name
+-- a description of one column: behind its Count; behind its type byte, after which nothing follows; and whole with its name
 abbrev pub one_head : List ℕ → DescriptionPart
 one_head bytes = InColumn bytes 1 [] ColumnHead
 
-abbrev pub one_count : List ℕ → DescriptionPart
-one_count bytes = InColumn bytes 1 [] (NameCount Int4)
+abbrev pub one_count : Kind → List ℕ → DescriptionPart
+one_count kind bytes = InColumn bytes 1 [] (NameCount kind)
 
-abbrev pub one_int : List ℕ → DescriptionPart
-one_int bytes = WholeDescription bytes (record { kind = Int4; name = drop 10 bytes } ∷ [])
+abbrev pub one_column : Kind → List ℕ → DescriptionPart
+one_column kind bytes = WholeDescription bytes (record { kind = kind; name = drop 10 bytes } ∷ [])
 
 -- A call inside an export stopped in reading: the text of the state that it reached was put.
 pub record HaltsReading (g : Grammar Part Fault) (from : Part) (old new : Seen) (place : ℕ) (before after : Held) (area : Space) (stop : Stop) : Type 0 where

@@ -1,25 +1,24 @@
-// The description of one column of type byte 0x38 (MS-TDS, COLMETADATA).
+// The description of one column of a kind of fixed length (MS-TDS, COLMETADATA).
 ghost use Rattle.std.specs.Prelude.{◌≡◌, ℕ, List, ◌+◌, ◌*◌, ◌≤◌, [], ◌∷◌, false, true, None, drop, length, MatchBool, MatchOption, MatchResult, OnOk};
 ghost use Rattle.tds_columns.specs.Description.{BeforeCount, ColumnHead, InColumn, NameCount, NoDescription, WholeDescription};
-ghost use Rattle.tds_export.specs.Running.{Describes, HasName, IsCountFault, StallsDescribing, one_count, one_head, one_int};
+ghost use Rattle.tds_export.specs.Running.{Describes, HasName, IsCountFault, IsFixed, StallsDescribing, one_column, one_count, one_head};
 ghost use Rattle.tds_packet.specs.Payloads.{IsOnSame, IsSound, seen};
 
 use crate::element::take_into;
+use crate::type_byte::judge_type;
 use byteorder::{ByteOrder, LittleEndian};
 use std::io::Read;
 use tds_meter::Area;
 use tds_packet::{Fault, Payload, Place, Stop};
+use tds_values::Kind;
 
 /// A Count that says that there is no metadata.
 const NO_METADATA: u16 = 0xFFFF;
 
-/// The type byte of INT4, a signed number of four bytes (MS-TDS, Fixed-Length Data Types).
-const INT4: u8 = 0x38;
-
 /// Where the units of the first column's name begin, if nothing follows its type byte.
 const FIRST_NAME: usize = 10;
 
-/// The name in a description of one column of type byte 0x38.
+/// The name in a description of one column, if nothing follows its type byte.
 pub(crate) fn name_in(area: &Area) -> &[u8]
     requires { 10 ≤ length area.now.bytes }
     ensures { result.now ≡ drop 10 area.now.bytes }
@@ -27,10 +26,13 @@ pub(crate) fn name_in(area: &Area) -> &[u8]
     &area.bytes()[FIRST_NAME..]
 }
 
-/// Reads a description behind the token byte into the area, from Count to the last name. False
-/// where Count says that there is no metadata: the area is empty then. After a stop the area has the
-/// elements that were read whole.
-pub(crate) fn describe<R: Read>(payload: &mut Payload<R>, area: &mut Area) -> Result<bool, Stop>
+/// Reads a description behind the token byte into the area, from Count to the last name, and answers
+/// the kind of its column. None where Count says that there is no metadata: the area is empty then.
+/// After a stop the area has the elements that were read whole.
+pub(crate) fn describe<R: Read>(
+    payload: &mut Payload<R>,
+    area: &mut Area,
+) -> Result<Option<Kind>, Stop>
     requires sound { IsSound payload.old }
     requires going { payload.old.stopped ≡ None }
     requires room { 10 ≤ area.old.room }
@@ -40,22 +42,23 @@ pub(crate) fn describe<R: Read>(payload: &mut Payload<R>, area: &mut Area) -> Re
     ensures further { OnOk result (payload.old.place ≤ payload.new.place) }
     ensures room { area.new.room ≡ area.old.room }
     ensures gives { MatchResult result
-        (λ columns. MatchBool columns
-        (Describes area.old.room BeforeCount (seen R.remaining payload.old) (seen R.remaining payload.new) payload.old.place payload.new.place area.old.peak area.new (one_int area.new.bytes) × HasName area.new.bytes)
-        (Describes area.old.room BeforeCount (seen R.remaining payload.old) (seen R.remaining payload.new) payload.old.place payload.new.place area.old.peak area.new NoDescription))
+        (λ column. MatchOption column
+        (Describes area.old.room BeforeCount (seen R.remaining payload.old) (seen R.remaining payload.new) payload.old.place payload.new.place area.old.peak area.new NoDescription)
+        (λ kind. Describes area.old.room BeforeCount (seen R.remaining payload.old) (seen R.remaining payload.new) payload.old.place payload.new.place area.old.peak area.new (one_column kind area.new.bytes) × HasName area.new.bytes × IsFixed kind))
         (λ stop. StallsDescribing area.old.room BeforeCount (seen R.remaining payload.old) (seen R.remaining payload.new) payload.old.place area.old.peak area.new stop) }
 {
     area.clear();
     match read_count(payload, area) {
         Ok(true) => {}
-        Ok(false) => return Ok(false),
+        Ok(false) => return Ok(None),
         Err(stop) => return Err(stop),
     }
-    if let Err(stop) = read_head(payload, area) {
-        return Err(stop);
-    }
+    let kind = match read_head(payload, area) {
+        Ok(kind) => kind,
+        Err(stop) => return Err(stop),
+    };
     match read_name(payload, area) {
-        Ok(()) => Ok(true),
+        Ok(()) => Ok(Some(kind)),
         Err(stop) => Err(stop),
     }
 }
@@ -116,7 +119,7 @@ fn read_count<R: Read>(payload: &mut Payload<R>, area: &mut Area) -> Result<bool
 }
 
 // Reads UserType, Flags and the type byte.
-fn read_head<R: Read>(payload: &mut Payload<R>, area: &mut Area) -> Result<(), Stop>
+fn read_head<R: Read>(payload: &mut Payload<R>, area: &mut Area) -> Result<Kind, Stop>
     requires sound { IsSound payload.old }
     requires going { payload.old.stopped ≡ None }
     requires room { 10 ≤ area.old.room }
@@ -127,7 +130,7 @@ fn read_head<R: Read>(payload: &mut Payload<R>, area: &mut Area) -> Result<(), S
     ensures further { OnOk result (payload.old.place ≤ payload.new.place) }
     ensures room { area.new.room ≡ area.old.room }
     ensures gives { MatchResult result
-        (λ _. Describes area.old.room (one_head area.old.bytes) (seen R.remaining payload.old) (seen R.remaining payload.new) payload.old.place payload.new.place area.old.peak area.new (one_count area.new.bytes) × (length area.new.bytes ≡ 9))
+        (λ kind. Describes area.old.room (one_head area.old.bytes) (seen R.remaining payload.old) (seen R.remaining payload.new) payload.old.place payload.new.place area.old.peak area.new (one_count kind area.new.bytes) × (length area.new.bytes ≡ 9) × IsFixed kind)
         (λ stop. StallsDescribing area.old.room (one_head area.old.bytes) (seen R.remaining payload.old) (seen R.remaining payload.new) payload.old.place area.old.peak area.new stop) }
 {
     let place = payload.place();
@@ -135,14 +138,16 @@ fn read_head<R: Read>(payload: &mut Payload<R>, area: &mut Area) -> Result<(), S
     if let Err(stop) = take_into(payload, area, 7) {
         return Err(stop);
     }
-    if area.bytes()[start + 6] == INT4 {
-        return Ok(());
+    match judge_type(area.bytes()[start + 6]) {
+        Ok(kind) => Ok(kind),
+        Err(fault) => {
+            area.truncate(start);
+            Err(Stop {
+                fault,
+                place: Place::Payload(place),
+            })
+        }
     }
-    area.truncate(start);
-    Err(Stop {
-        fault: Fault::NotYet,
-        place: Place::Payload(place),
-    })
 }
 
 // Reads the column's name, and the count of its units before it.
@@ -156,9 +161,9 @@ fn read_name<R: Read>(payload: &mut Payload<R>, area: &mut Area) -> Result<(), S
     ensures going { OnOk result (payload.new.stopped ≡ None) }
     ensures further { OnOk result (payload.old.place ≤ payload.new.place) }
     ensures room { area.new.room ≡ area.old.room }
-    ensures gives { MatchResult result
-        (λ _. Describes area.old.room (one_count area.old.bytes) (seen R.remaining payload.old) (seen R.remaining payload.new) payload.old.place payload.new.place area.old.peak area.new (one_int area.new.bytes) × HasName area.new.bytes)
-        (λ stop. StallsDescribing area.old.room (one_count area.old.bytes) (seen R.remaining payload.old) (seen R.remaining payload.new) payload.old.place area.old.peak area.new stop) }
+    ensures gives { (kind : Kind) → MatchResult result
+        (λ _. Describes area.old.room (one_count kind area.old.bytes) (seen R.remaining payload.old) (seen R.remaining payload.new) payload.old.place payload.new.place area.old.peak area.new (one_column kind area.new.bytes) × HasName area.new.bytes)
+        (λ stop. StallsDescribing area.old.room (one_count kind area.old.bytes) (seen R.remaining payload.old) (seen R.remaining payload.new) payload.old.place area.old.peak area.new stop) }
 {
     let place = payload.place();
     let start = area.len();

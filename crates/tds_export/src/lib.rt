@@ -13,6 +13,7 @@ mod standing;
 #[cfg(test)]
 mod tests;
 mod tokens;
+mod type_byte;
 
 pub use report::{Report, ServerError, Stopped};
 pub use run::export;

@@ -1,23 +1,83 @@
-// A row of one column of type byte 0x38 (MS-TDS, ROW).
-ghost use Rattle.arrayvec.specs.ArrayVec.{array_vec_len};
-ghost use Rattle.std.specs.Prelude.{◌≡◌, ◌+◌, ◌≤◌, ◌∷◌, [], length, map, IfOk, Ok};
-ghost use Rattle.tds_csv.specs.Quoting.{line};
-ghost use Rattle.tds_export.specs.Running.{int_line};
+// A row of one column of a kind of fixed length (MS-TDS, ROW).
+ghost use Rattle.std.specs.Prelude.{◌≡◌, ◌+◌, ◌<◌, ◌≤◌, ◌∷◌, ℕ, [], List, None, Some, false, true, is_ok, length, take, MatchOption, MatchResult, OnOk, IfOk};
+ghost use Rattle.tds_export.specs.Reading.{response};
+ghost use Rattle.tds_export.specs.Running.{IsFixed, IsRowLine, ReadsLine, in_row, length_of};
+ghost use Rattle.tds_export.specs.Tokens.{Token};
+ghost use Rattle.tds_packet.specs.Payloads.{IsOnSame, IsSound, seen};
+ghost use Rattle.tds_packet.specs.Reading.{StopsReading};
+ghost use Rattle.tds_rows.specs.declared.Charset.{Charset};
+ghost use Rattle.tds_values.specs.Scalar.{read_of};
 
-use tds_values::{Kind, ScalarText, read_scalar, scalar_text};
+use std::io::Read;
+use tds_packet::{Fault, Payload, Place, Stop};
+use tds_values::{Kind, write_scalar};
 
-/// The line of a row of one number.
-pub(crate) fn line_of(bytes: &[u8]) -> ScalarText
-    requires { length bytes.now ≡ 4 }
-    ensures { int_line bytes.now result.items }
+/// How many bytes the line of a row may want, and a few to spare.
+pub(crate) const LINE_ROOM: usize = 64;
+
+/// The longest value of a kind of fixed length.
+const LONGEST: usize = 8;
+
+// How many bytes each value of the kind has.
+fn value_length(kind: &Kind) -> usize
+    requires fixed { IsFixed kind.now }
+    ensures value { result ≡ length_of kind.now }
+    ensures some { 0 < result }
+    ensures most { result ≤ 8 }
 {
-    match read_scalar(&Kind::Int4, bytes) {
-        Ok(value) => {
-            let mut text = scalar_text(&value);
-            text.push(b'\r');
-            text.push(b'\n');
-            text
+    match kind.fixed_length() {
+        Some(n) => usize::from(n),
+        None => unreachable!(),
+    }
+}
+
+// Writes the line of a row to the front of a slice, and answers how many bytes it has; none where the
+// value is out of range.
+fn write_line(kind: &Kind, bytes: &[u8], to: &mut [u8]) -> Option<usize>
+    requires fixed { IsFixed kind.now }
+    requires room { 64 ≤ length to.old }
+    ensures { MatchOption result (is_ok (read_of kind.now bytes.now) ≡ false) (λ made. (made ≤ 43) × IsRowLine kind.now bytes.now (take made to.new)) }
+{
+    match write_scalar(kind, bytes, to) {
+        Ok(made) => {
+            to[made] = b'\r';
+            to[made + 1] = b'\n';
+            Some(made + 2)
         }
-        Err(_) => unreachable!(),
+        Err(_) => None,
+    }
+}
+
+/// Reads the value of a row, and writes its line to the front of a slice. It answers how many bytes the
+/// line has.
+pub(crate) fn read_line<R: Read>(
+    payload: &mut Payload<R>,
+    kind: &Kind,
+    to: &mut [u8],
+) -> Result<usize, Stop>
+    requires sound { IsSound payload.old }
+    requires going { payload.old.stopped ≡ None }
+    requires fixed { IsFixed kind.now }
+    requires room { 64 ≤ length to.old }
+    ensures sound { IsSound payload.new }
+    ensures same { IsOnSame payload.old payload.new }
+    ensures going { OnOk result (payload.new.stopped ≡ None) }
+    ensures most { IfOk result (λ made. made ≤ 43) }
+    ensures gives { MatchResult result
+        (λ made. ReadsLine kind.now (seen R.remaining payload.old) (seen R.remaining payload.new) payload.old.place payload.new.place (take made to.new))
+        (λ stop. (charset : Charset) (room : ℕ) (tokens : List Token) → StopsReading (response charset room) (in_row kind.now tokens) (seen R.remaining payload.old) (seen R.remaining payload.new) payload.old.place (in_row kind.now tokens) stop) }
+{
+    let place = payload.place();
+    let mut value = [0u8; LONGEST];
+    let bytes = &mut value[..value_length(kind)];
+    if let Err(stop) = payload.fill(bytes) {
+        return Err(stop);
+    }
+    match write_line(kind, bytes, to) {
+        Some(made) => Ok(made),
+        None => Err(Stop {
+            fault: Fault::BadValue { column: 0 },
+            place: Place::Payload(place),
+        }),
     }
 }

@@ -32,6 +32,7 @@ fn run<R: Read, W: Write>(
     requires room { 10 ≤ area.old.room }
     requires empty { area.old ≡ empty area.old.room }
     requires counted { standing.old.report.sets + standing.old.report.rows ≤ payload.old.place }
+    requires column { standing.old.column ≡ None }
     requires tracks { Tracks standing.old [] }
     ensures same { IsOnSame payload.old payload.new }
     ensures ready { IsReady sink.new }

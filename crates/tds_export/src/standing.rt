@@ -3,20 +3,22 @@ ghost use Rattle.std.specs.Prelude.{◌≡◌, [], None};
 ghost use Rattle.tds_export.specs.Running.{Tracks};
 
 use crate::report::Report;
+use tds_values::Kind;
 
-/// What is known of the tokens read so far: the report, but for what was written; whether columns
-/// are described; and whether the last token is a final DONE or DONEPROC.
+/// What is known of the tokens read so far: the report, but for what was written; the kind of the
+/// column that is described, if one is; and whether the last token is a final DONE or DONEPROC.
 #[derive(Debug, Clone, Copy)]
 pub(crate) struct Standing {
     pub(crate) report: Report,
-    pub(crate) described: bool,
+    pub(crate) column: Option<Kind>,
     pub(crate) is_final: bool,
 }
 
 impl Standing {
     /// Before the first token.
     pub(crate) fn new() -> Standing
-        ensures { Tracks result [] }
+        ensures column { result.column ≡ None }
+        ensures tracks { Tracks result [] }
     {
         Standing {
             report: Report {
@@ -29,7 +31,7 @@ impl Standing {
                 written: 0,
                 return_values: 0,
             },
-            described: false,
+            column: None,
             is_final: false,
         }
     }

@@ -9,6 +9,8 @@ use tds_meter::{Areas, Limits};
 use tds_packet::rig::{Failing, RepeatingReader, ScriptedReader, ScriptedWriter};
 use tds_packet::{Counted, Fault, Place};
 
+mod kinds;
+
 // A column of numbers named a, a row of 42, and a DONE, in one packet.
 const WIRE: [u8; 39] = [
     0x04, 0x01, 0x00, 0x27, 0x00, 0x00, 0x01, 0x00, 0x81, 0x01, 0x00, 0x00, 0x00, 0x00, 0x00, 0x08,

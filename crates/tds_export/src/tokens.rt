@@ -1,8 +1,8 @@
 // The tokens of a response.
-ghost use Rattle.std.specs.Prelude.{◌≡◌, ℕ, ◌+◌, ◌-◌, ◌^◌, ◌<◌, ◌≤◌, ◌∷◌, [], List, None, Some, false, true, is_ok, is_some, length, IfErr, IfOk, MatchBool, MatchOption, MatchResult, OnOk, if◌then◌else◌};
+ghost use Rattle.std.specs.Prelude.{◌≡◌, ℕ, ◌+◌, ◌-◌, ◌^◌, ◌<◌, ◌≤◌, ◌∷◌, [], List, None, Some, false, true, is_ok, is_some, length, IfErr, IfOk, IfSome, MatchBool, MatchOption, MatchResult, OnOk, if◌then◌else◌};
 ghost use Rattle.tds_csv.specs.Sinks.{Held, IsOnSameSink, IsReady, held};
 ghost use Rattle.tds_export.specs.Reading.{response};
-ghost use Rattle.tds_export.specs.Running.{Halts, IsHolding, IsRefusal, IsOfKind, ReadsToken, Tracks, behind, in_done, in_metadata, in_row};
+ghost use Rattle.tds_export.specs.Running.{Halts, IsFixed, IsHolding, IsRefusal, IsOfKind, ReadsToken, Tracks, behind, in_done, in_metadata, in_row};
 ghost use Rattle.tds_export.specs.Tokens.{Token};
 ghost use Rattle.tds_meter.specs.Space.{Space};
 ghost use Rattle.tds_packet.specs.Payloads.{IsOnSame, IsSound, seen};
@@ -10,31 +10,34 @@ ghost use Rattle.tds_packet.specs.Seen.{Ends, IsBetween, IsOver, Takes};
 ghost use Rattle.tds_rows.specs.declared.Charset.{Charset};
 
 use crate::description::{describe, name_in};
-use crate::row::line_of;
+use crate::row::{LINE_ROOM, read_line};
 use crate::set::put_header;
 use crate::standing::Standing;
 use std::io::{Read, Write};
 use tds_csv::Sink;
 use tds_meter::Area;
 use tds_packet::{Fault, Payload, Place, Stop};
+use tds_values::Kind;
 
-/// The tokens that are built.
+/// The tokens that are built; a row with the kind of its column.
 #[derive(Debug, Clone, Copy)]
 enum TokenKind {
     Metadata,
-    Row,
+    Row(Kind),
     Done,
 }
 
 // The kind of a token by its first byte, or why it is none (MS-TDS, Token Data Stream Definition).
-fn judge(byte: u8, described: bool) -> Result<TokenKind, Fault>
-    ensures { MatchResult result (IsOfKind described byte) (IsRefusal described byte) }
+fn judge(byte: u8, column: Option<Kind>) -> Result<TokenKind, Fault>
+    ensures { MatchResult result (IsOfKind column byte) (IsRefusal column byte) }
 {
     match byte {
         0x81 => Ok(TokenKind::Metadata),
-        0xD1 if described => Ok(TokenKind::Row),
-        0xD1 => Err(Fault::RowWithoutColumns),
-        0xD2 if !described => Err(Fault::RowWithoutColumns),
+        0xD1 => match column {
+            Some(kind) => Ok(TokenKind::Row(kind)),
+            None => Err(Fault::RowWithoutColumns),
+        },
+        0xD2 if column.is_none() => Err(Fault::RowWithoutColumns),
         0xFD | 0xFE => Ok(TokenKind::Done),
         0xD2 | 0xA9 | 0xAA | 0xAB | 0xAC | 0xE3 | 0x79 | 0xFF => Err(Fault::NotYet),
         _ => Err(Fault::RefusedToken(byte)),
@@ -90,26 +93,27 @@ fn metadata<R: Read, W: Write>(
     ensures room { area.new.room ≡ area.old.room }
     ensures counts { standing.new.report.sets ≤ standing.old.report.sets + 1 }
     ensures rows { standing.new.report.rows ≡ standing.old.report.rows }
+    ensures fixed { OnOk result (IfSome standing.new.column (λ kind. IsFixed kind)) }
     ensures gives { (charset : Charset) (tokens : List Token) → Tracks standing.old tokens → IsHolding area.old (behind tokens) → MatchResult result
         (λ _. ReadsToken (response charset area.old.room) (in_metadata tokens) tokens (seen R.remaining payload.old) (seen R.remaining payload.new) payload.old.place payload.new.place
         (held W.contents sink.old) (held W.contents sink.new) standing.new area.new)
         (λ stop. Halts (response charset area.old.room) (in_metadata tokens) (seen R.remaining payload.old) (seen R.remaining payload.new) payload.old.place
         (held W.contents sink.old) (held W.contents sink.new) area.new sink.new.failed stop) }
 {
-    match describe(payload, area) {
-        Ok(true) => {}
-        Ok(false) => {
-            standing.described = false;
+    let kind = match describe(payload, area) {
+        Ok(Some(kind)) => kind,
+        Ok(None) => {
+            standing.column = None;
             standing.is_final = false;
             return Ok(());
         }
         Err(stop) => return Err(stop),
-    }
+    };
     if let Err(stop) = put_header(sink, standing.report.sets > 0, name_in(area)) {
         return Err(stop);
     }
     standing.report.sets += 1;
-    standing.described = true;
+    standing.column = Some(kind);
     standing.is_final = false;
     Ok(())
 }
@@ -118,13 +122,14 @@ fn metadata<R: Read, W: Write>(
 fn row<R: Read, W: Write>(
     payload: &mut Payload<R>,
     sink: &mut Sink<W>,
+    kind: &Kind,
     standing: &mut Standing,
 ) -> Result<(), Stop>
     requires sound { IsSound payload.old }
     requires going { payload.old.stopped ≡ None }
     requires ready { IsReady sink.old }
     requires writing { sink.old.failed ≡ false }
-    requires described { standing.old.described ≡ true }
+    requires fixed { IsFixed kind.now }
     requires counted { standing.old.report.rows < 2 ^ 62 }
     ensures sound { IsSound payload.new }
     ensures same { IsOnSame payload.old payload.new }
@@ -135,18 +140,19 @@ fn row<R: Read, W: Write>(
     ensures writing { OnOk result (sink.new.failed ≡ false) }
     ensures counts { standing.new.report.rows ≤ standing.old.report.rows + 1 }
     ensures sets { standing.new.report.sets ≡ standing.old.report.sets }
+    ensures column { standing.new.column ≡ standing.old.column }
     ensures gives { (charset : Charset) (room : ℕ) (area : Space) (tokens : List Token) → Tracks standing.old tokens → IsHolding area (behind tokens) → MatchResult result
-        (λ _. ReadsToken (response charset room) (in_row tokens) tokens (seen R.remaining payload.old) (seen R.remaining payload.new) payload.old.place payload.new.place
+        (λ _. ReadsToken (response charset room) (in_row kind.now tokens) tokens (seen R.remaining payload.old) (seen R.remaining payload.new) payload.old.place payload.new.place
         (held W.contents sink.old) (held W.contents sink.new) standing.new area)
-        (λ stop. Halts (response charset room) (in_row tokens) (seen R.remaining payload.old) (seen R.remaining payload.new) payload.old.place
+        (λ stop. Halts (response charset room) (in_row kind.now tokens) (seen R.remaining payload.old) (seen R.remaining payload.new) payload.old.place
         (held W.contents sink.old) (held W.contents sink.new) area sink.new.failed stop) }
 {
-    let mut bytes = [0u8; 4];
-    if let Err(stop) = payload.fill(&mut bytes) {
-        return Err(stop);
-    }
-    let line = line_of(&bytes);
-    if let Err(stop) = sink.put(line.as_slice()) {
+    let mut line = [0u8; LINE_ROOM];
+    let made = match read_line(payload, kind, &mut line) {
+        Ok(made) => made,
+        Err(stop) => return Err(stop),
+    };
+    if let Err(stop) = sink.put(&line[..made]) {
         return Err(stop);
     }
     standing.report.rows += 1;
@@ -163,6 +169,7 @@ fn done<R: Read>(payload: &mut Payload<R>, standing: &mut Standing) -> Result<()
     ensures place { OnOk result (payload.old.place ≤ payload.new.place) }
     ensures going { OnOk result (payload.new.stopped ≡ None) }
     ensures counts { standing.new.report ≡ standing.old.report }
+    ensures column { standing.new.column ≡ standing.old.column }
     ensures gives { (charset : Charset) (room : ℕ) (area : Space) (sink : Held) (tokens : List Token) → sink.delivered ≤ 2 ^ 64 - 1 → Tracks standing.old tokens → IsHolding area (behind tokens) → MatchResult result
         (λ _. ReadsToken (response charset room) (in_done tokens) tokens (seen R.remaining payload.old) (seen R.remaining payload.new) payload.old.place payload.new.place sink sink standing.new area)
         (λ stop. Halts (response charset room) (in_done tokens) (seen R.remaining payload.old) (seen R.remaining payload.new) payload.old.place sink sink area false stop) }
@@ -188,6 +195,7 @@ pub(crate) fn token<R: Read, W: Write>(
     requires writing { sink.old.failed ≡ false }
     requires room { 10 ≤ area.old.room }
     requires counted { standing.old.report.sets + standing.old.report.rows ≤ payload.old.place }
+    requires fixed { IfSome standing.old.column (λ kind. IsFixed kind) }
     ensures sound { IsSound payload.new }
     ensures same { IsOnSame payload.old payload.new }
     ensures going { OnOk result (payload.new.stopped ≡ None) }
@@ -197,6 +205,7 @@ pub(crate) fn token<R: Read, W: Write>(
     ensures room { area.new.room ≡ area.old.room }
     ensures counts { OnOk result (standing.new.report.sets + standing.new.report.rows ≤ payload.new.place) }
     ensures further { IfOk result (λ more. more ≡ true → payload.old.place < payload.new.place) }
+    ensures fixed { OnOk result (IfSome standing.new.column (λ kind. IsFixed kind)) }
     ensures gives { (charset : Charset) (tokens : List Token) → Tracks standing.old tokens → IsHolding area.old (behind tokens) → MatchResult result
         (λ more. MatchBool more
         (ReadsToken (response charset area.old.room) (behind tokens) tokens (seen R.remaining payload.old) (seen R.remaining payload.new) payload.old.place payload.new.place
@@ -211,12 +220,12 @@ pub(crate) fn token<R: Read, W: Write>(
         Err(stop) => return Err(stop),
     };
     let place = payload.place() - 1;
-    match judge(byte, standing.described) {
+    match judge(byte, standing.column) {
         Ok(TokenKind::Metadata) => match metadata(payload, sink, area, standing) {
             Ok(()) => Ok(true),
             Err(stop) => Err(stop),
         },
-        Ok(TokenKind::Row) => match row(payload, sink, standing) {
+        Ok(TokenKind::Row(kind)) => match row(payload, sink, &kind, standing) {
             Ok(()) => Ok(true),
             Err(stop) => Err(stop),
         },

@@ -1,8 +1,8 @@
-use Rattle.std.proofs.Common.{◌≡◌, ◌≢◌, ◌∙◌, ◌+◌, ◌*◌, ℕ, [], length, refl, sym, ap, subst, arith, rules}
+use Rattle.std.proofs.Common.{◌≡◌, ◌≢◌, ◌∙◌, refl, subst, rules}
 use Rattle.byteorder.specs.Endian.{little_number}
 use Rattle.tds_packet.specs.Payloads.{seen}
 use Rattle.tds_columns.specs.Description.{BeforeCount}
-use Rattle.tds_export.specs.Running.{IsCountFault, one_count, one_head, one_int}
+use Rattle.tds_export.specs.Running.{IsCountFault}
 use Rattle.tds_export.proofs.DescriptionSteps.{count_none, count_one, count_stops, description_cut}
 use Rattle.tds_export.proofs.description.read_count.Goals as goal
 

@@ -1,14 +1,12 @@
-use Rattle.std.proofs.Common.{◌≡◌, ◌∙◌, ◌⊎◌, inl, inr, ℕ, ◌+◌, true, false, [], refl, sym, ap, subst, arith, rules}
+use Rattle.std.proofs.Common.{◌≡◌, ◌∙◌, inl, inr, ℕ, true, false, refl, sym, ap, subst, rules}
 use Rattle.tds_meter.specs.Space.{Space}
 use Rattle.tds_packet.specs.declared.fault.Fault.{Fault}
 use Rattle.tds_packet.specs.Elements.{Grammar}
 use Rattle.tds_packet.specs.Seen.{Seen}
-use Rattle.tds_packet.specs.declared.fault.Fault.TheVariants.{EndWithoutDone}
-use Rattle.tds_packet.specs.declared.fault.Place.TheVariants.{Payload}
 use Rattle.tds_packet.specs.Payloads.{seen}
 use Rattle.tds_csv.specs.Sinks.{Held, held}
 use Rattle.tds_export.specs.declared.standing.Standing.{Standing}
-use Rattle.tds_export.specs.Reading.{Part, response, response_start}
+use Rattle.tds_export.specs.Reading.{Part, response}
 use Rattle.tds_export.specs.Running.{Halts, ReadsToken, behind}
 use Rattle.tds_export.proofs.RunSteps.{Runs, completes, fails_at_end, halts_after, halts_end, runs_more, runs_none}
 use Rattle.tds_export.proofs.run.run.Goals as goal
@@ -23,6 +21,7 @@ tokens-init g c = record {
   same_sink = (refl, refl, refl);
   room = refl;
   counted = c.requires.counted;
+  fixed = rw c.requires.column tt;
   runs = λ charset. runs_none charset c.args.area.now.room (seen g.R.Read.remaining c.args.payload.now) c.args.payload.now.place (held g.W.Write.contents c.args.sink.now) c.args.standing.now c.args.area.now c.requires.ready.2 c.requires.tracks c.requires.empty;
 }
 
@@ -36,6 +35,7 @@ tokens-preserved g c = record {
   same_sink = search rules;
   room = c.in-Ok-true.ensures.room ∙ c.tokens.invariant.room;
   counted = c.in-Ok-true.ensures.counts;
+  fixed = c.in-Ok-true.ensures.fixed;
   runs = λ charset.
       let x = c.tokens.invariant.runs charset in
       let y = rw c.in-Ok-true.field-0-test at (c.in-Ok-true.ensures.gives charset x.tokens x.tracks x.holds) in

@@ -1,9 +1,10 @@
-use Rattle.std.proofs.Common.{◌≡◌, ◌∙◌, ℕ, ◌+◌, ◌-◌, true, false, List, [], ◌∷◌, refl, sym, ap, subst, arith, rules}
+use Rattle.std.proofs.Common.{◌≡◌, ◌-◌, false, sym, subst, arith}
+use Rattle.std.specs.Prelude.{IfSome}
 use Rattle.tds_packet.specs.declared.fault.Place.TheVariants.{Payload}
 use Rattle.tds_packet.specs.Payloads.{seen}
 use Rattle.tds_csv.specs.Sinks.{held}
 use Rattle.tds_export.specs.Reading.{response}
-use Rattle.tds_export.specs.Running.{Halts, IsHolding, behind, in_done, in_metadata, in_row}
+use Rattle.tds_export.specs.Running.{Halts, IsFixed, behind, in_done, in_metadata, in_row}
 use Rattle.tds_export.proofs.TokenBytes.{begins_done, begins_metadata, begins_row, halts_at_byte, halts_behind_byte, halts_between, reads_behind_byte}
 use Rattle.tds_export.proofs.tokens.token.Goals as goal
 
@@ -35,20 +36,22 @@ returns-in-Err-metadata-clause-gives g c = λ charset tokens tracks holds.
 pub returns-in-Ok-row-clause-gives : goal.returns-in-Ok-row-clause-gives
 returns-in-Ok-row-clause-gives g c = λ charset tokens tracks holds.
     let byte = c.in-Ok-Some.byte in
-    let kind = rw c.in-Ok-Row.field-0-is at c.in-Ok-Row.ensures in
+    let is = rw c.in-Ok-Row.field-0-is at c.in-Ok-Row.ensures in
+    let kind = c.in-Ok-Row.kind in
     let takes = rw c.in-Ok-Some.field-0-is at c.in-Ok-Some.ensures.gives in
     let place = rw c.in-Ok-Some.field-0-is at c.in-Ok-Some.ensures.place in
-    reads_behind_byte charset c.args.area.now.room tokens byte (in_row tokens) (begins_row charset c.args.area.now.room tokens byte c.args.standing.now.described kind.0 kind.1 tracks.described)
+    reads_behind_byte charset c.args.area.now.room tokens byte (in_row kind tokens) (begins_row charset c.args.area.now.room tokens byte c.args.standing.now.column kind is.0 is.1 (subst (λ o. IfSome o (λ k. IsFixed k)) is.1 c.requires.fixed) tracks.described)
     (seen g.R.Read.remaining c.args.payload.now) (seen g.R.Read.remaining c.next_byte.new.payload) (seen g.R.Read.remaining c.row.new.payload) c.args.payload.now.place c.next_byte.new.payload.place c.row.new.payload.place
     (held g.W.Write.contents c.args.sink.now) (held g.W.Write.contents c.row.new.sink) c.row.new.standing c.args.area.now takes place (c.in-Ok-row.ensures.gives charset c.args.area.now.room c.args.area.now tokens tracks holds)
 
 pub returns-in-Err-row-clause-gives : goal.returns-in-Err-row-clause-gives
 returns-in-Err-row-clause-gives g c = λ charset tokens tracks holds.
     let byte = c.in-Ok-Some.byte in
-    let kind = rw c.in-Ok-Row.field-0-is at c.in-Ok-Row.ensures in
+    let is = rw c.in-Ok-Row.field-0-is at c.in-Ok-Row.ensures in
+    let kind = c.in-Ok-Row.kind in
     let takes = rw c.in-Ok-Some.field-0-is at c.in-Ok-Some.ensures.gives in
     let place = rw c.in-Ok-Some.field-0-is at c.in-Ok-Some.ensures.place in
-    halts_behind_byte charset c.args.area.now.room tokens byte (in_row tokens) (begins_row charset c.args.area.now.room tokens byte c.args.standing.now.described kind.0 kind.1 tracks.described)
+    halts_behind_byte charset c.args.area.now.room tokens byte (in_row kind tokens) (begins_row charset c.args.area.now.room tokens byte c.args.standing.now.column kind is.0 is.1 (subst (λ o. IfSome o (λ k. IsFixed k)) is.1 c.requires.fixed) tracks.described)
     (seen g.R.Read.remaining c.args.payload.now) (seen g.R.Read.remaining c.next_byte.new.payload) (seen g.R.Read.remaining c.row.new.payload) c.args.payload.now.place c.next_byte.new.payload.place
     (held g.W.Write.contents c.args.sink.now) (held g.W.Write.contents c.row.new.sink) c.args.area.now c.row.new.sink.failed c.in-Err-row.stop takes place (c.in-Err-row.ensures.gives charset c.args.area.now.room c.args.area.now tokens tracks holds)
 
@@ -83,5 +86,5 @@ returns-in-Err-judge-clause-gives g c = λ charset tokens tracks holds.
     let place = rw c.in-Ok-Some.field-0-is at c.in-Ok-Some.ensures.place in
     let at : c.args.payload.now.place ≡ c.place-place.result - 1 = omega (arith, place, c.place-place.ensures) in
     subst (λ n. Halts (response charset c.args.area.now.room) (behind tokens) (seen g.R.Read.remaining c.args.payload.now) (seen g.R.Read.remaining c.next_byte.new.payload) c.args.payload.now.place h h c.args.area.now c.args.sink.now.failed (record { fault = c.in-Err-judge.fault; place = Payload n })) at
-    (halts_at_byte charset c.args.area.now.room tokens (seen g.R.Read.remaining c.args.payload.now) (seen g.R.Read.remaining c.next_byte.new.payload) c.args.payload.now.place byte c.args.standing.now.described c.in-Err-judge.fault h c.args.area.now c.args.sink.now.failed
+    (halts_at_byte charset c.args.area.now.room tokens (seen g.R.Read.remaining c.args.payload.now) (seen g.R.Read.remaining c.next_byte.new.payload) c.args.payload.now.place byte c.args.standing.now.column c.in-Err-judge.fault h c.args.area.now c.args.sink.now.failed
     c.requires.ready.2 c.requires.writing holds tracks.described c.in-Err-judge.ensures takes c.in-Ok-Some.ensures.between)
