@@ -48,13 +48,19 @@ fn write_line(kind: &Kind, bytes: &[u8], to: &mut [u8]) -> Option<usize>
     }
 }
 
-/// Reads the value of a row, and writes its line to the front of a slice. It answers how many bytes the
-/// line has.
-pub(crate) fn read_line<R: Read>(
-    payload: &mut Payload<R>,
-    kind: &Kind,
-    to: &mut [u8],
-) -> Result<usize, Stop>
+// The stop of a value out of range, which began behind so many bytes of the payload.
+fn bad_value(place: u64) -> Stop
+    ensures { result ≡ record { fault = Fault.BadValue 0; place = Place.Payload place } }
+{
+    Stop {
+        fault: Fault::BadValue { column: 0 },
+        place: Place::Payload(place),
+    }
+}
+
+// Reads a value across the end of a packet, and writes its line.
+#[inline(never)]
+fn read_across<R: Read>(payload: &mut Payload<R>, kind: &Kind, to: &mut [u8]) -> Result<usize, Stop>
     requires sound { IsSound payload.old }
     requires going { payload.old.stopped ≡ None }
     requires fixed { IsFixed kind.now }
@@ -75,9 +81,39 @@ pub(crate) fn read_line<R: Read>(
     }
     match write_line(kind, bytes, to) {
         Some(made) => Ok(made),
-        None => Err(Stop {
-            fault: Fault::BadValue { column: 0 },
-            place: Place::Payload(place),
-        }),
+        None => Err(bad_value(place)),
+    }
+}
+
+/// Reads the value of a row, and writes its line to the front of a slice. It answers how many bytes the
+/// line has.
+#[inline]
+pub(crate) fn read_line<R: Read>(
+    payload: &mut Payload<R>,
+    kind: &Kind,
+    to: &mut [u8],
+) -> Result<usize, Stop>
+    requires sound { IsSound payload.old }
+    requires going { payload.old.stopped ≡ None }
+    requires fixed { IsFixed kind.now }
+    requires room { 64 ≤ length to.old }
+    ensures sound { IsSound payload.new }
+    ensures same { IsOnSame payload.old payload.new }
+    ensures going { OnOk result (payload.new.stopped ≡ None) }
+    ensures most { IfOk result (λ made. made ≤ 43) }
+    ensures gives { MatchResult result
+        (λ made. ReadsLine kind.now (seen R.remaining payload.old) (seen R.remaining payload.new) payload.old.place payload.new.place (take made to.new))
+        (λ stop. (charset : Charset) (room : ℕ) (tokens : List Token) → StopsReading (response charset room) (in_row kind.now tokens) (seen R.remaining payload.old) (seen R.remaining payload.new) payload.old.place (in_row kind.now tokens) stop) }
+{
+    let n = value_length(kind);
+    if payload.lying().len() < n {
+        return read_across(payload, kind, to);
+    }
+    let place = payload.place();
+    let made = write_line(kind, &payload.lying()[..n], to);
+    payload.pass(n);
+    match made {
+        Some(made) => Ok(made),
+        None => Err(bad_value(place)),
     }
 }
