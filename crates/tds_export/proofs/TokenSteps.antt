@@ -1,5 +1,5 @@
 -- The tokens that are built, as they are read and their text is put.
-use Rattle.std.proofs.Common.{◌≡◌, ◌∙◌, inl, ℕ, ◌+◌, ◌-◌, ◌%◌, ◌^◌, ◌<◌, ◌≤◌, Bool, true, false, List, [], ◌∷◌, ◌++◌, length, take, drop, max, refl, sym, ap, subst, arith, append-nil, length-take, suc, zero}
+use Rattle.std.proofs.Common.{◌≡◌, ◌∙◌, inl, inr, ℕ, ◌+◌, ◌-◌, ◌%◌, ◌^◌, ◌<◌, ◌≤◌, Bool, true, false, List, [], ◌∷◌, ◌++◌, length, take, drop, max, refl, sym, ap, subst, arith, append-nil, length-take, suc, zero}
 use Rattle.std.specs.Prelude.{Some, None, Ok, nat_lt, ◌==◌, is_ok, map, slice_index, if◌then◌else◌}
 use Rattle.tds_values.specs.declared.kind.Kind.{Kind}
 use Rattle.tds_values.specs.declared.kind.Kind.TheVariants as kinds
@@ -28,7 +28,7 @@ use Rattle.tds_export.specs.Tokens.{Token, Metadata, NoMetadata, Row, Done, betw
 use Rattle.tds_export.specs.Response.{more}
 use Rattle.tds_export.specs.Built.{is_built, is_built_description}
 use Rattle.tds_export.specs.Reading.{Part, response, text_so_far, with_described, with_row}
-use Rattle.tds_export.specs.Running.{Describes, Halts, HaltsReading, HaltsWriting, IsFixed, IsHolding, ReadsLine, ReadsToken, StallsDescribing, Tracks, behind, in_done, in_metadata, in_row, length_of, one_column}
+use Rattle.tds_export.specs.Running.{Describes, Halts, HaltsReading, HaltsWriting, IsFixed, IsHolding, ReadsLine, ReadsToken, StopsLine, StallsDescribing, Tracks, behind, in_done, in_metadata, in_row, length_of, one_column}
 use Rattle.tds_export.proofs.DescriptionSteps.{began_is_cut}
 use Rattle.tds_export.proofs.Lifts.{last_inside, reads_inside, stalls_inside, stalls_size}
 use Rattle.tds_export.proofs.ResponseLaws.{description_in_response}
@@ -151,6 +151,15 @@ row_breaks charset room kind area before after tokens piece a b place place' sto
       };
       holds = subst (IsHolding area) (sym to) (holds-snoc area tokens (Row cells) refl holds);
     }
+
+-- a row's value stopped the call, and nothing was put
+pub row_halts : (charset : Charset) (room : ℕ) (kind : Kind) (area : Space) (before after : Held) (tokens : List Token) (a b : Seen) (place : ℕ) (failed : Bool) (stop : Stop) → IsFixed kind → IsHolding area (behind tokens)
+    → before.delivered ≤ 2 ^ 64 - 1 → length before.waiting < 4096 → StopsLine kind a b place before after failed stop → Halts (response charset room) (in_row kind tokens) a b place before after area failed stop
+row_halts charset room kind area before after tokens a b place failed stop fixed holds d few (inl x) =
+    let s = in_row kind tokens in
+    inl (record { at = s; stalls = inl (x.0 charset room tokens); puts = ([], append-nil (text_so_far s), x.1); holds = record { bytes = holds.bytes; peak = holds.peak } }, x.2)
+row_halts charset room kind area before after tokens a b place failed stop fixed holds d few (inr x) =
+    inr (row_breaks charset room kind area before after tokens x.0.text a b place x.0.place' stop fixed holds d few x.0.reads x.0.breaks, x.1)
 
 -- the bytes of a row's value are cut
 pub row_cut : (charset : Charset) (room : ℕ) (kind : Kind) (tokens : List Token) (a b : Seen) (place n k : ℕ) (bytes : List ℕ) (own stop : Stop) → length_of kind ≡ n → k < n → length bytes ≡ n

@@ -8,6 +8,7 @@ use Rattle.tds_values.specs.Scalar.{read_of}
 use Rattle.tds_csv.specs.Quoting.{line}
 use Rattle.tds_rows.specs.Cells.{ScalarBytes, ScalarCell, field}
 use Rattle.tds_rows.specs.Rows.{InCell}
+use Rattle.tds_rows.specs.declared.Charset.{Charset}
 use Rattle.tds_export.specs.declared.tokens.TokenKind.{TokenKind}
 use Rattle.tds_export.specs.declared.tokens.TokenKind.TheVariants as kinds
 use Rattle.tds_meter.specs.Space.{Space}
@@ -19,12 +20,12 @@ use Rattle.tds_packet.specs.Elements.{Grammar, Spelt}
 use Rattle.tds_packet.specs.Seen.{Seen, Takes, IsBetween, IsOver}
 use Rattle.tds_packet.specs.Reading.{Reads, StopsReading}
 use Rattle.tds_columns.specs.Description.{BeforeCount, Column, ColumnHead, DescriptionPart, InColumn, NameCount, WholeDescription, description, description_bytes, span, type_fault}
-use Rattle.tds_csv.specs.Sinks.{Held, Finishes, FinishFails}
+use Rattle.tds_csv.specs.Sinks.{Breaks, Held, Finishes, FinishFails, Puts}
 use Rattle.tds_csv.specs.Streaming.{PutsText, Streams, BreaksStreaming}
 use Rattle.tds_export.specs.declared.standing.Standing.{Standing}
 use Rattle.tds_export.specs.Built.{is_built, is_built_description, is_built_token, is_built_type}
 use Rattle.tds_export.specs.Export.{report_of}
-use Rattle.tds_export.specs.Reading.{Between, Describing, DoneFields, InRow, Open, Part, is_token_byte, text_so_far, span_so_far}
+use Rattle.tds_export.specs.Reading.{Between, Describing, DoneFields, InRow, Open, Part, is_token_byte, response, text_so_far, span_so_far}
 use Rattle.tds_export.specs.Tokens.{Token, described_after, encoded_after, first_error, is_final, text}
 
 -- The values of the kind have a fixed length.
@@ -123,6 +124,29 @@ pub record ReadsLine (kind : Kind) (old new : Seen) (place place' : ℕ) (text :
   pub place_is : place' ≡ place + length bytes
   pub row : IsRowLine kind bytes text
 
+-- A value was read, and the line of its row put.
+pub record PutsLine (kind : Kind) (old new : Seen) (place place' : ℕ) (before after : Held) : Type 0 where
+  pub text : List ℕ
+  pub reads : ReadsLine kind old new place place' text
+  pub puts : Puts before after text
+
+-- So it was read, and then a write of the line failed.
+pub record BreaksLine (kind : Kind) (old new : Seen) (place : ℕ) (before after : Held) (stop : Stop) : Type 0 where
+  pub text : List ℕ
+  pub place' : ℕ
+  pub reads : ReadsLine kind old new place place' text
+  pub breaks : Breaks before after text stop
+
+-- where a row is read, behind its token byte
+abbrev pub in_row : Kind → List Token → Part
+in_row kind tokens = record { tokens = tokens; at = InRow (InCell [] (ScalarBytes kind (length_of kind)) []) }
+
+-- A value wasn't read whole, or is refused: nothing was put. Or a write of the line failed.
+abbrev pub StopsLine : Kind → Seen → Seen → ℕ → Held → Held → Bool → Stop → Type 0
+StopsLine kind old new place before after failed stop =
+    (((charset : Charset) (room : ℕ) (tokens : List Token) → StopsReading (response charset room) (in_row kind tokens) old new place (in_row kind tokens) stop) × Puts before after [] × (failed ≡ false))
+    ⊎ (BreaksLine kind old new place before after stop × (failed ≡ true))
+
 -- The byte begins a token of this kind, where this column is described or none.
 abbrev pub IsOfKind : Option Kind → ℕ → TokenKind → Type 0
 IsOfKind column byte kinds.Metadata = byte ≡ 0x81
@@ -138,9 +162,6 @@ IsRefusal column byte fault =
 -- where the tokens that are built are read, behind their token bytes
 abbrev pub in_metadata : List Token → Part
 in_metadata tokens = record { tokens = tokens; at = Describing BeforeCount }
-
-abbrev pub in_row : Kind → List Token → Part
-in_row kind tokens = record { tokens = tokens; at = InRow (InCell [] (ScalarBytes kind (length_of kind)) []) }
 
 abbrev pub in_done : List Token → Part
 in_done tokens = record { tokens = tokens; at = DoneFields }

@@ -1,19 +1,21 @@
 // A row of one column of a kind of fixed length (MS-TDS, ROW).
 ghost use Rattle.std.specs.Prelude.{◌≡◌, ◌+◌, ◌<◌, ◌≤◌, ◌∷◌, ℕ, [], List, None, Some, false, true, is_ok, length, take, MatchOption, MatchResult, OnOk, IfOk};
 ghost use Rattle.tds_export.specs.Reading.{response};
-ghost use Rattle.tds_export.specs.Running.{IsFixed, IsRowLine, ReadsLine, in_row, length_of};
+ghost use Rattle.tds_export.specs.Running.{IsFixed, IsRowLine, PutsLine, ReadsLine, StopsLine, in_row, length_of};
+ghost use Rattle.tds_csv.specs.Sinks.{IsOnSameSink, IsReady, held};
 ghost use Rattle.tds_export.specs.Tokens.{Token};
 ghost use Rattle.tds_packet.specs.Payloads.{IsOnSame, IsSound, seen};
 ghost use Rattle.tds_packet.specs.Reading.{StopsReading};
 ghost use Rattle.tds_rows.specs.declared.Charset.{Charset};
 ghost use Rattle.tds_values.specs.Scalar.{read_of};
 
-use std::io::Read;
+use std::io::{Read, Write};
+use tds_csv::Sink;
 use tds_packet::{Fault, Payload, Place, Stop};
 use tds_values::{Kind, write_scalar};
 
 /// How many bytes the line of a row may want, and a few to spare.
-pub(crate) const LINE_ROOM: usize = 64;
+const LINE_ROOM: usize = 64;
 
 /// The longest value of a kind of fixed length.
 const LONGEST: usize = 8;
@@ -85,14 +87,10 @@ fn read_across<R: Read>(payload: &mut Payload<R>, kind: &Kind, to: &mut [u8]) ->
     }
 }
 
-/// Reads the value of a row, and writes its line to the front of a slice. It answers how many bytes the
-/// line has.
+// Reads the value of a row, and writes its line to the front of a slice. It answers how many bytes the
+// line has.
 #[inline]
-pub(crate) fn read_line<R: Read>(
-    payload: &mut Payload<R>,
-    kind: &Kind,
-    to: &mut [u8],
-) -> Result<usize, Stop>
+fn read_line<R: Read>(payload: &mut Payload<R>, kind: &Kind, to: &mut [u8]) -> Result<usize, Stop>
     requires sound { IsSound payload.old }
     requires going { payload.old.stopped ≡ None }
     requires fixed { IsFixed kind.now }
@@ -115,5 +113,100 @@ pub(crate) fn read_line<R: Read>(
     match made {
         Some(made) => Ok(made),
         None => Err(bad_value(place)),
+    }
+}
+
+// Reads the value of a row, and puts its line across the end of a block.
+#[inline(never)]
+fn put_across<R: Read, W: Write>(
+    payload: &mut Payload<R>,
+    sink: &mut Sink<W>,
+    kind: &Kind,
+) -> Result<(), Stop>
+    requires sound { IsSound payload.old }
+    requires going { payload.old.stopped ≡ None }
+    requires ready { IsReady sink.old }
+    requires writing { sink.old.failed ≡ false }
+    requires fixed { IsFixed kind.now }
+    ensures sound { IsSound payload.new }
+    ensures same { IsOnSame payload.old payload.new }
+    ensures going { OnOk result (payload.new.stopped ≡ None) }
+    ensures ready { IsReady sink.new }
+    ensures same_sink { IsOnSameSink sink.old sink.new }
+    ensures writing { OnOk result (sink.new.failed ≡ false) }
+    ensures gives { MatchResult result
+        (λ _. PutsLine kind.now (seen R.remaining payload.old) (seen R.remaining payload.new) payload.old.place payload.new.place (held W.contents sink.old) (held W.contents sink.new))
+        (λ stop. StopsLine kind.now (seen R.remaining payload.old) (seen R.remaining payload.new) payload.old.place (held W.contents sink.old) (held W.contents sink.new) sink.new.failed stop) }
+{
+    let mut line = [0u8; LINE_ROOM];
+    let made = match read_line(payload, kind, &mut line) {
+        Ok(made) => made,
+        Err(stop) => return Err(stop),
+    };
+    match sink.put(&line[..made]) {
+        Ok(()) => Ok(()),
+        Err(stop) => Err(stop),
+    }
+}
+
+// Reads the value of a row, and writes its line where it waits.
+#[inline]
+fn put_in_room<R: Read, W: Write>(
+    payload: &mut Payload<R>,
+    sink: &mut Sink<W>,
+    kind: &Kind,
+) -> Result<(), Stop>
+    requires sound { IsSound payload.old }
+    requires going { payload.old.stopped ≡ None }
+    requires ready { IsReady sink.old }
+    requires writing { sink.old.failed ≡ false }
+    requires fixed { IsFixed kind.now }
+    requires room { length sink.old.output.now.bytes + 64 ≤ 4096 }
+    ensures sound { IsSound payload.new }
+    ensures same { IsOnSame payload.old payload.new }
+    ensures going { OnOk result (payload.new.stopped ≡ None) }
+    ensures ready { IsReady sink.new }
+    ensures same_sink { IsOnSameSink sink.old sink.new }
+    ensures writing { OnOk result (sink.new.failed ≡ false) }
+    ensures gives { MatchResult result
+        (λ _. PutsLine kind.now (seen R.remaining payload.old) (seen R.remaining payload.new) payload.old.place payload.new.place (held W.contents sink.old) (held W.contents sink.new))
+        (λ stop. StopsLine kind.now (seen R.remaining payload.old) (seen R.remaining payload.new) payload.old.place (held W.contents sink.old) (held W.contents sink.new) sink.new.failed stop) }
+{
+    let waiting = sink.waiting() as usize;
+    match read_line(payload, kind, sink.spare(LINE_ROOM)) {
+        Ok(made) => sink.keep(waiting, made),
+        Err(stop) => match sink.keep(waiting, 0) {
+            Ok(()) => Err(stop),
+            Err(_) => unreachable!(),
+        },
+    }
+}
+
+/// Reads the value of a row, and puts its line.
+#[inline]
+pub(crate) fn put_line<R: Read, W: Write>(
+    payload: &mut Payload<R>,
+    sink: &mut Sink<W>,
+    kind: &Kind,
+) -> Result<(), Stop>
+    requires sound { IsSound payload.old }
+    requires going { payload.old.stopped ≡ None }
+    requires ready { IsReady sink.old }
+    requires writing { sink.old.failed ≡ false }
+    requires fixed { IsFixed kind.now }
+    ensures sound { IsSound payload.new }
+    ensures same { IsOnSame payload.old payload.new }
+    ensures going { OnOk result (payload.new.stopped ≡ None) }
+    ensures ready { IsReady sink.new }
+    ensures same_sink { IsOnSameSink sink.old sink.new }
+    ensures writing { OnOk result (sink.new.failed ≡ false) }
+    ensures gives { MatchResult result
+        (λ _. PutsLine kind.now (seen R.remaining payload.old) (seen R.remaining payload.new) payload.old.place payload.new.place (held W.contents sink.old) (held W.contents sink.new))
+        (λ stop. StopsLine kind.now (seen R.remaining payload.old) (seen R.remaining payload.new) payload.old.place (held W.contents sink.old) (held W.contents sink.new) sink.new.failed stop) }
+{
+    if sink.room() < LINE_ROOM {
+        put_across(payload, sink, kind)
+    } else {
+        put_in_room(payload, sink, kind)
     }
 }

@@ -10,7 +10,7 @@ ghost use Rattle.tds_packet.specs.Seen.{Ends, IsBetween, IsOver, Takes};
 ghost use Rattle.tds_rows.specs.declared.Charset.{Charset};
 
 use crate::description::{describe, name_in};
-use crate::row::{LINE_ROOM, read_line};
+use crate::row::put_line;
 use crate::set::put_header;
 use crate::standing::Standing;
 use std::io::{Read, Write};
@@ -147,12 +147,7 @@ fn row<R: Read, W: Write>(
         (λ stop. Halts (response charset room) (in_row kind.now tokens) (seen R.remaining payload.old) (seen R.remaining payload.new) payload.old.place
         (held W.contents sink.old) (held W.contents sink.new) area sink.new.failed stop) }
 {
-    let mut line = [0u8; LINE_ROOM];
-    let made = match read_line(payload, kind, &mut line) {
-        Ok(made) => made,
-        Err(stop) => return Err(stop),
-    };
-    if let Err(stop) = sink.put(&line[..made]) {
+    if let Err(stop) = put_line(payload, sink, kind) {
         return Err(stop);
     }
     standing.report.rows += 1;

@@ -11,6 +11,20 @@ fn a_row_of(alloc: Global, type_byte: u8, value: &[u8]) -> Result<Vec<u8>, Alloc
     in_one_packet(alloc, &payload)
 }
 
+// A payload in packets of so many bytes, but for the last.
+fn in_packets(alloc: Global, payload: &[u8], body: usize) -> Result<Vec<u8>, AllocError> {
+    let mut wire = Vec::new(alloc);
+    let body = body.max(1);
+    let packets = payload.len().div_ceil(body);
+    for (i, part) in payload.chunks(body).enumerate() {
+        let status = if i + 1 == packets { 0x01 } else { 0x00 };
+        let length = ((8 + part.len()).min(0xFFFF) as u16).to_be_bytes();
+        wire.extend_from_slice(&[0x04, status, length[0], length[1], 0, 0, 1, 0])?;
+        wire.extend_from_slice(part)?;
+    }
+    Ok(wire)
+}
+
 // A value of a kind, and the text of its set.
 #[derive(Clone, Copy)]
 struct Sample {
@@ -139,6 +153,40 @@ fn values_of_fixed_length_are_written(rt: HostRuntime) -> Result<(), Fail> {
             assert_eq!(rt; out.text.as_slice(), case.text, "{what}");
             assert_eq!(rt; out.left, 0, "{what}");
         }
+    }
+    Ok(())
+}
+
+// Rows of the least bigint, whose text fills a block and a part of one, and whose values lie across
+// the ends of packets where these are small. The block is delivered, or fails in its end.
+#[test]
+fn many_rows_are_written(rt: HostRuntime) -> Result<(), Fail> {
+    let mut areas = make_usual_areas(rt.alloc())?;
+    let mut payload = Vec::new(rt.alloc());
+    let mut text = HEADER_LINE.to_vec(rt.alloc())?;
+    payload.extend_from_slice(&[0x81, 1, 0, 0, 0, 0, 0, 0, 0, 0x7F, 1, 0x61, 0])?;
+    for _ in 0..370 {
+        payload.extend_from_slice(&[0xD1, 0, 0, 0, 0, 0, 0, 0, 0x80])?;
+        text.extend_from_slice(b"-9223372036854775808\r\n")?;
+    }
+    payload.extend_from_slice(DONE)?;
+    assert_eq!(rt; (payload.len(), text.len()), (3356, 8145));
+    for body in [504, 505, 3356] {
+        let wire = in_packets(rt.alloc(), &payload, body)?;
+        let out = read(rt.alloc(), &mut areas, ScriptedReader::new(&wire, 700))?;
+        assert_eq!(rt; out.answer, Ok(report(1, 370, 8145)), "{body}");
+        assert!(rt; out.text.as_slice() == text.as_slice(), "{body}");
+        let from = ScriptedReader::new(&wire, 700);
+        let to = ScriptedWriter::new(1000, Failing::AfterBytes(4090));
+        let out = run(rt.alloc(), &mut areas, from, to)?;
+        let expected = Err(Stopped {
+            fault: Fault::WriteFailed,
+            place: Place::Text(4090),
+            written: 4090,
+            unwritten: 6,
+        });
+        assert_eq!(rt; out.answer, expected, "{body}");
+        assert!(rt; out.text.as_slice() == front(&text, 4090), "{body}");
     }
     Ok(())
 }
