@@ -1,5 +1,5 @@
 -- What a description's spelling is read as.
-use Rattle.std.proofs.Common.{◌≡◌, ℕ, ◌+◌, ◌-◌, ◌*◌, ◌/◌, ◌%◌, ◌<◌, ◌≤◌, Bool, true, false, List, [], ◌∷◌, ◌++◌, length, refl, sym, ◌∙◌, ap, subst, append_assoc, append-nil, arith, length-append}
+use Rattle.std.proofs.Common.{◌≡◌, ℕ, ◌+◌, ◌-◌, ◌*◌, ◌/◌, ◌%◌, ◌<◌, ◌≤◌, true, false, List, [], ◌∷◌, ◌++◌, length, refl, sym, ◌∙◌, ap, subst, append_assoc, append-nil, arith, length-append}
 use Rattle.std.specs.Prelude.{Some, None, ◌==◌, nat_lt, is_some, slice_index, unwrap_or, if◌then◌else◌}
 use Rattle.std.proofs.lemmas.Bool.Decides.{nat_tests}
 use Rattle.std.proofs.lemmas.Bool.{ne_eqb}
@@ -14,7 +14,7 @@ use Rattle.tds_packet.proofs.ElementLaws.{Spelt-step, Spelt-append, Spelt-none}
 use Rattle.tds_columns.specs.Description.{Column, SpellsColumn, SpellsColumns, SpellsDescription, ColumnHead, ColumnInfo, NameCount, NameUnits, BeforeCount, NoDescription, InColumn, WholeDescription, with_column, with_kind, with_count, with_type, with_units, too_long, type_fault, first_of_two, count_fault, description}
 use Rattle.tds_packet.proofs.Choices.{choose_false, choose_true}
 
-fits_in : (room so_far least : ℕ) → so_far + least ≤ room → too_long room so_far least ≡ None
+pub fits_in : (room so_far least : ℕ) → so_far + least ≤ room → too_long room so_far least ≡ None
 fits_in room so_far least h = choose_false (nat_lt room (so_far + least)) (Some DescriptionTooLong) None (grind (arith, nat_tests))
 
 -- the bytes of a TYPE_INFO: its type byte and the rest

@@ -1,7 +1,8 @@
 -- What the bytes that lead to a part of a description spell.
 use Rattle.std.proofs.Common.{◌≡◌, ◌≢◌, ℕ, ◌+◌, ◌-◌, ◌*◌, ◌/◌, ◌%◌, ◌<◌, ◌≤◌, Bool, true, false, List, [], ◌∷◌, ◌++◌, length, refl, sym, ◌∙◌, ap, subst, append_assoc, append-nil, arith, length-append}
-use Rattle.std.specs.Prelude.{Option, Some, None, ◌==◌, ◌||◌, ◌&&◌, not, nat_lt, is_some, slice_index, unwrap_or, if◌then◌else◌}
+use Rattle.std.specs.Prelude.{Option, Some, None, ◌==◌, nat_lt, is_some, slice_index, unwrap_or, if◌then◌else◌}
 use Rattle.std.proofs.lemmas.Bool.Decides.{nat_tests}
+use Rattle.std.proofs.lemmas.Bool.{ne_eqb}
 use Rattle.std.proofs.Math.Seq.{get_or-append_seam}
 use Rattle.tds_values.specs.declared.kind.Kind.{Kind}
 use Rattle.tds_values.specs.Numbers.{little}
@@ -12,24 +13,44 @@ use Rattle.tds_packet.specs.declared.fault.Fault.{Fault}
 use Rattle.tds_packet.specs.declared.fault.Fault.TheVariants.{DescriptionTooLong, NoColumns, BadTypeInfo}
 use Rattle.tds_packet.specs.Elements.{AreBytes, IsNext}
 use Rattle.tds_columns.specs.Description.{Column, SpellsColumn, SpellsColumns, SpellsDescription, ColumnPlace, ColumnHead, ColumnInfo, NameCount, NameUnits, DescriptionPart, BeforeCount, NoDescription, InColumn, WholeDescription, with_column, with_kind, with_count, with_type, with_units, add_described, too_long, type_fault, refused_type, refused_kind, first_of_two, count_fault, description}
-use Rattle.tds_packet.proofs.Choices.{choose, eq_true, eq_false, is_some_value}
+use Rattle.tds_packet.proofs.Choices.{choose, choose_false, eq_true, eq_false, is_some_value}
 use Rattle.tds_columns.proofs.ByteLemmas.{split_last, one_byte, two_bytes}
 
-not_long : (room so_far least : ℕ) → too_long room so_far least ≡ None → so_far + least ≤ room
+pub not_long : (room so_far least : ℕ) → too_long room so_far least ≡ None → so_far + least ≤ room
 not_long room so_far least h = go (nat_lt room (so_far + least)) refl
   where
     go : (b : Bool) → nat_lt room (so_far + least) ≡ b → so_far + least ≤ room
     go true e = let q : Some DescriptionTooLong ≡ None = sym (ap (λ b. (if b then Some DescriptionTooLong else None)) e) ∙ h in cc
     go false e = grind (arith, nat_tests)
 
+-- a Count that isn't refused is at least 1
+pub not_zero : (room c : ℕ) → count_fault room c ≡ None → 0 < c
+not_zero room c q = go (c == 0) refl
+  where
+    go : (p : Bool) → (c == 0) ≡ p → 0 < c
+    go true e = let w : Some NoColumns ≡ None = sym (ap (λ p. (if p then Some NoColumns else if c == 0xFFFF then None else too_long room 2 (8 * c))) e) ∙ q in cc
+    go false e = let w : c ≢ 0 = eq_false c 0 e in omega arith
+
+-- and unless it is that of no metadata the room has the least bytes of its columns
+pub room_for : (room c : ℕ) → c ≢ 0xFFFF → count_fault room c ≡ None → 2 + 8 * c ≤ room
+room_for room c other q =
+    let some : 0 < c = not_zero room c q in
+    let free : count_fault room c ≡ too_long room 2 (8 * c) = choose_false (c == 0) (Some NoColumns) (if c == 0xFFFF then None else too_long room 2 (8 * c)) (ne_eqb c 0 (λ e. omega (arith, e, some))) ∙ choose_false (c == 0xFFFF) None (too_long room 2 (8 * c)) (ne_eqb c 0xFFFF other) in
+    not_long room 2 (8 * c) (sym free ∙ q)
+
 -- a type byte that is accepted
-known_type : (i byte : ℕ) (o : Option ℕ) (y : Option Fault) → first_of_two (type_fault i byte o) y ≡ None → (n : ℕ) × (o ≡ Some n)
+pub known_type : (i byte : ℕ) (o : Option ℕ) (y : Option Fault) → first_of_two (type_fault i byte o) y ≡ None → (n : ℕ) × (o ≡ Some n)
 known_type i byte (Some n) y h = (n, refl)
 known_type i byte None y h = go (refused_kind byte) h
   where
     go : (r : Option RefusedKind) → first_of_two (refused_type i byte r) y ≡ None → (n : ℕ) × (None ≡ Some n)
     go (Some k) e = cc
     go None e = cc
+
+-- type information that is accepted
+pub some_kind : (index : ℕ) (o : Option Kind) → (if is_some o then None else Some (BadTypeInfo index)) ≡ None → is_some o ≡ true
+some_kind index (Some k) q = refl
+some_kind index None q = cc
 
 second_none : (x y : Option Fault) → first_of_two x y ≡ None → y ≡ None
 second_none (Some x) y h = cc
@@ -127,7 +148,7 @@ module _ (room : ℕ) where
   info_step : (have : List ℕ) (count : ℕ) (cols : List Column) (byte : ℕ) (b e : List ℕ) → WithinMeans room have count cols (ColumnInfo byte) b → IsNext (description room) (InColumn have count cols (ColumnInfo byte)) e → DescribedMeans room (with_kind (have ++ e) count cols (kind_of (byte ∷ e))) (b ++ e)
   info_step have count cols byte b e h n =
       let g = h.begun in
-      let k = is_some_value (kind_of (byte ∷ e)) (some_kind (kind_of (byte ∷ e)) n.free) in
+      let k = is_some_value (kind_of (byte ∷ e)) (some_kind (length cols) (kind_of (byte ∷ e)) n.free) in
       let l : length e ≡ g.3 = n.whole ∙ ap (λ o. unwrap_or o 0) g.4 in
       subst (λ o. DescribedMeans room (with_kind (have ++ e) count cols o) (b ++ e)) (sym k.1)
       (record {
@@ -142,10 +163,6 @@ module _ (room : ℕ) where
         begun = (g.0, byte ∷ e, ap (λ v. v ++ e) g.1 ∙ append_assoc g.0 (byte ∷ []) e, g.2, k.1);
         room' = λ i. absurd i;
       })
-    where
-      some_kind : (o : Option Kind) → (if is_some o then None else Some (BadTypeInfo (length cols))) ≡ None → is_some o ≡ true
-      some_kind (Some k) q = refl
-      some_kind None q = cc
 
   units_step : (have : List ℕ) (count : ℕ) (cols : List Column) (kind : Kind) (b e : List ℕ) → AreBytes e → WithinMeans room have count cols (NameCount kind) b → IsNext (description room) (InColumn have count cols (NameCount kind)) e → DescribedMeans room (with_units (have ++ e) count cols kind (slice_index e 0)) (b ++ e)
   units_step have count cols kind b e bytes h n =
@@ -182,16 +199,9 @@ module _ (room : ℕ) where
       (λ z. t.0 ∙ ap (λ v. v % 256 ∷ v / 256 ∷ []) (eq_true (little e) 0xFFFF z))
       (λ z.
       let none : little e ≢ 0xFFFF = eq_false (little e) 0xFFFF z in
-      let some : 0 < little e = not_zero (little e) free in
+      let some : 0 < little e = not_zero room (little e) free in
       let less : little e < 65536 = t.1 in
       record { same = refl; some = some; most = omega arith; front = []; part = []; spelt = t.0; whole = refl; fewer = some; begun = refl; room' = λ i. absurd i })
-    where
-      not_zero : (c : ℕ) → count_fault room c ≡ None → 0 < c
-      not_zero c q = go (c == 0) refl
-        where
-          go : (p : Bool) → (c == 0) ≡ p → 0 < c
-          go true e = let w : Some NoColumns ≡ None = sym (ap (λ p. (if p then Some NoColumns else if c == 0xFFFF then None else too_long room 2 (8 * c))) e) ∙ q in cc
-          go false e = let w : c ≢ 0 = eq_false c 0 e in omega arith
 
   -- each element keeps the meaning
   pub described_step : (d : DescriptionPart) (b e : List ℕ) → AreBytes e → DescribedMeans room d b → IsNext (description room) d e → DescribedMeans room (add_described d e) (b ++ e)

@@ -1,5 +1,5 @@
 -- What reading an element to the end of an area does.
-use Rattle.std.specs.Prelude.{◌≡◌, ℕ, ◌+◌, ◌<◌, ◌≤◌, List, ◌++◌, length, max}
+use Rattle.std.specs.Prelude.{◌≡◌, ℕ, ◌+◌, ◌<◌, ◌≤◌, List, length, max}
 use Rattle.tds_meter.specs.Space.{Space, appended}
 use Rattle.tds_packet.specs.declared.fault.Stop.{Stop}
 use Rattle.tds_packet.specs.Seen.{Seen, Takes, Ends, IsBetween, began_at}

@@ -1,9 +1,13 @@
 -- What reading a description from a payload does, on success and on each stop.
-use Rattle.std.specs.Prelude.{◌≡◌, ℕ, ◌≤◌, List, [], ◌∷◌, length, max}
+use Rattle.std.specs.Prelude.{◌≡◌, ◌==◌, ℕ, ◌+◌, ◌*◌, ◌<◌, ◌≤◌, List, [], ◌∷◌, length, max, if◌then◌else◌}
+use Rattle.tds_values.specs.declared.kind.Kind.{Kind}
+use Rattle.tds_meter.specs.Space.{Space}
 use Rattle.tds_packet.specs.declared.fault.Stop.{Stop}
 use Rattle.tds_packet.specs.Seen.{Seen, Takes}
-use Rattle.tds_packet.specs.Reading.{StopsReading}
-use Rattle.tds_columns.specs.Description.{Column, DescriptionPart, BeforeCount, SpellsDescription, description, description_bytes, span}
+use Rattle.tds_packet.specs.Reading.{Reads, StopsReading}
+use Rattle.tds_columns.specs.declared.metadata.Described.{Described}
+use Rattle.tds_columns.specs.declared.metadata.Described.TheVariants.{Columns, NoMetadata}
+use Rattle.tds_columns.specs.Description.{Column, ColumnHead, ColumnInfo, ColumnPlace, NameCount, DescriptionPart, BeforeCount, InColumn, NoDescription, WholeDescription, SpellsDescription, description, description_bytes, span, with_column}
 
 -- A description was read: the area has its bytes, which are those taken.
 pub record Gathers (room : ℕ) (old new : Seen) (area : List ℕ) (peak_before peak : ℕ) (columns : List Column) : Type 0 where
@@ -17,9 +21,69 @@ pub record GathersNone (old new : Seen) (area : List ℕ) (peak_before peak : �
   pub nothing : area ≡ []
   pub bound : peak ≤ max peak_before 2
 
--- Reading a description stopped: the area has the elements that were read whole.
-pub record GatherStops (room : ℕ) (old new : Seen) (place : ℕ) (area : List ℕ) (peak_before peak : ℕ) (stop : Stop) : Type 0 where
+-- Elements of a description were read, which lead from one state to another, and the area has its bytes.
+pub record Describes (room : ℕ) (from : DescriptionPart) (old new : Seen) (place place' peak : ℕ) (area : Space) (to : DescriptionPart) : Type 0 where
+  pub reads : Reads (description room) from old new to
+  pub place_is : place' ≡ place + length reads.bytes
+  pub kept : area.bytes ≡ description_bytes to
+  pub bound : area.peak ≤ max peak (span to)
+  pub further : span from ≤ span to
+
+-- The reading of a description stopped: the area has the elements that were read whole.
+pub record StopsDescribing (room : ℕ) (from : DescriptionPart) (old new : Seen) (place peak : ℕ) (area : Space) (stop : Stop) : Type 0 where
   pub at : DescriptionPart
-  pub stops : StopsReading (description room) BeforeCount old new place at stop
-  pub kept : area ≡ description_bytes at
-  pub bound : peak ≤ max peak_before (span at)
+  pub stops : StopsReading (description room) from old new place at stop
+  pub kept : area.bytes ≡ description_bytes at
+  pub bound : area.peak ≤ max peak (span at)
+  pub further : span from ≤ span at
+
+-- a description behind the last of these columns
+abbrev pub behind_columns : List ℕ → ℕ → List Column → DescriptionPart
+behind_columns bytes count columns = if length columns == count then WholeDescription bytes columns else InColumn bytes count columns ColumnHead
+
+-- A Count was read: that of no metadata, or one of columns whose least bytes the room has.
+abbrev pub DescribesCount : ℕ → Seen → Seen → ℕ → ℕ → ℕ → Space → Described → Type 0
+DescribesCount room old new place place' peak area (Columns count) =
+    Describes room BeforeCount old new place place' peak area (InColumn area.bytes count [] ColumnHead) × (0 < count) × (length area.bytes + 8 * count ≤ room)
+DescribesCount room old new place place' peak area NoMetadata = Describes room BeforeCount old new place place' peak area NoDescription × GathersNone old new area.bytes peak area.peak
+
+-- What follows the type byte of a column was read, whatever the columns before it are.
+abbrev pub DescribesInfo : ℕ → ℕ → ℕ → ℕ → List ℕ → Seen → Seen → ℕ → ℕ → ℕ → Space → Type 0
+DescribesInfo room count index byte bytes old new place place' peak area = (columns : List Column) → length columns ≡ index →
+    (kind : Kind) × Describes room (InColumn bytes count columns (ColumnInfo byte)) old new place place' peak area (InColumn area.bytes count columns (NameCount kind))
+
+-- The head of a column and its further type information were read, whatever the columns before it are.
+abbrev pub DescribesType : ℕ → ℕ → ℕ → List ℕ → Seen → Seen → ℕ → ℕ → ℕ → Space → Type 0
+DescribesType room count index bytes old new place place' peak area = (columns : List Column) → length columns ≡ index →
+    (kind : Kind) × Describes room (InColumn bytes count columns ColumnHead) old new place place' peak area (InColumn area.bytes count columns (NameCount kind))
+
+-- The name of a column was read behind the rest of it, whatever that and the columns before it are.
+abbrev pub DescribesName : ℕ → ℕ → ℕ → List ℕ → Seen → Seen → ℕ → ℕ → ℕ → Space → Type 0
+DescribesName room count index bytes old new place place' peak area = (columns : List Column) (kind : Kind) → length columns ≡ index →
+    (column : Column) × Describes room (InColumn bytes count columns (NameCount kind)) old new place place' peak area (with_column area.bytes count columns column)
+
+-- A column was read, whatever the columns before it are.
+abbrev pub DescribesColumn : ℕ → ℕ → ℕ → List ℕ → Seen → Seen → ℕ → ℕ → ℕ → Space → Type 0
+DescribesColumn room count index bytes old new place place' peak area = (columns : List Column) → length columns ≡ index →
+    (column : Column) × Describes room (InColumn bytes count columns ColumnHead) old new place place' peak area (with_column area.bytes count columns column)
+
+-- The reading stopped in a column, whatever the columns before it are.
+abbrev pub StopsInColumn : ℕ → ℕ → ℕ → ColumnPlace → List ℕ → Seen → Seen → ℕ → ℕ → Space → Stop → Type 0
+StopsInColumn room count index at bytes old new place peak area stop = (columns : List Column) → length columns ≡ index → StopsDescribing room (InColumn bytes count columns at) old new place peak area stop
+
+-- So many columns were read behind Count.
+pub record DescribesColumns (room count : ℕ) (bytes : List ℕ) (old new : Seen) (place place' peak : ℕ) (area : Space) : Type 0 where
+  pub columns : List Column
+  pub all : length columns ≡ count
+  pub describes : Describes room (InColumn bytes count [] ColumnHead) old new place place' peak area (WholeDescription area.bytes columns)
+
+-- What a description says, as it was read.
+abbrev pub GatherGives : ℕ → Seen → Seen → ℕ → ℕ → ℕ → Space → Described → Type 0
+GatherGives room old new place place' peak area (Columns count) = (columns : List Column) × (length columns ≡ count)
+    × Describes room BeforeCount old new place place' peak area (WholeDescription area.bytes columns) × Gathers room old new area.bytes peak area.peak columns
+GatherGives room old new place place' peak area NoMetadata = Describes room BeforeCount old new place place' peak area NoDescription × GathersNone old new area.bytes peak area.peak
+
+-- Reading a description from its Count on stopped: the area's bytes are all those of the whole elements.
+pub record GatherStops (room : ℕ) (old new : Seen) (place peak : ℕ) (area : Space) (stop : Stop) : Type 0 where
+  pub describing : StopsDescribing room BeforeCount old new place peak area stop
+  pub begins : area.bytes ≡ describing.stops.bytes

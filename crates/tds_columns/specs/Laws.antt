@@ -1,7 +1,7 @@
 -- The laws of descriptions.
 use Rattle.std.specs.Prelude.{◌≡◌, ℕ, List, ◌++◌, take}
 use Rattle.tds_packet.specs.declared.fault.Fault.{Fault}
-use Rattle.tds_packet.specs.Elements.{Grammar, Spelt, IsRefused}
+use Rattle.tds_packet.specs.Elements.{Spelt, IsRefused}
 use Rattle.tds_columns.specs.Description.{Column, SpellsDescription, DescriptionPart, BeforeCount, description}
 
 -- No bytes describe two lists of columns.

@@ -1,6 +1,6 @@
 // TYPE_INFO: a type byte, and the bytes that describe it further (MS-TDS, Type Info Rule
 // Definition).
-ghost use Rattle.std.specs.Prelude.{◌≡◌, ◌≤◌, ℕ, ◌∷◌, ◌==◌, length, take, is_some, Some, IfErr, IfOk};
+ghost use Rattle.std.specs.Prelude.{◌≡◌, ◌≤◌, ℕ, ◌∷◌, ◌==◌, length, take, is_some, Some, IfSome};
 ghost use Rattle.tds_columns.specs.Description as spec;
 ghost use Rattle.byteorder.specs.Endian.{little_number};
 ghost use Rattle.tds_values.specs.TypeInfo as info;
@@ -12,36 +12,58 @@ use tds_values::{Kind, Reach};
 
 // Type bytes after which nothing follows (MS-TDS, Fixed-Length Data Types).
 const INT1: u8 = 0x30;
+
 const BIT: u8 = 0x32;
+
 const INT2: u8 = 0x34;
+
 const INT4: u8 = 0x38;
+
 const DATETIME4: u8 = 0x3A;
+
 const MONEY8: u8 = 0x3C;
+
 const DATETIME8: u8 = 0x3D;
+
 const MONEY4: u8 = 0x7A;
+
 const INT8: u8 = 0x7F;
+
 const DATE: u8 = 0x28;
 
 // Type bytes with a length or a scale (MS-TDS, Variable-Length Data Types).
 const GUID: u8 = 0x24;
+
 const INT_N: u8 = 0x26;
+
 const BIT_N: u8 = 0x68;
+
 const MONEY_N: u8 = 0x6E;
+
 const DATETIME_N: u8 = 0x6F;
+
 const TIME: u8 = 0x29;
+
 const DATETIME2: u8 = 0x2A;
+
 const DATETIME_OFFSET: u8 = 0x2B;
 
 // Type bytes with a length, a precision and a scale.
 const DECIMAL: u8 = 0x6A;
+
 const NUMERIC: u8 = 0x6C;
 
 // Type bytes with a length of two bytes, and of characters with a collation of five behind it.
 const BIG_VARBINARY: u8 = 0xA5;
+
 const BIG_BINARY: u8 = 0xAD;
+
 const BIG_VARCHAR: u8 = 0xA7;
+
 const BIG_CHAR: u8 = 0xAF;
+
 const NVARCHAR: u8 = 0xE7;
+
 const NCHAR: u8 = 0xEF;
 
 // The described length of values that are spelled in chunks (MS-TDS, Partially Length-Prefixed
@@ -51,7 +73,8 @@ const CHUNKED: u16 = 0xFFFF;
 /// How many bytes follow a type byte in TYPE_INFO, if it is one of this profile.
 #[tactic(auto, unfolding(tds_values::specs::TypeInfo::rest_length))]
 pub(crate) fn rest_length(byte: u8) -> Option<usize>
-    ensures { result ≡ info.rest_length byte }
+    ensures value { result ≡ info.rest_length byte }
+    ensures bound { IfSome result (λ n. n ≤ 7) }
 {
     match byte {
         INT1 | BIT | INT2 | INT4 | INT8 | DATETIME4 | DATETIME8 | MONEY4 | MONEY8 | DATE => Some(0),

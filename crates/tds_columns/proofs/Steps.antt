@@ -1,0 +1,86 @@
+-- Calls that read by a grammar, one after another.
+use Rattle.std.proofs.Common.{◌≡◌, ◌∙◌, inl, inr, ℕ, ◌+◌, ◌<◌, List, [], ◌++◌, length, sym, ap, subst, arith, append_assoc, length-append}
+use Rattle.std.specs.Prelude.{Some}
+use Rattle.tds_packet.specs.declared.fault.Fault.{Fault}
+use Rattle.tds_packet.specs.declared.fault.Place.TheVariants.{Payload}
+use Rattle.tds_packet.specs.declared.fault.Stop.{Stop}
+use Rattle.tds_packet.specs.Elements.{Grammar, IsNext, Spelt}
+use Rattle.tds_packet.specs.Seen.{Seen, Takes, Ends, IsBetween}
+use Rattle.tds_packet.specs.Reading.{Reads, RefusesNext, CutsNext, StopsReading, IsCutStop}
+use Rattle.tds_packet.proofs.ElementLaws.{Spelt-none, Spelt-append, Spelt-one}
+use Rattle.tds_packet.proofs.Futures.{Takes-none, Takes-trans, Ends-after}
+
+-- bytes taken by two calls
+pub takes_both : (a b c : Seen) (xs ys : List ℕ) → Takes a b xs (length xs) → Takes b c ys (length ys) → Takes a c (xs ++ ys) (length (xs ++ ys))
+takes_both a b c xs ys p q = subst (Takes a c (xs ++ ys)) (sym (length-append xs ys)) (Takes-trans a b c xs ys (length xs) (length ys) (omega arith) p q)
+
+module _ {S : Type 0} (g : Grammar S Fault) where
+  abbrev pub reads_none : (s : S) (a : Seen) → Reads g s a a s
+  reads_none s a = record { bytes = []; spelt = Spelt-none g s; takes = Takes-none a 0 }
+
+  -- an element is read whole, without a fault
+  abbrev pub reads_one : (s : S) (a b : Seen) (element : List ℕ) (t : S) → IsNext g s element → Takes a b element (length element) → g.add s element ≡ t → Reads g s a b t
+  reads_one s a b element t next takes to = record { bytes = element; spelt = subst (λ v. Spelt g s element v) to (Spelt-one g s element next); takes = takes }
+
+  abbrev pub reads_both : (s t u : S) (a b c : Seen) → Reads g s a b t → Reads g t b c u → Reads g s a c u
+  reads_both s t u a b c p q = record {
+    bytes = p.bytes ++ q.bytes;
+    spelt = Spelt-append g s p.bytes t q.bytes u p.spelt q.spelt;
+    takes = takes_both a b c p.bytes q.bytes p.takes q.takes;
+  }
+
+  refuses_after : (a b c : Seen) (xs ys : List ℕ) (at : S) (fault : Fault) → Takes a b xs (length xs) → RefusesNext g b c ys at fault → RefusesNext g a c (xs ++ ys) at fault
+  refuses_after a b c xs ys at fault p q = record {
+    element = q.element;
+    some = q.some;
+    whole = q.whole;
+    first = q.first;
+    takes = subst (λ l. Takes a c l (length l)) (sym (append_assoc xs ys q.element)) (takes_both a b c xs (ys ++ q.element) p q.takes);
+    between = q.between;
+  }
+
+  place_after : (place : ℕ) (xs ys : List ℕ) → (place + length xs) + length ys ≡ place + length (xs ++ ys)
+  place_after place xs ys = omega (arith, length-append xs ys)
+
+  cuts_after : (a b c : Seen) (xs ys : List ℕ) (place : ℕ) (at : S) (stop : Stop) → Takes a b xs (length xs) → CutsNext g b c ys (place + length xs) at stop → CutsNext g a c (xs ++ ys) place at stop
+  cuts_after a b c xs ys place at stop p q = record {
+    part = q.part;
+    cut = q.cut;
+    own = q.own;
+    ends = subst (λ l. Ends a c l q.own) (sym (append_assoc xs ys q.part)) (Ends-after a b c xs (ys ++ q.part) (length xs) q.own p q.ends);
+    stop_is = subst (λ n. IsCutStop n (g.end_fault at) q.own stop) (place_after place xs ys) q.stop_is;
+  }
+
+  -- what stops a call stops one that began before it
+  pub stops_after : (s t : S) (a b c : Seen) (place : ℕ) (at : S) (stop : Stop) → (p : Reads g s a b t) → StopsReading g t b c (place + length p.bytes) at stop → StopsReading g s a c place at stop
+  stops_after s t a b c place at stop p q = record {
+    bytes = p.bytes ++ q.bytes;
+    spelt = Spelt-append g s p.bytes t q.bytes at p.spelt q.spelt;
+    cause = elim q.cause [
+      | inl x ↦ inl (refuses_after a b c p.bytes q.bytes at stop.fault p.takes x.0, x.1 ∙ ap Payload (place_after place p.bytes q.bytes))
+      | inr x ↦ inr (cuts_after a b c p.bytes q.bytes place at stop p.takes x)
+    ];
+  }
+
+  -- the first element is refused
+  pub refused_at_once : (s : S) (a b : Seen) (place : ℕ) (element : List ℕ) (fault : Fault) → 0 < length element → length element ≡ g.size s → g.fault s element ≡ Some fault → Takes a b element (length element) → IsBetween b
+      → StopsReading g s a b place s (record { fault = fault; place = Payload place })
+  refused_at_once s a b place element fault some whole first takes between = record {
+    bytes = [];
+    spelt = Spelt-none g s;
+    cause = inl (record { element = element; some = some; whole = whole; first = first; takes = takes; between = between }, ap Payload (sym (add_none place)));
+  }
+    where
+      add_none : (n : ℕ) → n + 0 ≡ n
+      add_none n = omega arith
+
+  -- the payload stopped in the first element
+  pub cut_at_once : (s : S) (a b : Seen) (place : ℕ) (part : List ℕ) (own stop : Stop) → length part < g.size s → Ends a b part own → IsCutStop place (g.end_fault s) own stop → StopsReading g s a b place s stop
+  cut_at_once s a b place part own stop cut ends is = record {
+    bytes = [];
+    spelt = Spelt-none g s;
+    cause = inr (record { part = part; cut = cut; own = own; ends = ends; stop_is = subst (λ n. IsCutStop n (g.end_fault s) own stop) (sym (add_none place)) is });
+  }
+    where
+      add_none : (n : ℕ) → n + 0 ≡ n
+      add_none n = omega arith
