@@ -32,7 +32,8 @@ use Rattle.tds_export.specs.Response.{Accepted}
 use Rattle.tds_export.specs.Export.{AfterStop, Answer, Bounded, Comes, IsKept, IsNeeded, Keeps, Packets, Reported, Reads, Run, Stops, StopsInText, grammar, report_of}
 use Rattle.tds_export.specs.Built.{is_built}
 use Rattle.tds_export.specs.Reading.{Part, response, response_start, text_so_far}
-use Rattle.tds_export.specs.Running.{Completes, FailsAtEnd, Halts, HaltsReading, HaltsWriting, IsHolding, ReadsWhole, RunStops, Stalls, behind}
+use Rattle.tds_rows.specs.Unbuilt.{Stalls}
+use Rattle.tds_export.specs.Running.{Completes, FailsAtEnd, Halts, HaltsReading, HaltsWriting, IsHolding, ReadsWhole, RunStops, behind}
 use Rattle.tds_export.specs.Ended.{Exports, Given, IsReader, IsWriter, StopsExport, Tells, Tidied, begun_at, fresh_at, run_of}
 use Rattle.tds_export.proofs.Growth.{text_along}
 use Rattle.tds_export.proofs.GrowthBound.{bounded_along}

@@ -20,25 +20,10 @@ use Rattle.tds_packet.specs.Reading.{IsCutStop, Reads}
 use Rattle.tds_columns.specs.Description.{BeforeCount, DescriptionPart, InColumn, NameUnits, NoDescription, WholeDescription, count_fault, description, description_bytes, described_end, described_size, first_of_two, span, too_long, type_fault, with_count, with_kind, with_type}
 use Rattle.tds_export.specs.Built.{is_built_description}
 use Rattle.tds_export.specs.Elements.{TakesInto, EndsInto}
-use Rattle.tds_export.specs.Running.{Describes, HasName, IsCountFault, IsFixed, IsFixedType, IsTypeFault, ReadsUnbuilt, Stalls, StallsDescribing, one_column, one_count, one_head}
-use Rattle.tds_export.proofs.Steps.{cut_at_once, reads_both, reads_one, refused_at_once, stalls_after, unbuilt_at_once}
-
--- a call of many bytes and a cut element of an open token stop alike
-pub began_is_cut : (place : ℕ) (ended : Option Fault) (own stop : Stop) → ended ≡ Some MessageEnded → stop ≡ began_at place own → IsCutStop place ended own stop
-began_is_cut place ended own stop end is = go own.fault refl
-  where
-    named : (f : Fault) → own.fault ≡ f → stop ≡ record { fault = f; place = place_at place f own.place }
-    named f e = is ∙ ap (λ g. record { fault = g; place = place_at place g own.place }) e
-
-    same : (f : Fault) → own.fault ≡ f → stop ≡ record { fault = f; place = own.place } → stop ≡ own
-    same f e t = t ∙ ap (λ g. record { fault = g; place = own.place }) (sym e)
-
-    other : (f : Fault) → own.fault ≡ f → (f ≡ MessageEnded → ⊥) → own.fault ≡ MessageEnded → ⊥
-    other f e differs m = differs (sym e ∙ m)
-
-    go : (f : Fault) → own.fault ≡ f → IsCutStop place ended own stop
-    go MessageEnded e = inl (e, (MessageEnded, end, named MessageEnded e))
-    go f e = inr (other f e (λ m. cc), same f e (named f e))
+use Rattle.tds_rows.specs.Unbuilt.{ReadsUnbuilt, Stalls}
+use Rattle.tds_export.specs.Running.{Describes, HasName, IsCountFault, IsFixed, IsFixedType, IsTypeFault, StallsDescribing, one_column, one_count, one_head}
+use Rattle.tds_packet.proofs.Steps.{began_is_cut, cut_at_once, reads_both, reads_one, refused_at_once}
+use Rattle.tds_rows.proofs.Stalls.{stalls_after, unbuilt_at_once}
 
 -- the next element of a description is cut
 abbrev pub description_cut : (room : ℕ) (s : DescriptionPart) (a b : Seen) (before after : Space) (place n : ℕ) (stop : Stop) → EndsInto a b before after place n stop → before.bytes ≡ description_bytes s → described_size s ≡ n → described_end s ≡ Some MessageEnded

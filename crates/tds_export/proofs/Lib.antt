@@ -9,7 +9,6 @@ pub mod ScalarVectors
 pub mod SuccessLaws
 pub mod Utf8Vectors
 pub mod Vectors
-pub mod Steps
 pub mod TypeBytes
 pub mod DescriptionSteps
 pub mod HeaderTexts

@@ -11,7 +11,7 @@ use Rattle.tds_packet.specs.Elements.{Grammar, Inside, IsNext, Leads, Spelt}
 use Rattle.tds_packet.specs.Seen.{Seen, Takes}
 use Rattle.tds_packet.specs.Reading.{CutsNext, Reads, RefusesNext, StopsReading, IsCutStop}
 use Rattle.tds_packet.proofs.ElementLaws.{Inside-Spelt, Spelt-append, Spelt-none, Spelt-one}
-use Rattle.tds_export.specs.Running.{ReadsUnbuilt, Stalls}
+use Rattle.tds_rows.specs.Unbuilt.{ReadsUnbuilt, Stalls}
 
 module _ {S T : Type 0} (small : Grammar S Fault) (big : Grammar T Fault) (lift : S → T) (is : Inside small big lift) where
   next_inside : (s : S) (element : List ℕ) → 0 < small.size s → IsNext small s element → IsNext big (lift s) element

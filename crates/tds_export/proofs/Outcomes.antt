@@ -27,7 +27,8 @@ use Rattle.tds_export.specs.Tokens.{Token, encoded_after}
 use Rattle.tds_export.specs.Export.{Comes, EndsInLast, IsKept, Keeps, Packets, Reads, Refuses, Run, StopsInPayload, StopsOnWire, StopsUnbuilt, grammar}
 use Rattle.tds_export.specs.Built.{is_built}
 use Rattle.tds_export.specs.Reading.{Describing, Open, Part, response, response_start, text_so_far}
-use Rattle.tds_export.specs.Running.{HaltsReading, IsHolding, ReadsUnbuilt, Stalls, description_of}
+use Rattle.tds_rows.specs.Unbuilt.{ReadsUnbuilt, Stalls}
+use Rattle.tds_export.specs.Running.{HaltsReading, IsHolding, description_of}
 
 -- what the area holds at a part is kept, whatever follows
 pub kept_at : (area : Space) (tokens : List Token) (at : Open) (rest : List ℕ) → area.bytes ≡ description_of tokens at → IsKept area.bytes tokens at rest

@@ -19,7 +19,8 @@ use Rattle.tds_rows.specs.declared.Charset.{Charset}
 use Rattle.tds_export.specs.Export.{Bounded, Run, grammar}
 use Rattle.tds_export.specs.Built.{is_built}
 use Rattle.tds_export.specs.Reading.{Part, response, response_start, span_so_far}
-use Rattle.tds_export.specs.Running.{HaltsReading, HaltsWriting, ReadsWhole, Stalls, behind}
+use Rattle.tds_rows.specs.Unbuilt.{Stalls}
+use Rattle.tds_export.specs.Running.{HaltsReading, HaltsWriting, ReadsWhole, behind}
 use Rattle.tds_export.proofs.Growth.{span_along}
 use Rattle.tds_export.proofs.Leading.{rest_leads}
 use Rattle.tds_export.proofs.Outcomes.{ReaderSide, start}

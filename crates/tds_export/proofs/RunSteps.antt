@@ -22,8 +22,10 @@ use Rattle.tds_export.specs.declared.standing.Standing.{Standing}
 use Rattle.tds_export.specs.Tokens.{Token, is_final}
 use Rattle.tds_export.specs.Built.{is_built}
 use Rattle.tds_export.specs.Reading.{Part, response, response_start, text_so_far}
-use Rattle.tds_export.specs.Running.{Completes, FailsAtEnd, Halts, HaltsReading, HaltsWriting, IsHolding, ReadsToken, ReadsWhole, RunStops, Stalls, Tracks, behind}
-use Rattle.tds_export.proofs.Steps.{cut_at_once, stalls_after, takes_both}
+use Rattle.tds_rows.specs.Unbuilt.{Stalls}
+use Rattle.tds_export.specs.Running.{Completes, FailsAtEnd, Halts, HaltsReading, HaltsWriting, IsHolding, ReadsToken, ReadsWhole, RunStops, Tracks, behind}
+use Rattle.tds_packet.proofs.Steps.{cut_at_once, takes_both}
+use Rattle.tds_rows.proofs.Stalls.{stalls_after}
 use Rattle.tds_export.proofs.TokenSteps.{same_text}
 
 -- whole tokens were read and their text put

@@ -21,8 +21,10 @@ use Rattle.tds_export.specs.declared.standing.Standing.{Standing}
 use Rattle.tds_export.specs.Tokens.{Token, described_after}
 use Rattle.tds_export.specs.Built.{is_built}
 use Rattle.tds_export.specs.Reading.{InRow, Part, is_row_byte, response, row_byte_fault, start_of_row, text_so_far}
-use Rattle.tds_export.specs.Running.{Halts, IsDescribed, IsFixed, IsHolding, IsRefusal, ReadsToken, ReadsUnbuilt, Stalls, behind, in_done, in_metadata, in_row, length_of}
-use Rattle.tds_export.proofs.Steps.{cut_at_once, reads_one, refused_at_once, stalls_after, takes_both, unbuilt_at_once}
+use Rattle.tds_rows.specs.Unbuilt.{ReadsUnbuilt, Stalls}
+use Rattle.tds_export.specs.Running.{Halts, IsDescribed, IsFixed, IsHolding, IsRefusal, ReadsToken, behind, in_done, in_metadata, in_row, length_of}
+use Rattle.tds_packet.proofs.Steps.{cut_at_once, reads_one, refused_at_once, takes_both}
+use Rattle.tds_rows.proofs.Stalls.{stalls_after, unbuilt_at_once}
 use Rattle.tds_export.proofs.TokenSteps.{same_text}
 
 -- a token byte that is accepted

@@ -29,10 +29,10 @@ use Rattle.tds_export.specs.Response.{more}
 use Rattle.tds_export.specs.Built.{is_built, is_built_description}
 use Rattle.tds_export.specs.Reading.{Part, response, text_so_far, with_described, with_row}
 use Rattle.tds_export.specs.Running.{Describes, Halts, HaltsReading, HaltsWriting, IsFixed, IsHolding, ReadsLine, ReadsToken, StopsLine, StallsDescribing, Tracks, behind, in_done, in_metadata, in_row, length_of, one_column}
-use Rattle.tds_export.proofs.DescriptionSteps.{began_is_cut}
+use Rattle.tds_packet.proofs.Steps.{began_is_cut}
 use Rattle.tds_export.proofs.Lifts.{last_inside, reads_inside, stalls_inside, stalls_size}
 use Rattle.tds_export.proofs.ResponseLaws.{description_in_response}
-use Rattle.tds_export.proofs.Steps.{cut_at_once, reads_one, refused_at_once}
+use Rattle.tds_packet.proofs.Steps.{cut_at_once, reads_one, refused_at_once}
 use Rattle.tds_export.proofs.TokenLaws.{begun_after, begun_where_sets, encoded_after-append, greatest_span-append, text_after-snoc, tracks_done, tracks_metadata, tracks_none, tracks_row}
 
 -- nothing more is put for the same text

@@ -22,6 +22,7 @@ use Rattle.tds_packet.specs.Reading.{Reads, StopsReading}
 use Rattle.tds_columns.specs.Description.{BeforeCount, Column, ColumnHead, DescriptionPart, InColumn, NameCount, WholeDescription, description, description_bytes, span, type_fault}
 use Rattle.tds_csv.specs.Sinks.{Breaks, Held, Finishes, FinishFails, Puts}
 use Rattle.tds_csv.specs.Streaming.{PutsText, Streams, BreaksStreaming}
+use Rattle.tds_rows.specs.Unbuilt.{ReadsUnbuilt, Stalls}
 use Rattle.tds_export.specs.declared.standing.Standing.{Standing}
 use Rattle.tds_export.specs.Built.{is_built, is_built_description, is_built_token, is_built_type}
 use Rattle.tds_export.specs.Export.{report_of}
@@ -69,22 +70,6 @@ pub record ReadsToken (g : Grammar Part Fault) (from : Part) (tokens : List Toke
   pub place_is : place' ≡ place + length streams.bytes
   pub tracks : Tracks standing (tokens ++ token ∷ [])
   pub holds : IsHolding area (behind (tokens ++ token ∷ []))
-
--- Whole elements were read, and then one that isn't built.
-pub record ReadsUnbuilt {S : Type 0} (g : Grammar S Fault) (is_built : S → List ℕ → Bool) (from : S) (old new : Seen) (place : ℕ) (at : S) (stop : Stop) : Type 0 where
-  pub bytes : List ℕ
-  pub element : List ℕ
-  pub spelt : Spelt g from bytes at
-  pub some : 0 < length element
-  pub whole : length element ≡ g.size at
-  pub unbuilt : is_built at element ≡ false
-  pub takes : Takes old new (bytes ++ element) (length (bytes ++ element))
-  pub between : IsBetween new
-  pub stop_is : stop ≡ record { fault = NotYet; place = Payload (place + length bytes) }
-
--- A call that reads by a grammar came to a state and stopped there, or met what isn't built.
-abbrev pub Stalls : {S : Type 0} → Grammar S Fault → (S → List ℕ → Bool) → S → Seen → Seen → ℕ → S → Stop → Type 0
-Stalls g is_built from old new place at stop = StopsReading g from old new place at stop ⊎ ReadsUnbuilt g is_built from old new place at stop
 
 -- A call that reads a description stopped: the area has the elements that were read whole.
 pub record StallsDescribing (room : ℕ) (from : DescriptionPart) (old new : Seen) (place peak : ℕ) (area : Space) (stop : Stop) : Type 0 where

@@ -9,3 +9,4 @@ pub mod Futures
 pub mod PayloadLaws
 pub mod Parts
 pub mod Fronts
+pub mod Steps

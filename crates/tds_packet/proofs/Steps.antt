@@ -1,21 +1,36 @@
 -- Calls that read by a grammar, one after another.
-use Rattle.std.proofs.Common.{◌≡◌, ◌∙◌, ◌⊎◌, inl, inr, ℕ, ◌+◌, ◌<◌, ◌≤◌, List, [], ◌∷◌, ◌++◌, length, refl, sym, ap, subst, arith, le_refl, append_assoc, append-nil, length-append}
-use Rattle.std.specs.Prelude.{Bool, true, false, Option, Some, None}
+use Rattle.std.proofs.Common.{◌≡◌, ◌∙◌, inl, inr, refl, ℕ, ◌+◌, ◌<◌, List, [], ◌++◌, length, sym, ap, subst, arith, append_assoc, length-append}
+use Rattle.std.specs.Prelude.{Option, Some}
 use Rattle.tds_packet.specs.declared.fault.Fault.{Fault}
-use Rattle.tds_packet.specs.declared.fault.Fault.TheVariants.{NotYet}
-use Rattle.tds_packet.specs.declared.fault.Place.{Place}
+use Rattle.tds_packet.specs.declared.fault.Fault.TheVariants.{MessageEnded}
 use Rattle.tds_packet.specs.declared.fault.Place.TheVariants.{Payload}
 use Rattle.tds_packet.specs.declared.fault.Stop.{Stop}
 use Rattle.tds_packet.specs.Elements.{Grammar, IsNext, Spelt}
-use Rattle.tds_packet.specs.Seen.{Seen, Takes, Ends, IsBetween}
+use Rattle.tds_packet.specs.Seen.{Seen, Takes, Ends, IsBetween, began_at, place_at}
 use Rattle.tds_packet.specs.Reading.{Reads, RefusesNext, CutsNext, StopsReading, IsCutStop}
 use Rattle.tds_packet.proofs.ElementLaws.{Spelt-none, Spelt-append, Spelt-one}
 use Rattle.tds_packet.proofs.Futures.{Takes-none, Takes-trans, Ends-after}
-use Rattle.tds_export.specs.Running.{ReadsUnbuilt, Stalls}
 
 -- bytes taken by two calls
 pub takes_both : (a b c : Seen) (xs ys : List ℕ) → Takes a b xs (length xs) → Takes b c ys (length ys) → Takes a c (xs ++ ys) (length (xs ++ ys))
 takes_both a b c xs ys p q = subst (Takes a c (xs ++ ys)) (sym (length-append xs ys)) (Takes-trans a b c xs ys (length xs) (length ys) (omega arith) p q)
+
+-- a call of many bytes and a cut element of an open description stop alike
+pub began_is_cut : (place : ℕ) (ended : Option Fault) (own stop : Stop) → ended ≡ Some MessageEnded → stop ≡ began_at place own → IsCutStop place ended own stop
+began_is_cut place ended own stop end is = go own.fault refl
+  where
+    named : (f : Fault) → own.fault ≡ f → stop ≡ record { fault = f; place = place_at place f own.place }
+    named f e = is ∙ ap (λ g. record { fault = g; place = place_at place g own.place }) e
+
+    same : (f : Fault) → own.fault ≡ f → stop ≡ record { fault = f; place = own.place } → stop ≡ own
+    same f e t = t ∙ ap (λ g. record { fault = g; place = own.place }) (sym e)
+
+    other : (f : Fault) → own.fault ≡ f → (f ≡ MessageEnded → ⊥) → own.fault ≡ MessageEnded → ⊥
+    other f e differs m = differs (sym e ∙ m)
+
+    go : (f : Fault) → own.fault ≡ f → IsCutStop place ended own stop
+    go MessageEnded e = inl (e, (MessageEnded, end, named MessageEnded e))
+    go f e = inr (other f e (λ m. cc), same f e (named f e))
 
 module _ {S : Type 0} (g : Grammar S Fault) where
   abbrev pub reads_none : (s : S) (a : Seen) → Reads g s a a s
@@ -65,23 +80,6 @@ module _ {S : Type 0} (g : Grammar S Fault) where
     ];
   }
 
-  pub unbuilt_after : (is_built : S → List ℕ → Bool) (s t : S) (a b c : Seen) (place : ℕ) (at : S) (stop : Stop) → (p : Reads g s a b t) → ReadsUnbuilt g is_built t b c (place + length p.bytes) at stop → ReadsUnbuilt g is_built s a c place at stop
-  unbuilt_after is_built s t a b c place at stop p q = record {
-    bytes = p.bytes ++ q.bytes;
-    element = q.element;
-    spelt = Spelt-append g s p.bytes t q.bytes at p.spelt q.spelt;
-    some = q.some;
-    whole = q.whole;
-    unbuilt = q.unbuilt;
-    takes = subst (λ l. Takes a c l (length l)) (sym (append_assoc p.bytes q.bytes q.element)) (takes_both a b c p.bytes (q.bytes ++ q.element) p.takes q.takes);
-    between = q.between;
-    stop_is = q.stop_is ∙ ap (λ n. record { fault = NotYet; place = Payload n }) (place_after place p.bytes q.bytes);
-  }
-
-  pub stalls_after : (is_built : S → List ℕ → Bool) (s t : S) (a b c : Seen) (place : ℕ) (at : S) (stop : Stop) → (p : Reads g s a b t) → Stalls g is_built t b c (place + length p.bytes) at stop → Stalls g is_built s a c place at stop
-  stalls_after is_built s t a b c place at stop p (inl q) = inl (stops_after s t a b c place at stop p q)
-  stalls_after is_built s t a b c place at stop p (inr q) = inr (unbuilt_after is_built s t a b c place at stop p q)
-
   -- the first element is refused
   pub refused_at_once : (s : S) (a b : Seen) (place : ℕ) (element : List ℕ) (fault : Fault) → 0 < length element → length element ≡ g.size s → g.fault s element ≡ Some fault → Takes a b element (length element) → IsBetween b
       → StopsReading g s a b place s (record { fault = fault; place = Payload place })
@@ -89,24 +87,6 @@ module _ {S : Type 0} (g : Grammar S Fault) where
     bytes = [];
     spelt = Spelt-none g s;
     cause = inl (record { element = element; some = some; whole = whole; first = first; takes = takes; between = between }, ap Payload (sym (add_none place)));
-  }
-    where
-      add_none : (n : ℕ) → n + 0 ≡ n
-      add_none n = omega arith
-
-  -- the first element isn't built
-  pub unbuilt_at_once : (is_built : S → List ℕ → Bool) (s : S) (a b : Seen) (place : ℕ) (element : List ℕ) → 0 < length element → length element ≡ g.size s → is_built s element ≡ false → Takes a b element (length element) → IsBetween b
-      → ReadsUnbuilt g is_built s a b place s (record { fault = NotYet; place = Payload place })
-  unbuilt_at_once is_built s a b place element some whole unbuilt takes between = record {
-    bytes = [];
-    element = element;
-    spelt = Spelt-none g s;
-    some = some;
-    whole = whole;
-    unbuilt = unbuilt;
-    takes = takes;
-    between = between;
-    stop_is = ap (λ n. record { fault = NotYet; place = Payload n }) (sym (add_none place));
   }
     where
       add_none : (n : ℕ) → n + 0 ≡ n

@@ -1,0 +1,25 @@
+-- How a call stops that doesn't read all elements of its grammar yet.
+use Rattle.std.specs.Prelude.{◌≡◌, ◌⊎◌, ◌+◌, ◌<◌, ℕ, Bool, false, List, ◌++◌, length}
+use Rattle.tds_packet.specs.declared.fault.Fault.{Fault}
+use Rattle.tds_packet.specs.declared.fault.Fault.TheVariants.{NotYet}
+use Rattle.tds_packet.specs.declared.fault.Place.TheVariants.{Payload}
+use Rattle.tds_packet.specs.declared.fault.Stop.{Stop}
+use Rattle.tds_packet.specs.Elements.{Grammar, Spelt}
+use Rattle.tds_packet.specs.Seen.{Seen, Takes, IsBetween}
+use Rattle.tds_packet.specs.Reading.{StopsReading}
+
+-- Whole elements were read, and then one that isn't built.
+pub record ReadsUnbuilt {S : Type 0} (g : Grammar S Fault) (is_built : S → List ℕ → Bool) (from : S) (old new : Seen) (place : ℕ) (at : S) (stop : Stop) : Type 0 where
+  pub bytes : List ℕ
+  pub element : List ℕ
+  pub spelt : Spelt g from bytes at
+  pub some : 0 < length element
+  pub whole : length element ≡ g.size at
+  pub unbuilt : is_built at element ≡ false
+  pub takes : Takes old new (bytes ++ element) (length (bytes ++ element))
+  pub between : IsBetween new
+  pub stop_is : stop ≡ record { fault = NotYet; place = Payload (place + length bytes) }
+
+-- A call that reads by a grammar came to a state and stopped there, or met what isn't built.
+abbrev pub Stalls : {S : Type 0} → Grammar S Fault → (S → List ℕ → Bool) → S → Seen → Seen → ℕ → S → Stop → Type 0
+Stalls g is_built from old new place at stop = StopsReading g from old new place at stop ⊎ ReadsUnbuilt g is_built from old new place at stop
