@@ -1,8 +1,8 @@
 // A row of one column of a kind of fixed length (MS-TDS, ROW).
-ghost use Rattle.std.specs.Prelude.{◌≡◌, ◌+◌, ◌<◌, ◌≤◌, ◌∷◌, ℕ, [], List, None, Some, false, true, is_ok, length, take, MatchOption, MatchResult, OnOk, IfOk};
+ghost use Rattle.std.specs.Prelude.{◌≡◌, ◌+◌, ◌<◌, ◌≤◌, ℕ, List, None, false, is_ok, length, take, IfOk, MatchOption, MatchResult, OnOk};
+ghost use Rattle.tds_csv.specs.Sinks.{IsOnSameSink, IsReady, held};
 ghost use Rattle.tds_export.specs.Reading.{response};
 ghost use Rattle.tds_export.specs.Running.{IsFixed, IsRowLine, PutsLine, ReadsLine, StopsLine, in_row, length_of};
-ghost use Rattle.tds_csv.specs.Sinks.{IsOnSameSink, IsReady, held};
 ghost use Rattle.tds_export.specs.Tokens.{Token};
 ghost use Rattle.tds_packet.specs.Payloads.{IsOnSame, IsSound, seen};
 ghost use Rattle.tds_packet.specs.Reading.{StopsReading};

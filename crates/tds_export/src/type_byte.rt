@@ -1,5 +1,5 @@
 // Type bytes (MS-TDS, Type Info Rule Definition).
-ghost use Rattle.std.specs.Prelude.{◌≡◌, IfSome, IsTrue, MatchResult, Some, None};
+ghost use Rattle.std.specs.Prelude.{◌≡◌, IfSome, IsTrue, MatchResult};
 ghost use Rattle.tds_columns.specs.Description as columns;
 ghost use Rattle.tds_export.specs.Running.{IsFixedType, IsTypeFault};
 ghost use Rattle.tds_values.specs.Kind.{is_valid};

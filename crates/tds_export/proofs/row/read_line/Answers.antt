@@ -1,8 +1,8 @@
-use Rattle.std.proofs.Common.{◌≡◌, ◌∙◌, ℕ, ◌+◌, ◌<◌, ◌≤◌, List, [], length, take, refl, sym, ap, subst, arith, rules, length-take}
+use Rattle.std.proofs.Common.{◌≡◌, ◌≤◌, length, take, arith, rules, length-take}
 use Rattle.tds_packet.specs.Payloads.{buffered, seen}
 use Rattle.tds_packet.specs.Seen.{Takes}
 use Rattle.tds_packet.proofs.Futures.{Takes-more}
-use Rattle.tds_export.specs.Running.{in_row, length_of}
+use Rattle.tds_export.specs.Running.{length_of}
 use Rattle.tds_export.proofs.TokenSteps.{row_refused}
 use Rattle.tds_export.proofs.row.read_line.Goals as goal
 
