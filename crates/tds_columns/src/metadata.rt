@@ -9,7 +9,7 @@ ghost use Rattle.tds_values.specs.TypeInfo as info;
 ghost use Rattle.tds_values.specs.declared.kind.Kind.{Kind};
 
 use crate::element::take_into;
-use crate::type_info::{kind_of, refused_kind, rest_length};
+use crate::type_info::{judge_type, kind_of};
 use byteorder::{ByteOrder, LittleEndian};
 use std::io::Read;
 use tds_meter::Area;
@@ -108,17 +108,12 @@ fn judge_head(room: usize, so_far: usize, byte: u8, index: u16, left: u16) -> Re
         (λ rest. (info.rest_length byte ≡ Some rest) × ((so_far + rest) + 1 + 8 * left ≤ room))
         (λ fault. spec.first_of_two (spec.type_fault index byte (info.rest_length byte)) (spec.too_long room so_far ((unwrap_or (info.rest_length byte) 0 + 1) + 8 * left)) ≡ Some fault) }
 {
-    match rest_length(byte) {
-        Some(rest) => {
-            match too_long(room, so_far, rest + 1 + LEAST_COLUMN * usize::from(left)) {
-                None => Ok(rest),
-                Some(fault) => Err(fault),
-            }
-        }
-        None => match refused_kind(byte) {
-            Some(kind) => Err(Fault::RefusedColumn { index, kind }),
-            None => Err(Fault::UnknownType { index, byte }),
+    match judge_type(index, byte) {
+        Ok(rest) => match too_long(room, so_far, rest + 1 + LEAST_COLUMN * usize::from(left)) {
+            None => Ok(rest),
+            Some(fault) => Err(fault),
         },
+        Err(fault) => Err(fault),
     }
 }
 

@@ -1,13 +1,13 @@
 // TYPE_INFO: a type byte, and the bytes that describe it further (MS-TDS, Type Info Rule
 // Definition).
-ghost use Rattle.std.specs.Prelude.{◌≡◌, ◌≤◌, ℕ, ◌∷◌, ◌==◌, length, take, is_some, Some, IfSome};
+ghost use Rattle.std.specs.Prelude.{◌≡◌, ◌≤◌, ℕ, ◌∷◌, ◌==◌, length, take, is_some, Some, IfOk, IfSome, MatchResult};
 ghost use Rattle.tds_columns.specs.Description as spec;
 ghost use Rattle.byteorder.specs.Endian.{little_number};
 ghost use Rattle.tds_values.specs.TypeInfo as info;
 ghost use Rattle.tds_values.specs.declared.kind.Kind.{Kind};
 
 use byteorder::{ByteOrder, LittleEndian};
-use tds_packet::RefusedKind;
+use tds_packet::{Fault, RefusedKind};
 use tds_values::{Kind, Reach};
 
 // Type bytes after which nothing follows (MS-TDS, Fixed-Length Data Types).
@@ -70,9 +70,9 @@ const NCHAR: u8 = 0xEF;
 // Bytes).
 const CHUNKED: u16 = 0xFFFF;
 
-/// How many bytes follow a type byte in TYPE_INFO, if it is one of this profile.
+// How many bytes follow a type byte in TYPE_INFO, if it is one of this profile.
 #[tactic(auto, unfolding(tds_values::specs::TypeInfo::rest_length))]
-pub(crate) fn rest_length(byte: u8) -> Option<usize>
+fn rest_length(byte: u8) -> Option<usize>
     ensures value { result ≡ info.rest_length byte }
     ensures bound { IfSome result (λ n. n ≤ 7) }
 {
@@ -86,9 +86,9 @@ pub(crate) fn rest_length(byte: u8) -> Option<usize>
     }
 }
 
-/// The kind of a type byte that is refused by name.
+// The kind of a type byte that is refused by name.
 #[tactic(auto, unfolding(crate::specs::Description::refused_kind))]
-pub(crate) fn refused_kind(byte: u8) -> Option<RefusedKind>
+fn refused_kind(byte: u8) -> Option<RefusedKind>
     ensures { result ≡ spec.refused_kind byte }
 {
     match byte {
@@ -102,6 +102,22 @@ pub(crate) fn refused_kind(byte: u8) -> Option<RefusedKind>
         0xF0 => Some(RefusedKind::Udt),
         0xF1 => Some(RefusedKind::Xml),
         _ => None,
+    }
+}
+
+/// How many bytes follow the type byte of the column with this number, or why it isn't accepted.
+pub(crate) fn judge_type(index: u16, byte: u8) -> Result<usize, Fault>
+    ensures gives { MatchResult result
+        (λ rest. info.rest_length byte ≡ Some rest)
+        (λ fault. spec.type_fault index byte (info.rest_length byte) ≡ Some fault) }
+    ensures bound { IfOk result (λ rest. rest ≤ 7) }
+{
+    match rest_length(byte) {
+        Some(rest) => Ok(rest),
+        None => match refused_kind(byte) {
+            Some(kind) => Err(Fault::RefusedColumn { index, kind }),
+            None => Err(Fault::UnknownType { index, byte }),
+        },
     }
 }
 
