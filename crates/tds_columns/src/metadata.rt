@@ -139,7 +139,7 @@ fn read_info<R: Read>(
         (λ _. (count : ℕ) → DescribesInfo area.old.room count index byte area.old.bytes (seen R.remaining payload.old) (seen R.remaining payload.new) payload.old.place payload.new.place area.old.peak area.new)
         (λ stop. (count : ℕ) → StopsInColumn area.old.room count index (ColumnInfo byte) area.old.bytes (seen R.remaining payload.old) (seen R.remaining payload.new) payload.old.place area.old.peak area.new stop) }
 {
-    let place = payload.place();
+    let info_place = payload.place();
     let start = area.len();
     if let Err(stop) = take_into(payload, area, rest) {
         return Err(stop);
@@ -150,7 +150,7 @@ fn read_info<R: Read>(
             area.truncate(start);
             Err(Stop {
                 fault: Fault::BadTypeInfo { index },
-                place: Place::Payload(place),
+                place: Place::Payload(info_place),
             })
         }
     }

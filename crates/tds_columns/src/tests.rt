@@ -437,6 +437,26 @@ fn a_stopped_payload_stays_so(rt: HostRuntime) -> Result<(), Fail> {
     Ok(())
 }
 
+// A read fails in the third packet: the whole elements of the two before it are kept.
+#[test]
+fn a_failed_read_stops(rt: HostRuntime) -> Result<(), Fail> {
+    let wire = in_packets(rt.alloc(), TWO_INTS, 6)?;
+    let mut from = Counted::new(ScriptedReader::failing(&wire, 5, 30));
+    let mut packet = Area::new(rt.alloc(), 4096)?;
+    let mut payload = Payload::new(&mut from, &mut packet, 1_000_000_000);
+    let mut area = new_area(rt.alloc(), ROOM)?;
+    assert_eq!(rt; payload.next(), Ok(0x81));
+    let stop = Err(Stop {
+        fault: Fault::ReadFailed,
+        place: Place::Wire(28),
+    });
+    assert_eq!(rt; gather(&mut payload, &mut area), stop);
+    assert_eq!(rt; area.bytes(), behind_token(TWO_INTS, 11));
+    assert_eq!(rt; gather(&mut payload, &mut area), stop);
+    assert_eq!(rt; area.len(), 0);
+    Ok(())
+}
+
 // Reads the type of a value that a procedure returns: behind the token byte an ordinal, a name of
 // two units, and status, UserType and Flags. The answer, and how many bytes were read.
 fn return_type(alloc: Global, info: &[u8]) -> Result<(Result<Kind, Stop>, u64), Fail> {

@@ -28,5 +28,5 @@ pub returns-in-None-clause-gives : goal.returns-in-None-clause-gives
 returns-in-None-clause-gives g c = λ count columns number.
     let is : drop c.len-start.result c.bytes.result.now ≡ drop (length c.args.area.now.bytes) c.take_into.new.area.bytes = ap (λ n. drop n c.bytes.result.now) c.len-start.ensures.value ∙ ap (drop (length c.args.area.now.bytes)) c.bytes.ensures.value in
     let none : kind_of (c.args.byte ∷ drop c.len-start.result c.bytes.result.now) ≡ None = all_behind c.args.byte c.bytes.result.now c.len-start.result ∙ sym c.kind_of.ensures ∙ c.in-None.is in
-    rw c.place-place.ensures (info_refused c.args.area.now.room c.args.index c.args.byte c.args.rest count columns (seen g.R.Read.remaining c.args.payload.now) (seen g.R.Read.remaining c.take_into.new.payload) c.args.area.now c.take_into.new.area c.truncate.new.self
+    rw c.place-info_place.ensures (info_refused c.args.area.now.room c.args.index c.args.byte c.args.rest count columns (seen g.R.Read.remaining c.args.payload.now) (seen g.R.Read.remaining c.take_into.new.payload) c.args.area.now c.take_into.new.area c.truncate.new.self
     c.args.payload.now.place (drop c.len-start.result c.bytes.result.now) number c.requires.known c.requires.some c.in_default.ensures.ok is none (c.truncate.ensures ∙ ap (λ n. holding c.take_into.new.area (take n c.take_into.new.area.bytes)) c.len-start.ensures.value))
