@@ -20,7 +20,7 @@ use Rattle.tds_packet.specs.Reading.{IsCutStop, StopsReading}
 use Rattle.tds_packet.proofs.Choices.{choose, choose_false, choose_true}
 use Rattle.tds_columns.specs.Description.{BeforeCount, ColumnHead, ColumnInfo, Column, ColumnPlace, DescriptionPart, InColumn, NameCount, NameUnits, NoDescription, WholeDescription, count_fault, add_described, described_fault, description, description_bytes, described_end, described_size, first_of_two, span, too_long, type_fault, with_column, with_count, with_kind, with_type, with_units}
 use Rattle.tds_columns.specs.Elements.{TakesInto, EndsInto}
-use Rattle.tds_columns.specs.Gather.{Describes, DescribesColumns, StopsDescribing, behind_columns}
+use Rattle.tds_columns.specs.Gather.{Describes, DescribesColumns, StopsDescribing}
 use Rattle.tds_columns.proofs.ColumnLaws.{fits_in}
 use Rattle.tds_columns.proofs.ColumnMeaning.{not_zero, room_for}
 use Rattle.tds_columns.proofs.Steps.{cut_at_once, reads_both, reads_none, reads_one, refused_at_once, stops_after}
@@ -322,6 +322,10 @@ name_cut room index count units columns kind a b c before middle after place pla
     (description_cut room (InColumn middle.bytes count columns (NameUnits kind (2 * units))) b c middle after place' (2 * units) stop e refl refl refl refl)
 
 -- ---- columns, one after another
+
+-- a description behind the last of these columns
+abbrev pub behind_columns : List ℕ → ℕ → List Column → DescriptionPart
+behind_columns bytes count columns = if length columns == count then WholeDescription bytes columns else InColumn bytes count columns ColumnHead
 
 -- nothing is read yet
 pub columns_none : (room count : ℕ) (a : Seen) (area : Space) (place : ℕ) → 0 < count → (columns : List Column) × (length columns ≡ 0) × Describes room (InColumn area.bytes count [] ColumnHead) a a place place area.peak area (behind_columns area.bytes count columns)

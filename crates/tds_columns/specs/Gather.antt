@@ -1,5 +1,5 @@
 -- What reading a description from a payload does, on success and on each stop.
-use Rattle.std.specs.Prelude.{◌≡◌, ◌==◌, ℕ, ◌+◌, ◌*◌, ◌<◌, ◌≤◌, List, [], ◌∷◌, length, max, if◌then◌else◌}
+use Rattle.std.specs.Prelude.{◌≡◌, ℕ, ◌+◌, ◌*◌, ◌<◌, ◌≤◌, List, [], ◌∷◌, length, max}
 use Rattle.tds_values.specs.declared.kind.Kind.{Kind}
 use Rattle.tds_meter.specs.Space.{Space}
 use Rattle.tds_packet.specs.declared.fault.Stop.{Stop}
@@ -36,10 +36,6 @@ pub record StopsDescribing (room : ℕ) (from : DescriptionPart) (old new : Seen
   pub kept : area.bytes ≡ description_bytes at
   pub bound : area.peak ≤ max peak (span at)
   pub further : span from ≤ span at
-
--- a description behind the last of these columns
-abbrev pub behind_columns : List ℕ → ℕ → List Column → DescriptionPart
-behind_columns bytes count columns = if length columns == count then WholeDescription bytes columns else InColumn bytes count columns ColumnHead
 
 -- A Count was read: that of no metadata, or one of columns whose least bytes the room has.
 abbrev pub DescribesCount : ℕ → Seen → Seen → ℕ → ℕ → ℕ → Space → Described → Type 0

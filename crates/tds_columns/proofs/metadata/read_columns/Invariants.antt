@@ -1,7 +1,8 @@
 use Rattle.std.proofs.Common.{◌≡◌, ◌-◌, ◌+◌, ◌*◌, ◌≤◌, List, [], None, length}
 use Rattle.tds_packet.specs.Payloads.{IsOnSame, IsSound, seen}
 use Rattle.tds_columns.specs.Description.{Column, ColumnHead, InColumn}
-use Rattle.tds_columns.specs.Gather.{Describes, behind_columns}
+use Rattle.tds_columns.specs.Gather.{Describes}
+use Rattle.tds_columns.proofs.GatherSteps.{behind_columns}
 use Rattle.tds_columns.proofs.metadata.read_columns.Given as goal
 
 abbrev pub invariant-columns : goal.invariant-columns
