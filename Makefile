@@ -5,7 +5,10 @@ FILE ?= examples/first.tds
 
 SOURCES := $(wildcard crates.txt crates/*/src/*.rt crates/*/specs/*.antt crates/*/proofs/*.antt)
 
-.PHONY: help build export refused-memory test check
+# Where the benchmarks are built: outside of the repository, whose gate refuses files that no crate of crates.txt has.
+BENCH = $(or $(TMPDIR),/tmp)/gavyreto-bench
+
+.PHONY: help build export refused-memory test check bench-text bench-values
 
 help:
 	@echo "make build             proves and builds the program, bin/tds_replay"
@@ -13,6 +16,8 @@ help:
 	@echo "make test              the whole gate: every proof, test and must-fail edit of every crate"
 	@echo "make check             the proofs alone, with what earlier checks left"
 	@echo "make refused-memory    the program with each of its requests for memory refused in turn"
+	@echo "make bench-text        megabytes a second of the sink and of each joiner"
+	@echo "make bench-values      values a second of each scalar kind"
 
 build: bin/tds_replay
 
@@ -34,3 +39,18 @@ test:
 
 check:
 	rt all check
+
+# The crates and what earlier checks kept of them, the programs of bench/, and a crates.txt that has both.
+bench-text bench-values: bench-%:
+	mkdir -p $(BENCH)
+	test -d $(BENCH)/crates || cp -R crates $(BENCH)
+	rm -rf $(BENCH)/crates/*/src $(BENCH)/crates/*/specs $(BENCH)/crates/*/proofs
+	tar -cf - --exclude=out crates | tar -xf - -C $(BENCH)
+	mkdir -p $(BENCH)/crates/bench_text/src $(BENCH)/crates/bench_values/src
+	mkdir -p $(BENCH)/crates/bench_text/proofs/put_all $(BENCH)/crates/bench_text/proofs/join_all
+	cp bench/text.rt.txt $(BENCH)/crates/bench_text/src/main.rt
+	cp bench/put_all.antt.txt $(BENCH)/crates/bench_text/proofs/put_all/Invariants.antt
+	cp bench/join_all.antt.txt $(BENCH)/crates/bench_text/proofs/join_all/Invariants.antt
+	cp bench/values.rt.txt $(BENCH)/crates/bench_values/src/main.rt
+	(cat crates.txt; echo "bench_text: tds_meter tds_packet tds_csv"; echo "bench_values: tds_values") > $(BENCH)/crates.txt
+	cd $(BENCH)/crates/bench_$* && rt run
