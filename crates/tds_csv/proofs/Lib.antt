@@ -10,3 +10,4 @@ pub mod Cuts
 pub mod Spares
 pub mod Sinks
 pub mod Singles
+pub mod Masks

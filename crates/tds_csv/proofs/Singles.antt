@@ -1,5 +1,6 @@
 -- Data whose bytes each stand alone, put a run after the other.
-use Rattle.std.proofs.Common.{◌≡◌, ◌∙◌, ◌≤◌, ℕ, ◌-◌, List, ◌++◌, take, drop, sym, ap, subst, arith}
+use Rattle.std.proofs.Common.{◌≡◌, ◌∙◌, ◌+◌, ◌≤◌, ℕ, suc, ◌-◌, Bool, true, false, cond, List, [], ◌∷◌, ◌++◌, take, drop, refl, sym, ap, subst, arith}
+use Rattle.std.specs.List.{prefix_len}
 use Rattle.std.proofs.lemmas.List.{take-append-drop}
 use lib.Seq.{take-add}
 use Rattle.tds_packet.specs.declared.fault.Stop.{Stop}
@@ -24,3 +25,16 @@ module _ (text : List ℕ → List ℕ) (appends : (x y : List ℕ) → text (x 
       let broke = Breaks-after a b d (text (take t xs)) (text (take (e - t) (drop t xs))) stop p q in
       subst (λ l. Breaks a d l stop) all
       (Breaks-longer a d (text (take e xs)) (text (drop e xs)) stop (subst (λ l. Breaks a d l stop) (runs t e xs h) broke))
+
+  -- bytes that stand for themselves, up to the first that needn't
+  module _ (q : ℕ → Bool) (empty : text [] ≡ []) (itself : (b : ℕ) → q b ≡ true → text (b ∷ []) ≡ b ∷ []) where
+    one_more : (passes : Bool) (b n : ℕ) (xs : List ℕ) → (passes ≡ true → text (b ∷ []) ≡ b ∷ []) → text (take n xs) ≡ take n xs
+        → text (take (cond passes (1 + n) 0) (b ∷ xs)) ≡ take (cond passes (1 + n) 0) (b ∷ xs)
+    one_more true b n xs h e =
+        let next : suc n ≡ 1 + n = omega arith in
+        subst (λ k. text (take k (b ∷ xs)) ≡ take k (b ∷ xs)) next (appends (b ∷ []) (take n xs) ∙ (λ i. h refl i ++ e i))
+    one_more false b n xs h e = empty
+
+    pub front_itself : (xs : List ℕ) → text (take (prefix_len q xs) xs) ≡ take (prefix_len q xs) xs
+    front_itself [] = empty
+    front_itself (b ∷ xs) = one_more (q b) b (prefix_len q xs) xs (itself b) (front_itself xs)

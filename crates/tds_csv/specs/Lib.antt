@@ -15,4 +15,5 @@ pub mod Pushing
 pub mod Sinks
 pub mod Spare
 pub mod Cutting
+pub mod Plain
 pub mod Streaming

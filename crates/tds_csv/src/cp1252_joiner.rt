@@ -6,6 +6,7 @@ ghost use Rattle.tds_csv.specs.SingleLaws.{joins_windows_1252};
 ghost use Rattle.tds_csv.specs.Windows1252 as windows_1252;
 
 use crate::joiner::{JoinFault, Joiner};
+use crate::lanes::plain_end;
 use crate::run::Run;
 use crate::sink::Sink;
 use std::io::Write;
@@ -41,11 +42,7 @@ fn run_end(bytes: &[u8], from: usize) -> usize
     ensures within { result ≤ length bytes.now }
     ensures plain { from + 1 < result → windows_1252.text (take (result - from) (drop from bytes.now)) ≡ take (result - from) (drop from bytes.now) }
 {
-    let mut end = from;
-    while end < bytes.len() && bytes[end] < 0x80 && bytes[end] != 0x22 {
-        end += 1;
-    }
-    end.max(from + 1)
+    plain_end(bytes, from).max(from + 1)
 }
 
 // Puts the text of one byte.

@@ -3,6 +3,7 @@ ghost use Rattle.std.specs.Prelude.{◌≡◌, ◌+◌, ◌-◌, ◌<◌, ◌≤
 ghost use Rattle.tds_csv.specs.Quoting.{doubled};
 ghost use Rattle.tds_csv.specs.Sinks.{Breaks, IsOnSameSink, IsReady, Puts, held};
 
+use crate::lanes::unquoted_end;
 use crate::sink::Sink;
 use std::io::Write;
 use tds_packet::Stop;
@@ -14,11 +15,7 @@ fn plain_end(bytes: &[u8], from: usize) -> usize
     ensures within { result ≤ length bytes.now }
     ensures plain { from + 1 < result → doubled (take (result - from) (drop from bytes.now)) ≡ take (result - from) (drop from bytes.now) }
 {
-    let mut end = from;
-    while end < bytes.len() && bytes[end] != 0x22 {
-        end += 1;
-    }
-    end.max(from + 1)
+    unquoted_end(bytes, from).max(from + 1)
 }
 
 // Puts bytes without a quote, or one byte.

@@ -6,6 +6,7 @@ mod doubled;
 mod hex_joiner;
 mod into_area;
 mod joiner;
+mod lanes;
 mod laws;
 mod run;
 mod sink;

@@ -1,0 +1,61 @@
+-- From the mask of one load to the bytes before the first that stops.
+use Rattle.std.proofs.Common.{◌≡◌, ℕ, ◌+◌, ◌%◌, ◌^◌, ◌<◌, ◌≤◌, eqb, Bool, true, not, cond, List, [], ◌∷◌, map, length, drop, get_or, replicate, Fits, w8, refl, sym, ap, ap₂, ◌∙◌, arith}
+use Rattle.std.proofs.lemmas.Bool.{agree_below, agree_below_at}
+use Rattle.std.proofs.lemmas.Simd.{map-map, mask_l-mod, length-chunk, chunk-fits, first_set_mask_l, chunk-drop}
+use Rattle.std.proofs.lemmas.List.{length-map}
+use Rattle.std.specs.List.{prefix_len}
+use Rattle.std.proofs.lemmas.List.Folds.{prefix_len-append}
+use Rattle.std.proofs.lemmas.List.Sums.{prefix_len-le-length}
+use Rattle.std.proofs.lemmas.Bool.{eq-eqb, ne_eqb}
+use lib.Lanes.{Each1, chunk, zip2, mask_l, top}
+use Rattle.tds_csv.specs.Plain.{first_set}
+
+zip2-map : (h : ℕ → ℕ → ℕ) (f g : ℕ → ℕ) (xs : List ℕ) → zip2 h (map f xs) (map g xs) ≡ map (λ x. h (f x) (g x)) xs
+zip2-map h f g [] = refl
+zip2-map h f g (x ∷ xs) = ap (λ r. h (f x) (g x) ∷ r) (zip2-map h f g xs)
+
+-- an operation on two vectors that were computed lane by lane from v
+pub joined : (h : ℕ → ℕ → ℕ) (f g : ℕ → ℕ) (v : List ℕ) {a b : List ℕ} → a ≡ map f v → b ≡ map g v → zip2 h a b ≡ map (λ x. h (f x) (g x)) v
+joined h f g v p q = ap₂ (zip2 h) p q ∙ zip2-map h f g v
+
+pub splat_is : (v : List ℕ) (n y : ℕ) → length v ≡ n → replicate n y ≡ map (λ _. y) v
+splat_is [] n y e = ap (λ k. replicate k y) (sym e)
+splat_is (x ∷ xs) n y e = ap (λ k. replicate k y) (sym e) ∙ ap (λ r. y ∷ r) (splat_is xs (length xs) y refl)
+
+pub itself : (v : List ℕ) → v ≡ map (λ x. x) v
+itself [] = refl
+itself (x ∷ xs) = ap (λ r. x ∷ r) (itself xs)
+
+same_prefix : (p q : ℕ → Bool) → agree_below p q 256 ≡ true → (xs : List ℕ) → Each1 (Fits w8) xs → prefix_len p xs ≡ prefix_len q xs
+same_prefix p q all [] fits = refl
+same_prefix p q all (x ∷ xs) fits = ap₂ (λ b n. cond b (1 + n) 0) (agree_below_at p q 256 x all fits.0.fits) (same_prefix p q all xs fits.1)
+
+-- a lane stops just where q fails
+pub run_in : (q : ℕ → Bool) (d : List ℕ) (i : ℕ) (z : List ℕ) → i + 16 ≤ length d → ((k : ℕ) → Fits w8 (get_or d k 0)) → (f : ℕ → ℕ) → z ≡ map f (chunk i 16 d)
+    → agree_below (λ x. not (top 7 (f x))) q 256 ≡ true → first_set (mask_l (map (top 7) z) % 2 ^ 64) ≡ prefix_len q (chunk i 16 d)
+run_in q d i z room fits f lanes all =
+    let v = chunk i 16 d in
+    let stops : ℕ → Bool = λ x. top 7 (f x) in
+    let long : length v ≡ 16 = length-chunk i 16 d room in
+    let mask : mask_l (map (top 7) z) % 2 ^ 64 ≡ mask_l (map stops v) = ap (λ l. mask_l l % 2 ^ 64) (ap (map (top 7)) lanes ∙ map-map (top 7) f v) ∙ mask_l-mod (map stops v) 64 (omega (arith, length-map v stops, long)) in
+    ap first_set mask ∙ first_set_mask_l stops v 16 long (omega arith) ∙ same_prefix (λ x. not (stops x)) q all v (chunk-fits w8 i 16 d fits)
+
+split : (q : ℕ → Bool) (d : List ℕ) (i n : ℕ) → prefix_len q (drop i d) ≡ cond (eqb (prefix_len q (chunk i n d)) (length (chunk i n d))) (length (chunk i n d) + prefix_len q (drop (i + n) d)) (prefix_len q (chunk i n d))
+split q d i n = ap (prefix_len q) (chunk-drop i n d) ∙ prefix_len-append q (chunk i n d) (drop (i + n) d)
+
+-- all lanes pass
+pub run_through : (q : ℕ → Bool) (d : List ℕ) (i n : ℕ) → i + n ≤ length d → prefix_len q (chunk i n d) ≡ n → prefix_len q (drop i d) ≡ n + prefix_len q (drop (i + n) d)
+run_through q d i n room all =
+    let v = chunk i n d in
+    let long : length v ≡ n = length-chunk i n d room in
+    split q d i n ∙ ap (λ b. cond b (length v + prefix_len q (drop (i + n) d)) (prefix_len q v)) (eq-eqb (prefix_len q v) (length v) (omega (arith, all, long))) ∙ ap (λ k. k + prefix_len q (drop (i + n) d)) long
+
+-- one doesn't
+pub run_stops : (q : ℕ → Bool) (d : List ℕ) (i n : ℕ) → i + n ≤ length d → prefix_len q (chunk i n d) < n → prefix_len q (drop i d) ≡ prefix_len q (chunk i n d)
+run_stops q d i n room some =
+    let v = chunk i n d in
+    let long : length v ≡ n = length-chunk i n d room in
+    split q d i n ∙ ap (λ b. cond b (length v + prefix_len q (drop (i + n) d)) (prefix_len q v)) (ne_eqb (prefix_len q v) (length v) (λ (e : prefix_len q v ≡ length v). omega (arith, some, long, e)))
+
+pub run_most : (q : ℕ → Bool) (d : List ℕ) (i n : ℕ) → i + n ≤ length d → prefix_len q (chunk i n d) ≤ n
+run_most q d i n room = omega (arith, prefix_len-le-length q (chunk i n d), length-chunk i n d room)
