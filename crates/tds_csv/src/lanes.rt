@@ -64,10 +64,10 @@ pub(crate) fn unquoted_end(bytes: &[u8], from: usize) -> usize
     let mut end = from;
     while bytes.len() - end >= LANES {
         let n = unquoted_run(bytes, end);
-        end += n;
         if n < LANES {
-            return end;
+            return end + n;
         }
+        end += LANES;
     }
     unquoted_end_slowly(bytes, end)
 }
@@ -94,10 +94,10 @@ pub(crate) fn plain_end(bytes: &[u8], from: usize) -> usize
     let mut end = from;
     while bytes.len() - end >= LANES {
         let n = plain_run(bytes, end);
-        end += n;
         if n < LANES {
-            return end;
+            return end + n;
         }
+        end += LANES;
     }
     plain_end_slowly(bytes, end)
 }
