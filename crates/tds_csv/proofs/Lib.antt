@@ -11,3 +11,4 @@ pub mod Spares
 pub mod Sinks
 pub mod Singles
 pub mod Masks
+pub mod Units

@@ -32,13 +32,13 @@ same_prefix p q all (x ∷ xs) fits = ap₂ (λ b n. cond b (1 + n) 0) (agree_be
 
 -- a lane stops just where q fails
 pub run_in : (q : ℕ → Bool) (d : List ℕ) (i : ℕ) (z : List ℕ) → i + 16 ≤ length d → ((k : ℕ) → Fits w8 (get_or d k 0)) → (f : ℕ → ℕ) → z ≡ map f (chunk i 16 d)
-    → agree_below (λ x. not (top 7 (f x))) q 256 ≡ true → first_set (mask_l (map (top 7) z) % 2 ^ 64) ≡ prefix_len q (chunk i 16 d)
+    → agree_below (λ x. not (top 7 (f x))) q 256 ≡ true → first_set (mask_l (map (top 7) z) % 2 ^ 64) 16 ≡ prefix_len q (chunk i 16 d)
 run_in q d i z room fits f lanes all =
     let v = chunk i 16 d in
     let stops : ℕ → Bool = λ x. top 7 (f x) in
     let long : length v ≡ 16 = length-chunk i 16 d room in
     let mask : mask_l (map (top 7) z) % 2 ^ 64 ≡ mask_l (map stops v) = ap (λ l. mask_l l % 2 ^ 64) (ap (map (top 7)) lanes ∙ map-map (top 7) f v) ∙ mask_l-mod (map stops v) 64 (omega (arith, length-map v stops, long)) in
-    ap first_set mask ∙ first_set_mask_l stops v 16 long (omega arith) ∙ same_prefix (λ x. not (stops x)) q all v (chunk-fits w8 i 16 d fits)
+    ap (λ m. first_set m 16) mask ∙ first_set_mask_l stops v 16 long (omega arith) ∙ same_prefix (λ x. not (stops x)) q all v (chunk-fits w8 i 16 d fits)
 
 split : (q : ℕ → Bool) (d : List ℕ) (i n : ℕ) → prefix_len q (drop i d) ≡ cond (eqb (prefix_len q (chunk i n d)) (length (chunk i n d))) (length (chunk i n d) + prefix_len q (drop (i + n) d)) (prefix_len q (chunk i n d))
 split q d i n = ap (prefix_len q) (chunk-drop i n d) ∙ prefix_len-append q (chunk i n d) (drop (i + n) d)

@@ -1,5 +1,5 @@
 -- Bytes that are looked at 16 at a time.
-use Rattle.std.specs.Prelude.{ℕ, ◌==◌, ◌&&◌, Bool, not, nat_lt, if◌then◌else◌, List, [], ◌∷◌}
+use Rattle.std.specs.Prelude.{ℕ, ◌+◌, ◌==◌, ◌&&◌, Bool, not, nat_lt, if◌then◌else◌, List, [], ◌∷◌}
 use Rattle.tds_csv.specs.Quoting.{quote}
 use lib.Count.{count_trailing_zeros}
 
@@ -11,9 +11,9 @@ is_unquoted b = not (b == quote)
 abbrev pub is_plain : ℕ → Bool
 is_plain b = nat_lt b 128 && not (b == quote)
 
--- the lowest bit that is set in the mask of 16 lanes, or 16
-abbrev pub first_set : ℕ → ℕ
-first_set mask = if mask == 0 then 16 else count_trailing_zeros 64 mask
+-- the lowest bit that is set in the mask of lanes, or their number
+abbrev pub first_set : ℕ → ℕ → ℕ
+first_set mask lanes = if mask == 0 then lanes else count_trailing_zeros 64 mask
 
 -- the low bytes of units, low byte first
 abbrev pub evens : List ℕ → List ℕ
@@ -26,3 +26,9 @@ abbrev pub odds : List ℕ → List ℕ
 odds [] = []
 odds (low ∷ []) = []
 odds (low ∷ high ∷ bytes) = high ∷ odds bytes
+
+-- how many units, from the first, are characters of ASCII and no quotes
+abbrev pub plain_units : List ℕ → ℕ
+plain_units [] = 0
+plain_units (low ∷ []) = 0
+plain_units (low ∷ high ∷ bytes) = if is_plain low && (high == 0) then 1 + plain_units bytes else 0

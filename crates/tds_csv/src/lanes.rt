@@ -9,13 +9,13 @@ use std::simd::prelude::*;
 /// How many bytes are looked at a time.
 pub(crate) const LANES: usize = 16;
 
-// The lowest bit that is set, or the number of lanes.
+// The lowest bit that is set in a mask, or the number of lanes.
 #[inline(always)]
-fn first_set(mask: u64) -> usize
-    ensures { result ≡ first_set mask }
+pub(crate) fn first_set(mask: u64, lanes: usize) -> usize
+    ensures { result ≡ first_set mask lanes }
 {
     if mask == 0 {
-        LANES
+        lanes
     } else {
         mask.trailing_zeros() as usize
     }
@@ -28,7 +28,7 @@ pub(crate) fn unquoted_run(bytes: &[u8], at: usize) -> usize
     ensures { result ≡ prefix_len is_unquoted (chunk at 16 bytes.now) }
 {
     let quotes = u8x16::from_slice(&bytes[at..]).simd_eq(u8x16::splat(0x22));
-    first_set(quotes.to_bitmask())
+    first_set(quotes.to_bitmask(), LANES)
 }
 
 // How many of the next 16 bytes stand before the first among them that is a quote or isn't of ASCII.
@@ -39,7 +39,7 @@ pub(crate) fn plain_run(bytes: &[u8], at: usize) -> usize
 {
     let lanes = u8x16::from_slice(&bytes[at..]);
     let stops = lanes.simd_eq(u8x16::splat(0x22)) | lanes.simd_ge(u8x16::splat(0x80));
-    first_set(stops.to_bitmask())
+    first_set(stops.to_bitmask(), LANES)
 }
 
 // The first quote from a place on, or the end, a byte at a time.
