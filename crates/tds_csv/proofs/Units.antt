@@ -6,6 +6,16 @@ use Rattle.std.proofs.lemmas.Simd.{map-map, mask_l-mod, first_set_mask_l, zip2_o
 use Rattle.std.proofs.lemmas.List.{length-map}
 use Rattle.std.specs.List.{prefix_len}
 use lib.Lanes.{zip2, mask_l, top}
+use Rattle.std.proofs.lemmas.List.{length-take-le}
+use Rattle.std.proofs.Common.{suc, ◌++◌, ◌≢◌, take, drop, subst, unwrap_or}
+use Rattle.std.specs.Char.{encode_utf8}
+use Rattle.std.specs.Char.Utf16.{is_high_surrogate, lone_unit_char}
+use Rattle.tds_csv.specs.Joining.{Leads, emit}
+use Rattle.tds_csv.specs.Quoting.{doubled}
+use Rattle.tds_csv.specs.Utf16.{is_high, rest, text}
+use Rattle.tds_csv.proofs.Characters.{of_one, doubled_character}
+use Rattle.tds_csv.proofs.Utf16Steps.{next_one}
+use Rattle.tds_csv.proofs.Leading.{Leads-none, Leads-trans}
 use Rattle.tds_csv.specs.Plain.{first_set, evens, odds, is_plain, plain_units}
 
 abbrev pub pairs : List ℕ → List (ℕ × ℕ)
@@ -72,3 +82,48 @@ units_run xs z long lanes =
     let n : length ps ≡ 8 = omega (arith, length-pairs xs) in
     let mask : mask_l (map (top 7) z) % 2 ^ 64 ≡ mask_l (map stops ps) = ap (λ l. mask_l l % 2 ^ 64) (ap (map (top 7)) lanes ∙ map-map (top 7) lane ps) ∙ mask_l-mod (map stops ps) 64 (omega (arith, length-map ps stops, n)) in
     ap (λ m. first_set m 8) mask ∙ first_set_mask_l stops ps 8 n (omega arith) ∙ counted xs
+
+more_within : (b : Bool) (n m : ℕ) → n ≤ m → cond b (1 + n) 0 ≤ 1 + m
+more_within true n m h = omega arith
+more_within false n m h = omega arith
+
+pub plain_within : (xs : List ℕ) → plain_units xs ≤ length (evens xs)
+plain_within [] = omega arith
+plain_within (low ∷ []) = omega arith
+plain_within (low ∷ high ∷ xs) = let h = more_within (is_plain low && (high == 0)) (plain_units xs) (length (evens xs)) (plain_within xs) in omega arith
+
+pub length-evens : (xs : List ℕ) → length (evens xs) ≡ length xs / 2
+length-evens [] = refl
+length-evens (low ∷ []) = refl
+length-evens (low ∷ high ∷ xs) = let e = length-evens xs in omega arith
+
+-- a character of ASCII that is no quote
+leads_one : (low high : ℕ) (more : List ℕ) → (is_plain low && (high == 0)) ≡ true → Leads rest text (low ∷ high ∷ more) more (low ∷ [])
+leads_one low high more h =
+    let small : low < 128 = grind (arith, nat_tests) in
+    let other : low ≢ 34 = λ e. grind (arith, nat_tests) in
+    let none : high ≡ 0 = grind (arith, nat_tests) in
+    let apart : is_high low high ≡ false = grind (arith, nat_tests) in
+    let code : unwrap_or (lone_unit_char (low + 256 * high)) 0xFFFD ≡ low = grind (arith, nat_tests) in
+    let next = next_one low high more low apart code in
+    record {
+      emits = next.emits ∙ ap (λ l. l ++ emit rest text more) (doubled_character low other ∙ of_one low small);
+      keeps = next.keeps;
+    }
+
+leads_more : (b : Bool) (low high n : ℕ) (ys more : List ℕ) → (b ≡ true → Leads rest text (low ∷ high ∷ more) more (low ∷ [])) → Leads rest text more (drop (2 * n) more) (take n ys)
+    → Leads rest text (low ∷ high ∷ more) (drop (2 * cond b (1 + n) 0) (low ∷ high ∷ more)) (take (cond b (1 + n) 0) (low ∷ ys))
+leads_more true low high n ys more one next =
+    let next_n : suc n ≡ 1 + n = omega arith in
+    let next_two : suc (suc (2 * n)) ≡ 2 * suc n = omega arith in
+    let xs = low ∷ high ∷ more in
+    subst (λ k. Leads rest text xs (drop (2 * k) xs) (take k (low ∷ ys))) next_n
+    (subst (λ k. Leads rest text xs (drop k xs) (low ∷ take n ys)) next_two
+    (Leads-trans rest text xs more (drop (2 * n) more) (low ∷ []) (take n ys) (one refl) next))
+leads_more false low high n ys more one next = Leads-none rest text (low ∷ high ∷ more)
+
+pub leads_plain : (ys more : List ℕ) → Leads rest text (ys ++ more) (drop (2 * plain_units ys) (ys ++ more)) (take (plain_units ys) (evens ys))
+leads_plain [] more = Leads-none rest text more
+leads_plain (low ∷ []) more = Leads-none rest text (low ∷ more)
+leads_plain (low ∷ high ∷ ys) more =
+    leads_more (is_plain low && (high == 0)) low high (plain_units ys) (evens ys) (ys ++ more) (leads_one low high (ys ++ more)) (leads_plain ys more)

@@ -1,12 +1,15 @@
 // Characters of ASCII in UTF-16, taken eight at a time.
-ghost use Rattle.std.specs.Prelude.{◌≡◌, ◌+◌, ◌≤◌, length, take};
+ghost use Rattle.std.specs.Prelude.{◌≡◌, ◌+◌, ◌*◌, ◌≤◌, ◌++◌, ℕ, List, length, drop};
+ghost use Rattle.tds_csv.specs.Joining.{Leads};
 ghost use Rattle.tds_csv.specs.Plain.{evens, odds, plain_units};
+ghost use Rattle.tds_csv.specs.Utf16 as utf16;
 
-use crate::lanes::first_set;
+use crate::lanes::{LANES, first_set};
+use crate::run::Run;
 use std::simd::prelude::*;
 
 /// How many units are looked at a time.
-const UNITS: usize = 8;
+pub(crate) const UNITS: usize = 8;
 
 // The low bytes of eight units.
 #[inline(always)]
@@ -37,4 +40,24 @@ fn plain_units(units: u8x16) -> usize
         | low.simd_ge(u8x8::splat(0x80))
         | high_bytes(units).simd_ge(u8x8::splat(1));
     first_set(stops.to_bitmask(), UNITS)
+}
+
+// Adds the next characters of ASCII up to a quote, at most eight, and says how many they are.
+// None where fewer than 16 bytes are left.
+#[inline(always)]
+pub(crate) fn take_units(bytes: &[u8], at: usize, run: &mut Run<200>) -> usize
+    requires from { at ≤ length bytes.now }
+    requires room { at + 16 ≤ length bytes.now → length run.old + 8 ≤ 200 }
+    ensures most { result ≤ 8 }
+    ensures within { at + 2 * result ≤ length bytes.now }
+    ensures taken { (out : List ℕ) × (run.new ≡ run.old ++ out) × (length out ≡ result)
+        × Leads utf16.rest utf16.text (drop at bytes.now) (drop (at + 2 * result) bytes.now) out }
+{
+    if bytes.len() - at < LANES {
+        return 0;
+    }
+    let units = u8x16::from_slice(&bytes[at..]);
+    let n = plain_units(units);
+    run.extend_lanes(low_bytes(units), n);
+    n
 }

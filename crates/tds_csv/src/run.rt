@@ -1,9 +1,10 @@
 // A run of text on its way to a sink.
-ghost use Rattle.std.specs.Prelude.{◌≡◌, ◌+◌, ◌<◌, ◌≤◌, [], ◌∷◌, ◌++◌, length};
+ghost use Rattle.std.specs.Prelude.{◌≡◌, ◌+◌, ◌<◌, ◌≤◌, [], ◌∷◌, ◌++◌, length, take};
 ghost use Rattle.std.specs.Char.{encode_utf8};
 ghost use Rattle.tds_csv.specs.Quoting.{doubled};
 
 use std::marker::Model;
+use std::simd::prelude::*;
 
 // At most `N` bytes of text.
 #[derive(Drop)]
@@ -54,6 +55,20 @@ impl<const N: usize> Run<N> {
         let all = &mut self.bytes[..];
         all[from..end].copy_from_slice(piece);
         self.len = end;
+    }
+
+    // Adds the first of eight bytes, so many.
+    #[inline(always)]
+    pub(crate) fn extend_lanes(&mut self, lanes: u8x8, n: usize)
+        requires lanes { length lanes ≡ 8 }
+        requires within { n ≤ 8 }
+        requires room { length self.old + 8 ≤ N }
+        ensures { self.new ≡ self.old ++ take n lanes }
+    {
+        let from = self.len;
+        let all = &mut self.bytes[..];
+        lanes.copy_to_slice(&mut all[from..]);
+        self.len = from + n;
     }
 
     fn push(&mut self, byte: u8)
