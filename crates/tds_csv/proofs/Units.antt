@@ -1,17 +1,14 @@
 -- Units that are looked at eight at a time, by their low and high bytes.
-use Rattle.std.proofs.Common.{◌≡◌, ◌∙◌, ℕ, ◌+◌, ◌*◌, ◌/◌, ◌%◌, ◌^◌, ◌<◌, ◌≤◌, ◌&&◌, eqb, leb, Bool, true, false, not, cond, List, [], ◌∷◌, map, length, replicate, refl, sym, ap, ap₂, arith, bit_or}
+use Rattle.std.proofs.Common.{◌≡◌, ◌∙◌, ℕ, ◌+◌, ◌*◌, ◌/◌, ◌%◌, ◌^◌, ◌<◌, ◌≤◌, ◌&&◌, eqb, leb, Bool, true, false, not, cond, List, [], ◌∷◌, map, length, replicate, refl, ap, ap₂, arith, bit_or}
 use Rattle.std.specs.Prelude.{◌==◌, nat_lt}
 use Rattle.std.proofs.lemmas.Bool.Decides.{nat_tests}
 use Rattle.std.proofs.lemmas.Simd.{map-map, mask_l-mod, first_set_mask_l, zip2_of_maps, splat_is_map}
 use Rattle.std.proofs.lemmas.List.{length-map}
 use Rattle.std.specs.List.{prefix_len}
 use lib.Lanes.{zip2, mask_l, top}
-use Rattle.std.proofs.lemmas.List.{length-take-le}
 use Rattle.std.proofs.Common.{suc, ◌++◌, ◌≢◌, take, drop, subst, unwrap_or}
-use Rattle.std.specs.Char.{encode_utf8}
-use Rattle.std.specs.Char.Utf16.{is_high_surrogate, lone_unit_char}
+use Rattle.std.specs.Char.Utf16.{lone_unit_char}
 use Rattle.tds_csv.specs.Joining.{Leads, emit}
-use Rattle.tds_csv.specs.Quoting.{doubled}
 use Rattle.tds_csv.specs.Utf16.{is_high, rest, text}
 use Rattle.tds_csv.proofs.Characters.{of_one, doubled_character}
 use Rattle.tds_csv.proofs.Utf16Steps.{next_one}

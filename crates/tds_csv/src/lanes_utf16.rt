@@ -43,9 +43,9 @@ fn plain_units(units: u8x16) -> usize
 }
 
 // Adds the next characters of ASCII up to a quote, at most eight, and says how many they are.
-// None where fewer than 16 bytes are left.
+// None where fewer than 16 bytes are left, or they aren't to be looked at.
 #[inline(always)]
-pub(crate) fn take_units(bytes: &[u8], at: usize, run: &mut Run<200>) -> usize
+pub(crate) fn take_units(bytes: &[u8], at: usize, skip: bool, run: &mut Run<200>) -> usize
     requires from { at ≤ length bytes.now }
     requires room { at + 16 ≤ length bytes.now → length run.old + 8 ≤ 200 }
     ensures most { result ≤ 8 }
@@ -53,7 +53,7 @@ pub(crate) fn take_units(bytes: &[u8], at: usize, run: &mut Run<200>) -> usize
     ensures taken { (out : List ℕ) × (run.new ≡ run.old ++ out) × (length out ≡ result)
         × Leads utf16.rest utf16.text (drop at bytes.now) (drop (at + 2 * result) bytes.now) out }
 {
-    if bytes.len() - at < LANES {
+    if skip || bytes.len() - at < LANES {
         return 0;
     }
     let units = u8x16::from_slice(&bytes[at..]);

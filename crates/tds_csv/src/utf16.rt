@@ -6,6 +6,7 @@ ghost use Rattle.tds_csv.specs.Joining.{emit};
 ghost use Rattle.tds_csv.specs.Utf16 as utf16;
 ghost use Rattle.tds_csv.specs.Utf16Next.{IsNext};
 
+use crate::lanes_utf16::{UNITS, take_units};
 use crate::run::Run;
 
 // A character, and how many bytes it takes.
@@ -94,6 +95,18 @@ pub(crate) fn character_at(bytes: &[u8], at: usize) -> Character
     }
 }
 
+// How many characters to take before eight units are looked at again, where so many of them were
+// taken at once: eight, if the first isn't of ASCII or is a quote.
+fn left_by_hand(by_hand: u8, taken: usize) -> u8 {
+    if by_hand > 0 {
+        by_hand - 1
+    } else if taken == 0 {
+        8
+    } else {
+        0
+    }
+}
+
 // Adds the text of the characters that are fixed, and says how many bytes they are.
 pub(crate) fn convert(bytes: &[u8], run: &mut Run<200>) -> usize
     requires short { length bytes.now ≤ 128 }
@@ -104,9 +117,18 @@ pub(crate) fn convert(bytes: &[u8], run: &mut Run<200>) -> usize
     ensures most { length bytes.now ≤ result + 3 }
 {
     let mut at = 0;
-    while let Some(next) = next_character(bytes, at) {
+    let mut by_hand = 0u8;
+    loop {
+        let n = take_units(bytes, at, by_hand > 0, run);
+        at += 2 * n;
+        if n == UNITS {
+            continue;
+        }
+        by_hand = left_by_hand(by_hand, n);
+        let Some(next) = next_character(bytes, at) else {
+            return at;
+        };
         run.push_quoted(next.code);
         at += next.len;
     }
-    at
 }

@@ -1,4 +1,4 @@
-use Rattle.std.proofs.Common.{◌≡◌, ◌+◌, ◌≤◌, length, arith}
+use Rattle.std.proofs.Common.{◌+◌, ◌≤◌, length, arith}
 use Rattle.tds_csv.specs.Plain.{is_plain}
 use Rattle.tds_csv.proofs.Masks.{run_through, run_stops, run_most}
 use Rattle.tds_csv.proofs.lanes.plain_end.Goals as goal

@@ -46,8 +46,7 @@ returns-clause-taken c =
     let n = c.plain_units-n.result in
     let lows = evens (chunk at 16 bytes) in
     let room : at + 16 ≤ length bytes = omega arith in
-    let h = few bytes at room in
-    (
+    let h = few bytes at room in (
       take n lows,
       c.extend_lanes.ensures ∙ ap (λ l. c.args.run.now ++ take n l) c.low_bytes.ensures,
       length-take-le n lows (omega (arith, h.0, h.1, c.plain_units-n.ensures)),
