@@ -12,3 +12,4 @@ pub mod Sinks
 pub mod Singles
 pub mod Masks
 pub mod Units
+pub mod HexLanes

@@ -1,5 +1,7 @@
 -- Bytes that are looked at 16 at a time.
 use Rattle.std.specs.Prelude.{ℕ, ◌+◌, ◌==◌, ◌&&◌, Bool, not, nat_lt, if◌then◌else◌, List, [], ◌∷◌}
+use Rattle.std.specs.Prelude.{slice_index}
+use Rattle.hex.specs.Hex.{lower_digits}
 use Rattle.tds_csv.specs.Quoting.{quote}
 use lib.Count.{count_trailing_zeros}
 
@@ -32,3 +34,7 @@ abbrev pub plain_units : List ℕ → ℕ
 plain_units [] = 0
 plain_units (low ∷ []) = 0
 plain_units (low ∷ high ∷ bytes) = if is_plain low && (high == 0) then 1 + plain_units bytes else 0
+
+-- the hexadecimal digit of a number below 16
+abbrev pub digit : ℕ → ℕ
+digit n = slice_index lower_digits n

@@ -6,6 +6,7 @@ ghost use Rattle.tds_csv.specs.Sinks.{Breaks, IsOnSameSink, IsReady, Puts, held}
 ghost use Rattle.tds_csv.specs.SingleLaws.{joins_binary};
 
 use crate::joiner::{JoinFault, Joiner};
+use crate::lanes_hex::encode;
 use crate::sink::Sink;
 use std::io::Write;
 use tds_packet::Stop;
@@ -31,9 +32,7 @@ fn put_run<W: Write>(bytes: &[u8], sink: &mut Sink<'_, W>) -> Result<(), Stop>
 {
     let mut digits = [0; 256];
     let n = 2 * bytes.len();
-    let Ok(()) = hex::encode_to_slice(bytes, &mut digits[..n]) else {
-        unreachable!()
-    };
+    encode(bytes, &mut digits[..n]);
     sink.put(&digits[..n])
 }
 

@@ -7,6 +7,7 @@ mod hex_joiner;
 mod into_area;
 mod joiner;
 mod lanes;
+mod lanes_hex;
 mod lanes_utf16;
 mod laws;
 mod run;

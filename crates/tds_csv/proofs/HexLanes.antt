@@ -1,0 +1,49 @@
+-- Hexadecimal digits that are looked up 16 at a time.
+use Rattle.std.proofs.Common.{◌≡◌, ◌∙◌, ℕ, ◌+◌, ◌*◌, ◌/◌, ◌%◌, ◌<◌, ◌≤◌, suc, leb, false, cond, List, [], ◌∷◌, ◌++◌, map, length, get_or, drop, refl, sym, ap, subst, arith, length-drop, w8, Fits}
+use Rattle.std.proofs.lemmas.Bool.Decides.{nat_tests}
+use Rattle.std.proofs.lemmas.Simd.{swz_l}
+use lib.Lanes.{Each1}
+use Rattle.hex.specs.Hex.{encode_with, lower_digits, encode_lower}
+use Rattle.tds_csv.specs.Plain.{digit}
+use Rattle.tds_csv.proofs.Utf16Steps.{drop_four, nil_of_length}
+
+pub looked_up : (i : ℕ) (js : List ℕ) → i + length js ≤ 16 → Each1 (λ j. j < 16) js → swz_l w8 16 lower_digits i js ≡ map digit js
+looked_up i [] few small = refl
+looked_up i (j ∷ js) few small =
+    let below : j < 16 = small.0 in
+    let kept : leb 128 j ≡ false = grind (arith, nat_tests) in
+    let place : 16 * (i / 16) + j ≡ j = omega arith in
+    (λ k. cond (kept k) 0 (get_or lower_digits (place k) 0) ∷ looked_up (suc i) js (omega arith) small.1 k)
+
+-- sixteen bytes by name
+sixteen : (v : List ℕ) → length v ≡ 16
+    → v ≡ get_or v 0 0 ∷ get_or v 1 0 ∷ get_or v 2 0 ∷ get_or v 3 0 ∷ get_or v 4 0 ∷ get_or v 5 0 ∷ get_or v 6 0 ∷ get_or v 7 0
+    ∷ get_or v 8 0 ∷ get_or v 9 0 ∷ get_or v 10 0 ∷ get_or v 11 0 ∷ get_or v 12 0 ∷ get_or v 13 0 ∷ get_or v 14 0 ∷ get_or v 15 0 ∷ []
+sixteen v long =
+    drop_four v 0 (omega arith)
+    ∙ ap (λ l. get_or v 0 0 ∷ get_or v 1 0 ∷ get_or v 2 0 ∷ get_or v 3 0 ∷ l) (drop_four v 4 (omega arith))
+    ∙ ap (λ l. get_or v 0 0 ∷ get_or v 1 0 ∷ get_or v 2 0 ∷ get_or v 3 0 ∷ get_or v 4 0 ∷ get_or v 5 0 ∷ get_or v 6 0 ∷ get_or v 7 0 ∷ l) (drop_four v 8 (omega arith))
+    ∙ ap (λ l. get_or v 0 0 ∷ get_or v 1 0 ∷ get_or v 2 0 ∷ get_or v 3 0 ∷ get_or v 4 0 ∷ get_or v 5 0 ∷ get_or v 6 0 ∷ get_or v 7 0
+    ∷ get_or v 8 0 ∷ get_or v 9 0 ∷ get_or v 10 0 ∷ get_or v 11 0 ∷ l) (drop_four v 12 (omega arith))
+    ∙ ap (λ l. get_or v 0 0 ∷ get_or v 1 0 ∷ get_or v 2 0 ∷ get_or v 3 0 ∷ get_or v 4 0 ∷ get_or v 5 0 ∷ get_or v 6 0 ∷ get_or v 7 0
+    ∷ get_or v 8 0 ∷ get_or v 9 0 ∷ get_or v 10 0 ∷ get_or v 11 0 ∷ get_or v 12 0 ∷ get_or v 13 0 ∷ get_or v 14 0 ∷ get_or v 15 0 ∷ l)
+    (nil_of_length (drop 16 v) (omega (arith, length-drop 16 v, long)))
+
+-- the lanes of two vectors in turn
+abbrev pub woven : List ℕ → List ℕ → List ℕ
+woven high low =
+    map (λ k. get_or (high ++ low) k 0) (0 ∷ 16 ∷ 1 ∷ 17 ∷ 2 ∷ 18 ∷ 3 ∷ 19 ∷ 4 ∷ 20 ∷ 5 ∷ 21 ∷ 6 ∷ 22 ∷ 7 ∷ 23
+    ∷ 8 ∷ 24 ∷ 9 ∷ 25 ∷ 10 ∷ 26 ∷ 11 ∷ 27 ∷ 12 ∷ 28 ∷ 13 ∷ 29 ∷ 14 ∷ 30 ∷ 15 ∷ 31 ∷ [])
+
+pub woven_digits : (v : List ℕ) → length v ≡ 16 → woven (map digit (map (λ x. x / 16) v)) (map digit (map (λ x. x % 16) v)) ≡ encode_lower v
+unfolding encode_with
+woven_digits v long =
+    subst (λ u. woven (map digit (map (λ x. x / 16) u)) (map digit (map (λ x. x % 16) u)) ≡ encode_lower u) (sym (sixteen v long)) refl
+
+pub high_small : (v : List ℕ) → Each1 (Fits w8) v → Each1 (λ x. x < 16) (map (λ x. x / 16) v)
+high_small [] h = tt
+high_small (x ∷ xs) h = let fits : x < 256 = h.0.fits in (omega arith, high_small xs h.1)
+
+pub low_small : (v : List ℕ) → Each1 (λ x. x < 16) (map (λ x. x % 16) v)
+low_small [] = tt
+low_small (x ∷ xs) = (omega arith, low_small xs)
