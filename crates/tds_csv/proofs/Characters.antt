@@ -2,7 +2,7 @@
 use Rattle.std.proofs.Common.{◌≡◌, ◌∙◌, ◌≢◌, ℕ, ◌+◌, ◌/◌, ◌%◌, ◌<◌, ◌≤◌, List, [], ◌∷◌, ◌++◌, length, refl, ap, arith}
 use Rattle.std.proofs.lemmas.Bool.Decides.{nat_tests}
 use Rattle.std.proofs.lemmas.Bool.{cases_lt, cases_eq}
-use Rattle.std.proofs.Common.{inl, inr, append_assoc}
+use Rattle.std.proofs.Common.{inl, inr}
 use Rattle.std.specs.Char.{encode_utf8}
 use Rattle.tds_csv.specs.Quoting.{doubled, doubled_byte}
 
@@ -45,16 +45,6 @@ doubled_character c ne = elim (cases_lt c 128) [
     ]
   ]
 ]
-
--- bytes that were added one after the other
-pub added_two : (o a b : List ℕ) (x y : ℕ) → a ≡ o ++ x ∷ [] → b ≡ a ++ y ∷ [] → b ≡ o ++ x ∷ y ∷ []
-added_two o a b x y p q = q ∙ ap (λ l. l ++ y ∷ []) p ∙ append_assoc o (x ∷ []) (y ∷ [])
-
-pub added_three : (o a b d : List ℕ) (x y z : ℕ) → a ≡ o ++ x ∷ [] → b ≡ a ++ y ∷ [] → d ≡ b ++ z ∷ [] → d ≡ o ++ x ∷ y ∷ z ∷ []
-added_three o a b d x y z p q r = r ∙ ap (λ l. l ++ z ∷ []) (added_two o a b x y p q) ∙ append_assoc o (x ∷ y ∷ []) (z ∷ [])
-
-pub added_four : (o a b d e : List ℕ) (x y z w : ℕ) → a ≡ o ++ x ∷ [] → b ≡ a ++ y ∷ [] → d ≡ b ++ z ∷ [] → e ≡ d ++ w ∷ [] → e ≡ o ++ x ∷ y ∷ z ∷ w ∷ []
-added_four o a b d e x y z w p q r s = s ∙ ap (λ l. l ++ w ∷ []) (added_three o a b d x y z p q r) ∙ append_assoc o (x ∷ y ∷ z ∷ []) (w ∷ [])
 
 -- how long a character is, with a quote doubled
 pub doubled_length : (c : ℕ) → (length (doubled (encode_utf8 c)) ≤ 4) × (c < 65536 → length (doubled (encode_utf8 c)) ≤ 3)

@@ -88,17 +88,20 @@ impl<const N: usize> Run<N> {
         if code < 0x80 {
             self.push(code as u8);
         } else if code < 0x800 {
-            self.push((0xC0 + code / 64) as u8);
-            self.push((0x80 + code % 64) as u8);
+            self.extend(&[(0xC0 + code / 64) as u8, (0x80 + code % 64) as u8]);
         } else if code < 0x1_0000 {
-            self.push((0xE0 + code / 4096) as u8);
-            self.push((0x80 + code / 64 % 64) as u8);
-            self.push((0x80 + code % 64) as u8);
+            self.extend(&[
+                (0xE0 + code / 4096) as u8,
+                (0x80 + code / 64 % 64) as u8,
+                (0x80 + code % 64) as u8,
+            ]);
         } else {
-            self.push((0xF0 + code / 262144) as u8);
-            self.push((0x80 + code / 4096 % 64) as u8);
-            self.push((0x80 + code / 64 % 64) as u8);
-            self.push((0x80 + code % 64) as u8);
+            self.extend(&[
+                (0xF0 + code / 262144) as u8,
+                (0x80 + code / 4096 % 64) as u8,
+                (0x80 + code / 64 % 64) as u8,
+                (0x80 + code % 64) as u8,
+            ]);
         }
     }
 
