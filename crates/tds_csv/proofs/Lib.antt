@@ -13,3 +13,4 @@ pub mod Singles
 pub mod Masks
 pub mod Units
 pub mod HexLanes
+pub mod PlainText

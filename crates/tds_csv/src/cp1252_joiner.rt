@@ -1,15 +1,16 @@
 // Text in Windows-1252.
-ghost use Rattle.std.specs.Prelude.{◌≡◌, ◌+◌, ◌-◌, ◌<◌, ◌≤◌, [], ◌∷◌, false, true, if◌then◌else◌, is_ok, length, take, drop, MatchResult};
+ghost use Rattle.std.specs.Prelude.{◌≡◌, ◌+◌, ◌-◌, ◌<◌, ◌≤◌, ◌++◌, [], IsTrue, false, true, if◌then◌else◌, is_ok, length, take, drop, MatchResult};
 ghost use Rattle.tds_csv.specs.JoiningLemmas.{mod-one};
 ghost use Rattle.tds_csv.specs.Sinks.{Breaks, IsOnSameSink, IsReady, Puts, held};
 ghost use Rattle.tds_csv.specs.SingleLaws.{joins_windows_1252};
 ghost use Rattle.tds_csv.specs.Windows1252 as windows_1252;
 
 use crate::joiner::{JoinFault, Joiner};
-use crate::lanes::plain_end;
+use crate::lanes::{LANES, plain_end, plain_run};
 use crate::run::Run;
 use crate::sink::Sink;
 use std::io::Write;
+use std::simd::prelude::*;
 use tds_packet::Stop;
 
 // The characters of the bytes 80 to 9F.
@@ -35,38 +36,82 @@ fn character(byte: u8) -> u32
     }
 }
 
-// Where bytes that stand for themselves end, or the first byte.
-fn run_end(bytes: &[u8], from: usize) -> usize
+// Adds the next bytes that stand for themselves, at most 16, and says how many they are. None where
+// fewer than 16 bytes are left.
+#[inline(always)]
+fn take_plain(bytes: &[u8], at: usize, run: &mut Run<528>) -> usize
+    requires from { at ≤ length bytes.now }
+    requires room { at + 16 ≤ length bytes.now → length run.old + 16 ≤ 528 }
+    ensures most { result ≤ 16 }
+    ensures within { at + result ≤ length bytes.now }
+    ensures taken { run.new ≡ run.old ++ windows_1252.text (take result (drop at bytes.now)) }
+    ensures grown { length run.new ≡ length run.old + result }
+{
+    if bytes.len() - at < LANES {
+        return 0;
+    }
+    let n = plain_run(bytes, at);
+    run.extend_bytes(u8x16::from_slice(&bytes[at..]), n);
+    n
+}
+
+// Adds the text of bytes.
+fn convert(bytes: &[u8], run: &mut Run<528>)
+    requires short { length bytes.now ≤ 128 }
+    requires empty { run.old ≡ [] }
+    ensures { run.new ≡ windows_1252.text bytes.now }
+{
+    let mut at = 0;
+    while at < bytes.len() {
+        let n = take_plain(bytes, at, run);
+        at += n;
+        if n < LANES && at < bytes.len() {
+            run.push_quoted(character(bytes[at]));
+            at += 1;
+        }
+    }
+}
+
+/// How many bytes are converted at a time.
+const CHUNK: usize = 128;
+
+/// How many bytes that stand for themselves are put without a conversion.
+const PLAIN: usize = 32;
+
+// Where the bytes end that are put at once: a run that stands for itself, or a chunk.
+#[derive(Clone, Copy)]
+struct Part {
+    end: usize,
+    is_plain: bool,
+}
+
+// The bytes to be put next.
+fn next_part(bytes: &[u8], from: usize) -> Part
     requires { from < length bytes.now }
-    ensures more { from < result }
-    ensures within { result ≤ length bytes.now }
-    ensures plain { from + 1 < result → windows_1252.text (take (result - from) (drop from bytes.now)) ≡ take (result - from) (drop from bytes.now) }
+    ensures more { from < result.end }
+    ensures within { result.end ≤ length bytes.now }
+    ensures plain { IsTrue result.is_plain → windows_1252.text (take (result.end - from) (drop from bytes.now)) ≡ take (result.end - from) (drop from bytes.now) }
+    ensures short { result.is_plain ≡ false → result.end ≤ from + 128 }
 {
-    plain_end(bytes, from).max(from + 1)
+    let end = plain_end(bytes, from);
+    if end == bytes.len() || end - from >= PLAIN {
+        return Part {
+            end,
+            is_plain: true,
+        };
+    }
+    Part {
+        end: bytes.len().min(from + CHUNK),
+        is_plain: false,
+    }
 }
 
-// Puts the text of one byte.
-fn put_byte<W: Write>(byte: u8, sink: &mut Sink<'_, W>) -> Result<(), Stop>
+// Puts the text of a part.
+fn put_part<W: Write>(bytes: &[u8], is_plain: bool, sink: &mut Sink<'_, W>) -> Result<(), Stop>
     requires ready { IsReady sink.old }
     requires going { sink.old.failed ≡ false }
-    ensures ready { IsReady sink.new }
-    ensures same { IsOnSameSink sink.old sink.new }
-    ensures failed { sink.new.failed ≡ (if is_ok result then false else true) }
-    ensures gives { MatchResult result
-        (λ _. Puts (held W.contents sink.old) (held W.contents sink.new) (windows_1252.text (byte ∷ [])))
-        (λ stop. Breaks (held W.contents sink.old) (held W.contents sink.new) (windows_1252.text (byte ∷ [])) stop) }
-{
-    let mut run: Run<4> = Run::new();
-    run.push_quoted(character(byte));
-    sink.put(run.bytes())
-}
-
-// Puts the text of bytes that stand for themselves, or of one byte.
-fn put_run<W: Write>(bytes: &[u8], sink: &mut Sink<'_, W>) -> Result<(), Stop>
-    requires ready { IsReady sink.old }
-    requires going { sink.old.failed ≡ false }
-    requires some { 0 < length bytes.now }
-    requires plain { 1 < length bytes.now → windows_1252.text bytes.now ≡ bytes.now }
+    requires plain { IsTrue is_plain → windows_1252.text bytes.now ≡ bytes.now }
+    requires short { is_plain ≡ false → length bytes.now ≤ 128 }
     ensures ready { IsReady sink.new }
     ensures same { IsOnSameSink sink.old sink.new }
     ensures failed { sink.new.failed ≡ (if is_ok result then false else true) }
@@ -74,10 +119,12 @@ fn put_run<W: Write>(bytes: &[u8], sink: &mut Sink<'_, W>) -> Result<(), Stop>
         (λ _. Puts (held W.contents sink.old) (held W.contents sink.new) (windows_1252.text bytes.now))
         (λ stop. Breaks (held W.contents sink.old) (held W.contents sink.new) (windows_1252.text bytes.now) stop) }
 {
-    if bytes.len() == 1 {
-        return put_byte(bytes[0], sink);
+    if is_plain {
+        return sink.put(bytes);
     }
-    sink.put(bytes)
+    let mut run: Run<528> = Run::new();
+    convert(bytes, &mut run);
+    sink.put(run.bytes())
 }
 
 // Puts the text of bytes.
@@ -93,11 +140,11 @@ fn put_text<W: Write>(bytes: &[u8], sink: &mut Sink<'_, W>) -> Result<(), Stop>
 {
     let mut taken = 0;
     while taken < bytes.len() {
-        let end = run_end(bytes, taken);
-        if let Err(stop) = put_run(&bytes[taken..end], sink) {
+        let part = next_part(bytes, taken);
+        if let Err(stop) = put_part(&bytes[taken..part.end], part.is_plain, sink) {
             return Err(stop);
         }
-        taken = end;
+        taken = part.end;
     }
     Ok(())
 }

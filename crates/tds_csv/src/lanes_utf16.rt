@@ -58,6 +58,10 @@ pub(crate) fn take_units(bytes: &[u8], at: usize, skip: bool, run: &mut Run<200>
     }
     let units = u8x16::from_slice(&bytes[at..]);
     let n = plain_units(units);
+    if n == UNITS {
+        run.extend_lanes(low_bytes(units), UNITS);
+        return UNITS;
+    }
     run.extend_lanes(low_bytes(units), n);
     n
 }

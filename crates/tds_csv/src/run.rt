@@ -71,6 +71,20 @@ impl<const N: usize> Run<N> {
         self.len = from + n;
     }
 
+    // Adds the first of sixteen bytes, so many.
+    #[inline(always)]
+    pub(crate) fn extend_bytes(&mut self, lanes: u8x16, n: usize)
+        requires lanes { length lanes ≡ 16 }
+        requires within { n ≤ 16 }
+        requires room { length self.old + 16 ≤ N }
+        ensures { self.new ≡ self.old ++ take n lanes }
+    {
+        let from = self.len;
+        let all = &mut self.bytes[..];
+        lanes.copy_to_slice(&mut all[from..]);
+        self.len = from + n;
+    }
+
     fn push(&mut self, byte: u8)
         requires { length self.old < N }
         ensures { self.new ≡ self.old ++ byte ∷ [] }

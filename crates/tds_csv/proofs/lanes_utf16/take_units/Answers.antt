@@ -27,11 +27,29 @@ leads bytes at n room e =
     let to = subst (λ k. Leads utf16.rest utf16.text (drop at bytes) (drop (2 * k) (drop at bytes)) (take k (evens v))) (sym e) from in
     subst (λ l. Leads utf16.rest utf16.text (drop at bytes) l (take n (evens v))) (drop-drop (2 * n) at bytes) to
 
-pub extend_lanes-requires : goal.extend_lanes-requires
-extend_lanes-requires c =
+-- the first n were added
+taken : (bytes old new low : List ℕ) (at n : ℕ) → at + 16 ≤ length bytes → n ≡ plain_units (chunk at 16 bytes) → low ≡ evens (chunk at 16 bytes) → new ≡ old ++ take n low
+    → (out : List ℕ) × (new ≡ old ++ out) × (length out ≡ n) × Leads utf16.rest utf16.text (drop at bytes) (drop (at + 2 * n) bytes) out
+taken bytes old new low at n room e lows is =
+    let h = few bytes at room in (
+      take n (evens (chunk at 16 bytes)),
+      is ∙ ap (λ l. old ++ take n l) lows,
+      length-take-le n (evens (chunk at 16 bytes)) (omega (arith, h.0, h.1, e)),
+      leads bytes at n room e,
+    )
+
+pub returns-then-n-eq-UNITS-clause-taken : goal.returns-then-n-eq-UNITS-clause-taken
+returns-then-n-eq-UNITS-clause-taken c =
+    taken c.args.bytes.now c.args.run.now c.extend_lanes.new.self c.low_bytes.result c.args.at 8 (omega arith) (sym c.if-n-eq-UNITS.true ∙ c.plain_units-n.ensures) c.low_bytes.ensures c.extend_lanes.ensures
+
+pub low_bytes-requires-2 : goal.low_bytes-requires-2
+low_bytes-requires-2 c = length-chunk c.args.at 16 c.args.bytes.now (omega arith)
+
+pub extend_lanes-requires-2 : goal.extend_lanes-requires-2
+extend_lanes-requires-2 c =
     let room : c.args.at + 16 ≤ length c.args.bytes.now = omega arith in
     let h = few c.args.bytes.now c.args.at room in
-    (omega arith, (omega (arith, ap length c.low_bytes.ensures, h.1), (omega (arith, c.plain_units-n.ensures, h.0), c.requires.room room)))
+    (omega arith, (omega (arith, ap length c.low_bytes-2.ensures, h.1), (omega (arith, c.plain_units-n.ensures, h.0), c.requires.room room)))
 
 pub returns-clause-most : goal.returns-clause-most
 returns-clause-most c = omega (arith, (few c.args.bytes.now c.args.at (omega arith)).0, c.plain_units-n.ensures)
@@ -41,14 +59,4 @@ returns-clause-within c = omega (arith, (few c.args.bytes.now c.args.at (omega a
 
 pub returns-clause-taken : goal.returns-clause-taken
 returns-clause-taken c =
-    let bytes = c.args.bytes.now in
-    let at = c.args.at in
-    let n = c.plain_units-n.result in
-    let lows = evens (chunk at 16 bytes) in
-    let room : at + 16 ≤ length bytes = omega arith in
-    let h = few bytes at room in (
-      take n lows,
-      c.extend_lanes.ensures ∙ ap (λ l. c.args.run.now ++ take n l) c.low_bytes.ensures,
-      length-take-le n lows (omega (arith, h.0, h.1, c.plain_units-n.ensures)),
-      leads bytes at n room c.plain_units-n.ensures,
-    )
+    taken c.args.bytes.now c.args.run.now c.extend_lanes-2.new.self c.low_bytes-2.result c.args.at c.plain_units-n.result (omega arith) c.plain_units-n.ensures c.low_bytes-2.ensures c.extend_lanes-2.ensures
