@@ -14,3 +14,4 @@ pub mod Masks
 pub mod Units
 pub mod HexLanes
 pub mod PlainText
+pub mod Unquoted

@@ -1,8 +1,9 @@
 -- Data whose bytes each stand alone, put a run after the other.
-use Rattle.std.proofs.Common.{◌≡◌, ◌∙◌, ◌+◌, ◌≤◌, ℕ, suc, ◌-◌, Bool, true, false, cond, List, [], ◌∷◌, ◌++◌, take, drop, refl, sym, ap, subst, arith}
+use Rattle.std.proofs.Common.{◌≡◌, ◌∙◌, ◌+◌, ◌<◌, ◌≤◌, ℕ, suc, ◌-◌, Bool, true, false, cond, List, [], ◌∷◌, ◌++◌, length, get_or, take, drop, refl, sym, ap, subst, arith}
 use Rattle.std.specs.List.{prefix_len}
-use Rattle.std.proofs.lemmas.List.{take-append-drop}
+use Rattle.std.proofs.lemmas.List.{take-append-drop, take-take, take_more}
 use lib.Seq.{take-add}
+use lib.Lanes.{chunk}
 use Rattle.tds_packet.specs.declared.fault.Stop.{Stop}
 use Rattle.tds_csv.specs.Sinks.{Held, Puts, Breaks}
 use Rattle.tds_csv.proofs.Sinks.{Puts-trans, Breaks-after, Breaks-longer}
@@ -26,6 +27,16 @@ module _ (text : List ℕ → List ℕ) (appends : (x y : List ℕ) → text (x 
       subst (λ l. Breaks a d l stop) all
       (Breaks-longer a d (text (take e xs)) (text (drop e xs)) stop (subst (λ l. Breaks a d l stop) (runs t e xs h) broke))
 
+  -- the text so far, with that of n more bytes
+  pub text_more : (run bytes : List ℕ) (at n : ℕ) → run ≡ text (take at bytes) → run ++ text (take n (drop at bytes)) ≡ text (take (at + n) bytes)
+  text_more run bytes at n e =
+      ap (λ l. l ++ text (take n (drop at bytes))) e ∙ sym (appends (take at bytes) (take n (drop at bytes))) ∙ ap text (sym (take-add at n bytes))
+
+  -- and that of the next byte
+  pub text_next : (run bytes : List ℕ) (at : ℕ) → at < length bytes → run ≡ text (take at bytes) → run ++ text (get_or bytes at 0 ∷ []) ≡ text (take (at + 1) bytes)
+  text_next run bytes at within e =
+      ap (λ l. l ++ text (get_or bytes at 0 ∷ [])) e ∙ sym (appends (take at bytes) (get_or bytes at 0 ∷ [])) ∙ ap text (sym (take_more bytes at 0 within))
+
   -- bytes that stand for themselves, up to the first that needn't
   module _ (q : ℕ → Bool) (empty : text [] ≡ []) (itself : (b : ℕ) → q b ≡ true → text (b ∷ []) ≡ b ∷ []) where
     one_more : (passes : Bool) (b n : ℕ) (xs : List ℕ) → (passes ≡ true → text (b ∷ []) ≡ b ∷ []) → text (take n xs) ≡ take n xs
@@ -38,3 +49,10 @@ module _ (text : List ℕ → List ℕ) (appends : (x y : List ℕ) → text (x 
     pub front_itself : (xs : List ℕ) → text (take (prefix_len q xs) xs) ≡ take (prefix_len q xs) xs
     front_itself [] = empty
     front_itself (b ∷ xs) = one_more (q b) b (prefix_len q xs) xs (itself b) (front_itself xs)
+
+    -- those that were found among the next 16
+    pub lanes_itself : (bytes : List ℕ) (at n : ℕ) → n ≤ 16 → n ≡ prefix_len q (chunk at 16 bytes) → take n (chunk at 16 bytes) ≡ text (take n (drop at bytes))
+    lanes_itself bytes at n few e =
+        let v = chunk at 16 bytes in
+        let itself_n : text (take n v) ≡ take n v = ap (λ k. text (take k v)) e ∙ front_itself v ∙ ap (λ k. take k v) (sym e) in
+        sym itself_n ∙ ap text (take-take n 16 (drop at bytes) few)

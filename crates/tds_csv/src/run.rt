@@ -93,6 +93,18 @@ impl<const N: usize> Run<N> {
         self.len += 1;
     }
 
+    // Adds a byte, and a quote twice.
+    pub(crate) fn push_doubled(&mut self, byte: u8)
+        requires { length self.old + 2 ≤ N }
+        ensures value { self.new ≡ self.old ++ doubled (byte ∷ []) }
+        ensures grown { length self.new ≤ length self.old + 2 }
+    {
+        self.push(byte);
+        if byte == 0x22 {
+            self.push(0x22);
+        }
+    }
+
     // Adds a character in UTF-8.
     pub(crate) fn push_character(&mut self, code: u32)
         requires range { code < 1114112 }
