@@ -6,7 +6,7 @@ ghost use Rattle.tds_csv.specs.SingleLaws.{joins_windows_1252};
 ghost use Rattle.tds_csv.specs.Windows1252 as windows_1252;
 
 use crate::joiner::{JoinFault, Joiner};
-use crate::lanes::{LANES, plain_end, plain_run};
+use crate::lanes::{LANES, left_by_hand, plain_end, plain_run};
 use crate::run::Run;
 use crate::sink::Sink;
 use std::io::Write;
@@ -37,9 +37,9 @@ fn character(byte: u8) -> u32
 }
 
 // Adds the next bytes that stand for themselves, at most 16, and says how many they are. None where
-// fewer than 16 bytes are left.
+// fewer than 16 bytes are left, or they aren't to be looked at.
 #[inline(always)]
-fn take_plain(bytes: &[u8], at: usize, run: &mut Run<528>) -> usize
+fn take_plain(bytes: &[u8], at: usize, skip: bool, run: &mut Run<528>) -> usize
     requires from { at ≤ length bytes.now }
     requires room { at + 16 ≤ length bytes.now → length run.old + 16 ≤ 528 }
     ensures most { result ≤ 16 }
@@ -47,7 +47,7 @@ fn take_plain(bytes: &[u8], at: usize, run: &mut Run<528>) -> usize
     ensures taken { run.new ≡ run.old ++ windows_1252.text (take result (drop at bytes.now)) }
     ensures grown { length run.new ≡ length run.old + result }
 {
-    if bytes.len() - at < LANES {
+    if skip || bytes.len() - at < LANES {
         return 0;
     }
     let n = plain_run(bytes, at);
@@ -62,9 +62,11 @@ fn convert(bytes: &[u8], run: &mut Run<528>)
     ensures { run.new ≡ windows_1252.text bytes.now }
 {
     let mut at = 0;
+    let mut by_hand = 0u8;
     while at < bytes.len() {
-        let n = take_plain(bytes, at, run);
+        let n = take_plain(bytes, at, by_hand > 0, run);
         at += n;
+        by_hand = left_by_hand(by_hand, n);
         if n < LANES && at < bytes.len() {
             run.push_quoted(character(bytes[at]));
             at += 1;

@@ -101,3 +101,15 @@ pub(crate) fn plain_end(bytes: &[u8], from: usize) -> usize
     }
     plain_end_slowly(bytes, end)
 }
+
+// How many characters to take one by one before the next ones are looked at together again, where so
+// many were taken together: eight, if the first of them needed care.
+pub(crate) fn left_by_hand(by_hand: u8, taken: usize) -> u8 {
+    if by_hand > 0 {
+        by_hand - 1
+    } else if taken == 0 {
+        8
+    } else {
+        0
+    }
+}

@@ -292,3 +292,74 @@ fn text_written_into_the_room(rt: HostRuntime) -> Result<(), Fail> {
     assert_eq!(rt; to.device().got.as_slice(), b"42".as_slice());
     Ok(())
 }
+
+/// How many bytes the pieces have in which each place is tried.
+const LONG: usize = 150;
+
+// The text of ASCII and U+00E9 in Windows-1252, a byte at a time.
+fn plain_text(alloc: Global, bytes: &[u8]) -> Result<Vec<u8>, Fail> {
+    let mut text = Vec::new(alloc);
+    for byte in bytes {
+        match *byte {
+            0x22 => text.extend_from_slice(b"\"\"")?,
+            0xE9 => text.extend_from_slice(b"\xC3\xA9")?,
+            other => text.push(other)?,
+        }
+    }
+    Ok(text)
+}
+
+#[test]
+fn a_byte_that_needs_care_in_every_place(rt: HostRuntime) -> Result<(), Fail> {
+    for care in [0x22, 0xE9] {
+        for place in 0..LONG {
+            let mut piece = [0x61; LONG];
+            piece[place] = care;
+            let want = plain_text(rt.alloc(), &piece)?;
+            let got = joined::<Cp1252Joiner>(rt, &piece, b"", b"")?;
+            assert_eq!(rt;
+                got.as_slice(),
+                want.as_slice(),
+                "{care} at {place} in Windows-1252"
+            );
+            let mut units = Vec::new(rt.alloc());
+            for byte in piece {
+                units.push(byte)?;
+                units.push(0)?;
+            }
+            let got = joined::<Utf16Joiner>(rt, &units, b"", b"")?;
+            assert_eq!(rt;
+                got.as_slice(),
+                want.as_slice(),
+                "{care} at {place} in UTF-16"
+            );
+            if care == 0x22 {
+                let got = joined::<Utf8Joiner>(rt, &piece, b"", b"")?;
+                assert_eq!(rt;
+                    got.as_slice(),
+                    want.as_slice(),
+                    "a quote at {place} in UTF-8"
+                );
+            }
+        }
+    }
+    Ok(())
+}
+
+#[test]
+fn the_digits_of_every_byte(rt: HostRuntime) -> Result<(), Fail> {
+    let digits = b"0123456789abcdef";
+    let mut bytes = Vec::new(rt.alloc());
+    let mut want = Vec::new(rt.alloc());
+    for byte in 0..=255u8 {
+        bytes.push(byte)?;
+        want.push(digits[usize::from(byte / 16)])?;
+        want.push(digits[usize::from(byte % 16)])?;
+    }
+    let all = bytes.as_slice();
+    for cut in 0..all.len() {
+        let got = joined::<HexJoiner>(rt, &all[..cut], &all[cut..], b"")?;
+        assert_eq!(rt; got.as_slice(), want.as_slice(), "cut at {cut}");
+    }
+    Ok(())
+}

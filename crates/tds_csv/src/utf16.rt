@@ -6,6 +6,7 @@ ghost use Rattle.tds_csv.specs.Joining.{emit};
 ghost use Rattle.tds_csv.specs.Utf16 as utf16;
 ghost use Rattle.tds_csv.specs.Utf16Next.{IsNext};
 
+use crate::lanes::left_by_hand;
 use crate::lanes_utf16::{UNITS, take_units};
 use crate::run::Run;
 
@@ -92,18 +93,6 @@ pub(crate) fn character_at(bytes: &[u8], at: usize) -> Character
             code: 0xFFFD,
             len: 2,
         },
-    }
-}
-
-// How many characters to take before eight units are looked at again, where so many of them were
-// taken at once: eight, if the first isn't of ASCII or is a quote.
-fn left_by_hand(by_hand: u8, taken: usize) -> u8 {
-    if by_hand > 0 {
-        by_hand - 1
-    } else if taken == 0 {
-        8
-    } else {
-        0
     }
 }
 
