@@ -20,6 +20,12 @@ const UPPER_CONTROLS: [u16; 32] = [
     0x02DC, 0x2122, 0x0161, 0x203A, 0x0153, 0x009D, 0x017E, 0x0178,
 ];
 
+/// How many bytes are converted at a time.
+const CHUNK: usize = 128;
+
+/// How many bytes that stand for themselves are put without a conversion.
+const PLAIN: usize = 32;
+
 /// Text in Windows-1252.
 #[derive(Drop)]
 pub struct Cp1252Joiner;
@@ -73,12 +79,6 @@ fn convert(bytes: &[u8], run: &mut Run<528>)
         }
     }
 }
-
-/// How many bytes are converted at a time.
-const CHUNK: usize = 128;
-
-/// How many bytes that stand for themselves are put without a conversion.
-const PLAIN: usize = 32;
 
 // Where the bytes end that are put at once: a run that stands for itself, or a chunk.
 #[derive(Clone, Copy)]

@@ -6,7 +6,7 @@ ghost use Rattle.tds_csv.specs.Plain.{first_set, is_plain, is_unquoted};
 
 use std::simd::prelude::*;
 
-/// How many bytes are looked at a time.
+/// How many bytes are looked at together.
 pub(crate) const LANES: usize = 16;
 
 /// How many characters are taken one by one where the next ones aren't of ASCII.

@@ -8,7 +8,7 @@ use crate::lanes::{LANES, first_set};
 use crate::run::Run;
 use std::simd::prelude::*;
 
-/// How many units are looked at a time.
+/// How many units are looked at together.
 pub(crate) const UNITS: usize = 8;
 
 // The low bytes of eight units.
