@@ -7,12 +7,11 @@ use Rattle.std.proofs.lemmas.Bool.{ne_eqb}
 use Rattle.tds_values.specs.declared.kind.Kind.{Kind}
 use Rattle.tds_values.specs.declared.kind.Reach.TheVariants.{Short, Chunked}
 use Rattle.tds_values.specs.declared.scalar.ScalarValue.{ScalarValue}
-use Rattle.tds_values.specs.declared.scalar.ValueFault.{ValueFault}
 use Rattle.tds_values.specs.Numbers.{little}
 use Rattle.tds_values.specs.Kind.{is_length_allowed}
 use Rattle.tds_values.specs.Scalar.{read_of}
 use Rattle.tds_csv.specs.Conversion.{Conversion, HexDigits, Utf16Text, Windows1252Text, Utf8Text, unit, is_fit, is_begun}
-use Rattle.tds_csv.proofs.ConversionLaws.{no_data_is_fit, fit_units, fit_begins}
+use Rattle.tds_csv.proofs.ConversionLaws.{fit_units, fit_begins}
 use Rattle.tds_packet.specs.Elements.{Spelt}
 use Rattle.tds_packet.specs.declared.fault.Fault.{Fault}
 use Rattle.tds_packet.specs.declared.fault.Fault.TheVariants.{BadValue, BadValueLength, BadText, OddText, PlpLength}

@@ -1,6 +1,6 @@
 -- What the bytes that lead to a part of a cell spell.
-use Rattle.std.proofs.Common.{◌≡◌, ◌≢◌, ◌⊎◌, ℕ, ◌+◌, ◌-◌, ◌*◌, ◌/◌, ◌%◌, ◌^◌, ◌<◌, ◌≤◌, Bool, true, false, List, [], ◌∷◌, ◌++◌, length, replicate, refl, sym, ◌∙◌, ap, subst, inl, inr, append_assoc, append-nil, arith, length-append}
-use Rattle.std.specs.Prelude.{Option, Some, None, ◌==◌, ◌&&◌, ◌||◌, nat_le, nat_lt, Result, Ok, Err, is_ok, slice_index, if◌then◌else◌}
+use Rattle.std.proofs.Common.{◌≡◌, ◌≢◌, ◌⊎◌, ℕ, ◌+◌, ◌-◌, ◌/◌, ◌%◌, ◌^◌, ◌<◌, Bool, true, false, List, [], ◌∷◌, ◌++◌, length, replicate, refl, sym, ◌∙◌, ap, subst, inl, inr, append_assoc, append-nil, arith, length-append}
+use Rattle.std.specs.Prelude.{Option, Some, None, ◌==◌, ◌&&◌, ◌||◌, nat_lt, Result, Ok, Err, is_ok, slice_index, if◌then◌else◌}
 use Rattle.std.specs.List.{concat}
 use Rattle.std.proofs.lemmas.List.Folds.{concat-append}
 use Rattle.std.proofs.lemmas.Bool.Decides.{nat_tests}
@@ -11,13 +11,13 @@ use Rattle.tds_values.specs.declared.scalar.ValueFault.{ValueFault}
 use Rattle.tds_values.specs.Numbers.{little}
 use Rattle.tds_values.specs.Kind.{is_length_allowed}
 use Rattle.tds_values.specs.Scalar.{read_of}
-use Rattle.tds_csv.specs.Conversion.{Conversion, HexDigits, Utf16Text, Windows1252Text, Utf8Text, unit, is_fit, is_begun}
-use Rattle.tds_csv.proofs.ConversionLaws.{no_data_is_fit, fit_units, fit_begins}
+use Rattle.tds_csv.specs.Conversion.{Conversion, unit, is_fit, is_begun}
+use Rattle.tds_csv.proofs.ConversionLaws.{no_data_is_fit}
 use Rattle.tds_packet.specs.Elements.{AreBytes, IsNext}
 use Rattle.tds_packet.specs.declared.fault.Fault.{Fault}
 use Rattle.tds_packet.specs.declared.fault.Fault.TheVariants.{BadValue, BadValueLength, BadText, OddText, PlpLength}
 use Rattle.tds_rows.specs.Cells.{Null, ScalarCell, DataCell, Shape, FixedShape, CountedShape, LongShape, SpellsChunk, SpellsChunks, SpellsCell, CellPart, ScalarBytes, ScalarLength, ShortLength, ShortData, Total, ChunkLength, ChunkData, WholeCell, cell_start, cell_add, cell, unless, within_total, is_total, end_of_chunks, chunk_fault, value_part, known_total, unknown_total, null_total}
-use Rattle.tds_packet.proofs.Choices.{choose, eq_true, eq_false, lt_true, le_true, or_true, and_true}
+use Rattle.tds_packet.proofs.Choices.{choose, eq_true, eq_false, and_true}
 use Rattle.tds_columns.proofs.ByteLemmas.{one_byte, two_bytes}
 
 unless_none : (b : Bool) (f : Fault) → unless b f ≡ None → b ≡ true

@@ -5,7 +5,7 @@ use Rattle.tds_packet.specs.declared.fault.Fault.{Fault}
 use Rattle.tds_packet.specs.declared.fault.Fault.TheVariants.{NotYet}
 use Rattle.tds_packet.specs.declared.fault.Place.TheVariants.{Payload}
 use Rattle.tds_packet.specs.declared.fault.Stop.{Stop}
-use Rattle.tds_packet.specs.Elements.{Grammar, Spelt}
+use Rattle.tds_packet.specs.Elements.{Grammar}
 use Rattle.tds_packet.specs.Seen.{Seen, Takes, IsBetween}
 use Rattle.tds_packet.specs.Reading.{Reads}
 use Rattle.tds_packet.proofs.ElementLaws.{Spelt-none, Spelt-append}

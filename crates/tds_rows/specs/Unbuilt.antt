@@ -1,5 +1,5 @@
 -- How a call stops that doesn't read all elements of its grammar yet.
-use Rattle.std.specs.Prelude.{◌≡◌, ◌⊎◌, ◌+◌, ◌<◌, ℕ, Bool, false, List, ◌++◌, length}
+use Rattle.std.specs.Prelude.{◌≡◌, ◌⊎◌, ◌+◌, ◌<◌, ℕ, Bool, true, false, List, ◌++◌, length}
 use Rattle.tds_packet.specs.declared.fault.Fault.{Fault}
 use Rattle.tds_packet.specs.declared.fault.Fault.TheVariants.{NotYet}
 use Rattle.tds_packet.specs.declared.fault.Place.TheVariants.{Payload}
@@ -7,6 +7,8 @@ use Rattle.tds_packet.specs.declared.fault.Stop.{Stop}
 use Rattle.tds_packet.specs.Elements.{Grammar, Spelt}
 use Rattle.tds_packet.specs.Seen.{Seen, Takes, IsBetween}
 use Rattle.tds_packet.specs.Reading.{StopsReading}
+use Rattle.tds_rows.specs.Cells.{CellPart, ShortLength, Total}
+use Rattle.tds_rows.specs.Rows.{InCell, RowPart}
 
 -- Whole elements were read, and then one that isn't built.
 pub record ReadsUnbuilt {S : Type 0} (g : Grammar S Fault) (is_built : S → List ℕ → Bool) (from : S) (old new : Seen) (place : ℕ) (at : S) (stop : Stop) : Type 0 where
@@ -23,3 +25,14 @@ pub record ReadsUnbuilt {S : Type 0} (g : Grammar S Fault) (is_built : S → Lis
 -- A call that reads by a grammar came to a state and stopped there, or met what isn't built.
 abbrev pub Stalls : {S : Type 0} → Grammar S Fault → (S → List ℕ → Bool) → S → Seen → Seen → ℕ → S → Stop → Type 0
 Stalls g is_built from old new place at stop = StopsReading g from old new place at stop ⊎ ReadsUnbuilt g is_built from old new place at stop
+
+-- whether the next element of a cell is built: all but the length and the total of a long value
+abbrev pub is_built_cell : CellPart → List ℕ → Bool
+is_built_cell (ShortLength c) element = false
+is_built_cell (Total c) element = false
+is_built_cell part element = true
+
+-- whether the next element of a row is built: all but the length and the total of a long value
+abbrev pub is_built_row : RowPart → List ℕ → Bool
+is_built_row (InCell cells part ks) element = is_built_cell part element
+is_built_row part element = true

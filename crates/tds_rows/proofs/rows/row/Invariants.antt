@@ -1,0 +1,23 @@
+use Rattle.std.proofs.Common.{◌≡◌, ◌+◌, ◌≤◌, length, None, false}
+use Rattle.tds_columns.specs.View.{columns_of}
+use Rattle.tds_columns.specs.Walking.{columns_left}
+use Rattle.tds_csv.specs.Sinks.{IsOnSameSink, IsReady, held}
+use Rattle.tds_packet.specs.Payloads.{IsOnSame, IsSound, seen}
+use Rattle.tds_rows.specs.Reading.{ReadsCells}
+use Rattle.tds_rows.proofs.rows.row.Given as goal
+
+abbrev pub invariant-loop-column : goal.invariant-loop-column
+invariant-loop-column g l = record {
+  can_next : (goal.iterator-loop-column g).can_next l.walk;
+  is_finite : (goal.iterator-loop-column g).is_finite l.walk;
+  sound : IsSound l.payload;
+  going : l.payload.stopped ≡ None;
+  ready : IsReady l.sink;
+  writing : l.sink.failed ≡ false;
+  same : IsOnSame l.initial.payload l.payload;
+  same_sink : IsOnSameSink l.initial.sink l.sink;
+  counted : l.left ≡ length (columns_left l.walk);
+  within : l.index + l.left ≤ 65535;
+  reads : ReadsCells l.fn.charset (columns_of l.fn.columns.bytes.now) (columns_left l.walk) (seen g.R.Read.remaining l.initial.payload) (seen g.R.Read.remaining l.payload) l.initial.payload.place l.payload.place
+      (held g.W.Write.contents l.initial.sink) (held g.W.Write.contents l.sink) l.index;
+}

@@ -1,0 +1,332 @@
+// A row, cell after cell (MS-TDS, ROW).
+ghost use Rattle.std.specs.Prelude.{◌≡◌, ◌+◌, ◌<◌, ◌≤◌, ◌∷◌, ◌++◌, ℕ, [], List, None, Some, false, true, is_ok, length, take, IsTrue, MatchOption, MatchResult, OnOk, IfOk, IfSome, codes};
+ghost use Rattle.tds_columns.specs.View.{columns_of};
+ghost use Rattle.tds_csv.specs.Conversion.{Conversion};
+ghost use Rattle.tds_csv.specs.Quoting.{null_field};
+ghost use Rattle.tds_csv.specs.Sinks.{IsOnSameSink, IsReady, held};
+ghost use Rattle.tds_packet.specs.Payloads.{IsOnSame, IsSound, seen};
+ghost use Rattle.tds_packet.specs.Reading.{StopsReading};
+ghost use Rattle.tds_rows.specs.Cells.{LongShape, ScalarBytes, ScalarLength, cell, cell_size, cell_start, shape, shape_of_length};
+ghost use Rattle.tds_rows.specs.Reading.{IsValueText, PutsCell, ReadsCell, ReadsValue, StallsCell, StopsCell, end_behind, in_line};
+ghost use Rattle.tds_rows.specs.Streams.{ReadsRow, RowStalls, behind_comma};
+ghost use Rattle.tds_rows.specs.declared.Charset as sets;
+ghost use Rattle.tds_values.specs.Kind as kinds;
+ghost use Rattle.tds_values.specs.Scalar.{read_of};
+
+use crate::Charset;
+use std::io::{Read, Write};
+use tds_columns::Columns;
+use tds_csv::Sink;
+use tds_packet::{Fault, Payload, Place, Stop};
+use tds_values::{Kind, Reach, write_scalar};
+
+/// How many bytes the text of a scalar in its line may want, and a few to spare.
+const CELL_ROOM: usize = 80;
+
+/// The longest value of a scalar kind.
+const LONGEST: usize = 17;
+
+// Writes the comma before a field to the front of a slice, and answers how many bytes that is: none
+// before the first field.
+fn write_comma(column: u16, to: &mut [u8]) -> usize
+    requires { 1 ≤ length to.old }
+    ensures most { result ≤ 1 }
+    ensures text { (text : List ℕ) → take result to.new ++ text ≡ behind_comma column text }
+{
+    if column == 0 {
+        return 0;
+    }
+    to[0] = b',';
+    1
+}
+
+// Writes the end of the line behind so many bytes of a slice, if the field is the last, and answers
+// how many bytes there are then.
+fn write_end(last: bool, made: usize, to: &mut [u8]) -> usize
+    requires { made + 2 ≤ length to.old }
+    ensures most { result ≤ made + 2 }
+    ensures text { take result to.new ≡ take made to.old ++ end_behind last }
+{
+    if !last {
+        return made;
+    }
+    to[made] = b'\r';
+    to[made + 1] = b'\n';
+    made + 2
+}
+
+// Writes NULL in its line to the front of a slice, and answers how many bytes it has.
+fn write_null(column: u16, last: bool, to: &mut [u8]) -> usize
+    requires room { 80 ≤ length to.old }
+    ensures most { result ≤ 44 }
+    ensures text { take result to.new ≡ in_line column last null_field }
+{
+    let start = write_comma(column, to);
+    to[start..start + 4].copy_from_slice(b"NULL");
+    write_end(last, start + 4, to)
+}
+
+// Writes the text of a value in its line to the front of a slice, and answers how many bytes it has;
+// none where the value is out of range.
+fn write_value(kind: &Kind, column: u16, last: bool, bytes: &[u8], to: &mut [u8]) -> Option<usize>
+    requires valid { IsTrue (kinds.is_valid kind.now) }
+    requires scalar { IsTrue (kinds.is_scalar kind.now) }
+    requires room { 80 ≤ length to.old }
+    ensures most { IfSome result (λ made. made ≤ 44) }
+    ensures gives { MatchOption result (is_ok (read_of kind.now bytes.now) ≡ false) (λ made. IsValueText kind.now column last bytes.now (take made to.new)) }
+{
+    let start = write_comma(column, to);
+    match write_scalar(kind, bytes, &mut to[start..]) {
+        Ok(made) => Some(write_end(last, start + made, to)),
+        Err(_) => None,
+    }
+}
+
+// The stop of a value out of range, which began behind so many bytes of the payload.
+fn bad_value(column: u16, place: u64) -> Stop
+    ensures { result ≡ record { fault = Fault.BadValue column; place = Place.Payload place } }
+{
+    Stop {
+        fault: Fault::BadValue { column },
+        place: Place::Payload(place),
+    }
+}
+
+// The stop of a length that isn't allowed.
+fn bad_length(column: u16, place: u64) -> Stop
+    ensures { result ≡ record { fault = Fault.BadValueLength column; place = Place.Payload place } }
+{
+    Stop {
+        fault: Fault::BadValueLength { column },
+        place: Place::Payload(place),
+    }
+}
+
+// Reads a value of so many bytes, and writes its text in its line to the front of a slice. It answers
+// how many bytes the text has.
+fn read_value<R: Read>(
+    payload: &mut Payload<R>,
+    kind: &Kind,
+    n: u8,
+    column: u16,
+    last: bool,
+    to: &mut [u8],
+) -> Result<usize, Stop>
+    requires sound { IsSound payload.old }
+    requires going { payload.old.stopped ≡ None }
+    requires valid { IsTrue (kinds.is_valid kind.now) }
+    requires scalar { IsTrue (kinds.is_scalar kind.now) }
+    requires room { 80 ≤ length to.old }
+    requires some { 0 < n }
+    requires longest { n ≤ 17 }
+    ensures sound { IsSound payload.new }
+    ensures same { IsOnSame payload.old payload.new }
+    ensures going { OnOk result (payload.new.stopped ≡ None) }
+    ensures most { IfOk result (λ made. made ≤ 44) }
+    ensures gives { MatchResult result
+        (λ made. ReadsValue kind.now n column last (seen R.remaining payload.old) (seen R.remaining payload.new) payload.old.place payload.new.place (take made to.new))
+        (λ stop. StopsReading (cell column) (ScalarBytes kind.now n) (seen R.remaining payload.old) (seen R.remaining payload.new) payload.old.place (ScalarBytes kind.now n) stop) }
+{
+    let place = payload.place();
+    let mut value = [0u8; LONGEST];
+    let bytes = &mut value[..n as usize];
+    if let Err(stop) = payload.fill(bytes) {
+        return Err(stop);
+    }
+    match write_value(kind, column, last, bytes, to) {
+        Some(made) => Ok(made),
+        None => Err(bad_value(column, place)),
+    }
+}
+
+// Reads the length and the value of a cell.
+fn read_counted<R: Read>(
+    payload: &mut Payload<R>,
+    kind: &Kind,
+    column: u16,
+    last: bool,
+    to: &mut [u8],
+) -> Result<usize, Stop>
+    requires sound { IsSound payload.old }
+    requires going { payload.old.stopped ≡ None }
+    requires valid { IsTrue (kinds.is_valid kind.now) }
+    requires scalar { IsTrue (kinds.is_scalar kind.now) }
+    requires room { 80 ≤ length to.old }
+    ensures sound { IsSound payload.new }
+    ensures same { IsOnSame payload.old payload.new }
+    ensures going { OnOk result (payload.new.stopped ≡ None) }
+    ensures most { IfOk result (λ made. made ≤ 44) }
+    ensures gives { MatchResult result
+        (λ made. ReadsCell (ScalarLength kind.now) column last (seen R.remaining payload.old) (seen R.remaining payload.new) payload.old.place payload.new.place (take made to.new))
+        (λ stop. StallsCell (ScalarLength kind.now) column (seen R.remaining payload.old) (seen R.remaining payload.new) payload.old.place stop) }
+{
+    let place = payload.place();
+    let mut length = [0u8; 1];
+    if let Err(stop) = payload.fill(&mut length) {
+        return Err(stop);
+    }
+    let n = length[0];
+    if n == 0 {
+        return Ok(write_null(column, last, to));
+    }
+    if !kind.length_allowed(n) {
+        return Err(bad_length(column, place));
+    }
+    read_value(payload, kind, n, column, last, to)
+}
+
+// Reads a cell of a scalar kind.
+fn read_scalar_cell<R: Read>(
+    payload: &mut Payload<R>,
+    kind: &Kind,
+    column: u16,
+    last: bool,
+    to: &mut [u8],
+) -> Result<usize, Stop>
+    requires sound { IsSound payload.old }
+    requires going { payload.old.stopped ≡ None }
+    requires valid { IsTrue (kinds.is_valid kind.now) }
+    requires scalar { IsTrue (kinds.is_scalar kind.now) }
+    requires room { 80 ≤ length to.old }
+    ensures sound { IsSound payload.new }
+    ensures same { IsOnSame payload.old payload.new }
+    ensures going { OnOk result (payload.new.stopped ≡ None) }
+    ensures most { IfOk result (λ made. made ≤ 44) }
+    ensures gives { let from = cell_start kind.now (shape_of_length (kinds.fixed_length kind.now)) in MatchResult result
+        (λ made. ReadsCell from column last (seen R.remaining payload.old) (seen R.remaining payload.new) payload.old.place payload.new.place (take made to.new))
+        (λ stop. StallsCell from column (seen R.remaining payload.old) (seen R.remaining payload.new) payload.old.place stop) }
+{
+    match kind.fixed_length() {
+        Some(n) => read_value(payload, kind, n, column, last, to),
+        None => read_counted(payload, kind, column, last, to),
+    }
+}
+
+// How many bytes the length or the total of a long value has.
+fn long_size(reach: Reach) -> usize
+    ensures value { (kind : Kind) (conversion : Conversion) → cell_size (cell_start kind (LongShape conversion reach)) ≡ result }
+    ensures most { result ≤ 8 }
+{
+    match reach {
+        Reach::Short => 2,
+        Reach::Chunked => 8,
+    }
+}
+
+// Reads the length or the total of a long value, which isn't built yet, and answers the stop.
+fn read_long<R: Read>(payload: &mut Payload<R>, reach: Reach) -> Stop
+    requires sound { IsSound payload.old }
+    requires going { payload.old.stopped ≡ None }
+    ensures sound { IsSound payload.new }
+    ensures same { IsOnSame payload.old payload.new }
+    ensures gives { (kind : Kind) (conversion : Conversion) (column : ℕ) → StallsCell (cell_start kind (LongShape conversion reach)) column (seen R.remaining payload.old) (seen R.remaining payload.new) payload.old.place result }
+{
+    let place = payload.place();
+    let mut bytes = [0u8; 8];
+    match payload.fill(&mut bytes[..long_size(reach)]) {
+        Ok(()) => Stop {
+            fault: Fault::NotYet,
+            place: Place::Payload(place),
+        },
+        Err(stop) => stop,
+    }
+}
+
+// Reads a cell, and writes its text in its line to the front of a slice. It answers how many bytes
+// the text has.
+fn read_cell<R: Read>(
+    payload: &mut Payload<R>,
+    kind: &Kind,
+    column: u16,
+    last: bool,
+    to: &mut [u8],
+) -> Result<usize, Stop>
+    requires sound { IsSound payload.old }
+    requires going { payload.old.stopped ≡ None }
+    requires valid { IsTrue (kinds.is_valid kind.now) }
+    requires room { 80 ≤ length to.old }
+    ensures sound { IsSound payload.new }
+    ensures same { IsOnSame payload.old payload.new }
+    ensures going { OnOk result (payload.new.stopped ≡ None) }
+    ensures most { IfOk result (λ made. made ≤ 44) }
+    ensures gives { (charset : sets.Charset) → MatchResult result
+        (λ made. ReadsCell (cell_start kind.now (shape charset kind.now)) column last (seen R.remaining payload.old) (seen R.remaining payload.new) payload.old.place payload.new.place (take made to.new))
+        (λ stop. StallsCell (cell_start kind.now (shape charset kind.now)) column (seen R.remaining payload.old) (seen R.remaining payload.new) payload.old.place stop) }
+{
+    match *kind {
+        Kind::Binary(reach) | Kind::Narrow(reach) | Kind::Wide(reach) => {
+            Err(read_long(payload, reach))
+        }
+        _ => read_scalar_cell(payload, kind, column, last, to),
+    }
+}
+
+// Reads a cell, and puts its text.
+fn put_cell<R: Read, W: Write>(
+    payload: &mut Payload<R>,
+    sink: &mut Sink<W>,
+    kind: &Kind,
+    column: u16,
+    last: bool,
+) -> Result<(), Stop>
+    requires sound { IsSound payload.old }
+    requires going { payload.old.stopped ≡ None }
+    requires ready { IsReady sink.old }
+    requires writing { sink.old.failed ≡ false }
+    requires valid { IsTrue (kinds.is_valid kind.now) }
+    ensures sound { IsSound payload.new }
+    ensures same { IsOnSame payload.old payload.new }
+    ensures going { OnOk result (payload.new.stopped ≡ None) }
+    ensures ready { IsReady sink.new }
+    ensures same_sink { IsOnSameSink sink.old sink.new }
+    ensures writing { OnOk result (sink.new.failed ≡ false) }
+    ensures gives { (charset : sets.Charset) → MatchResult result
+        (λ _. PutsCell charset kind.now column last (seen R.remaining payload.old) (seen R.remaining payload.new) payload.old.place payload.new.place (held W.contents sink.old) (held W.contents sink.new))
+        (λ stop. StopsCell charset kind.now column last (seen R.remaining payload.old) (seen R.remaining payload.new) payload.old.place (held W.contents sink.old) (held W.contents sink.new) sink.new.failed stop) }
+{
+    let mut text = [0u8; CELL_ROOM];
+    let made = match read_cell(payload, kind, column, last, &mut text) {
+        Ok(made) => made,
+        Err(stop) => return Err(stop),
+    };
+    match sink.put(&text[..made]) {
+        Ok(()) => Ok(()),
+        Err(stop) => Err(stop),
+    }
+}
+
+/// Reads a ROW behind its token byte, and puts its line (MS-TDS, ROW). Long values aren't built yet:
+/// [`Fault::NotYet`] stands at the length or the total of one, which is read. After any other stop
+/// the elements before it count, with their text.
+pub fn row<R: Read, W: Write>(
+    payload: &mut Payload<R>,
+    columns: Columns<'_>,
+    charset: Charset,
+    sink: &mut Sink<W>,
+) -> Result<(), Stop>
+    requires sound { IsSound payload.old }
+    requires going { payload.old.stopped ≡ None }
+    requires ready { IsReady sink.old }
+    requires writing { sink.old.failed ≡ false }
+    ensures sound { IsSound payload.new }
+    ensures same { IsOnSame payload.old payload.new }
+    ensures going { OnOk result (payload.new.stopped ≡ None) }
+    ensures ready { IsReady sink.new }
+    ensures same_sink { IsOnSameSink sink.old sink.new }
+    ensures writing { OnOk result (sink.new.failed ≡ false) }
+    ensures gives { let described = columns_of columns.entry.bytes.now in MatchResult result
+        (λ _. ReadsRow charset described (seen R.remaining payload.old) (seen R.remaining payload.new) payload.old.place payload.new.place (held W.contents sink.old) (held W.contents sink.new))
+        (λ stop. RowStalls charset described (seen R.remaining payload.old) (seen R.remaining payload.new) payload.old.place (held W.contents sink.old) (held W.contents sink.new) sink.new.failed stop) }
+{
+    let mut walk = columns.walk();
+    let mut left = columns.count();
+    let mut index = 0;
+    while let Some(column) = walk.next() {
+        left -= 1;
+        if let Err(stop) = put_cell(payload, sink, &column.kind, index, left == 0) {
+            return Err(stop);
+        }
+        index += 1;
+    }
+    Ok(())
+}
