@@ -9,11 +9,8 @@ pub mod ScalarVectors
 pub mod SuccessLaws
 pub mod Utf8Vectors
 pub mod Vectors
-pub mod TypeBytes
-pub mod DescriptionSteps
 pub mod HeaderTexts
 pub mod TokenLaws
-pub mod Lifts
 pub mod TokenSteps
 pub mod TokenBytes
 pub mod RunSteps
@@ -28,3 +25,6 @@ pub mod Leading
 pub mod Answered
 pub mod Successes
 pub mod Peaks
+mod Emptied
+mod NameTexts
+mod DeviceFaults

@@ -1,8 +1,6 @@
 -- Tokens by their first bytes.
-use Rattle.std.proofs.Common.{◌≡◌, ◌∙◌, ◌⊎◌, inl, inr, ℕ, ◌+◌, ◌≤◌, ◌^◌, ◌-◌, Bool, true, false, List, [], ◌∷◌, ◌++◌, refl, sym, ap, subst, arith, length-append}
-use Rattle.std.specs.Prelude.{Option, Some, None, if◌then◌else◌}
-use Rattle.tds_values.specs.declared.kind.Kind.{Kind}
-use Rattle.tds_values.specs.declared.kind.Kind.TheVariants as kinds
+use Rattle.std.proofs.Common.{◌≡◌, ◌∙◌, ◌⊎◌, inl, inr, ℕ, ◌+◌, ◌<◌, ◌≤◌, ◌^◌, ◌-◌, Bool, true, false, List, [], ◌∷◌, ◌++◌, length, refl, sym, ap, subst, arith, length-append}
+use Rattle.std.specs.Prelude.{Some, None, if◌then◌else◌}
 use Rattle.tds_meter.specs.Space.{Space}
 use Rattle.tds_packet.specs.declared.fault.Fault.{Fault}
 use Rattle.tds_packet.specs.declared.fault.Fault.TheVariants.{MessageEnded, RefusedToken}
@@ -12,20 +10,21 @@ use Rattle.tds_packet.specs.Elements.{IsNext}
 use Rattle.tds_packet.specs.Seen.{Seen, Takes, Ends, IsBetween}
 use Rattle.tds_packet.specs.Reading.{Reads}
 use Rattle.tds_packet.proofs.ElementLaws.{Spelt-append}
+use Rattle.tds_columns.specs.View.{IsDescription, columns_of}
+use Rattle.tds_columns.proofs.ViewLaws.{description_shows}
 use Rattle.tds_csv.specs.Sinks.{Held}
 use Rattle.tds_csv.specs.Streaming.{PutsText}
 use Rattle.tds_rows.specs.declared.Charset.{Charset}
-use Rattle.tds_rows.specs.Cells.{ScalarBytes, cell_start, shape}
-use Rattle.tds_rows.specs.Rows.{InCell, row_start}
+use Rattle.tds_rows.specs.Rows.{row_start}
 use Rattle.tds_export.specs.declared.standing.Standing.{Standing}
-use Rattle.tds_export.specs.Tokens.{Token, described_after}
+use Rattle.tds_export.specs.Tokens.{Token, described_after, encoded_after}
 use Rattle.tds_export.specs.Built.{is_built}
-use Rattle.tds_export.specs.Reading.{InRow, Part, is_row_byte, response, row_byte_fault, start_of_row, text_so_far}
+use Rattle.tds_export.specs.Reading.{Part, is_row_byte, response, row_byte_fault, start_of_row, text_so_far}
 use Rattle.tds_rows.specs.Unbuilt.{ReadsUnbuilt, Stalls}
-use Rattle.tds_export.specs.Running.{Halts, IsDescribed, IsFixed, IsHolding, IsRefusal, ReadsToken, behind, in_done, in_metadata, in_row, length_of}
+use Rattle.tds_export.specs.Running.{Halts, IsDescribed, IsHolding, IsRefusal, ReadsToken, behind, in_done, in_metadata, in_row}
 use Rattle.tds_packet.proofs.Steps.{cut_at_once, reads_one, refused_at_once, takes_both}
 use Rattle.tds_rows.proofs.Stalls.{stalls_after, unbuilt_at_once}
-use Rattle.tds_export.proofs.TokenSteps.{same_text}
+use Rattle.tds_export.proofs.TokenSteps.{same_text, start_text}
 
 -- a token byte that is accepted
 pub record BeginsToken (charset : Charset) (room : ℕ) (tokens : List Token) (byte : ℕ) (to : Part) : Type 0 where
@@ -40,26 +39,18 @@ pub begins_done : (charset : Charset) (room : ℕ) (tokens : List Token) (byte :
 begins_done charset room tokens byte (inl e) = subst (λ b. BeginsToken charset room tokens b (in_done tokens)) (sym e) (record { next = record { some = omega arith; whole = refl; free = refl }; to_is = refl; text_is = refl })
 begins_done charset room tokens byte (inr e) = subst (λ b. BeginsToken charset room tokens b (in_done tokens)) (sym e) (record { next = record { some = omega arith; whole = refl; free = refl }; to_is = refl; text_is = refl })
 
--- the values of a kind of fixed length begin with their bytes
-fixed_start : (charset : Charset) (kind : Kind) → IsFixed kind → cell_start kind (shape charset kind) ≡ ScalarBytes kind (length_of kind)
-fixed_start charset kinds.Int1 h = refl
-fixed_start charset kinds.Int2 h = refl
-fixed_start charset kinds.Int4 h = refl
-fixed_start charset kinds.Int8 h = refl
-fixed_start charset kinds.Bit h = refl
-fixed_start charset kinds.Money4 h = refl
-fixed_start charset kinds.Money8 h = refl
-fixed_start charset kinds.DateTime4 h = refl
-fixed_start charset kinds.DateTime8 h = refl
-fixed_start charset kind h = cc
+-- a description has columns
+pub some_columns : (bytes : List ℕ) → IsDescription bytes → 0 < length (columns_of bytes)
+some_columns bytes d = subst (λ cs. 0 < length cs) (sym (description_shows d.0 d.1 bytes d.2).0) d.2.some
 
-pub begins_row : (charset : Charset) (room : ℕ) (tokens : List Token) (byte : ℕ) (column : Option Kind) (kind : Kind) → byte ≡ 0xD1 → column ≡ Some kind → IsFixed kind → IsDescribed column (described_after None tokens) → BeginsToken charset room tokens byte (in_row kind tokens)
-begins_row charset room tokens byte column kind e d fixed k =
-    let known = subst (λ b. IsDescribed b (described_after None tokens)) d k in
-    subst (λ b. BeginsToken charset room tokens b (in_row kind tokens)) (sym e) (record {
-      next = record { some = omega arith; whole = refl; free = ap (row_byte_fault true) known.1 };
-      to_is = ap (start_of_row tokens (row_start charset)) known.1 ∙ ap (λ part. record { tokens = tokens; at = InRow (InCell [] part []) }) (fixed_start charset kind fixed);
-      text_is = refl;
+pub begins_row : (charset : Charset) (room : ℕ) (tokens : List Token) (byte : ℕ) (described : Bool) (bytes : List ℕ) → byte ≡ 0xD1 → described ≡ true → bytes ≡ encoded_after [] tokens → 0 < length (columns_of bytes)
+    → IsDescribed described (encoded_after [] tokens) (described_after None tokens) → BeginsToken charset room tokens byte (in_row charset (columns_of bytes) tokens)
+begins_row charset room tokens byte described bytes e d is some k =
+    let known : described_after None tokens ≡ Some (columns_of bytes) = subst (λ b. IsDescribed b (encoded_after [] tokens) (described_after None tokens)) d k ∙ ap (λ l. Some (columns_of l)) (sym is) in
+    subst (λ b. BeginsToken charset room tokens b (in_row charset (columns_of bytes) tokens)) (sym e) (record {
+      next = record { some = omega arith; whole = refl; free = ap (row_byte_fault true) known };
+      to_is = ap (start_of_row tokens (row_start charset)) known;
+      text_is = sym (start_text charset (columns_of bytes) tokens some);
     })
 
 module _ (charset : Charset) (room : ℕ) (tokens : List Token) (byte : ℕ) (to : Part) (begins : BeginsToken charset room tokens byte to) where
@@ -121,26 +112,26 @@ module _ (charset : Charset) (room : ℕ) (tokens : List Token) (byte : ℕ) (to
 
 -- ---- a byte that begins no token, or one that isn't built
 
-refused : (charset : Charset) (room : ℕ) (tokens : List Token) (a b : Seen) (place byte : ℕ) (column : Option Kind) (fault : Fault) → IsDescribed column (described_after None tokens) → IsRefusal column byte fault → Takes a b (byte ∷ []) 1 → IsBetween b
+refused : (charset : Charset) (room : ℕ) (tokens : List Token) (a b : Seen) (place byte : ℕ) (described : Bool) (fault : Fault) → IsDescribed described (encoded_after [] tokens) (described_after None tokens) → IsRefusal described byte fault → Takes a b (byte ∷ []) 1 → IsBetween b
     → Stalls (response charset room) is_built (behind tokens) a b place (behind tokens) (record { fault = fault; place = Payload place })
-refused charset room tokens a b place byte column fault k (inl x) t between =
+refused charset room tokens a b place byte described fault k (inl x) t between =
     let first : (response charset room).fault (behind tokens) (byte ∷ []) ≡ Some fault = ap (λ v. if v then row_byte_fault (is_row_byte byte) (described_after None tokens) else Some (RefusedToken byte)) x.1 ∙ ap Some (sym x.0) in
     inl (refused_at_once (response charset room) (behind tokens) a b place (byte ∷ []) fault (omega arith) refl first t between)
-refused charset room tokens a b place byte column fault k (inr (inl x)) t between =
-    let none : described_after None tokens ≡ None = subst (λ d. IsDescribed d (described_after None tokens)) x.1 k in
+refused charset room tokens a b place byte described fault k (inr (inl x)) t between =
+    let none : described_after None tokens ≡ None = subst (λ d. IsDescribed d (encoded_after [] tokens) (described_after None tokens)) x.1 k in
     let first : (response charset room).fault (behind tokens) (byte ∷ []) ≡ Some fault = elim x.2 [
       | inl e ↦ subst (λ v. (response charset room).fault (behind tokens) (v ∷ []) ≡ Some fault) (sym e) (ap (row_byte_fault true) none ∙ ap Some (sym x.0))
       | inr e ↦ subst (λ v. (response charset room).fault (behind tokens) (v ∷ []) ≡ Some fault) (sym e) (ap (row_byte_fault true) none ∙ ap Some (sym x.0))
     ] in
     inl (refused_at_once (response charset room) (behind tokens) a b place (byte ∷ []) fault (omega arith) refl first t between)
-refused charset room tokens a b place byte column fault k (inr (inr x)) t between =
+refused charset room tokens a b place byte described fault k (inr (inr x)) t between =
     inr (subst (λ f. ReadsUnbuilt (response charset room) is_built (behind tokens) a b place (behind tokens) (record { fault = f; place = Payload place })) (sym x.0)
     (unbuilt_at_once (response charset room) is_built (behind tokens) a b place (byte ∷ []) (omega arith) refl x.1 t between))
 
-pub halts_at_byte : (charset : Charset) (room : ℕ) (tokens : List Token) (a b : Seen) (place byte : ℕ) (column : Option Kind) (fault : Fault) (h : Held) (area : Space) (failed : Bool) → h.delivered ≤ 2 ^ 64 - 1 → failed ≡ false → IsHolding area (behind tokens)
-    → IsDescribed column (described_after None tokens) → IsRefusal column byte fault → Takes a b (byte ∷ []) 1 → IsBetween b → Halts (response charset room) (behind tokens) a b place h h area failed (record { fault = fault; place = Payload place })
-halts_at_byte charset room tokens a b place byte column fault h area failed d going holds k why t between =
-    inl (record { at = behind tokens; stalls = refused charset room tokens a b place byte column fault k why t between; puts = same_text (behind tokens) (behind tokens) h refl d; holds = holds }, going)
+pub halts_at_byte : (charset : Charset) (room : ℕ) (tokens : List Token) (a b : Seen) (place byte : ℕ) (described : Bool) (fault : Fault) (h : Held) (area : Space) (failed : Bool) → h.delivered ≤ 2 ^ 64 - 1 → failed ≡ false → IsHolding area (behind tokens)
+    → IsDescribed described (encoded_after [] tokens) (described_after None tokens) → IsRefusal described byte fault → Takes a b (byte ∷ []) 1 → IsBetween b → Halts (response charset room) (behind tokens) a b place h h area failed (record { fault = fault; place = Payload place })
+halts_at_byte charset room tokens a b place byte described fault h area failed d going holds k why t between =
+    inl (record { at = behind tokens; stalls = refused charset room tokens a b place byte described fault k why t between; puts = same_text (behind tokens) (behind tokens) h refl d; holds = holds }, going)
 
 -- ---- the payload stopped between tokens
 

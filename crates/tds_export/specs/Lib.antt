@@ -3,7 +3,6 @@ pub mod Tokens
 pub mod Response
 pub mod Reading
 pub mod Completion
-pub mod Elements
 pub mod Joined
 pub mod Built
 pub mod Export

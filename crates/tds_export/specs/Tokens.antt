@@ -5,6 +5,7 @@ use Rattle.tds_csv.specs.Cutting.{whole_within}
 use Rattle.tds_csv.specs.Quoting.{line, line_end}
 use Rattle.tds_csv.specs.Utf16.{characters}
 use Rattle.tds_columns.specs.Description.{Column}
+use Rattle.tds_columns.specs.View.{columns_of}
 use Rattle.tds_rows.specs.Cells.{Cell, field}
 use Rattle.tds_export.specs.ReturnValue.{ReturnValue}
 
@@ -32,14 +33,26 @@ pub data Token : Type 0 where
   Done : Bool → Token
   DoneInProc : Bool → Token
 
+-- a column's name as a field
+abbrev pub name_field : Column → List ℕ
+name_field column = long_field Utf16Text column.name
+
 -- the header line of a set
 abbrev pub header_line : List Column → List ℕ
-header_line columns = line (map (λ c. long_field Utf16Text c.name) columns)
+header_line columns = line (map name_field columns)
+
+-- the fields of the names in a description
+abbrev pub names_of : List ℕ → List (List ℕ)
+names_of bytes = map name_field (columns_of bytes)
+
+-- a text where it is wanted
+abbrev pub text_if : Bool → List ℕ → List ℕ
+text_if true piece = piece
+text_if false piece = []
 
 -- the line between two sets
 abbrev pub between : Bool → List ℕ
-between false = []
-between true = line_end
+between begun = text_if begun line_end
 
 -- the text of tokens, where begun says whether a set has begun before them
 abbrev pub text_after : Bool → List Token → List ℕ

@@ -4,7 +4,7 @@ ghost use Rattle.tds_csv.specs.Sinks.{IsOnSameSink, IsReady, held};
 ghost use Rattle.tds_export.specs.Reading.{response, response_start};
 ghost use Rattle.tds_export.specs.Ended.{Exports, Given, StopsExport, Tells, Tidied};
 ghost use Rattle.tds_export.specs.Running.{Completes, RunStops, Tracks};
-ghost use Rattle.tds_meter.specs.Counts.{one_more};
+ghost use Rattle.tds_meter.specs.Counts.{Rose, one_more};
 ghost use Rattle.tds_meter.specs.Rooms.{is_intact, peak_rest};
 ghost use Rattle.tds_meter.specs.Space.{empty};
 ghost use Rattle.tds_packet.specs.Payloads.{IsOnSame, IsSound, seen};
@@ -23,6 +23,7 @@ fn run<R: Read, W: Write>(
     payload: &mut Payload<R>,
     sink: &mut Sink<W>,
     area: &mut Area,
+    charset: tds_rows::Charset,
     standing: &mut Standing,
 ) -> Result<(), Stop>
     requires sound { IsSound payload.old }
@@ -32,21 +33,21 @@ fn run<R: Read, W: Write>(
     requires room { 10 ≤ area.old.room }
     requires empty { area.old ≡ empty area.old.room }
     requires counted { standing.old.report.sets + standing.old.report.rows ≤ payload.old.place }
-    requires column { standing.old.column ≡ None }
+    requires described { standing.old.described ≡ false }
     requires tracks { Tracks standing.old [] }
     ensures same { IsOnSame payload.old payload.new }
     ensures ready { IsReady sink.new }
     ensures same_sink { IsOnSameSink sink.old sink.new }
     ensures room { area.new.room ≡ area.old.room }
     ensures peak { payload.new.packet.now.peak ≤ payload.new.packet.now.room }
-    ensures gives { (charset : Charset) → MatchResult result
+    ensures gives { MatchResult result
         (λ _. Completes (response charset area.old.room) response_start (seen R.remaining payload.old) (seen R.remaining payload.new)
         (held W.contents sink.old) (held W.contents sink.new) standing.new area.new)
         (λ stop. RunStops (response charset area.old.room) response_start (seen R.remaining payload.old) (seen R.remaining payload.new) payload.old.place
         (held W.contents sink.old) (held W.contents sink.new) area.new sink.new.failed stop) }
 {
     'tokens: loop {
-        match token(payload, sink, area, standing) {
+        match token(payload, sink, area, charset, standing) {
             Ok(true) => {}
             Ok(false) => break,
             Err(stop) => return Err(stop),
@@ -98,6 +99,8 @@ pub fn export<R: Read, W: Write>(
     ensures limits { areas.new.limits ≡ areas.old.limits }
     ensures restarts { areas.new.restarts ≡ one_more areas.old.restarts }
     ensures bound { peak_rest areas.new ≤ areas.old.limits.packet_size + 65536 + 4736 }
+    ensures failed_reads { IfErr result (λ stopped. stopped.fault ≡ Fault.ReadFailed → Rose from.old.failures from.new.failures) }
+    ensures failed_writes { IfErr result (λ stopped. stopped.fault ≡ Fault.WriteFailed → Rose to.old.failures to.new.failures) }
     ensures gives { let given : Given = record {
       charset = charset;
       limits = areas.old.limits;
@@ -140,6 +143,7 @@ pub fn export<R: Read, W: Write>(
         &mut payload,
         &mut sink,
         &mut areas.description,
+        charset,
         &mut standing,
     ) {
         Ok(()) => {

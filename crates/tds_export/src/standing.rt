@@ -1,23 +1,22 @@
 // What an export knows of the tokens that it has read.
-ghost use Rattle.std.specs.Prelude.{◌≡◌, [], None};
+ghost use Rattle.std.specs.Prelude.{◌≡◌, [], false};
 ghost use Rattle.tds_export.specs.Running.{Tracks};
 
 use crate::report::Report;
-use tds_values::Kind;
 
-/// What is known of the tokens read so far: the report, but for what was written; the kind of the
-/// column that is described, if one is; and whether the last token is a final DONE or DONEPROC.
+/// What is known of the tokens read so far: the report, but for what was written; whether columns
+/// are described; and whether the last token is a final DONE or DONEPROC.
 #[derive(Debug, Clone, Copy)]
 pub(crate) struct Standing {
     pub(crate) report: Report,
-    pub(crate) column: Option<Kind>,
+    pub(crate) described: bool,
     pub(crate) is_final: bool,
 }
 
 impl Standing {
     /// Before the first token.
     pub(crate) fn new() -> Standing
-        ensures column { result.column ≡ None }
+        ensures described { result.described ≡ false }
         ensures tracks { Tracks result [] }
     {
         Standing {
@@ -31,7 +30,7 @@ impl Standing {
                 written: 0,
                 return_values: 0,
             },
-            column: None,
+            described: false,
             is_final: false,
         }
     }

@@ -9,6 +9,7 @@ use tds_meter::{Areas, Limits};
 use tds_packet::rig::{Failing, RepeatingReader, ScriptedReader, ScriptedWriter};
 use tds_packet::{Counted, Fault, Place};
 
+mod columns;
 mod kinds;
 
 // A column of numbers named a, a row of 42, and a DONE, in one packet.

@@ -1,43 +1,41 @@
 // The tokens of a response.
 ghost use Rattle.std.specs.Prelude.{◌≡◌, ℕ, ◌+◌, ◌-◌, ◌^◌, ◌<◌, ◌≤◌, ◌∷◌, [], List, None, Some, false, true, is_ok, is_some, length, IfErr, IfOk, IfSome, MatchBool, MatchOption, MatchResult, OnOk, if◌then◌else◌};
+ghost use Rattle.tds_columns.specs.View.{IsDescription, columns_of};
 ghost use Rattle.tds_csv.specs.Sinks.{Held, IsOnSameSink, IsReady, held};
 ghost use Rattle.tds_export.specs.Reading.{response};
-ghost use Rattle.tds_export.specs.Running.{Halts, IsFixed, IsHolding, IsRefusal, IsOfKind, ReadsToken, Tracks, behind, in_done, in_metadata, in_row};
+ghost use Rattle.tds_export.specs.Running.{Halts, IsHolding, IsRefusal, IsOfKind, ReadsToken, Tracks, behind, in_done, in_metadata, in_row};
 ghost use Rattle.tds_export.specs.Tokens.{Token};
 ghost use Rattle.tds_meter.specs.Space.{Space};
 ghost use Rattle.tds_packet.specs.Payloads.{IsOnSame, IsSound, seen};
 ghost use Rattle.tds_packet.specs.Seen.{Ends, IsBetween, IsOver, Takes};
 ghost use Rattle.tds_rows.specs.declared.Charset.{Charset};
 
-use crate::description::{describe, name_in};
-use crate::row::put_line;
 use crate::set::put_header;
 use crate::standing::Standing;
 use std::io::{Read, Write};
+use tds_columns::{Columns, Described, gather};
 use tds_csv::Sink;
 use tds_meter::Area;
 use tds_packet::{Fault, Payload, Place, Stop};
-use tds_values::Kind;
+use tds_rows::Charset;
 
-/// The tokens that are built; a row with the kind of its column.
+/// The tokens that are built.
 #[derive(Debug, Clone, Copy)]
 enum TokenKind {
     Metadata,
-    Row(Kind),
+    Row,
     Done,
 }
 
 // The kind of a token by its first byte, or why it is none (MS-TDS, Token Data Stream Definition).
-fn judge(byte: u8, column: Option<Kind>) -> Result<TokenKind, Fault>
-    ensures { MatchResult result (IsOfKind column byte) (IsRefusal column byte) }
+fn judge(byte: u8, described: bool) -> Result<TokenKind, Fault>
+    ensures { MatchResult result (IsOfKind described byte) (IsRefusal described byte) }
 {
     match byte {
         0x81 => Ok(TokenKind::Metadata),
-        0xD1 => match column {
-            Some(kind) => Ok(TokenKind::Row(kind)),
-            None => Err(Fault::RowWithoutColumns),
-        },
-        0xD2 if column.is_none() => Err(Fault::RowWithoutColumns),
+        0xD1 if described => Ok(TokenKind::Row),
+        0xD1 => Err(Fault::RowWithoutColumns),
+        0xD2 if !described => Err(Fault::RowWithoutColumns),
         0xFD | 0xFE => Ok(TokenKind::Done),
         0xD2 | 0xA9 | 0xAA | 0xAB | 0xAC | 0xE3 | 0x79 | 0xFF => Err(Fault::NotYet),
         _ => Err(Fault::RefusedToken(byte)),
@@ -93,27 +91,28 @@ fn metadata<R: Read, W: Write>(
     ensures room { area.new.room ≡ area.old.room }
     ensures counts { standing.new.report.sets ≤ standing.old.report.sets + 1 }
     ensures rows { standing.new.report.rows ≡ standing.old.report.rows }
-    ensures fixed { OnOk result (IfSome standing.new.column (λ kind. IsFixed kind)) }
+    ensures described { OnOk result (standing.new.described ≡ true → IsDescription area.new.bytes) }
     ensures gives { (charset : Charset) (tokens : List Token) → Tracks standing.old tokens → IsHolding area.old (behind tokens) → MatchResult result
         (λ _. ReadsToken (response charset area.old.room) (in_metadata tokens) tokens (seen R.remaining payload.old) (seen R.remaining payload.new) payload.old.place payload.new.place
         (held W.contents sink.old) (held W.contents sink.new) standing.new area.new)
         (λ stop. Halts (response charset area.old.room) (in_metadata tokens) (seen R.remaining payload.old) (seen R.remaining payload.new) payload.old.place
         (held W.contents sink.old) (held W.contents sink.new) area.new sink.new.failed stop) }
 {
-    let kind = match describe(payload, area) {
-        Ok(Some(kind)) => kind,
-        Ok(None) => {
-            standing.column = None;
+    match gather(payload, area) {
+        Ok(Described::Columns(_)) => {}
+        Ok(Described::NoMetadata) => {
+            standing.described = false;
             standing.is_final = false;
             return Ok(());
         }
         Err(stop) => return Err(stop),
-    };
-    if let Err(stop) = put_header(sink, standing.report.sets > 0, name_in(area)) {
+    }
+    let columns = Columns::view(area.bytes());
+    if let Err(stop) = put_header(sink, standing.report.sets > 0, columns) {
         return Err(stop);
     }
     standing.report.sets += 1;
-    standing.column = Some(kind);
+    standing.described = true;
     standing.is_final = false;
     Ok(())
 }
@@ -122,14 +121,16 @@ fn metadata<R: Read, W: Write>(
 fn row<R: Read, W: Write>(
     payload: &mut Payload<R>,
     sink: &mut Sink<W>,
-    kind: &Kind,
+    area: &Area,
+    charset: Charset,
     standing: &mut Standing,
 ) -> Result<(), Stop>
     requires sound { IsSound payload.old }
     requires going { payload.old.stopped ≡ None }
     requires ready { IsReady sink.old }
     requires writing { sink.old.failed ≡ false }
-    requires fixed { IsFixed kind.now }
+    requires described { IsDescription area.now.bytes }
+    requires known { standing.old.described ≡ true }
     requires counted { standing.old.report.rows < 2 ^ 62 }
     ensures sound { IsSound payload.new }
     ensures same { IsOnSame payload.old payload.new }
@@ -140,14 +141,14 @@ fn row<R: Read, W: Write>(
     ensures writing { OnOk result (sink.new.failed ≡ false) }
     ensures counts { standing.new.report.rows ≤ standing.old.report.rows + 1 }
     ensures sets { standing.new.report.sets ≡ standing.old.report.sets }
-    ensures column { standing.new.column ≡ standing.old.column }
-    ensures gives { (charset : Charset) (room : ℕ) (area : Space) (tokens : List Token) → Tracks standing.old tokens → IsHolding area (behind tokens) → MatchResult result
-        (λ _. ReadsToken (response charset room) (in_row kind.now tokens) tokens (seen R.remaining payload.old) (seen R.remaining payload.new) payload.old.place payload.new.place
-        (held W.contents sink.old) (held W.contents sink.new) standing.new area)
-        (λ stop. Halts (response charset room) (in_row kind.now tokens) (seen R.remaining payload.old) (seen R.remaining payload.new) payload.old.place
-        (held W.contents sink.old) (held W.contents sink.new) area sink.new.failed stop) }
+    ensures described { standing.new.described ≡ standing.old.described }
+    ensures gives { let from = in_row charset (columns_of area.now.bytes) in (room : ℕ) (tokens : List Token) → Tracks standing.old tokens → IsHolding area.now (behind tokens) → MatchResult result
+        (λ _. ReadsToken (response charset room) (from tokens) tokens (seen R.remaining payload.old) (seen R.remaining payload.new) payload.old.place payload.new.place
+        (held W.contents sink.old) (held W.contents sink.new) standing.new area.now)
+        (λ stop. Halts (response charset room) (from tokens) (seen R.remaining payload.old) (seen R.remaining payload.new) payload.old.place
+        (held W.contents sink.old) (held W.contents sink.new) area.now sink.new.failed stop) }
 {
-    if let Err(stop) = put_line(payload, sink, kind) {
+    if let Err(stop) = tds_rows::row(payload, Columns::view(area.bytes()), charset, sink) {
         return Err(stop);
     }
     standing.report.rows += 1;
@@ -164,7 +165,7 @@ fn done<R: Read>(payload: &mut Payload<R>, standing: &mut Standing) -> Result<()
     ensures place { OnOk result (payload.old.place ≤ payload.new.place) }
     ensures going { OnOk result (payload.new.stopped ≡ None) }
     ensures counts { standing.new.report ≡ standing.old.report }
-    ensures column { standing.new.column ≡ standing.old.column }
+    ensures described { standing.new.described ≡ standing.old.described }
     ensures gives { (charset : Charset) (room : ℕ) (area : Space) (sink : Held) (tokens : List Token) → sink.delivered ≤ 2 ^ 64 - 1 → Tracks standing.old tokens → IsHolding area (behind tokens) → MatchResult result
         (λ _. ReadsToken (response charset room) (in_done tokens) tokens (seen R.remaining payload.old) (seen R.remaining payload.new) payload.old.place payload.new.place sink sink standing.new area)
         (λ stop. Halts (response charset room) (in_done tokens) (seen R.remaining payload.old) (seen R.remaining payload.new) payload.old.place sink sink area false stop) }
@@ -182,6 +183,7 @@ pub(crate) fn token<R: Read, W: Write>(
     payload: &mut Payload<R>,
     sink: &mut Sink<W>,
     area: &mut Area,
+    charset: Charset,
     standing: &mut Standing,
 ) -> Result<bool, Stop>
     requires sound { IsSound payload.old }
@@ -190,7 +192,7 @@ pub(crate) fn token<R: Read, W: Write>(
     requires writing { sink.old.failed ≡ false }
     requires room { 10 ≤ area.old.room }
     requires counted { standing.old.report.sets + standing.old.report.rows ≤ payload.old.place }
-    requires fixed { IfSome standing.old.column (λ kind. IsFixed kind) }
+    requires described { standing.old.described ≡ true → IsDescription area.old.bytes }
     ensures sound { IsSound payload.new }
     ensures same { IsOnSame payload.old payload.new }
     ensures going { OnOk result (payload.new.stopped ≡ None) }
@@ -200,8 +202,8 @@ pub(crate) fn token<R: Read, W: Write>(
     ensures room { area.new.room ≡ area.old.room }
     ensures counts { OnOk result (standing.new.report.sets + standing.new.report.rows ≤ payload.new.place) }
     ensures further { IfOk result (λ more. more ≡ true → payload.old.place < payload.new.place) }
-    ensures fixed { OnOk result (IfSome standing.new.column (λ kind. IsFixed kind)) }
-    ensures gives { (charset : Charset) (tokens : List Token) → Tracks standing.old tokens → IsHolding area.old (behind tokens) → MatchResult result
+    ensures described { OnOk result (standing.new.described ≡ true → IsDescription area.new.bytes) }
+    ensures gives { (tokens : List Token) → Tracks standing.old tokens → IsHolding area.old (behind tokens) → MatchResult result
         (λ more. MatchBool more
         (ReadsToken (response charset area.old.room) (behind tokens) tokens (seen R.remaining payload.old) (seen R.remaining payload.new) payload.old.place payload.new.place
         (held W.contents sink.old) (held W.contents sink.new) standing.new area.new)
@@ -215,12 +217,12 @@ pub(crate) fn token<R: Read, W: Write>(
         Err(stop) => return Err(stop),
     };
     let place = payload.place() - 1;
-    match judge(byte, standing.column) {
+    match judge(byte, standing.described) {
         Ok(TokenKind::Metadata) => match metadata(payload, sink, area, standing) {
             Ok(()) => Ok(true),
             Err(stop) => Err(stop),
         },
-        Ok(TokenKind::Row(kind)) => match row(payload, sink, &kind, standing) {
+        Ok(TokenKind::Row) => match row(payload, sink, area, charset, standing) {
             Ok(()) => Ok(true),
             Err(stop) => Err(stop),
         },

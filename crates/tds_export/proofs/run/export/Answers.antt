@@ -2,129 +2,96 @@ use Rattle.std.proofs.Common.{◌≡◌, ◌∙◌, refl, sym, ap, rules, arith,
 use Rattle.tds_packet.specs.Payloads.{seen}
 use Rattle.tds_packet.specs.Seen.{Seen, begun}
 use Rattle.tds_csv.specs.Sinks.{Held, fresh, held}
-use Rattle.tds_export.specs.Ended.{Given, begun_at, fresh_at}
+use Rattle.tds_export.specs.declared.report.Report.{Report}
+use Rattle.tds_export.specs.Ended.{Exports, Given, StopsExport, begun_at, fresh_at}
 use Rattle.tds_export.proofs.Answered.{report_tells, stop_tells}
 use Rattle.tds_export.proofs.Texts.{exports, stops_export}
+use Rattle.tds_export.proofs.DeviceFaults.{blamed}
+use Rattle.tds_export.proofs.Emptied.{description_room, packet_room}
+use Rattle.tds_export.proofs.run.export.Given.{Over}
 use Rattle.tds_export.proofs.run.export.Goals as goal
 
-pub returns-in-Ok-clause-gives : goal.returns-in-Ok-clause-gives
-returns-in-Ok-clause-gives g c =
-    let left = g.R.Read.remaining c.run.new.payload.from.now.device in
-    let has = g.W.Write.contents c.run.new.sink.to.now.device in
-    let given : Given = record {
-      charset = c.args.charset;
-      limits = c.args.areas.now.limits;
-      input = g.R.Read.remaining c.args.from.now.device;
-      left = left;
-      had = g.W.Write.contents c.args.to.now.device;
-      has = has;
-      waiting = c.run.new.sink.output.now.bytes;
-      notice = c.restart.new.self.notice.bytes;
-      description = c.run.new.area;
-      read_failures = c.run.new.payload.from.now.failures;
-      read_failures_before = c.args.from.now.failures;
-      write_failures = c.run.new.sink.to.now.failures;
-      write_failures_before = c.args.to.now.failures;
-    } in
-    let a = seen g.R.Read.remaining c.new-payload.result in
-    let h = held g.W.Write.contents c.new-sink.result in
-    let size : c.restart.new.self.packet.room ≡ c.args.areas.now.limits.packet_size = search rules in
-    let room : c.restart.new.self.description.room ≡ c.args.areas.now.limits.column_room = search rules in
-    let limit : c.max_wire-max_wire.result ≡ c.args.areas.now.limits.max_wire = search rules in
-    let begins : a ≡ begun_at given = c.new-payload.ensures.seen ∙ ap (λ n. begun n c.max_wire-max_wire.result given.input given.read_failures_before) size ∙ ap (λ n. begun given.limits.packet_size n given.input given.read_failures_before) limit in
-    let first : h ≡ fresh_at given = c.new-sink.ensures.held in
-    let all = exports given a (seen g.R.Read.remaining c.run.new.payload) h (held g.W.Write.contents c.run.new.sink) c.restart.new.self.description.room c.run.new.standing
-    (record c.run.new.standing.report { written = c.run.new.sink.delivered }) begins first room (record { left = refl; failures = refl }) (record { has = refl; waiting = refl; failures = refl }) (c.in-Ok.ensures.gives c.args.charset) refl in
-    grind (arith, all)
+-- ---- the answer is a report
 
-pub returns-in-Err-clause-gives : goal.returns-in-Err-clause-gives
-returns-in-Err-clause-gives g c =
-    let left = g.R.Read.remaining c.run.new.payload.from.now.device in
-    let has = g.W.Write.contents c.stop_at.new.sink.to.now.device in
-    let given : Given = record {
-      charset = c.args.charset;
-      limits = c.args.areas.now.limits;
-      input = g.R.Read.remaining c.args.from.now.device;
-      left = left;
-      had = g.W.Write.contents c.args.to.now.device;
-      has = has;
-      waiting = c.stop_at.new.sink.output.now.bytes;
-      notice = c.restart.new.self.notice.bytes;
-      description = c.run.new.area;
-      read_failures = c.run.new.payload.from.now.failures;
-      read_failures_before = c.args.from.now.failures;
-      write_failures = c.stop_at.new.sink.to.now.failures;
-      write_failures_before = c.args.to.now.failures;
-    } in
+abbrev reported : (g : Over) → goal.After-result-1 g → Given
+reported g c = record {
+  charset = c.args.charset;
+  limits = c.args.areas.now.limits;
+  input = g.R.Read.remaining c.args.from.now.device;
+  left = g.R.Read.remaining c.run.new.payload.from.now.device;
+  had = g.W.Write.contents c.args.to.now.device;
+  has = g.W.Write.contents c.run.new.sink.to.now.device;
+  waiting = c.run.new.sink.output.now.bytes;
+  notice = c.restart.new.self.notice.bytes;
+  description = c.run.new.area;
+  read_failures = c.run.new.payload.from.now.failures;
+  read_failures_before = c.args.from.now.failures;
+  write_failures = c.run.new.sink.to.now.failures;
+  write_failures_before = c.args.to.now.failures;
+}
+
+abbrev report_of_run : (g : Over) → goal.After-result-1 g → Report
+report_of_run g c = record c.run.new.standing.report { written = c.run.new.sink.delivered }
+
+all_read : (g : Over) (c : goal.After-result-1 g) → Exports (reported g c) (report_of_run g c)
+all_read g c =
+    let given = reported g c in
     let a = seen g.R.Read.remaining c.new-payload.result in
     let h = held g.W.Write.contents c.new-sink.result in
-    let size : c.restart.new.self.packet.room ≡ c.args.areas.now.limits.packet_size = search rules in
-    let room : c.restart.new.self.description.room ≡ c.args.areas.now.limits.column_room = search rules in
+    let size = packet_room c.args.areas.now c.restart.new.self c.requires.intact c.restart.ensures.emptied in
+    let room = description_room c.args.areas.now c.restart.new.self c.requires.intact c.restart.ensures.emptied in
     let limit : c.max_wire-max_wire.result ≡ c.args.areas.now.limits.max_wire = search rules in
     let begins : a ≡ begun_at given = c.new-payload.ensures.seen ∙ ap (λ n. begun n c.max_wire-max_wire.result given.input given.read_failures_before) size ∙ ap (λ n. begun given.limits.packet_size n given.input given.read_failures_before) limit in
     let first : h ≡ fresh_at given = c.new-sink.ensures.held in
-    let all = stops_export given a (seen g.R.Read.remaining c.run.new.payload) h (held g.W.Write.contents c.run.new.sink) (held g.W.Write.contents c.stop_at.new.sink) c.restart.new.self.description.room c.new-payload.result.place c.run.new.sink.failed c.in-Err.stop c.stop_at.result
-    begins first room c.new-payload.ensures.place (record { left = refl; failures = refl }) (record { has = refl; waiting = refl; failures = refl }) (c.in-Err.ensures.gives c.args.charset) c.stop_at.ensures.tidied (λ failed. ap (held g.W.Write.contents) (c.stop_at.ensures.failed failed)) c.stop_at.ensures.stop in
-    grind (arith, all)
+    exports given a (seen g.R.Read.remaining c.run.new.payload) h (held g.W.Write.contents c.run.new.sink) c.restart.new.self.description.room c.run.new.standing (report_of_run g c) begins first room
+    (record { left = refl; failures = refl }) (record { has = refl; waiting = refl; failures = refl }) (c.in-Ok.ensures.gives) refl
+
+pub returns-in-Ok-clause-gives : goal.returns-in-Ok-clause-gives
+returns-in-Ok-clause-gives g c = let all = all_read g c in grind (arith, all)
 
 pub returns-in-Ok-clause-tells : goal.returns-in-Ok-clause-tells
-returns-in-Ok-clause-tells g c =
-    let left = g.R.Read.remaining c.run.new.payload.from.now.device in
-    let has = g.W.Write.contents c.run.new.sink.to.now.device in
-    let given : Given = record {
-      charset = c.args.charset;
-      limits = c.args.areas.now.limits;
-      input = g.R.Read.remaining c.args.from.now.device;
-      left = left;
-      had = g.W.Write.contents c.args.to.now.device;
-      has = has;
-      waiting = c.run.new.sink.output.now.bytes;
-      notice = c.restart.new.self.notice.bytes;
-      description = c.run.new.area;
-      read_failures = c.run.new.payload.from.now.failures;
-      read_failures_before = c.args.from.now.failures;
-      write_failures = c.run.new.sink.to.now.failures;
-      write_failures_before = c.args.to.now.failures;
-    } in
+returns-in-Ok-clause-tells g c = let told = report_tells (reported g c) (report_of_run g c) (search rules) (all_read g c) in grind (arith, told)
+
+-- ---- the answer is a stop
+
+abbrev stopped : (g : Over) → goal.After-to-in-Err-1 g → Given
+stopped g c = record {
+  charset = c.args.charset;
+  limits = c.args.areas.now.limits;
+  input = g.R.Read.remaining c.args.from.now.device;
+  left = g.R.Read.remaining c.run.new.payload.from.now.device;
+  had = g.W.Write.contents c.args.to.now.device;
+  has = g.W.Write.contents c.stop_at.new.sink.to.now.device;
+  waiting = c.stop_at.new.sink.output.now.bytes;
+  notice = c.restart.new.self.notice.bytes;
+  description = c.run.new.area;
+  read_failures = c.run.new.payload.from.now.failures;
+  read_failures_before = c.args.from.now.failures;
+  write_failures = c.stop_at.new.sink.to.now.failures;
+  write_failures_before = c.args.to.now.failures;
+}
+
+read_so_far : (g : Over) (c : goal.After-to-in-Err-1 g) → StopsExport (stopped g c) c.stop_at.result
+read_so_far g c =
+    let given = stopped g c in
     let a = seen g.R.Read.remaining c.new-payload.result in
     let h = held g.W.Write.contents c.new-sink.result in
-    let size : c.restart.new.self.packet.room ≡ c.args.areas.now.limits.packet_size = search rules in
-    let room : c.restart.new.self.description.room ≡ c.args.areas.now.limits.column_room = search rules in
+    let size = packet_room c.args.areas.now c.restart.new.self c.requires.intact c.restart.ensures.emptied in
+    let room = description_room c.args.areas.now c.restart.new.self c.requires.intact c.restart.ensures.emptied in
     let limit : c.max_wire-max_wire.result ≡ c.args.areas.now.limits.max_wire = search rules in
     let begins : a ≡ begun_at given = c.new-payload.ensures.seen ∙ ap (λ n. begun n c.max_wire-max_wire.result given.input given.read_failures_before) size ∙ ap (λ n. begun given.limits.packet_size n given.input given.read_failures_before) limit in
     let first : h ≡ fresh_at given = c.new-sink.ensures.held in
-    let all = exports given a (seen g.R.Read.remaining c.run.new.payload) h (held g.W.Write.contents c.run.new.sink) c.restart.new.self.description.room c.run.new.standing
-    (record c.run.new.standing.report { written = c.run.new.sink.delivered }) begins first room (record { left = refl; failures = refl }) (record { has = refl; waiting = refl; failures = refl }) (c.in-Ok.ensures.gives c.args.charset) refl in
-    let told = report_tells given (record c.run.new.standing.report { written = c.run.new.sink.delivered }) (search rules) all in
-    grind (arith, told)
+    stops_export given a (seen g.R.Read.remaining c.run.new.payload) h (held g.W.Write.contents c.run.new.sink) (held g.W.Write.contents c.stop_at.new.sink) c.restart.new.self.description.room c.new-payload.result.place c.run.new.sink.failed c.in-Err.stop c.stop_at.result
+    begins first room c.new-payload.ensures.place (record { left = refl; failures = refl }) (record { has = refl; waiting = refl; failures = refl }) (c.in-Err.ensures.gives) c.stop_at.ensures.tidied (λ failed. ap (held g.W.Write.contents) (c.stop_at.ensures.failed failed)) c.stop_at.ensures.stop
+
+pub returns-in-Err-clause-gives : goal.returns-in-Err-clause-gives
+returns-in-Err-clause-gives g c = let all = read_so_far g c in grind (arith, all)
 
 pub returns-in-Err-clause-tells : goal.returns-in-Err-clause-tells
-returns-in-Err-clause-tells g c =
-    let left = g.R.Read.remaining c.run.new.payload.from.now.device in
-    let has = g.W.Write.contents c.stop_at.new.sink.to.now.device in
-    let given : Given = record {
-      charset = c.args.charset;
-      limits = c.args.areas.now.limits;
-      input = g.R.Read.remaining c.args.from.now.device;
-      left = left;
-      had = g.W.Write.contents c.args.to.now.device;
-      has = has;
-      waiting = c.stop_at.new.sink.output.now.bytes;
-      notice = c.restart.new.self.notice.bytes;
-      description = c.run.new.area;
-      read_failures = c.run.new.payload.from.now.failures;
-      read_failures_before = c.args.from.now.failures;
-      write_failures = c.stop_at.new.sink.to.now.failures;
-      write_failures_before = c.args.to.now.failures;
-    } in
-    let a = seen g.R.Read.remaining c.new-payload.result in
-    let h = held g.W.Write.contents c.new-sink.result in
-    let size : c.restart.new.self.packet.room ≡ c.args.areas.now.limits.packet_size = search rules in
-    let room : c.restart.new.self.description.room ≡ c.args.areas.now.limits.column_room = search rules in
-    let limit : c.max_wire-max_wire.result ≡ c.args.areas.now.limits.max_wire = search rules in
-    let begins : a ≡ begun_at given = c.new-payload.ensures.seen ∙ ap (λ n. begun n c.max_wire-max_wire.result given.input given.read_failures_before) size ∙ ap (λ n. begun given.limits.packet_size n given.input given.read_failures_before) limit in
-    let first : h ≡ fresh_at given = c.new-sink.ensures.held in
-    let all = stops_export given a (seen g.R.Read.remaining c.run.new.payload) h (held g.W.Write.contents c.run.new.sink) (held g.W.Write.contents c.stop_at.new.sink) c.restart.new.self.description.room c.new-payload.result.place c.run.new.sink.failed c.in-Err.stop c.stop_at.result
-    begins first room c.new-payload.ensures.place (record { left = refl; failures = refl }) (record { has = refl; waiting = refl; failures = refl }) (c.in-Err.ensures.gives c.args.charset) c.stop_at.ensures.tidied (λ failed. ap (held g.W.Write.contents) (c.stop_at.ensures.failed failed)) c.stop_at.ensures.stop in
-    let told = stop_tells given c.stop_at.result (search rules) all in
-    grind (arith, told)
+returns-in-Err-clause-tells g c = let told = stop_tells (stopped g c) c.stop_at.result (search rules) (read_so_far g c) in grind (arith, told)
+
+pub returns-in-Err-clause-failed_reads : goal.returns-in-Err-clause-failed_reads
+returns-in-Err-clause-failed_reads g c = λ e. let r = (blamed (stopped g c) c.stop_at.result (read_so_far g c)).0 e in grind (arith, r)
+
+pub returns-in-Err-clause-failed_writes : goal.returns-in-Err-clause-failed_writes
+returns-in-Err-clause-failed_writes g c = λ e. let r = (blamed (stopped g c) c.stop_at.result (read_so_far g c)).1 e in grind (arith, r)

@@ -1,10 +1,8 @@
-use Rattle.std.proofs.Common.{◌≡◌, ◌-◌, ◌+◌, ◌≤◌, None, false}
-use Rattle.std.specs.Prelude.{IfSome}
+use Rattle.std.proofs.Common.{◌≡◌, ◌-◌, ◌+◌, ◌≤◌, None, true, false}
 use Rattle.tds_packet.specs.Payloads.{IsOnSame, IsSound, seen}
 use Rattle.tds_csv.specs.Sinks.{IsOnSameSink, IsReady, held}
-use Rattle.tds_rows.specs.declared.Charset.{Charset}
+use Rattle.tds_columns.specs.View.{IsDescription}
 use Rattle.tds_export.specs.Reading.{response}
-use Rattle.tds_export.specs.Running.{IsFixed}
 use Rattle.tds_export.proofs.RunSteps.{Runs}
 use Rattle.tds_export.proofs.run.run.Given as goal
 
@@ -18,8 +16,8 @@ invariant-tokens g l = record {
   same_sink : IsOnSameSink l.initial.sink l.sink;
   room : l.area.room ≡ l.initial.area.room;
   counted : l.standing.report.sets + l.standing.report.rows ≤ l.payload.place;
-  fixed : IfSome l.standing.column (λ kind. IsFixed kind);
-  runs : (charset : Charset) → Runs (response charset l.initial.area.room) (seen g.R.Read.remaining l.initial.payload) (seen g.R.Read.remaining l.payload) l.initial.payload.place l.payload.place
+  described : l.standing.described ≡ true → IsDescription l.area.bytes;
+  runs : Runs (response l.charset l.initial.area.room) (seen g.R.Read.remaining l.initial.payload) (seen g.R.Read.remaining l.payload) l.initial.payload.place l.payload.place
       (held g.W.Write.contents l.initial.sink) (held g.W.Write.contents l.sink) l.standing l.area;
 }
 

@@ -1,15 +1,32 @@
+use Rattle.std.proofs.Common.{◌≡◌, ◌∙◌, ap, subst}
+use Rattle.tds_columns.specs.View.{columns_of}
 use Rattle.tds_packet.specs.Payloads.{seen}
 use Rattle.tds_csv.specs.Sinks.{held}
+use Rattle.tds_rows.specs.Streams.{ReadsRow, RowStalls}
 use Rattle.tds_export.proofs.TokenSteps.{row_halts, row_reads}
 use Rattle.tds_export.proofs.tokens.row.Goals as goal
 
 pub returns-in-Err-clause-gives : goal.returns-in-Err-clause-gives
-returns-in-Err-clause-gives g c = λ charset room area tokens tracks holds.
-    row_halts charset room c.args.kind.now area (held g.W.Write.contents c.args.sink.now) (held g.W.Write.contents c.put_line.new.sink) tokens (seen g.R.Read.remaining c.args.payload.now) (seen g.R.Read.remaining c.put_line.new.payload) c.args.payload.now.place
-    c.put_line.new.sink.failed c.in-Err.stop c.requires.fixed holds c.requires.ready.2 (c.requires.ready.1 c.requires.writing) c.in-Err.ensures.gives
+returns-in-Err-clause-gives g c = λ room tokens tracks holds.
+    let charset = c.args.charset in
+    let a = seen g.R.Read.remaining c.args.payload.now in
+    let b = seen g.R.Read.remaining c.row.new.payload in
+    let h = held g.W.Write.contents c.args.sink.now in
+    let k = held g.W.Write.contents c.row.new.sink in
+    let place = c.args.payload.now.place in
+    let failed = c.row.new.sink.failed in
+    let stop = c.in-Err.stop in
+    let is = ap columns_of (c.view.ensures ∙ c.bytes.ensures.value) in
+    row_halts charset room (columns_of c.args.area.now.bytes) c.args.area.now h k tokens a b place failed stop holds (subst (λ cs. RowStalls charset cs a b place h k failed stop) is c.in-Err.ensures.gives)
 
 pub returns-clause-gives : goal.returns-clause-gives
-returns-clause-gives g c = λ charset room area tokens tracks holds.
-    let x = c.in_default.ensures.gives in
-    row_reads charset room c.args.kind.now area (held g.W.Write.contents c.args.sink.now) (held g.W.Write.contents c.put_line.new.sink) tokens c.args.standing.now x.text (seen g.R.Read.remaining c.args.payload.now) (seen g.R.Read.remaining c.put_line.new.payload)
-    c.args.payload.now.place c.put_line.new.payload.place c.requires.fixed tracks holds x.reads x.puts
+returns-clause-gives g c = λ room tokens tracks holds.
+    let charset = c.args.charset in
+    let a = seen g.R.Read.remaining c.args.payload.now in
+    let b = seen g.R.Read.remaining c.row.new.payload in
+    let h = held g.W.Write.contents c.args.sink.now in
+    let k = held g.W.Write.contents c.row.new.sink in
+    let place = c.args.payload.now.place in
+    let place' = c.row.new.payload.place in
+    let is = ap columns_of (c.view.ensures ∙ c.bytes.ensures.value) in
+    row_reads charset room (columns_of c.args.area.now.bytes) c.args.area.now h k tokens c.args.standing.now a b place place' tracks holds (subst (λ cs. ReadsRow charset cs a b place place' h k) is c.in_default.ensures.gives)

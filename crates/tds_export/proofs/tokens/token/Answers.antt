@@ -1,20 +1,22 @@
 use Rattle.std.proofs.Common.{◌≡◌, ◌-◌, false, sym, subst, arith}
-use Rattle.std.specs.Prelude.{IfSome}
 use Rattle.tds_packet.specs.declared.fault.Place.TheVariants.{Payload}
 use Rattle.tds_packet.specs.Payloads.{seen}
+use Rattle.tds_columns.specs.View.{columns_of}
 use Rattle.tds_csv.specs.Sinks.{held}
 use Rattle.tds_export.specs.Reading.{response}
-use Rattle.tds_export.specs.Running.{Halts, IsFixed, behind, in_done, in_metadata, in_row}
-use Rattle.tds_export.proofs.TokenBytes.{begins_done, begins_metadata, begins_row, halts_at_byte, halts_behind_byte, halts_between, reads_behind_byte}
+use Rattle.tds_export.specs.Running.{Halts, behind, in_done, in_metadata, in_row}
+use Rattle.tds_export.proofs.TokenBytes.{begins_done, begins_metadata, begins_row, halts_at_byte, halts_behind_byte, halts_between, reads_behind_byte, some_columns}
 use Rattle.tds_export.proofs.tokens.token.Goals as goal
 
 pub returns-in-Err-clause-gives : goal.returns-in-Err-clause-gives
-returns-in-Err-clause-gives g c = λ charset tokens tracks holds.
+returns-in-Err-clause-gives g c = λ tokens tracks holds.
+    let charset = c.args.charset in
     halts_between charset c.args.area.now.room tokens (seen g.R.Read.remaining c.args.payload.now) (seen g.R.Read.remaining c.next_byte.new.payload) c.args.payload.now.place c.in-Err.stop (held g.W.Write.contents c.args.sink.now) c.args.area.now c.args.sink.now.failed
     c.requires.ready.2 c.requires.writing holds c.in-Err.ensures.gives.0 c.in-Err.ensures.gives.1
 
 pub returns-in-Ok-clause-gives : goal.returns-in-Ok-clause-gives
-returns-in-Ok-clause-gives g c = λ charset tokens tracks holds.
+returns-in-Ok-clause-gives g c = λ tokens tracks holds.
+    let charset = c.args.charset in
     let byte = c.in-Ok-Some.byte in
     let kind = rw c.in-Ok-Metadata.field-0-is at c.in-Ok-Metadata.ensures in
     let takes = rw c.in-Ok-Some.field-0-is at c.in-Ok-Some.ensures.gives in
@@ -24,7 +26,8 @@ returns-in-Ok-clause-gives g c = λ charset tokens tracks holds.
     (held g.W.Write.contents c.args.sink.now) (held g.W.Write.contents c.metadata.new.sink) c.metadata.new.standing c.metadata.new.area takes place (c.in-Ok.ensures.gives charset tokens tracks holds)
 
 pub returns-in-Err-metadata-clause-gives : goal.returns-in-Err-metadata-clause-gives
-returns-in-Err-metadata-clause-gives g c = λ charset tokens tracks holds.
+returns-in-Err-metadata-clause-gives g c = λ tokens tracks holds.
+    let charset = c.args.charset in
     let byte = c.in-Ok-Some.byte in
     let kind = rw c.in-Ok-Metadata.field-0-is at c.in-Ok-Metadata.ensures in
     let takes = rw c.in-Ok-Some.field-0-is at c.in-Ok-Some.ensures.gives in
@@ -34,29 +37,32 @@ returns-in-Err-metadata-clause-gives g c = λ charset tokens tracks holds.
     (held g.W.Write.contents c.args.sink.now) (held g.W.Write.contents c.metadata.new.sink) c.metadata.new.area c.metadata.new.sink.failed c.in-Err-metadata.stop takes place (c.in-Err-metadata.ensures.gives charset tokens tracks holds)
 
 pub returns-in-Ok-row-clause-gives : goal.returns-in-Ok-row-clause-gives
-returns-in-Ok-row-clause-gives g c = λ charset tokens tracks holds.
+returns-in-Ok-row-clause-gives g c = λ tokens tracks holds.
+    let charset = c.args.charset in
     let byte = c.in-Ok-Some.byte in
     let is = rw c.in-Ok-Row.field-0-is at c.in-Ok-Row.ensures in
-    let kind = c.in-Ok-Row.kind in
+    let columns = columns_of c.args.area.now.bytes in
     let takes = rw c.in-Ok-Some.field-0-is at c.in-Ok-Some.ensures.gives in
     let place = rw c.in-Ok-Some.field-0-is at c.in-Ok-Some.ensures.place in
-    reads_behind_byte charset c.args.area.now.room tokens byte (in_row kind tokens) (begins_row charset c.args.area.now.room tokens byte c.args.standing.now.column kind is.0 is.1 (subst (λ o. IfSome o (λ k. IsFixed k)) is.1 c.requires.fixed) tracks.described)
+    reads_behind_byte charset c.args.area.now.room tokens byte (in_row charset columns tokens) (begins_row charset c.args.area.now.room tokens byte c.args.standing.now.described c.args.area.now.bytes is.0 is.1 holds.bytes (some_columns c.args.area.now.bytes (c.requires.described is.1)) tracks.described)
     (seen g.R.Read.remaining c.args.payload.now) (seen g.R.Read.remaining c.next_byte.new.payload) (seen g.R.Read.remaining c.row.new.payload) c.args.payload.now.place c.next_byte.new.payload.place c.row.new.payload.place
-    (held g.W.Write.contents c.args.sink.now) (held g.W.Write.contents c.row.new.sink) c.row.new.standing c.args.area.now takes place (c.in-Ok-row.ensures.gives charset c.args.area.now.room c.args.area.now tokens tracks holds)
+    (held g.W.Write.contents c.args.sink.now) (held g.W.Write.contents c.row.new.sink) c.row.new.standing c.args.area.now takes place (c.in-Ok-row.ensures.gives c.args.area.now.room tokens tracks holds)
 
 pub returns-in-Err-row-clause-gives : goal.returns-in-Err-row-clause-gives
-returns-in-Err-row-clause-gives g c = λ charset tokens tracks holds.
+returns-in-Err-row-clause-gives g c = λ tokens tracks holds.
+    let charset = c.args.charset in
     let byte = c.in-Ok-Some.byte in
     let is = rw c.in-Ok-Row.field-0-is at c.in-Ok-Row.ensures in
-    let kind = c.in-Ok-Row.kind in
+    let columns = columns_of c.args.area.now.bytes in
     let takes = rw c.in-Ok-Some.field-0-is at c.in-Ok-Some.ensures.gives in
     let place = rw c.in-Ok-Some.field-0-is at c.in-Ok-Some.ensures.place in
-    halts_behind_byte charset c.args.area.now.room tokens byte (in_row kind tokens) (begins_row charset c.args.area.now.room tokens byte c.args.standing.now.column kind is.0 is.1 (subst (λ o. IfSome o (λ k. IsFixed k)) is.1 c.requires.fixed) tracks.described)
+    halts_behind_byte charset c.args.area.now.room tokens byte (in_row charset columns tokens) (begins_row charset c.args.area.now.room tokens byte c.args.standing.now.described c.args.area.now.bytes is.0 is.1 holds.bytes (some_columns c.args.area.now.bytes (c.requires.described is.1)) tracks.described)
     (seen g.R.Read.remaining c.args.payload.now) (seen g.R.Read.remaining c.next_byte.new.payload) (seen g.R.Read.remaining c.row.new.payload) c.args.payload.now.place c.next_byte.new.payload.place
-    (held g.W.Write.contents c.args.sink.now) (held g.W.Write.contents c.row.new.sink) c.args.area.now c.row.new.sink.failed c.in-Err-row.stop takes place (c.in-Err-row.ensures.gives charset c.args.area.now.room c.args.area.now tokens tracks holds)
+    (held g.W.Write.contents c.args.sink.now) (held g.W.Write.contents c.row.new.sink) c.args.area.now c.row.new.sink.failed c.in-Err-row.stop takes place (c.in-Err-row.ensures.gives c.args.area.now.room tokens tracks holds)
 
 pub returns-in-Ok-done-clause-gives : goal.returns-in-Ok-done-clause-gives
-returns-in-Ok-done-clause-gives g c = λ charset tokens tracks holds.
+returns-in-Ok-done-clause-gives g c = λ tokens tracks holds.
+    let charset = c.args.charset in
     let byte = c.in-Ok-Some.byte in
     let kind = rw c.in-Ok-Done.field-0-is at c.in-Ok-Done.ensures in
     let h = held g.W.Write.contents c.args.sink.now in
@@ -67,7 +73,8 @@ returns-in-Ok-done-clause-gives g c = λ charset tokens tracks holds.
     h h c.done.new.standing c.args.area.now takes place (c.in-Ok-done.ensures.gives charset c.args.area.now.room c.args.area.now h tokens c.requires.ready.2 tracks holds)
 
 pub returns-in-Err-done-clause-gives : goal.returns-in-Err-done-clause-gives
-returns-in-Err-done-clause-gives g c = λ charset tokens tracks holds.
+returns-in-Err-done-clause-gives g c = λ tokens tracks holds.
+    let charset = c.args.charset in
     let byte = c.in-Ok-Some.byte in
     let kind = rw c.in-Ok-Done.field-0-is at c.in-Ok-Done.ensures in
     let h = held g.W.Write.contents c.args.sink.now in
@@ -79,12 +86,13 @@ returns-in-Err-done-clause-gives g c = λ charset tokens tracks holds.
     h h c.args.area.now false c.in-Err-done.stop takes place (c.in-Err-done.ensures.gives charset c.args.area.now.room c.args.area.now h tokens c.requires.ready.2 tracks holds))
 
 pub returns-in-Err-judge-clause-gives : goal.returns-in-Err-judge-clause-gives
-returns-in-Err-judge-clause-gives g c = λ charset tokens tracks holds.
+returns-in-Err-judge-clause-gives g c = λ tokens tracks holds.
+    let charset = c.args.charset in
     let byte = c.in-Ok-Some.byte in
     let h = held g.W.Write.contents c.args.sink.now in
     let takes = rw c.in-Ok-Some.field-0-is at c.in-Ok-Some.ensures.gives in
     let place = rw c.in-Ok-Some.field-0-is at c.in-Ok-Some.ensures.place in
     let at : c.args.payload.now.place ≡ c.place-place.result - 1 = omega (arith, place, c.place-place.ensures) in
     subst (λ n. Halts (response charset c.args.area.now.room) (behind tokens) (seen g.R.Read.remaining c.args.payload.now) (seen g.R.Read.remaining c.next_byte.new.payload) c.args.payload.now.place h h c.args.area.now c.args.sink.now.failed (record { fault = c.in-Err-judge.fault; place = Payload n })) at
-    (halts_at_byte charset c.args.area.now.room tokens (seen g.R.Read.remaining c.args.payload.now) (seen g.R.Read.remaining c.next_byte.new.payload) c.args.payload.now.place byte c.args.standing.now.column c.in-Err-judge.fault h c.args.area.now c.args.sink.now.failed
+    (halts_at_byte charset c.args.area.now.room tokens (seen g.R.Read.remaining c.args.payload.now) (seen g.R.Read.remaining c.next_byte.new.payload) c.args.payload.now.place byte c.args.standing.now.described c.in-Err-judge.fault h c.args.area.now c.args.sink.now.failed
     c.requires.ready.2 c.requires.writing holds tracks.described c.in-Err-judge.ensures takes c.in-Ok-Some.ensures.between)

@@ -1,0 +1,137 @@
+-- Where an export stops with the fault of a device, the device's count of failures rose.
+use Rattle.std.proofs.Common.{◌≡◌, ◌∙◌, ◌⊎◌, inl, inr, ℕ, zero, suc, ◌+◌, ◌-◌, Bool, true, false, List, [], ◌++◌, length, take, drop, refl, sym, ap, subst}
+use Rattle.std.specs.Prelude.{Option, Some, None, ⊤, ◌==◌, ◌||◌, nat_lt, slice_index, if◌then◌else◌}
+use Rattle.tds_meter.specs.Counts.{Rose, one_more}
+use Rattle.tds_packet.specs.declared.fault.Fault.{Fault}
+use Rattle.tds_packet.specs.declared.fault.Fault.TheVariants.{MessageEnded, NotYet, ReadFailed, WriteFailed, WrongPacketType, BadPacketLength, ResponseTooLong, InputEnded}
+use Rattle.tds_packet.specs.declared.fault.Stop.{Stop}
+use Rattle.tds_packet.specs.Packets.{header_fault, header_length}
+use Rattle.tds_packet.specs.Coming.{Coming, FrontPacket, NoPacket, WholePacket, behind_header, behind_packet, front_packet, message, whole_message}
+use Rattle.tds_packet.specs.Seen.{Seen, Ends, begun}
+use Rattle.tds_packet.specs.Reading.{StopsReading}
+use Rattle.tds_csv.specs.Sinks.{Breaks, Held}
+use Rattle.tds_rows.specs.declared.Charset.{Charset}
+use Rattle.tds_rows.specs.Unbuilt.{Stalls}
+use Rattle.tds_export.specs.declared.report.Stopped.{Stopped}
+use Rattle.tds_export.specs.Built.{is_built}
+use Rattle.tds_export.specs.Ended.{Given, StopsExport, begun_at, fresh_at}
+use Rattle.tds_export.specs.Reading.{Part, response, response_start}
+use Rattle.tds_export.specs.Running.{Halts, RunStops}
+use Rattle.tds_export.proofs.PayloadFaults.{IsOfPayload, element_fault, end_fault}
+use Rattle.tds_export.proofs.Texts.{rose}
+
+-- a fault that the wire or the end of a message may have
+abbrev IsOfWire : Fault → Type 0
+IsOfWire ReadFailed = ⊥
+IsOfWire WriteFailed = ⊥
+IsOfWire fault = ⊤
+
+abbrev AtMostOfWire : Option Fault → Type 0
+AtMostOfWire None = ⊤
+AtMostOfWire (Some fault) = IsOfWire fault
+
+abbrev FrontOfWire : FrontPacket → Type 0
+FrontOfWire (WholePacket body last n rest) = ⊤
+FrontOfWire (NoPacket fault rest) = IsOfWire fault
+
+judged : (a b c : Bool) (n kind : ℕ) → AtMostOfWire (if a then (if b then Some (BadPacketLength n) else if c then Some ResponseTooLong else None) else Some (WrongPacketType kind))
+judged true true c n kind = tt
+judged true false true n kind = tt
+judged true false false n kind = tt
+judged false b c n kind = tt
+
+header_of_wire : (size limit wire : ℕ) (header : List ℕ) → AtMostOfWire (header_fault size limit wire header)
+header_of_wire size limit wire header = judged (slice_index header 0 == 4) (nat_lt (header_length header) 8 || nat_lt size (header_length header)) (nat_lt limit (wire + header_length header)) (header_length header) (slice_index header 0)
+
+body_of_wire : (short : Bool) (body : List ℕ) (last : Bool) (n : ℕ) (rest : List ℕ) → FrontOfWire (if short then NoPacket InputEnded [] else WholePacket body last n rest)
+body_of_wire true body last n rest = tt
+body_of_wire false body last n rest = tt
+
+behind_of_wire : (header rest : List ℕ) (fault : Option Fault) → AtMostOfWire fault → FrontOfWire (behind_header header rest fault)
+behind_of_wire header rest (Some fault) h = h
+behind_of_wire header rest None h = body_of_wire (nat_lt (length rest) (header_length header - 8)) _ _ _ _
+
+if_front : (short : Bool) (p : FrontPacket) → FrontOfWire p → FrontOfWire (if short then NoPacket InputEnded [] else p)
+if_front true p h = tt
+if_front false p h = h
+
+front_of_wire : (size limit wire : ℕ) (input : List ℕ) → FrontOfWire (front_packet size limit wire input)
+unfolding front_packet
+front_of_wire size limit wire input =
+    if_front (nat_lt (length input) 8) (behind_header (take 8 input) (drop 8 input) (header_fault size limit wire (take 8 input))) (behind_of_wire (take 8 input) (drop 8 input) (header_fault size limit wire (take 8 input)) (header_of_wire size limit wire (take 8 input)))
+
+packet_of_wire : (more : ℕ → ℕ → List ℕ → Coming) (wire place : ℕ) (p : FrontPacket) → FrontOfWire p → ((w q : ℕ) (l : List ℕ) → IsOfWire (more w q l).stop.fault) → IsOfWire (behind_packet more wire place p).stop.fault
+packet_of_wire more wire place (WholePacket body true n rest) h next = tt
+packet_of_wire more wire place (WholePacket body false n rest) h next = next (wire + n) (place + length body) rest
+packet_of_wire more wire place (NoPacket fault rest) h next = h
+
+message_of_wire : (size limit fuel wire place : ℕ) (input : List ℕ) → IsOfWire (message size limit fuel wire place input).stop.fault
+unfolding message
+message_of_wire size limit zero wire place input = tt
+message_of_wire size limit (suc fuel) wire place input = packet_of_wire (message size limit fuel) wire place (front_packet size limit wire input) (front_of_wire size limit wire input) (message_of_wire size limit fuel)
+
+-- ---- a payload that has just begun
+
+ends_of_wire : (size limit failures : ℕ) (left : Option (List ℕ)) (b : Seen) (bytes : List ℕ) (own : Stop) → Ends (begun size limit left failures) b bytes own → IsOfWire own.fault ⊎ ((own.fault ≡ ReadFailed) × (b.failures ≡ one_more failures))
+ends_of_wire size limit failures left b bytes own (inl x) =
+    inl (subst IsOfWire (ap (λ (c : Coming). c.stop.fault) (x.0.2 [])) (message_of_wire size limit _ 0 0 (x.0.0 ++ [])))
+ends_of_wire size limit failures left b bytes own (inr (inl x)) = inl (subst IsOfWire (ap (λ (c : Coming). c.stop.fault) x.0.3) (message_of_wire size limit _ 0 0 x.0.0))
+ends_of_wire size limit failures left b bytes own (inr (inr x)) = inr (ap (λ (s : Stop). s.fault) x.0.3, x.1)
+
+-- what stops the reading of a response
+abbrev ReadingFault : ℕ → ℕ → Fault → Type 0
+ReadingFault before after fault = ((fault ≡ WriteFailed) → ⊥) × ((fault ≡ ReadFailed) → after ≡ one_more before)
+
+of_payload : (before after : ℕ) (fault : Fault) → IsOfPayload fault → ReadingFault before after fault
+of_payload before after fault h = (λ e. subst IsOfPayload e h, λ e. absurd (subst IsOfPayload e h))
+
+of_wire : (before after : ℕ) (fault : Fault) → IsOfWire fault → ReadingFault before after fault
+of_wire before after fault h = (λ e. subst IsOfWire e h, λ e. absurd (subst IsOfWire e h))
+
+reading_fault : (charset : Charset) (room size limit failures : ℕ) (left : Option (List ℕ)) (b : Seen) (place : ℕ) (at : Part) (stop : Stop) → Stalls (response charset room) is_built response_start (begun size limit left failures) b place at stop → ReadingFault failures b.failures stop.fault
+reading_fault charset room size limit failures left b place at stop (inr x) =
+    let is = ap (λ (s : Stop). s.fault) x.stop_is in
+    (λ e. (let no : NotYet ≡ WriteFailed = sym is ∙ e in cc), λ e. absurd (let no : NotYet ≡ ReadFailed = sym is ∙ e in cc))
+reading_fault charset room size limit failures left b place at stop (inl x) = elim x.cause [
+  | inl y ↦ of_payload failures b.failures stop.fault (element_fault charset room at y.0.element stop.fault y.0.first)
+  | inr y ↦ elim y.stop_is [
+    | inl z ↦ subst (ReadingFault failures b.failures) (sym (ap (λ (s : Stop). s.fault) z.1.2)) (of_payload failures b.failures z.1.0 (end_fault charset room at z.1.0 z.1.1))
+    | inr z ↦ subst (ReadingFault failures b.failures) (sym (ap (λ (s : Stop). s.fault) z.1)) (elim (ends_of_wire size limit failures left b (x.bytes ++ y.part) y.own y.ends) [
+      | inl w ↦ of_wire failures b.failures y.own.fault w
+      | inr w ↦ (λ e. (let no : ReadFailed ≡ WriteFailed = sym w.0 ∙ e in cc), λ e. w.1)
+    ])
+  ]
+]
+
+-- ---- an export
+
+-- a failed write rose the count, and is no failed read
+by_write : (given : Given) (stopped : Stopped) (stop : Stop) (middle after : Held) → stopped.fault ≡ stop.fault → stop.fault ≡ WriteFailed → middle.failures ≡ given.write_failures_before → after.failures ≡ one_more middle.failures → after.failures ≡ given.write_failures
+    → (stopped.fault ≡ ReadFailed → Rose given.read_failures_before given.read_failures) × (stopped.fault ≡ WriteFailed → Rose given.write_failures_before given.write_failures)
+by_write given stopped stop middle after is named start failed end =
+    (λ e. absurd (let no : WriteFailed ≡ ReadFailed = sym named ∙ sym is ∙ e in cc), λ e. subst (Rose given.write_failures_before) (sym failed' ∙ end) (rose given.write_failures_before))
+  where
+    failed' : after.failures ≡ one_more given.write_failures_before
+    failed' = failed ∙ ap one_more start
+
+-- a device is blamed only where its count rose
+pub blamed : (given : Given) (stopped : Stopped) → StopsExport given stopped → (stopped.fault ≡ ReadFailed → Rose given.read_failures_before given.read_failures) × (stopped.fault ≡ WriteFailed → Rose given.write_failures_before given.write_failures)
+blamed given stopped x = go x.stops
+  where
+    is : stopped.fault ≡ x.stop.fault
+    is = ap (λ (s : Stopped). s.fault) x.stopped_is
+
+    ends : (failed : x.failed ≡ true) → x.middle.failures ≡ given.write_failures
+    ends failed = ap (λ (h : Held). h.failures) (sym (x.same failed)) ∙ x.writer.failures
+
+    go : RunStops (response given.charset given.limits.column_room) response_start (begun_at given) x.seen 0 (fresh_at given) x.middle given.description x.failed x.stop
+        → (stopped.fault ≡ ReadFailed → Rose given.read_failures_before given.read_failures) × (stopped.fault ≡ WriteFailed → Rose given.write_failures_before given.write_failures)
+    go (inl (inl y)) =
+        let r = reading_fault given.charset given.limits.column_room given.limits.packet_size given.limits.max_wire given.read_failures_before given.input x.seen 0 y.0.at x.stop y.0.stalls in
+        (λ e. subst (Rose given.read_failures_before) (sym (r.1 (sym is ∙ e)) ∙ x.reader.failures) (rose given.read_failures_before), λ e. absurd (r.0 (sym is ∙ e)))
+    go (inl (inr y)) =
+        let b = y.0.breaks.breaks in
+        by_write given stopped x.stop y.0.breaks.middle x.middle is (ap (λ (s : Stop). s.fault) b.8) y.0.breaks.puts.2.4 b.9 (ends y.1)
+    go (inr y) =
+        let f = y.0.fails in
+        by_write given stopped x.stop y.0.middle x.middle is (ap (λ (s : Stop). s.fault) f.2) y.0.whole.puts.2.4 f.3 (ends y.1)
