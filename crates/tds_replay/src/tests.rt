@@ -2,6 +2,7 @@
 use crate::job::Job;
 use crate::lines::say_answer;
 use crate::perform::perform;
+use csv::{ByteRecord, ReaderBuilder};
 use std::test::Fail;
 use tds_export::{Charset, Report, ServerError, Stopped};
 use tds_meter::Limits;
@@ -128,6 +129,25 @@ fn statuses_and_lines(rt: HostRuntime) -> Result<(), Fail> {
         assert_eq!(rt; to.device().kept(), case.text, "{}", case.name);
         assert_eq!(rt; notes.device().kept(), case.line, "{}", case.name);
     }
+    Ok(())
+}
+
+// Another program's reader of CSV finds the name and the number in the text.
+#[test]
+fn the_text_reads_back(rt: HostRuntime) -> Result<(), Fail> {
+    let mut to = writer(Failing::Never);
+    let mut notes = writer(Failing::Never);
+    run(&rt, ScriptedReader::new(&WIRE, 4096), &mut to, &mut notes);
+    let mut reader = ReaderBuilder::new()
+        .has_headers(false)
+        .from_reader(rt.alloc(), to.device().kept());
+    let mut row = ByteRecord::new(rt.alloc());
+    for field in [b"a".as_slice(), b"42".as_slice()] {
+        assert_eq!(rt; reader.read_byte_record(&mut row).ok(), Some(true));
+        assert_eq!(rt; row.len(), 1);
+        assert_eq!(rt; row.get(0), Some(field));
+    }
+    assert_eq!(rt; reader.read_byte_record(&mut row).ok(), Some(false));
     Ok(())
 }
 
