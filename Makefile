@@ -8,7 +8,7 @@ SOURCES := $(wildcard crates.txt crates/*/src/*.rt crates/*/specs/*.antt crates/
 # Where the benchmarks are built: outside of the repository, whose gate refuses files that no crate of crates.txt has.
 BENCH = $(or $(TMPDIR),/tmp)/gavyreto-bench
 
-.PHONY: help build export refused-memory test check bench-text bench-values
+.PHONY: help build export refused-memory refused-borrow test check bench-text bench-values
 
 help:
 	@echo "make build             proves and builds the program, bin/tds_replay"
@@ -16,6 +16,7 @@ help:
 	@echo "make test              the whole gate: every proof, test and must-fail edit of every crate"
 	@echo "make check             the proofs alone, with what earlier checks left"
 	@echo "make refused-memory    the program with each of its requests for memory refused in turn"
+	@echo "make refused-borrow    code that keeps a column while its area is emptied"
 	@echo "make bench-text        megabytes a second of the sink and of each joiner"
 	@echo "make bench-values      values a second of each scalar kind"
 
@@ -31,8 +32,8 @@ bin/tds_replay: $(SOURCES)
 export: bin/tds_replay
 	@bin/tds_replay < "$(FILE)"
 
-refused-memory:
-	tools/refused-memory
+refused-memory refused-borrow:
+	tools/$@
 
 test:
 	rt ci
