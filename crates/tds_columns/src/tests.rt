@@ -80,7 +80,7 @@ fn describe(alloc: Global, area: &mut Area, wire: &[u8], most: usize) -> Result<
     let mut counted = true;
     if let Ok(Described::Columns(count)) = answer {
         let columns = Columns::view(area.bytes());
-        counted = columns.count() == count;
+        counted = columns.count() == count && columns.walk().count() == usize::from(count);
         for column in columns.walk() {
             kinds.push(column.kind)?;
             names.extend_from_slice(column.name)?;

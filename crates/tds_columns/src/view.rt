@@ -1,5 +1,5 @@
 // The columns of a description, as they lie in its bytes (MS-TDS, COLMETADATA).
-ghost use Rattle.std.specs.Prelude.{◌≡◌, ℕ, List, IsTrue, length};
+ghost use Rattle.std.specs.Prelude.{◌≡◌, ◌<◌, ℕ, List, IsTrue, length};
 ghost use Rattle.tds_columns.specs.Description as spec;
 ghost use Rattle.tds_columns.specs.View.{IsDescription, columns_of, is_described};
 
@@ -36,6 +36,7 @@ impl<'a> Columns<'a> {
     pub fn walk(&self) -> Walk<'a>
         ensures value { columns_left result ≡ columns_of self.now.bytes.now }
         ensures columns { (room : ℕ) (columns : List spec.Column) → spec.SpellsDescription room columns self.now.bytes.now → columns_left result ≡ columns }
+        ensures bound { length (columns_left result) < 65536 }
     {
         Walk {
             rest: &self.bytes[2..],

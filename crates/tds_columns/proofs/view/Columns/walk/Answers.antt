@@ -1,4 +1,4 @@
-use Rattle.std.proofs.Common.{◌≡◌, ◌∙◌, ◌-◌, ℕ, List, length, take, drop, ap}
+use Rattle.std.proofs.Common.{arith, ◌≡◌, ◌∙◌, ◌-◌, ℕ, List, length, take, drop, ap}
 use Rattle.std.specs.Prelude.{nat_le}
 use Rattle.byteorder.specs.Endian.{little_number}
 use Rattle.tds_packet.proofs.Choices.{and_true}
@@ -27,3 +27,8 @@ returns-clause-columns c = λ room columns h.
     let bytes = c.args.self.now.bytes.now in
     let b = behind_count bytes c.count.result c.count.ensures.value in
     ap (λ n. columns_in n (take (length bytes - 2) (drop 2 bytes))) b.0 ∙ ap (columns_in (little_number 2 bytes)) b.1 ∙ (description_shows room columns bytes h).0
+
+pub returns-clause-bound : goal.returns-clause-bound
+returns-clause-bound c =
+    let bytes = c.args.self.now.bytes.now in
+    omega (arith, length_columns c.count.result (take (length bytes - 2) (drop 2 bytes)), c.count.type_inv)
