@@ -23,24 +23,7 @@ use Rattle.tds_columns.specs.Elements.{TakesInto, EndsInto}
 use Rattle.tds_columns.specs.Gather.{Describes, DescribesColumns, StopsDescribing}
 use Rattle.tds_columns.proofs.ColumnLaws.{fits_in}
 use Rattle.tds_columns.proofs.ColumnMeaning.{not_zero, room_for}
-use Rattle.tds_columns.proofs.Steps.{cut_at_once, reads_both, reads_none, reads_one, refused_at_once, stops_after}
-
--- a call of many bytes and a cut element of an open description stop alike
-pub began_is_cut : (place : ℕ) (ended : Option Fault) (own stop : Stop) → ended ≡ Some MessageEnded → stop ≡ began_at place own → IsCutStop place ended own stop
-began_is_cut place ended own stop end is = go own.fault refl
-  where
-    named : (f : Fault) → own.fault ≡ f → stop ≡ record { fault = f; place = place_at place f own.place }
-    named f e = is ∙ ap (λ g. record { fault = g; place = place_at place g own.place }) e
-
-    same : (f : Fault) → own.fault ≡ f → stop ≡ record { fault = f; place = own.place } → stop ≡ own
-    same f e t = t ∙ ap (λ g. record { fault = g; place = own.place }) (sym e)
-
-    other : (f : Fault) → own.fault ≡ f → (f ≡ MessageEnded → ⊥) → own.fault ≡ MessageEnded → ⊥
-    other f e differs m = differs (sym e ∙ m)
-
-    go : (f : Fault) → own.fault ≡ f → IsCutStop place ended own stop
-    go MessageEnded e = inl (e, (MessageEnded, end, named MessageEnded e))
-    go f e = inr (other f e (λ m. cc), same f e (named f e))
+use Rattle.tds_packet.proofs.Steps.{began_is_cut, cut_at_once, reads_both, reads_none, reads_one, refused_at_once, stops_after}
 
 -- the next element is cut
 pub description_cut : (room : ℕ) (s : DescriptionPart) (a b : Seen) (before after : Space) (place n : ℕ) (stop : Stop) → EndsInto a b before after place n stop → before.bytes ≡ description_bytes s → described_size s ≡ n → described_end s ≡ Some MessageEnded

@@ -18,8 +18,7 @@ use Rattle.tds_packet.proofs.ElementLaws.{Spelt-none}
 use Rattle.tds_columns.specs.Description.{type_fault}
 use Rattle.tds_columns.specs.Elements.{TakesInto, EndsInto}
 use Rattle.tds_columns.specs.ReturnedType.{KnownType, ReadsType, StopsType, TypeHead, TypePart, TypeRest, WereTaken, return_column, returned_type, with_known, with_type_byte}
-use Rattle.tds_columns.proofs.GatherSteps.{began_is_cut}
-use Rattle.tds_columns.proofs.Steps.{cut_at_once, reads_both, reads_one, refused_at_once, stops_after}
+use Rattle.tds_packet.proofs.Steps.{began_is_cut, cut_at_once, reads_both, reads_one, refused_at_once, stops_after}
 
 -- the eight bytes were taken, and lead to this state
 abbrev head_read : (o a : Seen) (head : List ℕ) (byte rest : ℕ) (to : TypePart) → WereTaken o a head → length head ≡ 8 → byte ≡ slice_index head 7 → rest_length byte ≡ Some rest → with_type_byte byte rest ≡ to → Reads returned_type TypeHead o a to

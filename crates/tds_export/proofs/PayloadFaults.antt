@@ -13,7 +13,8 @@ use Rattle.tds_columns.specs.Description.{Column, ColumnPlace, ColumnHead, Colum
 use Rattle.tds_rows.specs.declared.Charset.{Charset}
 use Rattle.tds_rows.specs.Cells.{CellPart, ScalarBytes, ScalarLength, ShortLength, ShortData, Total, ChunkLength, ChunkData, WholeCell, unless, unknown_total, within_total, is_total, end_of_chunks, chunk_fault, cell_fault}
 use Rattle.tds_rows.specs.Rows.{RowPart, Bitmap, InCell, WholeRow, row_fault}
-use Rattle.tds_export.specs.ReturnValue.{ReturnPart, ReturnOrdinal, ReturnNameCount, ReturnName, ReturnHead, ReturnInfo, InReturnCell, WholeReturn, return_column, return_fault}
+use Rattle.tds_export.specs.ReturnValue.{ReturnPart, ReturnOrdinal, ReturnNameCount, ReturnName, ReturnHead, ReturnInfo, InReturnCell, WholeReturn, return_fault}
+use Rattle.tds_columns.specs.ReturnedType.{return_column}
 use Rattle.tds_export.specs.Tokens.{Token, described_after, is_final}
 use Rattle.tds_export.specs.Reading.{Part, Open, Between, Describing, InRow, InReturn, TokenLength, TokenBody, Status, DoneFields, DoneInProcFields, response, part_fault, part_end, token_fault, row_byte_fault, is_token_byte, is_row_byte, is_notice, holds_notice}
 

@@ -20,7 +20,8 @@ use Rattle.tds_rows.specs.Cells.{Cell, shape, CellPart, ScalarBytes, ScalarLengt
 use Rattle.tds_rows.proofs.CellLaws.{cell_is_read}
 use Rattle.tds_rows.proofs.CellMeaning.{CellMeans, cell_step, start_means}
 use Rattle.tds_rows.proofs.RowLaws.{shape-HasBytes}
-use Rattle.tds_export.specs.ReturnValue.{ReturnValue, return_column, return_charset, SpellsReturnName, SpellsReturnValue, ReturnPart, ReturnOrdinal, ReturnNameCount, ReturnName, ReturnHead, ReturnInfo, InReturnCell, WholeReturn, with_value, with_return_kind, with_return_type, with_return_units, return_add, return_value}
+use Rattle.tds_export.specs.ReturnValue.{ReturnValue, return_charset, SpellsReturnName, SpellsReturnValue, ReturnPart, ReturnOrdinal, ReturnNameCount, ReturnName, ReturnHead, ReturnInfo, InReturnCell, WholeReturn, with_value, with_return_kind, with_return_type, with_return_units, return_add, return_value}
+use Rattle.tds_columns.specs.ReturnedType.{return_column}
 
 -- a value is read in its token as by itself
 pub value_in_return : (name : List ℕ) (kind : Kind) → Inside (cell return_column) return_value (with_value name kind)

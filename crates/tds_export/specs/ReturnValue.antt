@@ -5,6 +5,7 @@ use Rattle.tds_values.specs.TypeInfo.{IsTypeInfo, rest_length, kind_of}
 use Rattle.tds_packet.specs.Elements.{Grammar}
 use Rattle.tds_packet.specs.declared.fault.Fault.{Fault}
 use Rattle.tds_packet.specs.declared.fault.Fault.TheVariants.{MessageEnded, BadTypeInfo}
+use Rattle.tds_columns.specs.ReturnedType.{return_column}
 use Rattle.tds_columns.specs.Description.{type_fault}
 use Rattle.tds_rows.specs.declared.Charset.{Charset}
 use Rattle.tds_rows.specs.declared.Charset.TheVariants.{Windows1252}
@@ -15,10 +16,6 @@ pub record ReturnValue : Type 0 where
   pub name : List ℕ
   pub kind : Kind
   pub value : Cell
-
--- what stands in faults for the number of a column
-abbrev pub return_column : ℕ
-return_column = 65535
 
 -- The value is passed over, so its single-byte text may be any bytes: it is read in a set that has a character for each byte.
 abbrev pub return_charset : Charset
