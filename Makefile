@@ -8,7 +8,7 @@ SOURCES := $(wildcard crates.txt crates/*/src/*.rt crates/*/specs/*.antt crates/
 # Where the benchmarks are built: outside of the repository, whose gate refuses files that no crate of crates.txt has.
 BENCH = $(or $(TMPDIR),/tmp)/gavyreto-bench
 
-.PHONY: help build export refused-memory refused-borrow test check bench-text bench-values
+.PHONY: help build export refused-memory refused-borrow test check bench-text bench-values bench-export
 
 help:
 	@echo "make build             proves and builds the program, bin/tds_replay"
@@ -19,6 +19,7 @@ help:
 	@echo "make refused-borrow    code that keeps a column while its area is emptied"
 	@echo "make bench-text        megabytes a second of the sink and of each joiner"
 	@echo "make bench-values      values a second of each scalar kind"
+	@echo "make bench-export      what a cell and a byte of a whole export cost"
 
 build: bin/tds_replay
 
@@ -55,3 +56,6 @@ bench-text bench-values: bench-%:
 	cp bench/values.rt.txt $(BENCH)/crates/bench_values/src/main.rt
 	(cat crates.txt; echo "bench_text: tds_meter tds_packet tds_csv"; echo "bench_values: tds_values") > $(BENCH)/crates.txt
 	cd $(BENCH)/crates/bench_$* && rt run
+
+bench-export: bin/tds_replay
+	bench/export.py bin/tds_replay
