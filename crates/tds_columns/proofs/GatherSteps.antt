@@ -1,5 +1,5 @@
 -- The elements of a description, as they are read into its area.
-use Rattle.std.proofs.Common.{◌≡◌, ◌≢◌, ◌∙◌, inl, inr, ℕ, ◌+◌, ◌*◌, ◌-◌, ◌<◌, ◌≤◌, List, [], ◌∷◌, ◌++◌, length, take, drop, max, refl, sym, ap, subst, arith, le_refl, length-append}
+use Rattle.std.proofs.Common.{◌≡◌, ◌≢◌, ◌∙◌, ℕ, ◌+◌, ◌*◌, ◌-◌, ◌<◌, ◌≤◌, List, [], ◌∷◌, ◌++◌, length, take, drop, max, refl, sym, ap, subst, arith, le_refl, length-append}
 use Rattle.std.specs.Prelude.{Option, Some, None, is_some, ◌==◌, slice_index, unwrap_or, if◌then◌else◌}
 use Rattle.std.proofs.lemmas.Bool.{ne_eqb}
 use Rattle.std.proofs.lemmas.Bool.Decides.{nat_tests}
@@ -15,8 +15,8 @@ use Rattle.tds_packet.specs.declared.fault.Fault.{Fault}
 use Rattle.tds_packet.specs.declared.fault.Fault.TheVariants.{MessageEnded, BadTypeInfo}
 use Rattle.tds_packet.specs.declared.fault.Place.TheVariants.{Payload}
 use Rattle.tds_packet.specs.declared.fault.Stop.{Stop}
-use Rattle.tds_packet.specs.Seen.{Seen, Takes, began_at, place_at}
-use Rattle.tds_packet.specs.Reading.{IsCutStop, StopsReading}
+use Rattle.tds_packet.specs.Seen.{Seen, Takes}
+use Rattle.tds_packet.specs.Reading.{StopsReading}
 use Rattle.tds_packet.proofs.Choices.{choose, choose_false, choose_true}
 use Rattle.tds_columns.specs.Description.{BeforeCount, ColumnHead, ColumnInfo, Column, ColumnPlace, DescriptionPart, InColumn, NameCount, NameUnits, NoDescription, WholeDescription, count_fault, add_described, described_fault, description, description_bytes, described_end, described_size, first_of_two, span, too_long, type_fault, with_column, with_count, with_kind, with_type, with_units}
 use Rattle.tds_columns.specs.Elements.{TakesInto, EndsInto}

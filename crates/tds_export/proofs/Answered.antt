@@ -1,9 +1,9 @@
 -- What an export answers, where its reader and writer tell their bytes.
-use Rattle.std.proofs.Common.{◌≡◌, ◌∙◌, ◌⊎◌, inl, inr, ℕ, ◌+◌, ◌*◌, ◌-◌, ◌/◌, ◌^◌, ◌%◌, ◌<◌, ◌≤◌, Bool, true, false, List, [], ◌∷◌, ◌++◌, length, take, drop, min, refl, sym, ap, subst, arith, append_assoc, append-nil, length-append, length-take-le, take-append-drop}
-use Rattle.std.specs.Prelude.{Option, Some, None, Result, Ok, Err}
+use Rattle.std.proofs.Common.{◌≡◌, ◌∙◌, inl, inr, ℕ, ◌+◌, ◌*◌, ◌-◌, ◌/◌, ◌^◌, ◌%◌, ◌<◌, ◌≤◌, Bool, true, false, List, [], ◌∷◌, ◌++◌, length, take, drop, refl, sym, ap, subst, arith, append_assoc, append-nil, length-append, length-take-le, take-append-drop}
+use Rattle.std.specs.Prelude.{Option, Some, None, Ok, Err}
 use Rattle.std.proofs.lemmas.Grind.{flat_map-append}
 use Rattle.std.proofs.lemmas.Nat.{div-mul-add}
-use Rattle.std.proofs.Math.Seq.{take-append_seam, drop-append_seam, take-append-add}
+use Rattle.std.proofs.Math.Seq.{take-append_seam, take-append-add}
 use Rattle.std.proofs.lemmas.List.{take-append-le}
 use native.Mathlib.Decide.{dec_le}
 use Rattle.std.specs.Io.KnownBytes.{Appends, Consumes}
@@ -14,26 +14,25 @@ use Rattle.tds_packet.specs.declared.fault.Fault.TheVariants.{MessageEnded, NotY
 use Rattle.tds_packet.specs.declared.fault.Place.{Place}
 use Rattle.tds_packet.specs.declared.fault.Place.TheVariants.{Wire, Payload, Text}
 use Rattle.tds_packet.specs.declared.fault.Stop.{Stop}
-use Rattle.tds_packet.specs.Elements.{AreBytes, Grammar, Longest, Progress, Reading, Spelt, feed_all}
-use Rattle.tds_packet.specs.Packets.{AreBefore, AreMessage, Packet, packet_bytes, payload_of, wire_of}
-use Rattle.tds_packet.specs.Seen.{Ends, Seen, Takes, begun}
+use Rattle.tds_packet.specs.Elements.{AreBytes, Grammar, Longest, Spelt}
+use Rattle.tds_packet.specs.Packets.{AreMessage, Packet, packet_bytes, payload_of, wire_of}
+use Rattle.tds_packet.specs.Seen.{Ends, Seen, begun}
 use Rattle.tds_packet.specs.Reading.{CutsNext}
-use Rattle.tds_packet.proofs.ElementLaws.{AreBytes-back, AreBytes-front, Spelt-append, Spelt-one, Told, feed-Spelt, feed_all-append, longest_cut, no_further, some_longest, told}
-use Rattle.tds_packet.proofs.Fronts.{Begins, EndsMessage, InLast, StopsBehind, ends_front, in_last, over_front, takes_begins, wire_goes_on}
-use Rattle.tds_csv.specs.Sinks.{Adds, Breaks, FinishFails, Finishes, Held, Puts, stop_of}
-use Rattle.tds_csv.specs.Streaming.{BreaksStreaming, PutsText}
+use Rattle.tds_packet.proofs.ElementLaws.{AreBytes-back, AreBytes-front, Spelt-append, Spelt-one, longest_cut, no_further, some_longest}
+use Rattle.tds_packet.proofs.Fronts.{StopsBehind, ends_front, in_last, over_front, takes_begins, wire_goes_on}
+use Rattle.tds_csv.specs.Sinks.{Adds, Held, Puts}
+use Rattle.tds_csv.specs.Streaming.{BreaksStreaming}
 use Rattle.tds_csv.proofs.Sinks.{Adds-trans}
 use Rattle.tds_rows.specs.declared.Charset.{Charset}
 use Rattle.tds_export.specs.declared.report.Report.{Report}
 use Rattle.tds_export.specs.declared.report.Stopped.{Stopped}
-use Rattle.tds_export.specs.declared.standing.Standing.{Standing}
-use Rattle.tds_export.specs.Tokens.{Token, error_text, first_error, message_text, is_final, text}
+use Rattle.tds_export.specs.Tokens.{Token, message_text, text}
 use Rattle.tds_export.specs.Response.{Accepted}
-use Rattle.tds_export.specs.Export.{AfterStop, Answer, Bounded, Comes, IsKept, IsNeeded, Keeps, Packets, Reported, Reads, Run, Stops, StopsInText, grammar, report_of}
+use Rattle.tds_export.specs.Export.{AfterStop, Bounded, IsKept, Packets, Reported, Reads, Run, Stops, StopsInText, grammar}
 use Rattle.tds_export.specs.Built.{is_built}
 use Rattle.tds_export.specs.Reading.{Part, response, response_start, text_so_far}
 use Rattle.tds_rows.specs.Unbuilt.{Stalls}
-use Rattle.tds_export.specs.Running.{Completes, FailsAtEnd, Halts, HaltsReading, HaltsWriting, IsHolding, ReadsWhole, RunStops, behind}
+use Rattle.tds_export.specs.Running.{Completes, FailsAtEnd, HaltsReading, HaltsWriting, IsHolding, ReadsWhole, RunStops, behind}
 use Rattle.tds_export.specs.Ended.{Exports, Given, IsReader, IsWriter, StopsExport, Tells, Tidied, begun_at, fresh_at, run_of}
 use Rattle.tds_export.proofs.Growth.{text_along}
 use Rattle.tds_export.proofs.GrowthBound.{bounded_along}

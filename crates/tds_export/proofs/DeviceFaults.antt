@@ -1,22 +1,21 @@
 -- Where an export stops with the fault of a device, the device's count of failures rose.
-use Rattle.std.proofs.Common.{◌≡◌, ◌∙◌, ◌⊎◌, inl, inr, ℕ, zero, suc, ◌+◌, ◌-◌, Bool, true, false, List, [], ◌++◌, length, take, drop, refl, sym, ap, subst}
+use Rattle.std.proofs.Common.{◌≡◌, ◌∙◌, ◌⊎◌, inl, inr, ℕ, zero, suc, ◌+◌, ◌-◌, Bool, true, false, List, [], ◌++◌, length, take, drop, sym, ap, subst}
 use Rattle.std.specs.Prelude.{Option, Some, None, ⊤, ◌==◌, ◌||◌, nat_lt, slice_index, if◌then◌else◌}
 use Rattle.tds_meter.specs.Counts.{Rose, one_more}
 use Rattle.tds_packet.specs.declared.fault.Fault.{Fault}
-use Rattle.tds_packet.specs.declared.fault.Fault.TheVariants.{MessageEnded, NotYet, ReadFailed, WriteFailed, WrongPacketType, BadPacketLength, ResponseTooLong, InputEnded}
+use Rattle.tds_packet.specs.declared.fault.Fault.TheVariants.{NotYet, ReadFailed, WriteFailed, WrongPacketType, BadPacketLength, ResponseTooLong, InputEnded}
 use Rattle.tds_packet.specs.declared.fault.Stop.{Stop}
 use Rattle.tds_packet.specs.Packets.{header_fault, header_length}
-use Rattle.tds_packet.specs.Coming.{Coming, FrontPacket, NoPacket, WholePacket, behind_header, behind_packet, front_packet, message, whole_message}
+use Rattle.tds_packet.specs.Coming.{Coming, FrontPacket, NoPacket, WholePacket, behind_header, behind_packet, front_packet, message}
 use Rattle.tds_packet.specs.Seen.{Seen, Ends, begun}
-use Rattle.tds_packet.specs.Reading.{StopsReading}
-use Rattle.tds_csv.specs.Sinks.{Breaks, Held}
+use Rattle.tds_csv.specs.Sinks.{Held}
 use Rattle.tds_rows.specs.declared.Charset.{Charset}
 use Rattle.tds_rows.specs.Unbuilt.{Stalls}
 use Rattle.tds_export.specs.declared.report.Stopped.{Stopped}
 use Rattle.tds_export.specs.Built.{is_built}
 use Rattle.tds_export.specs.Ended.{Given, StopsExport, begun_at, fresh_at}
 use Rattle.tds_export.specs.Reading.{Part, response, response_start}
-use Rattle.tds_export.specs.Running.{Halts, RunStops}
+use Rattle.tds_export.specs.Running.{RunStops}
 use Rattle.tds_export.proofs.PayloadFaults.{IsOfPayload, element_fault, end_fault}
 use Rattle.tds_export.proofs.Texts.{rose}
 

@@ -1,6 +1,6 @@
 -- The text of a name that is joined in one piece.
-use Rattle.std.proofs.Common.{◌≡◌, ◌∙◌, ℕ, ◌%◌, Bool, true, false, List, [], ◌∷◌, ◌++◌, length, refl, sym, ap, subst, append_assoc, append-nil}
-use Rattle.std.specs.Prelude.{Result, Ok, Err, ⊤}
+use Rattle.std.proofs.Common.{◌≡◌, ◌∙◌, ℕ, Bool, false, List, [], ◌++◌, sym, ap, subst}
+use Rattle.std.specs.Prelude.{Err, ⊤}
 use Rattle.tds_packet.specs.declared.fault.Stop.{Stop}
 use Rattle.tds_csv.specs.declared.joiner.JoinFault.{JoinFault}
 use Rattle.tds_csv.specs.declared.joiner.JoinFault.TheVariants.{Stopped, Odd, BadText}

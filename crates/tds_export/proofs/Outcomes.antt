@@ -1,34 +1,23 @@
 -- How an export ended, told of the packets of its input.
-use Rattle.std.proofs.Common.{◌≡◌, ◌∙◌, ◌⊎◌, inl, inr, ℕ, ◌+◌, ◌*◌, ◌-◌, ◌/◌, ◌^◌, ◌<◌, ◌≤◌, Bool, true, false, List, [], ◌∷◌, ◌++◌, length, take, drop, min, refl, sym, ap, subst, arith, append_assoc, append-nil, length-append}
-use Rattle.std.specs.Prelude.{Option, Some, None, Result, Ok, Err, if◌then◌else◌}
-use Rattle.std.proofs.Math.Seq.{take-append_seam, drop-append_seam, take-length as take_all}
-use Rattle.std.proofs.lemmas.List.{take-append-le}
-use Rattle.std.specs.Io.KnownBytes.{Appends}
-use Rattle.tds_meter.specs.declared.limits.Limits.{Limits}
-use Rattle.tds_meter.specs.Counts.{Rose, counted, one_more}
+use Rattle.std.proofs.Common.{◌≡◌, ◌∙◌, inl, inr, ℕ, ◌<◌, ◌≤◌, List, [], ◌++◌, length, take, drop, refl, sym, ap, subst, arith, append_assoc, length-append}
+use Rattle.std.specs.Prelude.{Some}
+use Rattle.std.proofs.Math.Seq.{take-append_seam, drop-append_seam}
+use Rattle.tds_meter.specs.Counts.{Rose, one_more}
 use Rattle.tds_meter.specs.Space.{Space}
 use Rattle.tds_packet.specs.declared.fault.Fault.{Fault}
-use Rattle.tds_packet.specs.declared.fault.Fault.TheVariants.{EndWithoutDone, MessageEnded, NotYet, ReadFailed, WriteFailed}
-use Rattle.tds_packet.specs.declared.fault.Place.{Place}
-use Rattle.tds_packet.specs.declared.fault.Place.TheVariants.{Wire, Payload, Text}
 use Rattle.tds_packet.specs.declared.fault.Stop.{Stop}
-use Rattle.tds_packet.specs.Elements.{AreBytes, Grammar, IsNext, IsRefused, Longest, Spelt}
-use Rattle.tds_packet.specs.Packets.{AreBefore, AreMessage, Packet, payload_of, wire_of}
-use Rattle.tds_packet.specs.Seen.{Ends, IsBetween, IsOver, Seen, Takes, begun}
-use Rattle.tds_packet.specs.Reading.{CutsNext, RefusesNext, StopsReading, IsCutStop}
-use Rattle.tds_packet.proofs.ElementLaws.{Spelt-append, Spelt-one, longest_cut, longest_refused, some_longest}
-use Rattle.tds_packet.proofs.Fronts.{Begins, EndsMessage, InLast, StopsBehind, ends_front, in_last, over_front, takes_begins}
-use Rattle.tds_columns.specs.Description.{DescriptionPart, description_bytes}
-use Rattle.tds_csv.specs.Sinks.{Adds, Breaks, FinishFails, Finishes, Held, Puts, fresh}
-use Rattle.tds_csv.specs.Streaming.{PutsText}
-use Rattle.tds_rows.specs.declared.Charset.{Charset}
-use Rattle.tds_export.specs.declared.report.Stopped.{Stopped}
-use Rattle.tds_export.specs.Tokens.{Token, encoded_after}
-use Rattle.tds_export.specs.Export.{Comes, EndsInLast, IsKept, Keeps, Packets, Reads, Refuses, Run, StopsInPayload, StopsOnWire, StopsUnbuilt, grammar}
+use Rattle.tds_packet.specs.Elements.{AreBytes, IsRefused, Longest, Spelt}
+use Rattle.tds_packet.specs.Packets.{Packet, payload_of, wire_of}
+use Rattle.tds_packet.specs.Seen.{Seen, begun}
+use Rattle.tds_packet.specs.Reading.{RefusesNext}
+use Rattle.tds_packet.proofs.ElementLaws.{longest_cut, longest_refused}
+use Rattle.tds_packet.proofs.Fronts.{Begins, EndsMessage, InLast, StopsBehind, in_last, takes_begins}
+use Rattle.tds_export.specs.Tokens.{Token}
+use Rattle.tds_export.specs.Export.{EndsInLast, IsKept, Packets, Run, StopsInPayload, StopsOnWire, StopsUnbuilt, grammar}
 use Rattle.tds_export.specs.Built.{is_built}
-use Rattle.tds_export.specs.Reading.{Describing, Open, Part, response, response_start, text_so_far}
-use Rattle.tds_rows.specs.Unbuilt.{ReadsUnbuilt, Stalls}
-use Rattle.tds_export.specs.Running.{HaltsReading, IsHolding, description_of}
+use Rattle.tds_export.specs.Reading.{Describing, Open, Part, response_start, text_so_far}
+use Rattle.tds_rows.specs.Unbuilt.{ReadsUnbuilt}
+use Rattle.tds_export.specs.Running.{IsHolding, description_of}
 
 -- what the area holds at a part is kept, whatever follows
 pub kept_at : (area : Space) (tokens : List Token) (at : Open) (rest : List ℕ) → area.bytes ≡ description_of tokens at → IsKept area.bytes tokens at rest

@@ -1,15 +1,15 @@
 -- How much of a description was held in an export: no more than the span of one at the front of the input.
-use Rattle.std.proofs.Common.{◌≡◌, ◌∙◌, ◌⊎◌, inl, inr, ℕ, ◌+◌, ◌-◌, ◌<◌, ◌≤◌, Bool, true, false, List, [], ◌∷◌, ◌++◌, length, take, drop, refl, sym, ap, subst, arith, append_assoc, append-nil, length-append, take-append-drop}
-use Rattle.std.specs.Prelude.{Option, Some, None}
+use Rattle.std.proofs.Common.{◌≡◌, ◌∙◌, ◌⊎◌, inl, inr, ℕ, ◌+◌, ◌-◌, ◌≤◌, List, [], ◌++◌, length, take, sym, ap, subst, arith, append_assoc, append-nil, length-append}
+use Rattle.std.specs.Prelude.{Some}
 use Rattle.std.proofs.lemmas.Grind.{flat_map-append}
 use Rattle.std.proofs.Math.Seq.{take-append_seam, take-append-add}
 use Rattle.tds_meter.specs.declared.limits.Limits.{Limits}
 use Rattle.tds_meter.specs.Space.{Space}
 use Rattle.tds_packet.specs.declared.fault.Fault.{Fault}
 use Rattle.tds_packet.specs.declared.fault.Stop.{Stop}
-use Rattle.tds_packet.specs.Elements.{AreBytes, Grammar, Longest, Spelt, feed_all, Reading}
-use Rattle.tds_packet.specs.Packets.{AreBefore, AreMessage, Front, Message, Packet, WirePart, no_wire, payload_of, wire, wire_of}
-use Rattle.tds_packet.specs.Seen.{Seen, Takes, IsBetween, begun}
+use Rattle.tds_packet.specs.Elements.{AreBytes, Grammar, Longest, Spelt}
+use Rattle.tds_packet.specs.Packets.{AreBefore, AreMessage, Packet, WirePart, no_wire, payload_of, wire, wire_of}
+use Rattle.tds_packet.specs.Seen.{Seen, Takes, IsBetween}
 use Rattle.tds_packet.proofs.ElementLaws.{Spelt-append, Spelt-induct, Spelt-one, some_longest}
 use Rattle.tds_packet.proofs.PacketLaws.{before_are_read, before_packet, read_front}
 use Rattle.tds_packet.proofs.MessageLaws.{behind as behind_last, message_is_read}
@@ -20,10 +20,10 @@ use Rattle.tds_export.specs.Export.{Bounded, Run, grammar}
 use Rattle.tds_export.specs.Built.{is_built}
 use Rattle.tds_export.specs.Reading.{Part, response, response_start, span_so_far}
 use Rattle.tds_rows.specs.Unbuilt.{Stalls}
-use Rattle.tds_export.specs.Running.{HaltsReading, HaltsWriting, ReadsWhole, behind}
+use Rattle.tds_export.specs.Running.{HaltsWriting, ReadsWhole, behind}
 use Rattle.tds_export.proofs.Growth.{span_along}
 use Rattle.tds_export.proofs.Leading.{rest_leads}
-use Rattle.tds_export.proofs.Outcomes.{ReaderSide, start}
+use Rattle.tds_export.proofs.Outcomes.{start}
 use Rattle.tds_export.proofs.Successes.{BeginsWith, begins_added}
 
 -- a part of a response was read from whole packets at the front of an input

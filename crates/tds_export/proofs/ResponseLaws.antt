@@ -1,10 +1,9 @@
 -- What a response's spelling is read as.
-use Rattle.std.proofs.Common.{◌≡◌, ℕ, ◌+◌, ◌*◌, ◌/◌, ◌%◌, ◌<◌, ◌≤◌, Bool, true, false, List, [], ◌∷◌, ◌++◌, length, take, drop, refl, sym, ◌∙◌, ap, subst, inl, inr, append_assoc, append-nil, arith, length-append}
-use Rattle.std.specs.Prelude.{Option, Some, None, ◌==◌, ◌&&◌, nat_lt, nat_le, not, slice_index, if◌then◌else◌}
+use Rattle.std.proofs.Common.{◌≡◌, ℕ, ◌+◌, ◌/◌, ◌%◌, ◌<◌, ◌≤◌, true, false, List, [], ◌∷◌, ◌++◌, length, take, drop, refl, sym, ◌∙◌, ap, subst, inl, inr, append_assoc, append-nil, arith}
+use Rattle.std.specs.Prelude.{Option, Some, None, ◌==◌, ◌&&◌, nat_lt, not, if◌then◌else◌}
 use Rattle.std.proofs.Common.{take-add}
 use Rattle.std.proofs.lemmas.Bool.Decides.{nat_tests}
 use Rattle.std.proofs.lemmas.Bool.{ne_eqb}
-use Rattle.std.proofs.Math.Seq.{get_or-append_seam, take-append_seam, drop-append_seam}
 use Rattle.tds_values.specs.Numbers.{little}
 use Rattle.tds_packet.specs.declared.fault.Fault.{Fault}
 use Rattle.tds_packet.specs.declared.fault.Fault.TheVariants.{BadNotice}
@@ -20,8 +19,8 @@ use Rattle.tds_export.specs.ReturnValue.{ReturnPart, ReturnOrdinal, ReturnNameCo
 use Rattle.tds_export.proofs.ReturnLaws.{return_is_read}
 use Rattle.tds_export.specs.Tokens.{Notice, Token, Metadata, NoMetadata, Row, Order, EnvChange, Error, Info, ReturnStatus, Returned, Done, DoneInProc, described_after}
 use Rattle.tds_export.specs.Response.{SpellsBody, SpellsNotice, SpellsRowToken, SpellsToken, SpellsTokens, Response, Accepted}
-use Rattle.tds_export.specs.Reading.{Bodied, AnOrder, AnEnvChange, AnError, AnInfo, Open, Between, Describing, InReturn, TokenLength, TokenBody, Status, DoneFields, DoneInProcFields, Part, response_start, with_token, with_described, with_row, with_return, start_of_row, row_byte_fault, server_at, procedure_at, line_at, holds_notice, notice_of, bodied, is_notice, response}
-use Rattle.tds_packet.proofs.Choices.{choose_false, choose_true}
+use Rattle.tds_export.specs.Reading.{Bodied, AnOrder, AnEnvChange, AnError, AnInfo, Open, Between, Describing, InReturn, TokenLength, TokenBody, Status, DoneFields, DoneInProcFields, Part, response_start, with_token, with_described, with_row, with_return, start_of_row, row_byte_fault, holds_notice, bodied, is_notice, response}
+use Rattle.tds_packet.proofs.Choices.{choose_false}
 use Rattle.tds_packet.specs.Packets.{Packet, payload_of}
 use Rattle.tds_packet.proofs.MessageLaws.{one_message}
 use Rattle.tds_export.proofs.NoticeLaws.{notice_is_read, and_false}

@@ -1,5 +1,5 @@
 -- What a return value's spelling is read as, and what the bytes that lead to a part of it spell.
-use Rattle.std.proofs.Common.{◌≡◌, ℕ, ◌+◌, ◌*◌, ◌<◌, ◌≤◌, Bool, true, false, List, [], ◌∷◌, ◌++◌, length, refl, sym, ◌∙◌, ap, subst, append_assoc, append-nil, arith, length-append}
+use Rattle.std.proofs.Common.{◌≡◌, ℕ, ◌+◌, ◌*◌, ◌<◌, true, false, List, [], ◌∷◌, ◌++◌, length, refl, sym, ◌∙◌, ap, subst, append_assoc, append-nil, arith, length-append}
 use Rattle.std.specs.Prelude.{Option, Some, None, ◌==◌, is_some, slice_index, unwrap_or, if◌then◌else◌}
 use Rattle.std.proofs.lemmas.Bool.Decides.{nat_tests}
 use Rattle.std.proofs.lemmas.Bool.{ne_eqb}
@@ -7,7 +7,6 @@ use Rattle.std.proofs.Math.Seq.{get_or-append_seam}
 use Rattle.tds_values.specs.declared.kind.Kind.{Kind}
 use Rattle.tds_values.specs.TypeInfo.{IsTypeInfo, rest_length, kind_of}
 use Rattle.tds_values.proofs.TypeInfoLemmas.{bare_type}
-use Rattle.tds_packet.specs.declared.fault.Fault.{Fault}
 use Rattle.tds_packet.specs.declared.fault.RefusedKind.{RefusedKind}
 use Rattle.tds_packet.specs.declared.fault.Fault.TheVariants.{BadTypeInfo}
 use Rattle.tds_packet.specs.Elements.{AreBytes, Spelt, Inside, IsNext}
@@ -16,7 +15,7 @@ use Rattle.tds_packet.proofs.Choices.{choose, choose_false, choose_true, eq_true
 use Rattle.tds_columns.specs.Description.{type_fault, refused_type, refused_kind}
 use Rattle.tds_columns.proofs.ByteLemmas.{split_last, one_byte}
 use Rattle.tds_columns.proofs.ColumnLaws.{byte_and_rest}
-use Rattle.tds_rows.specs.Cells.{Cell, shape, CellPart, ScalarBytes, ScalarLength, ShortLength, ShortData, Total, ChunkLength, ChunkData, WholeCell, cell_start, cell, cell_add}
+use Rattle.tds_rows.specs.Cells.{shape, CellPart, ScalarBytes, ScalarLength, ShortLength, ShortData, Total, ChunkLength, ChunkData, WholeCell, cell_start, cell, cell_add}
 use Rattle.tds_rows.proofs.CellLaws.{cell_is_read}
 use Rattle.tds_rows.proofs.CellMeaning.{CellMeans, cell_step, start_means}
 use Rattle.tds_rows.proofs.RowLaws.{shape-HasBytes}

@@ -1,5 +1,5 @@
 -- Worked return values.
-use Rattle.std.proofs.Common.{◌≡◌, List, [], ◌∷◌, refl}
+use Rattle.std.proofs.Common.{◌≡◌, [], ◌∷◌, refl}
 use Rattle.std.specs.Prelude.{Some, None}
 use Rattle.std.specs.Char.{encode_utf8}
 use Rattle.std.specs.Char.Utf16.{utf16_chars}

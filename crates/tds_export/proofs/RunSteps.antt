@@ -1,29 +1,27 @@
 -- The tokens of a response, one after another.
-use Rattle.std.proofs.Common.{◌≡◌, ◌∙◌, ◌⊎◌, inl, inr, ℕ, ◌+◌, ◌-◌, ◌^◌, ◌<◌, ◌≤◌, Bool, true, false, List, [], ◌∷◌, ◌++◌, length, refl, sym, ap, subst, arith, append_assoc, append-nil, length-append}
-use Rattle.std.specs.Prelude.{Option, Some, None, if◌then◌else◌}
+use Rattle.std.proofs.Common.{◌≡◌, ◌∙◌, inl, inr, ℕ, ◌+◌, ◌-◌, ◌^◌, ◌≤◌, Bool, true, false, List, [], ◌∷◌, ◌++◌, length, refl, sym, ap, subst, arith, append_assoc, append-nil, length-append}
+use Rattle.std.specs.Prelude.{Some, None, if◌then◌else◌}
 use Rattle.tds_meter.specs.Space.{Space, empty}
 use Rattle.tds_packet.specs.declared.fault.Fault.{Fault}
-use Rattle.tds_packet.specs.declared.fault.Fault.TheVariants.{EndWithoutDone, MessageEnded}
-use Rattle.tds_packet.specs.declared.fault.Place.{Place}
+use Rattle.tds_packet.specs.declared.fault.Fault.TheVariants.{EndWithoutDone}
 use Rattle.tds_packet.specs.declared.fault.Place.TheVariants.{Payload}
 use Rattle.tds_packet.specs.declared.fault.Stop.{Stop}
-use Rattle.tds_packet.specs.Elements.{Grammar, Spelt}
-use Rattle.tds_packet.specs.Coming.{Coming, before}
+use Rattle.tds_packet.specs.Elements.{Grammar}
 use Rattle.tds_packet.specs.Seen.{Seen, Takes, Ends, IsOver}
-use Rattle.tds_packet.specs.Reading.{Reads, StopsReading, IsCutStop}
+use Rattle.tds_packet.specs.Reading.{IsCutStop}
 use Rattle.tds_packet.proofs.ElementLaws.{Spelt-append, Spelt-none}
 use Rattle.std.proofs.KnownBytes.{Consumes-nil}
 use Rattle.tds_packet.proofs.Futures.{Ends-after, Takes-none, Takes-trans}
 use Rattle.tds_csv.specs.Sinks.{FinishFails, Finishes, Held}
-use Rattle.tds_csv.specs.Streaming.{BreaksStreaming, PutsText, Streams}
+use Rattle.tds_csv.specs.Streaming.{PutsText, Streams}
 use Rattle.tds_csv.proofs.Sinks.{Puts-none, Puts-trans}
 use Rattle.tds_rows.specs.declared.Charset.{Charset}
 use Rattle.tds_export.specs.declared.standing.Standing.{Standing}
-use Rattle.tds_export.specs.Tokens.{Token, is_final}
+use Rattle.tds_export.specs.Tokens.{Token}
 use Rattle.tds_export.specs.Built.{is_built}
 use Rattle.tds_export.specs.Reading.{Part, response, response_start, text_so_far}
 use Rattle.tds_rows.specs.Unbuilt.{Stalls}
-use Rattle.tds_export.specs.Running.{Completes, FailsAtEnd, Halts, HaltsReading, HaltsWriting, IsHolding, ReadsToken, ReadsWhole, RunStops, Tracks, behind}
+use Rattle.tds_export.specs.Running.{Completes, FailsAtEnd, Halts, IsHolding, ReadsToken, ReadsWhole, Tracks, behind}
 use Rattle.tds_packet.proofs.Steps.{cut_at_once, takes_both}
 use Rattle.tds_rows.proofs.Stalls.{stalls_after}
 use Rattle.tds_export.proofs.TokenSteps.{same_text}

@@ -1,5 +1,5 @@
 -- A report that is answered is that of the accepted response.
-use Rattle.std.proofs.Common.{◌≡◌, List, sym, ◌∙◌, ap, subst, inl}
+use Rattle.std.proofs.Common.{sym, ◌∙◌, ap, subst, inl}
 use Rattle.std.specs.Prelude.{Ok}
 use Rattle.tds_export.specs.declared.report.Report.{Report}
 use Rattle.tds_export.specs.Tokens.{text, error_text}

@@ -1,25 +1,23 @@
 -- What an export answers of an accepted response: it succeeds, but for a device that fails and for what isn't built.
-use Rattle.std.proofs.Common.{◌≡◌, ◌∙◌, ◌⊎◌, inl, inr, ℕ, ◌+◌, ◌-◌, ◌<◌, ◌≤◌, Bool, true, false, List, [], ◌∷◌, ◌++◌, length, take, drop, refl, sym, ap, subst, arith, append_assoc, append-nil, length-append, take-append-drop}
-use Rattle.std.specs.Prelude.{◌==◌, Option, Some, None, Result, Ok, Err, if◌then◌else◌}
+use Rattle.std.proofs.Common.{◌≡◌, ◌∙◌, inl, inr, ℕ, ◌+◌, ◌<◌, ◌≤◌, Bool, true, false, List, [], ◌∷◌, ◌++◌, length, take, drop, refl, sym, ap, subst, arith, append_assoc, append-nil, take-append-drop}
+use Rattle.std.specs.Prelude.{◌==◌, Some, None, Result, Ok, Err, if◌then◌else◌}
 use Rattle.std.proofs.lemmas.Grind.{flat_map-append}
-use Rattle.std.proofs.lemmas.List.{take-append-le}
 use Rattle.tds_packet.specs.declared.fault.Fault.{Fault}
 use Rattle.tds_packet.specs.declared.fault.Fault.TheVariants.{EndWithoutDone, NotYet}
 use Rattle.tds_packet.specs.declared.fault.Place.{Place}
 use Rattle.tds_packet.specs.declared.fault.Place.TheVariants.{Wire, Payload, Text}
-use Rattle.tds_packet.specs.Elements.{IsRefused, Longest, Progress, Reading, Spelt, feed_all}
-use Rattle.tds_packet.specs.Packets.{AreBefore, AreMessage, BeforeBody, BeforeHeader, BehindLast, Message, Packet, WireFault, WirePart, WirePlace, header_length, no_wire, packet_of, payload_of, wire, wire_add, wire_end, wire_of, wire_size, with_packet}
+use Rattle.tds_packet.specs.Elements.{IsRefused, Longest, Reading, feed_all}
+use Rattle.tds_packet.specs.Packets.{AreBefore, BeforeBody, BeforeHeader, BehindLast, Message, Packet, WireFault, WirePart, WirePlace, header_length, no_wire, packet_of, payload_of, wire, wire_add, wire_end, wire_of, wire_size, with_packet}
 use Rattle.tds_packet.proofs.ElementLaws.{Spelt-induct, Told, feed-Spelt, feed_all-append, longest_cut, one_longest, read_longest, told}
 use Rattle.tds_packet.proofs.PacketLaws.{before_are_read, before_packet}
 use Rattle.tds_packet.proofs.MessageLaws.{behind as behind_last, one_message, read_to_end}
-use Rattle.tds_rows.specs.declared.Charset.{Charset}
 use Rattle.tds_meter.specs.Counts.{Rose}
 use Rattle.tds_export.specs.declared.report.Report.{Report}
 use Rattle.tds_export.specs.declared.report.Stopped.{Stopped}
 use Rattle.tds_export.specs.Tokens.{Token, is_final}
 use Rattle.tds_export.specs.Response.{Accepted, Response}
-use Rattle.tds_export.specs.Export.{IsUnbuilt, Outcome, Packets, Run, Stops, Succeeds, SucceedsIfAccepted, grammar}
-use Rattle.tds_export.specs.Reading.{Part, response, response_start}
+use Rattle.tds_export.specs.Export.{Outcome, Packets, Run, Stops, SucceedsIfAccepted, grammar}
+use Rattle.tds_export.specs.Reading.{Part, response_start}
 use Rattle.tds_export.specs.Running.{behind}
 use Rattle.tds_export.proofs.ResponseLaws.{refused_response, response_is_read}
 use Rattle.tds_export.proofs.SuccessLaws.{reported_succeeds}

@@ -1,5 +1,5 @@
 -- Worked text in UTF-8.
-use Rattle.std.proofs.Common.{◌≡◌, List, [], ◌∷◌, refl}
+use Rattle.std.proofs.Common.{◌≡◌, [], ◌∷◌, refl}
 use Rattle.std.specs.Prelude.{Some, None}
 use Rattle.std.specs.Char.{encode_utf8}
 use Rattle.std.specs.Char.Utf16.{utf16_chars}
@@ -12,7 +12,7 @@ use Rattle.tds_values.specs.Calendar.{date_of}
 use Rattle.tds_values.specs.TypeInfo.{rest_length, named_kind}
 use Rattle.tds_columns.specs.Description.{refused_kind}
 use Rattle.tds_packet.specs.declared.fault.Fault.TheVariants.{BadText}
-use Rattle.tds_rows.specs.declared.Charset.TheVariants.{Windows1252, Utf8}
+use Rattle.tds_rows.specs.declared.Charset.TheVariants.{Utf8}
 use Rattle.tds_export.proofs.Vectors.{answer}
 
 -- three characters

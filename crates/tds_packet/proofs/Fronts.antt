@@ -1,5 +1,5 @@
 -- The packets at the front of an input, and what is read of it.
-use Rattle.std.proofs.Common.{◌≡◌, ◌∙◌, ◌⊎◌, inl, inr, ℕ, suc, ◌+◌, ◌-◌, ◌<◌, ◌≤◌, List, [], ◌∷◌, ◌++◌, length, take, drop, Option, Some, None, Bool, true, false, refl, sym, ap, subst, arith, append-nil, append_assoc, length-append}
+use Rattle.std.proofs.Common.{◌≡◌, ◌∙◌, ◌⊎◌, inl, inr, ℕ, suc, ◌+◌, ◌<◌, ◌≤◌, List, [], ◌∷◌, ◌++◌, length, take, drop, Some, None, Bool, true, false, refl, sym, ap, subst, arith, append-nil, append_assoc, length-append}
 use Rattle.std.proofs.Math.Seq.{take-append_seam}
 use Rattle.std.proofs.lemmas.List.{append_cancel_right}
 use Rattle.std.proofs.lemmas.Grind.{flat_map-append}
@@ -8,16 +8,15 @@ use Rattle.std.specs.Prelude.{◌==◌, ◌||◌, nat_lt, slice_index, if◌then
 use Rattle.tds_meter.specs.Counts.{one_more}
 use Rattle.tds_packet.specs.declared.fault.Fault.{Fault}
 use Rattle.tds_packet.specs.declared.fault.Fault.TheVariants.{InputEnded, MessageEnded, ReadFailed, WrongPacketType, BadPacketLength, ResponseTooLong}
-use Rattle.tds_packet.specs.declared.fault.Place.{Place}
 use Rattle.tds_packet.specs.declared.fault.Place.TheVariants.{Wire, Payload}
 use Rattle.tds_packet.specs.declared.fault.Stop.{Stop}
-use Rattle.tds_packet.specs.Elements.{AreBytes, Progress, Reading, Spelt, state_of, feed_all}
-use Rattle.tds_packet.specs.Packets.{Packet, packet_length, packet_bytes, wire_of, payload_of, is_last, IsPacket, AreBefore, AreMessage, Front, WireFault, WirePlace, BeforeHeader, BeforeBody, BehindLast, WirePart, no_wire, header_length, wire_fault, wire_end, wire}
+use Rattle.tds_packet.specs.Elements.{AreBytes, Progress, Reading, state_of, feed_all}
+use Rattle.tds_packet.specs.Packets.{Packet, packet_bytes, wire_of, payload_of, AreBefore, AreMessage, WireFault, WirePlace, BeforeHeader, BeforeBody, BehindLast, WirePart, no_wire, header_length, wire_fault, wire_end, wire}
 use Rattle.tds_packet.specs.Coming.{Coming, before, whole_message, IsFrontMessage}
 use Rattle.tds_packet.specs.Seen.{Seen, Takes, Ends, IsBetween, IsOver, begun}
 use Rattle.tds_packet.proofs.ElementLaws.{AreBytes-front, feed-Spelt}
-use Rattle.tds_packet.proofs.PacketLaws.{before_packet, before_are_read, length-packet_bytes}
-use Rattle.tds_packet.proofs.ComingLaws.{Agrees, message_agrees, front_message}
+use Rattle.tds_packet.proofs.PacketLaws.{before_packet, before_are_read}
+use Rattle.tds_packet.proofs.ComingLaws.{message_agrees, front_message}
 
 -- whole packets at the front of an input, with the rest of it behind them; none but the last is marked as the last
 pub record Begins (size limit : ℕ) (input rest payload : List ℕ) : Type 0 where

@@ -1,7 +1,7 @@
-use Rattle.std.proofs.Common.{◌≡◌, ◌∙◌, refl, sym, ap, rules, arith, length}
+use Rattle.std.proofs.Common.{◌≡◌, ◌∙◌, refl, ap, rules, arith}
 use Rattle.tds_packet.specs.Payloads.{seen}
-use Rattle.tds_packet.specs.Seen.{Seen, begun}
-use Rattle.tds_csv.specs.Sinks.{Held, fresh, held}
+use Rattle.tds_packet.specs.Seen.{begun}
+use Rattle.tds_csv.specs.Sinks.{held}
 use Rattle.tds_export.specs.declared.report.Report.{Report}
 use Rattle.tds_export.specs.Ended.{Exports, Given, StopsExport, begun_at, fresh_at}
 use Rattle.tds_export.proofs.Answered.{report_tells, stop_tells}

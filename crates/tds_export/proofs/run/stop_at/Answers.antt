@@ -1,4 +1,3 @@
-use Rattle.std.proofs.Common.{◌≡◌}
 use Rattle.tds_csv.specs.Sinks.{held}
 use Rattle.tds_export.proofs.Texts.{tidied}
 use Rattle.tds_export.proofs.run.stop_at.Goals as goal

@@ -1,4 +1,4 @@
-use Rattle.std.proofs.Common.{◌≡◌, ◌∙◌, [], ◌∷◌, ◌++◌, length, false, refl, sym, ap, subst, rules, append_assoc}
+use Rattle.std.proofs.Common.{◌++◌, subst, append_assoc}
 use Rattle.tds_columns.specs.View.{columns_of}
 use Rattle.tds_csv.specs.Quoting.{joined, line_end}
 use Rattle.tds_csv.specs.Sinks.{Breaks, Puts, held}

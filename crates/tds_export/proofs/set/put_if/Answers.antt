@@ -1,4 +1,4 @@
-use Rattle.std.proofs.Common.{◌≡◌, false, sym, subst}
+use Rattle.std.proofs.Common.{sym, subst}
 use Rattle.tds_csv.specs.Sinks.{Puts, held}
 use Rattle.tds_csv.proofs.Sinks.{Puts-none}
 use Rattle.tds_export.specs.Tokens.{text_if}

@@ -1,7 +1,7 @@
-use Rattle.std.proofs.Common.{◌≡◌, ◌∙◌, [], ◌∷◌, ◌++◌, length, false, refl, sym, ap, subst, rules, append_assoc}
-use Rattle.tds_csv.specs.Conversion.{Utf16Text, conversion_text, long_field}
+use Rattle.std.proofs.Common.{[], ◌∷◌, ◌++◌}
+use Rattle.tds_csv.specs.Conversion.{Utf16Text, conversion_text}
 use Rattle.tds_csv.specs.Quoting.{quote}
-use Rattle.tds_csv.specs.Sinks.{Breaks, Puts, held}
+use Rattle.tds_csv.specs.Sinks.{held}
 use Rattle.tds_csv.proofs.Sinks.{Breaks-after, Breaks-longer, Puts-trans}
 use Rattle.tds_export.proofs.set.put_name.Goals as goal
 

@@ -1,4 +1,4 @@
-use Rattle.std.proofs.Common.{◌≡◌, ◌∙◌, ap, refl, rules}
+use Rattle.std.proofs.Common.{◌∙◌, ap, refl, rules}
 use Rattle.tds_columns.specs.View.{columns_of}
 use Rattle.tds_columns.specs.Walking.{column_value, columns_left}
 use Rattle.tds_csv.specs.Sinks.{held}

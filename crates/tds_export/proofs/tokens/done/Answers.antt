@@ -1,9 +1,6 @@
-use Rattle.std.proofs.Common.{◌≡◌, ◌≢◌, ◌∙◌, ◌⊎◌, inl, inr, ℕ, ◌+◌, ◌*◌, ◌-◌, ◌%◌, ◌^◌, ◌<◌, ◌≤◌, true, false, List, [], ◌∷◌, ◌++◌, length, take, drop, refl, sym, ap, subst, arith, rules}
+use Rattle.std.proofs.Common.{◌≡◌, ◌<◌, false, length, refl, arith, rules}
 use Rattle.tds_packet.specs.Payloads.{seen}
-use Rattle.tds_packet.specs.Seen.{Takes}
-use Rattle.tds_csv.specs.Sinks.{Breaks, Puts, held}
-use Rattle.tds_export.specs.Running.{IsHolding, behind, in_done, in_metadata, in_row}
-use Rattle.tds_export.specs.Reading.{response}
+use Rattle.tds_export.specs.Running.{in_done}
 use Rattle.tds_export.proofs.TokenSteps.{done_reads, halts_reading, token_cut}
 use Rattle.tds_export.proofs.tokens.done.Goals as goal
 

@@ -1,4 +1,4 @@
-use Rattle.std.proofs.Common.{◌≡◌, ◌∙◌, ◌++◌, inl, inr, true, sym, ap, subst, nat_lt}
+use Rattle.std.proofs.Common.{◌∙◌, ◌++◌, inl, inr, sym, subst, nat_lt}
 use Rattle.tds_packet.specs.Payloads.{seen}
 use Rattle.tds_packet.proofs.PayloadLaws.{between_of}
 use Rattle.tds_columns.specs.View.{IsDescription, columns_of}

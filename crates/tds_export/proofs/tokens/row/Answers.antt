@@ -1,4 +1,4 @@
-use Rattle.std.proofs.Common.{◌≡◌, ◌∙◌, ap, subst}
+use Rattle.std.proofs.Common.{◌∙◌, ap, subst}
 use Rattle.tds_columns.specs.View.{columns_of}
 use Rattle.tds_packet.specs.Payloads.{seen}
 use Rattle.tds_csv.specs.Sinks.{held}
