@@ -1,0 +1,427 @@
+// Rows worked out by hand, from the bytes behind the token byte to the text and the answer.
+ghost use Rattle.std.specs.Prelude.{◌≡◌, ◌≤◌, ℕ, None, [], true, length};
+ghost use Rattle.tds_columns.specs.View.{IsDescription};
+ghost use Rattle.tds_packet.specs.Payloads.{IsOnSame, IsSound};
+
+use super::*;
+use std::alloc::{AllocError, Global};
+use std::io::Read;
+use std::test::Fail;
+use tds_columns::{Columns, Described, gather};
+use tds_csv::Sink;
+use tds_meter::Area;
+use tds_packet::rig::{Failing, ScriptedReader, ScriptedWriter};
+use tds_packet::{Counted, Fault, Payload, Place, Stop};
+
+const INT4: &[u8] = &[0x38];
+
+const MONEY: &[u8] = &[0x3C];
+
+const DATETIME: &[u8] = &[0x3D];
+
+const SMALL_DATETIME: &[u8] = &[0x3A];
+
+const INT4_N: &[u8] = &[0x26, 0x04];
+
+const DATE: &[u8] = &[0x28];
+
+const GUID: &[u8] = &[0x24, 0x10];
+
+const TIME: &[u8] = &[0x29, 0x07];
+
+const OFFSET: &[u8] = &[0x2B, 0x00];
+
+const DECIMAL: &[u8] = &[0x6A, 0x05, 0x05, 0x02];
+
+const WIDE_DECIMAL: &[u8] = &[0x6A, 0x11, 0x26, 0x26];
+
+const VARCHAR: &[u8] = &[0xA7, 0x0A, 0x00, 0x09, 0x04, 0xD0, 0x00, 0x34];
+
+const VARBINARY_MAX: &[u8] = &[0xA5, 0xFF, 0xFF];
+
+const NINE: &[&[u8]] = &[
+    INT4_N, INT4_N, INT4_N, INT4_N, INT4_N, INT4_N, INT4_N, INT4_N, INT4_N,
+];
+
+const MIXED: &[&[u8]] = &[INT4, INT4_N, DATE];
+
+const MIXED_ROW: &[u8] = &[0x2A, 0x00, 0x00, 0x00, 0x00, 0x03, 0xDA, 0xB9, 0x37];
+
+const MIXED_TEXT: &[u8] = b"42,NULL,9999-12-31\r\n";
+
+const NINE_TEXT: &[u8] = b"NULL,NULL,NULL,NULL,NULL,NULL,NULL,NULL,NULL\r\n";
+
+const NINES: &[u8] = &[
+    0x11, 0x01, 0xFF, 0xFF, 0xFF, 0xFF, 0x3F, 0x22, 0x8A, 0x09, 0x7A, 0xC4, 0x86, 0x5A, 0xA8, 0x4C,
+    0x3B, 0x4B,
+];
+
+const NINES_TEXT: &[u8] = b"0.99999999999999999999999999999999999999\r\n";
+
+const GUID_ROW: &[u8] = &[0x10, 0, 1, 2, 3, 4, 5, 6, 7, 8, 9, 10, 11, 12, 13, 14, 15];
+
+const MONEY_ROW: &[u8] = &[
+    0xFF, 0xFF, 0xFF, 0xFF, 0xFF, 0xFF, 0xFF, 0xFF, 0x00, 0x00, 0x00, 0x00, 0x10, 0x27, 0x00, 0x00,
+];
+
+const FILLER: [u8; 4095] = [b'x'; 4095];
+
+// What a row came to, and how many bytes behind the description were handed out.
+#[derive(Debug, Drop)]
+struct Outcome {
+    answer: Result<(), Stop>,
+    text: Vec<u8>,
+    place: u64,
+}
+
+// The description of these columns, without names, and a row behind it.
+fn payload_of(alloc: Global, columns: &[&[u8]], row: &[u8]) -> Result<Vec<u8>, AllocError> {
+    let mut payload = Vec::new(alloc);
+    payload.extend_from_slice(&(columns.len().min(0xFFFF) as u16).to_le_bytes())?;
+    for info in columns {
+        payload.extend_from_slice(&[0; 6])?;
+        payload.extend_from_slice(info)?;
+        payload.push(0)?;
+    }
+    payload.extend_from_slice(row)?;
+    Ok(payload)
+}
+
+// The payload in packets of so many bytes of it, and an empty last one.
+fn in_packets(alloc: Global, payload: &[u8], size: usize) -> Result<Vec<u8>, AllocError> {
+    let mut wire = Vec::new(alloc);
+    for body in payload.chunks(size.max(1)) {
+        let length = ((8 + body.len()).min(0xFFFF) as u16).to_be_bytes();
+        wire.extend_from_slice(&[0x04, 0x00, length[0], length[1], 0x00, 0x00, 0x01, 0x00])?;
+        wire.extend_from_slice(body)?;
+    }
+    wire.extend_from_slice(&[0x04, 0x01, 0x00, 0x08, 0x00, 0x00, 0x01, 0x00])?;
+    Ok(wire)
+}
+
+// Reads a description, and says whether it is one of columns.
+fn describe<R: Read>(payload: &mut Payload<R>, area: &mut Area) -> bool
+    requires sound { IsSound payload.old }
+    requires going { payload.old.stopped ≡ None }
+    requires room { 2 ≤ area.old.room }
+    requires empty { area.old.bytes ≡ [] }
+    ensures sound { IsSound payload.new }
+    ensures same { IsOnSame payload.old payload.new }
+    ensures going { result ≡ true → payload.new.stopped ≡ None }
+    ensures whole { result ≡ true → IsDescription area.new.bytes }
+{
+    match gather(payload, area) {
+        Ok(Described::Columns(_)) => true,
+        _ => false,
+    }
+}
+
+// Reads a row in packets of so many bytes of the payload, into a sink where so many bytes wait.
+fn run(
+    rt: &HostRuntime,
+    columns: &[&[u8]],
+    bytes: &[u8],
+    size: usize,
+    waiting: usize,
+    to: ScriptedWriter,
+) -> Result<Outcome, Fail> {
+    let payload = payload_of(rt.alloc(), columns, bytes)?;
+    let start = (payload.len() - bytes.len().min(payload.len())) as u64;
+    let wire = in_packets(rt.alloc(), &payload, size)?;
+    let mut from = Counted::new(ScriptedReader::new(&wire, 5));
+    let mut to = Counted::new(to);
+    let mut packet = Area::new(rt.alloc(), 4096)?;
+    let mut output = Area::new(rt.alloc(), 4096)?;
+    let mut description = Area::new(rt.alloc(), 4096)?;
+    let mut payload = Payload::new(&mut from, &mut packet, 1_000_000);
+    let mut sink = Sink::new(&mut to, &mut output);
+    if !describe(&mut payload, &mut description) {
+        return Err(Fail::from(AllocError));
+    }
+    sink.put(&FILLER[..waiting.min(4095)])?;
+    let columns = Columns::view(description.bytes());
+    let answer = row(&mut payload, columns, Charset::Windows1252, &mut sink);
+    let place = payload.place().saturating_sub(start);
+    let _ = sink.finish();
+    Ok(Outcome {
+        answer,
+        text: to.device().kept().to_vec(rt.alloc())?,
+        place,
+    })
+}
+
+fn usual_writer() -> ScriptedWriter {
+    ScriptedWriter::new(1000, Failing::Never)
+}
+
+// The length of a description without names.
+fn described(columns: &[&[u8]]) -> u64 {
+    let mut n: u64 = 2;
+    for info in columns {
+        n = n.saturating_add(7).saturating_add(info.len() as u64);
+    }
+    n
+}
+
+// A row, its columns, and its text.
+#[derive(Clone, Copy)]
+struct Good {
+    what: &'static str,
+    columns: &'static [&'static [u8]],
+    bytes: &'static [u8],
+    text: &'static [u8],
+}
+
+fn make_good(
+    what: &'static str,
+    columns: &'static [&'static [u8]],
+    bytes: &'static [u8],
+    text: &'static [u8],
+) -> Good {
+    Good {
+        what,
+        columns,
+        bytes,
+        text,
+    }
+}
+
+fn good_rows() -> [Good; 17] {
+    [
+        make_good("nine NULLs", NINE, &[0; 9], NINE_TEXT),
+        make_good("three kinds", MIXED, MIXED_ROW, MIXED_TEXT),
+        make_good(
+            "a decimal",
+            &[DECIMAL],
+            &[5, 1, 0x39, 0x30, 0, 0],
+            b"123.45\r\n",
+        ),
+        make_good(
+            "a negative one",
+            &[DECIMAL],
+            &[5, 0, 5, 0, 0, 0],
+            b"-0.05\r\n",
+        ),
+        make_good("zero", &[DECIMAL], &[5, 0, 0, 0, 0, 0], b"0.00\r\n"),
+        make_good("38 digits", &[WIDE_DECIMAL], NINES, NINES_TEXT),
+        make_good("the first day", &[DATE], &[3, 0, 0, 0], b"0001-01-01\r\n"),
+        make_good(
+            "the last day",
+            &[DATE],
+            &[3, 0xDA, 0xB9, 0x37],
+            b"9999-12-31\r\n",
+        ),
+        make_good(
+            "an offset",
+            &[OFFSET],
+            &[8, 0, 0, 0, 0, 0, 0, 0x3C, 0],
+            b"0001-01-01 01:00:00 +01:00\r\n",
+        ),
+        make_good(
+            "a time",
+            &[TIME],
+            &[5, 0xFF, 0xBF, 0x69, 0x2A, 0xC9],
+            b"23:59:59.9999999\r\n",
+        ),
+        make_good(
+            "a GUID",
+            &[GUID],
+            GUID_ROW,
+            b"03020100-0504-0706-0809-0a0b0c0d0e0f\r\n",
+        ),
+        make_good("one byte", &[&[0x26, 0x01]], &[1, 0xFF], b"255\r\n"),
+        make_good("two bytes", &[&[0x26, 0x02]], &[2, 0, 0x80], b"-32768\r\n"),
+        make_good(
+            "eight bytes",
+            &[&[0x26, 0x08]],
+            &[8, 0, 0, 0, 0, 0, 0, 0, 0x80],
+            b"-9223372036854775808\r\n",
+        ),
+        make_good("money", &[MONEY, MONEY], MONEY_ROW, b"-0.0001,1.0000\r\n"),
+        make_good(
+            "datetime",
+            &[DATETIME],
+            &[0, 0, 0, 0, 0xFF, 0x81, 0x8B, 1],
+            b"1900-01-01 23:59:59.997\r\n",
+        ),
+        make_good(
+            "smalldatetime",
+            &[SMALL_DATETIME],
+            &[0, 0, 0x9F, 5],
+            b"1900-01-01 23:59:00\r\n",
+        ),
+    ]
+}
+
+#[test]
+fn rows_are_written(rt: HostRuntime) -> Result<(), Fail> {
+    for case in &good_rows() {
+        for size in [1, 3, 4000] {
+            let out = run(&rt, case.columns, case.bytes, size, 0, usual_writer())?;
+            assert_eq!(rt; out.answer, Ok(()), "{} {size}", case.what);
+            assert_eq!(rt; out.text.as_slice(), case.text, "{} {size}", case.what);
+            assert_eq!(rt; out.place, case.bytes.len() as u64, "{} {size}", case.what);
+        }
+    }
+    Ok(())
+}
+
+// Columns, a row, its fault and the byte of the row where it stands, and the text before it.
+#[derive(Clone, Copy)]
+struct Bad {
+    columns: &'static [&'static [u8]],
+    bytes: &'static [u8],
+    fault: Fault,
+    at: u64,
+    text: &'static [u8],
+}
+
+fn make_bad(
+    columns: &'static [&'static [u8]],
+    bytes: &'static [u8],
+    fault: Fault,
+    at: u64,
+    text: &'static [u8],
+) -> Bad {
+    Bad {
+        columns,
+        bytes,
+        fault,
+        at,
+        text,
+    }
+}
+
+fn bad_rows() -> [Bad; 13] {
+    [
+        make_bad(
+            &[DATE],
+            &[3, 0xDB, 0xB9, 0x37],
+            Fault::BadValue { column: 0 },
+            1,
+            b"",
+        ),
+        make_bad(
+            &[DATE],
+            &[4, 0],
+            Fault::BadValueLength { column: 0 },
+            0,
+            b"",
+        ),
+        make_bad(
+            MIXED,
+            &[42, 0, 0, 0, 0, 3, 0xDB, 0xB9, 0x37],
+            Fault::BadValue { column: 2 },
+            6,
+            b"42,NULL",
+        ),
+        make_bad(
+            MIXED,
+            &[42, 0, 0, 0, 3, 0, 0, 0],
+            Fault::BadValueLength { column: 1 },
+            4,
+            b"42",
+        ),
+        make_bad(
+            &[DATETIME],
+            &[0, 0, 0, 0, 0, 0x82, 0x8B, 1],
+            Fault::BadValue { column: 0 },
+            0,
+            b"",
+        ),
+        make_bad(
+            &[SMALL_DATETIME],
+            &[0, 0, 0xA0, 5],
+            Fault::BadValue { column: 0 },
+            0,
+            b"",
+        ),
+        make_bad(
+            &[OFFSET],
+            &[8, 0, 0, 0, 0, 0, 0, 0xFF, 0xFF],
+            Fault::BadValue { column: 0 },
+            1,
+            b"",
+        ),
+        make_bad(
+            &[TIME],
+            &[5, 0, 0xC0, 0x69, 0x2A, 0xC9],
+            Fault::BadValue { column: 0 },
+            1,
+            b"",
+        ),
+        make_bad(
+            &[INT4, VARCHAR],
+            &[42, 0, 0, 0, 3, 0, 0x41],
+            Fault::NotYet,
+            4,
+            b"42",
+        ),
+        make_bad(
+            &[VARBINARY_MAX],
+            &[3, 0, 0, 0, 0, 0, 0, 0, 0],
+            Fault::NotYet,
+            0,
+            b"",
+        ),
+        make_bad(
+            &[INT4, VARCHAR],
+            &[42, 0, 0, 0, 3],
+            Fault::MessageEnded,
+            4,
+            b"42",
+        ),
+        make_bad(MIXED, &[42, 0, 0, 0], Fault::MessageEnded, 4, b"42"),
+        make_bad(
+            MIXED,
+            &[42, 0, 0, 0, 0, 3, 0, 0],
+            Fault::MessageEnded,
+            6,
+            b"42,NULL",
+        ),
+    ]
+}
+
+#[test]
+fn rows_are_refused(rt: HostRuntime) -> Result<(), Fail> {
+    for (i, case) in bad_rows().iter().enumerate() {
+        let stop = Stop {
+            fault: case.fault,
+            place: Place::Payload(described(case.columns).saturating_add(case.at)),
+        };
+        for size in [1, 4000] {
+            let out = run(&rt, case.columns, case.bytes, size, 0, usual_writer())?;
+            assert_eq!(rt; out.answer, Err(stop), "{i} {size}");
+            assert_eq!(rt; out.text.as_slice(), case.text, "{i} {size}");
+        }
+    }
+    Ok(())
+}
+
+// The line lies across the end of a block, or behind it.
+#[test]
+fn a_line_lies_across_a_block(rt: HostRuntime) -> Result<(), Fail> {
+    for waiting in 4060..=4095 {
+        let out = run(&rt, MIXED, MIXED_ROW, 4000, waiting, usual_writer())?;
+        assert_eq!(rt; out.answer, Ok(()), "{waiting}");
+        assert_eq!(rt; out.text.len(), waiting + MIXED_TEXT.len(), "{waiting}");
+        assert!(rt; out.text.ends_with(MIXED_TEXT), "{waiting}");
+    }
+    Ok(())
+}
+
+// The writer takes 4,000 bytes, and then fails at the block that the line fills.
+#[test]
+fn a_write_fails(rt: HostRuntime) -> Result<(), Fail> {
+    let stop = Stop {
+        fault: Fault::WriteFailed,
+        place: Place::Text(4000),
+    };
+    for waiting in 4076..=4095 {
+        let to = ScriptedWriter::new(1000, Failing::AfterBytes(4000));
+        let out = run(&rt, MIXED, MIXED_ROW, 4000, waiting, to)?;
+        assert_eq!(rt; out.answer, Err(stop), "{waiting}");
+        assert_eq!(rt; out.text.len(), 4000, "{waiting}");
+    }
+    Ok(())
+}
