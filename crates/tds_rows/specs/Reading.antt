@@ -59,6 +59,19 @@ pub record ReadsCell (from : CellPart) (column : ℕ) (last : Bool) (old new : S
   pub place_is : place' ≡ place + length (front ++ element)
   pub text_is : text ≡ in_line column last (field value)
 
+-- These bytes are a cell, whose text comes with its last element alone, and this is its text in its line.
+pub record WritesCell (from : CellPart) (column : ℕ) (last : Bool) (bytes text : List ℕ) : Type 0 where
+  pub value : Cell
+  pub front : List ℕ
+  pub at : CellPart
+  pub element : List ℕ
+  pub joined : front ++ element ≡ bytes
+  pub spelt : Spelt (cell column) from front at
+  pub next : IsNext (cell column) at element
+  pub whole : cell_add at element ≡ WholeCell value
+  pub quiet : field_so_far at ≡ None
+  pub text_is : text ≡ in_line column last (field value)
+
 -- Reading a cell stopped before it had any text.
 pub record StallsCell (from : CellPart) (column : ℕ) (old new : Seen) (place : ℕ) (stop : Stop) : Type 0 where
   pub at : CellPart

@@ -14,73 +14,19 @@ ghost use Rattle.tds_values.specs.Kind as kinds;
 ghost use Rattle.tds_values.specs.Scalar.{read_of};
 
 use crate::Charset;
+use crate::fields::{write_null, write_value};
+use crate::lying::read_lying;
 use std::io::{Read, Write};
 use tds_columns::Columns;
 use tds_csv::Sink;
 use tds_packet::{Fault, Payload, Place, Stop};
-use tds_values::{Kind, Reach, write_scalar};
+use tds_values::{Kind, Reach};
 
 /// How many bytes the text of a scalar in its line may want, and a few to spare.
 const CELL_ROOM: usize = 80;
 
 /// The longest value of a scalar kind.
 const LONGEST: usize = 17;
-
-// Writes the comma before a field to the front of a slice, and answers how many bytes that is: none
-// before the first field.
-fn write_comma(column: u16, to: &mut [u8]) -> usize
-    requires { 1 ≤ length to.old }
-    ensures most { result ≤ 1 }
-    ensures text { (text : List ℕ) → take result to.new ++ text ≡ behind_comma column text }
-{
-    if column == 0 {
-        return 0;
-    }
-    to[0] = b',';
-    1
-}
-
-// Writes the end of the line behind so many bytes of a slice, if the field is the last, and answers
-// how many bytes there are then.
-fn write_end(last: bool, made: usize, to: &mut [u8]) -> usize
-    requires { made + 2 ≤ length to.old }
-    ensures most { result ≤ made + 2 }
-    ensures text { take result to.new ≡ take made to.old ++ end_behind last }
-{
-    if !last {
-        return made;
-    }
-    to[made] = b'\r';
-    to[made + 1] = b'\n';
-    made + 2
-}
-
-// Writes NULL in its line to the front of a slice, and answers how many bytes it has.
-fn write_null(column: u16, last: bool, to: &mut [u8]) -> usize
-    requires room { 80 ≤ length to.old }
-    ensures most { result ≤ 44 }
-    ensures text { take result to.new ≡ in_line column last null_field }
-{
-    let start = write_comma(column, to);
-    to[start..start + 4].copy_from_slice(b"NULL");
-    write_end(last, start + 4, to)
-}
-
-// Writes the text of a value in its line to the front of a slice, and answers how many bytes it has;
-// none where the value is out of range.
-fn write_value(kind: &Kind, column: u16, last: bool, bytes: &[u8], to: &mut [u8]) -> Option<usize>
-    requires valid { IsTrue (kinds.is_valid kind.now) }
-    requires scalar { IsTrue (kinds.is_scalar kind.now) }
-    requires room { 80 ≤ length to.old }
-    ensures most { IfSome result (λ made. made ≤ 44) }
-    ensures gives { MatchOption result (is_ok (read_of kind.now bytes.now) ≡ false) (λ made. IsValueText kind.now column last bytes.now (take made to.new)) }
-{
-    let start = write_comma(column, to);
-    match write_scalar(kind, bytes, &mut to[start..]) {
-        Ok(made) => Some(write_end(last, start + made, to)),
-        Err(_) => None,
-    }
-}
 
 // The stop of a value out of range, which began behind so many bytes of the payload.
 fn bad_value(column: u16, place: u64) -> Stop
@@ -261,8 +207,10 @@ fn read_cell<R: Read>(
     }
 }
 
-// Reads a cell, and puts its text.
-fn put_cell<R: Read, W: Write>(
+// Reads a cell, and puts its text: across the end of a packet or of a block, or one that stops the
+// row.
+#[inline(never)]
+fn put_across<R: Read, W: Write>(
     payload: &mut Payload<R>,
     sink: &mut Sink<W>,
     kind: &Kind,
@@ -292,6 +240,72 @@ fn put_cell<R: Read, W: Write>(
     match sink.put(&text[..made]) {
         Ok(()) => Ok(()),
         Err(stop) => Err(stop),
+    }
+}
+
+// Reads a cell, and writes its text where it waits.
+#[inline]
+fn put_in_room<R: Read, W: Write>(
+    payload: &mut Payload<R>,
+    sink: &mut Sink<W>,
+    kind: &Kind,
+    column: u16,
+    last: bool,
+) -> Result<(), Stop>
+    requires sound { IsSound payload.old }
+    requires going { payload.old.stopped ≡ None }
+    requires ready { IsReady sink.old }
+    requires writing { sink.old.failed ≡ false }
+    requires valid { IsTrue (kinds.is_valid kind.now) }
+    requires room { length sink.old.output.now.bytes + 80 ≤ 4096 }
+    ensures sound { IsSound payload.new }
+    ensures same { IsOnSame payload.old payload.new }
+    ensures going { OnOk result (payload.new.stopped ≡ None) }
+    ensures ready { IsReady sink.new }
+    ensures same_sink { IsOnSameSink sink.old sink.new }
+    ensures writing { OnOk result (sink.new.failed ≡ false) }
+    ensures gives { (charset : sets.Charset) → MatchResult result
+        (λ _. PutsCell charset kind.now column last (seen R.remaining payload.old) (seen R.remaining payload.new) payload.old.place payload.new.place (held W.contents sink.old) (held W.contents sink.new))
+        (λ stop. StopsCell charset kind.now column last (seen R.remaining payload.old) (seen R.remaining payload.new) payload.old.place (held W.contents sink.old) (held W.contents sink.new) sink.new.failed stop) }
+{
+    let waiting = sink.waiting() as usize;
+    match read_lying(payload, kind, column, last, sink.spare(CELL_ROOM)) {
+        Some(made) => sink.keep(waiting, made),
+        None => match sink.keep(waiting, 0) {
+            Ok(()) => put_across(payload, sink, kind, column, last),
+            Err(_) => unreachable!(),
+        },
+    }
+}
+
+// Reads a cell, and puts its text.
+#[inline]
+fn put_cell<R: Read, W: Write>(
+    payload: &mut Payload<R>,
+    sink: &mut Sink<W>,
+    kind: &Kind,
+    column: u16,
+    last: bool,
+) -> Result<(), Stop>
+    requires sound { IsSound payload.old }
+    requires going { payload.old.stopped ≡ None }
+    requires ready { IsReady sink.old }
+    requires writing { sink.old.failed ≡ false }
+    requires valid { IsTrue (kinds.is_valid kind.now) }
+    ensures sound { IsSound payload.new }
+    ensures same { IsOnSame payload.old payload.new }
+    ensures going { OnOk result (payload.new.stopped ≡ None) }
+    ensures ready { IsReady sink.new }
+    ensures same_sink { IsOnSameSink sink.old sink.new }
+    ensures writing { OnOk result (sink.new.failed ≡ false) }
+    ensures gives { (charset : sets.Charset) → MatchResult result
+        (λ _. PutsCell charset kind.now column last (seen R.remaining payload.old) (seen R.remaining payload.new) payload.old.place payload.new.place (held W.contents sink.old) (held W.contents sink.new))
+        (λ stop. StopsCell charset kind.now column last (seen R.remaining payload.old) (seen R.remaining payload.new) payload.old.place (held W.contents sink.old) (held W.contents sink.new) sink.new.failed stop) }
+{
+    if sink.room() < CELL_ROOM {
+        put_across(payload, sink, kind, column, last)
+    } else {
+        put_in_room(payload, sink, kind, column, last)
     }
 }
 

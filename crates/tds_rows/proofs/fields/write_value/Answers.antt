@@ -1,7 +1,7 @@
 use Rattle.std.proofs.Common.{◌≤◌, length, arith, rules}
 use Rattle.tds_values.specs.ScalarText.{text_of}
 use Rattle.tds_rows.proofs.LineTexts.{value_text}
-use Rattle.tds_rows.proofs.rows.write_value.Goals as goal
+use Rattle.tds_rows.proofs.fields.write_value.Goals as goal
 
 pub returns-in-Ok-clause-gives : goal.returns-in-Ok-clause-gives
 returns-in-Ok-clause-gives c =

@@ -1,0 +1,158 @@
+-- Cells whose bytes lie whole in a packet.
+use Rattle.std.proofs.Common.{◌≡◌, ◌≢◌, ◌∙◌, ℕ, ◌+◌, ◌<◌, ◌≤◌, Bool, true, false, List, [], ◌∷◌, ◌++◌, length, take, drop, Result, Ok, Err, MatchResult, inl, inr, refl, sym, ap, subst, arith, length-take, length-drop}
+use Rattle.std.specs.Prelude.{None, ◌==◌, ◌||◌, is_ok, replicate, slice_index, if◌then◌else◌}
+use Rattle.std.proofs.lemmas.Bool.{ne_eqb}
+use Rattle.std.proofs.lemmas.List.{length-take-le}
+use lib.Seq.{take-add}
+use Rattle.tds_values.specs.declared.kind.Kind.{Kind}
+use Rattle.tds_values.specs.declared.scalar.ScalarValue.{ScalarValue}
+use Rattle.tds_values.specs.declared.scalar.ValueFault.TheVariants as faults
+use Rattle.tds_values.specs.Kind.{is_length_allowed}
+use Rattle.tds_values.specs.Scalar.{checked, read_of, value_of}
+use Rattle.tds_packet.specs.declared.fault.Fault.TheVariants.{BadValue, BadValueLength}
+use Rattle.tds_packet.specs.declared.fault.Stop.{Stop}
+use Rattle.tds_packet.specs.Elements.{IsNext, Spelt}
+use Rattle.tds_packet.specs.Seen.{Seen, Takes, IsBetween}
+use Rattle.tds_packet.proofs.Choices.{choose_false}
+use Rattle.tds_packet.proofs.ElementLaws.{Spelt-none, Spelt-one}
+use Rattle.tds_csv.specs.Quoting.{null_field}
+use Rattle.tds_meter.specs.Lent.{overwritten}
+use Rattle.tds_csv.specs.Sinks.{Breaks, Held, Puts}
+use Rattle.tds_csv.proofs.Spares.{spare_before, spare_written}
+use Rattle.tds_csv.proofs.Sinks.{Breaks-after, Puts-trans}
+use Rattle.tds_rows.specs.declared.Charset.{Charset}
+use Rattle.tds_rows.specs.Cells.{CellPart, Null, ScalarBytes, ScalarCell, ScalarLength, WholeCell, cell, cell_start, shape, unless, value_part}
+use Rattle.tds_rows.specs.Reading.{IsValueText, PutsCell, ReadsCell, StopsCell, WritesCell, in_line}
+
+-- a value that is read has a length that is allowed
+read_allowed : (kind : Kind) (bytes : List ℕ) (value : ScalarValue) → read_of kind bytes ≡ Ok value → is_length_allowed kind (length bytes) ≡ true
+read_allowed kind bytes value h = go (is_length_allowed kind (length bytes)) refl h
+  where
+    go : (b : Bool) → is_length_allowed kind (length bytes) ≡ b → (if b then checked (value_of kind bytes) else Err faults.Length) ≡ Ok value → is_length_allowed kind (length bytes) ≡ true
+    go true e k = e
+    go false e k = cc
+
+value_next : (column : ℕ) (kind : Kind) (n : ℕ) (bytes : List ℕ) (value : ScalarValue) → 0 < n → length bytes ≡ n → read_of kind bytes ≡ Ok value → IsNext (cell column) (ScalarBytes kind n) bytes
+value_next column kind n bytes value some whole h = record { some = omega (arith, some, whole); whole = whole; free = ap (λ r. unless (is_ok r) (BadValue column)) h }
+
+pub fixed_written : (column : ℕ) (kind : Kind) (n : ℕ) (last : Bool) (bytes text : List ℕ) → 0 < n → n ≤ length bytes → IsValueText kind column last (take n bytes) text → WritesCell (ScalarBytes kind n) column last (take n bytes) text
+fixed_written column kind n last bytes text some within x = record {
+  value = ScalarCell x.0;
+  front = [];
+  at = ScalarBytes kind n;
+  element = take n bytes;
+  joined = refl;
+  spelt = Spelt-none (cell column) (ScalarBytes kind n);
+  next = value_next column kind n (take n bytes) x.0 some (length-take-le n bytes within) x.1;
+  whole = ap (λ r. value_part r) x.1;
+  quiet = refl;
+  text_is = x.2;
+}
+
+first_of : (bytes : List ℕ) → 1 ≤ length bytes → slice_index (take 1 bytes) 0 ≡ slice_index bytes 0
+first_of [] h = refl
+first_of (x ∷ xs) h = refl
+
+pub null_written : (column : ℕ) (kind : Kind) (last : Bool) (bytes text : List ℕ) → 1 ≤ length bytes → slice_index bytes 0 ≡ 0 → text ≡ in_line column last null_field → WritesCell (ScalarLength kind) column last (take 1 bytes) text
+null_written column kind last bytes text within is text_is =
+    let len : length (take 1 bytes) ≡ 1 = length-take-le 1 bytes within in
+    let zero : slice_index (take 1 bytes) 0 ≡ 0 = first_of bytes within ∙ is in
+    record {
+      value = Null;
+      front = [];
+      at = ScalarLength kind;
+      element = take 1 bytes;
+      joined = refl;
+      spelt = Spelt-none (cell column) (ScalarLength kind);
+      next = record { some = omega (arith, len); whole = len; free = ap (λ (m : ℕ). unless ((m == 0) || is_length_allowed kind m) (BadValueLength column)) zero };
+      whole = ap (λ (m : ℕ). if m == 0 then WholeCell Null else ScalarBytes kind m) zero;
+      quiet = refl;
+      text_is = text_is;
+    }
+
+pub counted_written : (column : ℕ) (kind : Kind) (n : ℕ) (last : Bool) (bytes text : List ℕ) → slice_index bytes 0 ≡ n → n ≢ 0 → 1 + n ≤ length bytes → IsValueText kind column last (take n (drop 1 bytes)) text
+    → WritesCell (ScalarLength kind) column last (take (1 + n) bytes) text
+counted_written column kind n last bytes text is some within x =
+    let len : length (take 1 bytes) ≡ 1 = length-take-le 1 bytes (omega (arith, within)) in
+    let whole : length (take n (drop 1 bytes)) ≡ n = omega (arith, within, length-take n (drop 1 bytes), length-drop 1 bytes) in
+    let first : slice_index (take 1 bytes) 0 ≡ n = first_of bytes (omega (arith, within)) ∙ is in
+    let good : is_length_allowed kind n ≡ true = ap (is_length_allowed kind) (sym whole) ∙ read_allowed kind (take n (drop 1 bytes)) x.0 x.1 in
+    let yes : ((n == 0) || is_length_allowed kind n) ≡ true = ap (λ v. v || is_length_allowed kind n) (ne_eqb n 0 some) ∙ good in
+    let free : (cell column).fault (ScalarLength kind) (take 1 bytes) ≡ None = ap (λ (m : ℕ). unless ((m == 0) || is_length_allowed kind m) (BadValueLength column)) first ∙ ap (λ v. unless v (BadValueLength column)) yes in
+    let to : (cell column).add (ScalarLength kind) (take 1 bytes) ≡ ScalarBytes kind n = ap (λ (m : ℕ). if m == 0 then WholeCell Null else ScalarBytes kind m) first ∙ choose_false (n == 0) (WholeCell Null) (ScalarBytes kind n) (ne_eqb n 0 some) in
+    record {
+      value = ScalarCell x.0;
+      front = take 1 bytes;
+      at = ScalarBytes kind n;
+      element = take n (drop 1 bytes);
+      joined = sym (take-add 1 n bytes);
+      spelt = subst (λ v. Spelt (cell column) (ScalarLength kind) (take 1 bytes) v) to (Spelt-one (cell column) (ScalarLength kind) (take 1 bytes) (record { some = omega (arith, len); whole = len; free = free }));
+      next = value_next column kind n (take n (drop 1 bytes)) x.0 (omega (arith, some)) whole x.1;
+      whole = ap (λ r. value_part r) x.1;
+      quiet = refl;
+      text_is = x.2;
+    }
+
+pub lying_reads : (from : CellPart) (column : ℕ) (last : Bool) (a b : Seen) (place place' : ℕ) (bytes text : List ℕ) → WritesCell from column last bytes text → Takes a b bytes (length bytes) → IsBetween b → place' ≡ place + length bytes
+    → ReadsCell from column last a b place place' text
+lying_reads from column last a b place place' bytes text x takes between at = record {
+  value = x.value;
+  front = x.front;
+  at = x.at;
+  element = x.element;
+  spelt = x.spelt;
+  next = x.next;
+  whole = x.whole;
+  quiet = x.quiet;
+  takes = subst (λ l. Takes a b l (length l)) (sym x.joined) takes;
+  between = between;
+  place_is = at ∙ ap (λ (l : List ℕ). place + length l) (sym x.joined);
+  text_is = x.text_is;
+}
+
+-- nothing was put before a cell
+pub cell_behind : {U : Type 0} (r : Result U Stop) (charset : Charset) (kind : Kind) (column : ℕ) (last : Bool) (a b : Seen) (place place' : ℕ) (h i j : Held) (failed : Bool) → Puts h i []
+    → MatchResult r (λ _. PutsCell charset kind column last a b place place' i j) (λ stop. StopsCell charset kind column last a b place i j failed stop)
+    → MatchResult r (λ _. PutsCell charset kind column last a b place place' h j) (λ stop. StopsCell charset kind column last a b place h j failed stop)
+cell_behind (Ok u) charset kind column last a b place place' h i j failed p x = record { text = x.text; reads = x.reads; puts = Puts-trans h i j [] x.text p x.puts }
+cell_behind (Err stop) charset kind column last a b place place' h i j failed p (inl x) = inl (x.0, Puts-trans h i j [] [] p x.1, x.2)
+cell_behind (Err stop) charset kind column last a b place place' h i j failed p (inr x) = inr (record { text = x.0.text; place' = x.0.place'; reads = x.0.reads; breaks = Breaks-after h i j [] x.0.text stop p x.0.breaks }, x.1)
+
+module _ (h j : Held) (written : List ℕ) (n room : ℕ) (whole : length written ≡ room) (at : n ≡ length h.waiting) where
+  -- what stands in the room that was lent
+  abbrev lent : List ℕ
+  lent = overwritten (length h.waiting) written (h.waiting ++ replicate room 0)
+
+  before : take n lent ≡ h.waiting
+  before = ap (λ k. take k lent) at ∙ spare_before h.waiting written room whole
+
+  behind : drop n lent ≡ written
+  behind = ap (λ k. drop k lent) at ∙ spare_written h.waiting written room whole
+
+  abbrev lent_held : Held
+  lent_held = record h { waiting = take n lent }
+
+  same : lent_held ≡ h
+  same = ap (λ (w : List ℕ). record h { waiting = w }) before
+
+  -- the lent room was given back, and nothing put
+  pub kept_none : Puts lent_held j [] → Puts h j []
+  kept_none x = subst (λ (k : Held). Puts k j []) same x
+
+  -- the text of a cell that was written there was put
+  pub kept_text : {U : Type 0} (r : Result U Stop) (made : ℕ) → MatchResult r (λ _. Puts lent_held j (take made (drop n lent))) (λ stop. Breaks lent_held j (take made (drop n lent)) stop) → MatchResult r (λ _. Puts h j (take made written)) (λ stop. Breaks h j (take made written) stop)
+  kept_text (Ok u) made x = subst (λ (l : List ℕ). Puts h j (take made l)) behind (subst (λ (k : Held). Puts k j (take made (drop n lent))) same x)
+  kept_text (Err stop) made x = subst (λ (l : List ℕ). Breaks h j (take made l) stop) behind (subst (λ (k : Held). Breaks k j (take made (drop n lent)) stop) same x)
+
+puts_cell : {U : Type 0} (r : Result U Stop) (charset : Charset) (kind : Kind) (column : ℕ) (last : Bool) (a b : Seen) (place place' : ℕ) (h j : Held) (failed : Bool) (text : List ℕ) → failed ≡ (if is_ok r then false else true)
+    → ReadsCell (cell_start kind (shape charset kind)) column last a b place place' text → MatchResult r (λ _. Puts h j text) (λ stop. Breaks h j text stop)
+    → MatchResult r (λ _. PutsCell charset kind column last a b place place' h j) (λ stop. StopsCell charset kind column last a b place h j failed stop)
+puts_cell (Ok u) charset kind column last a b place place' h j failed text is y x = record { text = text; reads = y; puts = x }
+puts_cell (Err stop) charset kind column last a b place place' h j failed text is y x = inr (record { text = text; place' = place'; reads = y; breaks = x }, is)
+
+-- a cell was written into the lent room, and kept
+pub kept_cell : {U : Type 0} (r : Result U Stop) (charset : Charset) (kind : Kind) (column : ℕ) (last : Bool) (a b : Seen) (place place' : ℕ) (h j : Held) (failed : Bool) (written : List ℕ) (made n room : ℕ) (whole : length written ≡ room) → failed ≡ (if is_ok r then false else true)
+    → (at : n ≡ length h.waiting) → ReadsCell (cell_start kind (shape charset kind)) column last a b place place' (take made written)
+    → MatchResult r (λ _. Puts (lent_held h j written n room whole at) j (take made (drop n (lent h j written n room whole at)))) (λ stop. Breaks (lent_held h j written n room whole at) j (take made (drop n (lent h j written n room whole at))) stop)
+    → MatchResult r (λ _. PutsCell charset kind column last a b place place' h j) (λ stop. StopsCell charset kind column last a b place h j failed stop)
+kept_cell r charset kind column last a b place place' h j failed written made n room whole is at y x = puts_cell r charset kind column last a b place place' h j failed (take made written) is y (kept_text h j written n room whole at r made x)

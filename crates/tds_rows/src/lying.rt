@@ -1,0 +1,131 @@
+// Cells whose bytes lie whole in the packet.
+ghost use Rattle.std.specs.Prelude.{◌≡◌, ◌≤◌, ◌<◌, None, Some, length, take, IsTrue, IfSome};
+ghost use Rattle.tds_packet.specs.Payloads.{IsOnSame, IsSound, seen};
+ghost use Rattle.tds_rows.specs.Cells.{ScalarBytes, ScalarLength, cell_start, shape, shape_of_length};
+ghost use Rattle.tds_rows.specs.Reading.{ReadsCell, WritesCell};
+ghost use Rattle.tds_rows.specs.declared.Charset.{Charset};
+ghost use Rattle.tds_values.specs.Kind as kinds;
+
+use crate::fields::{write_null, write_value};
+use std::io::Read;
+use tds_packet::Payload;
+use tds_values::Kind;
+
+// How many bytes a cell has, and how many its text in its line.
+#[derive(Clone, Copy)]
+pub(crate) struct Written {
+    used: usize,
+    made: usize,
+}
+
+// Writes the cell at the front of these bytes, of a kind whose values have so many; none where it isn't
+// whole or is refused.
+#[inline]
+fn write_fixed(
+    kind: &Kind,
+    n: u8,
+    column: u16,
+    last: bool,
+    bytes: &[u8],
+    to: &mut [u8],
+) -> Option<Written>
+    requires valid { IsTrue (kinds.is_valid kind.now) }
+    requires scalar { IsTrue (kinds.is_scalar kind.now) }
+    requires room { 80 ≤ length to.old }
+    requires some { 0 < n }
+    ensures used { IfSome result (λ written. written.used ≤ length bytes.now) }
+    ensures most { IfSome result (λ written. written.made ≤ 44) }
+    ensures gives { IfSome result (λ written. WritesCell (ScalarBytes kind.now n) column last (take written.used bytes.now) (take written.made to.new)) }
+{
+    let used = n as usize;
+    if bytes.len() < used {
+        return None;
+    }
+    match write_value(kind, column, last, &bytes[..used], to) {
+        Some(made) => Some(Written { used, made }),
+        None => None,
+    }
+}
+
+// Writes the cell at the front of these bytes, of a kind whose values have a length before them.
+#[inline]
+fn write_counted(
+    kind: &Kind,
+    column: u16,
+    last: bool,
+    bytes: &[u8],
+    to: &mut [u8],
+) -> Option<Written>
+    requires valid { IsTrue (kinds.is_valid kind.now) }
+    requires scalar { IsTrue (kinds.is_scalar kind.now) }
+    requires room { 80 ≤ length to.old }
+    ensures used { IfSome result (λ written. written.used ≤ length bytes.now) }
+    ensures most { IfSome result (λ written. written.made ≤ 44) }
+    ensures gives { IfSome result (λ written. WritesCell (ScalarLength kind.now) column last (take written.used bytes.now) (take written.made to.new)) }
+{
+    if bytes.is_empty() {
+        return None;
+    }
+    let n = bytes[0] as usize;
+    if n == 0 {
+        let made = write_null(column, last, to);
+        return Some(Written { used: 1, made });
+    }
+    let used = 1 + n;
+    if bytes.len() < used {
+        return None;
+    }
+    match write_value(kind, column, last, &bytes[1..used], to) {
+        Some(made) => Some(Written { used, made }),
+        None => None,
+    }
+}
+
+// Writes the cell at the front of these bytes; none where it isn't whole, is refused or isn't a scalar.
+#[inline]
+fn write_cell(kind: &Kind, column: u16, last: bool, bytes: &[u8], to: &mut [u8]) -> Option<Written>
+    requires valid { IsTrue (kinds.is_valid kind.now) }
+    requires room { 80 ≤ length to.old }
+    ensures used { IfSome result (λ written. written.used ≤ length bytes.now) }
+    ensures most { IfSome result (λ written. written.made ≤ 44) }
+    ensures gives { (charset : Charset) → IfSome result (λ written. WritesCell (cell_start kind.now (shape charset kind.now)) column last (take written.used bytes.now) (take written.made to.new)) }
+{
+    if !kind.is_scalar() {
+        return None;
+    }
+    match kind.fixed_length() {
+        Some(n) => write_fixed(kind, n, column, last, bytes, to),
+        None => write_counted(kind, column, last, bytes, to),
+    }
+}
+
+/// Reads a cell that lies whole in the packet, and writes its text in its line to the front of a
+/// slice. It answers how many bytes the text has; none, and nothing is read, where the cell isn't
+/// whole, is refused or isn't a scalar.
+#[inline]
+pub(crate) fn read_lying<R: Read>(
+    payload: &mut Payload<R>,
+    kind: &Kind,
+    column: u16,
+    last: bool,
+    to: &mut [u8],
+) -> Option<usize>
+    requires sound { IsSound payload.old }
+    requires going { payload.old.stopped ≡ None }
+    requires valid { IsTrue (kinds.is_valid kind.now) }
+    requires room { 80 ≤ length to.old }
+    ensures sound { IsSound payload.new }
+    ensures same { IsOnSame payload.old payload.new }
+    ensures going { payload.new.stopped ≡ None }
+    ensures most { IfSome result (λ made. made ≤ 44) }
+    ensures none { result ≡ None → payload.new ≡ payload.old }
+    ensures gives { (charset : Charset) → IfSome result (λ made. ReadsCell (cell_start kind.now (shape charset kind.now)) column last (seen R.remaining payload.old) (seen R.remaining payload.new) payload.old.place payload.new.place (take made to.new)) }
+{
+    match write_cell(kind, column, last, payload.lying(), to) {
+        Some(written) => {
+            payload.pass(written.used);
+            Some(written.made)
+        }
+        None => None,
+    }
+}
