@@ -47,7 +47,10 @@ pub(crate) fn write_null(column: u16, last: bool, to: &mut [u8]) -> usize
     ensures text { take result to.new ≡ in_line column last null_field }
 {
     let start = write_comma(column, to);
-    to[start..start + 4].copy_from_slice(b"NULL");
+    to[start] = b'N';
+    to[start + 1] = b'U';
+    to[start + 2] = b'L';
+    to[start + 3] = b'L';
     write_end(last, start + 4, to)
 }
 

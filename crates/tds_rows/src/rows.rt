@@ -309,9 +309,11 @@ fn put_cell<R: Read, W: Write>(
     }
 }
 
-/// Reads a ROW behind its token byte, and puts its line (MS-TDS, ROW). Long values aren't built yet:
-/// [`Fault::NotYet`] stands at the length or the total of one, which is read. After any other stop
-/// the elements before it count, with their text.
+/// Reads a ROW behind its token byte, and puts its line (MS-TDS, ROW). The cells before a stop count,
+/// with their text: [`Fault::BadValueLength`] stands at the length byte that isn't allowed,
+/// [`Fault::BadValue`] at the first byte of the value out of range, and [`Fault::NotYet`] at the
+/// length or the total of a long value, which aren't built yet and are read first. Columns are
+/// numbered from 0. Any other stop is the payload's or the sink's own.
 pub fn row<R: Read, W: Write>(
     payload: &mut Payload<R>,
     columns: Columns<'_>,
