@@ -1,8 +1,7 @@
 // An element that is kept in an area.
-ghost use Rattle.std.specs.Prelude.{◌≡◌, ℕ, ◌+◌, ◌<◌, ◌≤◌, List, None, Err, length, max, IfErr, IfSome, OnErr, OnOk, is_ok, if◌then◌else◌};
+ghost use Rattle.std.specs.Prelude.{◌≡◌, ◌+◌, ◌<◌, ◌≤◌, None, Err, length, max, IfErr, IfSome, OnErr, OnOk, is_ok, if◌then◌else◌};
 ghost use Rattle.tds_columns.specs.Elements.{TakesInto, EndsInto};
 ghost use Rattle.tds_packet.specs.Payloads.{IsOnSame, IsSound, seen};
-ghost use Rattle.tds_packet.specs.Seen.{IsBetween};
 
 use std::io::Read;
 use tds_meter::Area;

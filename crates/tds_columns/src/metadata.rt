@@ -1,7 +1,7 @@
 // Reading a description from a payload (MS-TDS, COLMETADATA).
-ghost use Rattle.std.specs.Prelude.{◌≡◌, ◌≢◌, ℕ, List, ◌+◌, ◌*◌, ◌-◌, ◌<◌, ◌≤◌, [], None, Some, Err, length, max, unwrap_or, IfErr, IfSome, MatchResult, OnErr, OnOk};
+ghost use Rattle.std.specs.Prelude.{◌≡◌, ◌≢◌, ℕ, ◌+◌, ◌*◌, ◌-◌, ◌<◌, ◌≤◌, [], None, Some, Err, length, max, unwrap_or, IfSome, MatchResult, OnErr, OnOk};
 ghost use Rattle.tds_columns.specs.Description as spec;
-ghost use Rattle.tds_columns.specs.Description.{BeforeCount, Column, ColumnHead, ColumnInfo, InColumn, NameCount};
+ghost use Rattle.tds_columns.specs.Description.{BeforeCount, ColumnHead, ColumnInfo, InColumn, NameCount};
 ghost use Rattle.tds_columns.specs.Gather.{DescribesColumn, DescribesColumns, DescribesCount, DescribesInfo, DescribesName, DescribesType, GatherGives, GatherStops, StopsDescribing, StopsInColumn};
 ghost use Rattle.tds_packet.specs.Elements.{AreBytes};
 ghost use Rattle.tds_packet.specs.Payloads.{IsOnSame, IsSound, seen};

@@ -1,5 +1,5 @@
 // The export of a whole response.
-ghost use Rattle.std.specs.Prelude.{◌≡◌, ℕ, ◌+◌, ◌≤◌, [], List, None, Some, false, true, is_ok, length, IfErr, IfOk, IsTrue, MatchResult, OnErr, OnOk, if◌then◌else◌, ◌++◌};
+ghost use Rattle.std.specs.Prelude.{◌≡◌, ◌+◌, ◌≤◌, [], None, false, true, length, IfErr, IsTrue, MatchResult, if◌then◌else◌, ◌++◌};
 ghost use Rattle.tds_csv.specs.Sinks.{IsOnSameSink, IsReady, held};
 ghost use Rattle.tds_export.specs.Reading.{response, response_start};
 ghost use Rattle.tds_export.specs.Ended.{Exports, Given, StopsExport, Tells, Tidied};

@@ -1,5 +1,5 @@
 // The tokens of a response.
-ghost use Rattle.std.specs.Prelude.{◌≡◌, ℕ, ◌+◌, ◌-◌, ◌^◌, ◌<◌, ◌≤◌, ◌∷◌, [], List, None, Some, false, true, is_ok, is_some, length, IfErr, IfOk, IfSome, MatchBool, MatchOption, MatchResult, OnOk, if◌then◌else◌};
+ghost use Rattle.std.specs.Prelude.{◌≡◌, ℕ, ◌+◌, ◌-◌, ◌^◌, ◌<◌, ◌≤◌, ◌∷◌, [], List, None, Some, false, true, is_some, IfOk, MatchBool, MatchOption, MatchResult, OnOk, if◌then◌else◌};
 ghost use Rattle.tds_columns.specs.View.{IsDescription, columns_of};
 ghost use Rattle.tds_csv.specs.Sinks.{Held, IsOnSameSink, IsReady, held};
 ghost use Rattle.tds_export.specs.Reading.{response};

@@ -1,5 +1,5 @@
 // The six areas of a run.
-ghost use Rattle.std.specs.Prelude.{◌≡◌, ◌==◌, ◌≤◌, IsTrue, OnOk, IfOk, length, true};
+ghost use Rattle.std.specs.Prelude.{◌≡◌, ◌==◌, ◌≤◌, IsTrue, IfOk, length};
 
 use crate::area::{Area, OutOfMemory};
 use crate::limits::Limits;

@@ -1,6 +1,6 @@
 // The bytes that the packets of one message carry.
 ghost use Rattle.std.specs.Borrow.{sem};
-ghost use Rattle.std.specs.Prelude.{◌≡◌, ℕ, ◌+◌, ◌^◌, ◌<◌, ◌≤◌, [], ◌∷◌, true, false, None, Some, Err, length, take, IfErr, IfOk, IfSome, IsTrue, MatchResult, OnErr, OnOk, is_ok, if◌then◌else◌};
+ghost use Rattle.std.specs.Prelude.{◌≡◌, ℕ, ◌+◌, ◌^◌, ◌<◌, ◌≤◌, [], ◌∷◌, true, false, None, Some, Err, length, take, IfErr, IfOk, IfSome, IsTrue, MatchResult, OnOk, is_ok, if◌then◌else◌};
 ghost use Rattle.tds_packet.specs.declared.fault.Stop.{Stop};
 ghost use Rattle.tds_packet.specs.Payloads.{IsOnSame, IsSound, RestsPayload, buffered, seen};
 ghost use Rattle.tds_packet.specs.Reads.{IsOfPackets};

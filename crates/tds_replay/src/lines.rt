@@ -1,7 +1,6 @@
 // The lines on standard error.
-ghost use Rattle.arrayvec.specs.ArrayVec.{array_vec_len};
-ghost use Rattle.std.specs.Prelude.{◌≡◌, ◌≤◌, ◌++◌, Ok, Some, length, map, flat_map};
-ghost use Rattle.tds_replay.specs.Lines.{answer_lines, counts_line, error_line, fault_fields, fault_name as name_of_fault, kind_name as name_of_kind, memory_line, place_number, place_unit, piece_text, shown_byte, status_line, stop_line, text_of, values_line};
+ghost use Rattle.std.specs.Prelude.{◌≡◌, ◌≤◌, ◌++◌, Ok, Some, length, map};
+ghost use Rattle.tds_replay.specs.Lines.{answer_lines, counts_line, error_line, fault_fields, fault_name as name_of_fault, kind_name as name_of_kind, memory_line, place_number, place_unit, shown_byte, status_line, stop_line, values_line};
 ghost use Rattle.tds_replay.specs.Saying.{Says};
 
 use crate::pieces::{Piece, Unsaid, say};

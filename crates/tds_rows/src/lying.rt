@@ -1,7 +1,7 @@
 // Cells whose bytes lie whole in the packet.
 ghost use Rattle.std.specs.Prelude.{◌≡◌, ◌≤◌, ◌<◌, None, Some, length, take, IsTrue, IfSome};
 ghost use Rattle.tds_packet.specs.Payloads.{IsOnSame, IsSound, seen};
-ghost use Rattle.tds_rows.specs.Cells.{ScalarBytes, ScalarLength, cell_start, shape, shape_of_length};
+ghost use Rattle.tds_rows.specs.Cells.{ScalarBytes, ScalarLength, cell_start, shape};
 ghost use Rattle.tds_rows.specs.Reading.{ReadsCell, WritesCell};
 ghost use Rattle.tds_rows.specs.declared.Charset.{Charset};
 ghost use Rattle.tds_values.specs.Kind as kinds;

@@ -1,17 +1,15 @@
 // A row, cell after cell (MS-TDS, ROW).
-ghost use Rattle.std.specs.Prelude.{◌≡◌, ◌+◌, ◌<◌, ◌≤◌, ◌∷◌, ◌++◌, ℕ, [], List, None, Some, false, true, is_ok, length, take, IsTrue, MatchOption, MatchResult, OnOk, IfOk, IfSome, codes};
+ghost use Rattle.std.specs.Prelude.{◌≡◌, ◌+◌, ◌<◌, ◌≤◌, ◌∷◌, ◌++◌, ℕ, [], None, Some, false, length, take, IsTrue, MatchResult, OnOk, IfOk};
 ghost use Rattle.tds_columns.specs.View.{columns_of};
 ghost use Rattle.tds_csv.specs.Conversion.{Conversion};
-ghost use Rattle.tds_csv.specs.Quoting.{null_field};
 ghost use Rattle.tds_csv.specs.Sinks.{IsOnSameSink, IsReady, held};
 ghost use Rattle.tds_packet.specs.Payloads.{IsOnSame, IsSound, seen};
 ghost use Rattle.tds_packet.specs.Reading.{StopsReading};
 ghost use Rattle.tds_rows.specs.Cells.{LongShape, ScalarBytes, ScalarLength, cell, cell_size, cell_start, shape, shape_of_length};
-ghost use Rattle.tds_rows.specs.Reading.{IsValueText, PutsCell, ReadsCell, ReadsValue, StallsCell, StopsCell, end_behind, in_line};
-ghost use Rattle.tds_rows.specs.Streams.{ReadsRow, RowStalls, behind_comma};
+ghost use Rattle.tds_rows.specs.Reading.{PutsCell, ReadsCell, ReadsValue, StallsCell, StopsCell};
+ghost use Rattle.tds_rows.specs.Streams.{ReadsRow, RowStalls};
 ghost use Rattle.tds_rows.specs.declared.Charset as sets;
 ghost use Rattle.tds_values.specs.Kind as kinds;
-ghost use Rattle.tds_values.specs.Scalar.{read_of};
 
 use crate::Charset;
 use crate::fields::{write_null, write_value};

@@ -1,5 +1,5 @@
 // Rows worked out by hand, from the bytes behind the token byte to the text and the answer.
-ghost use Rattle.std.specs.Prelude.{◌≡◌, ◌≤◌, ℕ, None, [], true, length};
+ghost use Rattle.std.specs.Prelude.{◌≡◌, ◌≤◌, None, [], true, length};
 ghost use Rattle.tds_columns.specs.View.{IsDescription};
 ghost use Rattle.tds_packet.specs.Payloads.{IsOnSame, IsSound};
 

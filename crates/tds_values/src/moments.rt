@@ -1,6 +1,6 @@
 // The texts of dates and times, written to a slice from a place on.
-ghost use Rattle.std.specs.Prelude.{◌≡◌, ◌+◌, ◌*◌, ◌/◌, ◌<◌, ◌≤◌, ◌^◌, ◌++◌, take, length, codes, unsigned_abs};
-ghost use Rattle.tds_values.specs.ScalarText.{date_text, seconds_text, minutes_text, fraction_text, time_text, ticks_text, offset_text, date_and_time};
+ghost use Rattle.std.specs.Prelude.{◌≡◌, ◌+◌, ◌*◌, ◌/◌, ◌<◌, ◌≤◌, ◌^◌, ◌++◌, take, length, unsigned_abs};
+ghost use Rattle.tds_values.specs.ScalarText.{date_text, seconds_text, minutes_text, fraction_text, ticks_text, offset_text, date_and_time};
 
 use crate::digits::{put_byte, put_tail, put_two};
 use jiff_core::civil::Date;

@@ -3,7 +3,7 @@ ghost use Rattle.std.specs.Prelude.{◌≡◌, ◌+◌, ◌<◌, ◌≤◌, ◌+
 ghost use Rattle.std.specs.Fmt.{signed_decimal};
 ghost use Rattle.arrayvec.specs.ArrayVec.{array_vec_len};
 ghost use Rattle.uuid.specs.Text.{hyphenated_text, lower};
-ghost use Rattle.tds_values.specs.ScalarText.{last_digits, date_text, minutes_text, seconds_text, fraction_text, time_text, ticks_text, offset_text, minus_if, decimal_text, money_text, local_text, date_and_time, text_of, FitsWidths};
+ghost use Rattle.tds_values.specs.ScalarText.{last_digits, date_text, minutes_text, seconds_text, fraction_text, time_text, ticks_text, offset_text, minus_if, decimal_text, local_text, text_of};
 ghost use Rattle.tds_values.specs.ScalarRange.{is_in_range};
 ghost use Rattle.tds_values.specs.TimeOfDay.{is_time as is_time_of};
 ghost use Rattle.tds_values.specs.LocalTime.{is_local, local_units};

@@ -1,5 +1,5 @@
 // The text of a value, written where it is to lie, from the bytes that spell it.
-ghost use Rattle.std.specs.Prelude.{◌≡◌, ℕ, ◌+◌, ◌<◌, ◌≤◌, ◌⊎◌, IsTrue, unsigned_abs, IfOk, IfErr, IfSome, Some, Ok, Err, take, drop, length};
+ghost use Rattle.std.specs.Prelude.{◌≡◌, ℕ, ◌+◌, ◌<◌, ◌≤◌, ◌⊎◌, IsTrue, unsigned_abs, IfOk, IfErr, IfSome, Some, Ok, Err, drop, length};
 ghost use Rattle.byteorder.specs.Endian.{little_number};
 ghost use Rattle.std.specs.Int.{cast_signed, w16};
 ghost use Rattle.tds_values.specs.Kind as kinds;
