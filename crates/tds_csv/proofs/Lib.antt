@@ -15,3 +15,4 @@ pub mod Units
 pub mod HexLanes
 pub mod PlainText
 pub mod Unquoted
+pub mod Encoding

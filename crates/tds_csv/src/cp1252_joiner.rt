@@ -1,13 +1,13 @@
 // Text in Windows-1252.
-ghost use Rattle.std.specs.Prelude.{◌≡◌, ◌+◌, ◌-◌, ◌<◌, ◌≤◌, ◌++◌, [], IsTrue, false, true, if◌then◌else◌, is_ok, length, take, drop, MatchResult};
+ghost use Rattle.std.specs.Prelude.{◌≡◌, ◌+◌, ◌-◌, ◌*◌, ◌<◌, ◌≤◌, ◌++◌, [], IsTrue, false, true, if◌then◌else◌, is_ok, length, take, drop, MatchResult};
 ghost use Rattle.tds_csv.specs.JoiningLemmas.{mod-one};
 ghost use Rattle.tds_csv.specs.Sinks.{Breaks, IsOnSameSink, IsReady, Puts, held};
 ghost use Rattle.tds_csv.specs.SingleLaws.{joins_windows_1252};
 ghost use Rattle.tds_csv.specs.Windows1252 as windows_1252;
 
+use crate::encode::{put_bytes, put_quoted};
 use crate::joiner::{JoinFault, Joiner};
-use crate::lanes::{LANES, left_by_hand, plain_end, plain_run};
-use crate::run::Run;
+use crate::lanes::{BY_HAND, LANES, plain_end, plain_run};
 use crate::sink::Sink;
 use std::io::Write;
 use std::simd::prelude::*;
@@ -22,6 +22,9 @@ const UPPER_CONTROLS: [u16; 32] = [
 
 /// How many bytes are converted at a time.
 const CHUNK: usize = 128;
+
+/// How many bytes their text has at most, and 16.
+const TEXT: usize = 528;
 
 /// How many bytes that stand for themselves are put without a conversion.
 const PLAIN: usize = 32;
@@ -42,42 +45,81 @@ fn character(byte: u8) -> u32
     }
 }
 
-// Adds the next bytes that stand for themselves, at most 16, and says how many they are. None where
-// fewer than 16 bytes are left, or they aren't to be looked at.
+// Writes the next bytes that stand for themselves, at most 16, to a place, and says how many they are.
+// None where fewer than 16 bytes are left.
 #[inline(always)]
-fn take_plain(bytes: &[u8], at: usize, skip: bool, run: &mut Run<528>) -> usize
+fn take_plain(bytes: &[u8], at: usize, to: &mut [u8], made: usize) -> usize
     requires from { at ≤ length bytes.now }
-    requires room { at + 16 ≤ length bytes.now → length run.old + 16 ≤ 528 }
+    requires room { made + 16 ≤ length to.old }
     ensures most { result ≤ 16 }
     ensures within { at + result ≤ length bytes.now }
-    ensures taken { run.new ≡ run.old ++ windows_1252.text (take result (drop at bytes.now)) }
-    ensures grown { length run.new ≡ length run.old + result }
+    ensures taken { take (made + result) to.new ≡ take made to.old ++ windows_1252.text (take result (drop at bytes.now)) }
 {
-    if skip || bytes.len() - at < LANES {
+    if bytes.len() - at < LANES {
         return 0;
     }
     let n = plain_run(bytes, at);
-    run.extend_bytes(u8x16::from_slice(&bytes[at..]), n);
+    put_bytes(to, made, u8x16::from_slice(&bytes[at..]), n);
     n
 }
 
-// Adds the text of bytes.
-fn convert(bytes: &[u8], run: &mut Run<528>)
+// Where the bytes end that are taken one by one behind so many that were taken together.
+#[inline(always)]
+fn end_by_hand(bytes: &[u8], at: usize, taken: usize) -> usize
+    requires from { at ≤ length bytes.now }
     requires short { length bytes.now ≤ 128 }
-    requires empty { run.old ≡ [] }
-    ensures { run.new ≡ windows_1252.text bytes.now }
+    ensures from { at ≤ result }
+    ensures within { result ≤ length bytes.now }
+    ensures more { at < length bytes.now → at < result }
+{
+    if taken == 0 {
+        bytes.len().min(at + BY_HAND)
+    } else {
+        bytes.len().min(at + 1)
+    }
+}
+
+// Goes on with the text of the bytes up to a place, a byte at a time, and says how long it is then.
+#[inline(always)]
+fn convert_by_hand(bytes: &[u8], from: usize, end: usize, to: &mut [u8], start: usize) -> usize
+    requires from { from ≤ end }
+    requires end { end ≤ length bytes.now }
+    requires short { length bytes.now ≤ 128 }
+    requires long { 528 ≤ length to.old }
+    requires room { start ≤ 4 * from }
+    requires text { take start to.old ≡ windows_1252.text (take from bytes.now) }
+    ensures room { result ≤ 4 * end }
+    ensures text { take result to.new ≡ windows_1252.text (take end bytes.now) }
+{
+    let mut at = from;
+    let mut made = start;
+    while at < end {
+        made = put_quoted(to, made, character(bytes[at]));
+        at += 1;
+    }
+    made
+}
+
+// Writes the text of bytes, and says how long it is.
+fn convert(bytes: &[u8], to: &mut [u8]) -> usize
+    requires short { length bytes.now ≤ 128 }
+    requires room { 528 ≤ length to.old }
+    ensures fits { result ≤ length to.new }
+    ensures text { take result to.new ≡ windows_1252.text bytes.now }
 {
     let mut at = 0;
-    let mut by_hand = 0u8;
+    let mut made = 0;
     while at < bytes.len() {
-        let n = take_plain(bytes, at, by_hand > 0, run);
+        let n = take_plain(bytes, at, to, made);
         at += n;
-        by_hand = left_by_hand(by_hand, n);
-        if n < LANES && at < bytes.len() {
-            run.push_quoted(character(bytes[at]));
-            at += 1;
+        made += n;
+        if n < LANES {
+            let end = end_by_hand(bytes, at, n);
+            made = convert_by_hand(bytes, at, end, to, made);
+            at = end;
         }
     }
+    made
 }
 
 // Where the bytes end that are put at once: a run that stands for itself, or a chunk.
@@ -124,9 +166,9 @@ fn put_part<W: Write>(bytes: &[u8], is_plain: bool, sink: &mut Sink<'_, W>) -> R
     if is_plain {
         return sink.put(bytes);
     }
-    let mut run: Run<528> = Run::new();
-    convert(bytes, &mut run);
-    sink.put(run.bytes())
+    let mut to = [0; TEXT];
+    let made = convert(bytes, &mut to[..]);
+    sink.put(&to[..made])
 }
 
 // Puts the text of bytes.

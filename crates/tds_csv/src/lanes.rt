@@ -9,8 +9,8 @@ use std::simd::prelude::*;
 /// How many bytes are looked at together.
 pub(crate) const LANES: usize = 16;
 
-/// How many characters are taken one by one where the next ones aren't of ASCII.
-const BY_HAND: u8 = 32;
+/// How many characters are taken one by one where the next one needs care, since then others mostly do too.
+pub(crate) const BY_HAND: usize = 32;
 
 // The lowest bit that is set in a mask, or the number of lanes.
 #[inline(always)]
@@ -103,16 +103,4 @@ pub(crate) fn plain_end(bytes: &[u8], from: usize) -> usize
         end += LANES;
     }
     plain_end_slowly(bytes, end)
-}
-
-// How many characters to take one by one before the next ones are looked at together again, where so
-// many were taken together: many, if the first of them needed care, since then others mostly do too.
-pub(crate) fn left_by_hand(by_hand: u8, taken: usize) -> u8 {
-    if by_hand > 0 {
-        by_hand - 1
-    } else if taken == 0 {
-        BY_HAND
-    } else {
-        0
-    }
 }

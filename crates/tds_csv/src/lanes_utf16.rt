@@ -1,11 +1,11 @@
 // Characters of ASCII in UTF-16, taken eight at a time.
-ghost use Rattle.std.specs.Prelude.{◌≡◌, ◌+◌, ◌*◌, ◌≤◌, ◌++◌, ℕ, List, length, drop};
+ghost use Rattle.std.specs.Prelude.{◌≡◌, ◌+◌, ◌*◌, ◌≤◌, ◌++◌, ℕ, List, length, take, drop};
 ghost use Rattle.tds_csv.specs.Joining.{Leads};
 ghost use Rattle.tds_csv.specs.Plain.{evens, odds, plain_units};
 ghost use Rattle.tds_csv.specs.Utf16 as utf16;
 
+use crate::encode::put_lanes;
 use crate::lanes::{LANES, first_set};
-use crate::run::Run;
 use std::simd::prelude::*;
 
 /// How many units are looked at together.
@@ -42,26 +42,22 @@ fn plain_units(units: u8x16) -> usize
     first_set(stops.to_bitmask(), UNITS)
 }
 
-// Adds the next characters of ASCII up to a quote, at most eight, and says how many they are.
-// None where fewer than 16 bytes are left, or they aren't to be looked at.
+// Writes the next characters of ASCII up to a quote, at most eight, to a place, and says how many they
+// are. None where fewer than 16 bytes are left.
 #[inline(always)]
-pub(crate) fn take_units(bytes: &[u8], at: usize, skip: bool, run: &mut Run<200>) -> usize
+pub(crate) fn take_units(bytes: &[u8], at: usize, to: &mut [u8], made: usize) -> usize
     requires from { at ≤ length bytes.now }
-    requires room { at + 16 ≤ length bytes.now → length run.old + 8 ≤ 200 }
+    requires room { made + 8 ≤ length to.old }
     ensures most { result ≤ 8 }
     ensures within { at + 2 * result ≤ length bytes.now }
-    ensures taken { (out : List ℕ) × (run.new ≡ run.old ++ out) × (length out ≡ result)
+    ensures taken { (out : List ℕ) × (take (made + result) to.new ≡ take made to.old ++ out) × (length out ≡ result)
         × Leads utf16.rest utf16.text (drop at bytes.now) (drop (at + 2 * result) bytes.now) out }
 {
-    if skip || bytes.len() - at < LANES {
+    if bytes.len() - at < LANES {
         return 0;
     }
     let units = u8x16::from_slice(&bytes[at..]);
     let n = plain_units(units);
-    if n == UNITS {
-        run.extend_lanes(low_bytes(units), UNITS);
-        return UNITS;
-    }
-    run.extend_lanes(low_bytes(units), n);
+    put_lanes(to, made, low_bytes(units), n);
     n
 }

@@ -3,6 +3,7 @@
 
 mod cp1252_joiner;
 mod doubled;
+mod encode;
 mod hex_joiner;
 mod into_area;
 mod joiner;

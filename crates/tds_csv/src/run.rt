@@ -3,6 +3,7 @@ ghost use Rattle.std.specs.Prelude.{◌≡◌, ◌+◌, ◌<◌, ◌≤◌, [], 
 ghost use Rattle.std.specs.Char.{encode_utf8};
 ghost use Rattle.tds_csv.specs.Quoting.{doubled};
 
+use crate::encode::{put_bytes, put_character, put_quoted};
 use std::marker::Model;
 use std::simd::prelude::*;
 
@@ -57,20 +58,6 @@ impl<const N: usize> Run<N> {
         self.len = end;
     }
 
-    // Adds the first of eight bytes, so many.
-    #[inline(always)]
-    pub(crate) fn extend_lanes(&mut self, lanes: u8x8, n: usize)
-        requires lanes { length lanes ≡ 8 }
-        requires within { n ≤ 8 }
-        requires room { length self.old + 8 ≤ N }
-        ensures { self.new ≡ self.old ++ take n lanes }
-    {
-        let from = self.len;
-        let all = &mut self.bytes[..];
-        lanes.copy_to_slice(&mut all[from..]);
-        self.len = from + n;
-    }
-
     // Adds the first of sixteen bytes, so many.
     #[inline(always)]
     pub(crate) fn extend_bytes(&mut self, lanes: u8x16, n: usize)
@@ -79,10 +66,8 @@ impl<const N: usize> Run<N> {
         requires room { length self.old + 16 ≤ N }
         ensures { self.new ≡ self.old ++ take n lanes }
     {
-        let from = self.len;
-        let all = &mut self.bytes[..];
-        lanes.copy_to_slice(&mut all[from..]);
-        self.len = from + n;
+        put_bytes(&mut self.bytes[..], self.len, lanes, n);
+        self.len += n;
     }
 
     fn push(&mut self, byte: u8)
@@ -111,24 +96,7 @@ impl<const N: usize> Run<N> {
         requires room { length self.old + 4 ≤ N }
         ensures { self.new ≡ self.old ++ encode_utf8 code }
     {
-        if code < 0x80 {
-            self.push(code as u8);
-        } else if code < 0x800 {
-            self.extend(&[(0xC0 + code / 64) as u8, (0x80 + code % 64) as u8]);
-        } else if code < 0x1_0000 {
-            self.extend(&[
-                (0xE0 + code / 4096) as u8,
-                (0x80 + code / 64 % 64) as u8,
-                (0x80 + code % 64) as u8,
-            ]);
-        } else {
-            self.extend(&[
-                (0xF0 + code / 262144) as u8,
-                (0x80 + code / 4096 % 64) as u8,
-                (0x80 + code / 64 % 64) as u8,
-                (0x80 + code % 64) as u8,
-            ]);
-        }
+        self.len = put_character(&mut self.bytes[..], self.len, code);
     }
 
     // Adds a character in UTF-8, and a quote twice.
@@ -137,9 +105,6 @@ impl<const N: usize> Run<N> {
         requires room { length self.old + 4 ≤ N }
         ensures { self.new ≡ self.old ++ doubled (encode_utf8 code) }
     {
-        self.push_character(code);
-        if code == 0x22 {
-            self.push(0x22);
-        }
+        self.len = put_quoted(&mut self.bytes[..], self.len, code);
     }
 }

@@ -1,14 +1,14 @@
 // Characters of text in UTF-16.
-ghost use Rattle.std.specs.Prelude.{◌≡◌, ◌+◌, ◌-◌, ◌*◌, ◌<◌, ◌≤◌, ◌%◌, ◌++◌, [], length, drop, slice_index, MatchOption, IfSome};
+ghost use Rattle.std.specs.Prelude.{◌≡◌, ◌+◌, ◌-◌, ◌*◌, ◌<◌, ◌≤◌, ◌%◌, ◌++◌, length, take, drop, slice_index, MatchOption, IfSome};
 ghost use Rattle.std.specs.Char.{IsScalar, encode_utf8};
 ghost use Rattle.std.specs.Char.Utf16.{is_high_surrogate, is_low_surrogate};
-ghost use Rattle.tds_csv.specs.Joining.{emit};
+ghost use Rattle.tds_csv.specs.Joining.{Leads, emit};
 ghost use Rattle.tds_csv.specs.Utf16 as utf16;
 ghost use Rattle.tds_csv.specs.Utf16Next.{IsNext};
 
-use crate::lanes::left_by_hand;
+use crate::encode::put_quoted;
+use crate::lanes::BY_HAND;
 use crate::lanes_utf16::{UNITS, take_units};
-use crate::run::Run;
 
 // A character, and how many bytes it takes.
 #[derive(Clone, Copy)]
@@ -96,28 +96,103 @@ pub(crate) fn character_at(bytes: &[u8], at: usize) -> Character
     }
 }
 
-// Adds the text of the characters that are fixed, and says how many bytes they are.
-pub(crate) fn convert(bytes: &[u8], run: &mut Run<200>) -> usize
+// How many bytes were converted, and how many their text has.
+#[derive(Clone, Copy)]
+pub(crate) struct Converted {
+    pub(crate) used: usize,
+    pub(crate) made: usize,
+}
+
+// The character at a place, where it is a single unit and no surrogate.
+#[inline(always)]
+fn single(bytes: &[u8], at: usize) -> Option<u32>
+    requires { at + 2 ≤ length bytes.now }
+    ensures gives { IfSome result (λ code. IsNext (drop at bytes.now) code 2) }
+    ensures range { IfSome result (λ code. code < 65536) }
+{
+    let first = unit(bytes, at);
+    if is_high(first) {
+        return None;
+    }
+    if is_low(first) {
+        return None;
+    }
+    Some(first)
+}
+
+// Goes on with the text by single units up to a surrogate, at most so many as are taken by hand.
+#[inline(always)]
+fn convert_singles(bytes: &[u8], from: usize, to: &mut [u8], start: usize) -> Converted
+    requires from { from ≤ length bytes.now }
     requires short { length bytes.now ≤ 128 }
-    requires empty { run.old ≡ [] }
-    ensures text { run.new ≡ emit utf16.rest utf16.text bytes.now }
-    ensures within { result ≤ length bytes.now }
-    ensures rest { drop result bytes.now ≡ utf16.rest bytes.now }
-    ensures most { length bytes.now ≤ result + 3 }
+    requires long { 200 ≤ length to.old }
+    requires room { 2 * start ≤ 3 * from }
+    requires leads { Leads utf16.rest utf16.text bytes.now (drop from bytes.now) (take start to.old) }
+    ensures within { result.used ≤ length bytes.now }
+    ensures more { from ≤ result.used }
+    ensures room { 2 * result.made ≤ 3 * result.used }
+    ensures leads { Leads utf16.rest utf16.text bytes.now (drop result.used bytes.now) (take result.made to.new) }
+{
+    let end = bytes.len().min(from + 2 * BY_HAND);
+    let mut at = from;
+    let mut made = start;
+    while end - at >= 2 {
+        let Some(code) = single(bytes, at) else {
+            return Converted { used: at, made };
+        };
+        made = put_quoted(to, made, code);
+        at += 2;
+    }
+    Converted { used: at, made }
+}
+
+// Goes on with the text by eight units up to one that needs care, or by single units where the first does.
+#[inline(always)]
+fn convert_some(bytes: &[u8], from: usize, to: &mut [u8], start: usize) -> Converted
+    requires from { from ≤ length bytes.now }
+    requires short { length bytes.now ≤ 128 }
+    requires long { 200 ≤ length to.old }
+    requires room { 2 * start ≤ 3 * from }
+    requires leads { Leads utf16.rest utf16.text bytes.now (drop from bytes.now) (take start to.old) }
+    ensures within { result.used ≤ length bytes.now }
+    ensures more { from ≤ result.used }
+    ensures room { 2 * result.made ≤ 3 * result.used }
+    ensures leads { Leads utf16.rest utf16.text bytes.now (drop result.used bytes.now) (take result.made to.new) }
+{
+    let n = take_units(bytes, from, to, start);
+    if n == 0 {
+        return convert_singles(bytes, from + 2 * n, to, start + n);
+    }
+    Converted {
+        used: from + 2 * n,
+        made: start + n,
+    }
+}
+
+// Writes the text of the characters that are fixed.
+pub(crate) fn convert(bytes: &[u8], to: &mut [u8]) -> Converted
+    requires short { length bytes.now ≤ 128 }
+    requires room { 200 ≤ length to.old }
+    ensures fits { result.made ≤ length to.new }
+    ensures text { take result.made to.new ≡ emit utf16.rest utf16.text bytes.now }
+    ensures within { result.used ≤ length bytes.now }
+    ensures rest { drop result.used bytes.now ≡ utf16.rest bytes.now }
+    ensures most { length bytes.now ≤ result.used + 3 }
 {
     let mut at = 0;
-    let mut by_hand = 0u8;
+    let mut made = 0;
     loop {
-        let n = take_units(bytes, at, by_hand > 0, run);
-        at += 2 * n;
-        if n == UNITS {
+        let done = convert_some(bytes, at, to, made);
+        made = done.made;
+        let from = at;
+        at = done.used;
+        if at == from + 2 * UNITS {
             continue;
         }
-        by_hand = left_by_hand(by_hand, n);
         let Some(next) = next_character(bytes, at) else {
-            return at;
+            return Converted { used: at, made };
         };
-        run.push_quoted(next.code);
+        made = put_quoted(to, made, next.code);
         at += next.len;
     }
 }

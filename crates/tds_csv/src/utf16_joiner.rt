@@ -15,6 +15,9 @@ use tds_packet::Stop;
 /// How many bytes are converted at a time.
 const CHUNK: usize = 128;
 
+/// How many bytes their text has at most, and eight.
+const TEXT: usize = 200;
+
 /// Text in UTF-16, low byte first.
 #[derive(Drop)]
 pub struct Utf16Joiner {
@@ -36,10 +39,10 @@ fn put_chunk<W: Write>(bytes: &[u8], sink: &mut Sink<'_, W>) -> Result<usize, St
     ensures rest { IfOk result (λ n. drop n bytes.now ≡ utf16.rest bytes.now) }
     ensures most { IfOk result (λ n. length bytes.now ≤ n + 3) }
 {
-    let mut run: Run<200> = Run::new();
-    let used = convert(bytes, &mut run);
-    match sink.put(run.bytes()) {
-        Ok(()) => Ok(used),
+    let mut to = [0; TEXT];
+    let done = convert(bytes, &mut to[..]);
+    match sink.put(&to[..done.made]) {
+        Ok(()) => Ok(done.used),
         Err(stop) => Err(stop),
     }
 }

@@ -6,8 +6,9 @@ use Rattle.tds_csv.proofs.cp1252_joiner.convert.Given as goal
 abbrev pub invariant-loop-at : goal.invariant-loop-at
 invariant-loop-at l = record {
   within : l.at ≤ length l.bytes;
-  room : length l.run ≤ 4 * l.at;
-  text : l.run ≡ windows_1252.text (take l.at l.bytes);
+  long : 528 ≤ length l.to;
+  room : l.made ≤ 4 * l.at;
+  text : take l.made l.to ≡ windows_1252.text (take l.at l.bytes);
 }
 
 abbrev pub decreases-loop-at : goal.decreases-loop-at

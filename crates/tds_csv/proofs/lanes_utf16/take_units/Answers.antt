@@ -27,7 +27,7 @@ leads bytes at n room e =
     let to = subst (λ k. Leads utf16.rest utf16.text (drop at bytes) (drop (2 * k) (drop at bytes)) (take k (evens v))) (sym e) from in
     subst (λ l. Leads utf16.rest utf16.text (drop at bytes) l (take n (evens v))) (drop-drop (2 * n) at bytes) to
 
--- the first n were added
+-- the first n were written
 taken : (bytes old new low : List ℕ) (at n : ℕ) → at + 16 ≤ length bytes → n ≡ plain_units (chunk at 16 bytes) → low ≡ evens (chunk at 16 bytes) → new ≡ old ++ take n low
     → (out : List ℕ) × (new ≡ old ++ out) × (length out ≡ n) × Leads utf16.rest utf16.text (drop at bytes) (drop (at + 2 * n) bytes) out
 taken bytes old new low at n room e lows is =
@@ -38,18 +38,11 @@ taken bytes old new low at n room e lows is =
       leads bytes at n room e,
     )
 
-pub returns-then-n-eq-UNITS-clause-taken : goal.returns-then-n-eq-UNITS-clause-taken
-returns-then-n-eq-UNITS-clause-taken c =
-    taken c.args.bytes.now c.args.run.now c.extend_lanes.new.self c.low_bytes.result c.args.at 8 (omega arith) (sym c.if-n-eq-UNITS.true ∙ c.plain_units-n.ensures) c.low_bytes.ensures c.extend_lanes.ensures
-
-pub low_bytes-requires-2 : goal.low_bytes-requires-2
-low_bytes-requires-2 c = length-chunk c.args.at 16 c.args.bytes.now (omega arith)
-
-pub extend_lanes-requires-2 : goal.extend_lanes-requires-2
-extend_lanes-requires-2 c =
+pub put_lanes-requires-clause-within : goal.put_lanes-requires-clause-within
+put_lanes-requires-clause-within c =
     let room : c.args.at + 16 ≤ length c.args.bytes.now = omega arith in
     let h = few c.args.bytes.now c.args.at room in
-    (omega arith, (omega (arith, ap length c.low_bytes-2.ensures, h.1), (omega (arith, c.plain_units-n.ensures, h.0), c.requires.room room)))
+    omega (arith, c.plain_units-n.ensures, h.0)
 
 pub returns-clause-most : goal.returns-clause-most
 returns-clause-most c = omega (arith, (few c.args.bytes.now c.args.at (omega arith)).0, c.plain_units-n.ensures)
@@ -59,4 +52,4 @@ returns-clause-within c = omega (arith, (few c.args.bytes.now c.args.at (omega a
 
 pub returns-clause-taken : goal.returns-clause-taken
 returns-clause-taken c =
-    taken c.args.bytes.now c.args.run.now c.extend_lanes-2.new.self c.low_bytes-2.result c.args.at c.plain_units-n.result (omega arith) c.plain_units-n.ensures c.low_bytes-2.ensures c.extend_lanes-2.ensures
+    taken c.args.bytes.now (take c.args.made c.args.to.now) _ c.low_bytes.result c.args.at c.plain_units-n.result (omega arith) c.plain_units-n.ensures c.low_bytes.ensures c.put_lanes.ensures

@@ -1,4 +1,4 @@
-use Rattle.std.proofs.Common.{◌≡◌, ◌∙◌, ◌+◌, ◌*◌, ◌<◌, ◌≤◌, ◌++◌, ℕ, List, length, drop, sym, ap, subst, arith, length-append, length-drop}
+use Rattle.std.proofs.Common.{◌≡◌, ◌∙◌, ◌+◌, ◌*◌, ◌<◌, ◌≤◌, ◌++◌, ℕ, List, length, take, drop, sym, ap, subst, arith, rules, length-drop}
 use Rattle.std.proofs.lemmas.List.{append-nil}
 use Rattle.std.proofs.Common.{inl, inr}
 use Rattle.std.proofs.lemmas.Bool.{cases_lt}
@@ -21,48 +21,34 @@ step bytes at code len next =
 room_step : (grown run out at len : ℕ) → grown ≡ run + out → 2 * run ≤ 3 * at → 2 ≤ len → out ≤ 4 → (len < 4 → out ≤ 3) → 2 * grown ≤ 3 * (at + len)
 room_step grown run out at len e before two most small = elim (cases_lt len 4) [ inl h ↦ let k : out ≤ 3 = small h in omega arith | inr h ↦ omega arith ]
 
--- units were taken at once
-after_units : (bytes old new : List ℕ) (at n : ℕ) → 2 * length old ≤ 3 * at → Leads utf16.rest utf16.text bytes (drop at bytes) old
-    → ((out : List ℕ) × (new ≡ old ++ out) × (length out ≡ n) × Leads utf16.rest utf16.text (drop at bytes) (drop (at + 2 * n) bytes) out)
-    → (2 * length new ≤ 3 * (at + 2 * n)) × Leads utf16.rest utf16.text bytes (drop (at + 2 * n) bytes) new
-after_units bytes old new at n room leads taken =
-    let out = taken.0 in
-    let grown : length new ≡ length old + length out = ap length taken.1 ∙ length-append old out in (
-      omega (arith, grown, taken.2, room),
-      subst (Leads utf16.rest utf16.text bytes (drop (at + 2 * n) bytes)) (sym taken.1)
-          (Leads-trans utf16.rest utf16.text bytes (drop at bytes) (drop (at + 2 * n) bytes) old out leads taken.3),
-    )
-
-pub loop-n-preserved : goal.loop-n-preserved
-loop-n-preserved c =
+pub loop-at-preserved : goal.loop-at-preserved
+loop-at-preserved c =
     let bytes = c.args.bytes.now in
-    let n = c.take_units-n.result in
-    let at = c.loop-n.at + 2 * n in
-    let old = c.take_units-n.new.run in
+    let at = c.convert_some-done.result.used in
+    let made = c.convert_some-done.result.made in
+    let old = take made c.convert_some-done.new.to in
     let code = c.in-Some.next.code in
     let len = c.in-Some.next.len in
-    let units = after_units bytes c.loop-n.run old c.loop-n.at n c.loop-n.invariant.room c.loop-n.invariant.leads c.take_units-n.ensures.taken in
-    let grown : length c.push_quoted.new.self ≡ length old + length (doubled (encode_utf8 code)) = ap length c.push_quoted.ensures ∙ length-append old (doubled (encode_utf8 code)) in
     let two : 2 ≤ len = c.in-Some.ensures.some in
     let most : length (doubled (encode_utf8 code)) ≤ 4 = (doubled_length code).0 in
     let small : len < 4 → length (doubled (encode_utf8 code)) ≤ 3 = λ h. (doubled_length code).1 (c.in-Some.ensures.long h) in
     record {
       within = c.in-Some.ensures.within;
-      room = room_step (length c.push_quoted.new.self) (length old) (length (doubled (encode_utf8 code))) at len grown units.0 two most small;
-      leads = subst (Leads utf16.rest utf16.text bytes (drop (at + len) bytes)) (sym c.push_quoted.ensures)
-          (Leads-trans utf16.rest utf16.text bytes (drop at bytes) (drop (at + len) bytes) old (doubled (encode_utf8 code)) units.1 (step bytes at code len c.in-Some.ensures.gives));
+      long = search rules;
+      room = room_step c.put_quoted-made.result made (length (doubled (encode_utf8 code))) at len c.put_quoted-made.ensures.end c.convert_some-done.ensures.room two most small;
+      leads = subst (Leads utf16.rest utf16.text bytes (drop (at + len) bytes)) (sym c.put_quoted-made.ensures.written)
+          (Leads-trans utf16.rest utf16.text bytes (drop at bytes) (drop (at + len) bytes) old (doubled (encode_utf8 code)) c.convert_some-done.ensures.leads (step bytes at code len c.in-Some.ensures.gives));
     }
 
 pub returns-in_default-clause-text : goal.returns-in_default-clause-text
 returns-in_default-clause-text c =
-    let n = c.take_units-n.result in
-    let run = c.take_units-n.new.run in
-    let leads = (after_units c.args.bytes.now c.loop-n.run run c.loop-n.at n c.loop-n.invariant.room c.loop-n.invariant.leads c.take_units-n.ensures.taken).1 in
-    sym (leads.emits ∙ ap (λ l. run ++ l) (emit_held utf16.rest utf16.text (drop (c.loop-n.at + 2 * n) c.args.bytes.now) text_nil c.in_default.ensures.gives) ∙ append-nil run)
+    let at = c.convert_some-done.result.used in
+    let run = take c.convert_some-done.result.made c.convert_some-done.new.to in
+    sym (c.convert_some-done.ensures.leads.emits ∙ ap (λ l. run ++ l) (emit_held utf16.rest utf16.text (drop at c.args.bytes.now) text_nil c.in_default.ensures.gives) ∙ append-nil run)
 
 pub returns-in_default-clause-most : goal.returns-in_default-clause-most
 returns-in_default-clause-most c =
-    let at = c.loop-n.at + 2 * c.take_units-n.result in
+    let at = c.convert_some-done.result.used in
     let tail = drop at c.args.bytes.now in
     let most : length (utf16.rest tail) ≤ 3 = short tail in
     omega (arith, ap length c.in_default.ensures.gives, length-drop at c.args.bytes.now)
