@@ -102,10 +102,8 @@ pub(crate) fn put_quoted(to: &mut [u8], at: usize, code: u32) -> usize
         return put_wide(to, at, code);
     }
     let end = put_byte(to, at, code as u8);
-    if code == 0x22 {
-        return put_byte(to, end, 0x22);
-    }
-    end
+    to[end] = 0x22;
+    end + (code == 0x22) as usize
 }
 
 // The first of eight bytes, so many.
