@@ -1,6 +1,7 @@
 // Runs a job.
 ghost use Rattle.std.specs.Prelude.{◌≡◌, ◌⊎◌};
-ghost use Rattle.tds_replay.specs.Performing.{GivenBy, LacksMemory, Performs};
+ghost use Rattle.tds_replay.specs.Statuses.{status_number};
+ghost use Rattle.tds_replay.specs.Performing.{GivenBy, LacksMemory, Performs, charset_of, limits_of};
 
 use crate::job::Job;
 use crate::lines::{say_answer, say_want_of_memory};
@@ -58,7 +59,25 @@ pub fn perform<R: Read, W: Write, N: Write>(
     from: &mut Counted<R>,
     to: &mut Counted<W>,
     notes: &mut Counted<N>,
-) -> u8 {
+) -> u8
+    ensures performs { let given : GivenBy = λ waiting notice description. record {
+      charset = charset_of job.now;
+      limits = limits_of job.now;
+      input = R.remaining from.old.device;
+      left = R.remaining from.new.device;
+      had = W.contents to.old.device;
+      has = W.contents to.new.device;
+      waiting = waiting;
+      notice = notice;
+      description = description;
+      read_failures = from.new.failures;
+      read_failures_before = from.old.failures;
+      write_failures = to.new.failures;
+      write_failures_before = to.old.failures;
+    }
+        in (status : Status) × (result ≡ status_number status) × (Performs given (N.contents notes.old.device) notes.old.failures (N.contents notes.new.device) notes.new.failures status
+        ⊎ (LacksMemory (N.contents notes.old.device) notes.old.failures (N.contents notes.new.device) notes.new.failures status × (from.new ≡ from.old) × (to.new ≡ to.old))) }
+{
     match job {
         Job::Export {
             limits,
