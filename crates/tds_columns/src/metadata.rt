@@ -264,13 +264,8 @@ fn read_column<R: Read>(
         (λ _. DescribesColumn area.old.room count index area.old.bytes (seen R.remaining payload.old) (seen R.remaining payload.new) payload.old.place payload.new.place area.old.peak area.new)
         (λ stop. StopsInColumn area.old.room count index ColumnHead area.old.bytes (seen R.remaining payload.old) (seen R.remaining payload.new) payload.old.place area.old.peak area.new stop) }
 {
-    if let Err(stop) = read_type(payload, area, index, count) {
-        return Err(stop);
-    }
-    match read_name(payload, area, index, count) {
-        Ok(()) => Ok(()),
-        Err(stop) => Err(stop),
-    }
+    read_type(payload, area, index, count)?;
+    read_name(payload, area, index, count)
 }
 
 // Reads all columns behind Count.
@@ -288,9 +283,7 @@ fn read_columns<R: Read>(payload: &mut Payload<R>, area: &mut Area, count: u16) 
         (λ stop. StopsDescribing area.old.room (InColumn area.old.bytes count [] ColumnHead) (seen R.remaining payload.old) (seen R.remaining payload.new) payload.old.place area.old.peak area.new stop) }
 {
     'columns: for index in 0..count {
-        if let Err(stop) = read_column(payload, area, index, count) {
-            return Err(stop);
-        }
+        read_column(payload, area, index, count)?;
     }
     Ok(())
 }

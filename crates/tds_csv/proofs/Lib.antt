@@ -16,3 +16,4 @@ pub mod HexLanes
 pub mod PlainText
 pub mod Unquoted
 pub mod Encoding
+pub mod Puttings

@@ -1,5 +1,5 @@
 -- What was put into a sink, call after call.
-use Rattle.std.proofs.Common.{◌≡◌, ◌∙◌, ℕ, ◌+◌, ◌-◌, ◌*◌, ◌^◌, ◌<◌, ◌≤◌, List, [], ◌++◌, length, take, Result, Ok, Err, OnErr, MatchResult, refl, sym, ap, subst, arith, append-nil, append_assoc, length-append, le_refl, take_all}
+use Rattle.std.proofs.Common.{◌≡◌, ◌∙◌, Bool, false, ℕ, ◌+◌, ◌-◌, ◌*◌, ◌^◌, ◌<◌, ◌≤◌, List, [], ◌++◌, length, take, Result, Ok, Err, OnErr, MatchResult, refl, sym, ap, subst, arith, append-nil, append_assoc, length-append, le_refl, take_all}
 use Rattle.std.proofs.Math.Seq.{take-append-add}
 use lib.Seq.{take-append-le}
 use Rattle.std.specs.Io.KnownBytes.{Appends}
@@ -79,3 +79,8 @@ block a m b piece (Err e) is full some x =
       x.2,
       subst (λ (h : Held). b.failures ≡ one_more h.failures) is x.3,
     )
+
+pub block_going : {U : Type 0} (a m b : Held) (piece : List ℕ) (r : Result U Stop) (failed : Bool) → m ≡ record a { waiting = a.waiting ++ piece } → length m.waiting ≡ 4096 → OnErr r (0 < length b.waiting)
+    → MatchResult r (λ _. Sends m b) (λ e. FinishFails m b e) → MatchResult r (λ _. Puts a b piece) (λ e. failed ≡ false → Breaks a b piece e)
+block_going a m b piece (Ok u) failed is full some x = block a m b piece (Ok u) is full some x
+block_going {U = U} a m b piece (Err e) failed is full some x = λ _. block {U = U} a m b piece (Err e) is full some x

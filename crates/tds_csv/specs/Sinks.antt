@@ -1,5 +1,5 @@
 -- A sink as contracts see it, and what calls do to it.
-use Rattle.std.specs.Prelude.{◌≡◌, ℕ, ◌+◌, ◌-◌, ◌*◌, ◌^◌, ◌<◌, ◌≤◌, false, List, [], ◌++◌, length, take, Option}
+use Rattle.std.specs.Prelude.{◌≡◌, ℕ, ◌+◌, ◌-◌, ◌*◌, ◌^◌, ◌<◌, ◌≤◌, true, false, if◌then◌else◌, List, [], ◌++◌, length, take, Option, Result, Err, is_ok, MatchResult, OnOk}
 use Rattle.std.specs.Io.KnownBytes.{Appends}
 use Rattle.tds_meter.specs.Counts.{counted, one_more}
 use Rattle.tds_packet.specs.declared.fault.Fault.TheVariants.{WriteFailed}
@@ -58,3 +58,22 @@ IsReady s = (4096 ≤ s.output.now.room) × (s.failed ≡ false → length s.out
 -- It is on the same writer and area.
 abbrev pub IsOnSameSink : {W : Type 0} → Sink W → Sink W → Type 0
 IsOnSameSink old new = (new.to.ghost_name ≡ old.to.ghost_name) × (new.output.ghost_name ≡ old.output.ghost_name) × (new.output.now.room ≡ old.output.now.room)
+
+-- It takes text: it is ready, and no write has failed.
+pub record IsWriting {W : Type 0} (s : Sink W) : Type 0 where
+  pub ready : IsReady s
+  pub writing : s.failed ≡ false
+
+-- A call that puts a text: on an error a beginning of it was put. After a failure it answers the same stop and does nothing.
+pub record PutsPiece {W U : Type 0} (contents : W → Option (List ℕ)) (old new : Sink W) (text : List ℕ) (result : Result U Stop) : Type 0 where
+  pub ready : IsReady new
+  pub same : IsOnSameSink old new
+  pub failed : new.failed ≡ (if is_ok result then false else true)
+  pub gives : MatchResult result (λ _. Puts (held contents old) (held contents new) text) (λ stop. old.failed ≡ false → Breaks (held contents old) (held contents new) text stop)
+  pub again : old.failed ≡ true → (result ≡ Err (stop_of (held contents old))) × (new ≡ old)
+
+-- A call left it ready, on the same writer and area, and writing where it answered no error.
+pub record LeavesSink {W U : Type 0} (old new : Sink W) (result : Result U Stop) : Type 0 where
+  pub ready : IsReady new
+  pub same : IsOnSameSink old new
+  pub writing : OnOk result (new.failed ≡ false)

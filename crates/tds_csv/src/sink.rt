@@ -3,7 +3,7 @@ ghost use Rattle.std.specs.Prelude.{replicate, drop, ◌≡◌, codes, ◌+◌, 
 ghost use Rattle.tds_csv.specs.Quoting.{binary_mark, line_end, null_field, quote};
 ghost use Rattle.std.specs.Borrow.{sem};
 ghost use Rattle.tds_csv.specs.Spare.{IsLent, LendsSpare, held_before};
-ghost use Rattle.tds_csv.specs.Sinks.{Breaks, FinishFails, Finishes, IsOnSameSink, IsReady, Puts, Sends, fresh, held, stop_of};
+ghost use Rattle.tds_csv.specs.Sinks.{Breaks, FinishFails, Finishes, IsWriting, IsOnSameSink, IsReady, Puts, PutsPiece, Sends, fresh, held, stop_of};
 
 use std::io::Write;
 use tds_meter::Area;
@@ -25,8 +25,7 @@ pub struct Sink<'a, W> {
 impl<'a, W: Write> Sink<'a, W> {
     /// A sink on a writer. The area has room for 4,096 bytes or more, and is emptied.
     pub fn new(to: &'a mut Counted<W>, output: &'a mut Area) -> Sink<'a, W>
-        requires room { 4096 ≤ output.old.room }
-        requires peak { output.old.peak ≤ output.old.room }
+        requires { 4096 ≤ output.old.room }
         ensures ready { IsReady result }
         ensures going { result.failed ≡ false }
         ensures to { result.to.ghost_name ≡ to.entry.ghost_name }
@@ -106,15 +105,9 @@ impl<'a, W: Write> Sink<'a, W> {
 
     // Adds a piece for which there is room, and delivers a full chunk.
     fn push(&mut self, piece: &[u8]) -> Result<(), Stop>
-        requires ready { IsReady self.old }
-        requires going { self.old.failed ≡ false }
+        requires going { IsWriting self.old }
         requires fits { length self.old.output.now.bytes + length piece.now ≤ 4096 }
-        ensures ready { IsReady self.new }
-        ensures same { IsOnSameSink self.old self.new }
-        ensures failed { self.new.failed ≡ (if is_ok result then false else true) }
-        ensures gives { MatchResult result
-            (λ _. Puts (held W.contents self.old) (held W.contents self.new) piece.now)
-            (λ stop. Breaks (held W.contents self.old) (held W.contents self.new) piece.now stop) }
+        ensures { PutsPiece W.contents self.old self.new piece.now result }
     {
         let Ok(()) = self.output.append(piece) else {
             unreachable!()
@@ -128,13 +121,7 @@ impl<'a, W: Write> Sink<'a, W> {
     /// Adds a piece to the text. Where a write fails, a beginning of the piece was added.
     pub fn put(&mut self, piece: &[u8]) -> Result<(), Stop>
         requires { IsReady self.old }
-        ensures ready { IsReady self.new }
-        ensures same { IsOnSameSink self.old self.new }
-        ensures failed { self.new.failed ≡ (if is_ok result then false else true) }
-        ensures gives { MatchResult result
-            (λ _. Puts (held W.contents self.old) (held W.contents self.new) piece.now)
-            (λ stop. self.old.failed ≡ false → Breaks (held W.contents self.old) (held W.contents self.new) piece.now stop) }
-        ensures again { self.old.failed ≡ true → (result ≡ Err (stop_of (held W.contents self.old))) × (self.new ≡ self.old) }
+        ensures { PutsPiece W.contents self.old self.new piece.now result }
     {
         if self.failed {
             return Err(self.stop());
@@ -142,9 +129,7 @@ impl<'a, W: Write> Sink<'a, W> {
         let mut taken = 0;
         while taken < piece.len() {
             let n = (piece.len() - taken).min(BLOCK - self.output.len());
-            if let Err(stop) = self.push(&piece[taken..taken + n]) {
-                return Err(stop);
-            }
+            self.push(&piece[taken..taken + n])?;
             taken += n;
         }
         Ok(())
@@ -153,13 +138,7 @@ impl<'a, W: Write> Sink<'a, W> {
     /// A field that is NULL.
     pub fn null(&mut self) -> Result<(), Stop>
         requires { IsReady self.old }
-        ensures ready { IsReady self.new }
-        ensures same { IsOnSameSink self.old self.new }
-        ensures failed { self.new.failed ≡ (if is_ok result then false else true) }
-        ensures gives { MatchResult result
-            (λ _. Puts (held W.contents self.old) (held W.contents self.new) null_field)
-            (λ stop. self.old.failed ≡ false → Breaks (held W.contents self.old) (held W.contents self.new) null_field stop) }
-        ensures again { self.old.failed ≡ true → (result ≡ Err (stop_of (held W.contents self.old))) × (self.new ≡ self.old) }
+        ensures { PutsPiece W.contents self.old self.new null_field result }
     {
         self.put(b"NULL")
     }
@@ -167,13 +146,7 @@ impl<'a, W: Write> Sink<'a, W> {
     /// The text of a scalar field.
     pub fn plain(&mut self, field: &[u8]) -> Result<(), Stop>
         requires { IsReady self.old }
-        ensures ready { IsReady self.new }
-        ensures same { IsOnSameSink self.old self.new }
-        ensures failed { self.new.failed ≡ (if is_ok result then false else true) }
-        ensures gives { MatchResult result
-            (λ _. Puts (held W.contents self.old) (held W.contents self.new) field.now)
-            (λ stop. self.old.failed ≡ false → Breaks (held W.contents self.old) (held W.contents self.new) field.now stop) }
-        ensures again { self.old.failed ≡ true → (result ≡ Err (stop_of (held W.contents self.old))) × (self.new ≡ self.old) }
+        ensures { PutsPiece W.contents self.old self.new field.now result }
     {
         self.put(field)
     }
@@ -181,13 +154,7 @@ impl<'a, W: Write> Sink<'a, W> {
     /// The quote before a field of characters.
     pub fn open_quoted(&mut self) -> Result<(), Stop>
         requires { IsReady self.old }
-        ensures ready { IsReady self.new }
-        ensures same { IsOnSameSink self.old self.new }
-        ensures failed { self.new.failed ≡ (if is_ok result then false else true) }
-        ensures gives { MatchResult result
-            (λ _. Puts (held W.contents self.old) (held W.contents self.new) (quote ∷ []))
-            (λ stop. self.old.failed ≡ false → Breaks (held W.contents self.old) (held W.contents self.new) (quote ∷ []) stop) }
-        ensures again { self.old.failed ≡ true → (result ≡ Err (stop_of (held W.contents self.old))) × (self.new ≡ self.old) }
+        ensures { PutsPiece W.contents self.old self.new (quote ∷ []) result }
     {
         self.put(b"\"")
     }
@@ -195,13 +162,7 @@ impl<'a, W: Write> Sink<'a, W> {
     /// The quote behind a field of characters.
     pub fn close_quoted(&mut self) -> Result<(), Stop>
         requires { IsReady self.old }
-        ensures ready { IsReady self.new }
-        ensures same { IsOnSameSink self.old self.new }
-        ensures failed { self.new.failed ≡ (if is_ok result then false else true) }
-        ensures gives { MatchResult result
-            (λ _. Puts (held W.contents self.old) (held W.contents self.new) (quote ∷ []))
-            (λ stop. self.old.failed ≡ false → Breaks (held W.contents self.old) (held W.contents self.new) (quote ∷ []) stop) }
-        ensures again { self.old.failed ≡ true → (result ≡ Err (stop_of (held W.contents self.old))) × (self.new ≡ self.old) }
+        ensures { PutsPiece W.contents self.old self.new (quote ∷ []) result }
     {
         self.put(&[b'"'])
     }
@@ -209,13 +170,7 @@ impl<'a, W: Write> Sink<'a, W> {
     /// The mark before the digits of a binary field.
     pub fn open_binary(&mut self) -> Result<(), Stop>
         requires { IsReady self.old }
-        ensures ready { IsReady self.new }
-        ensures same { IsOnSameSink self.old self.new }
-        ensures failed { self.new.failed ≡ (if is_ok result then false else true) }
-        ensures gives { MatchResult result
-            (λ _. Puts (held W.contents self.old) (held W.contents self.new) binary_mark)
-            (λ stop. self.old.failed ≡ false → Breaks (held W.contents self.old) (held W.contents self.new) binary_mark stop) }
-        ensures again { self.old.failed ≡ true → (result ≡ Err (stop_of (held W.contents self.old))) × (self.new ≡ self.old) }
+        ensures { PutsPiece W.contents self.old self.new binary_mark result }
     {
         self.put(b"0x")
     }
@@ -223,13 +178,7 @@ impl<'a, W: Write> Sink<'a, W> {
     /// The comma between two fields.
     pub fn comma(&mut self) -> Result<(), Stop>
         requires { IsReady self.old }
-        ensures ready { IsReady self.new }
-        ensures same { IsOnSameSink self.old self.new }
-        ensures failed { self.new.failed ≡ (if is_ok result then false else true) }
-        ensures gives { MatchResult result
-            (λ _. Puts (held W.contents self.old) (held W.contents self.new) (codes ","))
-            (λ stop. self.old.failed ≡ false → Breaks (held W.contents self.old) (held W.contents self.new) (codes ",") stop) }
-        ensures again { self.old.failed ≡ true → (result ≡ Err (stop_of (held W.contents self.old))) × (self.new ≡ self.old) }
+        ensures { PutsPiece W.contents self.old self.new (codes ",") result }
     {
         self.put(b",")
     }
@@ -237,13 +186,7 @@ impl<'a, W: Write> Sink<'a, W> {
     /// The end of a line.
     pub fn line_end(&mut self) -> Result<(), Stop>
         requires { IsReady self.old }
-        ensures ready { IsReady self.new }
-        ensures same { IsOnSameSink self.old self.new }
-        ensures failed { self.new.failed ≡ (if is_ok result then false else true) }
-        ensures gives { MatchResult result
-            (λ _. Puts (held W.contents self.old) (held W.contents self.new) line_end)
-            (λ stop. self.old.failed ≡ false → Breaks (held W.contents self.old) (held W.contents self.new) line_end stop) }
-        ensures again { self.old.failed ≡ true → (result ≡ Err (stop_of (held W.contents self.old))) × (self.new ≡ self.old) }
+        ensures { PutsPiece W.contents self.old self.new line_end result }
     {
         self.put(b"\r\n")
     }
@@ -300,9 +243,7 @@ impl<'a, W: Write> Sink<'a, W> {
         if self.failed {
             return Err(self.stop());
         }
-        if let Err(stop) = self.deliver() {
-            return Err(stop);
-        }
+        self.deliver()?;
         if self.to.flush() {
             return Ok(());
         }

@@ -33,7 +33,7 @@ use Rattle.tds_export.specs.Built.{is_built}
 use Rattle.tds_export.specs.Reading.{Part, response, response_start, text_so_far}
 use Rattle.tds_rows.specs.Unbuilt.{Stalls}
 use Rattle.tds_export.specs.Running.{Completes, FailsAtEnd, HaltsReading, HaltsWriting, IsHolding, ReadsWhole, RunStops, behind}
-use Rattle.tds_export.specs.Ended.{Exports, Given, IsReader, IsWriter, StopsExport, Tells, Tidied, begun_at, fresh_at, run_of}
+use Rattle.tds_export.specs.Ended.{Reports, Given, IsReader, IsWriter, StopsExport, Tells, Tidied, begun_at, fresh_at, run_of}
 use Rattle.tds_export.proofs.Growth.{text_along}
 use Rattle.tds_export.proofs.GrowthBound.{bounded_along}
 use Rattle.tds_export.proofs.ResponseMeaning.{response_is_spelt}
@@ -450,7 +450,7 @@ some_wire size (p ∷ packets) h = omega arith
 some_read : (old : Option (List ℕ)) (input left read wire : List ℕ) → old ≡ Some left → Consumes (Some input) old read → wire ++ left ≡ input → 0 < length wire → 0 < length read
 some_read old input left read wire e c begin some = let split : input ≡ read ++ left = subst (λ o. Consumes (Some input) o read) e c in omega (arith, ap length split, ap length begin, some, length-append read left, length-append wire left)
 
-pub report_tells : (given : Given) (report : Report) → given.notice ≡ [] → Exports given report → Tells given (Ok report)
+pub report_tells : (given : Given) (report : Report) → given.notice ≡ [] → Reports given report → Tells given (Ok report)
 unfolding Tells
 report_tells given report none x = λ input had are e1 e2.
     let first : begun_at given ≡ start (run_of given input [] []) = ap (λ i. begun given.limits.packet_size given.limits.max_wire i given.read_failures_before) e1 in

@@ -10,7 +10,7 @@ use Rattle.tds_export.specs.declared.report.Stopped.{Stopped}
 use Rattle.tds_export.specs.declared.standing.Standing.{Standing}
 use Rattle.tds_export.specs.Reading.{response, response_start}
 use Rattle.tds_export.specs.Running.{Completes, RunStops}
-use Rattle.tds_export.specs.Ended.{Exports, Given, IsReader, IsWriter, StopsExport, Tidied, begun_at, fresh_at}
+use Rattle.tds_export.specs.Ended.{Reports, Given, IsReader, IsWriter, StopsExport, Tidied, begun_at, fresh_at}
 
 rose_from : (f : ℕ) (b : Bool) → nat_lt f (2 ^ 64 - 1) ≡ b → Rose f (one_more f)
 rose_from f true e = let low : f < 2 ^ 64 - 1 = grind (arith, nat_tests) in inl (omega (arith, low))
@@ -28,7 +28,7 @@ tidied h k failed (Err e) going x = let y = x going in (y.0, y.1, inr (subst (Ro
 -- ---- what an export leaves, from what its calls did
 
 pub exports : (given : Given) (a q : Seen) (h k : Held) (room : ℕ) (standing : Standing) (report : Report) → a ≡ begun_at given → h ≡ fresh_at given → room ≡ given.limits.column_room → IsReader given q → IsWriter given k
-    → Completes (response given.charset room) response_start a q h k standing given.description → report ≡ record standing.report { written = k.delivered } → Exports given report
+    → Completes (response given.charset room) response_start a q h k standing given.description → report ≡ record standing.report { written = k.delivered } → Reports given report
 exports given a q h k room standing report e1 e2 e3 reader writer x is = record {
   seen = q;
   held = k;

@@ -1,8 +1,11 @@
 -- How an export ended, as contracts see it where reader and writer may not tell their bytes.
-use Rattle.std.specs.Prelude.{◌≡◌, ◌⊎◌, ℕ, Bool, true, false, List, [], ◌++◌, length, Option, Some, Result}
+use Rattle.std.specs.Prelude.{◌≡◌, ◌⊎◌, ℕ, Bool, true, false, List, [], ◌++◌, length, Option, Some, Result, IfErr, MatchResult}
+use Rattle.tds_meter.specs.declared.areas.Areas.{Areas}
 use Rattle.tds_meter.specs.declared.limits.Limits.{Limits}
 use Rattle.tds_meter.specs.Counts.{Rose}
 use Rattle.tds_meter.specs.Space.{Space}
+use Rattle.tds_packet.specs.declared.counted.Counted.{Counted}
+use Rattle.tds_packet.specs.declared.fault.Fault.TheVariants.{ReadFailed, WriteFailed}
 use Rattle.tds_packet.specs.declared.fault.Stop.{Stop}
 use Rattle.tds_packet.specs.Seen.{Seen, begun}
 use Rattle.tds_csv.specs.Sinks.{Adds, Held, fresh}
@@ -58,7 +61,7 @@ abbrev pub Tidied : Held → Held → Type 0
 Tidied old new = (sent : List ℕ) × Adds old new sent [] × (((new.waiting ≡ []) × (new.failures ≡ old.failures)) ⊎ Rose old.failures new.failures)
 
 -- The response was read whole, and its text delivered.
-pub record Exports (given : Given) (report : Report) : Type 0 where
+pub record Reports (given : Given) (report : Report) : Type 0 where
   pub seen : Seen
   pub held : Held
   pub standing : Standing
@@ -103,3 +106,44 @@ run_of given input left gained = record {
 unfoldable pub Tells : Given → Result Report Stopped → Type 0
 Tells given result = (input : List ℕ) (had : List ℕ) → AreBytes input → given.input ≡ Some input → given.had ≡ Some had →
     (left : List ℕ) × (gained : List ℕ) × (given.left ≡ Some left) × (given.has ≡ Some (had ++ gained)) × Answer (run_of given input left gained) result × SucceedsIfAccepted (run_of given input left gained) result
+
+-- a device at a moment: the bytes that its reader still gives or its writer has, where that is known, and its count of failures
+pub record Device : Type 0 where
+  pub bytes : Option (List ℕ)
+  pub failures : ℕ
+
+-- what an export has to do with, at a moment
+pub record Moment : Type 0 where
+  pub areas : Areas
+  pub reader : Device
+  pub writer : Device
+
+abbrev pub device : {D : Type 0} → (D → Option (List ℕ)) → Counted D → Device
+device bytes d = record { bytes = bytes d.device; failures = d.failures }
+
+abbrev pub moment : {R W : Type 0} → (R → Option (List ℕ)) → (W → Option (List ℕ)) → Areas → Counted R → Counted W → Moment
+moment remaining contents areas from to = record { areas = areas; reader = device remaining from; writer = device contents to }
+
+abbrev pub given_of : Charset → Moment → Moment → Given
+given_of charset before after = record {
+  charset = charset;
+  limits = before.areas.limits;
+  input = before.reader.bytes;
+  left = after.reader.bytes;
+  had = before.writer.bytes;
+  has = after.writer.bytes;
+  waiting = after.areas.output.bytes;
+  notice = after.areas.notice.bytes;
+  description = after.areas.description;
+  read_failures = after.reader.failures;
+  read_failures_before = before.reader.failures;
+  write_failures = after.writer.failures;
+  write_failures_before = before.writer.failures;
+}
+
+-- An export answered so between two moments.
+pub record Exports (charset : Charset) (before after : Moment) (result : Result Report Stopped) : Type 0 where
+  pub gives : MatchResult result (Reports (given_of charset before after)) (StopsExport (given_of charset before after))
+  pub tells : Tells (given_of charset before after) result
+  pub failed_reads : IfErr result (λ stopped. stopped.fault ≡ ReadFailed → Rose before.reader.failures after.reader.failures)
+  pub failed_writes : IfErr result (λ stopped. stopped.fault ≡ WriteFailed → Rose before.writer.failures after.writer.failures)

@@ -1,13 +1,13 @@
 // The export of a whole response.
-ghost use Rattle.std.specs.Prelude.{◌≡◌, ◌+◌, ◌≤◌, [], None, false, true, length, IfErr, IsTrue, MatchResult, if◌then◌else◌, ◌++◌};
-ghost use Rattle.tds_csv.specs.Sinks.{IsOnSameSink, IsReady, held};
+ghost use Rattle.std.specs.Prelude.{◌≡◌, ◌+◌, ◌≤◌, [], None, false, true, length, IsTrue, MatchResult, if◌then◌else◌, ◌++◌};
+ghost use Rattle.tds_csv.specs.Sinks.{IsOnSameSink, IsReady, IsWriting, LeavesSink, held};
 ghost use Rattle.tds_export.specs.Reading.{response, response_start};
-ghost use Rattle.tds_export.specs.Ended.{Exports, Given, StopsExport, Tells, Tidied};
+ghost use Rattle.tds_export.specs.Ended.{Exports, Tidied, moment};
 ghost use Rattle.tds_export.specs.Running.{Completes, RunStops, Tracks};
-ghost use Rattle.tds_meter.specs.Counts.{Rose, one_more};
+ghost use Rattle.tds_meter.specs.Counts.{one_more};
 ghost use Rattle.tds_meter.specs.Rooms.{is_intact, peak_rest};
 ghost use Rattle.tds_meter.specs.Space.{empty};
-ghost use Rattle.tds_packet.specs.Payloads.{IsOnSame, IsSound, seen};
+ghost use Rattle.tds_packet.specs.Payloads.{IsGoing, LeavesPayload, seen};
 ghost use Rattle.tds_rows.specs.declared.Charset.{Charset};
 
 use crate::report::{Report, Stopped};
@@ -26,43 +26,30 @@ fn run<R: Read, W: Write>(
     charset: tds_rows::Charset,
     standing: &mut Standing,
 ) -> Result<(), Stop>
-    requires sound { IsSound payload.old }
-    requires going { payload.old.stopped ≡ None }
-    requires ready { IsReady sink.old }
-    requires writing { sink.old.failed ≡ false }
+    requires going { IsGoing payload.old }
+    requires writing { IsWriting sink.old }
     requires room { 10 ≤ area.old.room }
     requires empty { area.old ≡ empty area.old.room }
     requires counted { standing.old.report.sets + standing.old.report.rows ≤ payload.old.place }
     requires described { standing.old.described ≡ false }
     requires tracks { Tracks standing.old [] }
-    ensures same { IsOnSame payload.old payload.new }
-    ensures ready { IsReady sink.new }
-    ensures same_sink { IsOnSameSink sink.old sink.new }
+    ensures payload { LeavesPayload payload.old payload.new result }
+    ensures sink { LeavesSink sink.old sink.new result }
     ensures room { area.new.room ≡ area.old.room }
-    ensures peak { payload.new.packet.now.peak ≤ payload.new.packet.now.room }
     ensures gives { MatchResult result
         (λ _. Completes (response charset area.old.room) response_start (seen R.remaining payload.old) (seen R.remaining payload.new)
         (held W.contents sink.old) (held W.contents sink.new) standing.new area.new)
         (λ stop. RunStops (response charset area.old.room) response_start (seen R.remaining payload.old) (seen R.remaining payload.new) payload.old.place
         (held W.contents sink.old) (held W.contents sink.new) area.new sink.new.failed stop) }
 {
-    'tokens: loop {
-        match token(payload, sink, area, charset, standing) {
-            Ok(true) => {}
-            Ok(false) => break,
-            Err(stop) => return Err(stop),
-        }
-    }
+    'tokens: while token(payload, sink, area, charset, standing)? {}
     if !standing.is_final {
         return Err(Stop {
             fault: Fault::EndWithoutDone,
             place: Place::Payload(payload.place()),
         });
     }
-    match sink.finish() {
-        Ok(()) => Ok(()),
-        Err(stop) => Err(stop),
-    }
+    sink.finish()
 }
 
 // Delivers what waits, if the writer has not failed, and says what it took.
@@ -99,40 +86,7 @@ pub fn export<R: Read, W: Write>(
     ensures limits { areas.new.limits ≡ areas.old.limits }
     ensures restarts { areas.new.restarts ≡ one_more areas.old.restarts }
     ensures bound { peak_rest areas.new ≤ areas.old.limits.packet_size + 65536 + 4736 }
-    ensures failed_reads { IfErr result (λ stopped. stopped.fault ≡ Fault.ReadFailed → Rose from.old.failures from.new.failures) }
-    ensures failed_writes { IfErr result (λ stopped. stopped.fault ≡ Fault.WriteFailed → Rose to.old.failures to.new.failures) }
-    ensures gives { let given : Given = record {
-      charset = charset;
-      limits = areas.old.limits;
-      input = R.remaining from.old.device;
-      left = R.remaining from.new.device;
-      had = W.contents to.old.device;
-      has = W.contents to.new.device;
-      waiting = areas.new.output.bytes;
-      notice = areas.new.notice.bytes;
-      description = areas.new.description;
-      read_failures = from.new.failures;
-      read_failures_before = from.old.failures;
-      write_failures = to.new.failures;
-      write_failures_before = to.old.failures;
-    }
-        in MatchResult result (λ report. Exports given report) (λ stopped. StopsExport given stopped) }
-    ensures tells { let given : Given = record {
-      charset = charset;
-      limits = areas.old.limits;
-      input = R.remaining from.old.device;
-      left = R.remaining from.new.device;
-      had = W.contents to.old.device;
-      has = W.contents to.new.device;
-      waiting = areas.new.output.bytes;
-      notice = areas.new.notice.bytes;
-      description = areas.new.description;
-      read_failures = from.new.failures;
-      read_failures_before = from.old.failures;
-      write_failures = to.new.failures;
-      write_failures_before = to.old.failures;
-    }
-        in Tells given result }
+    ensures exports { let at = moment R.remaining W.contents in Exports charset (at areas.old from.old to.old) (at areas.new from.new to.new) result }
 {
     areas.restart();
     let max_wire = areas.limits().max_wire();

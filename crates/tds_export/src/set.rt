@@ -1,9 +1,9 @@
 // The header line of a set.
-ghost use Rattle.std.specs.Prelude.{◌≡◌, ◌%◌, ◌∷◌, ◌++◌, [], false, true, is_ok, length, MatchResult, if◌then◌else◌};
+ghost use Rattle.std.specs.Prelude.{◌≡◌, ◌%◌, ◌++◌, length};
 ghost use Rattle.tds_csv.specs.Conversion.{Utf16Text, conversion_text, long_field};
 ghost use Rattle.tds_columns.specs.View.{columns_of};
 ghost use Rattle.tds_csv.specs.Quoting.{joined};
-ghost use Rattle.tds_csv.specs.Sinks.{Breaks, IsOnSameSink, IsReady, Puts, held};
+ghost use Rattle.tds_csv.specs.Sinks.{IsWriting, PutsPiece};
 ghost use Rattle.tds_export.specs.Joined.{IsStopIn, IsStopped};
 ghost use Rattle.tds_export.specs.Tokens.{between, header_line, names_of, text_if};
 
@@ -25,15 +25,9 @@ fn stop_in(fault: JoinFault) -> Stop
 
 // Puts the text of whole UTF-16 units, with its quotes doubled.
 fn put_units<W: Write>(sink: &mut Sink<W>, units: &[u8]) -> Result<(), Stop>
-    requires ready { IsReady sink.old }
-    requires going { sink.old.failed ≡ false }
+    requires writing { IsWriting sink.old }
     requires even { length units.now % 2 ≡ 0 }
-    ensures ready { IsReady sink.new }
-    ensures same { IsOnSameSink sink.old sink.new }
-    ensures failed { sink.new.failed ≡ (if is_ok result then false else true) }
-    ensures gives { MatchResult result
-        (λ _. Puts (held W.contents sink.old) (held W.contents sink.new) (conversion_text Utf16Text units.now))
-        (λ stop. Breaks (held W.contents sink.old) (held W.contents sink.new) (conversion_text Utf16Text units.now) stop) }
+    ensures { PutsPiece W.contents sink.old sink.new (conversion_text Utf16Text units.now) result }
 {
     let mut joiner = Utf16Joiner::new();
     if let Err(fault) = joiner.push(units, sink) {
@@ -47,44 +41,22 @@ fn put_units<W: Write>(sink: &mut Sink<W>, units: &[u8]) -> Result<(), Stop>
 
 // Puts a column's name, quoted.
 fn put_name<W: Write>(sink: &mut Sink<W>, units: &[u8]) -> Result<(), Stop>
-    requires ready { IsReady sink.old }
-    requires going { sink.old.failed ≡ false }
+    requires writing { IsWriting sink.old }
     requires even { length units.now % 2 ≡ 0 }
-    ensures ready { IsReady sink.new }
-    ensures same { IsOnSameSink sink.old sink.new }
-    ensures failed { sink.new.failed ≡ (if is_ok result then false else true) }
-    ensures gives { MatchResult result
-        (λ _. Puts (held W.contents sink.old) (held W.contents sink.new) (long_field Utf16Text units.now))
-        (λ stop. Breaks (held W.contents sink.old) (held W.contents sink.new) (long_field Utf16Text units.now) stop) }
+    ensures { PutsPiece W.contents sink.old sink.new (long_field Utf16Text units.now) result }
 {
-    if let Err(stop) = sink.open_quoted() {
-        return Err(stop);
-    }
-    if let Err(stop) = put_units(sink, units) {
-        return Err(stop);
-    }
-    match sink.close_quoted() {
-        Ok(()) => Ok(()),
-        Err(stop) => Err(stop),
-    }
+    sink.open_quoted()?;
+    put_units(sink, units)?;
+    sink.close_quoted()
 }
 
 // Puts a piece where it is wanted.
 fn put_if<W: Write>(sink: &mut Sink<W>, wanted: bool, piece: &[u8]) -> Result<(), Stop>
-    requires ready { IsReady sink.old }
-    requires going { sink.old.failed ≡ false }
-    ensures ready { IsReady sink.new }
-    ensures same { IsOnSameSink sink.old sink.new }
-    ensures failed { sink.new.failed ≡ (if is_ok result then false else true) }
-    ensures gives { MatchResult result
-        (λ _. Puts (held W.contents sink.old) (held W.contents sink.new) (text_if wanted piece.now))
-        (λ stop. Breaks (held W.contents sink.old) (held W.contents sink.new) (text_if wanted piece.now) stop) }
+    requires { IsWriting sink.old }
+    ensures { PutsPiece W.contents sink.old sink.new (text_if wanted piece.now) result }
 {
     if wanted {
-        match sink.put(piece) {
-            Ok(()) => Ok(()),
-            Err(stop) => Err(stop),
-        }
+        sink.put(piece)
     } else {
         Ok(())
     }
@@ -92,23 +64,13 @@ fn put_if<W: Write>(sink: &mut Sink<W>, wanted: bool, piece: &[u8]) -> Result<()
 
 // Puts the names of columns with commas between them.
 fn put_names<W: Write>(sink: &mut Sink<W>, columns: Columns) -> Result<(), Stop>
-    requires ready { IsReady sink.old }
-    requires going { sink.old.failed ≡ false }
-    ensures ready { IsReady sink.new }
-    ensures same { IsOnSameSink sink.old sink.new }
-    ensures failed { sink.new.failed ≡ (if is_ok result then false else true) }
-    ensures gives { MatchResult result
-        (λ _. Puts (held W.contents sink.old) (held W.contents sink.new) (joined (names_of columns.entry.bytes.now)))
-        (λ stop. Breaks (held W.contents sink.old) (held W.contents sink.new) (joined (names_of columns.entry.bytes.now)) stop) }
+    requires { IsWriting sink.old }
+    ensures { PutsPiece W.contents sink.old sink.new (joined (names_of columns.entry.bytes.now)) result }
 {
     let mut first = true;
     'names: for column in columns.walk() {
-        if let Err(stop) = put_if(sink, !first, b",") {
-            return Err(stop);
-        }
-        if let Err(stop) = put_name(sink, column.name) {
-            return Err(stop);
-        }
+        put_if(sink, !first, b",")?;
+        put_name(sink, column.name)?;
         first = false;
     }
     Ok(())
@@ -120,23 +82,10 @@ pub(crate) fn put_header<W: Write>(
     begun: bool,
     columns: Columns,
 ) -> Result<(), Stop>
-    requires ready { IsReady sink.old }
-    requires going { sink.old.failed ≡ false }
-    ensures ready { IsReady sink.new }
-    ensures same { IsOnSameSink sink.old sink.new }
-    ensures failed { sink.new.failed ≡ (if is_ok result then false else true) }
-    ensures gives { let text = between begun ++ header_line (columns_of columns.entry.bytes.now) in MatchResult result
-        (λ _. Puts (held W.contents sink.old) (held W.contents sink.new) text)
-        (λ stop. Breaks (held W.contents sink.old) (held W.contents sink.new) text stop) }
+    requires { IsWriting sink.old }
+    ensures { PutsPiece W.contents sink.old sink.new (between begun ++ header_line (columns_of columns.entry.bytes.now)) result }
 {
-    if let Err(stop) = put_if(sink, begun, b"\r\n") {
-        return Err(stop);
-    }
-    if let Err(stop) = put_names(sink, columns) {
-        return Err(stop);
-    }
-    match sink.line_end() {
-        Ok(()) => Ok(()),
-        Err(stop) => Err(stop),
-    }
+    put_if(sink, begun, b"\r\n")?;
+    put_names(sink, columns)?;
+    sink.line_end()
 }

@@ -1,12 +1,12 @@
 // The tokens of a response.
 ghost use Rattle.std.specs.Prelude.{◌≡◌, ℕ, ◌+◌, ◌-◌, ◌^◌, ◌<◌, ◌≤◌, ◌∷◌, [], List, None, Some, false, true, is_some, IfOk, MatchBool, MatchOption, MatchResult, OnOk, if◌then◌else◌};
 ghost use Rattle.tds_columns.specs.View.{IsDescription, columns_of};
-ghost use Rattle.tds_csv.specs.Sinks.{Held, IsOnSameSink, IsReady, held};
+ghost use Rattle.tds_csv.specs.Sinks.{Held, IsWriting, LeavesSink, held};
 ghost use Rattle.tds_export.specs.Reading.{response};
 ghost use Rattle.tds_export.specs.Running.{Halts, IsHolding, IsRefusal, IsOfKind, ReadsToken, Tracks, behind, in_done, in_metadata, in_row};
 ghost use Rattle.tds_export.specs.Tokens.{Token};
 ghost use Rattle.tds_meter.specs.Space.{Space};
-ghost use Rattle.tds_packet.specs.Payloads.{IsOnSame, IsSound, seen};
+ghost use Rattle.tds_packet.specs.Payloads.{IsGoing, LeavesPayload, seen};
 ghost use Rattle.tds_packet.specs.Seen.{Ends, IsBetween, IsOver, Takes};
 ghost use Rattle.tds_rows.specs.declared.Charset.{Charset};
 
@@ -44,11 +44,8 @@ fn judge(byte: u8, described: bool) -> Result<TokenKind, Fault>
 
 // The first byte of the next token, or none where the message is over.
 fn next_byte<R: Read>(payload: &mut Payload<R>) -> Result<Option<u8>, Stop>
-    requires sound { IsSound payload.old }
-    requires going { payload.old.stopped ≡ None }
-    ensures sound { IsSound payload.new }
-    ensures same { IsOnSame payload.old payload.new }
-    ensures going { OnOk result (payload.new.stopped ≡ None) }
+    requires going { IsGoing payload.old }
+    ensures payload { LeavesPayload payload.old payload.new result }
     ensures place { IfOk result (λ next. payload.new.place ≡ (if is_some next then payload.old.place + 1 else payload.old.place)) }
     ensures between { OnOk result (IsBetween (seen R.remaining payload.new)) }
     ensures gives { MatchResult result
@@ -57,15 +54,12 @@ fn next_byte<R: Read>(payload: &mut Payload<R>) -> Result<Option<u8>, Stop>
         (λ byte. Takes (seen R.remaining payload.old) (seen R.remaining payload.new) (byte ∷ []) 1))
         (λ stop. Ends (seen R.remaining payload.old) (seen R.remaining payload.new) [] stop × (stop.fault ≡ Fault.MessageEnded → ⊥)) }
 {
-    match payload.at_end() {
-        Ok(true) => Ok(None),
-        Ok(false) => {
-            let byte = payload.lying()[0];
-            payload.pass(1);
-            Ok(Some(byte))
-        }
-        Err(stop) => Err(stop),
+    if payload.at_end()? {
+        return Ok(None);
     }
+    let byte = payload.lying()[0];
+    payload.pass(1);
+    Ok(Some(byte))
 }
 
 // Reads a COLMETADATA behind its token byte, and puts the header line of its set.
@@ -75,19 +69,13 @@ fn metadata<R: Read, W: Write>(
     area: &mut Area,
     standing: &mut Standing,
 ) -> Result<(), Stop>
-    requires sound { IsSound payload.old }
-    requires going { payload.old.stopped ≡ None }
-    requires ready { IsReady sink.old }
-    requires writing { sink.old.failed ≡ false }
+    requires going { IsGoing payload.old }
+    requires writing { IsWriting sink.old }
     requires room { 10 ≤ area.old.room }
     requires counted { standing.old.report.sets < 2 ^ 62 }
-    ensures sound { IsSound payload.new }
-    ensures same { IsOnSame payload.old payload.new }
+    ensures payload { LeavesPayload payload.old payload.new result }
     ensures place { OnOk result (payload.old.place ≤ payload.new.place) }
-    ensures going { OnOk result (payload.new.stopped ≡ None) }
-    ensures ready { IsReady sink.new }
-    ensures same_sink { IsOnSameSink sink.old sink.new }
-    ensures writing { OnOk result (sink.new.failed ≡ false) }
+    ensures sink { LeavesSink sink.old sink.new result }
     ensures room { area.new.room ≡ area.old.room }
     ensures counts { standing.new.report.sets ≤ standing.old.report.sets + 1 }
     ensures rows { standing.new.report.rows ≡ standing.old.report.rows }
@@ -98,19 +86,13 @@ fn metadata<R: Read, W: Write>(
         (λ stop. Halts (response charset area.old.room) (in_metadata tokens) (seen R.remaining payload.old) (seen R.remaining payload.new) payload.old.place
         (held W.contents sink.old) (held W.contents sink.new) area.new sink.new.failed stop) }
 {
-    match gather(payload, area) {
-        Ok(Described::Columns(_)) => {}
-        Ok(Described::NoMetadata) => {
-            standing.described = false;
-            standing.is_final = false;
-            return Ok(());
-        }
-        Err(stop) => return Err(stop),
+    if let Described::NoMetadata = gather(payload, area)? {
+        standing.described = false;
+        standing.is_final = false;
+        return Ok(());
     }
     let columns = Columns::view(area.bytes());
-    if let Err(stop) = put_header(sink, standing.report.sets > 0, columns) {
-        return Err(stop);
-    }
+    put_header(sink, standing.report.sets > 0, columns)?;
     standing.report.sets += 1;
     standing.described = true;
     standing.is_final = false;
@@ -125,20 +107,14 @@ fn row<R: Read, W: Write>(
     charset: Charset,
     standing: &mut Standing,
 ) -> Result<(), Stop>
-    requires sound { IsSound payload.old }
-    requires going { payload.old.stopped ≡ None }
-    requires ready { IsReady sink.old }
-    requires writing { sink.old.failed ≡ false }
+    requires going { IsGoing payload.old }
+    requires writing { IsWriting sink.old }
     requires described { IsDescription area.now.bytes }
     requires known { standing.old.described ≡ true }
     requires counted { standing.old.report.rows < 2 ^ 62 }
-    ensures sound { IsSound payload.new }
-    ensures same { IsOnSame payload.old payload.new }
+    ensures payload { LeavesPayload payload.old payload.new result }
     ensures place { OnOk result (payload.old.place ≤ payload.new.place) }
-    ensures going { OnOk result (payload.new.stopped ≡ None) }
-    ensures ready { IsReady sink.new }
-    ensures same_sink { IsOnSameSink sink.old sink.new }
-    ensures writing { OnOk result (sink.new.failed ≡ false) }
+    ensures sink { LeavesSink sink.old sink.new result }
     ensures counts { standing.new.report.rows ≤ standing.old.report.rows + 1 }
     ensures sets { standing.new.report.sets ≡ standing.old.report.sets }
     ensures described { standing.new.described ≡ standing.old.described }
@@ -148,9 +124,7 @@ fn row<R: Read, W: Write>(
         (λ stop. Halts (response charset room) (from tokens) (seen R.remaining payload.old) (seen R.remaining payload.new) payload.old.place
         (held W.contents sink.old) (held W.contents sink.new) area.now sink.new.failed stop) }
 {
-    if let Err(stop) = tds_rows::row(payload, Columns::view(area.bytes()), charset, sink) {
-        return Err(stop);
-    }
+    tds_rows::row(payload, Columns::view(area.bytes()), charset, sink)?;
     standing.report.rows += 1;
     standing.is_final = false;
     Ok(())
@@ -158,12 +132,9 @@ fn row<R: Read, W: Write>(
 
 // Reads a DONE or DONEPROC behind its token byte (MS-TDS, DONE).
 fn done<R: Read>(payload: &mut Payload<R>, standing: &mut Standing) -> Result<(), Stop>
-    requires sound { IsSound payload.old }
-    requires going { payload.old.stopped ≡ None }
-    ensures sound { IsSound payload.new }
-    ensures same { IsOnSame payload.old payload.new }
+    requires going { IsGoing payload.old }
+    ensures payload { LeavesPayload payload.old payload.new result }
     ensures place { OnOk result (payload.old.place ≤ payload.new.place) }
-    ensures going { OnOk result (payload.new.stopped ≡ None) }
     ensures counts { standing.new.report ≡ standing.old.report }
     ensures described { standing.new.described ≡ standing.old.described }
     ensures gives { (charset : Charset) (room : ℕ) (area : Space) (sink : Held) (tokens : List Token) → sink.delivered ≤ 2 ^ 64 - 1 → Tracks standing.old tokens → IsHolding area (behind tokens) → MatchResult result
@@ -171,9 +142,7 @@ fn done<R: Read>(payload: &mut Payload<R>, standing: &mut Standing) -> Result<()
         (λ stop. Halts (response charset room) (in_done tokens) (seen R.remaining payload.old) (seen R.remaining payload.new) payload.old.place sink sink area false stop) }
 {
     let mut fields = [0u8; 12];
-    if let Err(stop) = payload.fill(&mut fields) {
-        return Err(stop);
-    }
+    payload.fill(&mut fields)?;
     standing.is_final = fields[0] % 2 == 0;
     Ok(())
 }
@@ -186,19 +155,13 @@ pub(crate) fn token<R: Read, W: Write>(
     charset: Charset,
     standing: &mut Standing,
 ) -> Result<bool, Stop>
-    requires sound { IsSound payload.old }
-    requires going { payload.old.stopped ≡ None }
-    requires ready { IsReady sink.old }
-    requires writing { sink.old.failed ≡ false }
+    requires going { IsGoing payload.old }
+    requires writing { IsWriting sink.old }
     requires room { 10 ≤ area.old.room }
     requires counted { standing.old.report.sets + standing.old.report.rows ≤ payload.old.place }
     requires described { standing.old.described ≡ true → IsDescription area.old.bytes }
-    ensures sound { IsSound payload.new }
-    ensures same { IsOnSame payload.old payload.new }
-    ensures going { OnOk result (payload.new.stopped ≡ None) }
-    ensures ready { IsReady sink.new }
-    ensures same_sink { IsOnSameSink sink.old sink.new }
-    ensures writing { OnOk result (sink.new.failed ≡ false) }
+    ensures payload { LeavesPayload payload.old payload.new result }
+    ensures sink { LeavesSink sink.old sink.new result }
     ensures room { area.new.room ≡ area.old.room }
     ensures counts { OnOk result (standing.new.report.sets + standing.new.report.rows ≤ payload.new.place) }
     ensures further { IfOk result (λ more. more ≡ true → payload.old.place < payload.new.place) }
@@ -211,25 +174,23 @@ pub(crate) fn token<R: Read, W: Write>(
         (λ stop. Halts (response charset area.old.room) (behind tokens) (seen R.remaining payload.old) (seen R.remaining payload.new) payload.old.place
         (held W.contents sink.old) (held W.contents sink.new) area.new sink.new.failed stop) }
 {
-    let byte = match next_byte(payload) {
-        Ok(Some(byte)) => byte,
-        Ok(None) => return Ok(false),
-        Err(stop) => return Err(stop),
+    let Some(byte) = next_byte(payload)? else {
+        return Ok(false);
     };
     let place = payload.place() - 1;
     match judge(byte, standing.described) {
-        Ok(TokenKind::Metadata) => match metadata(payload, sink, area, standing) {
-            Ok(()) => Ok(true),
-            Err(stop) => Err(stop),
-        },
-        Ok(TokenKind::Row) => match row(payload, sink, area, charset, standing) {
-            Ok(()) => Ok(true),
-            Err(stop) => Err(stop),
-        },
-        Ok(TokenKind::Done) => match done(payload, standing) {
-            Ok(()) => Ok(true),
-            Err(stop) => Err(stop),
-        },
+        Ok(TokenKind::Metadata) => {
+            metadata(payload, sink, area, standing)?;
+            Ok(true)
+        }
+        Ok(TokenKind::Row) => {
+            row(payload, sink, area, charset, standing)?;
+            Ok(true)
+        }
+        Ok(TokenKind::Done) => {
+            done(payload, standing)?;
+            Ok(true)
+        }
         Err(fault) => Err(Stop {
             fault,
             place: Place::Payload(place),

@@ -101,7 +101,8 @@ impl Area {
 
     /// Takes all bytes away. The peak stays.
     pub fn clear(&mut self)
-        ensures { self.new ≡ holding self.old [] }
+        ensures value { self.new ≡ holding self.old [] }
+        ensures peak { self.new.peak ≤ self.new.room }
     {
         self.len = 0;
     }

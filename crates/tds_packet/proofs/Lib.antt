@@ -10,3 +10,4 @@ pub mod PayloadLaws
 pub mod Parts
 pub mod Fronts
 pub mod Steps
+pub mod Passing

@@ -1,5 +1,5 @@
 -- How the fields of a payload are seen.
-use Rattle.std.specs.Prelude.{◌≡◌, ℕ, ◌+◌, ◌-◌, ◌^◌, ◌≤◌, List, [], length, drop, Option, Some, None, ⊤}
+use Rattle.std.specs.Prelude.{◌≡◌, ℕ, ◌+◌, ◌-◌, ◌^◌, ◌≤◌, List, [], length, drop, Option, Some, None, Result, OnOk, ⊤}
 use Rattle.std.specs.Borrow.{Fml, RattleType, MutBor}
 use Rattle.std.specs.Io.BufRead.{Rests}
 use mir.Syntax.{named}
@@ -39,6 +39,17 @@ pub record IsSound {R : Type 0} (p : Payload R) : Type 0 where
 -- It is on the same reader and area, under the same limits.
 abbrev pub IsOnSame : {R : Type 0} → Payload R → Payload R → Type 0
 IsOnSame old new = (new.from.ghost_name ≡ old.from.ghost_name) × (new.packet.ghost_name ≡ old.packet.ghost_name) × (new.packet.now.room ≡ old.packet.now.room) × (new.max_wire ≡ old.max_wire)
+
+-- It hands out bytes: it is sound, and has not stopped.
+pub record IsGoing {R : Type 0} (p : Payload R) : Type 0 where
+  pub sound : IsSound p
+  pub going : p.stopped ≡ None
+
+-- A call left it sound, on the same reader and area, and going where it answered no error.
+pub record LeavesPayload {R U : Type 0} (old new : Payload R) (result : Result U Stop) : Type 0 where
+  pub sound : IsSound new
+  pub same : IsOnSame old new
+  pub going : OnOk result (new.stopped ≡ None)
 
 -- The payload of which a piece was lent ends so.
 abbrev pub RestsPayload : (R : RattleType) → MutBor (Payload R.Denot) → (Payload R.Denot → Type 0) → Fml

@@ -37,7 +37,6 @@ impl<'a, R: Read> Payload<'a, R> {
     pub fn new(from: &'a mut Counted<R>, packet: &'a mut Area, max_wire: u64) -> Payload<'a, R>
         requires room { (512 ≤ packet.old.room) × (packet.old.room ≤ 32767) }
         requires limit { max_wire ≤ 72057594037927936 }
-        requires peak { packet.old.peak ≤ packet.old.room }
         ensures sound { IsSound result }
         ensures from { result.from.ghost_name ≡ from.entry.ghost_name }
         ensures packet { result.packet.ghost_name ≡ packet.entry.ghost_name }
@@ -66,6 +65,13 @@ impl<'a, R: Read> Payload<'a, R> {
         ensures { result ≡ self.now.place }
     {
         self.place
+    }
+
+    /// The stop of a call that stopped.
+    pub fn stopped(&self) -> Option<Stop>
+        ensures { result ≡ self.now.stopped }
+    {
+        self.stopped
     }
 
     // Reads a packet.
@@ -134,9 +140,7 @@ impl<'a, R: Read> Payload<'a, R> {
                 self.stopped = Some(stop);
                 return Err(stop);
             }
-            if let Err(stop) = self.advance() {
-                return Err(stop);
-            }
+            self.advance()?;
         }
         Ok(())
     }
@@ -156,10 +160,8 @@ impl<'a, R: Read> Payload<'a, R> {
         ensures going { OnOk result (self.new.stopped ≡ None) }
         ensures lazy { self.old.at < length self.old.packet.now.bytes → self.new.from.now ≡ self.old.from.now }
     {
-        match self.ready() {
-            Ok(()) => Ok(self.take()),
-            Err(stop) => Err(stop),
-        }
+        self.ready()?;
+        Ok(self.take())
     }
 
     // Hands out a byte that stands ready.
@@ -286,9 +288,7 @@ impl<'a, R: Read> Payload<'a, R> {
             (λ stop. Ends (seen R.remaining self.old) (seen R.remaining new) [] stop × (new.place ≡ self.old.place) × (new.stopped ≡ Some stop))
             × IfSome self.old.stopped (λ stop. (result ≡ Err stop) × (new ≡ self.old)))) }
     {
-        if let Err(stop) = self.ready() {
-            return Err(stop);
-        }
+        self.ready()?;
         let start = self.at;
         let n = max.min(self.packet.len() - start);
         self.at += n;

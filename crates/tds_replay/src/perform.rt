@@ -1,7 +1,7 @@
 // Runs a job.
-ghost use Rattle.std.specs.Prelude.{◌≡◌, ◌⊎◌};
+ghost use Rattle.std.specs.Prelude.{◌≡◌};
 ghost use Rattle.tds_replay.specs.Statuses.{status_number};
-ghost use Rattle.tds_replay.specs.Performing.{GivenBy, LacksMemory, Performs, charset_of, limits_of};
+ghost use Rattle.tds_replay.specs.Performing.{Performed, charset_of, devices, limits_of};
 
 use crate::job::Job;
 use crate::lines::{say_answer, say_want_of_memory};
@@ -21,23 +21,7 @@ fn perform_export<R: Read, W: Write, N: Write>(
     to: &mut Counted<W>,
     notes: &mut Counted<N>,
 ) -> Status
-    ensures performs { let given : GivenBy = λ waiting notice description. record {
-      charset = charset;
-      limits = limits;
-      input = R.remaining from.old.device;
-      left = R.remaining from.new.device;
-      had = W.contents to.old.device;
-      has = W.contents to.new.device;
-      waiting = waiting;
-      notice = notice;
-      description = description;
-      read_failures = from.new.failures;
-      read_failures_before = from.old.failures;
-      write_failures = to.new.failures;
-      write_failures_before = to.old.failures;
-    }
-        in Performs given (N.contents notes.old.device) notes.old.failures (N.contents notes.new.device) notes.new.failures result
-        ⊎ (LacksMemory (N.contents notes.old.device) notes.old.failures (N.contents notes.new.device) notes.new.failures result × (from.new ≡ from.old) × (to.new ≡ to.old)) }
+    ensures { let at = devices R.remaining W.contents N.contents in Performed charset limits (at from.old to.old notes.old) (at from.new to.new notes.new) result }
 {
     let Ok(mut areas) = Areas::new(alloc, limits) else {
         let _ = say_want_of_memory(notes);
@@ -60,23 +44,8 @@ pub fn perform<R: Read, W: Write, N: Write>(
     to: &mut Counted<W>,
     notes: &mut Counted<N>,
 ) -> u8
-    ensures performs { let given : GivenBy = λ waiting notice description. record {
-      charset = charset_of job.now;
-      limits = limits_of job.now;
-      input = R.remaining from.old.device;
-      left = R.remaining from.new.device;
-      had = W.contents to.old.device;
-      has = W.contents to.new.device;
-      waiting = waiting;
-      notice = notice;
-      description = description;
-      read_failures = from.new.failures;
-      read_failures_before = from.old.failures;
-      write_failures = to.new.failures;
-      write_failures_before = to.old.failures;
-    }
-        in (status : Status) × (result ≡ status_number status) × (Performs given (N.contents notes.old.device) notes.old.failures (N.contents notes.new.device) notes.new.failures status
-        ⊎ (LacksMemory (N.contents notes.old.device) notes.old.failures (N.contents notes.new.device) notes.new.failures status × (from.new ≡ from.old) × (to.new ≡ to.old))) }
+    ensures { let at = devices R.remaining W.contents N.contents in (status : Status) × (result ≡ status_number status)
+        × Performed (charset_of job.now) (limits_of job.now) (at from.old to.old notes.old) (at from.new to.new notes.new) status }
 {
     match job {
         Job::Export {

@@ -6,6 +6,7 @@ ghost use Rattle.tds_rows.specs.Streams.{behind_comma};
 ghost use Rattle.tds_values.specs.Kind as kinds;
 ghost use Rattle.tds_values.specs.Scalar.{read_of};
 
+use crate::rows::{CELL_ROOM, TEXT_ROOM};
 use tds_values::{Kind, write_scalar};
 
 // Writes the comma before a field to the front of a slice, and answers how many bytes that is: none
@@ -42,8 +43,8 @@ fn write_end(last: bool, made: usize, to: &mut [u8]) -> usize
 // Writes NULL in its line to the front of a slice, and answers how many bytes it has.
 #[inline]
 pub(crate) fn write_null(column: u16, last: bool, to: &mut [u8]) -> usize
-    requires room { 80 ≤ length to.old }
-    ensures most { result ≤ 44 }
+    requires room { CELL_ROOM ≤ length to.old }
+    ensures most { result ≤ TEXT_ROOM }
     ensures text { take result to.new ≡ in_line column last null_field }
 {
     let start = write_comma(column, to);
@@ -66,8 +67,8 @@ pub(crate) fn write_value(
 ) -> Option<usize>
     requires valid { IsTrue (kinds.is_valid kind.now) }
     requires scalar { IsTrue (kinds.is_scalar kind.now) }
-    requires room { 80 ≤ length to.old }
-    ensures most { IfSome result (λ made. made ≤ 44) }
+    requires room { CELL_ROOM ≤ length to.old }
+    ensures most { IfSome result (λ made. made ≤ TEXT_ROOM) }
     ensures gives { MatchOption result (is_ok (read_of kind.now bytes.now) ≡ false) (λ made. IsValueText kind.now column last bytes.now (take made to.new)) }
 {
     let start = write_comma(column, to);

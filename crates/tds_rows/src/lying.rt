@@ -1,12 +1,13 @@
 // Cells whose bytes lie whole in the packet.
 ghost use Rattle.std.specs.Prelude.{◌≡◌, ◌≤◌, ◌<◌, None, Some, length, take, IsTrue, IfSome};
-ghost use Rattle.tds_packet.specs.Payloads.{IsOnSame, IsSound, seen};
+ghost use Rattle.tds_packet.specs.Payloads.{IsGoing, IsOnSame, seen};
 ghost use Rattle.tds_rows.specs.Cells.{ScalarBytes, ScalarLength, cell_start, shape};
 ghost use Rattle.tds_rows.specs.Reading.{ReadsCell, WritesCell};
 ghost use Rattle.tds_rows.specs.declared.Charset.{Charset};
 ghost use Rattle.tds_values.specs.Kind as kinds;
 
 use crate::fields::{write_null, write_value};
+use crate::rows::{CELL_ROOM, TEXT_ROOM};
 use std::io::Read;
 use tds_packet::Payload;
 use tds_values::Kind;
@@ -31,10 +32,10 @@ fn write_fixed(
 ) -> Option<Written>
     requires valid { IsTrue (kinds.is_valid kind.now) }
     requires scalar { IsTrue (kinds.is_scalar kind.now) }
-    requires room { 80 ≤ length to.old }
+    requires room { CELL_ROOM ≤ length to.old }
     requires some { 0 < n }
     ensures used { IfSome result (λ written. written.used ≤ length bytes.now) }
-    ensures most { IfSome result (λ written. written.made ≤ 44) }
+    ensures most { IfSome result (λ written. written.made ≤ TEXT_ROOM) }
     ensures gives { IfSome result (λ written. WritesCell (ScalarBytes kind.now n) column last (take written.used bytes.now) (take written.made to.new)) }
 {
     let used = n as usize;
@@ -58,9 +59,9 @@ fn write_counted(
 ) -> Option<Written>
     requires valid { IsTrue (kinds.is_valid kind.now) }
     requires scalar { IsTrue (kinds.is_scalar kind.now) }
-    requires room { 80 ≤ length to.old }
+    requires room { CELL_ROOM ≤ length to.old }
     ensures used { IfSome result (λ written. written.used ≤ length bytes.now) }
-    ensures most { IfSome result (λ written. written.made ≤ 44) }
+    ensures most { IfSome result (λ written. written.made ≤ TEXT_ROOM) }
     ensures gives { IfSome result (λ written. WritesCell (ScalarLength kind.now) column last (take written.used bytes.now) (take written.made to.new)) }
 {
     if bytes.is_empty() {
@@ -85,9 +86,9 @@ fn write_counted(
 #[inline]
 fn write_cell(kind: &Kind, column: u16, last: bool, bytes: &[u8], to: &mut [u8]) -> Option<Written>
     requires valid { IsTrue (kinds.is_valid kind.now) }
-    requires room { 80 ≤ length to.old }
+    requires room { CELL_ROOM ≤ length to.old }
     ensures used { IfSome result (λ written. written.used ≤ length bytes.now) }
-    ensures most { IfSome result (λ written. written.made ≤ 44) }
+    ensures most { IfSome result (λ written. written.made ≤ TEXT_ROOM) }
     ensures gives { (charset : Charset) → IfSome result (λ written. WritesCell (cell_start kind.now (shape charset kind.now)) column last (take written.used bytes.now) (take written.made to.new)) }
 {
     if !kind.is_scalar() {
@@ -110,14 +111,12 @@ pub(crate) fn read_lying<R: Read>(
     last: bool,
     to: &mut [u8],
 ) -> Option<usize>
-    requires sound { IsSound payload.old }
-    requires going { payload.old.stopped ≡ None }
+    requires going { IsGoing payload.old }
     requires valid { IsTrue (kinds.is_valid kind.now) }
-    requires room { 80 ≤ length to.old }
-    ensures sound { IsSound payload.new }
+    requires room { CELL_ROOM ≤ length to.old }
+    ensures going { IsGoing payload.new }
     ensures same { IsOnSame payload.old payload.new }
-    ensures going { payload.new.stopped ≡ None }
-    ensures most { IfSome result (λ made. made ≤ 44) }
+    ensures most { IfSome result (λ made. made ≤ TEXT_ROOM) }
     ensures none { result ≡ None → payload.new ≡ payload.old }
     ensures gives { (charset : Charset) → IfSome result (λ made. ReadsCell (cell_start kind.now (shape charset kind.now)) column last (seen R.remaining payload.old) (seen R.remaining payload.new) payload.old.place payload.new.place (take made to.new)) }
 {

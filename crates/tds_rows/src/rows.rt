@@ -1,13 +1,13 @@
 // A row, cell after cell (MS-TDS, ROW).
-ghost use Rattle.std.specs.Prelude.{◌≡◌, ◌+◌, ◌<◌, ◌≤◌, ◌∷◌, ◌++◌, ℕ, [], None, Some, false, length, take, IsTrue, MatchResult, OnOk, IfOk};
+ghost use Rattle.std.specs.Prelude.{◌≡◌, ◌+◌, ◌<◌, ◌≤◌, ℕ, None, Err, false, true, length, take, IsTrue, MatchResult, IfOk, IfSome};
 ghost use Rattle.tds_columns.specs.View.{columns_of};
 ghost use Rattle.tds_csv.specs.Conversion.{Conversion};
-ghost use Rattle.tds_csv.specs.Sinks.{IsOnSameSink, IsReady, held};
-ghost use Rattle.tds_packet.specs.Payloads.{IsOnSame, IsSound, seen};
+ghost use Rattle.tds_csv.specs.Sinks.{IsReady, IsWriting, LeavesSink, held, stop_of};
+ghost use Rattle.tds_packet.specs.Payloads.{IsGoing, IsOnSame, IsSound, LeavesPayload, seen};
 ghost use Rattle.tds_packet.specs.Reading.{StopsReading};
+ghost use Rattle.tds_rows.specs.Calls.{CellPut, CellRead, RowPut};
 ghost use Rattle.tds_rows.specs.Cells.{LongShape, ScalarBytes, ScalarLength, cell, cell_size, cell_start, shape, shape_of_length};
-ghost use Rattle.tds_rows.specs.Reading.{PutsCell, ReadsCell, ReadsValue, StallsCell, StopsCell};
-ghost use Rattle.tds_rows.specs.Streams.{ReadsRow, RowStalls};
+ghost use Rattle.tds_rows.specs.Reading.{ReadsValue, StallsCell};
 ghost use Rattle.tds_rows.specs.declared.Charset as sets;
 ghost use Rattle.tds_values.specs.Kind as kinds;
 
@@ -21,7 +21,10 @@ use tds_packet::{Fault, Payload, Place, Stop};
 use tds_values::{Kind, Reach};
 
 /// How many bytes the text of a scalar in its line may want, and a few to spare.
-const CELL_ROOM: usize = 80;
+pub(crate) const CELL_ROOM: usize = 80;
+
+/// The most bytes that the text of a scalar in its line has.
+pub(crate) const TEXT_ROOM: usize = 44;
 
 /// The longest value of a scalar kind.
 const LONGEST: usize = 17;
@@ -56,17 +59,14 @@ fn read_value<R: Read>(
     last: bool,
     to: &mut [u8],
 ) -> Result<usize, Stop>
-    requires sound { IsSound payload.old }
-    requires going { payload.old.stopped ≡ None }
+    requires going { IsGoing payload.old }
     requires valid { IsTrue (kinds.is_valid kind.now) }
     requires scalar { IsTrue (kinds.is_scalar kind.now) }
-    requires room { 80 ≤ length to.old }
+    requires room { CELL_ROOM ≤ length to.old }
     requires some { 0 < n }
-    requires longest { n ≤ 17 }
-    ensures sound { IsSound payload.new }
-    ensures same { IsOnSame payload.old payload.new }
-    ensures going { OnOk result (payload.new.stopped ≡ None) }
-    ensures most { IfOk result (λ made. made ≤ 44) }
+    requires longest { n ≤ LONGEST }
+    ensures payload { LeavesPayload payload.old payload.new result }
+    ensures most { IfOk result (λ made. made ≤ TEXT_ROOM) }
     ensures gives { MatchResult result
         (λ made. ReadsValue kind.now n column last (seen R.remaining payload.old) (seen R.remaining payload.new) payload.old.place payload.new.place (take made to.new))
         (λ stop. StopsReading (cell column) (ScalarBytes kind.now n) (seen R.remaining payload.old) (seen R.remaining payload.new) payload.old.place (ScalarBytes kind.now n) stop) }
@@ -74,9 +74,7 @@ fn read_value<R: Read>(
     let place = payload.place();
     let mut value = [0u8; LONGEST];
     let bytes = &mut value[..n as usize];
-    if let Err(stop) = payload.fill(bytes) {
-        return Err(stop);
-    }
+    payload.fill(bytes)?;
     match write_value(kind, column, last, bytes, to) {
         Some(made) => Ok(made),
         None => Err(bad_value(column, place)),
@@ -91,24 +89,17 @@ fn read_counted<R: Read>(
     last: bool,
     to: &mut [u8],
 ) -> Result<usize, Stop>
-    requires sound { IsSound payload.old }
-    requires going { payload.old.stopped ≡ None }
+    requires going { IsGoing payload.old }
     requires valid { IsTrue (kinds.is_valid kind.now) }
     requires scalar { IsTrue (kinds.is_scalar kind.now) }
-    requires room { 80 ≤ length to.old }
-    ensures sound { IsSound payload.new }
-    ensures same { IsOnSame payload.old payload.new }
-    ensures going { OnOk result (payload.new.stopped ≡ None) }
-    ensures most { IfOk result (λ made. made ≤ 44) }
-    ensures gives { MatchResult result
-        (λ made. ReadsCell (ScalarLength kind.now) column last (seen R.remaining payload.old) (seen R.remaining payload.new) payload.old.place payload.new.place (take made to.new))
-        (λ stop. StallsCell (ScalarLength kind.now) column (seen R.remaining payload.old) (seen R.remaining payload.new) payload.old.place stop) }
+    requires room { CELL_ROOM ≤ length to.old }
+    ensures payload { LeavesPayload payload.old payload.new result }
+    ensures most { IfOk result (λ made. made ≤ TEXT_ROOM) }
+    ensures gives { CellRead R.remaining (ScalarLength kind.now) column last payload.old payload.new to.new result }
 {
     let place = payload.place();
     let mut length = [0u8; 1];
-    if let Err(stop) = payload.fill(&mut length) {
-        return Err(stop);
-    }
+    payload.fill(&mut length)?;
     let n = length[0];
     if n == 0 {
         return Ok(write_null(column, last, to));
@@ -127,18 +118,13 @@ fn read_scalar_cell<R: Read>(
     last: bool,
     to: &mut [u8],
 ) -> Result<usize, Stop>
-    requires sound { IsSound payload.old }
-    requires going { payload.old.stopped ≡ None }
+    requires going { IsGoing payload.old }
     requires valid { IsTrue (kinds.is_valid kind.now) }
     requires scalar { IsTrue (kinds.is_scalar kind.now) }
-    requires room { 80 ≤ length to.old }
-    ensures sound { IsSound payload.new }
-    ensures same { IsOnSame payload.old payload.new }
-    ensures going { OnOk result (payload.new.stopped ≡ None) }
-    ensures most { IfOk result (λ made. made ≤ 44) }
-    ensures gives { let from = cell_start kind.now (shape_of_length (kinds.fixed_length kind.now)) in MatchResult result
-        (λ made. ReadsCell from column last (seen R.remaining payload.old) (seen R.remaining payload.new) payload.old.place payload.new.place (take made to.new))
-        (λ stop. StallsCell from column (seen R.remaining payload.old) (seen R.remaining payload.new) payload.old.place stop) }
+    requires room { CELL_ROOM ≤ length to.old }
+    ensures payload { LeavesPayload payload.old payload.new result }
+    ensures most { IfOk result (λ made. made ≤ TEXT_ROOM) }
+    ensures gives { CellRead R.remaining (cell_start kind.now (shape_of_length (kinds.fixed_length kind.now))) column last payload.old payload.new to.new result }
 {
     match kind.fixed_length() {
         Some(n) => read_value(payload, kind, n, column, last, to),
@@ -159,8 +145,7 @@ fn long_size(reach: Reach) -> usize
 
 // Reads the length or the total of a long value, which isn't built yet, and answers the stop.
 fn read_long<R: Read>(payload: &mut Payload<R>, reach: Reach) -> Stop
-    requires sound { IsSound payload.old }
-    requires going { payload.old.stopped ≡ None }
+    requires going { IsGoing payload.old }
     ensures sound { IsSound payload.new }
     ensures same { IsOnSame payload.old payload.new }
     ensures gives { (kind : Kind) (conversion : Conversion) (column : ℕ) → StallsCell (cell_start kind (LongShape conversion reach)) column (seen R.remaining payload.old) (seen R.remaining payload.new) payload.old.place result }
@@ -185,17 +170,12 @@ fn read_cell<R: Read>(
     last: bool,
     to: &mut [u8],
 ) -> Result<usize, Stop>
-    requires sound { IsSound payload.old }
-    requires going { payload.old.stopped ≡ None }
+    requires going { IsGoing payload.old }
     requires valid { IsTrue (kinds.is_valid kind.now) }
-    requires room { 80 ≤ length to.old }
-    ensures sound { IsSound payload.new }
-    ensures same { IsOnSame payload.old payload.new }
-    ensures going { OnOk result (payload.new.stopped ≡ None) }
-    ensures most { IfOk result (λ made. made ≤ 44) }
-    ensures gives { (charset : sets.Charset) → MatchResult result
-        (λ made. ReadsCell (cell_start kind.now (shape charset kind.now)) column last (seen R.remaining payload.old) (seen R.remaining payload.new) payload.old.place payload.new.place (take made to.new))
-        (λ stop. StallsCell (cell_start kind.now (shape charset kind.now)) column (seen R.remaining payload.old) (seen R.remaining payload.new) payload.old.place stop) }
+    requires room { CELL_ROOM ≤ length to.old }
+    ensures payload { LeavesPayload payload.old payload.new result }
+    ensures most { IfOk result (λ made. made ≤ TEXT_ROOM) }
+    ensures gives { (charset : sets.Charset) → CellRead R.remaining (cell_start kind.now (shape charset kind.now)) column last payload.old payload.new to.new result }
 {
     match *kind {
         Kind::Binary(reach) | Kind::Narrow(reach) | Kind::Wide(reach) => {
@@ -215,30 +195,16 @@ fn put_across<R: Read, W: Write>(
     column: u16,
     last: bool,
 ) -> Result<(), Stop>
-    requires sound { IsSound payload.old }
-    requires going { payload.old.stopped ≡ None }
-    requires ready { IsReady sink.old }
-    requires writing { sink.old.failed ≡ false }
+    requires going { IsGoing payload.old }
+    requires writing { IsWriting sink.old }
     requires valid { IsTrue (kinds.is_valid kind.now) }
-    ensures sound { IsSound payload.new }
-    ensures same { IsOnSame payload.old payload.new }
-    ensures going { OnOk result (payload.new.stopped ≡ None) }
-    ensures ready { IsReady sink.new }
-    ensures same_sink { IsOnSameSink sink.old sink.new }
-    ensures writing { OnOk result (sink.new.failed ≡ false) }
-    ensures gives { (charset : sets.Charset) → MatchResult result
-        (λ _. PutsCell charset kind.now column last (seen R.remaining payload.old) (seen R.remaining payload.new) payload.old.place payload.new.place (held W.contents sink.old) (held W.contents sink.new))
-        (λ stop. StopsCell charset kind.now column last (seen R.remaining payload.old) (seen R.remaining payload.new) payload.old.place (held W.contents sink.old) (held W.contents sink.new) sink.new.failed stop) }
+    ensures payload { LeavesPayload payload.old payload.new result }
+    ensures sink { LeavesSink sink.old sink.new result }
+    ensures gives { (charset : sets.Charset) → CellPut R.remaining W.contents charset kind.now column last payload.old payload.new sink.old sink.new result }
 {
     let mut text = [0u8; CELL_ROOM];
-    let made = match read_cell(payload, kind, column, last, &mut text) {
-        Ok(made) => made,
-        Err(stop) => return Err(stop),
-    };
-    match sink.put(&text[..made]) {
-        Ok(()) => Ok(()),
-        Err(stop) => Err(stop),
-    }
+    let made = read_cell(payload, kind, column, last, &mut text)?;
+    sink.put(&text[..made])
 }
 
 // Reads a cell, and writes its text where it waits.
@@ -250,21 +216,13 @@ fn put_in_room<R: Read, W: Write>(
     column: u16,
     last: bool,
 ) -> Result<(), Stop>
-    requires sound { IsSound payload.old }
-    requires going { payload.old.stopped ≡ None }
-    requires ready { IsReady sink.old }
-    requires writing { sink.old.failed ≡ false }
+    requires going { IsGoing payload.old }
+    requires writing { IsWriting sink.old }
     requires valid { IsTrue (kinds.is_valid kind.now) }
-    requires room { length sink.old.output.now.bytes + 80 ≤ 4096 }
-    ensures sound { IsSound payload.new }
-    ensures same { IsOnSame payload.old payload.new }
-    ensures going { OnOk result (payload.new.stopped ≡ None) }
-    ensures ready { IsReady sink.new }
-    ensures same_sink { IsOnSameSink sink.old sink.new }
-    ensures writing { OnOk result (sink.new.failed ≡ false) }
-    ensures gives { (charset : sets.Charset) → MatchResult result
-        (λ _. PutsCell charset kind.now column last (seen R.remaining payload.old) (seen R.remaining payload.new) payload.old.place payload.new.place (held W.contents sink.old) (held W.contents sink.new))
-        (λ stop. StopsCell charset kind.now column last (seen R.remaining payload.old) (seen R.remaining payload.new) payload.old.place (held W.contents sink.old) (held W.contents sink.new) sink.new.failed stop) }
+    requires room { length sink.old.output.now.bytes + CELL_ROOM ≤ 4096 }
+    ensures payload { LeavesPayload payload.old payload.new result }
+    ensures sink { LeavesSink sink.old sink.new result }
+    ensures gives { (charset : sets.Charset) → CellPut R.remaining W.contents charset kind.now column last payload.old payload.new sink.old sink.new result }
 {
     let waiting = sink.waiting() as usize;
     match read_lying(payload, kind, column, last, sink.spare(CELL_ROOM)) {
@@ -285,20 +243,12 @@ fn put_cell<R: Read, W: Write>(
     column: u16,
     last: bool,
 ) -> Result<(), Stop>
-    requires sound { IsSound payload.old }
-    requires going { payload.old.stopped ≡ None }
-    requires ready { IsReady sink.old }
-    requires writing { sink.old.failed ≡ false }
+    requires going { IsGoing payload.old }
+    requires writing { IsWriting sink.old }
     requires valid { IsTrue (kinds.is_valid kind.now) }
-    ensures sound { IsSound payload.new }
-    ensures same { IsOnSame payload.old payload.new }
-    ensures going { OnOk result (payload.new.stopped ≡ None) }
-    ensures ready { IsReady sink.new }
-    ensures same_sink { IsOnSameSink sink.old sink.new }
-    ensures writing { OnOk result (sink.new.failed ≡ false) }
-    ensures gives { (charset : sets.Charset) → MatchResult result
-        (λ _. PutsCell charset kind.now column last (seen R.remaining payload.old) (seen R.remaining payload.new) payload.old.place payload.new.place (held W.contents sink.old) (held W.contents sink.new))
-        (λ stop. StopsCell charset kind.now column last (seen R.remaining payload.old) (seen R.remaining payload.new) payload.old.place (held W.contents sink.old) (held W.contents sink.new) sink.new.failed stop) }
+    ensures payload { LeavesPayload payload.old payload.new result }
+    ensures sink { LeavesSink sink.old sink.new result }
+    ensures gives { (charset : sets.Charset) → CellPut R.remaining W.contents charset kind.now column last payload.old payload.new sink.old sink.new result }
 {
     if sink.room() < CELL_ROOM {
         put_across(payload, sink, kind, column, last)
@@ -311,7 +261,8 @@ fn put_cell<R: Read, W: Write>(
 /// with their text: [`Fault::BadValueLength`] stands at the length byte that isn't allowed,
 /// [`Fault::BadValue`] at the first byte of the value out of range, and [`Fault::NotYet`] at the
 /// length or the total of a long value, which aren't built yet and are read first. Columns are
-/// numbered from 0. Any other stop is the payload's or the sink's own.
+/// numbered from 0. Any other stop is the payload's or the sink's own. After a
+/// stop of the payload or the sink the same stop is answered, and nothing changes.
 pub fn row<R: Read, W: Write>(
     payload: &mut Payload<R>,
     columns: Columns<'_>,
@@ -319,27 +270,25 @@ pub fn row<R: Read, W: Write>(
     sink: &mut Sink<W>,
 ) -> Result<(), Stop>
     requires sound { IsSound payload.old }
-    requires going { payload.old.stopped ≡ None }
     requires ready { IsReady sink.old }
-    requires writing { sink.old.failed ≡ false }
-    ensures sound { IsSound payload.new }
-    ensures same { IsOnSame payload.old payload.new }
-    ensures going { OnOk result (payload.new.stopped ≡ None) }
-    ensures ready { IsReady sink.new }
-    ensures same_sink { IsOnSameSink sink.old sink.new }
-    ensures writing { OnOk result (sink.new.failed ≡ false) }
-    ensures gives { let described = columns_of columns.entry.bytes.now in MatchResult result
-        (λ _. ReadsRow charset described (seen R.remaining payload.old) (seen R.remaining payload.new) payload.old.place payload.new.place (held W.contents sink.old) (held W.contents sink.new))
-        (λ stop. RowStalls charset described (seen R.remaining payload.old) (seen R.remaining payload.new) payload.old.place (held W.contents sink.old) (held W.contents sink.new) sink.new.failed stop) }
+    ensures payload { LeavesPayload payload.old payload.new result }
+    ensures sink { LeavesSink sink.old sink.new result }
+    ensures gives { payload.old.stopped ≡ None → sink.old.failed ≡ false → RowPut R.remaining W.contents charset (columns_of columns.entry.bytes.now) payload.old payload.new sink.old sink.new result }
+    ensures stopped { IfSome payload.old.stopped (λ stop. (result ≡ Err stop) × (payload.new ≡ payload.old) × (sink.new ≡ sink.old)) }
+    ensures failed { payload.old.stopped ≡ None → sink.old.failed ≡ true → (result ≡ Err (stop_of (held W.contents sink.old))) × (payload.new ≡ payload.old) × (sink.new ≡ sink.old) }
 {
+    if let Some(stop) = payload.stopped() {
+        return Err(stop);
+    }
+    if let Some(stop) = sink.failure() {
+        return Err(stop);
+    }
     let mut walk = columns.walk();
     let mut left = columns.count();
     let mut index = 0;
     while let Some(column) = walk.next() {
         left -= 1;
-        if let Err(stop) = put_cell(payload, sink, &column.kind, index, left == 0) {
-            return Err(stop);
-        }
+        put_cell(payload, sink, &column.kind, index, left == 0)?;
         index += 1;
     }
     Ok(())

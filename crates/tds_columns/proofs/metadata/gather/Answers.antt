@@ -9,11 +9,11 @@ use Rattle.tds_columns.proofs.GatherMeaning.{gather_stops, gathers}
 use Rattle.tds_columns.proofs.metadata.gather.Goals as goal
 
 pub returns-in-Ok-NoMetadata-clause-gives : goal.returns-in-Ok-NoMetadata-clause-gives
-returns-in-Ok-NoMetadata-clause-gives g c = rw (c.in-Ok-NoMetadata.field-0-is, c.clear.ensures) at c.in-Ok-NoMetadata.ensures.gives
+returns-in-Ok-NoMetadata-clause-gives g c = rw (c.in-Ok-NoMetadata.field-0-is, c.clear.ensures.value) at c.in-Ok-NoMetadata.ensures.gives
 
 pub returns-in-Err-clause-gives : goal.returns-in-Err-clause-gives
 returns-in-Err-clause-gives g c = λ going.
-    let stops = rw c.clear.ensures at c.in-Err.ensures.gives going in
+    let stops = rw c.clear.ensures.value at c.in-Err.ensures.gives going in
     gather_stops c.args.area.now.room (seen g.R.Read.remaining c.args.payload.now) (seen g.R.Read.remaining c.read_count.new.payload) c.args.payload.now.place c.args.area.now.peak c.read_count.new.area c.in-Err.stop stops
 
 pub returns-in-Err-read_columns-clause-gives : goal.returns-in-Err-read_columns-clause-gives
@@ -25,8 +25,8 @@ returns-in-Err-read_columns-clause-gives g c = λ going.
     let b = seen g.R.Read.remaining c.read_count.new.payload in
     let d = seen g.R.Read.remaining c.read_columns.new.payload in
     let at = InColumn middle.bytes c.in-Ok-Columns.count [] ColumnHead in
-    let count = rw (c.in-Ok-Columns.field-0-is, c.clear.ensures) at c.in-Ok-Columns.ensures.gives in
-    let room : middle.room ≡ before.room = c.in-Ok-Columns.ensures.room ∙ ap (λ (s : Space). s.room) c.clear.ensures in
+    let count = rw (c.in-Ok-Columns.field-0-is, c.clear.ensures.value) at c.in-Ok-Columns.ensures.gives in
+    let room : middle.room ≡ before.room = c.in-Ok-Columns.ensures.room ∙ ap (λ (s : Space). s.room) c.clear.ensures.value in
     let stops = subst (λ r. StopsDescribing r at b d c.read_count.new.payload.place middle.peak after c.in-Err-read_columns.stop) room c.in-Err-read_columns.ensures.gives in
     gather_stops before.room a d c.args.payload.now.place before.peak after c.in-Err-read_columns.stop
     (stops_describing_after before.room BeforeCount at a b d c.args.payload.now.place c.read_count.new.payload.place before.peak middle after c.in-Err-read_columns.stop count.0 stops)
@@ -40,8 +40,8 @@ returns-clause-gives g c =
     let b = seen g.R.Read.remaining c.read_count.new.payload in
     let d = seen g.R.Read.remaining c.read_columns.new.payload in
     let at = InColumn middle.bytes c.in-Ok-Columns.count [] ColumnHead in
-    let count = rw (c.in-Ok-Columns.field-0-is, c.clear.ensures) at c.in-Ok-Columns.ensures.gives in
-    let room : middle.room ≡ before.room = c.in-Ok-Columns.ensures.room ∙ ap (λ (s : Space). s.room) c.clear.ensures in
+    let count = rw (c.in-Ok-Columns.field-0-is, c.clear.ensures.value) at c.in-Ok-Columns.ensures.gives in
+    let room : middle.room ≡ before.room = c.in-Ok-Columns.ensures.room ∙ ap (λ (s : Space). s.room) c.clear.ensures.value in
     let whole : DescribesColumns before.room c.in-Ok-Columns.count middle.bytes b d c.read_count.new.payload.place c.read_columns.new.payload.place middle.peak after =
     subst (λ r. DescribesColumns r c.in-Ok-Columns.count middle.bytes b d c.read_count.new.payload.place c.read_columns.new.payload.place middle.peak after) room c.in_default.ensures.gives in
     let both = describes_both before.room BeforeCount at (WholeDescription after.bytes whole.columns) a b d c.args.payload.now.place c.read_count.new.payload.place c.read_columns.new.payload.place before.peak middle after count.0 whole.describes in

@@ -17,8 +17,8 @@ returns-then-count-clause-gives g c =
     let a = seen g.R.Read.remaining c.args.payload.now in
     let b = seen g.R.Read.remaining c.take_into.new.payload in
     let all : little_number 2 c.take_into.new.area.bytes ≡ 0xFFFF = search rules in (
-      count_none c.args.area.now.room a b c.args.area.now c.take_into.new.area c.clear.new.self c.args.payload.now.place c.take_into.new.payload.place c.requires.empty c.in_default.ensures.ok all c.in_default.ensures.place c.clear.ensures,
-      gathers_none a b c.args.area.now c.take_into.new.area c.clear.new.self c.requires.empty c.in_default.ensures.ok (search rules) all c.clear.ensures,
+      count_none c.args.area.now.room a b c.args.area.now c.take_into.new.area c.clear.new.self c.args.payload.now.place c.take_into.new.payload.place c.requires.empty c.in_default.ensures.ok all c.in_default.ensures.place c.clear.ensures.value,
+      gathers_none a b c.args.area.now c.take_into.new.area c.clear.new.self c.requires.empty c.in_default.ensures.ok (search rules) all c.clear.ensures.value,
     )
 
 pub returns-in-None-clause-gives : goal.returns-in-None-clause-gives
@@ -33,4 +33,4 @@ returns-in-Some-clause-gives g c = λ _.
     let room : c.room.result ≡ c.args.area.now.room = c.room.ensures ∙ c.in_default.ensures.room in
     let why : count_fault c.args.area.now.room c.read_u16-count.result ≡ Some c.in-Some.fault = subst (λ n. count_fault n c.read_u16-count.result ≡ Some c.in-Some.fault) room (search rules) in
     rw c.place-place.ensures (count_refused c.args.area.now.room (seen g.R.Read.remaining c.args.payload.now) (seen g.R.Read.remaining c.take_into.new.payload) c.args.area.now c.take_into.new.area c.clear-in-Some.new.self c.args.payload.now.place
-    c.read_u16-count.result c.in-Some.fault c.requires.empty c.in_default.ensures.ok (search rules) why c.clear-in-Some.ensures)
+    c.read_u16-count.result c.in-Some.fault c.requires.empty c.in_default.ensures.ok (search rules) why c.clear-in-Some.ensures.value)

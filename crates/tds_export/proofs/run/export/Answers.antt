@@ -3,7 +3,7 @@ use Rattle.tds_packet.specs.Payloads.{seen}
 use Rattle.tds_packet.specs.Seen.{begun}
 use Rattle.tds_csv.specs.Sinks.{held}
 use Rattle.tds_export.specs.declared.report.Report.{Report}
-use Rattle.tds_export.specs.Ended.{Exports, Given, StopsExport, begun_at, fresh_at}
+use Rattle.tds_export.specs.Ended.{Reports, Given, StopsExport, begun_at, fresh_at}
 use Rattle.tds_export.proofs.Answered.{report_tells, stop_tells}
 use Rattle.tds_export.proofs.Texts.{exports, stops_export}
 use Rattle.tds_export.proofs.DeviceFaults.{blamed}
@@ -33,7 +33,7 @@ reported g c = record {
 abbrev report_of_run : (g : Over) → goal.After-result-1 g → Report
 report_of_run g c = record c.run.new.standing.report { written = c.run.new.sink.delivered }
 
-all_read : (g : Over) (c : goal.After-result-1 g) → Exports (reported g c) (report_of_run g c)
+all_read : (g : Over) (c : goal.After-result-1 g) → Reports (reported g c) (report_of_run g c)
 all_read g c =
     let given = reported g c in
     let a = seen g.R.Read.remaining c.new-payload.result in
@@ -46,11 +46,11 @@ all_read g c =
     exports given a (seen g.R.Read.remaining c.run.new.payload) h (held g.W.Write.contents c.run.new.sink) c.restart.new.self.description.room c.run.new.standing (report_of_run g c) begins first room
     (record { left = refl; failures = refl }) (record { has = refl; waiting = refl; failures = refl }) (c.in-Ok.ensures.gives) refl
 
-pub returns-in-Ok-clause-gives : goal.returns-in-Ok-clause-gives
-returns-in-Ok-clause-gives g c = let all = all_read g c in grind (arith, all)
-
-pub returns-in-Ok-clause-tells : goal.returns-in-Ok-clause-tells
-returns-in-Ok-clause-tells g c = let told = report_tells (reported g c) (report_of_run g c) (search rules) (all_read g c) in grind (arith, told)
+pub returns-in-Ok-clause-exports : goal.returns-in-Ok-clause-exports
+returns-in-Ok-clause-exports g c =
+    let all = all_read g c in
+    let told = report_tells (reported g c) (report_of_run g c) (search rules) (all_read g c) in
+    record { gives = grind (arith, all); tells = grind (arith, told); failed_reads = tt; failed_writes = tt }
 
 -- ---- the answer is a stop
 
@@ -84,14 +84,14 @@ read_so_far g c =
     stops_export given a (seen g.R.Read.remaining c.run.new.payload) h (held g.W.Write.contents c.run.new.sink) (held g.W.Write.contents c.stop_at.new.sink) c.restart.new.self.description.room c.new-payload.result.place c.run.new.sink.failed c.in-Err.stop c.stop_at.result
     begins first room c.new-payload.ensures.place (record { left = refl; failures = refl }) (record { has = refl; waiting = refl; failures = refl }) (c.in-Err.ensures.gives) c.stop_at.ensures.tidied (λ failed. ap (held g.W.Write.contents) (c.stop_at.ensures.failed failed)) c.stop_at.ensures.stop
 
-pub returns-in-Err-clause-gives : goal.returns-in-Err-clause-gives
-returns-in-Err-clause-gives g c = let all = read_so_far g c in grind (arith, all)
-
-pub returns-in-Err-clause-tells : goal.returns-in-Err-clause-tells
-returns-in-Err-clause-tells g c = let told = stop_tells (stopped g c) c.stop_at.result (search rules) (read_so_far g c) in grind (arith, told)
-
-pub returns-in-Err-clause-failed_reads : goal.returns-in-Err-clause-failed_reads
-returns-in-Err-clause-failed_reads g c = λ e. let r = (blamed (stopped g c) c.stop_at.result (read_so_far g c)).0 e in grind (arith, r)
-
-pub returns-in-Err-clause-failed_writes : goal.returns-in-Err-clause-failed_writes
-returns-in-Err-clause-failed_writes g c = λ e. let r = (blamed (stopped g c) c.stop_at.result (read_so_far g c)).1 e in grind (arith, r)
+pub returns-in-Err-clause-exports : goal.returns-in-Err-clause-exports
+returns-in-Err-clause-exports g c =
+    let all = read_so_far g c in
+    let told = stop_tells (stopped g c) c.stop_at.result (search rules) (read_so_far g c) in
+    let blame = blamed (stopped g c) c.stop_at.result (read_so_far g c) in
+    record {
+      gives = grind (arith, all);
+      tells = grind (arith, told);
+      failed_reads = λ e. let r = blame.0 e in grind (arith, r);
+      failed_writes = λ e. let r = blame.1 e in grind (arith, r);
+    }

@@ -1,6 +1,6 @@
-use Rattle.std.proofs.Common.{◌≡◌, ◌-◌, ◌+◌, ◌≤◌, None, true, false}
-use Rattle.tds_packet.specs.Payloads.{IsOnSame, IsSound, seen}
-use Rattle.tds_csv.specs.Sinks.{IsOnSameSink, IsReady, held}
+use Rattle.std.proofs.Common.{◌≡◌, ◌-◌, ◌+◌, ◌≤◌, true}
+use Rattle.tds_packet.specs.Payloads.{IsGoing, IsOnSame, seen}
+use Rattle.tds_csv.specs.Sinks.{IsOnSameSink, IsWriting, held}
 use Rattle.tds_columns.specs.View.{IsDescription}
 use Rattle.tds_export.specs.Reading.{response}
 use Rattle.tds_export.proofs.RunSteps.{Runs}
@@ -8,10 +8,8 @@ use Rattle.tds_export.proofs.run.run.Given as goal
 
 abbrev pub invariant-tokens : goal.invariant-tokens
 invariant-tokens g l = record {
-  sound : IsSound l.payload;
-  going : l.payload.stopped ≡ None;
-  ready : IsReady l.sink;
-  writing : l.sink.failed ≡ false;
+  going : IsGoing l.payload;
+  writing : IsWriting l.sink;
   same : IsOnSame l.initial.payload l.payload;
   same_sink : IsOnSameSink l.initial.sink l.sink;
   room : l.area.room ≡ l.initial.area.room;

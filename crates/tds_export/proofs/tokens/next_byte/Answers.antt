@@ -2,6 +2,7 @@ use Rattle.std.proofs.Common.{◌≡◌, ◌∙◌, ◌+◌, ◌<◌, ℕ, List,
 use Rattle.tds_packet.specs.Payloads.{buffered, seen}
 use Rattle.tds_packet.specs.Seen.{Takes}
 use Rattle.tds_packet.proofs.Futures.{Takes-more, Takes-trans}
+use Rattle.tds_packet.proofs.Passing.{passed}
 use Rattle.tds_export.proofs.tokens.next_byte.Goals as goal
 
 -- the first byte of those that lie ready
@@ -9,14 +10,17 @@ first : (lying : List ℕ) → 0 < length lying → take 1 lying ≡ slice_index
 first [] h = absurd (omega arith)
 first (x ∷ lying) h = refl
 
-pub returns-in-Ok-false-clause-gives : goal.returns-in-Ok-false-clause-gives
-returns-in-Ok-false-clause-gives g c =
+pub returns-clause-gives : goal.returns-clause-gives
+returns-clause-gives g c =
     let a = seen g.R.Read.remaining c.args.payload.now in
     let b = seen g.R.Read.remaining c.at_end.new.self in
     let d = seen g.R.Read.remaining c.pass.new.self in
     let lying = buffered c.at_end.new.self in
-    let some : 0 < length lying = c.in-Ok-false.ensures.lies c.in-Ok-false.field-0-test in
+    let some : 0 < length lying = c.in_ok-at_end.ensures.lies c.if-branch.false in
     let byte : take 1 lying ≡ slice_index c.lying.result.now 0 ∷ [] = first lying some ∙ ap (λ l. slice_index l 0 ∷ []) (sym c.lying.ensures) in
-    let both : Takes a d ([] ++ take 1 lying) (0 + 1) = Takes-trans a b d [] (take 1 lying) 1 1 (omega arith) c.in-Ok-false.ensures.gives (Takes-more b d (take 1 lying) 0 1 (omega arith) c.pass.ensures.gives) in
+    let both : Takes a d ([] ++ take 1 lying) (0 + 1) = Takes-trans a b d [] (take 1 lying) 1 1 (omega arith) c.in_ok-at_end.ensures.gives (Takes-more b d (take 1 lying) 0 1 (omega arith) c.pass.ensures.gives) in
     let one : 0 + 1 ≡ 1 = omega arith in
     subst (λ l. Takes a d l 1) byte (subst (Takes a d (take 1 lying)) one both)
+
+pub returns-in_err-at_end-clause-gives : goal.returns-in_err-at_end-clause-gives
+returns-in_err-at_end-clause-gives g c = passed _ _ _ _ c.from_residual.ensures.1 (c.in_err-at_end.ensures.gives, c.in_err-at_end.ensures.goes_on c.requires.going.going)

@@ -18,4 +18,4 @@ returns-in-Some-clause-gives g c = λ charset.
     let at : c.pass.new.self.place ≡ c.args.payload.now.place + length bytes = omega (arith, lies, c.pass.ensures.place, length-take n (buffered c.args.payload.now)) in
     let text = take c.in-Some.written.made c.write_cell.new.to in
     let x = subst (λ (l : List ℕ). WritesCell (cell_start c.args.kind.now (shape charset c.args.kind.now)) c.args.column c.args.last (take n l) text) c.lying.ensures (c.in-Some.ensures.gives charset) in
-    lying_reads (cell_start c.args.kind.now (shape charset c.args.kind.now)) c.args.column c.args.last a b c.args.payload.now.place c.pass.new.self.place bytes text x takes (c.pass.ensures.between c.requires.going) at
+    lying_reads (cell_start c.args.kind.now (shape charset c.args.kind.now)) c.args.column c.args.last a b c.args.payload.now.place c.pass.new.self.place bytes text x takes (c.pass.ensures.between c.requires.going.going) at

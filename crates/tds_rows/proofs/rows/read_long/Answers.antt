@@ -14,6 +14,6 @@ pub returns-in-Err-clause-gives : goal.returns-in-Err-clause-gives
 returns-in-Err-clause-gives g c = λ kind conversion column.
     let a = seen g.R.Read.remaining c.args.payload.now in
     let b = seen g.R.Read.remaining c.fill.new.self in
-    let part = c.in-Err.ensures.part c.requires.going in
+    let part = c.in-Err.ensures.part c.requires.going.going in
     let whole : length c.fill.new.to ≡ c.long_size.result = search rules in
     long_cut c.args.reach kind conversion column a b c.args.payload.now.place part.0 c.fill.new.to part.1 c.in-Err.stop part.2 (c.long_size.ensures.value kind conversion ∙ sym whole) part.3 part.4

@@ -6,6 +6,7 @@ use Rattle.tds_columns.specs.Walking.{column_value, columns_left}
 use Rattle.tds_csv.specs.Sinks.{held}
 use Rattle.tds_rows.specs.Reading.{PutsCell, ReadsCells, StopsCell}
 use Rattle.tds_rows.proofs.RowSteps.{cells_all, cells_more, cells_none, cells_stop, last_is}
+use Rattle.tds_packet.proofs.Passing.{passed}
 use Rattle.tds_rows.proofs.rows.row.Goals as goal
 
 pub loop-column-init : goal.loop-column-init
@@ -17,10 +18,8 @@ loop-column-init g c =
     record {
       can_next = tt;
       is_finite = tt;
-      sound = c.requires.sound;
-      going = c.requires.going;
-      ready = c.requires.ready;
-      writing = c.requires.writing;
+      going = record { sound = c.requires.sound; going = search rules };
+      writing = record { ready = c.requires.ready; writing = search rules };
       same = (refl, refl, refl, refl);
       same_sink = (refl, refl, refl);
       counted = c.count-left.ensures.value ∙ ap length (sym c.walk-walk.ensures.value);
@@ -28,8 +27,8 @@ loop-column-init g c =
       reads = subst (λ (l : List Column). ReadsCells c.args.charset columns l a a place place h h 0) (sym c.walk-walk.ensures.value) (cells_none c.args.charset columns a place h c.requires.ready.2);
     }
 
-pub returns-in-Err-clause-gives : goal.returns-in-Err-clause-gives
-returns-in-Err-clause-gives g c =
+pub returns-in_err-put_cell-clause-gives : goal.returns-in_err-put_cell-clause-gives
+returns-in_err-put_cell-clause-gives g c = λ _ _.
     let a = seen g.R.Read.remaining c.args.payload.now in
     let b = seen g.R.Read.remaining c.loop-column.payload in
     let d = seen g.R.Read.remaining c.put_cell.new.payload in
@@ -37,16 +36,16 @@ returns-in-Err-clause-gives g c =
     let i = held g.W.Write.contents c.loop-column.sink in
     let j = held g.W.Write.contents c.put_cell.new.sink in
     let columns = columns_of c.args.columns.bytes.now in
-    let column = column_value c.in-Some.column in
+    let column = column_value c.in-Some-next.column in
     let left = columns_left c.next.new.self in
     let place = c.args.payload.now.place in
     let middle = c.loop-column.payload.place in
     let inv = c.loop-column.invariant in
-    let step = c.in-Some.ensures.steps in
+    let step = c.in-Some-next.ensures.steps in
     let fewer : c.loop-column.left - 1 ≡ length left = omega (arith, inv.counted, ap length step) in
     let x = subst (λ (l : List Column). ReadsCells c.args.charset columns l a b place middle h i c.loop-column.index) step inv.reads in
-    let y = subst (λ (v : Bool). StopsCell c.args.charset c.in-Some.column.kind c.loop-column.index v b d middle i j c.put_cell.new.sink.failed c.in-Err.stop) (last_is left (c.loop-column.left - 1) fewer) (c.in-Err.ensures.gives c.args.charset) in
-    cells_stop c.args.charset columns column left a b d place middle h i j c.loop-column.index c.put_cell.new.sink.failed c.in-Err.stop inv.ready.2 (inv.ready.1 inv.writing) x y
+    let y = subst (λ (v : Bool). StopsCell c.args.charset c.in-Some-next.column.kind c.loop-column.index v b d middle i j c.put_cell.new.sink.failed c.in_err-put_cell.field-0.0) (last_is left (c.loop-column.left - 1) fewer) (c.in_err-put_cell.ensures.gives c.args.charset) in
+    passed _ _ _ _ c.from_residual.ensures.1 (cells_stop c.args.charset columns column left a b d place middle h i j c.loop-column.index c.put_cell.new.sink.failed c.in_err-put_cell.field-0.0 inv.writing.ready.2 (inv.writing.ready.1 inv.writing.writing) x y)
 
 pub loop-column-preserved : goal.loop-column-preserved
 loop-column-preserved g c =
@@ -57,24 +56,22 @@ loop-column-preserved g c =
     let i = held g.W.Write.contents c.loop-column.sink in
     let j = held g.W.Write.contents c.put_cell.new.sink in
     let columns = columns_of c.args.columns.bytes.now in
-    let column = column_value c.in-Some.column in
+    let column = column_value c.in-Some-next.column in
     let left = columns_left c.next.new.self in
     let place = c.args.payload.now.place in
     let middle = c.loop-column.payload.place in
     let place' = c.put_cell.new.payload.place in
     let inv = c.loop-column.invariant in
-    let step = c.in-Some.ensures.steps in
-    let done = c.in_default-put_cell.ensures in
+    let step = c.in-Some-next.ensures.steps in
+    let done = c.in_ok-put_cell.ensures in
     let fewer : c.loop-column.left - 1 ≡ length left = omega (arith, inv.counted, ap length step) in
     let x = subst (λ (l : List Column). ReadsCells c.args.charset columns l a b place middle h i c.loop-column.index) step inv.reads in
-    let y = subst (λ (v : Bool). PutsCell c.args.charset c.in-Some.column.kind c.loop-column.index v b d middle place' i j) (last_is left (c.loop-column.left - 1) fewer) (done.gives c.args.charset) in
+    let y = subst (λ (v : Bool). PutsCell c.args.charset c.in-Some-next.column.kind c.loop-column.index v b d middle place' i j) (last_is left (c.loop-column.left - 1) fewer) (done.gives c.args.charset) in
     record {
       can_next = tt;
       is_finite = tt;
-      sound = done.sound;
-      going = done.going;
-      ready = done.ready;
-      writing = done.writing;
+      going = record { sound = done.payload.sound; going = done.payload.going };
+      writing = record { ready = done.sink.ready; writing = done.sink.writing };
       same = search rules;
       same_sink = search rules;
       counted = fewer;
@@ -83,7 +80,7 @@ loop-column-preserved g c =
     }
 
 pub returns-clause-gives : goal.returns-clause-gives
-returns-clause-gives g c =
+returns-clause-gives g c = λ _ _.
     let a = seen g.R.Read.remaining c.args.payload.now in
     let b = seen g.R.Read.remaining c.loop-column.payload in
     let h = held g.W.Write.contents c.args.sink.now in
@@ -91,5 +88,5 @@ returns-clause-gives g c =
     let columns = columns_of c.args.columns.bytes.now in
     let place = c.args.payload.now.place in
     let middle = c.loop-column.payload.place in
-    let none = c.in_default.ensures.steps in
+    let none = c.in_default-next.ensures.steps in
     cells_all c.args.charset columns a b place middle h i c.loop-column.index (subst (λ (l : List Column). ReadsCells c.args.charset columns l a b place middle h i c.loop-column.index) none.0 c.loop-column.invariant.reads)

@@ -1,8 +1,8 @@
-use Rattle.std.proofs.Common.{◌≡◌, ◌+◌, ◌≤◌, length, None, false}
+use Rattle.std.proofs.Common.{◌≡◌, ◌+◌, ◌≤◌, length}
 use Rattle.tds_columns.specs.View.{columns_of}
 use Rattle.tds_columns.specs.Walking.{columns_left}
-use Rattle.tds_csv.specs.Sinks.{IsOnSameSink, IsReady, held}
-use Rattle.tds_packet.specs.Payloads.{IsOnSame, IsSound, seen}
+use Rattle.tds_csv.specs.Sinks.{IsOnSameSink, IsWriting, held}
+use Rattle.tds_packet.specs.Payloads.{IsGoing, IsOnSame, seen}
 use Rattle.tds_rows.specs.Reading.{ReadsCells}
 use Rattle.tds_rows.proofs.rows.row.Given as goal
 
@@ -10,10 +10,8 @@ abbrev pub invariant-loop-column : goal.invariant-loop-column
 invariant-loop-column g l = record {
   can_next : (goal.iterator-loop-column g).can_next l.walk;
   is_finite : (goal.iterator-loop-column g).is_finite l.walk;
-  sound : IsSound l.payload;
-  going : l.payload.stopped ≡ None;
-  ready : IsReady l.sink;
-  writing : l.sink.failed ≡ false;
+  going : IsGoing l.payload;
+  writing : IsWriting l.sink;
   same : IsOnSame l.initial.payload l.payload;
   same_sink : IsOnSameSink l.initial.sink l.sink;
   counted : l.left ≡ length (columns_left l.walk);

@@ -1,14 +1,11 @@
-use Rattle.std.proofs.Common.{◌≡◌, ◌-◌, ◌≤◌, false, length, take}
-use Rattle.tds_csv.specs.Sinks.{held, Puts, IsReady, IsOnSameSink}
+use Rattle.std.proofs.Common.{◌-◌, ◌≤◌, Ok, length, take}
+use Rattle.tds_csv.specs.Sinks.{PutsPiece}
 use Rattle.tds_csv.proofs.sink.Sink.put.Given as goal
 
 abbrev pub invariant-loop-taken : goal.invariant-loop-taken
 invariant-loop-taken g l = record {
-  ready : IsReady l.self;
-  same : IsOnSameSink l.initial.self l.self;
-  going : l.self.failed ≡ false;
   within : l.taken ≤ length l.piece;
-  puts : Puts (held g.W.Write.contents l.initial.self) (held g.W.Write.contents l.self) (take l.taken l.piece);
+  puts : PutsPiece g.W.Write.contents l.initial.self l.self (take l.taken l.piece) (Ok (tt {0}));
 }
 
 abbrev pub decreases-loop-taken : goal.decreases-loop-taken

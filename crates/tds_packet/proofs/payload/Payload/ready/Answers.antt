@@ -3,6 +3,7 @@ use Rattle.std.proofs.Math.ListN.{drop_of_length-le}
 use Rattle.tds_packet.specs.Seen.{Takes}
 use Rattle.tds_packet.specs.Payloads.{seen}
 use Rattle.tds_packet.proofs.Futures.{stopped_ends, ended_ends, Ends-after, Takes-trans}
+use Rattle.tds_packet.proofs.Passing.{passed}
 use Rattle.tds_packet.proofs.payload.Payload.ready.Goals as goal
 
 pub returns-in-Some-clause-gives : goal.returns-in-Some-clause-gives
@@ -22,12 +23,12 @@ returns-then-self-clause-over g c = λ _ _.
     let same : record s { stopped = None } ≡ s = ap (λ o. record s { stopped = o }) (sym c.loop-self.invariant.going) in
     subst (λ t. Takes (seen g.R.Read.remaining c.args.self.now) (seen g.R.Read.remaining t) [] 1) (sym same) c.loop-self.invariant.gives
 
-pub returns-in-Err-clause-gives : goal.returns-in-Err-clause-gives
-returns-in-Err-clause-gives g c =
+pub returns-in_err-advance-clause-gives : goal.returns-in_err-advance-clause-gives
+returns-in_err-advance-clause-gives g c =
     let a = seen g.R.Read.remaining c.args.self.now in
     let b = seen g.R.Read.remaining c.loop-self.self in
     let d = seen g.R.Read.remaining c.advance.new.self in
-    Ends-after a b d [] [] 1 _ c.loop-self.invariant.gives c.in-Err.ensures.gives
+    passed _ _ _ _ c.from_residual.ensures.1 (Ends-after a b d [] [] 1 _ c.loop-self.invariant.gives c.in_err-advance.ensures.gives)
 
 pub returns-then-self-clause-lazy : goal.returns-then-self-clause-lazy
 returns-then-self-clause-lazy g c = λ h. ap (λ p. p.from.now) (c.loop-self.invariant.lazy h)
@@ -35,8 +36,8 @@ returns-then-self-clause-lazy g c = λ h. ap (λ p. p.from.now) (c.loop-self.inv
 pub returns-clause-lazy : goal.returns-clause-lazy
 returns-clause-lazy g c = λ h. ap (λ p. p.from.now) (c.loop-self.invariant.lazy h)
 
-pub returns-in-Err-clause-lazy : goal.returns-in-Err-clause-lazy
-returns-in-Err-clause-lazy g c = λ h.
+pub returns-in_err-advance-clause-lazy : goal.returns-in_err-advance-clause-lazy
+returns-in_err-advance-clause-lazy g c = λ h.
     let same = ap (λ p. p.at) (c.loop-self.invariant.lazy h) in
     let len = ap (λ p. length p.packet.now.bytes) (c.loop-self.invariant.lazy h) in
     absurd (omega (arith, same, len, c.loop-self-test.true, c.len.ensures))
@@ -47,13 +48,13 @@ loop-self-preserved g c =
     let b = seen g.R.Read.remaining c.loop-self.self in
     let d = seen g.R.Read.remaining c.advance.new.self in
     record {
-      sound = c.in_default-advance.ensures.sound;
+      sound = c.in_ok-advance.ensures.sound;
       same = search rules;
       lazy = λ h.
           let same = ap (λ p. p.at) (c.loop-self.invariant.lazy h) in
           let len = ap (λ p. length p.packet.now.bytes) (c.loop-self.invariant.lazy h) in
           absurd (omega (arith, same, len, c.loop-self-test.true, c.len.ensures));
-      place = c.in_default-advance.ensures.place ∙ c.loop-self.invariant.place;
-      going = c.in_default-advance.ensures.going;
-      gives = Takes-trans a b d [] [] 1 1 (le_refl 1) c.loop-self.invariant.gives c.in_default-advance.ensures.gives;
+      place = c.in_ok-advance.ensures.place ∙ c.loop-self.invariant.place;
+      going = c.in_ok-advance.ensures.going;
+      gives = Takes-trans a b d [] [] 1 1 (le_refl 1) c.loop-self.invariant.gives c.in_ok-advance.ensures.gives;
     }

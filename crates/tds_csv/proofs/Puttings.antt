@@ -1,0 +1,54 @@
+-- Calls that put texts, one after another.
+use Rattle.std.proofs.Common.{◌≡◌, ◌∙◌, ℕ, true, false, List, [], ◌++◌, Option, Result, Ok, Err, refl, sym, subst}
+use Rattle.std.specs.Result.{IsErrAnd}
+use Rattle.std.proofs.lemmas.Result.{err_from_is_err_and}
+use Rattle.tds_packet.specs.declared.fault.Stop.{Stop}
+use Rattle.tds_csv.specs.declared.sink.Sink.{Sink}
+use Rattle.tds_csv.specs.Sinks.{IsWriting, IsOnSameSink, PutsPiece, held}
+use Rattle.tds_csv.proofs.Sinks.{Breaks-after, Breaks-longer, Puts-none, Puts-trans}
+
+same_sink_after : {W : Type 0} (a b c : Sink W) → IsOnSameSink a b → IsOnSameSink b c → IsOnSameSink a c
+same_sink_after a b c x y = (y.0 ∙ x.0, y.1 ∙ x.1, y.2 ∙ x.2)
+
+-- nothing is put
+pub PutsPiece-none : {W U : Type 0} (contents : W → Option (List ℕ)) (a : Sink W) (u : U) → IsWriting a → PutsPiece contents a a [] (Ok u)
+PutsPiece-none contents a u going = record {
+  ready = going.ready;
+  same = (refl, refl, refl);
+  failed = going.writing;
+  gives = Puts-none (held contents a) going.ready.2;
+  again = λ failed. absurd (cc (failed, going.writing));
+}
+
+-- a text, and then what the next call puts
+pub PutsPiece-trans : {W U V : Type 0} (contents : W → Option (List ℕ)) (a b c : Sink W) (u : U) (p q : List ℕ) (r : Result V Stop) → PutsPiece contents a b p (Ok u) → PutsPiece contents b c q r → PutsPiece contents a c (p ++ q) r
+PutsPiece-trans contents a b c u p q (Ok v) x y = record {
+  ready = y.ready;
+  same = same_sink_after a b c x.same y.same;
+  failed = y.failed;
+  gives = Puts-trans (held contents a) (held contents b) (held contents c) p q x.gives y.gives;
+  again = λ failed. absurd (cc ((x.again failed).0));
+}
+PutsPiece-trans contents a b c u p q (Err e) x y = record {
+  ready = y.ready;
+  same = same_sink_after a b c x.same y.same;
+  failed = y.failed;
+  gives = λ going. Breaks-after (held contents a) (held contents b) (held contents c) p q e x.gives (y.gives x.failed);
+  again = λ failed. absurd (cc ((x.again failed).0));
+}
+
+-- a call that failed, of a longer text
+pub PutsPiece-longer : {W U V : Type 0} (contents : W → Option (List ℕ)) (a b : Sink W) (p more : List ℕ) (e : Stop) → PutsPiece {U = U} contents a b p (Err e) → PutsPiece {U = V} contents a b (p ++ more) (Err e)
+PutsPiece-longer contents a b p more e x = record {
+  ready = x.ready;
+  same = x.same;
+  failed = x.failed;
+  gives = λ going. Breaks-longer (held contents a) (held contents b) p more e (x.gives going);
+  again = λ failed. (cc ((x.again failed).0), (x.again failed).1);
+}
+
+-- `?` passed its error on
+pub PutsPiece-passed : {W U V : Type 0} (contents : W → Option (List ℕ)) (a b : Sink W) (p more : List ℕ) (e : Stop) (r : Result V Stop) → IsErrAnd r (λ stop. stop ≡ e) → PutsPiece {U = U} contents a b p (Err e) → PutsPiece contents a b (p ++ more) r
+PutsPiece-passed contents a b p more e r is x =
+    let q = err_from_is_err_and r is in
+    rw (q.1, q.2) (PutsPiece-longer contents a b p more e x)
