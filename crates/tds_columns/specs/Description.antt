@@ -82,6 +82,7 @@ abbrev pub with_kind : List ℕ → ℕ → List Column → Option Kind → Desc
 with_kind bytes count columns (Some kind) = InColumn bytes count columns (NameCount kind)
 with_kind bytes count columns None = BeforeCount
 
+-- its Count is read
 abbrev pub with_count : List ℕ → ℕ → DescriptionPart
 with_count bytes count = if count == 0xFFFF then NoDescription else InColumn bytes count [] ColumnHead
 
@@ -95,23 +96,27 @@ abbrev pub with_units : List ℕ → ℕ → List Column → Kind → ℕ → De
 with_units bytes count columns kind units =
     if units == 0 then with_column bytes count columns (record { kind = kind; name = [] }) else InColumn bytes count columns (NameUnits kind (2 * units))
 
+-- what stands after an element of a column
 abbrev pub with_element : List ℕ → ℕ → List Column → ColumnPlace → List ℕ → DescriptionPart
 with_element bytes count columns ColumnHead element = with_type (bytes ++ element) count columns (slice_index element 6) (unwrap_or (rest_length (slice_index element 6)) 0)
 with_element bytes count columns (ColumnInfo byte) element = with_kind (bytes ++ element) count columns (kind_of (byte ∷ element))
 with_element bytes count columns (NameCount kind) element = with_units (bytes ++ element) count columns kind (slice_index element 0)
 with_element bytes count columns (NameUnits kind n) element = with_column (bytes ++ element) count columns (record { kind = kind; name = element })
 
+-- what stands after an element
 abbrev pub add_described : DescriptionPart → List ℕ → DescriptionPart
 add_described BeforeCount element = with_count element (little element)
 add_described (InColumn bytes count columns place) element = with_element bytes count columns place element
 add_described d element = d
 
+-- how many bytes the next element of a column has
 abbrev pub column_size : ColumnPlace → ℕ
 column_size ColumnHead = 7
 column_size (ColumnInfo byte) = unwrap_or (rest_length byte) 0
 column_size (NameCount kind) = 1
 column_size (NameUnits kind n) = n
 
+-- how many bytes the next element has; 0 where nothing follows
 abbrev pub described_size : DescriptionPart → ℕ
 described_size BeforeCount = 2
 described_size (InColumn bytes count columns place) = column_size place
@@ -126,28 +131,34 @@ abbrev pub refused_type : ℕ → ℕ → Option RefusedKind → Option Fault
 refused_type index byte (Some kind) = Some (RefusedColumn index kind)
 refused_type index byte None = Some (UnknownType index byte)
 
+-- the fault of a type byte, by how many bytes follow it where it is accepted
 abbrev pub type_fault : ℕ → ℕ → Option ℕ → Option Fault
 type_fault index byte (Some rest) = None
 type_fault index byte None = refused_type index byte (refused_kind byte)
 
+-- the first of two, where it is there
 abbrev pub first_of_two : {A : Type 0} → Option A → Option A → Option A
 first_of_two (Some x) y = Some x
 first_of_two None y = y
 
+-- the first fault of an element of a column
 abbrev pub column_fault : ℕ → List ℕ → ℕ → List Column → ColumnPlace → List ℕ → Option Fault
 column_fault room bytes count columns ColumnHead element = first_of_two (type_fault (length columns) (slice_index element 6) (rest_length (slice_index element 6))) (too_long room (length bytes + 7) ((unwrap_or (rest_length (slice_index element 6)) 0 + 1) + 8 * (count - (length columns + 1))))
 column_fault room bytes count columns (ColumnInfo byte) element = if is_some (kind_of (byte ∷ element)) then None else Some (BadTypeInfo (length columns))
 column_fault room bytes count columns (NameCount kind) element = too_long room (length bytes + 1) (2 * slice_index element 0 + 8 * (count - (length columns + 1)))
 column_fault room bytes count columns (NameUnits kind n) element = None
 
+-- the first fault of a Count
 abbrev pub count_fault : ℕ → ℕ → Option Fault
 count_fault room count = if count == 0 then Some NoColumns else if count == 0xFFFF then None else too_long room 2 (8 * count)
 
+-- the first fault of an element
 abbrev pub described_fault : ℕ → DescriptionPart → List ℕ → Option Fault
 described_fault room BeforeCount element = count_fault room (little element)
 described_fault room (InColumn bytes count columns place) element = column_fault room bytes count columns place element
 described_fault room d element = None
 
+-- the fault of a message that ends here
 abbrev pub described_end : DescriptionPart → Option Fault
 described_end NoDescription = None
 described_end (WholeDescription bytes columns) = None

@@ -34,21 +34,25 @@ with_known None = NoType
 abbrev pub with_type_byte : ℕ → ℕ → TypePart
 with_type_byte byte rest = if rest == 0 then with_known (kind_of (byte ∷ [])) else TypeRest byte
 
+-- how many bytes the next element has; 0 where nothing follows
 abbrev pub type_size : TypePart → ℕ
 type_size TypeHead = 8
 type_size (TypeRest byte) = unwrap_or (rest_length byte) 0
 type_size part = 0
 
+-- the first fault of an element
 abbrev pub type_part_fault : TypePart → List ℕ → Option Fault
 type_part_fault TypeHead element = type_fault return_column (slice_index element 7) (rest_length (slice_index element 7))
 type_part_fault (TypeRest byte) element = if is_some (kind_of (byte ∷ element)) then None else Some (BadTypeInfo return_column)
 type_part_fault part element = None
 
+-- what stands after an element
 abbrev pub type_add : TypePart → List ℕ → TypePart
 type_add TypeHead element = with_type_byte (slice_index element 7) (unwrap_or (rest_length (slice_index element 7)) 0)
 type_add (TypeRest byte) element = with_known (kind_of (byte ∷ element))
 type_add part element = part
 
+-- the fault of a message that ends here
 abbrev pub type_end : TypePart → Option Fault
 type_end (KnownType kind) = None
 type_end part = Some MessageEnded

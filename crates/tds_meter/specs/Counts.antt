@@ -7,7 +7,7 @@ last_count = 2 ^ 64 - 1
 
 -- so many more, unless that passes the greatest count
 abbrev pub counted : ℕ → ℕ → ℕ
-counted n more = min (n + more) (2 ^ 64 - 1)
+counted n more = min (n + more) last_count
 
 -- one more, unless the count stands at the greatest
 abbrev pub one_more : ℕ → ℕ
@@ -15,4 +15,4 @@ one_more n = counted n 1
 
 -- The count rose, or it stands at the greatest, where each call counts.
 abbrev pub Rose : ℕ → ℕ → Type 0
-Rose before after = (before < after) ⊎ ((2 ^ 64 - 1 ≤ before) × (after ≡ 2 ^ 64 - 1))
+Rose before after = (before < after) ⊎ ((last_count ≤ before) × (after ≡ last_count))

@@ -7,6 +7,9 @@ ghost use Rattle.tds_meter.specs.Space.{empty, holding, appended};
 use std::alloc::Global;
 use std::marker::Model;
 
+/// The most bytes that an area may have room for: 64 MiB.
+pub(crate) const GREATEST_ROOM: usize = 67_108_864;
+
 /// Memory was refused.
 #[derive(Debug, Clone, Copy, PartialEq, Eq)]
 pub struct OutOfMemory;
@@ -28,18 +31,19 @@ pub struct Area {
 impl Model for Area {
     ghost use Rattle.std.specs.Prelude.{◌≤◌, take, vec_len};
     ghost use Rattle.tds_meter.specs.Space.{Space};
+    ghost use Rattle.tds_meter.specs.declared.area.TheConstants.{GREATEST_ROOM};
 
     ghost Value = { Space };
 
     ghost view = { λ a. record { bytes = take a.len a.store.items; room = vec_len a.store; peak = a.peak } };
 
-    ghost invariant = { λ a. (a.len ≤ a.peak) × (a.peak ≤ vec_len a.store) × (vec_len a.store ≤ 67108864) };
+    ghost invariant = { λ a. (a.len ≤ a.peak) × (a.peak ≤ vec_len a.store) × (vec_len a.store ≤ GREATEST_ROOM) };
 }
 
 impl Area {
     /// An empty area with this room, in bytes. It takes the memory of the whole room.
     pub fn new(alloc: Global, room: usize) -> Result<Area, OutOfMemory>
-        requires { room ≤ 67108864 }
+        requires { room ≤ GREATEST_ROOM }
         ensures { IfOk result (λ area. area ≡ empty room) }
     {
         let mut store = Vec::new(alloc);
@@ -64,7 +68,7 @@ impl Area {
     /// How many bytes stand in it.
     pub fn len(&self) -> usize
         ensures value { result ≡ length self.now.bytes }
-        ensures bound { result ≤ 67108864 }
+        ensures bound { result ≤ GREATEST_ROOM }
     {
         self.len
     }
@@ -94,7 +98,7 @@ impl Area {
     /// The most bytes that stood in it since it was made or last restarted.
     pub fn peak(&self) -> usize
         ensures value { result ≡ self.now.peak }
-        ensures bound { result ≤ 67108864 }
+        ensures bound { result ≤ GREATEST_ROOM }
     {
         self.peak
     }

@@ -5,13 +5,20 @@ use crate::area::{Area, OutOfMemory};
 use crate::limits::Limits;
 use std::alloc::Global;
 
-const TOKEN_ROOM: usize = 65_536;
+/// The room for the body of a token, in bytes: a length of two bytes counts at most 65,535.
+pub const TOKEN_ROOM: usize = 65_536;
 
-const OUTPUT_ROOM: usize = 4_096;
+/// The room for text that waits for the writer, in bytes. It is delivered in blocks of this size.
+pub const OUTPUT_ROOM: usize = 4_096;
 
-const NOTICE_ROOM: usize = 512;
+/// The room for the message of the first error, in bytes.
+pub const NOTICE_ROOM: usize = 512;
 
-const SMALL_ROOM: usize = 128;
+/// The room for what is kept for a moment, in bytes.
+pub const SMALL_ROOM: usize = 128;
+
+/// The rooms together that no limit changes, in bytes: all but those of packet and description.
+pub const FIXED_ROOM: usize = TOKEN_ROOM + OUTPUT_ROOM + NOTICE_ROOM + SMALL_ROOM;
 
 /// All that a run keeps. The areas may be borrowed one by one.
 #[derive(Drop)]

@@ -1,7 +1,27 @@
 // The limits of a run.
 ghost use Rattle.std.specs.Prelude.{◌≡◌, ◌≤◌, None, Some, MatchResult};
+ghost use Rattle.tds_meter.specs.declared.limits.TheConstants.{GREATEST_COLUMN_ROOM, GREATEST_MAX_WIRE, GREATEST_PACKET_SIZE, LEAST_COLUMN_ROOM, LEAST_MAX_WIRE, LEAST_PACKET_SIZE};
 
+use crate::area::GREATEST_ROOM;
 use thiserror::Error;
+
+/// The least packet size of a response, in bytes (MS-TDS, Packet Size).
+pub const LEAST_PACKET_SIZE: u16 = 512;
+
+/// The greatest packet size of a response, in bytes (MS-TDS, Packet Size).
+pub const GREATEST_PACKET_SIZE: u16 = 32_767;
+
+/// The least room for an encoded description, in bytes: that of one column of a fixed kind without a name.
+pub const LEAST_COLUMN_ROOM: u32 = 10;
+
+/// The greatest room for an encoded description, in bytes: 64 MiB.
+pub const GREATEST_COLUMN_ROOM: u32 = GREATEST_ROOM as u32;
+
+/// The least limit of the wire, in bytes: a packet without a body.
+pub const LEAST_MAX_WIRE: u64 = 8;
+
+/// The greatest limit of the wire, in bytes: 2 to the power of 56. With it all counts of a run are exact.
+pub const GREATEST_MAX_WIRE: u64 = 72_057_594_037_927_936;
 
 /// The limits of a run. Each lies in its range.
 #[derive(Debug, Clone, Copy)]
@@ -9,9 +29,9 @@ pub struct Limits {
     packet_size: u16,
     column_room: u32,
     max_wire: u64,
-    ghost packet_size_in_range: { (512 ≤ packet_size) × (packet_size ≤ 32767) },
-    ghost column_room_in_range: { (10 ≤ column_room) × (column_room ≤ 67108864) },
-    ghost max_wire_in_range: { (8 ≤ max_wire) × (max_wire ≤ 72057594037927936) },
+    ghost packet_size_in_range: { (LEAST_PACKET_SIZE ≤ packet_size) × (packet_size ≤ GREATEST_PACKET_SIZE) },
+    ghost column_room_in_range: { (LEAST_COLUMN_ROOM ≤ column_room) × (column_room ≤ GREATEST_COLUMN_ROOM) },
+    ghost max_wire_in_range: { (LEAST_MAX_WIRE ≤ max_wire) × (max_wire ≤ GREATEST_MAX_WIRE) },
 }
 
 /// Why numbers are no limits.
@@ -36,13 +56,13 @@ impl Limits {
             × (limits.packet_size ≡ packet_size) × (limits.column_room ≡ column_room) × (limits.max_wire ≡ max_wire))
             (λ fault. limit_fault packet_size column_room max_wire ≡ Some fault) }
     {
-        if packet_size < 512 || packet_size > 32767 {
+        if packet_size < LEAST_PACKET_SIZE || packet_size > GREATEST_PACKET_SIZE {
             return Err(LimitFault::PacketSize);
         }
-        if column_room < 10 || column_room > 67_108_864 {
+        if column_room < LEAST_COLUMN_ROOM || column_room > GREATEST_COLUMN_ROOM {
             return Err(LimitFault::ColumnRoom);
         }
-        if max_wire < 8 || max_wire > 72_057_594_037_927_936 {
+        if max_wire < LEAST_MAX_WIRE || max_wire > GREATEST_MAX_WIRE {
             return Err(LimitFault::MaxWire);
         }
         Ok(Limits {

@@ -11,3 +11,4 @@ pub mod Parts
 pub mod Fronts
 pub mod Steps
 pub mod Passing
+pub mod Lifts

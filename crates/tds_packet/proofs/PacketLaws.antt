@@ -8,7 +8,7 @@ use Rattle.std.proofs.lemmas.Grind.{flat_map-append}
 use Rattle.tds_packet.specs.declared.fault.Fault.TheVariants.{WrongPacketType, BadPacketLength, ResponseTooLong}
 use Rattle.tds_packet.specs.Elements.{AreBytes, Spelt, IsNext, Longest}
 use Rattle.tds_packet.proofs.ElementLaws.{Spelt-step, Spelt-append, Spelt-none, Spelt-induct, AreBytes-front, AreBytes-back, one_state}
-use Rattle.tds_packet.specs.Packets.{Packet, packet_length, packet_bytes, wire_of, is_last, IsPacket, AreBefore, AreMessage, Follows, Front, WirePlace, BeforeHeader, BeforeBody, BehindLast, WirePart, no_wire, header_length, packet_of, with_packet, header_fault, wire}
+use Rattle.tds_packet.specs.Packets.{Packet, packet_length, packet_bytes, wire_of, is_last, IsPacket, AreBefore, AreMessage, IsNextPacket, Front, WirePlace, BeforeHeader, BeforeBody, BehindLast, WirePart, no_wire, header_length, packet_of, with_packet, header_fault, wire}
 use Rattle.tds_packet.proofs.Choices.{choose, eq_true}
 
 one_more : (size : ℕ) (ps : List Packet) (p : Packet) → AreBefore size ps → IsPacket size p → is_last p ≡ false → AreBefore size (ps ++ p ∷ [])
@@ -182,7 +182,7 @@ module _ (size limit : ℕ) where
       within : taken ≤ length input
       within = l.within
 
-      none : (next : Packet) → Follows size limit input w.packets next → AreBefore size w.packets → length (wire_of w.packets ++ packet_bytes next) ≤ taken
+      none : (next : Packet) → IsNextPacket size limit input w.packets next → AreBefore size w.packets → length (wire_of w.packets ++ packet_bytes next) ≤ taken
       none next f before =
           let all : List ℕ = wire_of w.packets ++ packet_bytes next in
           let t : take (length all) input ≡ all = ap (λ v. take (length all) v) f.spelt ∙ take-append_seam all f.more in

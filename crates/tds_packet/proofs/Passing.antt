@@ -8,3 +8,9 @@ pub passed : {T E : Type 0} (r : Result T E) (e : E) (P : T → Type 0) (Q : E �
 passed r e P Q is holds =
     let p = err_from_is_err_and r is in
     rw p.1 (subst Q (sym p.2) holds)
+
+-- so it is of whatever is said of the answer
+pub passed_on : {T E : Type 0} (r : Result T E) (e : E) (P : Result T E → Type 0) → IsErrAnd r (λ x. x ≡ e) → P (Err e) → P r
+passed_on r e P is holds =
+    let p = err_from_is_err_and r is in
+    rw (p.1, p.2) holds

@@ -1,5 +1,5 @@
 -- Calls that read by a grammar, one after another.
-use Rattle.std.proofs.Common.{◌≡◌, ◌∙◌, inl, inr, refl, ℕ, ◌+◌, ◌<◌, List, [], ◌++◌, length, sym, ap, subst, arith, append_assoc, length-append}
+use Rattle.std.proofs.Common.{◌≡◌, ◌∙◌, inl, inr, refl, ℕ, ◌+◌, ◌<◌, List, [], ◌++◌, length, sym, ap, subst, arith, append_assoc, append-nil, length-append}
 use Rattle.std.specs.Prelude.{Option, Some}
 use Rattle.tds_packet.specs.declared.fault.Fault.{Fault}
 use Rattle.tds_packet.specs.declared.fault.Fault.TheVariants.{MessageEnded}
@@ -14,6 +14,20 @@ use Rattle.tds_packet.proofs.Futures.{Takes-none, Takes-trans, Ends-after}
 -- bytes taken by two calls
 pub takes_both : (a b c : Seen) (xs ys : List ℕ) → Takes a b xs (length xs) → Takes b c ys (length ys) → Takes a c (xs ++ ys) (length (xs ++ ys))
 takes_both a b c xs ys p q = subst (Takes a c (xs ++ ys)) (sym (length-append xs ys)) (Takes-trans a b c xs ys (length xs) (length ys) (omega arith) p q)
+
+-- bytes taken by two calls, of which the second handed out more than it needed
+pub takes_ahead : (a b c : Seen) (xs ys ahead : List ℕ) → Takes a b xs (length xs) → Takes b c (ys ++ ahead) (length ys) → Takes a c ((xs ++ ys) ++ ahead) (length (xs ++ ys))
+takes_ahead a b c xs ys ahead p q =
+    subst (λ l. Takes a c l (length (xs ++ ys))) (sym (append_assoc xs ys ahead))
+    (subst (Takes a c (xs ++ (ys ++ ahead))) (sym (length-append xs ys)) (Takes-trans a b c xs (ys ++ ahead) (length xs) (length ys) (omega arith) p q))
+
+-- a place, so many bytes and so many more
+pub place_after : (place : ℕ) (xs ys : List ℕ) → (place + length xs) + length ys ≡ place + length (xs ++ ys)
+place_after place xs ys = omega (arith, length-append xs ys)
+
+-- no bytes more
+pub add_none : (n : ℕ) → n + 0 ≡ n
+add_none n = omega arith
 
 -- a call of many bytes and a cut element of an open description stop alike
 pub began_is_cut : (place : ℕ) (ended : Option Fault) (own stop : Stop) → ended ≡ Some MessageEnded → stop ≡ began_at place own → IsCutStop place ended own stop
@@ -50,15 +64,13 @@ module _ {S : Type 0} (g : Grammar S Fault) where
   refuses_after : (a b c : Seen) (xs ys : List ℕ) (at : S) (fault : Fault) → Takes a b xs (length xs) → RefusesNext g b c ys at fault → RefusesNext g a c (xs ++ ys) at fault
   refuses_after a b c xs ys at fault p q = record {
     element = q.element;
+    ahead = q.ahead;
     some = q.some;
     whole = q.whole;
     first = q.first;
-    takes = subst (λ l. Takes a c l (length l)) (sym (append_assoc xs ys q.element)) (takes_both a b c xs (ys ++ q.element) p q.takes);
+    takes = subst (λ l. Takes a c (l ++ q.ahead) (length l)) (sym (append_assoc xs ys q.element)) (takes_ahead a b c xs (ys ++ q.element) q.ahead p q.takes);
     between = q.between;
   }
-
-  place_after : (place : ℕ) (xs ys : List ℕ) → (place + length xs) + length ys ≡ place + length (xs ++ ys)
-  place_after place xs ys = omega (arith, length-append xs ys)
 
   cuts_after : (a b c : Seen) (xs ys : List ℕ) (place : ℕ) (at : S) (stop : Stop) → Takes a b xs (length xs) → CutsNext g b c ys (place + length xs) at stop → CutsNext g a c (xs ++ ys) place at stop
   cuts_after a b c xs ys place at stop p q = record {
@@ -80,17 +92,20 @@ module _ {S : Type 0} (g : Grammar S Fault) where
     ];
   }
 
+  -- the first element is refused, and more was handed out
+  pub refused_ahead : (s : S) (a b : Seen) (place : ℕ) (element ahead : List ℕ) (fault : Fault) → 0 < length element → length element ≡ g.size s → g.fault s element ≡ Some fault → Takes a b (element ++ ahead) (length element) → IsBetween b
+      → StopsReading g s a b place s (record { fault = fault; place = Payload place })
+  refused_ahead s a b place element ahead fault some whole first takes between = record {
+    bytes = [];
+    spelt = Spelt-none g s;
+    cause = inl (record { element = element; ahead = ahead; some = some; whole = whole; first = first; takes = takes; between = between }, ap Payload (sym (add_none place)));
+  }
+
   -- the first element is refused
   pub refused_at_once : (s : S) (a b : Seen) (place : ℕ) (element : List ℕ) (fault : Fault) → 0 < length element → length element ≡ g.size s → g.fault s element ≡ Some fault → Takes a b element (length element) → IsBetween b
       → StopsReading g s a b place s (record { fault = fault; place = Payload place })
-  refused_at_once s a b place element fault some whole first takes between = record {
-    bytes = [];
-    spelt = Spelt-none g s;
-    cause = inl (record { element = element; some = some; whole = whole; first = first; takes = takes; between = between }, ap Payload (sym (add_none place)));
-  }
-    where
-      add_none : (n : ℕ) → n + 0 ≡ n
-      add_none n = omega arith
+  refused_at_once s a b place element fault some whole first takes between =
+      refused_ahead s a b place element [] fault some whole first (subst (λ l. Takes a b l (length element)) (sym (append-nil element)) takes) between
 
   -- the payload stopped in the first element
   pub cut_at_once : (s : S) (a b : Seen) (place : ℕ) (part : List ℕ) (own stop : Stop) → length part < g.size s → Ends a b part own → IsCutStop place (g.end_fault s) own stop → StopsReading g s a b place s stop
@@ -99,6 +114,3 @@ module _ {S : Type 0} (g : Grammar S Fault) where
     spelt = Spelt-none g s;
     cause = inr (record { part = part; cut = cut; own = own; ends = ends; stop_is = subst (λ n. IsCutStop n (g.end_fault s) own stop) (sym (add_none place)) is });
   }
-    where
-      add_none : (n : ℕ) → n + 0 ≡ n
-      add_none n = omega arith

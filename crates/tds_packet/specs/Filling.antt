@@ -2,6 +2,7 @@
 use Rattle.std.specs.Prelude.{◌≡◌, ℕ, ◌-◌, ◌^◌, ◌<◌, List, length, Option, Result, Ok, Err}
 use Rattle.std.specs.Io.KnownBytes.{Consumes, IsAtEnd}
 use Rattle.tds_meter.specs.Counts.{one_more}
+use Rattle.tds_packet.specs.declared.counted.Counted.{Counted}
 use Rattle.tds_packet.specs.declared.counted.Short.{Short}
 use Rattle.tds_packet.specs.declared.counted.Short.TheVariants.{Ended, Failed}
 
@@ -22,3 +23,7 @@ abbrev pub FillOutcome : {U : Type 0} → Option (List ℕ) → Option (List ℕ
 FillOutcome old new f g bytes (Ok _) = Consumes old new bytes × Stays f g bytes
 FillOutcome old new f g bytes (Err Ended) = RunsOut old new (length bytes) × (g ≡ f)
 FillOutcome old new f g bytes (Err Failed) = ReadsFewer old new (length bytes) × (g ≡ one_more f)
+
+-- The same of a counted reader.
+abbrev pub FillsSlice : {R U : Type 0} → (R → Option (List ℕ)) → Counted R → Counted R → List ℕ → Result U Short → Type 0
+FillsSlice remaining old new bytes result = FillOutcome (remaining old.device) (remaining new.device) old.failures new.failures bytes result

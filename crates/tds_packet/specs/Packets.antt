@@ -18,9 +18,11 @@ packet_length p = 8 + length p.body
 abbrev pub packet_bytes : Packet → List ℕ
 packet_bytes p = (4 ∷ p.status ∷ packet_length p / 256 ∷ packet_length p % 256 ∷ p.id) ++ p.body
 
+-- the bytes of packets, joined
 abbrev pub wire_of : List Packet → List ℕ
 wire_of = flat_map packet_bytes
 
+-- the bodies of packets, joined
 abbrev pub payload_of : List Packet → List ℕ
 payload_of = flat_map (λ p. p.body)
 
@@ -28,6 +30,7 @@ payload_of = flat_map (λ p. p.body)
 abbrev pub is_last_status : ℕ → Bool
 is_last_status status = status % 2 == 1
 
+-- whether a packet is its message's last
 abbrev pub is_last : Packet → Bool
 is_last p = is_last_status p.status
 
@@ -54,7 +57,7 @@ pub record Message (size limit : ℕ) (packets : List Packet) (wire : List ℕ) 
   pub within : length wire ≤ limit
 
 -- The packet follows these at the beginning of the input, whole and within the limits.
-pub record Follows (size limit : ℕ) (input : List ℕ) (packets : List Packet) (next : Packet) : Type 0 where
+pub record IsNextPacket (size limit : ℕ) (input : List ℕ) (packets : List Packet) (next : Packet) : Type 0 where
   pub more : List ℕ
   pub spelt : input ≡ (wire_of packets ++ packet_bytes next) ++ more
   pub rules : IsPacket size next
@@ -65,7 +68,7 @@ pub record Front (size limit : ℕ) (input : List ℕ) (packets : List Packet) :
   pub rest : List ℕ
   pub spelt : wire_of packets ++ rest ≡ input
   pub within : length (wire_of packets) ≤ limit
-  pub stops : AreMessage size packets ⊎ (AreBefore size packets × ((next : Packet) → Follows size limit input packets next → ⊥))
+  pub stops : AreMessage size packets ⊎ (AreBefore size packets × ((next : Packet) → IsNextPacket size limit input packets next → ⊥))
 
 -- where a wire is read: before a header, after one, or behind the last packet
 pub data WirePlace : Type 0 where
@@ -78,6 +81,7 @@ pub record WirePart : Type 0 where
   pub packets : List Packet
   pub place : WirePlace
 
+-- nothing of a wire is read
 abbrev pub no_wire : WirePart
 no_wire = record { packets = []; place = BeforeHeader }
 
@@ -89,6 +93,7 @@ header_length header = 256 * slice_index header 2 + slice_index header 3
 abbrev pub packet_of : List ℕ → List ℕ → Packet
 packet_of header body = record { status = slice_index header 1; id = drop 4 header; body = body }
 
+-- a packet is whole: the wire goes on with the next, or ends here
 abbrev pub with_packet : List Packet → Packet → WirePart
 with_packet packets p = record { packets = packets ++ p ∷ []; place = if is_last p then BehindLast else BeforeHeader }
 
@@ -100,21 +105,25 @@ header_fault size limit before header =
     else if nat_lt limit (before + header_length header) then Some ResponseTooLong else None)
     else Some (WrongPacketType (slice_index header 0))
 
+-- how many bytes the next element has: a header 8, a body what its header says
 abbrev pub wire_size : WirePlace → ℕ
 wire_size BeforeHeader = 8
 wire_size (BeforeBody header) = header_length header - 8
 wire_size BehindLast = 0
 
+-- the first fault of an element: only headers are judged
 abbrev pub wire_fault : ℕ → ℕ → List Packet → WirePlace → List ℕ → Option Fault
 wire_fault size limit packets BeforeHeader header = header_fault size limit (length (wire_of packets)) header
 wire_fault size limit packets (BeforeBody header) body = None
 wire_fault size limit packets BehindLast bytes = None
 
+-- what stands after an element
 abbrev pub wire_add : List Packet → WirePlace → List ℕ → WirePart
 wire_add packets BeforeHeader header = if header_length header == 8 then with_packet packets (packet_of header []) else record { packets = packets; place = BeforeBody header }
 wire_add packets (BeforeBody header) body = with_packet packets (packet_of header body)
 wire_add packets BehindLast bytes = record { packets = packets; place = BehindLast }
 
+-- the fault of an input that ends here
 abbrev pub wire_end : WirePlace → Option Fault
 wire_end BehindLast = None
 wire_end _ = Some InputEnded

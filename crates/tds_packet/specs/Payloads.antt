@@ -1,13 +1,14 @@
 -- How the fields of a payload are seen.
-use Rattle.std.specs.Prelude.{◌≡◌, ℕ, ◌+◌, ◌-◌, ◌^◌, ◌≤◌, List, [], length, drop, Option, Some, None, Result, OnOk, ⊤}
+use Rattle.std.specs.Prelude.{◌≡◌, ℕ, ◌+◌, ◌-◌, ◌^◌, ◌<◌, ◌≤◌, List, [], length, take, drop, Option, Some, None, Result, Err, IfErr, IfSome, MatchResult, OnOk, ⊤}
 use Rattle.std.specs.Borrow.{Fml, RattleType, MutBor}
 use Rattle.std.specs.Io.BufRead.{Rests}
 use mir.Syntax.{named}
+use Rattle.tds_packet.specs.declared.counted.Counted.{Counted}
 use Rattle.tds_packet.specs.declared.fault.Stop.{Stop}
 use Rattle.tds_packet.specs.declared.payload.Payload.{Payload}
 use Rattle.tds_packet.specs.contracts.payload.Payload.{the_row}
 use Rattle.tds_packet.specs.Coming.{coming_of}
-use Rattle.tds_packet.specs.Seen.{Seen}
+use Rattle.tds_packet.specs.Seen.{Ends, IsBetween, Seen, Takes, began_at, begun}
 
 -- the bytes of its packet that are not handed out
 abbrev pub buffered : {R : Type 0} → Payload R → List ℕ
@@ -50,6 +51,48 @@ pub record LeavesPayload {R U : Type 0} (old new : Payload R) (result : Result U
   pub sound : IsSound new
   pub same : IsOnSame old new
   pub going : OnOk result (new.stopped ≡ None)
+
+-- An answer of the payload itself: it is left as above; where it answered a stop it stands there; and one that had stopped gives its stop again, with nothing changed.
+pub record AnswersAgain {R U : Type 0} (old new : Payload R) (result : Result U Stop) : Type 0 where
+  pub sound : IsSound new
+  pub same : IsOnSame old new
+  pub going : OnOk result (new.stopped ≡ None)
+  pub stopped : IfErr result (λ stop. new.stopped ≡ Some stop)
+  pub again : IfSome old.stopped (λ stop. (result ≡ Err stop) × (new ≡ old))
+
+-- A payload at the first byte of its message: nothing was read, and these are its limits.
+pub record IsBegun {R : Type 0} (remaining : R → Option (List ℕ)) (p : Payload R) (from : Counted R) (size most : ℕ) : Type 0 where
+  pub sound : IsSound p
+  pub room : p.packet.now.room ≡ size
+  pub limit : p.max_wire ≡ most
+  pub place : p.place ≡ 0
+  pub going : p.stopped ≡ None
+  pub begins : seen remaining p ≡ begun size most (remaining from.device) from.failures
+  pub between : IsBetween (seen remaining p)
+
+-- so many bytes further on in its packet
+abbrev pub further : {R : Type 0} → Payload R → ℕ → Payload R
+further p n = record p { at = p.at + n; place = p.place + n }
+
+-- The bytes of the answer were handed out, and no packet read that one byte didn't need; or the payload stopped, and none was.
+abbrev pub TakesOrEnds : {R U : Type 0} → (R → Option (List ℕ)) → Payload R → Payload R → (U → List ℕ) → Result U Stop → Type 0
+TakesOrEnds remaining old new bytes result = MatchResult result
+    (λ value. Takes (seen remaining old) (seen remaining new) (bytes value) 1)
+    (λ stop. Ends (seen remaining old) (seen remaining new) [] stop)
+
+-- The payload stopped before the slice was full; where the message ended, the stop stands where the call began.
+abbrev pub CutsFill : {R : Type 0} → (R → Option (List ℕ)) → Payload R → Payload R → List ℕ → Stop → Type 0
+CutsFill remaining old new to stop =
+    (n : ℕ) × (own : Stop) × (n < length to) × Ends (seen remaining old) (seen remaining new) (take n to) own × (stop ≡ began_at old.place own)
+
+-- A piece of the packet was lent, and counts as handed out; or the payload stopped.
+abbrev pub LendsPiece : {R B : Type 0} → (R → Option (List ℕ)) → Payload R → Payload R → (B → List ℕ) → Result B Stop → Type 0
+LendsPiece remaining old new now result = IsSound new × IsOnSame old new
+    × MatchResult result
+    (λ piece. Takes (seen remaining old) (seen remaining new) (now piece) 1 × IsBetween (seen remaining new)
+    × (new.place ≡ old.place + length (now piece)) × (new.stopped ≡ None))
+    (λ stop. Ends (seen remaining old) (seen remaining new) [] stop × (new.place ≡ old.place) × (new.stopped ≡ Some stop))
+    × IfSome old.stopped (λ stop. (result ≡ Err stop) × (new ≡ old))
 
 -- The payload of which a piece was lent ends so.
 abbrev pub RestsPayload : (R : RattleType) → MutBor (Payload R.Denot) → (Payload R.Denot → Type 0) → Fml

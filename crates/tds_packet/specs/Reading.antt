@@ -13,13 +13,14 @@ pub record Reads {S : Type 0} (g : Grammar S Fault) (from : S) (old new : Seen) 
   pub spelt : Spelt g from bytes to
   pub takes : Takes old new bytes (length bytes)
 
--- The next element was read whole, and this is its first fault.
+-- The next element was read whole, and this is its first fault. What lies ahead of it in the packets read may have been handed out too; no packet was read for that.
 pub record RefusesNext {S : Type 0} (g : Grammar S Fault) (old new : Seen) (before : List ℕ) (at : S) (fault : Fault) : Type 0 where
   pub element : List ℕ
+  pub ahead : List ℕ
   pub some : 0 < length element
   pub whole : length element ≡ g.size at
   pub first : g.fault at element ≡ Some fault
-  pub takes : Takes old new (before ++ element) (length (before ++ element))
+  pub takes : Takes old new ((before ++ element) ++ ahead) (length (before ++ element))
   pub between : IsBetween new
 
 -- How a cut element stops a call: where the message has ended, at the element's first byte with the fault of the end; else as the payload does.

@@ -3,6 +3,7 @@ use Rattle.std.specs.Prelude.{◌≡◌, ◌⊎◌, ℕ, ◌<◌, List, [], ◌+
 use Rattle.std.specs.Io.KnownBytes.{Consumes, IsAtEnd}
 use Rattle.tds_meter.specs.Counts.{one_more}
 use Rattle.tds_packet.specs.Filling.{RunsOut, ReadsFewer, Stays}
+use Rattle.tds_packet.specs.declared.counted.Counted.{Counted}
 use Rattle.tds_packet.specs.declared.fault.Fault.{Fault}
 use Rattle.tds_packet.specs.declared.fault.Fault.TheVariants.{ReadFailed, InputEnded, WrongPacketType, BadPacketLength, ResponseTooLong}
 use Rattle.tds_packet.specs.declared.packet.Header.{Header}
@@ -29,6 +30,10 @@ abbrev pub FillsOrFaults : {U : Type 0} → Option (List ℕ) → Option (List �
 FillsOrFaults old new f g bytes (Ok _) = Consumes old new bytes × Stays f g bytes
 FillsOrFaults old new f g bytes (Err fault) = Faulted old new f g (length bytes) fault
 
+-- The same of a counted reader.
+abbrev pub FillsFrom : {R U : Type 0} → (R → Option (List ℕ)) → Counted R → Counted R → List ℕ → Result U Fault → Type 0
+FillsFrom remaining old new bytes result = FillsOrFaults (remaining old.device) (remaining new.device) old.failures new.failures bytes result
+
 -- These bytes are a packet behind so many bytes of the wire, whatever follows them, and no beginning of them is one.
 abbrev pub IsFrontPacket : ℕ → ℕ → ℕ → List ℕ → List ℕ → Bool → ℕ → Type 0
 IsFrontPacket size limit wire read body last n = ((zs : List ℕ) → front_packet size limit wire (read ++ zs) ≡ WholePacket body last n zs)
@@ -51,6 +56,11 @@ abbrev pub PacketRead : ℕ → ℕ → ℕ → Option (List ℕ) → Option (Li
 PacketRead size limit wire old new f g body (Ok h) = (read : List ℕ) × Consumes old new read × IsFrontPacket size limit wire read body h.last h.length × Stays f g read
 PacketRead size limit wire old new f g body (Err fault) =
     (RefusesHeader size limit wire old new fault × (g ≡ f)) ⊎ ((GivesOut size limit wire old new fault × (g ≡ f)) ⊎ (FailsInPacket old new fault × (g ≡ one_more f)))
+
+-- The same of a counted reader.
+abbrev pub ReadsPacket : {R : Type 0} → (R → Option (List ℕ)) → Counted R → Counted R → ℕ → ℕ → ℕ → List ℕ → Result Header Fault → Type 0
+ReadsPacket remaining old new size limit wire body result =
+    PacketRead size limit wire (remaining old.device) (remaining new.device) old.failures new.failures body result
 
 -- A fault of packets.
 abbrev pub IsOfPackets : Fault → Type 0

@@ -67,5 +67,6 @@ abbrev pub place_at : ℕ → Fault → Place → Place
 place_at start MessageEnded place = Payload start
 place_at start fault place = place
 
+-- the stop of such a call, by that of the payload
 abbrev pub began_at : ℕ → Stop → Stop
 began_at start stop = record { fault = stop.fault; place = place_at start stop.fault stop.place }

@@ -1,5 +1,5 @@
 //! Faults, counted devices, and the payload of a message in packets (MS-TDS, Packets).
-#![tactic(auto)]
+#![tactic(auto, using(crate::proofs::Passing::passed))]
 
 mod counted;
 mod fault;

@@ -1,6 +1,6 @@
 // One packet.
 ghost use Rattle.std.specs.Prelude.{◌≡◌, ◌+◌, ◌^◌, ◌<◌, ◌≤◌, length, IfErr, IfOk};
-ghost use Rattle.tds_packet.specs.Reads.{FillsOrFaults, IsOfPackets, PacketRead, header_of};
+ghost use Rattle.tds_packet.specs.Reads.{FillsFrom, IsOfPackets, ReadsPacket, header_of};
 
 use crate::counted::{Counted, Short};
 use crate::fault::Fault;
@@ -43,7 +43,7 @@ fn judge(header: &[u8], room: usize, max_wire: u64, wire: u64) -> Result<Header,
 }
 
 fn fill<R: Read>(from: &mut Counted<R>, to: &mut [u8]) -> Result<(), Fault>
-    ensures read { FillsOrFaults (R.remaining from.old.device) (R.remaining from.new.device) from.old.failures from.new.failures to.new result }
+    ensures read { FillsFrom R.remaining from.old from.new to.new result }
     ensures fault { IfErr result (λ fault. IsOfPackets fault) }
 {
     match from.fill(to) {
@@ -56,7 +56,7 @@ fn fill<R: Read>(from: &mut Counted<R>, to: &mut [u8]) -> Result<(), Fault>
 fn read_body<R: Read>(from: &mut Counted<R>, packet: &mut Area, n: usize) -> Result<(), Fault>
     requires fits { n ≤ packet.old.room }
     requires peak { packet.old.peak ≤ packet.old.room }
-    ensures bytes { FillsOrFaults (R.remaining from.old.device) (R.remaining from.new.device) from.old.failures from.new.failures packet.new.bytes result }
+    ensures bytes { FillsFrom R.remaining from.old from.new packet.new.bytes result }
     ensures len { length packet.new.bytes ≡ n }
     ensures room { packet.new.room ≡ packet.old.room }
     ensures peak { packet.new.peak ≤ packet.new.room }
@@ -78,22 +78,16 @@ pub(crate) fn read_packet<R: Read>(
 ) -> Result<Header, Fault>
     requires within { wire ≤ 2 ^ 56 }
     requires peak { packet.old.peak ≤ packet.old.room }
-    ensures read { PacketRead packet.old.room max_wire wire (R.remaining from.old.device) (R.remaining from.new.device) from.old.failures from.new.failures packet.new.bytes result }
+    ensures read { ReadsPacket R.remaining from.old from.new packet.old.room max_wire wire packet.new.bytes result }
     ensures room { packet.new.room ≡ packet.old.room }
     ensures peak { packet.new.peak ≤ packet.new.room }
     ensures fits { IfOk result (λ h. (length packet.new.bytes + 8 ≡ h.length) × (wire + h.length ≤ max_wire)) }
     ensures fault { IfErr result (λ fault. IsOfPackets fault) }
 {
     let mut header = [0u8; 8];
-    if let Err(fault) = fill(from, &mut header) {
-        return Err(fault);
-    }
+    fill(from, &mut header)?;
     let room = packet.room();
-    match judge(&header, room, max_wire, wire) {
-        Ok(head) => match read_body(from, packet, usize::from(head.length) - 8) {
-            Ok(()) => Ok(head),
-            Err(fault) => Err(fault),
-        },
-        Err(fault) => Err(fault),
-    }
+    let head = judge(&header, room, max_wire, wire)?;
+    read_body(from, packet, usize::from(head.length) - 8)?;
+    Ok(head)
 }

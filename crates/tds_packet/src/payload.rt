@@ -1,16 +1,15 @@
 // The bytes that the packets of one message carry.
 ghost use Rattle.std.specs.Borrow.{sem};
 ghost use Rattle.std.specs.Prelude.{◌≡◌, ℕ, ◌+◌, ◌^◌, ◌<◌, ◌≤◌, [], ◌∷◌, true, false, None, Some, Err, length, take, IfErr, IfOk, IfSome, IsTrue, MatchResult, OnOk, is_ok, if◌then◌else◌};
-ghost use Rattle.tds_packet.specs.declared.fault.Stop.{Stop};
-ghost use Rattle.tds_packet.specs.Payloads.{IsOnSame, IsSound, RestsPayload, buffered, seen};
+ghost use Rattle.tds_packet.specs.Payloads.{AnswersAgain, CutsFill, IsBegun, IsGoing, IsOnSame, IsSound, LeavesPayload, LendsPiece, RestsPayload, TakesOrEnds, buffered, further, seen};
 ghost use Rattle.tds_packet.specs.Reads.{IsOfPackets};
-ghost use Rattle.tds_packet.specs.Seen.{Ends, IsBetween, IsNotOver, IsOver, Takes, began_at, begun};
+ghost use Rattle.tds_packet.specs.Seen.{IsBetween, IsNotOver, IsOver, Takes, began_at};
 
 use crate::counted::Counted;
 use crate::fault::{Fault, Place, Stop};
 use crate::packet::read_packet;
 use std::io::Read;
-use tds_meter::Area;
+use tds_meter::{Area, GREATEST_MAX_WIRE, GREATEST_PACKET_SIZE, LEAST_PACKET_SIZE};
 
 /// The payload of one message: the bodies of its packets, joined. A packet is read only when a byte
 /// is asked for, or the end, and the packets before it are used up and none of them was the last;
@@ -35,17 +34,11 @@ impl<'a, R: Read> Payload<'a, R> {
     /// The message that comes next. The area's room is the greatest packet size, in bytes; the area
     /// is emptied. The limit counts the bytes of the wire, headers included.
     pub fn new(from: &'a mut Counted<R>, packet: &'a mut Area, max_wire: u64) -> Payload<'a, R>
-        requires room { (512 ≤ packet.old.room) × (packet.old.room ≤ 32767) }
-        requires limit { max_wire ≤ 72057594037927936 }
-        ensures sound { IsSound result }
+        requires room { (LEAST_PACKET_SIZE ≤ packet.old.room) × (packet.old.room ≤ GREATEST_PACKET_SIZE) }
+        requires limit { max_wire ≤ GREATEST_MAX_WIRE }
         ensures from { result.from.ghost_name ≡ from.entry.ghost_name }
         ensures packet { result.packet.ghost_name ≡ packet.entry.ghost_name }
-        ensures room { result.packet.now.room ≡ packet.old.room }
-        ensures limit { result.max_wire ≡ max_wire }
-        ensures place { result.place ≡ 0 }
-        ensures going { result.stopped ≡ None }
-        ensures seen { seen R.remaining result ≡ begun packet.old.room max_wire (R.remaining from.old.device) from.old.failures }
-        ensures between { IsBetween (seen R.remaining result) }
+        ensures begun { IsBegun R.remaining result from.old packet.old.room max_wire }
     {
         packet.clear();
         Payload {
@@ -76,20 +69,15 @@ impl<'a, R: Read> Payload<'a, R> {
 
     // Reads a packet.
     fn advance(&mut self) -> Result<(), Stop>
-        requires sound { IsSound self.old }
+        requires going { IsGoing self.old }
         requires empty { self.old.at ≡ length self.old.packet.now.bytes }
         requires more { self.old.last ≡ false }
-        requires going { self.old.stopped ≡ None }
-        ensures sound { IsSound self.new }
-        ensures same { IsOnSame self.old self.new }
+        ensures payload { LeavesPayload self.old self.new result }
         ensures place { self.new.place ≡ self.old.place }
         ensures further { OnOk result (self.old.wire < self.new.wire) }
-        ensures going { OnOk result (self.new.stopped ≡ None) }
         ensures stopped { IfErr result (λ stop. self.new.stopped ≡ Some stop) }
         ensures fault { IfErr result (λ stop. IsOfPackets stop.fault) }
-        ensures gives { MatchResult result
-            (λ _. Takes (seen R.remaining self.old) (seen R.remaining self.new) [] 1)
-            (λ stop. Ends (seen R.remaining self.old) (seen R.remaining self.new) [] stop) }
+        ensures gives { TakesOrEnds R.remaining self.old self.new (λ _. []) result }
     {
         match read_packet(self.from, self.packet, self.max_wire, self.wire) {
             Ok(head) => {
@@ -114,19 +102,15 @@ impl<'a, R: Read> Payload<'a, R> {
     // Sees to it that a byte stands ready.
     fn ready(&mut self) -> Result<(), Stop>
         requires { IsSound self.old }
-        ensures sound { IsSound self.new }
-        ensures same { IsOnSame self.old self.new }
+        ensures payload { AnswersAgain self.old self.new result }
         ensures place { self.new.place ≡ self.old.place }
         ensures stands { OnOk result (self.new.at < length self.new.packet.now.bytes) }
-        ensures again { IfSome self.old.stopped (λ stop. (result ≡ Err stop) × (self.new ≡ self.old)) }
         ensures lazy { self.old.at < length self.old.packet.now.bytes → self.new.from.now ≡ self.old.from.now }
-        ensures stopped { IfErr result (λ stop. self.new.stopped ≡ Some stop) }
-        ensures going { OnOk result (self.new.stopped ≡ None) }
-        ensures gives { MatchResult result
-            (λ _. Takes (seen R.remaining self.old) (seen R.remaining self.new) [] 1)
-            (λ stop. Ends (seen R.remaining self.old) (seen R.remaining self.new) [] stop) }
-        ensures ended { IfErr result (λ stop. stop.fault ≡ Fault.MessageEnded → self.old.stopped ≡ None → (self.new.last ≡ true) × (self.new.at ≡ length self.new.packet.now.bytes)) }
-        ensures over { IfErr result (λ stop. stop.fault ≡ Fault.MessageEnded → self.old.stopped ≡ None → Takes (seen R.remaining self.old) (seen R.remaining (record self.new { stopped = None })) [] 1) }
+        ensures gives { TakesOrEnds R.remaining self.old self.new (λ _. []) result }
+        ensures ended { IfErr result (λ stop. stop.fault ≡ Fault.MessageEnded → self.old.stopped ≡ None →
+            (self.new.last ≡ true) × (self.new.at ≡ length self.new.packet.now.bytes)) }
+        ensures over { IfErr result (λ stop. stop.fault ≡ Fault.MessageEnded → self.old.stopped ≡ None →
+            Takes (seen R.remaining self.old) (seen R.remaining (record self.new { stopped = None })) [] 1) }
     {
         if let Some(stop) = self.stopped {
             return Err(stop);
@@ -148,16 +132,10 @@ impl<'a, R: Read> Payload<'a, R> {
     /// The next byte.
     pub fn next(&mut self) -> Result<u8, Stop>
         requires { IsSound self.old }
-        ensures sound { IsSound self.new }
-        ensures same { IsOnSame self.old self.new }
+        ensures payload { AnswersAgain self.old self.new result }
         ensures place { self.new.place ≡ (if is_ok result then self.old.place + 1 else self.old.place) }
-        ensures gives { MatchResult result
-            (λ byte. Takes (seen R.remaining self.old) (seen R.remaining self.new) (byte ∷ []) 1)
-            (λ stop. Ends (seen R.remaining self.old) (seen R.remaining self.new) [] stop) }
+        ensures gives { TakesOrEnds R.remaining self.old self.new (λ byte. byte ∷ []) result }
         ensures between { OnOk result (IsBetween (seen R.remaining self.new)) }
-        ensures again { IfSome self.old.stopped (λ stop. (result ≡ Err stop) × (self.new ≡ self.old)) }
-        ensures stopped { IfErr result (λ stop. self.new.stopped ≡ Some stop) }
-        ensures going { OnOk result (self.new.stopped ≡ None) }
         ensures lazy { self.old.at < length self.old.packet.now.bytes → self.new.from.now ≡ self.old.from.now }
     {
         self.ready()?;
@@ -166,15 +144,11 @@ impl<'a, R: Read> Payload<'a, R> {
 
     // Hands out a byte that stands ready.
     fn take(&mut self) -> u8
-        requires sound { IsSound self.old }
+        requires going { IsGoing self.old }
         requires stands { self.old.at < length self.old.packet.now.bytes }
-        requires going { self.old.stopped ≡ None }
-        ensures sound { IsSound self.new }
-        ensures same { IsOnSame self.old self.new }
-        ensures place { self.new.place ≡ self.old.place + 1 }
+        ensures going { IsGoing self.new }
+        ensures rest { self.new ≡ further self.old 1 }
         ensures gives { Takes (seen R.remaining self.old) (seen R.remaining self.new) (result ∷ []) 1 }
-        ensures going { self.new.stopped ≡ None }
-        ensures from { self.new.from.now ≡ self.old.from.now }
     {
         let byte = self.packet.bytes()[self.at];
         self.at += 1;
@@ -186,16 +160,11 @@ impl<'a, R: Read> Payload<'a, R> {
     /// call at the place where it began, and none of its bytes counts as handed out.
     pub fn fill(&mut self, to: &mut [u8]) -> Result<(), Stop>
         requires { IsSound self.old }
-        ensures sound { IsSound self.new }
-        ensures same { IsOnSame self.old self.new }
+        ensures payload { AnswersAgain self.old self.new result }
         ensures place { self.new.place ≡ (if is_ok result then self.old.place + length to.new else self.old.place) }
         ensures all { OnOk result (Takes (seen R.remaining self.old) (seen R.remaining self.new) to.new (length to.new)) }
         ensures between { OnOk result (IsBetween (seen R.remaining self.new)) }
-        ensures part { IfErr result (λ stop. self.old.stopped ≡ None →
-            (n : ℕ) × (own : Stop) × (n < length to.new) × Ends (seen R.remaining self.old) (seen R.remaining self.new) (take n to.new) own × (stop ≡ began_at self.old.place own)) }
-        ensures again { IfSome self.old.stopped (λ stop. (result ≡ Err stop) × (self.new ≡ self.old)) }
-        ensures stopped { IfErr result (λ stop. self.new.stopped ≡ Some stop) }
-        ensures going { OnOk result (self.new.stopped ≡ None) }
+        ensures part { IfErr result (λ stop. self.old.stopped ≡ None → CutsFill R.remaining self.old self.new to.new stop) }
     {
         if let Some(stop) = self.stopped {
             return Err(stop);
@@ -221,10 +190,6 @@ impl<'a, R: Read> Payload<'a, R> {
         requires stopped { self.old.stopped ≡ Some stop }
         requires start { start ≤ self.old.place }
         ensures sound { IsSound self.new }
-        ensures same { IsOnSame self.old self.new }
-        ensures place { self.new.place ≡ start }
-        ensures from { self.new.from.now ≡ self.old.from.now }
-        ensures stopped { self.new.stopped ≡ Some result }
         ensures rest { self.new ≡ record self.old { place = start; stopped = Some result } }
         ensures value { result ≡ began_at start stop }
     {
@@ -245,20 +210,14 @@ impl<'a, R: Read> Payload<'a, R> {
     /// Whether every byte was handed out, and the last packet is among those read.
     pub fn at_end(&mut self) -> Result<bool, Stop>
         requires { IsSound self.old }
-        ensures sound { IsSound self.new }
-        ensures same { IsOnSame self.old self.new }
+        ensures payload { AnswersAgain self.old self.new result }
         ensures place { self.new.place ≡ self.old.place }
-        ensures gives { MatchResult result
-            (λ _. Takes (seen R.remaining self.old) (seen R.remaining self.new) [] 1)
-            (λ stop. Ends (seen R.remaining self.old) (seen R.remaining self.new) [] stop) }
+        ensures gives { TakesOrEnds R.remaining self.old self.new (λ _. []) result }
         ensures between { OnOk result (IsBetween (seen R.remaining self.new)) }
         ensures over { IfOk result (λ end. IsTrue end → IsOver (seen R.remaining self.new)) }
-        ensures lies { IfOk result (λ end. end ≡ false → 0 < length (buffered self.new)) }
-        ensures goes_on { IfErr result (λ stop. self.old.stopped ≡ None → stop.fault ≡ Fault.MessageEnded → ⊥) }
         ensures more { IfOk result (λ end. end ≡ false → IsNotOver (seen R.remaining self.new)) }
-        ensures again { IfSome self.old.stopped (λ stop. (result ≡ Err stop) × (self.new ≡ self.old)) }
-        ensures stopped { IfErr result (λ stop. self.new.stopped ≡ Some stop) }
-        ensures going { OnOk result (self.new.stopped ≡ None) }
+        ensures ready { IfOk result (λ end. end ≡ false → 0 < length (buffered self.new)) }
+        ensures goes_on { IfErr result (λ stop. self.old.stopped ≡ None → stop.fault ≡ Fault.MessageEnded → ⊥) }
     {
         if let Some(stop) = self.stopped {
             return Err(stop);
@@ -281,12 +240,7 @@ impl<'a, R: Read> Payload<'a, R> {
         requires some { 0 < max }
         ensures len { IfOk result (λ bytes. (0 < length bytes.now) × (length bytes.now ≤ max)) }
         ensures* after { sem 𝓛 (RestsPayload R.row self.entry (λ new.
-            IsSound new × IsOnSame self.old new
-            × MatchResult result
-            (λ bytes. Takes (seen R.remaining self.old) (seen R.remaining new) bytes.now 1 × IsBetween (seen R.remaining new)
-            × (new.place ≡ self.old.place + length bytes.now) × (new.stopped ≡ None))
-            (λ stop. Ends (seen R.remaining self.old) (seen R.remaining new) [] stop × (new.place ≡ self.old.place) × (new.stopped ≡ Some stop))
-            × IfSome self.old.stopped (λ stop. (result ≡ Err stop) × (new ≡ self.old)))) }
+            LendsPiece R.remaining self.old new (λ bytes. bytes.now) result)) }
     {
         self.ready()?;
         let start = self.at;
@@ -298,22 +252,19 @@ impl<'a, R: Read> Payload<'a, R> {
     }
 
     /// The bytes that come next, as far as they lie in the packet area already. It reads nothing.
-    pub fn lying(&self) -> &[u8]
+    pub fn buffered(&self) -> &[u8]
         requires { IsSound self.now }
         ensures { result.now ≡ buffered self.now }
     {
         &self.packet.bytes()[self.at..]
     }
 
-    /// Passes over the first `n` of the bytes that lie in the packet area. It reads nothing.
-    pub fn pass(&mut self, n: usize)
+    /// Hands out the first `n` of the bytes that lie in the packet area. It reads nothing.
+    pub fn consume(&mut self, n: usize)
         requires sound { IsSound self.old }
-        requires lie { n ≤ length (buffered self.old) }
+        requires within { n ≤ length (buffered self.old) }
         ensures sound { IsSound self.new }
-        ensures same { IsOnSame self.old self.new }
-        ensures place { self.new.place ≡ self.old.place + n }
-        ensures stopped { self.new.stopped ≡ self.old.stopped }
-        ensures from { self.new.from.now ≡ self.old.from.now }
+        ensures rest { self.new ≡ further self.old n }
         ensures gives { Takes (seen R.remaining self.old) (seen R.remaining self.new) (take n (buffered self.old)) 0 }
         ensures between { self.old.stopped ≡ None → IsBetween (seen R.remaining self.new) }
     {

@@ -96,7 +96,7 @@ fn stays_stopped<R: Read>(payload: &mut Payload<'_, R>, stop: Stop) -> bool
     payload.next() == Err(stop)
         && payload.at_end() == Err(stop)
         && payload.fill(&mut [0; 2]) == Err(stop)
-        && payload.lying().is_empty()
+        && payload.buffered().is_empty()
         && payload.piece(1).err() == Some(stop)
 }
 
@@ -309,9 +309,9 @@ fn a_piece_lies_at_the_front(rt: HostRuntime) -> Result<(), Fail> {
         Err(_) => 0,
     };
     assert_eq!(rt; payload.place(), n as u64);
-    assert_eq!(rt; Some(payload.lying()), PACKET[8..].get(n..));
-    let more = payload.lying().len();
-    payload.pass(more);
+    assert_eq!(rt; Some(payload.buffered()), PACKET[8..].get(n..));
+    let more = payload.buffered().len();
+    payload.consume(more);
     assert_eq!(rt; payload.place(), 31);
     assert_eq!(rt; payload.at_end(), Ok(true));
     Ok(())

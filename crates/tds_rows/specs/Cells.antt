@@ -42,10 +42,12 @@ pub data Shape : Type 0 where
   CountedShape : Shape
   LongShape : Conversion → Reach → Shape
 
+-- the shape of a scalar kind, by the length that its values have without one before them
 abbrev pub shape_of_length : Option ℕ → Shape
 shape_of_length (Some n) = FixedShape n
 shape_of_length None = CountedShape
 
+-- the shape of a kind: how its values are spelt
 abbrev pub shape : Charset → Kind → Shape
 shape charset (Binary r) = LongShape HexDigits r
 shape charset (Narrow r) = LongShape (narrow charset) r
@@ -128,6 +130,7 @@ cell_start kind CountedShape = ScalarLength kind
 cell_start kind (LongShape c Short) = ShortLength c
 cell_start kind (LongShape c Chunked) = Total c
 
+-- how many bytes the next element of a cell has; 0 where nothing follows
 abbrev pub cell_size : CellPart → ℕ
 cell_size (ScalarBytes kind n) = n
 cell_size (ScalarLength kind) = 1
@@ -164,6 +167,7 @@ end_of_chunks column c total content =
 abbrev pub chunk_fault : ℕ → Conversion → Option ℕ → List ℕ → ℕ → Option Fault
 chunk_fault column c total content n = if n == 0 then end_of_chunks column c total content else unless (within_total total (length content + n)) (PlpLength column)
 
+-- the first fault of an element of a cell
 abbrev pub cell_fault : ℕ → CellPart → List ℕ → Option Fault
 cell_fault column (ScalarBytes kind n) element = unless (is_ok (read_of kind element)) (BadValue column)
 cell_fault column (ScalarLength kind) element = unless ((slice_index element 0 == 0) || is_length_allowed kind (slice_index element 0)) (BadValueLength column)
@@ -174,13 +178,16 @@ cell_fault column (ChunkLength c total content) element = chunk_fault column c t
 cell_fault column (ChunkData c total left content) element = unless (is_begun c (content ++ element)) (BadText column)
 cell_fault column (WholeCell cell) element = None
 
+-- a value was read
 abbrev pub value_part : Result ScalarValue ValueFault → CellPart
 value_part (Ok v) = WholeCell (ScalarCell v)
 value_part (Err fault) = WholeCell Null
 
+-- a total, unless it stands for an unknown one
 abbrev pub known_total : ℕ → Option ℕ
 known_total n = if n == unknown_total then None else Some n
 
+-- what stands after an element of a cell
 abbrev pub cell_add : CellPart → List ℕ → CellPart
 cell_add (ScalarBytes kind n) element = value_part (read_of kind element)
 cell_add (ScalarLength kind) element = if slice_index element 0 == 0 then WholeCell Null else ScalarBytes kind (slice_index element 0)
@@ -191,6 +198,7 @@ cell_add (ChunkLength c total content) element = if little element == 0 then Who
 cell_add (ChunkData c total left content) element = if left == 0 then ChunkLength c total (content ++ element) else ChunkData c total (left - 1) (content ++ element)
 cell_add (WholeCell cell) element = WholeCell cell
 
+-- the fault of a message that ends here
 abbrev pub cell_end : CellPart → Option Fault
 cell_end (WholeCell cell) = None
 cell_end part = Some MessageEnded

@@ -68,27 +68,32 @@ abbrev pub with_cell : Charset → List Cell → List (Column × Bool) → CellP
 with_cell charset cells ks (WholeCell c) = next_cell charset (cells ++ c ∷ []) ks
 with_cell charset cells ks part = InCell cells part ks
 
--- before the first element of a ROW, and of an NBCROW
+-- before the first element of a ROW
 abbrev pub row_start : Charset → List Column → RowPart
 row_start charset columns = next_cell charset [] (marked columns (λ k. false) 0)
 
+-- before the first element of an NBCROW: its bitmap
 abbrev pub nbc_row_start : List Column → RowPart
 nbc_row_start columns = Bitmap columns
 
+-- how many bytes the next element of a row has; 0 where nothing follows
 abbrev pub row_size : RowPart → ℕ
 row_size (Bitmap columns) = bitmap_length (length columns)
 row_size (InCell cells part ks) = cell_size part
 row_size (WholeRow cells) = 0
 
+-- the first fault of an element of a row
 abbrev pub row_fault : RowPart → List ℕ → Option Fault
 row_fault (InCell cells part ks) element = cell_fault (length cells) part element
 row_fault part element = None
 
+-- what stands after an element of a row
 abbrev pub row_add : Charset → RowPart → List ℕ → RowPart
 row_add charset (Bitmap columns) element = next_cell charset [] (marked columns (bit element) 0)
 row_add charset (InCell cells part ks) element = with_cell charset cells ks (cell_add part element)
 row_add charset (WholeRow cells) element = WholeRow cells
 
+-- the fault of a message that ends here
 abbrev pub row_end : RowPart → Option Fault
 row_end (WholeRow cells) = None
 row_end part = Some MessageEnded

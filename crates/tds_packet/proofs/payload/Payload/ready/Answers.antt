@@ -48,13 +48,13 @@ loop-self-preserved g c =
     let b = seen g.R.Read.remaining c.loop-self.self in
     let d = seen g.R.Read.remaining c.advance.new.self in
     record {
-      sound = c.in_ok-advance.ensures.sound;
+      sound = c.in_ok-advance.ensures.payload.sound;
       same = search rules;
       lazy = λ h.
           let same = ap (λ p. p.at) (c.loop-self.invariant.lazy h) in
           let len = ap (λ p. length p.packet.now.bytes) (c.loop-self.invariant.lazy h) in
           absurd (omega (arith, same, len, c.loop-self-test.true, c.len.ensures));
       place = c.in_ok-advance.ensures.place ∙ c.loop-self.invariant.place;
-      going = c.in_ok-advance.ensures.going;
+      going = c.in_ok-advance.ensures.payload.going;
       gives = Takes-trans a b d [] [] 1 1 (le_refl 1) c.loop-self.invariant.gives c.in_ok-advance.ensures.gives;
     }

@@ -6,4 +6,4 @@ pub returns-clause-gives : goal.returns-clause-gives
 returns-clause-gives g c =
     let s = c.args.self.now in
     let b : drop s.at s.packet.now.bytes ≡ slice_index s.packet.now.bytes s.at ∷ drop (s.at + 1) s.packet.now.bytes = rw add-one (drop-cons s.packet.now.bytes s.at 0 c.requires.stands) in
-    rw c.bytes.ensures.value (hands_out _ _ _ _ _ _ _ _ (slice_index s.packet.now.bytes s.at ∷ []) (drop (s.at + 1) s.packet.now.bytes) _ _ 1 c.requires.going b refl)
+    rw c.bytes.ensures.value (hands_out _ _ _ _ _ _ _ _ (slice_index s.packet.now.bytes s.at ∷ []) (drop (s.at + 1) s.packet.now.bytes) _ _ 1 c.requires.going.going b refl)

@@ -1,0 +1,87 @@
+-- What is read inside a greater grammar.
+use Rattle.std.proofs.Common.{◌≡◌, ◌∙◌, inl, inr, ℕ, ◌+◌, ◌<◌, Bool, List, [], ◌∷◌, ◌++◌, length, sym, ap, subst, arith, append_assoc, append-nil}
+use Rattle.std.specs.List.{concat}
+use Rattle.tds_packet.specs.declared.fault.Fault.{Fault}
+use Rattle.tds_packet.specs.declared.fault.Stop.{Stop}
+use Rattle.tds_packet.specs.Elements.{Grammar, Inside, IsNext, Leads, Spelt}
+use Rattle.tds_packet.specs.Seen.{Seen}
+use Rattle.tds_packet.specs.Reading.{CutsNext, Reads, RefusesNext, StopsReading, IsCutStop}
+use Rattle.tds_packet.proofs.ElementLaws.{Inside-Spelt, Spelt-append, Spelt-none, Spelt-one}
+
+module _ {S T : Type 0} (small : Grammar S Fault) (big : Grammar T Fault) (lift : S → T) (is : Inside small big lift) where
+  -- an element of the smaller grammar is one of the greater
+  pub next_inside : (s : S) (element : List ℕ) → 0 < small.size s → IsNext small s element → IsNext big (lift s) element
+  next_inside s element some n = record { some = n.some; whole = n.whole ∙ sym (is.size s some); free = is.fault s element some ∙ n.free }
+
+  -- what is read by the smaller grammar is read by the greater
+  abbrev pub reads_inside : (from : S) (a b : Seen) (to : S) → Reads small from a b to → Reads big (lift from) a b (lift to)
+  reads_inside from a b to r = record { bytes = r.bytes; spelt = Inside-Spelt small big lift is from r.bytes to r.spelt; takes = r.takes }
+
+  -- where the smaller grammar's reading stops, so does the greater one's
+  pub stops_inside : (from : S) (a b : Seen) (place : ℕ) (at : S) (stop : Stop) → big.end_fault (lift at) ≡ small.end_fault at → StopsReading small from a b place at stop → StopsReading big (lift from) a b place (lift at) stop
+  stops_inside from a b place at stop end r = record {
+    bytes = r.bytes;
+    spelt = Inside-Spelt small big lift is from r.bytes at r.spelt;
+    cause = elim r.cause [
+      | inl x ↦ inl (
+        record {
+          element = x.0.element;
+          ahead = x.0.ahead;
+          some = x.0.some;
+          whole = x.0.whole ∙ sym (is.size at (some_size x.0));
+          first = is.fault at x.0.element (some_size x.0) ∙ x.0.first;
+          takes = x.0.takes;
+          between = x.0.between;
+        },
+        x.1,
+      )
+      | inr x ↦ inr (record {
+        part = x.part;
+        cut = subst (λ n. length x.part < n) (sym (is.size at (cut_size x))) x.cut;
+        own = x.own;
+        ends = x.ends;
+        stop_is = subst (λ f. IsCutStop (place + length r.bytes) f x.own stop) (sym end) x.stop_is;
+      })
+    ];
+  }
+    where
+      some_size : RefusesNext small a b r.bytes at stop.fault → 0 < small.size at
+      some_size x = let s : 0 < length x.element = x.some in let w : length x.element ≡ small.size at = x.whole in omega arith
+
+      cut_size : CutsNext small a b r.bytes place at stop → 0 < small.size at
+      cut_size x = let c : length x.part < small.size at = x.cut in omega arith
+
+  -- the last element of what was read
+  pub record LastInside (from : S) (bytes : List ℕ) (to : S) : Type 0 where
+    pub at : S
+    pub front : List ℕ
+    pub element : List ℕ
+    pub joined : front ++ element ≡ bytes
+    pub size : 0 < small.size at
+    pub spelt : Spelt big (lift from) front (lift at)
+    pub next : IsNext big (lift at) element
+    pub to_is : big.add (lift at) element ≡ lift to
+
+  last_of : (from s : S) (front : List ℕ) (e : List ℕ) (es : List (List ℕ)) (to : S) → Spelt small from front s → Leads small s (e ∷ es) to → LastInside from (front ++ concat (e ∷ es)) to
+  last_of from s front e [] to spelt leads =
+      let some : 0 < small.size s = (let a : 0 < length e = leads.0.some in let w : length e ≡ small.size s = leads.0.whole in omega arith) in
+      record {
+        at = s;
+        front = front;
+        element = e;
+        joined = ap (λ l. front ++ l) (sym (append-nil e));
+        size = some;
+        spelt = Inside-Spelt small big lift is from front s spelt;
+        next = next_inside s e some leads.0;
+        to_is = is.add s e some ∙ ap lift leads.1;
+      }
+  last_of from s front e (f ∷ es) to spelt leads =
+      subst (λ l. LastInside from l to) (append_assoc front e (concat (f ∷ es)))
+      (last_of from (small.add s e) (front ++ e) f es to (Spelt-append small from front s e (small.add s e) spelt (Spelt-one small s e leads.0)) leads.1)
+
+  last_in : (from : S) (bytes : List ℕ) (es : List (List ℕ)) (to : S) → concat es ≡ bytes → Leads small from es to → 0 < length bytes → LastInside from bytes to
+  last_in from bytes [] to joined leads some = absurd (let z : length bytes ≡ 0 = ap length (sym joined) in omega arith)
+  last_in from bytes (e ∷ es) to joined leads some = subst (λ l. LastInside from l to) joined (last_of from from [] e es to (Spelt-none small from) leads)
+
+  pub last_inside : (from : S) (bytes : List ℕ) (to : S) → Spelt small from bytes to → 0 < length bytes → LastInside from bytes to
+  last_inside from bytes to spelt some = last_in from bytes spelt.elements to spelt.joined spelt.leads some
