@@ -18,7 +18,7 @@ use Rattle.tds_packet.specs.declared.fault.Stop.{Stop}
 use Rattle.tds_packet.specs.Seen.{Seen, Takes}
 use Rattle.tds_packet.specs.Reading.{StopsReading}
 use Rattle.tds_packet.proofs.Choices.{choose, choose_false, choose_true}
-use Rattle.tds_columns.specs.Description.{BeforeCount, ColumnHead, ColumnInfo, Column, ColumnPlace, DescriptionPart, InColumn, NameCount, NameUnits, NoDescription, WholeDescription, count_fault, add_described, described_fault, description, description_bytes, described_end, described_size, first_of_two, span, too_long, type_fault, with_column, with_count, with_kind, with_type, with_units}
+use Rattle.tds_columns.specs.Description.{BeforeCount, ColumnHead, ColumnInfo, Column, ColumnPlace, DescriptionPart, InColumn, NameCount, NameUnits, NoDescription, WholeDescription, count_fault, add_described, described_fault, description, description_bytes, described_end, described_size, first_of_two, span, too_long, type_fault, with_column, with_count, with_kind, with_type, with_units, head_fault}
 use Rattle.tds_columns.specs.Elements.{TakesInto, EndsInto}
 use Rattle.tds_columns.specs.Gather.{Describes, DescribesColumns, StopsDescribing}
 use Rattle.tds_columns.proofs.ColumnLaws.{fits_in}
@@ -177,10 +177,6 @@ info_refused room index byte rest count columns a b before after cut place bytes
 
 pub head_cut : (room count : ℕ) (columns : List Column) (a b : Seen) (before after : Space) (place : ℕ) (stop : Stop) → EndsInto a b before after place 7 stop → StopsDescribing room (InColumn before.bytes count columns ColumnHead) a b place before.peak after stop
 head_cut room count columns a b before after place stop e = description_cut room (InColumn before.bytes count columns ColumnHead) a b before after place 7 stop e refl refl refl refl
-
--- the fault of a head that ends with this type byte
-abbrev pub head_fault : ℕ → ℕ → ℕ → ℕ → ℕ → Option Fault
-head_fault room so_far byte index left = first_of_two (type_fault index byte (rest_length byte)) (too_long room so_far ((unwrap_or (rest_length byte) 0 + 1) + 8 * left))
 
 pub head_refused : (room index count byte left : ℕ) (columns : List Column) (a b : Seen) (before after cut : Space) (place : ℕ) (fault : Fault) → length columns ≡ index → left ≡ count - (index + 1) → TakesInto a b before after 7 → byte ≡ slice_index after.bytes (length before.bytes + 6)
     → head_fault room (length before.bytes + 7) byte index left ≡ Some fault → cut ≡ holding after (take (length before.bytes) after.bytes)

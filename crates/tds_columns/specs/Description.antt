@@ -4,6 +4,7 @@ use Rattle.tds_values.specs.declared.kind.Kind.{Kind}
 use Rattle.tds_values.specs.Numbers.{little}
 use Rattle.tds_values.specs.TypeInfo.{IsTypeInfo, rest_length, kind_of}
 use Rattle.tds_packet.specs.Elements.{Grammar}
+use Rattle.tds_columns.specs.declared.type_info.TheConstants.{FLT4, FLT8, FLT_N, TEXT, NTEXT, IMAGE, SS_VARIANT, UDT, XML}
 use Rattle.tds_packet.specs.declared.fault.RefusedKind.{RefusedKind}
 use Rattle.tds_packet.specs.declared.fault.RefusedKind.TheVariants.{Flt4, Flt8, FltN, Text, NText, Image, SsVariant, Udt, Xml}
 use Rattle.tds_packet.specs.declared.fault.Fault.{Fault}
@@ -42,15 +43,15 @@ pub record SpellsDescription (room : ℕ) (columns : List Column) (bytes : List 
 -- the kinds that are refused by name
 unfoldable pub refused_kind : ℕ → Option RefusedKind
 refused_kind byte =
-    if byte == 0x3B then Some Flt4
-    else if byte == 0x3E then Some Flt8
-    else if byte == 0x6D then Some FltN
-    else if byte == 0x23 then Some Text
-    else if byte == 0x63 then Some NText
-    else if byte == 0x22 then Some Image
-    else if byte == 0x62 then Some SsVariant
-    else if byte == 0xF0 then Some Udt
-    else if byte == 0xF1 then Some Xml
+    if byte == FLT4 then Some Flt4
+    else if byte == FLT8 then Some Flt8
+    else if byte == FLT_N then Some FltN
+    else if byte == TEXT then Some Text
+    else if byte == NTEXT then Some NText
+    else if byte == IMAGE then Some Image
+    else if byte == SS_VARIANT then Some SsVariant
+    else if byte == UDT then Some Udt
+    else if byte == XML then Some Xml
     else None
 
 -- where a column is read: before its UserType, its further type information, the count of its name, or its name
@@ -110,16 +111,16 @@ add_described (InColumn bytes count columns place) element = with_element bytes 
 add_described d element = d
 
 -- how many bytes the next element of a column has
-abbrev pub column_size : ColumnPlace → ℕ
-column_size ColumnHead = 7
-column_size (ColumnInfo byte) = unwrap_or (rest_length byte) 0
-column_size (NameCount kind) = 1
-column_size (NameUnits kind n) = n
+abbrev pub place_size : ColumnPlace → ℕ
+place_size ColumnHead = 7
+place_size (ColumnInfo byte) = unwrap_or (rest_length byte) 0
+place_size (NameCount kind) = 1
+place_size (NameUnits kind n) = n
 
 -- how many bytes the next element has; 0 where nothing follows
 abbrev pub described_size : DescriptionPart → ℕ
 described_size BeforeCount = 2
-described_size (InColumn bytes count columns place) = column_size place
+described_size (InColumn bytes count columns place) = place_size place
 described_size d = 0
 
 -- A description is too long where its bytes so far and those that must follow at least pass the room: these of this column, and 8 of each that is not begun.
@@ -141,9 +142,14 @@ abbrev pub first_of_two : {A : Type 0} → Option A → Option A → Option A
 first_of_two (Some x) y = Some x
 first_of_two None y = y
 
+-- the first fault of a column's head, which ends so many bytes behind the description's beginning, with this type byte; so many columns follow
+abbrev pub head_fault : (room so_far byte index left : ℕ) → Option Fault
+head_fault room so_far byte index left =
+    first_of_two (type_fault index byte (rest_length byte)) (too_long room so_far ((unwrap_or (rest_length byte) 0 + 1) + 8 * left))
+
 -- the first fault of an element of a column
 abbrev pub column_fault : ℕ → List ℕ → ℕ → List Column → ColumnPlace → List ℕ → Option Fault
-column_fault room bytes count columns ColumnHead element = first_of_two (type_fault (length columns) (slice_index element 6) (rest_length (slice_index element 6))) (too_long room (length bytes + 7) ((unwrap_or (rest_length (slice_index element 6)) 0 + 1) + 8 * (count - (length columns + 1))))
+column_fault room bytes count columns ColumnHead element = head_fault room (length bytes + 7) (slice_index element 6) (length columns) (count - (length columns + 1))
 column_fault room bytes count columns (ColumnInfo byte) element = if is_some (kind_of (byte ∷ element)) then None else Some (BadTypeInfo (length columns))
 column_fault room bytes count columns (NameCount kind) element = too_long room (length bytes + 1) (2 * slice_index element 0 + 8 * (count - (length columns + 1)))
 column_fault room bytes count columns (NameUnits kind n) element = None

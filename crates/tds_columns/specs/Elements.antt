@@ -1,7 +1,9 @@
 -- What reading an element to the end of an area does.
-use Rattle.std.specs.Prelude.{◌≡◌, ℕ, ◌+◌, ◌<◌, ◌≤◌, List, length, max}
+use Rattle.std.specs.Prelude.{◌≡◌, ℕ, ◌+◌, ◌<◌, ◌≤◌, List, length, max, Option, None, Result, MatchResult}
 use Rattle.tds_meter.specs.Space.{Space, appended}
 use Rattle.tds_packet.specs.declared.fault.Stop.{Stop}
+use Rattle.tds_packet.specs.declared.payload.Payload.{Payload}
+use Rattle.tds_packet.specs.Payloads.{seen}
 use Rattle.tds_packet.specs.Seen.{Seen, Takes, Ends, IsBetween, began_at}
 
 -- So many bytes were read, and stand at the end of the area.
@@ -21,3 +23,13 @@ pub record EndsInto (old new : Seen) (before after : Space) (place n : ℕ) (sto
   pub stop_is : stop ≡ began_at place own
   pub stands : after.bytes ≡ before.bytes
   pub peak : after.peak ≤ max before.peak (length before.bytes + n)
+
+-- The area has what it had, though it may have held n bytes more for a moment.
+abbrev pub KeepsBytes : Space → Space → ℕ → Type 0
+KeepsBytes before after n = (after.bytes ≡ before.bytes) × (after.peak ≤ max before.peak (length before.bytes + n))
+
+-- So many bytes were read to the end of an area; or fewer, where the payload had not stopped before.
+abbrev pub ElementRead : {R U : Type 0} → (R → Option (List ℕ)) → (old new : Payload R) → (before after : Space) → ℕ → Result U Stop → Type 0
+ElementRead remaining old new before after n result = MatchResult result
+    (λ _. TakesInto (seen remaining old) (seen remaining new) before after n)
+    (λ stop. old.stopped ≡ None → EndsInto (seen remaining old) (seen remaining new) before after old.place n stop)

@@ -1,8 +1,10 @@
 -- What reading a description from a payload does, on success and on each stop.
-use Rattle.std.specs.Prelude.{◌≡◌, ℕ, ◌+◌, ◌*◌, ◌<◌, ◌≤◌, List, [], ◌∷◌, length, max}
+use Rattle.std.specs.Prelude.{◌≡◌, ℕ, ◌+◌, ◌*◌, ◌<◌, ◌≤◌, List, [], ◌∷◌, length, max, Option, Some, None, Result, MatchResult}
 use Rattle.tds_values.specs.declared.kind.Kind.{Kind}
 use Rattle.tds_meter.specs.Space.{Space}
 use Rattle.tds_packet.specs.declared.fault.Stop.{Stop}
+use Rattle.tds_packet.specs.declared.payload.Payload.{Payload}
+use Rattle.tds_packet.specs.Payloads.{seen}
 use Rattle.tds_packet.specs.Seen.{Seen, Takes}
 use Rattle.tds_packet.specs.Reading.{Reads, StopsReading}
 use Rattle.tds_columns.specs.declared.metadata.Described.{Described}
@@ -83,3 +85,48 @@ GatherGives room old new place place' peak area NoMetadata = Describes room Befo
 pub record GatherStops (room : ℕ) (old new : Seen) (place peak : ℕ) (area : Space) (stop : Stop) : Type 0 where
   pub describing : StopsDescribing room BeforeCount old new place peak area stop
   pub begins : area.bytes ≡ describing.stops.bytes
+
+-- ---- what each call answers, over a payload and an area before and after it
+
+-- A Count was read into the area, or the reading stopped there.
+abbrev pub CountRead : {R : Type 0} → (R → Option (List ℕ)) → (old new : Payload R) → (before after : Space) → Result Described Stop → Type 0
+CountRead remaining old new before after result = MatchResult result
+    (λ described. DescribesCount before.room (seen remaining old) (seen remaining new) old.place new.place before.peak after described)
+    (λ stop. old.stopped ≡ None →
+    StopsDescribing before.room BeforeCount (seen remaining old) (seen remaining new) old.place before.peak after stop)
+
+-- What follows the type byte of a column was read into the area, or the reading stopped there.
+abbrev pub InfoRead : {R U : Type 0} → (R → Option (List ℕ)) → (index byte : ℕ) → (old new : Payload R) → (before after : Space) → Result U Stop → Type 0
+InfoRead remaining index byte old new before after result = MatchResult result
+    (λ _. (count : ℕ) → DescribesInfo before.room count index byte before.bytes (seen remaining old) (seen remaining new) old.place new.place before.peak after)
+    (λ stop. (count : ℕ) → StopsInColumn before.room count index (ColumnInfo byte) before.bytes (seen remaining old) (seen remaining new) old.place before.peak after stop)
+
+-- The head of a column and its further type information were read into the area, or the reading stopped there.
+abbrev pub TypeRead : {R U : Type 0} → (R → Option (List ℕ)) → (count index : ℕ) → (old new : Payload R) → (before after : Space) → Result U Stop → Type 0
+TypeRead remaining count index old new before after result = MatchResult result
+    (λ _. DescribesType before.room count index before.bytes (seen remaining old) (seen remaining new) old.place new.place before.peak after)
+    (λ stop. StopsInColumn before.room count index ColumnHead before.bytes (seen remaining old) (seen remaining new) old.place before.peak after stop)
+
+-- The name of a column was read into the area, or the reading stopped there.
+abbrev pub NameRead : {R U : Type 0} → (R → Option (List ℕ)) → (count index : ℕ) → (old new : Payload R) → (before after : Space) → Result U Stop → Type 0
+NameRead remaining count index old new before after result = MatchResult result
+    (λ _. DescribesName before.room count index before.bytes (seen remaining old) (seen remaining new) old.place new.place before.peak after)
+    (λ stop. (kind : Kind) → StopsInColumn before.room count index (NameCount kind) before.bytes (seen remaining old) (seen remaining new) old.place before.peak after stop)
+
+-- A column was read into the area, or the reading stopped in it.
+abbrev pub ColumnRead : {R U : Type 0} → (R → Option (List ℕ)) → (count index : ℕ) → (old new : Payload R) → (before after : Space) → Result U Stop → Type 0
+ColumnRead remaining count index old new before after result = MatchResult result
+    (λ _. DescribesColumn before.room count index before.bytes (seen remaining old) (seen remaining new) old.place new.place before.peak after)
+    (λ stop. StopsInColumn before.room count index ColumnHead before.bytes (seen remaining old) (seen remaining new) old.place before.peak after stop)
+
+-- All columns were read into the area behind Count, or the reading stopped in one.
+abbrev pub ColumnsRead : {R U : Type 0} → (R → Option (List ℕ)) → (count : ℕ) → (old new : Payload R) → (before after : Space) → Result U Stop → Type 0
+ColumnsRead remaining count old new before after result = MatchResult result
+    (λ _. DescribesColumns before.room count before.bytes (seen remaining old) (seen remaining new) old.place new.place before.peak after)
+    (λ stop. StopsDescribing before.room (InColumn before.bytes count [] ColumnHead) (seen remaining old) (seen remaining new) old.place before.peak after stop)
+
+-- A description was read into the area, or the reading stopped in it.
+abbrev pub DescriptionRead : {R : Type 0} → (R → Option (List ℕ)) → (old new : Payload R) → (before after : Space) → Result Described Stop → Type 0
+DescriptionRead remaining old new before after result = MatchResult result
+    (λ described. GatherGives before.room (seen remaining old) (seen remaining new) old.place new.place before.peak after described)
+    (λ stop. old.stopped ≡ None → GatherStops before.room (seen remaining old) (seen remaining new) old.place before.peak after stop)

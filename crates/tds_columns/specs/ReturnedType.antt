@@ -5,6 +5,8 @@ use Rattle.tds_values.specs.TypeInfo.{IsTypeInfo, rest_length, kind_of}
 use Rattle.tds_packet.specs.declared.fault.Fault.{Fault}
 use Rattle.tds_packet.specs.declared.fault.Fault.TheVariants.{MessageEnded, BadTypeInfo}
 use Rattle.tds_packet.specs.declared.fault.Stop.{Stop}
+use Rattle.tds_packet.specs.declared.payload.Payload.{Payload}
+use Rattle.tds_packet.specs.Payloads.{seen}
 use Rattle.tds_packet.specs.Elements.{Grammar}
 use Rattle.tds_packet.specs.Seen.{Seen, Takes, IsBetween}
 use Rattle.tds_packet.specs.Reading.{StopsReading}
@@ -67,6 +69,10 @@ pub record ReadsType (byte : ℕ) (old new : Seen) (place place' : ℕ) (kind : 
   pub info : IsTypeInfo kind (byte ∷ rest)
   pub takes : Takes old new rest (length rest)
   pub place_is : place' ≡ place + length rest
+
+-- The same, over a payload before and after it.
+abbrev pub TypeRead : {R : Type 0} → (R → Option (List ℕ)) → (old new : Payload R) → (byte : ℕ) → Kind → Type 0
+TypeRead remaining old new byte kind = ReadsType byte (seen remaining old) (seen remaining new) old.place new.place kind
 
 -- The reading of such a type stopped.
 pub record StopsType (old new : Seen) (place : ℕ) (stop : Stop) : Type 0 where

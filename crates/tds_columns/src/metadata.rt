@@ -1,12 +1,10 @@
 // Reading a description from a payload (MS-TDS, COLMETADATA).
-ghost use Rattle.std.specs.Prelude.{◌≡◌, ◌≢◌, ℕ, ◌+◌, ◌*◌, ◌-◌, ◌<◌, ◌≤◌, [], None, Some, Err, length, max, unwrap_or, IfSome, MatchResult, OnErr, OnOk};
+ghost use Rattle.std.specs.Prelude.{◌≡◌, ◌≢◌, ◌+◌, ◌*◌, ◌-◌, ◌<◌, ◌≤◌, [], Some, Err, length, max, IfSome, MatchResult, OnErr, OnOk};
 ghost use Rattle.tds_columns.specs.Description as spec;
-ghost use Rattle.tds_columns.specs.Description.{BeforeCount, ColumnHead, ColumnInfo, InColumn, NameCount};
-ghost use Rattle.tds_columns.specs.Gather.{DescribesColumn, DescribesColumns, DescribesCount, DescribesInfo, DescribesName, DescribesType, GatherGives, GatherStops, StopsDescribing, StopsInColumn};
+ghost use Rattle.tds_columns.specs.Gather.{ColumnRead, ColumnsRead, CountRead, DescriptionRead, InfoRead, NameRead, TypeRead};
 ghost use Rattle.tds_packet.specs.Elements.{AreBytes};
-ghost use Rattle.tds_packet.specs.Payloads.{IsOnSame, IsSound, seen};
+ghost use Rattle.tds_packet.specs.Payloads.{IsGoing, IsSound, LeavesPayload};
 ghost use Rattle.tds_values.specs.TypeInfo as info;
-ghost use Rattle.tds_values.specs.declared.kind.Kind.{Kind};
 
 use crate::element::take_into;
 use crate::type_info::{judge_type, kind_of};
@@ -26,6 +24,9 @@ pub enum Described {
 
 // A Count that says that there is no metadata.
 const NO_METADATA: u16 = 0xFFFF;
+
+// The bytes of Count.
+const COUNT: usize = 2;
 
 // The bytes of UserType, Flags and the type byte.
 const HEAD: usize = 7;
@@ -52,36 +53,30 @@ fn too_long(room: usize, so_far: usize, least: usize) -> Option<Fault>
 
 // The fault of a Count that isn't that of no metadata.
 fn judge_count(room: usize, count: u16) -> Option<Fault>
-    requires room { 2 ≤ room }
-    requires some { count ≢ 0xFFFF }
+    requires room { COUNT ≤ room }
+    requires some { count ≢ NO_METADATA }
     ensures { result ≡ spec.count_fault room count }
 {
     if count == 0 {
         Some(Fault::NoColumns)
     } else {
-        too_long(room, 2, LEAST_COLUMN * usize::from(count))
+        too_long(room, COUNT, LEAST_COLUMN * usize::from(count))
     }
 }
 
 // Reads Count.
 fn read_count<R: Read>(payload: &mut Payload<R>, area: &mut Area) -> Result<Described, Stop>
     requires sound { IsSound payload.old }
-    requires room { 2 ≤ area.old.room }
+    requires room { COUNT ≤ area.old.room }
     requires empty { area.old.bytes ≡ [] }
-    ensures sound { IsSound payload.new }
-    ensures same { IsOnSame payload.old payload.new }
-    ensures going { OnOk result (payload.new.stopped ≡ None) }
+    ensures payload { LeavesPayload payload.old payload.new result }
     ensures room { area.new.room ≡ area.old.room }
-    ensures gives { MatchResult result
-        (λ described. DescribesCount area.old.room (seen R.remaining payload.old) (seen R.remaining payload.new) payload.old.place payload.new.place area.old.peak area.new described)
-        (λ stop. payload.old.stopped ≡ None → StopsDescribing area.old.room BeforeCount (seen R.remaining payload.old) (seen R.remaining payload.new) payload.old.place area.old.peak area.new stop) }
+    ensures gives { CountRead R.remaining payload.old payload.new area.old area.new result }
     ensures again { IfSome payload.old.stopped (λ stop. (result ≡ Err stop) × (payload.new ≡ payload.old)) }
-    ensures kept { OnErr result ((area.new.bytes ≡ []) × (area.new.peak ≤ max area.old.peak 2)) }
+    ensures kept { OnErr result ((area.new.bytes ≡ []) × (area.new.peak ≤ max area.old.peak COUNT)) }
 {
     let place = payload.place();
-    if let Err(stop) = take_into(payload, area, 2) {
-        return Err(stop);
-    }
+    take_into(payload, area, COUNT)?;
     are_bytes(area.bytes());
     let count = LittleEndian::read_u16(area.bytes());
     if count == NO_METADATA {
@@ -105,15 +100,13 @@ fn read_count<R: Read>(payload: &mut Payload<R>, area: &mut Area) -> Result<Desc
 fn judge_head(room: usize, so_far: usize, byte: u8, index: u16, left: u16) -> Result<usize, Fault>
     requires { so_far ≤ room }
     ensures { MatchResult result
-        (λ rest. (info.rest_length byte ≡ Some rest) × ((so_far + rest) + 1 + 8 * left ≤ room))
-        (λ fault. spec.first_of_two (spec.type_fault index byte (info.rest_length byte)) (spec.too_long room so_far ((unwrap_or (info.rest_length byte) 0 + 1) + 8 * left)) ≡ Some fault) }
+        (λ rest. (info.rest_length byte ≡ Some rest) × ((so_far + rest) + 1 + LEAST_COLUMN * left ≤ room))
+        (λ fault. spec.head_fault room so_far byte index left ≡ Some fault) }
 {
-    match judge_type(index, byte) {
-        Ok(rest) => match too_long(room, so_far, rest + 1 + LEAST_COLUMN * usize::from(left)) {
-            None => Ok(rest),
-            Some(fault) => Err(fault),
-        },
-        Err(fault) => Err(fault),
+    let rest = judge_type(index, byte)?;
+    match too_long(room, so_far, rest + 1 + LEAST_COLUMN * usize::from(left)) {
+        None => Ok(rest),
+        Some(fault) => Err(fault),
     }
 }
 
@@ -125,25 +118,18 @@ fn read_info<R: Read>(
     rest: usize,
     index: u16,
 ) -> Result<(), Stop>
-    requires sound { IsSound payload.old }
-    requires going { payload.old.stopped ≡ None }
+    requires going { IsGoing payload.old }
     requires known { info.rest_length byte ≡ Some rest }
     requires some { 0 < rest }
     requires fits { length area.old.bytes + rest ≤ area.old.room }
-    ensures sound { IsSound payload.new }
-    ensures same { IsOnSame payload.old payload.new }
-    ensures going { OnOk result (payload.new.stopped ≡ None) }
+    ensures payload { LeavesPayload payload.old payload.new result }
     ensures room { area.new.room ≡ area.old.room }
     ensures length { OnOk result (length area.new.bytes ≡ length area.old.bytes + rest) }
-    ensures gives { MatchResult result
-        (λ _. (count : ℕ) → DescribesInfo area.old.room count index byte area.old.bytes (seen R.remaining payload.old) (seen R.remaining payload.new) payload.old.place payload.new.place area.old.peak area.new)
-        (λ stop. (count : ℕ) → StopsInColumn area.old.room count index (ColumnInfo byte) area.old.bytes (seen R.remaining payload.old) (seen R.remaining payload.new) payload.old.place area.old.peak area.new stop) }
+    ensures gives { InfoRead R.remaining index byte payload.old payload.new area.old area.new result }
 {
     let info_place = payload.place();
     let start = area.len();
-    if let Err(stop) = take_into(payload, area, rest) {
-        return Err(stop);
-    }
+    take_into(payload, area, rest)?;
     match kind_of(byte, &area.bytes()[start..]) {
         Some(_) => Ok(()),
         None => {
@@ -163,24 +149,17 @@ fn read_type<R: Read>(
     index: u16,
     count: u16,
 ) -> Result<(), Stop>
-    requires sound { IsSound payload.old }
-    requires going { payload.old.stopped ≡ None }
+    requires going { IsGoing payload.old }
     requires among { index < count }
-    requires fits { length area.old.bytes + 8 * (count - index) ≤ area.old.room }
-    ensures sound { IsSound payload.new }
-    ensures same { IsOnSame payload.old payload.new }
-    ensures going { OnOk result (payload.new.stopped ≡ None) }
+    requires fits { length area.old.bytes + LEAST_COLUMN * (count - index) ≤ area.old.room }
+    ensures payload { LeavesPayload payload.old payload.new result }
     ensures room { area.new.room ≡ area.old.room }
-    ensures fits { OnOk result (length area.new.bytes + 1 + 8 * (count - (index + 1)) ≤ area.new.room) }
-    ensures gives { MatchResult result
-        (λ _. DescribesType area.old.room count index area.old.bytes (seen R.remaining payload.old) (seen R.remaining payload.new) payload.old.place payload.new.place area.old.peak area.new)
-        (λ stop. StopsInColumn area.old.room count index ColumnHead area.old.bytes (seen R.remaining payload.old) (seen R.remaining payload.new) payload.old.place area.old.peak area.new stop) }
+    ensures fits { OnOk result (length area.new.bytes + 1 + LEAST_COLUMN * (count - (index + 1)) ≤ area.new.room) }
+    ensures gives { TypeRead R.remaining count index payload.old payload.new area.old area.new result }
 {
     let place = payload.place();
     let start = area.len();
-    if let Err(stop) = take_into(payload, area, HEAD) {
-        return Err(stop);
-    }
+    take_into(payload, area, HEAD)?;
     let byte = area.bytes()[start + 6];
     let rest = match judge_head(area.room(), start + HEAD, byte, index, count - (index + 1)) {
         Ok(rest) => rest,
@@ -195,10 +174,7 @@ fn read_type<R: Read>(
     if rest == 0 {
         return Ok(());
     }
-    match read_info(payload, area, byte, rest, index) {
-        Ok(()) => Ok(()),
-        Err(stop) => Err(stop),
-    }
+    read_info(payload, area, byte, rest, index)
 }
 
 // Reads the name of a column, and the count of its units before it.
@@ -208,24 +184,17 @@ fn read_name<R: Read>(
     index: u16,
     count: u16,
 ) -> Result<(), Stop>
-    requires sound { IsSound payload.old }
-    requires going { payload.old.stopped ≡ None }
+    requires going { IsGoing payload.old }
     requires among { index < count }
-    requires fits { length area.old.bytes + 1 + 8 * (count - (index + 1)) ≤ area.old.room }
-    ensures sound { IsSound payload.new }
-    ensures same { IsOnSame payload.old payload.new }
-    ensures going { OnOk result (payload.new.stopped ≡ None) }
+    requires fits { length area.old.bytes + 1 + LEAST_COLUMN * (count - (index + 1)) ≤ area.old.room }
+    ensures payload { LeavesPayload payload.old payload.new result }
     ensures room { area.new.room ≡ area.old.room }
-    ensures fits { OnOk result (length area.new.bytes + 8 * (count - (index + 1)) ≤ area.new.room) }
-    ensures gives { MatchResult result
-        (λ _. DescribesName area.old.room count index area.old.bytes (seen R.remaining payload.old) (seen R.remaining payload.new) payload.old.place payload.new.place area.old.peak area.new)
-        (λ stop. (kind : Kind) → StopsInColumn area.old.room count index (NameCount kind) area.old.bytes (seen R.remaining payload.old) (seen R.remaining payload.new) payload.old.place area.old.peak area.new stop) }
+    ensures fits { OnOk result (length area.new.bytes + LEAST_COLUMN * (count - (index + 1)) ≤ area.new.room) }
+    ensures gives { NameRead R.remaining count index payload.old payload.new area.old area.new result }
 {
     let place = payload.place();
     let start = area.len();
-    if let Err(stop) = take_into(payload, area, 1) {
-        return Err(stop);
-    }
+    take_into(payload, area, 1)?;
     let size = 2 * usize::from(area.bytes()[start]);
     let behind = LEAST_COLUMN * usize::from(count - (index + 1));
     if let Some(fault) = too_long(area.room(), start + 1, size + behind) {
@@ -238,10 +207,8 @@ fn read_name<R: Read>(
     if size == 0 {
         return Ok(());
     }
-    match take_into(payload, area, size) {
-        Ok(()) => Ok(()),
-        Err(stop) => Err(stop),
-    }
+    take_into(payload, area, size)?;
+    Ok(())
 }
 
 // Reads a column.
@@ -251,18 +218,13 @@ fn read_column<R: Read>(
     index: u16,
     count: u16,
 ) -> Result<(), Stop>
-    requires sound { IsSound payload.old }
-    requires going { payload.old.stopped ≡ None }
+    requires going { IsGoing payload.old }
     requires among { index < count }
-    requires fits { length area.old.bytes + 8 * (count - index) ≤ area.old.room }
-    ensures sound { IsSound payload.new }
-    ensures same { IsOnSame payload.old payload.new }
-    ensures going { OnOk result (payload.new.stopped ≡ None) }
+    requires fits { length area.old.bytes + LEAST_COLUMN * (count - index) ≤ area.old.room }
+    ensures payload { LeavesPayload payload.old payload.new result }
     ensures room { area.new.room ≡ area.old.room }
-    ensures fits { OnOk result (length area.new.bytes + 8 * (count - (index + 1)) ≤ area.new.room) }
-    ensures gives { MatchResult result
-        (λ _. DescribesColumn area.old.room count index area.old.bytes (seen R.remaining payload.old) (seen R.remaining payload.new) payload.old.place payload.new.place area.old.peak area.new)
-        (λ stop. StopsInColumn area.old.room count index ColumnHead area.old.bytes (seen R.remaining payload.old) (seen R.remaining payload.new) payload.old.place area.old.peak area.new stop) }
+    ensures fits { OnOk result (length area.new.bytes + LEAST_COLUMN * (count - (index + 1)) ≤ area.new.room) }
+    ensures gives { ColumnRead R.remaining count index payload.old payload.new area.old area.new result }
 {
     read_type(payload, area, index, count)?;
     read_name(payload, area, index, count)
@@ -270,17 +232,12 @@ fn read_column<R: Read>(
 
 // Reads all columns behind Count.
 fn read_columns<R: Read>(payload: &mut Payload<R>, area: &mut Area, count: u16) -> Result<(), Stop>
-    requires sound { IsSound payload.old }
-    requires going { payload.old.stopped ≡ None }
+    requires going { IsGoing payload.old }
     requires some { 0 < count }
-    requires fits { length area.old.bytes + 8 * count ≤ area.old.room }
-    ensures sound { IsSound payload.new }
-    ensures same { IsOnSame payload.old payload.new }
-    ensures going { OnOk result (payload.new.stopped ≡ None) }
+    requires fits { length area.old.bytes + LEAST_COLUMN * count ≤ area.old.room }
+    ensures payload { LeavesPayload payload.old payload.new result }
     ensures room { area.new.room ≡ area.old.room }
-    ensures gives { MatchResult result
-        (λ _. DescribesColumns area.old.room count area.old.bytes (seen R.remaining payload.old) (seen R.remaining payload.new) payload.old.place payload.new.place area.old.peak area.new)
-        (λ stop. StopsDescribing area.old.room (InColumn area.old.bytes count [] ColumnHead) (seen R.remaining payload.old) (seen R.remaining payload.new) payload.old.place area.old.peak area.new stop) }
+    ensures gives { ColumnsRead R.remaining count payload.old payload.new area.old area.new result }
 {
     'columns: for index in 0..count {
         read_column(payload, area, index, count)?;
@@ -298,25 +255,18 @@ fn read_columns<R: Read>(payload: &mut Payload<R>, area: &mut Area, count: u16) 
 /// that stopped before gives its stop again.
 pub fn gather<R: Read>(payload: &mut Payload<R>, area: &mut Area) -> Result<Described, Stop>
     requires sound { IsSound payload.old }
-    requires room { 2 ≤ area.old.room }
-    ensures sound { IsSound payload.new }
-    ensures same { IsOnSame payload.old payload.new }
-    ensures going { OnOk result (payload.new.stopped ≡ None) }
+    requires room { COUNT ≤ area.old.room }
+    ensures payload { LeavesPayload payload.old payload.new result }
     ensures room { area.new.room ≡ area.old.room }
-    ensures gives { MatchResult result
-        (λ described. GatherGives area.old.room (seen R.remaining payload.old) (seen R.remaining payload.new) payload.old.place payload.new.place area.old.peak area.new described)
-        (λ stop. payload.old.stopped ≡ None → GatherStops area.old.room (seen R.remaining payload.old) (seen R.remaining payload.new) payload.old.place area.old.peak area.new stop) }
-    ensures again { IfSome payload.old.stopped (λ stop. (result ≡ Err stop) × (payload.new ≡ payload.old) × (area.new.bytes ≡ []) × (area.new.peak ≤ max area.old.peak 2)) }
+    ensures gives { DescriptionRead R.remaining payload.old payload.new area.old area.new result }
+    ensures again { IfSome payload.old.stopped (λ stop. (result ≡ Err stop) × (payload.new ≡ payload.old)
+        × (area.new.bytes ≡ []) × (area.new.peak ≤ max area.old.peak COUNT)) }
 {
     area.clear();
-    let count = match read_count(payload, area) {
-        Ok(Described::Columns(count)) => count,
-        Ok(Described::NoMetadata) => return Ok(Described::NoMetadata),
-        Err(stop) => return Err(stop),
+    let Described::Columns(count) = read_count(payload, area)? else {
+        return Ok(Described::NoMetadata);
     };
-    if let Err(stop) = read_columns(payload, area, count) {
-        return Err(stop);
-    }
+    read_columns(payload, area, count)?;
     are_bytes(area.bytes());
     Ok(Described::Columns(count))
 }

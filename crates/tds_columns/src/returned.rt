@@ -1,7 +1,7 @@
 // The type of the value that a procedure returns (MS-TDS, RETURNVALUE).
-ghost use Rattle.std.specs.Prelude.{◌≡◌, ◌+◌, ◌-◌, ◌≤◌, None, length, max, slice_index, MatchResult, IfOk, OnErr, OnOk};
-ghost use Rattle.tds_columns.specs.ReturnedType.{KnownType, ReadsType, StopsType, TypeHead, WereTaken, returned_type};
-ghost use Rattle.tds_packet.specs.Payloads.{IsOnSame, IsSound, seen};
+ghost use Rattle.std.specs.Prelude.{◌≡◌, ◌+◌, ◌-◌, ◌≤◌, length, max, slice_index, MatchResult, IfOk, OnErr};
+ghost use Rattle.tds_columns.specs.ReturnedType.{KnownType, StopsType, TypeHead, TypeRead, WereTaken, returned_type};
+ghost use Rattle.tds_packet.specs.Payloads.{IsGoing, LeavesPayload, seen};
 ghost use Rattle.tds_packet.specs.Reading.{Reads};
 ghost use Rattle.tds_packet.specs.Seen.{Seen};
 
@@ -18,6 +18,9 @@ const RETURN_VALUE: u16 = 0xFFFF;
 // The bytes of status, UserType, Flags and the type byte.
 const HEAD: usize = 8;
 
+// The most bytes that follow a type byte.
+const MOST: usize = 7;
+
 /// Reads what follows the type byte of a RETURNVALUE, and answers its kind. The area holds the eight
 /// bytes that end with the type byte, just read from the payload, and has room for seven more; what
 /// is read stands behind them then.
@@ -26,21 +29,18 @@ const HEAD: usize = 8;
 /// at that of the bytes behind them, and with the faults of the payload, `MessageEnded` among them.
 /// The number of the column is 65,535. The area has the eight bytes then.
 pub fn read_type_info<R: Read>(payload: &mut Payload<R>, small: &mut Area) -> Result<Kind, Stop>
-    requires sound { IsSound payload.old }
-    requires going { payload.old.stopped ≡ None }
-    requires place { 8 ≤ payload.old.place }
-    requires head { length small.old.bytes ≡ 8 }
-    requires room { 15 ≤ small.old.room }
-    ensures sound { IsSound payload.new }
-    ensures same { IsOnSame payload.old payload.new }
-    ensures going { OnOk result (payload.new.stopped ≡ None) }
+    requires going { IsGoing payload.old }
+    requires place { HEAD ≤ payload.old.place }
+    requires head { length small.old.bytes ≡ HEAD }
+    requires room { HEAD + MOST ≤ small.old.room }
+    ensures payload { LeavesPayload payload.old payload.new result }
     ensures room { small.new.room ≡ small.old.room }
     ensures kept { OnErr result (small.new.bytes ≡ small.old.bytes) }
-    ensures bound { small.new.peak ≤ max small.old.peak 15 }
-    ensures kind { IfOk result (λ kind. ReadsType (slice_index small.old.bytes 7) (seen R.remaining payload.old) (seen R.remaining payload.new) payload.old.place payload.new.place kind) }
+    ensures bound { small.new.peak ≤ max small.old.peak (HEAD + MOST) }
+    ensures kind { IfOk result (λ kind. TypeRead R.remaining payload.old payload.new (slice_index small.old.bytes 7) kind) }
     ensures gives { (before : Seen) → WereTaken before (seen R.remaining payload.old) small.old.bytes → MatchResult result
         (λ kind. Reads returned_type TypeHead before (seen R.remaining payload.new) (KnownType kind))
-        (λ stop. StopsType before (seen R.remaining payload.new) (payload.old.place - 8) stop) }
+        (λ stop. StopsType before (seen R.remaining payload.new) (payload.old.place - HEAD) stop) }
 {
     let place = payload.place();
     let byte = small.bytes()[HEAD - 1];
@@ -49,13 +49,11 @@ pub fn read_type_info<R: Read>(payload: &mut Payload<R>, small: &mut Area) -> Re
         Err(fault) => {
             return Err(Stop {
                 fault,
-                place: Place::Payload(place - 8),
+                place: Place::Payload(place - HEAD as u64),
             });
         }
     };
-    if let Err(stop) = take_into(payload, small, rest) {
-        return Err(stop);
-    }
+    take_into(payload, small, rest)?;
     match kind_of(byte, &small.bytes()[HEAD..]) {
         Some(kind) => Ok(kind),
         None => {

@@ -66,6 +66,28 @@ const NVARCHAR: u8 = 0xE7;
 
 const NCHAR: u8 = 0xEF;
 
+// Type bytes that are refused by name. Floating-point numbers have no text in this profile.
+const FLT4: u8 = 0x3B;
+
+const FLT8: u8 = 0x3E;
+
+const FLT_N: u8 = 0x6D;
+
+// Values with a text pointer before them (MS-TDS, Long Length Types).
+const TEXT: u8 = 0x23;
+
+const NTEXT: u8 = 0x63;
+
+const IMAGE: u8 = 0x22;
+
+// A value that brings its own type with it (MS-TDS, SQL_VARIANT).
+const SS_VARIANT: u8 = 0x62;
+
+// Types whose description names a schema (MS-TDS, Common Language Runtime Instances, XML Values).
+const UDT: u8 = 0xF0;
+
+const XML: u8 = 0xF1;
+
 // The described length of values that are spelled in chunks (MS-TDS, Partially Length-Prefixed
 // Bytes).
 const CHUNKED: u16 = 0xFFFF;
@@ -92,15 +114,15 @@ fn refused_kind(byte: u8) -> Option<RefusedKind>
     ensures { result ≡ spec.refused_kind byte }
 {
     match byte {
-        0x3B => Some(RefusedKind::Flt4),
-        0x3E => Some(RefusedKind::Flt8),
-        0x6D => Some(RefusedKind::FltN),
-        0x23 => Some(RefusedKind::Text),
-        0x63 => Some(RefusedKind::NText),
-        0x22 => Some(RefusedKind::Image),
-        0x62 => Some(RefusedKind::SsVariant),
-        0xF0 => Some(RefusedKind::Udt),
-        0xF1 => Some(RefusedKind::Xml),
+        FLT4 => Some(RefusedKind::Flt4),
+        FLT8 => Some(RefusedKind::Flt8),
+        FLT_N => Some(RefusedKind::FltN),
+        TEXT => Some(RefusedKind::Text),
+        NTEXT => Some(RefusedKind::NText),
+        IMAGE => Some(RefusedKind::Image),
+        SS_VARIANT => Some(RefusedKind::SsVariant),
+        UDT => Some(RefusedKind::Udt),
+        XML => Some(RefusedKind::Xml),
         _ => None,
     }
 }

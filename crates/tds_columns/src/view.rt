@@ -27,7 +27,8 @@ impl<'a> Columns<'a> {
     /// How many columns there are, 1 to 65,534.
     pub fn count(&self) -> u16
         ensures value { result ≡ length (columns_of self.now.bytes.now) }
-        ensures columns { (room : ℕ) (columns : List spec.Column) → spec.SpellsDescription room columns self.now.bytes.now → result ≡ length columns }
+        ensures columns { (room : ℕ) (columns : List spec.Column) →
+            spec.SpellsDescription room columns self.now.bytes.now → result ≡ length columns }
     {
         LittleEndian::read_u16(self.bytes)
     }
@@ -35,7 +36,8 @@ impl<'a> Columns<'a> {
     /// The columns in order.
     pub fn walk(&self) -> Walk<'a>
         ensures value { columns_left result ≡ columns_of self.now.bytes.now }
-        ensures columns { (room : ℕ) (columns : List spec.Column) → spec.SpellsDescription room columns self.now.bytes.now → columns_left result ≡ columns }
+        ensures columns { (room : ℕ) (columns : List spec.Column) →
+            spec.SpellsDescription room columns self.now.bytes.now → columns_left result ≡ columns }
         ensures bound { length (columns_left result) < 65536 }
     {
         Walk {

@@ -7,8 +7,8 @@ use Rattle.tds_packet.specs.Payloads.{seen}
 use Rattle.tds_packet.specs.Seen.{Takes}
 use Rattle.tds_columns.proofs.element.take_into.Goals as goal
 
-pub returns-in-Ok-clause-ok : goal.returns-in-Ok-clause-ok
-returns-in-Ok-clause-ok g c =
+pub returns-in-Ok-clause-gives : goal.returns-in-Ok-clause-gives
+returns-in-Ok-clause-gives g c =
     let bytes = c.fill.new.to in
     let n : length bytes ≡ c.args.n = c.fill.auto.to ∙ ap length c.grow_within-lent.ensures.value ∙ length-replicate c.args.n 0 in
     record {
@@ -26,8 +26,8 @@ cut_back s written n start after full e l at is =
     let peak : after.peak ≡ max s.peak (length (s.bytes ++ written)) = ap (λ (a : Space). a.peak) is ∙ ap (λ (a : Space). a.peak) e in
     (bytes, omega (arith, peak, length-append s.bytes written, l))
 
-pub returns-in-Err-clause-err : goal.returns-in-Err-clause-err
-returns-in-Err-clause-err g c = λ going.
+pub returns-in-Err-clause-gives : goal.returns-in-Err-clause-gives
+returns-in-Err-clause-gives g c = λ going.
     let bytes = c.fill.new.to in
     let n : length bytes ≡ c.args.n = c.fill.auto.to ∙ ap length c.grow_within-lent.ensures.value ∙ length-replicate c.args.n 0 in
     let part = c.in-Err.ensures.part going in

@@ -6,30 +6,31 @@ use Rattle.tds_columns.specs.Description.{BeforeCount, ColumnHead, InColumn, Who
 use Rattle.tds_columns.specs.Gather.{DescribesColumns, StopsDescribing}
 use Rattle.tds_columns.proofs.GatherSteps.{describes_both, stops_describing_after}
 use Rattle.tds_columns.proofs.GatherMeaning.{gather_stops, gathers}
+use Rattle.tds_packet.proofs.Passing.{passed}
 use Rattle.tds_columns.proofs.metadata.gather.Goals as goal
 
-pub returns-in-Ok-NoMetadata-clause-gives : goal.returns-in-Ok-NoMetadata-clause-gives
-returns-in-Ok-NoMetadata-clause-gives g c = rw (c.in-Ok-NoMetadata.field-0-is, c.clear.ensures.value) at c.in-Ok-NoMetadata.ensures.gives
+pub returns-in_default-clause-gives : goal.returns-in_default-clause-gives
+returns-in_default-clause-gives g c = rw (c.in_default.is, c.clear.ensures.value) at c.in_ok-count.ensures.gives
 
-pub returns-in-Err-clause-gives : goal.returns-in-Err-clause-gives
-returns-in-Err-clause-gives g c = λ going.
-    let stops = rw c.clear.ensures.value at c.in-Err.ensures.gives going in
-    gather_stops c.args.area.now.room (seen g.R.Read.remaining c.args.payload.now) (seen g.R.Read.remaining c.read_count.new.payload) c.args.payload.now.place c.args.area.now.peak c.read_count.new.area c.in-Err.stop stops
+pub returns-in_err-count-clause-gives : goal.returns-in_err-count-clause-gives
+returns-in_err-count-clause-gives g c = passed _ _ _ _ c.from_residual.ensures.1 (λ going.
+    let stops = rw c.clear.ensures.value at c.in_err-count.ensures.gives going in
+    gather_stops c.args.area.now.room (seen g.R.Read.remaining c.args.payload.now) (seen g.R.Read.remaining c.read_count.new.payload) c.args.payload.now.place c.args.area.now.peak c.read_count.new.area c.in_err-count.field-0.0 stops)
 
-pub returns-in-Err-read_columns-clause-gives : goal.returns-in-Err-read_columns-clause-gives
-returns-in-Err-read_columns-clause-gives g c = λ going.
+pub returns-in_err-read_columns-clause-gives : goal.returns-in_err-read_columns-clause-gives
+returns-in_err-read_columns-clause-gives g c = passed _ _ _ _ c.from_residual-in_err-read_columns.ensures.1 (λ going.
     let before = c.args.area.now in
     let middle = c.read_count.new.area in
     let after = c.read_columns.new.area in
     let a = seen g.R.Read.remaining c.args.payload.now in
     let b = seen g.R.Read.remaining c.read_count.new.payload in
     let d = seen g.R.Read.remaining c.read_columns.new.payload in
-    let at = InColumn middle.bytes c.in-Ok-Columns.count [] ColumnHead in
-    let count = rw (c.in-Ok-Columns.field-0-is, c.clear.ensures.value) at c.in-Ok-Columns.ensures.gives in
-    let room : middle.room ≡ before.room = c.in-Ok-Columns.ensures.room ∙ ap (λ (s : Space). s.room) c.clear.ensures.value in
-    let stops = subst (λ r. StopsDescribing r at b d c.read_count.new.payload.place middle.peak after c.in-Err-read_columns.stop) room c.in-Err-read_columns.ensures.gives in
-    gather_stops before.room a d c.args.payload.now.place before.peak after c.in-Err-read_columns.stop
-    (stops_describing_after before.room BeforeCount at a b d c.args.payload.now.place c.read_count.new.payload.place before.peak middle after c.in-Err-read_columns.stop count.0 stops)
+    let at = InColumn middle.bytes c.in-Columns.count [] ColumnHead in
+    let count = rw (c.in-Columns.is, c.clear.ensures.value) at c.in_ok-count.ensures.gives in
+    let room : middle.room ≡ before.room = c.in_ok-count.ensures.room ∙ ap (λ (s : Space). s.room) c.clear.ensures.value in
+    let stops = subst (λ r. StopsDescribing r at b d c.read_count.new.payload.place middle.peak after c.in_err-read_columns.field-0.0) room c.in_err-read_columns.ensures.gives in
+    gather_stops before.room a d c.args.payload.now.place before.peak after c.in_err-read_columns.field-0.0
+    (stops_describing_after before.room BeforeCount at a b d c.args.payload.now.place c.read_count.new.payload.place before.peak middle after c.in_err-read_columns.field-0.0 count.0 stops))
 
 pub returns-clause-gives : goal.returns-clause-gives
 returns-clause-gives g c =
@@ -39,11 +40,11 @@ returns-clause-gives g c =
     let a = seen g.R.Read.remaining c.args.payload.now in
     let b = seen g.R.Read.remaining c.read_count.new.payload in
     let d = seen g.R.Read.remaining c.read_columns.new.payload in
-    let at = InColumn middle.bytes c.in-Ok-Columns.count [] ColumnHead in
-    let count = rw (c.in-Ok-Columns.field-0-is, c.clear.ensures.value) at c.in-Ok-Columns.ensures.gives in
-    let room : middle.room ≡ before.room = c.in-Ok-Columns.ensures.room ∙ ap (λ (s : Space). s.room) c.clear.ensures.value in
-    let whole : DescribesColumns before.room c.in-Ok-Columns.count middle.bytes b d c.read_count.new.payload.place c.read_columns.new.payload.place middle.peak after =
-    subst (λ r. DescribesColumns r c.in-Ok-Columns.count middle.bytes b d c.read_count.new.payload.place c.read_columns.new.payload.place middle.peak after) room c.in_default.ensures.gives in
+    let at = InColumn middle.bytes c.in-Columns.count [] ColumnHead in
+    let count = rw (c.in-Columns.is, c.clear.ensures.value) at c.in_ok-count.ensures.gives in
+    let room : middle.room ≡ before.room = c.in_ok-count.ensures.room ∙ ap (λ (s : Space). s.room) c.clear.ensures.value in
+    let whole : DescribesColumns before.room c.in-Columns.count middle.bytes b d c.read_count.new.payload.place c.read_columns.new.payload.place middle.peak after =
+    subst (λ r. DescribesColumns r c.in-Columns.count middle.bytes b d c.read_count.new.payload.place c.read_columns.new.payload.place middle.peak after) room c.in_ok-read_columns.ensures.gives in
     let both = describes_both before.room BeforeCount at (WholeDescription after.bytes whole.columns) a b d c.args.payload.now.place c.read_count.new.payload.place c.read_columns.new.payload.place before.peak middle after count.0 whole.describes in
     let are : AreBytes after.bytes = search rules in
     (whole.columns, whole.all, both, gathers before.room a d c.args.payload.now.place c.read_columns.new.payload.place before.peak after whole.columns are both)

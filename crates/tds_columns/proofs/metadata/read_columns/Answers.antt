@@ -8,8 +8,8 @@ use Rattle.tds_columns.proofs.metadata.read_columns.Goals as goal
 
 pub columns-init : goal.columns-init
 columns-init g c = record {
-  sound = c.requires.sound;
-  going = c.requires.going;
+  sound = c.requires.going.sound;
+  going = c.requires.going.going;
   same = search rules;
   room = search rules;
   fits = omega (arith, c.requires.fits);
@@ -42,8 +42,8 @@ columns-preserved g c =
     let one = c.in_ok-read_column.ensures.gives columns.0 columns.1 in
     let column = subst (λ r. Describes r (InColumn middle.bytes c.args.count columns.0 ColumnHead) b d c.columns.payload.place c.read_column.new.payload.place middle.peak after (with_column after.bytes c.args.count columns.0 one.0)) c.columns.invariant.room one.1 in
     record {
-      sound = c.in_ok-read_column.ensures.sound;
-      going = c.in_ok-read_column.ensures.going;
+      sound = c.in_ok-read_column.ensures.payload.sound;
+      going = c.in_ok-read_column.ensures.payload.going;
       same = search rules;
       room = c.in_ok-read_column.ensures.room ∙ c.columns.invariant.room;
       fits = c.in_ok-read_column.ensures.fits;

@@ -4,6 +4,7 @@ use Rattle.tds_meter.specs.Space.{holding}
 use Rattle.tds_packet.specs.Payloads.{seen}
 use Rattle.tds_columns.specs.Description.{too_long}
 use Rattle.tds_columns.proofs.GatherSteps.{name_cut, name_read, units_cut, units_none, units_refused}
+use Rattle.tds_packet.proofs.Passing.{passed}
 use Rattle.tds_columns.proofs.metadata.read_name.Goals as goal
 
 -- the number of the units
@@ -13,10 +14,11 @@ units_are area bytes start n units is same at = is ∙ ap (λ l. get_or l start 
 limit : (room n units left room' n' left' : ℕ) → room ≡ room' → n ≡ n' → left ≡ left' → too_long room' (n' + 1) (2 * units + 8 * left') ≡ too_long room (n + 1) (2 * units + 8 * left)
 limit room n units left room' n' left' p q r = ap (λ v. too_long v (n' + 1) (2 * units + 8 * left')) (sym p) ∙ ap (λ v. too_long room (v + 1) (2 * units + 8 * left')) (sym q) ∙ ap (λ v. too_long room (n + 1) (2 * units + 8 * v)) (sym r)
 
-pub returns-in-Err-clause-gives : goal.returns-in-Err-clause-gives
-returns-in-Err-clause-gives g c = λ kind columns number.
-    units_cut c.args.area.now.room c.args.count columns kind (seen g.R.Read.remaining c.args.payload.now) (seen g.R.Read.remaining c.take_into.new.payload) c.args.area.now c.take_into.new.area c.args.payload.now.place c.in-Err.stop
-    (c.in-Err.ensures.err c.requires.going)
+pub returns-in_err-take_into-clause-gives : goal.returns-in_err-take_into-clause-gives
+returns-in_err-take_into-clause-gives g c =
+    passed _ _ _ _ c.from_residual.ensures.1 (λ kind columns number.
+    units_cut c.args.area.now.room c.args.count columns kind (seen g.R.Read.remaining c.args.payload.now) (seen g.R.Read.remaining c.take_into.new.payload) c.args.area.now c.take_into.new.area c.args.payload.now.place c.in_err-take_into.field-0.0
+    (c.in_err-take_into.ensures.gives c.requires.going.going))
 
 pub returns-in-Some-clause-gives : goal.returns-in-Some-clause-gives
 returns-in-Some-clause-gives g c = λ kind columns number.
@@ -25,11 +27,11 @@ returns-in-Some-clause-gives g c = λ kind columns number.
     let a = seen g.R.Read.remaining c.args.payload.now in
     let b = seen g.R.Read.remaining c.take_into.new.payload in
     let start : c.len-start.result ≡ length before.bytes = c.len-start.ensures.value in
-    let room : c.room.result ≡ before.room = c.room.ensures ∙ c.in_default.ensures.room in
+    let room : c.room.result ≡ before.room = c.room.ensures ∙ c.in_ok-take_into.ensures.room in
     let units : c.from-size.result ≡ slice_index middle.bytes (length before.bytes + 0) = units_are middle.bytes c.bytes.result.now c.len-start.result (length before.bytes) c.from-size.result c.from-size.ensures c.bytes.ensures.value start in
     let same = limit c.room.result c.len-start.result c.from-size.result c.from-behind.result before.room (length before.bytes) (c.args.count - (c.args.index + 1)) room start c.from-behind.ensures in
     let first : too_long before.room (length before.bytes + 1) (2 * c.from-size.result + 8 * (c.args.count - (c.args.index + 1))) ≡ Some c.in-Some.fault = same ∙ sym c.too_long.ensures ∙ c.in-Some.is in
-    rw c.place-place.ensures (units_refused before.room c.args.index c.args.count c.from-size.result columns kind a b before middle c.truncate.new.self c.args.payload.now.place c.in-Some.fault number c.in_default.ensures.ok units first
+    rw c.place-place.ensures (units_refused before.room c.args.index c.args.count c.from-size.result columns kind a b before middle c.truncate.new.self c.args.payload.now.place c.in-Some.fault number c.in_ok-take_into.ensures.gives units first
     (c.truncate.ensures ∙ ap (λ n. holding middle (take n middle.bytes)) start))
 
 pub returns-then-size-eq0-clause-gives : goal.returns-then-size-eq0-clause-gives
@@ -39,41 +41,41 @@ returns-then-size-eq0-clause-gives g c = λ columns kind number.
     let a = seen g.R.Read.remaining c.args.payload.now in
     let b = seen g.R.Read.remaining c.take_into.new.payload in
     let start : c.len-start.result ≡ length before.bytes = c.len-start.ensures.value in
-    let room : c.room.result ≡ before.room = c.room.ensures ∙ c.in_default.ensures.room in
+    let room : c.room.result ≡ before.room = c.room.ensures ∙ c.in_ok-take_into.ensures.room in
     let units : c.from-size.result ≡ slice_index middle.bytes (length before.bytes + 0) = units_are middle.bytes c.bytes.result.now c.len-start.result (length before.bytes) c.from-size.result c.from-size.ensures c.bytes.ensures.value start in
     let same = limit c.room.result c.len-start.result c.from-size.result c.from-behind.result before.room (length before.bytes) (c.args.count - (c.args.index + 1)) room start c.from-behind.ensures in
-    let free : too_long before.room (length before.bytes + 1) (2 * c.from-size.result + 8 * (c.args.count - (c.args.index + 1))) ≡ None = same ∙ sym c.too_long.ensures ∙ c.in_default-too_long.is in
-    units_none before.room c.args.index c.args.count c.from-size.result columns kind a b before middle c.args.payload.now.place c.take_into.new.payload.place number c.in_default.ensures.ok units free
-    (omega (arith, c.if-size-eq0.true)) c.in_default.ensures.place
+    let free : too_long before.room (length before.bytes + 1) (2 * c.from-size.result + 8 * (c.args.count - (c.args.index + 1))) ≡ None = same ∙ sym c.too_long.ensures ∙ c.in_default.is in
+    units_none before.room c.args.index c.args.count c.from-size.result columns kind a b before middle c.args.payload.now.place c.take_into.new.payload.place number c.in_ok-take_into.ensures.gives units free
+    (omega (arith, c.if-size-eq0.true)) c.in_ok-take_into.ensures.place
 
-pub returns-in-Ok-clause-gives : goal.returns-in-Ok-clause-gives
-returns-in-Ok-clause-gives g c = λ columns kind number.
+pub returns-clause-gives : goal.returns-clause-gives
+returns-clause-gives g c = λ columns kind number.
     let before = c.args.area.now in
     let middle = c.take_into.new.area in
     let a = seen g.R.Read.remaining c.args.payload.now in
     let b = seen g.R.Read.remaining c.take_into.new.payload in
     let start : c.len-start.result ≡ length before.bytes = c.len-start.ensures.value in
-    let room : c.room.result ≡ before.room = c.room.ensures ∙ c.in_default.ensures.room in
+    let room : c.room.result ≡ before.room = c.room.ensures ∙ c.in_ok-take_into.ensures.room in
     let units : c.from-size.result ≡ slice_index middle.bytes (length before.bytes + 0) = units_are middle.bytes c.bytes.result.now c.len-start.result (length before.bytes) c.from-size.result c.from-size.ensures c.bytes.ensures.value start in
     let same = limit c.room.result c.len-start.result c.from-size.result c.from-behind.result before.room (length before.bytes) (c.args.count - (c.args.index + 1)) room start c.from-behind.ensures in
-    let free : too_long before.room (length before.bytes + 1) (2 * c.from-size.result + 8 * (c.args.count - (c.args.index + 1))) ≡ None = same ∙ sym c.too_long.ensures ∙ c.in_default-too_long.is in
+    let free : too_long before.room (length before.bytes + 1) (2 * c.from-size.result + 8 * (c.args.count - (c.args.index + 1))) ≡ None = same ∙ sym c.too_long.ensures ∙ c.in_default.is in
     let d = seen g.R.Read.remaining c.take_into-2.new.payload in
     let some : c.from-size.result ≢ 0 = λ zero. c.if-size-eq0.false (ap (λ n. 2 * n) zero) in
-    name_read before.room c.args.index c.args.count c.from-size.result columns kind a b d before middle c.take_into-2.new.area c.args.payload.now.place c.take_into.new.payload.place c.take_into-2.new.payload.place number c.in_default.ensures.ok units free
-    some c.in_default.ensures.place c.in-Ok.ensures.ok c.in-Ok.ensures.place
+    name_read before.room c.args.index c.args.count c.from-size.result columns kind a b d before middle c.take_into-2.new.area c.args.payload.now.place c.take_into.new.payload.place c.take_into-2.new.payload.place number c.in_ok-take_into.ensures.gives units free
+    some c.in_ok-take_into.ensures.place c.in_ok-take_into-2.ensures.gives c.in_ok-take_into-2.ensures.place
 
-pub returns-in-Err-take_into-clause-gives : goal.returns-in-Err-take_into-clause-gives
-returns-in-Err-take_into-clause-gives g c = λ kind columns number.
+pub returns-in_err-take_into-2-clause-gives : goal.returns-in_err-take_into-2-clause-gives
+returns-in_err-take_into-2-clause-gives g c = passed _ _ _ _ c.from_residual-in_err-take_into-2.ensures.1 (λ kind columns number.
     let before = c.args.area.now in
     let middle = c.take_into.new.area in
     let a = seen g.R.Read.remaining c.args.payload.now in
     let b = seen g.R.Read.remaining c.take_into.new.payload in
     let start : c.len-start.result ≡ length before.bytes = c.len-start.ensures.value in
-    let room : c.room.result ≡ before.room = c.room.ensures ∙ c.in_default.ensures.room in
+    let room : c.room.result ≡ before.room = c.room.ensures ∙ c.in_ok-take_into.ensures.room in
     let units : c.from-size.result ≡ slice_index middle.bytes (length before.bytes + 0) = units_are middle.bytes c.bytes.result.now c.len-start.result (length before.bytes) c.from-size.result c.from-size.ensures c.bytes.ensures.value start in
     let same = limit c.room.result c.len-start.result c.from-size.result c.from-behind.result before.room (length before.bytes) (c.args.count - (c.args.index + 1)) room start c.from-behind.ensures in
-    let free : too_long before.room (length before.bytes + 1) (2 * c.from-size.result + 8 * (c.args.count - (c.args.index + 1))) ≡ None = same ∙ sym c.too_long.ensures ∙ c.in_default-too_long.is in
+    let free : too_long before.room (length before.bytes + 1) (2 * c.from-size.result + 8 * (c.args.count - (c.args.index + 1))) ≡ None = same ∙ sym c.too_long.ensures ∙ c.in_default.is in
     let d = seen g.R.Read.remaining c.take_into-2.new.payload in
     let some : c.from-size.result ≢ 0 = λ zero. c.if-size-eq0.false (ap (λ n. 2 * n) zero) in
-    name_cut before.room c.args.index c.args.count c.from-size.result columns kind a b d before middle c.take_into-2.new.area c.args.payload.now.place c.take_into.new.payload.place c.in-Err-take_into.stop number c.in_default.ensures.ok units free
-    some c.in_default.ensures.place (c.in-Err-take_into.ensures.err c.in_default.ensures.going)
+    name_cut before.room c.args.index c.args.count c.from-size.result columns kind a b d before middle c.take_into-2.new.area c.args.payload.now.place c.take_into.new.payload.place c.in_err-take_into-2.field-0.0 number c.in_ok-take_into.ensures.gives units free
+    some c.in_ok-take_into.ensures.place (c.in_err-take_into-2.ensures.gives c.in_ok-take_into.ensures.payload.going))
