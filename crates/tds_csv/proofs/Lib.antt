@@ -17,3 +17,4 @@ pub mod PlainText
 pub mod Unquoted
 pub mod Encoding
 pub mod Puttings
+pub mod Streams

@@ -1,10 +1,9 @@
--- What a call that reads by a grammar and puts the text of what it reads does, on success and on each stop.
-use Rattle.std.specs.Prelude.{◌≡◌, ◌⊎◌, ◌<◌, ℕ, Bool, true, false, List, ◌++◌, length}
+-- What a call that reads by a grammar and puts the text of what it reads does, on success and where a write fails.
+use Rattle.std.specs.Prelude.{◌≡◌, ◌<◌, ℕ, List, ◌++◌, length}
 use Rattle.tds_packet.specs.declared.fault.Fault.{Fault}
 use Rattle.tds_packet.specs.declared.fault.Stop.{Stop}
 use Rattle.tds_packet.specs.Elements.{Grammar, Spelt, IsNext}
 use Rattle.tds_packet.specs.Seen.{Seen, Takes, IsBetween}
-use Rattle.tds_packet.specs.Reading.{StopsReading}
 use Rattle.tds_csv.specs.Sinks.{Held, Puts, Breaks}
 
 -- What the text of one state has more than that of another was put.
@@ -18,13 +17,14 @@ pub record Streams {S : Type 0} (g : Grammar S Fault) (text : S → List ℕ) (f
   pub takes : Takes old new bytes (length bytes)
   pub puts : PutsText text from to before after
 
--- Whole elements were read, and the text put; then the next element was read, and a write of its text failed.
+-- Whole elements were read, and the text put; then the next element was read, and a write of its text failed. What lies ahead of it in the packets read may have been handed out too; no packet was read for that.
 pub record BreaksStreaming {S : Type 0} (g : Grammar S Fault) (text : S → List ℕ) (from : S) (old new : Seen) (before after : Held) (at : S) (stop : Stop) : Type 0 where
   pub bytes : List ℕ
   pub element : List ℕ
+  pub ahead : List ℕ
   pub spelt : Spelt g from bytes at
   pub next : IsNext g at element
-  pub takes : Takes old new (bytes ++ element) (length (bytes ++ element))
+  pub takes : Takes old new ((bytes ++ element) ++ ahead) (length (bytes ++ element))
   pub between : IsBetween new
   pub middle : Held
   pub few : length middle.waiting < 4096
@@ -32,10 +32,3 @@ pub record BreaksStreaming {S : Type 0} (g : Grammar S Fault) (text : S → List
   pub more : List ℕ
   pub text_is : text at ++ more ≡ text (g.add at element)
   pub breaks : Breaks middle after more stop
-
--- Such a call stopped: in reading, with the text of the state that it reached, or in writing. It began behind so many bytes of the payload.
-pub record StopsStreaming {S : Type 0} (g : Grammar S Fault) (text : S → List ℕ) (from : S) (old new : Seen) (place : ℕ) (before after : Held) (failed : Bool) (stop : Stop) : Type 0 where
-  pub at : S
-  pub cause :
-      (StopsReading g from old new place at stop × PutsText text from at before after × (failed ≡ false))
-      ⊎ (BreaksStreaming g text from old new before after at stop × (failed ≡ true))

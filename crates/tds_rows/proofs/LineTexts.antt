@@ -6,8 +6,7 @@ use Rattle.std.specs.Prelude.{◌==◌}
 use Rattle.std.proofs.lemmas.Bool.{ne_eqb}
 use Rattle.tds_packet.proofs.Choices.{choose_false}
 use Rattle.tds_csv.specs.Quoting.{joined}
-use Rattle.tds_rows.specs.Reading.{end_behind, in_line}
-use Rattle.tds_rows.specs.Streams.{behind_comma}
+use Rattle.tds_rows.specs.CellSteps.{behind_comma, end_behind, in_line}
 
 -- a field behind a comma
 pub behind_some : (column : ℕ) (text : List ℕ) → column ≢ 0 → 44 ∷ text ≡ behind_comma column text

@@ -7,6 +7,8 @@ use Rattle.tds_packet.specs.declared.fault.Stop.{Stop}
 use Rattle.tds_packet.specs.Elements.{Grammar, Spelt}
 use Rattle.tds_packet.specs.Seen.{Seen, Takes, IsBetween}
 use Rattle.tds_packet.specs.Reading.{StopsReading}
+use Rattle.tds_csv.specs.Sinks.{Held}
+use Rattle.tds_csv.specs.Streaming.{BreaksStreaming, PutsText}
 use Rattle.tds_rows.specs.Cells.{CellPart, ShortLength, Total}
 use Rattle.tds_rows.specs.Rows.{InCell, RowPart}
 
@@ -25,6 +27,13 @@ pub record ReadsUnbuilt {S : Type 0} (g : Grammar S Fault) (is_built : S → Lis
 -- A call that reads by a grammar came to a state and stopped there, or met what isn't built.
 abbrev pub Stalls : {S : Type 0} → Grammar S Fault → (S → List ℕ → Bool) → S → Seen → Seen → ℕ → S → Stop → Type 0
 Stalls g is_built from old new place at stop = StopsReading g from old new place at stop ⊎ ReadsUnbuilt g is_built from old new place at stop
+
+-- A call that reads by a grammar and puts the text of what it reads stopped: in reading, with the text of the state that it reached; or in writing. It began behind so many bytes of the payload.
+pub record StopsStreaming {S : Type 0} (g : Grammar S Fault) (is_built : S → List ℕ → Bool) (text : S → List ℕ) (from : S) (old new : Seen) (place : ℕ) (before after : Held) (failed : Bool) (stop : Stop) : Type 0 where
+  pub at : S
+  pub cause :
+      (Stalls g is_built from old new place at stop × PutsText text from at before after × (failed ≡ false))
+      ⊎ (BreaksStreaming g text from old new before after at stop × (failed ≡ true))
 
 -- whether the next element of a cell is built: all but the length and the total of a long value
 abbrev pub is_built_cell : CellPart → List ℕ → Bool

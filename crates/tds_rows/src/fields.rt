@@ -1,8 +1,7 @@
 // A field in its line, with the comma before it and the end of the line behind it.
 ghost use Rattle.std.specs.Prelude.{◌≡◌, ◌+◌, ◌≤◌, ◌++◌, ℕ, List, false, is_ok, length, take, IsTrue, MatchOption, IfSome};
 ghost use Rattle.tds_csv.specs.Quoting.{null_field};
-ghost use Rattle.tds_rows.specs.Reading.{IsValueText, end_behind, in_line};
-ghost use Rattle.tds_rows.specs.Streams.{behind_comma};
+ghost use Rattle.tds_rows.specs.CellSteps.{IsValueText, behind_comma, end_behind, in_line};
 ghost use Rattle.tds_values.specs.Kind as kinds;
 ghost use Rattle.tds_values.specs.Scalar.{read_of};
 
@@ -69,7 +68,9 @@ pub(crate) fn write_value(
     requires scalar { IsTrue (kinds.is_scalar kind.now) }
     requires room { CELL_ROOM ≤ length to.old }
     ensures most { IfSome result (λ made. made ≤ TEXT_ROOM) }
-    ensures gives { MatchOption result (is_ok (read_of kind.now bytes.now) ≡ false) (λ made. IsValueText kind.now column last bytes.now (take made to.new)) }
+    ensures gives { MatchOption result
+        (is_ok (read_of kind.now bytes.now) ≡ false)
+        (λ made. IsValueText kind.now column last bytes.now (take made to.new)) }
 {
     let start = write_comma(column, to);
     match write_scalar(kind, bytes, &mut to[start..]) {

@@ -4,19 +4,20 @@ ghost use Rattle.tds_columns.specs.View.{columns_of};
 ghost use Rattle.tds_csv.specs.Conversion.{Conversion};
 ghost use Rattle.tds_csv.specs.Sinks.{IsReady, IsWriting, LeavesSink, held, stop_of};
 ghost use Rattle.tds_packet.specs.Payloads.{IsGoing, IsOnSame, IsSound, LeavesPayload, seen};
-ghost use Rattle.tds_packet.specs.Reading.{StopsReading};
-ghost use Rattle.tds_rows.specs.Calls.{CellPut, CellRead, RowPut};
 ghost use Rattle.tds_rows.specs.Cells.{LongShape, ScalarBytes, ScalarLength, cell, cell_size, cell_start, shape, shape_of_length};
-ghost use Rattle.tds_rows.specs.Reading.{ReadsValue, StallsCell};
+ghost use Rattle.tds_rows.specs.CellSteps.{CellPut, CellRead, StallsCell, ValueRead};
+ghost use Rattle.tds_rows.specs.RowSteps.{RowPut, StopsAgain};
+ghost use Rattle.tds_rows.specs.Rows.{row_start};
 ghost use Rattle.tds_rows.specs.declared.Charset as sets;
 ghost use Rattle.tds_values.specs.Kind as kinds;
 
 use crate::Charset;
 use crate::fields::{write_null, write_value};
-use crate::lying::read_lying;
+use crate::buffered::read_buffered;
 use std::io::{Read, Write};
 use tds_columns::Columns;
 use tds_csv::Sink;
+use tds_meter::OUTPUT_ROOM;
 use tds_packet::{Fault, Payload, Place, Stop};
 use tds_values::{Kind, Reach};
 
@@ -67,9 +68,7 @@ fn read_value<R: Read>(
     requires longest { n ≤ LONGEST }
     ensures payload { LeavesPayload payload.old payload.new result }
     ensures most { IfOk result (λ made. made ≤ TEXT_ROOM) }
-    ensures gives { MatchResult result
-        (λ made. ReadsValue kind.now n column last (seen R.remaining payload.old) (seen R.remaining payload.new) payload.old.place payload.new.place (take made to.new))
-        (λ stop. StopsReading (cell column) (ScalarBytes kind.now n) (seen R.remaining payload.old) (seen R.remaining payload.new) payload.old.place (ScalarBytes kind.now n) stop) }
+    ensures gives { ValueRead R.remaining kind.now n column last payload.old payload.new to.new result }
 {
     let place = payload.place();
     let mut value = [0u8; LONGEST];
@@ -124,7 +123,8 @@ fn read_scalar_cell<R: Read>(
     requires room { CELL_ROOM ≤ length to.old }
     ensures payload { LeavesPayload payload.old payload.new result }
     ensures most { IfOk result (λ made. made ≤ TEXT_ROOM) }
-    ensures gives { CellRead R.remaining (cell_start kind.now (shape_of_length (kinds.fixed_length kind.now))) column last payload.old payload.new to.new result }
+    ensures gives { let from = cell_start kind.now (shape_of_length (kinds.fixed_length kind.now)) in
+        CellRead R.remaining from column last payload.old payload.new to.new result }
 {
     match kind.fixed_length() {
         Some(n) => read_value(payload, kind, n, column, last, to),
@@ -134,7 +134,8 @@ fn read_scalar_cell<R: Read>(
 
 // How many bytes the length or the total of a long value has.
 fn long_size(reach: Reach) -> usize
-    ensures value { (kind : Kind) (conversion : Conversion) → cell_size (cell_start kind (LongShape conversion reach)) ≡ result }
+    ensures value { (kind : Kind) (conversion : Conversion) →
+        cell_size (cell_start kind (LongShape conversion reach)) ≡ result }
     ensures most { result ≤ 8 }
 {
     match reach {
@@ -148,7 +149,8 @@ fn read_long<R: Read>(payload: &mut Payload<R>, reach: Reach) -> Stop
     requires going { IsGoing payload.old }
     ensures sound { IsSound payload.new }
     ensures same { IsOnSame payload.old payload.new }
-    ensures gives { (kind : Kind) (conversion : Conversion) (column : ℕ) → StallsCell (cell_start kind (LongShape conversion reach)) column (seen R.remaining payload.old) (seen R.remaining payload.new) payload.old.place result }
+    ensures gives { (kind : Kind) (conversion : Conversion) (column : ℕ) → let from = cell_start kind (LongShape conversion reach) in
+        StallsCell from column (seen R.remaining payload.old) (seen R.remaining payload.new) payload.old.place result }
 {
     let place = payload.place();
     let mut bytes = [0u8; 8];
@@ -175,7 +177,8 @@ fn read_cell<R: Read>(
     requires room { CELL_ROOM ≤ length to.old }
     ensures payload { LeavesPayload payload.old payload.new result }
     ensures most { IfOk result (λ made. made ≤ TEXT_ROOM) }
-    ensures gives { (charset : sets.Charset) → CellRead R.remaining (cell_start kind.now (shape charset kind.now)) column last payload.old payload.new to.new result }
+    ensures gives { (charset : sets.Charset) →
+        CellRead R.remaining (cell_start kind.now (shape charset kind.now)) column last payload.old payload.new to.new result }
 {
     match *kind {
         Kind::Binary(reach) | Kind::Narrow(reach) | Kind::Wide(reach) => {
@@ -200,7 +203,8 @@ fn put_across<R: Read, W: Write>(
     requires valid { IsTrue (kinds.is_valid kind.now) }
     ensures payload { LeavesPayload payload.old payload.new result }
     ensures sink { LeavesSink sink.old sink.new result }
-    ensures gives { (charset : sets.Charset) → CellPut R.remaining W.contents charset kind.now column last payload.old payload.new sink.old sink.new result }
+    ensures gives { (charset : sets.Charset) →
+        CellPut R.remaining W.contents charset kind.now column last payload.old payload.new sink.old sink.new result }
 {
     let mut text = [0u8; CELL_ROOM];
     let made = read_cell(payload, kind, column, last, &mut text)?;
@@ -219,13 +223,14 @@ fn put_in_room<R: Read, W: Write>(
     requires going { IsGoing payload.old }
     requires writing { IsWriting sink.old }
     requires valid { IsTrue (kinds.is_valid kind.now) }
-    requires room { length sink.old.output.now.bytes + CELL_ROOM ≤ 4096 }
+    requires room { length sink.old.output.now.bytes + CELL_ROOM ≤ OUTPUT_ROOM }
     ensures payload { LeavesPayload payload.old payload.new result }
     ensures sink { LeavesSink sink.old sink.new result }
-    ensures gives { (charset : sets.Charset) → CellPut R.remaining W.contents charset kind.now column last payload.old payload.new sink.old sink.new result }
+    ensures gives { (charset : sets.Charset) →
+        CellPut R.remaining W.contents charset kind.now column last payload.old payload.new sink.old sink.new result }
 {
     let waiting = sink.waiting() as usize;
-    match read_lying(payload, kind, column, last, sink.spare(CELL_ROOM)) {
+    match read_buffered(payload, kind, column, last, sink.spare(CELL_ROOM)) {
         Some(made) => sink.keep(waiting, made),
         None => match sink.keep(waiting, 0) {
             Ok(()) => put_across(payload, sink, kind, column, last),
@@ -248,7 +253,8 @@ fn put_cell<R: Read, W: Write>(
     requires valid { IsTrue (kinds.is_valid kind.now) }
     ensures payload { LeavesPayload payload.old payload.new result }
     ensures sink { LeavesSink sink.old sink.new result }
-    ensures gives { (charset : sets.Charset) → CellPut R.remaining W.contents charset kind.now column last payload.old payload.new sink.old sink.new result }
+    ensures gives { (charset : sets.Charset) →
+        CellPut R.remaining W.contents charset kind.now column last payload.old payload.new sink.old sink.new result }
 {
     if sink.room() < CELL_ROOM {
         put_across(payload, sink, kind, column, last)
@@ -273,9 +279,10 @@ pub fn row<R: Read, W: Write>(
     requires ready { IsReady sink.old }
     ensures payload { LeavesPayload payload.old payload.new result }
     ensures sink { LeavesSink sink.old sink.new result }
-    ensures gives { payload.old.stopped ≡ None → sink.old.failed ≡ false → RowPut R.remaining W.contents charset (columns_of columns.entry.bytes.now) payload.old payload.new sink.old sink.new result }
-    ensures stopped { IfSome payload.old.stopped (λ stop. (result ≡ Err stop) × (payload.new ≡ payload.old) × (sink.new ≡ sink.old)) }
-    ensures failed { payload.old.stopped ≡ None → sink.old.failed ≡ true → (result ≡ Err (stop_of (held W.contents sink.old))) × (payload.new ≡ payload.old) × (sink.new ≡ sink.old) }
+    ensures gives { payload.old.stopped ≡ None → sink.old.failed ≡ false →
+        RowPut R.remaining W.contents charset (row_start charset (columns_of columns.entry.bytes.now))
+        payload.old payload.new sink.old sink.new result }
+    ensures again { StopsAgain W.contents payload.old payload.new sink.old sink.new result }
 {
     if let Some(stop) = payload.stopped() {
         return Err(stop);

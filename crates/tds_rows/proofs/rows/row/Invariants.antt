@@ -3,7 +3,9 @@ use Rattle.tds_columns.specs.View.{columns_of}
 use Rattle.tds_columns.specs.Walking.{columns_left}
 use Rattle.tds_csv.specs.Sinks.{IsOnSameSink, IsWriting, held}
 use Rattle.tds_packet.specs.Payloads.{IsGoing, IsOnSame, seen}
-use Rattle.tds_rows.specs.Reading.{ReadsCells}
+use Rattle.tds_rows.specs.Rows.{row_start}
+use Rattle.tds_rows.specs.RowSteps.{ReadsCells}
+use Rattle.tds_rows.proofs.RowSteps.{coming}
 use Rattle.tds_rows.proofs.rows.row.Given as goal
 
 abbrev pub invariant-loop-column : goal.invariant-loop-column
@@ -16,6 +18,6 @@ invariant-loop-column g l = record {
   same_sink : IsOnSameSink l.initial.sink l.sink;
   counted : l.left ≡ length (columns_left l.walk);
   within : l.index + l.left ≤ 65535;
-  reads : ReadsCells l.fn.charset (columns_of l.fn.columns.bytes.now) (columns_left l.walk) (seen g.R.Read.remaining l.initial.payload) (seen g.R.Read.remaining l.payload) l.initial.payload.place l.payload.place
+  reads : ReadsCells l.fn.charset (row_start l.fn.charset (columns_of l.fn.columns.bytes.now)) (coming (columns_left l.walk) l.index) (seen g.R.Read.remaining l.initial.payload) (seen g.R.Read.remaining l.payload) l.initial.payload.place l.payload.place
       (held g.W.Write.contents l.initial.sink) (held g.W.Write.contents l.sink) l.index;
 }

@@ -1,6 +1,6 @@
 use Rattle.std.proofs.Common.{take, arith, rules}
-use Rattle.tds_rows.proofs.LyingCells.{fixed_written}
-use Rattle.tds_rows.proofs.lying.write_fixed.Goals as goal
+use Rattle.tds_rows.proofs.BufferedCells.{fixed_written}
+use Rattle.tds_rows.proofs.buffered.write_fixed.Goals as goal
 
 pub returns-in-Some-clause-gives : goal.returns-in-Some-clause-gives
 returns-in-Some-clause-gives c =

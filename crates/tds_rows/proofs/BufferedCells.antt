@@ -1,6 +1,6 @@
 -- Cells whose bytes lie whole in a packet.
-use Rattle.std.proofs.Common.{◌≡◌, ◌≢◌, ◌∙◌, ℕ, ◌+◌, ◌<◌, ◌≤◌, Bool, true, false, List, [], ◌∷◌, ◌++◌, length, take, drop, Result, Ok, Err, MatchResult, inl, inr, refl, sym, ap, subst, arith, length-take, length-drop}
-use Rattle.std.specs.Prelude.{None, ◌==◌, ◌||◌, is_ok, replicate, slice_index, if◌then◌else◌}
+use Rattle.std.proofs.Common.{◌≡◌, ◌≢◌, ◌∙◌, ℕ, ◌+◌, ◌-◌, ◌^◌, ◌<◌, ◌≤◌, Bool, true, false, List, [], ◌∷◌, ◌++◌, length, take, drop, Result, Ok, Err, MatchResult, inl, inr, refl, sym, ap, subst, arith, length-take, length-drop}
+use Rattle.std.specs.Prelude.{None, Option, ◌==◌, ◌||◌, is_ok, replicate, slice_index, if◌then◌else◌}
 use Rattle.std.proofs.lemmas.Bool.{ne_eqb}
 use Rattle.std.proofs.lemmas.List.{length-take-le}
 use lib.Seq.{take-add}
@@ -17,12 +17,14 @@ use Rattle.tds_packet.proofs.Choices.{choose_false}
 use Rattle.tds_packet.proofs.ElementLaws.{Spelt-none, Spelt-one}
 use Rattle.tds_csv.specs.Quoting.{null_field}
 use Rattle.tds_meter.specs.Lent.{overwritten}
-use Rattle.tds_csv.specs.Sinks.{Breaks, Held, Puts}
+use Rattle.tds_csv.specs.declared.sink.Sink.{Sink}
+use Rattle.tds_csv.specs.Sinks.{Breaks, Held, IsWriting, Puts, PutsPiece, held}
 use Rattle.tds_csv.proofs.Spares.{spare_before, spare_written}
-use Rattle.tds_csv.proofs.Sinks.{Breaks-after, Puts-trans}
+use Rattle.tds_csv.proofs.Streams.{breaks_behind, none_before}
+use Rattle.tds_rows.proofs.RowSteps.{at_once_breaks, at_once_streams}
 use Rattle.tds_rows.specs.declared.Charset.{Charset}
 use Rattle.tds_rows.specs.Cells.{CellPart, Null, ScalarBytes, ScalarCell, ScalarLength, WholeCell, cell, cell_start, shape, unless, value_part}
-use Rattle.tds_rows.specs.Reading.{IsValueText, PutsCell, ReadsCell, StopsCell, WritesCell, in_line}
+use Rattle.tds_rows.specs.CellSteps.{IsValueText, PutsCell, ReadsCell, StopsCell, WritesCell, cell_so_far, in_line}
 
 -- a value that is read has a length that is allowed
 read_allowed : (kind : Kind) (bytes : List ℕ) (value : ScalarValue) → read_of kind bytes ≡ Ok value → is_length_allowed kind (length bytes) ≡ true
@@ -93,9 +95,9 @@ counted_written column kind n last bytes text is some within x =
       text_is = x.2;
     }
 
-pub lying_reads : (from : CellPart) (column : ℕ) (last : Bool) (a b : Seen) (place place' : ℕ) (bytes text : List ℕ) → WritesCell from column last bytes text → Takes a b bytes (length bytes) → IsBetween b → place' ≡ place + length bytes
+pub buffered_reads : (from : CellPart) (column : ℕ) (last : Bool) (a b : Seen) (place place' : ℕ) (bytes text : List ℕ) → WritesCell from column last bytes text → Takes a b bytes (length bytes) → IsBetween b → place' ≡ place + length bytes
     → ReadsCell from column last a b place place' text
-lying_reads from column last a b place place' bytes text x takes between at = record {
+buffered_reads from column last a b place place' bytes text x takes between at = record {
   value = x.value;
   front = x.front;
   at = x.at;
@@ -114,9 +116,16 @@ lying_reads from column last a b place place' bytes text x takes between at = re
 pub cell_behind : {U : Type 0} (r : Result U Stop) (charset : Charset) (kind : Kind) (column : ℕ) (last : Bool) (a b : Seen) (place place' : ℕ) (h i j : Held) (failed : Bool) → Puts h i []
     → MatchResult r (λ _. PutsCell charset kind column last a b place place' i j) (λ stop. StopsCell charset kind column last a b place i j failed stop)
     → MatchResult r (λ _. PutsCell charset kind column last a b place place' h j) (λ stop. StopsCell charset kind column last a b place h j failed stop)
-cell_behind (Ok u) charset kind column last a b place place' h i j failed p x = record { text = x.text; reads = x.reads; puts = Puts-trans h i j [] x.text p x.puts }
-cell_behind (Err stop) charset kind column last a b place place' h i j failed p (inl x) = inl (x.0, Puts-trans h i j [] [] p x.1, x.2)
-cell_behind (Err stop) charset kind column last a b place place' h i j failed p (inr x) = inr (record { text = x.0.text; place' = x.0.place'; reads = x.0.reads; breaks = Breaks-after h i j [] x.0.text stop p x.0.breaks }, x.1)
+cell_behind (Ok u) charset kind column last a b place place' h i j failed p x =
+    let s = x.streams in
+    record { value = x.value; streams = record { bytes = s.bytes; spelt = s.spelt; takes = s.takes; puts = none_before (cell_so_far column last) (cell_start kind (shape charset kind)) (WholeCell x.value) h i j p s.puts }; place_is = x.place_is }
+cell_behind (Err stop) charset kind column last a b place place' h i j failed p x = record {
+  at = x.at;
+  cause = elim x.cause [
+    | inl y ↦ inl (y.0, none_before (cell_so_far column last) (cell_start kind (shape charset kind)) x.at h i j p y.1, y.2)
+    | inr y ↦ inr (breaks_behind (cell column) (cell_so_far column last) (cell_start kind (shape charset kind)) a b h i j x.at stop p y.0, y.1)
+  ];
+}
 
 module _ (h j : Held) (written : List ℕ) (n room : ℕ) (whole : length written ≡ room) (at : n ≡ length h.waiting) where
   -- what stands in the room that was lent
@@ -144,15 +153,25 @@ module _ (h j : Held) (written : List ℕ) (n room : ℕ) (whole : length writte
   kept_text (Ok u) made x = subst (λ (l : List ℕ). Puts h j (take made l)) behind (subst (λ (k : Held). Puts k j (take made (drop n lent))) same x)
   kept_text (Err stop) made x = subst (λ (l : List ℕ). Breaks h j (take made l) stop) behind (subst (λ (k : Held). Breaks k j (take made (drop n lent)) stop) same x)
 
-puts_cell : {U : Type 0} (r : Result U Stop) (charset : Charset) (kind : Kind) (column : ℕ) (last : Bool) (a b : Seen) (place place' : ℕ) (h j : Held) (failed : Bool) (text : List ℕ) → failed ≡ (if is_ok r then false else true)
+-- a cell whose text comes at once was read, and the text put, or a write of it failed
+pub puts_cell : {U : Type 0} (r : Result U Stop) (charset : Charset) (kind : Kind) (column : ℕ) (last : Bool) (a b : Seen) (place place' : ℕ) (h j : Held) (failed : Bool) (text : List ℕ) → h.delivered ≤ 2 ^ 64 - 1 → length h.waiting < 4096 → failed ≡ (if is_ok r then false else true)
     → ReadsCell (cell_start kind (shape charset kind)) column last a b place place' text → MatchResult r (λ _. Puts h j text) (λ stop. Breaks h j text stop)
     → MatchResult r (λ _. PutsCell charset kind column last a b place place' h j) (λ stop. StopsCell charset kind column last a b place h j failed stop)
-puts_cell (Ok u) charset kind column last a b place place' h j failed text is y x = record { text = text; reads = y; puts = x }
-puts_cell (Err stop) charset kind column last a b place place' h j failed text is y x = inr (record { text = text; place' = place'; reads = y; breaks = x }, is)
+puts_cell (Ok u) charset kind column last a b place place' h j failed text d few is y x = record { value = y.value; streams = at_once_streams kind (shape charset kind) column last a b place place' h j text y x; place_is = y.place_is }
+puts_cell (Err stop) charset kind column last a b place place' h j failed text d few is y x = record { at = y.at; cause = inr (at_once_breaks kind (shape charset kind) column last a b place place' h j text stop d few y x, is) }
+
+-- so it was, by one call of the sink
+pub put_cell : {W U : Type 0} (r : Result U Stop) (charset : Charset) (kind : Kind) (column : ℕ) (last : Bool) (a b : Seen) (place place' : ℕ) (contents : W → Option (List ℕ)) (old new : Sink W) (text : List ℕ) → IsWriting old
+    → ReadsCell (cell_start kind (shape charset kind)) column last a b place place' text → PutsPiece contents old new text r
+    → MatchResult r (λ _. PutsCell charset kind column last a b place place' (held contents old) (held contents new)) (λ stop. StopsCell charset kind column last a b place (held contents old) (held contents new) new.failed stop)
+put_cell (Ok u) charset kind column last a b place place' contents old new text going y x =
+    puts_cell (Ok u) charset kind column last a b place place' (held contents old) (held contents new) new.failed text going.ready.2 (going.ready.1 going.writing) x.failed y x.gives
+put_cell {U = U} (Err stop) charset kind column last a b place place' contents old new text going y x =
+    puts_cell {U = U} (Err stop) charset kind column last a b place place' (held contents old) (held contents new) new.failed text going.ready.2 (going.ready.1 going.writing) x.failed y (x.gives going.writing)
 
 -- a cell was written into the lent room, and kept
-pub kept_cell : {U : Type 0} (r : Result U Stop) (charset : Charset) (kind : Kind) (column : ℕ) (last : Bool) (a b : Seen) (place place' : ℕ) (h j : Held) (failed : Bool) (written : List ℕ) (made n room : ℕ) (whole : length written ≡ room) → failed ≡ (if is_ok r then false else true)
+pub kept_cell : {U : Type 0} (r : Result U Stop) (charset : Charset) (kind : Kind) (column : ℕ) (last : Bool) (a b : Seen) (place place' : ℕ) (h j : Held) (failed : Bool) (written : List ℕ) (made n room : ℕ) (whole : length written ≡ room) → h.delivered ≤ 2 ^ 64 - 1 → length h.waiting < 4096 → failed ≡ (if is_ok r then false else true)
     → (at : n ≡ length h.waiting) → ReadsCell (cell_start kind (shape charset kind)) column last a b place place' (take made written)
     → MatchResult r (λ _. Puts (lent_held h j written n room whole at) j (take made (drop n (lent h j written n room whole at)))) (λ stop. Breaks (lent_held h j written n room whole at) j (take made (drop n (lent h j written n room whole at))) stop)
     → MatchResult r (λ _. PutsCell charset kind column last a b place place' h j) (λ stop. StopsCell charset kind column last a b place h j failed stop)
-kept_cell r charset kind column last a b place place' h j failed written made n room whole is at y x = puts_cell r charset kind column last a b place place' h j failed (take made written) is y (kept_text h j written n room whole at r made x)
+kept_cell r charset kind column last a b place place' h j failed written made n room whole d few is at y x = puts_cell r charset kind column last a b place place' h j failed (take made written) d few is y (kept_text h j written n room whole at r made x)

@@ -1,7 +1,7 @@
 use Rattle.std.proofs.Common.{◌≡◌, ◌+◌, ◌-◌, ℕ, take, drop, get_or, refl, subst, arith, rules}
-use Rattle.tds_rows.specs.Reading.{IsValueText}
-use Rattle.tds_rows.proofs.LyingCells.{counted_written, null_written}
-use Rattle.tds_rows.proofs.lying.write_counted.Goals as goal
+use Rattle.tds_rows.specs.CellSteps.{IsValueText}
+use Rattle.tds_rows.proofs.BufferedCells.{counted_written, null_written}
+use Rattle.tds_rows.proofs.buffered.write_counted.Goals as goal
 
 pub returns-then-n-eq0-clause-gives : goal.returns-then-n-eq0-clause-gives
 returns-then-n-eq0-clause-gives c =

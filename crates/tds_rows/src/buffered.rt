@@ -2,7 +2,7 @@
 ghost use Rattle.std.specs.Prelude.{◌≡◌, ◌≤◌, ◌<◌, None, Some, length, take, IsTrue, IfSome};
 ghost use Rattle.tds_packet.specs.Payloads.{IsGoing, IsOnSame, seen};
 ghost use Rattle.tds_rows.specs.Cells.{ScalarBytes, ScalarLength, cell_start, shape};
-ghost use Rattle.tds_rows.specs.Reading.{ReadsCell, WritesCell};
+ghost use Rattle.tds_rows.specs.CellSteps.{CellFound, CellWritten};
 ghost use Rattle.tds_rows.specs.declared.Charset.{Charset};
 ghost use Rattle.tds_values.specs.Kind as kinds;
 
@@ -36,7 +36,7 @@ fn write_fixed(
     requires some { 0 < n }
     ensures used { IfSome result (λ written. written.used ≤ length bytes.now) }
     ensures most { IfSome result (λ written. written.made ≤ TEXT_ROOM) }
-    ensures gives { IfSome result (λ written. WritesCell (ScalarBytes kind.now n) column last (take written.used bytes.now) (take written.made to.new)) }
+    ensures gives { CellWritten (ScalarBytes kind.now n) column last bytes.now to.new result }
 {
     let used = n as usize;
     if bytes.len() < used {
@@ -62,7 +62,7 @@ fn write_counted(
     requires room { CELL_ROOM ≤ length to.old }
     ensures used { IfSome result (λ written. written.used ≤ length bytes.now) }
     ensures most { IfSome result (λ written. written.made ≤ TEXT_ROOM) }
-    ensures gives { IfSome result (λ written. WritesCell (ScalarLength kind.now) column last (take written.used bytes.now) (take written.made to.new)) }
+    ensures gives { CellWritten (ScalarLength kind.now) column last bytes.now to.new result }
 {
     if bytes.is_empty() {
         return None;
@@ -89,7 +89,8 @@ fn write_cell(kind: &Kind, column: u16, last: bool, bytes: &[u8], to: &mut [u8])
     requires room { CELL_ROOM ≤ length to.old }
     ensures used { IfSome result (λ written. written.used ≤ length bytes.now) }
     ensures most { IfSome result (λ written. written.made ≤ TEXT_ROOM) }
-    ensures gives { (charset : Charset) → IfSome result (λ written. WritesCell (cell_start kind.now (shape charset kind.now)) column last (take written.used bytes.now) (take written.made to.new)) }
+    ensures gives { (charset : Charset) →
+        CellWritten (cell_start kind.now (shape charset kind.now)) column last bytes.now to.new result }
 {
     if !kind.is_scalar() {
         return None;
@@ -104,7 +105,7 @@ fn write_cell(kind: &Kind, column: u16, last: bool, bytes: &[u8], to: &mut [u8])
 /// slice. It answers how many bytes the text has; none, and nothing is read, where the cell isn't
 /// whole, is refused or isn't a scalar.
 #[inline]
-pub(crate) fn read_lying<R: Read>(
+pub(crate) fn read_buffered<R: Read>(
     payload: &mut Payload<R>,
     kind: &Kind,
     column: u16,
@@ -118,11 +119,12 @@ pub(crate) fn read_lying<R: Read>(
     ensures same { IsOnSame payload.old payload.new }
     ensures most { IfSome result (λ made. made ≤ TEXT_ROOM) }
     ensures none { result ≡ None → payload.new ≡ payload.old }
-    ensures gives { (charset : Charset) → IfSome result (λ made. ReadsCell (cell_start kind.now (shape charset kind.now)) column last (seen R.remaining payload.old) (seen R.remaining payload.new) payload.old.place payload.new.place (take made to.new)) }
+    ensures gives { (charset : Charset) →
+        CellFound R.remaining charset kind.now column last payload.old payload.new to.new result }
 {
-    match write_cell(kind, column, last, payload.lying(), to) {
+    match write_cell(kind, column, last, payload.buffered(), to) {
         Some(written) => {
-            payload.pass(written.used);
+            payload.consume(written.used);
             Some(written.made)
         }
         None => None,

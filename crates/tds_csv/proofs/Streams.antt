@@ -1,0 +1,101 @@
+-- Calls that read by a grammar and put the text of what they read: one after another, and inside a greater grammar.
+use Rattle.std.proofs.Common.{◌≡◌, ◌∙◌, ℕ, ◌<◌, List, [], ◌++◌, length, sym, ap, subst, arith, append_assoc}
+use Rattle.tds_packet.specs.declared.fault.Fault.{Fault}
+use Rattle.tds_packet.specs.declared.fault.Stop.{Stop}
+use Rattle.tds_packet.specs.Elements.{Grammar, Inside, IsNext}
+use Rattle.tds_packet.specs.Seen.{Seen, Takes}
+use Rattle.tds_packet.proofs.ElementLaws.{Inside-Spelt, Spelt-append}
+use Rattle.tds_packet.proofs.Lifts.{next_inside}
+use Rattle.tds_packet.proofs.Steps.{takes_ahead, takes_both}
+use Rattle.tds_csv.specs.Sinks.{Held, Puts}
+use Rattle.tds_csv.specs.Streaming.{BreaksStreaming, PutsText, Streams}
+use Rattle.tds_csv.proofs.Sinks.{Puts-trans}
+
+-- the text between three states, put by two calls
+pub puts_both : {S : Type 0} (text : S → List ℕ) (s t u : S) (a b c : Held) → PutsText text s t a b → PutsText text t u b c → PutsText text s u a c
+puts_both text s t u a b c x y = (x.0 ++ y.0, sym (append_assoc (text s) x.0 y.0) ∙ ap (λ l. l ++ y.0) x.1 ∙ y.1, Puts-trans a b c x.0 y.0 x.2 y.2)
+
+-- nothing was put before
+pub none_before : {S : Type 0} (text : S → List ℕ) (s t : S) (a b c : Held) → Puts a b [] → PutsText text s t b c → PutsText text s t a c
+none_before text s t a b c p x = (x.0, x.1, Puts-trans a b c [] x.0 p x.2)
+
+module _ {S : Type 0} (g : Grammar S Fault) (text : S → List ℕ) where
+  -- nothing was put before a call whose write fails
+  pub breaks_behind : (s : S) (a b : Seen) (h i j : Held) (at : S) (stop : Stop) → Puts h i [] → BreaksStreaming g text s a b i j at stop → BreaksStreaming g text s a b h j at stop
+  breaks_behind s a b h i j at stop p x = record {
+    bytes = x.bytes;
+    element = x.element;
+    ahead = x.ahead;
+    spelt = x.spelt;
+    next = x.next;
+    takes = x.takes;
+    between = x.between;
+    middle = x.middle;
+    few = x.few;
+    puts = none_before text s at h i x.middle p x.puts;
+    more = x.more;
+    text_is = x.text_is;
+    breaks = x.breaks;
+  }
+
+  -- two calls that read on
+  abbrev pub streams_both : (s t u : S) (a b c : Seen) (h i j : Held) → Streams g text s a b h i t → Streams g text t b c i j u → Streams g text s a c h j u
+  streams_both s t u a b c h i j x y = record {
+    bytes = x.bytes ++ y.bytes;
+    spelt = Spelt-append g s x.bytes t y.bytes u x.spelt y.spelt;
+    takes = takes_both a b c x.bytes y.bytes x.takes y.takes;
+    puts = puts_both text s t u h i j x.puts y.puts;
+  }
+
+  -- a call that reads on, and one whose write fails
+  pub breaks_after : (s t : S) (a b c : Seen) (h i j : Held) (at : S) (stop : Stop) → Streams g text s a b h i t → BreaksStreaming g text t b c i j at stop → BreaksStreaming g text s a c h j at stop
+  breaks_after s t a b c h i j at stop x y = record {
+    bytes = x.bytes ++ y.bytes;
+    element = y.element;
+    ahead = y.ahead;
+    spelt = Spelt-append g s x.bytes t y.bytes at x.spelt y.spelt;
+    next = y.next;
+    takes = subst (λ l. Takes a c (l ++ y.ahead) (length l)) (sym (append_assoc x.bytes y.bytes y.element)) (takes_ahead a b c x.bytes (y.bytes ++ y.element) y.ahead x.takes y.takes);
+    between = y.between;
+    middle = y.middle;
+    few = y.few;
+    puts = puts_both text s t at h i y.middle x.puts y.puts;
+    more = y.more;
+    text_is = y.text_is;
+    breaks = y.breaks;
+  }
+
+-- A small grammar inside a big one, whose text is that of the small one behind a text that stands before it.
+module _ {S T : Type 0} (small : Grammar S Fault) (big : Grammar T Fault) (lift : S → T) (is : Inside small big lift) (text : S → List ℕ) (whole : T → List ℕ) (front : List ℕ) (text_is : (s : S) → front ++ text s ≡ whole (lift s)) where
+  -- what is added to the small text is added to the big one
+  added_inside : (s t : S) (more : List ℕ) → text s ++ more ≡ text t → whole (lift s) ++ more ≡ whole (lift t)
+  added_inside s t more e = ap (λ l. l ++ more) (sym (text_is s)) ∙ append_assoc front (text s) more ∙ ap (λ l. front ++ l) e ∙ text_is t
+
+  -- the text between two states of the small grammar is that between those of the big one
+  pub puts_inside : (s t : S) (a b : Held) → PutsText text s t a b → PutsText whole (lift s) (lift t) a b
+  puts_inside s t a b x = (x.0, added_inside s t x.0 x.1, x.2)
+
+  -- what is read and put by the small grammar is so by the big one
+  abbrev pub streams_inside : (from : S) (a b : Seen) (h i : Held) (to : S) → Streams small text from a b h i to → Streams big whole (lift from) a b h i (lift to)
+  streams_inside from a b h i to x = record { bytes = x.bytes; spelt = Inside-Spelt small big lift is from x.bytes to x.spelt; takes = x.takes; puts = puts_inside from to h i x.puts }
+
+  -- and so is a write that fails
+  pub breaks_inside : (from : S) (a b : Seen) (h i : Held) (at : S) (stop : Stop) → BreaksStreaming small text from a b h i at stop → BreaksStreaming big whole (lift from) a b h i (lift at) stop
+  breaks_inside from a b h i at stop x = record {
+    bytes = x.bytes;
+    element = x.element;
+    ahead = x.ahead;
+    spelt = Inside-Spelt small big lift is from x.bytes at x.spelt;
+    next = next_inside small big lift is at x.element some x.next;
+    takes = x.takes;
+    between = x.between;
+    middle = x.middle;
+    few = x.few;
+    puts = puts_inside from at h x.middle x.puts;
+    more = x.more;
+    text_is = added_inside at (small.add at x.element) x.more x.text_is ∙ ap whole (sym (is.add at x.element some));
+    breaks = x.breaks;
+  }
+    where
+      some : 0 < small.size at
+      some = let n : IsNext small at x.element = x.next in let s : 0 < length x.element = n.some in let w : length x.element ≡ small.size at = n.whole in omega arith

@@ -1,0 +1,134 @@
+-- What reading a cell and putting it into its line does.
+use Rattle.std.specs.Prelude.{◌≡◌, ◌+◌, ◌==◌, ℕ, Bool, true, false, List, [], ◌∷◌, ◌++◌, length, take, Option, Some, None, Result, Ok, IfSome, MatchResult, if◌then◌else◌}
+use Rattle.tds_values.specs.declared.kind.Kind.{Kind}
+use Rattle.tds_values.specs.declared.scalar.ScalarValue.{ScalarValue}
+use Rattle.tds_values.specs.Scalar.{read_of}
+use Rattle.tds_values.specs.ScalarText.{text_of}
+use Rattle.tds_packet.specs.declared.fault.Stop.{Stop}
+use Rattle.tds_packet.specs.Elements.{IsNext, Spelt}
+use Rattle.tds_packet.specs.declared.payload.Payload.{Payload}
+use Rattle.tds_packet.specs.Payloads.{seen}
+use Rattle.tds_packet.specs.Reading.{StopsReading}
+use Rattle.tds_packet.specs.Seen.{Seen, Takes, IsBetween}
+use Rattle.tds_columns.specs.Description.{Column}
+use Rattle.tds_csv.specs.Quoting.{line_end}
+use Rattle.tds_csv.specs.declared.sink.Sink.{Sink}
+use Rattle.tds_csv.specs.Sinks.{Held, held}
+use Rattle.tds_csv.specs.Streaming.{Streams}
+use Rattle.tds_rows.specs.declared.Charset.{Charset}
+use Rattle.tds_rows.specs.declared.buffered.Written.{Written}
+use Rattle.tds_rows.specs.Cells.{Cell, CellPart, ScalarBytes, WholeCell, cell, cell_add, cell_start, field, field_so_far, shape}
+use Rattle.tds_rows.specs.Unbuilt.{Stalls, StopsStreaming, is_built_cell}
+
+-- a field behind the comma that it has unless it is the first
+abbrev pub behind_comma : ℕ → List ℕ → List ℕ
+behind_comma column text = if column == 0 then text else 44 ∷ text
+
+-- what ends a line, behind its last field
+abbrev pub end_behind : Bool → List ℕ
+end_behind true = line_end
+end_behind false = []
+
+-- a field that is open, with the comma before it; nothing where it isn't
+abbrev pub opened : ℕ → Option (List ℕ) → List ℕ
+opened column None = []
+opened column (Some text) = behind_comma column text
+
+-- a field with the comma before it unless it is the first, and the end of the line behind it if it is the last
+abbrev pub in_line : ℕ → Bool → List ℕ → List ℕ
+in_line column last text = behind_comma column text ++ end_behind last
+
+-- whether no column follows
+abbrev pub is_last : List Column → Bool
+is_last [] = true
+is_last (c ∷ cs) = false
+
+-- The text is that of a scalar value of these bytes, in its line.
+abbrev pub IsValueText : Kind → ℕ → Bool → List ℕ → List ℕ → Type 0
+IsValueText kind column last bytes text = (value : ScalarValue) × (read_of kind bytes ≡ Ok value) × (text ≡ in_line column last (text_of value))
+
+-- the text so far of a cell in its line: nothing before its length is accepted, then a comma unless it is the first, and its field so far; and the end of the line behind it if it is the last
+abbrev pub cell_so_far : ℕ → Bool → CellPart → List ℕ
+cell_so_far column last (WholeCell cell) = in_line column last (field cell)
+cell_so_far column last part = opened column (field_so_far part)
+
+-- So many bytes of a scalar value were read, and this is its text in its line.
+pub record ReadsValue (kind : Kind) (n column : ℕ) (last : Bool) (old new : Seen) (place place' : ℕ) (text : List ℕ) : Type 0 where
+  pub bytes : List ℕ
+  pub whole : length bytes ≡ n
+  pub takes : Takes old new bytes (length bytes)
+  pub between : IsBetween new
+  pub place_is : place' ≡ place + length bytes
+  pub value : IsValueText kind column last bytes text
+
+-- A cell was read, of those whose text comes with the last element alone, and this is its text in its line.
+pub record ReadsCell (from : CellPart) (column : ℕ) (last : Bool) (old new : Seen) (place place' : ℕ) (text : List ℕ) : Type 0 where
+  pub value : Cell
+  pub front : List ℕ
+  pub at : CellPart
+  pub element : List ℕ
+  pub spelt : Spelt (cell column) from front at
+  pub next : IsNext (cell column) at element
+  pub whole : cell_add at element ≡ WholeCell value
+  pub quiet : field_so_far at ≡ None
+  pub takes : Takes old new (front ++ element) (length (front ++ element))
+  pub between : IsBetween new
+  pub place_is : place' ≡ place + length (front ++ element)
+  pub text_is : text ≡ in_line column last (field value)
+
+-- These bytes are a cell, of those whose text comes with the last element alone, and this is its text in its line.
+pub record WritesCell (from : CellPart) (column : ℕ) (last : Bool) (bytes text : List ℕ) : Type 0 where
+  pub value : Cell
+  pub front : List ℕ
+  pub at : CellPart
+  pub element : List ℕ
+  pub joined : front ++ element ≡ bytes
+  pub spelt : Spelt (cell column) from front at
+  pub next : IsNext (cell column) at element
+  pub whole : cell_add at element ≡ WholeCell value
+  pub quiet : field_so_far at ≡ None
+  pub text_is : text ≡ in_line column last (field value)
+
+-- The cell at the front of these bytes, so many of them, was written to the front of others.
+abbrev pub CellWritten : CellPart → ℕ → Bool → List ℕ → List ℕ → Option Written → Type 0
+CellWritten from column last bytes text result =
+    IfSome result (λ written. WritesCell from column last (take written.used bytes) (take written.made text))
+
+-- Reading a cell stopped before it had any text.
+pub record StallsCell (from : CellPart) (column : ℕ) (old new : Seen) (place : ℕ) (stop : Stop) : Type 0 where
+  pub at : CellPart
+  pub stalls : Stalls (cell column) is_built_cell from old new place at stop
+  pub quiet : field_so_far at ≡ None
+
+-- A cell was read, and its text put.
+pub record PutsCell (charset : Charset) (kind : Kind) (column : ℕ) (last : Bool) (old new : Seen) (place place' : ℕ) (before after : Held) : Type 0 where
+  pub value : Cell
+  pub streams : Streams (cell column) (cell_so_far column last) (cell_start kind (shape charset kind)) old new before after (WholeCell value)
+  pub place_is : place' ≡ place + length streams.bytes
+
+-- A cell wasn't read whole, is refused or isn't built, or a write of its text failed.
+abbrev pub StopsCell : Charset → Kind → ℕ → Bool → Seen → Seen → ℕ → Held → Held → Bool → Stop → Type 0
+StopsCell charset kind column last = StopsStreaming (cell column) is_built_cell (cell_so_far column last) (cell_start kind (shape charset kind))
+
+-- The value of a scalar cell was read, and its text stands at the front of these bytes, so many; or the reading stopped.
+abbrev pub ValueRead : {R : Type 0} → (R → Option (List ℕ)) → Kind → ℕ → ℕ → Bool → Payload R → Payload R → List ℕ → Result ℕ Stop → Type 0
+ValueRead remaining kind n column last old new text result = MatchResult result
+    (λ made. ReadsValue kind n column last (seen remaining old) (seen remaining new) old.place new.place (take made text))
+    (λ stop. StopsReading (cell column) (ScalarBytes kind n) (seen remaining old) (seen remaining new) old.place (ScalarBytes kind n) stop)
+
+-- A cell was read from this state on, and its text stands at the front of these bytes, so many; or the reading stopped.
+abbrev pub CellRead : {R : Type 0} → (R → Option (List ℕ)) → CellPart → ℕ → Bool → Payload R → Payload R → List ℕ → Result ℕ Stop → Type 0
+CellRead remaining from column last old new text result = MatchResult result
+    (λ made. ReadsCell from column last (seen remaining old) (seen remaining new) old.place new.place (take made text))
+    (λ stop. StallsCell from column (seen remaining old) (seen remaining new) old.place stop)
+
+-- A cell of this kind was read where it is whole in the packet, and its text stands at the front of these bytes, so many.
+abbrev pub CellFound : {R : Type 0} → (R → Option (List ℕ)) → Charset → Kind → ℕ → Bool → Payload R → Payload R → List ℕ → Option ℕ → Type 0
+CellFound remaining charset kind column last old new text result = IfSome result (λ made.
+    ReadsCell (cell_start kind (shape charset kind)) column last (seen remaining old) (seen remaining new) old.place new.place (take made text))
+
+-- A cell was read and its text put, or the call stopped.
+abbrev pub CellPut : {R W U : Type 0} → (R → Option (List ℕ)) → (W → Option (List ℕ)) → Charset → Kind → ℕ → Bool → Payload R → Payload R → Sink W → Sink W → Result U Stop → Type 0
+CellPut remaining contents charset kind column last old new before after result = MatchResult result
+    (λ _. PutsCell charset kind column last (seen remaining old) (seen remaining new) old.place new.place (held contents before) (held contents after))
+    (λ stop. StopsCell charset kind column last (seen remaining old) (seen remaining new) old.place (held contents before) (held contents after) after.failed stop)

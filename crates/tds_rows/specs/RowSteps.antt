@@ -1,0 +1,42 @@
+-- What reading a row and putting its line does. Its start is that of a ROW or of an NBCROW.
+use Rattle.std.specs.Prelude.{◌≡◌, ◌+◌, ℕ, Bool, List, length, Option, None, Some, false, true, Result, Err, IfSome, MatchResult}
+use Rattle.tds_packet.specs.declared.fault.Stop.{Stop}
+use Rattle.tds_packet.specs.declared.payload.Payload.{Payload}
+use Rattle.tds_packet.specs.Payloads.{seen}
+use Rattle.tds_packet.specs.Seen.{Seen}
+use Rattle.tds_columns.specs.Description.{Column}
+use Rattle.tds_csv.specs.declared.sink.Sink.{Sink}
+use Rattle.tds_csv.specs.Sinks.{Held, held, stop_of}
+use Rattle.tds_csv.specs.Streaming.{Streams}
+use Rattle.tds_rows.specs.declared.Charset.{Charset}
+use Rattle.tds_rows.specs.Cells.{Cell}
+use Rattle.tds_rows.specs.Rows.{RowPart, WholeRow, next_cell, row, row_so_far}
+use Rattle.tds_rows.specs.Unbuilt.{StopsStreaming, is_built_row}
+
+-- The first cells of a row were read and their text put, and these columns are still to come, each with whether it is NULL by its bit.
+pub record ReadsCells (charset : Charset) (start : RowPart) (left : List (Column × Bool)) (old new : Seen) (place place' : ℕ) (before after : Held) (column : ℕ) : Type 0 where
+  pub cells : List Cell
+  pub counted : length cells ≡ column
+  pub streams : Streams (row charset) row_so_far start old new before after (next_cell charset cells left)
+  pub place_is : place' ≡ place + length streams.bytes
+
+-- A row was read, and its line put.
+pub record ReadsRow (charset : Charset) (start : RowPart) (old new : Seen) (place place' : ℕ) (before after : Held) : Type 0 where
+  pub cells : List Cell
+  pub streams : Streams (row charset) row_so_far start old new before after (WholeRow cells)
+  pub place_is : place' ≡ place + length streams.bytes
+
+-- Reading a row stopped: at an element that is refused, cut or not built, with the text of the state that it reached; or in writing.
+abbrev pub RowStops : Charset → RowPart → Seen → Seen → ℕ → Held → Held → Bool → Stop → Type 0
+RowStops charset = StopsStreaming (row charset) is_built_row row_so_far
+
+-- A row was read and its line put, or the call stopped.
+abbrev pub RowPut : {R W U : Type 0} → (R → Option (List ℕ)) → (W → Option (List ℕ)) → Charset → RowPart → Payload R → Payload R → Sink W → Sink W → Result U Stop → Type 0
+RowPut remaining contents charset start old new before after result = MatchResult result
+    (λ _. ReadsRow charset start (seen remaining old) (seen remaining new) old.place new.place (held contents before) (held contents after))
+    (λ stop. RowStops charset start (seen remaining old) (seen remaining new) old.place (held contents before) (held contents after) after.failed stop)
+
+-- A payload or a sink that had stopped gives its stop again, the payload's first, and nothing changes.
+pub record StopsAgain {R W U : Type 0} (contents : W → Option (List ℕ)) (old new : Payload R) (before after : Sink W) (result : Result U Stop) : Type 0 where
+  pub stopped : IfSome old.stopped (λ stop. (result ≡ Err stop) × (new ≡ old) × (after ≡ before))
+  pub failed : old.stopped ≡ None → before.failed ≡ true → (result ≡ Err (stop_of (held contents before))) × (new ≡ old) × (after ≡ before)
