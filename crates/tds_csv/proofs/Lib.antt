@@ -17,3 +17,5 @@ pub mod PlainText
 pub mod Unquoted
 pub mod Encoding
 pub mod Puttings
+pub mod Pushings
+pub mod Utf16Seam
