@@ -74,12 +74,14 @@ pub trait Joiner: Sized {
     fn push<W: Write>(&mut self, piece: &[u8], sink: &mut Sink<'_, W>) -> Result<(), JoinFault>
         requires ready { IsReady sink.old }
         requires begun { begins (withheld self.old) }
-        ensures { PushesPiece W.contents begins rest text (withheld self.old) (withheld self.new) sink.old sink.new piece.now result };
+        ensures { PushesPiece W.contents begins rest text (withheld self.old) (withheld self.new)
+            sink.old sink.new piece.now result };
 
     /// Puts the text of the withheld bytes, which are whole.
     fn end<W: Write>(&mut self, sink: &mut Sink<'_, W>) -> Result<(), JoinFault>
         requires { IsReady sink.old }
-        ensures { EndsPieces W.contents UNIT fit begins text (withheld self.old) (withheld self.new) sink.old sink.new result };
+        ensures { EndsPieces W.contents UNIT fit begins text (withheld self.old) (withheld self.new)
+            sink.old sink.new result };
 
     ghost joins: { JoinsPieces fit begins rest text };
 

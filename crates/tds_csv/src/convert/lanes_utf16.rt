@@ -50,7 +50,8 @@ pub(crate) fn take_units(bytes: &[u8], at: usize, to: &mut [u8], made: usize) ->
     requires room { made + UNITS ≤ length to.old }
     ensures most { result ≤ UNITS }
     ensures within { at + 2 * result ≤ length bytes.now }
-    ensures taken { (out : List ℕ) × (take (made + result) to.new ≡ take made to.old ++ out) × (length out ≡ result)
+    ensures taken { (out : List ℕ) × (take (made + result) to.new ≡ take made to.old ++ out)
+        × (length out ≡ result)
         × Leads utf16.rest utf16.text (drop at bytes.now) (drop (at + 2 * result) bytes.now) out }
 {
     if bytes.len() - at < LANES {

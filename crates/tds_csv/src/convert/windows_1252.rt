@@ -37,7 +37,8 @@ fn take_plain(bytes: &[u8], at: usize, to: &mut [u8], made: usize) -> usize
     requires room { made + LANES ≤ length to.old }
     ensures most { result ≤ LANES }
     ensures within { at + result ≤ length bytes.now }
-    ensures taken { take (made + result) to.new ≡ take made to.old ++ windows_1252.text (take result (drop at bytes.now)) }
+    ensures taken { let run = take result (drop at bytes.now) in
+        take (made + result) to.new ≡ take made to.old ++ windows_1252.text run }
 {
     if bytes.len() - at < LANES {
         return 0;
@@ -70,10 +71,8 @@ fn convert_by_hand(bytes: &[u8], from: usize, end: usize, to: &mut [u8], start: 
     requires end { end ≤ length bytes.now }
     requires short { length bytes.now ≤ CHUNK }
     requires long { TEXT ≤ length to.old }
-    requires room { start ≤ 4 * from }
-    requires text { take start to.old ≡ windows_1252.text (take from bytes.now) }
-    ensures room { result ≤ 4 * end }
-    ensures text { take result to.new ≡ windows_1252.text (take end bytes.now) }
+    requires before { windows_1252.Converts bytes.now to.old from start }
+    ensures { windows_1252.Converts bytes.now to.new end result }
 {
     let mut at = from;
     let mut made = start;

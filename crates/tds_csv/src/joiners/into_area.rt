@@ -12,7 +12,8 @@ use tds_meter::Area;
 /// without a partner becomes U+FFFD, and quotes aren't doubled.
 pub fn utf16_into(units: &[u8], to: &mut Area)
     requires { length units.now % 2 ≡ 0 }
-    ensures { to.new ≡ appended to.old (whole_within (to.old.room - length to.old.bytes) (utf16.characters units.now)) }
+    ensures { let room = to.old.room - length to.old.bytes in
+        to.new ≡ appended to.old (whole_within room (utf16.characters units.now)) }
 {
     let _room = to.free();
     let Ok(()) = to.append(b"") else {

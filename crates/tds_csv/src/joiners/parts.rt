@@ -20,7 +20,7 @@ pub(crate) trait Bytewise {
         requires { from ≤ length bytes.now }
         ensures after { from ≤ result }
         ensures within { result ≤ length bytes.now }
-        ensures plain { text (take (result - from) (drop from bytes.now)) ≡ take (result - from) (drop from bytes.now) };
+        ensures plain { let run = take (result - from) (drop from bytes.now) in text run ≡ run };
 
     /// Puts the text of a chunk.
     fn put_chunk<W: Write>(bytes: &[u8], sink: &mut Sink<'_, W>) -> Result<(), Stop>

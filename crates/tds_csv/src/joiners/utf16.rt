@@ -68,7 +68,8 @@ impl Utf16Joiner {
     fn put_kept<W: Write>(&self, piece: &[u8], sink: &mut Sink<'_, W>) -> Result<usize, Stop>
         requires writing { IsWriting sink.old }
         requires long { 3 ≤ length piece.now }
-        ensures puts { PutsPiece W.contents sink.old sink.new (emit utf16.rest utf16.text (seam self.now.kept piece.now)) result }
+        ensures puts { let put = emit utf16.rest utf16.text (seam self.now.kept piece.now) in
+            PutsPiece W.contents sink.old sink.new put result }
         ensures leads { let put = emit utf16.rest utf16.text (seam self.now.kept piece.now) in
             IfOk result (λ from. Leads utf16.rest utf16.text (self.now.kept ++ piece.now) (drop from piece.now) put) }
         ensures within { IfOk result (λ from. from ≤ 3) }
@@ -88,7 +89,8 @@ impl Utf16Joiner {
     fn push_long<W: Write>(&mut self, piece: &[u8], sink: &mut Sink<'_, W>) -> Result<(), JoinFault>
         requires writing { IsWriting sink.old }
         requires long { 3 ≤ length piece.now }
-        ensures { PushesPiece W.contents (λ _. ⊤) utf16.rest utf16.text self.old.kept self.new.kept sink.old sink.new piece.now result }
+        ensures { PushesPiece W.contents (λ _. ⊤) utf16.rest utf16.text self.old.kept self.new.kept
+            sink.old sink.new piece.now result }
     {
         let from = self.put_kept(piece, sink)?;
         let at = put_from(piece, from, sink)?;
@@ -105,7 +107,8 @@ impl Utf16Joiner {
     ) -> Result<(), JoinFault>
         requires writing { IsWriting sink.old }
         requires short { length piece.now ≤ 3 }
-        ensures { PushesPiece W.contents (λ _. ⊤) utf16.rest utf16.text self.old.kept self.new.kept sink.old sink.new piece.now result }
+        ensures { PushesPiece W.contents (λ _. ⊤) utf16.rest utf16.text self.old.kept self.new.kept
+            sink.old sink.new piece.now result }
     {
         let mut seam: Run<6> = Run::new();
         seam.extend(self.kept.bytes());

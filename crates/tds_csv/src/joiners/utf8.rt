@@ -39,7 +39,8 @@ impl Utf8Joiner {
     fn take_text<W: Write>(&mut self, bytes: &[u8], sink: &mut Sink<'_, W>) -> Result<(), JoinFault>
         requires writing { IsWriting sink.old }
         requires begun { utf8.Begins self.old.kept }
-        ensures { PushesPiece W.contents utf8.Begins utf8.rest utf8.text [] self.new.kept sink.old sink.new bytes.now result }
+        ensures { PushesPiece W.contents utf8.Begins utf8.rest utf8.text [] self.new.kept
+            sink.old sink.new bytes.now result }
     {
         let scan = put_whole(bytes, sink)?;
         self.kept.clear();
@@ -59,7 +60,8 @@ impl Utf8Joiner {
         requires writing { IsWriting sink.old }
         requires short { length piece.now ≤ 3 }
         requires begun { utf8.Begins self.old.kept }
-        ensures { PushesPiece W.contents utf8.Begins utf8.rest utf8.text self.old.kept self.new.kept sink.old sink.new piece.now result }
+        ensures { PushesPiece W.contents utf8.Begins utf8.rest utf8.text self.old.kept self.new.kept
+            sink.old sink.new piece.now result }
     {
         let mut seam: Run<6> = Run::new();
         seam.extend(self.kept.bytes());
@@ -78,7 +80,8 @@ impl Utf8Joiner {
         requires writing { IsWriting sink.old }
         requires long { 3 ≤ length piece.now }
         requires begun { utf8.Begins self.old.kept }
-        ensures { PushesPiece W.contents utf8.Begins utf8.rest utf8.text self.old.kept self.new.kept sink.old sink.new piece.now result }
+        ensures { PushesPiece W.contents utf8.Begins utf8.rest utf8.text self.old.kept self.new.kept
+            sink.old sink.new piece.now result }
     {
         self.push_short(&piece[..3], sink)?;
         let at = 3 - self.kept.bytes().len();

@@ -1,4 +1,4 @@
-use Rattle.std.proofs.Common.{◌∙◌, ◌<◌, ◌++◌, get_or, length, take, ap, sym, arith, rules}
+use Rattle.std.proofs.Common.{◌≡◌, ◌∙◌, ◌<◌, ◌++◌, get_or, length, take, ap, sym, arith, rules}
 use Rattle.std.specs.Char.{encode_utf8}
 use Rattle.tds_csv.specs.Quoting.{doubled}
 use Rattle.tds_csv.specs.Windows1252 as windows_1252
@@ -22,3 +22,8 @@ loop-at-preserved c =
       room = omega (arith, c.put_quoted-made.ensures.end, most, c.loop-at.invariant.room);
       text = c.put_quoted-made.ensures.written ∙ code ∙ text_next windows_1252.text windows_1252-append run bytes at more c.loop-at.invariant.text;
     }
+
+pub returns : goal.returns
+returns c =
+    let all : c.loop-at.at ≡ c.args.end = omega arith in
+    record { room = omega (arith, c.loop-at.invariant.room); text = c.loop-at.invariant.text ∙ ap (λ k. windows_1252.text (take k c.args.bytes.now)) all }
