@@ -1,12 +1,13 @@
 -- The fixed text of some bytes, put a part after the other.
-use Rattle.std.proofs.Common.{◌≡◌, ◌∙◌, ◌+◌, ◌-◌, ◌≤◌, ℕ, List, [], ◌++◌, length, take, drop, refl, sym, ap, subst, arith, append_assoc, length-append}
+use Rattle.std.proofs.Common.{◌≡◌, ◌∙◌, ◌+◌, ◌-◌, ◌≤◌, ℕ, List, [], ◌++◌, length, take, drop, Option, Result, Ok, Err, refl, sym, ap, subst, arith, append_assoc, length-append}
 use Rattle.std.proofs.lemmas.List.{take-append-drop}
 use Rattle.std.proofs.Math.Seq.{drop-append-add}
 use lib.Seq.{drop-drop, drop-append-le}
 use Rattle.tds_packet.specs.declared.fault.Stop.{Stop}
 use Rattle.tds_csv.specs.Joining.{JoinsPieces, Leads, emit}
-use Rattle.tds_csv.specs.Sinks.{Held, Puts, Breaks}
-use Rattle.tds_csv.proofs.Sinks.{Puts-trans, Breaks-after, Breaks-longer}
+use Rattle.tds_csv.specs.declared.sink.Sink.{Sink}
+use Rattle.tds_csv.specs.Sinks.{PutsPiece}
+use Rattle.tds_csv.proofs.Puttings.{PutsPiece-longer, PutsPiece-trans}
 
 module _ (rest text : List ℕ → List ℕ) where
   pub Leads-none : (xs : List ℕ) → Leads rest text xs xs []
@@ -40,24 +41,21 @@ module _ (rest text : List ℕ → List ℕ) where
       let none : length xs - length (rest xs) ≡ 0 = omega (arith, ap length e) in
       ap (λ n. text (take n xs)) none ∙ empty
 
-  -- the part before was put, and then what follows
-  pub puts_whole : (a b d : Held) (xs ys p : List ℕ) → Leads rest text xs ys p → Puts a b p → Puts b d (emit rest text ys) → Puts a d (emit rest text xs)
-  puts_whole a b d xs ys p l x y = subst (Puts a d) (sym l.emits) (Puts-trans a b d p (emit rest text ys) x y)
-
-  -- the part before was put, and in what follows a write failed
-  pub breaks_whole : (a b d : Held) (xs ys p : List ℕ) (stop : Stop) → Leads rest text xs ys p → Puts a b p → Breaks b d (emit rest text ys) stop → Breaks a d (emit rest text xs) stop
-  breaks_whole a b d xs ys p stop l x y = subst (λ t. Breaks a d t stop) (sym l.emits) (Breaks-after a b d p (emit rest text ys) stop x y)
+  -- the part before was put, and then what follows was, or a write of it failed
+  pub puts_whole : {W U V : Type 0} (contents : W → Option (List ℕ)) (a b d : Sink W) (xs ys p : List ℕ) (u : U) (r : Result V Stop) → Leads rest text xs ys p
+      → PutsPiece contents a b p (Ok u) → PutsPiece contents b d (emit rest text ys) r → PutsPiece contents a d (emit rest text xs) r
+  puts_whole contents a b d xs ys p u r l x y = subst (λ t. PutsPiece contents a d t r) (sym l.emits) (PutsPiece-trans contents a b d u p (emit rest text ys) r x y)
 
   -- a write failed in the part before
-  pub breaks_part : (a b : Held) (xs ys p : List ℕ) (stop : Stop) → Leads rest text xs ys p → Breaks a b p stop → Breaks a b (emit rest text xs) stop
-  breaks_part a b xs ys p stop l x = subst (λ t. Breaks a b t stop) (sym l.emits) (Breaks-longer a b p (emit rest text ys) stop x)
+  pub puts_part : {W U : Type 0} (contents : W → Option (List ℕ)) (a b : Sink W) (xs ys p : List ℕ) (e : Stop) → Leads rest text xs ys p
+      → PutsPiece {U = U} contents a b p (Err e) → PutsPiece {U = U} contents a b (emit rest text xs) (Err e)
+  puts_part {U = U} contents a b xs ys p e l x = subst (λ t. PutsPiece {U = U} contents a b t (Err e)) (sym l.emits) (PutsPiece-longer contents a b p (emit rest text ys) e x)
 
-  -- a write failed in the next chunk
-  pub breaks_chunk : {fit begins : List ℕ → Type 0} (laws : JoinsPieces fit begins rest text) (a b : Held) (xs : List ℕ) (n : ℕ) (stop : Stop) → begins xs → Breaks a b (emit rest text (take n xs)) stop → Breaks a b (emit rest text xs) stop
-  breaks_chunk {fit} {begins} laws a b xs n stop h x =
+  -- the first chunk of some bytes
+  pub Leads-front : {fit begins : List ℕ → Type 0} (laws : JoinsPieces fit begins rest text) (xs : List ℕ) (n : ℕ) → begins xs → Leads rest text xs (rest (take n xs) ++ drop n xs) (emit rest text (take n xs))
+  Leads-front {fit} {begins} laws xs n h =
       let whole : take n xs ++ drop n xs ≡ xs = take-append-drop n xs in
-      subst (λ l. Breaks a b (emit rest text l) stop) whole
-      (breaks_part a b (take n xs ++ drop n xs) (rest (take n xs) ++ drop n xs) (emit rest text (take n xs)) stop (Leads-chunk laws (take n xs) (drop n xs) (subst begins (sym whole) h)) x)
+      subst (λ l. Leads rest text l (rest (take n xs) ++ drop n xs) (emit rest text (take n xs))) whole (Leads-chunk laws (take n xs) (drop n xs) (subst begins (sym whole) h))
 
   -- withheld bytes and the first ones of a piece
   seam : (kept piece : List ℕ) (n : ℕ) → (kept ++ take n piece) ++ drop n piece ≡ kept ++ piece
@@ -77,9 +75,10 @@ module _ (rest text : List ℕ → List ℕ) where
       subst (λ l. Leads rest text (kept ++ piece) l (emit rest text bytes)) others
       (subst (λ l. Leads rest text l (rest bytes ++ more) (emit rest text bytes)) whole (Leads-chunk laws bytes more (subst begins (sym whole) h)))
 
-  pub breaks_seam : {fit begins : List ℕ → Type 0} (laws : JoinsPieces fit begins rest text) (a b : Held) (kept piece bytes : List ℕ) (n : ℕ) (stop : Stop) → bytes ≡ kept ++ take n piece → begins (kept ++ piece)
-      → Breaks a b (emit rest text bytes) stop → Breaks a b (emit rest text (kept ++ piece)) stop
-  breaks_seam {fit} {begins} laws a b kept piece bytes n stop is h x =
-      let whole : bytes ++ drop n piece ≡ kept ++ piece = ap (λ l. l ++ drop n piece) is ∙ seam kept piece n in
-      subst (λ l. Breaks a b (emit rest text l) stop) whole
-      (breaks_part a b (bytes ++ drop n piece) (rest bytes ++ drop n piece) (emit rest text bytes) stop (Leads-chunk laws bytes (drop n piece) (subst begins (sym whole) h)) x)
+  -- withheld bytes with the first ones of a piece are the first chunk of both
+  pub Leads-seam-front : {fit begins : List ℕ → Type 0} (laws : JoinsPieces fit begins rest text) (kept piece : List ℕ) (n : ℕ) → begins (kept ++ piece)
+      → Leads rest text (kept ++ piece) (rest (kept ++ take n piece) ++ drop n piece) (emit rest text (kept ++ take n piece))
+  Leads-seam-front {fit} {begins} laws kept piece n h =
+      let whole = seam kept piece n in
+      subst (λ l. Leads rest text l (rest (kept ++ take n piece) ++ drop n piece) (emit rest text (kept ++ take n piece))) whole
+      (Leads-chunk laws (kept ++ take n piece) (drop n piece) (subst begins (sym whole) h))

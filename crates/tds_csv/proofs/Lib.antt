@@ -18,3 +18,5 @@ pub mod Unquoted
 pub mod Encoding
 pub mod Puttings
 pub mod Streams
+pub mod Pushings
+pub mod Utf16Seam

@@ -1,5 +1,5 @@
 -- Calls that put texts, one after another.
-use Rattle.std.proofs.Common.{◌≡◌, ◌∙◌, ℕ, true, false, List, [], ◌++◌, Option, Result, Ok, Err, refl, sym, subst}
+use Rattle.std.proofs.Common.{◌≡◌, ◌∙◌, ℕ, List, [], ◌++◌, Option, Result, Ok, Err, refl}
 use Rattle.std.specs.Result.{IsErrAnd}
 use Rattle.std.proofs.lemmas.Result.{err_from_is_err_and}
 use Rattle.tds_packet.specs.declared.fault.Stop.{Stop}
@@ -7,7 +7,7 @@ use Rattle.tds_csv.specs.declared.sink.Sink.{Sink}
 use Rattle.tds_csv.specs.Sinks.{IsWriting, IsOnSameSink, PutsPiece, held}
 use Rattle.tds_csv.proofs.Sinks.{Breaks-after, Breaks-longer, Puts-none, Puts-trans}
 
-same_sink_after : {W : Type 0} (a b c : Sink W) → IsOnSameSink a b → IsOnSameSink b c → IsOnSameSink a c
+pub same_sink_after : {W : Type 0} (a b c : Sink W) → IsOnSameSink a b → IsOnSameSink b c → IsOnSameSink a c
 same_sink_after a b c x y = (y.0 ∙ x.0, y.1 ∙ x.1, y.2 ∙ x.2)
 
 -- nothing is put
@@ -37,6 +37,10 @@ PutsPiece-trans contents a b c u p q (Err e) x y = record {
   again = λ failed. absurd (cc ((x.again failed).0));
 }
 
+-- the value of a success says nothing
+pub PutsPiece-ok : {W U V : Type 0} (contents : W → Option (List ℕ)) (a b : Sink W) (p : List ℕ) (u : U) (v : V) → PutsPiece contents a b p (Ok u) → PutsPiece contents a b p (Ok v)
+PutsPiece-ok contents a b p u v x = record { ready = x.ready; same = x.same; failed = x.failed; gives = x.gives; again = λ failed. absurd (cc ((x.again failed).0)) }
+
 -- a call that failed, of a longer text
 pub PutsPiece-longer : {W U V : Type 0} (contents : W → Option (List ℕ)) (a b : Sink W) (p more : List ℕ) (e : Stop) → PutsPiece {U = U} contents a b p (Err e) → PutsPiece {U = V} contents a b (p ++ more) (Err e)
 PutsPiece-longer contents a b p more e x = record {
@@ -47,7 +51,13 @@ PutsPiece-longer contents a b p more e x = record {
   again = λ failed. (cc ((x.again failed).0), (x.again failed).1);
 }
 
--- `?` passed its error on
+-- `?` passed its error on, of the same text
+pub PutsPiece-error : {W U V : Type 0} (contents : W → Option (List ℕ)) (a b : Sink W) (p : List ℕ) (e : Stop) (r : Result V Stop) → IsErrAnd r (λ stop. stop ≡ e) → PutsPiece {U = U} contents a b p (Err e) → PutsPiece contents a b p r
+PutsPiece-error contents a b p e r is x =
+    let q = err_from_is_err_and r is in
+    rw (q.1, q.2) (record { ready = x.ready; same = x.same; failed = x.failed; gives = x.gives; again = λ failed. (cc ((x.again failed).0), (x.again failed).1) })
+
+-- and of a longer one
 pub PutsPiece-passed : {W U V : Type 0} (contents : W → Option (List ℕ)) (a b : Sink W) (p more : List ℕ) (e : Stop) (r : Result V Stop) → IsErrAnd r (λ stop. stop ≡ e) → PutsPiece {U = U} contents a b p (Err e) → PutsPiece contents a b (p ++ more) r
 PutsPiece-passed contents a b p more e r is x =
     let q = err_from_is_err_and r is in

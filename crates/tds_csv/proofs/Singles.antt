@@ -1,12 +1,14 @@
 -- Data whose bytes each stand alone, put a run after the other.
-use Rattle.std.proofs.Common.{◌≡◌, ◌∙◌, ◌+◌, ◌<◌, ◌≤◌, ℕ, suc, ◌-◌, Bool, true, false, cond, List, [], ◌∷◌, ◌++◌, length, get_or, take, drop, refl, sym, ap, subst, arith}
+use Rattle.std.proofs.Common.{◌≡◌, ◌∙◌, ◌+◌, ◌<◌, ◌≤◌, ℕ, suc, ◌-◌, Bool, true, false, cond, List, [], ◌∷◌, ◌++◌, length, get_or, take, drop, Option, Result, Ok, Err, refl, sym, ap, subst, arith}
 use Rattle.std.specs.List.{prefix_len}
+use Rattle.std.specs.Result.{IsErrAnd}
 use Rattle.std.proofs.lemmas.List.{take-append-drop, take-take, take_more}
 use lib.Seq.{take-add}
 use lib.Lanes.{chunk}
 use Rattle.tds_packet.specs.declared.fault.Stop.{Stop}
-use Rattle.tds_csv.specs.Sinks.{Held, Puts, Breaks}
-use Rattle.tds_csv.proofs.Sinks.{Puts-trans, Breaks-after, Breaks-longer}
+use Rattle.tds_csv.specs.declared.sink.Sink.{Sink}
+use Rattle.tds_csv.specs.Sinks.{PutsPiece}
+use Rattle.tds_csv.proofs.Puttings.{PutsPiece-passed, PutsPiece-trans}
 
 pub joined : (t e : ℕ) (xs : List ℕ) → t ≤ e → take t xs ++ take (e - t) (drop t xs) ≡ take e xs
 joined t e xs h = sym (take-add t (e - t) xs) ∙ ap (λ k. take k xs) {y = e} (omega arith)
@@ -16,16 +18,19 @@ module _ (text : List ℕ → List ℕ) (appends : (x y : List ℕ) → text (x 
   runs t e xs h = sym (appends (take t xs) (take (e - t) (drop t xs))) ∙ ap text (joined t e xs h)
 
   -- one more run was put
-  pub runs-more : (a b d : Held) (t e : ℕ) (xs : List ℕ) → t ≤ e → Puts a b (text (take t xs)) → Puts b d (text (take (e - t) (drop t xs))) → Puts a d (text (take e xs))
-  runs-more a b d t e xs h p q = subst (Puts a d) (runs t e xs h) (Puts-trans a b d (text (take t xs)) (text (take (e - t) (drop t xs))) p q)
+  pub puts_more : {W U V : Type 0} (contents : W → Option (List ℕ)) (a b d : Sink W) (t e : ℕ) (xs run : List ℕ) (u : U) (v : V) → t ≤ e → text (take (e - t) (drop t xs)) ≡ run
+      → PutsPiece contents a b (text (take t xs)) (Ok u) → PutsPiece contents b d run (Ok v) → PutsPiece contents a d (text (take e xs)) (Ok v)
+  puts_more contents a b d t e xs run u v h is p q =
+      subst (λ l. PutsPiece contents a d l (Ok v)) (ap (λ l. text (take t xs) ++ l) (sym is) ∙ runs t e xs h) (PutsPiece-trans contents a b d u (text (take t xs)) run (Ok v) p q)
 
   -- a write failed in the next run
-  pub runs-break : (a b d : Held) (t e : ℕ) (xs : List ℕ) (stop : Stop) → t ≤ e → Puts a b (text (take t xs)) → Breaks b d (text (take (e - t) (drop t xs))) stop → Breaks a d (text xs) stop
-  runs-break a b d t e xs stop h p q =
-      let all : text (take e xs) ++ text (drop e xs) ≡ text xs = sym (appends (take e xs) (drop e xs)) ∙ ap text (take-append-drop e xs) in
-      let broke = Breaks-after a b d (text (take t xs)) (text (take (e - t) (drop t xs))) stop p q in
-      subst (λ l. Breaks a d l stop) all
-      (Breaks-longer a d (text (take e xs)) (text (drop e xs)) stop (subst (λ l. Breaks a d l stop) (runs t e xs h) broke))
+  pub puts_break : {W U V T : Type 0} (contents : W → Option (List ℕ)) (a b d : Sink W) (t e : ℕ) (xs run : List ℕ) (u : U) (stop : Stop) (r : Result T Stop) → t ≤ e → text (take (e - t) (drop t xs)) ≡ run
+      → PutsPiece contents a b (text (take t xs)) (Ok u) → PutsPiece {U = V} contents b d run (Err stop) → IsErrAnd r (λ s. s ≡ stop) → PutsPiece contents a d (text xs) r
+  puts_break contents a b d t e xs run u stop r h is p q passed =
+      let all : (text (take t xs) ++ run) ++ text (drop e xs) ≡ text xs =
+      ap (λ l. l ++ text (drop e xs)) (ap (λ l. text (take t xs) ++ l) (sym is) ∙ runs t e xs h) ∙ sym (appends (take e xs) (drop e xs)) ∙ ap text (take-append-drop e xs) in
+      subst (λ l. PutsPiece contents a d l r) all
+      (PutsPiece-passed contents a d (text (take t xs) ++ run) (text (drop e xs)) stop r passed (PutsPiece-trans contents a b d u (text (take t xs)) run (Err stop) p q))
 
   -- the text so far, with that of n more bytes
   pub text_more : (run bytes : List ℕ) (at n : ℕ) → run ≡ text (take at bytes) → run ++ text (take n (drop at bytes)) ≡ text (take (at + n) bytes)

@@ -1,16 +1,29 @@
 -- Pieces of text in UTF-8, one after the other.
-use Rattle.std.proofs.Common.{◌≡◌, ◌∙◌, ℕ, ◌+◌, ◌-◌, ◌<◌, ◌≤◌, List, [], ◌++◌, length, take, drop, ◌⊎◌, inl, inr, refl, sym, ap, subst, arith, append_assoc, append-nil, length-append, length-drop, length-take-le}
+use Rattle.std.proofs.Common.{◌≡◌, ◌∙◌, ℕ, ◌+◌, ◌-◌, ◌<◌, ◌≤◌, List, [], ◌++◌, length, take, drop, ◌⊎◌, inl, inr, Option, Result, Ok, Err, refl, sym, ap, subst, arith, append_assoc, append-nil, length-append, length-drop, length-take-le}
 use Rattle.std.proofs.lemmas.Bool.{cases_lt}
 use Rattle.std.proofs.lemmas.List.{take-append-drop, take-take, take-append-le, drop-append-le, take_all}
 use Rattle.std.proofs.Math.Seq.{drop-append-add, take-append-add, drop-append_seam}
 use Rattle.tds_packet.specs.declared.fault.Stop.{Stop}
 use Rattle.tds_csv.specs.Joining.{emit}
-use Rattle.tds_csv.specs.Pushing.{Takes, TakesUpTo}
-use Rattle.tds_csv.specs.Sinks.{Held, Puts, Breaks}
+use Rattle.std.specs.Result.{IsErrAnd}
+use Rattle.std.proofs.lemmas.Result.{err_from_is_err_and}
+use Rattle.tds_csv.specs.declared.joiners.JoinFault.{JoinFault}
+use Rattle.tds_csv.specs.declared.joiners.JoinFault.TheVariants.{Stopped, Odd, BadText}
+use Rattle.tds_csv.specs.declared.sink.Sink.{Sink}
+use Rattle.tds_csv.specs.Pushing.{PushesPiece, TakesPiece, TakesUpTo}
+use Rattle.tds_csv.specs.Sinks.{Held, Puts, Breaks, held}
+use Rattle.tds_csv.proofs.Puttings.{same_sink_after}
 use Rattle.tds_csv.specs.Utf8.{Begins, rest, text}
 use Rattle.tds_csv.specs.Utf8Laws.{joins_utf8, emits, rest-append, front, front-rest}
 use Rattle.tds_csv.specs.Utf8Scan.{StopsAt}
 use Rattle.tds_csv.proofs.Sinks.{Puts-trans, Breaks-after, Breaks-longer}
+
+-- the answer of a push, by where its piece begins in another one
+abbrev pub behind : {V : Type 0} → ℕ → Result V JoinFault → Result V JoinFault
+behind n (Ok v) = Ok v
+behind n (Err (Stopped stop)) = Err (Stopped stop)
+behind n (Err Odd) = Err Odd
+behind n (Err (BadText k)) = Err (BadText (n + k))
 
 -- three bytes hold what is withheld
 pub scan_short : (bytes : List ℕ) (whole good : ℕ) → whole ≤ good → good ≤ length bytes → drop whole bytes ≡ rest bytes → (good ≡ length bytes → Begins bytes) → (good < length bytes → StopsAt bytes whole good) → good ≤ whole + 3
@@ -61,7 +74,7 @@ up_to_seam kept piece bytes new a b k is begun x =
     }
 
 -- a part of a piece was taken before, and then the next bytes
-pub takes_both : (kept mid new part more : List ℕ) (a b d : Held) → Takes Begins rest text kept mid a b part → Takes Begins rest text [] new b d (mid ++ more) → Takes Begins rest text kept new a d (part ++ more)
+pub takes_both : (kept mid new part more : List ℕ) (a b d : Held) → TakesPiece Begins rest text kept mid a b part → TakesPiece Begins rest text [] new b d (mid ++ more) → TakesPiece Begins rest text kept new a d (part ++ more)
 takes_both kept mid new part more a b d x y =
     let xs = kept ++ part in
     let whole : xs ++ more ≡ kept ++ (part ++ more) = append_assoc kept part more in
@@ -74,7 +87,7 @@ takes_both kept mid new part more a b d x y =
     }
 
 -- and then a write failed
-pub breaks_both : (kept mid part more : List ℕ) (a b d : Held) (stop : Stop) → Takes Begins rest text kept mid a b part → Breaks b d (emit rest text (mid ++ more)) stop → Breaks a d (emit rest text (kept ++ (part ++ more))) stop
+pub breaks_both : (kept mid part more : List ℕ) (a b d : Held) (stop : Stop) → TakesPiece Begins rest text kept mid a b part → Breaks b d (emit rest text (mid ++ more)) stop → Breaks a d (emit rest text (kept ++ (part ++ more))) stop
 breaks_both kept mid part more a b d stop x y =
     let xs = kept ++ part in
     let whole : xs ++ more ≡ kept ++ (part ++ more) = append_assoc kept part more in
@@ -83,7 +96,7 @@ breaks_both kept mid part more a b d stop x y =
     (Breaks-after a b d (emit rest text xs) (emit rest text (mid ++ more)) stop x.put y)
 
 -- and then a byte was bad
-pub up_to_both : (kept mid new part more : List ℕ) (a b d : Held) (j : ℕ) → Begins mid → Takes Begins rest text kept mid a b part → TakesUpTo Begins rest text [] new b d (mid ++ more) j
+pub up_to_both : (kept mid new part more : List ℕ) (a b d : Held) (j : ℕ) → Begins mid → TakesPiece Begins rest text kept mid a b part → TakesUpTo Begins rest text [] new b d (mid ++ more) j
     → TakesUpTo Begins rest text kept new a d (part ++ more) ((length part - length mid) + j) ⊎ (length part < length mid)
 up_to_both kept mid new part more a b d j begun x y = elim (cases_lt (length part) (length mid)) [
   | inl less ↦ inr less
@@ -97,13 +110,13 @@ up_to_both kept mid new part more a b d j begun x y = elim (cases_lt (length par
       let there : j + 1 ≡ length mid + (n + 1) = omega arith in
       let good : take j (mid ++ more) ≡ mid ++ take n more = ap (λ m. take m (mid ++ more)) here ∙ take-append-add mid more n in
       let next : take (j + 1) (mid ++ more) ≡ mid ++ take (n + 1) more = ap (λ m. take m (mid ++ more)) there ∙ take-append-add mid more (n + 1) in
-      let first : Takes Begins rest text [] new b d (mid ++ take n more) = subst (λ l. Takes Begins rest text [] new b d l) good y.good in
+      let first : TakesPiece Begins rest text [] new b d (mid ++ take n more) = subst (λ l. TakesPiece Begins rest text [] new b d l) good y.good in
       let whole : take k (part ++ more) ≡ part ++ take n more = ap (λ m. take m (part ++ more)) at ∙ take-append-add part more n in
       let longer : take (k + 1) (part ++ more) ≡ part ++ take (n + 1) more = ap (λ m. take m (part ++ more)) after ∙ take-append-add part more (n + 1) in
       let xs = kept ++ part in
       inl (record {
         within = omega (arith, y.within, length-append mid more, length-append part more);
-        good = subst (λ l. Takes Begins rest text kept new a d l) (sym whole) (takes_both kept mid new part (take n more) a b d x first);
+        good = subst (λ l. TakesPiece Begins rest text kept new a d l) (sym whole) (takes_both kept mid new part (take n more) a b d x first);
         bad = λ h. y.bad (subst Begins (ap (λ l. l ++ take (n + 1) more) (sym x.withheld) ∙ sym next)
             (joins_utf8.inward xs (take (n + 1) more) (subst Begins (ap (λ l. kept ++ l) longer ∙ sym (append_assoc kept part (take (n + 1) more))) h)));
       })
@@ -119,7 +132,7 @@ kept_ends kept part mid is le =
     sym (drop-append-add kept part n) ∙ ap (λ m. drop m xs) (sym at) ∙ ap (drop (length (front xs))) parts ∙ drop-append_seam (front xs) mid
 
 -- what is withheld begins a text
-pub takes_begun : (old new piece : List ℕ) (a b : Held) → Takes Begins rest text old new a b piece → Begins new
+pub takes_begun : (old new piece : List ℕ) (a b : Held) → TakesPiece Begins rest text old new a b piece → Begins new
 takes_begun old new piece a b x =
     let xs = old ++ piece in
     subst Begins (append-nil (rest xs) ∙ sym x.withheld) (joins_utf8.inward xs [] (subst Begins (sym (append-nil xs)) x.begun))
@@ -153,12 +166,12 @@ up_to_first kept piece new n a b k long x =
     let next : take (k + 1) (take n piece) ≡ take (k + 1) piece = take-take (k + 1) n piece (omega (arith, x.within)) in
     record {
       within = omega (arith, x.within);
-      good = subst (λ l. Takes Begins rest text kept new a b l) good x.good;
+      good = subst (λ l. TakesPiece Begins rest text kept new a b l) good x.good;
       bad = λ h. x.bad (subst (λ l. Begins (kept ++ l)) (sym next) h);
     }
 
 -- a byte was bad behind the first three bytes of a piece
-pub up_to_long : (kept piece mid new held : List ℕ) (a b d : Held) (j : ℕ) → 3 ≤ length piece → held ≡ mid → length held ≤ 3 → Begins mid → Takes Begins rest text kept mid a b (take 3 piece)
+pub up_to_long : (kept piece mid new held : List ℕ) (a b d : Held) (j : ℕ) → 3 ≤ length piece → held ≡ mid → length held ≤ 3 → Begins mid → TakesPiece Begins rest text kept mid a b (take 3 piece)
     → TakesUpTo Begins rest text [] new b d (mid ++ drop 3 piece) j → TakesUpTo Begins rest text kept new a d piece (3 - length held + j)
 up_to_long kept piece mid new held a b d j long same le begun x y =
     let part = take 3 piece in
@@ -171,3 +184,86 @@ up_to_long kept piece mid new held a b d j long same le begun x y =
           (subst (λ l. TakesUpTo Begins rest text kept new a d l ((length part - length mid) + j)) (take-append-drop 3 piece) found)
       | inr more ↦ absurd (omega arith)
     ]
+
+module _ {W : Type 0} (contents : W → Option (List ℕ)) where
+  -- bytes that are withheld, and a piece, taken as one up to a bad byte
+  pub pushes_seam : {U : Type 0} (a b : Sink W) (kept piece bytes new : List ℕ) (k : ℕ) → bytes ≡ kept ++ piece → Begins kept
+      → PushesPiece {U = U} contents Begins rest text [] new a b bytes (Err (BadText k)) → PushesPiece {U = U} contents Begins rest text kept new a b piece (Err (BadText (k - length kept)))
+  pushes_seam a b kept piece bytes new k is begun x = record {
+    ready = x.ready;
+    same = x.same;
+    failed = x.failed;
+    gives = up_to_seam kept piece bytes new (held contents a) (held contents b) k is begun x.gives;
+    begun = x.begun;
+    again = λ failed. absurd (cc ((x.again failed).0));
+  }
+
+  -- a push of the first bytes of a piece failed
+  pub pushes_first : {U : Type 0} (a b : Sink W) (kept piece new : List ℕ) (n : ℕ) (e : JoinFault) → n ≤ length piece
+      → PushesPiece {U = U} contents Begins rest text kept new a b (take n piece) (Err e) → PushesPiece {U = U} contents Begins rest text kept new a b piece (Err e)
+  pushes_first a b kept piece new n (Stopped stop) long x = record {
+    ready = x.ready;
+    same = x.same;
+    failed = x.failed;
+    gives = λ going. breaks_first kept piece n (held contents a) (held contents b) stop (x.gives going);
+    begun = x.begun;
+    again = x.again;
+  }
+  pushes_first a b kept piece new n Odd long x = absurd x.gives
+  pushes_first a b kept piece new n (BadText k) long x = record {
+    ready = x.ready;
+    same = x.same;
+    failed = x.failed;
+    gives = up_to_first kept piece new n (held contents a) (held contents b) k long x.gives;
+    begun = x.begun;
+    again = x.again;
+  }
+
+  -- and `?` passed its error on
+  pub pushes_passed : {U : Type 0} (a b : Sink W) (kept piece new : List ℕ) (n : ℕ) (e : JoinFault) (r : Result U JoinFault) → n ≤ length piece → IsErrAnd r (λ fault. fault ≡ e)
+      → PushesPiece {U = U} contents Begins rest text kept new a b (take n piece) (Err e) → PushesPiece contents Begins rest text kept new a b piece r
+  pushes_passed a b kept piece new n e r long is x =
+      let q = err_from_is_err_and r is in
+      rw (q.1, q.2) (pushes_first a b kept piece new n e long x)
+
+  -- the first three bytes of a piece were taken, and then what was withheld was pushed with the others
+  pub pushes_long : {U V : Type 0} (a b d : Sink W) (kept piece mid new held' : List ℕ) (u : U) (r : Result V JoinFault) → 3 ≤ length piece → held' ≡ mid → length held' ≤ 3
+      → PushesPiece contents Begins rest text kept mid a b (take 3 piece) (Ok u)
+      → PushesPiece contents Begins rest text [] new b d (take (length piece - (3 - length held')) (drop (3 - length held') piece)) r
+      → PushesPiece contents Begins rest text kept new a d piece (behind (3 - length held') r)
+  pushes_long a b d kept piece mid new held' u (Ok v) long same le x y =
+      let tail = kept_tail kept piece mid held' same long x.gives.withheld le in
+      record {
+        ready = y.ready;
+        same = same_sink_after a b d x.same y.same;
+        failed = y.failed;
+        gives = subst (λ l. TakesPiece Begins rest text kept new (held contents a) (held contents d) l) (take-append-drop 3 piece)
+            (takes_both kept mid new (take 3 piece) (drop 3 piece) (held contents a) (held contents b) (held contents d) x.gives
+            (subst (λ l. TakesPiece Begins rest text [] new (held contents b) (held contents d) l) tail y.gives));
+        begun = y.begun;
+        again = λ failed. absurd (cc ((x.again failed).0));
+      }
+  pushes_long a b d kept piece mid new held' u (Err (Stopped stop)) long same le x y =
+      let tail = kept_tail kept piece mid held' same long x.gives.withheld le in
+      record {
+        ready = y.ready;
+        same = same_sink_after a b d x.same y.same;
+        failed = y.failed;
+        gives = λ going. subst (λ l. Breaks (held contents a) (held contents d) (emit rest text (kept ++ l)) stop) (take-append-drop 3 piece)
+            (breaks_both kept mid (take 3 piece) (drop 3 piece) (held contents a) (held contents b) (held contents d) stop x.gives
+            (subst (λ l. Breaks (held contents b) (held contents d) (emit rest text l) stop) tail (y.gives x.failed)));
+        begun = y.begun;
+        again = λ failed. absurd (cc ((x.again failed).0));
+      }
+  pushes_long a b d kept piece mid new held' u (Err Odd) long same le x y = absurd y.gives
+  pushes_long a b d kept piece mid new held' u (Err (BadText k)) long same le x y =
+      let tail = kept_tail kept piece mid held' same long x.gives.withheld le in
+      record {
+        ready = y.ready;
+        same = same_sink_after a b d x.same y.same;
+        failed = y.failed;
+        gives = up_to_long kept piece mid new held' (held contents a) (held contents b) (held contents d) k long same le x.begun x.gives
+            (subst (λ l. TakesUpTo Begins rest text [] new (held contents b) (held contents d) l k) tail y.gives);
+        begun = y.begun;
+        again = λ failed. absurd (cc ((x.again failed).0));
+      }

@@ -1,5 +1,5 @@
 -- The conversions of the data of long values to text, by name, with tests of their facts.
-use Rattle.std.specs.Prelude.{ℕ, ◌==◌, ◌%◌, Bool, true, not, List, ◌∷◌, ◌++◌, length, is_some}
+use Rattle.std.specs.Prelude.{◌≡◌, ◌↔◌, ℕ, ◌==◌, ◌%◌, Bool, true, false, not, List, ◌∷◌, ◌++◌, length, is_some}
 use Rattle.std.specs.Str.{is_utf8}
 use Rattle.std.specs.Str.Lossy.{utf8_error_len}
 use Rattle.tds_csv.specs.Joining.{emit}
@@ -69,3 +69,17 @@ long_field conversion bytes = quoted_field (conversion_text conversion bytes)
 abbrev pub open_field : Conversion → List ℕ → List ℕ
 open_field HexDigits bytes = binary_mark ++ emit (conversion_rest HexDigits) (conversion_text HexDigits) bytes
 open_field conversion bytes = quote ∷ emit (conversion_rest conversion) (conversion_text conversion) bytes
+
+-- the field of such data stands in quotes
+abbrev pub is_quoted : Conversion → Bool
+is_quoted HexDigits = false
+is_quoted conversion = true
+
+-- A joiner with these facts and texts of its data, units and quotes does this conversion.
+pub record Suits (fit begins : List ℕ → Type 0) (rest text : List ℕ → List ℕ) (bytes_of_unit : ℕ) (quoted : Bool) (c : Conversion) : Type 0 where
+  pub fit_is : (bytes : List ℕ) → fit bytes ↔ IsFit c bytes
+  pub begins_is : (bytes : List ℕ) → begins bytes ↔ Begins c bytes
+  pub rest_is : (bytes : List ℕ) → rest bytes ≡ conversion_rest c bytes
+  pub text_is : (bytes : List ℕ) → text bytes ≡ conversion_text c bytes
+  pub unit_is : bytes_of_unit ≡ unit c
+  pub quoted_is : quoted ≡ is_quoted c

@@ -23,7 +23,7 @@ evens [] = []
 evens (low ∷ []) = []
 evens (low ∷ high ∷ bytes) = low ∷ evens bytes
 
--- their high bytes
+-- the high bytes of units, low byte first
 abbrev pub odds : List ℕ → List ℕ
 odds [] = []
 odds (low ∷ []) = []

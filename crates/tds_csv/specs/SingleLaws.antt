@@ -1,4 +1,5 @@
--- The conversions in which each byte stands alone.
+-- The laws of the conversions in which each byte stands alone, with their proofs. They stand here because the ghost members
+-- `appends`, `empty` and `joins` of the joiners cite them, and a `ghost use` of a crate can name its specs/ alone.
 use Rattle.std.proofs.Common.{◌≡◌, ℕ, ◌/◌, ◌%◌, List, [], ◌∷◌, ◌++◌, map, refl, sym, ap, ◌∙◌, arith, encode_utf8_all, slice_index}
 use Rattle.std.specs.Prelude.{⊤}
 use Rattle.std.proofs.lemmas.List.{map-append, append-nil}

@@ -1,5 +1,5 @@
 -- A sink as contracts see it, and what calls do to it.
-use Rattle.std.specs.Prelude.{◌≡◌, ℕ, ◌+◌, ◌-◌, ◌*◌, ◌^◌, ◌<◌, ◌≤◌, true, false, if◌then◌else◌, List, [], ◌++◌, length, take, Option, Result, Err, is_ok, MatchResult, OnOk}
+use Rattle.std.specs.Prelude.{◌≡◌, ℕ, ◌+◌, ◌-◌, ◌*◌, ◌^◌, ◌<◌, ◌≤◌, true, false, if◌then◌else◌, List, [], ◌++◌, length, take, Option, Result, Err, is_ok, MatchResult, OnOk, OnErr}
 use Rattle.std.specs.Io.KnownBytes.{Appends}
 use Rattle.tds_meter.specs.Counts.{counted, one_more}
 use Rattle.tds_packet.specs.declared.fault.Fault.TheVariants.{WriteFailed}
@@ -70,6 +70,23 @@ pub record PutsPiece {W U : Type 0} (contents : W → Option (List ℕ)) (old ne
   pub same : IsOnSameSink old new
   pub failed : new.failed ≡ (if is_ok result then false else true)
   pub gives : MatchResult result (λ _. Puts (held contents old) (held contents new) text) (λ stop. old.failed ≡ false → Breaks (held contents old) (held contents new) text stop)
+  pub again : old.failed ≡ true → (result ≡ Err (stop_of (held contents old))) × (new ≡ old)
+
+-- A delivery of all that waits, which leaves some of it where a write fails.
+pub record Delivers {W U : Type 0} (contents : W → Option (List ℕ)) (old new : Sink W) (result : Result U Stop) : Type 0 where
+  pub ready : IsReady new
+  pub same : IsOnSameSink old new
+  pub failed : new.failed ≡ (if is_ok result then false else true)
+  pub gives : MatchResult result (λ _. Sends (held contents old) (held contents new)) (λ stop. FinishFails (held contents old) (held contents new) stop)
+  pub rest : OnErr result (0 < length new.output.now.bytes)
+
+-- The end of a text: all that waits is delivered, and the writer flushed. After a failure it answers the same stop and does nothing.
+pub record FinishesSink {W U : Type 0} (contents : W → Option (List ℕ)) (old new : Sink W) (result : Result U Stop) : Type 0 where
+  pub ready : IsReady new
+  pub same : IsOnSameSink old new
+  pub failed : new.failed ≡ (if is_ok result then false else true)
+  pub gives : MatchResult result (λ _. Finishes (held contents old) (held contents new))
+      (λ stop. old.failed ≡ false → FinishFails (held contents old) (held contents new) stop)
   pub again : old.failed ≡ true → (result ≡ Err (stop_of (held contents old))) × (new ≡ old)
 
 -- A call left it ready, on the same writer and area, and writing where it answered no error.

@@ -1,12 +1,13 @@
 -- A sink whose room is lent for writing.
-use Rattle.std.specs.Prelude.{◌^◌, ◌-◌, ◌≤◌, ℕ, List, [], Option, length, replicate, take}
+use Rattle.std.specs.Prelude.{◌≡◌, ◌^◌, ◌-◌, ◌≤◌, ℕ, true, false, if◌then◌else◌, List, [], Option, Result, MatchResult, is_ok, length, drop, replicate, take}
 use Rattle.std.specs.Borrow.{Lends, Fml, RattleType, MutBor, Array, u8}
 use mir.Syntax.{named}
 use Rattle.tds_meter.specs.Lent.{with_tail}
 use Rattle.tds_meter.specs.Space.{appended}
 use Rattle.tds_csv.specs.declared.sink.Sink.{Sink}
 use Rattle.tds_csv.specs.contracts.sink.Sink.{the_row}
-use Rattle.tds_csv.specs.Sinks.{Held, held}
+use Rattle.tds_packet.specs.declared.fault.Stop.{Stop}
+use Rattle.tds_csv.specs.Sinks.{Breaks, Held, IsOnSameSink, IsReady, Puts, held}
 
 -- n bytes stand behind those that wait, and these are written over them
 abbrev pub with_spare : {W : Type 0} → Sink W → ℕ → List ℕ → Sink W
@@ -16,10 +17,19 @@ with_spare s n written = record s { output = record s.output { now = with_tail (
 abbrev pub LendsSpare : (W : RattleType) → MutBor (Sink W.Denot) → ℕ → MutBor (List ℕ) → Fml
 LendsSpare W s n r = Lends (the_row (record { mir = named 0; lft = [] }) W) (Array u8 0) s r (with_spare s.now n)
 
--- It has room for a block.
+-- It has room for a block, and no write has failed.
 abbrev pub IsLent : {W : Type 0} → Sink W → Type 0
-IsLent s = (4096 ≤ s.output.now.room) × (s.delivered ≤ 2 ^ 64 - 1) × (s.output.now.peak ≤ s.output.now.room)
+IsLent s = (4096 ≤ s.output.now.room) × (s.delivered ≤ 2 ^ 64 - 1) × (s.output.now.peak ≤ s.output.now.room) × (s.failed ≡ false)
 
 -- the sink without the bytes that stand behind the first ones, so many, that wait
 abbrev pub held_before : {W : Type 0} → (W → Option (List ℕ)) → Sink W → ℕ → Held
 held_before contents s waiting = record (held contents s) { waiting = take waiting s.output.now.bytes }
+
+-- Behind the first bytes, so many, that wait, so many of the others were put, and the rest was taken away.
+pub record KeepsPiece {W U : Type 0} (contents : W → Option (List ℕ)) (old new : Sink W) (waiting made : ℕ) (result : Result U Stop) : Type 0 where
+  pub ready : IsReady new
+  pub same : IsOnSameSink old new
+  pub failed : new.failed ≡ (if is_ok result then false else true)
+  pub gives : let piece = take made (drop waiting old.output.now.bytes) in MatchResult result
+      (λ _. Puts (held_before contents old waiting) (held contents new) piece)
+      (λ stop. Breaks (held_before contents old waiting) (held contents new) piece stop)

@@ -1,4 +1,5 @@
--- The laws of UTF-16 in pieces.
+-- The laws of UTF-16 in pieces, with their proofs. They stand here because the ghost member `joins` of the joiner cites
+-- `joins_utf16`, and a `ghost use` of a crate can name its specs/ alone.
 use Rattle.std.proofs.Common.{◌≡◌, ℕ, ◌+◌, ◌*◌, ◌%◌, ◌≤◌, ◌&&◌, Bool, true, false, cond, List, [], ◌∷◌, ◌++◌, length, map, refl, sym, ap, ◌∙◌, arith, encode_utf8_all, Some, unwrap_or}
 use Rattle.std.specs.Prelude.{⊤}
 use Rattle.std.proofs.lemmas.List.{map-append, length-append}

@@ -1,7 +1,7 @@
--- The character at the front of text in UTF-16.
-use Rattle.std.specs.Prelude.{◌≡◌, ℕ, List, ◌++◌, drop}
+-- The steps through text in UTF-16.
+use Rattle.std.specs.Prelude.{◌≡◌, ℕ, ◌+◌, ◌*◌, ◌≤◌, List, [], ◌∷◌, ◌++◌, length, drop, take}
 use Rattle.std.specs.Char.{encode_utf8}
-use Rattle.tds_csv.specs.Joining.{emit}
+use Rattle.tds_csv.specs.Joining.{Leads, emit}
 use Rattle.tds_csv.specs.Quoting.{doubled}
 use Rattle.tds_csv.specs.Utf16.{characters, rest, text}
 
@@ -10,3 +10,20 @@ pub record IsNext (bytes : List ℕ) (code len : ℕ) : Type 0 where
   pub emits : emit rest text bytes ≡ doubled (encode_utf8 code) ++ emit rest text (drop len bytes)
   pub keeps : rest bytes ≡ rest (drop len bytes)
   pub spells : characters bytes ≡ encode_utf8 code ++ characters (drop len bytes)
+
+-- The bytes before this place were converted, and the room so far holds their text.
+pub record Converts (bytes to : List ℕ) (used made : ℕ) : Type 0 where
+  pub within : used ≤ length bytes
+  pub room : 2 * made ≤ 3 * used
+  pub leads : Leads rest text bytes (drop used bytes) (take made to)
+
+-- What stands behind this place is the rest of the bytes from another place on.
+pub record LeavesRest (bytes : List ℕ) (from at : ℕ) : Type 0 where
+  pub within : at ≤ length bytes
+  pub rest : drop at bytes ≡ rest (drop from bytes)
+  pub most : length bytes ≤ at + 3
+
+-- the withheld bytes with three of the piece, if any are withheld
+abbrev pub seam : List ℕ → List ℕ → List ℕ
+seam [] piece = []
+seam (byte ∷ kept) piece = byte ∷ kept ++ take 3 piece

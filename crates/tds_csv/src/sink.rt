@@ -1,10 +1,11 @@
 // Text on its way to a writer.
-ghost use Rattle.std.specs.Prelude.{replicate, drop, ◌≡◌, codes, ◌+◌, ◌-◌, ◌<◌, ◌≤◌, [], ◌∷◌, List, ℕ, true, false, if◌then◌else◌, length, take, IfOk, OnOk, OnErr, MatchResult, IfErr, Err, is_ok};
-ghost use Rattle.tds_csv.specs.Quoting.{binary_mark, line_end, null_field, quote};
 ghost use Rattle.std.specs.Borrow.{sem};
-ghost use Rattle.tds_csv.specs.Spare.{IsLent, LendsSpare, held_before};
-ghost use Rattle.tds_csv.specs.Sinks.{Breaks, FinishFails, Finishes, IsWriting, IsOnSameSink, IsReady, Puts, PutsPiece, Sends, fresh, held, stop_of};
+ghost use Rattle.std.specs.Prelude.{◌≡◌, ◌+◌, ◌-◌, ◌≤◌, [], ◌∷◌, codes, if◌then◌else◌, length, replicate, Err, None, Ok, Some};
+ghost use Rattle.tds_csv.specs.Quoting.{binary_mark, line_end, null_field, quote};
+ghost use Rattle.tds_csv.specs.Sinks.{Delivers, FinishesSink, IsReady, IsWriting, PutsPiece, fresh, held, stop_of};
+ghost use Rattle.tds_csv.specs.Spare.{IsLent, KeepsPiece, LendsSpare};
 
+use crate::framing::{BINARY_MARK, COMMA, LINE_END, NULL, QUOTE};
 use std::io::Write;
 use tds_meter::Area;
 use tds_packet::{Counted, Fault, Place, Stop};
@@ -25,9 +26,8 @@ pub struct Sink<'a, W> {
 impl<'a, W: Write> Sink<'a, W> {
     /// A sink on a writer. The area has room for 4,096 bytes or more, and is emptied.
     pub fn new(to: &'a mut Counted<W>, output: &'a mut Area) -> Sink<'a, W>
-        requires { 4096 ≤ output.old.room }
-        ensures ready { IsReady result }
-        ensures going { result.failed ≡ false }
+        requires { BLOCK ≤ output.old.room }
+        ensures writing { IsWriting result }
         ensures to { result.to.ghost_name ≡ to.entry.ghost_name }
         ensures output { result.output.ghost_name ≡ output.entry.ghost_name }
         ensures room { result.output.now.room ≡ output.old.room }
@@ -66,8 +66,19 @@ impl<'a, W: Write> Sink<'a, W> {
         None
     }
 
+    // Answers that stop where a write or flush failed.
+    pub(crate) fn check(&self) -> Result<(), Stop>
+        ensures { result ≡ (if self.now.failed then Err (stop_of (held W.contents self.now)) else Ok tt) }
+    {
+        if self.failed {
+            return Err(self.stop());
+        }
+        Ok(())
+    }
+
+    // The stop of a write or flush that fails behind the bytes that were delivered.
     fn stop(&self) -> Stop
-        ensures { result ≡ record { fault = Fault.WriteFailed; place = Place.Text self.now.delivered } }
+        ensures { result ≡ stop_of (held W.contents self.now) }
     {
         Stop {
             fault: Fault::WriteFailed,
@@ -77,16 +88,8 @@ impl<'a, W: Write> Sink<'a, W> {
 
     // Delivers what waits.
     fn deliver(&mut self) -> Result<(), Stop>
-        requires room { 4096 ≤ self.old.output.now.room }
-        requires peak { self.old.output.now.peak ≤ self.old.output.now.room }
-        requires going { self.old.failed ≡ false }
-        ensures ready { IsReady self.new }
-        ensures same { IsOnSameSink self.old self.new }
-        ensures failed { self.new.failed ≡ (if is_ok result then false else true) }
-        ensures gives { MatchResult result
-            (λ _. Sends (held W.contents self.old) (held W.contents self.new))
-            (λ stop. FinishFails (held W.contents self.old) (held W.contents self.new) stop) }
-        ensures rest { OnErr result (0 < length self.new.output.now.bytes) }
+        requires { IsLent self.old }
+        ensures { Delivers W.contents self.old self.new result }
     {
         match self.to.deliver(self.output.bytes()) {
             Ok(()) => {
@@ -105,8 +108,8 @@ impl<'a, W: Write> Sink<'a, W> {
 
     // Adds a piece for which there is room, and delivers a full chunk.
     fn push(&mut self, piece: &[u8]) -> Result<(), Stop>
-        requires going { IsWriting self.old }
-        requires fits { length self.old.output.now.bytes + length piece.now ≤ 4096 }
+        requires writing { IsWriting self.old }
+        requires fits { length self.old.output.now.bytes + length piece.now ≤ BLOCK }
         ensures { PutsPiece W.contents self.old self.new piece.now result }
     {
         let Ok(()) = self.output.append(piece) else {
@@ -123,9 +126,7 @@ impl<'a, W: Write> Sink<'a, W> {
         requires { IsReady self.old }
         ensures { PutsPiece W.contents self.old self.new piece.now result }
     {
-        if self.failed {
-            return Err(self.stop());
-        }
+        self.check()?;
         let mut taken = 0;
         while taken < piece.len() {
             let n = (piece.len() - taken).min(BLOCK - self.output.len());
@@ -140,7 +141,7 @@ impl<'a, W: Write> Sink<'a, W> {
         requires { IsReady self.old }
         ensures { PutsPiece W.contents self.old self.new null_field result }
     {
-        self.put(b"NULL")
+        self.put(&NULL)
     }
 
     /// The text of a scalar field.
@@ -156,7 +157,7 @@ impl<'a, W: Write> Sink<'a, W> {
         requires { IsReady self.old }
         ensures { PutsPiece W.contents self.old self.new (quote ∷ []) result }
     {
-        self.put(b"\"")
+        self.put(&[QUOTE])
     }
 
     /// The quote behind a field of characters.
@@ -164,7 +165,7 @@ impl<'a, W: Write> Sink<'a, W> {
         requires { IsReady self.old }
         ensures { PutsPiece W.contents self.old self.new (quote ∷ []) result }
     {
-        self.put(&[b'"'])
+        self.put(&[QUOTE])
     }
 
     /// The mark before the digits of a binary field.
@@ -172,7 +173,7 @@ impl<'a, W: Write> Sink<'a, W> {
         requires { IsReady self.old }
         ensures { PutsPiece W.contents self.old self.new binary_mark result }
     {
-        self.put(b"0x")
+        self.put(&BINARY_MARK)
     }
 
     /// The comma between two fields.
@@ -180,7 +181,7 @@ impl<'a, W: Write> Sink<'a, W> {
         requires { IsReady self.old }
         ensures { PutsPiece W.contents self.old self.new (codes ",") result }
     {
-        self.put(b",")
+        self.put(&[COMMA])
     }
 
     /// The end of a line.
@@ -188,20 +189,20 @@ impl<'a, W: Write> Sink<'a, W> {
         requires { IsReady self.old }
         ensures { PutsPiece W.contents self.old self.new line_end result }
     {
-        self.put(b"\r\n")
+        self.put(&LINE_END)
     }
 
     /// How many bytes may be put before the next delivery is due.
     pub fn room(&self) -> usize
-        ensures { result ≡ 4096 - length self.now.output.now.bytes }
+        ensures { result ≡ BLOCK - length self.now.output.now.bytes }
     {
         BLOCK.saturating_sub(self.output.len())
     }
 
     /// Lends room behind the bytes that wait, to be written and then kept by [`Sink::keep`].
     pub fn spare(&mut self, n: usize) -> &mut [u8]
-        requires ready { IsReady self.old }
-        requires fits { length self.old.output.now.bytes + n ≤ 4096 }
+        requires writing { IsWriting self.old }
+        requires fits { length self.old.output.now.bytes + n ≤ BLOCK }
         ensures* lends { sem 𝓛 (LendsSpare W.row self.entry n result) }
         ensures value { result.now ≡ replicate n 0 }
     {
@@ -212,15 +213,9 @@ impl<'a, W: Write> Sink<'a, W> {
     /// so many bytes waited, and takes the others away.
     pub fn keep(&mut self, waiting: usize, made: usize) -> Result<(), Stop>
         requires lent { IsLent self.old }
-        requires going { self.old.failed ≡ false }
-        requires room { waiting + made ≤ 4096 }
+        requires room { waiting + made ≤ BLOCK }
         requires within { waiting + made ≤ length self.old.output.now.bytes }
-        ensures ready { IsReady self.new }
-        ensures same { IsOnSameSink self.old self.new }
-        ensures failed { self.new.failed ≡ (if is_ok result then false else true) }
-        ensures gives { let piece = take made (drop waiting self.old.output.now.bytes) in MatchResult result
-            (λ _. Puts (held_before W.contents self.old waiting) (held W.contents self.new) piece)
-            (λ stop. Breaks (held_before W.contents self.old waiting) (held W.contents self.new) piece stop) }
+        ensures { KeepsPiece W.contents self.old self.new waiting made result }
     {
         self.output.truncate(waiting + made);
         if self.output.len() == BLOCK {
@@ -232,17 +227,9 @@ impl<'a, W: Write> Sink<'a, W> {
     /// Delivers what waits and flushes the writer.
     pub fn finish(&mut self) -> Result<(), Stop>
         requires { IsReady self.old }
-        ensures ready { IsReady self.new }
-        ensures same { IsOnSameSink self.old self.new }
-        ensures failed { self.new.failed ≡ (if is_ok result then false else true) }
-        ensures gives { MatchResult result
-            (λ _. Finishes (held W.contents self.old) (held W.contents self.new))
-            (λ stop. self.old.failed ≡ false → FinishFails (held W.contents self.old) (held W.contents self.new) stop) }
-        ensures again { self.old.failed ≡ true → (result ≡ Err (stop_of (held W.contents self.old))) × (self.new ≡ self.old) }
+        ensures { FinishesSink W.contents self.old self.new result }
     {
-        if self.failed {
-            return Err(self.stop());
-        }
+        self.check()?;
         self.deliver()?;
         if self.to.flush() {
             return Ok(());

@@ -177,22 +177,51 @@ fn utf8_in_every_cutting(rt: HostRuntime) -> Result<(), Fail> {
     Ok(())
 }
 
+// Two pieces of text in UTF-8, the second of which is bad behind so many bytes.
+struct BadPiece {
+    name: &'static str,
+    first: &'static [u8],
+    second: &'static [u8],
+    good: usize,
+}
+
+const BAD_PIECES: [BadPiece; 4] = [
+    BadPiece {
+        name: "a surrogate",
+        first: b"",
+        second: b"\x41\xED\xA0",
+        good: 2,
+    },
+    BadPiece {
+        name: "an overlong form",
+        first: b"",
+        second: b"\xC0",
+        good: 0,
+    },
+    BadPiece {
+        name: "a character that isn't whole",
+        first: b"\xF0\x9F",
+        second: b"\x41",
+        good: 0,
+    },
+    BadPiece {
+        name: "beyond the last character",
+        first: b"\x41\xED",
+        second: b"\x9F\x80\x41\x42\xF4\x90",
+        good: 5,
+    },
+];
+
 #[test]
 fn the_first_bad_byte_of_utf8(rt: HostRuntime) -> Result<(), Fail> {
-    let rows: [(&[u8], &[u8], usize); 4] = [
-        (b"", b"\x41\xED\xA0", 2),
-        (b"", b"\xC0", 0),
-        (b"\xF0\x9F", b"\x41", 0),
-        (b"\x41\xED", b"\x9F\x80\x41\x42\xF4\x90", 5),
-    ];
-    for (first, second, good) in rows {
+    for row in &BAD_PIECES {
         let mut area = Area::new(rt.alloc(), 4096)?;
         let mut to = make_writer(rt.alloc(), 0, false);
         let mut sink = Sink::new(&mut to, &mut area);
         let mut joiner = Utf8Joiner::new();
-        joiner.push(first, &mut sink)?;
-        let pushed = joiner.push(second, &mut sink);
-        assert_eq!(rt; pushed, Err(JoinFault::BadText(good)));
+        joiner.push(row.first, &mut sink)?;
+        let pushed = joiner.push(row.second, &mut sink);
+        assert_eq!(rt; pushed, Err(JoinFault::BadText(row.good)), "{}", row.name);
     }
     let mut area = Area::new(rt.alloc(), 4096)?;
     let mut to = make_writer(rt.alloc(), 0, false);
@@ -205,37 +234,90 @@ fn the_first_bad_byte_of_utf8(rt: HostRuntime) -> Result<(), Fail> {
 }
 
 // How many bytes are put; the write and the flush that fail; the place of the stop, if any; what waits.
+struct Delivery {
+    name: &'static str,
+    len: usize,
+    bad_write: u8,
+    bad_flush: bool,
+    place: Option<u64>,
+    waiting: u64,
+}
+
+const DELIVERIES: [Delivery; 6] = [
+    Delivery {
+        name: "a byte less than a block",
+        len: 4095,
+        bad_write: 0,
+        bad_flush: false,
+        place: None,
+        waiting: 0,
+    },
+    Delivery {
+        name: "a block",
+        len: 4096,
+        bad_write: 0,
+        bad_flush: false,
+        place: None,
+        waiting: 0,
+    },
+    Delivery {
+        name: "a byte less than a block, whose write fails",
+        len: 4095,
+        bad_write: 1,
+        bad_flush: false,
+        place: Some(0),
+        waiting: 4095,
+    },
+    Delivery {
+        name: "a block whose write fails",
+        len: 4096,
+        bad_write: 1,
+        bad_flush: false,
+        place: Some(0),
+        waiting: 4096,
+    },
+    Delivery {
+        name: "a block before a flush that fails",
+        len: 4096,
+        bad_write: 0,
+        bad_flush: true,
+        place: Some(4096),
+        waiting: 0,
+    },
+    Delivery {
+        name: "a byte more than a block, whose second write fails",
+        len: 4097,
+        bad_write: 2,
+        bad_flush: false,
+        place: Some(4096),
+        waiting: 1,
+    },
+];
+
 #[test]
 fn a_block_is_delivered_at_once(rt: HostRuntime) -> Result<(), Fail> {
     let piece = [0x78; 4097];
-    let rows: [(usize, u8, bool, Option<u64>, u64); 6] = [
-        (4095, 0, false, None, 0),
-        (4096, 0, false, None, 0),
-        (4095, 1, false, Some(0), 4095),
-        (4096, 1, false, Some(0), 4096),
-        (4096, 0, true, Some(4096), 0),
-        (4097, 2, false, Some(4096), 1),
-    ];
-    for (len, bad_write, bad_flush, place, waiting) in rows {
+    for row in &DELIVERIES {
         let mut area = Area::new(rt.alloc(), 4096)?;
-        let mut to = make_writer(rt.alloc(), bad_write, bad_flush);
+        let mut to = make_writer(rt.alloc(), row.bad_write, row.bad_flush);
         let mut sink = Sink::new(&mut to, &mut area);
-        let put = sink.put(&piece[..len]);
+        let put = sink.put(&piece[..row.len]);
         if put.is_ok() {
-            let delivered = if len < 4096 { 0 } else { 4096 };
-            assert_eq!(rt; sink.delivered(), delivered, "{len} put");
+            let delivered = if row.len < 4096 { 0 } else { 4096 };
+            assert_eq!(rt; sink.delivered(), delivered, "{}: put", row.name);
         }
         let finished = sink.finish();
-        let want = match place {
+        let want = match row.place {
             Some(place) => Err(Stop {
                 fault: Fault::WriteFailed,
                 place: Place::Text(place),
             }),
             None => Ok(()),
         };
-        assert_eq!(rt; finished, want, "{len} finished");
-        assert_eq!(rt; sink.waiting(), waiting, "{len} left");
-        assert_eq!(rt; to.failures(), if place.is_some() { 1 } else { 0 });
+        assert_eq!(rt; finished, want, "{}: finished", row.name);
+        assert_eq!(rt; sink.waiting(), row.waiting, "{}: left", row.name);
+        let failures = if row.place.is_some() { 1 } else { 0 };
+        assert_eq!(rt; to.failures(), failures, "{}: failures", row.name);
     }
     Ok(())
 }
@@ -259,21 +341,94 @@ fn a_joiner_stops_with_its_sink(rt: HostRuntime) -> Result<(), Fail> {
     Ok(())
 }
 
-// The units of a, e with an acute accent, the euro sign and b, cut to five bytes; and a pair cut to three.
+// A message in UTF-16 that is cut to a room.
+struct CutMessage {
+    name: &'static str,
+    units: &'static [u8],
+    room: usize,
+    want: &'static str,
+}
+
+// The units of a, e with an acute accent, the euro sign and b; a pair; and a quote before half a pair.
+const CUT_MESSAGES: [CutMessage; 4] = [
+    CutMessage {
+        name: "before the euro sign",
+        units: b"\x61\x00\xE9\x00\xAC\x20\x62\x00",
+        room: 5,
+        want: "a\u{E9}",
+    },
+    CutMessage {
+        name: "all fits",
+        units: b"\x61\x00\xE9\x00\xAC\x20\x62\x00",
+        room: 7,
+        want: "a\u{E9}\u{20AC}b",
+    },
+    CutMessage {
+        name: "a pair that doesn't fit",
+        units: b"\x3D\xD8\x00\xDE",
+        room: 3,
+        want: "",
+    },
+    CutMessage {
+        name: "half a pair",
+        units: b"\x22\x00\x3D\xD8",
+        room: 4,
+        want: "\"\u{FFFD}",
+    },
+];
+
 #[test]
 fn a_message_is_cut_between_characters(rt: HostRuntime) -> Result<(), Fail> {
-    let rows: [(&[u8], usize, &str); 4] = [
-        (b"\x61\x00\xE9\x00\xAC\x20\x62\x00", 5, "a\u{E9}"),
-        (b"\x61\x00\xE9\x00\xAC\x20\x62\x00", 7, "a\u{E9}\u{20AC}b"),
-        (b"\x3D\xD8\x00\xDE", 3, ""),
-        (b"\x22\x00\x3D\xD8", 4, "\"\u{FFFD}"),
-    ];
-    for (units, room, want) in rows {
-        let mut area = Area::new(rt.alloc(), room)?;
-        utf16_into(units, &mut area);
-        assert_eq!(rt; area.bytes(), want.as_bytes(), "a room of {room}");
+    for row in &CUT_MESSAGES {
+        let mut area = Area::new(rt.alloc(), row.room)?;
+        utf16_into(row.units, &mut area);
+        assert_eq!(rt; area.bytes(), row.want.as_bytes(), "{}", row.name);
     }
     Ok(())
+}
+
+// NULL in its line.
+struct NullField {
+    name: &'static str,
+    column: u16,
+    last: bool,
+    want: &'static [u8],
+}
+
+const NULL_FIELDS: [NullField; 4] = [
+    NullField {
+        name: "the first of some",
+        column: 0,
+        last: false,
+        want: b"NULL",
+    },
+    NullField {
+        name: "the only one",
+        column: 0,
+        last: true,
+        want: b"NULL\r\n",
+    },
+    NullField {
+        name: "in the middle",
+        column: 1,
+        last: false,
+        want: b",NULL",
+    },
+    NullField {
+        name: "the last of some",
+        column: 65534,
+        last: true,
+        want: b",NULL\r\n",
+    },
+];
+
+#[test]
+fn null_in_its_line(rt: HostRuntime) {
+    for row in &NULL_FIELDS {
+        let mut to = [0; NULL_ROOM];
+        let made = write_null(row.column, row.last, &mut to);
+        assert_eq!(rt; &to[..made], row.want, "{}", row.name);
+    }
 }
 
 #[test]

@@ -2,7 +2,7 @@ use Rattle.std.proofs.Common.{◌≡◌, ◌++◌, [], refl, sym, ap, arith, rul
 use Rattle.std.proofs.lemmas.Grind.{common_steps}
 use Rattle.tds_csv.specs.Sinks.{held}
 use Rattle.std.proofs.KnownBytes.{Appends-nil}
-use Rattle.tds_csv.proofs.Sinks.{block, block_going, counted-none}
+use Rattle.tds_csv.proofs.Sinks.{block_going, counted-none}
 use Rattle.tds_csv.proofs.sink.Sink.push.Goals as goal
 
 pub returns-then-len-eq-BLOCK : goal.returns-then-len-eq-BLOCK
@@ -26,6 +26,6 @@ returns g c =
       ready = grind (arith, common_steps);
       same = search rules;
       failed = search rules;
-      gives = ([], 0, (Appends-nil _, sym grown, counted-none c.args.self.now.delivered c.requires.going.ready.2), refl, refl);
+      gives = ([], 0, (Appends-nil _, sym grown, counted-none c.args.self.now.delivered c.requires.writing.ready.2), refl, refl);
       again = search rules;
     }

@@ -1,0 +1,25 @@
+-- Withheld bytes of text in UTF-16, with the first ones of a piece.
+use Rattle.std.proofs.Common.{◌≡◌, ◌<◌, ℕ, List, [], ◌∷◌, ◌++◌, length, take, drop, refl, sym, subst, arith}
+use Rattle.tds_csv.specs.Joining.{Leads, emit}
+use Rattle.tds_csv.specs.Utf16.{rest, text}
+use Rattle.tds_csv.specs.Utf16Laws.{joins_utf16}
+use Rattle.tds_csv.specs.Utf16Next.{seam}
+use Rattle.tds_csv.proofs.Leading.{Leads-none, Leads-seam-front}
+use Rattle.tds_csv.proofs.Utf16Steps.{text_nil}
+
+pub emit_none : emit rest text [] ≡ []
+emit_none = text_nil
+
+-- some bytes are withheld
+pub seam_some : (kept piece : List ℕ) → 0 < length kept → seam kept piece ≡ kept ++ take 3 piece
+seam_some [] piece some = absurd (omega arith)
+seam_some (byte ∷ kept) piece some = refl
+
+-- where the text goes on behind that of the seam
+abbrev pub behind : List ℕ → List ℕ → List ℕ
+behind [] piece = piece
+behind (byte ∷ kept) piece = rest (byte ∷ kept ++ take 3 piece) ++ drop 3 piece
+
+pub Leads-behind : (kept piece : List ℕ) → Leads rest text (kept ++ piece) (behind kept piece) (emit rest text (seam kept piece))
+Leads-behind [] piece = subst (Leads rest text piece piece) (sym emit_none) (Leads-none rest text piece)
+Leads-behind (byte ∷ kept) piece = Leads-seam-front rest text joins_utf16 (byte ∷ kept) piece 3 tt

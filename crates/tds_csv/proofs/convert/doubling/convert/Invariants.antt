@@ -1,0 +1,14 @@
+use Rattle.std.proofs.Common.{◌≡◌, ◌*◌, ◌-◌, ◌≤◌, length, take}
+use Rattle.tds_csv.specs.Quoting.{doubled}
+use Rattle.tds_csv.proofs.convert.doubling.convert.Given as goal
+
+-- the text so far is that of the bytes so far
+abbrev pub invariant-loop-at : goal.invariant-loop-at
+invariant-loop-at l = record {
+  within : l.at ≤ length l.bytes;
+  room : length l.run ≤ 2 * l.at;
+  text : l.run ≡ doubled (take l.at l.bytes);
+}
+
+abbrev pub decreases-loop-at : goal.decreases-loop-at
+decreases-loop-at l = length l.bytes - l.at

@@ -1,0 +1,12 @@
+use Rattle.std.proofs.Common.{◌∙◌, refl}
+use Rattle.std.proofs.lemmas.Simd.{zip2_splat, length-chunk}
+use lib.Lanes.{chunk}
+use Rattle.tds_csv.specs.Plain.{is_unquoted}
+use Rattle.tds_csv.proofs.Masks.{run_in}
+use Rattle.tds_csv.proofs.convert.lanes.unquoted_run.Goals as goal
+
+pub returns : goal.returns
+returns c =
+    let v = chunk c.args.at 16 c.args.bytes.now in
+    let long = length-chunk c.args.at 16 c.args.bytes.now c.requires in
+    c.first_set.ensures ∙ run_in is_unquoted c.args.bytes.now c.args.at _ c.requires c.type_inv.bytes _ (zip2_splat _ v 16 34 long) refl

@@ -1,0 +1,10 @@
+use Rattle.std.proofs.Common.{refl, arith, w8}
+use Rattle.std.proofs.lemmas.Simd.{SwzOk-from_below}
+use Rattle.tds_csv.proofs.HexLanes.{looked_up}
+use Rattle.tds_csv.proofs.convert.lanes_hex.digits.Goals as goal
+
+pub swizzle : goal.swizzle
+swizzle c = SwzOk-from_below w8 16 1 16 0 c.args.numbers refl (omega (arith, c.requires.few)) c.requires.small
+
+pub returns : goal.returns
+returns c = looked_up 0 c.args.numbers (omega (arith, c.requires.few)) c.requires.small

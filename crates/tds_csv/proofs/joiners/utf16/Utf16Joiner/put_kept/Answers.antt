@@ -1,0 +1,44 @@
+use Rattle.std.proofs.Common.{◌≡◌, ◌∙◌, ◌+◌, ◌-◌, ◌<◌, ◌≤◌, ◌++◌, ℕ, [], Ok, length, take, drop, sym, ap, subst, arith, rules, length-append, length-take-le}
+use Rattle.tds_csv.specs.Joining.{Leads, emit}
+use Rattle.tds_csv.specs.Sinks.{PutsPiece}
+use Rattle.tds_csv.specs.Utf16.{rest, text}
+use Rattle.tds_csv.specs.Utf16Laws.{joins_utf16}
+use Rattle.tds_csv.specs.Utf16Next.{seam}
+use Rattle.tds_csv.proofs.Puttings.{PutsPiece-none}
+use Rattle.tds_csv.proofs.Leading.{Leads-seam}
+use Rattle.tds_csv.proofs.Utf16Seam.{Leads-behind, emit_none, seam_some}
+use Rattle.tds_csv.proofs.Utf16Steps.{nil_of_length}
+use Rattle.tds_csv.proofs.joiners.utf16.Utf16Joiner.put_kept.Goals as goal
+
+pub returns-then-is_empty-clause-puts : goal.returns-then-is_empty-clause-puts
+returns-then-is_empty-clause-puts g c =
+    let sink = c.args.sink.now in
+    let contents = g.W.Write.contents in
+    let empty : length c.bytes-kept.result.now ≡ 0 = search rules in
+    let none : [] ≡ c.args.self.now.kept = sym (nil_of_length c.bytes-kept.result.now empty) ∙ c.bytes-kept.ensures.value in
+    let nothing : [] ≡ emit rest text (seam c.args.self.now.kept c.args.piece.now) = sym emit_none ∙ ap (λ l. emit rest text (seam l c.args.piece.now)) none in
+    subst (λ l. PutsPiece {U = ℕ} contents sink sink l (Ok 0)) nothing (PutsPiece-none {U = ℕ} contents sink 0 c.requires.writing)
+
+pub returns-then-is_empty-clause-leads : goal.returns-then-is_empty-clause-leads
+returns-then-is_empty-clause-leads g c =
+    let piece = c.args.piece.now in
+    let empty : length c.bytes-kept.result.now ≡ 0 = search rules in
+    let none : [] ≡ c.args.self.now.kept = sym (nil_of_length c.bytes-kept.result.now empty) ∙ c.bytes-kept.ensures.value in
+    subst (λ k. Leads rest text (k ++ piece) piece (emit rest text (seam k piece))) none (Leads-behind [] piece)
+
+pub returns-clause-leads : goal.returns-clause-leads
+returns-clause-leads g c =
+    let kept = c.bytes-kept.result.now in
+    let piece = c.args.piece.now in
+    let bytes = c.bytes.result.now in
+    let used = c.in_ok-used.used in
+    let left = c.in_ok-used.ensures.used in
+    let is : bytes ≡ kept ++ take 3 piece = c.bytes.ensures.value ∙ c.extend-2.ensures ∙ ap (λ l. l ++ take 3 piece) (c.extend.ensures ∙ ap (λ l. l ++ kept) c.new-seam.ensures) in
+    let three : length (take 3 piece) ≡ 3 = length-take-le 3 piece c.requires.long in
+    let most : length bytes ≤ used + 3 = left.most in
+    let past : length kept ≤ used = omega (arith, ap length is, length-append kept (take 3 piece)) in
+    let some : 0 < length kept = search rules in
+    let at = drop (used - length kept) piece in
+    subst (λ k. Leads rest text (k ++ piece) at (emit rest text (seam k piece))) c.bytes-kept.ensures.value
+    (subst (λ l. Leads rest text (kept ++ piece) at (emit rest text l)) (is ∙ sym (seam_some kept piece some))
+    (Leads-seam rest text joins_utf16 kept piece bytes 3 used is tt past left.within left.rest))

@@ -1,0 +1,131 @@
+// Bytes and characters, written to a slice from a place on. A call that answers a place answers the one
+// behind what it wrote.
+ghost use Rattle.std.specs.Prelude.{◌≡◌, ◌+◌, ◌<◌, ◌≤◌, [], ◌∷◌, ◌++◌, length, take};
+ghost use Rattle.std.specs.Char.{encode_utf8};
+ghost use Rattle.tds_csv.specs.Quoting.{doubled};
+
+use crate::convert::lanes::LANES;
+use crate::convert::lanes_utf16::UNITS;
+use std::simd::prelude::*;
+
+#[inline(always)]
+fn put_byte(to: &mut [u8], at: usize, byte: u8) -> usize
+    requires { at < length to.old }
+    ensures end { result ≡ at + 1 }
+    ensures written { take result to.new ≡ take at to.old ++ byte ∷ [] }
+{
+    to[at] = byte;
+    at + 1
+}
+
+// A character beyond ASCII in two bytes.
+#[inline(always)]
+fn put_two(to: &mut [u8], at: usize, code: u32) -> usize
+    requires low { 128 ≤ code }
+    requires high { code < 2048 }
+    requires room { at + 4 ≤ length to.old }
+    ensures end { result ≡ at + 2 }
+    ensures written { take result to.new ≡ take at to.old ++ encode_utf8 code }
+{
+    let at = put_byte(to, at, (0xC0 + code / 64) as u8);
+    put_byte(to, at, (0x80 + code % 64) as u8)
+}
+
+// A character in three bytes.
+#[inline(always)]
+fn put_three(to: &mut [u8], at: usize, code: u32) -> usize
+    requires low { 2048 ≤ code }
+    requires high { code < 65536 }
+    requires room { at + 4 ≤ length to.old }
+    ensures end { result ≡ at + 3 }
+    ensures written { take result to.new ≡ take at to.old ++ encode_utf8 code }
+{
+    let at = put_byte(to, at, (0xE0 + code / 4096) as u8);
+    let at = put_byte(to, at, (0x80 + code / 64 % 64) as u8);
+    put_byte(to, at, (0x80 + code % 64) as u8)
+}
+
+// A character in four bytes.
+#[inline(always)]
+fn put_four(to: &mut [u8], at: usize, code: u32) -> usize
+    requires low { 65536 ≤ code }
+    requires high { code < 1114112 }
+    requires room { at + 4 ≤ length to.old }
+    ensures end { result ≡ at + 4 }
+    ensures written { take result to.new ≡ take at to.old ++ encode_utf8 code }
+{
+    let at = put_byte(to, at, (0xF0 + code / 262144) as u8);
+    let at = put_byte(to, at, (0x80 + code / 4096 % 64) as u8);
+    let at = put_byte(to, at, (0x80 + code / 64 % 64) as u8);
+    put_byte(to, at, (0x80 + code % 64) as u8)
+}
+
+// A character beyond ASCII.
+#[inline(always)]
+fn put_wide(to: &mut [u8], at: usize, code: u32) -> usize
+    requires low { 128 ≤ code }
+    requires high { code < 1114112 }
+    requires room { at + 4 ≤ length to.old }
+    ensures end { result ≡ at + length (encode_utf8 code) }
+    ensures written { take result to.new ≡ take at to.old ++ encode_utf8 code }
+{
+    if code < 0x800 {
+        put_two(to, at, code)
+    } else if code < 0x1_0000 {
+        put_three(to, at, code)
+    } else {
+        put_four(to, at, code)
+    }
+}
+
+// A character in UTF-8.
+#[inline(always)]
+pub(crate) fn put_character(to: &mut [u8], at: usize, code: u32) -> usize
+    requires range { code < 1114112 }
+    requires room { at + 4 ≤ length to.old }
+    ensures end { result ≡ at + length (encode_utf8 code) }
+    ensures written { take result to.new ≡ take at to.old ++ encode_utf8 code }
+{
+    if code < 0x80 {
+        return put_byte(to, at, code as u8);
+    }
+    put_wide(to, at, code)
+}
+
+// A character in UTF-8, and a quote twice.
+#[inline(always)]
+pub(crate) fn put_quoted(to: &mut [u8], at: usize, code: u32) -> usize
+    requires range { code < 1114112 }
+    requires room { at + 4 ≤ length to.old }
+    ensures end { result ≡ at + length (doubled (encode_utf8 code)) }
+    ensures written { take result to.new ≡ take at to.old ++ doubled (encode_utf8 code) }
+{
+    if code >= 0x80 {
+        return put_wide(to, at, code);
+    }
+    let end = put_byte(to, at, code as u8);
+    to[end] = 0x22;
+    end + (code == 0x22) as usize
+}
+
+// The first of eight bytes, so many.
+#[inline(always)]
+pub(crate) fn put_lanes(to: &mut [u8], at: usize, lanes: u8x8, n: usize)
+    requires lanes { length lanes ≡ UNITS }
+    requires within { n ≤ UNITS }
+    requires room { at + UNITS ≤ length to.old }
+    ensures { take (at + n) to.new ≡ take at to.old ++ take n lanes }
+{
+    lanes.copy_to_slice(&mut to[at..]);
+}
+
+// The first of sixteen bytes, so many.
+#[inline(always)]
+pub(crate) fn put_bytes(to: &mut [u8], at: usize, lanes: u8x16, n: usize)
+    requires lanes { length lanes ≡ LANES }
+    requires within { n ≤ LANES }
+    requires room { at + LANES ≤ length to.old }
+    ensures { take (at + n) to.new ≡ take at to.old ++ take n lanes }
+{
+    lanes.copy_to_slice(&mut to[at..]);
+}

@@ -1,0 +1,106 @@
+// Runs of bytes, found 16 at a time.
+ghost use Rattle.std.specs.Prelude.{◌≡◌, ◌+◌, ◌≤◌, length, drop};
+ghost use Rattle.std.specs.List.{prefix_len};
+ghost use Rattle.std.specs.Simd.Lanes.{chunk};
+ghost use Rattle.tds_csv.specs.Plain.{first_set, is_plain, is_unquoted};
+
+use std::simd::prelude::*;
+
+/// How many bytes are looked at together.
+pub(crate) const LANES: usize = 16;
+
+/// How many characters are taken one by one where the next one needs care, since then others mostly do too.
+pub(crate) const BY_HAND: usize = 32;
+
+// The lowest bit that is set in a mask, or the number of lanes.
+#[inline(always)]
+pub(crate) fn first_set(mask: u64, lanes: usize) -> usize
+    ensures { result ≡ first_set mask lanes }
+{
+    if mask == 0 {
+        lanes
+    } else {
+        mask.trailing_zeros() as usize
+    }
+}
+
+// How many of the next 16 bytes stand before the first quote among them.
+#[inline(always)]
+pub(crate) fn unquoted_run(bytes: &[u8], at: usize) -> usize
+    requires { at + LANES ≤ length bytes.now }
+    ensures { result ≡ prefix_len is_unquoted (chunk at LANES bytes.now) }
+{
+    let quotes = u8x16::from_slice(&bytes[at..]).simd_eq(u8x16::splat(0x22));
+    first_set(quotes.to_bitmask(), LANES)
+}
+
+// How many of the next 16 bytes stand before the first among them that is a quote or isn't of ASCII.
+#[inline(always)]
+pub(crate) fn plain_run(bytes: &[u8], at: usize) -> usize
+    requires { at + LANES ≤ length bytes.now }
+    ensures { result ≡ prefix_len is_plain (chunk at LANES bytes.now) }
+{
+    let lanes = u8x16::from_slice(&bytes[at..]);
+    let stops = lanes.simd_eq(u8x16::splat(0x22)) | lanes.simd_ge(u8x16::splat(0x80));
+    first_set(stops.to_bitmask(), LANES)
+}
+
+// The first quote from a place on, or the end, a byte at a time.
+fn unquoted_end_slowly(bytes: &[u8], from: usize) -> usize
+    requires { from ≤ length bytes.now }
+    ensures value { result ≡ from + prefix_len is_unquoted (drop from bytes.now) }
+    ensures within { result ≤ length bytes.now }
+{
+    let mut end = from;
+    while end < bytes.len() && bytes[end] != 0x22 {
+        end += 1;
+    }
+    end
+}
+
+// The first quote from a place on, or the end.
+pub(crate) fn unquoted_end(bytes: &[u8], from: usize) -> usize
+    requires { from ≤ length bytes.now }
+    ensures value { result ≡ from + prefix_len is_unquoted (drop from bytes.now) }
+    ensures within { result ≤ length bytes.now }
+{
+    let mut end = from;
+    while bytes.len() - end >= LANES {
+        let n = unquoted_run(bytes, end);
+        if n < LANES {
+            return end + n;
+        }
+        end += LANES;
+    }
+    unquoted_end_slowly(bytes, end)
+}
+
+// The first byte from a place on that is a quote or isn't of ASCII, or the end, a byte at a time.
+fn plain_end_slowly(bytes: &[u8], from: usize) -> usize
+    requires { from ≤ length bytes.now }
+    ensures value { result ≡ from + prefix_len is_plain (drop from bytes.now) }
+    ensures within { result ≤ length bytes.now }
+{
+    let mut end = from;
+    while end < bytes.len() && bytes[end] < 0x80 && bytes[end] != 0x22 {
+        end += 1;
+    }
+    end
+}
+
+// The first byte from a place on that is a quote or isn't of ASCII, or the end.
+pub(crate) fn plain_end(bytes: &[u8], from: usize) -> usize
+    requires { from ≤ length bytes.now }
+    ensures value { result ≡ from + prefix_len is_plain (drop from bytes.now) }
+    ensures within { result ≤ length bytes.now }
+{
+    let mut end = from;
+    while bytes.len() - end >= LANES {
+        let n = plain_run(bytes, end);
+        if n < LANES {
+            return end + n;
+        }
+        end += LANES;
+    }
+    plain_end_slowly(bytes, end)
+}

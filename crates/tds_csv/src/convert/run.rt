@@ -1,0 +1,111 @@
+// A run of text on its way to a sink.
+ghost use Rattle.std.specs.Prelude.{◌≡◌, ◌+◌, ◌<◌, ◌≤◌, [], ◌∷◌, ◌++◌, length, take};
+ghost use Rattle.std.specs.Char.{encode_utf8};
+ghost use Rattle.tds_csv.specs.Quoting.{doubled};
+
+use crate::convert::encode::{put_bytes, put_character, put_quoted};
+use crate::convert::lanes::LANES;
+use std::marker::Model;
+use std::simd::prelude::*;
+
+// At most `N` bytes of text.
+#[derive(Drop)]
+pub(crate) struct Run<const N: usize> {
+    bytes: [u8; N],
+    len: usize,
+}
+
+impl<const N: usize> Model for Run<N> {
+    ghost use Rattle.std.specs.Prelude.{List, ℕ, ◌≤◌, take};
+
+    ghost Value = { List ℕ };
+
+    ghost view = { λ r. take r.len r.bytes };
+
+    ghost invariant = { λ r. r.len ≤ N };
+}
+
+impl<const N: usize> Run<N> {
+    pub(crate) fn new() -> Run<N>
+        ensures { result ≡ [] }
+    {
+        Run {
+            bytes: [0; N],
+            len: 0,
+        }
+    }
+
+    pub(crate) fn bytes(&self) -> &[u8]
+        ensures value { result.now ≡ self.now }
+        ensures fits { length self.now ≤ N }
+    {
+        &self.bytes[..self.len]
+    }
+
+    pub(crate) fn clear(&mut self)
+        ensures { self.new ≡ [] }
+    {
+        self.len = 0;
+    }
+
+    pub(crate) fn extend(&mut self, piece: &[u8])
+        requires { length self.old + length piece.now ≤ N }
+        ensures { self.new ≡ self.old ++ piece.now }
+    {
+        let from = self.len;
+        let end = from + piece.len();
+        let all = &mut self.bytes[..];
+        all[from..end].copy_from_slice(piece);
+        self.len = end;
+    }
+
+    // Adds the first of sixteen bytes, so many.
+    #[inline(always)]
+    pub(crate) fn extend_bytes(&mut self, lanes: u8x16, n: usize)
+        requires lanes { length lanes ≡ LANES }
+        requires within { n ≤ LANES }
+        requires room { length self.old + LANES ≤ N }
+        ensures { self.new ≡ self.old ++ take n lanes }
+    {
+        put_bytes(&mut self.bytes[..], self.len, lanes, n);
+        self.len += n;
+    }
+
+    fn push(&mut self, byte: u8)
+        requires { length self.old < N }
+        ensures { self.new ≡ self.old ++ byte ∷ [] }
+    {
+        self.bytes[self.len] = byte;
+        self.len += 1;
+    }
+
+    // Adds a byte, and a quote twice.
+    pub(crate) fn push_doubled(&mut self, byte: u8)
+        requires { length self.old + 2 ≤ N }
+        ensures value { self.new ≡ self.old ++ doubled (byte ∷ []) }
+        ensures grown { length self.new ≤ length self.old + 2 }
+    {
+        self.push(byte);
+        if byte == 0x22 {
+            self.push(0x22);
+        }
+    }
+
+    // Adds a character in UTF-8.
+    pub(crate) fn push_character(&mut self, code: u32)
+        requires range { code < 1114112 }
+        requires room { length self.old + 4 ≤ N }
+        ensures { self.new ≡ self.old ++ encode_utf8 code }
+    {
+        self.len = put_character(&mut self.bytes[..], self.len, code);
+    }
+
+    // Adds a character in UTF-8, and a quote twice.
+    pub(crate) fn push_quoted(&mut self, code: u32)
+        requires range { code < 1114112 }
+        requires room { length self.old + 4 ≤ N }
+        ensures { self.new ≡ self.old ++ doubled (encode_utf8 code) }
+    {
+        self.len = put_quoted(&mut self.bytes[..], self.len, code);
+    }
+}

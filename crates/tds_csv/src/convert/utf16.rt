@@ -1,0 +1,193 @@
+// Characters of text in UTF-16.
+ghost use Rattle.std.specs.Prelude.{◌≡◌, ◌+◌, ◌-◌, ◌*◌, ◌<◌, ◌≤◌, ◌%◌, ◌++◌, length, take, drop, slice_index, MatchOption, IfSome};
+ghost use Rattle.std.specs.Char.{IsScalar, encode_utf8};
+ghost use Rattle.std.specs.Char.Utf16.{is_high_surrogate, is_low_surrogate};
+ghost use Rattle.tds_csv.specs.Joining.{emit};
+ghost use Rattle.tds_csv.specs.Utf16 as utf16;
+ghost use Rattle.tds_csv.specs.Utf16Next.{Converts, IsNext, LeavesRest};
+
+use crate::convert::CHUNK;
+use crate::convert::encode::put_quoted;
+use crate::convert::lanes::BY_HAND;
+use crate::convert::lanes_utf16::{UNITS, take_units};
+
+/// How many bytes the text of a chunk has at most, and as many as are written at once.
+pub(crate) const TEXT: usize = 3 * CHUNK / 2 + UNITS;
+
+// A character, and how many bytes it takes.
+#[derive(Clone, Copy)]
+pub(crate) struct Character {
+    pub(crate) code: u32,
+    pub(crate) len: usize,
+}
+
+// The unit at a place.
+fn unit(bytes: &[u8], at: usize) -> u32
+    requires { at + 1 < length bytes.now }
+    ensures value { result ≡ slice_index bytes.now at + 256 * slice_index bytes.now (at + 1) }
+    ensures range { result < 65536 }
+{
+    u32::from(bytes[at]) + 256 * u32::from(bytes[at + 1])
+}
+
+fn is_high(unit: u32) -> bool
+    ensures { result ≡ is_high_surrogate unit }
+{
+    0xD800 <= unit && unit < 0xDC00
+}
+
+fn is_low(unit: u32) -> bool
+    ensures { result ≡ is_low_surrogate unit }
+{
+    0xDC00 <= unit && unit < 0xE000
+}
+
+// The character at a place, which U+FFFD stands for where a surrogate has no partner. `None` where
+// that depends on what follows.
+pub(crate) fn next_character(bytes: &[u8], at: usize) -> Option<Character>
+    requires { at ≤ length bytes.now }
+    ensures gives { MatchOption result
+        (utf16.rest (drop at bytes.now) ≡ drop at bytes.now)
+        (λ next. IsNext (drop at bytes.now) next.code next.len) }
+    ensures range { IfSome result (λ next. next.code < 1114112) }
+    ensures some { IfSome result (λ next. 2 ≤ next.len) }
+    ensures within { IfSome result (λ next. at + next.len ≤ length bytes.now) }
+    ensures long { IfSome result (λ next. next.len < 4 → next.code < 65536) }
+    ensures even { IfSome result (λ next. next.len % 2 ≡ 0) }
+    ensures scalar { IfSome result (λ next. IsScalar next.code) }
+{
+    if bytes.len() - at < 2 {
+        return None;
+    }
+    let first = unit(bytes, at);
+    if !is_high(first) {
+        let code = if is_low(first) { 0xFFFD } else { first };
+        return Some(Character { code, len: 2 });
+    }
+    if bytes.len() - at < 4 {
+        return None;
+    }
+    let second = unit(bytes, at + 2);
+    if !is_low(second) {
+        return Some(Character {
+            code: 0xFFFD,
+            len: 2,
+        });
+    }
+    Some(Character {
+        code: 0x1_0000 + (first - 0xD800) * 0x400 + (second - 0xDC00),
+        len: 4,
+    })
+}
+
+// The character at a place in whole data, which U+FFFD stands for where a surrogate has no partner.
+pub(crate) fn character_at(bytes: &[u8], at: usize) -> Character
+    requires some { at + 2 ≤ length bytes.now }
+    requires whole { (length bytes.now - at) % 2 ≡ 0 }
+    ensures spells { let behind = drop (at + result.len) bytes.now in
+        utf16.characters (drop at bytes.now) ≡ encode_utf8 result.code ++ utf16.characters behind }
+    ensures range { result.code < 1114112 }
+    ensures some { 2 ≤ result.len }
+    ensures within { at + result.len ≤ length bytes.now }
+    ensures even { result.len % 2 ≡ 0 }
+    ensures scalar { IsScalar result.code }
+{
+    match next_character(bytes, at) {
+        Some(next) => next,
+        None => Character {
+            code: 0xFFFD,
+            len: 2,
+        },
+    }
+}
+
+// How many bytes were converted, and how many their text has.
+#[derive(Clone, Copy)]
+pub(crate) struct Converted {
+    pub(crate) used: usize,
+    pub(crate) made: usize,
+}
+
+// The character at a place, where it is a single unit and no surrogate.
+#[inline(always)]
+fn single(bytes: &[u8], at: usize) -> Option<u32>
+    requires { at + 2 ≤ length bytes.now }
+    ensures gives { IfSome result (λ code. IsNext (drop at bytes.now) code 2) }
+    ensures range { IfSome result (λ code. code < 65536) }
+{
+    let first = unit(bytes, at);
+    if is_high(first) {
+        return None;
+    }
+    if is_low(first) {
+        return None;
+    }
+    Some(first)
+}
+
+// Goes on with the text by single units up to a surrogate, at most so many as are taken by hand.
+#[inline(always)]
+fn convert_singles(bytes: &[u8], from: usize, to: &mut [u8], start: usize) -> Converted
+    requires short { length bytes.now ≤ CHUNK }
+    requires long { TEXT ≤ length to.old }
+    requires before { Converts bytes.now to.old from start }
+    ensures more { from ≤ result.used }
+    ensures after { Converts bytes.now to.new result.used result.made }
+{
+    let end = bytes.len().min(from + 2 * BY_HAND);
+    let mut at = from;
+    let mut made = start;
+    while end - at >= 2 {
+        let Some(code) = single(bytes, at) else {
+            return Converted { used: at, made };
+        };
+        made = put_quoted(to, made, code);
+        at += 2;
+    }
+    Converted { used: at, made }
+}
+
+// Goes on with the text by eight units up to one that needs care, or by single units where the first does.
+#[inline(always)]
+fn convert_some(bytes: &[u8], from: usize, to: &mut [u8], start: usize) -> Converted
+    requires short { length bytes.now ≤ CHUNK }
+    requires long { TEXT ≤ length to.old }
+    requires before { Converts bytes.now to.old from start }
+    ensures more { from ≤ result.used }
+    ensures after { Converts bytes.now to.new result.used result.made }
+{
+    let n = take_units(bytes, from, to, start);
+    if n == 0 {
+        return convert_singles(bytes, from + 2 * n, to, start + n);
+    }
+    Converted {
+        used: from + 2 * n,
+        made: start + n,
+    }
+}
+
+// Writes the text of the characters that are fixed.
+pub(crate) fn convert(bytes: &[u8], to: &mut [u8]) -> Converted
+    requires short { length bytes.now ≤ CHUNK }
+    requires room { TEXT ≤ length to.old }
+    ensures fits { result.made ≤ length to.new }
+    ensures text { take result.made to.new ≡ emit utf16.rest utf16.text bytes.now }
+    ensures used { LeavesRest bytes.now 0 result.used }
+{
+    let mut at = 0;
+    let mut made = 0;
+    loop {
+        let done = convert_some(bytes, at, to, made);
+        made = done.made;
+        let from = at;
+        at = done.used;
+        if at == from + 2 * UNITS {
+            continue;
+        }
+        let Some(next) = next_character(bytes, at) else {
+            return Converted { used: at, made };
+        };
+        made = put_quoted(to, made, next.code);
+        at += next.len;
+    }
+}

@@ -1,0 +1,89 @@
+// Conversions whose data comes in pieces.
+ghost use Rattle.std.specs.Prelude.{◌≡◌, ◌%◌, ℕ, Bool, List, [], length};
+ghost use Rattle.tds_csv.specs.Joining.{JoinsPieces};
+ghost use Rattle.tds_csv.specs.Pushing.{EndsPieces, PushesPiece};
+ghost use Rattle.tds_csv.specs.Sinks.{IsReady};
+ghost use Rattle.tds_csv.specs.declared.joiners.JoinFault.TheVariants.{Stopped};
+
+pub(crate) mod binary;
+pub(crate) mod cp1252;
+pub(crate) mod doubled;
+pub(crate) mod into_area;
+pub(crate) mod parts;
+pub(crate) mod utf16;
+pub(crate) mod utf8;
+
+use crate::sink::Sink;
+use std::io::Write;
+use tds_packet::Stop;
+
+/// Why a joiner stopped.
+#[derive(Debug, Clone, Copy, PartialEq, Eq)]
+pub enum JoinFault {
+    /// The sink stopped. What is withheld isn't fixed.
+    Stopped(Stop),
+    /// An odd byte is withheld at the end. Nothing was put, and it stays withheld.
+    Odd,
+    /// That many bytes of the piece are good, and were taken. At the end it is 0: the withheld bytes
+    /// aren't whole, nothing was put, and they stay withheld.
+    BadText(usize),
+}
+
+impl From<Stop> for JoinFault {
+    ghost from_gives = { λ stop fault. fault ≡ Stopped stop };
+
+    fn from(stop: Stop) -> JoinFault {
+        JoinFault::Stopped(stop)
+    }
+}
+
+/// A conversion of data that comes in pieces. It withholds the bytes whose text depends on what follows.
+pub trait Joiner: Sized {
+    /// How many bytes a unit of the data has.
+    const UNIT: u64;
+
+    ghost UNIT: { ℕ };
+
+    /// The field stands in quotes.
+    const QUOTED: bool;
+
+    ghost QUOTED: { Bool };
+
+    /// The data is whole.
+    ghost fit: { List ℕ → Type 0 };
+
+    /// Some whole data begins so.
+    ghost begins: { List ℕ → Type 0 };
+
+    /// The bytes at the end whose text depends on what follows.
+    ghost rest: { List ℕ → List ℕ };
+
+    /// The text of whole data.
+    ghost text: { List ℕ → List ℕ };
+
+    /// The bytes that are withheld.
+    ghost withheld: { Self → List ℕ };
+
+    /// Withholds nothing.
+    fn new() -> Self
+        ensures withheld { withheld result ≡ [] }
+        ensures begun { begins (withheld result) };
+
+    /// Puts the text of the withheld bytes followed by the piece, and withholds the rest, at most 3
+    /// bytes. After a stop of the sink each call answers the same stop.
+    fn push<W: Write>(&mut self, piece: &[u8], sink: &mut Sink<'_, W>) -> Result<(), JoinFault>
+        requires ready { IsReady sink.old }
+        requires begun { begins (withheld self.old) }
+        ensures { PushesPiece W.contents begins rest text (withheld self.old) (withheld self.new)
+            sink.old sink.new piece.now result };
+
+    /// Puts the text of the withheld bytes, which are whole.
+    fn end<W: Write>(&mut self, sink: &mut Sink<'_, W>) -> Result<(), JoinFault>
+        requires { IsReady sink.old }
+        ensures { EndsPieces W.contents UNIT fit begins text (withheld self.old) (withheld self.new)
+            sink.old sink.new result };
+
+    ghost joins: { JoinsPieces fit begins rest text };
+
+    ghost whole_units: { (bytes : List ℕ) → fit bytes → length bytes % UNIT ≡ 0 };
+}

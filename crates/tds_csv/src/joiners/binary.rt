@@ -1,0 +1,76 @@
+// Binary data.
+ghost use Rattle.std.specs.Prelude.{[], false, length};
+ghost use Rattle.hex.specs.Hex.{lower_digits};
+ghost use Rattle.tds_csv.specs.Binary as binary;
+ghost use Rattle.tds_csv.specs.JoiningLemmas.{mod-one};
+ghost use Rattle.tds_csv.specs.SingleLaws.{hex-append, hex-nil, joins_binary};
+
+use crate::convert::CHUNK;
+use crate::convert::lanes_hex::encode;
+use crate::joiners::parts::{Bytewise, put_text};
+use crate::joiners::{JoinFault, Joiner};
+use crate::sink::Sink;
+use std::io::Write;
+use tds_packet::Stop;
+
+/// Bytes as hexadecimal digits.
+#[derive(Drop)]
+pub struct HexJoiner;
+
+impl Bytewise for HexJoiner {
+    ghost text = { binary.text };
+
+    // No byte stands for itself.
+    fn plain_end(_bytes: &[u8], from: usize) -> usize {
+        from
+    }
+
+    fn put_chunk<W: Write>(bytes: &[u8], sink: &mut Sink<'_, W>) -> Result<(), Stop> {
+        let mut digits = [0; 2 * CHUNK];
+        let n = 2 * bytes.len();
+        encode(bytes, &mut digits[..n]);
+        sink.put(&digits[..n])
+    }
+
+    ghost appends = { hex-append lower_digits };
+
+    ghost empty = { hex-nil };
+}
+
+impl Joiner for HexJoiner {
+    const UNIT: u64 = 1;
+
+    ghost UNIT = { 1 };
+
+    const QUOTED: bool = false;
+
+    ghost QUOTED = { false };
+
+    ghost fit = { binary.IsFit };
+
+    ghost begins = { binary.IsFit };
+
+    ghost rest = { binary.rest };
+
+    ghost text = { binary.text };
+
+    ghost withheld = { λ _. [] };
+
+    fn new() -> Self {
+        HexJoiner
+    }
+
+    fn push<W: Write>(&mut self, piece: &[u8], sink: &mut Sink<'_, W>) -> Result<(), JoinFault> {
+        sink.check()?;
+        put_text::<Self, W>(piece, sink)?;
+        Ok(())
+    }
+
+    fn end<W: Write>(&mut self, sink: &mut Sink<'_, W>) -> Result<(), JoinFault> {
+        Ok(sink.check()?)
+    }
+
+    ghost joins = { joins_binary };
+
+    ghost whole_units = { λ bytes _. mod-one (length bytes) };
+}

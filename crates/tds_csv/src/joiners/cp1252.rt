@@ -1,0 +1,73 @@
+// Text in Windows-1252.
+ghost use Rattle.std.specs.Prelude.{[], true, length, refl};
+ghost use Rattle.tds_csv.specs.JoiningLemmas.{mod-one};
+ghost use Rattle.tds_csv.specs.SingleLaws.{joins_windows_1252, windows_1252-append};
+ghost use Rattle.tds_csv.specs.Windows1252 as windows_1252;
+
+use crate::convert::lanes::plain_end;
+use crate::convert::windows_1252::{TEXT, convert};
+use crate::joiners::parts::{Bytewise, put_text};
+use crate::joiners::{JoinFault, Joiner};
+use crate::sink::Sink;
+use std::io::Write;
+use tds_packet::Stop;
+
+/// Text in Windows-1252.
+#[derive(Drop)]
+pub struct Cp1252Joiner;
+
+impl Bytewise for Cp1252Joiner {
+    ghost text = { windows_1252.text };
+
+    fn plain_end(bytes: &[u8], from: usize) -> usize {
+        plain_end(bytes, from)
+    }
+
+    fn put_chunk<W: Write>(bytes: &[u8], sink: &mut Sink<'_, W>) -> Result<(), Stop> {
+        let mut to = [0; TEXT];
+        let made = convert(bytes, &mut to[..]);
+        sink.put(&to[..made])
+    }
+
+    ghost appends = { windows_1252-append };
+
+    ghost empty = { refl };
+}
+
+impl Joiner for Cp1252Joiner {
+    const UNIT: u64 = 1;
+
+    ghost UNIT = { 1 };
+
+    const QUOTED: bool = true;
+
+    ghost QUOTED = { true };
+
+    ghost fit = { windows_1252.IsFit };
+
+    ghost begins = { windows_1252.IsFit };
+
+    ghost rest = { windows_1252.rest };
+
+    ghost text = { windows_1252.text };
+
+    ghost withheld = { λ _. [] };
+
+    fn new() -> Self {
+        Cp1252Joiner
+    }
+
+    fn push<W: Write>(&mut self, piece: &[u8], sink: &mut Sink<'_, W>) -> Result<(), JoinFault> {
+        sink.check()?;
+        put_text::<Self, W>(piece, sink)?;
+        Ok(())
+    }
+
+    fn end<W: Write>(&mut self, sink: &mut Sink<'_, W>) -> Result<(), JoinFault> {
+        Ok(sink.check()?)
+    }
+
+    ghost joins = { joins_windows_1252 };
+
+    ghost whole_units = { λ bytes _. mod-one (length bytes) };
+}

@@ -1,0 +1,168 @@
+// Text in UTF-16 that comes in pieces.
+ghost use Rattle.std.specs.Prelude.{◌≡◌, ◌+◌, ◌%◌, ◌≤◌, ◌++◌, true, length, drop, IfOk, ⊤};
+ghost use Rattle.tds_csv.specs.Joining.{Leads, emit};
+ghost use Rattle.tds_csv.specs.Pushing.{PushesPiece};
+ghost use Rattle.tds_csv.specs.Sinks.{IsWriting, PutsPiece};
+ghost use Rattle.tds_csv.specs.Utf16 as utf16;
+ghost use Rattle.tds_csv.specs.Utf16Laws.{joins_utf16};
+ghost use Rattle.tds_csv.specs.Utf16Next.{LeavesRest, seam};
+
+use crate::convert::CHUNK;
+use crate::convert::run::Run;
+use crate::convert::utf16::{TEXT, character_at, convert};
+use crate::joiners::{JoinFault, Joiner};
+use crate::sink::Sink;
+use std::io::Write;
+use tds_packet::Stop;
+
+/// Text in UTF-16, low byte first.
+#[derive(Drop)]
+pub struct Utf16Joiner {
+    kept: Run<3>,
+}
+
+// Puts the text of the characters that are fixed, and says how many bytes they are.
+fn put_chunk<W: Write>(bytes: &[u8], sink: &mut Sink<'_, W>) -> Result<usize, Stop>
+    requires writing { IsWriting sink.old }
+    requires short { length bytes.now ≤ CHUNK }
+    ensures puts { PutsPiece W.contents sink.old sink.new (emit utf16.rest utf16.text bytes.now) result }
+    ensures used { IfOk result (λ used. LeavesRest bytes.now 0 used) }
+{
+    let mut to = [0; TEXT];
+    let done = convert(bytes, &mut to[..]);
+    sink.put(&to[..done.made])?;
+    Ok(done.used)
+}
+
+// Puts the text of the bytes from a place on as far as it is fixed, and says where the rest begins.
+fn put_from<W: Write>(bytes: &[u8], from: usize, sink: &mut Sink<'_, W>) -> Result<usize, Stop>
+    requires writing { IsWriting sink.old }
+    requires from { from ≤ length bytes.now }
+    ensures puts { PutsPiece W.contents sink.old sink.new (emit utf16.rest utf16.text (drop from bytes.now)) result }
+    ensures used { IfOk result (λ at. LeavesRest bytes.now from at) }
+{
+    let mut at = from;
+    while bytes.len() - at > CHUNK {
+        at += put_chunk(&bytes[at..at + CHUNK], sink)?;
+    }
+    let used = put_chunk(&bytes[at..], sink)?;
+    Ok(at + used)
+}
+
+// The text of the withheld bytes, which are whole.
+fn last_text(kept: &[u8]) -> Run<4>
+    requires short { length kept.now ≤ 3 }
+    requires whole { length kept.now % 2 ≡ 0 }
+    ensures { result ≡ utf16.text kept.now }
+{
+    let mut run = Run::new();
+    if kept.len() == 2 {
+        run.push_quoted(character_at(kept, 0).code);
+    }
+    run
+}
+
+impl Utf16Joiner {
+    // Puts the text of the withheld bytes with three bytes of the piece, if any are withheld, and
+    // says where the text of the piece goes on.
+    fn put_kept<W: Write>(&self, piece: &[u8], sink: &mut Sink<'_, W>) -> Result<usize, Stop>
+        requires writing { IsWriting sink.old }
+        requires long { 3 ≤ length piece.now }
+        ensures puts { let put = emit utf16.rest utf16.text (seam self.now.kept piece.now) in
+            PutsPiece W.contents sink.old sink.new put result }
+        ensures leads { let put = emit utf16.rest utf16.text (seam self.now.kept piece.now) in
+            IfOk result (λ from. Leads utf16.rest utf16.text (self.now.kept ++ piece.now) (drop from piece.now) put) }
+        ensures within { IfOk result (λ from. from ≤ 3) }
+    {
+        let kept = self.kept.bytes();
+        if kept.is_empty() {
+            return Ok(0);
+        }
+        let mut seam: Run<6> = Run::new();
+        seam.extend(kept);
+        seam.extend(&piece[..3]);
+        let used = put_chunk(seam.bytes(), sink)?;
+        Ok(used - kept.len())
+    }
+
+    // Takes a piece of three bytes or more.
+    fn push_long<W: Write>(&mut self, piece: &[u8], sink: &mut Sink<'_, W>) -> Result<(), JoinFault>
+        requires writing { IsWriting sink.old }
+        requires long { 3 ≤ length piece.now }
+        ensures { PushesPiece W.contents (λ _. ⊤) utf16.rest utf16.text self.old.kept self.new.kept
+            sink.old sink.new piece.now result }
+    {
+        let from = self.put_kept(piece, sink)?;
+        let at = put_from(piece, from, sink)?;
+        self.kept.clear();
+        self.kept.extend(&piece[at..]);
+        Ok(())
+    }
+
+    // Takes a piece of at most three bytes.
+    fn push_short<W: Write>(
+        &mut self,
+        piece: &[u8],
+        sink: &mut Sink<'_, W>,
+    ) -> Result<(), JoinFault>
+        requires writing { IsWriting sink.old }
+        requires short { length piece.now ≤ 3 }
+        ensures { PushesPiece W.contents (λ _. ⊤) utf16.rest utf16.text self.old.kept self.new.kept
+            sink.old sink.new piece.now result }
+    {
+        let mut seam: Run<6> = Run::new();
+        seam.extend(self.kept.bytes());
+        seam.extend(piece);
+        let used = put_chunk(seam.bytes(), sink)?;
+        self.kept.clear();
+        self.kept.extend(&seam.bytes()[used..]);
+        Ok(())
+    }
+}
+
+impl Joiner for Utf16Joiner {
+    const UNIT: u64 = 2;
+
+    ghost UNIT = { 2 };
+
+    const QUOTED: bool = true;
+
+    ghost QUOTED = { true };
+
+    ghost fit = { utf16.IsFit };
+
+    ghost begins = { λ _. ⊤ };
+
+    ghost rest = { utf16.rest };
+
+    ghost text = { utf16.text };
+
+    ghost withheld = { λ j. j.kept };
+
+    fn new() -> Self {
+        Utf16Joiner { kept: Run::new() }
+    }
+
+    fn push<W: Write>(&mut self, piece: &[u8], sink: &mut Sink<'_, W>) -> Result<(), JoinFault> {
+        sink.check()?;
+        if piece.len() < 3 {
+            return self.push_short(piece, sink);
+        }
+        self.push_long(piece, sink)
+    }
+
+    fn end<W: Write>(&mut self, sink: &mut Sink<'_, W>) -> Result<(), JoinFault> {
+        sink.check()?;
+        if self.kept.bytes().len() % 2 == 1 {
+            return Err(JoinFault::Odd);
+        }
+        let last = last_text(self.kept.bytes());
+        sink.put(last.bytes())?;
+        self.kept.clear();
+        Ok(())
+    }
+
+    ghost joins = { joins_utf16 };
+
+    ghost whole_units = { λ _ h. h };
+}
