@@ -24,7 +24,8 @@ use Rattle.tds_csv.proofs.Streams.{breaks_behind, none_before}
 use Rattle.tds_rows.proofs.RowSteps.{at_once_breaks, at_once_streams}
 use Rattle.tds_rows.specs.declared.Charset.{Charset}
 use Rattle.tds_rows.specs.Cells.{CellPart, Null, ScalarBytes, ScalarCell, ScalarLength, WholeCell, cell, cell_start, shape, unless, value_part}
-use Rattle.tds_rows.specs.CellSteps.{IsValueText, PutsCell, ReadsCell, StopsCell, WritesCell, cell_so_far, in_line}
+use Rattle.tds_rows.specs.CellSteps.{IsValueText, PutsCell, ReadsCell, StopsCell, WritesCell, cell_so_far}
+use Rattle.tds_csv.specs.Quoting.{in_line}
 
 -- a value that is read has a length that is allowed
 read_allowed : (kind : Kind) (bytes : List ℕ) (value : ScalarValue) → read_of kind bytes ≡ Ok value → is_length_allowed kind (length bytes) ≡ true

@@ -20,7 +20,8 @@ use Rattle.tds_rows.specs.Cells.{Null, ScalarCell, DataCell, Shape, FixedShape, 
 use Rattle.tds_packet.proofs.Choices.{choose, eq_true, eq_false, and_true}
 use Rattle.tds_columns.proofs.ByteLemmas.{one_byte, two_bytes}
 
-unless_none : (b : Bool) (f : Fault) → unless b f ≡ None → b ≡ true
+-- a test that gave no fault passed
+pub unless_none : (b : Bool) (f : Fault) → unless b f ≡ None → b ≡ true
 unless_none true f h = refl
 unless_none false f h = cc
 
@@ -118,7 +119,8 @@ is_ok_value : (r : Result ScalarValue ValueFault) → is_ok r ≡ true → (v : 
 is_ok_value (Ok v) h = (v, refl)
 is_ok_value (Err f) h = cc
 
-guard_none : (b : Bool) (o : Option Fault) (f : Fault) → (if b then o else Some f) ≡ None → (b ≡ true) × (o ≡ None)
+-- a test that gave no fault passed, and nor did what follows it
+pub guard_none : (b : Bool) (o : Option Fault) (f : Fault) → (if b then o else Some f) ≡ None → (b ≡ true) × (o ≡ None)
 guard_none true o f h = (refl, h)
 guard_none false o f h = cc
 

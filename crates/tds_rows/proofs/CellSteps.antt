@@ -21,7 +21,8 @@ use Rattle.tds_csv.specs.Conversion.{Conversion, HexDigits, Utf16Text}
 use Rattle.tds_csv.specs.Quoting.{null_field}
 use Rattle.tds_rows.specs.declared.Charset.{Charset}
 use Rattle.tds_rows.specs.Cells.{CellPart, LongShape, Null, ScalarBytes, ScalarCell, ScalarLength, ShortLength, Total, WholeCell, cell, cell_end, cell_size, cell_start, narrow, shape, shape_of_length, unless, value_part}
-use Rattle.tds_rows.specs.CellSteps.{ReadsCell, ReadsValue, StallsCell, in_line}
+use Rattle.tds_rows.specs.CellSteps.{ReadsCell, ReadsValue, StallsCell}
+use Rattle.tds_csv.specs.Quoting.{in_line}
 use Rattle.tds_rows.specs.Unbuilt.{is_built_cell}
 use Rattle.tds_rows.proofs.Stalls.{unbuilt_at_once}
 

@@ -6,7 +6,7 @@ use Rattle.std.specs.Prelude.{◌==◌}
 use Rattle.std.proofs.lemmas.Bool.{ne_eqb}
 use Rattle.tds_packet.proofs.Choices.{choose_false}
 use Rattle.tds_csv.specs.Quoting.{joined}
-use Rattle.tds_rows.specs.CellSteps.{behind_comma, end_behind, in_line}
+use Rattle.tds_csv.specs.Quoting.{behind_comma, end_behind, in_line}
 
 -- a field behind a comma
 pub behind_some : (column : ℕ) (text : List ℕ) → column ≢ 0 → 44 ∷ text ≡ behind_comma column text
@@ -20,11 +20,6 @@ joined_snoc (g ∷ h ∷ gs) f =
     let front = g ++ 44 ∷ [] in
     ap (λ l. (front ++ joined (h ∷ gs)) ++ l) (sym (behind_some (length (g ∷ h ∷ gs)) f (λ e. omega (arith, e)))) ∙ append_assoc front (joined (h ∷ gs)) (44 ∷ f)
     ∙ ap (λ l. front ++ (joined (h ∷ gs) ++ l)) (behind_some (length (h ∷ gs)) f (λ e. omega (arith, e))) ∙ ap (λ l. front ++ l) (joined_snoc (h ∷ gs) f)
-
--- a comma is written, and then a field
-pub comma_text : (column : ℕ) (to text : List ℕ) → (column ≡ 0 → ⊥) → 1 ≤ length to → take 1 (slice_set to 0 44) ++ text ≡ behind_comma column text
-comma_text column [] text h some = absurd (omega (arith, some))
-comma_text column (x ∷ xs) text h some = behind_some column text h
 
 -- a field is written behind its comma, and then the end of the line
 pub value_text : (start made n column : ℕ) (last : Bool) (front value rest to field : List ℕ) → start ≤ length front → made ≤ length value → take made value ≡ field → take start front ++ field ≡ behind_comma column field

@@ -21,7 +21,8 @@ use Rattle.tds_rows.specs.declared.Charset.{Charset}
 use Rattle.tds_rows.specs.Cells.{Cell, CellPart, ChunkData, ChunkLength, CountedShape, FixedShape, LongShape, ScalarBytes, ScalarLength, Shape, ShortData, ShortLength, Total, WholeCell, cell, cell_end, cell_size, cell_start, field, field_so_far, shape}
 use Rattle.tds_csv.specs.Conversion.{open_field}
 use Rattle.tds_rows.specs.Rows.{InCell, RowPart, marked, next_cell, row, row_so_far, row_start, with_cell, with_field}
-use Rattle.tds_rows.specs.CellSteps.{PutsCell, ReadsCell, StallsCell, StopsCell, behind_comma, cell_so_far, in_line, is_last}
+use Rattle.tds_rows.specs.CellSteps.{PutsCell, ReadsCell, StallsCell, StopsCell, cell_so_far, is_last}
+use Rattle.tds_csv.specs.Quoting.{behind_comma, in_line}
 use Rattle.tds_rows.specs.RowSteps.{ReadsCells, ReadsRow, RowStops}
 use Rattle.tds_rows.specs.Unbuilt.{StopsStreaming, is_built_cell, is_built_row}
 use Rattle.tds_rows.proofs.LineTexts.{joined_snoc}

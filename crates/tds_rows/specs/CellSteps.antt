@@ -11,7 +11,7 @@ use Rattle.tds_packet.specs.Payloads.{seen}
 use Rattle.tds_packet.specs.Reading.{StopsReading}
 use Rattle.tds_packet.specs.Seen.{Seen, Takes, IsBetween}
 use Rattle.tds_columns.specs.Description.{Column}
-use Rattle.tds_csv.specs.Quoting.{line_end}
+use Rattle.tds_csv.specs.Quoting.{behind_comma, in_line}
 use Rattle.tds_csv.specs.declared.sink.Sink.{Sink}
 use Rattle.tds_csv.specs.Sinks.{Held, held}
 use Rattle.tds_csv.specs.Streaming.{Streams}
@@ -20,23 +20,10 @@ use Rattle.tds_rows.specs.declared.buffered.Written.{Written}
 use Rattle.tds_rows.specs.Cells.{Cell, CellPart, ScalarBytes, WholeCell, cell, cell_add, cell_start, field, field_so_far, shape}
 use Rattle.tds_rows.specs.Unbuilt.{Stalls, StopsStreaming, is_built_cell}
 
--- a field behind the comma that it has unless it is the first
-abbrev pub behind_comma : ℕ → List ℕ → List ℕ
-behind_comma column text = if column == 0 then text else 44 ∷ text
-
--- what ends a line, behind its last field
-abbrev pub end_behind : Bool → List ℕ
-end_behind true = line_end
-end_behind false = []
-
 -- a field that is open, with the comma before it; nothing where it isn't
 abbrev pub opened : ℕ → Option (List ℕ) → List ℕ
 opened column None = []
 opened column (Some text) = behind_comma column text
-
--- a field with the comma before it unless it is the first, and the end of the line behind it if it is the last
-abbrev pub in_line : ℕ → Bool → List ℕ → List ℕ
-in_line column last text = behind_comma column text ++ end_behind last
 
 -- whether no column follows
 abbrev pub is_last : List Column → Bool

@@ -6,9 +6,10 @@ ghost use Rattle.tds_rows.specs.CellSteps.{CellFound, CellWritten};
 ghost use Rattle.tds_rows.specs.declared.Charset.{Charset};
 ghost use Rattle.tds_values.specs.Kind as kinds;
 
-use crate::fields::{write_null, write_value};
+use crate::fields::write_value;
 use crate::rows::{CELL_ROOM, TEXT_ROOM};
 use std::io::Read;
+use tds_csv::write_null;
 use tds_packet::Payload;
 use tds_values::Kind;
 

@@ -12,11 +12,11 @@ ghost use Rattle.tds_rows.specs.declared.Charset as sets;
 ghost use Rattle.tds_values.specs.Kind as kinds;
 
 use crate::Charset;
-use crate::fields::{write_null, write_value};
+use crate::fields::write_value;
 use crate::buffered::read_buffered;
 use std::io::{Read, Write};
 use tds_columns::Columns;
-use tds_csv::Sink;
+use tds_csv::{Sink, write_null};
 use tds_meter::OUTPUT_ROOM;
 use tds_packet::{Fault, Payload, Place, Stop};
 use tds_values::{Kind, Reach};
