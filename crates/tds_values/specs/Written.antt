@@ -2,11 +2,12 @@
 use Rattle.std.specs.Prelude.{◌≡◌, ℕ, ◌≤◌, List, take, Result, Ok, Err}
 use Rattle.tds_values.specs.declared.scalar.ScalarValue.{ScalarValue}
 use Rattle.tds_values.specs.declared.scalar.ValueFault.{ValueFault}
+use Rattle.tds_values.specs.declared.text.TheConstants.{LONGEST_TEXT}
 use Rattle.tds_values.specs.ScalarText.{text_of}
 
--- the first n bytes are the text of the value, and at most 41
+-- the first n bytes are the text of the value, and n is at most that of the longest text
 abbrev pub IsText : ScalarValue → ℕ → List ℕ → Type 0
-IsText value n bytes = (take n bytes ≡ text_of value) × (n ≤ 41)
+IsText value n bytes = (take n bytes ≡ text_of value) × (n ≤ LONGEST_TEXT)
 
 -- what was read is written, or its fault is answered
 abbrev pub IsWritten : Result ScalarValue ValueFault → Result ℕ ValueFault → List ℕ → Type 0

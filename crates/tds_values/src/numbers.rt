@@ -1,7 +1,7 @@
 // The texts of numbers, written to a slice from a place on.
-ghost use Rattle.std.specs.Prelude.{◌≡◌, ◌+◌, ◌<◌, ◌≤◌, ◌^◌, ◌/◌, ◌++◌, take, length, decimal};
+ghost use Rattle.std.specs.Prelude.{◌≡◌, ◌+◌, ◌<◌, ◌≤◌, ◌^◌, ◌/◌, ◌++◌, ◌&&◌, not, take, length, decimal};
 ghost use Rattle.std.specs.Fmt.{signed_decimal};
-ghost use Rattle.tds_values.specs.ScalarText.{last_digits, fraction_text, decimal_text};
+ghost use Rattle.tds_values.specs.ScalarText.{last_digits, fraction_text, minus_if, decimal_text};
 
 use crate::digits::{put_byte, put_minus, put_number, put_tail};
 
@@ -128,6 +128,16 @@ pub(crate) fn put_fraction(to: &mut [u8], at: usize, scale: u8, n: u64) -> usize
     put_last(to, at, scale as usize, n)
 }
 
+// The sign of a decimal: zero has none.
+#[inline(always)]
+fn put_sign(to: &mut [u8], at: usize, negative: bool, zero: bool) -> usize
+    requires { at < length to.old }
+    ensures end { result ≤ at + 1 }
+    ensures written { take result to.new ≡ take at to.old ++ minus_if (negative && not zero) }
+{
+    put_minus(to, at, negative && !zero)
+}
+
 // A decimal whose magnitude has 64 bits.
 #[inline(always)]
 pub(crate) fn put_decimal(
@@ -142,7 +152,7 @@ pub(crate) fn put_decimal(
     ensures end { result ≤ at + 41 }
     ensures written { take result to.new ≡ take at to.old ++ decimal_text negative magnitude scale }
 {
-    let at = put_minus(to, at, negative && magnitude != 0);
+    let at = put_sign(to, at, negative, magnitude == 0);
     let at = put_number(to, at, whole(scale, magnitude));
     put_fraction(to, at, scale, magnitude)
 }
@@ -161,7 +171,7 @@ pub(crate) fn put_wide_decimal(
     ensures end { result ≤ at + 41 }
     ensures written { take result to.new ≡ take at to.old ++ decimal_text negative magnitude scale }
 {
-    let at = put_minus(to, at, negative && magnitude != 0);
+    let at = put_sign(to, at, negative, magnitude == 0);
     let at = put_wide(to, at, magnitude / 10u128.pow(scale as u32));
     if scale == 0 {
         return at;

@@ -1,13 +1,17 @@
 // A value of a scalar kind.
 ghost use Rattle.std.specs.Prelude.{◌≡◌, ◌⊎◌, IsTrue, length, ◌≤◌, ◌&&◌, nat_le, unsigned_abs, Some};
 ghost use Rattle.tds_values.specs.Numbers as read;
-ghost use Rattle.tds_values.specs.LocalTime as range;
+ghost use Rattle.tds_values.specs.LocalTime as local;
 ghost use Rattle.tds_values.specs.Kind as kinds;
 ghost use Rattle.tds_values.specs.Scalar as scalar;
 ghost use Rattle.tds_values.specs.ScalarRange as bounds;
 ghost use Rattle.tds_values.specs.TimeOfDay.{is_time as is_time_of};
 
 use crate::kind::{Kind, time_length};
+use crate::ranges::{
+    LARGEST_OFFSET, LAST_DAY, MINUTES_A_DAY, TICKS_A_DAY, is_day_since_1900, is_time,
+    local_seconds, seconds_in,
+};
 use byteorder::{ByteOrder, LittleEndian};
 use std::marker::Model;
 use uuid::Uuid;
@@ -127,45 +131,21 @@ pub(crate) fn money_of(n: u8, bytes: &[u8]) -> i64
     ((high as u64) * (1 << 32) + low as u64).cast_signed()
 }
 
-fn is_time(scale: u8, units: u64) -> bool
-    ensures { result ≡ is_time_of scale units }
-{
-    scale <= 7 && units < 86400 * 10u64.pow(scale as u32)
-}
-
-pub(crate) fn local_of(scale: u8, units: u64, day: u32, offset: i16) -> u64
-    requires time { IsTrue (is_time_of scale units) }
-    requires day { day ≤ 3652058 }
-    requires offset { unsigned_abs offset ≤ 840 }
-    requires local { IsTrue (range.is_local scale units day offset) }
-    ensures { result ≡ range.local_units scale units day offset }
-{
-    let second = 10u64.pow(scale as u32);
-    let utc = day as u64 * (86400 * second) + units;
-    let shift = offset.unsigned_abs() as u64 * (60 * second);
-    if offset < 0 { utc - shift } else { utc + shift }
-}
-
+// The local time lies in the years 1 to 9999.
 fn is_local(scale: u8, units: u64, day: u32, offset: i16) -> bool
     requires time { IsTrue (is_time_of scale units) }
-    requires day { day ≤ 3652058 }
-    requires offset { unsigned_abs offset ≤ 840 }
-    ensures { result ≡ range.is_local scale units day offset }
+    requires day { day ≤ LAST_DAY }
+    requires offset { unsigned_abs offset ≤ LARGEST_OFFSET }
+    ensures { result ≡ local.is_local scale units day offset }
 {
-    let second = 10u64.pow(scale as u32);
-    let utc = day as u64 * (86400 * second) + units;
-    let shift = offset.unsigned_abs() as u64 * (60 * second);
-    if offset < 0 {
-        shift <= utc
-    } else {
-        utc + shift < 3652059 * (86400 * second)
-    }
+    local_seconds(seconds_in(scale, units), day, offset).is_some()
 }
 
+// A number of units is a time of day, and a day number one of the calendar.
 fn is_time_in_day(scale: u8, units: u64, day: u32) -> bool
-    ensures { result ≡ (is_time_of scale units && nat_le day 3652058) }
+    ensures { result ≡ (is_time_of scale units && nat_le day LAST_DAY) }
 {
-    is_time(scale, units) && day <= 3652058
+    is_time(scale, units) && day <= LAST_DAY
 }
 
 fn datetime_of(n: u8, bytes: &[u8]) -> ScalarValue
@@ -202,7 +182,7 @@ fn is_in_range(value: &ScalarValue) -> bool
 {
     match *value {
         ScalarValue::Decimal { scale, .. } => scale <= 38,
-        ScalarValue::Date(day) => day <= 3652058,
+        ScalarValue::Date(day) => day <= LAST_DAY,
         ScalarValue::Time { scale, units } => is_time(scale, units),
         ScalarValue::DateTime2 { scale, units, day } => is_time_in_day(scale, units, day),
         ScalarValue::DateTimeOffset {
@@ -211,15 +191,12 @@ fn is_in_range(value: &ScalarValue) -> bool
             day,
             offset,
         } => {
-            is_time(scale, units)
-                && day <= 3652058
-                && offset.unsigned_abs() <= 840
+            is_time_in_day(scale, units, day)
+                && offset.unsigned_abs() <= LARGEST_OFFSET
                 && is_local(scale, units, day, offset)
         }
-        ScalarValue::SmallDateTime { minutes, .. } => minutes < 1440,
-        ScalarValue::DateTime { days, ticks } => {
-            -693595 <= days && days <= 2958463 && ticks < 25920000
-        }
+        ScalarValue::SmallDateTime { minutes, .. } => minutes < MINUTES_A_DAY,
+        ScalarValue::DateTime { days, ticks } => is_day_since_1900(days) && ticks < TICKS_A_DAY,
         _ => true,
     }
 }
