@@ -5,9 +5,13 @@ use Rattle.tds_values.specs.declared.scalar.ValueFault.{ValueFault}
 use Rattle.tds_values.specs.declared.text.TheConstants.{LONGEST_TEXT}
 use Rattle.tds_values.specs.ScalarText.{text_of}
 
--- the first n bytes are the text of the value, and n is at most that of the longest text
+-- the first n bytes are the text of the value, and no more than the longest text has
 abbrev pub IsText : ScalarValue → ℕ → List ℕ → Type 0
 IsText value n bytes = (take n bytes ≡ text_of value) × (n ≤ LONGEST_TEXT)
+
+-- the first n bytes are the text of what was read
+abbrev pub IsTextOf : Result ScalarValue ValueFault → ℕ → List ℕ → Type 0
+IsTextOf read n bytes = (value : ScalarValue) × ((read ≡ Ok value) × IsText value n bytes)
 
 -- what was read is written, or its fault is answered
 abbrev pub IsWritten : Result ScalarValue ValueFault → Result ℕ ValueFault → List ℕ → Type 0

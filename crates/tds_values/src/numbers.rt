@@ -4,6 +4,7 @@ ghost use Rattle.std.specs.Fmt.{signed_decimal};
 ghost use Rattle.tds_values.specs.ScalarText.{last_digits, fraction_text, minus_if, decimal_text};
 
 use crate::digits::{put_byte, put_minus, put_number, put_tail};
+use crate::text::{LONGEST_TEXT, TEXT_ROOM};
 
 // The last k digits of a number.
 #[inline(always)]
@@ -149,7 +150,7 @@ pub(crate) fn put_decimal(
 ) -> usize
     requires room { at + 50 ≤ length to.old }
     requires scale { scale ≤ 24 }
-    ensures end { result ≤ at + 41 }
+    ensures end { result ≤ at + LONGEST_TEXT }
     ensures written { take result to.new ≡ take at to.old ++ decimal_text negative magnitude scale }
 {
     let at = put_sign(to, at, negative, magnitude == 0);
@@ -166,9 +167,9 @@ pub(crate) fn put_wide_decimal(
     magnitude: u128,
     scale: u8,
 ) -> usize
-    requires room { at + 64 ≤ length to.old }
+    requires room { at + TEXT_ROOM ≤ length to.old }
     requires scale { scale ≤ 38 }
-    ensures end { result ≤ at + 41 }
+    ensures end { result ≤ at + LONGEST_TEXT }
     ensures written { take result to.new ≡ take at to.old ++ decimal_text negative magnitude scale }
 {
     let at = put_sign(to, at, negative, magnitude == 0);

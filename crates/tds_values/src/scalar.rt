@@ -97,6 +97,7 @@ impl Model for Scalar {
 impl Scalar {
     ghost use Rattle.tds_values.specs.ScalarRange.{is_in_range};
 
+    // The fields.
     pub(crate) fn value(&self) -> ScalarValue
         ensures value { result ≡ self.now }
         ensures in_range { IsTrue (is_in_range result) }
@@ -105,6 +106,7 @@ impl Scalar {
     }
 }
 
+// The whole number in n bytes.
 pub(crate) fn integer_of(n: u8, bytes: &[u8]) -> i64
     requires size { (n ≡ 1) ⊎ ((n ≡ 2) ⊎ ((n ≡ 4) ⊎ (n ≡ 8))) }
     requires length { length bytes.now ≡ n }
@@ -118,6 +120,7 @@ pub(crate) fn integer_of(n: u8, bytes: &[u8]) -> i64
     }
 }
 
+// The amount of money in n bytes: of 8 the high half stands first.
 pub(crate) fn money_of(n: u8, bytes: &[u8]) -> i64
     requires size { (n ≡ 4) ⊎ (n ≡ 8) }
     requires length { length bytes.now ≡ n }
@@ -148,6 +151,7 @@ fn is_time_in_day(scale: u8, units: u64, day: u32) -> bool
     is_time(scale, units) && day <= LAST_DAY
 }
 
+// A smalldatetime in 4 bytes, or a datetime in 8.
 fn datetime_of(n: u8, bytes: &[u8]) -> ScalarValue
     requires size { (n ≡ 4) ⊎ (n ≡ 8) }
     requires length { length bytes.now ≡ n }
@@ -165,6 +169,7 @@ fn datetime_of(n: u8, bytes: &[u8]) -> ScalarValue
     }
 }
 
+// A decimal by its sign byte and its magnitude.
 fn decimal_of(scale: u8, bytes: &[u8]) -> ScalarValue
     requires low { 2 ≤ length bytes.now }
     requires high { length bytes.now ≤ 17 }
@@ -177,6 +182,7 @@ fn decimal_of(scale: u8, bytes: &[u8]) -> ScalarValue
     }
 }
 
+// A value lies in its range.
 fn is_in_range(value: &ScalarValue) -> bool
     ensures { result ≡ bounds.is_in_range value.now }
 {
@@ -201,6 +207,7 @@ fn is_in_range(value: &ScalarValue) -> bool
     }
 }
 
+// The fields that the bytes of a scalar kind spell, whatever their range.
 fn value_of(kind: &Kind, bytes: &[u8]) -> ScalarValue
     requires valid { IsTrue (kinds.is_valid kind.now) }
     requires is_scalar { IsTrue (kinds.is_scalar kind.now) }
@@ -248,6 +255,7 @@ fn value_of(kind: &Kind, bytes: &[u8]) -> ScalarValue
     }
 }
 
+// A GUID, whose first three fields have their low byte first.
 fn guid_of(bytes: &[u8]) -> ScalarValue
     requires { length bytes.now ≡ 16 }
     ensures { scalar.value_of Kind.Guid bytes.now ≡ Some result }

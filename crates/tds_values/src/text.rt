@@ -24,7 +24,7 @@ pub const LONGEST_TEXT: usize = 41;
 pub const TEXT_ROOM: usize = 64;
 
 /// Room for the text of any scalar value.
-pub type ScalarText = ArrayVec<u8, 64>;
+pub type ScalarText = ArrayVec<u8, TEXT_ROOM>;
 
 // A bit.
 #[inline(always)]
@@ -86,7 +86,7 @@ pub(crate) fn put_small_date_time(to: &mut [u8], days: u16, minutes: u16) -> usi
 
 // A datetime: days since 1900-01-01, and 1/300 seconds.
 #[inline(always)]
-pub(crate) fn put_old_date_time(to: &mut [u8], days: i32, ticks: u32) -> usize
+pub(crate) fn put_date_time(to: &mut [u8], days: i32, ticks: u32) -> usize
     requires room { TEXT_ROOM ≤ length to.old }
     requires in_range { IsTrue (is_in_range (ScalarValue.DateTime days ticks)) }
     ensures { IsText (ScalarValue.DateTime days ticks) result to.new }
@@ -124,7 +124,7 @@ fn seconds_of(scale: u8, units: u64) -> u32
 }
 
 // A datetimeoffset: a time and a day in UTC, and the minutes by which local time is ahead.
-fn put_offset_time(to: &mut [u8], scale: u8, units: u64, day: u32, offset: i16) -> usize
+fn put_date_time_offset(to: &mut [u8], scale: u8, units: u64, day: u32, offset: i16) -> usize
     requires room { TEXT_ROOM ≤ length to.old }
     requires in_range { IsTrue (is_in_range (ScalarValue.DateTimeOffset scale units day offset)) }
     ensures { IsText (ScalarValue.DateTimeOffset scale units day offset) result to.new }
@@ -163,9 +163,9 @@ fn put_value(to: &mut [u8], value: &ScalarValue) -> usize
             units,
             day,
             offset,
-        } => put_offset_time(to, scale, units, day, offset),
+        } => put_date_time_offset(to, scale, units, day, offset),
         ScalarValue::SmallDateTime { days, minutes } => put_small_date_time(to, days, minutes),
-        ScalarValue::DateTime { days, ticks } => put_old_date_time(to, days, ticks),
+        ScalarValue::DateTime { days, ticks } => put_date_time(to, days, ticks),
     }
 }
 

@@ -5,7 +5,7 @@ ghost use Rattle.std.specs.Int.{cast_signed, w16};
 ghost use Rattle.tds_values.specs.Kind as kinds;
 ghost use Rattle.tds_values.specs.Kind.{is_decimal_length};
 ghost use Rattle.tds_values.specs.Scalar.{read_of, checked, decimal_of};
-ghost use Rattle.tds_values.specs.Written.{IsText, IsWritten};
+ghost use Rattle.tds_values.specs.Written.{IsText, IsTextOf, IsWritten};
 ghost use Rattle.tds_values.specs.declared.scalar.ScalarValue.{ScalarValue};
 
 use crate::guid::put_guid;
@@ -18,11 +18,12 @@ use crate::ranges::{
 };
 use crate::scalar::{ScalarValue, ValueFault, integer_of, money_of};
 use crate::text::{
-    TEXT_ROOM, put_bit, put_local, put_magnitude, put_money, put_old_date_time,
-    put_small_date_time, put_wide_magnitude,
+    TEXT_ROOM, put_bit, put_date_time, put_local, put_magnitude, put_money, put_small_date_time,
+    put_wide_magnitude,
 };
 use byteorder::{ByteOrder, LittleEndian};
 
+// A whole number in n bytes, in which 1 is unsigned.
 #[inline(always)]
 fn write_integer(n: u8, bytes: &[u8], to: &mut [u8]) -> Result<usize, ValueFault>
     requires size { (n ≡ 1) ⊎ ((n ≡ 2) ⊎ ((n ≡ 4) ⊎ (n ≡ 8))) }
@@ -35,6 +36,7 @@ fn write_integer(n: u8, bytes: &[u8], to: &mut [u8]) -> Result<usize, ValueFault
     Ok(put_integer(to, 0, integer_of(n, bytes)))
 }
 
+// A bit.
 #[inline(always)]
 fn write_bit(bytes: &[u8], to: &mut [u8]) -> Result<usize, ValueFault>
     requires room { TEXT_ROOM ≤ length to.old }
@@ -46,6 +48,7 @@ fn write_bit(bytes: &[u8], to: &mut [u8]) -> Result<usize, ValueFault>
     Ok(put_bit(to, bytes[0] != 0))
 }
 
+// An amount of money in n bytes.
 #[inline(always)]
 fn write_money(n: u8, bytes: &[u8], to: &mut [u8]) -> Result<usize, ValueFault>
     requires size { (n ≡ 4) ⊎ (n ≡ 8) }
@@ -58,6 +61,7 @@ fn write_money(n: u8, bytes: &[u8], to: &mut [u8]) -> Result<usize, ValueFault>
     Ok(put_money(to, money_of(n, bytes)))
 }
 
+// A date.
 #[inline(always)]
 fn write_date(bytes: &[u8], to: &mut [u8]) -> Result<usize, ValueFault>
     requires room { TEXT_ROOM ≤ length to.old }
@@ -73,6 +77,7 @@ fn write_date(bytes: &[u8], to: &mut [u8]) -> Result<usize, ValueFault>
     Ok(put_date(to, 0, day))
 }
 
+// A time of day.
 #[inline(always)]
 fn write_time(scale: u8, bytes: &[u8], to: &mut [u8]) -> Result<usize, ValueFault>
     requires scale { scale ≤ 7 }
@@ -100,8 +105,9 @@ fn day_at(t: usize, bytes: &[u8]) -> u32
     LittleEndian::read_u24(&bytes[t..])
 }
 
+// A datetime2: a time of day and a date.
 #[inline(always)]
-fn write_date_time(scale: u8, bytes: &[u8], to: &mut [u8]) -> Result<usize, ValueFault>
+fn write_date_time2(scale: u8, bytes: &[u8], to: &mut [u8]) -> Result<usize, ValueFault>
     requires scale { scale ≤ 7 }
     requires room { TEXT_ROOM ≤ length to.old }
     ensures { IsWritten (read_of (Kind.DateTime2 scale) bytes.now) result to.new }
@@ -128,7 +134,7 @@ fn offset_at(t: usize, bytes: &[u8]) -> i16
     LittleEndian::read_i16(&bytes[t..])
 }
 
-// A time and a day in UTC, and the minutes by which local time is ahead.
+// A time and a day in UTC as the local time, where the calendar has it.
 #[inline(always)]
 fn write_local(
     scale: u8,
@@ -151,8 +157,9 @@ fn write_local(
     Ok(put_local(to, local, scale, units, offset))
 }
 
+// A datetimeoffset: a time of day and a date in UTC, and an offset.
 #[inline(always)]
-fn write_offset_time(scale: u8, bytes: &[u8], to: &mut [u8]) -> Result<usize, ValueFault>
+fn write_date_time_offset(scale: u8, bytes: &[u8], to: &mut [u8]) -> Result<usize, ValueFault>
     requires scale { scale ≤ 7 }
     requires room { TEXT_ROOM ≤ length to.old }
     ensures { IsWritten (read_of (Kind.DateTimeOffset scale) bytes.now) result to.new }
@@ -165,9 +172,9 @@ fn write_offset_time(scale: u8, bytes: &[u8], to: &mut [u8]) -> Result<usize, Va
     write_local(scale, units, day_at(t, bytes), offset_at(t + 3, bytes), to)
 }
 
-// Days since 1900-01-01 and minutes.
+// A smalldatetime: days since 1900-01-01 and minutes.
 #[inline(always)]
-fn write_minutes(days: u16, minutes: u16, to: &mut [u8]) -> Result<usize, ValueFault>
+fn write_small_date_time(days: u16, minutes: u16, to: &mut [u8]) -> Result<usize, ValueFault>
     requires room { TEXT_ROOM ≤ length to.old }
     ensures { IsWritten (checked (Some (ScalarValue.SmallDateTime days minutes))) result to.new }
 {
@@ -177,20 +184,21 @@ fn write_minutes(days: u16, minutes: u16, to: &mut [u8]) -> Result<usize, ValueF
     Ok(put_small_date_time(to, days, minutes))
 }
 
-// Days since 1900-01-01 and 1/300 seconds.
+// A datetime: days since 1900-01-01 and 1/300 seconds.
 #[inline(always)]
-fn write_ticks(days: i32, ticks: u32, to: &mut [u8]) -> Result<usize, ValueFault>
+fn write_date_time(days: i32, ticks: u32, to: &mut [u8]) -> Result<usize, ValueFault>
     requires room { TEXT_ROOM ≤ length to.old }
     ensures { IsWritten (checked (Some (ScalarValue.DateTime days ticks))) result to.new }
 {
     if !is_day_since_1900(days) || ticks >= TICKS_A_DAY {
         return Err(ValueFault::Value);
     }
-    Ok(put_old_date_time(to, days, ticks))
+    Ok(put_date_time(to, days, ticks))
 }
 
+// A smalldatetime in 4 bytes, or a datetime in 8.
 #[inline(always)]
-fn write_old(n: u8, bytes: &[u8], to: &mut [u8]) -> Result<usize, ValueFault>
+fn write_date_time_n(n: u8, bytes: &[u8], to: &mut [u8]) -> Result<usize, ValueFault>
     requires size { (n ≡ 4) ⊎ (n ≡ 8) }
     requires room { TEXT_ROOM ≤ length to.old }
     ensures { IsWritten (read_of (Kind.DateTimeN n) bytes.now) result to.new }
@@ -199,19 +207,20 @@ fn write_old(n: u8, bytes: &[u8], to: &mut [u8]) -> Result<usize, ValueFault>
         return Err(ValueFault::Length);
     }
     if n == 4 {
-        return write_minutes(
+        return write_small_date_time(
             LittleEndian::read_u16(bytes),
             LittleEndian::read_u16(&bytes[2..]),
             to,
         );
     }
-    write_ticks(
+    write_date_time(
         LittleEndian::read_i32(bytes),
         LittleEndian::read_u32(&bytes[4..]),
         to,
     )
 }
 
+// A GUID.
 #[inline(always)]
 fn write_guid(bytes: &[u8], to: &mut [u8]) -> Result<usize, ValueFault>
     requires room { TEXT_ROOM ≤ length to.old }
@@ -223,7 +232,7 @@ fn write_guid(bytes: &[u8], to: &mut [u8]) -> Result<usize, ValueFault>
     Ok(put_guid(to, bytes))
 }
 
-// A sign byte and a magnitude.
+// A decimal by its sign byte and its magnitude.
 #[inline(always)]
 fn write_spelt(scale: u8, bytes: &[u8], to: &mut [u8]) -> usize
     requires scale { scale ≤ 38 }
@@ -249,6 +258,7 @@ fn write_spelt(scale: u8, bytes: &[u8], to: &mut [u8]) -> usize
     }
 }
 
+// A decimal of at most `most` bytes.
 #[inline(always)]
 fn write_decimal(most: u8, scale: u8, bytes: &[u8], to: &mut [u8]) -> Result<usize, ValueFault>
     requires scale { scale ≤ 38 }
@@ -262,6 +272,7 @@ fn write_decimal(most: u8, scale: u8, bytes: &[u8], to: &mut [u8]) -> Result<usi
     Ok(write_spelt(scale, bytes, to))
 }
 
+// A value of any scalar kind.
 #[inline(always)]
 fn write_any(kind: &Kind, bytes: &[u8], to: &mut [u8]) -> Result<usize, ValueFault>
     requires valid { IsTrue (kinds.is_valid kind.now) }
@@ -279,15 +290,15 @@ fn write_any(kind: &Kind, bytes: &[u8], to: &mut [u8]) -> Result<usize, ValueFau
         Kind::Money4 => write_money(4, bytes, to),
         Kind::Money8 => write_money(8, bytes, to),
         Kind::MoneyN(n) => write_money(n, bytes, to),
-        Kind::DateTime4 => write_old(4, bytes, to),
-        Kind::DateTime8 => write_old(8, bytes, to),
-        Kind::DateTimeN(n) => write_old(n, bytes, to),
+        Kind::DateTime4 => write_date_time_n(4, bytes, to),
+        Kind::DateTime8 => write_date_time_n(8, bytes, to),
+        Kind::DateTimeN(n) => write_date_time_n(n, bytes, to),
         Kind::Guid => write_guid(bytes, to),
         Kind::Decimal { length, scale, .. } => write_decimal(length, scale, bytes, to),
         Kind::Date => write_date(bytes, to),
         Kind::Time(scale) => write_time(scale, bytes, to),
-        Kind::DateTime2(scale) => write_date_time(scale, bytes, to),
-        Kind::DateTimeOffset(scale) => write_offset_time(scale, bytes, to),
+        Kind::DateTime2(scale) => write_date_time2(scale, bytes, to),
+        Kind::DateTimeOffset(scale) => write_date_time_offset(scale, bytes, to),
         Kind::Binary(_) | Kind::Narrow(_) | Kind::Wide(_) => unreachable!(),
     }
 }
@@ -300,7 +311,7 @@ pub fn write_scalar(kind: &Kind, bytes: &[u8], to: &mut [u8]) -> Result<usize, V
     requires valid { IsTrue (kinds.is_valid kind.now) }
     requires is_scalar { IsTrue (kinds.is_scalar kind.now) }
     requires room { TEXT_ROOM ≤ length to.old }
-    ensures written { IfOk result (λ n. (value : ScalarValue) × ((read_of kind.now bytes.now ≡ Ok value) × IsText value n to.new)) }
+    ensures written { IfOk result (λ n. IsTextOf (read_of kind.now bytes.now) n to.new) }
     ensures refused { IfErr result (λ fault. read_of kind.now bytes.now ≡ Err fault) }
 {
     write_any(kind, bytes, to)
