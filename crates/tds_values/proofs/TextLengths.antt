@@ -27,9 +27,6 @@ length-fraction scale n =
     elim (nat_eq scale 0) as (λ t. length (cond t [] (codes "." ++ last_digits scale n)) ≤ scale + 1)
     [ true ↦ omega arith | false ↦ omega (arith, length-last_digits scale n) ]
 
-length-fraction_none : (n : ℕ) → length (fraction_text 0 n) ≡ 0
-length-fraction_none n = refl
-
 length-minus : (b : Bool) → length (minus_if b) ≤ 1
 length-minus true = omega arith
 length-minus false = omega arith

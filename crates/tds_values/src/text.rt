@@ -11,8 +11,8 @@ use crate::guid::put_guid;
 use crate::moments::{put_clock, put_date, put_moment, put_offset, put_ticks, put_time};
 use crate::numbers::{put_decimal, put_integer, put_wide_decimal};
 use crate::ranges::{
-    DAY_OF_1900, LARGEST_OFFSET, LAST_DAY, MINUTES_A_DAY, SECONDS_A_DAY, SECONDS_OF_ALL_DAYS,
-    TICKS_A_DAY, local_seconds, seconds_in,
+    DAY_OF_1900, LARGEST_OFFSET, MINUTES_A_DAY, SECONDS_A_DAY, SECONDS_OF_ALL_DAYS, local_seconds,
+    seconds_in,
 };
 use crate::scalar::{Scalar, ScalarValue};
 use arrayvec::ArrayVec;

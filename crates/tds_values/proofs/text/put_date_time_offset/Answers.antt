@@ -1,4 +1,4 @@
-use Rattle.std.proofs.Common.{◌≡◌, sym, ◌∙◌, FitsSigned, w16, Some, None}
+use Rattle.std.proofs.Common.{◌≡◌, sym, ◌∙◌, FitsSigned, w16, Some}
 use Rattle.std.proofs.lemmas.Int.{to_z-of_z}
 use Rattle.tds_values.specs.LocalTime.{local_seconds}
 use Rattle.tds_values.proofs.WrittenLemmas.{local_found, local_spelt}
