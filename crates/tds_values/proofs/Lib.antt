@@ -4,7 +4,6 @@ pub mod HexLemmas
 pub mod JiffDates
 pub mod Joining
 pub mod LocalLemmas
-pub mod LocalSizes
 pub mod Rows
 pub mod TableLemmas
 pub mod TextLengths

@@ -49,7 +49,7 @@ local_by_seconds scale units day offset =
     let sum : day * (86400 * p) + units + o * (60 * p) ≡ (day * 86400 + s + o * 60) * p + f = omega arith in
     let end : 3652059 * (86400 * p) ≡ 315537897600 * p = omega arith in
     elim (int_lt offset (pos 0)) as (λ t. cond t (nat_le (o * (60 * p)) (day * (86400 * p) + units)) (nat_lt (day * (86400 * p) + units + o * (60 * p)) (3652059 * (86400 * p)))
-    ≡ is_some (cond t (cond (nat_le (o * 60) (day * 86400 + s)) (Some (day * 86400 + s - o * 60)) None) (cond (nat_lt (day * 86400 + s + o * 60) 315537897600) (Some (day * 86400 + s + o * 60)) None))) [
+    ≡ is_some (cond (cond t (nat_le (o * 60) (day * 86400 + s)) (nat_lt (day * 86400 + s + o * 60) 315537897600)) (Some (cond t (day * 86400 + s - o * 60) (day * 86400 + s + o * 60))) None)) [
       | true ↦ (λ i. nat_le (shift i) (utc i)) ∙ scaled_le p (o * 60) (day * 86400 + s) f small ∙ some_if (nat_le (o * 60) (day * 86400 + s)) (day * 86400 + s - o * 60)
       | false ↦ (λ i. nat_lt (sum i) (end i)) ∙ scaled_lt p 315537897600 (day * 86400 + s + o * 60) f small ∙ some_if (nat_lt (day * 86400 + s + o * 60) 315537897600) (day * 86400 + s + o * 60)
     ]
@@ -70,7 +70,7 @@ units_of_seconds scale units day l offset =
     let o = unsigned_abs offset in
     let utc = utc_parts p units day in
     let shift : o * (60 * p) ≡ o * 60 * p = omega arith in
-    elim (int_lt offset (pos 0)) as (λ t. cond t (cond (nat_le (o * 60) (day * 86400 + s)) (Some (day * 86400 + s - o * 60)) None) (cond (nat_lt (day * 86400 + s + o * 60) 315537897600) (Some (day * 86400 + s + o * 60)) None) ≡ Some l
+    elim (int_lt offset (pos 0)) as (λ t. cond (cond t (nat_le (o * 60) (day * 86400 + s)) (nat_lt (day * 86400 + s + o * 60) 315537897600)) (Some (cond t (day * 86400 + s - o * 60) (day * 86400 + s + o * 60))) None ≡ Some l
     → cond t (day * (86400 * p) + units - o * (60 * p)) (day * (86400 * p) + units + o * (60 * p)) ≡ l * p + f) [
       | true ↦ λ h. let e = some_from (nat_le (o * 60) (day * 86400 + s)) (day * 86400 + s - o * 60) l h in
           (λ i. utc i - shift i) ∙ less p f (o * 60) (day * 86400 + s) l e.0 e.1

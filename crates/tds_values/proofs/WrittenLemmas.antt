@@ -15,8 +15,9 @@ use Rattle.tds_values.specs.Scalar.{value_of, checked, read_of, time_of, day_of}
 use Rattle.tds_values.specs.ScalarRange.{is_in_range}
 use Rattle.tds_values.specs.ScalarText.{text_of, seconds_text, fraction_text, time_text, date_and_time, offset_text, local_text}
 use Rattle.tds_values.specs.LocalTime.{is_local, local_seconds}
+use Rattle.tds_values.proofs.TextLengths.{both}
 use Rattle.tds_values.proofs.LocalLemmas.{local_by_seconds, units_of_seconds, text_of_seconds}
-use Rattle.std.specs.Prelude.{is_some, IfOk, IfErr, Result}
+use Rattle.std.specs.Prelude.{is_some, IfOk, IfErr, Option, Result}
 use Rattle.tds_values.specs.declared.scalar.ValueFault.{ValueFault}
 use Rattle.tds_values.specs.TimeOfDay.{is_time, time_length}
 use Rattle.tds_values.specs.Written.{IsText, IsWritten}
@@ -65,6 +66,18 @@ time_out scale units more =
     let above : 86400 * 10 ^ scale ≤ units = ⊎_elim (λ l. let less = div_below units (10 ^ scale) 86400 (omega arith) l in absurd (omega arith)) (λ ge. ge) (cases_lt units (86400 * 10 ^ scale)) in
     let test : nat_lt units (86400 * 10 ^ scale) ≡ false = grind (arith, nat_tests) in
     ap (λ b. nat_le scale 7 && b) test ∙ and_false (nat_le scale 7)
+
+-- so whole seconds tell whether it is one
+pub time_by_seconds : (scale units : ℕ) → scale ≤ 7 → nat_lt (units / 10 ^ scale) 86400 ≡ is_time scale units
+time_by_seconds scale units s =
+    ⊎_elim (λ less. below (units / 10 ^ scale) less ∙ sym (time_in scale units s less)) (λ ge. above (units / 10 ^ scale) ge ∙ sym (time_out scale units ge))
+    (cases_lt (units / 10 ^ scale) 86400)
+  where
+    below : (n : ℕ) → n < 86400 → nat_lt n 86400 ≡ true
+    below n h = grind (arith, nat_tests)
+
+    above : (n : ℕ) → 86400 ≤ n → nat_lt n 86400 ≡ false
+    above n h = grind (arith, nat_tests)
 
 pub time_written : (scale units seconds n : ℕ) (bytes new : List ℕ) → scale ≤ 7 → length bytes ≡ time_length scale → units ≡ little_number (time_length scale) bytes
     → seconds ≡ units / 10 ^ scale → seconds < 86400 → take n new ≡ seconds_text seconds ++ fraction_text scale units → n ≤ 41
@@ -115,7 +128,15 @@ local_refused scale units day seconds offset new es none =
 offset_in : (o : ℕ) → o ≤ 840 → nat_le o 840 ≡ true
 offset_in o h = grind (arith, nat_tests)
 
--- and one in it is written
+-- a local time in the calendar by its seconds
+pub local_spelt : (scale units day seconds l n : ℕ) (offset : ℤ) (new : List ℕ) → seconds ≡ units / 10 ^ scale → local_seconds seconds day offset ≡ Some l
+    → take n new ≡ date_and_time (l / 86400) (seconds_text (l % 86400) ++ fraction_text scale units) ++ codes " " ++ offset_text offset
+    → take n new ≡ text_of (values.DateTimeOffset scale units day offset)
+local_spelt scale units day seconds l n offset new es some text =
+    let same : local_seconds (units / 10 ^ scale) day offset ≡ Some l = ap (λ k. local_seconds k day offset) (sym es) ∙ some in
+    text ∙ ap (λ t. t ++ codes " " ++ offset_text offset) (sym (text_of_seconds scale l units) ∙ ap (local_text scale) (sym (units_of_seconds scale units day l offset same)))
+
+-- and such a value is written
 pub local_written : (scale units day seconds l n : ℕ) (offset : ℤ) (new : List ℕ) → scale ≤ 7 → seconds ≡ units / 10 ^ scale → seconds < 86400 → day ≤ 3652058
     → unsigned_abs offset ≤ 840 → local_seconds seconds day offset ≡ Some l
     → take n new ≡ date_and_time (l / 86400) (seconds_text (l % 86400) ++ fraction_text scale units) ++ codes " " ++ offset_text offset → n ≤ 41
@@ -126,9 +147,17 @@ local_written scale units day seconds l n offset new s es less last small some t
     let inside : is_local scale units day offset ≡ true = local_by_seconds scale units day offset ∙ ap is_some same in
     let range : is_in_range value ≡ true =
     and_true _ _ (and_true _ _ (and_true _ _ (time_in scale units s (omega arith)) (day_in day last)) (offset_in (unsigned_abs offset) small)) inside in
-    let whole : take n new ≡ text_of value =
-    text ∙ ap (λ t. t ++ codes " " ++ offset_text offset) (sym (text_of_seconds scale l units) ∙ ap (local_text scale) (sym (units_of_seconds scale units day l offset same))) in
+    let whole = local_spelt scale units day seconds l n offset new es some text in
     subst (λ b. IsWritten (cond b (Ok value) (Err faults.Value)) (Ok n) new) (sym range) (whole, short)
+
+-- the local time of a value in its range is one of the calendar
+pub local_found : (scale units day seconds : ℕ) (offset : ℤ) → seconds ≡ units / 10 ^ scale → is_in_range (values.DateTimeOffset scale units day offset) ≡ true
+    → local_seconds seconds day offset ≡ None → ⊥
+local_found scale units day seconds offset es range none =
+    nothing (ap (λ k. is_some (local_seconds k day offset)) es ∙ sym (local_by_seconds scale units day offset) ∙ (both _ _ range).1) none
+  where
+    nothing : {o : Option ℕ} → is_some o ≡ true → o ≡ None → ⊥
+    nothing some e = cc
 
 -- what is answered, for a caller
 pub answered : (read : Result ScalarValue ValueFault) (answer : Result ℕ ValueFault) (new : List ℕ) → IsWritten read answer new

@@ -1,13 +1,7 @@
--- Days and local times. An offset is the minutes by which local time is ahead of UTC.
+-- Local times. An offset is the minutes by which local time is ahead of UTC.
 use Rattle.std.specs.Prelude.{ℕ, ◌+◌, ◌-◌, ◌*◌, Bool, nat_lt, nat_le, ℤ, pos, int_lt, unsigned_abs, Option, Some, None, if◌then◌else◌}
+use Rattle.tds_values.specs.declared.ranges.TheConstants.{LAST_DAY}
 use Rattle.tds_values.specs.TimeOfDay.{units_per_second, units_per_day}
-
--- the day number of 9999-12-31, and of 1900-01-01
-abbrev pub last_day : ℕ
-last_day = 3652058
-
-abbrev pub day_of_1900 : ℕ
-day_of_1900 = 693595
 
 -- a UTC time and day, in units since 0001-01-01 00:00:00
 abbrev pub utc_units : ℕ → ℕ → ℕ → ℕ
@@ -27,12 +21,9 @@ local_units scale units day offset =
 abbrev pub is_local : ℕ → ℕ → ℕ → ℤ → Bool
 is_local scale units day offset =
     if int_lt offset (pos 0) then nat_le (offset_units scale offset) (utc_units scale units day)
-    else nat_lt (utc_units scale units day + offset_units scale offset) ((last_day + 1) * units_per_day scale)
+    else nat_lt (utc_units scale units day + offset_units scale offset) ((LAST_DAY + 1) * units_per_day scale)
 
--- the local seconds since 0001-01-01 00:00:00 of a UTC time and day in whole seconds, where they lie in the years 1 to 9999
+-- the local time of a UTC time and day in whole seconds, where it lies in the years 1 to 9999
 abbrev pub local_seconds : ℕ → ℕ → ℤ → Option ℕ
 local_seconds seconds day offset =
-    let utc = day * 86400 + seconds in
-    let shift = unsigned_abs offset * 60 in
-    if int_lt offset (pos 0) then (if nat_le shift utc then Some (utc - shift) else None)
-    else if nat_lt (utc + shift) ((last_day + 1) * 86400) then Some (utc + shift) else None
+    if is_local 0 seconds day offset then Some (local_units 0 seconds day offset) else None

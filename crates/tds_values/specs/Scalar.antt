@@ -25,13 +25,15 @@ datetime_of n bytes =
     if n == 4 then values.SmallDateTime (little_number 2 bytes) (little_number 2 (drop 2 bytes))
     else values.DateTime (cast_signed w32 (little_number 4 bytes)) (little_number 4 (drop 4 bytes))
 
--- a time of t bytes, then a day of 3, then an offset of 2
+-- the time of day, in the first bytes
 abbrev pub time_of : ℕ → List ℕ → ℕ
 time_of scale bytes = little_number (time_length scale) bytes
 
+-- the day number, in the three bytes behind the time
 abbrev pub day_of : ℕ → List ℕ → ℕ
 day_of scale bytes = little_number 3 (drop (time_length scale) bytes)
 
+-- the offset, in the two bytes behind the day
 abbrev pub offset_of : ℕ → List ℕ → ℤ
 offset_of scale bytes = cast_signed w16 (little_number 2 (drop (time_length scale + 3) bytes))
 

@@ -2,11 +2,16 @@
 use Rattle.std.specs.Prelude.{◌≡◌, ℕ, ◌≤◌, List, take, Result, Ok, Err}
 use Rattle.tds_values.specs.declared.scalar.ScalarValue.{ScalarValue}
 use Rattle.tds_values.specs.declared.scalar.ValueFault.{ValueFault}
+use Rattle.tds_values.specs.declared.text.TheConstants.{LONGEST_TEXT}
 use Rattle.tds_values.specs.ScalarText.{text_of}
 
--- the first n bytes are the text of the value, and at most 41
+-- the first n bytes are the text of the value, and no more than the longest text has
 abbrev pub IsText : ScalarValue → ℕ → List ℕ → Type 0
-IsText value n bytes = (take n bytes ≡ text_of value) × (n ≤ 41)
+IsText value n bytes = (take n bytes ≡ text_of value) × (n ≤ LONGEST_TEXT)
+
+-- the first n bytes are the text of what was read
+abbrev pub IsTextOf : Result ScalarValue ValueFault → ℕ → List ℕ → Type 0
+IsTextOf read n bytes = (value : ScalarValue) × ((read ≡ Ok value) × IsText value n bytes)
 
 -- what was read is written, or its fault is answered
 abbrev pub IsWritten : Result ScalarValue ValueFault → Result ℕ ValueFault → List ℕ → Type 0

@@ -19,6 +19,7 @@ static WORDS: [u16; 100] = [
     12601, 12857, 13113, 13369, 13625, 13881, 14137, 14393, 14649,
 ];
 
+// One byte.
 #[inline(always)]
 pub(crate) fn put_byte(to: &mut [u8], at: usize, byte: u8) -> usize
     requires { at < length to.old }

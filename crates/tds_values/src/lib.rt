@@ -7,6 +7,7 @@ mod kind;
 mod laws;
 mod moments;
 mod numbers;
+mod ranges;
 mod scalar;
 #[cfg(test)]
 mod tests;
@@ -16,5 +17,5 @@ mod write;
 pub use kind::{Kind, Reach};
 pub use laws::{one_date, one_type_info, short_texts};
 pub use scalar::{Scalar, ScalarValue, ValueFault, read_scalar};
-pub use text::{ScalarText, scalar_text};
+pub use text::{LONGEST_TEXT, ScalarText, TEXT_ROOM, scalar_text};
 pub use write::write_scalar;

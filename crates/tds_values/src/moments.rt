@@ -1,19 +1,23 @@
 // The texts of dates and times, written to a slice from a place on.
-ghost use Rattle.std.specs.Prelude.{◌≡◌, ◌+◌, ◌*◌, ◌/◌, ◌<◌, ◌≤◌, ◌^◌, ◌++◌, take, length, unsigned_abs};
+ghost use Rattle.std.specs.Prelude.{◌≡◌, ◌+◌, ◌<◌, ◌≤◌, ◌++◌, take, length, unsigned_abs};
 ghost use Rattle.tds_values.specs.ScalarText.{date_text, seconds_text, minutes_text, fraction_text, ticks_text, offset_text, date_and_time};
 
 use crate::digits::{put_byte, put_tail, put_two};
+use crate::ranges::{LARGEST_OFFSET, LAST_DAY, MINUTES_A_DAY, SECONDS_A_DAY, TICKS_A_DAY};
 use jiff_core::civil::Date;
+
+// How many days the first day of `jiff`, -9999-01-01, lies before day 0.
+const DAYS_BEFORE_DAY_0: u32 = 3652425;
 
 // YYYY-MM-DD.
 #[inline(always)]
 pub(crate) fn put_date(to: &mut [u8], at: usize, day: u32) -> usize
     requires room { at + 10 ≤ length to.old }
-    requires day { day ≤ 3652058 }
+    requires day { day ≤ LAST_DAY }
     ensures end { result ≡ at + 10 }
     ensures written { take result to.new ≡ take at to.old ++ date_text day }
 {
-    let date = Date::from_days_since_min(day + 3652425);
+    let date = Date::from_days_since_min(day + DAYS_BEFORE_DAY_0);
     let year = date.year.unsigned_abs() as u32;
     let at = put_two(to, at, year / 100);
     let at = put_two(to, at, year % 100);
@@ -27,7 +31,7 @@ pub(crate) fn put_date(to: &mut [u8], at: usize, day: u32) -> usize
 #[inline(always)]
 fn put_minutes(to: &mut [u8], at: usize, minutes: u32) -> usize
     requires room { at + 5 ≤ length to.old }
-    requires day { minutes < 1440 }
+    requires day { minutes < MINUTES_A_DAY }
     ensures end { result ≡ at + 5 }
     ensures written { take result to.new ≡ take at to.old ++ minutes_text minutes }
 {
@@ -40,31 +44,13 @@ fn put_minutes(to: &mut [u8], at: usize, minutes: u32) -> usize
 #[inline(always)]
 pub(crate) fn put_clock(to: &mut [u8], at: usize, seconds: u32) -> usize
     requires room { at + 8 ≤ length to.old }
-    requires day { seconds < 86400 }
+    requires day { seconds < SECONDS_A_DAY }
     ensures end { result ≡ at + 8 }
     ensures written { take result to.new ≡ take at to.old ++ seconds_text seconds }
 {
     let at = put_minutes(to, at, seconds / 60);
     let at = put_byte(to, at, b':');
     put_two(to, at, seconds % 60)
-}
-
-// The whole seconds of a number of units of a scale.
-#[inline(always)]
-pub(crate) fn seconds_in(scale: u8, units: u64) -> u64
-    requires { scale ≤ 7 }
-    ensures { result ≡ units / 10 ^ scale }
-{
-    match scale {
-        0 => units,
-        1 => units / 10,
-        2 => units / 100,
-        3 => units / 1000,
-        4 => units / 10000,
-        5 => units / 100000,
-        6 => units / 1000000,
-        _ => units / 10000000,
-    }
 }
 
 // A point and the digits of a fraction of a second; nothing at scale 0.
@@ -86,7 +72,7 @@ fn put_part(to: &mut [u8], at: usize, scale: u8, units: u64) -> usize
 #[inline(always)]
 pub(crate) fn put_time(to: &mut [u8], at: usize, seconds: u32, scale: u8, units: u64) -> usize
     requires room { at + 17 ≤ length to.old }
-    requires day { seconds < 86400 }
+    requires day { seconds < SECONDS_A_DAY }
     requires scale { scale ≤ 7 }
     ensures end { result ≤ at + 9 + scale }
     ensures written { take result to.new ≡ take at to.old ++ (seconds_text seconds ++ fraction_text scale units) }
@@ -99,8 +85,8 @@ pub(crate) fn put_time(to: &mut [u8], at: usize, seconds: u32, scale: u8, units:
 #[inline(always)]
 pub(crate) fn put_moment(to: &mut [u8], day: u32, seconds: u32, scale: u8, units: u64) -> usize
     requires room { 28 ≤ length to.old }
-    requires date { day ≤ 3652058 }
-    requires time { seconds < 86400 }
+    requires date { day ≤ LAST_DAY }
+    requires time { seconds < SECONDS_A_DAY }
     requires scale { scale ≤ 7 }
     ensures end { result ≤ 20 + scale }
     ensures written { take result to.new ≡ date_and_time day (seconds_text seconds ++ fraction_text scale units) }
@@ -114,7 +100,7 @@ pub(crate) fn put_moment(to: &mut [u8], day: u32, seconds: u32, scale: u8, units
 #[inline(always)]
 pub(crate) fn put_ticks(to: &mut [u8], at: usize, ticks: u32) -> usize
     requires room { at + 17 ≤ length to.old }
-    requires day { ticks < 25920000 }
+    requires day { ticks < TICKS_A_DAY }
     ensures end { result ≡ at + 12 }
     ensures written { take result to.new ≡ take at to.old ++ ticks_text ticks }
 {
@@ -127,7 +113,7 @@ pub(crate) fn put_ticks(to: &mut [u8], at: usize, ticks: u32) -> usize
 #[inline(always)]
 pub(crate) fn put_offset(to: &mut [u8], at: usize, offset: i16) -> usize
     requires room { at + 6 ≤ length to.old }
-    requires offset { unsigned_abs offset ≤ 840 }
+    requires offset { unsigned_abs offset ≤ LARGEST_OFFSET }
     ensures end { result ≡ at + 6 }
     ensures written { take result to.new ≡ take at to.old ++ offset_text offset }
 {

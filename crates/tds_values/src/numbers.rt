@@ -1,9 +1,10 @@
 // The texts of numbers, written to a slice from a place on.
-ghost use Rattle.std.specs.Prelude.{◌≡◌, ◌+◌, ◌<◌, ◌≤◌, ◌^◌, ◌/◌, ◌++◌, take, length, decimal};
+ghost use Rattle.std.specs.Prelude.{◌≡◌, ◌+◌, ◌<◌, ◌≤◌, ◌^◌, ◌/◌, ◌++◌, ◌&&◌, not, take, length, decimal};
 ghost use Rattle.std.specs.Fmt.{signed_decimal};
-ghost use Rattle.tds_values.specs.ScalarText.{last_digits, fraction_text, decimal_text};
+ghost use Rattle.tds_values.specs.ScalarText.{last_digits, fraction_text, minus_if, decimal_text};
 
 use crate::digits::{put_byte, put_minus, put_number, put_tail};
+use crate::text::{LONGEST_TEXT, TEXT_ROOM};
 
 // The last k digits of a number.
 #[inline(always)]
@@ -128,6 +129,16 @@ pub(crate) fn put_fraction(to: &mut [u8], at: usize, scale: u8, n: u64) -> usize
     put_last(to, at, scale as usize, n)
 }
 
+// The sign of a decimal: zero has none.
+#[inline(always)]
+fn put_sign(to: &mut [u8], at: usize, negative: bool, zero: bool) -> usize
+    requires { at < length to.old }
+    ensures end { result ≤ at + 1 }
+    ensures written { take result to.new ≡ take at to.old ++ minus_if (negative && not zero) }
+{
+    put_minus(to, at, negative && !zero)
+}
+
 // A decimal whose magnitude has 64 bits.
 #[inline(always)]
 pub(crate) fn put_decimal(
@@ -139,10 +150,10 @@ pub(crate) fn put_decimal(
 ) -> usize
     requires room { at + 50 ≤ length to.old }
     requires scale { scale ≤ 24 }
-    ensures end { result ≤ at + 41 }
+    ensures end { result ≤ at + LONGEST_TEXT }
     ensures written { take result to.new ≡ take at to.old ++ decimal_text negative magnitude scale }
 {
-    let at = put_minus(to, at, negative && magnitude != 0);
+    let at = put_sign(to, at, negative, magnitude == 0);
     let at = put_number(to, at, whole(scale, magnitude));
     put_fraction(to, at, scale, magnitude)
 }
@@ -156,12 +167,12 @@ pub(crate) fn put_wide_decimal(
     magnitude: u128,
     scale: u8,
 ) -> usize
-    requires room { at + 64 ≤ length to.old }
+    requires room { at + TEXT_ROOM ≤ length to.old }
     requires scale { scale ≤ 38 }
-    ensures end { result ≤ at + 41 }
+    ensures end { result ≤ at + LONGEST_TEXT }
     ensures written { take result to.new ≡ take at to.old ++ decimal_text negative magnitude scale }
 {
-    let at = put_minus(to, at, negative && magnitude != 0);
+    let at = put_sign(to, at, negative, magnitude == 0);
     let at = put_wide(to, at, magnitude / 10u128.pow(scale as u32));
     if scale == 0 {
         return at;

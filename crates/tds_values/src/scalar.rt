@@ -1,13 +1,17 @@
 // A value of a scalar kind.
 ghost use Rattle.std.specs.Prelude.{◌≡◌, ◌⊎◌, IsTrue, length, ◌≤◌, ◌&&◌, nat_le, unsigned_abs, Some};
 ghost use Rattle.tds_values.specs.Numbers as read;
-ghost use Rattle.tds_values.specs.LocalTime as range;
+ghost use Rattle.tds_values.specs.LocalTime as local;
 ghost use Rattle.tds_values.specs.Kind as kinds;
 ghost use Rattle.tds_values.specs.Scalar as scalar;
 ghost use Rattle.tds_values.specs.ScalarRange as bounds;
 ghost use Rattle.tds_values.specs.TimeOfDay.{is_time as is_time_of};
 
 use crate::kind::{Kind, time_length};
+use crate::ranges::{
+    LARGEST_OFFSET, LAST_DAY, MINUTES_A_DAY, TICKS_A_DAY, is_day_since_1900, is_time,
+    local_seconds, seconds_in,
+};
 use byteorder::{ByteOrder, LittleEndian};
 use std::marker::Model;
 use uuid::Uuid;
@@ -93,6 +97,7 @@ impl Model for Scalar {
 impl Scalar {
     ghost use Rattle.tds_values.specs.ScalarRange.{is_in_range};
 
+    // The fields.
     pub(crate) fn value(&self) -> ScalarValue
         ensures value { result ≡ self.now }
         ensures in_range { IsTrue (is_in_range result) }
@@ -101,6 +106,7 @@ impl Scalar {
     }
 }
 
+// The whole number in n bytes.
 pub(crate) fn integer_of(n: u8, bytes: &[u8]) -> i64
     requires size { (n ≡ 1) ⊎ ((n ≡ 2) ⊎ ((n ≡ 4) ⊎ (n ≡ 8))) }
     requires length { length bytes.now ≡ n }
@@ -114,6 +120,7 @@ pub(crate) fn integer_of(n: u8, bytes: &[u8]) -> i64
     }
 }
 
+// The amount of money in n bytes: of 8 the high half stands first.
 pub(crate) fn money_of(n: u8, bytes: &[u8]) -> i64
     requires size { (n ≡ 4) ⊎ (n ≡ 8) }
     requires length { length bytes.now ≡ n }
@@ -127,47 +134,24 @@ pub(crate) fn money_of(n: u8, bytes: &[u8]) -> i64
     ((high as u64) * (1 << 32) + low as u64).cast_signed()
 }
 
-fn is_time(scale: u8, units: u64) -> bool
-    ensures { result ≡ is_time_of scale units }
-{
-    scale <= 7 && units < 86400 * 10u64.pow(scale as u32)
-}
-
-pub(crate) fn local_of(scale: u8, units: u64, day: u32, offset: i16) -> u64
-    requires time { IsTrue (is_time_of scale units) }
-    requires day { day ≤ 3652058 }
-    requires offset { unsigned_abs offset ≤ 840 }
-    requires local { IsTrue (range.is_local scale units day offset) }
-    ensures { result ≡ range.local_units scale units day offset }
-{
-    let second = 10u64.pow(scale as u32);
-    let utc = day as u64 * (86400 * second) + units;
-    let shift = offset.unsigned_abs() as u64 * (60 * second);
-    if offset < 0 { utc - shift } else { utc + shift }
-}
-
+// The local time lies in the years 1 to 9999.
 fn is_local(scale: u8, units: u64, day: u32, offset: i16) -> bool
     requires time { IsTrue (is_time_of scale units) }
-    requires day { day ≤ 3652058 }
-    requires offset { unsigned_abs offset ≤ 840 }
-    ensures { result ≡ range.is_local scale units day offset }
+    requires day { day ≤ LAST_DAY }
+    requires offset { unsigned_abs offset ≤ LARGEST_OFFSET }
+    ensures { result ≡ local.is_local scale units day offset }
 {
-    let second = 10u64.pow(scale as u32);
-    let utc = day as u64 * (86400 * second) + units;
-    let shift = offset.unsigned_abs() as u64 * (60 * second);
-    if offset < 0 {
-        shift <= utc
-    } else {
-        utc + shift < 3652059 * (86400 * second)
-    }
+    local_seconds(seconds_in(scale, units), day, offset).is_some()
 }
 
+// A number of units is a time of day, and a day number one of the calendar.
 fn is_time_in_day(scale: u8, units: u64, day: u32) -> bool
-    ensures { result ≡ (is_time_of scale units && nat_le day 3652058) }
+    ensures { result ≡ (is_time_of scale units && nat_le day LAST_DAY) }
 {
-    is_time(scale, units) && day <= 3652058
+    is_time(scale, units) && day <= LAST_DAY
 }
 
+// A smalldatetime in 4 bytes, or a datetime in 8.
 fn datetime_of(n: u8, bytes: &[u8]) -> ScalarValue
     requires size { (n ≡ 4) ⊎ (n ≡ 8) }
     requires length { length bytes.now ≡ n }
@@ -185,6 +169,7 @@ fn datetime_of(n: u8, bytes: &[u8]) -> ScalarValue
     }
 }
 
+// A decimal by its sign byte and its magnitude.
 fn decimal_of(scale: u8, bytes: &[u8]) -> ScalarValue
     requires low { 2 ≤ length bytes.now }
     requires high { length bytes.now ≤ 17 }
@@ -197,12 +182,13 @@ fn decimal_of(scale: u8, bytes: &[u8]) -> ScalarValue
     }
 }
 
+// A value lies in its range.
 fn is_in_range(value: &ScalarValue) -> bool
     ensures { result ≡ bounds.is_in_range value.now }
 {
     match *value {
         ScalarValue::Decimal { scale, .. } => scale <= 38,
-        ScalarValue::Date(day) => day <= 3652058,
+        ScalarValue::Date(day) => day <= LAST_DAY,
         ScalarValue::Time { scale, units } => is_time(scale, units),
         ScalarValue::DateTime2 { scale, units, day } => is_time_in_day(scale, units, day),
         ScalarValue::DateTimeOffset {
@@ -211,19 +197,17 @@ fn is_in_range(value: &ScalarValue) -> bool
             day,
             offset,
         } => {
-            is_time(scale, units)
-                && day <= 3652058
-                && offset.unsigned_abs() <= 840
+            is_time_in_day(scale, units, day)
+                && offset.unsigned_abs() <= LARGEST_OFFSET
                 && is_local(scale, units, day, offset)
         }
-        ScalarValue::SmallDateTime { minutes, .. } => minutes < 1440,
-        ScalarValue::DateTime { days, ticks } => {
-            -693595 <= days && days <= 2958463 && ticks < 25920000
-        }
+        ScalarValue::SmallDateTime { minutes, .. } => minutes < MINUTES_A_DAY,
+        ScalarValue::DateTime { days, ticks } => is_day_since_1900(days) && ticks < TICKS_A_DAY,
         _ => true,
     }
 }
 
+// The fields that the bytes of a scalar kind spell, whatever their range.
 fn value_of(kind: &Kind, bytes: &[u8]) -> ScalarValue
     requires valid { IsTrue (kinds.is_valid kind.now) }
     requires is_scalar { IsTrue (kinds.is_scalar kind.now) }
@@ -271,6 +255,7 @@ fn value_of(kind: &Kind, bytes: &[u8]) -> ScalarValue
     }
 }
 
+// A GUID, whose first three fields have their low byte first.
 fn guid_of(bytes: &[u8]) -> ScalarValue
     requires { length bytes.now ≡ 16 }
     ensures { scalar.value_of Kind.Guid bytes.now ≡ Some result }

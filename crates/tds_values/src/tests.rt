@@ -1,7 +1,7 @@
 // Values of each kind with the texts that they have.
 use crate::kind::{Kind, Reach};
 use crate::scalar::{ValueFault, read_scalar};
-use crate::text::scalar_text;
+use crate::text::{TEXT_ROOM, scalar_text};
 use crate::write::write_scalar;
 use std::process::Abort;
 
@@ -28,34 +28,42 @@ fn bytes_of(rt: &impl Abort, hex: &str) -> ([u8; 32], usize) {
     (bytes, n)
 }
 
+// Bytes as a red run is to show them.
+fn shown(bytes: &[u8]) -> &str {
+    str::from_utf8(bytes).unwrap_or("no UTF-8")
+}
+
+fn name_of(fault: ValueFault) -> &'static str {
+    match fault {
+        ValueFault::Value => "Value",
+        ValueFault::Length => "Length",
+    }
+}
+
 // Checks the text that a value has, and the text that is written into a slice.
 fn check(rt: &impl Abort, kind: &Kind, hex: &str, want: &str) {
     assert!(rt; kind.is_valid(), "{kind:?}");
     assert!(rt; kind.is_scalar(), "{kind:?}");
     let (bytes, n) = bytes_of(rt, hex);
-    assert!(rt; n <= 32);
+    assert!(rt; n <= 32, "{kind:?} {hex}");
     let bytes = &bytes[..n];
     match read_scalar(kind, bytes) {
         Ok(value) => assert_eq!(rt;
-            scalar_text(&value).as_slice(),
-            want.as_bytes(),
-            "{kind:?} {hex}"
+            shown(scalar_text(&value).as_slice()),
+            want,
+            "the text of {kind:?} {hex}"
         ),
-        Err(fault) => check_fault(rt, fault, want),
+        Err(fault) => assert_eq!(rt; name_of(fault), want, "the fault of {kind:?} {hex}"),
     }
-    let mut room = [0xEE; 64];
+    let mut room = [0xEE; TEXT_ROOM];
     match write_scalar(kind, bytes, &mut room) {
-        Ok(length) => assert_eq!(rt; &room[..length], want.as_bytes(), "{kind:?} {hex}"),
-        Err(fault) => check_fault(rt, fault, want),
+        Ok(length) => assert_eq!(rt;
+            shown(&room[..length]),
+            want,
+            "what is written of {kind:?} {hex}"
+        ),
+        Err(fault) => assert_eq!(rt; name_of(fault), want, "the fault written of {kind:?} {hex}"),
     }
-}
-
-fn check_fault(rt: &impl Abort, fault: ValueFault, want: &str) {
-    let name = match fault {
-        ValueFault::Value => "Value",
-        ValueFault::Length => "Length",
-    };
-    assert_eq!(rt; name, want);
 }
 
 // Checks each line: the bytes in hexadecimal digits, a space, and the text.
@@ -152,10 +160,14 @@ fn check_third(rt: &impl Abort, ticks: u32, want: &[u8]) {
     match read_scalar(&Kind::DateTime8, &bytes) {
         Ok(value) => {
             let text = scalar_text(&value);
-            assert_eq!(rt; text.len(), 23);
-            assert_eq!(rt; &text.as_slice()[20..], want, "{ticks}");
+            assert_eq!(rt; text.len(), 23, "the length of {ticks} ticks");
+            assert_eq!(rt;
+                shown(&text.as_slice()[20..]),
+                shown(want),
+                "the end of {ticks} ticks"
+            );
         }
-        Err(_) => assert!(rt; false, "{ticks}"),
+        Err(_) => assert!(rt; false, "{ticks} ticks are refused"),
     }
 }
 
@@ -163,12 +175,12 @@ fn check_third(rt: &impl Abort, ticks: u32, want: &[u8]) {
 fn thirds(rt: HostRuntime) {
     let mut n = 0;
     for want in dates::THIRDS.as_bytes().chunks(3) {
-        assert!(rt; n < 300);
+        assert!(rt; n < 300, "more than 300 rows");
         check_third(&rt, n, want);
         check_third(&rt, 25919700 + n, want);
         n += 1;
     }
-    assert_eq!(rt; n, 300);
+    assert_eq!(rt; n, 300, "the number of rows");
 }
 
 // Whether a list of numbers with spaces between them has `n`.
@@ -184,12 +196,12 @@ fn lengths(rt: HostRuntime) {
         assert!(rt; kind.is_scalar(), "{kind:?}");
         for n in 0..40 {
             let fits = lists(allowed, n);
-            assert_eq!(rt; kind.length_allowed(n), fits, "{kind:?} {n}");
+            assert_eq!(rt; kind.length_allowed(n), fits, "{kind:?} in {n} bytes");
             let fault = matches!(
                 read_scalar(kind, &bytes[..n as usize]),
                 Err(ValueFault::Length)
             );
-            assert_eq!(rt; fault, !fits, "{kind:?} {n}");
+            assert_eq!(rt; fault, !fits, "the fault of {kind:?} in {n} bytes");
         }
     }
 }
@@ -200,12 +212,12 @@ fn long_values(rt: HostRuntime) {
     let bytes = [0; 300];
     for n in [255, 256, 257, 260, 264, 272] {
         for kind in [Kind::Int1, Kind::Int4, Kind::Date, Kind::Guid] {
-            assert!(rt; kind.is_valid());
-            assert!(rt; kind.is_scalar());
-            assert!(rt; n <= 300);
+            assert!(rt; kind.is_valid(), "{kind:?}");
+            assert!(rt; kind.is_scalar(), "{kind:?}");
+            assert!(rt; n <= 300, "{kind:?} in {n} bytes");
             assert!(rt;
                 matches!(read_scalar(&kind, &bytes[..n]), Err(ValueFault::Length)),
-                "{kind:?} {n}"
+                "{kind:?} in {n} bytes"
             );
         }
     }
@@ -215,12 +227,20 @@ fn long_values(rt: HostRuntime) {
 fn kinds(rt: HostRuntime) {
     for n in 0..=255 {
         let whole = n == 4 || n == 8;
-        assert_eq!(rt; Kind::IntN(n).is_valid(), whole || n == 1 || n == 2, "{n}");
-        assert_eq!(rt; Kind::MoneyN(n).is_valid(), whole, "{n}");
-        assert_eq!(rt; Kind::DateTimeN(n).is_valid(), whole, "{n}");
-        assert_eq!(rt; Kind::Time(n).is_valid(), n < 8, "{n}");
-        assert_eq!(rt; Kind::DateTime2(n).is_valid(), n < 8, "{n}");
-        assert_eq!(rt; Kind::DateTimeOffset(n).is_valid(), n < 8, "{n}");
+        assert_eq!(rt;
+            Kind::IntN(n).is_valid(),
+            whole || n == 1 || n == 2,
+            "IntN {n}"
+        );
+        assert_eq!(rt; Kind::MoneyN(n).is_valid(), whole, "MoneyN {n}");
+        assert_eq!(rt; Kind::DateTimeN(n).is_valid(), whole, "DateTimeN {n}");
+        assert_eq!(rt; Kind::Time(n).is_valid(), n < 8, "Time {n}");
+        assert_eq!(rt; Kind::DateTime2(n).is_valid(), n < 8, "DateTime2 {n}");
+        assert_eq!(rt;
+            Kind::DateTimeOffset(n).is_valid(),
+            n < 8,
+            "DateTimeOffset {n}"
+        );
     }
     for (length, precision, scale, valid) in [
         (5, 1, 0, true),
@@ -262,7 +282,7 @@ fn fixed_lengths(rt: HostRuntime) {
         (Kind::Binary(Reach::Short), None),
         (Kind::Wide(Reach::Chunked), None),
     ] {
-        assert!(rt; kind.is_valid());
+        assert!(rt; kind.is_valid(), "{kind:?}");
         assert_eq!(rt; kind.fixed_length(), length, "{kind:?}");
     }
 }
@@ -272,7 +292,7 @@ fn fixed_lengths(rt: HostRuntime) {
 fn long_kinds(rt: HostRuntime) {
     for reach in [Reach::Short, Reach::Chunked] {
         for kind in [Kind::Binary(reach), Kind::Narrow(reach), Kind::Wide(reach)] {
-            assert!(rt; kind.is_valid());
+            assert!(rt; kind.is_valid(), "{kind:?}");
             assert!(rt; !kind.is_scalar(), "{kind:?}");
             assert!(rt;
                 kind.length_allowed(0) && kind.length_allowed(254),

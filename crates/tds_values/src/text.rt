@@ -1,251 +1,182 @@
-// The text of a scalar value.
-ghost use Rattle.std.specs.Prelude.{◌≡◌, ◌+◌, ◌<◌, ◌≤◌, ◌++◌, IsTrue, length, decimal};
-ghost use Rattle.std.specs.Fmt.{signed_decimal};
+// The text of a value in its range, written to the front of a slice.
+ghost use Rattle.std.specs.Prelude.{◌≡◌, ◌/◌, ◌%◌, ◌^◌, ◌++◌, ◌<◌, ◌≤◌, IsTrue, codes, length, take, unsigned_abs};
 ghost use Rattle.arrayvec.specs.ArrayVec.{array_vec_len};
-ghost use Rattle.uuid.specs.Text.{hyphenated_text, lower};
-ghost use Rattle.tds_values.specs.ScalarText.{last_digits, date_text, minutes_text, seconds_text, fraction_text, time_text, ticks_text, offset_text, minus_if, decimal_text, local_text, text_of};
+ghost use Rattle.tds_values.specs.ScalarText.{text_of, date_and_time, seconds_text, fraction_text, offset_text};
 ghost use Rattle.tds_values.specs.ScalarRange.{is_in_range};
 ghost use Rattle.tds_values.specs.TimeOfDay.{is_time as is_time_of};
-ghost use Rattle.tds_values.specs.LocalTime.{is_local, local_units};
-ghost use Rattle.std.specs.Prelude.{unsigned_abs};
+ghost use Rattle.tds_values.specs.Written.{IsText};
 
-use crate::scalar::{Scalar, ScalarValue, local_of};
+use crate::digits::put_byte;
+use crate::guid::put_guid;
+use crate::moments::{put_clock, put_date, put_moment, put_offset, put_ticks, put_time};
+use crate::numbers::{put_decimal, put_integer, put_wide_decimal};
+use crate::ranges::{
+    DAY_OF_1900, LARGEST_OFFSET, MINUTES_A_DAY, SECONDS_A_DAY, SECONDS_OF_ALL_DAYS, local_seconds,
+    seconds_in,
+};
+use crate::scalar::{Scalar, ScalarValue};
 use arrayvec::ArrayVec;
-use itoa::Buffer;
-use jiff_core::civil::Date;
-use uuid::Uuid;
+
+/// How many bytes the text of a scalar value has at most.
+pub const LONGEST_TEXT: usize = 41;
+
+/// How many bytes the text of a scalar value wants to be written: some are written behind its end.
+pub const TEXT_ROOM: usize = 64;
 
 /// Room for the text of any scalar value.
-pub type ScalarText = ArrayVec<u8, 64>;
+pub type ScalarText = ArrayVec<u8, TEXT_ROOM>;
 
-fn push_digits(text: &mut ScalarText, k: usize, n: u128)
-    requires { array_vec_len text.old + k ≤ 64 }
-    ensures items { text.new.items ≡ text.old.items ++ last_digits k n }
-    ensures len { array_vec_len text.new ≡ array_vec_len text.old + k }
+// A bit.
+#[inline(always)]
+pub(crate) fn put_bit(to: &mut [u8], bit: bool) -> usize
+    requires { TEXT_ROOM ≤ length to.old }
+    ensures { IsText (ScalarValue.Bit bit) result to.new }
 {
-    if k > 0 {
-        push_digits(text, k - 1, n / 10);
-        text.push(b'0' + (n % 10) as u8);
-    }
+    put_byte(to, 0, if bit { b'1' } else { b'0' })
 }
 
-fn push_minutes(text: &mut ScalarText, minutes: u64)
-    requires { array_vec_len text.old + 5 ≤ 64 }
-    ensures items { text.new.items ≡ text.old.items ++ minutes_text minutes }
-    ensures len { array_vec_len text.new ≡ array_vec_len text.old + 5 }
-{
-    push_digits(text, 2, (minutes / 60) as u128);
-    text.push(b':');
-    push_digits(text, 2, (minutes % 60) as u128);
-}
-
-fn push_date(text: &mut ScalarText, day: u32)
-    requires room { array_vec_len text.old + 10 ≤ 64 }
-    requires day { day ≤ 3652058 }
-    ensures items { text.new.items ≡ text.old.items ++ date_text day }
-    ensures len { array_vec_len text.new ≡ array_vec_len text.old + 10 }
-{
-    let date = Date::from_days_since_min(day + 3652425);
-    push_digits(text, 4, date.year.unsigned_abs() as u128);
-    text.push(b'-');
-    push_digits(text, 2, date.month as u128);
-    text.push(b'-');
-    push_digits(text, 2, date.day as u128);
-}
-
-fn push_seconds(text: &mut ScalarText, seconds: u64)
-    requires { array_vec_len text.old + 8 ≤ 64 }
-    ensures items { text.new.items ≡ text.old.items ++ seconds_text seconds }
-    ensures len { array_vec_len text.new ≡ array_vec_len text.old + 8 }
-{
-    push_minutes(text, seconds / 60);
-    text.push(b':');
-    push_digits(text, 2, (seconds % 60) as u128);
-}
-
-fn push_fraction(text: &mut ScalarText, scale: u8, n: u128)
-    requires { array_vec_len text.old + scale < 64 }
-    ensures items { text.new.items ≡ text.old.items ++ fraction_text scale n }
-    ensures len { array_vec_len text.new ≤ array_vec_len text.old + scale + 1 }
-{
-    if scale > 0 {
-        text.push(b'.');
-        push_digits(text, scale as usize, n);
-    }
-}
-
-fn push_time(text: &mut ScalarText, scale: u8, units: u64)
-    requires room { array_vec_len text.old + 17 ≤ 64 }
-    requires scale { scale ≤ 7 }
-    ensures items { text.new.items ≡ text.old.items ++ time_text scale units }
-    ensures len { array_vec_len text.new ≤ array_vec_len text.old + 9 + scale }
-{
-    push_seconds(text, units / 10u64.pow(scale as u32));
-    push_fraction(text, scale, units as u128);
-}
-
-fn push_ticks(text: &mut ScalarText, ticks: u32)
-    requires room { array_vec_len text.old + 12 ≤ 64 }
-    requires ticks { ticks < 25920000 }
-    ensures items { text.new.items ≡ text.old.items ++ ticks_text ticks }
-    ensures len { array_vec_len text.new ≤ array_vec_len text.old + 12 }
-{
-    push_seconds(text, (ticks / 300) as u64);
-    push_fraction(text, 3, ((10 * (ticks % 300) + 1) / 3) as u128);
-}
-
-fn push_guid(text: &mut ScalarText, id: Uuid)
-    requires { array_vec_len text.old + 36 ≤ 64 }
-    ensures items { text.new.items ≡ text.old.items ++ hyphenated_text lower id }
-    ensures len { array_vec_len text.new ≡ array_vec_len text.old + 36 }
-{
-    let mut buffer = Uuid::encode_buffer();
-    push_text(text, id.hyphenated().encode_lower(&mut buffer).as_bytes());
-}
-
-fn push_text(text: &mut ScalarText, piece: &[u8])
-    requires { array_vec_len text.old + length piece.now ≤ 64 }
-    ensures items { text.new.items ≡ text.old.items ++ piece.now }
-    ensures len { array_vec_len text.new ≡ array_vec_len text.old + length piece.now }
-{
-    for b in piece {
-        text.push(*b);
-    }
-}
-
-fn push_offset(text: &mut ScalarText, offset: i16)
-    requires room { array_vec_len text.old + 6 ≤ 64 }
-    ensures items { text.new.items ≡ text.old.items ++ offset_text offset }
-    ensures len { array_vec_len text.new ≡ array_vec_len text.old + 6 }
-{
-    text.push(if offset < 0 { b'-' } else { b'+' });
-    push_minutes(text, offset.unsigned_abs() as u64);
-}
-
-fn push_whole(text: &mut ScalarText, n: u128)
-    requires { array_vec_len text.old + length (decimal n) ≤ 64 }
-    ensures items { text.new.items ≡ text.old.items ++ decimal n }
-    ensures len { array_vec_len text.new ≡ array_vec_len text.old + length (decimal n) }
-{
-    let mut buffer = Buffer::new();
-    push_text(text, buffer.format(n).as_bytes());
-}
-
-fn push_integer(text: &mut ScalarText, n: i64)
-    requires { array_vec_len text.old + 40 ≤ 64 }
-    ensures items { text.new.items ≡ text.old.items ++ signed_decimal n }
-    ensures len { array_vec_len text.new ≤ array_vec_len text.old + 20 }
-{
-    let mut buffer = Buffer::new();
-    push_text(text, buffer.format(n).as_bytes());
-}
-
-fn push_minus(text: &mut ScalarText, negative: bool)
-    requires { array_vec_len text.old < 64 }
-    ensures items { text.new.items ≡ text.old.items ++ minus_if negative }
-    ensures len { array_vec_len text.new ≤ array_vec_len text.old + 1 }
-{
-    if negative {
-        text.push(b'-');
-    }
-}
-
-fn push_decimal(text: &mut ScalarText, negative: bool, magnitude: u128, scale: u8)
-    requires room { array_vec_len text.old + 41 ≤ 64 }
+// A decimal whose magnitude has 64 bits.
+#[inline(always)]
+pub(crate) fn put_magnitude(to: &mut [u8], negative: bool, magnitude: u64, scale: u8) -> usize
+    requires room { TEXT_ROOM ≤ length to.old }
     requires scale { scale ≤ 38 }
-    ensures items { text.new.items ≡ text.old.items ++ decimal_text negative magnitude scale }
-    ensures len { array_vec_len text.new ≤ array_vec_len text.old + 41 }
+    ensures { IsText (ScalarValue.Decimal negative magnitude scale) result to.new }
 {
-    push_minus(text, negative && magnitude != 0);
-    push_whole(text, magnitude / 10u128.pow(scale as u32));
-    push_fraction(text, scale, magnitude);
+    if scale <= 24 {
+        put_decimal(to, 0, negative, magnitude, scale)
+    } else {
+        put_wide_decimal(to, 0, negative, magnitude as u128, scale)
+    }
 }
 
-fn push_local(text: &mut ScalarText, scale: u8, units: u64, day: u32, offset: i16)
-    requires room { array_vec_len text.old + 41 ≤ 64 }
-    requires time { IsTrue (is_time_of scale units) }
-    requires day { day ≤ 3652058 }
-    requires offset { unsigned_abs offset ≤ 840 }
-    requires local { IsTrue (is_local scale units day offset) }
-    ensures items { text.new.items ≡ text.old.items ++ local_text scale (local_units scale units day offset) }
-    ensures len { array_vec_len text.new ≤ array_vec_len text.old + 27 }
+// A decimal.
+#[inline(always)]
+pub(crate) fn put_wide_magnitude(to: &mut [u8], negative: bool, magnitude: u128, scale: u8) -> usize
+    requires room { TEXT_ROOM ≤ length to.old }
+    requires scale { scale ≤ 38 }
+    ensures { IsText (ScalarValue.Decimal negative magnitude scale) result to.new }
 {
-    let whole_day = 86400 * 10u64.pow(scale as u32);
-    let local = local_of(scale, units, day, offset);
-    push_date(text, (local / whole_day) as u32);
-    text.push(b' ');
-    push_time(text, scale, local % whole_day);
+    if magnitude <= u64::MAX as u128 {
+        put_magnitude(to, negative, magnitude as u64, scale)
+    } else {
+        put_wide_decimal(to, 0, negative, magnitude, scale)
+    }
 }
 
-fn push_zoned(text: &mut ScalarText, scale: u8, units: u64, day: u32, offset: i16)
-    requires room { array_vec_len text.old + 41 ≤ 64 }
-    requires time { IsTrue (is_time_of scale units) }
-    requires day { day ≤ 3652058 }
-    requires offset { unsigned_abs offset ≤ 840 }
-    requires local { IsTrue (is_local scale units day offset) }
-    ensures items { text.new.items ≡ text.old.items ++ text_of (ScalarValue.DateTimeOffset scale units day offset) }
-    ensures len { array_vec_len text.new ≤ array_vec_len text.old + 34 }
+// An amount of money in ten-thousandths.
+#[inline(always)]
+pub(crate) fn put_money(to: &mut [u8], amount: i64) -> usize
+    requires { TEXT_ROOM ≤ length to.old }
+    ensures { IsText (ScalarValue.Money amount) result to.new }
 {
-    push_local(text, scale, units, day, offset);
-    text.push(b' ');
-    push_offset(text, offset);
+    put_decimal(to, 0, amount < 0, amount.unsigned_abs(), 4)
 }
 
-fn push_value(text: &mut ScalarText, value: &ScalarValue)
-    requires room { array_vec_len text.old ≡ 0 }
+// A smalldatetime: days since 1900-01-01, and minutes.
+#[inline(always)]
+pub(crate) fn put_small_date_time(to: &mut [u8], days: u16, minutes: u16) -> usize
+    requires room { TEXT_ROOM ≤ length to.old }
+    requires time { minutes < MINUTES_A_DAY }
+    ensures { IsText (ScalarValue.SmallDateTime days minutes) result to.new }
+{
+    let at = put_date(to, 0, DAY_OF_1900 + days as u32);
+    let at = put_byte(to, at, b' ');
+    put_clock(to, at, 60 * minutes as u32)
+}
+
+// A datetime: days since 1900-01-01, and 1/300 seconds.
+#[inline(always)]
+pub(crate) fn put_date_time(to: &mut [u8], days: i32, ticks: u32) -> usize
+    requires room { TEXT_ROOM ≤ length to.old }
+    requires in_range { IsTrue (is_in_range (ScalarValue.DateTime days ticks)) }
+    ensures { IsText (ScalarValue.DateTime days ticks) result to.new }
+{
+    let at = put_date(to, 0, (DAY_OF_1900 as i32 + days) as u32);
+    let at = put_byte(to, at, b' ');
+    put_ticks(to, at, ticks)
+}
+
+// A local time by its whole seconds since day 0 and the fraction of its units, and its offset.
+#[inline(always)]
+pub(crate) fn put_local(to: &mut [u8], local: u64, scale: u8, units: u64, offset: i16) -> usize
+    requires room { TEXT_ROOM ≤ length to.old }
+    requires local { local < SECONDS_OF_ALL_DAYS }
+    requires scale { scale ≤ 7 }
+    requires offset { unsigned_abs offset ≤ LARGEST_OFFSET }
+    ensures end { result ≤ LONGEST_TEXT }
+    ensures written { let time = seconds_text (local % SECONDS_A_DAY) ++ fraction_text scale units in
+        take result to.new ≡ date_and_time (local / SECONDS_A_DAY) time ++ codes " " ++ offset_text offset }
+{
+    let day = (local / SECONDS_A_DAY) as u32;
+    let at = put_moment(to, day, (local % SECONDS_A_DAY) as u32, scale, units);
+    let at = put_byte(to, at, b' ');
+    put_offset(to, at, offset)
+}
+
+// The whole seconds of a time of day.
+fn seconds_of(scale: u8, units: u64) -> u32
+    requires { IsTrue (is_time_of scale units) }
+    ensures scale { scale ≤ 7 }
+    ensures value { result ≡ units / 10 ^ scale }
+    ensures below { result < SECONDS_A_DAY }
+{
+    seconds_in(scale, units) as u32
+}
+
+// A datetimeoffset: a time and a day in UTC, and the minutes by which local time is ahead.
+fn put_date_time_offset(to: &mut [u8], scale: u8, units: u64, day: u32, offset: i16) -> usize
+    requires room { TEXT_ROOM ≤ length to.old }
+    requires in_range { IsTrue (is_in_range (ScalarValue.DateTimeOffset scale units day offset)) }
+    ensures { IsText (ScalarValue.DateTimeOffset scale units day offset) result to.new }
+{
+    match local_seconds(seconds_of(scale, units) as u64, day, offset) {
+        Some(local) => put_local(to, local, scale, units, offset),
+        None => unreachable!(),
+    }
+}
+
+// The text of a value.
+fn put_value(to: &mut [u8], value: &ScalarValue) -> usize
+    requires room { TEXT_ROOM ≤ length to.old }
     requires in_range { IsTrue (is_in_range value.now) }
-    ensures items { text.new.items ≡ text.old.items ++ text_of value.now }
-    ensures short { array_vec_len text.new ≤ 41 }
+    ensures { IsText value.now result to.new }
 {
     match *value {
-        ScalarValue::Integer(n) => push_integer(text, n),
-        ScalarValue::Bit(b) => text.push(if b { b'1' } else { b'0' }),
+        ScalarValue::Integer(n) => put_integer(to, 0, n),
+        ScalarValue::Bit(bit) => put_bit(to, bit),
         ScalarValue::Decimal {
             negative,
             magnitude,
             scale,
-        } => push_decimal(text, negative, magnitude, scale),
-        ScalarValue::Money(amount) => push_decimal(
-            text,
-            amount < 0,
-            amount.unsigned_abs() as u128,
-            4,
-        ),
-        ScalarValue::Guid(id) => push_guid(text, id),
-        ScalarValue::Date(day) => push_date(text, day),
-        ScalarValue::Time { scale, units } => push_time(text, scale, units),
+        } => put_wide_magnitude(to, negative, magnitude, scale),
+        ScalarValue::Money(amount) => put_money(to, amount),
+        ScalarValue::Guid(id) => put_guid(to, &id.to_bytes_le()),
+        ScalarValue::Date(day) => put_date(to, 0, day),
+        ScalarValue::Time { scale, units } => {
+            put_time(to, 0, seconds_of(scale, units), scale, units)
+        }
         ScalarValue::DateTime2 { scale, units, day } => {
-            push_date(text, day);
-            text.push(b' ');
-            push_time(text, scale, units);
+            put_moment(to, day, seconds_of(scale, units), scale, units)
         }
         ScalarValue::DateTimeOffset {
             scale,
             units,
             day,
             offset,
-        } => {
-            push_zoned(text, scale, units, day, offset);
-        }
-        ScalarValue::SmallDateTime { days, minutes } => {
-            push_date(text, 693595 + days as u32);
-            text.push(b' ');
-            push_seconds(text, 60 * minutes as u64);
-        }
-        ScalarValue::DateTime { days, ticks } => {
-            push_date(text, (693595 + days) as u32);
-            text.push(b' ');
-            push_ticks(text, ticks);
-        }
+        } => put_date_time_offset(to, scale, units, day, offset),
+        ScalarValue::SmallDateTime { days, minutes } => put_small_date_time(to, days, minutes),
+        ScalarValue::DateTime { days, ticks } => put_date_time(to, days, ticks),
     }
 }
 
 /// The text of a value: at most 41 bytes of ASCII.
 pub fn scalar_text(value: &Scalar) -> ScalarText
     ensures text { result.items ≡ text_of value.now }
-    ensures short { array_vec_len result ≤ 41 }
+    ensures short { array_vec_len result ≤ LONGEST_TEXT }
 {
-    let mut text = ScalarText::new();
-    push_value(&mut text, &value.value());
+    let mut bytes = [0; TEXT_ROOM];
+    let n = put_value(&mut bytes, &value.value());
+    let mut text = ScalarText::from(bytes);
+    text.truncate(n);
     text
 }

@@ -1,28 +1,33 @@
 // The text of a value, written where it is to lie, from the bytes that spell it.
-ghost use Rattle.std.specs.Prelude.{◌≡◌, ℕ, ◌+◌, ◌<◌, ◌≤◌, ◌⊎◌, IsTrue, unsigned_abs, IfOk, IfErr, IfSome, Some, Ok, Err, drop, length};
+ghost use Rattle.std.specs.Prelude.{◌≡◌, ℕ, ◌+◌, ◌≤◌, ◌⊎◌, IsTrue, IfOk, IfErr, Some, Ok, Err, drop, length};
 ghost use Rattle.byteorder.specs.Endian.{little_number};
 ghost use Rattle.std.specs.Int.{cast_signed, w16};
 ghost use Rattle.tds_values.specs.Kind as kinds;
 ghost use Rattle.tds_values.specs.Kind.{is_decimal_length};
 ghost use Rattle.tds_values.specs.Scalar.{read_of, checked, decimal_of};
-ghost use Rattle.tds_values.specs.LocalTime.{local_seconds as local_seconds_of};
-ghost use Rattle.tds_values.specs.Written.{IsText, IsWritten};
+ghost use Rattle.tds_values.specs.Written.{IsText, IsTextOf, IsWritten};
 ghost use Rattle.tds_values.specs.declared.scalar.ScalarValue.{ScalarValue};
 
-use crate::digits::put_byte;
 use crate::guid::put_guid;
 use crate::kind::{Kind, time_length};
-use crate::moments::{
-    put_clock, put_date, put_moment, put_offset, put_ticks, put_time, seconds_in,
+use crate::moments::{put_date, put_moment, put_time};
+use crate::numbers::put_integer;
+use crate::ranges::{
+    LARGEST_OFFSET, LAST_DAY, MINUTES_A_DAY, SECONDS_A_DAY, TICKS_A_DAY, is_day_since_1900,
+    local_seconds, seconds_in,
 };
-use crate::numbers::{put_decimal, put_integer, put_wide_decimal};
 use crate::scalar::{ScalarValue, ValueFault, integer_of, money_of};
+use crate::text::{
+    TEXT_ROOM, put_bit, put_date_time, put_local, put_magnitude, put_money, put_small_date_time,
+    put_wide_magnitude,
+};
 use byteorder::{ByteOrder, LittleEndian};
 
+// A whole number in n bytes, in which 1 is unsigned.
 #[inline(always)]
 fn write_integer(n: u8, bytes: &[u8], to: &mut [u8]) -> Result<usize, ValueFault>
     requires size { (n ≡ 1) ⊎ ((n ≡ 2) ⊎ ((n ≡ 4) ⊎ (n ≡ 8))) }
-    requires room { 64 ≤ length to.old }
+    requires room { TEXT_ROOM ≤ length to.old }
     ensures { IsWritten (read_of (Kind.IntN n) bytes.now) result to.new }
 {
     if bytes.len() != n as usize {
@@ -31,49 +36,52 @@ fn write_integer(n: u8, bytes: &[u8], to: &mut [u8]) -> Result<usize, ValueFault
     Ok(put_integer(to, 0, integer_of(n, bytes)))
 }
 
+// A bit.
 #[inline(always)]
 fn write_bit(bytes: &[u8], to: &mut [u8]) -> Result<usize, ValueFault>
-    requires room { 64 ≤ length to.old }
+    requires room { TEXT_ROOM ≤ length to.old }
     ensures { IsWritten (read_of Kind.BitN bytes.now) result to.new }
 {
     if bytes.len() != 1 {
         return Err(ValueFault::Length);
     }
-    Ok(put_byte(to, 0, if bytes[0] == 0 { b'0' } else { b'1' }))
+    Ok(put_bit(to, bytes[0] != 0))
 }
 
+// An amount of money in n bytes.
 #[inline(always)]
 fn write_money(n: u8, bytes: &[u8], to: &mut [u8]) -> Result<usize, ValueFault>
     requires size { (n ≡ 4) ⊎ (n ≡ 8) }
-    requires room { 64 ≤ length to.old }
+    requires room { TEXT_ROOM ≤ length to.old }
     ensures { IsWritten (read_of (Kind.MoneyN n) bytes.now) result to.new }
 {
     if bytes.len() != n as usize {
         return Err(ValueFault::Length);
     }
-    let amount = money_of(n, bytes);
-    Ok(put_decimal(to, 0, amount < 0, amount.unsigned_abs(), 4))
+    Ok(put_money(to, money_of(n, bytes)))
 }
 
+// A date.
 #[inline(always)]
 fn write_date(bytes: &[u8], to: &mut [u8]) -> Result<usize, ValueFault>
-    requires room { 64 ≤ length to.old }
+    requires room { TEXT_ROOM ≤ length to.old }
     ensures { IsWritten (read_of Kind.Date bytes.now) result to.new }
 {
     if bytes.len() != 3 {
         return Err(ValueFault::Length);
     }
     let day = LittleEndian::read_u24(bytes);
-    if day > 3652058 {
+    if day > LAST_DAY {
         return Err(ValueFault::Value);
     }
     Ok(put_date(to, 0, day))
 }
 
+// A time of day.
 #[inline(always)]
 fn write_time(scale: u8, bytes: &[u8], to: &mut [u8]) -> Result<usize, ValueFault>
     requires scale { scale ≤ 7 }
-    requires room { 64 ≤ length to.old }
+    requires room { TEXT_ROOM ≤ length to.old }
     ensures { IsWritten (read_of (Kind.Time scale) bytes.now) result to.new }
 {
     let t = time_length(scale) as usize;
@@ -82,7 +90,7 @@ fn write_time(scale: u8, bytes: &[u8], to: &mut [u8]) -> Result<usize, ValueFaul
     }
     let units = LittleEndian::read_uint(bytes, t);
     let seconds = seconds_in(scale, units);
-    if seconds >= 86400 {
+    if seconds >= SECONDS_A_DAY {
         return Err(ValueFault::Value);
     }
     Ok(put_time(to, 0, seconds as u32, scale, units))
@@ -97,10 +105,11 @@ fn day_at(t: usize, bytes: &[u8]) -> u32
     LittleEndian::read_u24(&bytes[t..])
 }
 
+// A datetime2: a time of day and a date.
 #[inline(always)]
-fn write_date_time(scale: u8, bytes: &[u8], to: &mut [u8]) -> Result<usize, ValueFault>
+fn write_date_time2(scale: u8, bytes: &[u8], to: &mut [u8]) -> Result<usize, ValueFault>
     requires scale { scale ≤ 7 }
-    requires room { 64 ≤ length to.old }
+    requires room { TEXT_ROOM ≤ length to.old }
     ensures { IsWritten (read_of (Kind.DateTime2 scale) bytes.now) result to.new }
 {
     let t = time_length(scale) as usize;
@@ -110,7 +119,7 @@ fn write_date_time(scale: u8, bytes: &[u8], to: &mut [u8]) -> Result<usize, Valu
     let units = LittleEndian::read_uint(bytes, t);
     let day = day_at(t, bytes);
     let seconds = seconds_in(scale, units);
-    if seconds >= 86400 || day > 3652058 {
+    if seconds >= SECONDS_A_DAY || day > LAST_DAY {
         return Err(ValueFault::Value);
     }
     Ok(put_moment(to, day, seconds as u32, scale, units))
@@ -125,31 +134,7 @@ fn offset_at(t: usize, bytes: &[u8]) -> i16
     LittleEndian::read_i16(&bytes[t..])
 }
 
-// The local seconds since 0001-01-01, where the calendar has them.
-#[inline(always)]
-fn local_seconds(seconds: u64, day: u32, offset: i16) -> Option<u64>
-    requires time { seconds < 86400 }
-    requires day { day ≤ 3652058 }
-    requires offset { unsigned_abs offset ≤ 840 }
-    ensures value { result ≡ local_seconds_of seconds day offset }
-    ensures bound { IfSome result (λ l. l < 315537897600) }
-{
-    let utc = day as u64 * 86400 + seconds;
-    let shift = offset.unsigned_abs() as u64 * 60;
-    if offset < 0 {
-        if shift <= utc {
-            Some(utc - shift)
-        } else {
-            None
-        }
-    } else if utc + shift < 315537897600 {
-        Some(utc + shift)
-    } else {
-        None
-    }
-}
-
-// A time and a day in UTC, and the minutes by which local time is ahead.
+// A time and a day in UTC as the local time, where the calendar has it.
 #[inline(always)]
 fn write_local(
     scale: u8,
@@ -159,31 +144,24 @@ fn write_local(
     to: &mut [u8],
 ) -> Result<usize, ValueFault>
     requires scale { scale ≤ 7 }
-    requires room { 64 ≤ length to.old }
+    requires room { TEXT_ROOM ≤ length to.old }
     ensures { IsWritten (checked (Some (ScalarValue.DateTimeOffset scale units day offset))) result to.new }
 {
     let seconds = seconds_in(scale, units);
-    if seconds >= 86400 || day > 3652058 || offset.unsigned_abs() > 840 {
+    if seconds >= SECONDS_A_DAY || day > LAST_DAY || offset.unsigned_abs() > LARGEST_OFFSET {
         return Err(ValueFault::Value);
     }
     let Some(local) = local_seconds(seconds, day, offset) else {
         return Err(ValueFault::Value);
     };
-    let at = put_moment(
-        to,
-        (local / 86400) as u32,
-        (local % 86400) as u32,
-        scale,
-        units,
-    );
-    let at = put_byte(to, at, b' ');
-    Ok(put_offset(to, at, offset))
+    Ok(put_local(to, local, scale, units, offset))
 }
 
+// A datetimeoffset: a time of day and a date in UTC, and an offset.
 #[inline(always)]
-fn write_offset_time(scale: u8, bytes: &[u8], to: &mut [u8]) -> Result<usize, ValueFault>
+fn write_date_time_offset(scale: u8, bytes: &[u8], to: &mut [u8]) -> Result<usize, ValueFault>
     requires scale { scale ≤ 7 }
-    requires room { 64 ≤ length to.old }
+    requires room { TEXT_ROOM ≤ length to.old }
     ensures { IsWritten (read_of (Kind.DateTimeOffset scale) bytes.now) result to.new }
 {
     let t = time_length(scale) as usize;
@@ -194,60 +172,58 @@ fn write_offset_time(scale: u8, bytes: &[u8], to: &mut [u8]) -> Result<usize, Va
     write_local(scale, units, day_at(t, bytes), offset_at(t + 3, bytes), to)
 }
 
-// Days since 1900-01-01 and minutes.
+// A smalldatetime: days since 1900-01-01 and minutes.
 #[inline(always)]
-fn write_minutes(days: u16, minutes: u16, to: &mut [u8]) -> Result<usize, ValueFault>
-    requires room { 64 ≤ length to.old }
+fn write_small_date_time(days: u16, minutes: u16, to: &mut [u8]) -> Result<usize, ValueFault>
+    requires room { TEXT_ROOM ≤ length to.old }
     ensures { IsWritten (checked (Some (ScalarValue.SmallDateTime days minutes))) result to.new }
 {
-    if minutes >= 1440 {
+    if minutes >= MINUTES_A_DAY {
         return Err(ValueFault::Value);
     }
-    let at = put_date(to, 0, 693595 + days as u32);
-    let at = put_byte(to, at, b' ');
-    Ok(put_clock(to, at, 60 * minutes as u32))
+    Ok(put_small_date_time(to, days, minutes))
 }
 
-// Days since 1900-01-01 and 1/300 seconds.
+// A datetime: days since 1900-01-01 and 1/300 seconds.
 #[inline(always)]
-fn write_ticks(days: i32, ticks: u32, to: &mut [u8]) -> Result<usize, ValueFault>
-    requires room { 64 ≤ length to.old }
+fn write_date_time(days: i32, ticks: u32, to: &mut [u8]) -> Result<usize, ValueFault>
+    requires room { TEXT_ROOM ≤ length to.old }
     ensures { IsWritten (checked (Some (ScalarValue.DateTime days ticks))) result to.new }
 {
-    if days < -693595 || days > 2958463 || ticks >= 25920000 {
+    if !is_day_since_1900(days) || ticks >= TICKS_A_DAY {
         return Err(ValueFault::Value);
     }
-    let at = put_date(to, 0, (693595 + days) as u32);
-    let at = put_byte(to, at, b' ');
-    Ok(put_ticks(to, at, ticks))
+    Ok(put_date_time(to, days, ticks))
 }
 
+// A smalldatetime in 4 bytes, or a datetime in 8.
 #[inline(always)]
-fn write_old(n: u8, bytes: &[u8], to: &mut [u8]) -> Result<usize, ValueFault>
+fn write_date_time_n(n: u8, bytes: &[u8], to: &mut [u8]) -> Result<usize, ValueFault>
     requires size { (n ≡ 4) ⊎ (n ≡ 8) }
-    requires room { 64 ≤ length to.old }
+    requires room { TEXT_ROOM ≤ length to.old }
     ensures { IsWritten (read_of (Kind.DateTimeN n) bytes.now) result to.new }
 {
     if bytes.len() != n as usize {
         return Err(ValueFault::Length);
     }
     if n == 4 {
-        return write_minutes(
+        return write_small_date_time(
             LittleEndian::read_u16(bytes),
             LittleEndian::read_u16(&bytes[2..]),
             to,
         );
     }
-    write_ticks(
+    write_date_time(
         LittleEndian::read_i32(bytes),
         LittleEndian::read_u32(&bytes[4..]),
         to,
     )
 }
 
+// A GUID.
 #[inline(always)]
 fn write_guid(bytes: &[u8], to: &mut [u8]) -> Result<usize, ValueFault>
-    requires room { 64 ≤ length to.old }
+    requires room { TEXT_ROOM ≤ length to.old }
     ensures { IsWritten (read_of Kind.Guid bytes.now) result to.new }
 {
     if bytes.len() != 16 {
@@ -256,64 +232,37 @@ fn write_guid(bytes: &[u8], to: &mut [u8]) -> Result<usize, ValueFault>
     Ok(put_guid(to, bytes))
 }
 
-// A magnitude of 64 bits.
-#[inline(always)]
-fn write_magnitude(negative: bool, magnitude: u64, scale: u8, to: &mut [u8]) -> usize
-    requires scale { scale ≤ 38 }
-    requires room { 64 ≤ length to.old }
-    ensures { IsText (ScalarValue.Decimal negative magnitude scale) result to.new }
-{
-    if scale <= 24 {
-        put_decimal(to, 0, negative, magnitude, scale)
-    } else {
-        put_wide_decimal(to, 0, negative, magnitude as u128, scale)
-    }
-}
-
-// A magnitude of 128 bits.
-#[inline(always)]
-fn write_wide_magnitude(negative: bool, magnitude: u128, scale: u8, to: &mut [u8]) -> usize
-    requires scale { scale ≤ 38 }
-    requires room { 64 ≤ length to.old }
-    ensures { IsText (ScalarValue.Decimal negative magnitude scale) result to.new }
-{
-    if magnitude <= u64::MAX as u128 {
-        write_magnitude(negative, magnitude as u64, scale, to)
-    } else {
-        put_wide_decimal(to, 0, negative, magnitude, scale)
-    }
-}
-
-// A sign byte and a magnitude.
+// A decimal by its sign byte and its magnitude.
 #[inline(always)]
 fn write_spelt(scale: u8, bytes: &[u8], to: &mut [u8]) -> usize
     requires scale { scale ≤ 38 }
-    requires room { 64 ≤ length to.old }
+    requires room { TEXT_ROOM ≤ length to.old }
     requires length { IsTrue (is_decimal_length (length bytes.now)) }
     ensures { IsText (decimal_of scale bytes.now) result to.new }
 {
     let negative = bytes[0] == 0;
     match bytes.len() {
-        5 => write_magnitude(
+        5 => put_magnitude(
+            to,
             negative,
             LittleEndian::read_u32(&bytes[1..]) as u64,
             scale,
-            to,
         ),
-        9 => write_magnitude(negative, LittleEndian::read_u64(&bytes[1..]), scale, to),
-        n => write_wide_magnitude(
+        9 => put_magnitude(to, negative, LittleEndian::read_u64(&bytes[1..]), scale),
+        n => put_wide_magnitude(
+            to,
             negative,
             LittleEndian::read_uint128(&bytes[1..], n - 1),
             scale,
-            to,
         ),
     }
 }
 
+// A decimal of at most `most` bytes.
 #[inline(always)]
 fn write_decimal(most: u8, scale: u8, bytes: &[u8], to: &mut [u8]) -> Result<usize, ValueFault>
     requires scale { scale ≤ 38 }
-    requires room { 64 ≤ length to.old }
+    requires room { TEXT_ROOM ≤ length to.old }
     ensures { (precision : ℕ) → IsWritten (read_of (Kind.Decimal most precision scale) bytes.now) result to.new }
 {
     let n = bytes.len();
@@ -323,11 +272,12 @@ fn write_decimal(most: u8, scale: u8, bytes: &[u8], to: &mut [u8]) -> Result<usi
     Ok(write_spelt(scale, bytes, to))
 }
 
+// A value of any scalar kind.
 #[inline(always)]
 fn write_any(kind: &Kind, bytes: &[u8], to: &mut [u8]) -> Result<usize, ValueFault>
     requires valid { IsTrue (kinds.is_valid kind.now) }
     requires scalar { IsTrue (kinds.is_scalar kind.now) }
-    requires room { 64 ≤ length to.old }
+    requires room { TEXT_ROOM ≤ length to.old }
     ensures { IsWritten (read_of kind.now bytes.now) result to.new }
 {
     match *kind {
@@ -340,15 +290,15 @@ fn write_any(kind: &Kind, bytes: &[u8], to: &mut [u8]) -> Result<usize, ValueFau
         Kind::Money4 => write_money(4, bytes, to),
         Kind::Money8 => write_money(8, bytes, to),
         Kind::MoneyN(n) => write_money(n, bytes, to),
-        Kind::DateTime4 => write_old(4, bytes, to),
-        Kind::DateTime8 => write_old(8, bytes, to),
-        Kind::DateTimeN(n) => write_old(n, bytes, to),
+        Kind::DateTime4 => write_date_time_n(4, bytes, to),
+        Kind::DateTime8 => write_date_time_n(8, bytes, to),
+        Kind::DateTimeN(n) => write_date_time_n(n, bytes, to),
         Kind::Guid => write_guid(bytes, to),
         Kind::Decimal { length, scale, .. } => write_decimal(length, scale, bytes, to),
         Kind::Date => write_date(bytes, to),
         Kind::Time(scale) => write_time(scale, bytes, to),
-        Kind::DateTime2(scale) => write_date_time(scale, bytes, to),
-        Kind::DateTimeOffset(scale) => write_offset_time(scale, bytes, to),
+        Kind::DateTime2(scale) => write_date_time2(scale, bytes, to),
+        Kind::DateTimeOffset(scale) => write_date_time_offset(scale, bytes, to),
         Kind::Binary(_) | Kind::Narrow(_) | Kind::Wide(_) => unreachable!(),
     }
 }
@@ -360,8 +310,8 @@ fn write_any(kind: &Kind, bytes: &[u8], to: &mut [u8]) -> Result<usize, ValueFau
 pub fn write_scalar(kind: &Kind, bytes: &[u8], to: &mut [u8]) -> Result<usize, ValueFault>
     requires valid { IsTrue (kinds.is_valid kind.now) }
     requires is_scalar { IsTrue (kinds.is_scalar kind.now) }
-    requires room { 64 ≤ length to.old }
-    ensures written { IfOk result (λ n. (value : ScalarValue) × ((read_of kind.now bytes.now ≡ Ok value) × IsText value n to.new)) }
+    requires room { TEXT_ROOM ≤ length to.old }
+    ensures written { IfOk result (λ n. IsTextOf (read_of kind.now bytes.now) n to.new) }
     ensures refused { IfErr result (λ fault. read_of kind.now bytes.now ≡ Err fault) }
 {
     write_any(kind, bytes, to)

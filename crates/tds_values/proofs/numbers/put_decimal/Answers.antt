@@ -7,5 +7,5 @@ pub returns-clause-end : goal.returns-clause-end
 returns-clause-end c =
     let long = length-whole c.args.magnitude c.args.scale (omega arith) (omega arith) in
     let same = ap (λ m. length (decimal m)) c.whole.ensures in
-    let end = end_of _ _ _ c.put_minus-at.result c.put_number-at.result (omega (arith, c.put_minus-at.ensures.end)) (omega (arith, c.put_minus-at.ensures.end, c.put_number-at.ensures.end)) c.put_number-at.ensures.written in
-    omega (arith, c.put_minus-at.ensures.end, c.put_fraction.ensures.end)
+    let end = end_of _ _ _ c.put_sign-at.result c.put_number-at.result (omega (arith, c.put_sign-at.ensures.end)) (omega (arith, c.put_sign-at.ensures.end, c.put_number-at.ensures.end)) c.put_number-at.ensures.written in
+    omega (arith, c.put_sign-at.ensures.end, c.put_fraction.ensures.end)

@@ -17,28 +17,28 @@ pub returns-then-scale-eq0-clause-end : goal.returns-then-scale-eq0-clause-end
 returns-then-scale-eq0-clause-end c =
     let long = length-whole c.args.magnitude c.args.scale (omega arith) c.requires.scale in
     let same = ap (λ p. length (decimal (c.args.magnitude / p))) c.pow.ensures in
-    omega (arith, c.put_minus-at.ensures.end, c.put_wide-at.ensures.end)
+    omega (arith, c.put_sign-at.ensures.end, c.put_wide-at.ensures.end)
 
 pub put_byte-at-requires : goal.put_byte-at-requires
 put_byte-at-requires c =
     let long = length-whole c.args.magnitude c.args.scale (omega arith) c.requires.scale in
     let same = ap (λ p. length (decimal (c.args.magnitude / p))) c.pow.ensures in
-    omega (arith, c.put_minus-at.ensures.end, c.put_wide-at.ensures.end)
+    omega (arith, c.put_sign-at.ensures.end, c.put_wide-at.ensures.end)
 
 pub put_last_wide-requires-clause-room : goal.put_last_wide-requires-clause-room
 put_last_wide-requires-clause-room c =
     let long = length-whole c.args.magnitude c.args.scale (omega arith) c.requires.scale in
     let same = ap (λ p. length (decimal (c.args.magnitude / p))) c.pow.ensures in
-    omega (arith, c.put_minus-at.ensures.end, c.put_wide-at.ensures.end, c.put_byte-at.ensures.end)
+    omega (arith, c.put_sign-at.ensures.end, c.put_wide-at.ensures.end, c.put_byte-at.ensures.end)
 
 pub put_last_wide-requires-clause-digits : goal.put_last_wide-requires-clause-digits
 put_last_wide-requires-clause-digits c =
     let long = length-whole c.args.magnitude c.args.scale (omega arith) c.requires.scale in
     let same = ap (λ p. length (decimal (c.args.magnitude / p))) c.pow.ensures in
-    omega (arith, c.put_minus-at.ensures.end, c.put_wide-at.ensures.end, c.put_byte-at.ensures.end)
+    omega (arith, c.put_sign-at.ensures.end, c.put_wide-at.ensures.end, c.put_byte-at.ensures.end)
 
 pub returns-clause-end : goal.returns-clause-end
 returns-clause-end c =
     let long = length-whole c.args.magnitude c.args.scale (omega arith) c.requires.scale in
     let same = ap (λ p. length (decimal (c.args.magnitude / p))) c.pow.ensures in
-    omega (arith, c.put_minus-at.ensures.end, c.put_wide-at.ensures.end, c.put_byte-at.ensures.end, c.put_last_wide.ensures.end)
+    omega (arith, c.put_sign-at.ensures.end, c.put_wide-at.ensures.end, c.put_byte-at.ensures.end, c.put_last_wide.ensures.end)

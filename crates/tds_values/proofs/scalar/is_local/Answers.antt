@@ -1,34 +1,13 @@
-use Rattle.std.proofs.Common.{arith, FitsSigned, w16}
+use Rattle.std.proofs.Common.{ap, sym, ◌∙◌, FitsSigned, w16}
+use Rattle.std.specs.Prelude.{is_some}
 use Rattle.std.proofs.lemmas.Int.{to_z-of_z}
-use Rattle.tds_values.proofs.LocalSizes.{sizes}
+use Rattle.tds_values.specs.LocalTime.{local_seconds}
+use Rattle.tds_values.proofs.LocalLemmas.{local_by_seconds}
 use Rattle.tds_values.proofs.scalar.is_local.Goals as goal
 
-pub overflow_mul-utc-2 : goal.overflow_mul-utc-2
-overflow_mul-utc-2 c =
-    let s = sizes c.args.scale c.pow-second.result c.args.day c.args.units 0 c.pow-second.ensures c.requires.time c.requires.day (omega arith) in
-    let d = s.days in
-    omega arith
-
-pub overflow_add-utc : goal.overflow_add-utc
-overflow_add-utc c =
-    let s = sizes c.args.scale c.pow-second.result c.args.day c.args.units 0 c.pow-second.ensures c.requires.time c.requires.day (omega arith) in
-    let d = s.days in
-    let t = s.time in
-    omega arith
-
-pub overflow_add-result : goal.overflow_add-result
-overflow_add-result c =
+pub returns : goal.returns
+returns c =
     let fits : FitsSigned w16 c.args.offset = c.ranges.offset in
-    let shift = simp to_z-of_z at c.unsigned_abs.ensures.value in
-    let small = c.requires.offset in
-    let s = sizes c.args.scale c.pow-second.result c.args.day c.args.units c.unsigned_abs.result c.pow-second.ensures c.requires.time c.requires.day (omega arith) in
-    let d = s.days in
-    let t = s.time in
-    let o = s.offset in
-    omega arith
-
-pub overflow_mul-result-else-offset-lt0 : goal.overflow_mul-result-else-offset-lt0
-overflow_mul-result-else-offset-lt0 c =
-    let s = sizes c.args.scale c.pow-second.result c.args.day c.args.units 0 c.pow-second.ensures c.requires.time c.requires.day (omega arith) in
-    let d = s.second in
-    omega arith
+    let found = simp to_z-of_z at c.local_seconds.ensures.value in
+    c.is_some.ensures ∙ ap is_some found ∙ ap (λ s. is_some (local_seconds s c.args.day c.args.offset)) c.seconds_in.ensures
+    ∙ sym (local_by_seconds c.args.scale c.args.units c.args.day c.args.offset)

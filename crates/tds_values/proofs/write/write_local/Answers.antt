@@ -1,6 +1,5 @@
-use Rattle.std.proofs.Common.{◌∙◌, ◌++◌, [], ◌∷◌, ap, sym, FitsSigned, w16, arith}
+use Rattle.std.proofs.Common.{◌∙◌, sym, FitsSigned, w16, arith}
 use Rattle.std.proofs.lemmas.Int.{to_z-of_z}
-use Rattle.tds_values.specs.ScalarText.{offset_text}
 use Rattle.tds_values.proofs.WrittenLemmas.{local_refused, local_written}
 use Rattle.tds_values.proofs.write.write_local.Goals as goal
 
@@ -15,8 +14,6 @@ returns c =
     let fits : FitsSigned w16 c.args.offset = c.ranges.offset in
     let local = simp to_z-of_z at c.local_seconds.ensures.value in
     let size = simp to_z-of_z at c.unsigned_abs.ensures.value in
-    let offset = simp to_z-of_z at c.put_offset.ensures.written in
-    local_written c.args.scale c.args.units c.args.day c.seconds_in-seconds.result c.in-Some.local c.put_offset.result c.args.offset c.put_offset.new.to c.requires.scale c.seconds_in-seconds.ensures
-    (omega arith) (omega arith) (omega (arith, size)) (sym local ∙ c.in-Some.is)
-    (offset ∙ ap (λ t. t ++ offset_text c.args.offset) (c.put_byte-at.ensures.written ∙ ap (λ t. t ++ 32 ∷ []) c.put_moment-at.ensures.written))
-    (omega (arith, c.put_offset.ensures.end, c.put_byte-at.ensures.end, c.put_moment-at.ensures.end))
+    let written = simp to_z-of_z at c.put_local.ensures.written in
+    local_written c.args.scale c.args.units c.args.day c.seconds_in-seconds.result c.in-Some.local c.put_local.result c.args.offset c.put_local.new.to c.requires.scale c.seconds_in-seconds.ensures
+    (omega arith) (omega arith) (omega (arith, size)) (sym local ∙ c.in-Some.is) written c.put_local.ensures.end

@@ -1,13 +1,13 @@
 use Rattle.std.proofs.Common.{◌+◌, ◌<◌, ◌≤◌, ◌⊎◌, ◌∙◌, ap, inl, inr, drop, arith}
 use Rattle.byteorder.specs.Endian.{little_number}
 use Rattle.tds_values.proofs.WrittenLemmas.{date_time_written, date_time_refused}
-use Rattle.tds_values.proofs.write.write_date_time.Goals as goal
-use Rattle.tds_values.proofs.write.write_date_time.Goals.{then-seconds-ge86400-via-then-seconds-ge86400, then-seconds-ge86400-via-else-seconds-ge86400+then-day-gt3652058}
+use Rattle.tds_values.proofs.write.write_date_time2.Goals as goal
+use Rattle.tds_values.proofs.write.write_date_time2.Goals.{then-seconds-ge-SECONDS_A_DAY-via-then-seconds-ge-SECONDS_A_DAY, then-seconds-ge-SECONDS_A_DAY-via-else-seconds-ge-SECONDS_A_DAY+then-day-gt-LAST_DAY}
 
-pub returns-then-seconds-ge86400 : goal.returns-then-seconds-ge86400
-returns-then-seconds-ge86400 c =
+pub returns-then-seconds-ge-SECONDS_A_DAY : goal.returns-then-seconds-ge-SECONDS_A_DAY
+returns-then-seconds-ge-SECONDS_A_DAY c =
     let t = c.time_length-t.ensures in
-    let bad : (86400 ≤ c.seconds_in-seconds.result) ⊎ (3652058 < c.day_at-day.result) = elim c.then-seconds-ge86400.branch [ then-seconds-ge86400-via-then-seconds-ge86400 w ↦ inl (omega arith) | then-seconds-ge86400-via-else-seconds-ge86400+then-day-gt3652058 w ↦ inr (omega arith) ] in
+    let bad : (86400 ≤ c.seconds_in-seconds.result) ⊎ (3652058 < c.day_at-day.result) = elim c.then-seconds-ge-SECONDS_A_DAY.branch [ then-seconds-ge-SECONDS_A_DAY-via-then-seconds-ge-SECONDS_A_DAY w ↦ inl (omega arith) | then-seconds-ge-SECONDS_A_DAY-via-else-seconds-ge-SECONDS_A_DAY+then-day-gt-LAST_DAY w ↦ inr (omega arith) ] in
     date_time_refused c.args.scale c.read_uint-units.result c.day_at-day.result c.seconds_in-seconds.result c.args.bytes.now c.args.to.now (c.if-bytes-t.false ∙ ap (λ k. k + 3) t)
     (c.read_uint-units.ensures ∙ ap (λ k. little_number k c.args.bytes.now) t) (c.day_at-day.ensures ∙ ap (λ k. little_number 3 (drop k c.args.bytes.now)) t) c.seconds_in-seconds.ensures bad
 
