@@ -28,3 +28,4 @@ pub mod Peaks
 mod Emptied
 mod NameTexts
 mod DeviceFaults
+pub mod NoFailures

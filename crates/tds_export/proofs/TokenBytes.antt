@@ -16,7 +16,7 @@ use Rattle.tds_csv.specs.Sinks.{Held}
 use Rattle.tds_csv.specs.Streaming.{PutsText}
 use Rattle.tds_rows.specs.declared.Charset.{Charset}
 use Rattle.tds_rows.specs.Rows.{row_start}
-use Rattle.tds_export.specs.declared.standing.Standing.{Standing}
+use Rattle.tds_export.specs.declared.progress.Progress.{Progress}
 use Rattle.tds_export.specs.Tokens.{Token, described_after, encoded_after}
 use Rattle.tds_export.specs.Built.{is_built}
 use Rattle.tds_export.specs.Reading.{Part, is_row_byte, response, row_byte_fault, start_of_row, text_so_far}
@@ -61,9 +61,9 @@ module _ (charset : Charset) (room : ℕ) (tokens : List Token) (byte : ℕ) (to
   first a b t = reads_one (response charset room) (behind tokens) a b (byte ∷ []) to begins.next t begins.to_is
 
   -- a token is read behind its first byte
-  pub reads_behind_byte : (a b c : Seen) (place middle place' : ℕ) (h k : Held) (standing : Standing) (area : Space) → Takes a b (byte ∷ []) 1 → middle ≡ place + 1 → ReadsToken (response charset room) to tokens b c middle place' h k standing area
-      → ReadsToken (response charset room) (behind tokens) tokens a c place place' h k standing area
-  reads_behind_byte a b c place middle place' h k standing area t at r = record {
+  pub reads_behind_byte : (a b c : Seen) (place middle place' : ℕ) (h k : Held) (progress : Progress) (area : Space) → Takes a b (byte ∷ []) 1 → middle ≡ place + 1 → ReadsToken (response charset room) to tokens b c middle place' h k progress area
+      → ReadsToken (response charset room) (behind tokens) tokens a c place place' h k progress area
+  reads_behind_byte a b c place middle place' h k progress area t at r = record {
     token = r.token;
     streams = record {
       bytes = (byte ∷ []) ++ r.streams.bytes;

@@ -7,5 +7,6 @@ pub mod Joined
 pub mod Built
 pub mod Export
 pub mod Running
+pub mod Exporters
 pub mod Laws
 pub mod Ended

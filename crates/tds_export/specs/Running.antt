@@ -1,11 +1,13 @@
 -- What the calls inside an export do.
-use Rattle.std.specs.Prelude.{◌≡◌, ◌⊎◌, ◌+◌, ◌≤◌, ℕ, Bool, true, false, List, [], ◌∷◌, ◌++◌, length, Option, Some, None}
+use Rattle.std.specs.Prelude.{◌≡◌, ◌⊎◌, ◌+◌, ◌≤◌, ℕ, Bool, true, false, List, [], ◌∷◌, ◌++◌, length, Option, Some, None, Result, MatchOption, MatchResult}
 use Rattle.tds_meter.specs.Space.{Space}
 use Rattle.tds_packet.specs.declared.fault.Fault.{Fault}
-use Rattle.tds_packet.specs.declared.fault.Fault.TheVariants.{NotYet, RefusedToken, RowWithoutColumns}
+use Rattle.tds_packet.specs.declared.fault.Fault.TheVariants.{MessageEnded, NotYet, RefusedToken, RowWithoutColumns}
 use Rattle.tds_packet.specs.declared.fault.Stop.{Stop}
 use Rattle.tds_packet.specs.Elements.{Grammar, Spelt}
-use Rattle.tds_packet.specs.Seen.{Seen, Takes, IsOver}
+use Rattle.tds_packet.specs.declared.payload.Payload.{Payload}
+use Rattle.tds_packet.specs.Payloads.{seen}
+use Rattle.tds_packet.specs.Seen.{Seen, Takes, Ends, IsBetween, IsOver}
 use Rattle.tds_columns.specs.Description.{BeforeCount, Column, description_bytes}
 use Rattle.tds_columns.specs.View.{columns_of}
 use Rattle.tds_csv.specs.Sinks.{Held, Finishes, FinishFails}
@@ -13,7 +15,8 @@ use Rattle.tds_csv.specs.Streaming.{PutsText, Streams, BreaksStreaming}
 use Rattle.tds_rows.specs.declared.Charset.{Charset}
 use Rattle.tds_rows.specs.Rows.{row_start}
 use Rattle.tds_rows.specs.Unbuilt.{Stalls}
-use Rattle.tds_export.specs.declared.standing.Standing.{Standing}
+use Rattle.tds_export.specs.declared.progress.Progress.{Progress}
+use Rattle.tds_export.specs.declared.report.Report.{Report}
 use Rattle.tds_export.specs.declared.tokens.TokenKind.{TokenKind}
 use Rattle.tds_export.specs.declared.tokens.TokenKind.TheVariants as kinds
 use Rattle.tds_export.specs.Built.{is_built, is_built_token}
@@ -41,18 +44,18 @@ abbrev pub behind : List Token → Part
 behind tokens = record { tokens = tokens; at = Between }
 
 -- What stands after these tokens is known: the report but for what was written, whether columns are described, and whether the last token is a final one. None is an error.
-pub record Tracks (standing : Standing) (tokens : List Token) : Type 0 where
-  pub report : record standing.report { written = length (text tokens) } ≡ report_of tokens
-  pub described : IsDescribed standing.described (encoded_after [] tokens) (described_after None tokens)
-  pub final : standing.is_final ≡ is_final tokens
+pub record Tracks (progress : Progress) (tokens : List Token) : Type 0 where
+  pub report : record progress.report { written = length (text tokens) } ≡ report_of tokens
+  pub described : IsDescribed progress.described (encoded_after [] tokens) (described_after None tokens)
+  pub final : progress.is_final ≡ is_final tokens
   pub no_error : first_error tokens ≡ None
 
 -- A token was read whole, and its text put.
-pub record ReadsToken (g : Grammar Part Fault) (from : Part) (tokens : List Token) (old new : Seen) (place place' : ℕ) (before after : Held) (standing : Standing) (area : Space) : Type 0 where
+pub record ReadsToken (g : Grammar Part Fault) (from : Part) (tokens : List Token) (old new : Seen) (place place' : ℕ) (before after : Held) (progress : Progress) (area : Space) : Type 0 where
   pub token : Token
   pub streams : Streams g text_so_far from old new before after (behind (tokens ++ token ∷ []))
   pub place_is : place' ≡ place + length streams.bytes
-  pub tracks : Tracks standing (tokens ++ token ∷ [])
+  pub tracks : Tracks progress (tokens ++ token ∷ [])
   pub holds : IsHolding area (behind (tokens ++ token ∷ []))
 
 -- The byte begins a token of this kind, where columns are described or not.
@@ -107,14 +110,15 @@ pub record ReadsWhole (g : Grammar Part Fault) (from : Part) (old new : Seen) (b
   pub final : is_final tokens ≡ true
   pub holds : IsHolding area (behind tokens)
 
--- So it was, and all of its text was delivered.
-pub record Completes (g : Grammar Part Fault) (from : Part) (old new : Seen) (before after : Held) (standing : Standing) (area : Space) : Type 0 where
+-- The whole response was read and all of its text delivered, and this is its report. None of its tokens is an error.
+pub record Completes (g : Grammar Part Fault) (from : Part) (old new : Seen) (before after : Held) (report : Report) (area : Space) : Type 0 where
   pub middle : Held
   pub whole : ReadsWhole g from old new before middle area
-  pub tracks : Tracks standing whole.tokens
   pub finishes : Finishes middle after
+  pub report_is : report ≡ record (report_of whole.tokens) { written = after.delivered }
+  pub no_error : first_error whole.tokens ≡ None
 
--- So it was, and then the rest couldn't be delivered, or the writer not be flushed.
+-- The whole response was read, and then the rest of its text couldn't be delivered, or the writer not be flushed.
 pub record FailsAtEnd (g : Grammar Part Fault) (from : Part) (old new : Seen) (before after : Held) (area : Space) (stop : Stop) : Type 0 where
   pub middle : Held
   pub whole : ReadsWhole g from old new before middle area
@@ -124,3 +128,23 @@ pub record FailsAtEnd (g : Grammar Part Fault) (from : Part) (old new : Seen) (b
 abbrev pub RunStops : Grammar Part Fault → Part → Seen → Seen → ℕ → Held → Held → Space → Bool → Stop → Type 0
 RunStops g from old new place before after area failed stop =
     Halts g from old new place before after area failed stop ⊎ (FailsAtEnd g from old new before after area stop × (failed ≡ true))
+
+-- The next byte was read, and no packet is cut behind it.
+pub record ReadsByte (old new : Seen) (place place' byte : ℕ) : Type 0 where
+  pub takes : Takes old new (byte ∷ []) 1
+  pub place_is : place' ≡ place + 1
+  pub between : IsBetween new
+
+-- No byte is left, and the message is over.
+pub record ReadsNone (old new : Seen) (place place' : ℕ) : Type 0 where
+  pub takes : Takes old new [] 1
+  pub over : IsOver new
+  pub place_is : place' ≡ place
+
+-- The next byte was read, or the message is over; or the payload stopped, otherwise than at the message's end.
+abbrev pub ByteRead : {R : Type 0} → (R → Option (List ℕ)) → Payload R → Payload R → Result (Option ℕ) Stop → Type 0
+ByteRead remaining old new result = MatchResult result
+    (λ next. MatchOption next
+        (ReadsNone (seen remaining old) (seen remaining new) old.place new.place)
+        (λ byte. ReadsByte (seen remaining old) (seen remaining new) old.place new.place byte))
+    (λ stop. Ends (seen remaining old) (seen remaining new) [] stop × (stop.fault ≡ MessageEnded → ⊥))
