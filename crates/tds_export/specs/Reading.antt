@@ -7,6 +7,7 @@ use Rattle.tds_rows.specs.Rows.{RowPart, WholeRow, row_start, nbc_row_start, row
 use Rattle.tds_packet.specs.Elements.{Grammar}
 use Rattle.tds_packet.specs.declared.fault.Fault.{Fault}
 use Rattle.tds_packet.specs.declared.fault.Fault.TheVariants.{MessageEnded, EndWithoutDone, RefusedToken, RowWithoutColumns, BadNotice}
+use Rattle.tds_export.specs.declared.token_bytes.TheConstants.{COLMETADATA, ROW, NBCROW, ORDER, ENVCHANGE, ERROR, INFO, RETURNVALUE, RETURNSTATUS, DONE, DONEPROC, DONEINPROC}
 use Rattle.tds_export.specs.ReturnValue.{ReturnPart, ReturnOrdinal, WholeReturn, return_size, return_fault, return_add}
 use Rattle.tds_export.specs.Tokens.{Notice, Token, Metadata, NoMetadata, Row, Order, EnvChange, Error, Info, ReturnStatus, Returned, Done, DoneInProc, described_after, is_final, text, greatest_span}
 use Rattle.tds_export.specs.Response.{more}
@@ -73,24 +74,24 @@ start_of_row tokens start (Some columns) = with_row tokens (start columns)
 -- the token bytes
 abbrev pub after_byte : Charset → List Token → ℕ → Part
 after_byte charset tokens byte =
-    if byte == 0x81 then record { tokens = tokens; at = Describing BeforeCount }
-    else if byte == 0xD1 then start_of_row tokens (row_start charset) (described_after None tokens)
-    else if byte == 0xD2 then start_of_row tokens nbc_row_start (described_after None tokens)
-    else if byte == 0xA9 then record { tokens = tokens; at = TokenLength AnOrder }
-    else if byte == 0xE3 then record { tokens = tokens; at = TokenLength AnEnvChange }
-    else if byte == 0xAA then record { tokens = tokens; at = TokenLength AnError }
-    else if byte == 0xAB then record { tokens = tokens; at = TokenLength AnInfo }
-    else if byte == 0x79 then record { tokens = tokens; at = Status }
-    else if (byte == 0xFD) || (byte == 0xFE) then record { tokens = tokens; at = DoneFields }
-    else if byte == 0xFF then record { tokens = tokens; at = DoneInProcFields }
-    else if byte == 0xAC then record { tokens = tokens; at = InReturn ReturnOrdinal }
+    if byte == COLMETADATA then record { tokens = tokens; at = Describing BeforeCount }
+    else if byte == ROW then start_of_row tokens (row_start charset) (described_after None tokens)
+    else if byte == NBCROW then start_of_row tokens nbc_row_start (described_after None tokens)
+    else if byte == ORDER then record { tokens = tokens; at = TokenLength AnOrder }
+    else if byte == ENVCHANGE then record { tokens = tokens; at = TokenLength AnEnvChange }
+    else if byte == ERROR then record { tokens = tokens; at = TokenLength AnError }
+    else if byte == INFO then record { tokens = tokens; at = TokenLength AnInfo }
+    else if byte == RETURNSTATUS then record { tokens = tokens; at = Status }
+    else if (byte == DONE) || (byte == DONEPROC) then record { tokens = tokens; at = DoneFields }
+    else if byte == DONEINPROC then record { tokens = tokens; at = DoneInProcFields }
+    else if byte == RETURNVALUE then record { tokens = tokens; at = InReturn ReturnOrdinal }
     else record { tokens = tokens; at = Between }
 
 abbrev pub is_token_byte : ℕ → Bool
-is_token_byte byte = (byte == 0x81) || (byte == 0xD1) || (byte == 0xD2) || (byte == 0xA9) || (byte == 0xE3) || (byte == 0xAA) || (byte == 0xAB) || (byte == 0x79) || (byte == 0xFD) || (byte == 0xFE) || (byte == 0xFF) || (byte == 0xAC)
+is_token_byte byte = (byte == COLMETADATA) || (byte == ROW) || (byte == NBCROW) || (byte == ORDER) || (byte == ENVCHANGE) || (byte == ERROR) || (byte == INFO) || (byte == RETURNSTATUS) || (byte == DONE) || (byte == DONEPROC) || (byte == DONEINPROC) || (byte == RETURNVALUE)
 
 abbrev pub is_row_byte : ℕ → Bool
-is_row_byte byte = (byte == 0xD1) || (byte == 0xD2)
+is_row_byte byte = (byte == ROW) || (byte == NBCROW)
 
 -- a row wants columns
 abbrev pub row_byte_fault : Bool → Option (List Column) → Option Fault

@@ -15,6 +15,7 @@ use Rattle.tds_csv.specs.Streaming.{PutsText, Streams, BreaksStreaming}
 use Rattle.tds_rows.specs.declared.Charset.{Charset}
 use Rattle.tds_rows.specs.Rows.{row_start}
 use Rattle.tds_rows.specs.Unbuilt.{Stalls}
+use Rattle.tds_export.specs.declared.token_bytes.TheConstants.{COLMETADATA, ROW, NBCROW, DONE, DONEPROC}
 use Rattle.tds_export.specs.declared.progress.Progress.{Progress}
 use Rattle.tds_export.specs.declared.report.Report.{Report}
 use Rattle.tds_export.specs.declared.tokens.TokenKind.{TokenKind}
@@ -60,15 +61,15 @@ pub record ReadsToken (g : Grammar Part Fault) (from : Part) (tokens : List Toke
 
 -- The byte begins a token of this kind, where columns are described or not.
 abbrev pub IsOfKind : Bool → ℕ → TokenKind → Type 0
-IsOfKind described byte kinds.Metadata = byte ≡ 0x81
-IsOfKind described byte kinds.Row = (byte ≡ 0xD1) × (described ≡ true)
-IsOfKind described byte kinds.Done = (byte ≡ 0xFD) ⊎ (byte ≡ 0xFE)
+IsOfKind described byte kinds.Metadata = byte ≡ COLMETADATA
+IsOfKind described byte kinds.Row = (byte ≡ ROW) × (described ≡ true)
+IsOfKind described byte kinds.Done = (byte ≡ DONE) ⊎ (byte ≡ DONEPROC)
 
 -- The byte is refused with this fault, or isn't built.
 abbrev pub IsRefusal : Bool → ℕ → Fault → Type 0
 IsRefusal described byte fault =
     ((fault ≡ RefusedToken byte) × (is_token_byte byte ≡ false))
-    ⊎ (((fault ≡ RowWithoutColumns) × (described ≡ false) × ((byte ≡ 0xD1) ⊎ (byte ≡ 0xD2))) ⊎ ((fault ≡ NotYet) × (is_built_token byte ≡ false)))
+    ⊎ (((fault ≡ RowWithoutColumns) × (described ≡ false) × ((byte ≡ ROW) ⊎ (byte ≡ NBCROW))) ⊎ ((fault ≡ NotYet) × (is_built_token byte ≡ false)))
 
 -- where the tokens that are built are read, behind their token bytes
 abbrev pub in_metadata : List Token → Part
