@@ -32,8 +32,7 @@ calm given report x =
     let t = x.completes.whole.takes in
     let p = x.completes.whole.puts.2 in
     let f = x.completes.finishes in
-    let moved = some_read given.limits.packet_size given.limits.max_wire given.read_failures_before given.input x.seen x.completes.whole.bytes _ t x.completes.whole.over in
-    (
+    let moved = some_read given.limits.packet_size given.limits.max_wire given.read_failures_before given.input x.seen x.completes.whole.bytes _ t x.completes.whole.over in (
       not_rose given.read_failures_before given.read_failures (t.4.1 moved) (sym x.reader.failures ∙ t.4.0),
       not_rose given.write_failures_before given.write_failures (subst (λ n. n < 2 ^ 64 - 1) p.4 f.4) (sym x.writer.failures ∙ f.3 ∙ p.4),
     )

@@ -8,7 +8,7 @@ use Rattle.tds_export.specs.Reading.{Open, Between, InRow, Part}
 abbrev pub is_built_token : ℕ → Bool
 is_built_token byte = (byte == COLMETADATA) || (byte == ROW) || (byte == DONE) || (byte == DONEPROC)
 
--- all but the other tokens, and the values of long kinds
+-- whether the next element is built where a response is read: all but the other tokens, and the values of long kinds
 abbrev pub is_built_open : Open → List ℕ → Bool
 is_built_open Between element = is_built_token (slice_index element 0)
 is_built_open (InRow part) element = is_built_row part element

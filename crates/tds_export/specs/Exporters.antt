@@ -58,7 +58,7 @@ pub record IsInToken {R W : Type 0} (e : Exporter R W) : Type 0 where
   pub running : IsRunning e
   pub uncounted : e.progress.report.sets + e.progress.report.rows < e.payload.now.place
 
--- It is on the same payload, sink and area, in the same character set.
+-- Two runs are on the same payload, sink and area, in the same character set.
 abbrev pub IsOnSameRun : {R W : Type 0} → Exporter R W → Exporter R W → Type 0
 IsOnSameRun old new =
     (new.payload.ghost_name ≡ old.payload.ghost_name) × (new.sink.ghost_name ≡ old.sink.ghost_name)
@@ -99,15 +99,15 @@ pub record FindsEnd {R W : Type 0} (remaining : R → Option (List ℕ)) (old ne
 abbrev pub StepRead : {R W U : Type 0} → (R → Option (List ℕ)) → (W → Option (List ℕ)) → (List Token → Part) → Exporter R W → Exporter R W → Result U Stop → Type 0
 StepRead remaining contents from old new result = (tokens : List Token) → Tracks old.progress tokens → IsHolding old.description.now (behind tokens) →
     MatchResult result
-        (λ _. Reads old.charset (from tokens) tokens (view_of remaining contents old) (view_of remaining contents new) new.progress)
-        (λ stop. StopsIn old.charset (from tokens) (view_of remaining contents old) (view_of remaining contents new) stop)
+    (λ _. Reads old.charset (from tokens) tokens (view_of remaining contents old) (view_of remaining contents new) new.progress)
+    (λ stop. StopsIn old.charset (from tokens) (view_of remaining contents old) (view_of remaining contents new) stop)
 
 -- The next token was read and its text put, or the message is over; or that stopped: whatever the tokens before it are.
 abbrev pub TokenRead : {R W : Type 0} → (R → Option (List ℕ)) → (W → Option (List ℕ)) → Exporter R W → Exporter R W → Result Bool Stop → Type 0
 TokenRead remaining contents old new result = (tokens : List Token) → Tracks old.progress tokens → IsHolding old.description.now (behind tokens) →
     MatchResult result
-        (λ more. MatchBool more (Reads old.charset (behind tokens) tokens (view_of remaining contents old) (view_of remaining contents new) new.progress) (FindsEnd remaining old new))
-        (λ stop. StopsIn old.charset (behind tokens) (view_of remaining contents old) (view_of remaining contents new) stop)
+    (λ more. MatchBool more (Reads old.charset (behind tokens) tokens (view_of remaining contents old) (view_of remaining contents new) new.progress) (FindsEnd remaining old new))
+    (λ stop. StopsIn old.charset (behind tokens) (view_of remaining contents old) (view_of remaining contents new) stop)
 
 -- A response was read whole, its text delivered and its report answered; or that stopped.
 abbrev pub ResponseRead : Charset → View → View → Result Report Stop → Type 0

@@ -71,13 +71,15 @@ IsRefusal described byte fault =
     ((fault ≡ RefusedToken byte) × (is_token_byte byte ≡ false))
     ⊎ (((fault ≡ RowWithoutColumns) × (described ≡ false) × ((byte ≡ ROW) ⊎ (byte ≡ NBCROW))) ⊎ ((fault ≡ NotYet) × (is_built_token byte ≡ false)))
 
--- where the tokens that are built are read, behind their token bytes
+-- behind the token byte of a COLMETADATA
 abbrev pub in_metadata : List Token → Part
 in_metadata tokens = record { tokens = tokens; at = Describing BeforeCount }
 
+-- behind the token byte of a ROW under these columns
 abbrev pub in_row : Charset → List Column → List Token → Part
 in_row charset columns tokens = with_row tokens (row_start charset columns)
 
+-- behind the token byte of a DONE or DONEPROC
 abbrev pub in_done : List Token → Part
 in_done tokens = record { tokens = tokens; at = DoneFields }
 
@@ -146,6 +148,6 @@ pub record ReadsNone (old new : Seen) (place place' : ℕ) : Type 0 where
 abbrev pub ByteRead : {R : Type 0} → (R → Option (List ℕ)) → Payload R → Payload R → Result (Option ℕ) Stop → Type 0
 ByteRead remaining old new result = MatchResult result
     (λ next. MatchOption next
-        (ReadsNone (seen remaining old) (seen remaining new) old.place new.place)
-        (λ byte. ReadsByte (seen remaining old) (seen remaining new) old.place new.place byte))
+    (ReadsNone (seen remaining old) (seen remaining new) old.place new.place)
+    (λ byte. ReadsByte (seen remaining old) (seen remaining new) old.place new.place byte))
     (λ stop. Ends (seen remaining old) (seen remaining new) [] stop × (stop.fault ≡ MessageEnded → ⊥))

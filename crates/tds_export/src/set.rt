@@ -55,11 +55,7 @@ fn put_comma<W: Write>(sink: &mut Sink<W>, first: bool) -> Result<(), Stop>
     requires { IsWriting sink.old }
     ensures { PutsPiece W.contents sink.old sink.new (text_if (not first) (codes ",")) result }
 {
-    if first {
-        Ok(())
-    } else {
-        sink.comma()
-    }
+    if first { Ok(()) } else { sink.comma() }
 }
 
 // Puts the empty line between two sets, if one has begun.
@@ -67,11 +63,7 @@ fn put_between<W: Write>(sink: &mut Sink<W>, begun: bool) -> Result<(), Stop>
     requires { IsWriting sink.old }
     ensures { PutsPiece W.contents sink.old sink.new (between begun) result }
 {
-    if begun {
-        sink.line_end()
-    } else {
-        Ok(())
-    }
+    if begun { sink.line_end() } else { Ok(()) }
 }
 
 // Puts the names of columns with commas between them.
