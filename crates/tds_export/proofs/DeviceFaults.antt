@@ -13,11 +13,11 @@ use Rattle.tds_rows.specs.declared.Charset.{Charset}
 use Rattle.tds_rows.specs.Unbuilt.{Stalls}
 use Rattle.tds_export.specs.declared.report.Stopped.{Stopped}
 use Rattle.tds_export.specs.Built.{is_built}
-use Rattle.tds_export.specs.Ended.{Given, StopsExport, begun_at, fresh_at, grammar_of}
-use Rattle.tds_export.specs.Reading.{Part, response, response_start}
-use Rattle.tds_export.specs.Running.{RunStops}
+use Rattle.tds_export.specs.Moments.{Given, StopsExport, begun_at, fresh_at, grammar_of}
+use Rattle.tds_export.specs.TokenGrammar.{Part, response, response_start}
+use Rattle.tds_export.specs.Steps.{RunStops}
 use Rattle.tds_export.proofs.PayloadFaults.{IsOfPayload, element_fault, end_fault}
-use Rattle.tds_export.proofs.Texts.{rose}
+use Rattle.tds_export.proofs.Endings.{rose}
 
 -- a fault that the wire or the end of a message may have
 abbrev IsOfWire : Fault → Type 0

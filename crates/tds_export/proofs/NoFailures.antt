@@ -7,7 +7,7 @@ use Rattle.tds_packet.specs.declared.fault.Fault.TheVariants.{InputEnded, Messag
 use Rattle.tds_packet.specs.Coming.{Coming, before, front_packet, message, whole_message}
 use Rattle.tds_packet.specs.Seen.{IsOver, Seen, Takes, begun}
 use Rattle.tds_export.specs.declared.report.Report.{Report}
-use Rattle.tds_export.specs.Ended.{Given, Reports}
+use Rattle.tds_export.specs.Moments.{Given, Reports}
 
 -- an input of no byte is over before the message is
 no_message : (size limit : ℕ) (c : Coming) → c.stop.fault ≡ MessageEnded → whole_message size limit [] ≡ c → ⊥

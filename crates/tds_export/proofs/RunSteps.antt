@@ -20,9 +20,9 @@ use Rattle.tds_export.specs.declared.progress.Progress.{Progress}
 use Rattle.tds_export.specs.declared.report.Report.{Report}
 use Rattle.tds_export.specs.Tokens.{Token}
 use Rattle.tds_export.specs.Built.{is_built}
-use Rattle.tds_export.specs.Reading.{Part, response, response_start, text_so_far}
+use Rattle.tds_export.specs.TokenGrammar.{Part, response, response_start, text_so_far}
 use Rattle.tds_rows.specs.Unbuilt.{Stalls}
-use Rattle.tds_export.specs.Running.{Completes, FailsAtEnd, Halts, IsHolding, ReadsToken, ReadsWhole, Tracks, behind}
+use Rattle.tds_export.specs.Steps.{Completes, StopsAtEnd, StepStops, IsHolding, ReadsToken, ReadsWhole, Tracks, behind}
 use Rattle.tds_packet.proofs.Steps.{cut_at_once, takes_both}
 use Rattle.tds_rows.proofs.Stalls.{stalls_after}
 use Rattle.tds_export.proofs.TokenSteps.{same_text}
@@ -75,9 +75,9 @@ pub runs_same : (g : Grammar Part Fault) (a b : Seen) (p q q' : ℕ) (h k k' : H
 runs_same g a b p q q' h k k' s s' area area' e1 e2 e3 e4 x =
     subst (λ v. Runs g a b p v h k' s' area') (sym e1) (subst (λ v. Runs g a b p q h v s' area') (sym e2) (subst (λ v. Runs g a b p q h k v area') (sym e3) (subst (λ v. Runs g a b p q h k s v) (sym e4) x)))
 
-pub halts_after : (charset : Charset) (room : ℕ) (a b c : Seen) (p q : ℕ) (h i k : Held) (s : Progress) (area area' : Space) (failed : Bool) (stop : Stop) → (x : Runs (response charset room) a b p q h i s area)
-    → Halts (response charset room) (behind x.tokens) b c q i k area' failed stop → Halts (response charset room) response_start a c p h k area' failed stop
-halts_after charset room a b c p q h i k s area area' failed stop x (inl y) = inl (
+pub stops_after : (charset : Charset) (room : ℕ) (a b c : Seen) (p q : ℕ) (h i k : Held) (s : Progress) (area area' : Space) (failed : Bool) (stop : Stop) → (x : Runs (response charset room) a b p q h i s area)
+    → StepStops (response charset room) (behind x.tokens) b c q i k area' failed stop → StepStops (response charset room) response_start a c p h k area' failed stop
+stops_after charset room a b c p q h i k s area area' failed stop x (inl y) = inl (
   record {
     at = y.0.at;
     stalls = stalls_after (response charset room) is_built response_start (behind x.tokens) a b c p y.0.at stop (record { bytes = x.streams.bytes; spelt = x.streams.spelt; takes = x.streams.takes })
@@ -87,7 +87,7 @@ halts_after charset room a b c p q h i k s area area' failed stop x (inl y) = in
   },
   y.1,
 )
-halts_after charset room a b c p q h i k s area area' failed stop x (inr y) = inr (
+stops_after charset room a b c p q h i k s area area' failed stop x (inr y) = inr (
   record {
     at = y.0.at;
     breaks = record {
@@ -109,10 +109,10 @@ halts_after charset room a b c p q h i k s area area' failed stop x (inr y) = in
   y.1,
 )
 
-pub halts_on : (c c' : Charset) (r r' : ℕ) (a b d : Seen) (p q : ℕ) (h i k : Held) (s : Progress) (area area' : Space) (failed : Bool) (stop : Stop) → c' ≡ c → r' ≡ r → (x : Runs (response c r) a b p q h i s area)
-    → Halts (response c' r') (behind x.tokens) b d q i k area' failed stop → Halts (response c r) response_start a d p h k area' failed stop
-halts_on c c' r r' a b d p q h i k s area area' failed stop e f x y =
-    halts_after c r a b d p q h i k s area area' failed stop x (subst (λ (g : Grammar Part Fault). Halts g (behind x.tokens) b d q i k area' failed stop) (same_grammar c c' r r' e f) y)
+pub stops_on : (c c' : Charset) (r r' : ℕ) (a b d : Seen) (p q : ℕ) (h i k : Held) (s : Progress) (area area' : Space) (failed : Bool) (stop : Stop) → c' ≡ c → r' ≡ r → (x : Runs (response c r) a b p q h i s area)
+    → StepStops (response c' r') (behind x.tokens) b d q i k area' failed stop → StepStops (response c r) response_start a d p h k area' failed stop
+stops_on c c' r r' a b d p q h i k s area area' failed stop e f x y =
+    stops_after c r a b d p q h i k s area area' failed stop x (subst (λ (g : Grammar Part Fault). StepStops g (behind x.tokens) b d q i k area' failed stop) (same_grammar c c' r r' e f) y)
 
 -- ---- the message's end
 
@@ -122,12 +122,12 @@ over_ends b o = inl (([], Consumes-nil b.left, o.2), refl)
 
 module _ (charset : Charset) (room : ℕ) (a b c : Seen) (p q : ℕ) (h k : Held) (s : Progress) (area : Space) (x : Runs (response charset room) a b p q h k s area) (t : Takes b c [] 1) (o : IsOver c) where
   -- the message ended behind the last token, which wasn't final
-  pub halts_end : (failed : Bool) → failed ≡ false → k.delivered ≤ 2 ^ 64 - 1 → s.is_final ≡ false → Halts (response charset room) response_start a c p h k area failed (record { fault = EndWithoutDone; place = Payload q })
-  halts_end failed going d open_end =
+  pub stops_end : (failed : Bool) → failed ≡ false → k.delivered ≤ 2 ^ 64 - 1 → s.is_final ≡ false → StepStops (response charset room) response_start a c p h k area failed (record { fault = EndWithoutDone; place = Payload q })
+  stops_end failed going d open_end =
       let end : (response charset room).end_fault (behind x.tokens) ≡ Some EndWithoutDone = ap (λ v. if v then None else Some EndWithoutDone) (sym x.tracks.final ∙ open_end) in
       let is : IsCutStop q ((response charset room).end_fault (behind x.tokens)) o.0 (record { fault = EndWithoutDone; place = Payload q }) = inl (o.1, (EndWithoutDone, end, refl)) in
       let cut = cut_at_once (response charset room) (behind x.tokens) b c q [] o.0 (record { fault = EndWithoutDone; place = Payload q }) (omega arith) (Ends-after b c c [] [] 1 o.0 t (over_ends c o)) is in
-      halts_after charset room a b c p q h k k s area area failed (record { fault = EndWithoutDone; place = Payload q }) x
+      stops_after charset room a b c p q h k k s area area failed (record { fault = EndWithoutDone; place = Payload q }) x
       (inl (record { at = behind x.tokens; stalls = inl cut; puts = same_text (behind x.tokens) (behind x.tokens) k refl d; holds = x.holds }, going))
 
   abbrev pub reads_whole : s.is_final ≡ true → ReadsWhole (response charset room) response_start a c h k area
@@ -152,5 +152,5 @@ module _ (charset : Charset) (room : ℕ) (a b c : Seen) (p q : ℕ) (h k : Held
     no_error = x.tracks.no_error;
   }
 
-  pub fails_at_end : (l : Held) (stop : Stop) → s.is_final ≡ true → FinishFails k l stop → FailsAtEnd (response charset room) response_start a c h l area stop
-  fails_at_end l stop final f = record { middle = k; whole = reads_whole final; fails = f }
+  pub stops_at_end : (l : Held) (stop : Stop) → s.is_final ≡ true → FinishFails k l stop → StopsAtEnd (response charset room) response_start a c h l area stop
+  stops_at_end l stop final f = record { middle = k; whole = reads_whole final; fails = f }

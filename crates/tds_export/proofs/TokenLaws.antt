@@ -9,8 +9,8 @@ use Rattle.tds_columns.specs.View.{columns_of}
 use Rattle.tds_export.specs.declared.report.Report.{Report}
 use Rattle.tds_export.specs.declared.progress.Progress.{Progress}
 use Rattle.tds_export.specs.Tokens.{Token, described_after, Metadata, NoMetadata, Row, Order, EnvChange, Error, Info, ReturnStatus, Returned, Done, DoneInProc, between, encoded_after, first_error, greatest_span, header_line, how_many, is_error, is_final, is_info, is_return, is_row, is_set, return_status_after, text, text_after}
-use Rattle.tds_export.specs.Export.{report_of, server_error, signed}
-use Rattle.tds_export.specs.Running.{IsDescribed, Tracks}
+use Rattle.tds_export.specs.Outcome.{report_of, server_error, signed}
+use Rattle.tds_export.specs.Steps.{IsDescribed, Tracks}
 use Rattle.tds_export.proofs.ResponseLaws.{described_after-append}
 
 -- whether a set has begun after these tokens

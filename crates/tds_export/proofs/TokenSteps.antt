@@ -28,8 +28,8 @@ use Rattle.tds_export.specs.declared.report.Report.{Report}
 use Rattle.tds_export.specs.Tokens.{Token, Metadata, NoMetadata, Row, Done, between, encoded_after, greatest_span, header_line, how_many, is_set, text}
 use Rattle.tds_export.specs.Response.{more}
 use Rattle.tds_export.specs.Built.{is_built}
-use Rattle.tds_export.specs.Reading.{Part, response, text_so_far, with_described, with_row}
-use Rattle.tds_export.specs.Running.{Halts, HaltsReading, HaltsWriting, IsHolding, ReadsToken, Tracks, behind, in_done, in_metadata, in_row}
+use Rattle.tds_export.specs.TokenGrammar.{Part, response, text_so_far, with_described, with_row}
+use Rattle.tds_export.specs.Steps.{StepStops, StopsInReading, StopsInWriting, IsHolding, ReadsToken, Tracks, behind, in_done, in_metadata, in_row}
 use Rattle.tds_rows.proofs.Lifts.{last_inside, reads_inside, stalls_inside, stalls_size}
 use Rattle.tds_export.proofs.ResponseLaws.{description_in_response, row_in_response}
 use Rattle.tds_export.proofs.TokenLaws.{begun_after, begun_where_sets, encoded_after-append, greatest_span-append, text_after-snoc, tracks_done, tracks_metadata, tracks_none, tracks_row}
@@ -141,7 +141,7 @@ row_next charset room tokens at element n =
 
 pub row_breaks : (charset : Charset) (room : ℕ) (columns : List Column) (area : Space) (before after : Held) (tokens : List Token) (a b : Seen) (at : RowPart) (stop : Stop) → IsHolding area (behind tokens)
     → BreaksStreaming (row charset) row_so_far (row_start charset columns) a b before after at stop
-    → HaltsWriting (response charset room) (in_row charset columns tokens) a b before after area stop
+    → StopsInWriting (response charset room) (in_row charset columns tokens) a b before after area stop
 row_breaks charset room columns area before after tokens a b at stop holds x =
     let n = row_next charset room tokens at x.element x.next in
     record {
@@ -164,9 +164,9 @@ row_breaks charset room columns area before after tokens a b at stop holds x =
     }
 
 -- a row stopped the call
-pub row_halts : (charset : Charset) (room : ℕ) (columns : List Column) (area : Space) (before after : Held) (tokens : List Token) (a b : Seen) (place : ℕ) (failed : Bool) (stop : Stop) → IsHolding area (behind tokens)
-    → RowStalls charset columns a b place before after failed stop → Halts (response charset room) (in_row charset columns tokens) a b place before after area failed stop
-row_halts charset room columns area before after tokens a b place failed stop holds x = elim x.cause [
+pub row_stops : (charset : Charset) (room : ℕ) (columns : List Column) (area : Space) (before after : Held) (tokens : List Token) (a b : Seen) (place : ℕ) (failed : Bool) (stop : Stop) → IsHolding area (behind tokens)
+    → RowStalls charset columns a b place before after failed stop → StepStops (response charset room) (in_row charset columns tokens) a b place before after area failed stop
+row_stops charset room columns area before after tokens a b place failed stop holds x = elim x.cause [
   | inl y ↦
       let inside = row_in_response charset room tokens in
       let some = stalls_size (row charset) (response charset room) (with_row tokens) inside is_built_row (row_start charset columns) a b place x.at stop y.0 in
@@ -182,9 +182,9 @@ row_halts charset room columns area before after tokens a b place failed stop ho
   | inr y ↦ inr (row_breaks charset room columns area before after tokens a b x.at stop holds y.0, y.1)
 ]
 
-pub halts_reading : (charset : Charset) (room : ℕ) (s : Part) (a b : Seen) (place : ℕ) (h : Held) (area : Space) (failed : Bool) (stop : Stop) → h.delivered ≤ 2 ^ 64 - 1 → failed ≡ false → IsHolding area s → StopsReading (response charset room) s a b place s stop
-    → Halts (response charset room) s a b place h h area failed stop
-halts_reading charset room s a b place h area failed stop d going holds stops = inl (record { at = s; stalls = inl stops; puts = same_text s s h refl d; holds = holds }, going)
+pub stops_reading : (charset : Charset) (room : ℕ) (s : Part) (a b : Seen) (place : ℕ) (h : Held) (area : Space) (failed : Bool) (stop : Stop) → h.delivered ≤ 2 ^ 64 - 1 → failed ≡ false → IsHolding area s → StopsReading (response charset room) s a b place s stop
+    → StepStops (response charset room) s a b place h h area failed stop
+stops_reading charset room s a b place h area failed stop d going holds stops = inl (record { at = s; stalls = inl stops; puts = same_text s s h refl d; holds = holds }, going)
 
 -- ---- COLMETADATA
 
@@ -252,7 +252,7 @@ some_bytes room area (x ∷ bytes) columns h = omega arith
 
 pub metadata_breaks : (charset : Charset) (room : ℕ) (area old_area : Space) (before after : Held) (tokens : List Token) (progress : Progress) (columns : List Column) (a b : Seen) (place place' : ℕ) (stop : Stop) → before.delivered ≤ 2 ^ 64 - 1 → length before.waiting < 4096 → Tracks progress tokens → IsHolding old_area (behind tokens)
     → columns_of area.bytes ≡ columns → Describes room BeforeCount a b place place' old_area.peak area (WholeDescription area.bytes columns) → IsBetween b → Breaks before after (between (nat_lt 0 progress.report.sets) ++ header_line (columns_of area.bytes)) stop
-    → HaltsWriting (response charset room) (in_metadata tokens) a b before after area stop
+    → StopsInWriting (response charset room) (in_metadata tokens) a b before after area stop
 metadata_breaks charset room area old_area before after tokens progress columns a b place place' stop d few tracks holds shown x between_b breaks =
     let header = between (nat_lt 0 progress.report.sets) ++ header_line columns in
     let l = last_inside (description room) (response charset room) (with_described tokens) (description_in_response charset room tokens) BeforeCount x.reads.bytes (WholeDescription area.bytes columns) x.reads.spelt (some_bytes room area.bytes x.reads.bytes columns x.reads.spelt) in
@@ -294,10 +294,10 @@ open_holds area tokens k (InColumn bytes count columns place) h e p q = record {
 open_holds area tokens k NoDescription h e p q = absurd (omega arith)
 open_holds area tokens k (WholeDescription bytes columns) h e p q = absurd (omega arith)
 
-pub metadata_stalls : (charset : Charset) (room : ℕ) (area old_area : Space) (sink : Held) (tokens : List Token) (a b : Seen) (place : ℕ) (stop : Stop) → sink.delivered ≤ 2 ^ 64 - 1 → IsHolding old_area (behind tokens)
+pub metadata_stops : (charset : Charset) (room : ℕ) (area old_area : Space) (sink : Held) (tokens : List Token) (a b : Seen) (place : ℕ) (stop : Stop) → sink.delivered ≤ 2 ^ 64 - 1 → IsHolding old_area (behind tokens)
     → StopsDescribing room BeforeCount a b place old_area.peak area stop
-    → HaltsReading (response charset room) (in_metadata tokens) a b place sink sink area stop
-metadata_stalls charset room area old_area sink tokens a b place stop d holds x =
+    → StopsInReading (response charset room) (in_metadata tokens) a b place sink sink area stop
+metadata_stops charset room area old_area sink tokens a b place stop d holds x =
     let inside = description_in_response charset room tokens in
     let stalls : Stalls (description room) (λ _ _. true) BeforeCount a b place x.at stop = inl x.stops in
     let some = stalls_size (description room) (response charset room) (with_described tokens) inside (λ _ _. true) BeforeCount a b place x.at stop stalls in

@@ -2,7 +2,7 @@
 use Rattle.std.specs.Prelude.{◌==◌, ◌||◌, ℕ, Bool, true, List, slice_index}
 use Rattle.tds_rows.specs.Unbuilt.{is_built_row}
 use Rattle.tds_export.specs.declared.token_bytes.TheConstants.{COLMETADATA, ROW, DONE, DONEPROC}
-use Rattle.tds_export.specs.Reading.{Open, Between, InRow, Part}
+use Rattle.tds_export.specs.TokenGrammar.{Open, Between, InRow, Part}
 
 -- a COLMETADATA, ROW, DONE or DONEPROC
 abbrev pub is_built_token : ℕ → Bool

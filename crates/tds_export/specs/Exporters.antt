@@ -12,8 +12,8 @@ use Rattle.tds_rows.specs.declared.Charset.{Charset}
 use Rattle.tds_export.specs.declared.exporter.Exporter.{Exporter}
 use Rattle.tds_export.specs.declared.progress.Progress.{Progress}
 use Rattle.tds_export.specs.declared.report.Report.{Report}
-use Rattle.tds_export.specs.Reading.{Part, response, response_start}
-use Rattle.tds_export.specs.Running.{Completes, Halts, IsHolding, ReadsToken, RunStops, Tracks, behind}
+use Rattle.tds_export.specs.TokenGrammar.{Part, response, response_start}
+use Rattle.tds_export.specs.Steps.{Completes, StepStops, IsHolding, ReadsToken, RunStops, Tracks, behind}
 use Rattle.tds_export.specs.Tokens.{Token}
 
 -- what a run reads, writes and keeps, at a moment: its payload and the place there, its sink and whether it failed, and its description area
@@ -84,7 +84,7 @@ Reads charset from tokens old new progress =
 
 -- The reading from this state on stopped.
 abbrev pub StopsIn : Charset → Part → View → View → Stop → Type 0
-StopsIn charset from old new stop = Halts (response charset old.area.room) from old.seen new.seen old.place old.held new.held new.area new.failed stop
+StopsIn charset from old new stop = StepStops (response charset old.area.room) from old.seen new.seen old.place old.held new.held new.area new.failed stop
 
 -- The message is over, and nothing else has changed.
 pub record FindsEnd {R W : Type 0} (remaining : R → Option (List ℕ)) (old new : Exporter R W) : Type 0 where

@@ -6,7 +6,7 @@ use Rattle.tds_rows.specs.declared.Charset.{Charset}
 use Rattle.tds_export.specs.Tokens.{Token, is_final}
 use Rattle.tds_packet.specs.Packets.{Packet}
 use Rattle.tds_export.specs.Response.{Response, Accepted}
-use Rattle.tds_export.specs.Reading.{Between, Part, response, response_start}
+use Rattle.tds_export.specs.TokenGrammar.{Between, Part, response, response_start}
 
 -- No payload spells two lists of tokens.
 abbrev pub OneResponse : Type 0

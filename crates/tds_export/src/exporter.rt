@@ -2,8 +2,9 @@
 ghost use Rattle.std.specs.Prelude.{◌≡◌, true, IfOk};
 ghost use Rattle.tds_columns.specs.View.{columns_of};
 ghost use Rattle.tds_csv.specs.Sinks.{LeavesSink};
-ghost use Rattle.tds_export.specs.Running.{in_done, in_metadata, in_row};
-ghost use Rattle.tds_export.specs.Exporters.{Advances, CanBegin, IsInToken, IsRunning, LeavesRun, ResponseRead, StepRead, TokenRead, WholeRead, view};
+ghost use Rattle.tds_export.specs.Steps.{in_done, in_metadata, in_row};
+ghost use Rattle.tds_export.specs.Exporters.{Advances, CanBegin, IsInToken, IsRunning, LeavesRun};
+ghost use Rattle.tds_export.specs.Exporters.{ResponseRead, StepRead, TokenRead, WholeRead, view};
 ghost use Rattle.tds_packet.specs.Payloads.{LeavesPayload};
 
 use crate::progress::Progress;
@@ -138,7 +139,8 @@ pub(crate) fn read_response<R: Read, W: Write>(
     ensures sink { LeavesSink sink.old sink.new result }
     ensures room { description.new.room ≡ description.old.room }
     ensures gives { let at = view R.remaining W.contents in
-        ResponseRead charset (at payload.old sink.old description.old) (at payload.new sink.new description.new) result }
+        ResponseRead charset (at payload.old sink.old description.old)
+            (at payload.new sink.new description.new) result }
 {
     let mut run = Exporter {
         payload,

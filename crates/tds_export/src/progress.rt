@@ -1,6 +1,6 @@
 // What an export knows of the tokens that it has read.
 ghost use Rattle.std.specs.Prelude.{◌≡◌, [], false};
-ghost use Rattle.tds_export.specs.Running.{Tracks};
+ghost use Rattle.tds_export.specs.Steps.{Tracks};
 
 use crate::report::Report;
 

@@ -1,7 +1,7 @@
 // The export of a whole response.
 ghost use Rattle.std.specs.Prelude.{◌≡◌, ◌+◌, ◌≤◌, [], false, true, IsTrue, OnErr, OnOk};
 ghost use Rattle.tds_csv.specs.Sinks.{IsOnSameSink, IsReady, held};
-ghost use Rattle.tds_export.specs.Ended.{Exports, Tidied, moment, other_rooms, stopped_with};
+ghost use Rattle.tds_export.specs.Moments.{Exports, Tidied, moment, other_rooms, stopped_with};
 ghost use Rattle.tds_meter.specs.Counts.{Rose, one_more};
 ghost use Rattle.tds_meter.specs.Rooms.{is_intact, peak_rest};
 
@@ -34,7 +34,8 @@ fn stop_at<W: Write>(sink: &mut Sink<W>, stop: Stop) -> Stopped
 /// to the writer while they come. It begins by restarting the areas, and takes no memory.
 ///
 /// After a fault of the input the text that waits is still delivered and the writer flushed; after a
-/// fault of the writer the input isn't read further.
+/// fault of the writer the input isn't read further. A report is answered only where no read and no
+/// write failed, and after a stop the notice area is empty.
 pub fn export<R: Read, W: Write>(
     areas: &mut Areas,
     from: &mut Counted<R>,

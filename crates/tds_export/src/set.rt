@@ -4,7 +4,7 @@ ghost use Rattle.tds_csv.specs.Conversion.{Utf16Text, conversion_text, long_fiel
 ghost use Rattle.tds_columns.specs.View.{columns_of};
 ghost use Rattle.tds_csv.specs.Quoting.{joined};
 ghost use Rattle.tds_csv.specs.Sinks.{IsWriting, PutsPiece};
-ghost use Rattle.tds_export.specs.Joined.{IsStopIn, IsStopped};
+ghost use Rattle.tds_export.specs.JoinStops.{IsStopIn, IsStopped};
 ghost use Rattle.tds_export.specs.Tokens.{between, header_line, names_of, text_if};
 
 use std::io::Write;

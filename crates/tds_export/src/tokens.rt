@@ -1,6 +1,6 @@
 // The tokens of a response by their first bytes.
 ghost use Rattle.std.specs.Prelude.{MatchResult};
-ghost use Rattle.tds_export.specs.Running.{ByteRead, IsOfKind, IsRefusal};
+ghost use Rattle.tds_export.specs.Steps.{ByteRead, IsOfKind, IsRefusal};
 ghost use Rattle.tds_packet.specs.Payloads.{IsGoing, LeavesPayload};
 
 use crate::token_bytes::{

@@ -3,9 +3,9 @@ use Rattle.tds_packet.specs.Payloads.{seen}
 use Rattle.tds_packet.specs.Seen.{begun}
 use Rattle.tds_csv.specs.Sinks.{held}
 use Rattle.tds_meter.specs.Space.{Space}
-use Rattle.tds_export.specs.Ended.{Reports, Given, StopsExport, begun_at, fresh_at}
-use Rattle.tds_export.proofs.Answered.{report_tells, stop_tells}
-use Rattle.tds_export.proofs.Texts.{exports, stops_export}
+use Rattle.tds_export.specs.Moments.{Reports, Given, StopsExport, begun_at, fresh_at}
+use Rattle.tds_export.proofs.ToldAnswers.{report_tells, stop_tells}
+use Rattle.tds_export.proofs.Endings.{exports, stops_export}
 use Rattle.tds_export.proofs.DeviceFaults.{blamed}
 use Rattle.tds_export.proofs.NoFailures.{calm}
 use Rattle.tds_export.proofs.Emptied.{description_room, packet_room}

@@ -1,8 +1,8 @@
 use Rattle.std.proofs.Common.{◌≡◌, ◌<◌, false, length, refl, arith, rules}
 use Rattle.tds_packet.specs.Payloads.{seen}
 use Rattle.tds_csv.specs.Sinks.{held}
-use Rattle.tds_export.specs.Running.{in_done}
-use Rattle.tds_export.proofs.TokenSteps.{done_reads, halts_reading, token_cut}
+use Rattle.tds_export.specs.Steps.{in_done}
+use Rattle.tds_export.proofs.TokenSteps.{done_reads, stops_reading, token_cut}
 use Rattle.tds_packet.proofs.Passing.{passed}
 use Rattle.tds_export.proofs.exporter.Exporter.done.Goals as goal
 
@@ -17,7 +17,7 @@ returns-in_err-fill-clause-gives g c = λ tokens tracks holds.
     let part = c.in_err-fill.ensures.part running.payload.going in
     let twelve : length c.fill.new.to ≡ 12 = search rules in
     let less : part.0 < length c.fill.new.to = part.2 in
-    passed _ _ _ _ c.from_residual.ensures.1 (halts_reading run.charset room (in_done tokens) a b run.payload.now.place sink run.description.now run.sink.now.failed c.in_err-fill.field-0.0 running.sink.ready.2 running.sink.writing (record { bytes = holds.bytes; peak = holds.peak })
+    passed _ _ _ _ c.from_residual.ensures.1 (stops_reading run.charset room (in_done tokens) a b run.payload.now.place sink run.description.now run.sink.now.failed c.in_err-fill.field-0.0 running.sink.ready.2 running.sink.writing (record { bytes = holds.bytes; peak = holds.peak })
     (token_cut run.charset room (in_done tokens) a b run.payload.now.place 12 part.0 c.fill.new.to part.1 c.in_err-fill.field-0.0 refl refl (omega (arith, less, twelve)) twelve part.3 part.4))
 
 pub returns-clause-gives : goal.returns-clause-gives

@@ -5,7 +5,7 @@ use Rattle.tds_columns.specs.View.{IsDescription, columns_of}
 use Rattle.tds_columns.proofs.ViewLaws.{description_shows}
 use Rattle.tds_csv.specs.Sinks.{Breaks, Puts, held}
 use Rattle.tds_export.specs.Tokens.{between, header_line}
-use Rattle.tds_export.proofs.TokenSteps.{metadata_breaks, metadata_reads, metadata_stalls, none_reads}
+use Rattle.tds_export.proofs.TokenSteps.{metadata_breaks, metadata_reads, metadata_stops, none_reads}
 use Rattle.tds_packet.proofs.Passing.{passed}
 use Rattle.tds_export.proofs.exporter.Exporter.metadata.Goals as goal
 
@@ -21,7 +21,7 @@ returns-in_err-gather-clause-gives g c = λ tokens tracks holds.
     let run = c.args.self.now in
     let running = c.requires.running in
     passed _ _ _ _ c.from_residual.ensures.1 (inl (
-      metadata_stalls run.charset run.description.now.room c.gather.new.area run.description.now (held g.W.Write.contents run.sink.now) tokens (seen g.R.Read.remaining run.payload.now) (seen g.R.Read.remaining c.gather.new.payload)
+      metadata_stops run.charset run.description.now.room c.gather.new.area run.description.now (held g.W.Write.contents run.sink.now) tokens (seen g.R.Read.remaining run.payload.now) (seen g.R.Read.remaining c.gather.new.payload)
           run.payload.now.place c.in_err-gather.field-0.0 running.sink.ready.2 holds (c.in_err-gather.ensures.gives running.payload.going).describing,
       running.sink.writing,
     ))

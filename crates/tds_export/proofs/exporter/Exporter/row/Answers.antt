@@ -3,7 +3,7 @@ use Rattle.tds_columns.specs.View.{columns_of}
 use Rattle.tds_packet.specs.Payloads.{seen}
 use Rattle.tds_csv.specs.Sinks.{held}
 use Rattle.tds_rows.specs.Streams.{ReadsRow, RowStalls}
-use Rattle.tds_export.proofs.TokenSteps.{row_halts, row_reads}
+use Rattle.tds_export.proofs.TokenSteps.{row_stops, row_reads}
 use Rattle.tds_packet.proofs.Passing.{passed}
 use Rattle.tds_export.proofs.exporter.Exporter.row.Goals as goal
 
@@ -17,7 +17,7 @@ returns-in_err-row-clause-gives g c = λ tokens tracks holds.
     let k = held g.W.Write.contents c.row.new.sink in
     let stop = c.in_err-row.field-0.0 in
     let is = ap columns_of (c.view-columns.ensures ∙ c.bytes.ensures.value) in
-    passed _ _ _ _ c.from_residual.ensures.1 (row_halts run.charset run.description.now.room (columns_of run.description.now.bytes) run.description.now h k tokens a b run.payload.now.place c.row.new.sink.failed stop holds
+    passed _ _ _ _ c.from_residual.ensures.1 (row_stops run.charset run.description.now.room (columns_of run.description.now.bytes) run.description.now h k tokens a b run.payload.now.place c.row.new.sink.failed stop holds
     (subst (λ cs. RowStalls run.charset cs a b run.payload.now.place h k c.row.new.sink.failed stop) is (c.in_err-row.ensures.gives running.payload.going running.sink.writing)))
 
 pub returns-clause-gives : goal.returns-clause-gives

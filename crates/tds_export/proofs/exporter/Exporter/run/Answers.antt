@@ -1,6 +1,6 @@
 use Rattle.std.proofs.Common.{◌≡◌, ◌∙◌, inl, inr, false, true, refl, ap, arith, rules}
 use Rattle.tds_csv.specs.Sinks.{held}
-use Rattle.tds_export.proofs.RunSteps.{completes, fails_at_end, halts_end, halts_on, runs_none, runs_on, runs_same}
+use Rattle.tds_export.proofs.RunSteps.{completes, stops_at_end, stops_end, stops_on, runs_none, runs_on, runs_same}
 use Rattle.tds_packet.proofs.Passing.{passed}
 use Rattle.tds_export.proofs.exporter.Exporter.run.Goals as goal
 
@@ -33,7 +33,7 @@ pub returns-in_err-token-clause-gives : goal.returns-in_err-token-clause-gives
 returns-in_err-token-clause-gives g c = λ tracks empty.
     let x = c.tokens.invariant.runs tracks empty in
     let y = c.in_err-token.ensures.gives x.tokens x.tracks x.holds in
-    passed _ _ _ _ c.from_residual.ensures.1 (inl (halts_on _ _ _ _ _ _ _ _ _ _ _ _ _ _ _ _ _ c.tokens.invariant.same.3 c.tokens.invariant.room x y))
+    passed _ _ _ _ c.from_residual.ensures.1 (inl (stops_on _ _ _ _ _ _ _ _ _ _ _ _ _ _ _ _ _ c.tokens.invariant.same.3 c.tokens.invariant.room x y))
 
 pub returns-then-not-self-clause-gives : goal.returns-then-not-self-clause-gives
 returns-then-not-self-clause-gives g c = λ tracks empty.
@@ -42,8 +42,8 @@ returns-then-not-self-clause-gives g c = λ tracks empty.
     let x = runs_same _ _ _ _ _ _ _ _ _ _ _ _ _ y.place (ap (held g.W.Write.contents) y.sink) y.progress y.area first in
     let open_end : c.token.new.self.progress.is_final ≡ false = search rules in
     let sink = c.in_ok-token.ensures.leaves.running.sink in
-    let halts = halts_end c.args.self.now.charset c.args.self.now.description.now.room _ _ _ _ _ _ _ _ _ x y.takes y.over _ sink.writing sink.ready.2 open_end in
-    rw c.place.ensures (inl halts)
+    let stops = stops_end c.args.self.now.charset c.args.self.now.description.now.room _ _ _ _ _ _ _ _ _ x y.takes y.over _ sink.writing sink.ready.2 open_end in
+    rw c.place.ensures (inl stops)
 
 pub returns-in_err-finish-clause-gives : goal.returns-in_err-finish-clause-gives
 returns-in_err-finish-clause-gives g c = λ tracks empty.
@@ -51,7 +51,7 @@ returns-in_err-finish-clause-gives g c = λ tracks empty.
     let y = rw c.if-branch.false at (c.in_ok-token.ensures.gives first.tokens first.tracks first.holds) in
     let x = runs_same _ _ _ _ _ _ _ _ _ _ _ _ _ y.place (ap (held g.W.Write.contents) y.sink) y.progress y.area first in
     let final : c.token.new.self.progress.is_final ≡ true = search rules in
-    let fails = fails_at_end c.args.self.now.charset c.args.self.now.description.now.room _ _ _ _ _ _ _ _ _ x y.takes y.over _ _ final (c.in_err-finish.ensures.gives c.in_ok-token.ensures.leaves.running.sink.writing) in
+    let fails = stops_at_end c.args.self.now.charset c.args.self.now.description.now.room _ _ _ _ _ _ _ _ _ x y.takes y.over _ _ final (c.in_err-finish.ensures.gives c.in_ok-token.ensures.leaves.running.sink.writing) in
     passed _ _ _ _ c.from_residual-in_err-finish.ensures.1 (inr (fails, c.in_err-finish.ensures.failed))
 
 pub returns-clause-gives : goal.returns-clause-gives

@@ -3,8 +3,8 @@ use Rattle.tds_meter.specs.Space.{empty}
 use Rattle.tds_packet.specs.Payloads.{IsOnSame, seen}
 use Rattle.tds_csv.specs.Sinks.{IsOnSameSink, held}
 use Rattle.tds_export.specs.Exporters.{IsOnSameRun, IsRunning}
-use Rattle.tds_export.specs.Reading.{response}
-use Rattle.tds_export.specs.Running.{Tracks}
+use Rattle.tds_export.specs.TokenGrammar.{response}
+use Rattle.tds_export.specs.Steps.{Tracks}
 use Rattle.tds_export.proofs.RunSteps.{Runs}
 use Rattle.tds_export.proofs.exporter.Exporter.run.Given as goal
 

@@ -1,4 +1,4 @@
--- Why a joiner stopped whose data has whole units.
+-- The stops of a joiner whose data has whole units.
 use Rattle.std.specs.Prelude.{◌≡◌}
 use Rattle.tds_packet.specs.declared.fault.Stop.{Stop}
 use Rattle.tds_csv.specs.declared.joiner.JoinFault.{JoinFault}

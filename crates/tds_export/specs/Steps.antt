@@ -21,8 +21,8 @@ use Rattle.tds_export.specs.declared.report.Report.{Report}
 use Rattle.tds_export.specs.declared.tokens.TokenKind.{TokenKind}
 use Rattle.tds_export.specs.declared.tokens.TokenKind.TheVariants as kinds
 use Rattle.tds_export.specs.Built.{is_built, is_built_token}
-use Rattle.tds_export.specs.Export.{report_of}
-use Rattle.tds_export.specs.Reading.{Between, Describing, DoneFields, Open, Part, is_token_byte, text_so_far, span_so_far, with_row}
+use Rattle.tds_export.specs.Outcome.{report_of}
+use Rattle.tds_export.specs.TokenGrammar.{Between, Describing, DoneFields, Open, Part, is_token_byte, text_so_far, span_so_far, with_row}
 use Rattle.tds_export.specs.Tokens.{Token, described_after, encoded_after, first_error, is_final, text}
 
 -- Columns are described, and they are those in these bytes; or none are.
@@ -84,23 +84,23 @@ abbrev pub in_done : List Token → Part
 in_done tokens = record { tokens = tokens; at = DoneFields }
 
 -- A call inside an export stopped in reading: the text of the state that it reached was put.
-pub record HaltsReading (g : Grammar Part Fault) (from : Part) (old new : Seen) (place : ℕ) (before after : Held) (area : Space) (stop : Stop) : Type 0 where
+pub record StopsInReading (g : Grammar Part Fault) (from : Part) (old new : Seen) (place : ℕ) (before after : Held) (area : Space) (stop : Stop) : Type 0 where
   pub at : Part
   pub stalls : Stalls g is_built from old new place at stop
   pub puts : PutsText text_so_far from at before after
   pub holds : IsHolding area at
 
 -- It stopped in writing the text of an element.
-pub record HaltsWriting (g : Grammar Part Fault) (from : Part) (old new : Seen) (before after : Held) (area : Space) (stop : Stop) : Type 0 where
+pub record StopsInWriting (g : Grammar Part Fault) (from : Part) (old new : Seen) (before after : Held) (area : Space) (stop : Stop) : Type 0 where
   pub at : Part
   pub breaks : BreaksStreaming g text_so_far from old new before after at stop
   pub holds : IsHolding area (g.add at breaks.element)
 
 -- A call inside an export stopped, where the sink failed or not.
-abbrev pub Halts : Grammar Part Fault → Part → Seen → Seen → ℕ → Held → Held → Space → Bool → Stop → Type 0
-Halts g from old new place before after area failed stop =
-    (HaltsReading g from old new place before after area stop × (failed ≡ false))
-    ⊎ (HaltsWriting g from old new before after area stop × (failed ≡ true))
+abbrev pub StepStops : Grammar Part Fault → Part → Seen → Seen → ℕ → Held → Held → Space → Bool → Stop → Type 0
+StepStops g from old new place before after area failed stop =
+    (StopsInReading g from old new place before after area stop × (failed ≡ false))
+    ⊎ (StopsInWriting g from old new before after area stop × (failed ≡ true))
 
 -- The whole response was read, to the message's end, and its text put.
 pub record ReadsWhole (g : Grammar Part Fault) (from : Part) (old new : Seen) (before after : Held) (area : Space) : Type 0 where
@@ -122,7 +122,7 @@ pub record Completes (g : Grammar Part Fault) (from : Part) (old new : Seen) (be
   pub no_error : first_error whole.tokens ≡ None
 
 -- The whole response was read, and then the rest of its text couldn't be delivered, or the writer not be flushed.
-pub record FailsAtEnd (g : Grammar Part Fault) (from : Part) (old new : Seen) (before after : Held) (area : Space) (stop : Stop) : Type 0 where
+pub record StopsAtEnd (g : Grammar Part Fault) (from : Part) (old new : Seen) (before after : Held) (area : Space) (stop : Stop) : Type 0 where
   pub middle : Held
   pub whole : ReadsWhole g from old new before middle area
   pub fails : FinishFails middle after stop
@@ -130,7 +130,7 @@ pub record FailsAtEnd (g : Grammar Part Fault) (from : Part) (old new : Seen) (b
 -- An export stopped: in a token, at the message's end, or in delivering the rest.
 abbrev pub RunStops : Grammar Part Fault → Part → Seen → Seen → ℕ → Held → Held → Space → Bool → Stop → Type 0
 RunStops g from old new place before after area failed stop =
-    Halts g from old new place before after area failed stop ⊎ (FailsAtEnd g from old new before after area stop × (failed ≡ true))
+    StepStops g from old new place before after area failed stop ⊎ (StopsAtEnd g from old new before after area stop × (failed ≡ true))
 
 -- The next byte was read, and no packet is cut behind it.
 pub record ReadsByte (old new : Seen) (place place' byte : ℕ) : Type 0 where

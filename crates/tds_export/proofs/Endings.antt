@@ -1,4 +1,4 @@
--- What an export delivered.
+-- How an export ends, from what its calls did.
 use Rattle.std.proofs.Common.{◌≡◌, ◌∙◌, inl, inr, ℕ, ◌-◌, ◌^◌, ◌<◌, ◌≤◌, Bool, true, false, [], length, refl, sym, ap, subst, arith, nat_lt, Result, Ok, Err, MatchResult}
 use Rattle.std.proofs.lemmas.Bool.Decides.{nat_tests}
 use Rattle.tds_meter.specs.Counts.{Rose, one_more}
@@ -7,10 +7,10 @@ use Rattle.tds_csv.specs.Sinks.{FinishFails, Finishes, Held}
 use Rattle.tds_packet.specs.Seen.{Seen}
 use Rattle.tds_export.specs.declared.report.Report.{Report}
 use Rattle.tds_export.specs.declared.report.Stopped.{Stopped}
-use Rattle.tds_export.specs.Reading.{response, response_start}
-use Rattle.tds_export.specs.Running.{Completes, RunStops}
+use Rattle.tds_export.specs.TokenGrammar.{response, response_start}
+use Rattle.tds_export.specs.Steps.{Completes, RunStops}
 use Rattle.tds_export.specs.Tokens.{message_text}
-use Rattle.tds_export.specs.Ended.{Reports, Given, IsReader, IsWriter, StopsExport, Tidied, begun_at, fresh_at}
+use Rattle.tds_export.specs.Moments.{Reports, Given, IsReader, IsWriter, StopsExport, Tidied, begun_at, fresh_at}
 
 rose_from : (f : ℕ) (b : Bool) → nat_lt f (2 ^ 64 - 1) ≡ b → Rose f (one_more f)
 rose_from f true e = let low : f < 2 ^ 64 - 1 = grind (arith, nat_tests) in inl (omega (arith, low))

@@ -15,7 +15,7 @@ use Rattle.tds_export.specs.declared.report.ServerError.{ServerError}
 use Rattle.tds_export.specs.declared.report.Stopped.{Stopped}
 use Rattle.tds_export.specs.Tokens.{Notice, Token, text, is_set, is_row, is_error, is_info, is_return, how_many, first_error, return_status, error_text, encoded_after}
 use Rattle.tds_export.specs.Response.{Accepted}
-use Rattle.tds_export.specs.Reading.{Open, Describing, Part, response, response_start, text_so_far, span_so_far}
+use Rattle.tds_export.specs.TokenGrammar.{Open, Describing, Part, response, response_start, text_so_far, span_so_far}
 use Rattle.tds_export.specs.Built.{is_built}
 
 -- what a run was given, and what it left, where reader and writer tell their bytes

@@ -1,4 +1,4 @@
--- How a response is read, element by element, and what stands after each element.
+-- The element grammar of a response: how many bytes the next element has, its fault, and what stands behind it.
 use Rattle.std.specs.Prelude.{◌==◌, ◌&&◌, ◌||◌, ◌+◌, ◌*◌, ℕ, Bool, true, false, not, List, [], ◌∷◌, ◌++◌, length, take, drop, max, Option, Some, None, if◌then◌else◌, nat_lt, nat_le, slice_index}
 use Rattle.tds_values.specs.Numbers.{little}
 use Rattle.tds_columns.specs.Description.{Column, DescriptionPart, BeforeCount, NoDescription, WholeDescription, described_size, described_fault, add_described, span}

@@ -1,4 +1,4 @@
--- How an export ended, as contracts see it where reader and writer may not tell their bytes.
+-- What an export has to do with at a moment, and how it ended between two moments, where reader and writer may not tell their bytes.
 use Rattle.std.specs.Prelude.{◌≡◌, ◌⊎◌, ◌+◌, ℕ, Bool, true, false, List, [], ◌++◌, length, Option, Some, Result, IfErr, MatchResult}
 use Rattle.tds_meter.specs.declared.areas.Areas.{Areas}
 use Rattle.tds_meter.specs.declared.limits.Limits.{Limits}
@@ -14,9 +14,9 @@ use Rattle.tds_csv.specs.Sinks.{Adds, Held, fresh}
 use Rattle.tds_rows.specs.declared.Charset.{Charset}
 use Rattle.tds_export.specs.declared.report.Report.{Report}
 use Rattle.tds_export.specs.declared.report.Stopped.{Stopped}
-use Rattle.tds_export.specs.Export.{Answer, Run, SucceedsIfAccepted}
-use Rattle.tds_export.specs.Reading.{Part, response, response_start}
-use Rattle.tds_export.specs.Running.{Completes, RunStops}
+use Rattle.tds_export.specs.Outcome.{Answer, Run, SucceedsIfAccepted}
+use Rattle.tds_export.specs.TokenGrammar.{Part, response, response_start}
+use Rattle.tds_export.specs.Steps.{Completes, RunStops}
 use Rattle.tds_export.specs.Tokens.{error_text}
 
 -- what an export was given, and what it left

@@ -28,21 +28,21 @@ use Rattle.tds_export.specs.declared.report.Report.{Report}
 use Rattle.tds_export.specs.declared.report.Stopped.{Stopped}
 use Rattle.tds_export.specs.Tokens.{Token, error_text, text}
 use Rattle.tds_export.specs.Response.{Accepted}
-use Rattle.tds_export.specs.Export.{AfterStop, Bounded, IsKept, Packets, Reported, Reads, Run, Stops, StopsInText, grammar, report_of}
+use Rattle.tds_export.specs.Outcome.{AfterStop, Bounded, IsKept, Packets, Reported, Reads, Run, Stops, StopsInText, grammar, report_of}
 use Rattle.tds_export.specs.Built.{is_built}
-use Rattle.tds_export.specs.Reading.{Part, response, response_start, text_so_far}
+use Rattle.tds_export.specs.TokenGrammar.{Part, response, response_start, text_so_far}
 use Rattle.tds_rows.specs.Unbuilt.{Stalls}
-use Rattle.tds_export.specs.Running.{Completes, FailsAtEnd, HaltsReading, HaltsWriting, IsHolding, ReadsWhole, RunStops, behind}
-use Rattle.tds_export.specs.Ended.{Reports, Given, IsReader, IsWriter, StopsExport, Tells, Tidied, begun_at, fresh_at, grammar_of, run_of}
-use Rattle.tds_export.proofs.Growth.{text_along}
-use Rattle.tds_export.proofs.GrowthBound.{bounded_along}
+use Rattle.tds_export.specs.Steps.{Completes, StopsAtEnd, StopsInReading, StopsInWriting, IsHolding, ReadsWhole, RunStops, behind}
+use Rattle.tds_export.specs.Moments.{Reports, Given, IsReader, IsWriter, StopsExport, Tells, Tidied, begun_at, fresh_at, grammar_of, run_of}
+use Rattle.tds_export.proofs.ReadingGrows.{text_along}
+use Rattle.tds_export.proofs.TextBound.{bounded_along}
 use Rattle.tds_export.proofs.ResponseMeaning.{response_is_spelt}
-use Rattle.tds_export.proofs.Outcomes.{ReaderSide, ended_in_payload, kept_at, refused_in_payload, start, stopped_on_wire, unbuilt_in_payload}
+use Rattle.tds_export.proofs.PacketOutcomes.{ReaderSide, ended_in_payload, kept_at, refused_in_payload, start, stopped_on_wire, unbuilt_in_payload}
 use Rattle.tds_export.proofs.Leading.{rest_leads}
 use Rattle.tds_export.proofs.NoFailures.{calm}
 use Rattle.tds_export.proofs.Peaks.{bounded, reached_broken, reached_stalled, reached_whole}
-use Rattle.tds_export.proofs.Successes.{outcome_succeeds}
-use Rattle.tds_export.proofs.Texts.{rose}
+use Rattle.tds_export.proofs.AcceptedSucceeds.{outcome_succeeds}
+use Rattle.tds_export.proofs.Endings.{rose}
 
 -- ---- how a run that read stops
 
@@ -155,7 +155,7 @@ stalls_read g from p q place at stop (inr u) = (u.takes.0, u.takes.1.0)
 -- ---- a run that stopped in reading
 
 stop_reading : (given : Given) (input had left : List ℕ) (q : Seen) (middle l : Held) (stop : Stop) → AreBytes input → given.input ≡ Some input → given.had ≡ Some had → q.left ≡ Some left → IsReader given q → IsWriter given l → given.notice ≡ []
-    → HaltsReading (grammar_of given) response_start (begun_at given) q 0 (fresh_at given) middle given.description stop → Tidied middle l
+    → StopsInReading (grammar_of given) response_start (begun_at given) q 0 (fresh_at given) middle given.description stop → Tidied middle l
     → (gained : List ℕ) × (given.has ≡ Some (had ++ gained)) × AfterStop (run_of given input left gained) (record { fault = stop.fault; place = stop.place; written = l.delivered; unwritten = length l.waiting })
 stop_reading given input had left q middle l stop are e1 e2 ql reader writer none y t =
     let p = subst (Puts (fresh_at given) middle) y.puts.1 y.puts.2 in
@@ -335,11 +335,11 @@ failed_at_end run given q middle k tokens stop are w same rose_so = record {
 -- ---- what an export answers
 
 stop_writing : (given : Given) (input had left : List ℕ) (q : Seen) (k l : Held) (stop : Stop) → AreBytes input → given.input ≡ Some input → given.had ≡ Some had → q.left ≡ Some left → IsReader given q → IsWriter given l → given.notice ≡ []
-    → HaltsWriting (grammar_of given) response_start (begun_at given) q (fresh_at given) k given.description stop → l ≡ k
+    → StopsInWriting (grammar_of given) response_start (begun_at given) q (fresh_at given) k given.description stop → l ≡ k
     → (gained : List ℕ) × (given.has ≡ Some (had ++ gained)) × AfterStop (run_of given input left gained) (record { fault = stop.fault; place = stop.place; written = l.delivered; unwritten = length l.waiting })
 stop_writing given input had left q k l stop are e1 e2 ql reader writer none y same =
     let first : begun_at given ≡ start (run_of given input left []) = ap (λ i. begun given.limits.packet_size given.limits.max_wire i given.read_failures_before) e1 in
-    let x = subst (λ (a : Seen). HaltsWriting (grammar_of given) response_start a q (fresh_at given) k given.description stop) first y in
+    let x = subst (λ (a : Seen). StopsInWriting (grammar_of given) response_start a q (fresh_at given) k given.description stop) first y in
     let p = subst (Puts (fresh_at given) x.breaks.middle) x.breaks.puts.1 x.breaks.puts.2 in
     let b = x.breaks.breaks in
     let adds = subst (λ (v : Held). Adds (fresh_at given) v (p.0 ++ b.0) (text_so_far x.at ++ take b.2 x.breaks.more)) (sym same) (Adds-trans (fresh_at given) x.breaks.middle k p.0 b.0 (text_so_far x.at) (take b.2 x.breaks.more) p.2 b.3) in
@@ -364,11 +364,11 @@ stop_writing given input had left q k l stop are e1 e2 ql reader writer none y s
     )
 
 stop_at_end : (given : Given) (input had left : List ℕ) (q : Seen) (k l : Held) (stop : Stop) → AreBytes input → given.input ≡ Some input → given.had ≡ Some had → q.left ≡ Some left → IsReader given q → IsWriter given l → given.notice ≡ []
-    → FailsAtEnd (grammar_of given) response_start (begun_at given) q (fresh_at given) k given.description stop → l ≡ k
+    → StopsAtEnd (grammar_of given) response_start (begun_at given) q (fresh_at given) k given.description stop → l ≡ k
     → (gained : List ℕ) × (given.has ≡ Some (had ++ gained)) × AfterStop (run_of given input left gained) (record { fault = stop.fault; place = stop.place; written = l.delivered; unwritten = length l.waiting })
 stop_at_end given input had left q k l stop are e1 e2 ql reader writer none y same =
     let first : begun_at given ≡ start (run_of given input left []) = ap (λ i. begun given.limits.packet_size given.limits.max_wire i given.read_failures_before) e1 in
-    let x = subst (λ (a : Seen). FailsAtEnd (grammar_of given) response_start a q (fresh_at given) k given.description stop) first y in
+    let x = subst (λ (a : Seen). StopsAtEnd (grammar_of given) response_start a q (fresh_at given) k given.description stop) first y in
     let p = subst (Puts (fresh_at given) x.middle) x.whole.puts.1 x.whole.puts.2 in
     let tokens = x.whole.tokens in
     let adds = subst (λ (v : Held). Adds (fresh_at given) v (p.0 ++ x.fails.0) (text_so_far (behind tokens) ++ [])) (sym same) (Adds-trans (fresh_at given) x.middle k p.0 x.fails.0 (text_so_far (behind tokens)) [] p.2 x.fails.1) in
@@ -416,7 +416,7 @@ stop_bounded given input left gained q k failed stop are e ql (inl (inl y)) =
 stop_bounded given input left gained q k failed stop are e ql (inl (inr y)) =
     let run = run_of given input left gained in
     let first : begun_at given ≡ start run = ap (λ i. begun given.limits.packet_size given.limits.max_wire i given.read_failures_before) e in
-    let x = subst (λ (a : Seen). HaltsWriting (grammar run) response_start a q (fresh_at given) k given.description stop) first y.0 in
+    let x = subst (λ (a : Seen). StopsInWriting (grammar run) response_start a q (fresh_at given) k given.description stop) first y.0 in
     bounded run ((grammar run).add x.at x.breaks.element) are (reached_broken run q (fresh_at given) k given.description stop x are ql) x.holds.peak
 stop_bounded given input left gained q k failed stop are e ql (inr y) =
     let run = run_of given input left gained in
