@@ -13,7 +13,7 @@ use Rattle.tds_columns.specs.Description.{refused_kind}
 use Rattle.tds_packet.specs.declared.fault.Fault.{Fault}
 use Rattle.tds_packet.specs.Elements.{Progress, read, state_of, rest_of, fault_of}
 use Rattle.tds_rows.specs.declared.Charset.TheVariants.{Windows1252}
-use Rattle.tds_export.specs.Reading.{Part, response, response_start}
+use Rattle.tds_export.specs.TokenGrammar.{Part, response, response_start}
 use Rattle.tds_export.specs.Completion.{completion}
 
 abbrev complete : ℕ → List ℕ → Progress Part Fault → Option Fault

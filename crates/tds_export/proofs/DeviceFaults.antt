@@ -13,11 +13,11 @@ use Rattle.tds_rows.specs.declared.Charset.{Charset}
 use Rattle.tds_rows.specs.Unbuilt.{Stalls}
 use Rattle.tds_export.specs.declared.report.Stopped.{Stopped}
 use Rattle.tds_export.specs.Built.{is_built}
-use Rattle.tds_export.specs.Ended.{Given, StopsExport, begun_at, fresh_at}
-use Rattle.tds_export.specs.Reading.{Part, response, response_start}
-use Rattle.tds_export.specs.Running.{RunStops}
+use Rattle.tds_export.specs.Moments.{Given, StopsExport, begun_at, fresh_at, grammar_of}
+use Rattle.tds_export.specs.TokenGrammar.{Part, response, response_start}
+use Rattle.tds_export.specs.Steps.{RunStops}
 use Rattle.tds_export.proofs.PayloadFaults.{IsOfPayload, element_fault, end_fault}
-use Rattle.tds_export.proofs.Texts.{rose}
+use Rattle.tds_export.proofs.Endings.{rose}
 
 -- a fault that the wire or the end of a message may have
 abbrev IsOfWire : Fault → Type 0
@@ -123,7 +123,7 @@ blamed given stopped x = go x.stops
     ends : (failed : x.failed ≡ true) → x.middle.failures ≡ given.write_failures
     ends failed = ap (λ (h : Held). h.failures) (sym (x.same failed)) ∙ x.writer.failures
 
-    go : RunStops (response given.charset given.limits.column_room) response_start (begun_at given) x.seen 0 (fresh_at given) x.middle given.description x.failed x.stop
+    go : RunStops (grammar_of given) response_start (begun_at given) x.seen 0 (fresh_at given) x.middle given.description x.failed x.stop
         → (stopped.fault ≡ ReadFailed → Rose given.read_failures_before given.read_failures) × (stopped.fault ≡ WriteFailed → Rose given.write_failures_before given.write_failures)
     go (inl (inl y)) =
         let r = reading_fault given.charset given.limits.column_room given.limits.packet_size given.limits.max_wire given.read_failures_before given.input x.seen 0 y.0.at x.stop y.0.stalls in

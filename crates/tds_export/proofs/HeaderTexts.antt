@@ -10,7 +10,7 @@ use Rattle.tds_csv.specs.Sinks.{Breaks, Held, Puts}
 use Rattle.tds_csv.specs.Utf16 as utf16
 use Rattle.tds_csv.specs.Utf16Laws.{joins_utf16}
 use Rattle.tds_csv.proofs.Sinks.{Breaks-after, Breaks-longer, Puts-trans}
-use Rattle.tds_export.specs.Joined.{IsStopIn, IsStopped}
+use Rattle.tds_export.specs.JoinStops.{IsStopIn, IsStopped}
 
 -- what a push of any units may answer
 pub push_stopped : (fault : JoinFault) (old new : List ℕ) (before after : Held) (failed : Bool) (units : List ℕ) → Pushes {U = Unit {0}} (λ _. ⊤) utf16.rest utf16.text old new before after failed units (Err fault) → IsStopped fault

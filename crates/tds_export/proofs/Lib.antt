@@ -5,8 +5,7 @@ pub mod ResponseLaws
 pub mod ResponseMeaning
 pub mod ReturnLaws
 pub mod ReturnVectors
-pub mod ScalarVectors
-pub mod SuccessLaws
+pub mod ValueVectors
 pub mod Utf8Vectors
 pub mod Vectors
 pub mod HeaderTexts
@@ -14,17 +13,18 @@ pub mod TokenLaws
 pub mod TokenSteps
 pub mod TokenBytes
 pub mod RunSteps
-pub mod Growth
-pub mod Growing
+pub mod ReadingGrows
+pub mod GrowingTexts
 pub mod FieldLengths
-pub mod GrowthBound
-pub mod Outcomes
-pub mod Texts
+pub mod TextBound
+pub mod PacketOutcomes
+pub mod Endings
 pub mod PayloadFaults
 pub mod Leading
-pub mod Answered
-pub mod Successes
+pub mod ToldAnswers
+pub mod AcceptedSucceeds
 pub mod Peaks
 mod Emptied
 mod NameTexts
 mod DeviceFaults
+pub mod NoFailures

@@ -10,7 +10,7 @@ use Rattle.tds_csv.specs.declared.sink.Sink.{Sink}
 use Rattle.tds_csv.specs.Sinks.{IsWriting, PutsPiece}
 use Rattle.tds_csv.proofs.Puttings.{PutsPiece-none, PutsPiece-passed, PutsPiece-trans}
 use Rattle.tds_export.specs.Tokens.{name_field, text_if}
-use Rattle.tds_export.proofs.Growing.{joined_more}
+use Rattle.tds_export.proofs.GrowingTexts.{joined_more}
 
 abbrev is_none : List (List ℕ) → Bool
 is_none [] = true
@@ -87,6 +87,3 @@ name_breaks contents columns left rest c first a b d e stop r is x comma broke p
     subst (λ l. PutsPiece contents a e l r) all.1
     (PutsPiece-passed contents a e (joined fields ++ (mark ++ name_field c)) all.0 stop r passed
     (PutsPiece-trans contents a b e _ (joined fields) (mark ++ name_field c) _ x.puts (PutsPiece-trans contents b d e _ mark (name_field c) _ (subst (λ f. Puts contents b d (text_if (not f) (codes ","))) x.first_is comma) broke)))
-
-pub names_all : {W : Type 0} (contents : W → Option (List ℕ)) (columns left : List Column) (first : Bool) (a b : Sink W) → left ≡ [] → NamesPut contents columns left first a b → Puts contents a b (joined (map name_field columns))
-names_all contents columns left first a b none x = subst (λ cs. Puts contents a b (joined (map name_field cs))) (sym (append-nil x.done) ∙ ap (λ l. x.done ++ l) (sym none) ∙ x.split) x.puts

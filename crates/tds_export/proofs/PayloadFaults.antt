@@ -16,7 +16,7 @@ use Rattle.tds_rows.specs.Rows.{RowPart, Bitmap, InCell, WholeRow, row_fault}
 use Rattle.tds_export.specs.ReturnValue.{ReturnPart, ReturnOrdinal, ReturnNameCount, ReturnName, ReturnHead, ReturnInfo, InReturnCell, WholeReturn, return_fault}
 use Rattle.tds_columns.specs.ReturnedType.{return_column}
 use Rattle.tds_export.specs.Tokens.{Token, described_after, is_final}
-use Rattle.tds_export.specs.Reading.{Part, Open, Between, Describing, InRow, InReturn, TokenLength, TokenBody, Status, DoneFields, DoneInProcFields, response, part_fault, part_end, token_fault, row_byte_fault, is_token_byte, is_row_byte, is_notice, holds_notice}
+use Rattle.tds_export.specs.TokenGrammar.{Part, Open, Between, Describing, InRow, InReturn, TokenLength, TokenBody, Status, DoneFields, DoneInProcFields, response, part_fault, part_end, token_fault, row_byte_fault, is_token_byte, is_row_byte, is_notice, holds_notice}
 
 -- a fault that elements may have, or the end of a message
 abbrev pub IsOfPayload : Fault → Type 0

@@ -16,15 +16,15 @@ use Rattle.tds_packet.proofs.MessageLaws.{behind as behind_last, message_is_read
 use Rattle.tds_packet.proofs.Fronts.{ends_front, over_front, takes_begins}
 use Rattle.tds_csv.specs.Sinks.{Held}
 use Rattle.tds_rows.specs.declared.Charset.{Charset}
-use Rattle.tds_export.specs.Export.{Bounded, Run, grammar}
+use Rattle.tds_export.specs.Outcome.{Bounded, Run, grammar}
 use Rattle.tds_export.specs.Built.{is_built}
-use Rattle.tds_export.specs.Reading.{Part, response, response_start, span_so_far}
+use Rattle.tds_export.specs.TokenGrammar.{Part, response, response_start, span_so_far}
 use Rattle.tds_rows.specs.Unbuilt.{Stalls}
-use Rattle.tds_export.specs.Running.{HaltsWriting, ReadsWhole, behind}
-use Rattle.tds_export.proofs.Growth.{span_along}
+use Rattle.tds_export.specs.Steps.{StopsInWriting, ReadsWhole, behind}
+use Rattle.tds_export.proofs.ReadingGrows.{span_along}
 use Rattle.tds_export.proofs.Leading.{rest_leads}
-use Rattle.tds_export.proofs.Outcomes.{start}
-use Rattle.tds_export.proofs.Successes.{BeginsWith, begins_added}
+use Rattle.tds_export.proofs.PacketOutcomes.{start}
+use Rattle.tds_export.proofs.AcceptedSucceeds.{BeginsWith, begins_added}
 
 -- a part of a response was read from whole packets at the front of an input
 pub record Reached (charset : Charset) (limits : Limits) (input : List ℕ) (at : Part) : Type 0 where
@@ -87,7 +87,7 @@ reached_stalled run q at stop are left (inl s) = elim s.cause [
 ]
 reached_stalled run q at stop are left (inr u) = taken run q at u.bytes u.element (length (u.bytes ++ u.element)) are left u.takes u.between u.spelt
 
-pub reached_broken : (run : Run) (q : Seen) (old new : Held) (area : Space) (stop : Stop) (x : HaltsWriting (grammar run) response_start (start run) q old new area stop) → AreBytes run.input → q.left ≡ Some run.left → Reached run.charset run.limits run.input ((grammar run).add x.at x.breaks.element)
+pub reached_broken : (run : Run) (q : Seen) (old new : Held) (area : Space) (stop : Stop) (x : StopsInWriting (grammar run) response_start (start run) q old new area stop) → AreBytes run.input → q.left ≡ Some run.left → Reached run.charset run.limits run.input ((grammar run).add x.at x.breaks.element)
 reached_broken run q old new area stop x are left =
     let be = x.breaks.bytes ++ x.breaks.element in
     let to = (grammar run).add x.at x.breaks.element in

@@ -15,15 +15,16 @@ use Rattle.tds_rows.specs.declared.Charset.{Charset}
 use Rattle.tds_rows.specs.Cells.{Cell}
 use Rattle.tds_rows.specs.Rows.{RowPart, Bitmap, InCell, WholeRow, row_start, nbc_row_start, row}
 use Rattle.tds_rows.proofs.RowLaws.{row_is_read, nbc_row_is_read}
+use Rattle.std.proofs.lemmas.Bool.{and_right}
 use Rattle.tds_export.specs.ReturnValue.{ReturnPart, ReturnOrdinal, ReturnNameCount, ReturnName, ReturnHead, ReturnInfo, InReturnCell, WholeReturn, return_value}
 use Rattle.tds_export.proofs.ReturnLaws.{return_is_read}
 use Rattle.tds_export.specs.Tokens.{Notice, Token, Metadata, NoMetadata, Row, Order, EnvChange, Error, Info, ReturnStatus, Returned, Done, DoneInProc, described_after}
 use Rattle.tds_export.specs.Response.{SpellsBody, SpellsNotice, SpellsRowToken, SpellsToken, SpellsTokens, Response, Accepted}
-use Rattle.tds_export.specs.Reading.{Bodied, AnOrder, AnEnvChange, AnError, AnInfo, Open, Between, Describing, InReturn, TokenLength, TokenBody, Status, DoneFields, DoneInProcFields, Part, response_start, with_token, with_described, with_row, with_return, start_of_row, row_byte_fault, holds_notice, bodied, is_notice, response}
+use Rattle.tds_export.specs.TokenGrammar.{Bodied, AnOrder, AnEnvChange, AnError, AnInfo, Open, Between, Describing, InReturn, TokenLength, TokenBody, Status, DoneFields, DoneInProcFields, Part, response_start, with_token, with_described, with_row, with_return, start_of_row, row_byte_fault, holds_notice, bodied, is_notice, response}
 use Rattle.tds_packet.proofs.Choices.{choose_false}
 use Rattle.tds_packet.specs.Packets.{Packet, payload_of}
 use Rattle.tds_packet.proofs.MessageLaws.{one_message}
-use Rattle.tds_export.proofs.NoticeLaws.{notice_is_read, and_false}
+use Rattle.tds_export.proofs.NoticeLaws.{notice_is_read}
 
 pub described_after-append : (before : Option (List Column)) (a b : List Token) → described_after before (a ++ b) ≡ described_after (described_after before a) b
 described_after-append before [] b = refl
@@ -146,8 +147,8 @@ module _ (charset : Charset) (room : ℕ) where
       let long : nat_lt (length body) 14 ≡ false = let l : 14 ≤ length body = r.0 in grind (arith, nat_tests) in
       let held : not (holds_notice body) ≡ false = ap (λ v. not v) r.1 in
       body_is_read tokens b body bytes
-      (choose_false (is_notice b && nat_lt (length body) 14) (Some BadNotice) None (and_false (is_notice b) (nat_lt (length body) 14) long))
-      (choose_false (is_notice b && not (holds_notice body)) (Some BadNotice) None (and_false (is_notice b) (not (holds_notice body)) held)) s
+      (choose_false (is_notice b && nat_lt (length body) 14) (Some BadNotice) None (and_right (is_notice b) (nat_lt (length body) 14) long))
+      (choose_false (is_notice b && not (holds_notice body)) (Some BadNotice) None (and_right (is_notice b) (not (holds_notice body)) held)) s
 
   row_token_is_read : (tokens : List Token) (current : Option (List Column)) (cells : List Cell) (bytes : List ℕ) → described_after None tokens ≡ current → HasColumns current → SpellsRowToken charset current cells bytes → Spelt (response charset room) (between_tokens tokens) bytes (with_token tokens (Row cells))
   row_token_is_read tokens None cells bytes is some h = absurd h

@@ -16,7 +16,7 @@ use Rattle.tds_export.specs.ReturnValue.{ReturnPart, ReturnOrdinal, ReturnNameCo
 use Rattle.tds_export.proofs.ReturnLaws.{ReturnMeans, return_step}
 use Rattle.tds_export.specs.Tokens.{Token, Metadata, NoMetadata, Row, Order, EnvChange, Error, Info, ReturnStatus, Returned, Done, DoneInProc, described_after, is_final}
 use Rattle.tds_export.specs.Response.{SpellsBody, SpellsNotice, SpellsRowToken, SpellsToken, SpellsTokens, Response, more}
-use Rattle.tds_export.specs.Reading.{Bodied, AnOrder, AnEnvChange, AnError, AnInfo, Open, Between, Describing, InRow, InReturn, TokenLength, TokenBody, Status, DoneFields, DoneInProcFields, Part, response_start, with_token, with_described, with_row, with_return, start_of_row, after_byte, is_token_byte, is_row_byte, row_byte_fault, token_fault, server_at, procedure_at, line_at, holds_notice, notice_of, bodied, is_notice, part_add, response}
+use Rattle.tds_export.specs.TokenGrammar.{Bodied, AnOrder, AnEnvChange, AnError, AnInfo, Open, Between, Describing, InRow, InReturn, TokenLength, TokenBody, Status, DoneFields, DoneInProcFields, Part, response_start, with_token, with_described, with_row, with_return, start_of_row, after_byte, is_token_byte, is_row_byte, row_byte_fault, token_fault, server_at, procedure_at, line_at, holds_notice, notice_of, bodied, is_notice, part_add, response}
 use Rattle.tds_export.proofs.ResponseLaws.{described_after-append}
 use Rattle.tds_packet.proofs.Choices.{choose, eq_true, lt_true, le_true, or_true, and_true}
 use Rattle.tds_columns.proofs.ByteLemmas.{one_byte, two_bytes}

@@ -17,7 +17,7 @@ use Rattle.tds_export.proofs.Vectors.{answer}
 use Rattle.tds_packet.specs.declared.fault.RefusedKind.TheVariants.{Flt8}
 use Rattle.tds_packet.specs.Elements.{read, state_of}
 use Rattle.tds_export.specs.Tokens.{is_return, how_many}
-use Rattle.tds_export.specs.Reading.{response, response_start}
+use Rattle.tds_export.specs.TokenGrammar.{response, response_start}
 
 -- a return value: no text
 returned : answer Windows1252 1048576 (172 ∷ 1 ∷ 0 ∷ 2 ∷ 64 ∷ 0 ∷ 112 ∷ 0 ∷ 1 ∷ 0 ∷ 0 ∷ 0 ∷ 0 ∷ 0 ∷ 0 ∷ 38 ∷ 4 ∷ 4 ∷ 7 ∷ 0 ∷ 0 ∷ 0 ∷ 253 ∷ 0 ∷ 0 ∷ 0 ∷ 0 ∷ 0 ∷ 0 ∷ 0 ∷ 0 ∷ 0 ∷ 0 ∷ 0 ∷ 0 ∷ []) ≡ (35, [], None)

@@ -16,26 +16,27 @@ use Rattle.tds_csv.specs.Sinks.{FinishFails, Finishes, Held}
 use Rattle.tds_csv.specs.Streaming.{PutsText, Streams}
 use Rattle.tds_csv.proofs.Sinks.{Puts-none, Puts-trans}
 use Rattle.tds_rows.specs.declared.Charset.{Charset}
-use Rattle.tds_export.specs.declared.standing.Standing.{Standing}
+use Rattle.tds_export.specs.declared.progress.Progress.{Progress}
+use Rattle.tds_export.specs.declared.report.Report.{Report}
 use Rattle.tds_export.specs.Tokens.{Token}
 use Rattle.tds_export.specs.Built.{is_built}
-use Rattle.tds_export.specs.Reading.{Part, response, response_start, text_so_far}
+use Rattle.tds_export.specs.TokenGrammar.{Part, response, response_start, text_so_far}
 use Rattle.tds_rows.specs.Unbuilt.{Stalls}
-use Rattle.tds_export.specs.Running.{Completes, FailsAtEnd, Halts, IsHolding, ReadsToken, ReadsWhole, Tracks, behind}
+use Rattle.tds_export.specs.Steps.{Completes, StopsAtEnd, StepStops, IsHolding, ReadsToken, ReadsWhole, Tracks, behind}
 use Rattle.tds_packet.proofs.Steps.{cut_at_once, takes_both}
 use Rattle.tds_rows.proofs.Stalls.{stalls_after}
 use Rattle.tds_export.proofs.TokenSteps.{same_text}
 
 -- whole tokens were read and their text put
-pub record Runs (g : Grammar Part Fault) (old new : Seen) (place place' : ℕ) (before after : Held) (standing : Standing) (area : Space) : Type 0 where
+pub record Runs (g : Grammar Part Fault) (old new : Seen) (place place' : ℕ) (before after : Held) (progress : Progress) (area : Space) : Type 0 where
   pub tokens : List Token
   pub streams : Streams g text_so_far response_start old new before after (behind tokens)
   pub place_is : place' ≡ place + length streams.bytes
-  pub tracks : Tracks standing tokens
+  pub tracks : Tracks progress tokens
   pub holds : IsHolding area (behind tokens)
 
-pub runs_none : (charset : Charset) (room : ℕ) (a : Seen) (place : ℕ) (h : Held) (standing : Standing) (area : Space) → h.delivered ≤ 2 ^ 64 - 1 → Tracks standing [] → area ≡ empty area.room → Runs (response charset room) a a place place h h standing area
-runs_none charset room a place h standing area d tracks is = record {
+pub runs_none : (charset : Charset) (room : ℕ) (a : Seen) (place : ℕ) (h : Held) (progress : Progress) (area : Space) → h.delivered ≤ 2 ^ 64 - 1 → Tracks progress [] → area ≡ empty area.room → Runs (response charset room) a a place place h h progress area
+runs_none charset room a place h progress area d tracks is = record {
   tokens = [];
   streams = record { bytes = []; spelt = Spelt-none (response charset room) response_start; takes = Takes-none a 0; puts = ([], refl, Puts-none h d) };
   place_is = omega arith;
@@ -46,7 +47,7 @@ runs_none charset room a place h standing area d tracks is = record {
 puts_both : (p q r : Part) (h i k : Held) → PutsText text_so_far p q h i → PutsText text_so_far q r i k → PutsText text_so_far p r h k
 puts_both p q r h i k x y = (x.0 ++ y.0, sym (append_assoc (text_so_far p) x.0 y.0) ∙ ap (λ l. l ++ y.0) x.1 ∙ y.1, Puts-trans h i k x.0 y.0 x.2 y.2)
 
-pub runs_more : (g : Grammar Part Fault) (a b c : Seen) (p q r : ℕ) (h i k : Held) (s t : Standing) (area area' : Space) → (x : Runs g a b p q h i s area) → ReadsToken g (behind x.tokens) x.tokens b c q r i k t area' → Runs g a c p r h k t area'
+pub runs_more : (g : Grammar Part Fault) (a b c : Seen) (p q r : ℕ) (h i k : Held) (s t : Progress) (area area' : Space) → (x : Runs g a b p q h i s area) → ReadsToken g (behind x.tokens) x.tokens b c q r i k t area' → Runs g a c p r h k t area'
 runs_more g a b c p q r h i k s t area area' x y = record {
   tokens = x.tokens ++ y.token ∷ [];
   streams = record {
@@ -60,9 +61,23 @@ runs_more g a b c p q r h i k s t area area' x y = record {
   holds = y.holds;
 }
 
-pub halts_after : (charset : Charset) (room : ℕ) (a b c : Seen) (p q : ℕ) (h i k : Held) (s : Standing) (area area' : Space) (failed : Bool) (stop : Stop) → (x : Runs (response charset room) a b p q h i s area)
-    → Halts (response charset room) (behind x.tokens) b c q i k area' failed stop → Halts (response charset room) response_start a c p h k area' failed stop
-halts_after charset room a b c p q h i k s area area' failed stop x (inl y) = inl (
+-- the same grammar, of a run that keeps its character set and its room
+same_grammar : (c c' : Charset) (r r' : ℕ) → c' ≡ c → r' ≡ r → response c' r' ≡ response c r
+same_grammar c c' r r' e f = ap (λ x. response x r') e ∙ ap (response c) f
+
+pub runs_on : (c c' : Charset) (r r' : ℕ) (a b d : Seen) (p q n : ℕ) (h i k : Held) (s t : Progress) (area area' : Space) → c' ≡ c → r' ≡ r → (x : Runs (response c r) a b p q h i s area)
+    → ReadsToken (response c' r') (behind x.tokens) x.tokens b d q n i k t area' → Runs (response c r) a d p n h k t area'
+runs_on c c' r r' a b d p q n h i k s t area area' e f x y =
+    runs_more (response c r) a b d p q n h i k s t area area' x (subst (λ (g : Grammar Part Fault). ReadsToken g (behind x.tokens) x.tokens b d q n i k t area') (same_grammar c c' r r' e f) y)
+
+-- nothing but the payload has changed
+pub runs_same : (g : Grammar Part Fault) (a b : Seen) (p q q' : ℕ) (h k k' : Held) (s s' : Progress) (area area' : Space) → q' ≡ q → k' ≡ k → s' ≡ s → area' ≡ area → Runs g a b p q h k s area → Runs g a b p q' h k' s' area'
+runs_same g a b p q q' h k k' s s' area area' e1 e2 e3 e4 x =
+    subst (λ v. Runs g a b p v h k' s' area') (sym e1) (subst (λ v. Runs g a b p q h v s' area') (sym e2) (subst (λ v. Runs g a b p q h k v area') (sym e3) (subst (λ v. Runs g a b p q h k s v) (sym e4) x)))
+
+pub stops_after : (charset : Charset) (room : ℕ) (a b c : Seen) (p q : ℕ) (h i k : Held) (s : Progress) (area area' : Space) (failed : Bool) (stop : Stop) → (x : Runs (response charset room) a b p q h i s area)
+    → StepStops (response charset room) (behind x.tokens) b c q i k area' failed stop → StepStops (response charset room) response_start a c p h k area' failed stop
+stops_after charset room a b c p q h i k s area area' failed stop x (inl y) = inl (
   record {
     at = y.0.at;
     stalls = stalls_after (response charset room) is_built response_start (behind x.tokens) a b c p y.0.at stop (record { bytes = x.streams.bytes; spelt = x.streams.spelt; takes = x.streams.takes })
@@ -72,7 +87,7 @@ halts_after charset room a b c p q h i k s area area' failed stop x (inl y) = in
   },
   y.1,
 )
-halts_after charset room a b c p q h i k s area area' failed stop x (inr y) = inr (
+stops_after charset room a b c p q h i k s area area' failed stop x (inr y) = inr (
   record {
     at = y.0.at;
     breaks = record {
@@ -94,20 +109,25 @@ halts_after charset room a b c p q h i k s area area' failed stop x (inr y) = in
   y.1,
 )
 
+pub stops_on : (c c' : Charset) (r r' : ℕ) (a b d : Seen) (p q : ℕ) (h i k : Held) (s : Progress) (area area' : Space) (failed : Bool) (stop : Stop) → c' ≡ c → r' ≡ r → (x : Runs (response c r) a b p q h i s area)
+    → StepStops (response c' r') (behind x.tokens) b d q i k area' failed stop → StepStops (response c r) response_start a d p h k area' failed stop
+stops_on c c' r r' a b d p q h i k s area area' failed stop e f x y =
+    stops_after c r a b d p q h i k s area area' failed stop x (subst (λ (g : Grammar Part Fault). StepStops g (behind x.tokens) b d q i k area' failed stop) (same_grammar c c' r r' e f) y)
+
 -- ---- the message's end
 
 -- a message that is over stops there
 over_ends : (b : Seen) (o : IsOver b) → Ends b b [] o.0
 over_ends b o = inl (([], Consumes-nil b.left, o.2), refl)
 
-module _ (charset : Charset) (room : ℕ) (a b c : Seen) (p q : ℕ) (h k : Held) (s : Standing) (area : Space) (x : Runs (response charset room) a b p q h k s area) (t : Takes b c [] 1) (o : IsOver c) where
+module _ (charset : Charset) (room : ℕ) (a b c : Seen) (p q : ℕ) (h k : Held) (s : Progress) (area : Space) (x : Runs (response charset room) a b p q h k s area) (t : Takes b c [] 1) (o : IsOver c) where
   -- the message ended behind the last token, which wasn't final
-  pub halts_end : (failed : Bool) → failed ≡ false → k.delivered ≤ 2 ^ 64 - 1 → s.is_final ≡ false → Halts (response charset room) response_start a c p h k area failed (record { fault = EndWithoutDone; place = Payload q })
-  halts_end failed going d open_end =
+  pub stops_end : (failed : Bool) → failed ≡ false → k.delivered ≤ 2 ^ 64 - 1 → s.is_final ≡ false → StepStops (response charset room) response_start a c p h k area failed (record { fault = EndWithoutDone; place = Payload q })
+  stops_end failed going d open_end =
       let end : (response charset room).end_fault (behind x.tokens) ≡ Some EndWithoutDone = ap (λ v. if v then None else Some EndWithoutDone) (sym x.tracks.final ∙ open_end) in
       let is : IsCutStop q ((response charset room).end_fault (behind x.tokens)) o.0 (record { fault = EndWithoutDone; place = Payload q }) = inl (o.1, (EndWithoutDone, end, refl)) in
       let cut = cut_at_once (response charset room) (behind x.tokens) b c q [] o.0 (record { fault = EndWithoutDone; place = Payload q }) (omega arith) (Ends-after b c c [] [] 1 o.0 t (over_ends c o)) is in
-      halts_after charset room a b c p q h k k s area area failed (record { fault = EndWithoutDone; place = Payload q }) x
+      stops_after charset room a b c p q h k k s area area failed (record { fault = EndWithoutDone; place = Payload q }) x
       (inl (record { at = behind x.tokens; stalls = inl cut; puts = same_text (behind x.tokens) (behind x.tokens) k refl d; holds = x.holds }, going))
 
   abbrev pub reads_whole : s.is_final ≡ true → ReadsWhole (response charset room) response_start a c h k area
@@ -122,8 +142,15 @@ module _ (charset : Charset) (room : ℕ) (a b c : Seen) (p q : ℕ) (h k : Held
     holds = x.holds;
   }
 
-  pub completes : (l : Held) → s.is_final ≡ true → Finishes k l → Completes (response charset room) response_start a c h l s area
-  completes l final f = record { middle = k; whole = reads_whole final; tracks = x.tracks; finishes = f }
+  pub completes : (l : Held) (report : Report) → s.is_final ≡ true → Finishes k l → report ≡ record s.report { written = l.delivered }
+      → Completes (response charset room) response_start a c h l report area
+  completes l report final f is = record {
+    middle = k;
+    whole = reads_whole final;
+    finishes = f;
+    report_is = is ∙ ap (λ (r : Report). record r { written = l.delivered }) x.tracks.report;
+    no_error = x.tracks.no_error;
+  }
 
-  pub fails_at_end : (l : Held) (stop : Stop) → s.is_final ≡ true → FinishFails k l stop → FailsAtEnd (response charset room) response_start a c h l area stop
-  fails_at_end l stop final f = record { middle = k; whole = reads_whole final; fails = f }
+  pub stops_at_end : (l : Held) (stop : Stop) → s.is_final ≡ true → FinishFails k l stop → StopsAtEnd (response charset room) response_start a c h l area stop
+  stops_at_end l stop final f = record { middle = k; whole = reads_whole final; fails = f }

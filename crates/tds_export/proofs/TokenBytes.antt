@@ -16,12 +16,12 @@ use Rattle.tds_csv.specs.Sinks.{Held}
 use Rattle.tds_csv.specs.Streaming.{PutsText}
 use Rattle.tds_rows.specs.declared.Charset.{Charset}
 use Rattle.tds_rows.specs.Rows.{row_start}
-use Rattle.tds_export.specs.declared.standing.Standing.{Standing}
+use Rattle.tds_export.specs.declared.progress.Progress.{Progress}
 use Rattle.tds_export.specs.Tokens.{Token, described_after, encoded_after}
 use Rattle.tds_export.specs.Built.{is_built}
-use Rattle.tds_export.specs.Reading.{Part, is_row_byte, response, row_byte_fault, start_of_row, text_so_far}
+use Rattle.tds_export.specs.TokenGrammar.{Part, is_row_byte, response, row_byte_fault, start_of_row, text_so_far}
 use Rattle.tds_rows.specs.Unbuilt.{ReadsUnbuilt, Stalls}
-use Rattle.tds_export.specs.Running.{Halts, IsDescribed, IsHolding, IsRefusal, ReadsToken, behind, in_done, in_metadata, in_row}
+use Rattle.tds_export.specs.Steps.{StepStops, IsDescribed, IsHolding, IsRefusal, ReadsToken, behind, in_done, in_metadata, in_row}
 use Rattle.tds_packet.proofs.Steps.{cut_at_once, reads_one, refused_at_once, takes_both}
 use Rattle.tds_rows.proofs.Stalls.{stalls_after, unbuilt_at_once}
 use Rattle.tds_export.proofs.TokenSteps.{same_text, start_text}
@@ -61,9 +61,9 @@ module _ (charset : Charset) (room : ℕ) (tokens : List Token) (byte : ℕ) (to
   first a b t = reads_one (response charset room) (behind tokens) a b (byte ∷ []) to begins.next t begins.to_is
 
   -- a token is read behind its first byte
-  pub reads_behind_byte : (a b c : Seen) (place middle place' : ℕ) (h k : Held) (standing : Standing) (area : Space) → Takes a b (byte ∷ []) 1 → middle ≡ place + 1 → ReadsToken (response charset room) to tokens b c middle place' h k standing area
-      → ReadsToken (response charset room) (behind tokens) tokens a c place place' h k standing area
-  reads_behind_byte a b c place middle place' h k standing area t at r = record {
+  pub reads_behind_byte : (a b c : Seen) (place middle place' : ℕ) (h k : Held) (progress : Progress) (area : Space) → Takes a b (byte ∷ []) 1 → middle ≡ place + 1 → ReadsToken (response charset room) to tokens b c middle place' h k progress area
+      → ReadsToken (response charset room) (behind tokens) tokens a c place place' h k progress area
+  reads_behind_byte a b c place middle place' h k progress area t at r = record {
     token = r.token;
     streams = record {
       bytes = (byte ∷ []) ++ r.streams.bytes;
@@ -77,9 +77,9 @@ module _ (charset : Charset) (room : ℕ) (tokens : List Token) (byte : ℕ) (to
   }
 
   -- and so it stops
-  pub halts_behind_byte : (a b c : Seen) (place middle : ℕ) (h k : Held) (area : Space) (failed : Bool) (stop : Stop) → Takes a b (byte ∷ []) 1 → middle ≡ place + 1 → Halts (response charset room) to b c middle h k area failed stop
-      → Halts (response charset room) (behind tokens) a c place h k area failed stop
-  halts_behind_byte a b c place middle h k area failed stop t at (inl x) = inl (
+  pub stops_behind_byte : (a b c : Seen) (place middle : ℕ) (h k : Held) (area : Space) (failed : Bool) (stop : Stop) → Takes a b (byte ∷ []) 1 → middle ≡ place + 1 → StepStops (response charset room) to b c middle h k area failed stop
+      → StepStops (response charset room) (behind tokens) a c place h k area failed stop
+  stops_behind_byte a b c place middle h k area failed stop t at (inl x) = inl (
     record {
       at = x.0.at;
       stalls = stalls_after (response charset room) is_built (behind tokens) to a b c place x.0.at stop (first a b t) (subst (λ n. Stalls (response charset room) is_built to b c n x.0.at stop) at x.0.stalls);
@@ -88,7 +88,7 @@ module _ (charset : Charset) (room : ℕ) (tokens : List Token) (byte : ℕ) (to
     },
     x.1,
   )
-  halts_behind_byte a b c place middle h k area failed stop t at (inr x) = inr (
+  stops_behind_byte a b c place middle h k area failed stop t at (inr x) = inr (
     record {
       at = x.0.at;
       breaks = record {
@@ -128,16 +128,16 @@ refused charset room tokens a b place byte described fault k (inr (inr x)) t bet
     inr (subst (λ f. ReadsUnbuilt (response charset room) is_built (behind tokens) a b place (behind tokens) (record { fault = f; place = Payload place })) (sym x.0)
     (unbuilt_at_once (response charset room) is_built (behind tokens) a b place (byte ∷ []) (omega arith) refl x.1 t between))
 
-pub halts_at_byte : (charset : Charset) (room : ℕ) (tokens : List Token) (a b : Seen) (place byte : ℕ) (described : Bool) (fault : Fault) (h : Held) (area : Space) (failed : Bool) → h.delivered ≤ 2 ^ 64 - 1 → failed ≡ false → IsHolding area (behind tokens)
-    → IsDescribed described (encoded_after [] tokens) (described_after None tokens) → IsRefusal described byte fault → Takes a b (byte ∷ []) 1 → IsBetween b → Halts (response charset room) (behind tokens) a b place h h area failed (record { fault = fault; place = Payload place })
-halts_at_byte charset room tokens a b place byte described fault h area failed d going holds k why t between =
+pub stops_at_byte : (charset : Charset) (room : ℕ) (tokens : List Token) (a b : Seen) (place byte : ℕ) (described : Bool) (fault : Fault) (h : Held) (area : Space) (failed : Bool) → h.delivered ≤ 2 ^ 64 - 1 → failed ≡ false → IsHolding area (behind tokens)
+    → IsDescribed described (encoded_after [] tokens) (described_after None tokens) → IsRefusal described byte fault → Takes a b (byte ∷ []) 1 → IsBetween b → StepStops (response charset room) (behind tokens) a b place h h area failed (record { fault = fault; place = Payload place })
+stops_at_byte charset room tokens a b place byte described fault h area failed d going holds k why t between =
     inl (record { at = behind tokens; stalls = refused charset room tokens a b place byte described fault k why t between; puts = same_text (behind tokens) (behind tokens) h refl d; holds = holds }, going)
 
 -- ---- the payload stopped between tokens
 
-pub halts_between : (charset : Charset) (room : ℕ) (tokens : List Token) (a b : Seen) (place : ℕ) (stop : Stop) (h : Held) (area : Space) (failed : Bool) → h.delivered ≤ 2 ^ 64 - 1 → failed ≡ false → IsHolding area (behind tokens)
-    → Ends a b [] stop → (stop.fault ≡ MessageEnded → ⊥) → Halts (response charset room) (behind tokens) a b place h h area failed stop
-halts_between charset room tokens a b place stop h area failed d going holds ends other =
+pub stops_between : (charset : Charset) (room : ℕ) (tokens : List Token) (a b : Seen) (place : ℕ) (stop : Stop) (h : Held) (area : Space) (failed : Bool) → h.delivered ≤ 2 ^ 64 - 1 → failed ≡ false → IsHolding area (behind tokens)
+    → Ends a b [] stop → (stop.fault ≡ MessageEnded → ⊥) → StepStops (response charset room) (behind tokens) a b place h h area failed stop
+stops_between charset room tokens a b place stop h area failed d going holds ends other =
     inl (
       record {
         at = behind tokens;

@@ -7,10 +7,10 @@ use Rattle.tds_rows.specs.Cells.{Cell, field}
 use Rattle.tds_columns.specs.Description.{Column}
 use Rattle.tds_columns.specs.View.{columns_of}
 use Rattle.tds_export.specs.declared.report.Report.{Report}
-use Rattle.tds_export.specs.declared.standing.Standing.{Standing}
+use Rattle.tds_export.specs.declared.progress.Progress.{Progress}
 use Rattle.tds_export.specs.Tokens.{Token, described_after, Metadata, NoMetadata, Row, Order, EnvChange, Error, Info, ReturnStatus, Returned, Done, DoneInProc, between, encoded_after, first_error, greatest_span, header_line, how_many, is_error, is_final, is_info, is_return, is_row, is_set, return_status_after, text, text_after}
-use Rattle.tds_export.specs.Export.{report_of, server_error, signed}
-use Rattle.tds_export.specs.Running.{IsDescribed, Tracks}
+use Rattle.tds_export.specs.Outcome.{report_of, server_error, signed}
+use Rattle.tds_export.specs.Steps.{IsDescribed, Tracks}
 use Rattle.tds_export.proofs.ResponseLaws.{described_after-append}
 
 -- whether a set has begun after these tokens
@@ -122,7 +122,7 @@ same_columns described ts t bytes columns k =
     subst (λ b. IsDescribed described b (described_after None (ts ++ t ∷ []))) (sym (encoded_after-append [] ts (t ∷ []) ∙ bytes))
     (subst (IsDescribed described (encoded_after [] ts)) (sym (described_after-append None ts (t ∷ []) ∙ columns)) k)
 
-pub tracks_done : (s : Standing) (ts : List Token) (m final : Bool) → Tracks s ts → final ≡ (if m then false else true) → Tracks (record s { is_final = final }) (ts ++ Done m ∷ [])
+pub tracks_done : (s : Progress) (ts : List Token) (m final : Bool) → Tracks s ts → final ≡ (if m then false else true) → Tracks (record s { is_final = final }) (ts ++ Done m ∷ [])
 tracks_done s ts m final k e = record {
   report = ap (λ (r : Report). record r { written = length (text (ts ++ Done m ∷ [])) }) k.report ∙ sym (report-snoc ts (Done m) refl ∙ rw (none (how_many is_set ts), none (how_many is_row ts), none (how_many is_error ts), none (how_many is_info ts), none (how_many is_return ts)) refl);
   described = same_columns s.described ts (Done m) refl refl k.described;
@@ -130,7 +130,7 @@ tracks_done s ts m final k e = record {
   no_error = first_error-snoc ts (Done m) refl ∙ k.no_error;
 }
 
-pub tracks_none : (s : Standing) (ts : List Token) → Tracks s ts → Tracks (record s { described = false; is_final = false }) (ts ++ NoMetadata ∷ [])
+pub tracks_none : (s : Progress) (ts : List Token) → Tracks s ts → Tracks (record s { described = false; is_final = false }) (ts ++ NoMetadata ∷ [])
 tracks_none s ts k = record {
   report = ap (λ (r : Report). record r { written = length (text (ts ++ NoMetadata ∷ [])) }) k.report ∙ sym (report-snoc ts NoMetadata refl ∙ rw (none (how_many is_set ts), none (how_many is_row ts), none (how_many is_error ts), none (how_many is_info ts), none (how_many is_return ts)) refl);
   described = described_after-append None ts (NoMetadata ∷ []);
@@ -138,7 +138,7 @@ tracks_none s ts k = record {
   no_error = first_error-snoc ts NoMetadata refl ∙ k.no_error;
 }
 
-pub tracks_metadata : (s : Standing) (ts : List Token) (bytes : List ℕ) (columns : List Column) → columns_of bytes ≡ columns → Tracks s ts
+pub tracks_metadata : (s : Progress) (ts : List Token) (bytes : List ℕ) (columns : List Column) → columns_of bytes ≡ columns → Tracks s ts
     → Tracks (record s { report = record s.report { sets = s.report.sets + 1 }; described = true; is_final = false }) (ts ++ Metadata bytes columns ∷ [])
 tracks_metadata s ts bytes columns shown k =
     let t = Metadata bytes columns in
@@ -149,7 +149,7 @@ tracks_metadata s ts bytes columns shown k =
       no_error = first_error-snoc ts t refl ∙ k.no_error;
     }
 
-pub tracks_row : (s : Standing) (ts : List Token) (cells : List Cell) → Tracks s ts → Tracks (record s { report = record s.report { rows = s.report.rows + 1 }; is_final = false }) (ts ++ Row cells ∷ [])
+pub tracks_row : (s : Progress) (ts : List Token) (cells : List Cell) → Tracks s ts → Tracks (record s { report = record s.report { rows = s.report.rows + 1 }; is_final = false }) (ts ++ Row cells ∷ [])
 tracks_row s ts cells k = record {
   report = ap (λ (r : Report). record r { rows = r.rows + 1; written = length (text (ts ++ Row cells ∷ [])) }) k.report ∙ sym (report-snoc ts (Row cells) refl ∙ rw (none (how_many is_set ts), none (how_many is_error ts), none (how_many is_info ts), none (how_many is_return ts)) refl);
   described = same_columns s.described ts (Row cells) refl refl k.described;

@@ -23,13 +23,13 @@ use Rattle.tds_rows.specs.Cells.{Shape, FixedShape, CountedShape, LongShape, cel
 use Rattle.tds_rows.specs.Rows.{RowPart, Bitmap, InCell, WholeRow, row, row_size, row_so_far, row_start, with_field}
 use Rattle.tds_rows.specs.Streams.{ReadsRow, RowStalls}
 use Rattle.tds_rows.specs.Unbuilt.{Stalls, is_built_row}
-use Rattle.tds_export.specs.declared.standing.Standing.{Standing}
+use Rattle.tds_export.specs.declared.progress.Progress.{Progress}
 use Rattle.tds_export.specs.declared.report.Report.{Report}
 use Rattle.tds_export.specs.Tokens.{Token, Metadata, NoMetadata, Row, Done, between, encoded_after, greatest_span, header_line, how_many, is_set, text}
 use Rattle.tds_export.specs.Response.{more}
 use Rattle.tds_export.specs.Built.{is_built}
-use Rattle.tds_export.specs.Reading.{Part, response, text_so_far, with_described, with_row}
-use Rattle.tds_export.specs.Running.{Halts, HaltsReading, HaltsWriting, IsHolding, ReadsToken, Tracks, behind, in_done, in_metadata, in_row}
+use Rattle.tds_export.specs.TokenGrammar.{Part, response, text_so_far, with_described, with_row}
+use Rattle.tds_export.specs.Steps.{StepStops, StopsInReading, StopsInWriting, IsHolding, ReadsToken, Tracks, behind, in_done, in_metadata, in_row}
 use Rattle.tds_rows.proofs.Lifts.{last_inside, reads_inside, stalls_inside, stalls_size}
 use Rattle.tds_export.proofs.ResponseLaws.{description_in_response, row_in_response}
 use Rattle.tds_export.proofs.TokenLaws.{begun_after, begun_where_sets, encoded_after-append, greatest_span-append, text_after-snoc, tracks_done, tracks_metadata, tracks_none, tracks_row}
@@ -62,10 +62,10 @@ final_or_more n = go (n % 2) (omega arith)
     go (suc zero) h = refl
     go (suc (suc m)) h = absurd (omega arith)
 
-pub done_reads : (charset : Charset) (room : ℕ) (area : Space) (sink : Held) (tokens : List Token) (standing : Standing) (fields : List ℕ) (a b : Seen) (place place' : ℕ) → place' ≡ place + length fields → sink.delivered ≤ 2 ^ 64 - 1 → Tracks standing tokens → IsHolding area (behind tokens)
+pub done_reads : (charset : Charset) (room : ℕ) (area : Space) (sink : Held) (tokens : List Token) (progress : Progress) (fields : List ℕ) (a b : Seen) (place place' : ℕ) → place' ≡ place + length fields → sink.delivered ≤ 2 ^ 64 - 1 → Tracks progress tokens → IsHolding area (behind tokens)
     → length fields ≡ 12 → Takes a b fields (length fields)
-    → ReadsToken (response charset room) (in_done tokens) tokens a b place place' sink sink (record standing { is_final = slice_index fields 0 % 2 == 0 }) area
-done_reads charset room area sink tokens standing fields a b place place' at d tracks holds len takes =
+    → ReadsToken (response charset room) (in_done tokens) tokens a b place place' sink sink (record progress { is_final = slice_index fields 0 % 2 == 0 }) area
+done_reads charset room area sink tokens progress fields a b place place' at d tracks holds len takes =
     let t = Done (more fields) in
     record {
       token = t;
@@ -76,7 +76,7 @@ done_reads charset room area sink tokens standing fields a b place place' at d t
         puts = same_text (in_done tokens) (behind (tokens ++ t ∷ [])) sink (ap (λ l. l ++ []) (sym (text_after-snoc false tokens t ∙ append-nil (text tokens)))) d;
       };
       place_is = at;
-      tracks = tracks_done standing tokens (more fields) (slice_index fields 0 % 2 == 0) tracks (final_or_more (slice_index fields 0));
+      tracks = tracks_done progress tokens (more fields) (slice_index fields 0 % 2 == 0) tracks (final_or_more (slice_index fields 0));
       holds = holds-snoc area tokens t refl holds;
     }
 
@@ -109,16 +109,16 @@ row_holds area tokens (WholeRow cells) h = holds-snoc area tokens (Row cells) re
 row_holds area tokens (InCell cells part ks) h = record { bytes = h.bytes; peak = h.peak }
 row_holds area tokens (Bitmap columns) h = record { bytes = h.bytes; peak = h.peak }
 
-pub row_reads : (charset : Charset) (room : ℕ) (columns : List Column) (area : Space) (before after : Held) (tokens : List Token) (standing : Standing) (a b : Seen) (place place' : ℕ) → Tracks standing tokens → IsHolding area (behind tokens)
+pub row_reads : (charset : Charset) (room : ℕ) (columns : List Column) (area : Space) (before after : Held) (tokens : List Token) (progress : Progress) (a b : Seen) (place place' : ℕ) → Tracks progress tokens → IsHolding area (behind tokens)
     → ReadsRow charset columns a b place place' before after
-    → ReadsToken (response charset room) (in_row charset columns tokens) tokens a b place place' before after (record standing { report = record standing.report { rows = standing.report.rows + 1 }; is_final = false }) area
-row_reads charset room columns area before after tokens standing a b place place' tracks holds x =
+    → ReadsToken (response charset room) (in_row charset columns tokens) tokens a b place place' before after (record progress { report = record progress.report { rows = progress.report.rows + 1 }; is_final = false }) area
+row_reads charset room columns area before after tokens progress a b place place' tracks holds x =
     let r = reads_inside (row charset) (response charset room) (with_row tokens) (row_in_response charset room tokens) (row_start charset columns) a b (WholeRow x.cells) (record { bytes = x.streams.bytes; spelt = x.streams.spelt; takes = x.streams.takes }) in
     record {
       token = Row x.cells;
       streams = record { bytes = r.bytes; spelt = r.spelt; takes = r.takes; puts = row_puts tokens (row_start charset columns) (WholeRow x.cells) before after x.streams.puts };
       place_is = x.place_is;
-      tracks = tracks_row standing tokens x.cells tracks;
+      tracks = tracks_row progress tokens x.cells tracks;
       holds = holds-snoc area tokens (Row x.cells) refl holds;
     }
 
@@ -141,7 +141,7 @@ row_next charset room tokens at element n =
 
 pub row_breaks : (charset : Charset) (room : ℕ) (columns : List Column) (area : Space) (before after : Held) (tokens : List Token) (a b : Seen) (at : RowPart) (stop : Stop) → IsHolding area (behind tokens)
     → BreaksStreaming (row charset) row_so_far (row_start charset columns) a b before after at stop
-    → HaltsWriting (response charset room) (in_row charset columns tokens) a b before after area stop
+    → StopsInWriting (response charset room) (in_row charset columns tokens) a b before after area stop
 row_breaks charset room columns area before after tokens a b at stop holds x =
     let n = row_next charset room tokens at x.element x.next in
     record {
@@ -164,9 +164,9 @@ row_breaks charset room columns area before after tokens a b at stop holds x =
     }
 
 -- a row stopped the call
-pub row_halts : (charset : Charset) (room : ℕ) (columns : List Column) (area : Space) (before after : Held) (tokens : List Token) (a b : Seen) (place : ℕ) (failed : Bool) (stop : Stop) → IsHolding area (behind tokens)
-    → RowStalls charset columns a b place before after failed stop → Halts (response charset room) (in_row charset columns tokens) a b place before after area failed stop
-row_halts charset room columns area before after tokens a b place failed stop holds x = elim x.cause [
+pub row_stops : (charset : Charset) (room : ℕ) (columns : List Column) (area : Space) (before after : Held) (tokens : List Token) (a b : Seen) (place : ℕ) (failed : Bool) (stop : Stop) → IsHolding area (behind tokens)
+    → RowStalls charset columns a b place before after failed stop → StepStops (response charset room) (in_row charset columns tokens) a b place before after area failed stop
+row_stops charset room columns area before after tokens a b place failed stop holds x = elim x.cause [
   | inl y ↦
       let inside = row_in_response charset room tokens in
       let some = stalls_size (row charset) (response charset room) (with_row tokens) inside is_built_row (row_start charset columns) a b place x.at stop y.0 in
@@ -182,27 +182,27 @@ row_halts charset room columns area before after tokens a b place failed stop ho
   | inr y ↦ inr (row_breaks charset room columns area before after tokens a b x.at stop holds y.0, y.1)
 ]
 
-pub halts_reading : (charset : Charset) (room : ℕ) (s : Part) (a b : Seen) (place : ℕ) (h : Held) (area : Space) (failed : Bool) (stop : Stop) → h.delivered ≤ 2 ^ 64 - 1 → failed ≡ false → IsHolding area s → StopsReading (response charset room) s a b place s stop
-    → Halts (response charset room) s a b place h h area failed stop
-halts_reading charset room s a b place h area failed stop d going holds stops = inl (record { at = s; stalls = inl stops; puts = same_text s s h refl d; holds = holds }, going)
+pub stops_reading : (charset : Charset) (room : ℕ) (s : Part) (a b : Seen) (place : ℕ) (h : Held) (area : Space) (failed : Bool) (stop : Stop) → h.delivered ≤ 2 ^ 64 - 1 → failed ≡ false → IsHolding area s → StopsReading (response charset room) s a b place s stop
+    → StepStops (response charset room) s a b place h h area failed stop
+stops_reading charset room s a b place h area failed stop d going holds stops = inl (record { at = s; stalls = inl stops; puts = same_text s s h refl d; holds = holds }, going)
 
 -- ---- COLMETADATA
 
-sets_are : (standing : Standing) (tokens : List Token) → Tracks standing tokens → standing.report.sets ≡ how_many is_set tokens
-sets_are standing tokens tracks = ap (λ (r : Report). r.sets) tracks.report
+sets_are : (progress : Progress) (tokens : List Token) → Tracks progress tokens → progress.report.sets ≡ how_many is_set tokens
+sets_are progress tokens tracks = ap (λ (r : Report). r.sets) tracks.report
 
-header_text : (standing : Standing) (tokens : List Token) (bytes : List ℕ) (columns : List Column) → Tracks standing tokens
-    → text_so_far (in_metadata tokens) ++ (between (nat_lt 0 standing.report.sets) ++ header_line columns) ≡ text_so_far (behind (tokens ++ Metadata bytes columns ∷ []))
-header_text standing tokens bytes columns tracks =
-    let begun : nat_lt 0 standing.report.sets ≡ begun_after false tokens = ap (nat_lt 0) (sets_are standing tokens tracks) ∙ sym (begun_where_sets tokens) in
+header_text : (progress : Progress) (tokens : List Token) (bytes : List ℕ) (columns : List Column) → Tracks progress tokens
+    → text_so_far (in_metadata tokens) ++ (between (nat_lt 0 progress.report.sets) ++ header_line columns) ≡ text_so_far (behind (tokens ++ Metadata bytes columns ∷ []))
+header_text progress tokens bytes columns tracks =
+    let begun : nat_lt 0 progress.report.sets ≡ begun_after false tokens = ap (nat_lt 0) (sets_are progress tokens tracks) ∙ sym (begun_where_sets tokens) in
     let header = between (begun_after false tokens) ++ header_line columns in
     ap (λ b. (text tokens ++ []) ++ (between b ++ header_line columns)) begun ∙ ap (λ l. l ++ header) (append-nil (text tokens)) ∙ ap (λ l. text tokens ++ l) (sym (append-nil header))
     ∙ sym (append-nil (text tokens ++ (header ++ []))) ∙ ap (λ l. l ++ []) (sym (text_after-snoc false tokens (Metadata bytes columns)))
 
-pub none_reads : (charset : Charset) (room : ℕ) (area old_area : Space) (sink : Held) (tokens : List Token) (standing : Standing) (a b : Seen) (place place' : ℕ) → sink.delivered ≤ 2 ^ 64 - 1 → Tracks standing tokens → IsHolding old_area (behind tokens)
+pub none_reads : (charset : Charset) (room : ℕ) (area old_area : Space) (sink : Held) (tokens : List Token) (progress : Progress) (a b : Seen) (place place' : ℕ) → sink.delivered ≤ 2 ^ 64 - 1 → Tracks progress tokens → IsHolding old_area (behind tokens)
     → Describes room BeforeCount a b place place' old_area.peak area NoDescription
-    → ReadsToken (response charset room) (in_metadata tokens) tokens a b place place' sink sink (record standing { described = false; is_final = false }) area
-none_reads charset room area old_area sink tokens standing a b place place' d tracks holds x =
+    → ReadsToken (response charset room) (in_metadata tokens) tokens a b place place' sink sink (record progress { described = false; is_final = false }) area
+none_reads charset room area old_area sink tokens progress a b place place' d tracks holds x =
     let r = reads_inside (description room) (response charset room) (with_described tokens) (description_in_response charset room tokens) BeforeCount a b NoDescription x.reads in
     record {
       token = NoMetadata;
@@ -213,7 +213,7 @@ none_reads charset room area old_area sink tokens standing a b place place' d tr
         puts = same_text (in_metadata tokens) (behind (tokens ++ NoMetadata ∷ [])) sink (ap (λ l. l ++ []) (sym (text_after-snoc false tokens NoMetadata ∙ append-nil (text tokens)))) d;
       };
       place_is = x.place_is;
-      tracks = tracks_none standing tokens tracks;
+      tracks = tracks_none progress tokens tracks;
       holds = record {
         bytes = x.kept ∙ sym (encoded_after-append [] tokens (NoMetadata ∷ []));
         peak = omega (arith, x.bound, holds.peak, greatest_span-append tokens (NoMetadata ∷ []));
@@ -226,17 +226,17 @@ metadata_holds area old_area tokens columns peak holds = record {
   peak = omega (arith, peak, holds.peak, greatest_span-append tokens (Metadata area.bytes columns ∷ []));
 }
 
-pub metadata_reads : (charset : Charset) (room : ℕ) (area old_area : Space) (before after : Held) (tokens : List Token) (standing : Standing) (columns : List Column) (a b : Seen) (place place' : ℕ) → Tracks standing tokens → IsHolding old_area (behind tokens)
-    → columns_of area.bytes ≡ columns → Describes room BeforeCount a b place place' old_area.peak area (WholeDescription area.bytes columns) → Puts before after (between (nat_lt 0 standing.report.sets) ++ header_line (columns_of area.bytes))
-    → ReadsToken (response charset room) (in_metadata tokens) tokens a b place place' before after (record standing { report = record standing.report { sets = standing.report.sets + 1 }; described = true; is_final = false }) area
-metadata_reads charset room area old_area before after tokens standing columns a b place place' tracks holds shown x puts =
+pub metadata_reads : (charset : Charset) (room : ℕ) (area old_area : Space) (before after : Held) (tokens : List Token) (progress : Progress) (columns : List Column) (a b : Seen) (place place' : ℕ) → Tracks progress tokens → IsHolding old_area (behind tokens)
+    → columns_of area.bytes ≡ columns → Describes room BeforeCount a b place place' old_area.peak area (WholeDescription area.bytes columns) → Puts before after (between (nat_lt 0 progress.report.sets) ++ header_line (columns_of area.bytes))
+    → ReadsToken (response charset room) (in_metadata tokens) tokens a b place place' before after (record progress { report = record progress.report { sets = progress.report.sets + 1 }; described = true; is_final = false }) area
+metadata_reads charset room area old_area before after tokens progress columns a b place place' tracks holds shown x puts =
     let r = reads_inside (description room) (response charset room) (with_described tokens) (description_in_response charset room tokens) BeforeCount a b (WholeDescription area.bytes columns) x.reads in
-    let header = between (nat_lt 0 standing.report.sets) ++ header_line columns in
+    let header = between (nat_lt 0 progress.report.sets) ++ header_line columns in
     record {
       token = Metadata area.bytes columns;
-      streams = record { bytes = r.bytes; spelt = r.spelt; takes = r.takes; puts = (header, header_text standing tokens area.bytes columns tracks, subst (λ cs. Puts before after (between (nat_lt 0 standing.report.sets) ++ header_line cs)) shown puts) };
+      streams = record { bytes = r.bytes; spelt = r.spelt; takes = r.takes; puts = (header, header_text progress tokens area.bytes columns tracks, subst (λ cs. Puts before after (between (nat_lt 0 progress.report.sets) ++ header_line cs)) shown puts) };
       place_is = x.place_is;
-      tracks = tracks_metadata standing tokens area.bytes columns shown tracks;
+      tracks = tracks_metadata progress tokens area.bytes columns shown tracks;
       holds = metadata_holds area old_area tokens columns x.bound holds;
     }
 
@@ -250,11 +250,11 @@ some_bytes : (room : ℕ) (area bytes : List ℕ) (columns : List Column) → Sp
 some_bytes room area [] columns h = absurd (let same : WholeDescription area columns ≡ BeforeCount = one_state (description room) BeforeCount [] (WholeDescription area columns) BeforeCount h (Spelt-none (description room) BeforeCount) in cc)
 some_bytes room area (x ∷ bytes) columns h = omega arith
 
-pub metadata_breaks : (charset : Charset) (room : ℕ) (area old_area : Space) (before after : Held) (tokens : List Token) (standing : Standing) (columns : List Column) (a b : Seen) (place place' : ℕ) (stop : Stop) → before.delivered ≤ 2 ^ 64 - 1 → length before.waiting < 4096 → Tracks standing tokens → IsHolding old_area (behind tokens)
-    → columns_of area.bytes ≡ columns → Describes room BeforeCount a b place place' old_area.peak area (WholeDescription area.bytes columns) → IsBetween b → Breaks before after (between (nat_lt 0 standing.report.sets) ++ header_line (columns_of area.bytes)) stop
-    → HaltsWriting (response charset room) (in_metadata tokens) a b before after area stop
-metadata_breaks charset room area old_area before after tokens standing columns a b place place' stop d few tracks holds shown x between_b breaks =
-    let header = between (nat_lt 0 standing.report.sets) ++ header_line columns in
+pub metadata_breaks : (charset : Charset) (room : ℕ) (area old_area : Space) (before after : Held) (tokens : List Token) (progress : Progress) (columns : List Column) (a b : Seen) (place place' : ℕ) (stop : Stop) → before.delivered ≤ 2 ^ 64 - 1 → length before.waiting < 4096 → Tracks progress tokens → IsHolding old_area (behind tokens)
+    → columns_of area.bytes ≡ columns → Describes room BeforeCount a b place place' old_area.peak area (WholeDescription area.bytes columns) → IsBetween b → Breaks before after (between (nat_lt 0 progress.report.sets) ++ header_line (columns_of area.bytes)) stop
+    → StopsInWriting (response charset room) (in_metadata tokens) a b before after area stop
+metadata_breaks charset room area old_area before after tokens progress columns a b place place' stop d few tracks holds shown x between_b breaks =
+    let header = between (nat_lt 0 progress.report.sets) ++ header_line columns in
     let l = last_inside (description room) (response charset room) (with_described tokens) (description_in_response charset room tokens) BeforeCount x.reads.bytes (WholeDescription area.bytes columns) x.reads.spelt (some_bytes room area.bytes x.reads.bytes columns x.reads.spelt) in
     let open_text = open_text_none tokens l.at l.size in
     record {
@@ -270,8 +270,8 @@ metadata_breaks charset room area old_area before after tokens standing columns 
         few = few;
         puts = same_text (in_metadata tokens) (with_described tokens l.at) before (sym open_text) d;
         more = header;
-        text_is = ap (λ t. t ++ header) open_text ∙ header_text standing tokens area.bytes columns tracks ∙ ap text_so_far (sym l.to_is);
-        breaks = subst (λ cs. Breaks before after (between (nat_lt 0 standing.report.sets) ++ header_line cs) stop) shown breaks;
+        text_is = ap (λ t. t ++ header) open_text ∙ header_text progress tokens area.bytes columns tracks ∙ ap text_so_far (sym l.to_is);
+        breaks = subst (λ cs. Breaks before after (between (nat_lt 0 progress.report.sets) ++ header_line cs) stop) shown breaks;
       };
       holds = subst (IsHolding area) (sym l.to_is) (metadata_holds area old_area tokens columns x.bound holds);
     }
@@ -294,10 +294,10 @@ open_holds area tokens k (InColumn bytes count columns place) h e p q = record {
 open_holds area tokens k NoDescription h e p q = absurd (omega arith)
 open_holds area tokens k (WholeDescription bytes columns) h e p q = absurd (omega arith)
 
-pub metadata_stalls : (charset : Charset) (room : ℕ) (area old_area : Space) (sink : Held) (tokens : List Token) (a b : Seen) (place : ℕ) (stop : Stop) → sink.delivered ≤ 2 ^ 64 - 1 → IsHolding old_area (behind tokens)
+pub metadata_stops : (charset : Charset) (room : ℕ) (area old_area : Space) (sink : Held) (tokens : List Token) (a b : Seen) (place : ℕ) (stop : Stop) → sink.delivered ≤ 2 ^ 64 - 1 → IsHolding old_area (behind tokens)
     → StopsDescribing room BeforeCount a b place old_area.peak area stop
-    → HaltsReading (response charset room) (in_metadata tokens) a b place sink sink area stop
-metadata_stalls charset room area old_area sink tokens a b place stop d holds x =
+    → StopsInReading (response charset room) (in_metadata tokens) a b place sink sink area stop
+metadata_stops charset room area old_area sink tokens a b place stop d holds x =
     let inside = description_in_response charset room tokens in
     let stalls : Stalls (description room) (λ _ _. true) BeforeCount a b place x.at stop = inl x.stops in
     let some = stalls_size (description room) (response charset room) (with_described tokens) inside (λ _ _. true) BeforeCount a b place x.at stop stalls in

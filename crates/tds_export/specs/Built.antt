@@ -1,13 +1,14 @@
 -- Which elements of a response are built. It shrinks to none that isn't as the exporter grows.
 use Rattle.std.specs.Prelude.{◌==◌, ◌||◌, ℕ, Bool, true, List, slice_index}
 use Rattle.tds_rows.specs.Unbuilt.{is_built_row}
-use Rattle.tds_export.specs.Reading.{Open, Between, InRow, Part}
+use Rattle.tds_export.specs.declared.token_bytes.TheConstants.{COLMETADATA, ROW, DONE, DONEPROC}
+use Rattle.tds_export.specs.TokenGrammar.{Open, Between, InRow, Part}
 
 -- a COLMETADATA, ROW, DONE or DONEPROC
 abbrev pub is_built_token : ℕ → Bool
-is_built_token byte = (byte == 0x81) || (byte == 0xD1) || (byte == 0xFD) || (byte == 0xFE)
+is_built_token byte = (byte == COLMETADATA) || (byte == ROW) || (byte == DONE) || (byte == DONEPROC)
 
--- all but the other tokens, and the values of long kinds
+-- whether the next element is built where a response is read: all but the other tokens, and the values of long kinds
 abbrev pub is_built_open : Open → List ℕ → Bool
 is_built_open Between element = is_built_token (slice_index element 0)
 is_built_open (InRow part) element = is_built_row part element

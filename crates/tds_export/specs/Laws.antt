@@ -6,7 +6,7 @@ use Rattle.tds_rows.specs.declared.Charset.{Charset}
 use Rattle.tds_export.specs.Tokens.{Token, is_final}
 use Rattle.tds_packet.specs.Packets.{Packet}
 use Rattle.tds_export.specs.Response.{Response, Accepted}
-use Rattle.tds_export.specs.Reading.{Between, Part, response, response_start}
+use Rattle.tds_export.specs.TokenGrammar.{Between, Part, response, response_start}
 
 -- No payload spells two lists of tokens.
 abbrev pub OneResponse : Type 0
@@ -20,7 +20,7 @@ OnePart = (charset : Charset) (room : ℕ) (bytes : List ℕ) (a b : Part) → S
 abbrev pub SomeLongest : Type 0
 SomeLongest = (charset : Charset) (room : ℕ) (payload : List ℕ) → (place : ℕ) × (part : Part) × Longest (response charset room) response_start payload place part
 
--- It has one.
+-- No payload has two longest parts.
 abbrev pub OneLongest : Type 0
 OneLongest = (charset : Charset) (room : ℕ) (payload : List ℕ) (m n : ℕ) (a b : Part) → Longest (response charset room) response_start payload m a → Longest (response charset room) response_start payload n b → (m ≡ n) × (a ≡ b)
 

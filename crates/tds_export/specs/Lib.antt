@@ -1,11 +1,12 @@
 pub mod ReturnValue
 pub mod Tokens
 pub mod Response
-pub mod Reading
+pub mod TokenGrammar
 pub mod Completion
-pub mod Joined
+pub mod JoinStops
 pub mod Built
-pub mod Export
-pub mod Running
+pub mod Outcome
+pub mod Steps
+pub mod Exporters
 pub mod Laws
-pub mod Ended
+pub mod Moments

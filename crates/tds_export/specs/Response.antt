@@ -6,6 +6,7 @@ use Rattle.tds_rows.specs.declared.Charset.{Charset}
 use Rattle.tds_rows.specs.Cells.{Cell}
 use Rattle.tds_rows.specs.Rows.{SpellsRow, SpellsNbcRow}
 use Rattle.tds_packet.specs.Packets.{Packet, Message, payload_of}
+use Rattle.tds_export.specs.declared.token_bytes.TheConstants.{COLMETADATA, ROW, NBCROW, ORDER, ENVCHANGE, ERROR, INFO, RETURNVALUE, RETURNSTATUS, DONE, DONEPROC, DONEINPROC}
 use Rattle.tds_export.specs.ReturnValue.{SpellsReturnValue}
 use Rattle.tds_export.specs.Tokens.{Notice, Token, Metadata, NoMetadata, Row, Order, EnvChange, Error, Info, ReturnStatus, Returned, Done, DoneInProc, described_after, is_final}
 
@@ -35,21 +36,21 @@ more fields = slice_index fields 0 % 2 == 1
 -- The bytes spell a row of the columns.
 abbrev pub SpellsRowToken : Charset → Option (List Column) → List Cell → List ℕ → Type 0
 SpellsRowToken charset None cells bytes = ⊥
-SpellsRowToken charset (Some columns) cells bytes = (rest : List ℕ) × (((bytes ≡ 0xD1 ∷ rest) × SpellsRow charset columns cells rest) ⊎ ((bytes ≡ 0xD2 ∷ rest) × SpellsNbcRow charset columns cells rest))
+SpellsRowToken charset (Some columns) cells bytes = (rest : List ℕ) × (((bytes ≡ ROW ∷ rest) × SpellsRow charset columns cells rest) ⊎ ((bytes ≡ NBCROW ∷ rest) × SpellsNbcRow charset columns cells rest))
 
 -- The bytes spell the token, where these columns are described.
 abbrev pub SpellsToken : Charset → ℕ → Option (List Column) → Token → List ℕ → Type 0
-SpellsToken charset room current (Metadata encoded columns) bytes = (bytes ≡ 0x81 ∷ encoded) × SpellsDescription room columns encoded
-SpellsToken charset room current NoMetadata bytes = bytes ≡ 0x81 ∷ 255 ∷ 255 ∷ []
+SpellsToken charset room current (Metadata encoded columns) bytes = (bytes ≡ COLMETADATA ∷ encoded) × SpellsDescription room columns encoded
+SpellsToken charset room current NoMetadata bytes = bytes ≡ COLMETADATA ∷ 255 ∷ 255 ∷ []
 SpellsToken charset room current (Row cells) bytes = SpellsRowToken charset current cells bytes
-SpellsToken charset room current (Order body) bytes = (rest : List ℕ) × (bytes ≡ 0xA9 ∷ rest) × SpellsBody body rest
-SpellsToken charset room current (EnvChange body) bytes = (rest : List ℕ) × (bytes ≡ 0xE3 ∷ rest) × SpellsBody body rest
-SpellsToken charset room current (Error n) bytes = (rest : List ℕ) × (body : List ℕ) × (bytes ≡ 0xAA ∷ rest) × SpellsBody body rest × SpellsNotice n body
-SpellsToken charset room current (Info n) bytes = (rest : List ℕ) × (body : List ℕ) × (bytes ≡ 0xAB ∷ rest) × SpellsBody body rest × SpellsNotice n body
-SpellsToken charset room current (ReturnStatus n) bytes = (rest : List ℕ) × (bytes ≡ 0x79 ∷ rest) × (length rest ≡ 4) × (little rest ≡ n)
-SpellsToken charset room current (Returned r) bytes = (rest : List ℕ) × (bytes ≡ 0xAC ∷ rest) × SpellsReturnValue r rest
-SpellsToken charset room current (Done m) bytes = (fields : List ℕ) × ((bytes ≡ 0xFD ∷ fields) ⊎ (bytes ≡ 0xFE ∷ fields)) × (length fields ≡ 12) × (more fields ≡ m)
-SpellsToken charset room current (DoneInProc m) bytes = (fields : List ℕ) × (bytes ≡ 0xFF ∷ fields) × (length fields ≡ 12) × (more fields ≡ m)
+SpellsToken charset room current (Order body) bytes = (rest : List ℕ) × (bytes ≡ ORDER ∷ rest) × SpellsBody body rest
+SpellsToken charset room current (EnvChange body) bytes = (rest : List ℕ) × (bytes ≡ ENVCHANGE ∷ rest) × SpellsBody body rest
+SpellsToken charset room current (Error n) bytes = (rest : List ℕ) × (body : List ℕ) × (bytes ≡ ERROR ∷ rest) × SpellsBody body rest × SpellsNotice n body
+SpellsToken charset room current (Info n) bytes = (rest : List ℕ) × (body : List ℕ) × (bytes ≡ INFO ∷ rest) × SpellsBody body rest × SpellsNotice n body
+SpellsToken charset room current (ReturnStatus n) bytes = (rest : List ℕ) × (bytes ≡ RETURNSTATUS ∷ rest) × (length rest ≡ 4) × (little rest ≡ n)
+SpellsToken charset room current (Returned r) bytes = (rest : List ℕ) × (bytes ≡ RETURNVALUE ∷ rest) × SpellsReturnValue r rest
+SpellsToken charset room current (Done m) bytes = (fields : List ℕ) × ((bytes ≡ DONE ∷ fields) ⊎ (bytes ≡ DONEPROC ∷ fields)) × (length fields ≡ 12) × (more fields ≡ m)
+SpellsToken charset room current (DoneInProc m) bytes = (fields : List ℕ) × (bytes ≡ DONEINPROC ∷ fields) × (length fields ≡ 12) × (more fields ≡ m)
 
 -- The bytes spell the tokens one after the other, each row under the nearest description before it.
 abbrev pub SpellsTokens : Charset → ℕ → Option (List Column) → List Token → List ℕ → Type 0

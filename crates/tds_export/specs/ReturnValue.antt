@@ -62,19 +62,20 @@ abbrev pub with_value : List ℕ → Kind → CellPart → ReturnPart
 with_value name kind (WholeCell c) = WholeReturn (record { name = name; kind = kind; value = c })
 with_value name kind part = InReturnCell name kind part
 
--- its kind is known
+-- a return value whose kind is known, or not
 abbrev pub with_return_kind : List ℕ → Option Kind → ReturnPart
 with_return_kind name (Some kind) = with_value name kind (cell_start kind (shape return_charset kind))
 with_return_kind name None = ReturnOrdinal
 
--- its type byte is read, and so many bytes of type information follow
+-- a return value behind its type byte, with so many bytes of type information to follow
 abbrev pub with_return_type : List ℕ → ℕ → ℕ → ReturnPart
 with_return_type name byte rest = if rest == 0 then with_return_kind name (kind_of (byte ∷ [])) else ReturnInfo name byte
 
--- its name has so many units
+-- a return value whose name has so many units
 abbrev pub with_return_units : ℕ → ReturnPart
 with_return_units units = if units == 0 then ReturnHead [] else ReturnName (2 * units)
 
+-- how many bytes the next element of a return value has
 abbrev pub return_size : ReturnPart → ℕ
 return_size ReturnOrdinal = 2
 return_size ReturnNameCount = 1
@@ -84,12 +85,14 @@ return_size (ReturnInfo name byte) = unwrap_or (rest_length byte) 0
 return_size (InReturnCell name kind part) = cell_size part
 return_size (WholeReturn r) = 0
 
+-- the fault of that element, if it has one
 abbrev pub return_fault : ReturnPart → List ℕ → Option Fault
 return_fault (ReturnHead name) element = type_fault return_column (slice_index element 7) (rest_length (slice_index element 7))
 return_fault (ReturnInfo name byte) element = if is_some (kind_of (byte ∷ element)) then None else Some (BadTypeInfo return_column)
 return_fault (InReturnCell name kind part) element = cell_fault return_column part element
 return_fault part element = None
 
+-- a return value with its next element
 abbrev pub return_add : ReturnPart → List ℕ → ReturnPart
 return_add ReturnOrdinal element = ReturnNameCount
 return_add ReturnNameCount element = with_return_units (slice_index element 0)
@@ -99,6 +102,7 @@ return_add (ReturnInfo name byte) element = with_return_kind name (kind_of (byte
 return_add (InReturnCell name kind part) element = with_value name kind (cell_add part element)
 return_add (WholeReturn r) element = WholeReturn r
 
+-- the fault of a message that ends in a return value
 abbrev pub return_end : ReturnPart → Option Fault
 return_end (WholeReturn r) = None
 return_end part = Some MessageEnded

@@ -65,26 +65,32 @@ text_after begun (t ∷ ts) = text_after begun ts
 abbrev pub text : List Token → List ℕ
 text = text_after false
 
+-- whether the token begins a set
 abbrev pub is_set : Token → Bool
 is_set (Metadata bytes columns) = true
 is_set t = false
 
+-- whether the token is a row
 abbrev pub is_row : Token → Bool
 is_row (Row cells) = true
 is_row t = false
 
+-- whether the token is an ERROR
 abbrev pub is_error : Token → Bool
 is_error (Error n) = true
 is_error t = false
 
+-- whether the token is an INFO
 abbrev pub is_info : Token → Bool
 is_info (Info n) = true
 is_info t = false
 
+-- whether the token is a RETURNVALUE
 abbrev pub is_return : Token → Bool
 is_return (Returned r) = true
 is_return t = false
 
+-- how many tokens pass the test
 abbrev pub how_many : (Token → Bool) → List Token → ℕ
 how_many p [] = 0
 how_many p (t ∷ ts) = if p t then 1 + how_many p ts else how_many p ts
@@ -101,6 +107,7 @@ return_status_after before [] = before
 return_status_after before (ReturnStatus n ∷ ts) = return_status_after (Some n) ts
 return_status_after before (t ∷ ts) = return_status_after before ts
 
+-- the last RETURNSTATUS
 abbrev pub return_status : List Token → Option ℕ
 return_status = return_status_after None
 
@@ -131,7 +138,7 @@ span_of (Metadata bytes columns) = length bytes
 span_of NoMetadata = 2
 span_of t = 0
 
--- the greatest of them
+-- the greatest number of such bytes
 abbrev pub greatest_span : List Token → ℕ
 greatest_span [] = 0
 greatest_span (t ∷ ts) = max (span_of t) (greatest_span ts)

@@ -2,13 +2,15 @@
 //! Data Token Stream Definition).
 #![tactic(auto)]
 
+mod exporter;
 pub mod laws;
+mod progress;
 mod report;
 mod run;
 mod set;
-mod standing;
 #[cfg(test)]
 mod tests;
+mod token_bytes;
 mod tokens;
 
 pub use report::{Report, ServerError, Stopped};

@@ -1,10 +1,10 @@
 // The header line of a set.
-ghost use Rattle.std.specs.Prelude.{◌≡◌, ◌%◌, ◌++◌, length};
+ghost use Rattle.std.specs.Prelude.{◌≡◌, ◌%◌, ◌++◌, codes, length, not};
 ghost use Rattle.tds_csv.specs.Conversion.{Utf16Text, conversion_text, long_field};
 ghost use Rattle.tds_columns.specs.View.{columns_of};
 ghost use Rattle.tds_csv.specs.Quoting.{joined};
 ghost use Rattle.tds_csv.specs.Sinks.{IsWriting, PutsPiece};
-ghost use Rattle.tds_export.specs.Joined.{IsStopIn, IsStopped};
+ghost use Rattle.tds_export.specs.JoinStops.{IsStopIn, IsStopped};
 ghost use Rattle.tds_export.specs.Tokens.{between, header_line, names_of, text_if};
 
 use std::io::Write;
@@ -50,16 +50,20 @@ fn put_name<W: Write>(sink: &mut Sink<W>, units: &[u8]) -> Result<(), Stop>
     sink.close_quoted()
 }
 
-// Puts a piece where it is wanted.
-fn put_if<W: Write>(sink: &mut Sink<W>, wanted: bool, piece: &[u8]) -> Result<(), Stop>
+// Puts a comma, unless the next field is the first of its line.
+fn put_comma<W: Write>(sink: &mut Sink<W>, first: bool) -> Result<(), Stop>
     requires { IsWriting sink.old }
-    ensures { PutsPiece W.contents sink.old sink.new (text_if wanted piece.now) result }
+    ensures { PutsPiece W.contents sink.old sink.new (text_if (not first) (codes ",")) result }
 {
-    if wanted {
-        sink.put(piece)
-    } else {
-        Ok(())
-    }
+    if first { Ok(()) } else { sink.comma() }
+}
+
+// Puts the empty line between two sets, if one has begun.
+fn put_between<W: Write>(sink: &mut Sink<W>, begun: bool) -> Result<(), Stop>
+    requires { IsWriting sink.old }
+    ensures { PutsPiece W.contents sink.old sink.new (between begun) result }
+{
+    if begun { sink.line_end() } else { Ok(()) }
 }
 
 // Puts the names of columns with commas between them.
@@ -69,7 +73,7 @@ fn put_names<W: Write>(sink: &mut Sink<W>, columns: Columns) -> Result<(), Stop>
 {
     let mut first = true;
     'names: for column in columns.walk() {
-        put_if(sink, !first, b",")?;
+        put_comma(sink, first)?;
         put_name(sink, column.name)?;
         first = false;
     }
@@ -83,9 +87,10 @@ pub(crate) fn put_header<W: Write>(
     columns: Columns,
 ) -> Result<(), Stop>
     requires { IsWriting sink.old }
-    ensures { PutsPiece W.contents sink.old sink.new (between begun ++ header_line (columns_of columns.entry.bytes.now)) result }
+    ensures { let columns = columns_of columns.entry.bytes.now in
+        PutsPiece W.contents sink.old sink.new (between begun ++ header_line columns) result }
 {
-    put_if(sink, begun, b"\r\n")?;
+    put_between(sink, begun)?;
     put_names(sink, columns)?;
     sink.line_end()
 }

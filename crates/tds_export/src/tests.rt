@@ -252,24 +252,52 @@ fn packets_of_one_byte_are_joined(rt: HostRuntime) -> Result<(), Fail> {
 #[test]
 fn a_cut_message_says_where(rt: HostRuntime) -> Result<(), Fail> {
     let mut areas = make_usual_areas(rt.alloc())?;
-    for (least, most, fault, place, text) in [
-        (0, 0, Fault::EndWithoutDone, 0, NOTHING),
-        (1, 2, Fault::MessageEnded, 1, NOTHING),
-        (3, 9, Fault::MessageEnded, 3, NOTHING),
-        (10, 10, Fault::MessageEnded, 10, NOTHING),
-        (11, 12, Fault::MessageEnded, 11, NOTHING),
-        (13, 13, Fault::EndWithoutDone, 13, HEADER_LINE),
-        (14, 17, Fault::MessageEnded, 14, HEADER_LINE),
-        (18, 18, Fault::EndWithoutDone, 18, TEXT),
-        (19, 30, Fault::MessageEnded, 19, TEXT),
+    for (what, least, most, fault, place, text) in [
+        (
+            "before the first token",
+            0,
+            0,
+            Fault::EndWithoutDone,
+            0,
+            NOTHING,
+        ),
+        ("in Count", 1, 2, Fault::MessageEnded, 1, NOTHING),
+        (
+            "in the column's head",
+            3,
+            9,
+            Fault::MessageEnded,
+            3,
+            NOTHING,
+        ),
+        (
+            "before the name's length",
+            10,
+            10,
+            Fault::MessageEnded,
+            10,
+            NOTHING,
+        ),
+        ("in the name", 11, 12, Fault::MessageEnded, 11, NOTHING),
+        (
+            "behind the description",
+            13,
+            13,
+            Fault::EndWithoutDone,
+            13,
+            HEADER_LINE,
+        ),
+        ("in the value", 14, 17, Fault::MessageEnded, 14, HEADER_LINE),
+        ("behind the row", 18, 18, Fault::EndWithoutDone, 18, TEXT),
+        ("in the DONE", 19, 30, Fault::MessageEnded, 19, TEXT),
     ] {
         let expected = stopped(fault, Place::Payload(place), text);
         for n in least..=most {
             let wire = in_one_packet(rt.alloc(), front(&WIRE[8..], n))?;
             let out = read(rt.alloc(), &mut areas, ScriptedReader::new(&wire, 1000))?;
-            assert_eq!(rt; out.answer, expected, "{n}");
-            assert_eq!(rt; out.text.as_slice(), text, "{n}");
-            assert_eq!(rt; out.left, 0, "{n}");
+            assert_eq!(rt; out.answer, expected, "{what}: {n}");
+            assert_eq!(rt; out.text.as_slice(), text, "{what}: {n}");
+            assert_eq!(rt; out.left, 0, "{what}: {n}");
         }
     }
     Ok(())
@@ -317,18 +345,19 @@ fn a_cut_packet_gives_nothing(rt: HostRuntime) -> Result<(), Fail> {
 // The type and the length of the packet are judged under a packet size.
 #[test]
 fn headers_are_judged(rt: HostRuntime) -> Result<(), Fail> {
-    for (packet_type, length, packet_size, fault) in [
-        (0x03, 39u16, 4096, Fault::WrongPacketType(3)),
-        (0x04, 7, 4096, Fault::BadPacketLength(7)),
-        (0x04, 513, 512, Fault::BadPacketLength(513)),
+    for (what, packet_type, length, packet_size, fault) in [
+        ("another type", 0x03, 39u16, 4096, Fault::WrongPacketType(3)),
+        ("too short", 0x04, 7, 4096, Fault::BadPacketLength(7)),
+        ("too long", 0x04, 513, 512, Fault::BadPacketLength(513)),
     ] {
         let mut areas = make_areas(rt.alloc(), packet_size, COLUMN_ROOM, MAX_WIRE)?;
         let mut wire = WIRE;
         wire[0] = packet_type;
         wire[2..4].copy_from_slice(&length.to_be_bytes());
         let out = read(rt.alloc(), &mut areas, ScriptedReader::new(&wire, 1000))?;
-        assert_eq!(rt; out.answer, stopped(fault, Place::Wire(0), NOTHING));
-        assert!(rt; out.text.is_empty(), "{fault:?}");
+        let answer = stopped(fault, Place::Wire(0), NOTHING);
+        assert_eq!(rt; out.answer, answer, "{what}");
+        assert!(rt; out.text.is_empty(), "{what}");
     }
     Ok(())
 }
@@ -338,16 +367,28 @@ fn headers_are_judged(rt: HostRuntime) -> Result<(), Fail> {
 fn limits_are_kept(rt: HostRuntime) -> Result<(), Fail> {
     let too_long = stopped(Fault::DescriptionTooLong, Place::Payload(10), NOTHING);
     let too_much = stopped(Fault::ResponseTooLong, Place::Wire(0), NOTHING);
-    for (column_room, max_wire, answer, text) in [
-        (12, MAX_WIRE, Ok(report(1, 1, 9)), TEXT),
-        (11, MAX_WIRE, too_long, NOTHING),
-        (COLUMN_ROOM, 39, Ok(report(1, 1, 9)), TEXT),
-        (COLUMN_ROOM, 38, too_much, NOTHING),
+    for (what, column_room, max_wire, answer, text) in [
+        (
+            "room for the column",
+            12,
+            MAX_WIRE,
+            Ok(report(1, 1, 9)),
+            TEXT,
+        ),
+        ("too little room", 11, MAX_WIRE, too_long, NOTHING),
+        (
+            "as long as allowed",
+            COLUMN_ROOM,
+            39,
+            Ok(report(1, 1, 9)),
+            TEXT,
+        ),
+        ("too long", COLUMN_ROOM, 38, too_much, NOTHING),
     ] {
         let mut areas = make_areas(rt.alloc(), PACKET_SIZE, column_room, max_wire)?;
         let out = read(rt.alloc(), &mut areas, ScriptedReader::new(&WIRE, 1000))?;
-        assert_eq!(rt; out.answer, answer);
-        assert_eq!(rt; out.text.as_slice(), text);
+        assert_eq!(rt; out.answer, answer, "{what}");
+        assert_eq!(rt; out.text.as_slice(), text, "{what}");
     }
     Ok(())
 }
@@ -355,23 +396,65 @@ fn limits_are_kept(rt: HostRuntime) -> Result<(), Fail> {
 // Payloads that are refused before there is any text, under a column room.
 #[test]
 fn payloads_are_judged(rt: HostRuntime) -> Result<(), Fail> {
-    for (payload, column_room, fault, place) in [
-        (DONE_WITH_MORE, 1024, Fault::EndWithoutDone, 13),
-        (&[0xD1, 0x2A, 0, 0, 0], 1024, Fault::RowWithoutColumns, 0),
-        (&[0xD2], 1024, Fault::RowWithoutColumns, 0),
-        (&[0x81, 0xFF, 0xFF, 0xD1], 1024, Fault::RowWithoutColumns, 3),
-        (&[0xAD], 1024, Fault::RefusedToken(0xAD), 0),
-        (&[0x81, 0x00, 0x00], 1024, Fault::NoColumns, 1),
-        (&[0x81, 0xFE, 0xFF], 1024, Fault::DescriptionTooLong, 1),
-        (&[0x81, 0x02, 0x00], 17, Fault::DescriptionTooLong, 1),
-        (&[0x81, 0x09, 0x00], 73, Fault::DescriptionTooLong, 1),
+    for (what, payload, column_room, fault, place) in [
+        (
+            "a DONE with more to come",
+            DONE_WITH_MORE,
+            1024,
+            Fault::EndWithoutDone,
+            13,
+        ),
+        (
+            "a ROW first",
+            &[0xD1, 0x2A, 0, 0, 0],
+            1024,
+            Fault::RowWithoutColumns,
+            0,
+        ),
+        (
+            "an NBCROW first",
+            &[0xD2],
+            1024,
+            Fault::RowWithoutColumns,
+            0,
+        ),
+        (
+            "a ROW without metadata",
+            &[0x81, 0xFF, 0xFF, 0xD1],
+            1024,
+            Fault::RowWithoutColumns,
+            3,
+        ),
+        ("a LOGINACK", &[0xAD], 1024, Fault::RefusedToken(0xAD), 0),
+        ("no columns", &[0x81, 0x00, 0x00], 1024, Fault::NoColumns, 1),
+        (
+            "65,534 columns",
+            &[0x81, 0xFE, 0xFF],
+            1024,
+            Fault::DescriptionTooLong,
+            1,
+        ),
+        (
+            "2 columns",
+            &[0x81, 0x02, 0x00],
+            17,
+            Fault::DescriptionTooLong,
+            1,
+        ),
+        (
+            "9 columns",
+            &[0x81, 0x09, 0x00],
+            73,
+            Fault::DescriptionTooLong,
+            1,
+        ),
     ] {
         let mut areas = make_areas(rt.alloc(), PACKET_SIZE, column_room, MAX_WIRE)?;
         let wire = in_one_packet(rt.alloc(), payload)?;
         let out = read(rt.alloc(), &mut areas, ScriptedReader::new(&wire, 1000))?;
         let answer = stopped(fault, Place::Payload(place), NOTHING);
-        assert_eq!(rt; out.answer, answer);
-        assert!(rt; out.text.is_empty() && out.left == 0, "{fault:?}");
+        assert_eq!(rt; out.answer, answer, "{what}");
+        assert!(rt; out.text.is_empty() && out.left == 0, "{what}");
     }
     Ok(())
 }
@@ -380,17 +463,29 @@ fn payloads_are_judged(rt: HostRuntime) -> Result<(), Fail> {
 #[test]
 fn the_next_packet_is_read_when_needed(rt: HostRuntime) -> Result<(), Fail> {
     let mut areas = make_usual_areas(rt.alloc())?;
-    for (byte, fault, place, left) in [
-        (0xAD, Fault::RefusedToken(0xAD), Place::Payload(0), 8),
-        (0x81, Fault::WrongPacketType(3), Place::Wire(9), 0),
+    for (what, byte, fault, place, left) in [
+        (
+            "a LOGINACK",
+            0xAD,
+            Fault::RefusedToken(0xAD),
+            Place::Payload(0),
+            8,
+        ),
+        (
+            "a COLMETADATA",
+            0x81,
+            Fault::WrongPacketType(3),
+            Place::Wire(9),
+            0,
+        ),
     ] {
         let wire = [
             0x04, 0x00, 0x00, 0x09, 0x00, 0x00, 0x01, 0x00, byte, 0x03, 0x01, 0x00, 0x09, 0x00,
             0x00, 0x01, 0x00,
         ];
         let out = read(rt.alloc(), &mut areas, ScriptedReader::new(&wire, 1000))?;
-        assert_eq!(rt; out.answer, stopped(fault, place, NOTHING));
-        assert!(rt; out.text.is_empty() && out.left == left, "{fault:?}");
+        assert_eq!(rt; out.answer, stopped(fault, place, NOTHING), "{what}");
+        assert!(rt; out.text.is_empty() && out.left == left, "{what}");
     }
     Ok(())
 }
@@ -487,10 +582,11 @@ fn a_failed_write_says_what_was_taken(rt: HostRuntime) -> Result<(), Fail> {
             written: taken.len() as u64,
             unwritten: waiting.len() as u64,
         });
-        assert_eq!(rt; out.answer, expected, "{failing:?}");
-        assert_eq!(rt; out.text.as_slice(), taken, "{failing:?}");
-        assert_eq!(rt; areas.waiting(), waiting, "{failing:?}");
-        assert_eq!(rt; (out.write_failures, out.left), (1, 0), "{failing:?}");
+        let what = (case.fault, failing);
+        assert_eq!(rt; out.answer, expected, "{what:?}");
+        assert_eq!(rt; out.text.as_slice(), taken, "{what:?}");
+        assert_eq!(rt; areas.waiting(), waiting, "{what:?}");
+        assert_eq!(rt; (out.write_failures, out.left), (1, 0), "{what:?}");
     }
     Ok(())
 }

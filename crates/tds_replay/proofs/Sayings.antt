@@ -6,31 +6,27 @@ use Rattle.std.specs.List.{concat}
 use Rattle.std.proofs.KnownBytes.{Appends-nil, Appends-trans}
 use Rattle.std.proofs.lemmas.Bool.Decides.{nat_tests}
 use Rattle.tds_meter.specs.Counts.{Rose}
+use Rattle.tds_packet.specs.declared.counted.Counted.{Counted}
 use Rattle.tds_replay.specs.declared.pieces.Unsaid.{Unsaid}
 use Rattle.tds_replay.specs.Lines.{values_line}
-use Rattle.tds_replay.specs.Saying.{Says, SaysOrFails}
+use Rattle.tds_replay.specs.Saying.{Says, Writes}
 
 -- a text was written, and then another, or not
-pub says_then : {U : Type 0} (had mid has : Option (List ℕ)) (f g h : ℕ) (a b : List ℕ) → Appends had mid a → g ≡ f → (r : Result U Unsaid) → Says mid g has h b r → Says had f has h (a ++ b) r
-says_then had mid has f g h a b first same (Ok x) says = (Appends-trans had mid has a b first says.0, says.1 ∙ same)
-says_then had mid has f g h a b first same (Err x) says = subst (λ n. Rose n h) same says
+pub says_then : {N U : Type 0} (contents : N → Option (List ℕ)) (old mid new : Counted N) (a b : List ℕ) → Writes contents old mid a → (r : Result U Unsaid) → Says contents mid new b r → Says contents old new (a ++ b) r
+says_then contents old mid new a b first (Ok x) says = (Appends-trans (contents old.device) (contents mid.device) (contents new.device) a b first.0 says.0, says.1 ∙ first.1)
+says_then contents old mid new a b first (Err x) says = subst (λ n. Rose n new.failures) first.1 says
 
 -- the same with a text of another form
-pub says_as : {U : Type 0} (had has : Option (List ℕ)) (f h : ℕ) (a b : List ℕ) → a ≡ b → (r : Result U Unsaid) → Says had f has h a r → Says had f has h b r
-says_as had has f h a b is r says = subst (λ t. Says had f has h t r) is says
-
--- where the answer isn't passed on
-pub said_or_failed : {U : Type 0} (had has : Option (List ℕ)) (f h : ℕ) (a : List ℕ) (r : Result U Unsaid) → Says had f has h a r → SaysOrFails had f has h a
-said_or_failed had has f h a (Ok x) says = inl says
-said_or_failed had has f h a (Err x) says = inr says
+pub says_as : {N U : Type 0} (contents : N → Option (List ℕ)) (old new : Counted N) (a b : List ℕ) → a ≡ b → (r : Result U Unsaid) → Says contents old new a r → Says contents old new b r
+says_as contents old new a b is r says = subst (λ t. Says contents old new t r) is says
 
 -- four texts before two more
 pub four_first : (a b c d e f : List ℕ) → concat (a ∷ b ∷ c ∷ d ∷ []) ++ (e ++ f) ≡ a ++ (b ++ (c ++ (d ++ (e ++ f))))
 four_first a b c d e f = append_assoc a (b ++ (c ++ (d ++ []))) (e ++ f) ∙ ap (λ l. a ++ l) (append_assoc b (c ++ (d ++ [])) (e ++ f) ∙ ap (λ l. b ++ l) (append_assoc c (d ++ []) (e ++ f) ∙ ap (λ l. c ++ (l ++ (e ++ f))) (append-nil d)))
 
 -- nothing is written for no text
-pub nothing_said : (had : Option (List ℕ)) (f : ℕ) (t : List ℕ) → t ≡ [] → Appends had had t × (f ≡ f)
-nothing_said had f t none = (subst (λ l. Appends had had l) (sym none) (Appends-nil had), refl)
+pub nothing_said : {N : Type 0} (contents : N → Option (List ℕ)) (notes : Counted N) (t : List ℕ) → t ≡ [] → Writes contents notes notes t
+nothing_said contents notes t none = (subst (λ l. Appends (contents notes.device) (contents notes.device) l) (sym none) (Appends-nil (contents notes.device)), refl)
 
 pub no_values : (n : ℕ) → n ≡ 0 → values_line n ≡ []
 unfolding values_line

@@ -6,14 +6,14 @@ use Rattle.tds_packet.specs.declared.counted.Counted.{Counted}
 use Rattle.tds_rows.specs.declared.Charset.{Charset}
 use Rattle.tds_export.specs.declared.report.Report.{Report}
 use Rattle.tds_export.specs.declared.report.Stopped.{Stopped}
-use Rattle.tds_export.specs.Ended.{Device, Exports, Moment, device}
+use Rattle.tds_export.specs.Moments.{Exports, Moment, moment}
 use Rattle.tds_replay.specs.declared.job.Job.{Job}
 use Rattle.tds_replay.specs.declared.job.Job.TheVariants.{Export}
 use Rattle.tds_replay.specs.declared.status.Status.{Status}
 use Rattle.tds_replay.specs.declared.status.Status.TheVariants.{WantOfMemory}
 use Rattle.tds_replay.specs.Lines.{answer_lines, memory_line}
 use Rattle.tds_replay.specs.Saying.{SaysOrFails}
-use Rattle.tds_replay.specs.Statuses.{status_of}
+use Rattle.tds_replay.specs.Statuses.{status_number, status_of}
 
 -- the limits of a job
 abbrev pub limits_of : Job → Limits
@@ -24,38 +24,54 @@ abbrev pub charset_of : Job → Charset
 charset_of (Export limits charset file) = charset
 
 -- the devices of a job at a moment
-pub record Devices : Type 0 where
-  pub reader : Device
-  pub writer : Device
-  pub notes : Device
+pub record Devices (R W N : Type 0) : Type 0 where
+  pub from : Counted R
+  pub to : Counted W
+  pub notes : Counted N
 
-abbrev pub devices : {R W N : Type 0} → (R → Option (List ℕ)) → (W → Option (List ℕ)) → (N → Option (List ℕ)) → Counted R → Counted W → Counted N → Devices
-devices remaining contents said from to notes = record { reader = device remaining from; writer = device contents to; notes = device said notes }
+-- a reader, a writer and the writer of the notes, at a moment
+abbrev pub devices : {R W N : Type 0} → Counted R → Counted W → Counted N → Devices R W N
+devices from to notes = record { from = from; to = to; notes = notes }
 
-abbrev pub with_areas : Devices → Areas → Moment
-with_areas d areas = record { areas = areas; reader = d.reader; writer = d.writer }
+-- what devices tell: the bytes that the reader still gives, and those that the writer and the notes have, where that is known
+pub record Telling (R W N : Type 0) : Type 0 where
+  pub remaining : R → Option (List ℕ)
+  pub contents : W → Option (List ℕ)
+  pub said : N → Option (List ℕ)
+
+-- what these devices tell
+abbrev pub telling : {R W N : Type 0} → (R → Option (List ℕ)) → (W → Option (List ℕ)) → (N → Option (List ℕ)) → Telling R W N
+telling remaining contents said = record { remaining = remaining; contents = contents; said = said }
+
+-- areas with the devices, at a moment
+abbrev pub with_areas : {R W N : Type 0} → Telling R W N → Devices R W N → Areas → Moment
+with_areas tell d areas = moment tell.remaining tell.contents areas d.from d.to
 
 -- These lines were written to the notes, or a write of them failed.
-abbrev pub SaysTo : Devices → Devices → List ℕ → Type 0
-SaysTo before after lines = SaysOrFails before.notes.bytes before.notes.failures after.notes.bytes after.notes.failures lines
+abbrev pub SaysTo : {R W N : Type 0} → Telling R W N → Devices R W N → Devices R W N → List ℕ → Type 0
+SaysTo tell before after lines = SaysOrFails tell.said before.notes after.notes lines
 
 -- An export answered, and the status and the lines are those of its answer.
-pub record Performs (charset : Charset) (limits : Limits) (before after : Devices) (status : Status) : Type 0 where
+pub record Performs {R W N : Type 0} (tell : Telling R W N) (charset : Charset) (limits : Limits) (before after : Devices R W N) (status : Status) : Type 0 where
   pub areas : Areas
   pub areas' : Areas
   pub limits_are : areas.limits ≡ limits
   pub answer : Result Report Stopped
-  pub exports : Exports charset (with_areas before areas) (with_areas after areas') answer
+  pub exports : Exports charset (with_areas tell before areas) (with_areas tell after areas') answer
   pub status_is : status ≡ status_of answer
-  pub lines : SaysTo before after (answer_lines answer areas'.notice.bytes)
+  pub lines : SaysTo tell before after (answer_lines answer areas'.notice.bytes)
 
--- There was no memory, and the line of that was written; nothing was read or written else.
-pub record LacksMemory (before after : Devices) (status : Status) : Type 0 where
-  pub reader : after.reader ≡ before.reader
-  pub writer : after.writer ≡ before.writer
+-- There was no memory, and the line of that was written; reader and writer are as they were.
+pub record LacksMemory {R W N : Type 0} (tell : Telling R W N) (before after : Devices R W N) (status : Status) : Type 0 where
+  pub reader : after.from ≡ before.from
+  pub writer : after.to ≡ before.to
   pub status_is : status ≡ WantOfMemory
-  pub line : SaysTo before after memory_line
+  pub line : SaysTo tell before after memory_line
 
--- A job was performed with this status.
-abbrev pub Performed : Charset → Limits → Devices → Devices → Status → Type 0
-Performed charset limits before after status = Performs charset limits before after status ⊎ LacksMemory before after status
+-- An export was performed within these limits, with this status.
+abbrev pub PerformsExport : {R W N : Type 0} → Telling R W N → Charset → Limits → Devices R W N → Devices R W N → Status → Type 0
+PerformsExport tell charset limits before after status = Performs tell charset limits before after status ⊎ LacksMemory tell before after status
+
+-- A job was performed, with this exit status.
+abbrev pub PerformsJob : {R W N : Type 0} → Telling R W N → Job → Devices R W N → Devices R W N → ℕ → Type 0
+PerformsJob tell job before after number = (status : Status) × (number ≡ status_number status) × PerformsExport tell (charset_of job) (limits_of job) before after status

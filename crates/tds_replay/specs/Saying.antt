@@ -1,14 +1,19 @@
 -- What is written to the notes.
-use Rattle.std.specs.Prelude.{◌≡◌, ◌⊎◌, ℕ, List, Option, Result, Ok, Err}
+use Rattle.std.specs.Prelude.{◌≡◌, ◌⊎◌, List, ℕ, Option, Result, Ok, Err}
 use Rattle.std.specs.Io.KnownBytes.{Appends}
 use Rattle.tds_meter.specs.Counts.{Rose}
+use Rattle.tds_packet.specs.declared.counted.Counted.{Counted}
 use Rattle.tds_replay.specs.declared.pieces.Unsaid.{Unsaid}
 
--- The text was written and no write failed; or a write failed, which was counted.
-abbrev pub Says : {U : Type 0} → Option (List ℕ) → ℕ → Option (List ℕ) → ℕ → List ℕ → Result U Unsaid → Type 0
-Says had failures has failures' text (Ok _) = Appends had has text × (failures' ≡ failures)
-Says had failures has failures' text (Err _) = Rose failures failures'
+-- The text was written, and no write failed.
+abbrev pub Writes : {N : Type 0} → (N → Option (List ℕ)) → Counted N → Counted N → List ℕ → Type 0
+Writes contents old new text = Appends (contents old.device) (contents new.device) text × (new.failures ≡ old.failures)
 
--- The same, where the answer isn't passed on.
-abbrev pub SaysOrFails : Option (List ℕ) → ℕ → Option (List ℕ) → ℕ → List ℕ → Type 0
-SaysOrFails had failures has failures' text = (Appends had has text × (failures' ≡ failures)) ⊎ Rose failures failures'
+-- The text was written; or a write failed, which was counted.
+abbrev pub Says : {N U : Type 0} → (N → Option (List ℕ)) → Counted N → Counted N → List ℕ → Result U Unsaid → Type 0
+Says contents old new text (Ok _) = Writes contents old new text
+Says contents old new text (Err _) = Rose old.failures new.failures
+
+-- The text was written or a write failed, where the answer isn't passed on.
+abbrev pub SaysOrFails : {N : Type 0} → (N → Option (List ℕ)) → Counted N → Counted N → List ℕ → Type 0
+SaysOrFails contents old new text = Writes contents old new text ⊎ Rose old.failures new.failures

@@ -16,8 +16,8 @@ const MAX_WIRE: u64 = 1_099_511_627_776;
 /// What the command is to do.
 #[derive(Drop)]
 pub enum Job {
-    /// Writes the rows of a response as CSV, read from the file or, without one, from standard
-    /// input.
+    /// Writes the rows of a response as CSV. The file is the one that the response stands in, or none
+    /// for standard input; it isn't opened yet: the caller passes the reader.
     Export {
         limits: Limits,
         charset: Charset,

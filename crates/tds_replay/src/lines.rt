@@ -61,7 +61,7 @@ fn kind_name(kind: RefusedKind) -> &'static [u8]
 
 // Writes the fields of a fault in order, each after a space.
 fn say_fields<W: Write>(notes: &mut Counted<W>, fault: &Fault) -> Result<(), Unsaid>
-    ensures { Says (W.contents notes.old.device) notes.old.failures (W.contents notes.new.device) notes.new.failures (fault_fields fault.now) result }
+    ensures { Says W.contents notes.old notes.new (fault_fields fault.now) result }
 {
     match *fault {
         Fault::WrongPacketType(byte) | Fault::RefusedToken(byte) => {
@@ -112,7 +112,7 @@ fn place_parts(place: &Place) -> (&'static [u8], u64)
 
 // Writes the line of a stop.
 fn say_stop<W: Write>(notes: &mut Counted<W>, stopped: &Stopped) -> Result<(), Unsaid>
-    ensures { Says (W.contents notes.old.device) notes.old.failures (W.contents notes.new.device) notes.new.failures (stop_line stopped.now) result }
+    ensures { Says W.contents notes.old notes.new (stop_line stopped.now) result }
 {
     say(
         notes,
@@ -143,7 +143,7 @@ fn say_stop<W: Write>(notes: &mut Counted<W>, stopped: &Stopped) -> Result<(), U
 
 // Writes the line of a report's counts.
 fn say_counts<W: Write>(notes: &mut Counted<W>, report: &Report) -> Result<(), Unsaid>
-    ensures { Says (W.contents notes.old.device) notes.old.failures (W.contents notes.new.device) notes.new.failures (counts_line report.now) result }
+    ensures { Says W.contents notes.old notes.new (counts_line report.now) result }
 {
     say(
         notes,
@@ -165,7 +165,7 @@ fn say_counts<W: Write>(notes: &mut Counted<W>, report: &Report) -> Result<(), U
 
 // Writes the line of the values that procedures returned, if there are any.
 fn say_values<W: Write>(notes: &mut Counted<W>, values: u64) -> Result<(), Unsaid>
-    ensures { Says (W.contents notes.old.device) notes.old.failures (W.contents notes.new.device) notes.new.failures (values_line values) result }
+    ensures { Says W.contents notes.old notes.new (values_line values) result }
 {
     if values == 0 {
         return Ok(());
@@ -182,7 +182,7 @@ fn say_values<W: Write>(notes: &mut Counted<W>, values: u64) -> Result<(), Unsai
 
 // Writes the line of the last return status, if there is one.
 fn say_status<W: Write>(notes: &mut Counted<W>, status: Option<i32>) -> Result<(), Unsaid>
-    ensures { Says (W.contents notes.old.device) notes.old.failures (W.contents notes.new.device) notes.new.failures (status_line status) result }
+    ensures { Says W.contents notes.old notes.new (status_line status) result }
 {
     let Some(status) = status else {
         return Ok(());
@@ -220,7 +220,7 @@ fn say_error<W: Write>(
     message: &[u8],
 ) -> Result<(), Unsaid>
     requires { length message.now ≤ 512 }
-    ensures { Says (W.contents notes.old.device) notes.old.failures (W.contents notes.new.device) notes.new.failures (error_line error.now message.now) result }
+    ensures { Says W.contents notes.old notes.new (error_line error.now message.now) result }
 {
     let Some(error) = error else {
         return Ok(());
@@ -251,7 +251,7 @@ fn say_report<W: Write>(
     message: &[u8],
 ) -> Result<(), Unsaid>
     requires { length message.now ≤ 512 }
-    ensures { Says (W.contents notes.old.device) notes.old.failures (W.contents notes.new.device) notes.new.failures (answer_lines (Ok report.now) message.now) result }
+    ensures { Says W.contents notes.old notes.new (answer_lines (Ok report.now) message.now) result }
 {
     say_counts(notes, report)?;
     say_values(notes, report.return_values)?;
@@ -266,7 +266,7 @@ pub(crate) fn say_answer<W: Write>(
     message: &[u8],
 ) -> Result<(), Unsaid>
     requires { length message.now ≤ 512 }
-    ensures { Says (W.contents notes.old.device) notes.old.failures (W.contents notes.new.device) notes.new.failures (answer_lines answer.now message.now) result }
+    ensures { Says W.contents notes.old notes.new (answer_lines answer.now message.now) result }
 {
     match answer {
         Ok(report) => say_report(notes, report, message),
@@ -276,7 +276,7 @@ pub(crate) fn say_answer<W: Write>(
 
 /// Writes the line of want of memory.
 pub(crate) fn say_want_of_memory<W: Write>(notes: &mut Counted<W>) -> Result<(), Unsaid>
-    ensures { Says (W.contents notes.old.device) notes.old.failures (W.contents notes.new.device) notes.new.failures memory_line result }
+    ensures { Says W.contents notes.old notes.new memory_line result }
 {
     say(notes, &[Piece::Text(b"want of memory\n")])
 }

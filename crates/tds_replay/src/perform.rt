@@ -1,7 +1,5 @@
 // Runs a job.
-ghost use Rattle.std.specs.Prelude.{◌≡◌};
-ghost use Rattle.tds_replay.specs.Statuses.{status_number};
-ghost use Rattle.tds_replay.specs.Performing.{Performed, charset_of, devices, limits_of};
+ghost use Rattle.tds_replay.specs.Performing.{PerformsExport, PerformsJob, devices, telling};
 
 use crate::job::Job;
 use crate::lines::{say_answer, say_want_of_memory};
@@ -21,7 +19,9 @@ fn perform_export<R: Read, W: Write, N: Write>(
     to: &mut Counted<W>,
     notes: &mut Counted<N>,
 ) -> Status
-    ensures { let at = devices R.remaining W.contents N.contents in Performed charset limits (at from.old to.old notes.old) (at from.new to.new notes.new) result }
+    ensures { let tell = telling R.remaining W.contents N.contents in
+        PerformsExport tell charset limits (devices from.old to.old notes.old)
+            (devices from.new to.new notes.new) result }
 {
     let Ok(mut areas) = Areas::new(alloc, limits) else {
         let _ = say_want_of_memory(notes);
@@ -44,8 +44,8 @@ pub fn perform<R: Read, W: Write, N: Write>(
     to: &mut Counted<W>,
     notes: &mut Counted<N>,
 ) -> u8
-    ensures { let at = devices R.remaining W.contents N.contents in (status : Status) × (result ≡ status_number status)
-        × Performed (charset_of job.now) (limits_of job.now) (at from.old to.old notes.old) (at from.new to.new notes.new) status }
+    ensures { let tell = telling R.remaining W.contents N.contents in
+        PerformsJob tell job.now (devices from.old to.old notes.old) (devices from.new to.new notes.new) result }
 {
     match job {
         Job::Export {

@@ -26,7 +26,7 @@ pub(crate) struct Unsaid;
 
 // Writes bytes.
 fn put<W: Write>(notes: &mut Counted<W>, bytes: &[u8]) -> Result<(), Unsaid>
-    ensures { Says (W.contents notes.old.device) notes.old.failures (W.contents notes.new.device) notes.new.failures bytes.now result }
+    ensures { Says W.contents notes.old notes.new bytes.now result }
 {
     match notes.deliver(bytes) {
         Ok(()) => Ok(()),
@@ -36,7 +36,7 @@ fn put<W: Write>(notes: &mut Counted<W>, bytes: &[u8]) -> Result<(), Unsaid>
 
 // Writes a byte as `0x` and two digits.
 fn put_byte<W: Write>(notes: &mut Counted<W>, byte: u8) -> Result<(), Unsaid>
-    ensures { Says (W.contents notes.old.device) notes.old.failures (W.contents notes.new.device) notes.new.failures (piece_text (Piece.Byte byte)) result }
+    ensures { Says W.contents notes.old notes.new (piece_text (Piece.Byte byte)) result }
 {
     let mut text = *b"0x00";
     match hex::encode_to_slice([byte], &mut text[2..]) {
@@ -47,7 +47,7 @@ fn put_byte<W: Write>(notes: &mut Counted<W>, byte: u8) -> Result<(), Unsaid>
 
 // Writes a piece.
 fn say_piece<W: Write>(notes: &mut Counted<W>, piece: &Piece) -> Result<(), Unsaid>
-    ensures { Says (W.contents notes.old.device) notes.old.failures (W.contents notes.new.device) notes.new.failures (piece_text piece.now) result }
+    ensures { Says W.contents notes.old notes.new (piece_text piece.now) result }
 {
     match *piece {
         Piece::Text(text) => put(notes, text),
@@ -59,7 +59,7 @@ fn say_piece<W: Write>(notes: &mut Counted<W>, piece: &Piece) -> Result<(), Unsa
 
 /// Writes pieces, one after the other, until a write fails.
 pub(crate) fn say<W: Write>(notes: &mut Counted<W>, pieces: &[Piece]) -> Result<(), Unsaid>
-    ensures { Says (W.contents notes.old.device) notes.old.failures (W.contents notes.new.device) notes.new.failures (text_of pieces.now) result }
+    ensures { Says W.contents notes.old notes.new (text_of pieces.now) result }
 {
     'pieces: for piece in pieces {
         say_piece(notes, piece)?;

@@ -142,10 +142,17 @@ fn the_text_reads_back(rt: HostRuntime) -> Result<(), Fail> {
         .has_headers(false)
         .from_reader(rt.alloc(), to.device().kept());
     let mut row = ByteRecord::new(rt.alloc());
-    for field in [b"a".as_slice(), b"42".as_slice()] {
-        assert_eq!(rt; reader.read_byte_record(&mut row).ok(), Some(true));
-        assert_eq!(rt; row.len(), 1);
-        assert_eq!(rt; row.get(0), Some(field));
+    for (what, field) in [
+        ("the name", b"a".as_slice()),
+        ("the number", b"42".as_slice()),
+    ] {
+        assert_eq!(rt;
+            reader.read_byte_record(&mut row).ok(),
+            Some(true),
+            "{what}"
+        );
+        assert_eq!(rt; row.len(), 1, "{what}");
+        assert_eq!(rt; row.get(0), Some(field), "{what}");
     }
     assert_eq!(rt; reader.read_byte_record(&mut row).ok(), Some(false));
     Ok(())
@@ -194,12 +201,14 @@ fn a_failed_note_changes_no_status(rt: HostRuntime) -> Result<(), Fail> {
 
 // A stop, and its line.
 struct StopCase {
+    name: &'static str,
     stopped: Stopped,
     line: &'static [u8],
 }
 
 const STOPS: [StopCase; 6] = [
     StopCase {
+        name: "a cut message",
         stopped: Stopped {
             fault: Fault::MessageEnded,
             place: Place::Payload(40),
@@ -209,6 +218,7 @@ const STOPS: [StopCase; 6] = [
         line: b"fault 7 MessageEnded at payload 40, written 6, unwritten 0\n",
     },
     StopCase {
+        name: "no columns",
         stopped: Stopped {
             fault: Fault::NoColumns,
             place: Place::Payload(1),
@@ -218,6 +228,7 @@ const STOPS: [StopCase; 6] = [
         line: b"fault 9 NoColumns at payload 1, written 0, unwritten 0\n",
     },
     StopCase {
+        name: "a float",
         stopped: Stopped {
             fault: Fault::RefusedColumn {
                 index: 1,
@@ -230,6 +241,7 @@ const STOPS: [StopCase; 6] = [
         line: b"fault 10 RefusedColumn 1 FLT8 at payload 13, written 0, unwritten 0\n",
     },
     StopCase {
+        name: "an unknown type",
         stopped: Stopped {
             fault: Fault::UnknownType {
                 index: 2,
@@ -242,6 +254,7 @@ const STOPS: [StopCase; 6] = [
         line: b"fault 11 UnknownType 2 0xab at payload 13, written 0, unwritten 0\n",
     },
     StopCase {
+        name: "a bad value",
         stopped: Stopped {
             fault: Fault::BadValue { column: 65535 },
             place: Place::Payload(14),
@@ -251,6 +264,7 @@ const STOPS: [StopCase; 6] = [
         line: b"fault 16 BadValue 65535 at payload 14, written 5, unwritten 0\n",
     },
     StopCase {
+        name: "a failed write",
         stopped: Stopped {
             fault: Fault::WriteFailed,
             place: Place::Text(8192),
@@ -266,8 +280,8 @@ fn lines_of_stops(rt: HostRuntime) -> Result<(), Fail> {
     'cases: for case in &STOPS {
         let mut notes = writer(Failing::Never);
         let said = say_answer(&mut notes, &Err(case.stopped), b"");
-        assert!(rt; said.is_ok());
-        assert_eq!(rt; notes.device().kept(), case.line);
+        assert!(rt; said.is_ok(), "{}", case.name);
+        assert_eq!(rt; notes.device().kept(), case.line, "{}", case.name);
     }
     Ok(())
 }

@@ -178,12 +178,12 @@ fn descriptions_keep_the_room(rt: HostRuntime) -> Result<(), Fail> {
     let none: &[u8] = b"\"\",\"\",\"\",\"\",\"\",\"\",\"\",\"\",\"\"\r\n";
     let two: &[u8] = b"\"a\",\"b\"\r\n";
     let too_long = Fault::DescriptionTooLong;
-    for (payload, room, text, stop) in [
-        (nine.as_slice(), 74, none, None),
-        (nine.as_slice(), 73, NOTHING, Some(1)),
-        (TWO, 22, two, None),
-        (TWO, 21, NOTHING, Some(20)),
-        (TWO, 17, NOTHING, Some(1)),
+    for (what, payload, room, text, stop) in [
+        ("room for nine", nine.as_slice(), 74, none, None),
+        ("too little for nine", nine.as_slice(), 73, NOTHING, Some(1)),
+        ("room for two", TWO, 22, two, None),
+        ("too little for a name", TWO, 21, NOTHING, Some(20)),
+        ("too little for two", TWO, 17, NOTHING, Some(1)),
     ] {
         let mut areas = make_areas(rt.alloc(), PACKET_SIZE, room, MAX_WIRE)?;
         let wire = response_of(rt.alloc(), &[payload])?;
@@ -192,8 +192,8 @@ fn descriptions_keep_the_room(rt: HostRuntime) -> Result<(), Fail> {
             None => Ok(report(1, 0, text.len() as u64)),
             Some(place) => stopped(too_long, Place::Payload(place), text),
         };
-        assert_eq!(rt; out.answer, expected, "{room}");
-        assert_eq!(rt; out.text.as_slice(), text, "{room}");
+        assert_eq!(rt; out.answer, expected, "{what}");
+        assert_eq!(rt; out.text.as_slice(), text, "{what}");
     }
     Ok(())
 }
@@ -214,26 +214,53 @@ fn columns_are_judged(rt: HostRuntime) -> Result<(), Fail> {
     let header: &[u8] = b"\"d\"\r\n";
     let value = Fault::BadValue { column: 0 };
     let length = Fault::BadValueLength { column: 0 };
-    for (rest, fault, place, text) in [
-        (&[0x26u8, 0x03] as &[u8], bad_type(0), 10, NOTHING),
-        (&[0x6A, 0x05, 0x05, 0x06], bad_type(0), 10, NOTHING),
-        (&[0x68, 0x02], bad_type(0), 10, NOTHING),
-        (&[0x29, 0x08], bad_type(0), 10, NOTHING),
-        (&[0xAD, 0xFF, 0xFF], bad_type(0), 10, NOTHING),
+    for (what, rest, fault, place, text) in [
         (
+            "a number of 3 bytes",
+            &[0x26u8, 0x03] as &[u8],
+            bad_type(0),
+            10,
+            NOTHING,
+        ),
+        (
+            "a scale above the precision",
+            &[0x6A, 0x05, 0x05, 0x06],
+            bad_type(0),
+            10,
+            NOTHING,
+        ),
+        ("a bit of 2 bytes", &[0x68, 0x02], bad_type(0), 10, NOTHING),
+        ("a time of scale 8", &[0x29, 0x08], bad_type(0), 10, NOTHING),
+        (
+            "BIGBINARY of unlimited length",
+            &[0xAD, 0xFF, 0xFF],
+            bad_type(0),
+            10,
+            NOTHING,
+        ),
+        (
+            "a day behind the last date",
             &[0x28, 1, 0x64, 0, 0xD1, 3, 0xDB, 0xB9, 0x37],
             value,
             15,
             header,
         ),
-        (&[0x28, 1, 0x64, 0, 0xD1, 4, 0], length, 14, header),
         (
+            "a date of 4 bytes",
+            &[0x28, 1, 0x64, 0, 0xD1, 4, 0],
+            length,
+            14,
+            header,
+        ),
+        (
+            "a moment a minute west of Greenwich before the first day",
             &[0x2B, 0, 1, 0x64, 0, 0xD1, 8, 0, 0, 0, 0, 0, 0, 0xFF, 0xFF],
             value,
             16,
             header,
         ),
         (
+            "a time behind the last of a day",
             &[0x29, 7, 1, 0x64, 0, 0xD1, 5, 0x00, 0xC0, 0x69, 0x2A, 0xC9],
             value,
             16,
@@ -243,8 +270,8 @@ fn columns_are_judged(rt: HostRuntime) -> Result<(), Fail> {
         let wire = response_of(rt.alloc(), &[ONE, rest])?;
         let out = read(rt.alloc(), &mut areas, ScriptedReader::new(&wire, 1000))?;
         let expected = stopped(fault, Place::Payload(place), text);
-        assert_eq!(rt; out.answer, expected, "{rest:?}");
-        assert_eq!(rt; out.text.as_slice(), text, "{rest:?}");
+        assert_eq!(rt; out.answer, expected, "{what}");
+        assert_eq!(rt; out.text.as_slice(), text, "{what}");
     }
     let mut payload = TWO.to_vec(rt.alloc())?;
     payload[19] = 0x3E;
@@ -274,7 +301,12 @@ fn a_row_stops_behind_its_whole_fields(rt: HostRuntime) -> Result<(), Fail> {
 #[test]
 fn long_values_are_not_built(rt: HostRuntime) -> Result<(), Fail> {
     let mut areas = make_usual_areas(rt.alloc())?;
-    for (type_byte, length) in [(0xE7, 0xFF), (0xA7, 0xFF), (0xE7, 0x14), (0xA7, 0x0A)] {
+    for (what, type_byte, length) in [
+        ("nvarchar(max)", 0xE7, 0xFF),
+        ("varchar(max)", 0xA7, 0xFF),
+        ("nvarchar(10)", 0xE7, 0x14),
+        ("varchar(10)", 0xA7, 0x0A),
+    ] {
         let high = if length == 0xFF { 0xFF } else { 0 };
         let column = [type_byte, length, high, 9, 4, 0xD0, 0, 0x34, 1, 0x74, 0];
         let row = [0xD1, 4, 0, 0, 0, 0, 0, 0, 0];
@@ -282,10 +314,10 @@ fn long_values_are_not_built(rt: HostRuntime) -> Result<(), Fail> {
         let out = read(rt.alloc(), &mut areas, ScriptedReader::new(&wire, 1000))?;
         let text: &[u8] = b"\"t\"\r\n";
         let expected = stopped(Fault::NotYet, Place::Payload(21), text);
-        assert_eq!(rt; out.answer, expected, "{type_byte} {length}");
-        assert_eq!(rt; out.text.as_slice(), text, "{type_byte} {length}");
-        assert_eq!(rt; areas.description_held(), 19, "{type_byte} {length}");
-        assert_eq!(rt; areas.description_peak(), 19, "{type_byte} {length}");
+        assert_eq!(rt; out.answer, expected, "{what}");
+        assert_eq!(rt; out.text.as_slice(), text, "{what}");
+        assert_eq!(rt; areas.description_held(), 19, "{what}");
+        assert_eq!(rt; areas.description_peak(), 19, "{what}");
     }
     Ok(())
 }
@@ -315,23 +347,72 @@ fn no_metadata_ends_a_set(rt: HostRuntime) -> Result<(), Fail> {
 fn a_cut_description_says_where(rt: HostRuntime) -> Result<(), Fail> {
     let mut areas = make_usual_areas(rt.alloc())?;
     let text: &[u8] = b"\"a\",\"b\"\r\n";
-    for (least, most, fault, place, text) in [
-        (0, 0, Fault::EndWithoutDone, 0, NOTHING),
-        (1, 2, Fault::MessageEnded, 1, NOTHING),
-        (3, 9, Fault::MessageEnded, 3, NOTHING),
-        (10, 10, Fault::MessageEnded, 10, NOTHING),
-        (11, 12, Fault::MessageEnded, 11, NOTHING),
-        (13, 19, Fault::MessageEnded, 13, NOTHING),
-        (20, 20, Fault::MessageEnded, 20, NOTHING),
-        (21, 22, Fault::MessageEnded, 21, NOTHING),
-        (23, 23, Fault::EndWithoutDone, 23, text),
+    for (what, least, most, fault, place, text) in [
+        (
+            "before the first token",
+            0,
+            0,
+            Fault::EndWithoutDone,
+            0,
+            NOTHING,
+        ),
+        ("in Count", 1, 2, Fault::MessageEnded, 1, NOTHING),
+        ("in the first head", 3, 9, Fault::MessageEnded, 3, NOTHING),
+        (
+            "before the first name's length",
+            10,
+            10,
+            Fault::MessageEnded,
+            10,
+            NOTHING,
+        ),
+        (
+            "in the first name",
+            11,
+            12,
+            Fault::MessageEnded,
+            11,
+            NOTHING,
+        ),
+        (
+            "in the second head",
+            13,
+            19,
+            Fault::MessageEnded,
+            13,
+            NOTHING,
+        ),
+        (
+            "before the second name's length",
+            20,
+            20,
+            Fault::MessageEnded,
+            20,
+            NOTHING,
+        ),
+        (
+            "in the second name",
+            21,
+            22,
+            Fault::MessageEnded,
+            21,
+            NOTHING,
+        ),
+        (
+            "behind the description",
+            23,
+            23,
+            Fault::EndWithoutDone,
+            23,
+            text,
+        ),
     ] {
         let expected = stopped(fault, Place::Payload(place), text);
         for n in least..=most {
             let wire = in_one_packet(rt.alloc(), front(TWO, n))?;
             let out = read(rt.alloc(), &mut areas, ScriptedReader::new(&wire, 1000))?;
-            assert_eq!(rt; out.answer, expected, "{n}");
-            assert_eq!(rt; out.text.as_slice(), text, "{n}");
+            assert_eq!(rt; out.answer, expected, "{what}: {n}");
+            assert_eq!(rt; out.text.as_slice(), text, "{what}: {n}");
         }
     }
     Ok(())

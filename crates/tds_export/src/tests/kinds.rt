@@ -252,27 +252,27 @@ const fn unknown(byte: u8) -> Fault {
 #[test]
 fn type_bytes_are_judged(rt: HostRuntime) -> Result<(), Fail> {
     let mut areas = make_usual_areas(rt.alloc())?;
-    for (type_byte, fault) in [
-        (0x3B, refused(RefusedKind::Flt4)),
-        (0x3E, refused(RefusedKind::Flt8)),
-        (0x6D, refused(RefusedKind::FltN)),
-        (0x23, refused(RefusedKind::Text)),
-        (0x63, refused(RefusedKind::NText)),
-        (0x22, refused(RefusedKind::Image)),
-        (0x62, refused(RefusedKind::SsVariant)),
-        (0xF0, refused(RefusedKind::Udt)),
-        (0xF1, refused(RefusedKind::Xml)),
-        (0x00, unknown(0x00)),
-        (0x1F, unknown(0x1F)),
-        (0x3F, unknown(0x3F)),
-        (0xFF, unknown(0xFF)),
+    for (what, type_byte, fault) in [
+        ("FLT4", 0x3B, refused(RefusedKind::Flt4)),
+        ("FLT8", 0x3E, refused(RefusedKind::Flt8)),
+        ("FLTN", 0x6D, refused(RefusedKind::FltN)),
+        ("TEXT", 0x23, refused(RefusedKind::Text)),
+        ("NTEXT", 0x63, refused(RefusedKind::NText)),
+        ("IMAGE", 0x22, refused(RefusedKind::Image)),
+        ("SSVARIANT", 0x62, refused(RefusedKind::SsVariant)),
+        ("UDT", 0xF0, refused(RefusedKind::Udt)),
+        ("XML", 0xF1, refused(RefusedKind::Xml)),
+        ("zero", 0x00, unknown(0x00)),
+        ("NULLTYPE", 0x1F, unknown(0x1F)),
+        ("no type", 0x3F, unknown(0x3F)),
+        ("the greatest byte", 0xFF, unknown(0xFF)),
     ] {
         let wire = a_row_of(rt.alloc(), type_byte, &[0; 8])?;
         let out = read(rt.alloc(), &mut areas, ScriptedReader::new(&wire, 1000))?;
         let expected = stopped(fault, Place::Payload(3), NOTHING);
-        assert_eq!(rt; out.answer, expected, "{type_byte}");
-        assert!(rt; out.text.is_empty() && out.left == 0, "{type_byte}");
-        assert_eq!(rt; areas.description_held(), 2, "{type_byte}");
+        assert_eq!(rt; out.answer, expected, "{what}");
+        assert!(rt; out.text.is_empty() && out.left == 0, "{what}");
+        assert_eq!(rt; areas.description_held(), 2, "{what}");
     }
     Ok(())
 }

@@ -2,55 +2,57 @@ use Rattle.std.proofs.Common.{◌≡◌, ◌∙◌, refl, ap, rules, arith}
 use Rattle.tds_packet.specs.Payloads.{seen}
 use Rattle.tds_packet.specs.Seen.{begun}
 use Rattle.tds_csv.specs.Sinks.{held}
-use Rattle.tds_export.specs.declared.report.Report.{Report}
-use Rattle.tds_export.specs.Ended.{Reports, Given, StopsExport, begun_at, fresh_at}
-use Rattle.tds_export.proofs.Answered.{report_tells, stop_tells}
-use Rattle.tds_export.proofs.Texts.{exports, stops_export}
+use Rattle.tds_meter.specs.Space.{Space}
+use Rattle.tds_export.specs.Moments.{Reports, Given, StopsExport, begun_at, fresh_at}
+use Rattle.tds_export.proofs.ToldAnswers.{report_tells, stop_tells}
+use Rattle.tds_export.proofs.Endings.{exports, stops_export}
 use Rattle.tds_export.proofs.DeviceFaults.{blamed}
+use Rattle.tds_export.proofs.NoFailures.{calm}
 use Rattle.tds_export.proofs.Emptied.{description_room, packet_room}
 use Rattle.tds_export.proofs.run.export.Given.{Over}
 use Rattle.tds_export.proofs.run.export.Goals as goal
 
 -- ---- the answer is a report
 
-abbrev reported : (g : Over) → goal.After-result-1 g → Given
+abbrev reported : (g : Over) → goal.In-Ok g → Given
 reported g c = record {
   charset = c.args.charset;
   limits = c.args.areas.now.limits;
   input = g.R.Read.remaining c.args.from.now.device;
-  left = g.R.Read.remaining c.run.new.payload.from.now.device;
+  left = g.R.Read.remaining c.read_response.new.payload.from.now.device;
   had = g.W.Write.contents c.args.to.now.device;
-  has = g.W.Write.contents c.run.new.sink.to.now.device;
-  waiting = c.run.new.sink.output.now.bytes;
+  has = g.W.Write.contents c.read_response.new.sink.to.now.device;
+  waiting = c.read_response.new.sink.output.now.bytes;
   notice = c.restart.new.self.notice.bytes;
-  description = c.run.new.area;
-  read_failures = c.run.new.payload.from.now.failures;
+  description = c.read_response.new.description;
+  read_failures = c.read_response.new.payload.from.now.failures;
   read_failures_before = c.args.from.now.failures;
-  write_failures = c.run.new.sink.to.now.failures;
+  write_failures = c.read_response.new.sink.to.now.failures;
   write_failures_before = c.args.to.now.failures;
 }
 
-abbrev report_of_run : (g : Over) → goal.After-result-1 g → Report
-report_of_run g c = record c.run.new.standing.report { written = c.run.new.sink.delivered }
-
-all_read : (g : Over) (c : goal.After-result-1 g) → Reports (reported g c) (report_of_run g c)
+all_read : (g : Over) (c : goal.In-Ok g) → Reports (reported g c) c.in-Ok.report
 all_read g c =
     let given = reported g c in
     let a = seen g.R.Read.remaining c.new-payload.result in
     let h = held g.W.Write.contents c.new-sink.result in
-    let size = packet_room c.args.areas.now c.restart.new.self c.requires.intact c.restart.ensures.emptied in
-    let room = description_room c.args.areas.now c.restart.new.self c.requires.intact c.restart.ensures.emptied in
+    let emptied = c.restart.ensures.emptied in
+    let size = packet_room c.args.areas.now c.restart.new.self c.requires emptied in
+    let room = description_room c.args.areas.now c.restart.new.self c.requires emptied in
     let limit : c.max_wire-max_wire.result ≡ c.args.areas.now.limits.max_wire = search rules in
     let begins : a ≡ begun_at given = c.new-payload.ensures.seen ∙ ap (λ n. begun n c.max_wire-max_wire.result given.input given.read_failures_before) size ∙ ap (λ n. begun given.limits.packet_size n given.input given.read_failures_before) limit in
     let first : h ≡ fresh_at given = c.new-sink.ensures.held in
-    exports given a (seen g.R.Read.remaining c.run.new.payload) h (held g.W.Write.contents c.run.new.sink) c.restart.new.self.description.room c.run.new.standing (report_of_run g c) begins first room
-    (record { left = refl; failures = refl }) (record { has = refl; waiting = refl; failures = refl }) (c.in-Ok.ensures.gives) refl
+    exports given a (seen g.R.Read.remaining c.read_response.new.payload) h (held g.W.Write.contents c.read_response.new.sink) c.restart.new.self.description.room c.in-Ok.report begins first room
+    (record { left = refl; failures = refl }) (record { has = refl; waiting = refl; failures = refl }) c.in-Ok.ensures.gives (ap (λ (s : Space). s.bytes) emptied.notice)
 
 pub returns-in-Ok-clause-exports : goal.returns-in-Ok-clause-exports
 returns-in-Ok-clause-exports g c =
     let all = all_read g c in
-    let told = report_tells (reported g c) (report_of_run g c) (search rules) (all_read g c) in
+    let told = report_tells (reported g c) c.in-Ok.report (all_read g c) in
     record { gives = grind (arith, all); tells = grind (arith, told); failed_reads = tt; failed_writes = tt }
+
+pub returns-in-Ok-clause-calm : goal.returns-in-Ok-clause-calm
+returns-in-Ok-clause-calm g c = let none = calm (reported g c) c.in-Ok.report (all_read g c) in (grind (arith, none), grind (arith, none))
 
 -- ---- the answer is a stop
 
@@ -59,13 +61,13 @@ stopped g c = record {
   charset = c.args.charset;
   limits = c.args.areas.now.limits;
   input = g.R.Read.remaining c.args.from.now.device;
-  left = g.R.Read.remaining c.run.new.payload.from.now.device;
+  left = g.R.Read.remaining c.read_response.new.payload.from.now.device;
   had = g.W.Write.contents c.args.to.now.device;
   has = g.W.Write.contents c.stop_at.new.sink.to.now.device;
   waiting = c.stop_at.new.sink.output.now.bytes;
   notice = c.restart.new.self.notice.bytes;
-  description = c.run.new.area;
-  read_failures = c.run.new.payload.from.now.failures;
+  description = c.read_response.new.description;
+  read_failures = c.read_response.new.payload.from.now.failures;
   read_failures_before = c.args.from.now.failures;
   write_failures = c.stop_at.new.sink.to.now.failures;
   write_failures_before = c.args.to.now.failures;
@@ -76,18 +78,20 @@ read_so_far g c =
     let given = stopped g c in
     let a = seen g.R.Read.remaining c.new-payload.result in
     let h = held g.W.Write.contents c.new-sink.result in
-    let size = packet_room c.args.areas.now c.restart.new.self c.requires.intact c.restart.ensures.emptied in
-    let room = description_room c.args.areas.now c.restart.new.self c.requires.intact c.restart.ensures.emptied in
+    let emptied = c.restart.ensures.emptied in
+    let size = packet_room c.args.areas.now c.restart.new.self c.requires emptied in
+    let room = description_room c.args.areas.now c.restart.new.self c.requires emptied in
     let limit : c.max_wire-max_wire.result ≡ c.args.areas.now.limits.max_wire = search rules in
     let begins : a ≡ begun_at given = c.new-payload.ensures.seen ∙ ap (λ n. begun n c.max_wire-max_wire.result given.input given.read_failures_before) size ∙ ap (λ n. begun given.limits.packet_size n given.input given.read_failures_before) limit in
     let first : h ≡ fresh_at given = c.new-sink.ensures.held in
-    stops_export given a (seen g.R.Read.remaining c.run.new.payload) h (held g.W.Write.contents c.run.new.sink) (held g.W.Write.contents c.stop_at.new.sink) c.restart.new.self.description.room c.new-payload.result.place c.run.new.sink.failed c.in-Err.stop c.stop_at.result
+    stops_export given a (seen g.R.Read.remaining c.read_response.new.payload) h (held g.W.Write.contents c.read_response.new.sink) (held g.W.Write.contents c.stop_at.new.sink) c.restart.new.self.description.room c.new-payload.result.place c.read_response.new.sink.failed c.in-Err.stop c.stop_at.result
     begins first room c.new-payload.ensures.place (record { left = refl; failures = refl }) (record { has = refl; waiting = refl; failures = refl }) (c.in-Err.ensures.gives) c.stop_at.ensures.tidied (λ failed. ap (held g.W.Write.contents) (c.stop_at.ensures.failed failed)) c.stop_at.ensures.stop
+    (ap (λ (s : Space). s.bytes) emptied.notice)
 
 pub returns-in-Err-clause-exports : goal.returns-in-Err-clause-exports
 returns-in-Err-clause-exports g c =
     let all = read_so_far g c in
-    let told = stop_tells (stopped g c) c.stop_at.result (search rules) (read_so_far g c) in
+    let told = stop_tells (stopped g c) c.stop_at.result (read_so_far g c) in
     let blame = blamed (stopped g c) c.stop_at.result (read_so_far g c) in
     record {
       gives = grind (arith, all);

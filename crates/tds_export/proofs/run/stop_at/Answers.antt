@@ -1,5 +1,5 @@
 use Rattle.tds_csv.specs.Sinks.{held}
-use Rattle.tds_export.proofs.Texts.{tidied}
+use Rattle.tds_export.proofs.Endings.{tidied}
 use Rattle.tds_export.proofs.run.stop_at.Goals as goal
 
 pub returns-clause-tidied : goal.returns-clause-tidied

@@ -1,4 +1,4 @@
-use Rattle.std.proofs.Common.{◌≡◌, ◌∙◌, ◌+◌, ◌<◌, ℕ, List, [], ◌∷◌, ◌++◌, length, take, slice_index, refl, sym, ap, subst, arith}
+use Rattle.std.proofs.Common.{◌≡◌, ◌∙◌, ◌+◌, ◌<◌, ℕ, List, [], ◌∷◌, ◌++◌, length, take, slice_index, refl, sym, ap, subst, arith, rules}
 use Rattle.tds_packet.specs.Payloads.{buffered, seen}
 use Rattle.tds_packet.specs.Seen.{Takes}
 use Rattle.tds_packet.proofs.Futures.{Takes-more, Takes-trans}
@@ -20,7 +20,11 @@ returns-clause-gives g c =
     let byte : take 1 lying ≡ slice_index c.lying.result.now 0 ∷ [] = first lying some ∙ ap (λ l. slice_index l 0 ∷ []) (sym c.lying.ensures) in
     let both : Takes a d ([] ++ take 1 lying) (0 + 1) = Takes-trans a b d [] (take 1 lying) 1 1 (omega arith) c.in_ok-at_end.ensures.gives (Takes-more b d (take 1 lying) 0 1 (omega arith) c.pass.ensures.gives) in
     let one : 0 + 1 ≡ 1 = omega arith in
-    subst (λ l. Takes a d l 1) byte (subst (Takes a d (take 1 lying)) one both)
+    record {
+      takes = subst (λ l. Takes a d l 1) byte (subst (Takes a d (take 1 lying)) one both);
+      place_is = search rules;
+      between = search rules;
+    }
 
 pub returns-in_err-at_end-clause-gives : goal.returns-in_err-at_end-clause-gives
-returns-in_err-at_end-clause-gives g c = passed _ _ _ _ c.from_residual.ensures.1 (c.in_err-at_end.ensures.gives, c.in_err-at_end.ensures.goes_on c.requires.going.going)
+returns-in_err-at_end-clause-gives g c = passed _ _ _ _ c.from_residual.ensures.1 (c.in_err-at_end.ensures.gives, c.in_err-at_end.ensures.goes_on c.requires.going)

@@ -3,7 +3,10 @@ use Rattle.tds_replay.proofs.lines.say_report.Goals as goal
 
 pub returns : goal.returns
 returns g c =
-    let counts = c.in_ok-say_counts.ensures in
-    let values = c.in_ok-say_values.ensures in
-    let status = c.in_ok-say_status.ensures in
-    says_then _ _ _ _ _ _ _ _ counts.0 counts.1 _ (says_then _ _ _ _ _ _ _ _ values.0 values.1 _ (says_then _ _ _ _ _ _ _ _ status.0 status.1 _ c.say_error.ensures))
+    let contents = g.W.Write.contents in
+    let notes = c.args.notes.now in
+    let end = c.say_error.new.notes in
+    let counts = c.say_counts.new.notes in
+    let values = c.say_values.new.notes in
+    says_then contents notes counts end _ _ c.in_ok-say_counts.ensures _
+    (says_then contents counts values end _ _ c.in_ok-say_values.ensures _ (says_then contents values c.say_status.new.notes end _ _ c.in_ok-say_status.ensures _ c.say_error.ensures))

@@ -14,13 +14,12 @@ use Rattle.tds_packet.proofs.MessageLaws.{behind as behind_last, one_message, re
 use Rattle.tds_meter.specs.Counts.{Rose}
 use Rattle.tds_export.specs.declared.report.Report.{Report}
 use Rattle.tds_export.specs.declared.report.Stopped.{Stopped}
-use Rattle.tds_export.specs.Tokens.{Token, is_final}
+use Rattle.tds_export.specs.Tokens.{Token, error_text, is_final, text}
 use Rattle.tds_export.specs.Response.{Accepted, Response}
-use Rattle.tds_export.specs.Export.{Outcome, Packets, Run, Stops, SucceedsIfAccepted, grammar}
-use Rattle.tds_export.specs.Reading.{Part, response_start}
-use Rattle.tds_export.specs.Running.{behind}
-use Rattle.tds_export.proofs.ResponseLaws.{refused_response, response_is_read}
-use Rattle.tds_export.proofs.SuccessLaws.{reported_succeeds}
+use Rattle.tds_export.specs.Outcome.{Outcome, Packets, Reported, Run, Stops, SucceedsIfAccepted, grammar, report_of}
+use Rattle.tds_export.specs.TokenGrammar.{Part, response_start}
+use Rattle.tds_export.specs.Steps.{behind}
+use Rattle.tds_export.proofs.ResponseLaws.{one_accepted, refused_response, response_is_read}
 
 -- ---- packets at the front of a message
 
@@ -116,6 +115,17 @@ only_unbuilt run fault (Wire taken) x tokens packets a reads writes = elim x.fir
   | inr r ↦ absurd (no_wire_fault run.limits.packet_size run.limits.max_wire run.input a.wire a.unread packets x.packets fault a.message a.begins r)
 ]
 only_unbuilt run fault (Text written) x tokens packets a reads writes = absurd (writes x.failed)
+
+-- a report that is answered is that of the accepted response
+reported_succeeds : (run : Run) (report : Report) → Reported run report → SucceedsIfAccepted run (Ok report)
+reported_succeeds run report r = λ tokens packets accepted reads writes.
+    let same = one_accepted run.charset run.limits.column_room run.limits.packet_size run.limits.max_wire tokens r.tokens packets r.packets run.input accepted r.accepted in
+    inl (record {
+      report_is = ap (λ v. Ok v) (r.report_is ∙ ap report_of (sym same.0));
+      written = r.written ∙ ap text (sym same.0);
+      notice = r.notice ∙ ap error_text (sym same.0);
+      stands = subst (λ v. Packets run v) (sym same.1) r.stands;
+    })
 
 -- an answer that is true of an accepted response is its report
 pub outcome_succeeds : (run : Run) (result : Result Report Stopped) → Outcome run result → SucceedsIfAccepted run result

@@ -1,11 +1,13 @@
 -- What the calls inside an export do.
-use Rattle.std.specs.Prelude.{◌≡◌, ◌⊎◌, ◌+◌, ◌≤◌, ℕ, Bool, true, false, List, [], ◌∷◌, ◌++◌, length, Option, Some, None}
+use Rattle.std.specs.Prelude.{◌≡◌, ◌⊎◌, ◌+◌, ◌≤◌, ℕ, Bool, true, false, List, [], ◌∷◌, ◌++◌, length, Option, Some, None, Result, MatchOption, MatchResult}
 use Rattle.tds_meter.specs.Space.{Space}
 use Rattle.tds_packet.specs.declared.fault.Fault.{Fault}
-use Rattle.tds_packet.specs.declared.fault.Fault.TheVariants.{NotYet, RefusedToken, RowWithoutColumns}
+use Rattle.tds_packet.specs.declared.fault.Fault.TheVariants.{MessageEnded, NotYet, RefusedToken, RowWithoutColumns}
 use Rattle.tds_packet.specs.declared.fault.Stop.{Stop}
 use Rattle.tds_packet.specs.Elements.{Grammar, Spelt}
-use Rattle.tds_packet.specs.Seen.{Seen, Takes, IsOver}
+use Rattle.tds_packet.specs.declared.payload.Payload.{Payload}
+use Rattle.tds_packet.specs.Payloads.{seen}
+use Rattle.tds_packet.specs.Seen.{Seen, Takes, Ends, IsBetween, IsOver}
 use Rattle.tds_columns.specs.Description.{BeforeCount, Column, description_bytes}
 use Rattle.tds_columns.specs.View.{columns_of}
 use Rattle.tds_csv.specs.Sinks.{Held, Finishes, FinishFails}
@@ -13,12 +15,14 @@ use Rattle.tds_csv.specs.Streaming.{PutsText, Streams, BreaksStreaming}
 use Rattle.tds_rows.specs.declared.Charset.{Charset}
 use Rattle.tds_rows.specs.Rows.{row_start}
 use Rattle.tds_rows.specs.Unbuilt.{Stalls}
-use Rattle.tds_export.specs.declared.standing.Standing.{Standing}
+use Rattle.tds_export.specs.declared.token_bytes.TheConstants.{COLMETADATA, ROW, NBCROW, DONE, DONEPROC}
+use Rattle.tds_export.specs.declared.progress.Progress.{Progress}
+use Rattle.tds_export.specs.declared.report.Report.{Report}
 use Rattle.tds_export.specs.declared.tokens.TokenKind.{TokenKind}
 use Rattle.tds_export.specs.declared.tokens.TokenKind.TheVariants as kinds
 use Rattle.tds_export.specs.Built.{is_built, is_built_token}
-use Rattle.tds_export.specs.Export.{report_of}
-use Rattle.tds_export.specs.Reading.{Between, Describing, DoneFields, Open, Part, is_token_byte, text_so_far, span_so_far, with_row}
+use Rattle.tds_export.specs.Outcome.{report_of}
+use Rattle.tds_export.specs.TokenGrammar.{Between, Describing, DoneFields, Open, Part, is_token_byte, text_so_far, span_so_far, with_row}
 use Rattle.tds_export.specs.Tokens.{Token, described_after, encoded_after, first_error, is_final, text}
 
 -- Columns are described, and they are those in these bytes; or none are.
@@ -41,60 +45,62 @@ abbrev pub behind : List Token → Part
 behind tokens = record { tokens = tokens; at = Between }
 
 -- What stands after these tokens is known: the report but for what was written, whether columns are described, and whether the last token is a final one. None is an error.
-pub record Tracks (standing : Standing) (tokens : List Token) : Type 0 where
-  pub report : record standing.report { written = length (text tokens) } ≡ report_of tokens
-  pub described : IsDescribed standing.described (encoded_after [] tokens) (described_after None tokens)
-  pub final : standing.is_final ≡ is_final tokens
+pub record Tracks (progress : Progress) (tokens : List Token) : Type 0 where
+  pub report : record progress.report { written = length (text tokens) } ≡ report_of tokens
+  pub described : IsDescribed progress.described (encoded_after [] tokens) (described_after None tokens)
+  pub final : progress.is_final ≡ is_final tokens
   pub no_error : first_error tokens ≡ None
 
 -- A token was read whole, and its text put.
-pub record ReadsToken (g : Grammar Part Fault) (from : Part) (tokens : List Token) (old new : Seen) (place place' : ℕ) (before after : Held) (standing : Standing) (area : Space) : Type 0 where
+pub record ReadsToken (g : Grammar Part Fault) (from : Part) (tokens : List Token) (old new : Seen) (place place' : ℕ) (before after : Held) (progress : Progress) (area : Space) : Type 0 where
   pub token : Token
   pub streams : Streams g text_so_far from old new before after (behind (tokens ++ token ∷ []))
   pub place_is : place' ≡ place + length streams.bytes
-  pub tracks : Tracks standing (tokens ++ token ∷ [])
+  pub tracks : Tracks progress (tokens ++ token ∷ [])
   pub holds : IsHolding area (behind (tokens ++ token ∷ []))
 
 -- The byte begins a token of this kind, where columns are described or not.
 abbrev pub IsOfKind : Bool → ℕ → TokenKind → Type 0
-IsOfKind described byte kinds.Metadata = byte ≡ 0x81
-IsOfKind described byte kinds.Row = (byte ≡ 0xD1) × (described ≡ true)
-IsOfKind described byte kinds.Done = (byte ≡ 0xFD) ⊎ (byte ≡ 0xFE)
+IsOfKind described byte kinds.Metadata = byte ≡ COLMETADATA
+IsOfKind described byte kinds.Row = (byte ≡ ROW) × (described ≡ true)
+IsOfKind described byte kinds.Done = (byte ≡ DONE) ⊎ (byte ≡ DONEPROC)
 
 -- The byte is refused with this fault, or isn't built.
 abbrev pub IsRefusal : Bool → ℕ → Fault → Type 0
 IsRefusal described byte fault =
     ((fault ≡ RefusedToken byte) × (is_token_byte byte ≡ false))
-    ⊎ (((fault ≡ RowWithoutColumns) × (described ≡ false) × ((byte ≡ 0xD1) ⊎ (byte ≡ 0xD2))) ⊎ ((fault ≡ NotYet) × (is_built_token byte ≡ false)))
+    ⊎ (((fault ≡ RowWithoutColumns) × (described ≡ false) × ((byte ≡ ROW) ⊎ (byte ≡ NBCROW))) ⊎ ((fault ≡ NotYet) × (is_built_token byte ≡ false)))
 
--- where the tokens that are built are read, behind their token bytes
+-- behind the token byte of a COLMETADATA
 abbrev pub in_metadata : List Token → Part
 in_metadata tokens = record { tokens = tokens; at = Describing BeforeCount }
 
+-- behind the token byte of a ROW under these columns
 abbrev pub in_row : Charset → List Column → List Token → Part
 in_row charset columns tokens = with_row tokens (row_start charset columns)
 
+-- behind the token byte of a DONE or DONEPROC
 abbrev pub in_done : List Token → Part
 in_done tokens = record { tokens = tokens; at = DoneFields }
 
 -- A call inside an export stopped in reading: the text of the state that it reached was put.
-pub record HaltsReading (g : Grammar Part Fault) (from : Part) (old new : Seen) (place : ℕ) (before after : Held) (area : Space) (stop : Stop) : Type 0 where
+pub record StopsInReading (g : Grammar Part Fault) (from : Part) (old new : Seen) (place : ℕ) (before after : Held) (area : Space) (stop : Stop) : Type 0 where
   pub at : Part
   pub stalls : Stalls g is_built from old new place at stop
   pub puts : PutsText text_so_far from at before after
   pub holds : IsHolding area at
 
 -- It stopped in writing the text of an element.
-pub record HaltsWriting (g : Grammar Part Fault) (from : Part) (old new : Seen) (before after : Held) (area : Space) (stop : Stop) : Type 0 where
+pub record StopsInWriting (g : Grammar Part Fault) (from : Part) (old new : Seen) (before after : Held) (area : Space) (stop : Stop) : Type 0 where
   pub at : Part
   pub breaks : BreaksStreaming g text_so_far from old new before after at stop
   pub holds : IsHolding area (g.add at breaks.element)
 
 -- A call inside an export stopped, where the sink failed or not.
-abbrev pub Halts : Grammar Part Fault → Part → Seen → Seen → ℕ → Held → Held → Space → Bool → Stop → Type 0
-Halts g from old new place before after area failed stop =
-    (HaltsReading g from old new place before after area stop × (failed ≡ false))
-    ⊎ (HaltsWriting g from old new before after area stop × (failed ≡ true))
+abbrev pub StepStops : Grammar Part Fault → Part → Seen → Seen → ℕ → Held → Held → Space → Bool → Stop → Type 0
+StepStops g from old new place before after area failed stop =
+    (StopsInReading g from old new place before after area stop × (failed ≡ false))
+    ⊎ (StopsInWriting g from old new before after area stop × (failed ≡ true))
 
 -- The whole response was read, to the message's end, and its text put.
 pub record ReadsWhole (g : Grammar Part Fault) (from : Part) (old new : Seen) (before after : Held) (area : Space) : Type 0 where
@@ -107,15 +113,16 @@ pub record ReadsWhole (g : Grammar Part Fault) (from : Part) (old new : Seen) (b
   pub final : is_final tokens ≡ true
   pub holds : IsHolding area (behind tokens)
 
--- So it was, and all of its text was delivered.
-pub record Completes (g : Grammar Part Fault) (from : Part) (old new : Seen) (before after : Held) (standing : Standing) (area : Space) : Type 0 where
+-- The whole response was read and all of its text delivered, and this is its report. None of its tokens is an error.
+pub record Completes (g : Grammar Part Fault) (from : Part) (old new : Seen) (before after : Held) (report : Report) (area : Space) : Type 0 where
   pub middle : Held
   pub whole : ReadsWhole g from old new before middle area
-  pub tracks : Tracks standing whole.tokens
   pub finishes : Finishes middle after
+  pub report_is : report ≡ record (report_of whole.tokens) { written = after.delivered }
+  pub no_error : first_error whole.tokens ≡ None
 
--- So it was, and then the rest couldn't be delivered, or the writer not be flushed.
-pub record FailsAtEnd (g : Grammar Part Fault) (from : Part) (old new : Seen) (before after : Held) (area : Space) (stop : Stop) : Type 0 where
+-- The whole response was read, and then the rest of its text couldn't be delivered, or the writer not be flushed.
+pub record StopsAtEnd (g : Grammar Part Fault) (from : Part) (old new : Seen) (before after : Held) (area : Space) (stop : Stop) : Type 0 where
   pub middle : Held
   pub whole : ReadsWhole g from old new before middle area
   pub fails : FinishFails middle after stop
@@ -123,4 +130,24 @@ pub record FailsAtEnd (g : Grammar Part Fault) (from : Part) (old new : Seen) (b
 -- An export stopped: in a token, at the message's end, or in delivering the rest.
 abbrev pub RunStops : Grammar Part Fault → Part → Seen → Seen → ℕ → Held → Held → Space → Bool → Stop → Type 0
 RunStops g from old new place before after area failed stop =
-    Halts g from old new place before after area failed stop ⊎ (FailsAtEnd g from old new before after area stop × (failed ≡ true))
+    StepStops g from old new place before after area failed stop ⊎ (StopsAtEnd g from old new before after area stop × (failed ≡ true))
+
+-- The next byte was read, and no packet is cut behind it.
+pub record ReadsByte (old new : Seen) (place place' byte : ℕ) : Type 0 where
+  pub takes : Takes old new (byte ∷ []) 1
+  pub place_is : place' ≡ place + 1
+  pub between : IsBetween new
+
+-- No byte is left, and the message is over.
+pub record ReadsNone (old new : Seen) (place place' : ℕ) : Type 0 where
+  pub takes : Takes old new [] 1
+  pub over : IsOver new
+  pub place_is : place' ≡ place
+
+-- The next byte was read, or the message is over; or the payload stopped, otherwise than at the message's end.
+abbrev pub ByteRead : {R : Type 0} → (R → Option (List ℕ)) → Payload R → Payload R → Result (Option ℕ) Stop → Type 0
+ByteRead remaining old new result = MatchResult result
+    (λ next. MatchOption next
+    (ReadsNone (seen remaining old) (seen remaining new) old.place new.place)
+    (λ byte. ReadsByte (seen remaining old) (seen remaining new) old.place new.place byte))
+    (λ stop. Ends (seen remaining old) (seen remaining new) [] stop × (stop.fault ≡ MessageEnded → ⊥))

@@ -23,11 +23,11 @@ use Rattle.tds_rows.specs.Rows.{RowPart, Bitmap, InCell, WholeRow, bit, marked, 
 use Rattle.tds_export.specs.ReturnValue.{ReturnPart, ReturnOrdinal, ReturnNameCount, ReturnName, ReturnHead, ReturnInfo, InReturnCell, WholeReturn, return_add}
 use Rattle.tds_export.specs.Response.{more}
 use Rattle.tds_export.specs.Tokens.{Token, Metadata, NoMetadata, Row, ReturnStatus, Returned, Done, DoneInProc, described_after, header_line, text, text_after}
-use Rattle.tds_export.specs.Reading.{Bodied, AnOrder, AnEnvChange, AnError, AnInfo, Open, Between, Describing, InRow, InReturn, TokenLength, TokenBody, Status, DoneFields, DoneInProcFields, Part, response, response_start, bodied, open_text, part_add, start_of_row, text_so_far, with_described, with_return, with_row, with_token}
-use Rattle.tds_export.proofs.Growing.{unless_none, last_fit, end_fit}
+use Rattle.tds_export.specs.TokenGrammar.{Bodied, AnOrder, AnEnvChange, AnError, AnInfo, Open, Between, Describing, InRow, InReturn, TokenLength, TokenBody, Status, DoneFields, DoneInProcFields, Part, response, response_start, bodied, open_text, part_add, start_of_row, text_so_far, with_described, with_return, with_row, with_token}
+use Rattle.tds_export.proofs.GrowingTexts.{unless_none, last_fit, end_fit}
 use Rattle.tds_export.proofs.FieldLengths.{open_length, long_length, open_more, long_more, ReadShort, read_short}
 use Rattle.tds_export.proofs.TokenLaws.{begun_after, text_after-snoc}
-use Rattle.tds_export.proofs.Growth.{IsFresh, part_at, byte_cases}
+use Rattle.tds_export.proofs.ReadingGrows.{IsFresh, part_at, byte_cases}
 
 -- ---- fields
 

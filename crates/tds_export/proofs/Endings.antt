@@ -1,5 +1,5 @@
--- What an export delivered.
-use Rattle.std.proofs.Common.{◌≡◌, inl, inr, ℕ, ◌-◌, ◌^◌, ◌<◌, ◌≤◌, Bool, true, false, length, refl, sym, subst, arith, nat_lt, Result, Ok, Err, MatchResult}
+-- How an export ends, from what its calls did.
+use Rattle.std.proofs.Common.{◌≡◌, ◌∙◌, inl, inr, ℕ, ◌-◌, ◌^◌, ◌<◌, ◌≤◌, Bool, true, false, [], length, refl, sym, ap, subst, arith, nat_lt, Result, Ok, Err, MatchResult}
 use Rattle.std.proofs.lemmas.Bool.Decides.{nat_tests}
 use Rattle.tds_meter.specs.Counts.{Rose, one_more}
 use Rattle.tds_packet.specs.declared.fault.Stop.{Stop}
@@ -7,10 +7,10 @@ use Rattle.tds_csv.specs.Sinks.{FinishFails, Finishes, Held}
 use Rattle.tds_packet.specs.Seen.{Seen}
 use Rattle.tds_export.specs.declared.report.Report.{Report}
 use Rattle.tds_export.specs.declared.report.Stopped.{Stopped}
-use Rattle.tds_export.specs.declared.standing.Standing.{Standing}
-use Rattle.tds_export.specs.Reading.{response, response_start}
-use Rattle.tds_export.specs.Running.{Completes, RunStops}
-use Rattle.tds_export.specs.Ended.{Reports, Given, IsReader, IsWriter, StopsExport, Tidied, begun_at, fresh_at}
+use Rattle.tds_export.specs.TokenGrammar.{response, response_start}
+use Rattle.tds_export.specs.Steps.{Completes, RunStops}
+use Rattle.tds_export.specs.Tokens.{message_text}
+use Rattle.tds_export.specs.Moments.{Reports, Given, IsReader, IsWriter, StopsExport, Tidied, begun_at, fresh_at}
 
 rose_from : (f : ℕ) (b : Bool) → nat_lt f (2 ^ 64 - 1) ≡ b → Rose f (one_more f)
 rose_from f true e = let low : f < 2 ^ 64 - 1 = grind (arith, nat_tests) in inl (omega (arith, low))
@@ -27,24 +27,18 @@ tidied h k failed (Err e) going x = let y = x going in (y.0, y.1, inr (subst (Ro
 
 -- ---- what an export leaves, from what its calls did
 
-pub exports : (given : Given) (a q : Seen) (h k : Held) (room : ℕ) (standing : Standing) (report : Report) → a ≡ begun_at given → h ≡ fresh_at given → room ≡ given.limits.column_room → IsReader given q → IsWriter given k
-    → Completes (response given.charset room) response_start a q h k standing given.description → report ≡ record standing.report { written = k.delivered } → Reports given report
-exports given a q h k room standing report e1 e2 e3 reader writer x is = record {
-  seen = q;
-  held = k;
-  standing = standing;
-  reader = reader;
-  writer = writer;
-  completes = subst (λ r. Completes (response given.charset r) response_start (begun_at given) q (fresh_at given) k standing given.description) e3
-      (subst (λ v. Completes (response given.charset room) response_start (begun_at given) q v k standing given.description) e2
-      (subst (λ v. Completes (response given.charset room) response_start v q h k standing given.description) e1 x));
-  report_is = is;
-}
+pub exports : (given : Given) (a q : Seen) (h k : Held) (room : ℕ) (report : Report) → a ≡ begun_at given → h ≡ fresh_at given → room ≡ given.limits.column_room → IsReader given q → IsWriter given k
+    → Completes (response given.charset room) response_start a q h k report given.description → given.notice ≡ [] → Reports given report
+exports given a q h k room report e1 e2 e3 reader writer x none =
+    let y = subst (λ r. Completes (response given.charset r) response_start (begun_at given) q (fresh_at given) k report given.description) e3
+    (subst (λ v. Completes (response given.charset room) response_start (begun_at given) q v k report given.description) e2
+    (subst (λ v. Completes (response given.charset room) response_start v q h k report given.description) e1 x)) in
+    record { seen = q; held = k; reader = reader; writer = writer; completes = y; notice = none ∙ sym (ap message_text y.no_error) }
 
 pub stops_export : (given : Given) (a q : Seen) (h k l : Held) (room place : ℕ) (failed : Bool) (stop : Stop) (stopped : Stopped) → a ≡ begun_at given → h ≡ fresh_at given → room ≡ given.limits.column_room → place ≡ 0 → IsReader given q → IsWriter given l
     → RunStops (response given.charset room) response_start a q place h k given.description failed stop → (failed ≡ false → Tidied k l) → (failed ≡ true → l ≡ k)
-    → stopped ≡ record { fault = stop.fault; place = stop.place; written = l.delivered; unwritten = length l.waiting } → StopsExport given stopped
-stops_export given a q h k l room place failed stop stopped e1 e2 e3 e4 reader writer x tidy same is = record {
+    → stopped ≡ record { fault = stop.fault; place = stop.place; written = l.delivered; unwritten = length l.waiting } → given.notice ≡ [] → StopsExport given stopped
+stops_export given a q h k l room place failed stop stopped e1 e2 e3 e4 reader writer x tidy same is none = record {
   seen = q;
   middle = k;
   held = l;
@@ -59,4 +53,5 @@ stops_export given a q h k l room place failed stop stopped e1 e2 e3 e4 reader w
   tidied = tidy;
   same = same;
   stopped_is = is;
+  notice = none;
 }

@@ -1,25 +1,25 @@
 // What an export knows of the tokens that it has read.
 ghost use Rattle.std.specs.Prelude.{◌≡◌, [], false};
-ghost use Rattle.tds_export.specs.Running.{Tracks};
+ghost use Rattle.tds_export.specs.Steps.{Tracks};
 
 use crate::report::Report;
 
 /// What is known of the tokens read so far: the report, but for what was written; whether columns
 /// are described; and whether the last token is a final DONE or DONEPROC.
 #[derive(Debug, Clone, Copy)]
-pub(crate) struct Standing {
+pub(crate) struct Progress {
     pub(crate) report: Report,
     pub(crate) described: bool,
     pub(crate) is_final: bool,
 }
 
-impl Standing {
+impl Progress {
     /// Before the first token.
-    pub(crate) fn new() -> Standing
+    pub(crate) fn new() -> Progress
         ensures described { result.described ≡ false }
         ensures tracks { Tracks result [] }
     {
-        Standing {
+        Progress {
             report: Report {
                 sets: 0,
                 rows: 0,

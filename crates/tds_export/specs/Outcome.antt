@@ -15,7 +15,7 @@ use Rattle.tds_export.specs.declared.report.ServerError.{ServerError}
 use Rattle.tds_export.specs.declared.report.Stopped.{Stopped}
 use Rattle.tds_export.specs.Tokens.{Notice, Token, text, is_set, is_row, is_error, is_info, is_return, how_many, first_error, return_status, error_text, encoded_after}
 use Rattle.tds_export.specs.Response.{Accepted}
-use Rattle.tds_export.specs.Reading.{Open, Describing, Part, response, response_start, text_so_far, span_so_far}
+use Rattle.tds_export.specs.TokenGrammar.{Open, Describing, Part, response, response_start, text_so_far, span_so_far}
 use Rattle.tds_export.specs.Built.{is_built}
 
 -- what a run was given, and what it left, where reader and writer tell their bytes
@@ -42,6 +42,7 @@ pub record Run : Type 0 where
 abbrev pub signed : ℕ → ℤ
 signed n = if nat_lt n (2 ^ 31) then pos n else negsuc (2 ^ 32 - n - 1)
 
+-- an error as the report has it
 abbrev pub server_error : Notice → ServerError
 server_error n = record { number = signed n.number; state = n.state; class = n.class; line = signed n.line_number }
 
@@ -94,6 +95,7 @@ abbrev pub IsKept : List ℕ → List Token → Open → List ℕ → Type 0
 IsKept area tokens (Describing d) rest = (after : List ℕ) × (area ++ after ≡ description_bytes d ++ rest)
 IsKept area tokens at rest = area ≡ encoded_after [] tokens
 
+-- The description area has the description at the place where a run stopped.
 abbrev pub Keeps : Run → List Packet → ℕ → Part → Type 0
 Keeps run packets place part = IsKept run.description part.tokens part.at (drop place (payload_of packets))
 
@@ -172,6 +174,7 @@ pub record StopsInText (run : Run) (fault : Fault) (written : ℕ) : Type 0 wher
   pub failed : Rose run.write_failures_before run.write_failures
   pub kept : (n : ℕ) × (earlier : Part) × Comes run packets n earlier × Keeps run packets n earlier
 
+-- A run stopped so: in the payload, on the wire or in the text, as the place says.
 abbrev pub Stops : Run → Fault → Place → Type 0
 Stops run fault (Payload place) = StopsInPayload run fault place ⊎ ((fault ≡ NotYet) × StopsUnbuilt run place)
 Stops run fault (Wire taken) = StopsOnWire run fault taken
@@ -185,6 +188,7 @@ pub record AfterStop (run : Run) (stopped : Stopped) : Type 0 where
   pub no_notice : run.notice ≡ []
   pub none_waits : (Rose run.write_failures_before run.write_failures → ⊥) → run.waiting ≡ []
 
+-- A run answered a report of a whole response, or a stop.
 abbrev pub Outcome : Run → Result Report Stopped → Type 0
 Outcome run (Ok report) = Reported run report
 Outcome run (Err stopped) = AfterStop run stopped
@@ -210,7 +214,7 @@ pub record Succeeds (run : Run) (tokens : List Token) (packets : List Packet) (r
   pub notice : run.notice ≡ error_text tokens
   pub stands : Packets run packets
 
--- It met what isn't built yet.
+-- The export met what isn't built yet.
 abbrev pub IsUnbuilt : Result Report Stopped → Type 0
 IsUnbuilt (Ok report) = ⊥
 IsUnbuilt (Err stopped) = stopped.fault ≡ NotYet

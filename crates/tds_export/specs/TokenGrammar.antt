@@ -1,4 +1,4 @@
--- How a response is read, element by element, and what stands after each element.
+-- The element grammar of a response: how many bytes the next element has, its fault, and what stands behind it.
 use Rattle.std.specs.Prelude.{◌==◌, ◌&&◌, ◌||◌, ◌+◌, ◌*◌, ℕ, Bool, true, false, not, List, [], ◌∷◌, ◌++◌, length, take, drop, max, Option, Some, None, if◌then◌else◌, nat_lt, nat_le, slice_index}
 use Rattle.tds_values.specs.Numbers.{little}
 use Rattle.tds_columns.specs.Description.{Column, DescriptionPart, BeforeCount, NoDescription, WholeDescription, described_size, described_fault, add_described, span}
@@ -7,6 +7,7 @@ use Rattle.tds_rows.specs.Rows.{RowPart, WholeRow, row_start, nbc_row_start, row
 use Rattle.tds_packet.specs.Elements.{Grammar}
 use Rattle.tds_packet.specs.declared.fault.Fault.{Fault}
 use Rattle.tds_packet.specs.declared.fault.Fault.TheVariants.{MessageEnded, EndWithoutDone, RefusedToken, RowWithoutColumns, BadNotice}
+use Rattle.tds_export.specs.declared.token_bytes.TheConstants.{COLMETADATA, ROW, NBCROW, ORDER, ENVCHANGE, ERROR, INFO, RETURNVALUE, RETURNSTATUS, DONE, DONEPROC, DONEINPROC}
 use Rattle.tds_export.specs.ReturnValue.{ReturnPart, ReturnOrdinal, WholeReturn, return_size, return_fault, return_add}
 use Rattle.tds_export.specs.Tokens.{Notice, Token, Metadata, NoMetadata, Row, Order, EnvChange, Error, Info, ReturnStatus, Returned, Done, DoneInProc, described_after, is_final, text, greatest_span}
 use Rattle.tds_export.specs.Response.{more}
@@ -42,10 +43,11 @@ pub record Part : Type 0 where
   pub tokens : List Token
   pub at : Open
 
+-- a response of which nothing is read
 abbrev pub response_start : Part
 response_start = record { tokens = []; at = Between }
 
--- the token is whole
+-- a response behind one more whole token
 abbrev pub with_token : List Token → Token → Part
 with_token tokens t = record { tokens = tokens ++ t ∷ []; at = Between }
 
@@ -70,33 +72,36 @@ abbrev pub start_of_row : List Token → (List Column → RowPart) → Option (L
 start_of_row tokens start None = record { tokens = tokens; at = Between }
 start_of_row tokens start (Some columns) = with_row tokens (start columns)
 
--- the token bytes
+-- what stands behind a token byte
 abbrev pub after_byte : Charset → List Token → ℕ → Part
 after_byte charset tokens byte =
-    if byte == 0x81 then record { tokens = tokens; at = Describing BeforeCount }
-    else if byte == 0xD1 then start_of_row tokens (row_start charset) (described_after None tokens)
-    else if byte == 0xD2 then start_of_row tokens nbc_row_start (described_after None tokens)
-    else if byte == 0xA9 then record { tokens = tokens; at = TokenLength AnOrder }
-    else if byte == 0xE3 then record { tokens = tokens; at = TokenLength AnEnvChange }
-    else if byte == 0xAA then record { tokens = tokens; at = TokenLength AnError }
-    else if byte == 0xAB then record { tokens = tokens; at = TokenLength AnInfo }
-    else if byte == 0x79 then record { tokens = tokens; at = Status }
-    else if (byte == 0xFD) || (byte == 0xFE) then record { tokens = tokens; at = DoneFields }
-    else if byte == 0xFF then record { tokens = tokens; at = DoneInProcFields }
-    else if byte == 0xAC then record { tokens = tokens; at = InReturn ReturnOrdinal }
+    if byte == COLMETADATA then record { tokens = tokens; at = Describing BeforeCount }
+    else if byte == ROW then start_of_row tokens (row_start charset) (described_after None tokens)
+    else if byte == NBCROW then start_of_row tokens nbc_row_start (described_after None tokens)
+    else if byte == ORDER then record { tokens = tokens; at = TokenLength AnOrder }
+    else if byte == ENVCHANGE then record { tokens = tokens; at = TokenLength AnEnvChange }
+    else if byte == ERROR then record { tokens = tokens; at = TokenLength AnError }
+    else if byte == INFO then record { tokens = tokens; at = TokenLength AnInfo }
+    else if byte == RETURNSTATUS then record { tokens = tokens; at = Status }
+    else if (byte == DONE) || (byte == DONEPROC) then record { tokens = tokens; at = DoneFields }
+    else if byte == DONEINPROC then record { tokens = tokens; at = DoneInProcFields }
+    else if byte == RETURNVALUE then record { tokens = tokens; at = InReturn ReturnOrdinal }
     else record { tokens = tokens; at = Between }
 
+-- whether the byte begins a token that is accepted
 abbrev pub is_token_byte : ℕ → Bool
-is_token_byte byte = (byte == 0x81) || (byte == 0xD1) || (byte == 0xD2) || (byte == 0xA9) || (byte == 0xE3) || (byte == 0xAA) || (byte == 0xAB) || (byte == 0x79) || (byte == 0xFD) || (byte == 0xFE) || (byte == 0xFF) || (byte == 0xAC)
+is_token_byte byte = (byte == COLMETADATA) || (byte == ROW) || (byte == NBCROW) || (byte == ORDER) || (byte == ENVCHANGE) || (byte == ERROR) || (byte == INFO) || (byte == RETURNSTATUS) || (byte == DONE) || (byte == DONEPROC) || (byte == DONEINPROC) || (byte == RETURNVALUE)
 
+-- whether the byte begins a row
 abbrev pub is_row_byte : ℕ → Bool
-is_row_byte byte = (byte == 0xD1) || (byte == 0xD2)
+is_row_byte byte = (byte == ROW) || (byte == NBCROW)
 
 -- a row wants columns
 abbrev pub row_byte_fault : Bool → Option (List Column) → Option Fault
 row_byte_fault true None = Some RowWithoutColumns
 row_byte_fault row columns = None
 
+-- the fault of a token byte behind these tokens: no such token, or a row without columns
 abbrev pub token_fault : List Token → ℕ → Option Fault
 token_fault tokens byte = if is_token_byte byte then row_byte_fault (is_row_byte byte) (described_after None tokens) else Some (RefusedToken byte)
 
@@ -104,9 +109,11 @@ token_fault tokens byte = if is_token_byte byte then row_byte_fault (is_row_byte
 abbrev pub server_at : List ℕ → ℕ
 server_at body = 8 + 2 * little (take 2 (drop 6 body))
 
+-- where the procedure's name of a notice begins
 abbrev pub procedure_at : List ℕ → ℕ
 procedure_at body = server_at body + 1 + 2 * slice_index body (server_at body)
 
+-- where the line number of a notice begins
 abbrev pub line_at : List ℕ → ℕ
 line_at body = procedure_at body + 1 + 2 * slice_index body (procedure_at body)
 
@@ -114,6 +121,7 @@ line_at body = procedure_at body + 1 + 2 * slice_index body (procedure_at body)
 abbrev pub holds_notice : List ℕ → Bool
 holds_notice body = nat_lt (server_at body) (length body) && nat_lt (procedure_at body) (length body) && nat_le (line_at body + 4) (length body)
 
+-- what a notice's body says
 abbrev pub notice_of : List ℕ → Notice
 notice_of body = record {
   number = little (take 4 body);
@@ -123,17 +131,20 @@ notice_of body = record {
   line_number = little (take 4 (drop (line_at body) body));
 }
 
+-- the token of a body that is read whole
 abbrev pub bodied : Bodied → List ℕ → Token
 bodied AnOrder body = Order body
 bodied AnEnvChange body = EnvChange body
 bodied AnError body = Error (notice_of body)
 bodied AnInfo body = Info (notice_of body)
 
+-- whether such a token is an ERROR or INFO
 abbrev pub is_notice : Bodied → Bool
 is_notice AnError = true
 is_notice AnInfo = true
 is_notice b = false
 
+-- how many bytes the next element of a response has
 abbrev pub part_size : Open → ℕ
 part_size Between = 1
 part_size (Describing d) = described_size d
@@ -145,6 +156,7 @@ part_size Status = 4
 part_size DoneFields = 12
 part_size DoneInProcFields = 12
 
+-- the fault of the next element of a response, if it has one
 abbrev pub part_fault : ℕ → List Token → Open → List ℕ → Option Fault
 part_fault room tokens Between element = token_fault tokens (slice_index element 0)
 part_fault room tokens (Describing d) element = described_fault room d element
@@ -154,6 +166,7 @@ part_fault room tokens (TokenLength b) element = if is_notice b && nat_lt (littl
 part_fault room tokens (TokenBody b n) element = if is_notice b && not (holds_notice element) then Some BadNotice else None
 part_fault room tokens at element = None
 
+-- a response with its next element
 abbrev pub part_add : Charset → List Token → Open → List ℕ → Part
 part_add charset tokens Between element = after_byte charset tokens (slice_index element 0)
 part_add charset tokens (Describing d) element = with_described tokens (add_described d element)
@@ -165,6 +178,7 @@ part_add charset tokens Status element = with_token tokens (ReturnStatus (little
 part_add charset tokens DoneFields element = with_token tokens (Done (more element))
 part_add charset tokens DoneInProcFields element = with_token tokens (DoneInProc (more element))
 
+-- the fault of a message that ends here, if it may not
 abbrev pub part_end : List Token → Open → Option Fault
 part_end tokens Between = if is_final tokens then None else Some EndWithoutDone
 part_end tokens at = Some MessageEnded
@@ -183,7 +197,7 @@ abbrev pub open_text : Open → List ℕ
 open_text (InRow part) = row_so_far part
 open_text at = []
 
--- the text so far
+-- the text of a response so far
 abbrev pub text_so_far : Part → List ℕ
 text_so_far p = text p.tokens ++ open_text p.at
 

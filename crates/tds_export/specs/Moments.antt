@@ -1,22 +1,23 @@
--- How an export ended, as contracts see it where reader and writer may not tell their bytes.
-use Rattle.std.specs.Prelude.{◌≡◌, ◌⊎◌, ℕ, Bool, true, false, List, [], ◌++◌, length, Option, Some, Result, IfErr, MatchResult}
+-- What an export has to do with at a moment, and how it ended between two moments, where reader and writer may not tell their bytes.
+use Rattle.std.specs.Prelude.{◌≡◌, ◌⊎◌, ◌+◌, ℕ, Bool, true, false, List, [], ◌++◌, length, Option, Some, Result, IfErr, MatchResult}
 use Rattle.tds_meter.specs.declared.areas.Areas.{Areas}
 use Rattle.tds_meter.specs.declared.limits.Limits.{Limits}
 use Rattle.tds_meter.specs.Counts.{Rose}
 use Rattle.tds_meter.specs.Space.{Space}
 use Rattle.tds_packet.specs.declared.counted.Counted.{Counted}
+use Rattle.tds_packet.specs.declared.fault.Fault.{Fault}
 use Rattle.tds_packet.specs.declared.fault.Fault.TheVariants.{ReadFailed, WriteFailed}
 use Rattle.tds_packet.specs.declared.fault.Stop.{Stop}
+use Rattle.tds_packet.specs.Elements.{AreBytes, Grammar}
 use Rattle.tds_packet.specs.Seen.{Seen, begun}
 use Rattle.tds_csv.specs.Sinks.{Adds, Held, fresh}
 use Rattle.tds_rows.specs.declared.Charset.{Charset}
 use Rattle.tds_export.specs.declared.report.Report.{Report}
 use Rattle.tds_export.specs.declared.report.Stopped.{Stopped}
-use Rattle.tds_export.specs.declared.standing.Standing.{Standing}
-use Rattle.tds_packet.specs.Elements.{AreBytes}
-use Rattle.tds_export.specs.Export.{Answer, Run, SucceedsIfAccepted}
-use Rattle.tds_export.specs.Reading.{response, response_start}
-use Rattle.tds_export.specs.Running.{Completes, RunStops}
+use Rattle.tds_export.specs.Outcome.{Answer, Run, SucceedsIfAccepted}
+use Rattle.tds_export.specs.TokenGrammar.{Part, response, response_start}
+use Rattle.tds_export.specs.Steps.{Completes, RunStops}
+use Rattle.tds_export.specs.Tokens.{error_text}
 
 -- what an export was given, and what it left
 pub record Given : Type 0 where
@@ -36,6 +37,10 @@ pub record Given : Type 0 where
   pub read_failures_before : ℕ
   pub write_failures : ℕ
   pub write_failures_before : ℕ
+
+-- how the response is read
+abbrev pub grammar_of : Given → Grammar Part Fault
+grammar_of given = response given.charset given.limits.column_room
 
 -- the payload before the first packet
 abbrev pub begun_at : Given → Seen
@@ -60,17 +65,20 @@ pub record IsWriter (given : Given) (held : Held) : Type 0 where
 abbrev pub Tidied : Held → Held → Type 0
 Tidied old new = (sent : List ℕ) × Adds old new sent [] × (((new.waiting ≡ []) × (new.failures ≡ old.failures)) ⊎ Rose old.failures new.failures)
 
--- The response was read whole, and its text delivered.
+-- The response was read whole, its text delivered, and its report answered. The notice area has the text of its first error.
 pub record Reports (given : Given) (report : Report) : Type 0 where
   pub seen : Seen
   pub held : Held
-  pub standing : Standing
   pub reader : IsReader given seen
   pub writer : IsWriter given held
-  pub completes : Completes (response given.charset given.limits.column_room) response_start (begun_at given) seen (fresh_at given) held standing given.description
-  pub report_is : report ≡ record standing.report { written = held.delivered }
+  pub completes : Completes (grammar_of given) response_start (begun_at given) seen (fresh_at given) held report given.description
+  pub notice : given.notice ≡ error_text completes.whole.tokens
 
--- It stopped, and what waited was delivered unless the writer had failed.
+-- what an export answers that stopped so, where the sink is left so
+abbrev pub stopped_with : Stop → Held → Stopped
+stopped_with stop held = record { fault = stop.fault; place = stop.place; written = held.delivered; unwritten = length held.waiting }
+
+-- The export stopped, and what waited was delivered unless the writer had failed. The notice area is empty.
 pub record StopsExport (given : Given) (stopped : Stopped) : Type 0 where
   pub seen : Seen
   pub middle : Held
@@ -79,10 +87,11 @@ pub record StopsExport (given : Given) (stopped : Stopped) : Type 0 where
   pub stop : Stop
   pub reader : IsReader given seen
   pub writer : IsWriter given held
-  pub stops : RunStops (response given.charset given.limits.column_room) response_start (begun_at given) seen 0 (fresh_at given) middle given.description failed stop
+  pub stops : RunStops (grammar_of given) response_start (begun_at given) seen 0 (fresh_at given) middle given.description failed stop
   pub tidied : failed ≡ false → Tidied middle held
   pub same : failed ≡ true → held ≡ middle
-  pub stopped_is : stopped ≡ record { fault = stop.fault; place = stop.place; written = held.delivered; unwritten = length held.waiting }
+  pub stopped_is : stopped ≡ stopped_with stop held
+  pub notice : given.notice ≡ []
 
 -- the run of an export whose reader and writer tell their bytes
 abbrev pub run_of : Given → List ℕ → List ℕ → List ℕ → Run
@@ -107,6 +116,10 @@ unfoldable pub Tells : Given → Result Report Stopped → Type 0
 Tells given result = (input : List ℕ) (had : List ℕ) → AreBytes input → given.input ≡ Some input → given.had ≡ Some had →
     (left : List ℕ) × (gained : List ℕ) × (given.left ≡ Some left) × (given.has ≡ Some (had ++ gained)) × Answer (run_of given input left gained) result × SucceedsIfAccepted (run_of given input left gained) result
 
+-- the rooms of the areas but the packet's and the description's: the body of a token, the text that waits, the message of the first error, and what is kept for a moment
+abbrev pub other_rooms : ℕ
+other_rooms = 65536 + 4096 + 512 + 128
+
 -- a device at a moment: the bytes that its reader still gives or its writer has, where that is known, and its count of failures
 pub record Device : Type 0 where
   pub bytes : Option (List ℕ)
@@ -118,12 +131,15 @@ pub record Moment : Type 0 where
   pub reader : Device
   pub writer : Device
 
+-- a device that is counted, at a moment
 abbrev pub device : {D : Type 0} → (D → Option (List ℕ)) → Counted D → Device
 device bytes d = record { bytes = bytes d.device; failures = d.failures }
 
+-- areas, a reader and a writer, at a moment
 abbrev pub moment : {R W : Type 0} → (R → Option (List ℕ)) → (W → Option (List ℕ)) → Areas → Counted R → Counted W → Moment
 moment remaining contents areas from to = record { areas = areas; reader = device remaining from; writer = device contents to }
 
+-- what an export was given at one moment, and left at another
 abbrev pub given_of : Charset → Moment → Moment → Given
 given_of charset before after = record {
   charset = charset;

@@ -1,4 +1,4 @@
--- How an export ended, told of the packets of its input.
+-- How an export ended, by the packets of its input.
 use Rattle.std.proofs.Common.{◌≡◌, ◌∙◌, inl, inr, ℕ, ◌<◌, ◌≤◌, List, [], ◌++◌, length, take, drop, refl, sym, ap, subst, arith, append_assoc, length-append}
 use Rattle.std.specs.Prelude.{Some}
 use Rattle.std.proofs.Math.Seq.{take-append_seam, drop-append_seam}
@@ -13,11 +13,11 @@ use Rattle.tds_packet.specs.Reading.{RefusesNext}
 use Rattle.tds_packet.proofs.ElementLaws.{longest_cut, longest_refused}
 use Rattle.tds_packet.proofs.Fronts.{Begins, EndsMessage, InLast, StopsBehind, in_last, takes_begins}
 use Rattle.tds_export.specs.Tokens.{Token}
-use Rattle.tds_export.specs.Export.{EndsInLast, IsKept, Packets, Run, StopsInPayload, StopsOnWire, StopsUnbuilt, grammar}
+use Rattle.tds_export.specs.Outcome.{EndsInLast, IsKept, Packets, Run, StopsInPayload, StopsOnWire, StopsUnbuilt, grammar}
 use Rattle.tds_export.specs.Built.{is_built}
-use Rattle.tds_export.specs.Reading.{Describing, Open, Part, response_start, text_so_far}
+use Rattle.tds_export.specs.TokenGrammar.{Describing, Open, Part, response_start, text_so_far}
 use Rattle.tds_rows.specs.Unbuilt.{ReadsUnbuilt}
-use Rattle.tds_export.specs.Running.{IsHolding, description_of}
+use Rattle.tds_export.specs.Steps.{IsHolding, description_of}
 
 -- what the area holds at a part is kept, whatever follows
 pub kept_at : (area : Space) (tokens : List Token) (at : Open) (rest : List ℕ) → area.bytes ≡ description_of tokens at → IsKept area.bytes tokens at rest

@@ -26,22 +26,23 @@ use Rattle.tds_csv.proofs.Sinks.{Adds-trans}
 use Rattle.tds_rows.specs.declared.Charset.{Charset}
 use Rattle.tds_export.specs.declared.report.Report.{Report}
 use Rattle.tds_export.specs.declared.report.Stopped.{Stopped}
-use Rattle.tds_export.specs.Tokens.{Token, message_text, text}
+use Rattle.tds_export.specs.Tokens.{Token, error_text, text}
 use Rattle.tds_export.specs.Response.{Accepted}
-use Rattle.tds_export.specs.Export.{AfterStop, Bounded, IsKept, Packets, Reported, Reads, Run, Stops, StopsInText, grammar}
+use Rattle.tds_export.specs.Outcome.{AfterStop, Bounded, IsKept, Packets, Reported, Reads, Run, Stops, StopsInText, grammar, report_of}
 use Rattle.tds_export.specs.Built.{is_built}
-use Rattle.tds_export.specs.Reading.{Part, response, response_start, text_so_far}
+use Rattle.tds_export.specs.TokenGrammar.{Part, response, response_start, text_so_far}
 use Rattle.tds_rows.specs.Unbuilt.{Stalls}
-use Rattle.tds_export.specs.Running.{Completes, FailsAtEnd, HaltsReading, HaltsWriting, IsHolding, ReadsWhole, RunStops, behind}
-use Rattle.tds_export.specs.Ended.{Reports, Given, IsReader, IsWriter, StopsExport, Tells, Tidied, begun_at, fresh_at, run_of}
-use Rattle.tds_export.proofs.Growth.{text_along}
-use Rattle.tds_export.proofs.GrowthBound.{bounded_along}
+use Rattle.tds_export.specs.Steps.{Completes, StopsAtEnd, StopsInReading, StopsInWriting, IsHolding, ReadsWhole, RunStops, behind}
+use Rattle.tds_export.specs.Moments.{Reports, Given, IsReader, IsWriter, StopsExport, Tells, Tidied, begun_at, fresh_at, grammar_of, run_of}
+use Rattle.tds_export.proofs.ReadingGrows.{text_along}
+use Rattle.tds_export.proofs.TextBound.{bounded_along}
 use Rattle.tds_export.proofs.ResponseMeaning.{response_is_spelt}
-use Rattle.tds_export.proofs.Outcomes.{ReaderSide, ended_in_payload, kept_at, refused_in_payload, start, stopped_on_wire, unbuilt_in_payload}
+use Rattle.tds_export.proofs.PacketOutcomes.{ReaderSide, ended_in_payload, kept_at, refused_in_payload, start, stopped_on_wire, unbuilt_in_payload}
 use Rattle.tds_export.proofs.Leading.{rest_leads}
+use Rattle.tds_export.proofs.NoFailures.{calm}
 use Rattle.tds_export.proofs.Peaks.{bounded, reached_broken, reached_stalled, reached_whole}
-use Rattle.tds_export.proofs.Successes.{outcome_succeeds}
-use Rattle.tds_export.proofs.Texts.{rose}
+use Rattle.tds_export.proofs.AcceptedSucceeds.{outcome_succeeds}
+use Rattle.tds_export.proofs.Endings.{rose}
 
 -- ---- how a run that read stops
 
@@ -154,7 +155,7 @@ stalls_read g from p q place at stop (inr u) = (u.takes.0, u.takes.1.0)
 -- ---- a run that stopped in reading
 
 stop_reading : (given : Given) (input had left : List ℕ) (q : Seen) (middle l : Held) (stop : Stop) → AreBytes input → given.input ≡ Some input → given.had ≡ Some had → q.left ≡ Some left → IsReader given q → IsWriter given l → given.notice ≡ []
-    → HaltsReading (response given.charset given.limits.column_room) response_start (begun_at given) q 0 (fresh_at given) middle given.description stop → Tidied middle l
+    → StopsInReading (grammar_of given) response_start (begun_at given) q 0 (fresh_at given) middle given.description stop → Tidied middle l
     → (gained : List ℕ) × (given.has ≡ Some (had ++ gained)) × AfterStop (run_of given input left gained) (record { fault = stop.fault; place = stop.place; written = l.delivered; unwritten = length l.waiting })
 stop_reading given input had left q middle l stop are e1 e2 ql reader writer none y t =
     let p = subst (Puts (fresh_at given) middle) y.puts.1 y.puts.2 in
@@ -282,7 +283,6 @@ record WholeMessage (run : Run) (q : Seen) (area : Space) (tokens : List Token) 
   leads : Reads run packets (length (payload_of packets)) (behind tokens)
   spelt : Spelt (grammar run) response_start (payload_of packets) (behind tokens)
   kept : IsKept run.description tokens (behind tokens).at (drop (length (payload_of packets)) (payload_of packets))
-  read_same : run.read_failures ≡ run.read_failures_before
 
 whole_message_of : (run : Run) (q : Seen) (area : Space) (old new : Held) → ReaderSide run q area → (x : ReadsWhole (grammar run) response_start (start run) q old new area) → WholeMessage run q area x.tokens
 whole_message_of run q area old new side x =
@@ -306,7 +306,6 @@ whole_message_of run q area old new side x =
       leads = subst (λ v. Longest g response_start v (length payload) (behind x.tokens)) (append-nil payload) (longest_cut g response_start payload [] (behind x.tokens) spelt (omega arith));
       spelt = spelt;
       kept = subst (λ a. IsKept a x.tokens (behind x.tokens).at (drop (length payload) payload)) (sym side.description) (kept_at area x.tokens (behind x.tokens).at (drop (length payload) payload) x.holds.bytes);
-      read_same = sym side.failures ∙ m.same;
     }
 
 text_behind : (tokens : List Token) → text_so_far (behind tokens) ≡ text tokens
@@ -333,19 +332,14 @@ failed_at_end run given q middle k tokens stop are w same rose_so = record {
   kept = (length (payload_of w.packets), behind tokens, record { within = omega arith; spelt = subst (λ v. Spelt (grammar run) response_start v (behind tokens)) (sym (take_payload (payload_of w.packets))) w.spelt }, w.kept);
 }
 
--- the count of failures didn't rise
-not_rose : (f : ℕ) → f < 2 ^ 64 - 1 → Rose f f → ⊥
-not_rose f h (inl x) = omega (arith, x)
-not_rose f h (inr x) = omega (arith, h, x.0)
-
 -- ---- what an export answers
 
 stop_writing : (given : Given) (input had left : List ℕ) (q : Seen) (k l : Held) (stop : Stop) → AreBytes input → given.input ≡ Some input → given.had ≡ Some had → q.left ≡ Some left → IsReader given q → IsWriter given l → given.notice ≡ []
-    → HaltsWriting (response given.charset given.limits.column_room) response_start (begun_at given) q (fresh_at given) k given.description stop → l ≡ k
+    → StopsInWriting (grammar_of given) response_start (begun_at given) q (fresh_at given) k given.description stop → l ≡ k
     → (gained : List ℕ) × (given.has ≡ Some (had ++ gained)) × AfterStop (run_of given input left gained) (record { fault = stop.fault; place = stop.place; written = l.delivered; unwritten = length l.waiting })
 stop_writing given input had left q k l stop are e1 e2 ql reader writer none y same =
     let first : begun_at given ≡ start (run_of given input left []) = ap (λ i. begun given.limits.packet_size given.limits.max_wire i given.read_failures_before) e1 in
-    let x = subst (λ (a : Seen). HaltsWriting (response given.charset given.limits.column_room) response_start a q (fresh_at given) k given.description stop) first y in
+    let x = subst (λ (a : Seen). StopsInWriting (grammar_of given) response_start a q (fresh_at given) k given.description stop) first y in
     let p = subst (Puts (fresh_at given) x.breaks.middle) x.breaks.puts.1 x.breaks.puts.2 in
     let b = x.breaks.breaks in
     let adds = subst (λ (v : Held). Adds (fresh_at given) v (p.0 ++ b.0) (text_so_far x.at ++ take b.2 x.breaks.more)) (sym same) (Adds-trans (fresh_at given) x.breaks.middle k p.0 b.0 (text_so_far x.at) (take b.2 x.breaks.more) p.2 b.3) in
@@ -370,11 +364,11 @@ stop_writing given input had left q k l stop are e1 e2 ql reader writer none y s
     )
 
 stop_at_end : (given : Given) (input had left : List ℕ) (q : Seen) (k l : Held) (stop : Stop) → AreBytes input → given.input ≡ Some input → given.had ≡ Some had → q.left ≡ Some left → IsReader given q → IsWriter given l → given.notice ≡ []
-    → FailsAtEnd (response given.charset given.limits.column_room) response_start (begun_at given) q (fresh_at given) k given.description stop → l ≡ k
+    → StopsAtEnd (grammar_of given) response_start (begun_at given) q (fresh_at given) k given.description stop → l ≡ k
     → (gained : List ℕ) × (given.has ≡ Some (had ++ gained)) × AfterStop (run_of given input left gained) (record { fault = stop.fault; place = stop.place; written = l.delivered; unwritten = length l.waiting })
 stop_at_end given input had left q k l stop are e1 e2 ql reader writer none y same =
     let first : begun_at given ≡ start (run_of given input left []) = ap (λ i. begun given.limits.packet_size given.limits.max_wire i given.read_failures_before) e1 in
-    let x = subst (λ (a : Seen). FailsAtEnd (response given.charset given.limits.column_room) response_start a q (fresh_at given) k given.description stop) first y in
+    let x = subst (λ (a : Seen). StopsAtEnd (grammar_of given) response_start a q (fresh_at given) k given.description stop) first y in
     let p = subst (Puts (fresh_at given) x.middle) x.whole.puts.1 x.whole.puts.2 in
     let tokens = x.whole.tokens in
     let adds = subst (λ (v : Held). Adds (fresh_at given) v (p.0 ++ x.fails.0) (text_so_far (behind tokens) ++ [])) (sym same) (Adds-trans (fresh_at given) x.middle k p.0 x.fails.0 (text_so_far (behind tokens)) [] p.2 x.fails.1) in
@@ -400,20 +394,20 @@ stop_at_end given input had left q k l stop are e1 e2 ql reader writer none y sa
     )
 
 -- what a run that stopped read
-stops_read : (given : Given) (q : Seen) (k : Held) (failed : Bool) (stop : Stop) → RunStops (response given.charset given.limits.column_room) response_start (begun_at given) q 0 (fresh_at given) k given.description failed stop → (read : List ℕ) × Consumes given.input q.left read
-stops_read given q k failed stop (inl (inl y)) = stalls_read (response given.charset given.limits.column_room) response_start (begun_at given) q 0 y.0.at stop y.0.stalls
+stops_read : (given : Given) (q : Seen) (k : Held) (failed : Bool) (stop : Stop) → RunStops (grammar_of given) response_start (begun_at given) q 0 (fresh_at given) k given.description failed stop → (read : List ℕ) × Consumes given.input q.left read
+stops_read given q k failed stop (inl (inl y)) = stalls_read (grammar_of given) response_start (begun_at given) q 0 y.0.at stop y.0.stalls
 stops_read given q k failed stop (inl (inr y)) = (y.0.breaks.takes.0, y.0.breaks.takes.1.0)
 stops_read given q k failed stop (inr y) = (y.0.whole.takes.0, y.0.whole.takes.1.0)
 
 stopped_of : (given : Given) (input had left : List ℕ) (q : Seen) (k l : Held) (failed : Bool) (stop : Stop) → AreBytes input → given.input ≡ Some input → given.had ≡ Some had → q.left ≡ Some left → IsReader given q → IsWriter given l → given.notice ≡ []
-    → RunStops (response given.charset given.limits.column_room) response_start (begun_at given) q 0 (fresh_at given) k given.description failed stop → (failed ≡ false → Tidied k l) → (failed ≡ true → l ≡ k)
+    → RunStops (grammar_of given) response_start (begun_at given) q 0 (fresh_at given) k given.description failed stop → (failed ≡ false → Tidied k l) → (failed ≡ true → l ≡ k)
     → (gained : List ℕ) × (given.has ≡ Some (had ++ gained)) × AfterStop (run_of given input left gained) (record { fault = stop.fault; place = stop.place; written = l.delivered; unwritten = length l.waiting })
 stopped_of given input had left q k l failed stop are e1 e2 ql reader writer none (inl (inl y)) tidy same = stop_reading given input had left q k l stop are e1 e2 ql reader writer none y.0 (tidy y.1)
 stopped_of given input had left q k l failed stop are e1 e2 ql reader writer none (inl (inr y)) tidy same = stop_writing given input had left q k l stop are e1 e2 ql reader writer none y.0 (same y.1)
 stopped_of given input had left q k l failed stop are e1 e2 ql reader writer none (inr y) tidy same = stop_at_end given input had left q k l stop are e1 e2 ql reader writer none y.0 (same y.1)
 
 stop_bounded : (given : Given) (input left gained : List ℕ) (q : Seen) (k : Held) (failed : Bool) (stop : Stop) → AreBytes input → given.input ≡ Some input → q.left ≡ Some left
-    → RunStops (response given.charset given.limits.column_room) response_start (begun_at given) q 0 (fresh_at given) k given.description failed stop → Bounded (run_of given input left gained)
+    → RunStops (grammar_of given) response_start (begun_at given) q 0 (fresh_at given) k given.description failed stop → Bounded (run_of given input left gained)
 stop_bounded given input left gained q k failed stop are e ql (inl (inl y)) =
     let run = run_of given input left gained in
     let first : begun_at given ≡ start run = ap (λ i. begun given.limits.packet_size given.limits.max_wire i given.read_failures_before) e in
@@ -422,7 +416,7 @@ stop_bounded given input left gained q k failed stop are e ql (inl (inl y)) =
 stop_bounded given input left gained q k failed stop are e ql (inl (inr y)) =
     let run = run_of given input left gained in
     let first : begun_at given ≡ start run = ap (λ i. begun given.limits.packet_size given.limits.max_wire i given.read_failures_before) e in
-    let x = subst (λ (a : Seen). HaltsWriting (grammar run) response_start a q (fresh_at given) k given.description stop) first y.0 in
+    let x = subst (λ (a : Seen). StopsInWriting (grammar run) response_start a q (fresh_at given) k given.description stop) first y.0 in
     bounded run ((grammar run).add x.at x.breaks.element) are (reached_broken run q (fresh_at given) k given.description stop x are ql) x.holds.peak
 stop_bounded given input left gained q k failed stop are e ql (inr y) =
     let run = run_of given input left gained in
@@ -430,31 +424,23 @@ stop_bounded given input left gained q k failed stop are e ql (inr y) =
     let x = subst (λ (a : Seen). ReadsWhole (grammar run) response_start a q (fresh_at given) y.0.middle given.description) first y.0.whole in
     bounded run (behind x.tokens) are (reached_whole run q (fresh_at given) y.0.middle given.description x are ql) x.holds.peak
 
-pub stop_tells : (given : Given) (stopped : Stopped) → given.notice ≡ [] → StopsExport given stopped → Tells given (Err stopped)
+pub stop_tells : (given : Given) (stopped : Stopped) → StopsExport given stopped → Tells given (Err stopped)
 unfolding Tells
-stop_tells given stopped none x = λ input had are e1 e2.
+stop_tells given stopped x = λ input had are e1 e2.
     let read = stops_read given x.seen x.middle x.failed x.stop x.stops in
     let left = known_left given.input x.seen.left input read.0 e1 read.1 in
-    let all = stopped_of given input had left.0 x.seen x.middle x.held x.failed x.stop are e1 e2 left.1 x.reader x.writer none x.stops x.tidied x.same in
+    let all = stopped_of given input had left.0 x.seen x.middle x.held x.failed x.stop are e1 e2 left.1 x.reader x.writer x.notice x.stops x.tidied x.same in
     let run = run_of given input left.0 all.0 in
     let outcome = subst (λ s. AfterStop run s) (sym x.stopped_is) all.2 in
     let most = stop_bounded given input left.0 all.0 x.seen x.middle x.failed x.stop are e1 left.1 x.stops in
     (left.0, all.0, sym x.reader.left ∙ left.1, all.1, record { outcome = outcome; bounded = most }, outcome_succeeds run (Err stopped) outcome)
 
--- a message has bytes
-some_wire : (size : ℕ) (packets : List Packet) → AreMessage size packets → 0 < length (wire_of packets)
-some_wire size [] h = absurd h
-some_wire size (p ∷ packets) h = omega arith
-
--- so some were read, and no count of failures stands at the greatest
-some_read : (old : Option (List ℕ)) (input left read wire : List ℕ) → old ≡ Some left → Consumes (Some input) old read → wire ++ left ≡ input → 0 < length wire → 0 < length read
-some_read old input left read wire e c begin some = let split : input ≡ read ++ left = subst (λ o. Consumes (Some input) o read) e c in omega (arith, ap length split, ap length begin, some, length-append read left, length-append wire left)
-
-pub report_tells : (given : Given) (report : Report) → given.notice ≡ [] → Reports given report → Tells given (Ok report)
+pub report_tells : (given : Given) (report : Report) → Reports given report → Tells given (Ok report)
 unfolding Tells
-report_tells given report none x = λ input had are e1 e2.
+report_tells given report x = λ input had are e1 e2.
     let first : begun_at given ≡ start (run_of given input [] []) = ap (λ i. begun given.limits.packet_size given.limits.max_wire i given.read_failures_before) e1 in
-    let y = subst (λ (a : Seen). Completes (response given.charset given.limits.column_room) response_start a x.seen (fresh_at given) x.held x.standing given.description) first x.completes in
+    let z = subst (λ (a : Seen). (c : Completes (grammar_of given) response_start a x.seen (fresh_at given) x.held report given.description) × (given.notice ≡ error_text c.whole.tokens)) first (x.completes, x.notice) in
+    let y = z.0 in
     let left = known_left (Some input) x.seen.left input y.whole.takes.0 refl y.whole.takes.1.0 in
     let p = subst (Puts (fresh_at given) y.middle) y.whole.puts.1 y.whole.puts.2 in
     let f = y.finishes in
@@ -470,19 +456,17 @@ report_tells given report none x = λ input had are e1 e2.
     let few = fits_at run whole.packets left.0 (length (payload_of whole.packets)) (behind tokens) (length (run.gained ++ run.waiting)) are whole.stands.begin whole.stands.within
     (subst (λ v. Spelt (grammar run) response_start v (behind tokens)) (sym (take_payload (payload_of whole.packets))) whole.spelt) (omega (arith, ap length same, ap length (text_behind tokens))) in
     let written : x.held.delivered ≡ length (text tokens) = exact run x.held.delivered d.delivered few ∙ ap length gained in
-    let moved = some_read x.seen.left input left.0 y.whole.takes.0 (wire_of whole.packets) left.1 y.whole.takes.1.0 whole.stands.begin (some_wire given.limits.packet_size whole.packets whole.accepted.message.each) in
-    let calm_read : Rose given.read_failures_before given.read_failures → ⊥ = λ r. not_rose given.read_failures_before (y.whole.takes.4.1 moved) (subst (λ n. Rose given.read_failures_before n) whole.read_same r) in
     let outcome : Reported run report = record {
       tokens = tokens;
       packets = whole.packets;
       accepted = whole.accepted;
       stands = whole.stands;
-      report_is = x.report_is ∙ ap (λ n. record x.standing.report { written = n }) written ∙ y.tracks.report;
+      report_is = y.report_is ∙ ap (λ n. record (report_of tokens) { written = n }) written;
       written = gained;
       none_waits = empty;
-      notice = none ∙ sym (ap message_text y.tracks.no_error);
+      notice = z.1;
       kept = whole.kept;
-      no_failure = (calm_read, λ r. not_rose given.write_failures_before (subst (λ n. n < 2 ^ 64 - 1) p.4 f.4) (subst (λ n. Rose given.write_failures_before n) (sym x.writer.failures ∙ f.3 ∙ p.4) r));
+      no_failure = calm given report x;
     } in
     let most = bounded run (behind tokens) are (reached_whole run x.seen (fresh_at given) y.middle given.description y.whole are left.1) y.whole.holds.peak in
     (left.0, d.gained, sym x.reader.left ∙ left.1, d.has, record { outcome = outcome; bounded = most }, outcome_succeeds run (Ok report) outcome)

@@ -1,0 +1,82 @@
+use Rattle.std.proofs.Common.{◌≡◌, ◌∙◌, inl, inr, false, true, refl, ap, arith, rules}
+use Rattle.tds_csv.specs.Sinks.{held}
+use Rattle.tds_export.proofs.RunSteps.{completes, stops_at_end, stops_end, stops_on, runs_none, runs_on, runs_same}
+use Rattle.tds_packet.proofs.Passing.{passed}
+use Rattle.tds_export.proofs.exporter.Exporter.run.Goals as goal
+
+pub tokens-init : goal.tokens-init
+tokens-init g c = record {
+  running = c.requires;
+  same = (refl, refl, refl, refl);
+  same_payload = (refl, refl, refl, refl);
+  same_sink = (refl, refl, refl);
+  room = refl;
+  forward = omega arith;
+  runs = λ tracks empty. runs_none _ _ _ _ _ _ _ c.requires.sink.ready.2 tracks empty;
+}
+
+pub tokens-preserved : goal.tokens-preserved
+tokens-preserved g c = record {
+  running = c.in_ok-token.ensures.leaves.running;
+  same = search rules;
+  same_payload = search rules;
+  same_sink = search rules;
+  room = c.in_ok-token.ensures.leaves.room ∙ c.tokens.invariant.room;
+  forward = omega (arith, c.tokens.invariant.forward, c.in_ok-token.ensures.leaves.forward);
+  runs = λ tracks empty.
+      let x = c.tokens.invariant.runs tracks empty in
+      let y = rw c.if-branch.true at (c.in_ok-token.ensures.gives x.tokens x.tracks x.holds) in
+      runs_on _ _ _ _ _ _ _ _ _ _ _ _ _ _ _ _ _ c.tokens.invariant.same.3 c.tokens.invariant.room x y;
+}
+
+pub returns-in_err-token-clause-gives : goal.returns-in_err-token-clause-gives
+returns-in_err-token-clause-gives g c = λ tracks empty.
+    let x = c.tokens.invariant.runs tracks empty in
+    let y = c.in_err-token.ensures.gives x.tokens x.tracks x.holds in
+    passed _ _ _ _ c.from_residual.ensures.1 (inl (stops_on _ _ _ _ _ _ _ _ _ _ _ _ _ _ _ _ _ c.tokens.invariant.same.3 c.tokens.invariant.room x y))
+
+pub returns-then-not-self-clause-gives : goal.returns-then-not-self-clause-gives
+returns-then-not-self-clause-gives g c = λ tracks empty.
+    let first = c.tokens.invariant.runs tracks empty in
+    let y = rw c.if-branch.false at (c.in_ok-token.ensures.gives first.tokens first.tracks first.holds) in
+    let x = runs_same _ _ _ _ _ _ _ _ _ _ _ _ _ y.place (ap (held g.W.Write.contents) y.sink) y.progress y.area first in
+    let open_end : c.token.new.self.progress.is_final ≡ false = search rules in
+    let sink = c.in_ok-token.ensures.leaves.running.sink in
+    let stops = stops_end c.args.self.now.charset c.args.self.now.description.now.room _ _ _ _ _ _ _ _ _ x y.takes y.over _ sink.writing sink.ready.2 open_end in
+    rw c.place.ensures (inl stops)
+
+pub returns-in_err-finish-clause-gives : goal.returns-in_err-finish-clause-gives
+returns-in_err-finish-clause-gives g c = λ tracks empty.
+    let first = c.tokens.invariant.runs tracks empty in
+    let y = rw c.if-branch.false at (c.in_ok-token.ensures.gives first.tokens first.tracks first.holds) in
+    let x = runs_same _ _ _ _ _ _ _ _ _ _ _ _ _ y.place (ap (held g.W.Write.contents) y.sink) y.progress y.area first in
+    let final : c.token.new.self.progress.is_final ≡ true = search rules in
+    let fails = stops_at_end c.args.self.now.charset c.args.self.now.description.now.room _ _ _ _ _ _ _ _ _ x y.takes y.over _ _ final (c.in_err-finish.ensures.gives c.in_ok-token.ensures.leaves.running.sink.writing) in
+    passed _ _ _ _ c.from_residual-in_err-finish.ensures.1 (inr (fails, c.in_err-finish.ensures.failed))
+
+pub returns-clause-gives : goal.returns-clause-gives
+returns-clause-gives g c = λ tracks empty.
+    let first = c.tokens.invariant.runs tracks empty in
+    let y = rw c.if-branch.false at (c.in_ok-token.ensures.gives first.tokens first.tracks first.holds) in
+    let x = runs_same _ _ _ _ _ _ _ _ _ _ _ _ _ y.place (ap (held g.W.Write.contents) y.sink) y.progress y.area first in
+    let final : c.token.new.self.progress.is_final ≡ true = search rules in
+    let is = ap (λ n. record c.token.new.self.progress.report { written = n }) c.delivered.ensures in
+    completes c.args.self.now.charset c.args.self.now.description.now.room _ _ _ _ _ _ _ _ _ x y.takes y.over (held g.W.Write.contents c.finish.new.self) _ final c.in_ok-finish.ensures.gives is
+
+pub returns-clause-leaves : goal.returns-clause-leaves
+returns-clause-leaves g c =
+    let running = c.in_ok-token.ensures.leaves.running in
+    record {
+      same = search rules;
+      payload = record { sound = running.payload.sound; same = search rules; going = running.payload.going };
+      sink = record { ready = c.in_ok-finish.ensures.ready; same = search rules; writing = c.in_ok-finish.ensures.failed };
+      room = c.in_ok-token.ensures.leaves.room ∙ c.tokens.invariant.room;
+      forward = omega (arith, c.tokens.invariant.forward, c.in_ok-token.ensures.leaves.forward);
+      running = record {
+        payload = running.payload;
+        sink = record { ready = c.in_ok-finish.ensures.ready; writing = c.in_ok-finish.ensures.failed };
+        room = running.room;
+        counted = running.counted;
+        described = running.described;
+      };
+    }

@@ -1,0 +1,25 @@
+use Rattle.std.proofs.Common.{◌≡◌, ◌-◌, ◌≤◌, []}
+use Rattle.tds_meter.specs.Space.{empty}
+use Rattle.tds_packet.specs.Payloads.{IsOnSame, seen}
+use Rattle.tds_csv.specs.Sinks.{IsOnSameSink, held}
+use Rattle.tds_export.specs.Exporters.{IsOnSameRun, IsRunning}
+use Rattle.tds_export.specs.TokenGrammar.{response}
+use Rattle.tds_export.specs.Steps.{Tracks}
+use Rattle.tds_export.proofs.RunSteps.{Runs}
+use Rattle.tds_export.proofs.exporter.Exporter.run.Given as goal
+
+abbrev pub invariant-tokens : goal.invariant-tokens
+invariant-tokens g l = record {
+  running : IsRunning l.self;
+  same : IsOnSameRun l.initial.self l.self;
+  same_payload : IsOnSame l.initial.self.payload.now l.self.payload.now;
+  same_sink : IsOnSameSink l.initial.self.sink.now l.self.sink.now;
+  room : l.self.description.now.room ≡ l.initial.self.description.now.room;
+  forward : l.initial.self.payload.now.place ≤ l.self.payload.now.place;
+  runs : Tracks l.initial.self.progress [] → l.initial.self.description.now ≡ empty l.initial.self.description.now.room →
+      Runs (response l.initial.self.charset l.initial.self.description.now.room) (seen g.R.Read.remaining l.initial.self.payload.now) (seen g.R.Read.remaining l.self.payload.now) l.initial.self.payload.now.place l.self.payload.now.place
+      (held g.W.Write.contents l.initial.self.sink.now) (held g.W.Write.contents l.self.sink.now) l.self.progress l.self.description.now;
+}
+
+abbrev pub decreases-tokens : goal.decreases-tokens
+decreases-tokens g l = l.self.payload.now.max_wire - l.self.payload.now.place

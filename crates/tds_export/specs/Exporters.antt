@@ -1,0 +1,121 @@
+-- The run of an export as the contracts of its steps see it.
+use Rattle.std.specs.Prelude.{◌≡◌, ◌+◌, ◌<◌, ◌≤◌, ℕ, Bool, true, List, [], ◌∷◌, Option, Result, MatchBool, MatchResult, OnOk}
+use Rattle.tds_meter.specs.Space.{Space, empty}
+use Rattle.tds_packet.specs.declared.fault.Stop.{Stop}
+use Rattle.tds_packet.specs.declared.payload.Payload.{Payload}
+use Rattle.tds_packet.specs.Payloads.{IsGoing, LeavesPayload, seen}
+use Rattle.tds_packet.specs.Seen.{Seen, Takes, IsOver}
+use Rattle.tds_columns.specs.View.{IsDescription}
+use Rattle.tds_csv.specs.declared.sink.Sink.{Sink}
+use Rattle.tds_csv.specs.Sinks.{Held, IsWriting, LeavesSink, held}
+use Rattle.tds_rows.specs.declared.Charset.{Charset}
+use Rattle.tds_export.specs.declared.exporter.Exporter.{Exporter}
+use Rattle.tds_export.specs.declared.progress.Progress.{Progress}
+use Rattle.tds_export.specs.declared.report.Report.{Report}
+use Rattle.tds_export.specs.TokenGrammar.{Part, response, response_start}
+use Rattle.tds_export.specs.Steps.{Completes, StepStops, IsHolding, ReadsToken, RunStops, Tracks, behind}
+use Rattle.tds_export.specs.Tokens.{Token}
+
+-- what a run reads, writes and keeps, at a moment: its payload and the place there, its sink and whether it failed, and its description area
+pub record View : Type 0 where
+  pub seen : Seen
+  pub place : ℕ
+  pub held : Held
+  pub failed : Bool
+  pub area : Space
+
+-- the view of a payload, a sink and a description area
+abbrev pub view : {R W : Type 0} → (R → Option (List ℕ)) → (W → Option (List ℕ)) → Payload R → Sink W → Space → View
+view remaining contents payload sink area = record {
+  seen = seen remaining payload;
+  place = payload.place;
+  held = held contents sink;
+  failed = sink.failed;
+  area = area;
+}
+
+-- the view of a run
+abbrev pub view_of : {R W : Type 0} → (R → Option (List ℕ)) → (W → Option (List ℕ)) → Exporter R W → View
+view_of remaining contents e = view remaining contents e.payload.now e.sink.now e.description.now
+
+-- A response can be read from here: the payload goes on, the sink takes text, and the description area is empty and has room for a column.
+pub record CanBegin {R W : Type 0} (payload : Payload R) (sink : Sink W) (area : Space) : Type 0 where
+  pub going : IsGoing payload
+  pub writing : IsWriting sink
+  pub room : 10 ≤ area.room
+  pub empty : area ≡ empty area.room
+
+-- The run goes on: its payload and its sink do, no more sets and rows are counted than bytes were read, and the columns that are described stand in the area.
+pub record IsRunning {R W : Type 0} (e : Exporter R W) : Type 0 where
+  pub payload : IsGoing e.payload.now
+  pub sink : IsWriting e.sink.now
+  pub room : 10 ≤ e.description.now.room
+  pub counted : e.progress.report.sets + e.progress.report.rows ≤ e.payload.now.place
+  pub described : e.progress.described ≡ true → IsDescription e.description.now.bytes
+
+-- The run goes on behind the first byte of a token that isn't counted yet.
+pub record IsInToken {R W : Type 0} (e : Exporter R W) : Type 0 where
+  pub running : IsRunning e
+  pub uncounted : e.progress.report.sets + e.progress.report.rows < e.payload.now.place
+
+-- Two runs are on the same payload, sink and area, in the same character set.
+abbrev pub IsOnSameRun : {R W : Type 0} → Exporter R W → Exporter R W → Type 0
+IsOnSameRun old new =
+    (new.payload.ghost_name ≡ old.payload.ghost_name) × (new.sink.ghost_name ≡ old.sink.ghost_name)
+    × (new.description.ghost_name ≡ old.description.ghost_name) × (new.charset ≡ old.charset)
+
+-- A call left the run on the same devices and areas, and where it answered no error, going on and no further back in the payload.
+pub record LeavesRun {R W U : Type 0} (old new : Exporter R W) (result : Result U Stop) : Type 0 where
+  pub same : IsOnSameRun old new
+  pub payload : LeavesPayload old.payload.now new.payload.now result
+  pub sink : LeavesSink old.sink.now new.sink.now result
+  pub room : new.description.now.room ≡ old.description.now.room
+  pub forward : OnOk result (old.payload.now.place ≤ new.payload.now.place)
+  pub running : OnOk result (IsRunning new)
+
+-- Bytes of the payload were read.
+abbrev pub Advances : {R W : Type 0} → Exporter R W → Exporter R W → Type 0
+Advances old new = old.payload.now.place < new.payload.now.place
+
+-- The next token was read from this state on, behind these tokens, and its text put.
+abbrev pub Reads : Charset → Part → List Token → View → View → Progress → Type 0
+Reads charset from tokens old new progress =
+    ReadsToken (response charset old.area.room) from tokens old.seen new.seen old.place new.place old.held new.held progress new.area
+
+-- The reading from this state on stopped.
+abbrev pub StopsIn : Charset → Part → View → View → Stop → Type 0
+StopsIn charset from old new stop = StepStops (response charset old.area.room) from old.seen new.seen old.place old.held new.held new.area new.failed stop
+
+-- The message is over, and nothing else has changed.
+pub record FindsEnd {R W : Type 0} (remaining : R → Option (List ℕ)) (old new : Exporter R W) : Type 0 where
+  pub takes : Takes (seen remaining old.payload.now) (seen remaining new.payload.now) [] 1
+  pub over : IsOver (seen remaining new.payload.now)
+  pub place : new.payload.now.place ≡ old.payload.now.place
+  pub sink : new.sink.now ≡ old.sink.now
+  pub area : new.description.now ≡ old.description.now
+  pub progress : new.progress ≡ old.progress
+
+-- A token was read behind its first byte, from this state on, and its text put; or that stopped: whatever the tokens before it are.
+abbrev pub StepRead : {R W U : Type 0} → (R → Option (List ℕ)) → (W → Option (List ℕ)) → (List Token → Part) → Exporter R W → Exporter R W → Result U Stop → Type 0
+StepRead remaining contents from old new result = (tokens : List Token) → Tracks old.progress tokens → IsHolding old.description.now (behind tokens) →
+    MatchResult result
+    (λ _. Reads old.charset (from tokens) tokens (view_of remaining contents old) (view_of remaining contents new) new.progress)
+    (λ stop. StopsIn old.charset (from tokens) (view_of remaining contents old) (view_of remaining contents new) stop)
+
+-- The next token was read and its text put, or the message is over; or that stopped: whatever the tokens before it are.
+abbrev pub TokenRead : {R W : Type 0} → (R → Option (List ℕ)) → (W → Option (List ℕ)) → Exporter R W → Exporter R W → Result Bool Stop → Type 0
+TokenRead remaining contents old new result = (tokens : List Token) → Tracks old.progress tokens → IsHolding old.description.now (behind tokens) →
+    MatchResult result
+    (λ more. MatchBool more (Reads old.charset (behind tokens) tokens (view_of remaining contents old) (view_of remaining contents new) new.progress) (FindsEnd remaining old new))
+    (λ stop. StopsIn old.charset (behind tokens) (view_of remaining contents old) (view_of remaining contents new) stop)
+
+-- A response was read whole, its text delivered and its report answered; or that stopped.
+abbrev pub ResponseRead : Charset → View → View → Result Report Stop → Type 0
+ResponseRead charset old new result = MatchResult result
+    (λ report. Completes (response charset old.area.room) response_start old.seen new.seen old.held new.held report new.area)
+    (λ stop. RunStops (response charset old.area.room) response_start old.seen new.seen old.place old.held new.held new.area new.failed stop)
+
+-- From its first token on, a run read a response so.
+abbrev pub WholeRead : {R W : Type 0} → (R → Option (List ℕ)) → (W → Option (List ℕ)) → Exporter R W → Exporter R W → Result Report Stop → Type 0
+WholeRead remaining contents old new result = Tracks old.progress [] → old.description.now ≡ empty old.description.now.room →
+    ResponseRead old.charset (view_of remaining contents old) (view_of remaining contents new) result

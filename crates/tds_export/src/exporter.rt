@@ -1,0 +1,153 @@
+// The run of an export: token after token to the message's end.
+ghost use Rattle.std.specs.Prelude.{◌≡◌, true, IfOk};
+ghost use Rattle.tds_columns.specs.View.{columns_of};
+ghost use Rattle.tds_csv.specs.Sinks.{LeavesSink};
+ghost use Rattle.tds_export.specs.Steps.{in_done, in_metadata, in_row};
+ghost use Rattle.tds_export.specs.Exporters.{Advances, CanBegin, IsInToken, IsRunning, LeavesRun};
+ghost use Rattle.tds_export.specs.Exporters.{ResponseRead, StepRead, TokenRead, WholeRead, view};
+ghost use Rattle.tds_packet.specs.Payloads.{LeavesPayload};
+
+use crate::progress::Progress;
+use crate::report::Report;
+use crate::set::put_header;
+use crate::tokens::{TokenKind, judge, next_byte};
+use std::io::{Read, Write};
+use tds_columns::{Columns, Described, gather};
+use tds_csv::Sink;
+use tds_meter::Area;
+use tds_packet::{Fault, Payload, Place, Stop};
+use tds_rows::Charset;
+
+/// The run of an export: what it reads and writes, the area of its description, and its progress.
+#[derive(Drop)]
+pub(crate) struct Exporter<'a, 'p, 's, R, W> {
+    payload: &'a mut Payload<'p, R>,
+    sink: &'a mut Sink<'s, W>,
+    description: &'a mut Area,
+    charset: Charset,
+    progress: Progress,
+}
+
+impl<'a, 'p, 's, R: Read, W: Write> Exporter<'a, 'p, 's, R, W> {
+    // Reads a COLMETADATA behind its token byte, and puts the header line of its set.
+    fn metadata(&mut self) -> Result<(), Stop>
+        requires { IsInToken self.old }
+        ensures leaves { LeavesRun self.old self.new result }
+        ensures gives { StepRead R.remaining W.contents in_metadata self.old self.new result }
+    {
+        if let Described::NoMetadata = gather(self.payload, self.description)? {
+            self.progress.described = false;
+            self.progress.is_final = false;
+            return Ok(());
+        }
+        let columns = Columns::view(self.description.bytes());
+        put_header(self.sink, self.progress.report.sets > 0, columns)?;
+        self.progress.report.sets += 1;
+        self.progress.described = true;
+        self.progress.is_final = false;
+        Ok(())
+    }
+
+    // Reads a ROW behind its token byte, and puts its line.
+    fn row(&mut self) -> Result<(), Stop>
+        requires begun { IsInToken self.old }
+        requires described { self.old.progress.described ≡ true }
+        ensures leaves { LeavesRun self.old self.new result }
+        ensures gives { let columns = columns_of self.old.description.now.bytes in
+            StepRead R.remaining W.contents (in_row self.old.charset columns) self.old self.new result }
+    {
+        let columns = Columns::view(self.description.bytes());
+        tds_rows::row(self.payload, columns, self.charset, self.sink)?;
+        self.progress.report.rows += 1;
+        self.progress.is_final = false;
+        Ok(())
+    }
+
+    // Reads a DONE or DONEPROC behind its token byte (MS-TDS, DONE).
+    fn done(&mut self) -> Result<(), Stop>
+        requires { IsInToken self.old }
+        ensures leaves { LeavesRun self.old self.new result }
+        ensures gives { StepRead R.remaining W.contents in_done self.old self.new result }
+    {
+        let mut fields = [0u8; 12];
+        self.payload.fill(&mut fields)?;
+        self.progress.is_final = fields[0] % 2 == 0;
+        Ok(())
+    }
+
+    // Reads the next token. False where the message is over.
+    fn token(&mut self) -> Result<bool, Stop>
+        requires { IsRunning self.old }
+        ensures leaves { LeavesRun self.old self.new result }
+        ensures further { IfOk result (λ more. more ≡ true → Advances self.old self.new) }
+        ensures gives { TokenRead R.remaining W.contents self.old self.new result }
+    {
+        let Some(byte) = next_byte(self.payload)? else {
+            return Ok(false);
+        };
+        let place = self.payload.place() - 1;
+        match judge(byte, self.progress.described) {
+            Ok(TokenKind::Metadata) => {
+                self.metadata()?;
+                Ok(true)
+            }
+            Ok(TokenKind::Row) => {
+                self.row()?;
+                Ok(true)
+            }
+            Ok(TokenKind::Done) => {
+                self.done()?;
+                Ok(true)
+            }
+            Err(fault) => Err(Stop {
+                fault,
+                place: Place::Payload(place),
+            }),
+        }
+    }
+
+    // Reads all tokens and puts their text, delivers all of it, and answers the report.
+    fn run(&mut self) -> Result<Report, Stop>
+        requires { IsRunning self.old }
+        ensures leaves { LeavesRun self.old self.new result }
+        ensures gives { WholeRead R.remaining W.contents self.old self.new result }
+    {
+        'tokens: while self.token()? {}
+        if !self.progress.is_final {
+            return Err(Stop {
+                fault: Fault::EndWithoutDone,
+                place: Place::Payload(self.payload.place()),
+            });
+        }
+        self.sink.finish()?;
+        Ok(Report {
+            written: self.sink.delivered(),
+            ..self.progress.report
+        })
+    }
+}
+
+/// Reads a response and puts its text, delivers all of it, and answers the report.
+pub(crate) fn read_response<R: Read, W: Write>(
+    payload: &mut Payload<R>,
+    sink: &mut Sink<W>,
+    description: &mut Area,
+    charset: Charset,
+) -> Result<Report, Stop>
+    requires { CanBegin payload.old sink.old description.old }
+    ensures payload { LeavesPayload payload.old payload.new result }
+    ensures sink { LeavesSink sink.old sink.new result }
+    ensures room { description.new.room ≡ description.old.room }
+    ensures gives { let at = view R.remaining W.contents in
+        ResponseRead charset (at payload.old sink.old description.old)
+            (at payload.new sink.new description.new) result }
+{
+    let mut run = Exporter {
+        payload,
+        sink,
+        description,
+        charset,
+        progress: Progress::new(),
+    };
+    run.run()
+}
