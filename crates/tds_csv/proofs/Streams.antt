@@ -1,11 +1,11 @@
 -- Calls that read by a grammar and put the text of what they read: one after another, and inside a greater grammar.
-use Rattle.std.proofs.Common.{◌≡◌, ◌∙◌, ℕ, ◌<◌, List, [], ◌++◌, length, sym, ap, subst, arith, append_assoc}
+use Rattle.std.proofs.Common.{◌≡◌, ◌∙◌, ℕ, List, [], ◌++◌, length, sym, ap, subst, append_assoc}
 use Rattle.tds_packet.specs.declared.fault.Fault.{Fault}
 use Rattle.tds_packet.specs.declared.fault.Stop.{Stop}
-use Rattle.tds_packet.specs.Elements.{Grammar, Inside, IsNext}
+use Rattle.tds_packet.specs.Elements.{Grammar, Inside}
 use Rattle.tds_packet.specs.Seen.{Seen, Takes}
 use Rattle.tds_packet.proofs.ElementLaws.{Inside-Spelt, Spelt-append}
-use Rattle.tds_packet.proofs.Lifts.{next_inside}
+use Rattle.tds_packet.proofs.Lifts.{next_inside, next_some}
 use Rattle.tds_packet.proofs.Steps.{takes_ahead, takes_both}
 use Rattle.tds_csv.specs.Sinks.{Held, Puts}
 use Rattle.tds_csv.specs.Streaming.{BreaksStreaming, PutsText, Streams}
@@ -48,7 +48,7 @@ module _ {S : Type 0} (g : Grammar S Fault) (text : S → List ℕ) where
   }
 
   -- a call that reads on, and one whose write fails
-  pub breaks_after : (s t : S) (a b c : Seen) (h i j : Held) (at : S) (stop : Stop) → Streams g text s a b h i t → BreaksStreaming g text t b c i j at stop → BreaksStreaming g text s a c h j at stop
+  abbrev pub breaks_after : (s t : S) (a b c : Seen) (h i j : Held) (at : S) (stop : Stop) → Streams g text s a b h i t → BreaksStreaming g text t b c i j at stop → BreaksStreaming g text s a c h j at stop
   breaks_after s t a b c h i j at stop x y = record {
     bytes = x.bytes ++ y.bytes;
     element = y.element;
@@ -68,7 +68,7 @@ module _ {S : Type 0} (g : Grammar S Fault) (text : S → List ℕ) where
 -- A small grammar inside a big one, whose text is that of the small one behind a text that stands before it.
 module _ {S T : Type 0} (small : Grammar S Fault) (big : Grammar T Fault) (lift : S → T) (is : Inside small big lift) (text : S → List ℕ) (whole : T → List ℕ) (front : List ℕ) (text_is : (s : S) → front ++ text s ≡ whole (lift s)) where
   -- what is added to the small text is added to the big one
-  added_inside : (s t : S) (more : List ℕ) → text s ++ more ≡ text t → whole (lift s) ++ more ≡ whole (lift t)
+  pub added_inside : (s t : S) (more : List ℕ) → text s ++ more ≡ text t → whole (lift s) ++ more ≡ whole (lift t)
   added_inside s t more e = ap (λ l. l ++ more) (sym (text_is s)) ∙ append_assoc front (text s) more ∙ ap (λ l. front ++ l) e ∙ text_is t
 
   -- the text between two states of the small grammar is that between those of the big one
@@ -80,22 +80,19 @@ module _ {S T : Type 0} (small : Grammar S Fault) (big : Grammar T Fault) (lift 
   streams_inside from a b h i to x = record { bytes = x.bytes; spelt = Inside-Spelt small big lift is from x.bytes to x.spelt; takes = x.takes; puts = puts_inside from to h i x.puts }
 
   -- and so is a write that fails
-  pub breaks_inside : (from : S) (a b : Seen) (h i : Held) (at : S) (stop : Stop) → BreaksStreaming small text from a b h i at stop → BreaksStreaming big whole (lift from) a b h i (lift at) stop
+  abbrev pub breaks_inside : (from : S) (a b : Seen) (h i : Held) (at : S) (stop : Stop) → BreaksStreaming small text from a b h i at stop → BreaksStreaming big whole (lift from) a b h i (lift at) stop
   breaks_inside from a b h i at stop x = record {
     bytes = x.bytes;
     element = x.element;
     ahead = x.ahead;
     spelt = Inside-Spelt small big lift is from x.bytes at x.spelt;
-    next = next_inside small big lift is at x.element some x.next;
+    next = next_inside small big lift is at x.element (next_some small at x.element x.next) x.next;
     takes = x.takes;
     between = x.between;
     middle = x.middle;
     few = x.few;
     puts = puts_inside from at h x.middle x.puts;
     more = x.more;
-    text_is = added_inside at (small.add at x.element) x.more x.text_is ∙ ap whole (sym (is.add at x.element some));
+    text_is = added_inside at (small.add at x.element) x.more x.text_is ∙ ap whole (sym (is.add at x.element (next_some small at x.element x.next)));
     breaks = x.breaks;
   }
-    where
-      some : 0 < small.size at
-      some = let n : IsNext small at x.element = x.next in let s : 0 < length x.element = n.some in let w : length x.element ≡ small.size at = n.whole in omega arith

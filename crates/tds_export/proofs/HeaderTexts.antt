@@ -2,10 +2,10 @@
 use Rattle.std.proofs.Common.{◌≡◌, ◌∙◌, ℕ, Bool, false, List, [], ◌++◌, sym, ap, subst}
 use Rattle.std.specs.Prelude.{Err, ⊤}
 use Rattle.tds_packet.specs.declared.fault.Stop.{Stop}
-use Rattle.tds_csv.specs.declared.joiner.JoinFault.{JoinFault}
-use Rattle.tds_csv.specs.declared.joiner.JoinFault.TheVariants.{Stopped, Odd, BadText}
+use Rattle.tds_csv.specs.declared.joiners.JoinFault.{JoinFault}
+use Rattle.tds_csv.specs.declared.joiners.JoinFault.TheVariants.{Stopped, Odd, BadText}
 use Rattle.tds_csv.specs.Joining.{emit}
-use Rattle.tds_csv.specs.Pushing.{Completes, Ends, Pushes, Takes}
+use Rattle.tds_csv.specs.Pushing.{Completes, EndsBy, Pushes, TakesPiece}
 use Rattle.tds_csv.specs.Sinks.{Breaks, Held, Puts}
 use Rattle.tds_csv.specs.Utf16 as utf16
 use Rattle.tds_csv.specs.Utf16Laws.{joins_utf16}
@@ -26,21 +26,21 @@ push_breaks (Stopped s) stop old new before after failed units none going fit h 
 push_breaks Odd stop old new before after failed units none going fit h is = absurd h
 push_breaks (BadText k) stop old new before after failed units none going fit h is = absurd is
 
-rest_fit : (old kept : List ℕ) (before middle : Held) (units : List ℕ) → old ≡ [] → utf16.IsFit units → Takes (λ _. ⊤) utf16.rest utf16.text old kept before middle units → utf16.IsFit kept
+rest_fit : (old kept : List ℕ) (before middle : Held) (units : List ℕ) → old ≡ [] → utf16.IsFit units → TakesPiece (λ _. ⊤) utf16.rest utf16.text old kept before middle units → utf16.IsFit kept
 rest_fit old kept before middle units none fit t = subst utf16.IsFit (ap (λ l. utf16.rest (l ++ units)) (sym none) ∙ sym t.withheld) (joins_utf16.fit_rest units fit)
 
 -- what an end behind whole units may answer
-pub end_stopped : (fault : JoinFault) (old new kept : List ℕ) (before after middle : Held) (failed : Bool) (units : List ℕ) → old ≡ [] → utf16.IsFit units → Takes (λ _. ⊤) utf16.rest utf16.text old kept before middle units
-    → Ends {U = Unit {0}} 2 utf16.IsFit utf16.text kept new middle after failed (Err fault) → IsStopped fault
+pub end_stopped : (fault : JoinFault) (old new kept : List ℕ) (before after middle : Held) (failed : Bool) (units : List ℕ) → old ≡ [] → utf16.IsFit units → TakesPiece (λ _. ⊤) utf16.rest utf16.text old kept before middle units
+    → EndsBy {U = Unit {0}} 2 utf16.IsFit utf16.text kept new middle after failed (Err fault) → IsStopped fault
 end_stopped (Stopped stop) old new kept before after middle failed units none fit t h = tt
 end_stopped Odd old new kept before after middle failed units none fit t h = h.0.part (rest_fit old kept before middle units none fit t)
 end_stopped (BadText k) old new kept before after middle failed units none fit t h = h.0.part (rest_fit old kept before middle units none fit t)
 
-emitted : (old kept : List ℕ) (before middle : Held) (units : List ℕ) → old ≡ [] → Takes (λ _. ⊤) utf16.rest utf16.text old kept before middle units → Puts before middle (emit utf16.rest utf16.text units) × (kept ≡ utf16.rest units)
+emitted : (old kept : List ℕ) (before middle : Held) (units : List ℕ) → old ≡ [] → TakesPiece (λ _. ⊤) utf16.rest utf16.text old kept before middle units → Puts before middle (emit utf16.rest utf16.text units) × (kept ≡ utf16.rest units)
 emitted old kept before middle units none t = (subst (λ l. Puts before middle (emit utf16.rest utf16.text (l ++ units))) none t.put, t.withheld ∙ ap (λ l. utf16.rest (l ++ units)) none)
 
-pub end_breaks : (fault : JoinFault) (stop : Stop) (old new kept : List ℕ) (before after middle : Held) (failed : Bool) (units : List ℕ) → old ≡ [] → failed ≡ false → utf16.IsFit units → Takes (λ _. ⊤) utf16.rest utf16.text old kept before middle units
-    → Ends {U = Unit {0}} 2 utf16.IsFit utf16.text kept new middle after failed (Err fault) → IsStopIn fault stop → Breaks before after (utf16.text units) stop
+pub end_breaks : (fault : JoinFault) (stop : Stop) (old new kept : List ℕ) (before after middle : Held) (failed : Bool) (units : List ℕ) → old ≡ [] → failed ≡ false → utf16.IsFit units → TakesPiece (λ _. ⊤) utf16.rest utf16.text old kept before middle units
+    → EndsBy {U = Unit {0}} 2 utf16.IsFit utf16.text kept new middle after failed (Err fault) → IsStopIn fault stop → Breaks before after (utf16.text units) stop
 end_breaks (Stopped s) stop old new kept before after middle failed units none going fit t h is =
     let e = emitted old kept before middle units none t in
     let broke : Breaks middle after (utf16.text (utf16.rest units)) stop = subst (λ x. Breaks middle after (utf16.text (utf16.rest units)) x) (sym is) (subst (λ k. Breaks middle after (utf16.text k) s) e.1 (h going).1) in
@@ -48,7 +48,7 @@ end_breaks (Stopped s) stop old new kept before after middle failed units none g
 end_breaks Odd stop old new kept before after middle failed units none going fit t h is = absurd is
 end_breaks (BadText k) stop old new kept before after middle failed units none going fit t h is = absurd is
 
-pub end_puts : (old new kept : List ℕ) (before after middle : Held) (units : List ℕ) → old ≡ [] → utf16.IsFit units → Takes (λ _. ⊤) utf16.rest utf16.text old kept before middle units
+pub end_puts : (old new kept : List ℕ) (before after middle : Held) (units : List ℕ) → old ≡ [] → utf16.IsFit units → TakesPiece (λ _. ⊤) utf16.rest utf16.text old kept before middle units
     → Completes utf16.IsFit utf16.text kept new middle after → Puts before after (utf16.text units)
 end_puts old new kept before after middle units none fit t h =
     let e = emitted old kept before middle units none t in

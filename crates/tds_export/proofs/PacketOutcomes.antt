@@ -59,13 +59,13 @@ pub refused_in_payload : (run : Run) (q : Seen) (area : Space) (part : Part) (by
 refused_in_payload run q area part bytes fault side spelt x holds text =
     let g = grammar run in
     let e = x.element in
-    let more = (q.future []).bytes in
+    let more = x.ahead ++ (q.future []).bytes in
     let n = length (bytes ++ e) in
-    let b = takes_begins run.limits.packet_size run.limits.max_wire run.read_failures_before run.input run.left q (bytes ++ e) n side.bytes side.left x.takes x.between in
-    let s = split_payload bytes e more (payload_of b.packets) b.payload_is in
+    let b = takes_begins run.limits.packet_size run.limits.max_wire run.read_failures_before run.input run.left q ((bytes ++ e) ++ x.ahead) n side.bytes side.left x.takes x.between in
+    let s = split_payload bytes e more (payload_of b.packets) (b.payload_is ∙ append_assoc (bytes ++ e) x.ahead (q.future []).bytes) in
     let some : 0 < length e = x.some in
     let whole : length e ≡ g.size part = x.whole in
-    let l = in_last run.limits.packet_size run.limits.max_wire run.read_failures_before n run.input run.left q (bytes ++ e) ((bytes ++ e) ++ more) side.left x.takes b (omega (arith, some, length-append (bytes ++ e) more, length-append bytes e)) in
+    let l = in_last run.limits.packet_size run.limits.max_wire run.read_failures_before n run.input run.left q ((bytes ++ e) ++ x.ahead) (((bytes ++ e) ++ x.ahead) ++ (q.future []).bytes) side.left x.takes b (omega (arith, some, length-append ((bytes ++ e) ++ x.ahead) (q.future []).bytes, length-append (bytes ++ e) x.ahead, length-append bytes e)) in
     let refused : IsRefused g part (e ++ more) fault = record {
       some = omega (arith, some, whole);
       whole = omega (arith, whole, length-append e more);
@@ -74,7 +74,7 @@ refused_in_payload run q area part bytes fault side spelt x holds text =
     record {
       packets = b.packets;
       part = part;
-      stands = packets_of run ((bytes ++ e) ++ more) b;
+      stands = packets_of run (((bytes ++ e) ++ x.ahead) ++ (q.future []).bytes) b;
       leads = subst (λ p. Longest g response_start p (length bytes) part) (sym s.0) (longest_refused g response_start bytes (e ++ more) part fault spelt refused);
       first = inl (subst (λ r. IsRefused g part r fault) (sym s.1) refused, ends_in_last run part b.packets bytes e whole l);
       written = text;

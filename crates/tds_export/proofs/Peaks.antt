@@ -79,7 +79,7 @@ taken run q at bytes behind n are left t between spelt =
 
 pub reached_stalled : (run : Run) (q : Seen) (at : Part) (stop : Stop) → AreBytes run.input → q.left ≡ Some run.left → Stalls (grammar run) is_built response_start (start run) q 0 at stop → Reached run.charset run.limits run.input at
 reached_stalled run q at stop are left (inl s) = elim s.cause [
-  | inl r ↦ taken run q at s.bytes r.0.element (length (s.bytes ++ r.0.element)) are left r.0.takes r.0.between s.spelt
+  | inl r ↦ taken run q at s.bytes (r.0.element ++ r.0.ahead) (length (s.bytes ++ r.0.element)) are left (subst (λ l. Takes (start run) q l (length (s.bytes ++ r.0.element))) (append_assoc s.bytes r.0.element r.0.ahead) r.0.takes) r.0.between s.spelt
   | inr c ↦ elim (ends_front run.limits.packet_size run.limits.max_wire run.read_failures_before run.input run.left q (s.bytes ++ c.part) c.own are left c.ends) [
     | inl m ↦ record { packets = m.packets; rest = run.left; begin = m.begin; each = inl m.each; within = m.within; bytes = s.bytes; more = c.part; spelt = s.spelt; payload_is = m.payload_is }
     | inr x ↦ record { packets = x.packets; rest = x.more; begin = x.begin; each = inr x.each; within = x.within; bytes = s.bytes; more = c.part; spelt = s.spelt; payload_is = x.payload_is }
@@ -91,7 +91,7 @@ pub reached_broken : (run : Run) (q : Seen) (old new : Held) (area : Space) (sto
 reached_broken run q old new area stop x are left =
     let be = x.breaks.bytes ++ x.breaks.element in
     let to = (grammar run).add x.at x.breaks.element in
-    let b = takes_begins run.limits.packet_size run.limits.max_wire run.read_failures_before run.input run.left q be (length be) are left x.breaks.takes x.breaks.between in
+    let b = takes_begins run.limits.packet_size run.limits.max_wire run.read_failures_before run.input run.left q (be ++ x.breaks.ahead) (length be) are left x.breaks.takes x.breaks.between in
     record {
       packets = b.packets;
       rest = run.left;
@@ -99,9 +99,9 @@ reached_broken run q old new area stop x are left =
       each = b.each;
       within = b.within;
       bytes = be;
-      more = (q.future []).bytes;
+      more = x.breaks.ahead ++ (q.future []).bytes;
       spelt = Spelt-append (grammar run) response_start x.breaks.bytes x.at x.breaks.element to x.breaks.spelt (Spelt-one (grammar run) x.at x.breaks.element x.breaks.next);
-      payload_is = b.payload_is;
+      payload_is = b.payload_is ∙ append_assoc be x.breaks.ahead (q.future []).bytes;
     }
 
 pub reached_whole : (run : Run) (q : Seen) (old new : Held) (area : Space) (x : ReadsWhole (grammar run) response_start (start run) q old new area) → AreBytes run.input → q.left ≡ Some run.left → Reached run.charset run.limits run.input (behind x.tokens)

@@ -15,11 +15,11 @@ use Rattle.tds_packet.proofs.Choices.{choose, choose_false, choose_true, eq_true
 use Rattle.tds_columns.specs.Description.{type_fault, refused_type, refused_kind}
 use Rattle.tds_columns.proofs.ByteLemmas.{split_last, one_byte}
 use Rattle.tds_columns.proofs.ColumnLaws.{byte_and_rest}
-use Rattle.tds_rows.specs.Cells.{shape, CellPart, ScalarBytes, ScalarLength, ShortLength, ShortData, Total, ChunkLength, ChunkData, WholeCell, cell_start, cell, cell_add}
+use Rattle.tds_rows.specs.Cells.{shape, CellPart, ScalarBytes, ScalarLength, ShortLength, ShortData, Total, ChunkLength, ChunkData, WholeCell, cell_start, cell, cell_add, return_charset}
 use Rattle.tds_rows.proofs.CellLaws.{cell_is_read}
 use Rattle.tds_rows.proofs.CellMeaning.{CellMeans, cell_step, start_means}
 use Rattle.tds_rows.proofs.RowLaws.{shape-HasBytes}
-use Rattle.tds_export.specs.ReturnValue.{ReturnValue, return_charset, SpellsReturnName, SpellsReturnValue, ReturnPart, ReturnOrdinal, ReturnNameCount, ReturnName, ReturnHead, ReturnInfo, InReturnCell, WholeReturn, with_value, with_return_kind, with_return_type, with_return_units, return_add, return_value}
+use Rattle.tds_export.specs.ReturnValue.{ReturnValue, SpellsReturnName, SpellsReturnValue, ReturnPart, ReturnOrdinal, ReturnNameCount, ReturnName, ReturnHead, ReturnInfo, InReturnCell, WholeReturn, with_value, with_return_kind, with_return_type, with_return_units, return_add, return_value}
 use Rattle.tds_columns.specs.ReturnedType.{return_column}
 
 -- a value is read in its token as by itself

@@ -14,6 +14,7 @@ use Rattle.std.proofs.KnownBytes.{Consumes-nil}
 use Rattle.tds_packet.proofs.Futures.{Ends-after, Takes-none, Takes-trans}
 use Rattle.tds_csv.specs.Sinks.{FinishFails, Finishes, Held}
 use Rattle.tds_csv.specs.Streaming.{PutsText, Streams}
+use Rattle.tds_csv.proofs.Streams.{breaks_after, puts_both}
 use Rattle.tds_csv.proofs.Sinks.{Puts-none, Puts-trans}
 use Rattle.tds_rows.specs.declared.Charset.{Charset}
 use Rattle.tds_export.specs.declared.progress.Progress.{Progress}
@@ -44,9 +45,6 @@ runs_none charset room a place h progress area d tracks is = record {
   holds = record { bytes = ap (λ (s : Space). s.bytes) is; peak = omega (arith, ap (λ (s : Space). s.peak) is) };
 }
 
-puts_both : (p q r : Part) (h i k : Held) → PutsText text_so_far p q h i → PutsText text_so_far q r i k → PutsText text_so_far p r h k
-puts_both p q r h i k x y = (x.0 ++ y.0, sym (append_assoc (text_so_far p) x.0 y.0) ∙ ap (λ l. l ++ y.0) x.1 ∙ y.1, Puts-trans h i k x.0 y.0 x.2 y.2)
-
 pub runs_more : (g : Grammar Part Fault) (a b c : Seen) (p q r : ℕ) (h i k : Held) (s t : Progress) (area area' : Space) → (x : Runs g a b p q h i s area) → ReadsToken g (behind x.tokens) x.tokens b c q r i k t area' → Runs g a c p r h k t area'
 runs_more g a b c p q r h i k s t area area' x y = record {
   tokens = x.tokens ++ y.token ∷ [];
@@ -54,7 +52,7 @@ runs_more g a b c p q r h i k s t area area' x y = record {
     bytes = x.streams.bytes ++ y.streams.bytes;
     spelt = Spelt-append g response_start x.streams.bytes (behind x.tokens) y.streams.bytes (behind (x.tokens ++ y.token ∷ [])) x.streams.spelt y.streams.spelt;
     takes = takes_both a b c x.streams.bytes y.streams.bytes x.streams.takes y.streams.takes;
-    puts = puts_both response_start (behind x.tokens) (behind (x.tokens ++ y.token ∷ [])) h i k x.streams.puts y.streams.puts;
+    puts = puts_both text_so_far response_start (behind x.tokens) (behind (x.tokens ++ y.token ∷ [])) h i k x.streams.puts y.streams.puts;
   };
   place_is = y.place_is ∙ omega (arith, x.place_is, length-append x.streams.bytes y.streams.bytes);
   tracks = y.tracks;
@@ -82,7 +80,7 @@ stops_after charset room a b c p q h i k s area area' failed stop x (inl y) = in
     at = y.0.at;
     stalls = stalls_after (response charset room) is_built response_start (behind x.tokens) a b c p y.0.at stop (record { bytes = x.streams.bytes; spelt = x.streams.spelt; takes = x.streams.takes })
         (subst (λ n. Stalls (response charset room) is_built (behind x.tokens) b c n y.0.at stop) x.place_is y.0.stalls);
-    puts = puts_both response_start (behind x.tokens) y.0.at h i k x.streams.puts y.0.puts;
+    puts = puts_both text_so_far response_start (behind x.tokens) y.0.at h i k x.streams.puts y.0.puts;
     holds = y.0.holds;
   },
   y.1,
@@ -90,20 +88,7 @@ stops_after charset room a b c p q h i k s area area' failed stop x (inl y) = in
 stops_after charset room a b c p q h i k s area area' failed stop x (inr y) = inr (
   record {
     at = y.0.at;
-    breaks = record {
-      bytes = x.streams.bytes ++ y.0.breaks.bytes;
-      element = y.0.breaks.element;
-      spelt = Spelt-append (response charset room) response_start x.streams.bytes (behind x.tokens) y.0.breaks.bytes y.0.at x.streams.spelt y.0.breaks.spelt;
-      next = y.0.breaks.next;
-      takes = subst (λ l. Takes a c l (length l)) (sym (append_assoc x.streams.bytes y.0.breaks.bytes y.0.breaks.element)) (takes_both a b c x.streams.bytes (y.0.breaks.bytes ++ y.0.breaks.element) x.streams.takes y.0.breaks.takes);
-      between = y.0.breaks.between;
-      middle = y.0.breaks.middle;
-      few = y.0.breaks.few;
-      puts = puts_both response_start (behind x.tokens) y.0.at h i y.0.breaks.middle x.streams.puts y.0.breaks.puts;
-      more = y.0.breaks.more;
-      text_is = y.0.breaks.text_is;
-      breaks = y.0.breaks.breaks;
-    };
+    breaks = breaks_after (response charset room) text_so_far response_start (behind x.tokens) a b c h i k y.0.at stop x.streams y.0.breaks;
     holds = y.0.holds;
   },
   y.1,

@@ -22,7 +22,7 @@ use Rattle.tds_export.specs.Built.{is_built}
 use Rattle.tds_export.specs.TokenGrammar.{Part, is_row_byte, response, row_byte_fault, start_of_row, text_so_far}
 use Rattle.tds_rows.specs.Unbuilt.{ReadsUnbuilt, Stalls}
 use Rattle.tds_export.specs.Steps.{StepStops, IsDescribed, IsHolding, IsRefusal, ReadsToken, behind, in_done, in_metadata, in_row}
-use Rattle.tds_packet.proofs.Steps.{cut_at_once, reads_one, refused_at_once, takes_both}
+use Rattle.tds_packet.proofs.Steps.{cut_at_once, reads_one, refused_at_once, takes_both, takes_ahead}
 use Rattle.tds_rows.proofs.Stalls.{stalls_after, unbuilt_at_once}
 use Rattle.tds_export.proofs.TokenSteps.{same_text, start_text}
 
@@ -94,9 +94,10 @@ module _ (charset : Charset) (room : ℕ) (tokens : List Token) (byte : ℕ) (to
       breaks = record {
         bytes = (byte ∷ []) ++ x.0.breaks.bytes;
         element = x.0.breaks.element;
+        ahead = x.0.breaks.ahead;
         spelt = Spelt-append (response charset room) (behind tokens) (byte ∷ []) to x.0.breaks.bytes x.0.at (first a b t).spelt x.0.breaks.spelt;
         next = x.0.breaks.next;
-        takes = takes_both a b c (byte ∷ []) (x.0.breaks.bytes ++ x.0.breaks.element) t x.0.breaks.takes;
+        takes = takes_ahead a b c (byte ∷ []) (x.0.breaks.bytes ++ x.0.breaks.element) x.0.breaks.ahead t x.0.breaks.takes;
         between = x.0.breaks.between;
         middle = x.0.breaks.middle;
         few = x.0.breaks.few;

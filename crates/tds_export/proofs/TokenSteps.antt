@@ -21,7 +21,7 @@ use Rattle.tds_csv.proofs.Sinks.{Puts-none}
 use Rattle.tds_rows.specs.declared.Charset.{Charset}
 use Rattle.tds_rows.specs.Cells.{Shape, FixedShape, CountedShape, LongShape, cell_start, field, field_so_far, shape}
 use Rattle.tds_rows.specs.Rows.{RowPart, Bitmap, InCell, WholeRow, row, row_size, row_so_far, row_start, with_field}
-use Rattle.tds_rows.specs.Streams.{ReadsRow, RowStalls}
+use Rattle.tds_rows.specs.RowSteps.{ReadsRow, RowStops}
 use Rattle.tds_rows.specs.Unbuilt.{Stalls, is_built_row}
 use Rattle.tds_export.specs.declared.progress.Progress.{Progress}
 use Rattle.tds_export.specs.declared.report.Report.{Report}
@@ -30,7 +30,9 @@ use Rattle.tds_export.specs.Response.{more}
 use Rattle.tds_export.specs.Built.{is_built}
 use Rattle.tds_export.specs.TokenGrammar.{Part, response, text_so_far, with_described, with_row}
 use Rattle.tds_export.specs.Steps.{StepStops, StopsInReading, StopsInWriting, IsHolding, ReadsToken, Tracks, behind, in_done, in_metadata, in_row}
-use Rattle.tds_rows.proofs.Lifts.{last_inside, reads_inside, stalls_inside, stalls_size}
+use Rattle.tds_packet.proofs.Lifts.{last_inside, reads_inside}
+use Rattle.tds_csv.proofs.Streams.{breaks_inside, puts_inside, streams_inside}
+use Rattle.tds_rows.proofs.Stalls.{stalls_inside, stalls_size}
 use Rattle.tds_export.proofs.ResponseLaws.{description_in_response, row_in_response}
 use Rattle.tds_export.proofs.TokenLaws.{begun_after, begun_where_sets, encoded_after-append, greatest_span-append, text_after-snoc, tracks_done, tracks_metadata, tracks_none, tracks_row}
 
@@ -99,88 +101,64 @@ row_text tokens (WholeRow cells) = ap (λ l. l ++ []) (text_after-snoc false tok
 row_text tokens (InCell cells part ks) = refl
 row_text tokens (Bitmap columns) = refl
 
--- what was put for a row is put for its response
-row_puts : (tokens : List Token) (p q : RowPart) (h k : Held) → PutsText row_so_far p q h k → PutsText text_so_far (with_row tokens p) (with_row tokens q) h k
-row_puts tokens p q h k x =
-    (x.0, ap (λ l. l ++ x.0) (row_text tokens p) ∙ append_assoc (text tokens) (row_so_far p) x.0 ∙ ap (λ l. text tokens ++ l) x.1 ∙ sym (row_text tokens q), x.2)
+-- before a row's text stands that of the tokens
+abbrev row_front : (tokens : List Token) (part : RowPart) → text tokens ++ row_so_far part ≡ text_so_far (with_row tokens part)
+row_front tokens part = sym (row_text tokens part)
 
 row_holds : (area : Space) (tokens : List Token) (part : RowPart) → IsHolding area (behind tokens) → IsHolding area (with_row tokens part)
 row_holds area tokens (WholeRow cells) h = holds-snoc area tokens (Row cells) refl h
 row_holds area tokens (InCell cells part ks) h = record { bytes = h.bytes; peak = h.peak }
 row_holds area tokens (Bitmap columns) h = record { bytes = h.bytes; peak = h.peak }
 
-pub row_reads : (charset : Charset) (room : ℕ) (columns : List Column) (area : Space) (before after : Held) (tokens : List Token) (progress : Progress) (a b : Seen) (place place' : ℕ) → Tracks progress tokens → IsHolding area (behind tokens)
-    → ReadsRow charset columns a b place place' before after
-    → ReadsToken (response charset room) (in_row charset columns tokens) tokens a b place place' before after (record progress { report = record progress.report { rows = progress.report.rows + 1 }; is_final = false }) area
-row_reads charset room columns area before after tokens progress a b place place' tracks holds x =
-    let r = reads_inside (row charset) (response charset room) (with_row tokens) (row_in_response charset room tokens) (row_start charset columns) a b (WholeRow x.cells) (record { bytes = x.streams.bytes; spelt = x.streams.spelt; takes = x.streams.takes }) in
-    record {
-      token = Row x.cells;
-      streams = record { bytes = r.bytes; spelt = r.spelt; takes = r.takes; puts = row_puts tokens (row_start charset columns) (WholeRow x.cells) before after x.streams.puts };
-      place_is = x.place_is;
-      tracks = tracks_row progress tokens x.cells tracks;
-      holds = holds-snoc area tokens (Row x.cells) refl holds;
-    }
+-- a row was read, and its line put
+pub row_reads : (charset : Charset) (room : ℕ) (start : RowPart) (area : Space) (before after : Held) (tokens : List Token) (progress : Progress) (a b : Seen) (place place' : ℕ) → Tracks progress tokens → IsHolding area (behind tokens)
+    → ReadsRow charset start a b place place' before after
+    → ReadsToken (response charset room) (with_row tokens start) tokens a b place place' before after (record progress { report = record progress.report { rows = progress.report.rows + 1 }; is_final = false }) area
+row_reads charset room start area before after tokens progress a b place place' tracks holds x = record {
+  token = Row x.cells;
+  streams = streams_inside (row charset) (response charset room) (with_row tokens) (row_in_response charset room tokens) row_so_far text_so_far (text tokens) (row_front tokens) start a b before after (WholeRow x.cells) x.streams;
+  place_is = x.place_is;
+  tracks = tracks_row progress tokens x.cells tracks;
+  holds = holds-snoc area tokens (Row x.cells) refl holds;
+}
 
 row_end_is : (charset : Charset) (room : ℕ) (tokens : List Token) (part : RowPart) → 0 < row_size part → (response charset room).end_fault (with_row tokens part) ≡ (row charset).end_fault part
 row_end_is charset room tokens (Bitmap columns) h = refl
 row_end_is charset room tokens (InCell cells part ks) h = refl
 row_end_is charset room tokens (WholeRow cells) h = absurd (omega arith)
 
-row_built_is : (tokens : List Token) (part : RowPart) → 0 < row_size part → (e : List ℕ) → is_built (with_row tokens part) e ≡ is_built_row part e
-row_built_is tokens (Bitmap columns) h e = refl
-row_built_is tokens (InCell cells part ks) h e = refl
-row_built_is tokens (WholeRow cells) h e = absurd (omega arith)
-
--- the next element of a row is the next of its response
-row_next : (charset : Charset) (room : ℕ) (tokens : List Token) (at : RowPart) (element : List ℕ) → IsNext (row charset) at element → IsNext (response charset room) (with_row tokens at) element × ((response charset room).add (with_row tokens at) element ≡ with_row tokens ((row charset).add at element))
-row_next charset room tokens at element n =
-    let inside = row_in_response charset room tokens in
-    let some : 0 < row_size at = omega (arith, n.some, n.whole) in
-    (record { some = n.some; whole = n.whole ∙ sym (inside.size at some); free = inside.fault at element some ∙ n.free }, inside.add at element some)
-
-pub row_breaks : (charset : Charset) (room : ℕ) (columns : List Column) (area : Space) (before after : Held) (tokens : List Token) (a b : Seen) (at : RowPart) (stop : Stop) → IsHolding area (behind tokens)
-    → BreaksStreaming (row charset) row_so_far (row_start charset columns) a b before after at stop
-    → StopsInWriting (response charset room) (in_row charset columns tokens) a b before after area stop
-row_breaks charset room columns area before after tokens a b at stop holds x =
-    let n = row_next charset room tokens at x.element x.next in
-    record {
-      at = with_row tokens at;
-      breaks = record {
-        bytes = x.bytes;
-        element = x.element;
-        spelt = Inside-Spelt (row charset) (response charset room) (with_row tokens) (row_in_response charset room tokens) (row_start charset columns) x.bytes at x.spelt;
-        next = n.0;
-        takes = x.takes;
-        between = x.between;
-        middle = x.middle;
-        few = x.few;
-        puts = row_puts tokens (row_start charset columns) at before x.middle x.puts;
-        more = x.more;
-        text_is = ap (λ l. l ++ x.more) (row_text tokens at) ∙ append_assoc (text tokens) (row_so_far at) x.more ∙ ap (λ l. text tokens ++ l) x.text_is ∙ sym (row_text tokens ((row charset).add at x.element)) ∙ ap text_so_far (sym n.1);
-        breaks = x.breaks;
-      };
-      holds = subst (IsHolding area) (sym n.1) (row_holds area tokens ((row charset).add at x.element) holds);
-    }
+row_built_is : (tokens : List Token) (part : RowPart) (e : List ℕ) → 0 < row_size part → is_built (with_row tokens part) e ≡ is_built_row part e
+row_built_is tokens (Bitmap columns) e h = refl
+row_built_is tokens (InCell cells part ks) e h = refl
+row_built_is tokens (WholeRow cells) e h = absurd (omega arith)
 
 -- a row stopped the call
-pub row_stops : (charset : Charset) (room : ℕ) (columns : List Column) (area : Space) (before after : Held) (tokens : List Token) (a b : Seen) (place : ℕ) (failed : Bool) (stop : Stop) → IsHolding area (behind tokens)
-    → RowStalls charset columns a b place before after failed stop → StepStops (response charset room) (in_row charset columns tokens) a b place before after area failed stop
-row_stops charset room columns area before after tokens a b place failed stop holds x = elim x.cause [
-  | inl y ↦
-      let inside = row_in_response charset room tokens in
-      let some = stalls_size (row charset) (response charset room) (with_row tokens) inside is_built_row (row_start charset columns) a b place x.at stop y.0 in
-      inl (
+pub row_stops : (charset : Charset) (room : ℕ) (start : RowPart) (area : Space) (before after : Held) (tokens : List Token) (a b : Seen) (place : ℕ) (failed : Bool) (stop : Stop) → IsHolding area (behind tokens)
+    → RowStops charset start a b place before after failed stop → StepStops (response charset room) (with_row tokens start) a b place before after area failed stop
+row_stops charset room start area before after tokens a b place failed stop holds x =
+    let inside = row_in_response charset room tokens in
+    elim x.cause [
+      | inl y ↦ inl (
         record {
           at = with_row tokens x.at;
-          stalls = stalls_inside (row charset) (response charset room) (with_row tokens) inside is_built_row is_built (row_start charset columns) a b place x.at stop (row_end_is charset room tokens x.at some) (row_built_is tokens x.at some) y.0;
-          puts = row_puts tokens (row_start charset columns) x.at before after y.1;
+          stalls = stalls_inside (row charset) (response charset room) (with_row tokens) inside is_built_row is_built (row_end_is charset room tokens) (row_built_is tokens) start a b place x.at stop y.0;
+          puts = puts_inside (row charset) (response charset room) (with_row tokens) inside row_so_far text_so_far (text tokens) (row_front tokens) start x.at before after y.1;
           holds = row_holds area tokens x.at holds;
         },
         y.2,
       )
-  | inr y ↦ inr (row_breaks charset room columns area before after tokens a b x.at stop holds y.0, y.1)
-]
+      | inr y ↦ inr (
+        record {
+          at = with_row tokens x.at;
+          breaks = breaks_inside (row charset) (response charset room) (with_row tokens) inside row_so_far text_so_far (text tokens) (row_front tokens) start a b before after x.at stop y.0;
+          holds = subst (IsHolding area) (sym (inside.add x.at y.0.element (row_some charset x.at y.0.element y.0.next))) (row_holds area tokens ((row charset).add x.at y.0.element) holds);
+        },
+        y.1,
+      )
+    ]
+  where
+    row_some : (charset : Charset) (at : RowPart) (element : List ℕ) → IsNext (row charset) at element → 0 < row_size at
+    row_some charset at element n = omega (arith, n.some, n.whole)
 
 pub stops_reading : (charset : Charset) (room : ℕ) (s : Part) (a b : Seen) (place : ℕ) (h : Held) (area : Space) (failed : Bool) (stop : Stop) → h.delivered ≤ 2 ^ 64 - 1 → failed ≡ false → IsHolding area s → StopsReading (response charset room) s a b place s stop
     → StepStops (response charset room) s a b place h h area failed stop
@@ -262,9 +240,10 @@ metadata_breaks charset room area old_area before after tokens progress columns 
       breaks = record {
         bytes = l.front;
         element = l.element;
+        ahead = [];
         spelt = l.spelt;
         next = l.next;
-        takes = subst (λ v. Takes a b v (length v)) (sym l.joined) x.reads.takes;
+        takes = subst (λ v. Takes a b v (length (l.front ++ l.element))) (sym (append-nil (l.front ++ l.element))) (subst (λ v. Takes a b v (length v)) (sym l.joined) x.reads.takes);
         between = between_b;
         middle = before;
         few = few;
@@ -282,11 +261,11 @@ end_is charset room tokens (InColumn bytes count columns place) h = refl
 end_is charset room tokens NoDescription h = absurd (omega arith)
 end_is charset room tokens (WholeDescription bytes columns) h = absurd (omega arith)
 
-built_is : (tokens : List Token) (d : DescriptionPart) → 0 < described_size d → (e : List ℕ) → is_built (with_described tokens d) e ≡ true
-built_is tokens BeforeCount h e = refl
-built_is tokens (InColumn bytes count columns place) h e = refl
-built_is tokens NoDescription h e = absurd (omega arith)
-built_is tokens (WholeDescription bytes columns) h e = absurd (omega arith)
+built_is : (tokens : List Token) (d : DescriptionPart) (e : List ℕ) → 0 < described_size d → is_built (with_described tokens d) e ≡ true
+built_is tokens BeforeCount e h = refl
+built_is tokens (InColumn bytes count columns place) e h = refl
+built_is tokens NoDescription e h = absurd (omega arith)
+built_is tokens (WholeDescription bytes columns) e h = absurd (omega arith)
 
 open_holds : (area : Space) (tokens : List Token) (k : ℕ) (d : DescriptionPart) → 0 < described_size d → area.bytes ≡ description_bytes d → area.peak ≤ max k (span d) → k ≤ max (greatest_span tokens) 0 → IsHolding area (with_described tokens d)
 open_holds area tokens k BeforeCount h e p q = record { bytes = e; peak = omega (arith, p, q) }
@@ -300,10 +279,10 @@ pub metadata_stops : (charset : Charset) (room : ℕ) (area old_area : Space) (s
 metadata_stops charset room area old_area sink tokens a b place stop d holds x =
     let inside = description_in_response charset room tokens in
     let stalls : Stalls (description room) (λ _ _. true) BeforeCount a b place x.at stop = inl x.stops in
-    let some = stalls_size (description room) (response charset room) (with_described tokens) inside (λ _ _. true) BeforeCount a b place x.at stop stalls in
+    let some = stalls_size (description room) (response charset room) (with_described tokens) inside (λ _ _. true) is_built (end_is charset room tokens) (built_is tokens) BeforeCount a b place x.at stop stalls in
     record {
       at = with_described tokens x.at;
-      stalls = stalls_inside (description room) (response charset room) (with_described tokens) inside (λ _ _. true) is_built BeforeCount a b place x.at stop (end_is charset room tokens x.at some) (built_is tokens x.at some) stalls;
+      stalls = stalls_inside (description room) (response charset room) (with_described tokens) inside (λ _ _. true) is_built (end_is charset room tokens) (built_is tokens) BeforeCount a b place x.at stop stalls;
       puts = same_text (in_metadata tokens) (with_described tokens x.at) sink (sym (open_text_none tokens x.at some)) d;
       holds = open_holds area tokens old_area.peak x.at some x.kept x.bound holds.peak;
     }

@@ -226,20 +226,21 @@ broken run given had q k at stop side charset x holds gained waiting failures be
     let adds = Adds-trans (fresh_at given) x.middle k p.0 y.0 (text_so_far at) (take y.2 x.more) p.2 y.3 in
     let all : run.gained ++ run.waiting ≡ text_so_far at ++ take y.2 x.more = ap (λ v. v ++ run.waiting) gained ∙ ap (λ w. (p.0 ++ y.0) ++ w) (sym waiting) ∙ sym adds.1 in
     let spelt : Spelt g response_start be to = Spelt-append g response_start x.bytes at x.element to x.spelt (Spelt-one g at x.element x.next) in
-    let more = (q.future []).bytes in
-    let b = takes_begins size limit f run.input run.left q be (length be) side.bytes side.left x.takes x.between in
+    let more = x.ahead ++ (q.future []).bytes in
+    let b = takes_begins size limit f run.input run.left q (be ++ x.ahead) (length be) side.bytes side.left x.takes x.between in
+    let payload_is : payload_of b.packets ≡ be ++ more = b.payload_is ∙ append_assoc be x.ahead (q.future []).bytes in
     let payload = payload_of b.packets in
     let longest = some_longest g response_start payload in
-    let beyond = longest_text run.charset run.limits.column_room be more to longest.1 longest.0 spelt (subst (λ v. Longest g response_start v longest.0 longest.1) b.payload_is longest.2) in
+    let beyond = longest_text run.charset run.limits.column_room be more to longest.1 longest.0 spelt (subst (λ v. Longest g response_start v longest.0 longest.1) payload_is longest.2) in
     let element_some : 0 < length x.element = x.next.some in
     let element_whole : length x.element ≡ g.size at = x.next.whole in
     let some : 0 < length be = omega (arith, element_some, length-append x.bytes x.element) in
-    let l = in_last size limit f (length be) run.input run.left q be (be ++ more) side.left x.takes b (omega (arith, some, length-append be more)) in
+    let l = in_last size limit f (length be) run.input run.left q (be ++ x.ahead) ((be ++ x.ahead) ++ (q.future []).bytes) side.left x.takes b (omega (arith, some, length-append (be ++ x.ahead) (q.future []).bytes, length-append be x.ahead)) in
     let early = some_longest g response_start (payload_of l.before) in
     let within : early.0 ≤ length (payload_of l.before) = early.2.within in
     let fewer : length (payload_of l.before) < length be = l.earlier in
     let joined : payload ≡ payload_of l.before ++ payload_of (l.last ∷ []) = ap payload_of (sym l.split) ∙ flat_map-append (λ (v : Packet). v.body) l.before (l.last ∷ []) in
-    let front : take early.0 (payload_of l.before) ≡ take early.0 be = sym (take-append-le early.0 (payload_of l.before) (payload_of (l.last ∷ [])) within) ∙ ap (take early.0) (sym joined ∙ b.payload_is) ∙ take-append-le early.0 be more (omega (arith, within, fewer)) in
+    let front : take early.0 (payload_of l.before) ≡ take early.0 be = sym (take-append-le early.0 (payload_of l.before) (payload_of (l.last ∷ [])) within) ∙ ap (take early.0) (sym joined ∙ payload_is) ∙ take-append-le early.0 be more (omega (arith, within, fewer)) in
     let short = earlier_text run.charset run.limits.column_room x.bytes x.element at early.1 early.0 x.spelt element_whole (omega (arith, within, fewer)) (subst (λ v. Spelt g response_start v early.1) front early.2.spelt) in
     let blocks = p.1 + y.1 in
     let lens = length-append p.0 y.0 in
@@ -268,7 +269,7 @@ broken run given had q k at stop side charset x holds gained waiting failures be
       kept = (
         length be,
         to,
-        record { within = omega (arith, ap length b.payload_is, length-append be more); spelt = subst (λ v. Spelt g response_start v to) (sym (ap (take (length be)) b.payload_is ∙ take-append_seam be more)) spelt },
+        record { within = omega (arith, ap length payload_is, length-append be more); spelt = subst (λ v. Spelt g response_start v to) (sym (ap (take (length be)) payload_is ∙ take-append_seam be more)) spelt },
         subst (λ a. IsKept a to.tokens to.at (drop (length be) payload)) (sym side.description) (kept_at given.description to.tokens to.at (drop (length be) payload) holds.bytes),
       );
     }

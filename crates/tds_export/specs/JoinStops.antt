@@ -1,8 +1,8 @@
 -- The stops of a joiner whose data has whole units.
 use Rattle.std.specs.Prelude.{◌≡◌}
 use Rattle.tds_packet.specs.declared.fault.Stop.{Stop}
-use Rattle.tds_csv.specs.declared.joiner.JoinFault.{JoinFault}
-use Rattle.tds_csv.specs.declared.joiner.JoinFault.TheVariants.{Stopped, Odd, BadText}
+use Rattle.tds_csv.specs.declared.joiners.JoinFault.{JoinFault}
+use Rattle.tds_csv.specs.declared.joiners.JoinFault.TheVariants.{Stopped, Odd, BadText}
 
 -- The fault of a joiner is a stop of its sink.
 abbrev pub IsStopped : JoinFault → Type 0

@@ -7,19 +7,13 @@ use Rattle.tds_packet.specs.declared.fault.Fault.{Fault}
 use Rattle.tds_packet.specs.declared.fault.Fault.TheVariants.{MessageEnded, BadTypeInfo}
 use Rattle.tds_columns.specs.ReturnedType.{return_column}
 use Rattle.tds_columns.specs.Description.{type_fault}
-use Rattle.tds_rows.specs.declared.Charset.{Charset}
-use Rattle.tds_rows.specs.declared.Charset.TheVariants.{Windows1252}
-use Rattle.tds_rows.specs.Cells.{Cell, shape, SpellsCell, CellPart, WholeCell, cell_start, cell_size, cell_fault, cell_add}
+use Rattle.tds_rows.specs.Cells.{Cell, shape, SpellsCell, CellPart, WholeCell, cell_start, cell_size, cell_fault, cell_add, return_charset}
 
 -- what a RETURNVALUE says: a name in UTF-16 units, a kind and a value of it
 pub record ReturnValue : Type 0 where
   pub name : List ℕ
   pub kind : Kind
   pub value : Cell
-
--- The value is passed over, so its single-byte text may be any bytes: it is read in a set that has a character for each byte.
-abbrev pub return_charset : Charset
-return_charset = Windows1252
 
 -- The bytes are an ordinal and the name.
 pub record SpellsReturnName (name bytes : List ℕ) : Type 0 where

@@ -44,7 +44,7 @@ pub(crate) fn next_byte<R: Read>(payload: &mut Payload<R>) -> Result<Option<u8>,
     if payload.at_end()? {
         return Ok(None);
     }
-    let byte = payload.lying()[0];
-    payload.pass(1);
+    let byte = payload.buffered()[0];
+    payload.consume(1);
     Ok(Some(byte))
 }

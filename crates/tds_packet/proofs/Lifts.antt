@@ -8,6 +8,10 @@ use Rattle.tds_packet.specs.Seen.{Seen}
 use Rattle.tds_packet.specs.Reading.{CutsNext, Reads, RefusesNext, StopsReading, IsCutStop}
 use Rattle.tds_packet.proofs.ElementLaws.{Inside-Spelt, Spelt-append, Spelt-none, Spelt-one}
 
+-- a state with a next element has some bytes to come
+pub next_some : {S : Type 0} (g : Grammar S Fault) (s : S) (element : List ℕ) → IsNext g s element → 0 < g.size s
+next_some g s element n = let some : 0 < length element = n.some in let whole : length element ≡ g.size s = n.whole in omega arith
+
 module _ {S T : Type 0} (small : Grammar S Fault) (big : Grammar T Fault) (lift : S → T) (is : Inside small big lift) where
   -- an element of the smaller grammar is one of the greater
   pub next_inside : (s : S) (element : List ℕ) → 0 < small.size s → IsNext small s element → IsNext big (lift s) element

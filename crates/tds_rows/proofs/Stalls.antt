@@ -63,7 +63,7 @@ module _ {S : Type 0} (g : Grammar S Fault) where
 module _ {S T : Type 0} (small : Grammar S Fault) (big : Grammar T Fault) (lift : S → T) (is : Inside small big lift) (is_built : S → List ℕ → Bool) (is_built' : T → List ℕ → Bool)
     (ends : (s : S) → 0 < small.size s → big.end_fault (lift s) ≡ small.end_fault s) (built : (s : S) (e : List ℕ) → 0 < small.size s → is_built' (lift s) e ≡ is_built s e) where
   -- a state where a reading stops has a next element
-  stalls_size : (from : S) (a b : Seen) (place : ℕ) (at : S) (stop : Stop) → Stalls small is_built from a b place at stop → 0 < small.size at
+  pub stalls_size : (from : S) (a b : Seen) (place : ℕ) (at : S) (stop : Stop) → Stalls small is_built from a b place at stop → 0 < small.size at
   stalls_size from a b place at stop (inl r) =
       elim r.cause [
         | inl x ↦ (let s : 0 < length x.0.element = x.0.some in let w : length x.0.element ≡ small.size at = x.0.whole in omega arith)

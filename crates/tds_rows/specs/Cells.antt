@@ -36,6 +36,10 @@ abbrev pub narrow : Charset → Conversion
 narrow sets.Windows1252 = Windows1252Text
 narrow sets.Utf8 = Utf8Text
 
+-- the set in which the value of a RETURNVALUE is read: it is passed over, so its single-byte text may be any bytes, and this set has a character for each
+abbrev pub return_charset : Charset
+return_charset = sets.Windows1252
+
 -- what the values of a kind are, as far as their spelling goes
 pub data Shape : Type 0 where
   FixedShape : ℕ → Shape

@@ -40,7 +40,7 @@ all_read g c =
     let size = packet_room c.args.areas.now c.restart.new.self c.requires emptied in
     let room = description_room c.args.areas.now c.restart.new.self c.requires emptied in
     let limit : c.max_wire-max_wire.result ≡ c.args.areas.now.limits.max_wire = search rules in
-    let begins : a ≡ begun_at given = c.new-payload.ensures.seen ∙ ap (λ n. begun n c.max_wire-max_wire.result given.input given.read_failures_before) size ∙ ap (λ n. begun given.limits.packet_size n given.input given.read_failures_before) limit in
+    let begins : a ≡ begun_at given = c.new-payload.ensures.begun.begins ∙ ap (λ n. begun n c.max_wire-max_wire.result given.input given.read_failures_before) size ∙ ap (λ n. begun given.limits.packet_size n given.input given.read_failures_before) limit in
     let first : h ≡ fresh_at given = c.new-sink.ensures.held in
     exports given a (seen g.R.Read.remaining c.read_response.new.payload) h (held g.W.Write.contents c.read_response.new.sink) c.restart.new.self.description.room c.in-Ok.report begins first room
     (record { left = refl; failures = refl }) (record { has = refl; waiting = refl; failures = refl }) c.in-Ok.ensures.gives (ap (λ (s : Space). s.bytes) emptied.notice)
@@ -82,10 +82,10 @@ read_so_far g c =
     let size = packet_room c.args.areas.now c.restart.new.self c.requires emptied in
     let room = description_room c.args.areas.now c.restart.new.self c.requires emptied in
     let limit : c.max_wire-max_wire.result ≡ c.args.areas.now.limits.max_wire = search rules in
-    let begins : a ≡ begun_at given = c.new-payload.ensures.seen ∙ ap (λ n. begun n c.max_wire-max_wire.result given.input given.read_failures_before) size ∙ ap (λ n. begun given.limits.packet_size n given.input given.read_failures_before) limit in
+    let begins : a ≡ begun_at given = c.new-payload.ensures.begun.begins ∙ ap (λ n. begun n c.max_wire-max_wire.result given.input given.read_failures_before) size ∙ ap (λ n. begun given.limits.packet_size n given.input given.read_failures_before) limit in
     let first : h ≡ fresh_at given = c.new-sink.ensures.held in
     stops_export given a (seen g.R.Read.remaining c.read_response.new.payload) h (held g.W.Write.contents c.read_response.new.sink) (held g.W.Write.contents c.stop_at.new.sink) c.restart.new.self.description.room c.new-payload.result.place c.read_response.new.sink.failed c.in-Err.stop c.stop_at.result
-    begins first room c.new-payload.ensures.place (record { left = refl; failures = refl }) (record { has = refl; waiting = refl; failures = refl }) (c.in-Err.ensures.gives) c.stop_at.ensures.tidied (λ failed. ap (held g.W.Write.contents) (c.stop_at.ensures.failed failed)) c.stop_at.ensures.stop
+    begins first room c.new-payload.ensures.begun.place (record { left = refl; failures = refl }) (record { has = refl; waiting = refl; failures = refl }) (c.in-Err.ensures.gives) c.stop_at.ensures.tidied (λ failed. ap (held g.W.Write.contents) (c.stop_at.ensures.failed failed)) c.stop_at.ensures.stop
     (ap (λ (s : Space). s.bytes) emptied.notice)
 
 pub returns-in-Err-clause-exports : goal.returns-in-Err-clause-exports

@@ -14,11 +14,11 @@ pub returns-clause-gives : goal.returns-clause-gives
 returns-clause-gives g c =
     let a = seen g.R.Read.remaining c.args.payload.now in
     let b = seen g.R.Read.remaining c.at_end.new.self in
-    let d = seen g.R.Read.remaining c.pass.new.self in
+    let d = seen g.R.Read.remaining c.consume.new.self in
     let lying = buffered c.at_end.new.self in
-    let some : 0 < length lying = c.in_ok-at_end.ensures.lies c.if-branch.false in
-    let byte : take 1 lying ≡ slice_index c.lying.result.now 0 ∷ [] = first lying some ∙ ap (λ l. slice_index l 0 ∷ []) (sym c.lying.ensures) in
-    let both : Takes a d ([] ++ take 1 lying) (0 + 1) = Takes-trans a b d [] (take 1 lying) 1 1 (omega arith) c.in_ok-at_end.ensures.gives (Takes-more b d (take 1 lying) 0 1 (omega arith) c.pass.ensures.gives) in
+    let some : 0 < length lying = c.in_ok-at_end.ensures.ready c.if-branch.false in
+    let byte : take 1 lying ≡ slice_index c.buffered.result.now 0 ∷ [] = first lying some ∙ ap (λ l. slice_index l 0 ∷ []) (sym c.buffered.ensures) in
+    let both : Takes a d ([] ++ take 1 lying) (0 + 1) = Takes-trans a b d [] (take 1 lying) 1 1 (omega arith) c.in_ok-at_end.ensures.gives (Takes-more b d (take 1 lying) 0 1 (omega arith) c.consume.ensures.gives) in
     let one : 0 + 1 ≡ 1 = omega arith in
     record {
       takes = subst (λ l. Takes a d l 1) byte (subst (Takes a d (take 1 lying)) one both);
