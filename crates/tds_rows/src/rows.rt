@@ -149,7 +149,8 @@ fn read_long<R: Read>(payload: &mut Payload<R>, reach: Reach) -> Stop
     requires going { IsGoing payload.old }
     ensures sound { IsSound payload.new }
     ensures same { IsOnSame payload.old payload.new }
-    ensures gives { (kind : Kind) (conversion : Conversion) (column : ℕ) → let from = cell_start kind (LongShape conversion reach) in
+    ensures gives { (kind : Kind) (conversion : Conversion) (column : ℕ) →
+        let from = cell_start kind (LongShape conversion reach) in
         StallsCell from column (seen R.remaining payload.old) (seen R.remaining payload.new) payload.old.place result }
 {
     let place = payload.place();
