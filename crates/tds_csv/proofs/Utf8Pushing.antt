@@ -1,5 +1,5 @@
 -- Pieces of text in UTF-8, one after the other.
-use Rattle.std.proofs.Common.{◌≡◌, ◌∙◌, ℕ, ◌+◌, ◌-◌, ◌<◌, ◌≤◌, List, [], ◌++◌, length, take, drop, ◌⊎◌, inl, inr, Option, Result, Ok, Err, refl, sym, ap, subst, arith, append_assoc, append-nil, length-append, length-drop, length-take-le}
+use Rattle.std.proofs.Common.{◌≡◌, ◌∙◌, ℕ, ◌+◌, ◌-◌, ◌<◌, ◌≤◌, List, [], ◌++◌, length, take, drop, ◌⊎◌, inl, inr, Bool, false, Option, Result, Ok, Err, refl, sym, ap, subst, arith, append_assoc, append-nil, length-append, length-drop, length-take-le}
 use Rattle.std.proofs.lemmas.Bool.{cases_lt}
 use Rattle.std.proofs.lemmas.List.{take-append-drop, take-take, take-append-le, drop-append-le, take_all}
 use Rattle.std.proofs.Math.Seq.{drop-append-add, take-append-add, drop-append_seam}
@@ -10,7 +10,7 @@ use Rattle.std.proofs.lemmas.Result.{err_from_is_err_and}
 use Rattle.tds_csv.specs.declared.joiners.JoinFault.{JoinFault}
 use Rattle.tds_csv.specs.declared.joiners.JoinFault.TheVariants.{Stopped, Odd, BadText}
 use Rattle.tds_csv.specs.declared.sink.Sink.{Sink}
-use Rattle.tds_csv.specs.Pushing.{PushesPiece, TakesPiece, TakesUpTo}
+use Rattle.tds_csv.specs.Pushing.{Pushes, PushesPiece, TakesPiece, TakesUpTo, is_stopped}
 use Rattle.tds_csv.specs.Sinks.{Held, Puts, Breaks, held}
 use Rattle.tds_csv.proofs.Puttings.{same_sink_after}
 use Rattle.tds_csv.specs.Utf8.{Begins, rest, text}
@@ -185,6 +185,35 @@ up_to_long kept piece mid new held a b d j long same le begun x y =
       | inr more ↦ absurd (omega arith)
     ]
 
+-- an answer is no other stop
+stopped_behind : {V : Type 0} (n : ℕ) (r : Result V JoinFault) → is_stopped (behind n r) ≡ is_stopped r
+stopped_behind n (Ok v) = refl
+stopped_behind n (Err (Stopped stop)) = refl
+stopped_behind n (Err Odd) = refl
+stopped_behind n (Err (BadText k)) = refl
+
+-- what a push of the first bytes of a piece that failed says of the piece
+first_gives : (U : Type 0) (kept piece new : List ℕ) (n : ℕ) (a b : Held) (failed : Bool) (e : JoinFault) → n ≤ length piece
+    → Pushes {U = U} Begins rest text kept new a b failed (take n piece) (Err e) → Pushes {U = U} Begins rest text kept new a b failed piece (Err e)
+first_gives U kept piece new n a b failed (Stopped stop) long x = λ going. breaks_first kept piece n a b stop (x going)
+first_gives U kept piece new n a b failed Odd long x = x
+first_gives U kept piece new n a b failed (BadText k) long x = up_to_first kept piece new n a b k long x
+
+-- what a push of what was withheld and the others says of a piece whose first three bytes were taken
+long_gives : {V : Type 0} (kept piece mid new held' : List ℕ) (a b d : Held) (failed failed' : Bool) → failed' ≡ false → (r : Result V JoinFault) → 3 ≤ length piece → held' ≡ mid → length held' ≤ 3 → Begins mid
+    → TakesPiece Begins rest text kept mid a b (take 3 piece)
+    → Pushes Begins rest text [] new b d failed' (take (length piece - (3 - length held')) (drop (3 - length held') piece)) r
+    → Pushes Begins rest text kept new a d failed piece (behind (3 - length held') r)
+long_gives kept piece mid new held' a b d failed failed' going (Ok v) long same le begun x y =
+    subst (λ l. TakesPiece Begins rest text kept new a d l) (take-append-drop 3 piece)
+    (takes_both kept mid new (take 3 piece) (drop 3 piece) a b d x (subst (λ l. TakesPiece Begins rest text [] new b d l) (kept_tail kept piece mid held' same long x.withheld le) y))
+long_gives kept piece mid new held' a b d failed failed' going (Err (Stopped stop)) long same le begun x y = λ _.
+    subst (λ l. Breaks a d (emit rest text (kept ++ l)) stop) (take-append-drop 3 piece)
+    (breaks_both kept mid (take 3 piece) (drop 3 piece) a b d stop x (subst (λ l. Breaks b d (emit rest text l) stop) (kept_tail kept piece mid held' same long x.withheld le) (y going)))
+long_gives kept piece mid new held' a b d failed failed' going (Err Odd) long same le begun x y = y
+long_gives kept piece mid new held' a b d failed failed' going (Err (BadText k)) long same le begun x y =
+    up_to_long kept piece mid new held' a b d k long same le begun x (subst (λ l. TakesUpTo Begins rest text [] new b d l k) (kept_tail kept piece mid held' same long x.withheld le) y)
+
 module _ {W : Type 0} (contents : W → Option (List ℕ)) where
   -- bytes that are withheld, and a piece, taken as one up to a bad byte
   pub pushes_seam : {U : Type 0} (a b : Sink W) (kept piece bytes new : List ℕ) (k : ℕ) → bytes ≡ kept ++ piece → Begins kept
@@ -201,20 +230,11 @@ module _ {W : Type 0} (contents : W → Option (List ℕ)) where
   -- a push of the first bytes of a piece failed
   pub pushes_first : {U : Type 0} (a b : Sink W) (kept piece new : List ℕ) (n : ℕ) (e : JoinFault) → n ≤ length piece
       → PushesPiece {U = U} contents Begins rest text kept new a b (take n piece) (Err e) → PushesPiece {U = U} contents Begins rest text kept new a b piece (Err e)
-  pushes_first a b kept piece new n (Stopped stop) long x = record {
+  pushes_first {U = U} a b kept piece new n e long x = record {
     ready = x.ready;
     same = x.same;
     failed = x.failed;
-    gives = λ going. breaks_first kept piece n (held contents a) (held contents b) stop (x.gives going);
-    begun = x.begun;
-    again = x.again;
-  }
-  pushes_first a b kept piece new n Odd long x = absurd x.gives
-  pushes_first a b kept piece new n (BadText k) long x = record {
-    ready = x.ready;
-    same = x.same;
-    failed = x.failed;
-    gives = up_to_first kept piece new n (held contents a) (held contents b) k long x.gives;
+    gives = first_gives U kept piece new n (held contents a) (held contents b) a.failed e long x.gives;
     begun = x.begun;
     again = x.again;
   }
@@ -231,39 +251,11 @@ module _ {W : Type 0} (contents : W → Option (List ℕ)) where
       → PushesPiece contents Begins rest text kept mid a b (take 3 piece) (Ok u)
       → PushesPiece contents Begins rest text [] new b d (take (length piece - (3 - length held')) (drop (3 - length held') piece)) r
       → PushesPiece contents Begins rest text kept new a d piece (behind (3 - length held') r)
-  pushes_long a b d kept piece mid new held' u (Ok v) long same le x y =
-      let tail = kept_tail kept piece mid held' same long x.gives.withheld le in
-      record {
-        ready = y.ready;
-        same = same_sink_after a b d x.same y.same;
-        failed = y.failed;
-        gives = subst (λ l. TakesPiece Begins rest text kept new (held contents a) (held contents d) l) (take-append-drop 3 piece)
-            (takes_both kept mid new (take 3 piece) (drop 3 piece) (held contents a) (held contents b) (held contents d) x.gives
-            (subst (λ l. TakesPiece Begins rest text [] new (held contents b) (held contents d) l) tail y.gives));
-        begun = y.begun;
-        again = λ failed. absurd (cc ((x.again failed).0));
-      }
-  pushes_long a b d kept piece mid new held' u (Err (Stopped stop)) long same le x y =
-      let tail = kept_tail kept piece mid held' same long x.gives.withheld le in
-      record {
-        ready = y.ready;
-        same = same_sink_after a b d x.same y.same;
-        failed = y.failed;
-        gives = λ going. subst (λ l. Breaks (held contents a) (held contents d) (emit rest text (kept ++ l)) stop) (take-append-drop 3 piece)
-            (breaks_both kept mid (take 3 piece) (drop 3 piece) (held contents a) (held contents b) (held contents d) stop x.gives
-            (subst (λ l. Breaks (held contents b) (held contents d) (emit rest text l) stop) tail (y.gives x.failed)));
-        begun = y.begun;
-        again = λ failed. absurd (cc ((x.again failed).0));
-      }
-  pushes_long a b d kept piece mid new held' u (Err Odd) long same le x y = absurd y.gives
-  pushes_long a b d kept piece mid new held' u (Err (BadText k)) long same le x y =
-      let tail = kept_tail kept piece mid held' same long x.gives.withheld le in
-      record {
-        ready = y.ready;
-        same = same_sink_after a b d x.same y.same;
-        failed = y.failed;
-        gives = up_to_long kept piece mid new held' (held contents a) (held contents b) (held contents d) k long same le x.begun x.gives
-            (subst (λ l. TakesUpTo Begins rest text [] new (held contents b) (held contents d) l k) tail y.gives);
-        begun = y.begun;
-        again = λ failed. absurd (cc ((x.again failed).0));
-      }
+  pushes_long a b d kept piece mid new held' u r long same le x y = record {
+    ready = y.ready;
+    same = same_sink_after a b d x.same y.same;
+    failed = y.failed ∙ sym (stopped_behind (3 - length held') r);
+    gives = long_gives kept piece mid new held' (held contents a) (held contents b) (held contents d) a.failed b.failed x.failed r long same le x.begun x.gives y.gives;
+    begun = y.begun;
+    again = λ failed. absurd (cc ((x.again failed).0));
+  }

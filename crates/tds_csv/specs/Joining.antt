@@ -17,19 +17,21 @@ emit rest text bytes = text (settled rest bytes)
 pub record JoinsPieces (fit begins : List ℕ → Type 0) (rest text : List ℕ → List ℕ) : Type 0 where
   -- a piece adds the text of the rest followed by the piece
   pub emits : (a b : List ℕ) → begins (a ++ b) → emit rest text (a ++ b) ≡ emit rest text a ++ emit rest text (rest a ++ b)
-  -- and leaves the rest of both
+  -- what is withheld then is the rest of the rest followed by the piece
   pub keeps : (a b : List ℕ) → begins (a ++ b) → rest (a ++ b) ≡ rest (rest a ++ b)
   -- three bytes hold what is withheld
   pub short : (bytes : List ℕ) → begins bytes → length (rest bytes) ≤ 3
   -- at the end the text of the rest completes the text
   pub ends : (bytes : List ℕ) → fit bytes → text bytes ≡ emit rest text bytes ++ text (rest bytes)
-  -- and the rest tells whether the bytes are fit
+  -- the rest of fit bytes is fit
   pub fit_rest : (bytes : List ℕ) → fit bytes → fit (rest bytes)
+  -- bytes that begin some fit ones, and whose rest is fit, are fit
   pub fit_whole : (bytes : List ℕ) → begins bytes → fit (rest bytes) → fit bytes
   -- what begins, began at each moment before
   pub front : (a b : List ℕ) → begins (a ++ b) → begins a
-  -- and what follows the rest may follow the whole, and the other way round
+  -- what may follow the whole may follow the rest
   pub inward : (a b : List ℕ) → begins (a ++ b) → begins (rest a ++ b)
+  -- what may follow the rest may follow the whole
   pub outward : (a b : List ℕ) → begins (rest a ++ b) → begins (a ++ b)
 
 -- the fixed text of some bytes is `out` and then that of others, after which as much is withheld

@@ -11,11 +11,12 @@ use Rattle.tds_csv.specs.Quoting.{doubled}
 use Rattle.tds_csv.specs.Utf16.{units, is_high, IsFit, text, rest}
 use Rattle.tds_csv.specs.JoiningLemmas.{doubled-append, settled_front}
 
--- the first unit is a low surrogate, or a high one
+-- the first unit is a low surrogate
 unfoldable pub starts_low : List ℕ → Bool
 starts_low [] = false
 starts_low (u ∷ us) = is_low_surrogate u
 
+-- the first unit is a high surrogate
 abbrev starts_high : List ℕ → Bool
 starts_high [] = false
 starts_high (u ∷ us) = is_high_surrogate u
@@ -215,6 +216,7 @@ even_front (low ∷ high ∷ []) = elim (is_high low high) as (λ t. length (con
 even_front (low ∷ high ∷ odd ∷ []) = elim (is_high low high) as (λ t. length (cond t [] (low ∷ high ∷ [])) % 2 ≡ 0) [ true ↦ refl | false ↦ refl ]
 even_front (low ∷ high ∷ low' ∷ high' ∷ bytes) = let e = even_front (low' ∷ high' ∷ bytes) in omega (arith, e)
 
+-- text in UTF-16 may come in pieces
 pub joins_utf16 : JoinsPieces IsFit (λ _. ⊤) rest text
 joins_utf16 = record {
   emits = λ a b _. emits a b;

@@ -11,6 +11,7 @@ use Rattle.tds_csv.specs.Joining.{JoinsPieces, emit}
 use Rattle.tds_csv.specs.Utf8.{IsFit, Begins, rest, text}
 use Rattle.tds_csv.specs.JoiningLemmas.{doubled-append, settled_front}
 
+-- the two sides of a test
 pub both : (x y : Bool) → (x && y) ≡ true → (x ≡ true) × (y ≡ true)
 both true y h = (refl, h)
 both false y h = cc
@@ -35,6 +36,7 @@ longest_up_to bs (suc n) m below within u =
           (cases_lt m (suc n))
     ] refl below
 
+-- the whole characters at the front
 unfoldable pub front : List ℕ → List ℕ
 front bs = take (utf8_valid_len bs) bs
 
@@ -180,6 +182,7 @@ inward a b h = (h.0, after_text (front a) ((rest a ++ b) ++ h.0) (front_is a) (s
 outward : (a b : List ℕ) → Begins (rest a ++ b) → Begins (a ++ b)
 outward a b h = (h.0, subst IsUtf8 (sym (seam a b h.0)) (IsUtf8-append (front a) ((rest a ++ b) ++ h.0) (front_is a) h.1))
 
+-- text in UTF-8 may come in pieces
 pub joins_utf8 : JoinsPieces IsFit Begins rest text
 joins_utf8 = record {
   emits = λ a b _. emits a b;

@@ -20,7 +20,7 @@ use tds_packet::Stop;
 /// Why a joiner stopped.
 #[derive(Debug, Clone, Copy, PartialEq, Eq)]
 pub enum JoinFault {
-    /// The sink stopped. What is withheld isn't fixed.
+    /// The sink stopped. What is withheld then isn't fixed, but some data begins so.
     Stopped(Stop),
     /// An odd byte is withheld at the end. Nothing was put, and it stays withheld.
     Odd,

@@ -8,6 +8,7 @@ use crate::convert::lanes::LANES;
 use crate::convert::lanes_utf16::UNITS;
 use std::simd::prelude::*;
 
+// A byte.
 #[inline(always)]
 fn put_byte(to: &mut [u8], at: usize, byte: u8) -> usize
     requires { at < length to.old }

@@ -48,6 +48,7 @@ impl<const N: usize> Run<N> {
         self.len = 0;
     }
 
+    // Adds a piece for which there is room.
     pub(crate) fn extend(&mut self, piece: &[u8])
         requires { length self.old + length piece.now ≤ N }
         ensures { self.new ≡ self.old ++ piece.now }
@@ -71,6 +72,7 @@ impl<const N: usize> Run<N> {
         self.len += n;
     }
 
+    // Adds a byte.
     fn push(&mut self, byte: u8)
         requires { length self.old < N }
         ensures { self.new ≡ self.old ++ byte ∷ [] }

@@ -30,12 +30,14 @@ fn unit(bytes: &[u8], at: usize) -> u32
     u32::from(bytes[at]) + 256 * u32::from(bytes[at + 1])
 }
 
+// Whether a unit is a high surrogate, the first of a pair.
 fn is_high(unit: u32) -> bool
     ensures { result ≡ is_high_surrogate unit }
 {
     0xD800 <= unit && unit < 0xDC00
 }
 
+// Whether a unit is a low surrogate, the second of a pair.
 fn is_low(unit: u32) -> bool
     ensures { result ≡ is_low_surrogate unit }
 {

@@ -6,7 +6,7 @@ ghost use Rattle.tds_csv.specs.Quoting.{doubled};
 ghost use Rattle.tds_csv.specs.Utf8 as utf8;
 ghost use Rattle.tds_csv.specs.Utf8Scan.{StopsAt};
 
-// How many of the first bytes are whole characters, and how many begin a text.
+// What is found in bytes: so many of the first are whole characters, and so many begin a text.
 #[derive(Clone, Copy)]
 pub(crate) struct Scan {
     pub(crate) whole: usize,
@@ -24,6 +24,7 @@ fn good_of(first: u8, len: usize) -> usize
     }
 }
 
+// How many of the first bytes are whole characters, and how many begin a text.
 pub(crate) fn scan_text(bytes: &[u8]) -> Scan
     ensures within { result.whole ≤ length bytes.now }
     ensures order { result.whole ≤ result.good }
