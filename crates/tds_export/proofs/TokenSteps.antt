@@ -139,7 +139,7 @@ row_next charset room tokens at element n =
     let some : 0 < row_size at = omega (arith, n.some, n.whole) in
     (record { some = n.some; whole = n.whole ∙ sym (inside.size at some); free = inside.fault at element some ∙ n.free }, inside.add at element some)
 
-pub row_breaks : (charset : Charset) (room : ℕ) (columns : List Column) (area : Space) (before after : Held) (tokens : List Token) (a b : Seen) (at : RowPart) (stop : Stop) → IsHolding area (behind tokens)
+row_breaks : (charset : Charset) (room : ℕ) (columns : List Column) (area : Space) (before after : Held) (tokens : List Token) (a b : Seen) (at : RowPart) (stop : Stop) → IsHolding area (behind tokens)
     → BreaksStreaming (row charset) row_so_far (row_start charset columns) a b before after at stop
     → StopsInWriting (response charset room) (in_row charset columns tokens) a b before after area stop
 row_breaks charset room columns area before after tokens a b at stop holds x =
