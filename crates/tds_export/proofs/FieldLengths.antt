@@ -73,7 +73,7 @@ doubled_most (b ∷ bytes) =
     omega arith
 
 -- four bytes for each byte
-pub conversion_length : (c : Conversion) (bytes : List ℕ) → length (conversion_text c bytes) ≤ 4 * length bytes
+conversion_length : (c : Conversion) (bytes : List ℕ) → length (conversion_text c bytes) ≤ 4 * length bytes
 conversion_length HexDigits bytes = omega (arith, length-encode_with lower_digits bytes)
 conversion_length Utf16Text bytes =
     let a : length (doubled (encode_utf8_all (utf16_lossy_chars (utf16.units bytes)))) ≤ 4 * length (utf16_lossy_chars (utf16.units bytes)) = characters_length (utf16_lossy_chars (utf16.units bytes)) in
@@ -88,7 +88,7 @@ conversion_length Windows1252Text bytes =
 conversion_length Utf8Text bytes = omega (arith, doubled_most bytes)
 
 -- nor is the fixed text longer
-pub emit_length : (c : Conversion) (bytes : List ℕ) → length (emit (conversion_rest c) (conversion_text c) bytes) ≤ 4 * length bytes
+emit_length : (c : Conversion) (bytes : List ℕ) → length (emit (conversion_rest c) (conversion_text c) bytes) ≤ 4 * length bytes
 emit_length c bytes =
     let n : ℕ = length bytes - length (conversion_rest c bytes) in
     let a : length (conversion_text c (take n bytes)) ≤ 4 * length (take n bytes) = conversion_length c (take n bytes) in

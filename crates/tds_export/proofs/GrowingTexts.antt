@@ -37,7 +37,7 @@ pub grows_under : (x a b : List ℕ) → Grows a b → Grows (x ++ a) (x ++ b)
 grows_under x a b h = (h.0, append_assoc x a h.0 ∙ ap (λ v. x ++ v) h.1)
 
 -- a text that ends more
-pub grows_by : (a b : List ℕ) → Grows a (a ++ b)
+grows_by : (a b : List ℕ) → Grows a (a ++ b)
 grows_by a b = (b, refl)
 
 -- a comma and more behind a field
@@ -52,19 +52,19 @@ joined_more (f ∷ []) (g ∷ gs) = comma f (joined (g ∷ gs))
 joined_more (f ∷ h ∷ fs) gs = grows_under (f ++ codes ",") (joined (h ∷ fs)) (joined (h ∷ (fs ++ gs))) (joined_more (h ∷ fs) gs)
 
 -- more of the last field
-pub joined_last : (fs : List (List ℕ)) (a b : List ℕ) → Grows a b → Grows (joined (fs ++ a ∷ [])) (joined (fs ++ b ∷ []))
+joined_last : (fs : List (List ℕ)) (a b : List ℕ) → Grows a b → Grows (joined (fs ++ a ∷ [])) (joined (fs ++ b ∷ []))
 joined_last [] a b h = h
 joined_last (f ∷ []) a b h = grows_under (f ++ codes ",") a b h
 joined_last (f ∷ g ∷ fs) a b h = grows_under (f ++ codes ",") (joined (g ∷ (fs ++ a ∷ []))) (joined (g ∷ (fs ++ b ∷ []))) (joined_last (g ∷ fs) a b h)
 
 -- the text of a field that may not be there yet
-abbrev pub OptionGrows : Option (List ℕ) → Option (List ℕ) → Type 0
+abbrev OptionGrows : Option (List ℕ) → Option (List ℕ) → Type 0
 OptionGrows None b = Unit {0}
 OptionGrows (Some a) None = ⊥
 OptionGrows (Some a) (Some b) = Grows a b
 
 -- more of the field that is read
-pub with_field_grows : (cells : List Cell) (a b : Option (List ℕ)) → OptionGrows a b → Grows (joined (with_field cells a)) (joined (with_field cells b))
+with_field_grows : (cells : List Cell) (a b : Option (List ℕ)) → OptionGrows a b → Grows (joined (with_field cells a)) (joined (with_field cells b))
 with_field_grows cells None None h = grows_same (joined (map field cells))
 with_field_grows cells None (Some b) h = joined_more (map field cells) (b ∷ [])
 with_field_grows cells (Some a) None h = absurd h
@@ -81,7 +81,7 @@ ends_by_name : (c : Conversion) (a : List ℕ) → is_fit c a ≡ true → Grows
 ends_by_name c a h = (conversion_text c (conversion_rest c a), sym ((joins_by_name c).ends a ((fit_by_test c a).0 h)))
 
 -- more data
-pub open_grows : (c : Conversion) (a b : List ℕ) → is_begun c (a ++ b) ≡ true → Grows (open_field c a) (open_field c (a ++ b))
+open_grows : (c : Conversion) (a b : List ℕ) → is_begun c (a ++ b) ≡ true → Grows (open_field c a) (open_field c (a ++ b))
 open_grows HexDigits a b h = grows_under binary_mark (emit (conversion_rest HexDigits) (conversion_text HexDigits) a) (emit (conversion_rest HexDigits) (conversion_text HexDigits) (a ++ b)) (emits_by_name HexDigits a b h)
 open_grows Utf16Text a b h = grows_under (quote ∷ []) (emit (conversion_rest Utf16Text) (conversion_text Utf16Text) a) (emit (conversion_rest Utf16Text) (conversion_text Utf16Text) (a ++ b)) (emits_by_name Utf16Text a b h)
 open_grows Windows1252Text a b h = grows_under (quote ∷ []) (emit (conversion_rest Windows1252Text) (conversion_text Windows1252Text) a) (emit (conversion_rest Windows1252Text) (conversion_text Windows1252Text) (a ++ b)) (emits_by_name Windows1252Text a b h)
@@ -92,7 +92,7 @@ closing : (x a b : List ℕ) → Grows a b → Grows (x ++ a) (x ++ (b ++ quote 
 closing x a b h = grows_under x a (b ++ quote ∷ []) (grows_trans a b (b ++ quote ∷ []) h (grows_by b (quote ∷ [])))
 
 -- the end of the data
-pub long_grows : (c : Conversion) (a : List ℕ) → is_fit c a ≡ true → Grows (open_field c a) (long_field c a)
+long_grows : (c : Conversion) (a : List ℕ) → is_fit c a ≡ true → Grows (open_field c a) (long_field c a)
 long_grows HexDigits a h = grows_under binary_mark (emit (conversion_rest HexDigits) (conversion_text HexDigits) a) (conversion_text HexDigits a) (ends_by_name HexDigits a h)
 long_grows Utf16Text a h = closing (quote ∷ []) (emit (conversion_rest Utf16Text) (conversion_text Utf16Text) a) (conversion_text Utf16Text a) (ends_by_name Utf16Text a h)
 long_grows Windows1252Text a h = closing (quote ∷ []) (emit (conversion_rest Windows1252Text) (conversion_text Windows1252Text) a) (conversion_text Windows1252Text a) (ends_by_name Windows1252Text a h)
@@ -133,7 +133,7 @@ end_fit column c total content n h z =
 
 module _ (column : ℕ) where
   -- each element of a cell adds to its text
-  pub cell_grows : (p : CellPart) (e : List ℕ) → IsNext (cell column) p e → OptionGrows (field_so_far p) (field_so_far (cell_add p e))
+  cell_grows : (p : CellPart) (e : List ℕ) → IsNext (cell column) p e → OptionGrows (field_so_far p) (field_so_far (cell_add p e))
   cell_grows (ScalarBytes k i) e n = tt
   cell_grows (ScalarLength k) e n = tt
   cell_grows (ShortLength c) e n = tt
@@ -163,7 +163,7 @@ one_more_field cells c = map-append field cells (c ∷ [])
 
 module _ (charset : Charset) where
   -- the cells to come begin
-  pub next_grows : (cells : List Cell) (ks : List (Column × Bool)) → Grows (joined (map field cells)) (row_so_far (next_cell charset cells ks))
+  next_grows : (cells : List Cell) (ks : List (Column × Bool)) → Grows (joined (map field cells)) (row_so_far (next_cell charset cells ks))
   next_grows cells [] = grows_by (joined (map field cells)) line_end
   next_grows cells ((k, true) ∷ ks) =
       grows_trans (joined (map field cells)) (joined (map field (cells ++ Null ∷ []))) (row_so_far (next_cell charset (cells ++ Null ∷ []) ks))

@@ -27,8 +27,8 @@ not_rose : (before after : ℕ) → before < 2 ^ 64 - 1 → after ≡ before →
 not_rose before after h e (inl x) = omega (arith, x, e)
 not_rose before after h e (inr x) = omega (arith, h, x.0)
 
-pub calm : (given : Given) (report : Report) → Reports given report → (Rose given.read_failures_before given.read_failures → ⊥) × (Rose given.write_failures_before given.write_failures → ⊥)
-calm given report x =
+pub no_failure : (given : Given) (report : Report) → Reports given report → (Rose given.read_failures_before given.read_failures → ⊥) × (Rose given.write_failures_before given.write_failures → ⊥)
+no_failure given report x =
     let t = x.completes.whole.takes in
     let p = x.completes.whole.puts.2 in
     let f = x.completes.finishes in

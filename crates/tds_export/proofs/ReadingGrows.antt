@@ -215,11 +215,11 @@ module _ (charset : Charset) (room : ℕ) where
   part_span tokens DoneInProcFields e n = token_span tokens (DoneInProc (more e)) 0 (omega arith)
 
   -- each element adds to the text so far
-  pub text_grows : (p : Part) (e : List ℕ) → IsNext (response charset room) p e → (more : List ℕ) × (text_so_far p ++ more ≡ text_so_far ((response charset room).add p e))
+  text_grows : (p : Part) (e : List ℕ) → IsNext (response charset room) p e → (more : List ℕ) × (text_so_far p ++ more ≡ text_so_far ((response charset room).add p e))
   text_grows p e n = part_grows p.tokens p.at e n
 
   -- and to the greatest span
-  pub span_grows : (p : Part) (e : List ℕ) → IsNext (response charset room) p e → span_so_far p ≤ span_so_far ((response charset room).add p e)
+  span_grows : (p : Part) (e : List ℕ) → IsNext (response charset room) p e → span_so_far p ≤ span_so_far ((response charset room).add p e)
   span_grows p e n = part_span p.tokens p.at e n
 
   -- all elements add to the text

@@ -88,7 +88,7 @@ module _ (charset : Charset) (room : ℕ) where
       add (WholeRow cells) e h = absurd (omega arith)
 
   -- a return value is read in its response as by itself
-  pub return_in_response : (tokens : List Token) → Inside return_value (response charset room) (with_return tokens)
+  return_in_response : (tokens : List Token) → Inside return_value (response charset room) (with_return tokens)
   return_in_response tokens = record { size = size; fault = fault; add = add }
     where
       size : (p : ReturnPart) → 0 < return_value.size p → (response charset room).size (with_return tokens p) ≡ return_value.size p
@@ -162,7 +162,7 @@ module _ (charset : Charset) (room : ℕ) where
       subst (λ v. Spelt (response charset room) (between_tokens tokens) v (with_token tokens (Row cells))) (sym h.0) (byte_then tokens 0xD2 (with_row tokens (nbc_row_start columns)) rest (with_token tokens (Row cells)) one row_part)
 
   -- what spells a token is read as it
-  pub token_is_read : (tokens : List Token) (t : Token) (bytes : List ℕ) → HasColumns (described_after None tokens) → SpellsToken charset room (described_after None tokens) t bytes → Spelt (response charset room) (between_tokens tokens) bytes (with_token tokens t)
+  token_is_read : (tokens : List Token) (t : Token) (bytes : List ℕ) → HasColumns (described_after None tokens) → SpellsToken charset room (described_after None tokens) t bytes → Spelt (response charset room) (between_tokens tokens) bytes (with_token tokens t)
   token_is_read tokens (Metadata encoded columns) bytes some h =
       subst (λ v. Spelt (response charset room) (between_tokens tokens) v (with_token tokens (Metadata encoded columns))) (sym h.0)
       (byte_then tokens 0x81 (at_part tokens (Describing BeforeCount)) encoded (with_token tokens (Metadata encoded columns))
@@ -233,7 +233,7 @@ module _ (charset : Charset) (room : ℕ) where
   next_HasColumns current (Done c) bytes some h = some
   next_HasColumns current (DoneInProc c) bytes some h = some
 
-  pub tokens_are_read : (before : List Token) (current : Option (List Column)) (ts : List Token) (bytes : List ℕ) → described_after None before ≡ current → HasColumns current → SpellsTokens charset room current ts bytes → Spelt (response charset room) (between_tokens before) bytes (between_tokens (before ++ ts))
+  tokens_are_read : (before : List Token) (current : Option (List Column)) (ts : List Token) (bytes : List ℕ) → described_after None before ≡ current → HasColumns current → SpellsTokens charset room current ts bytes → Spelt (response charset room) (between_tokens before) bytes (between_tokens (before ++ ts))
   tokens_are_read before current [] bytes is some h =
       subst (λ v. Spelt (response charset room) (between_tokens before) v (between_tokens (before ++ []))) (sym h)
       (subst (λ v. Spelt (response charset room) (between_tokens before) [] (between_tokens v)) (sym (append-nil before)) (Spelt-none (response charset room) (between_tokens before)))

@@ -95,7 +95,7 @@ notice_spelt body h =
       line = (long body la 4 (omega arith), refl);
     }
 
-abbrev pub body_byte : Bodied → ℕ
+abbrev body_byte : Bodied → ℕ
 body_byte AnOrder = 0xA9
 body_byte AnEnvChange = 0xE3
 body_byte AnError = 0xAA
@@ -141,11 +141,11 @@ module _ (charset : Charset) (room : ℕ) where
     pub before : SpellsTokens charset room None tokens front
     pub behind : P rest
 
-  abbrev pub row_byte : Bool → ℕ
+  abbrev row_byte : Bool → ℕ
   row_byte false = 0xD1
   row_byte true = 0xD2
 
-  abbrev pub OpenMeans : List Token → Open → List ℕ → Type 0
+  abbrev OpenMeans : List Token → Open → List ℕ → Type 0
   OpenMeans tokens Between b = SpellsTokens charset room None tokens b
   OpenMeans tokens (Describing d) b = Behind tokens 0x81 (λ rest. DescribedMeans room d rest) b
   OpenMeans tokens (InRow part) b = (columns : List Column) × (nbc : Bool) × (described_after None tokens ≡ Some columns) × Behind tokens (row_byte nbc) (λ rest. RowMeans charset columns nbc part rest) b
@@ -156,7 +156,7 @@ module _ (charset : Charset) (room : ℕ) where
   OpenMeans tokens DoneFields b = (byte : ℕ) × ((byte ≡ 0xFD) ⊎ (byte ≡ 0xFE)) × Behind tokens byte (λ rest. rest ≡ []) b
   OpenMeans tokens DoneInProcFields b = Behind tokens 0xFF (λ rest. rest ≡ []) b
 
-  abbrev pub PartMeans : Part → List ℕ → Type 0
+  abbrev PartMeans : Part → List ℕ → Type 0
   PartMeans p b = OpenMeans p.tokens p.at b
 
   token_means : (tokens : List Token) (t : Token) (front : List ℕ) (byte : ℕ) (rest b : List ℕ) → b ≡ front ++ byte ∷ rest → SpellsTokens charset room None tokens front → SpellsToken charset room (described_after None tokens) t (byte ∷ rest) → PartMeans (with_token tokens t) b
@@ -225,7 +225,7 @@ module _ (charset : Charset) (room : ℕ) where
   body_means tokens AnInfo body rest b front e h s f = token_means tokens (Info (notice_of body)) front 0xAB rest b e h (rest, body, refl, s, notice_spelt body (held (holds_notice body) f))
 
   -- each element keeps the meaning
-  pub part_step : (tokens : List Token) (at : Open) (b e : List ℕ) → AreBytes e → OpenMeans tokens at b → IsNext (response charset room) (record { tokens = tokens; at = at }) e → PartMeans (part_add charset tokens at e) (b ++ e)
+  part_step : (tokens : List Token) (at : Open) (b e : List ℕ) → AreBytes e → OpenMeans tokens at b → IsNext (response charset room) (record { tokens = tokens; at = at }) e → PartMeans (part_add charset tokens at e) (b ++ e)
   part_step tokens Between b e bytes h n =
       let x = one_byte e n.whole in
       let at : slice_index e 0 ≡ x.0 = ap (λ v. slice_index v 0) x.1 in
@@ -278,7 +278,7 @@ module _ (charset : Charset) (room : ℕ) where
   part_keeps : (p : Part) (b e : List ℕ) → (AreBytes b → PartMeans p b) → IsNext (response charset room) p e → AreBytes (b ++ e) → PartMeans (part_add charset p.tokens p.at e) (b ++ e)
   part_keeps p b e h n bytes = part_step p.tokens p.at b e (AreBytes-back b e bytes) (h (AreBytes-front b e bytes)) n
 
-  pub part_is_spelt : (bytes : List ℕ) (p : Part) → AreBytes bytes → Spelt (response charset room) response_start bytes p → PartMeans p bytes
+  part_is_spelt : (bytes : List ℕ) (p : Part) → AreBytes bytes → Spelt (response charset room) response_start bytes p → PartMeans p bytes
   part_is_spelt bytes p are h = Spelt-induct (response charset room) (λ q b. AreBytes b → PartMeans q b) (λ q b e k n. part_keeps q b e k n) response_start (λ t. refl) bytes p h are
 
   -- What is read between tokens, after a final one, is a response.

@@ -23,7 +23,7 @@ use Rattle.tds_export.specs.ReturnValue.{ReturnValue, SpellsReturnName, SpellsRe
 use Rattle.tds_columns.specs.ReturnedType.{return_column}
 
 -- a value is read in its token as by itself
-pub value_in_return : (name : List ℕ) (kind : Kind) → Inside (cell return_column) return_value (with_value name kind)
+value_in_return : (name : List ℕ) (kind : Kind) → Inside (cell return_column) return_value (with_value name kind)
 value_in_return name kind = record { size = size; fault = fault; add = add }
   where
     size : (p : CellPart) → 0 < (cell return_column).size p → return_value.size (with_value name kind p) ≡ (cell return_column).size p

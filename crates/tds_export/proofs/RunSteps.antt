@@ -45,7 +45,7 @@ runs_none charset room a place h progress area d tracks is = record {
   holds = record { bytes = ap (λ (s : Space). s.bytes) is; peak = omega (arith, ap (λ (s : Space). s.peak) is) };
 }
 
-pub runs_more : (g : Grammar Part Fault) (a b c : Seen) (p q r : ℕ) (h i k : Held) (s t : Progress) (area area' : Space) → (x : Runs g a b p q h i s area) → ReadsToken g (behind x.tokens) x.tokens b c q r i k t area' → Runs g a c p r h k t area'
+runs_more : (g : Grammar Part Fault) (a b c : Seen) (p q r : ℕ) (h i k : Held) (s t : Progress) (area area' : Space) → (x : Runs g a b p q h i s area) → ReadsToken g (behind x.tokens) x.tokens b c q r i k t area' → Runs g a c p r h k t area'
 runs_more g a b c p q r h i k s t area area' x y = record {
   tokens = x.tokens ++ y.token ∷ [];
   streams = record {
@@ -73,7 +73,7 @@ pub runs_same : (g : Grammar Part Fault) (a b : Seen) (p q q' : ℕ) (h k k' : H
 runs_same g a b p q q' h k k' s s' area area' e1 e2 e3 e4 x =
     subst (λ v. Runs g a b p v h k' s' area') (sym e1) (subst (λ v. Runs g a b p q h v s' area') (sym e2) (subst (λ v. Runs g a b p q h k v area') (sym e3) (subst (λ v. Runs g a b p q h k s v) (sym e4) x)))
 
-pub stops_after : (charset : Charset) (room : ℕ) (a b c : Seen) (p q : ℕ) (h i k : Held) (s : Progress) (area area' : Space) (failed : Bool) (stop : Stop) → (x : Runs (response charset room) a b p q h i s area)
+stops_after : (charset : Charset) (room : ℕ) (a b c : Seen) (p q : ℕ) (h i k : Held) (s : Progress) (area area' : Space) (failed : Bool) (stop : Stop) → (x : Runs (response charset room) a b p q h i s area)
     → StepStops (response charset room) (behind x.tokens) b c q i k area' failed stop → StepStops (response charset room) response_start a c p h k area' failed stop
 stops_after charset room a b c p q h i k s area area' failed stop x (inl y) = inl (
   record {
@@ -115,7 +115,7 @@ module _ (charset : Charset) (room : ℕ) (a b c : Seen) (p q : ℕ) (h k : Held
       stops_after charset room a b c p q h k k s area area failed (record { fault = EndWithoutDone; place = Payload q }) x
       (inl (record { at = behind x.tokens; stalls = inl cut; puts = same_text (behind x.tokens) (behind x.tokens) k refl d; holds = x.holds }, going))
 
-  abbrev pub reads_whole : s.is_final ≡ true → ReadsWhole (response charset room) response_start a c h k area
+  abbrev reads_whole : s.is_final ≡ true → ReadsWhole (response charset room) response_start a c h k area
   reads_whole final = record {
     tokens = x.tokens;
     bytes = x.streams.bytes;

@@ -242,13 +242,13 @@ module _ (room : ℕ) where
 -- ---- a response
 
 -- what the bytes so far still pay for
-abbrev pub pending : Open → ℕ
+abbrev pending : Open → ℕ
 pending (Describing d) = described_pending d
 pending (InRow part) = row_pending part
 pending at = 0
 
 -- the length of the text so far, and of what is paid for
-abbrev pub grown : Part → ℕ
+abbrev grown : Part → ℕ
 grown p = length (text_so_far p) + pending p.at
 
 -- the length with one more token
@@ -349,7 +349,7 @@ module _ (charset : Charset) (room : ℕ) where
   part_grown tokens DoneInProcFields e bytes n = omega (arith, silent_grown tokens (DoneInProc (more e)) refl)
 
   -- each element pays for what it adds
-  pub grown_more : (p : Part) (e : List ℕ) → AreBytes e → IsNext (response charset room) p e → grown ((response charset room).add p e) ≤ grown p + 64 * length e
+  grown_more : (p : Part) (e : List ℕ) → AreBytes e → IsNext (response charset room) p e → grown ((response charset room).add p e) ≤ grown p + 64 * length e
   grown_more p e bytes n =
       let a : grown (part_add charset p.tokens p.at e) ≤ length (text p.tokens) + length (open_text p.at) + pending p.at + 64 * length e = part_grown p.tokens p.at e bytes n in
       let l : length (text p.tokens ++ open_text p.at) ≡ length (text p.tokens) + length (open_text p.at) = length-append (text p.tokens) (open_text p.at) in
@@ -364,7 +364,7 @@ module _ (charset : Charset) (room : ℕ) where
       sums x y m u v w h k l = omega arith
 
   -- so do all elements between two states
-  pub grown_along : (p q : Part) (bytes : List ℕ) → AreBytes bytes → Spelt (response charset room) p bytes q → grown q ≤ grown p + 64 * length bytes
+  grown_along : (p q : Part) (bytes : List ℕ) → AreBytes bytes → Spelt (response charset room) p bytes q → grown q ≤ grown p + 64 * length bytes
   grown_along p q bytes are h = Spelt-induct (response charset room) (λ r b. AreBytes b → grown r ≤ grown p + 64 * length b) (λ r b e k n. bound_step (grown p) r b e k n) p (λ t. omega arith) bytes q h are
 
   -- the text so far is at most 64 times as long as all that is read

@@ -52,12 +52,12 @@ count_if : (b : Bool) (n m : ℕ) → (if b then 1 + (n + m) else n + m) ≡ (if
 count_if true n m = omega arith
 count_if false n m = refl
 
-pub how_many-snoc : (p : Token → Bool) (ts : List Token) (t : Token) → how_many p (ts ++ t ∷ []) ≡ how_many p ts + how_many p (t ∷ [])
+how_many-snoc : (p : Token → Bool) (ts : List Token) (t : Token) → how_many p (ts ++ t ∷ []) ≡ how_many p ts + how_many p (t ∷ [])
 how_many-snoc p [] t = omega arith
 how_many-snoc p (u ∷ ts) t = ap (λ n. if p u then 1 + n else n) (how_many-snoc p ts t) ∙ count_if (p u) (how_many p ts) (how_many p (t ∷ []))
 
 -- a token that says nothing of errors and statuses
-abbrev pub is_silent : Token → Bool
+abbrev is_silent : Token → Bool
 is_silent (Error n) = false
 is_silent (ReturnStatus n) = false
 is_silent t = true
@@ -92,7 +92,7 @@ pub greatest_span-append : (a b : List Token) → greatest_span (a ++ b) ≡ max
 greatest_span-append [] b = omega arith
 greatest_span-append (t ∷ a) b = omega (arith, greatest_span-append a b)
 
-pub is_final-snoc : (ts : List Token) (t : Token) → is_final (ts ++ t ∷ []) ≡ is_final (t ∷ [])
+is_final-snoc : (ts : List Token) (t : Token) → is_final (ts ++ t ∷ []) ≡ is_final (t ∷ [])
 is_final-snoc [] t = refl
 is_final-snoc (u ∷ []) t = refl
 is_final-snoc (u ∷ v ∷ ts) t = is_final-snoc (v ∷ ts) t

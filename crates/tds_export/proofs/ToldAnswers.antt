@@ -39,7 +39,7 @@ use Rattle.tds_export.proofs.TextBound.{bounded_along}
 use Rattle.tds_export.proofs.ResponseMeaning.{response_is_spelt}
 use Rattle.tds_export.proofs.PacketOutcomes.{ReaderSide, ended_in_payload, kept_at, refused_in_payload, start, stopped_on_wire, unbuilt_in_payload}
 use Rattle.tds_export.proofs.Leading.{rest_leads}
-use Rattle.tds_export.proofs.NoFailures.{calm}
+use Rattle.tds_export.proofs.NoFailures.{no_failure}
 use Rattle.tds_export.proofs.Peaks.{bounded, reached_broken, reached_stalled, reached_whole}
 use Rattle.tds_export.proofs.AcceptedSucceeds.{outcome_succeeds}
 use Rattle.tds_export.proofs.Endings.{rose}
@@ -70,7 +70,7 @@ cut_stops run q area at bytes stop side spelt c holds text =
       | inr y ↦ wire_goes_on run.limits.packet_size run.limits.max_wire run.input x.packets own.fault y.0 e
     ]
 
-pub stalled : (run : Run) (q : Seen) (area : Space) (at : Part) (stop : Stop) → ReaderSide run q area → Stalls (grammar run) is_built response_start (start run) q 0 at stop → IsHolding area at → run.gained ++ run.waiting ≡ text_so_far at → Stops run stop.fault stop.place
+stalled : (run : Run) (q : Seen) (area : Space) (at : Part) (stop : Stop) → ReaderSide run q area → Stalls (grammar run) is_built response_start (start run) q 0 at stop → IsHolding area at → run.gained ++ run.waiting ≡ text_so_far at → Stops run stop.fault stop.place
 stalled run q area at stop side (inl s) holds text = elim s.cause [
   | inl r ↦ subst (Stops run stop.fault) (sym (r.1 ∙ ap Payload (zero (length s.bytes)))) (inl (refused_in_payload run q area at s.bytes stop.fault side s.spelt r.0 holds text))
   | inr c ↦ cut_stops run q area at s.bytes stop side s.spelt c holds text
@@ -467,7 +467,7 @@ report_tells given report x = λ input had are e1 e2.
       none_waits = empty;
       notice = z.1;
       kept = whole.kept;
-      no_failure = calm given report x;
+      no_failure = no_failure given report x;
     } in
     let most = bounded run (behind tokens) are (reached_whole run x.seen (fresh_at given) y.middle given.description y.whole are left.1) y.whole.holds.peak in
     (left.0, d.gained, sym x.reader.left ∙ left.1, d.has, record { outcome = outcome; bounded = most }, outcome_succeeds run (Ok report) outcome)

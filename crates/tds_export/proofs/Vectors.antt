@@ -18,7 +18,7 @@ use Rattle.tds_rows.specs.declared.Charset.{Charset}
 use Rattle.tds_rows.specs.declared.Charset.TheVariants.{Windows1252}
 use Rattle.tds_export.specs.TokenGrammar.{Part, response, response_start, text_so_far}
 
-abbrev pub answer_of : Charset → ℕ → ℕ → Progress Part Fault → ℕ × List ℕ × Option Fault
+abbrev answer_of : Charset → ℕ → ℕ → Progress Part Fault → ℕ × List ℕ × Option Fault
 answer_of charset room n p = (n - length (rest_of p), text_so_far (state_of p), fault_of (response charset room) p)
 
 abbrev pub answer : Charset → ℕ → List ℕ → ℕ × List ℕ × Option Fault

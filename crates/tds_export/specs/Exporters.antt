@@ -78,8 +78,8 @@ abbrev pub Advances : {R W : Type 0} → Exporter R W → Exporter R W → Type 
 Advances old new = old.payload.now.place < new.payload.now.place
 
 -- The next token was read from this state on, behind these tokens, and its text put.
-abbrev pub Reads : Charset → Part → List Token → View → View → Progress → Type 0
-Reads charset from tokens old new progress =
+abbrev pub ReadsNext : Charset → Part → List Token → View → View → Progress → Type 0
+ReadsNext charset from tokens old new progress =
     ReadsToken (response charset old.area.room) from tokens old.seen new.seen old.place new.place old.held new.held progress new.area
 
 -- The reading from this state on stopped.
@@ -99,14 +99,14 @@ pub record FindsEnd {R W : Type 0} (remaining : R → Option (List ℕ)) (old ne
 abbrev pub StepRead : {R W U : Type 0} → (R → Option (List ℕ)) → (W → Option (List ℕ)) → (List Token → Part) → Exporter R W → Exporter R W → Result U Stop → Type 0
 StepRead remaining contents from old new result = (tokens : List Token) → Tracks old.progress tokens → IsHolding old.description.now (behind tokens) →
     MatchResult result
-    (λ _. Reads old.charset (from tokens) tokens (view_of remaining contents old) (view_of remaining contents new) new.progress)
+    (λ _. ReadsNext old.charset (from tokens) tokens (view_of remaining contents old) (view_of remaining contents new) new.progress)
     (λ stop. StopsIn old.charset (from tokens) (view_of remaining contents old) (view_of remaining contents new) stop)
 
 -- The next token was read and its text put, or the message is over; or that stopped: whatever the tokens before it are.
 abbrev pub TokenRead : {R W : Type 0} → (R → Option (List ℕ)) → (W → Option (List ℕ)) → Exporter R W → Exporter R W → Result Bool Stop → Type 0
 TokenRead remaining contents old new result = (tokens : List Token) → Tracks old.progress tokens → IsHolding old.description.now (behind tokens) →
     MatchResult result
-    (λ more. MatchBool more (Reads old.charset (behind tokens) tokens (view_of remaining contents old) (view_of remaining contents new) new.progress) (FindsEnd remaining old new))
+    (λ more. MatchBool more (ReadsNext old.charset (behind tokens) tokens (view_of remaining contents old) (view_of remaining contents new) new.progress) (FindsEnd remaining old new))
     (λ stop. StopsIn old.charset (behind tokens) (view_of remaining contents old) (view_of remaining contents new) stop)
 
 -- A response was read whole, its text delivered and its report answered; or that stopped.
@@ -115,7 +115,7 @@ ResponseRead charset old new result = MatchResult result
     (λ report. Completes (response charset old.area.room) response_start old.seen new.seen old.held new.held report new.area)
     (λ stop. RunStops (response charset old.area.room) response_start old.seen new.seen old.place old.held new.held new.area new.failed stop)
 
--- From its first token on, a run read a response so.
+-- A run that had read nothing read a response whole, delivered its text and answered its report; or that stopped.
 abbrev pub WholeRead : {R W : Type 0} → (R → Option (List ℕ)) → (W → Option (List ℕ)) → Exporter R W → Exporter R W → Result Report Stop → Type 0
 WholeRead remaining contents old new result = Tracks old.progress [] → old.description.now ≡ empty old.description.now.room →
     ResponseRead old.charset (view_of remaining contents old) (view_of remaining contents new) result

@@ -38,15 +38,15 @@ pub record Given : Type 0 where
   pub write_failures : ℕ
   pub write_failures_before : ℕ
 
--- how the response is read
+-- how the response of an export is read
 abbrev pub grammar_of : Given → Grammar Part Fault
 grammar_of given = response given.charset given.limits.column_room
 
--- the payload before the first packet
+-- the payload of an export before the first packet
 abbrev pub begun_at : Given → Seen
 begun_at given = begun given.limits.packet_size given.limits.max_wire given.input given.read_failures_before
 
--- the sink before the first byte of text
+-- the sink of an export before the first byte of text
 abbrev pub fresh_at : Given → Held
 fresh_at given = fresh given.had given.write_failures_before
 
@@ -74,7 +74,7 @@ pub record Reports (given : Given) (report : Report) : Type 0 where
   pub completes : Completes (grammar_of given) response_start (begun_at given) seen (fresh_at given) held report given.description
   pub notice : given.notice ≡ error_text completes.whole.tokens
 
--- what an export answers that stopped so, where the sink is left so
+-- the answer of an export that stopped, where the sink is left in this state
 abbrev pub stopped_with : Stop → Held → Stopped
 stopped_with stop held = record { fault = stop.fault; place = stop.place; written = held.delivered; unwritten = length held.waiting }
 
@@ -157,7 +157,7 @@ given_of charset before after = record {
   write_failures_before = before.writer.failures;
 }
 
--- An export answered so between two moments.
+-- Between two moments an export gave this answer: it says what was read and written, and a device is blamed only where its count of failures rose.
 pub record Exports (charset : Charset) (before after : Moment) (result : Result Report Stopped) : Type 0 where
   pub gives : MatchResult result (Reports (given_of charset before after)) (StopsExport (given_of charset before after))
   pub tells : Tells (given_of charset before after) result

@@ -112,7 +112,7 @@ pub record Reported (run : Run) (report : Report) : Type 0 where
   pub kept : run.description ≡ encoded_after [] tokens
   pub no_failure : (Rose run.read_failures_before run.read_failures → ⊥) × (Rose run.write_failures_before run.write_failures → ⊥)
 
--- Stopped in the payload: an element is refused, or the message ends where it may not.
+-- A run stopped in the payload: an element is refused, or the message ends where it may not.
 pub record StopsInPayload (run : Run) (fault : Fault) (place : ℕ) : Type 0 where
   pub packets : List Packet
   pub part : Part
@@ -124,7 +124,7 @@ pub record StopsInPayload (run : Run) (fault : Fault) (place : ℕ) : Type 0 whe
   pub written : run.gained ++ run.waiting ≡ text_so_far part
   pub kept : Keeps run packets place part
 
--- Stopped in the payload: the next element is one that isn't built yet.
+-- A run stopped in the payload: the next element is one that isn't built yet.
 pub record StopsUnbuilt (run : Run) (place : ℕ) : Type 0 where
   pub packets : List Packet
   pub part : Part
@@ -136,7 +136,7 @@ pub record StopsUnbuilt (run : Run) (place : ℕ) : Type 0 where
   pub written : run.gained ++ run.waiting ≡ text_so_far part
   pub kept : Keeps run packets place part
 
--- Stopped on the wire, behind whole packets: as if the input had these packets alone.
+-- A run stopped on the wire, behind whole packets: as if the input had these packets alone.
 pub record StopsOnWire (run : Run) (fault : Fault) (taken : ℕ) : Type 0 where
   pub packets : List Packet
   pub rest : List ℕ
@@ -159,7 +159,7 @@ IsNeeded run packets =
     ⊎ ((before : List Packet) × (last : Packet) × (place : ℕ) × (earlier : Part) × (before ++ last ∷ [] ≡ packets) × Reads run before place earlier
     × (length (run.gained ++ run.waiting) ≡ 4096 * (length run.gained / 4096 + 1)) × (length (text_so_far earlier) < length (run.gained ++ run.waiting)))
 
--- Stopped by the writer.
+-- A run was stopped by the writer.
 pub record StopsInText (run : Run) (fault : Fault) (written : ℕ) : Type 0 where
   pub packets : List Packet
   pub place : ℕ
@@ -180,7 +180,7 @@ Stops run fault (Payload place) = StopsInPayload run fault place ⊎ ((fault ≡
 Stops run fault (Wire taken) = StopsOnWire run fault taken
 Stops run fault (Text written) = StopsInText run fault written
 
--- What every stop leaves.
+-- A run stopped, and this is what every stop leaves.
 pub record AfterStop (run : Run) (stopped : Stopped) : Type 0 where
   pub stop : Stops run stopped.fault stopped.place
   pub written : stopped.written ≡ length run.gained
@@ -202,7 +202,7 @@ pub record Bounded (run : Run) : Type 0 where
   pub leads : Reads run packets place part
   pub description : run.description_peak ≤ span_so_far part
 
--- What an export answers and leaves.
+-- A run answered and left this, and kept the bound on its descriptions.
 pub record Answer (run : Run) (result : Result Report Stopped) : Type 0 where
   pub outcome : Outcome run result
   pub bounded : Bounded run

@@ -15,7 +15,7 @@ pub record ReturnValue : Type 0 where
   pub kind : Kind
   pub value : Cell
 
--- The bytes are an ordinal and the name.
+-- The bytes are the ordinal and the name of a return value.
 pub record SpellsReturnName (name bytes : List ℕ) : Type 0 where
   pub ordinal : List ℕ
   pub units : ℕ
@@ -51,7 +51,7 @@ pub data ReturnPart : Type 0 where
   -- all of it
   WholeReturn : ReturnValue → ReturnPart
 
--- a value in its token: once whole, the token is whole
+-- a return value in whose value this is read: once that is whole, all of it is
 abbrev pub with_value : List ℕ → Kind → CellPart → ReturnPart
 with_value name kind (WholeCell c) = WholeReturn (record { name = name; kind = kind; value = c })
 with_value name kind part = InReturnCell name kind part
@@ -79,7 +79,7 @@ return_size (ReturnInfo name byte) = unwrap_or (rest_length byte) 0
 return_size (InReturnCell name kind part) = cell_size part
 return_size (WholeReturn r) = 0
 
--- the fault of that element, if it has one
+-- the fault of the next element of a return value, if it has one
 abbrev pub return_fault : ReturnPart → List ℕ → Option Fault
 return_fault (ReturnHead name) element = type_fault return_column (slice_index element 7) (rest_length (slice_index element 7))
 return_fault (ReturnInfo name byte) element = if is_some (kind_of (byte ∷ element)) then None else Some (BadTypeInfo return_column)

@@ -90,7 +90,7 @@ pub record StopsInReading (g : Grammar Part Fault) (from : Part) (old new : Seen
   pub puts : PutsText text_so_far from at before after
   pub holds : IsHolding area at
 
--- It stopped in writing the text of an element.
+-- A call inside an export stopped in writing the text of an element.
 pub record StopsInWriting (g : Grammar Part Fault) (from : Part) (old new : Seen) (before after : Held) (area : Space) (stop : Stop) : Type 0 where
   pub at : Part
   pub breaks : BreaksStreaming g text_so_far from old new before after at stop

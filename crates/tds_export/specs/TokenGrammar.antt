@@ -67,7 +67,7 @@ abbrev pub with_return : List Token → ReturnPart → Part
 with_return tokens (WholeReturn r) = with_token tokens (Returned r)
 with_return tokens part = record { tokens = tokens; at = InReturn part }
 
--- a row begins under the columns, where there are any
+-- a row that begins under the columns that are described, if there are any
 abbrev pub start_of_row : List Token → (List Column → RowPart) → Option (List Column) → Part
 start_of_row tokens start None = record { tokens = tokens; at = Between }
 start_of_row tokens start (Some columns) = with_row tokens (start columns)
@@ -96,7 +96,7 @@ is_token_byte byte = (byte == COLMETADATA) || (byte == ROW) || (byte == NBCROW) 
 abbrev pub is_row_byte : ℕ → Bool
 is_row_byte byte = (byte == ROW) || (byte == NBCROW)
 
--- a row wants columns
+-- the fault of a row's byte where no columns are described
 abbrev pub row_byte_fault : Bool → Option (List Column) → Option Fault
 row_byte_fault true None = Some RowWithoutColumns
 row_byte_fault row columns = None
@@ -105,11 +105,11 @@ row_byte_fault row columns = None
 abbrev pub token_fault : List Token → ℕ → Option Fault
 token_fault tokens byte = if is_token_byte byte then row_byte_fault (is_row_byte byte) (described_after None tokens) else Some (RefusedToken byte)
 
--- where the names and the line number of a notice's body begin
+-- where the server's name of a notice begins, with the byte that counts its units
 abbrev pub server_at : List ℕ → ℕ
 server_at body = 8 + 2 * little (take 2 (drop 6 body))
 
--- where the procedure's name of a notice begins
+-- where the procedure's name of a notice begins, with the byte that counts its units
 abbrev pub procedure_at : List ℕ → ℕ
 procedure_at body = server_at body + 1 + 2 * slice_index body (server_at body)
 
@@ -138,7 +138,7 @@ bodied AnEnvChange body = EnvChange body
 bodied AnError body = Error (notice_of body)
 bodied AnInfo body = Info (notice_of body)
 
--- whether such a token is an ERROR or INFO
+-- whether the token with this body is an ERROR or INFO
 abbrev pub is_notice : Bodied → Bool
 is_notice AnError = true
 is_notice AnInfo = true

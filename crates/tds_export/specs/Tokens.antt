@@ -101,7 +101,7 @@ first_error [] = None
 first_error (Error n ∷ ts) = Some n
 first_error (t ∷ ts) = first_error ts
 
--- the last RETURNSTATUS, or the one before
+-- the last RETURNSTATUS, or the one before these tokens
 abbrev pub return_status_after : Option ℕ → List Token → Option ℕ
 return_status_after before [] = before
 return_status_after before (ReturnStatus n ∷ ts) = return_status_after (Some n) ts
@@ -111,14 +111,14 @@ return_status_after before (t ∷ ts) = return_status_after before ts
 abbrev pub return_status : List Token → Option ℕ
 return_status = return_status_after None
 
--- the columns that are described after these tokens, where before are those before them
+-- the columns that are described after these tokens, or those before them
 abbrev pub described_after : Option (List Column) → List Token → Option (List Column)
 described_after before [] = before
 described_after before (Metadata bytes columns ∷ ts) = described_after (Some columns) ts
 described_after before (NoMetadata ∷ ts) = described_after None ts
 described_after before (t ∷ ts) = described_after before ts
 
--- the tokens end with a DONE or DONEPROC after which no more follows
+-- whether the tokens end with a DONE or DONEPROC after which no more follows
 abbrev pub is_final : List Token → Bool
 is_final [] = false
 is_final (Done more ∷ []) = if more then false else true
@@ -132,13 +132,13 @@ encoded_after before (Metadata bytes columns ∷ ts) = encoded_after bytes ts
 encoded_after before (NoMetadata ∷ ts) = encoded_after [] ts
 encoded_after before (t ∷ ts) = encoded_after before ts
 
--- the bytes of a COLMETADATA behind its token byte
+-- how many bytes a COLMETADATA has behind its token byte
 abbrev pub span_of : Token → ℕ
 span_of (Metadata bytes columns) = length bytes
 span_of NoMetadata = 2
 span_of t = 0
 
--- the greatest number of such bytes
+-- the most bytes that a COLMETADATA has behind its token byte
 abbrev pub greatest_span : List Token → ℕ
 greatest_span [] = 0
 greatest_span (t ∷ ts) = max (span_of t) (greatest_span ts)

@@ -140,7 +140,7 @@ pub(crate) fn read_response<R: Read, W: Write>(
     ensures room { description.new.room ≡ description.old.room }
     ensures gives { let at = view R.remaining W.contents in
         ResponseRead charset (at payload.old sink.old description.old)
-            (at payload.new sink.new description.new) result }
+        (at payload.new sink.new description.new) result }
 {
     let mut run = Exporter {
         payload,

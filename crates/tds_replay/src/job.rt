@@ -17,7 +17,7 @@ const MAX_WIRE: u64 = 1_099_511_627_776;
 #[derive(Drop)]
 pub enum Job {
     /// Writes the rows of a response as CSV. The file is the one that the response stands in, or none
-    /// for standard input; it isn't opened yet: the caller passes the reader.
+    /// for standard input. Nothing here opens it: the caller passes the reader.
     Export {
         limits: Limits,
         charset: Charset,

@@ -7,7 +7,7 @@ use Rattle.tds_export.specs.Moments.{Reports, Given, StopsExport, begun_at, fres
 use Rattle.tds_export.proofs.ToldAnswers.{report_tells, stop_tells}
 use Rattle.tds_export.proofs.Endings.{exports, stops_export}
 use Rattle.tds_export.proofs.DeviceFaults.{blamed}
-use Rattle.tds_export.proofs.NoFailures.{calm}
+use Rattle.tds_export.proofs.NoFailures.{no_failure}
 use Rattle.tds_export.proofs.Emptied.{description_room, packet_room}
 use Rattle.tds_export.proofs.run.export.Given.{Over}
 use Rattle.tds_export.proofs.run.export.Goals as goal
@@ -51,8 +51,8 @@ returns-in-Ok-clause-exports g c =
     let told = report_tells (reported g c) c.in-Ok.report (all_read g c) in
     record { gives = grind (arith, all); tells = grind (arith, told); failed_reads = tt; failed_writes = tt }
 
-pub returns-in-Ok-clause-calm : goal.returns-in-Ok-clause-calm
-returns-in-Ok-clause-calm g c = let none = calm (reported g c) c.in-Ok.report (all_read g c) in (grind (arith, none), grind (arith, none))
+pub returns-in-Ok-clause-no_failure : goal.returns-in-Ok-clause-no_failure
+returns-in-Ok-clause-no_failure g c = let none = no_failure (reported g c) c.in-Ok.report (all_read g c) in (grind (arith, none), grind (arith, none))
 
 -- ---- the answer is a stop
 
