@@ -1,8 +1,7 @@
 -- A report is answered only where neither count of failures rose.
-use Rattle.std.proofs.Common.{◌≡◌, ◌∙◌, inl, inr, ℕ, ◌+◌, ◌-◌, ◌^◌, ◌<◌, List, [], ◌∷◌, ◌++◌, length, refl, sym, ap, subst, arith}
+use Rattle.std.proofs.Common.{◌≡◌, ◌∙◌, inl, inr, ℕ, ◌-◌, ◌^◌, ◌<◌, List, [], ◌∷◌, ◌++◌, length, sym, ap, subst, arith}
 use Rattle.std.specs.Prelude.{Option}
 use Rattle.tds_meter.specs.Counts.{Rose}
-use Rattle.tds_packet.specs.declared.fault.Fault.{Fault}
 use Rattle.tds_packet.specs.declared.fault.Fault.TheVariants.{InputEnded, MessageEnded}
 use Rattle.tds_packet.specs.Coming.{Coming, before, front_packet, message, whole_message}
 use Rattle.tds_packet.specs.Seen.{IsOver, Seen, Takes, begun}

@@ -1,5 +1,5 @@
 -- What an export answers, where its reader and writer tell their bytes.
-use Rattle.std.proofs.Common.{◌≡◌, ◌∙◌, inl, inr, ℕ, ◌+◌, ◌*◌, ◌-◌, ◌/◌, ◌^◌, ◌%◌, ◌<◌, ◌≤◌, Bool, true, false, List, [], ◌∷◌, ◌++◌, length, take, drop, refl, sym, ap, subst, arith, append_assoc, append-nil, length-append, length-take-le, take-append-drop}
+use Rattle.std.proofs.Common.{◌≡◌, ◌∙◌, inl, inr, ℕ, ◌+◌, ◌*◌, ◌-◌, ◌/◌, ◌%◌, ◌<◌, ◌≤◌, Bool, true, false, List, [], ◌∷◌, ◌++◌, length, take, drop, refl, sym, ap, subst, arith, append_assoc, append-nil, length-append, length-take-le, take-append-drop}
 use Rattle.std.specs.Prelude.{Option, Some, None, Ok, Err}
 use Rattle.std.proofs.lemmas.Grind.{flat_map-append}
 use Rattle.std.proofs.lemmas.Nat.{div-mul-add}
@@ -15,7 +15,7 @@ use Rattle.tds_packet.specs.declared.fault.Place.{Place}
 use Rattle.tds_packet.specs.declared.fault.Place.TheVariants.{Wire, Payload, Text}
 use Rattle.tds_packet.specs.declared.fault.Stop.{Stop}
 use Rattle.tds_packet.specs.Elements.{AreBytes, Grammar, Longest, Spelt}
-use Rattle.tds_packet.specs.Packets.{AreMessage, Packet, packet_bytes, payload_of, wire_of}
+use Rattle.tds_packet.specs.Packets.{Packet, packet_bytes, payload_of, wire_of}
 use Rattle.tds_packet.specs.Seen.{Ends, Seen, begun}
 use Rattle.tds_packet.specs.Reading.{CutsNext}
 use Rattle.tds_packet.proofs.ElementLaws.{AreBytes-back, AreBytes-front, Spelt-append, Spelt-one, longest_cut, no_further, some_longest}

@@ -1,5 +1,5 @@
 -- The run of an export as the contracts of its steps see it.
-use Rattle.std.specs.Prelude.{◌≡◌, ◌+◌, ◌<◌, ◌≤◌, ℕ, Bool, true, List, [], ◌∷◌, Option, Result, MatchBool, MatchResult, OnOk}
+use Rattle.std.specs.Prelude.{◌≡◌, ◌+◌, ◌<◌, ◌≤◌, ℕ, Bool, true, List, [], Option, Result, MatchBool, MatchResult, OnOk}
 use Rattle.tds_meter.specs.Space.{Space, empty}
 use Rattle.tds_packet.specs.declared.fault.Stop.{Stop}
 use Rattle.tds_packet.specs.declared.payload.Payload.{Payload}

@@ -1,5 +1,4 @@
-use Rattle.std.proofs.Common.{◌++◌, subst, append_assoc}
-use Rattle.tds_columns.specs.View.{columns_of}
+use Rattle.std.proofs.Common.{subst, append_assoc}
 use Rattle.tds_csv.specs.Quoting.{joined, line_end}
 use Rattle.tds_csv.specs.Sinks.{PutsPiece}
 use Rattle.tds_csv.proofs.Puttings.{PutsPiece-passed, PutsPiece-trans}
