@@ -3,7 +3,12 @@
 # The response that `make export` reads.
 FILE ?= examples/first.tds
 
-SOURCES := $(wildcard crates.txt crates/*/src/*.rt crates/*/specs/*.antt crates/*/proofs/*.antt)
+# The crates, in the order of crates.txt, and what each stands on. Kit crates have no file here.
+CRATES := $(shell sed -n 's/^\(tds_[a-z]*\):.*/\1/p' crates.txt)
+below = $(filter tds_%,$(shell sed -n 's/^$(1)://p' crates.txt))
+
+# All that a proof of a crate depends on: its code, its definitions, its proofs.
+files_of = $(shell find crates/$(1)/src crates/$(1)/specs crates/$(1)/proofs -type f)
 
 # Where the benchmarks are built: outside of the repository, whose gate refuses files that no crate of crates.txt has.
 BENCH = $(or $(TMPDIR),/tmp)/gavyreto-bench
@@ -23,11 +28,16 @@ help:
 
 build: bin/tds_replay
 
+# A crate is proved once its own files and the crates below it are as they were when that was last done.
+define proved
+bin/proved/$(1): crates.txt tools/prove $$(call files_of,$(1)) $$(addprefix bin/proved/,$$(call below,$(1)))
+	@tools/prove $(1)
+	@mkdir -p bin/proved && touch $$@
+endef
+$(foreach crate,$(CRATES),$(eval $(call proved,$(crate))))
+
 # A program is built only where it is proved, and is run once on its stored input.
-bin/tds_replay: $(SOURCES)
-	@echo "proving and building bin/tds_replay" >&2
-	@mkdir -p bin
-	@cd crates/tds_replay && { rt run < stdin > /dev/null 2> ../../bin/build.log || { cat ../../bin/build.log >&2; exit 1; }; }
+bin/tds_replay: bin/proved/tds_replay
 	@cp crates/tds_replay/out/tds_replay bin/tds_replay
 
 export: bin/tds_replay
