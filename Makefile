@@ -37,7 +37,7 @@ endef
 $(foreach crate,$(CRATES),$(eval $(call proved,$(crate))))
 
 # A program is built only where it is proved, and is run once on its stored input.
-bin/tds_replay: bin/proved/tds_replay
+bin/tds_replay: $(addprefix bin/proved/,$(CRATES))
 	@cp crates/tds_replay/out/tds_replay bin/tds_replay
 
 export: bin/tds_replay
