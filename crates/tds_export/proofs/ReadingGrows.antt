@@ -6,12 +6,11 @@ use Rattle.tds_values.specs.Numbers.{little}
 use Rattle.tds_values.specs.TypeInfo.{rest_length, kind_of}
 use Rattle.tds_values.proofs.TypeInfoLemmas.{bare_type}
 use Rattle.tds_packet.specs.Elements.{IsNext, Leads, Spelt}
-use Rattle.tds_packet.specs.declared.fault.RefusedKind.{RefusedKind}
 use Rattle.tds_packet.specs.declared.fault.Fault.{Fault}
-use Rattle.tds_packet.specs.declared.fault.Fault.TheVariants.{BadTypeInfo}
 use Rattle.tds_packet.proofs.Choices.{choose, eq_true, is_some_value}
 use Rattle.tds_csv.specs.Quoting.{line}
 use Rattle.tds_columns.specs.Description.{Column, ColumnHead, ColumnInfo, NameCount, NameUnits, DescriptionPart, BeforeCount, NoDescription, InColumn, WholeDescription, with_column, with_kind, with_type, with_units, add_described, description, first_of_two, refused_kind, refused_type, span, too_long, type_fault}
+use Rattle.tds_columns.proofs.ColumnMeaning.{known_type, some_kind}
 use Rattle.tds_rows.specs.declared.Charset.{Charset}
 use Rattle.tds_rows.specs.Cells.{field}
 use Rattle.tds_rows.specs.Rows.{RowPart, Bitmap, InCell, WholeRow, row_start, nbc_row_start, row_add, row_so_far}
@@ -125,20 +124,6 @@ with_return_span tokens (ReturnHead name) = omega arith
 with_return_span tokens (ReturnInfo name byte) = omega arith
 with_return_span tokens (InReturnCell name kind part) = omega arith
 with_return_span tokens (WholeReturn r) = token_span tokens (Returned r) 0 (omega arith)
-
--- a type byte that is accepted
-known_type : (i byte : ℕ) (o : Option ℕ) (y : Option Fault) → first_of_two (type_fault i byte o) y ≡ None → (n : ℕ) × (o ≡ Some n)
-known_type i byte (Some n) y h = (n, refl)
-known_type i byte None y h = go (refused_kind byte) h
-  where
-    go : (r : Option RefusedKind) → first_of_two (refused_type i byte r) y ≡ None → (n : ℕ) × (None ≡ Some n)
-    go (Some k) e = cc
-    go None e = cc
-
--- type information that is accepted has a kind
-some_kind : (i : ℕ) (o : Option Kind) → (if is_some o then None else Some (BadTypeInfo i)) ≡ None → is_some o ≡ true
-some_kind i (Some k) q = refl
-some_kind i None q = cc
 
 -- a column that is whole
 with_column_span : (bytes : List ℕ) (count : ℕ) (columns : List Column) (c : Column) → length bytes ≤ span (with_column bytes count columns c)

@@ -17,9 +17,11 @@ pub struct Report {
     pub sets: u64,
     /// The rows of all sets.
     pub rows: u64,
-    /// The errors and the messages that the server reported.
+    /// The errors that the server reported.
     pub errors: u64,
+    /// Its messages that are no errors.
     pub infos: u64,
+    /// The first of the errors.
     pub first_error: Option<ServerError>,
     /// The last status that a procedure returned.
     pub return_status: Option<i32>,

@@ -8,13 +8,6 @@ use Rattle.tds_csv.specs.Quoting.{joined, line}
 use Rattle.tds_rows.specs.declared.Charset.{Charset}
 use Rattle.tds_rows.specs.Cells.{Cell, Null, field, shape, SpellsCell, CellPart, WholeCell, cell_start, cell_size, cell_fault, cell_add, field_so_far}
 
--- The bytes spell the cells one after the other.
-abbrev pub SpellsCells : Charset → List Column → List Cell → List ℕ → Type 0
-SpellsCells charset [] [] bytes = bytes ≡ []
-SpellsCells charset (k ∷ ks) (c ∷ cs) bytes = (front : List ℕ) × (rest : List ℕ) × (bytes ≡ front ++ rest) × SpellsCell k.kind (shape charset k.kind) c front × SpellsCells charset ks cs rest
-SpellsCells charset [] (c ∷ cs) bytes = ⊥
-SpellsCells charset (k ∷ ks) [] bytes = ⊥
-
 -- whether the bit k of a bitmap is set, the lowest of the first byte being bit 0
 abbrev pub bit : List ℕ → ℕ → Bool
 bit bitmap k = (slice_index bitmap (k / 8) / 2 ^ (k % 8)) % 2 == 1
