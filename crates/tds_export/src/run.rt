@@ -47,7 +47,8 @@ pub fn export<R: Read, W: Write>(
     ensures limits { areas.new.limits ≡ areas.old.limits }
     ensures restarts { areas.new.restarts ≡ one_more areas.old.restarts }
     ensures bound { peak_rest areas.new ≤ areas.old.limits.packet_size + other_rooms }
-    ensures no_failure { OnOk result (¬ Rose from.old.failures from.new.failures × ¬ Rose to.old.failures to.new.failures) }
+    ensures no_failure { OnOk result (¬ Rose from.old.failures from.new.failures
+        × ¬ Rose to.old.failures to.new.failures) }
     ensures no_notice { OnErr result (areas.new.notice.bytes ≡ []) }
     ensures exports { let at = moment R.remaining W.contents in
         Exports charset (at areas.old from.old to.old) (at areas.new from.new to.new) result }

@@ -1,5 +1,5 @@
 // The lines on standard error.
-ghost use Rattle.std.specs.Prelude.{◌≡◌, ◌≤◌, ◌++◌, Ok, Some, length, map};
+ghost use Rattle.std.specs.Prelude.{◌≡◌, ◌≤◌, Ok, length, map};
 ghost use Rattle.tds_replay.specs.Lines.{answer_lines, counts_line, error_line, fault_fields, fault_name as name_of_fault, kind_name as name_of_kind, memory_line, place_number, place_unit, shown_byte, status_line, stop_line, values_line};
 ghost use Rattle.tds_replay.specs.Saying.{Says};
 

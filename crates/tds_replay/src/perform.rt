@@ -21,7 +21,7 @@ fn perform_export<R: Read, W: Write, N: Write>(
 ) -> Status
     ensures { let tell = telling R.remaining W.contents N.contents in
         PerformsExport tell charset limits (devices from.old to.old notes.old)
-            (devices from.new to.new notes.new) result }
+        (devices from.new to.new notes.new) result }
 {
     let Ok(mut areas) = Areas::new(alloc, limits) else {
         let _ = say_want_of_memory(notes);

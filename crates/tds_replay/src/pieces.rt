@@ -1,5 +1,4 @@
 // The pieces of a line on standard error.
-ghost use Rattle.std.specs.Prelude.{◌≡◌, ◌++◌};
 ghost use Rattle.tds_replay.specs.Lines.{piece_text, text_of};
 ghost use Rattle.tds_replay.specs.Saying.{Says};
 
