@@ -52,10 +52,6 @@ pub some_kind : (index : ℕ) (o : Option Kind) → (if is_some o then None else
 some_kind index (Some k) q = refl
 some_kind index None q = cc
 
-second_none : (x y : Option Fault) → first_of_two x y ≡ None → y ≡ None
-second_none (Some x) y h = cc
-second_none None y h = h
-
 -- the part of a column that is read
 abbrev pub ColumnMeans : ColumnPlace → List ℕ → Type 0
 ColumnMeans ColumnHead part = part ≡ []

@@ -9,7 +9,8 @@ use Rattle.tds_values.specs.declared.kind.Kind.TheVariants.{Int4}
 use Rattle.tds_values.specs.Kind.{is_valid}
 use Rattle.tds_values.specs.TypeInfo.{rest_length, kind_of, kind_after, named_kind, valid_kind}
 use Rattle.tds_values.proofs.TypeInfoLemmas.{rest_length_of, valid_of}
-use Rattle.tds_packet.proofs.Choices.{and_true, choose_true, both_true, is_some_value, le_true, test_le}
+use Rattle.std.proofs.lemmas.Bool.{and_from, and_parts}
+use Rattle.tds_packet.proofs.Choices.{choose_true, is_some_value, le_true, test_le}
 use Rattle.tds_columns.specs.Description.{Column, SpellsColumn, SpellsColumns, SpellsDescription}
 use Rattle.tds_columns.specs.View.{are_columns, column_at, column_size, columns_in, columns_of, is_column, is_described, name_size, rest_size}
 use Rattle.tds_columns.proofs.ByteLemmas.{little-two}
@@ -97,7 +98,7 @@ front_of c front more h = record { size = size; at = at; whole = whole }
 
     whole : is_column (front ++ more) ≡ true
     whole =
-        both_true (is_some (kind_of (take (1 + rest_size (front ++ more)) (drop 6 (front ++ more))))) (nat_le (column_size (front ++ more)) (length (front ++ more))) (ap is_some kind_is)
+        and_from (is_some (kind_of (take (1 + rest_size (front ++ more)) (drop 6 (front ++ more))))) (nat_le (column_size (front ++ more)) (length (front ++ more))) (ap is_some kind_is)
         (test_le (column_size (front ++ more)) (length (front ++ more)) (omega (arith, size, length-append front more)))
 
 -- columns that are spelt lie there
@@ -111,7 +112,7 @@ columns_lie (c ∷ cs) bytes h =
     let more : drop (column_size bytes) bytes ≡ h.1 = ap (drop (column_size bytes)) h.2 ∙ behind h.0 h.1 (column_size bytes) size in
     let tail = columns_lie cs h.1 h.4 in
     let shown : columns_in (length (c ∷ cs)) bytes ≡ c ∷ cs = ap (λ d. d ∷ columns_in (length cs) (drop (column_size bytes) bytes)) at ∙ ap (λ l. c ∷ columns_in (length cs) l) more ∙ ap (λ l. c ∷ l) tail.0 in
-    (shown, both_true (is_column bytes) (are_columns (length cs) (drop (column_size bytes) bytes)) whole (ap (are_columns (length cs)) more ∙ tail.1))
+    (shown, and_from (is_column bytes) (are_columns (length cs) (drop (column_size bytes) bytes)) whole (ap (are_columns (length cs)) more ∙ tail.1))
 
 -- a description that is spelt shows its columns
 pub description_shows : (room : ℕ) (columns : List Column) (bytes : List ℕ) → SpellsDescription room columns bytes → (columns_of bytes ≡ columns) × (is_described bytes ≡ true) × (little_number 2 bytes ≡ length columns)
@@ -123,7 +124,7 @@ description_shows room columns bytes h =
     let two : 2 ≤ length bytes = (let l : length bytes ≡ length count + length h.rest = ap length h.spelt ∙ length-append count h.rest in omega (arith, l)) in
     let shown : columns_of bytes ≡ columns = ap (λ n. columns_in n (drop 2 bytes)) number ∙ ap (columns_in (length columns)) rest ∙ lie.0 in
     let whole : are_columns (little_number 2 bytes) (drop 2 bytes) ≡ true = ap (λ n. are_columns n (drop 2 bytes)) number ∙ ap (are_columns (length columns)) rest ∙ lie.1 in
-    (shown, both_true (nat_le 2 (length bytes)) (are_columns (little_number 2 bytes) (drop 2 bytes)) (test_le 2 (length bytes) two) whole, number)
+    (shown, and_from (nat_le 2 (length bytes)) (are_columns (little_number 2 bytes) (drop 2 bytes)) (test_le 2 (length bytes) two) whole, number)
 
 -- ---- what a whole column at the front allows
 
@@ -156,7 +157,7 @@ from_type bytes n h = ap (take (1 + n)) (drop-cons bytes 6 0 (omega (arith, h)))
 
 pub lies : (bytes : List ℕ) → is_column bytes ≡ true → Lies bytes
 lies bytes h =
-    let both = and_true (is_some (kind_of (take (1 + rest_size bytes) (drop 6 bytes)))) (nat_le (column_size bytes) (length bytes)) h in
+    let both = and_parts (is_some (kind_of (take (1 + rest_size bytes) (drop 6 bytes)))) (nat_le (column_size bytes) (length bytes)) h in
     let some = is_some_value (kind_of (take (1 + rest_size bytes) (drop 6 bytes))) both.0 in
     let enough : column_size bytes ≤ length bytes = le_true (column_size bytes) (length bytes) both.1 in
     let info : take (1 + rest_size bytes) (drop 6 bytes) ≡ slice_index bytes 6 ∷ take (rest_size bytes) (drop 7 bytes) = from_type bytes (rest_size bytes) (omega (arith, enough)) in
@@ -182,7 +183,7 @@ pub record Steps (n : ℕ) (bytes : List ℕ) : Type 0 where
 pub steps : (n : ℕ) (bytes : List ℕ) → n ≢ 0 → are_columns n bytes ≡ true → Steps n bytes
 steps zero bytes some h = absurd (some refl)
 steps (suc m) bytes some h =
-    let both = and_true (is_column bytes) (are_columns m (drop (column_size bytes) bytes)) h in
+    let both = and_parts (is_column bytes) (are_columns m (drop (column_size bytes) bytes)) h in
     let less : m ≡ suc m - 1 = omega arith in
     record {
       first = both.0;

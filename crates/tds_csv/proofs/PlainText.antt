@@ -33,7 +33,3 @@ plain_front xs = front_itself windows_1252.text windows_1252-append is_plain ref
 -- bytes that were found among the next 16
 pub plain_lanes : (bytes : List ℕ) (at n : ℕ) → n ≤ 16 → n ≡ prefix_len is_plain (chunk at 16 bytes) → take n (chunk at 16 bytes) ≡ windows_1252.text (take n (drop at bytes))
 plain_lanes bytes at n few e = lanes_itself windows_1252.text windows_1252-append is_plain refl plain bytes at n few e
-
--- how long it is
-pub length_next : (run : List ℕ) (code : ℕ) → length (run ++ doubled (encode_utf8 code)) ≤ length run + 4
-length_next run code = let most = (doubled_length code).0 in omega (arith, length-append run (doubled (encode_utf8 code)))

@@ -1,6 +1,7 @@
 -- One character after the other of text in UTF-16.
 use Rattle.std.proofs.Common.{◌≡◌, ◌∙◌, ◌&&◌, ◌+◌, ◌*◌, ◌<◌, ◌≤◌, ◌%◌, ℕ, Bool, true, false, cond, List, [], ◌∷◌, ◌++◌, length, map, drop, get_or, refl, sym, ap, arith, encode_utf8_all, unwrap_or}
 use Rattle.std.proofs.lemmas.List.{drop_more}
+use Rattle.std.proofs.lemmas.Bool.{and_right}
 use Rattle.std.proofs.lemmas.Bool.Decides.{nat_tests}
 use Rattle.std.specs.Char.{encode_utf8}
 use Rattle.std.specs.Char.Utf16.{utf16_chars, utf16_lossy_chars, is_high_surrogate, is_low_surrogate, surrogate_pair_char, lone_unit_char}
@@ -49,10 +50,6 @@ emits_by bytes more code e =
 not_high : (low high : ℕ) (b : Bool) → is_high low high ≡ false → (is_high low high && b) ≡ false
 not_high low high b h = ap (λ t. t && b) h
 
-and_false : (a b : Bool) → b ≡ false → (a && b) ≡ false
-and_false true b h = h
-and_false false b h = refl
-
 -- a unit that is no high surrogate
 pub next_one : (low high : ℕ) (bytes : List ℕ) (code : ℕ) → is_high low high ≡ false → unwrap_or (lone_unit_char (low + 256 * high)) 0xFFFD ≡ code → IsNext (low ∷ high ∷ bytes) code 2
 next_one low high bytes code h e = record {
@@ -87,9 +84,9 @@ next_alone low high low' high' bytes h l =
     let lone = lone_high (low + 256 * high) h in
     record {
       emits = emits_by (low ∷ high ∷ low' ∷ high' ∷ bytes) (low' ∷ high' ∷ bytes) 0xFFFD
-          (spells_one low high (front (low' ∷ high' ∷ bytes)) 0xFFFD lone (and_false (is_high low high) (starts_low (units (front (low' ∷ high' ∷ bytes)))) (starts_low-front low' high' bytes l)));
+          (spells_one low high (front (low' ∷ high' ∷ bytes)) 0xFFFD lone (and_right (is_high low high) (starts_low (units (front (low' ∷ high' ∷ bytes)))) (starts_low-front low' high' bytes l)));
       keeps = refl;
-      spells = spells_one low high (low' ∷ high' ∷ bytes) 0xFFFD lone (and_false (is_high low high) (starts_low (units (low' ∷ high' ∷ bytes))) (starts_low-units low' high' bytes l));
+      spells = spells_one low high (low' ∷ high' ∷ bytes) 0xFFFD lone (and_right (is_high low high) (starts_low (units (low' ∷ high' ∷ bytes))) (starts_low-units low' high' bytes l));
     }
 
 low_is_not_high : (u : ℕ) → is_low_surrogate u ≡ true → is_high_surrogate u ≡ false
@@ -120,7 +117,7 @@ spells_last : (low high : ℕ) → rest (low ∷ high ∷ []) ≡ low ∷ high �
 unfolding starts_low
 spells_last low high e =
     let h = held_is_high low high e in
-    spells_one low high [] 0xFFFD (lone_high (low + 256 * high) h) (and_false (is_high low high) false refl)
+    spells_one low high [] 0xFFFD (lone_high (low + 256 * high) h) (and_right (is_high low high) false refl)
 
 -- whole data of which all is withheld is a high surrogate
 pub spells_held : (xs : List ℕ) → 2 ≤ length xs → length xs % 2 ≡ 0 → rest xs ≡ xs → characters xs ≡ encode_utf8 0xFFFD ++ characters (drop 2 xs)
@@ -134,12 +131,6 @@ pub held_short : (bytes : List ℕ) → length bytes < 2 → rest bytes ≡ byte
 held_short [] h = refl
 held_short (odd ∷ []) h = refl
 held_short (low ∷ high ∷ bytes) h = absurd (omega arith)
-
--- and so does a high surrogate at the end
-pub held_high : (low high : ℕ) (bytes : List ℕ) → is_high low high ≡ true → length bytes < 2 → rest (low ∷ high ∷ bytes) ≡ low ∷ high ∷ bytes
-held_high low high [] h short = ap (λ t. cond t (low ∷ high ∷ []) []) h
-held_high low high (odd ∷ []) h short = ap (λ t. cond t (low ∷ high ∷ odd ∷ []) (odd ∷ [])) h
-held_high low high (low' ∷ high' ∷ bytes) h short = absurd (omega arith)
 
 -- the bytes from a place on, the first ones named
 pub drop_two : (xs : List ℕ) (i : ℕ) → i + 1 < length xs → drop i xs ≡ get_or xs i 0 ∷ get_or xs (i + 1) 0 ∷ drop (i + 2) xs

@@ -4,6 +4,7 @@ use Rattle.std.proofs.Common.{◌≡◌, ℕ, ◌+◌, ◌*◌, ◌%◌, ◌≤�
 use Rattle.std.specs.Prelude.{⊤}
 use Rattle.std.proofs.lemmas.List.{map-append, length-append}
 use Rattle.std.proofs.lemmas.Str.{encodes-append}
+use Rattle.std.proofs.lemmas.Bool.{and_right}
 use Rattle.std.proofs.lemmas.Bool.Decides.{nat_tests}
 use Rattle.std.specs.Char.Utf16.{utf16_chars, utf16_lossy_chars, is_high_surrogate, is_low_surrogate, surrogate_pair_char, lone_unit_char}
 use Rattle.tds_csv.specs.Joining.{JoinsPieces, emit}
@@ -119,21 +120,17 @@ units-front (low ∷ high ∷ low' ∷ high' ∷ bytes) b = ap (λ us. (low + 25
 Follows : List ℕ → List ℕ → Type 0
 Follows a vs = starts_high (units (rest a)) ≡ true → starts_low vs ≡ false
 
-and_false : (b : Bool) → (b && false) ≡ false
-and_false true = refl
-and_false false = refl
-
 -- one unit before the front of what follows it
 Apart-cons : (u : ℕ) (a : List ℕ) (low high : ℕ) (vs : List ℕ) → Follows (low ∷ high ∷ a) vs → Apart (units (front (low ∷ high ∷ a))) vs → Apart (u ∷ units (front (low ∷ high ∷ a))) vs
 unfolding Follows
 Apart-cons u [] low high vs f h =
     elim (is_high low high) as (λ t. is_high low high ≡ t → Apart (units (cond t [] (low ∷ high ∷ []))) vs → (starts_high (units (cond t (low ∷ high ∷ []) [])) ≡ true → starts_low vs ≡ false)
     → Apart (u ∷ units (cond t [] (low ∷ high ∷ []))) vs)
-    [ true ↦ λ e h f. ap (λ s. is_high_surrogate u && s) (f e) ∙ and_false (is_high_surrogate u) | false ↦ λ e h f. h ] refl h f
+    [ true ↦ λ e h f. ap (λ s. is_high_surrogate u && s) (f e) ∙ and_right (is_high_surrogate u) false refl | false ↦ λ e h f. h ] refl h f
 Apart-cons u (odd ∷ []) low high vs f h =
     elim (is_high low high) as (λ t. is_high low high ≡ t → Apart (units (cond t [] (low ∷ high ∷ []))) vs → (starts_high (units (cond t (low ∷ high ∷ odd ∷ []) (odd ∷ []))) ≡ true → starts_low vs ≡ false)
     → Apart (u ∷ units (cond t [] (low ∷ high ∷ []))) vs)
-    [ true ↦ λ e h f. ap (λ s. is_high_surrogate u && s) (f e) ∙ and_false (is_high_surrogate u) | false ↦ λ e h f. h ] refl h f
+    [ true ↦ λ e h f. ap (λ s. is_high_surrogate u && s) (f e) ∙ and_right (is_high_surrogate u) false refl | false ↦ λ e h f. h ] refl h f
 Apart-cons u (low' ∷ high' ∷ a) low high vs f h = h
 
 -- no pair lies across the end of the front

@@ -30,7 +30,8 @@ use Rattle.tds_values.specs.ScalarRange.{is_in_range}
 use Rattle.tds_values.specs.ScalarText.{text_of, FitsWidths}
 use Rattle.tds_values.proofs.TextLengths.{length-text_of}
 use Rattle.tds_packet.specs.Elements.{AreBytes}
-use Rattle.tds_packet.proofs.Choices.{choose, eq_true, or_true, and_true}
+use Rattle.std.proofs.lemmas.Bool.{and_parts, or_cases}
+use Rattle.tds_packet.proofs.Choices.{choose, eq_true}
 
 -- ---- the text of data
 
@@ -199,7 +200,7 @@ money_fits n xs = choose (λ z. unsigned_abs z < 2 ^ 64) (n == 4) (cast_signed w
 
 -- a magnitude fits
 magnitude_fits : (n : ℕ) (xs : List ℕ) → AreBytes xs → is_decimal_length n ≡ true → little_number (n - 1) xs < 2 ^ 128
-magnitude_fits n xs h k = go (or_true (n == 5 || n == 9 || n == 13) (n == 17) k)
+magnitude_fits n xs h k = go (or_cases (n == 5 || n == 9 || n == 13) (n == 17) k)
   where
     at : (m : ℕ) → n ≡ m + 1 → 256 ^ m ≤ 2 ^ 128 → little_number (n - 1) xs < 2 ^ 128
     at m e fits =
@@ -212,11 +213,11 @@ magnitude_fits n xs h k = go (or_true (n == 5 || n == 9 || n == 13) (n == 17) k)
     first (inr q) = at 8 (eq_true n 9 q) (omega arith)
 
     second : ((n == 5 || n == 9) ≡ true) ⊎ ((n == 13) ≡ true) → little_number (n - 1) xs < 2 ^ 128
-    second (inl q) = first (or_true (n == 5) (n == 9) q)
+    second (inl q) = first (or_cases (n == 5) (n == 9) q)
     second (inr q) = at 12 (eq_true n 13 q) (omega arith)
 
     go : ((n == 5 || n == 9 || n == 13) ≡ true) ⊎ ((n == 17) ≡ true) → little_number (n - 1) xs < 2 ^ 128
-    go (inl q) = second (or_true (n == 5 || n == 9) (n == 13) q)
+    go (inl q) = second (or_cases (n == 5 || n == 9) (n == 13) q)
     go (inr q) = at 16 (eq_true n 17 q) (omega arith)
 
 -- the numbers of a value, if there is one, fit
@@ -244,7 +245,7 @@ values_fit kinds.DateTime4 e h k = datetime_fits 4 e
 values_fit kinds.DateTime8 e h k = datetime_fits 8 e
 values_fit (kinds.DateTimeN n) e h k = datetime_fits n e
 values_fit kinds.Guid e h k = tt
-values_fit (kinds.Decimal n precision scale) e h k = magnitude_fits (length e) (drop 1 e) (AreBytes-drop 1 e h) (and_true (is_decimal_length (length e)) (nat_le (length e) n) k).0
+values_fit (kinds.Decimal n precision scale) e h k = magnitude_fits (length e) (drop 1 e) (AreBytes-drop 1 e h) (and_parts (is_decimal_length (length e)) (nat_le (length e) n) k).0
 values_fit kinds.Date e h k = tt
 values_fit (kinds.Time scale) e h k = tt
 values_fit (kinds.DateTime2 scale) e h k = tt

@@ -10,8 +10,10 @@ use Rattle.tds_csv.proofs.ConversionLaws.{joins_by_name, fit_by_test, begun_by_t
 use Rattle.tds_packet.specs.Elements.{IsNext}
 use Rattle.tds_packet.specs.declared.fault.Fault.{Fault}
 use Rattle.tds_packet.specs.declared.fault.Fault.TheVariants.{BadText, OddText, PlpLength}
-use Rattle.tds_packet.proofs.Choices.{choose, eq_true, lt_true, or_true, and_true}
+use Rattle.std.proofs.lemmas.Bool.{and_parts, or_cases}
+use Rattle.tds_packet.proofs.Choices.{choose, eq_true, lt_true}
 use Rattle.tds_columns.specs.Description.{Column}
+use Rattle.tds_rows.proofs.CellMeaning.{guard_none, unless_none}
 use Rattle.tds_rows.specs.declared.Charset.{Charset}
 use Rattle.tds_rows.specs.Cells.{Cell, Null, DataCell, field, shape, CellPart, ScalarBytes, ScalarLength, ShortLength, ShortData, Total, ChunkLength, ChunkData, WholeCell, cell_start, cell_add, cell, field_so_far, unless, is_total, within_total, end_of_chunks, chunk_fault}
 use Rattle.tds_rows.specs.Rows.{RowPart, Bitmap, InCell, WholeRow, next_cell, with_cell, row_add, row, with_field, row_so_far}
@@ -100,16 +102,6 @@ long_grows Utf8Text a h = closing (quote ∷ []) (emit (conversion_rest Utf8Text
 
 -- ---- a cell
 
--- a test that gave no fault holds
-pub unless_none : (b : Bool) (f : Fault) → unless b f ≡ None → b ≡ true
-unless_none true f h = refl
-unless_none false f h = cc
-
--- a test that let something else be judged holds, and that gave no fault
-guard_none : (b : Bool) (o : Option Fault) (f : Fault) → (if b then o else Some f) ≡ None → (b ≡ true) × (o ≡ None)
-guard_none true o f h = (refl, h)
-guard_none false o f h = cc
-
 -- what is chosen by a test that holds gave no fault
 first_none : (b : Bool) (o p : Option Fault) → b ≡ true → (if b then o else p) ≡ None → o ≡ None
 first_none true o p z h = h
@@ -117,7 +109,7 @@ first_none false o p z h = cc
 
 -- the last byte of a short value leaves it fit
 pub last_fit : (left : ℕ) (b : Bool) → (nat_lt 0 left || b) ≡ true → (left == 0) ≡ true → b ≡ true
-last_fit left b h z = go (or_true (nat_lt 0 left) b h)
+last_fit left b h z = go (or_cases (nat_lt 0 left) b h)
   where
     go : ((nat_lt 0 left ≡ true) ⊎ (b ≡ true)) → b ≡ true
     go (inl t) = let some : 0 < left = lt_true 0 left t in let none : left ≡ 0 = eq_true left 0 z in absurd (omega arith)
@@ -140,7 +132,7 @@ module _ (column : ℕ) where
   cell_grows (Total c) e n = tt
   cell_grows (WholeCell x) e n = grows_same (field x)
   cell_grows (ShortData c left content) e n =
-      let free = and_true (is_begun c (content ++ e)) (nat_lt 0 left || is_fit c (content ++ e)) (unless_none (is_begun c (content ++ e) && (nat_lt 0 left || is_fit c (content ++ e))) (BadText column) n.free) in
+      let free = and_parts (is_begun c (content ++ e)) (nat_lt 0 left || is_fit c (content ++ e)) (unless_none (is_begun c (content ++ e) && (nat_lt 0 left || is_fit c (content ++ e))) (BadText column) n.free) in
       let one : Grows (open_field c content) (open_field c (content ++ e)) = open_grows c content e free.0 in
       choose (λ p. OptionGrows (Some (open_field c content)) (field_so_far p)) (left == 0) (WholeCell (DataCell c (content ++ e))) (ShortData c (left - 1) (content ++ e))
       (λ z. grows_trans (open_field c content) (open_field c (content ++ e)) (long_field c (content ++ e)) one (long_grows c (content ++ e) (last_fit left (is_fit c (content ++ e)) free.1 z)))

@@ -18,7 +18,8 @@ use Rattle.tds_export.specs.Tokens.{Token, Metadata, NoMetadata, Row, Order, Env
 use Rattle.tds_export.specs.Response.{SpellsBody, SpellsNotice, SpellsRowToken, SpellsToken, SpellsTokens, Response, more}
 use Rattle.tds_export.specs.TokenGrammar.{Bodied, AnOrder, AnEnvChange, AnError, AnInfo, Open, Between, Describing, InRow, InReturn, TokenLength, TokenBody, Status, DoneFields, DoneInProcFields, Part, response_start, with_token, with_described, with_row, with_return, start_of_row, after_byte, is_token_byte, is_row_byte, row_byte_fault, token_fault, server_at, procedure_at, line_at, holds_notice, notice_of, bodied, is_notice, part_add, response}
 use Rattle.tds_export.proofs.ResponseLaws.{described_after-append}
-use Rattle.tds_packet.proofs.Choices.{choose, eq_true, lt_true, le_true, or_true, and_true}
+use Rattle.std.proofs.lemmas.Bool.{and_parts, or_cases}
+use Rattle.tds_packet.proofs.Choices.{choose, eq_true, lt_true, le_true}
 use Rattle.tds_columns.proofs.ByteLemmas.{one_byte, two_bytes}
 
 -- the next k bytes behind the first n
@@ -49,9 +50,9 @@ notice_spelt body h =
     let la : ℕ = line_at body in
     let s : ℕ = slice_index body sa in
     let p : ℕ = slice_index body pa in
-    let t = and_true (nat_lt sa (length body) && nat_lt pa (length body)) (nat_le (la + 4) (length body)) h in
-    let a : sa < length body = lt_true sa (length body) (and_true (nat_lt sa (length body)) (nat_lt pa (length body)) t.0).0 in
-    let b : pa < length body = lt_true pa (length body) (and_true (nat_lt sa (length body)) (nat_lt pa (length body)) t.0).1 in
+    let t = and_parts (nat_lt sa (length body) && nat_lt pa (length body)) (nat_le (la + 4) (length body)) h in
+    let a : sa < length body = lt_true sa (length body) (and_parts (nat_lt sa (length body)) (nat_lt pa (length body)) t.0).0 in
+    let b : pa < length body = lt_true pa (length body) (and_parts (nat_lt sa (length body)) (nat_lt pa (length body)) t.0).1 in
     let c : la + 4 ≤ length body = le_true (la + 4) (length body) t.1 in
     let server : List ℕ = take (2 * s) (drop (sa + 1) body) in
     let procedure : List ℕ = take (2 * p) (drop (pa + 1) body) in
@@ -207,7 +208,7 @@ module _ (charset : Charset) (room : ℕ) where
       choose (λ p. PartMeans p (b ++ x ∷ [])) (x == 0xAA) (record { tokens = tokens; at = TokenLength AnError }) _ (λ z. behind_byte tokens 0xAA x (λ rest. rest ≡ []) b (eq_true x 0xAA z) h refl) (λ z6.
       choose (λ p. PartMeans p (b ++ x ∷ [])) (x == 0xAB) (record { tokens = tokens; at = TokenLength AnInfo }) _ (λ z. behind_byte tokens 0xAB x (λ rest. rest ≡ []) b (eq_true x 0xAB z) h refl) (λ z7.
       choose (λ p. PartMeans p (b ++ x ∷ [])) (x == 0x79) (record { tokens = tokens; at = Status }) _ (λ z. behind_byte tokens 0x79 x (λ rest. rest ≡ []) b (eq_true x 0x79 z) h refl) (λ z8.
-      choose (λ p. PartMeans p (b ++ x ∷ [])) ((x == 0xFD) || (x == 0xFE)) (record { tokens = tokens; at = DoneFields }) _ (λ z. done_begins (or_true (x == 0xFD) (x == 0xFE) z)) (λ z9.
+      choose (λ p. PartMeans p (b ++ x ∷ [])) ((x == 0xFD) || (x == 0xFE)) (record { tokens = tokens; at = DoneFields }) _ (λ z. done_begins (or_cases (x == 0xFD) (x == 0xFE) z)) (λ z9.
       choose (λ p. PartMeans p (b ++ x ∷ [])) (x == 0xFF) (record { tokens = tokens; at = DoneInProcFields }) _ (λ z. behind_byte tokens 0xFF x (λ rest. rest ≡ []) b (eq_true x 0xFF z) h refl) (λ z10.
       choose (λ p. PartMeans p (b ++ x ∷ [])) (x == 0xAC) (record { tokens = tokens; at = InReturn ReturnOrdinal }) _ (λ z. behind_byte tokens 0xAC x (λ rest. ReturnMeans ReturnOrdinal rest) b (eq_true x 0xAC z) h refl) (λ z11. absurd (no_other z1 z2 z3 z4 z5 z6 z7 z8 z9 z10 z11))))))))))))
     where

@@ -11,7 +11,8 @@ use Rattle.tds_values.specs.Scalar.{read_of}
 use Rattle.tds_values.specs.TypeInfo.{rest_length, kind_of}
 use Rattle.tds_packet.specs.Elements.{AreBytes, IsNext, Spelt}
 use Rattle.tds_packet.specs.declared.fault.Fault.TheVariants.{BadText}
-use Rattle.tds_packet.proofs.Choices.{choose, and_true}
+use Rattle.std.proofs.lemmas.Bool.{and_parts}
+use Rattle.tds_packet.proofs.Choices.{choose}
 use Rattle.tds_packet.proofs.ElementLaws.{Spelt-induct, AreBytes-front, AreBytes-back}
 use Rattle.tds_csv.specs.Quoting.{joined, line, line_end}
 use Rattle.tds_csv.specs.Conversion.{Utf16Text, is_fit, is_begun, long_field, open_field}
@@ -24,7 +25,8 @@ use Rattle.tds_export.specs.ReturnValue.{ReturnPart, ReturnOrdinal, ReturnNameCo
 use Rattle.tds_export.specs.Response.{more}
 use Rattle.tds_export.specs.Tokens.{Token, Metadata, NoMetadata, Row, ReturnStatus, Returned, Done, DoneInProc, described_after, header_line, text, text_after}
 use Rattle.tds_export.specs.TokenGrammar.{Bodied, AnOrder, AnEnvChange, AnError, AnInfo, Open, Between, Describing, InRow, InReturn, TokenLength, TokenBody, Status, DoneFields, DoneInProcFields, Part, response, response_start, bodied, open_text, part_add, start_of_row, text_so_far, with_described, with_return, with_row, with_token}
-use Rattle.tds_export.proofs.GrowingTexts.{unless_none, last_fit, end_fit}
+use Rattle.tds_rows.proofs.CellMeaning.{unless_none}
+use Rattle.tds_export.proofs.GrowingTexts.{last_fit, end_fit}
 use Rattle.tds_export.proofs.FieldLengths.{open_length, long_length, open_more, long_more, ReadShort, read_short}
 use Rattle.tds_export.proofs.TokenLaws.{begun_after, text_after-snoc}
 use Rattle.tds_export.proofs.ReadingGrows.{IsFresh, part_at, byte_cases}
@@ -92,7 +94,7 @@ module _ (column : ℕ) where
   cell_more (WholeCell x) e bytes n = omega arith
   cell_more (ShortData c left content) e bytes n =
       let one : length e ≡ 1 = n.whole in
-      let free = and_true (is_begun c (content ++ e)) (nat_lt 0 left || is_fit c (content ++ e)) (unless_none (is_begun c (content ++ e) && (nat_lt 0 left || is_fit c (content ++ e))) (BadText column) n.free) in
+      let free = and_parts (is_begun c (content ++ e)) (nat_lt 0 left || is_fit c (content ++ e)) (unless_none (is_begun c (content ++ e) && (nat_lt 0 left || is_fit c (content ++ e))) (BadText column) n.free) in
       let added : length (open_field c (content ++ e)) ≤ length (open_field c content) + 4 * (3 + length e) = open_more c content e free.0 in
       choose (λ p. FieldMore (Some (open_field c content)) (field_so_far p)) (left == 0) (WholeCell (DataCell c (content ++ e))) (ShortData c (left - 1) (content ++ e))
       (λ z. let end : length (long_field c (content ++ e)) ≤ length (open_field c (content ++ e)) + 13 = long_more c (content ++ e) (last_fit left (is_fit c (content ++ e)) free.1 z) free.0 in omega arith)

@@ -224,12 +224,6 @@ ended_as room max wire place last stopped bs el es eb zs =
     let from : coming_of room max wire place last stopped bs zs ≡ coming_of room max wire place true None [] zs = rw (el, es, eb) refl in
     from ∙ ended_at room max wire place zs ∙ ap (λ q. stopped_at MessageEnded (Payload q) zs) (add-zero place)
 
--- the last packet is used up: this is a stop, and no byte more is read
-pub ended_takes : (room max wire place : ℕ) (last : Bool) (stopped : Option Stop) (bs bs' : List ℕ) (old : Option (List ℕ)) (f n : ℕ) → last ≡ true → stopped ≡ None → bs ≡ []
-    → Takes (at room max wire place last stopped bs old f) (at room max wire place last (Some (record { fault = MessageEnded; place = Payload place })) bs' old f) [] n
-ended_takes room max wire place last stopped bs bs' old f n el es eb =
-    ([], (Consumes-nil old, λ zs. ended_as room max wire place last stopped bs el es eb zs ∙ sym (stopped_coming room max wire place last _ bs' zs)), sym (add-zero wire), (λ j lt. absurd (omega (arith, lt))), Stays-none f)
-
 pub ended_ends : (room max wire place : ℕ) (last : Bool) (stopped : Option Stop) (bs : List ℕ) (old : Option (List ℕ)) (f : ℕ) → last ≡ true → stopped ≡ None → bs ≡ []
     → Ends (at room max wire place last stopped bs old f) (at room max wire place last stopped bs old f) [] (record { fault = MessageEnded; place = Payload place })
 ended_ends room max wire place last stopped bs old f el es eb = inl (([], Consumes-nil old, ended_as room max wire place last stopped bs el es eb), refl)

@@ -3,7 +3,7 @@ use Rattle.std.proofs.Common.{◌≡◌, ◌⊎◌, ℕ, suc, ◌+◌, ◌-◌, 
 use Rattle.std.specs.Prelude.{Option, Some, None, ◌==◌, ◌&&◌, ◌||◌, nat_le, nat_lt, Ok, is_ok, if◌then◌else◌}
 use Rattle.std.specs.List.{concat}
 use Rattle.std.proofs.lemmas.Bool.Decides.{nat_tests}
-use Rattle.std.proofs.lemmas.Bool.{ne_eqb}
+use Rattle.std.proofs.lemmas.Bool.{ne_eqb, and_from, or_left, or_right}
 use Rattle.tds_values.specs.declared.kind.Kind.{Kind}
 use Rattle.tds_values.specs.declared.kind.Reach.TheVariants.{Short, Chunked}
 use Rattle.tds_values.specs.declared.scalar.ScalarValue.{ScalarValue}
@@ -17,7 +17,7 @@ use Rattle.tds_packet.specs.declared.fault.Fault.{Fault}
 use Rattle.tds_packet.specs.declared.fault.Fault.TheVariants.{BadValue, BadValueLength, BadText, OddText, PlpLength}
 use Rattle.tds_packet.proofs.ElementLaws.{Spelt-step, Spelt-append}
 use Rattle.tds_rows.specs.Cells.{Cell, Null, ScalarCell, DataCell, Shape, FixedShape, CountedShape, LongShape, SpellsChunk, SpellsChunks, SpellsChunked, SpellsShort, SpellsCell, ScalarBytes, ScalarLength, ShortLength, ShortData, Total, ChunkLength, ChunkData, WholeCell, cell_start, cell, unless, within_total, is_total, end_of_chunks, value_part, known_total, unknown_total, null_total}
-use Rattle.tds_packet.proofs.Choices.{choose_false, choose_true, or_left, or_right, both_true, test_lt}
+use Rattle.tds_packet.proofs.Choices.{choose_false, choose_true, test_lt}
 use Rattle.tds_columns.proofs.ByteLemmas.{little-two}
 
 -- a fixed shape has bytes
@@ -55,12 +55,12 @@ module _ (column : ℕ) where
 
   -- the data of a short value, byte by byte
   short_data : (c : Conversion) (d : List ℕ) (x : ℕ) (xs : List ℕ) → is_fit c (d ++ x ∷ xs) ≡ true → Spelt (cell column) (ShortData c (length xs) d) (x ∷ xs) (WholeCell (DataCell c (d ++ x ∷ xs)))
-  short_data c d x [] h = Spelt-step (cell column) (ShortData c 0 d) (x ∷ []) (WholeCell (DataCell c (d ++ x ∷ []))) (omega arith) refl (unless_true (is_begun c (d ++ x ∷ []) && (nat_lt 0 0 || is_fit c (d ++ x ∷ []))) (BadText column) (both_true (is_begun c (d ++ x ∷ [])) (nat_lt 0 0 || is_fit c (d ++ x ∷ [])) (fit_begins c (d ++ x ∷ []) [] (ap (λ v. is_fit c v) (append-nil (d ++ x ∷ [])) ∙ h)) h)) refl
+  short_data c d x [] h = Spelt-step (cell column) (ShortData c 0 d) (x ∷ []) (WholeCell (DataCell c (d ++ x ∷ []))) (omega arith) refl (unless_true (is_begun c (d ++ x ∷ []) && (nat_lt 0 0 || is_fit c (d ++ x ∷ []))) (BadText column) (and_from (is_begun c (d ++ x ∷ [])) (nat_lt 0 0 || is_fit c (d ++ x ∷ [])) (fit_begins c (d ++ x ∷ []) [] (ap (λ v. is_fit c v) (append-nil (d ++ x ∷ [])) ∙ h)) h)) refl
   short_data c d x (y ∷ ys) h =
       let k : is_fit c ((d ++ x ∷ []) ++ y ∷ ys) ≡ true = rw append_assoc h in
       let more : Spelt (cell column) (ShortData c (length ys) (d ++ x ∷ [])) (y ∷ ys) (WholeCell (DataCell c ((d ++ x ∷ []) ++ y ∷ ys))) = short_data c (d ++ x ∷ []) y ys k in
       let one : Spelt (cell column) (ShortData c (suc (length ys)) d) (x ∷ []) (ShortData c (length ys) (d ++ x ∷ [])) = Spelt-step (cell column) (ShortData c (suc (length ys)) d) (x ∷ []) (ShortData c (length ys) (d ++ x ∷ [])) (omega arith) refl
-      (unless_true (is_begun c (d ++ x ∷ []) && (nat_lt 0 (suc (length ys)) || is_fit c (d ++ x ∷ []))) (BadText column) (both_true (is_begun c (d ++ x ∷ [])) (nat_lt 0 (suc (length ys)) || is_fit c (d ++ x ∷ [])) (fit_begins c (d ++ x ∷ []) (y ∷ ys) k) (or_left (nat_lt 0 (suc (length ys))) (is_fit c (d ++ x ∷ [])) (test_lt 0 (suc (length ys)) (omega arith))))) (search rules) in
+      (unless_true (is_begun c (d ++ x ∷ []) && (nat_lt 0 (suc (length ys)) || is_fit c (d ++ x ∷ []))) (BadText column) (and_from (is_begun c (d ++ x ∷ [])) (nat_lt 0 (suc (length ys)) || is_fit c (d ++ x ∷ [])) (fit_begins c (d ++ x ∷ []) (y ∷ ys) k) (or_left (nat_lt 0 (suc (length ys))) (is_fit c (d ++ x ∷ [])) (test_lt 0 (suc (length ys)) (omega arith))))) (search rules) in
       Spelt-append (cell column) (ShortData c (suc (length ys)) d) (x ∷ []) (ShortData c (length ys) (d ++ x ∷ [])) (y ∷ ys) (WholeCell (DataCell c (d ++ x ∷ y ∷ ys))) one
       (subst (λ v. Spelt (cell column) (ShortData c (length ys) (d ++ x ∷ [])) (y ∷ ys) (WholeCell (DataCell c v))) (append_assoc d (x ∷ []) (y ∷ ys)) more)
 

@@ -17,7 +17,8 @@ use Rattle.tds_packet.specs.Elements.{AreBytes, IsNext}
 use Rattle.tds_packet.specs.declared.fault.Fault.{Fault}
 use Rattle.tds_packet.specs.declared.fault.Fault.TheVariants.{BadValue, BadValueLength, BadText, OddText, PlpLength}
 use Rattle.tds_rows.specs.Cells.{Null, ScalarCell, DataCell, Shape, FixedShape, CountedShape, LongShape, SpellsChunk, SpellsChunks, SpellsCell, CellPart, ScalarBytes, ScalarLength, ShortLength, ShortData, Total, ChunkLength, ChunkData, WholeCell, cell_start, cell_add, cell, unless, within_total, is_total, end_of_chunks, chunk_fault, value_part, known_total, unknown_total, null_total}
-use Rattle.tds_packet.proofs.Choices.{choose, eq_true, eq_false, and_true}
+use Rattle.std.proofs.lemmas.Bool.{and_parts}
+use Rattle.tds_packet.proofs.Choices.{choose, eq_true, eq_false}
 use Rattle.tds_columns.proofs.ByteLemmas.{one_byte, two_bytes}
 
 -- a test that gave no fault passed
@@ -148,7 +149,7 @@ module _ (column : ℕ) (kind : Kind) where
       (λ z.
       let zero' : left ≡ 0 = eq_true left 0 z in
       let n_is : n ≡ length (d ++ x ∷ []) = omega arith in
-      let whole : is_fit c (d ++ x ∷ []) ≡ true = fit_last (nat_lt 0 left) (is_fit c (d ++ x ∷ [])) (let q : nat_lt 0 left ≡ false = grind (arith, nat_tests) in q) (and_true (is_begun c (d ++ x ∷ [])) (nat_lt 0 left || is_fit c (d ++ x ∷ [])) free).1 in
+      let whole : is_fit c (d ++ x ∷ []) ≡ true = fit_last (nat_lt 0 left) (is_fit c (d ++ x ∷ [])) (let q : nat_lt 0 left ≡ false = grind (arith, nat_tests) in q) (and_parts (is_begun c (d ++ x ∷ [])) (nat_lt 0 left || is_fit c (d ++ x ∷ [])) free).1 in
       (refl, whole, record { counted = subst (λ v. b ++ x ∷ [] ≡ (v % 256 ∷ v / 256 ∷ []) ++ (d ++ x ∷ [])) n_is spelt; least = omega arith }))
       (λ z. let some : left ≢ 0 = eq_false left 0 z in (refl, n, omega arith, less, spelt))
     where

@@ -2,7 +2,7 @@
 use Rattle.std.proofs.Common.{◌≡◌, ℕ, ◌+◌, ◌*◌, ◌/◌, ◌%◌, ◌^◌, ◌<◌, ◌≤◌, List, ◌++◌, Bool, true, false, cond, nat_eq, nat_le, nat_lt, ◌&&◌, ◌⊎◌, take, drop, length, ℤ, unsigned_abs, codes, Some, None, Ok, Err, refl, sym, ap, subst, ◌∙◌, ⊎_elim, arith}
 use Rattle.std.proofs.Math.Nat.{one-le-pow}
 use Rattle.std.proofs.lemmas.Nat.{div_below, le-div}
-use Rattle.std.proofs.lemmas.Bool.{cases_lt}
+use Rattle.std.proofs.lemmas.Bool.{and_from, and_right, cases_lt}
 use Rattle.std.proofs.lemmas.Bool.Decides.{nat_tests}
 use Rattle.byteorder.specs.Endian.{little_number}
 use Rattle.tds_values.specs.declared.kind.Kind.{Kind}
@@ -46,13 +46,6 @@ refused kind bytes new value long is range = subst (λ r. IsWritten r (Err fault
 equal : (a b : ℕ) → a ≡ b → nat_eq a b ≡ true
 equal a b e = grind (arith, nat_tests)
 
-and_true : (a b : Bool) → a ≡ true → b ≡ true → (a && b) ≡ true
-and_true a b ea eb = λ i. ea i && eb i
-
-and_false : (b : Bool) → (b && false) ≡ false
-and_false true = refl
-and_false false = refl
-
 -- a time of day by its whole seconds
 pub time_in : (scale units : ℕ) → scale ≤ 7 → units / 10 ^ scale < 86400 → is_time scale units ≡ true
 time_in scale units s less =
@@ -65,7 +58,7 @@ time_out scale units more =
     let positive : 1 ≤ 10 ^ scale = one-le-pow scale 10 (omega arith) in
     let above : 86400 * 10 ^ scale ≤ units = ⊎_elim (λ l. let less = div_below units (10 ^ scale) 86400 (omega arith) l in absurd (omega arith)) (λ ge. ge) (cases_lt units (86400 * 10 ^ scale)) in
     let test : nat_lt units (86400 * 10 ^ scale) ≡ false = grind (arith, nat_tests) in
-    ap (λ b. nat_le scale 7 && b) test ∙ and_false (nat_le scale 7)
+    ap (λ b. nat_le scale 7 && b) test ∙ and_right (nat_le scale 7) false refl
 
 -- so whole seconds tell whether it is one
 pub time_by_seconds : (scale units : ℕ) → scale ≤ 7 → nat_lt (units / 10 ^ scale) 86400 ≡ is_time scale units
@@ -104,7 +97,7 @@ pub date_time_written : (scale units day seconds n : ℕ) (bytes new : List ℕ)
 date_time_written scale units day seconds n bytes new s long eu ed es less last text short =
     let range : is_time scale units ≡ true = time_in scale units s (omega arith) in
     written (kinds.DateTime2 scale) bytes new (values.DateTime2 scale (time_of scale bytes) (day_of scale bytes)) n (equal _ _ long) refl
-    ((λ i. is_time scale (sym eu i) && nat_le (sym ed i) 3652058) ∙ and_true (is_time scale units) (nat_le day 3652058) range (day_in day last))
+    ((λ i. is_time scale (sym eu i) && nat_le (sym ed i) 3652058) ∙ and_from (is_time scale units) (nat_le day 3652058) range (day_in day last))
     (text ∙ ap (λ k. date_and_time day (seconds_text k ++ fraction_text scale units)) es ∙ (λ i. date_and_time (ed i) (time_text scale (eu i)))) short
 
 pub date_time_refused : (scale units day seconds : ℕ) (bytes new : List ℕ) → length bytes ≡ time_length scale + 3 → units ≡ little_number (time_length scale) bytes
@@ -112,7 +105,7 @@ pub date_time_refused : (scale units day seconds : ℕ) (bytes new : List ℕ) �
     → IsWritten (read_of (kinds.DateTime2 scale) bytes) (Err faults.Value) new
 date_time_refused scale units day seconds bytes new long eu ed es bad =
     let range : (is_time scale units && nat_le day 3652058) ≡ false =
-    ⊎_elim (λ more. ap (λ b. b && nat_le day 3652058) (time_out scale units (omega arith))) (λ late. ap (λ b. is_time scale units && b) (day_out day late) ∙ and_false (is_time scale units)) bad in
+    ⊎_elim (λ more. ap (λ b. b && nat_le day 3652058) (time_out scale units (omega arith))) (λ late. ap (λ b. is_time scale units && b) (day_out day late) ∙ and_right (is_time scale units) false refl) bad in
     refused (kinds.DateTime2 scale) bytes new (values.DateTime2 scale (time_of scale bytes) (day_of scale bytes)) (equal _ _ long) refl
     ((λ i. is_time scale (sym eu i) && nat_le (sym ed i) 3652058) ∙ range)
 
@@ -122,7 +115,7 @@ pub local_refused : (scale units day seconds : ℕ) (offset : ℤ) (new : List �
 local_refused scale units day seconds offset new es none =
     let fields = is_time scale units && nat_le day 3652058 && nat_le (unsigned_abs offset) 840 in
     let out : is_local scale units day offset ≡ false = local_by_seconds scale units day offset ∙ ap (λ s. is_some (local_seconds s day offset)) (sym es) ∙ ap is_some none in
-    let range : is_in_range (values.DateTimeOffset scale units day offset) ≡ false = ap (λ b. fields && b) out ∙ and_false fields in
+    let range : is_in_range (values.DateTimeOffset scale units day offset) ≡ false = ap (λ b. fields && b) out ∙ and_right fields false refl in
     subst (λ b. IsWritten (cond b (Ok (values.DateTimeOffset scale units day offset)) (Err faults.Value)) (Err faults.Value) new) (sym range) refl
 
 offset_in : (o : ℕ) → o ≤ 840 → nat_le o 840 ≡ true
@@ -146,7 +139,7 @@ local_written scale units day seconds l n offset new s es less last small some t
     let same : local_seconds (units / 10 ^ scale) day offset ≡ Some l = ap (λ k. local_seconds k day offset) (sym es) ∙ some in
     let inside : is_local scale units day offset ≡ true = local_by_seconds scale units day offset ∙ ap is_some same in
     let range : is_in_range value ≡ true =
-    and_true _ _ (and_true _ _ (and_true _ _ (time_in scale units s (omega arith)) (day_in day last)) (offset_in (unsigned_abs offset) small)) inside in
+    and_from _ _ (and_from _ _ (and_from _ _ (time_in scale units s (omega arith)) (day_in day last)) (offset_in (unsigned_abs offset) small)) inside in
     let whole = local_spelt scale units day seconds l n offset new es some text in
     subst (λ b. IsWritten (cond b (Ok value) (Err faults.Value)) (Ok n) new) (sym range) (whole, short)
 

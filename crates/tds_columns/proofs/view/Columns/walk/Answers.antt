@@ -1,7 +1,7 @@
 use Rattle.std.proofs.Common.{arith, ◌≡◌, ◌∙◌, ◌-◌, ℕ, List, length, take, drop, ap}
 use Rattle.std.specs.Prelude.{nat_le}
 use Rattle.byteorder.specs.Endian.{little_number}
-use Rattle.tds_packet.proofs.Choices.{and_true}
+use Rattle.std.proofs.lemmas.Bool.{and_parts}
 use Rattle.tds_columns.specs.View.{are_columns, columns_in, columns_of}
 use Rattle.tds_columns.proofs.ViewLaws.{all_behind, description_shows, length_columns}
 use Rattle.tds_columns.proofs.view.Columns.walk.Goals as goal
@@ -14,7 +14,7 @@ pub invariant_of-result : goal.invariant_of-result
 invariant_of-result c =
     let bytes = c.args.self.now.bytes.now in
     let b = behind_count bytes c.count.result c.count.ensures.value in
-    record { whole = ap (λ n. are_columns n (take (length bytes - 2) (drop 2 bytes))) b.0 ∙ ap (are_columns (little_number 2 bytes)) b.1 ∙ (and_true (nat_le 2 (length bytes)) (are_columns (little_number 2 bytes) (drop 2 bytes)) c.args.self.now.whole).1 }
+    record { whole = ap (λ n. are_columns n (take (length bytes - 2) (drop 2 bytes))) b.0 ∙ ap (are_columns (little_number 2 bytes)) b.1 ∙ (and_parts (nat_le 2 (length bytes)) (are_columns (little_number 2 bytes) (drop 2 bytes)) c.args.self.now.whole).1 }
 
 pub returns-clause-value : goal.returns-clause-value
 returns-clause-value c =
