@@ -23,6 +23,7 @@ use Rattle.tds_columns.specs.Elements.{TakesInto, EndsInto}
 use Rattle.tds_columns.specs.Gather.{Describes, DescribesColumns, StopsDescribing}
 use Rattle.tds_columns.proofs.ColumnLaws.{fits_in}
 use Rattle.tds_columns.proofs.ColumnMeaning.{not_zero, room_for}
+use Rattle.tds_columns.proofs.TypeSteps.{size_of}
 use Rattle.tds_packet.proofs.Steps.{began_is_cut, cut_at_once, reads_both, reads_none, reads_one, refused_at_once, stops_after}
 
 -- the next element is cut
@@ -137,13 +138,10 @@ byte_of before element after k is = ap (λ l. slice_index l (length before.bytes
 
 -- ---- what follows the type byte of a column
 
-info_size : (byte rest : ℕ) → rest_length byte ≡ Some rest → unwrap_or (rest_length byte) 0 ≡ rest
-info_size byte rest known = ap (λ o. unwrap_or o 0) known
-
 pub info_cut : (room index byte rest count : ℕ) (columns : List Column) (a b : Seen) (before after : Space) (place : ℕ) (stop : Stop) → rest_length byte ≡ Some rest → EndsInto a b before after place rest stop
     → StopsDescribing room (InColumn before.bytes count columns (ColumnInfo byte)) a b place before.peak after stop
 info_cut room index byte rest count columns a b before after place stop known e =
-    description_cut room (InColumn before.bytes count columns (ColumnInfo byte)) a b before after place rest stop e refl (info_size byte rest known) refl (ap (λ n. length before.bytes + n) (info_size byte rest known))
+    description_cut room (InColumn before.bytes count columns (ColumnInfo byte)) a b before after place rest stop e refl (size_of byte rest known) refl (ap (λ n. length before.bytes + n) (size_of byte rest known))
 
 -- the bytes behind what the area had
 element_is : (before : Space) (element : List ℕ) (after : Space) (bytes : List ℕ) → after ≡ appended before element → bytes ≡ drop (length before.bytes) after.bytes → element ≡ bytes
@@ -156,7 +154,7 @@ info_read room index byte rest count columns a b before after place place' bytes
     let e = t.element in
     let k : kind_of (byte ∷ e) ≡ Some kind = ap (λ l. kind_of (byte ∷ l)) (element_is before e after bytes t.stands is) ∙ found in
     let len : length after.bytes ≡ length before.bytes + rest = longer before e after rest t.stands t.whole in
-    let size : unwrap_or (rest_length byte) 0 ≡ rest = info_size byte rest known in
+    let size : unwrap_or (rest_length byte) 0 ≡ rest = size_of byte rest known in
     description_read room (InColumn before.bytes count columns (ColumnInfo byte)) (InColumn after.bytes count columns (NameCount kind)) a b before after after place place' rest t some size
     (ap (λ o. (if is_some o then None else Some (BadTypeInfo (length columns)))) k)
     (ap (λ o. with_kind (before.bytes ++ e) count columns o) k ∙ ap (λ l. InColumn l count columns (NameCount kind)) (sym (behind before e after t.stands)))
@@ -167,7 +165,7 @@ pub info_refused : (room index byte rest count : ℕ) (columns : List Column) (a
     → StopsDescribing room (InColumn before.bytes count columns (ColumnInfo byte)) a b place before.peak cut (record { fault = BadTypeInfo index; place = Payload place })
 info_refused room index byte rest count columns a b before after cut place bytes number known some t is none e =
     let k : kind_of (byte ∷ t.element) ≡ None = ap (λ l. kind_of (byte ∷ l)) (element_is before t.element after bytes t.stands is) ∙ none in
-    let size : unwrap_or (rest_length byte) 0 ≡ rest = info_size byte rest known in
+    let size : unwrap_or (rest_length byte) 0 ≡ rest = size_of byte rest known in
     let w = back before t.element after cut t.stands e in
     description_refused room (InColumn before.bytes count columns (ColumnInfo byte)) a b before after cut place rest (BadTypeInfo index) t some size
     (ap (λ o. (if is_some o then None else Some (BadTypeInfo (length columns)))) k ∙ ap (λ n. Some (BadTypeInfo n)) number)

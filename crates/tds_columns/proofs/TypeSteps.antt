@@ -31,7 +31,8 @@ head_read o a head byte rest to taken eight is known leads =
 open_type : (byte rest : ℕ) → rest ≢ 0 → with_type_byte byte rest ≡ TypeRest byte
 open_type byte rest some = choose_false (rest == 0) (with_known (kind_of (byte ∷ []))) (TypeRest byte) (ne_eqb rest 0 some)
 
-size_of : (byte rest : ℕ) → rest_length byte ≡ Some rest → unwrap_or (rest_length byte) 0 ≡ rest
+-- what follows a known type byte
+pub size_of : (byte rest : ℕ) → rest_length byte ≡ Some rest → unwrap_or (rest_length byte) 0 ≡ rest
 size_of byte rest known = ap (λ o. unwrap_or o 0) known
 
 before_head : (place : ℕ) → 8 ≤ place → (place - 8) + 8 ≡ place

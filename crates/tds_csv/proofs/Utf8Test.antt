@@ -3,7 +3,7 @@ use Rattle.std.proofs.Common.{◌≡◌, ℕ, ◌+◌, ◌-◌, ◌*◌, ◌≤�
 use Rattle.std.specs.Int.{is_in_range}
 use Rattle.std.specs.Char.{len_utf8}
 use Rattle.std.specs.Str.Lossy.{utf8_error_len, second_byte_min, second_byte_max}
-use Rattle.std.proofs.lemmas.Bool.{cases_lt}
+use Rattle.std.proofs.lemmas.Bool.{and_parts, cases_lt}
 use Rattle.std.proofs.lemmas.Bool.Decides.{nat_tests}
 use Rattle.std.proofs.lemmas.Str.{length-encode}
 use Rattle.std.proofs.str.Laws.{Scalar, Follows, Shape, of1, of2, of3, of4, shape}
@@ -11,7 +11,7 @@ use Rattle.std.specs.Str.{all_scalars}
 use Rattle.std.proofs.lemmas.Str.{len_utf8_bounds, IsUtf8-encode, IsUtf8-append, IsUtf8-nil}
 use lib.Utf8.{scalar, scalar_cases}
 use Rattle.tds_csv.specs.Utf8.{Begins, rest}
-use Rattle.tds_csv.specs.Utf8Laws.{both, front, front_is, front-rest, length-front, longest_is, take-past, regrouped, after_text, no_char, shorter}
+use Rattle.tds_csv.specs.Utf8Laws.{front, front_is, front-rest, length-front, longest_is, take-past, regrouped, after_text, no_char, shorter}
 use Rattle.std.proofs.str.Valid.{of_two, of_three, of_four}
 use Rattle.std.proofs.lemmas.List.{length-append}
 
@@ -124,7 +124,7 @@ empty_front (x ∷ r) more e = cc
 begins_none_if : (bytes more : List ℕ) (cs : List ℕ) → all_scalars cs ≡ true → encode_utf8_all cs ≡ rest bytes ++ more → utf8_error_len (rest bytes) ≡ None
 begins_none_if bytes more [] valid e = empty_front (rest bytes) more e
 begins_none_if bytes more (c ∷ cs) valid e =
-    let first = (both (scalar c) (all_scalars cs) valid).0 in
+    let first = (and_parts (scalar c) (all_scalars cs) valid).0 in
     let k = scalar_cases c first in
     let width = length-encode c in
     let bounds = len_utf8_bounds c in

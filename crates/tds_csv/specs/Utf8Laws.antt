@@ -3,18 +3,13 @@
 use Rattle.std.proofs.Common.{◌≡◌, ℕ, zero, suc, ◌+◌, ◌-◌, ◌≤◌, ◌<◌, ⊎_elim, Bool, true, false, cond, List, [], ◌∷◌, ◌++◌, length, take, drop, refl, sym, ap, subst, ◌∙◌, arith, IsUtf8, encode_utf8, encode_utf8_all, ◌&&◌}
 use Rattle.std.proofs.lemmas.List.{append_assoc, length-append, take_at, drop_at, length-take-le, take-append-drop, take_all, take-append-le}
 use Rattle.std.proofs.lemmas.Str.{IsUtf8-append, IsUtf8-nil, IsUtf8-drop, IsUtf8-encode, IsCharBoundary-from_take, is_utf8-from_IsUtf8, IsUtf8-from_is_utf8, utf8_valid_len_le, utf8_valid_len-IsUtf8, utf8_valid_len-IsValidUpTo, length-encode, len_utf8_bounds}
-use Rattle.std.proofs.lemmas.Bool.{cases_lt}
+use Rattle.std.proofs.lemmas.Bool.{and_parts, cases_lt}
 use Rattle.std.specs.Str.{is_utf8, all_scalars}
 use lib.Utf8.{scalar}
 use Rattle.std.specs.Str.Lossy.{valid_len_up_to, utf8_valid_len}
 use Rattle.tds_csv.specs.Joining.{JoinsPieces, emit}
 use Rattle.tds_csv.specs.Utf8.{IsFit, Begins, rest, text}
 use Rattle.tds_csv.specs.JoiningLemmas.{doubled-append, settled_front}
-
--- the two sides of a test
-pub both : (x y : Bool) → (x && y) ≡ true → (x ≡ true) × (y ≡ true)
-both true y h = (refl, h)
-both false y h = cc
 
 -- what is found going down is UTF-8, and nothing longer is
 front_up_to : (bs : List ℕ) (n : ℕ) → IsUtf8 (take (valid_len_up_to bs n) bs)
@@ -156,7 +151,7 @@ shorter p q x y e le =
 short_if : (a more : List ℕ) (cs : List ℕ) → all_scalars cs ≡ true → encode_utf8_all cs ≡ rest a ++ more → length (rest a) ≤ 3
 short_if a more [] valid e = let n = ap length e in omega (arith, n, length-append (rest a) more)
 short_if a more (c ∷ cs) valid e =
-    let first = both (scalar c) (all_scalars cs) valid in
+    let first = and_parts (scalar c) (all_scalars cs) valid in
     let width = length-encode c in
     let bounds = len_utf8_bounds c in
     ⊎_elim

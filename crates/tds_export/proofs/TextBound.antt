@@ -26,6 +26,7 @@ use Rattle.tds_export.specs.Response.{more}
 use Rattle.tds_export.specs.Tokens.{Token, Metadata, NoMetadata, Row, ReturnStatus, Returned, Done, DoneInProc, described_after, header_line, text, text_after}
 use Rattle.tds_export.specs.TokenGrammar.{Bodied, AnOrder, AnEnvChange, AnError, AnInfo, Open, Between, Describing, InRow, InReturn, TokenLength, TokenBody, Status, DoneFields, DoneInProcFields, Part, response, response_start, bodied, open_text, part_add, start_of_row, text_so_far, with_described, with_return, with_row, with_token}
 use Rattle.tds_rows.proofs.CellMeaning.{unless_none}
+use Rattle.tds_rows.proofs.RowSteps.{start_quiet}
 use Rattle.tds_export.proofs.GrowingTexts.{last_fit, end_fit}
 use Rattle.tds_export.proofs.FieldLengths.{open_length, long_length, open_more, long_more, ReadShort, read_short}
 use Rattle.tds_export.proofs.TokenLaws.{begun_after, text_after-snoc}
@@ -142,19 +143,12 @@ none_null : (columns : List Column) (k : ℕ) → how_many_null (marked columns 
 none_null [] k = refl
 none_null (c ∷ columns) k = none_null columns (k + 1)
 
--- a cell that begins has no text
-start_field : (kind : Kind) (sh : Shape) → field_so_far (cell_start kind sh) ≡ None
-start_field kind (FixedShape n) = refl
-start_field kind CountedShape = refl
-start_field kind (LongShape c Short) = refl
-start_field kind (LongShape c Chunked) = refl
-
 module _ (charset : Charset) where
   -- the cells to come begin
   next_length : (cells : List Cell) (ks : List (Column × Bool)) → row_length (next_cell charset cells ks) ≤ length (joined (map field cells)) + 5 * how_many_null ks + 2
   next_length cells [] = omega (arith, length-append (joined (map field cells)) line_end)
   next_length cells ((k, true) ∷ ks) = omega (arith, next_length (cells ++ Null ∷ []) ks, one_more_cell cells Null)
-  next_length cells ((k, false) ∷ ks) = subst (λ o. length (joined (with_field cells o)) + 5 * how_many_null ks ≤ length (joined (map field cells)) + 5 * how_many_null ks + 2) (sym (start_field k.kind (shape charset k.kind))) (omega arith)
+  next_length cells ((k, false) ∷ ks) = subst (λ o. length (joined (with_field cells o)) + 5 * how_many_null ks ≤ length (joined (map field cells)) + 5 * how_many_null ks + 2) (sym (start_quiet k.kind (shape charset k.kind))) (omega arith)
 
   -- a cell in its row
   with_cell_length : (cells : List Cell) (ks : List (Column × Bool)) (p : CellPart) → row_length (with_cell charset cells ks p) ≤ length (joined (with_field cells (field_so_far p))) + 5 * how_many_null ks + 2

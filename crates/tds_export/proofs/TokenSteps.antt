@@ -32,6 +32,7 @@ use Rattle.tds_export.specs.TokenGrammar.{Part, response, text_so_far, with_desc
 use Rattle.tds_export.specs.Steps.{StepStops, StopsInReading, StopsInWriting, IsHolding, ReadsToken, Tracks, behind, in_done, in_metadata, in_row}
 use Rattle.tds_packet.proofs.Lifts.{last_inside, reads_inside}
 use Rattle.tds_csv.proofs.Streams.{breaks_inside, puts_inside, streams_inside}
+use Rattle.tds_rows.proofs.RowSteps.{start_quiet}
 use Rattle.tds_rows.proofs.Stalls.{stalls_inside, stalls_size}
 use Rattle.tds_export.proofs.ResponseLaws.{description_in_response, row_in_response}
 use Rattle.tds_export.proofs.TokenLaws.{begun_after, begun_where_sets, encoded_after-append, greatest_span-append, text_after-snoc, tracks_done, tracks_metadata, tracks_none, tracks_row}
@@ -85,15 +86,9 @@ done_reads charset room area sink tokens progress fields a b place place' at d t
 -- ---- ROW
 
 -- no text stands for a row that has begun
-cell_begins : (kind : Kind) (sh : Shape) → field_so_far (cell_start kind sh) ≡ None
-cell_begins kind (FixedShape n) = refl
-cell_begins kind CountedShape = refl
-cell_begins kind (LongShape c Short) = refl
-cell_begins kind (LongShape c Chunked) = refl
-
 pub start_text : (charset : Charset) (columns : List Column) (tokens : List Token) → 0 < length columns → text_so_far (in_row charset columns tokens) ≡ text tokens ++ []
 start_text charset [] tokens some = absurd (omega (arith, some))
-start_text charset (c ∷ cs) tokens some = ap (λ f. text tokens ++ joined (with_field [] f)) (cell_begins c.kind (shape charset c.kind))
+start_text charset (c ∷ cs) tokens some = ap (λ f. text tokens ++ joined (with_field [] f)) (start_quiet c.kind (shape charset c.kind))
 
 -- a row's text so far in its response
 row_text : (tokens : List Token) (part : RowPart) → text_so_far (with_row tokens part) ≡ text tokens ++ row_so_far part

@@ -124,20 +124,10 @@ room_short : answer Windows1252 11 (129 ∷ 1 ∷ 0 ∷ 0 ∷ 0 ∷ 0 ∷ 0 ∷ 
 unfolding digits date_of utf16_chars encode_utf8 utf8_valid_len utf8_error_len is_utf8 chars encode_with rest_length named_kind refused_kind
 room_short = refl
 
--- no DONE
-no_done : answer Windows1252 1048576 (129 ∷ 1 ∷ 0 ∷ 0 ∷ 0 ∷ 0 ∷ 0 ∷ 0 ∷ 0 ∷ 56 ∷ 1 ∷ 97 ∷ 0 ∷ 209 ∷ 42 ∷ 0 ∷ 0 ∷ 0 ∷ []) ≡ (18, 34 ∷ 97 ∷ 34 ∷ 13 ∷ 10 ∷ 52 ∷ 50 ∷ 13 ∷ 10 ∷ [], Some EndWithoutDone)
-unfolding digits date_of utf16_chars encode_utf8 utf8_valid_len utf8_error_len is_utf8 chars encode_with rest_length named_kind refused_kind
-no_done = refl
-
 -- a DONE after which more follows
 done_with_more : answer Windows1252 1048576 (253 ∷ 1 ∷ 0 ∷ 0 ∷ 0 ∷ 0 ∷ 0 ∷ 0 ∷ 0 ∷ 0 ∷ 0 ∷ 0 ∷ 0 ∷ []) ≡ (13, [], Some EndWithoutDone)
 unfolding digits date_of utf16_chars encode_utf8 utf8_valid_len utf8_error_len is_utf8 chars encode_with rest_length named_kind refused_kind
 done_with_more = refl
-
--- an empty payload
-nothing : answer Windows1252 1048576 ([]) ≡ (0, [], Some EndWithoutDone)
-unfolding digits date_of utf16_chars encode_utf8 utf8_valid_len utf8_error_len is_utf8 chars encode_with rest_length named_kind refused_kind
-nothing = refl
 
 -- room for two columns
 two_columns : answer Windows1252 22 (129 ∷ 2 ∷ 0 ∷ 0 ∷ 0 ∷ 0 ∷ 0 ∷ 0 ∷ 0 ∷ 56 ∷ 1 ∷ 97 ∷ 0 ∷ 0 ∷ 0 ∷ 0 ∷ 0 ∷ 0 ∷ 0 ∷ 56 ∷ 1 ∷ 98 ∷ 0 ∷ 253 ∷ 0 ∷ 0 ∷ 0 ∷ 0 ∷ 0 ∷ 0 ∷ 0 ∷ 0 ∷ 0 ∷ 0 ∷ 0 ∷ 0 ∷ []) ≡ (36, 34 ∷ 97 ∷ 34 ∷ 44 ∷ 34 ∷ 98 ∷ 34 ∷ 13 ∷ 10 ∷ [], None)

@@ -3,17 +3,13 @@ use Rattle.std.proofs.Common.{◌≡◌, ◌∙◌, ℕ, ◌+◌, ◌≤◌, Lis
 use Rattle.std.proofs.lemmas.List.{take-append-drop, drop-drop, length-take-le}
 use Rattle.tds_packet.specs.declared.fault.Stop.{Stop}
 use Rattle.tds_packet.specs.declared.payload.Payload.{Payload}
-use Rattle.tds_packet.specs.Payloads.{IsUsedUp, buffered, seen}
+use Rattle.tds_packet.specs.Payloads.{IsUsedUp, buffered, seen, further}
 use Rattle.tds_packet.specs.Seen.{IsBetween, Takes}
 use Rattle.tds_packet.proofs.Futures.{Takes-none, between, hands_out}
 
 -- It has not stopped, so no packet is cut.
 pub between_of : {R : Type 0} (remaining : R → Option (List ℕ)) (p : Payload R) → p.stopped ≡ None → IsBetween (seen remaining p)
 between_of remaining p e = between p.packet.now.room p.max_wire p.wire p.place p.last p.stopped (buffered p) (remaining p.from.now.device) p.from.now.failures e
-
--- with so many more bytes handed out
-abbrev pub further : {R : Type 0} → Payload R → ℕ → Payload R
-further p n = record p { at = p.at + n; place = p.place + n }
 
 -- Bytes that lie ready are handed out.
 pub further_takes : {R : Type 0} (remaining : R → Option (List ℕ)) (p : Payload R) (n m : ℕ) → n ≤ length (buffered p) → p.stopped ≡ None → Takes (seen remaining p) (seen remaining (further p n)) (take n (buffered p)) m

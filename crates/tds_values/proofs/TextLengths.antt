@@ -2,6 +2,7 @@
 use Rattle.std.proofs.Common.{◌≡◌, ℕ, zero, suc, ◌+◌, ◌-◌, ◌*◌, ◌/◌, ◌%◌, ◌^◌, ◌<◌, ◌≤◌, List, [], ◌∷◌, ◌++◌, Bool, true, false, cond, not, nat_le, nat_eq, ◌&&◌, refl, sym, ap, ◌∙◌, arith, ℤ, pos, negsuc, length, unsigned_abs, int_lt, decimal, codes}
 use Rattle.std.specs.Prelude.{IsTrue}
 use Rattle.std.specs.Fmt.{signed_decimal}
+use Rattle.std.proofs.lemmas.Bool.{and_parts}
 use Rattle.std.proofs.lemmas.Bool.Decides.{nat_tests}
 use Rattle.std.proofs.lemmas.List.{length-append}
 use Rattle.std.proofs.lemmas.Nat.{pow-add, div_below}
@@ -73,10 +74,6 @@ length-offset offset =
     elim (int_lt offset (pos 0)) as (λ t. length (cond t (codes "-") (codes "+") ++ minutes_text (unsigned_abs offset)) ≡ 6)
     [ true ↦ omega (arith, length-minutes (unsigned_abs offset)) | false ↦ omega (arith, length-minutes (unsigned_abs offset)) ]
 
-pub both : (x y : Bool) → (x && y) ≡ true → (x ≡ true) × (y ≡ true)
-both true y h = (refl, h)
-both false y h = cc
-
 pub at_most_7 : (scale : ℕ) → nat_le scale 7 ≡ true → scale ≤ 7
 at_most_7 scale h = grind (arith, nat_tests)
 
@@ -84,7 +81,7 @@ at_most_38 : (scale : ℕ) → nat_le scale 38 ≡ true → scale ≤ 38
 at_most_38 scale h = grind (arith, nat_tests)
 
 length-time_in_range : (scale units : ℕ) → is_time scale units ≡ true → length (time_text scale units) ≤ 16
-length-time_in_range scale units h = let s = at_most_7 scale (both _ _ h).0 in omega (arith, length-time scale units)
+length-time_in_range scale units h = let s = at_most_7 scale (and_parts _ _ h).0 in omega (arith, length-time scale units)
 
 length-integer : (n : ℤ) → unsigned_abs n < 2 ^ 64 → length (signed_decimal n) ≤ 41
 length-integer (pos n) h = omega (arith, length-decimal-le 20 n (omega arith) (omega arith) h)
@@ -116,9 +113,9 @@ length-text_of (values.Guid bytes) h fits =
 length-text_of (values.Date day) h fits = omega (arith, length-date day)
 length-text_of (values.Time scale units) h fits = omega (arith, length-time_in_range scale units h)
 length-text_of (values.DateTime2 scale units day) h fits =
-    omega (arith, length-date_and_time day (time_text scale units), length-time_in_range scale units (both _ _ h).0)
+    omega (arith, length-date_and_time day (time_text scale units), length-time_in_range scale units (and_parts _ _ h).0)
 length-text_of (values.DateTimeOffset scale units day offset) h fits =
-    length-local scale (local_units scale units day offset) offset (both _ _ (both _ _ (both _ _ (both _ _ h).0).0).0).0
+    length-local scale (local_units scale units day offset) offset (and_parts _ _ (and_parts _ _ (and_parts _ _ (and_parts _ _ h).0).0).0).0
 length-text_of (values.SmallDateTime days minutes) h fits =
     omega (arith, length-date_and_time (DAY_OF_1900 + days) (seconds_text (60 * minutes)), length-seconds (60 * minutes))
 length-text_of (values.DateTime days ticks) h fits =

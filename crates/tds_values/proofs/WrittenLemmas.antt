@@ -2,7 +2,7 @@
 use Rattle.std.proofs.Common.{◌≡◌, ℕ, ◌+◌, ◌*◌, ◌/◌, ◌%◌, ◌^◌, ◌<◌, ◌≤◌, List, ◌++◌, Bool, true, false, cond, nat_eq, nat_le, nat_lt, ◌&&◌, ◌⊎◌, take, drop, length, ℤ, unsigned_abs, codes, Some, None, Ok, Err, refl, sym, ap, subst, ◌∙◌, ⊎_elim, arith}
 use Rattle.std.proofs.Math.Nat.{one-le-pow}
 use Rattle.std.proofs.lemmas.Nat.{div_below, le-div}
-use Rattle.std.proofs.lemmas.Bool.{and_from, and_right, cases_lt}
+use Rattle.std.proofs.lemmas.Bool.{and_from, and_parts, and_right, cases_lt}
 use Rattle.std.proofs.lemmas.Bool.Decides.{nat_tests}
 use Rattle.byteorder.specs.Endian.{little_number}
 use Rattle.tds_values.specs.declared.kind.Kind.{Kind}
@@ -15,7 +15,6 @@ use Rattle.tds_values.specs.Scalar.{value_of, checked, read_of, time_of, day_of}
 use Rattle.tds_values.specs.ScalarRange.{is_in_range}
 use Rattle.tds_values.specs.ScalarText.{text_of, seconds_text, fraction_text, time_text, date_and_time, offset_text, local_text}
 use Rattle.tds_values.specs.LocalTime.{is_local, local_seconds}
-use Rattle.tds_values.proofs.TextLengths.{both}
 use Rattle.tds_values.proofs.LocalLemmas.{local_by_seconds, units_of_seconds, text_of_seconds}
 use Rattle.std.specs.Prelude.{is_some, IfOk, IfErr, Option, Result}
 use Rattle.tds_values.specs.declared.scalar.ValueFault.{ValueFault}
@@ -147,7 +146,7 @@ local_written scale units day seconds l n offset new s es less last small some t
 pub local_found : (scale units day seconds : ℕ) (offset : ℤ) → seconds ≡ units / 10 ^ scale → is_in_range (values.DateTimeOffset scale units day offset) ≡ true
     → local_seconds seconds day offset ≡ None → ⊥
 local_found scale units day seconds offset es range none =
-    nothing (ap (λ k. is_some (local_seconds k day offset)) es ∙ sym (local_by_seconds scale units day offset) ∙ (both _ _ range).1) none
+    nothing (ap (λ k. is_some (local_seconds k day offset)) es ∙ sym (local_by_seconds scale units day offset) ∙ (and_parts _ _ range).1) none
   where
     nothing : {o : Option ℕ} → is_some o ≡ true → o ≡ None → ⊥
     nothing some e = cc
