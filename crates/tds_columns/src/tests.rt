@@ -6,6 +6,7 @@ ghost use Rattle.tds_packet.specs.Payloads.{IsSound};
 use super::*;
 use std::alloc::{AllocError, Global};
 use std::io::Read;
+use std::process::Abort;
 use std::test::Fail;
 use tds_meter::Area;
 use tds_packet::rig::{RepeatingReader, ScriptedReader};
@@ -151,139 +152,203 @@ fn descriptions_are_gathered(rt: HostRuntime) -> Result<(), Fail> {
             let mut area = new_area(rt.alloc(), ROOM)?;
             let outcome = describe(rt.alloc(), &mut area, &wire, most)?;
             let count = kinds.len() as u16;
-            assert_eq!(rt; outcome.answer, Ok(Described::Columns(count)), "{what}");
+            assert_eq!(rt;
+                outcome.answer,
+                Ok(Described::Columns(count)),
+                "{what}, {size} a packet"
+            );
             assert_eq!(rt;
                 outcome.kept.as_slice(),
                 behind_token(payload, payload.len()),
-                "{what}"
+                "{what}, {size} a packet"
             );
-            assert_eq!(rt; outcome.place, payload.len() as u64, "{what}");
-            assert_eq!(rt; outcome.peak, outcome.kept.len(), "{what}");
-            assert!(rt; outcome.counted, "{what}");
-            assert_eq!(rt; outcome.kinds.as_slice(), kinds, "{what}");
-            assert_eq!(rt; outcome.names.as_slice(), names, "{what}");
+            let place = payload.len() as u64;
+            assert_eq!(rt; outcome.place, place, "{what}, {size} a packet");
+            assert_eq!(rt; outcome.peak, outcome.kept.len(), "{what}, {size} a packet");
+            assert!(rt; outcome.counted, "{what}, {size} a packet");
+            assert_eq!(rt; outcome.kinds.as_slice(), kinds, "{what}, {size} a packet");
+            assert_eq!(rt; outcome.names.as_slice(), names, "{what}, {size} a packet");
         }
     }
     Ok(())
 }
 
-// Each type byte of the profile, with the kind that it and what follows it describe.
+// Checks the kind of columns and of a returned value that have this type information.
+fn check_kind(
+    rt: &impl Abort,
+    alloc: Global,
+    what: &str,
+    info: &[u8],
+    kind: Kind,
+) -> Result<(), Fail> {
+    let payload = description_of(alloc, 2, info, b"t\0")?;
+    let wire = in_packets(alloc, &payload, 7)?;
+    let mut area = new_area(alloc, ROOM)?;
+    let outcome = describe(alloc, &mut area, &wire, 1000)?;
+    assert_eq!(rt; outcome.answer, Ok(Described::Columns(2)), "{what}");
+    assert_eq!(rt; outcome.kinds.as_slice(), [kind; 2].as_slice(), "{what}");
+    assert_eq!(rt; outcome.names.as_slice(), b"t\0|t\0|".as_slice(), "{what}");
+    let returned = return_type(alloc, info)?;
+    let place = info.len().saturating_add(15) as u64;
+    assert_eq!(rt; returned, (Ok(kind), place), "{what}: returned");
+    Ok(())
+}
+
+// Each type byte of the profile whose values have a fixed length.
 #[test]
-fn types_are_known(rt: HostRuntime) -> Result<(), Fail> {
+fn fixed_types_are_known(rt: HostRuntime) -> Result<(), Fail> {
+    for (what, byte, kind) in [
+        ("tinyint", 0x30, Kind::Int1),
+        ("bit", 0x32, Kind::Bit),
+        ("smallint", 0x34, Kind::Int2),
+        ("int", 0x38, Kind::Int4),
+        ("bigint", 0x7F, Kind::Int8),
+        ("smalldatetime", 0x3A, Kind::DateTime4),
+        ("datetime", 0x3D, Kind::DateTime8),
+        ("smallmoney", 0x7A, Kind::Money4),
+        ("money", 0x3C, Kind::Money8),
+    ] {
+        check_kind(&rt, rt.alloc(), what, &[byte], kind)?;
+    }
+    Ok(())
+}
+
+// Each type byte of the profile whose values stand behind a length of one byte.
+#[test]
+fn types_with_a_length_are_known(rt: HostRuntime) -> Result<(), Fail> {
     let decimal = |length, precision, scale| Kind::Decimal {
         length,
         precision,
         scale,
     };
-    for (info, kind) in [
-        (&[0x30][..], Kind::Int1),
-        (&[0x32], Kind::Bit),
-        (&[0x34], Kind::Int2),
-        (&[0x38], Kind::Int4),
-        (&[0x7F], Kind::Int8),
-        (&[0x3A], Kind::DateTime4),
-        (&[0x3D], Kind::DateTime8),
-        (&[0x7A], Kind::Money4),
-        (&[0x3C], Kind::Money8),
-        (&[0x28], Kind::Date),
-        (&[0x24, 16], Kind::Guid),
-        (&[0x26, 1], Kind::IntN(1)),
-        (&[0x26, 8], Kind::IntN(8)),
-        (&[0x68, 1], Kind::BitN),
-        (&[0x6E, 8], Kind::MoneyN(8)),
-        (&[0x6F, 4], Kind::DateTimeN(4)),
-        (&[0x29, 7], Kind::Time(7)),
-        (&[0x2A, 3], Kind::DateTime2(3)),
-        (&[0x2B, 0], Kind::DateTimeOffset(0)),
-        (&[0x6A, 5, 5, 2], decimal(5, 5, 2)),
-        (&[0x6C, 17, 38, 37], decimal(17, 38, 37)),
-        (&[0xA5, 10, 0], Kind::Binary(Reach::Short)),
-        (&[0xA5, 0xFF, 0xFF], Kind::Binary(Reach::Chunked)),
-        (&[0xAD, 0xFE, 0xFF], Kind::Binary(Reach::Short)),
-        (&with_collation(0xA7, [10, 0]), Kind::Narrow(Reach::Short)),
-        (
-            &with_collation(0xA7, [0xFF, 0xFF]),
-            Kind::Narrow(Reach::Chunked),
-        ),
-        (&with_collation(0xAF, [0xFF, 0]), Kind::Narrow(Reach::Short)),
-        (&with_collation(0xE7, [20, 0]), Kind::Wide(Reach::Short)),
-        (
-            &with_collation(0xE7, [0xFF, 0xFF]),
-            Kind::Wide(Reach::Chunked),
-        ),
-        (&with_collation(0xEF, [0, 0xFF]), Kind::Wide(Reach::Short)),
+    for (what, info, kind) in [
+        ("date", &[0x28][..], Kind::Date),
+        ("uniqueidentifier", &[0x24, 16], Kind::Guid),
+        ("a nullable tinyint", &[0x26, 1], Kind::IntN(1)),
+        ("a nullable bigint", &[0x26, 8], Kind::IntN(8)),
+        ("a nullable bit", &[0x68, 1], Kind::BitN),
+        ("a nullable money", &[0x6E, 8], Kind::MoneyN(8)),
+        ("a nullable smalldatetime", &[0x6F, 4], Kind::DateTimeN(4)),
+        ("time(7)", &[0x29, 7], Kind::Time(7)),
+        ("datetime2(3)", &[0x2A, 3], Kind::DateTime2(3)),
+        ("datetimeoffset(0)", &[0x2B, 0], Kind::DateTimeOffset(0)),
+        ("decimal(5, 2)", &[0x6A, 5, 5, 2], decimal(5, 5, 2)),
+        ("numeric(38, 37)", &[0x6C, 17, 38, 37], decimal(17, 38, 37)),
     ] {
-        let payload = description_of(rt.alloc(), 2, info, b"t\0")?;
-        let wire = in_packets(rt.alloc(), &payload, 7)?;
-        let mut area = new_area(rt.alloc(), ROOM)?;
-        let outcome = describe(rt.alloc(), &mut area, &wire, 1000)?;
-        assert_eq!(rt; outcome.answer, Ok(Described::Columns(2)), "{info:?}");
-        assert_eq!(rt; outcome.kinds.as_slice(), [kind; 2].as_slice(), "{info:?}");
-        assert_eq!(rt;
-            outcome.names.as_slice(),
-            b"t\0|t\0|".as_slice(),
-            "{info:?}"
-        );
-        let returned = return_type(rt.alloc(), info)?;
-        let place = info.len().saturating_add(15) as u64;
-        assert_eq!(rt; returned, (Ok(kind), place), "{info:?}");
+        check_kind(&rt, rt.alloc(), what, info, kind)?;
     }
     Ok(())
 }
 
-// Type bytes and type information that aren't accepted.
+// Each type byte of the profile of binary data and text.
+#[test]
+fn long_types_are_known(rt: HostRuntime) -> Result<(), Fail> {
+    let binary = Kind::Binary(Reach::Short);
+    let binary_max = Kind::Binary(Reach::Chunked);
+    let narrow = with_collation(0xA7, [10, 0]);
+    let narrow_max = with_collation(0xA7, [0xFF, 0xFF]);
+    let padded = with_collation(0xAF, [0xFF, 0]);
+    let wide = with_collation(0xE7, [20, 0]);
+    let wide_max = with_collation(0xE7, [0xFF, 0xFF]);
+    let wide_padded = with_collation(0xEF, [0, 0xFF]);
+    for (what, info, kind) in [
+        ("varbinary(10)", &[0xA5, 10, 0][..], binary),
+        ("varbinary(max)", &[0xA5, 0xFF, 0xFF], binary_max),
+        ("the longest binary", &[0xAD, 0xFE, 0xFF], binary),
+        ("varchar(10)", &narrow, Kind::Narrow(Reach::Short)),
+        ("varchar(max)", &narrow_max, Kind::Narrow(Reach::Chunked)),
+        ("char(255)", &padded, Kind::Narrow(Reach::Short)),
+        ("nvarchar(10)", &wide, Kind::Wide(Reach::Short)),
+        ("nvarchar(max)", &wide_max, Kind::Wide(Reach::Chunked)),
+        ("a long nchar", &wide_padded, Kind::Wide(Reach::Short)),
+    ] {
+        check_kind(&rt, rt.alloc(), what, info, kind)?;
+    }
+    Ok(())
+}
+
+// Checks that a second column of this type information is refused, at this place of the payload.
+fn check_refused(
+    rt: &impl Abort,
+    alloc: Global,
+    what: &str,
+    info: &[u8],
+    fault: Fault,
+    place: usize,
+) -> Result<(), Fail> {
+    // an int stands before it, 10 bytes with the name a
+    let mut payload = Vec::new(alloc);
+    payload.extend_from_slice(&TWO_INTS[..13])?;
+    payload.extend_from_slice(&[0; 6])?;
+    payload.extend_from_slice(info)?;
+    payload.extend_from_slice(&[0; 9])?;
+    let wire = in_packets(alloc, &payload, 7)?;
+    let mut area = new_area(alloc, ROOM)?;
+    let outcome = describe(alloc, &mut area, &wire, 1000)?;
+    assert_eq!(rt; outcome.answer, at_payload(fault, place as u64), "{what}");
+    assert_eq!(rt;
+        outcome.kept.as_slice(),
+        behind_token(&payload, place),
+        "{what}"
+    );
+    Ok(())
+}
+
+// Type bytes that aren't accepted, each at the head of its column.
 #[test]
 fn types_are_refused(rt: HostRuntime) -> Result<(), Fail> {
     let by_name = |kind| Fault::RefusedColumn { index: 1, kind };
     let unknown = |byte| Fault::UnknownType { index: 1, byte };
-    let bad = Fault::BadTypeInfo { index: 1 };
-    for (info, fault) in [
-        (&[0x3B][..], by_name(RefusedKind::Flt4)),
-        (&[0x3E], by_name(RefusedKind::Flt8)),
-        (&[0x6D], by_name(RefusedKind::FltN)),
-        (&[0x23], by_name(RefusedKind::Text)),
-        (&[0x63], by_name(RefusedKind::NText)),
-        (&[0x22], by_name(RefusedKind::Image)),
-        (&[0x62], by_name(RefusedKind::SsVariant)),
-        (&[0xF0], by_name(RefusedKind::Udt)),
-        (&[0xF1], by_name(RefusedKind::Xml)),
-        (&[0x1F], unknown(0x1F)),
-        (&[0x2F], unknown(0x2F)),
-        (&[0x00], unknown(0x00)),
-        (&[0xFF], unknown(0xFF)),
-        (&[0x26, 3], bad),
-        (&[0x24, 15], bad),
-        (&[0x68, 2], bad),
-        (&[0x6E, 5], bad),
-        (&[0x6F, 0], bad),
-        (&[0x29, 8], bad),
-        (&[0x2A, 8], bad),
-        (&[0x2B, 255], bad),
-        (&[0x6A, 5, 5, 6], bad),
-        (&[0x6A, 6, 5, 2], bad),
-        (&[0x6C, 17, 39, 2], bad),
-        (&[0x6C, 17, 0, 0], bad),
-        (&[0xAD, 0xFF, 0xFF], bad),
-        (&with_collation(0xAF, [0xFF, 0xFF]), bad),
-        (&with_collation(0xEF, [0xFF, 0xFF]), bad),
+    for (what, byte, fault) in [
+        ("real", 0x3B, by_name(RefusedKind::Flt4)),
+        ("float", 0x3E, by_name(RefusedKind::Flt8)),
+        ("a nullable float", 0x6D, by_name(RefusedKind::FltN)),
+        ("text", 0x23, by_name(RefusedKind::Text)),
+        ("ntext", 0x63, by_name(RefusedKind::NText)),
+        ("image", 0x22, by_name(RefusedKind::Image)),
+        ("sql_variant", 0x62, by_name(RefusedKind::SsVariant)),
+        ("a type of the user's", 0xF0, by_name(RefusedKind::Udt)),
+        ("xml", 0xF1, by_name(RefusedKind::Xml)),
+        ("the null type", 0x1F, unknown(0x1F)),
+        ("the old char", 0x2F, unknown(0x2F)),
+        ("the least byte", 0x00, unknown(0x00)),
+        ("the greatest byte", 0xFF, unknown(0xFF)),
     ] {
-        // an int stands before it, 10 bytes with the name a
-        let mut payload = Vec::new(rt.alloc());
-        payload.extend_from_slice(&TWO_INTS[..13])?;
-        payload.extend_from_slice(&[0; 6])?;
-        payload.extend_from_slice(info)?;
-        payload.extend_from_slice(&[0; 9])?;
-        let wire = in_packets(rt.alloc(), &payload, 7)?;
-        let mut area = new_area(rt.alloc(), ROOM)?;
-        let outcome = describe(rt.alloc(), &mut area, &wire, 1000)?;
-        // that of the head, or of what stands behind it
-        let place = if fault == bad { 20 } else { 13 };
-        assert_eq!(rt; outcome.answer, at_payload(fault, place), "{info:?}");
-        assert_eq!(rt;
-            outcome.kept.as_slice(),
-            behind_token(&payload, place as usize),
-            "{info:?}"
-        );
+        check_refused(&rt, rt.alloc(), what, &[byte], fault, 13)?;
+    }
+    Ok(())
+}
+
+// Lengths, precisions and scales that aren't accepted, each behind the head of its column.
+#[test]
+fn type_information_is_refused(rt: HostRuntime) -> Result<(), Fail> {
+    let long_char = with_collation(0xAF, [0xFF, 0xFF]);
+    let long_nchar = with_collation(0xEF, [0xFF, 0xFF]);
+    for (what, info) in [
+        ("an int of 3 bytes", &[0x26, 3][..]),
+        ("a GUID of 15 bytes", &[0x24, 15]),
+        ("a bit of 2 bytes", &[0x68, 2]),
+        ("money of 5 bytes", &[0x6E, 5]),
+        ("a datetime of no bytes", &[0x6F, 0]),
+        ("time(8)", &[0x29, 8]),
+        ("datetime2(8)", &[0x2A, 8]),
+        ("datetimeoffset(255)", &[0x2B, 255]),
+        ("a scale above the precision", &[0x6A, 5, 5, 6]),
+        ("a decimal of 6 bytes", &[0x6A, 6, 5, 2]),
+        ("39 digits", &[0x6C, 17, 39, 2]),
+        ("no digits", &[0x6C, 17, 0, 0]),
+        ("binary(max)", &[0xAD, 0xFF, 0xFF]),
+        ("char(max)", &long_char),
+        ("nchar(max)", &long_nchar),
+    ] {
+        check_refused(
+            &rt,
+            rt.alloc(),
+            what,
+            info,
+            Fault::BadTypeInfo { index: 1 },
+            20,
+        )?;
     }
     Ok(())
 }
@@ -364,15 +429,12 @@ fn cut_descriptions_stop(rt: HostRuntime) -> Result<(), Fail> {
         let wire = in_packets(rt.alloc(), &TWO_INTS[..n], 3)?;
         let mut area = new_area(rt.alloc(), ROOM)?;
         let outcome = describe(rt.alloc(), &mut area, &wire, 1000)?;
-        assert_eq!(rt;
-            outcome.answer,
-            at_payload(Fault::MessageEnded, place),
-            "{n}"
-        );
+        let stop = at_payload(Fault::MessageEnded, place);
+        assert_eq!(rt; outcome.answer, stop, "cut behind {n} bytes");
         assert_eq!(rt;
             outcome.kept.as_slice(),
             behind_token(TWO_INTS, place as usize),
-            "{n}"
+            "cut behind {n} bytes"
         );
     }
     Ok(())
@@ -482,18 +544,21 @@ fn return_type(alloc: Global, info: &[u8]) -> Result<(Result<Kind, Stop>, u64), 
 fn returned_types_are_refused(rt: HostRuntime) -> Result<(), Fail> {
     let index = 65_535;
     let kind = RefusedKind::Flt8;
-    let byte = 0x1F;
-    for (info, fault, place) in [
-        (&[0x3E][..], Fault::RefusedColumn { index, kind }, 8),
-        (&[0x1F], Fault::UnknownType { index, byte }, 8),
-        (&[0x26, 3], Fault::BadTypeInfo { index }, 16),
-        (&[0x6A, 5, 5, 6], Fault::BadTypeInfo { index }, 16),
-        (&[0x26], Fault::MessageEnded, 16),
-        (&[0xE7, 0xFF, 0xFF, 9, 4], Fault::MessageEnded, 16),
-        (&[], Fault::MessageEnded, 8),
+    let refused = Fault::RefusedColumn { index, kind };
+    let unknown = Fault::UnknownType { index, byte: 0x1F };
+    let bad = Fault::BadTypeInfo { index };
+    let ended = Fault::MessageEnded;
+    for (what, info, fault, place) in [
+        ("float", &[0x3E][..], refused, 8),
+        ("the null type", &[0x1F], unknown, 8),
+        ("an int of 3 bytes", &[0x26, 3], bad, 16),
+        ("a scale above the precision", &[0x6A, 5, 5, 6], bad, 16),
+        ("an int without its length", &[0x26], ended, 16),
+        ("half a collation", &[0xE7, 0xFF, 0xFF, 9, 4], ended, 16),
+        ("no type byte", &[], ended, 8),
     ] {
         let (answer, _) = return_type(rt.alloc(), info)?;
-        assert_eq!(rt; answer, at_payload(fault, place), "{info:?}");
+        assert_eq!(rt; answer, at_payload(fault, place), "{what}");
     }
     Ok(())
 }

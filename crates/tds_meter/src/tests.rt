@@ -10,91 +10,95 @@ const GREATEST: (u16, u32, u64) = (32_767, 67_108_864, 72_057_594_037_927_936);
 
 #[test]
 fn accepts_the_edges_of_each_range(rt: HostRuntime) -> Result<(), Fail> {
-    for (packet_size, column_room, max_wire) in [LEAST, (4_096, 1_048_576, 1 << 40), GREATEST] {
+    for (what, (packet_size, column_room, max_wire)) in [
+        ("the least of each", LEAST),
+        ("usual numbers", (4_096, 1_048_576, 1 << 40)),
+        ("the greatest of each", GREATEST),
+    ] {
         let limits = Limits::new(packet_size, column_room, max_wire)?;
-        assert_eq!(rt; limits.packet_size(), packet_size);
-        assert_eq!(rt; limits.column_room(), column_room);
-        assert_eq!(rt; limits.max_wire(), max_wire);
+        assert_eq!(rt; limits.packet_size(), packet_size, "{what}");
+        assert_eq!(rt; limits.column_room(), column_room, "{what}");
+        assert_eq!(rt; limits.max_wire(), max_wire, "{what}");
     }
     Ok(())
 }
 
-// Each row: the numbers, the fault, and its text.
+// The first number that is out of its range, its fault and the fault's text.
 #[test]
 fn names_the_first_number_out_of_its_range(rt: HostRuntime) {
-    let packet = "the packet size isn't 512 to 32,767";
-    let column = "the column room isn't 10 to 67,108,864 bytes";
-    let wire = "the wire limit isn't 8 to 72,057,594,037,927,936 bytes";
+    let packet = (
+        LimitFault::PacketSize,
+        "the packet size isn't 512 to 32,767",
+    );
+    let column = (
+        LimitFault::ColumnRoom,
+        "the column room isn't 10 to 67,108,864 bytes",
+    );
+    let wire = (
+        LimitFault::MaxWire,
+        "the wire limit isn't 8 to 72,057,594,037,927,936 bytes",
+    );
     let past = 72_057_594_037_927_937;
-    for (packet_size, column_room, max_wire, fault, text) in [
-        (511, 10, 8, LimitFault::PacketSize, packet),
-        (32_768, 10, 8, LimitFault::PacketSize, packet),
-        (512, 9, 8, LimitFault::ColumnRoom, column),
-        (512, 67_108_865, 8, LimitFault::ColumnRoom, column),
-        (512, 10, 7, LimitFault::MaxWire, wire),
-        (512, 10, past, LimitFault::MaxWire, wire),
-        (0, 0, 0, LimitFault::PacketSize, packet),
-        (
-            65_535,
-            4_294_967_295,
-            u64::MAX,
-            LimitFault::PacketSize,
-            packet,
-        ),
-        (512, 0, 0, LimitFault::ColumnRoom, column),
-        (32_767, 67_108_865, past, LimitFault::ColumnRoom, column),
+    for (what, packet_size, column_room, max_wire, (fault, text)) in [
+        ("a small packet size", 511, 10, 8, packet),
+        ("a large packet size", 32_768, 10, 8, packet),
+        ("a small column room", 512, 9, 8, column),
+        ("a large column room", 512, 67_108_865, 8, column),
+        ("a small wire limit", 512, 10, 7, wire),
+        ("a large wire limit", 512, 10, past, wire),
+        ("three zeros", 0, 0, 0, packet),
+        ("each too large", 65_535, 4_294_967_295, u64::MAX, packet),
+        ("two zeros", 512, 0, 0, column),
+        ("two too large", 32_767, 67_108_865, past, column),
     ] {
         match Limits::new(packet_size, column_room, max_wire) {
-            Ok(limits) => assert!(rt; false, "{limits:?}"),
+            Ok(limits) => assert!(rt; false, "{what}: {limits:?}"),
             Err(given) => {
-                assert_eq!(rt; given, fault, "{packet_size} {column_room} {max_wire}");
+                assert_eq!(rt; given, fault, "{what}");
                 let shown = format!(in rt.alloc(); "{given}").expect(&rt, "ample memory");
-                assert_eq!(rt; shown.as_str(), text);
+                assert_eq!(rt; shown.as_str(), text, "{what}");
             }
         }
     }
 }
 
 // What an area holds, and its peak.
-fn check_area(rt: &impl Abort, area: &Area, bytes: &[u8], peak: usize) {
-    assert_eq!(rt; area.bytes(), bytes);
-    assert_eq!(rt; area.len(), bytes.len());
-    assert_eq!(rt; area.is_empty(), bytes.is_empty());
-    assert_eq!(rt; area.room(), 6);
-    assert_eq!(rt; area.free() + bytes.len(), 6);
-    assert_eq!(rt; area.peak(), peak);
+fn check_area(rt: &impl Abort, what: &str, area: &Area, bytes: &[u8], peak: usize) {
+    assert_eq!(rt; area.bytes(), bytes, "{what}");
+    assert_eq!(rt; area.len(), bytes.len(), "{what}");
+    assert_eq!(rt; area.is_empty(), bytes.is_empty(), "{what}");
+    assert_eq!(rt; area.room(), 6, "{what}");
+    assert_eq!(rt; area.free() + bytes.len(), 6, "{what}");
+    assert_eq!(rt; area.peak(), peak, "{what}");
 }
 
 #[test]
 fn an_area_keeps_its_bytes_and_its_peak(rt: HostRuntime) -> Result<(), Fail> {
     let mut area = Area::new(rt.alloc(), 6)?;
-    check_area(&rt, &area, b"", 0);
+    check_area(&rt, "a new area", &area, b"", 0);
     assert_eq!(rt; area.append(b"abcd"), Ok(()));
-    check_area(&rt, &area, b"abcd", 4);
-    // one byte too many: nothing has changed
+    check_area(&rt, "four bytes", &area, b"abcd", 4);
     assert_eq!(rt; area.append(b"efg"), Err(Full));
     assert_eq!(rt; area.extend(3), Err(Full));
     assert_eq!(rt; area.extend(usize::MAX), Err(Full));
-    check_area(&rt, &area, b"abcd", 4);
-    // an exactly full room, to which nothing can still be added
+    check_area(&rt, "one byte too many", &area, b"abcd", 4);
     assert_eq!(rt; area.append(b"ef"), Ok(()));
     assert_eq!(rt; area.append(b""), Ok(()));
     assert_eq!(rt; area.append(b"g"), Err(Full));
-    check_area(&rt, &area, b"abcdef", 6);
+    check_area(&rt, "a full area", &area, b"abcdef", 6);
     assert!(rt; area.len() == 6);
     area.drop_front(2);
-    check_area(&rt, &area, b"cdef", 6);
+    check_area(&rt, "the front dropped", &area, b"cdef", 6);
     area.truncate(9);
-    check_area(&rt, &area, b"cdef", 6);
+    check_area(&rt, "cut behind its end", &area, b"cdef", 6);
     area.truncate(1);
-    check_area(&rt, &area, b"c", 6);
-    // zeros, where other bytes stood before
+    check_area(&rt, "cut to one byte", &area, b"c", 6);
     assert_eq!(rt; area.extend(2), Ok(()));
-    check_area(&rt, &area, b"c\0\0", 6);
+    check_area(&rt, "zeros where other bytes stood", &area, b"c\0\0", 6);
     area.clear();
-    check_area(&rt, &area, b"", 6);
+    check_area(&rt, "cleared", &area, b"", 6);
     area.restart();
-    check_area(&rt, &area, b"", 0);
+    check_area(&rt, "restarted", &area, b"", 0);
     Ok(())
 }
 
@@ -106,10 +110,10 @@ fn an_area_lends_its_end(rt: HostRuntime) -> Result<(), Fail> {
     let lent = area.grow_within(3);
     assert_eq!(rt; &*lent, b"\0\0\0".as_slice());
     lent.copy_from_slice(b"cde");
-    check_area(&rt, &area, b"abcde", 5);
+    check_area(&rt, "written at its end", &area, b"abcde", 5);
     assert!(rt; area.len() == 5);
     area.tail(1).reverse();
-    check_area(&rt, &area, b"aedcb", 5);
+    check_area(&rt, "turned round", &area, b"aedcb", 5);
     assert!(rt; area.len() == 5);
     assert_eq!(rt; area.tail(5).len(), 0);
     Ok(())
@@ -118,17 +122,17 @@ fn an_area_lends_its_end(rt: HostRuntime) -> Result<(), Fail> {
 // The rooms of the six, and that they hold nothing.
 fn check_empty(rt: &impl Abort, areas: &Areas, restarts: u64) {
     assert!(rt; areas.intact());
-    for (area, room) in [
-        (&areas.packet, 512),
-        (&areas.description, 10),
-        (&areas.token, 65_536),
-        (&areas.output, 4_096),
-        (&areas.notice, 512),
-        (&areas.small, 128),
+    for (what, area, room) in [
+        ("packet", &areas.packet, 512),
+        ("description", &areas.description, 10),
+        ("token", &areas.token, 65_536),
+        ("output", &areas.output, 4_096),
+        ("notice", &areas.notice, 512),
+        ("small", &areas.small, 128),
     ] {
-        assert_eq!(rt; area.room(), room);
-        assert_eq!(rt; area.len(), 0);
-        assert_eq!(rt; area.peak(), 0);
+        assert_eq!(rt; area.room(), room, "{what} after {restarts} restarts");
+        assert_eq!(rt; area.len(), 0, "{what} after {restarts} restarts");
+        assert_eq!(rt; area.peak(), 0, "{what} after {restarts} restarts");
     }
     assert_eq!(rt; areas.held(), 0);
     assert_eq!(rt; areas.peak_rest(), 0);
@@ -198,8 +202,12 @@ fn the_greatest_rooms_are_had(rt: HostRuntime) -> Result<(), Fail> {
     assert_eq!(rt; areas.packet.room(), 32_767);
     assert_eq!(rt; areas.description.room(), 67_108_864);
     assert!(rt; areas.intact());
-    for room in [0, 1, 67_108_864] {
-        assert_eq!(rt; Area::new(rt.alloc(), room)?.room(), room);
+    for (what, room) in [
+        ("no room", 0),
+        ("one byte", 1),
+        ("the greatest room", 67_108_864),
+    ] {
+        assert_eq!(rt; Area::new(rt.alloc(), room)?.room(), room, "{what}");
     }
     Ok(())
 }

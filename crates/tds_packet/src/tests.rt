@@ -161,33 +161,30 @@ fn faults_have_numbers(rt: HostRuntime) {
 #[test]
 fn bytes_are_delivered(rt: HostRuntime) {
     let text = b"delivered";
-    for (most, failing, answer, failures, writes) in [
-        (1, Failing::Never, Ok(()), 0, 9),
-        (4, Failing::Never, Ok(()), 0, 3),
-        (2, Failing::AfterBytes(5), Err(5), 1, 4),
-        (2, Failing::ZeroAfterBytes(5), Err(5), 1, 4),
-        (4, Failing::AfterBytes(0), Err(0), 1, 1),
-        (4, Failing::AtWrite(1), Err(4), 1, 2),
-        (4, Failing::InFlush, Ok(()), 0, 3),
+    for (what, most, failing, answer, failures, writes) in [
+        ("a byte a write", 1, Failing::Never, Ok(()), 0, 9),
+        ("four a write", 4, Failing::Never, Ok(()), 0, 3),
+        ("a late error", 2, Failing::AfterBytes(5), Err(5), 1, 4),
+        ("a late zero", 2, Failing::ZeroAfterBytes(5), Err(5), 1, 4),
+        ("an early error", 4, Failing::AfterBytes(0), Err(0), 1, 1),
+        ("the second write", 4, Failing::AtWrite(1), Err(4), 1, 2),
+        ("the flush", 4, Failing::InFlush, Ok(()), 0, 3),
     ] {
         let mut to = Counted::new(ScriptedWriter::new(most, failing));
-        assert_eq!(rt; to.deliver(text), answer, "{failing:?}");
-        assert_eq!(rt; to.failures(), failures, "{failing:?}");
-        assert_eq!(rt; to.device().writes(), writes, "{failing:?}");
+        assert_eq!(rt; to.deliver(text), answer, "{what}");
+        assert_eq!(rt; to.failures(), failures, "{what}");
+        assert_eq!(rt; to.device().writes(), writes, "{what}");
         let taken = match answer {
             Ok(()) => 9,
             Err(k) => k,
         };
-        assert_eq!(rt; to.device().taken(), taken, "{failing:?}");
-        assert_eq!(rt; Some(to.device().kept()), text.get(..taken), "{failing:?}");
+        assert_eq!(rt; to.device().taken(), taken, "{what}");
+        assert_eq!(rt; Some(to.device().kept()), text.get(..taken), "{what}");
         let flushed = failing != Failing::InFlush;
-        assert_eq!(rt; to.flush(), flushed, "{failing:?}");
-        assert_eq!(rt;
-            to.failures(),
-            if flushed { failures } else { 1 },
-            "{failing:?}"
-        );
-        assert_eq!(rt; to.into_device().flushes(), 1, "{failing:?}");
+        assert_eq!(rt; to.flush(), flushed, "{what}");
+        let failures = if flushed { failures } else { 1 };
+        assert_eq!(rt; to.failures(), failures, "{what}: flushed");
+        assert_eq!(rt; to.into_device().flushes(), 1, "{what}");
     }
 }
 
@@ -195,7 +192,7 @@ fn bytes_are_delivered(rt: HostRuntime) {
 fn packets_of_one_byte_are_joined(rt: HostRuntime) -> Result<(), Fail> {
     let alloc = rt.alloc();
     for (by, length, place) in [(By::Next, 31, 31), (By::Fill, 28, 28), (By::Piece, 31, 31)] {
-        for empty in [false, true] {
+        for (what, empty) in [("alone", false), ("among empty ones", true)] {
             for most in [1, 5, 1000] {
                 let wire = in_single_bytes(alloc, empty)?;
                 let mut from = Counted::new(ScriptedReader::new(&wire, most));
@@ -203,16 +200,16 @@ fn packets_of_one_byte_are_joined(rt: HostRuntime) -> Result<(), Fail> {
                 assert_eq!(rt;
                     Some(out.bytes.as_slice()),
                     PACKET[8..].get(..length),
-                    "{by:?}"
+                    "{by:?} {what}, {most} a read"
                 );
                 let stop = Stop {
                     fault: Fault::MessageEnded,
                     place: Place::Payload(place),
                 };
-                assert_eq!(rt; out.stop, Some(stop), "{by:?}");
-                assert_eq!(rt; out.place, place, "{by:?}");
-                assert!(rt; out.again, "{by:?}");
-                assert_eq!(rt; from.failures(), 0, "{by:?}");
+                assert_eq!(rt; out.stop, Some(stop), "{by:?} {what}, {most} a read");
+                assert_eq!(rt; out.place, place, "{by:?} {what}, {most} a read");
+                assert!(rt; out.again, "{by:?} {what}, {most} a read");
+                assert_eq!(rt; from.failures(), 0, "{by:?} {what}, {most} a read");
             }
         }
     }
@@ -226,31 +223,29 @@ fn packets_are_judged(rt: HostRuntime) -> Result<(), Fail> {
         fault: Fault::MessageEnded,
         place: Place::Payload(31),
     });
-    for (at, byte, max_wire, handed, stop, left) in [
-        (0, 0x04, 39, 31, ended, 0),
-        (0, 0x04, 38, 0, at_wire(Fault::ResponseTooLong, 0), 31),
-        (0, 0x03, 39, 0, at_wire(Fault::WrongPacketType(3), 0), 31),
-        (3, 0x07, 39, 0, at_wire(Fault::BadPacketLength(7), 0), 31),
-        (
-            2,
-            0x02,
-            39,
-            0,
-            at_wire(Fault::BadPacketLength(0x227), 0),
-            31,
-        ),
-        (3, 0x28, 40, 0, at_wire(Fault::InputEnded, 0), 0),
+    let too_long = at_wire(Fault::ResponseTooLong, 0);
+    let wrong_type = at_wire(Fault::WrongPacketType(3), 0);
+    let short = at_wire(Fault::BadPacketLength(7), 0);
+    let large = at_wire(Fault::BadPacketLength(0x227), 0);
+    let cut = at_wire(Fault::InputEnded, 0);
+    for (what, at, byte, max_wire, handed, stop, left) in [
+        ("as long as the limit", 0, 0x04, 39, 31, ended, 0),
+        ("a byte beyond the limit", 0, 0x04, 38, 0, too_long, 31),
+        ("another packet type", 0, 0x03, 39, 0, wrong_type, 31),
+        ("shorter than its header", 3, 0x07, 39, 0, short, 31),
+        ("longer than the packet size", 2, 0x02, 39, 0, large, 31),
+        ("longer than the input", 3, 0x28, 40, 0, cut, 0),
     ] {
         let mut wire = PACKET;
         wire[at] = byte;
         let mut from = Counted::new(ScriptedReader::new(&wire, 10));
         let out = read(alloc, By::Next, &mut from, max_wire)?;
-        assert_eq!(rt; out.stop, stop);
-        assert_eq!(rt; out.bytes.len(), handed);
-        assert_eq!(rt; out.place, handed as u64);
-        assert!(rt; out.again);
-        assert_eq!(rt; from.device().left().len(), left);
-        assert_eq!(rt; from.failures(), 0);
+        assert_eq!(rt; out.stop, stop, "{what}");
+        assert_eq!(rt; out.bytes.len(), handed, "{what}");
+        assert_eq!(rt; out.place, handed as u64, "{what}");
+        assert!(rt; out.again, "{what}");
+        assert_eq!(rt; from.device().left().len(), left, "{what}");
+        assert_eq!(rt; from.failures(), 0, "{what}");
     }
     Ok(())
 }
@@ -321,17 +316,19 @@ fn a_piece_lies_at_the_front(rt: HostRuntime) -> Result<(), Fail> {
 fn a_failed_read_stops_behind_whole_packets(rt: HostRuntime) -> Result<(), Fail> {
     let alloc = rt.alloc();
     let wire = in_single_bytes(alloc, false)?;
-    for (fails_at, whole) in [(0, 0), (8, 0), (9, 1), (100, 11), (278, 30)] {
+    for (what, fails_at, whole) in [
+        ("before any byte", 0, 0),
+        ("behind a header", 8, 0),
+        ("behind a packet", 9, 1),
+        ("in the header of the twelfth", 100, 11),
+        ("behind the last header", 278, 30),
+    ] {
         let mut from = Counted::new(ScriptedReader::failing(&wire, 4, fails_at));
         let out = read(alloc, By::Next, &mut from, 1000)?;
-        assert_eq!(rt;
-            out.stop,
-            at_wire(Fault::ReadFailed, 9 * whole),
-            "{fails_at}"
-        );
-        assert_eq!(rt; out.place, whole, "{fails_at}");
-        assert!(rt; out.again, "{fails_at}");
-        assert_eq!(rt; from.failures(), 1, "{fails_at}");
+        assert_eq!(rt; out.stop, at_wire(Fault::ReadFailed, 9 * whole), "{what}");
+        assert_eq!(rt; out.place, whole, "{what}");
+        assert!(rt; out.again, "{what}");
+        assert_eq!(rt; from.failures(), 1, "{what}");
     }
     Ok(())
 }

@@ -12,8 +12,8 @@ ghost use Rattle.tds_rows.specs.declared.Charset as sets;
 ghost use Rattle.tds_values.specs.Kind as kinds;
 
 use crate::Charset;
-use crate::fields::write_value;
 use crate::buffered::read_buffered;
+use crate::fields::write_value;
 use std::io::{Read, Write};
 use tds_columns::Columns;
 use tds_csv::{Sink, write_null};

@@ -164,7 +164,6 @@ fn described(columns: &[&[u8]]) -> u64 {
 }
 
 // A row, its columns, and its text.
-#[derive(Clone, Copy)]
 struct Good {
     what: &'static str,
     columns: &'static [&'static [u8]],
@@ -172,103 +171,132 @@ struct Good {
     text: &'static [u8],
 }
 
-fn make_good(
-    what: &'static str,
-    columns: &'static [&'static [u8]],
-    bytes: &'static [u8],
-    text: &'static [u8],
-) -> Good {
+const GOOD_ROWS: [Good; 17] = [
     Good {
-        what,
-        columns,
-        bytes,
-        text,
-    }
-}
-
-fn good_rows() -> [Good; 17] {
-    [
-        make_good("nine NULLs", NINE, &[0; 9], NINE_TEXT),
-        make_good("three kinds", MIXED, MIXED_ROW, MIXED_TEXT),
-        make_good(
-            "a decimal",
-            &[DECIMAL],
-            &[5, 1, 0x39, 0x30, 0, 0],
-            b"123.45\r\n",
-        ),
-        make_good(
-            "a negative one",
-            &[DECIMAL],
-            &[5, 0, 5, 0, 0, 0],
-            b"-0.05\r\n",
-        ),
-        make_good("zero", &[DECIMAL], &[5, 0, 0, 0, 0, 0], b"0.00\r\n"),
-        make_good("38 digits", &[WIDE_DECIMAL], NINES, NINES_TEXT),
-        make_good("the first day", &[DATE], &[3, 0, 0, 0], b"0001-01-01\r\n"),
-        make_good(
-            "the last day",
-            &[DATE],
-            &[3, 0xDA, 0xB9, 0x37],
-            b"9999-12-31\r\n",
-        ),
-        make_good(
-            "an offset",
-            &[OFFSET],
-            &[8, 0, 0, 0, 0, 0, 0, 0x3C, 0],
-            b"0001-01-01 01:00:00 +01:00\r\n",
-        ),
-        make_good(
-            "a time",
-            &[TIME],
-            &[5, 0xFF, 0xBF, 0x69, 0x2A, 0xC9],
-            b"23:59:59.9999999\r\n",
-        ),
-        make_good(
-            "a GUID",
-            &[GUID],
-            GUID_ROW,
-            b"03020100-0504-0706-0809-0a0b0c0d0e0f\r\n",
-        ),
-        make_good("one byte", &[&[0x26, 0x01]], &[1, 0xFF], b"255\r\n"),
-        make_good("two bytes", &[&[0x26, 0x02]], &[2, 0, 0x80], b"-32768\r\n"),
-        make_good(
-            "eight bytes",
-            &[&[0x26, 0x08]],
-            &[8, 0, 0, 0, 0, 0, 0, 0, 0x80],
-            b"-9223372036854775808\r\n",
-        ),
-        make_good("money", &[MONEY, MONEY], MONEY_ROW, b"-0.0001,1.0000\r\n"),
-        make_good(
-            "datetime",
-            &[DATETIME],
-            &[0, 0, 0, 0, 0xFF, 0x81, 0x8B, 1],
-            b"1900-01-01 23:59:59.997\r\n",
-        ),
-        make_good(
-            "smalldatetime",
-            &[SMALL_DATETIME],
-            &[0, 0, 0x9F, 5],
-            b"1900-01-01 23:59:00\r\n",
-        ),
-    ]
-}
+        what: "nine NULLs",
+        columns: NINE,
+        bytes: &[0; 9],
+        text: NINE_TEXT,
+    },
+    Good {
+        what: "three kinds",
+        columns: MIXED,
+        bytes: MIXED_ROW,
+        text: MIXED_TEXT,
+    },
+    Good {
+        what: "a decimal",
+        columns: &[DECIMAL],
+        bytes: &[5, 1, 0x39, 0x30, 0, 0],
+        text: b"123.45\r\n",
+    },
+    Good {
+        what: "a negative one",
+        columns: &[DECIMAL],
+        bytes: &[5, 0, 5, 0, 0, 0],
+        text: b"-0.05\r\n",
+    },
+    Good {
+        what: "zero",
+        columns: &[DECIMAL],
+        bytes: &[5, 0, 0, 0, 0, 0],
+        text: b"0.00\r\n",
+    },
+    Good {
+        what: "38 digits",
+        columns: &[WIDE_DECIMAL],
+        bytes: NINES,
+        text: NINES_TEXT,
+    },
+    Good {
+        what: "the first day",
+        columns: &[DATE],
+        bytes: &[3, 0, 0, 0],
+        text: b"0001-01-01\r\n",
+    },
+    Good {
+        what: "the last day",
+        columns: &[DATE],
+        bytes: &[3, 0xDA, 0xB9, 0x37],
+        text: b"9999-12-31\r\n",
+    },
+    Good {
+        what: "an offset",
+        columns: &[OFFSET],
+        bytes: &[8, 0, 0, 0, 0, 0, 0, 0x3C, 0],
+        text: b"0001-01-01 01:00:00 +01:00\r\n",
+    },
+    Good {
+        what: "a time",
+        columns: &[TIME],
+        bytes: &[5, 0xFF, 0xBF, 0x69, 0x2A, 0xC9],
+        text: b"23:59:59.9999999\r\n",
+    },
+    Good {
+        what: "a GUID",
+        columns: &[GUID],
+        bytes: GUID_ROW,
+        text: b"03020100-0504-0706-0809-0a0b0c0d0e0f\r\n",
+    },
+    Good {
+        what: "one byte",
+        columns: &[&[0x26, 0x01]],
+        bytes: &[1, 0xFF],
+        text: b"255\r\n",
+    },
+    Good {
+        what: "two bytes",
+        columns: &[&[0x26, 0x02]],
+        bytes: &[2, 0, 0x80],
+        text: b"-32768\r\n",
+    },
+    Good {
+        what: "eight bytes",
+        columns: &[&[0x26, 0x08]],
+        bytes: &[8, 0, 0, 0, 0, 0, 0, 0, 0x80],
+        text: b"-9223372036854775808\r\n",
+    },
+    Good {
+        what: "money",
+        columns: &[MONEY, MONEY],
+        bytes: MONEY_ROW,
+        text: b"-0.0001,1.0000\r\n",
+    },
+    Good {
+        what: "datetime",
+        columns: &[DATETIME],
+        bytes: &[0, 0, 0, 0, 0xFF, 0x81, 0x8B, 1],
+        text: b"1900-01-01 23:59:59.997\r\n",
+    },
+    Good {
+        what: "smalldatetime",
+        columns: &[SMALL_DATETIME],
+        bytes: &[0, 0, 0x9F, 5],
+        text: b"1900-01-01 23:59:00\r\n",
+    },
+];
 
 #[test]
 fn rows_are_written(rt: HostRuntime) -> Result<(), Fail> {
-    for case in &good_rows() {
+    for case in &GOOD_ROWS {
+        let what = case.what;
         for size in [1, 3, 4000] {
             let out = run(&rt, case.columns, case.bytes, size, 0, usual_writer())?;
-            assert_eq!(rt; out.answer, Ok(()), "{} {size}", case.what);
-            assert_eq!(rt; out.text.as_slice(), case.text, "{} {size}", case.what);
-            assert_eq!(rt; out.place, case.bytes.len() as u64, "{} {size}", case.what);
+            assert_eq!(rt; out.answer, Ok(()), "{what}, {size} a packet");
+            assert_eq!(rt; out.text.as_slice(), case.text, "{what}, {size} a packet");
+            assert_eq!(rt;
+                out.place,
+                case.bytes.len() as u64,
+                "{what}, {size} a packet"
+            );
         }
     }
     Ok(())
 }
 
-// Columns, a row, its fault and the byte of the row where it stands, and the text before it.
-#[derive(Clone, Copy)]
+// A row, its columns, its fault and the byte of the row where it stands, and the text before it.
 struct Bad {
+    what: &'static str,
     columns: &'static [&'static [u8]],
     bytes: &'static [u8],
     fault: Fault,
@@ -276,123 +304,125 @@ struct Bad {
     text: &'static [u8],
 }
 
-fn make_bad(
-    columns: &'static [&'static [u8]],
-    bytes: &'static [u8],
-    fault: Fault,
-    at: u64,
-    text: &'static [u8],
-) -> Bad {
+const BAD_ROWS: [Bad; 13] = [
     Bad {
-        columns,
-        bytes,
-        fault,
-        at,
-        text,
-    }
-}
-
-fn bad_rows() -> [Bad; 13] {
-    [
-        make_bad(
-            &[DATE],
-            &[3, 0xDB, 0xB9, 0x37],
-            Fault::BadValue { column: 0 },
-            1,
-            b"",
-        ),
-        make_bad(
-            &[DATE],
-            &[4, 0],
-            Fault::BadValueLength { column: 0 },
-            0,
-            b"",
-        ),
-        make_bad(
-            MIXED,
-            &[42, 0, 0, 0, 0, 3, 0xDB, 0xB9, 0x37],
-            Fault::BadValue { column: 2 },
-            6,
-            b"42,NULL",
-        ),
-        make_bad(
-            MIXED,
-            &[42, 0, 0, 0, 3, 0, 0, 0],
-            Fault::BadValueLength { column: 1 },
-            4,
-            b"42",
-        ),
-        make_bad(
-            &[DATETIME],
-            &[0, 0, 0, 0, 0, 0x82, 0x8B, 1],
-            Fault::BadValue { column: 0 },
-            0,
-            b"",
-        ),
-        make_bad(
-            &[SMALL_DATETIME],
-            &[0, 0, 0xA0, 5],
-            Fault::BadValue { column: 0 },
-            0,
-            b"",
-        ),
-        make_bad(
-            &[OFFSET],
-            &[8, 0, 0, 0, 0, 0, 0, 0xFF, 0xFF],
-            Fault::BadValue { column: 0 },
-            1,
-            b"",
-        ),
-        make_bad(
-            &[TIME],
-            &[5, 0, 0xC0, 0x69, 0x2A, 0xC9],
-            Fault::BadValue { column: 0 },
-            1,
-            b"",
-        ),
-        make_bad(
-            &[INT4, VARCHAR],
-            &[42, 0, 0, 0, 3, 0, 0x41],
-            Fault::NotYet,
-            4,
-            b"42",
-        ),
-        make_bad(
-            &[VARBINARY_MAX],
-            &[3, 0, 0, 0, 0, 0, 0, 0, 0],
-            Fault::NotYet,
-            0,
-            b"",
-        ),
-        make_bad(
-            &[INT4, VARCHAR],
-            &[42, 0, 0, 0, 3],
-            Fault::MessageEnded,
-            4,
-            b"42",
-        ),
-        make_bad(MIXED, &[42, 0, 0, 0], Fault::MessageEnded, 4, b"42"),
-        make_bad(
-            MIXED,
-            &[42, 0, 0, 0, 0, 3, 0, 0],
-            Fault::MessageEnded,
-            6,
-            b"42,NULL",
-        ),
-    ]
-}
+        what: "a day beyond the last",
+        columns: &[DATE],
+        bytes: &[3, 0xDB, 0xB9, 0x37],
+        fault: Fault::BadValue { column: 0 },
+        at: 1,
+        text: b"",
+    },
+    Bad {
+        what: "a date of four bytes",
+        columns: &[DATE],
+        bytes: &[4, 0],
+        fault: Fault::BadValueLength { column: 0 },
+        at: 0,
+        text: b"",
+    },
+    Bad {
+        what: "a bad date behind two values",
+        columns: MIXED,
+        bytes: &[42, 0, 0, 0, 0, 3, 0xDB, 0xB9, 0x37],
+        fault: Fault::BadValue { column: 2 },
+        at: 6,
+        text: b"42,NULL",
+    },
+    Bad {
+        what: "an int of three bytes",
+        columns: MIXED,
+        bytes: &[42, 0, 0, 0, 3, 0, 0, 0],
+        fault: Fault::BadValueLength { column: 1 },
+        at: 4,
+        text: b"42",
+    },
+    Bad {
+        what: "a tick beyond the last",
+        columns: &[DATETIME],
+        bytes: &[0, 0, 0, 0, 0, 0x82, 0x8B, 1],
+        fault: Fault::BadValue { column: 0 },
+        at: 0,
+        text: b"",
+    },
+    Bad {
+        what: "a minute beyond the last",
+        columns: &[SMALL_DATETIME],
+        bytes: &[0, 0, 0xA0, 5],
+        fault: Fault::BadValue { column: 0 },
+        at: 0,
+        text: b"",
+    },
+    Bad {
+        what: "a local time before the first day",
+        columns: &[OFFSET],
+        bytes: &[8, 0, 0, 0, 0, 0, 0, 0xFF, 0xFF],
+        fault: Fault::BadValue { column: 0 },
+        at: 1,
+        text: b"",
+    },
+    Bad {
+        what: "a time of a whole day",
+        columns: &[TIME],
+        bytes: &[5, 0, 0xC0, 0x69, 0x2A, 0xC9],
+        fault: Fault::BadValue { column: 0 },
+        at: 1,
+        text: b"",
+    },
+    Bad {
+        what: "a varchar",
+        columns: &[INT4, VARCHAR],
+        bytes: &[42, 0, 0, 0, 3, 0, 0x41],
+        fault: Fault::NotYet,
+        at: 4,
+        text: b"42",
+    },
+    Bad {
+        what: "a long varbinary",
+        columns: &[VARBINARY_MAX],
+        bytes: &[3, 0, 0, 0, 0, 0, 0, 0, 0],
+        fault: Fault::NotYet,
+        at: 0,
+        text: b"",
+    },
+    Bad {
+        what: "a varchar without its length",
+        columns: &[INT4, VARCHAR],
+        bytes: &[42, 0, 0, 0, 3],
+        fault: Fault::MessageEnded,
+        at: 4,
+        text: b"42",
+    },
+    Bad {
+        what: "a row that ends",
+        columns: MIXED,
+        bytes: &[42, 0, 0, 0],
+        fault: Fault::MessageEnded,
+        at: 4,
+        text: b"42",
+    },
+    Bad {
+        what: "a date that ends",
+        columns: MIXED,
+        bytes: &[42, 0, 0, 0, 0, 3, 0, 0],
+        fault: Fault::MessageEnded,
+        at: 6,
+        text: b"42,NULL",
+    },
+];
 
 #[test]
 fn rows_are_refused(rt: HostRuntime) -> Result<(), Fail> {
-    for (i, case) in bad_rows().iter().enumerate() {
+    for case in &BAD_ROWS {
+        let what = case.what;
         let stop = Stop {
             fault: case.fault,
             place: Place::Payload(described(case.columns).saturating_add(case.at)),
         };
         for size in [1, 4000] {
             let out = run(&rt, case.columns, case.bytes, size, 0, usual_writer())?;
-            assert_eq!(rt; out.answer, Err(stop), "{i} {size}");
-            assert_eq!(rt; out.text.as_slice(), case.text, "{i} {size}");
+            assert_eq!(rt; out.answer, Err(stop), "{what}, {size} a packet");
+            assert_eq!(rt; out.text.as_slice(), case.text, "{what}, {size} a packet");
         }
     }
     Ok(())
@@ -403,9 +433,13 @@ fn rows_are_refused(rt: HostRuntime) -> Result<(), Fail> {
 fn a_line_lies_across_a_block(rt: HostRuntime) -> Result<(), Fail> {
     for waiting in 4060..=4095 {
         let out = run(&rt, MIXED, MIXED_ROW, 4000, waiting, usual_writer())?;
-        assert_eq!(rt; out.answer, Ok(()), "{waiting}");
-        assert_eq!(rt; out.text.len(), waiting + MIXED_TEXT.len(), "{waiting}");
-        assert!(rt; out.text.ends_with(MIXED_TEXT), "{waiting}");
+        assert_eq!(rt; out.answer, Ok(()), "{waiting} bytes wait");
+        assert_eq!(rt;
+            out.text.len(),
+            waiting + MIXED_TEXT.len(),
+            "{waiting} bytes wait"
+        );
+        assert!(rt; out.text.ends_with(MIXED_TEXT), "{waiting} bytes wait");
     }
     Ok(())
 }
@@ -420,8 +454,8 @@ fn a_write_fails(rt: HostRuntime) -> Result<(), Fail> {
     for waiting in 4076..=4095 {
         let to = ScriptedWriter::new(1000, Failing::AfterBytes(4000));
         let out = run(&rt, MIXED, MIXED_ROW, 4000, waiting, to)?;
-        assert_eq!(rt; out.answer, Err(stop), "{waiting}");
-        assert_eq!(rt; out.text.len(), 4000, "{waiting}");
+        assert_eq!(rt; out.answer, Err(stop), "{waiting} bytes wait");
+        assert_eq!(rt; out.text.len(), 4000, "{waiting} bytes wait");
     }
     Ok(())
 }

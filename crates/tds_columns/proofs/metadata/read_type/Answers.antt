@@ -60,8 +60,7 @@ returns-clause-gives g c =
     let head : (columns : List Column) → length columns ≡ c.args.index → Describes before.room (InColumn before.bytes c.args.count columns ColumnHead) a b c.args.payload.now.place c.take_into.new.payload.place before.peak middle (InColumn middle.bytes c.args.count columns (ColumnInfo byte)) = λ columns number.
     head_open before.room c.args.index c.args.count byte left c.in-Ok.rest columns a b before middle c.args.payload.now.place c.take_into.new.payload.place number refl c.in_ok-take_into.ensures.gives is c.in-Ok.ensures.0 fits c.in_ok-take_into.ensures.place c.if-rest-eq0.false in
     MatchResult-weaker c.read_info.result c.read_info.ensures.gives (λ _ gives columns number.
-    let info = gives c.args.count columns number in
-    (
+    let info = gives c.args.count columns number in (
       info.0,
       describes_both before.room (InColumn before.bytes c.args.count columns ColumnHead) (InColumn middle.bytes c.args.count columns (ColumnInfo byte)) (InColumn c.read_info.new.area.bytes c.args.count columns (NameCount info.0)) a b d
           c.args.payload.now.place c.take_into.new.payload.place c.read_info.new.payload.place before.peak middle c.read_info.new.area (head columns number)
