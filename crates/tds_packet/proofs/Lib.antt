@@ -12,3 +12,4 @@ pub mod Fronts
 pub mod Steps
 pub mod Passing
 pub mod Lifts
+pub mod Recuts

@@ -7,4 +7,5 @@ pub mod Reads
 pub mod Seen
 pub mod Payloads
 pub mod Reading
+pub mod Recutting
 pub mod Laws

@@ -9,7 +9,7 @@ use std::io::Read;
 use tds_meter::Area;
 
 /// The Type of a packet of a tabular result (MS-TDS, Packet Header).
-const TABULAR_RESULT: u8 = 0x04;
+pub(crate) const TABULAR_RESULT: u8 = 0x04;
 
 /// What a header says: the packet's Length, 8 or more, and whether the packet is the last.
 #[derive(Debug, Clone, Copy)]

@@ -1,0 +1,18 @@
+use Rattle.std.proofs.Common.{◌≡◌, ◌+◌, ◌-◌, ◌*◌, ◌<◌, ◌≤◌, length}
+use Rattle.tds_packet.specs.Payloads.{IsGoing, IsOnSame, buffered, seen}
+use Rattle.tds_packet.proofs.Recuts.{Cutting}
+use Rattle.tds_packet.proofs.recutting.cut.Given as goal
+
+abbrev pub invariant-loop-to : goal.invariant-loop-to
+invariant-loop-to g l = record {
+  going : IsGoing l.payload;
+  same : IsOnSame l.initial.payload l.payload;
+  room : l.output.room ≡ l.initial.output.room;
+  few : l.done.packets ≤ l.payload.place;
+  short : l.done.bytes ≤ 2 * l.payload.place;
+  more : 0 < l.done.packets → 0 < length (buffered l.payload);
+  cutting : Cutting g.W.Write.contents (l.output.room - 8) (seen g.R.Read.remaining l.initial.payload) (seen g.R.Read.remaining l.payload) l.initial.to l.to l.done l.payload.place;
+}
+
+abbrev pub decreases-loop-to : goal.decreases-loop-to
+decreases-loop-to g l = l.payload.max_wire - l.payload.place

@@ -1,0 +1,199 @@
+// A payload written anew, in packets of another size.
+ghost use Rattle.std.specs.Prelude.{◌≡◌, ◌+◌, ◌-◌, ◌*◌, ◌^◌, ◌<◌, ◌≤◌, ◌++◌, drop, length};
+ghost use Rattle.tds_meter.specs.Space.{holding};
+ghost use Rattle.tds_packet.specs.Packets.{packet_bytes};
+ghost use Rattle.tds_packet.specs.Payloads.{IsGoing, IsOnSame, LeavesPayload, seen};
+ghost use Rattle.tds_packet.specs.Recutting.{Cuts, Flushes, Gathers, Recuts, WritesPacket, cut_packet, header_bytes, write_stop};
+
+use crate::answer::{Recut, RecutStop};
+use crate::counted::Counted;
+use crate::fault::{Fault, Place, Stop};
+use crate::packet::TABULAR_RESULT;
+use crate::payload::Payload;
+use std::io::{Read, Write};
+use tds_meter::{Area, GREATEST_MAX_WIRE, GREATEST_PACKET_SIZE, LEAST_PACKET_SIZE};
+
+/// How many bytes the header of a packet has (MS-TDS, Packet Header).
+const HEADER: usize = 8;
+
+/// The Status of a message's last packet (MS-TDS, Packet Header).
+const END_OF_MESSAGE: u8 = 0x01;
+
+// The packets written so far, and their bytes.
+#[derive(Debug, Clone, Copy)]
+struct Written {
+    packets: u64,
+    bytes: u64,
+}
+
+/// Reads a message and writes its payload in packets of another size, that of the output's room:
+/// full ones but for the last. A packet is written once a byte behind it was read, or the message's
+/// end. The input's room is the greatest packet size that is read, and the limit counts the bytes
+/// read, headers included. At the end the writer is flushed, also after a stop of the input: a
+/// failure then changes nothing.
+pub fn recut<R: Read, W: Write>(
+    from: &mut Counted<R>,
+    to: &mut Counted<W>,
+    input: &mut Area,
+    output: &mut Area,
+    max_wire: u64,
+) -> Result<Recut, RecutStop>
+    requires input { (LEAST_PACKET_SIZE ≤ input.old.room) × (input.old.room ≤ GREATEST_PACKET_SIZE) }
+    requires output { (LEAST_PACKET_SIZE ≤ output.old.room) × (output.old.room ≤ GREATEST_PACKET_SIZE) }
+    requires limit { max_wire ≤ GREATEST_MAX_WIRE }
+    ensures recuts { let m = output.old.room - HEADER in
+        Recuts R.remaining W.contents input.old.room max_wire m from.old from.new to.old to.new result }
+    ensures rooms { (input.new.room ≡ input.old.room) × (output.new.room ≡ output.old.room) }
+{
+    let mut payload = Payload::new(from, input, max_wire);
+    cut(&mut payload, to, output)
+}
+
+// Writes all of a payload in packets.
+fn cut<R: Read, W: Write>(
+    payload: &mut Payload<'_, R>,
+    to: &mut Counted<W>,
+    output: &mut Area,
+) -> Result<Recut, RecutStop>
+    requires going { IsGoing payload.old }
+    requires place { payload.old.place ≡ 0 }
+    requires room { (LEAST_PACKET_SIZE ≤ output.old.room) × (output.old.room ≤ GREATEST_PACKET_SIZE) }
+    ensures payload { IsOnSame payload.old payload.new }
+    ensures room { output.new.room ≡ output.old.room }
+    ensures cuts { let m = output.old.room - HEADER in
+        Cuts W.contents m (seen R.remaining payload.old) (seen R.remaining payload.new) to.old to.new result }
+{
+    let mut done = Written {
+        packets: 0,
+        bytes: 0,
+    };
+    loop {
+        match gather(payload, output) {
+            Ok(false) => done = write_packet(to, output, done, false)?,
+            Ok(true) => {
+                let all = write_packet(to, output, done, true)?;
+                return finish(to, all, payload.place());
+            }
+            Err(stop) => {
+                let _ = to.flush();
+                return Err(RecutStop {
+                    stop,
+                    written: done.bytes,
+                    unwritten: 0,
+                });
+            }
+        }
+    }
+}
+
+// Gathers a packet's body behind room for its header, and says whether no byte follows it.
+fn gather<R: Read>(payload: &mut Payload<'_, R>, output: &mut Area) -> Result<bool, Stop>
+    requires going { IsGoing payload.old }
+    requires room { HEADER < output.old.room }
+    ensures payload { LeavesPayload payload.old payload.new result }
+    ensures room { output.new.room ≡ output.old.room }
+    ensures body { Gathers R.remaining payload.old payload.new output.old.room output.new.bytes result }
+{
+    output.clear();
+    let Ok(()) = output.extend(HEADER) else {
+        unreachable!()
+    };
+    while !payload.at_end()? {
+        let n = payload.buffered().len().min(output.free());
+        if n == 0 {
+            return Ok(false);
+        }
+        let Ok(()) = output.append(&payload.buffered()[..n]) else {
+            unreachable!()
+        };
+        payload.consume(n);
+    }
+    Ok(true)
+}
+
+// Writes the packet that stands in the area behind room for its header.
+fn write_packet<W: Write>(
+    to: &mut Counted<W>,
+    output: &mut Area,
+    done: Written,
+    last: bool,
+) -> Result<Written, RecutStop>
+    requires header { HEADER ≤ length output.old.bytes }
+    requires fits { length output.old.bytes ≤ GREATEST_PACKET_SIZE }
+    requires count { (done.packets ≤ 2 ^ 56) × (done.bytes ≤ 2 ^ 57) }
+    ensures room { output.new.room ≡ output.old.room }
+    ensures writes { let packet = cut_packet done.packets last (drop HEADER output.old.bytes) in
+        WritesPacket W.contents to.old to.new done (packet_bytes packet) result }
+{
+    put_header(output, done.packets, last);
+    let length = output.len() as u64;
+    match to.deliver(output.bytes()) {
+        Ok(()) => Ok(Written {
+            packets: done.packets + 1,
+            bytes: done.bytes + length,
+        }),
+        Err(taken) => {
+            let taken = taken as u64;
+            Err(write_failed(done.bytes + taken, length - taken))
+        }
+    }
+}
+
+// Writes the header of the packet behind so many others over the first bytes.
+fn put_header(output: &mut Area, number: u64, last: bool)
+    requires header { HEADER ≤ length output.old.bytes }
+    requires fits { length output.old.bytes ≤ GREATEST_PACKET_SIZE }
+    requires number { number ≤ 2 ^ 56 }
+    ensures { output.new ≡ holding output.old (packet_bytes (cut_packet number last (drop HEADER output.old.bytes))) }
+{
+    let header = header(output.len(), number, last);
+    put_front(output.tail(0), &header);
+}
+
+// The header of the packet of so many bytes behind so many others (MS-TDS, Packet Header).
+fn header(length: usize, number: u64, last: bool) -> [u8; 8]
+    requires length { length ≤ GREATEST_PACKET_SIZE }
+    requires number { number ≤ 2 ^ 56 }
+    ensures { result ≡ header_bytes length number last }
+{
+    let status = if last { END_OF_MESSAGE } else { 0x00 };
+    let high = (length / 256) as u8;
+    let low = (length % 256) as u8;
+    let id = ((number + 1) % 256) as u8;
+    [TABULAR_RESULT, status, high, low, 0, 0, id, 0]
+}
+
+// Writes a list over the first bytes of another.
+fn put_front(to: &mut [u8], front: &[u8])
+    requires { length front.now ≤ length to.old }
+    ensures { to.new ≡ front.now ++ drop (length front.now) to.old }
+{
+    to[..front.len()].copy_from_slice(front);
+}
+
+// Flushes the writer behind all packets, which carry so many payload bytes.
+fn finish<W: Write>(to: &mut Counted<W>, all: Written, payload: u64) -> Result<Recut, RecutStop>
+    ensures { Flushes W.contents to.old to.new all payload result }
+{
+    if !to.flush() {
+        return Err(write_failed(all.bytes, 0));
+    }
+    Ok(Recut {
+        packets: all.packets,
+        payload,
+    })
+}
+
+// The stop of a writer that took so many bytes, and so many of a packet not.
+fn write_failed(written: u64, unwritten: u64) -> RecutStop
+    ensures { result ≡ write_stop written unwritten }
+{
+    RecutStop {
+        stop: Stop {
+            fault: Fault::WriteFailed,
+            place: Place::Text(written),
+        },
+        written,
+        unwritten,
+    }
+}
