@@ -145,7 +145,7 @@ impl Area {
     }
 
     /// Adds `n` zero bytes at the end. [`Full`] where there is no room: nothing has changed then.
-    pub(crate) fn extend(&mut self, n: usize) -> Result<(), Full>
+    pub fn extend(&mut self, n: usize) -> Result<(), Full>
         ensures ok { OnOk result (self.new ≡ appended self.old (replicate n 0)) }
         ensures err { OnErr result (self.new ≡ self.old) }
         ensures full { OnErr result (self.old.room < length self.old.bytes + n) }
@@ -162,7 +162,7 @@ impl Area {
     }
 
     /// The bytes from a place on, to be written over.
-    pub(crate) fn tail(&mut self, from: usize) -> &mut [u8]
+    pub fn tail(&mut self, from: usize) -> &mut [u8]
         requires { from ≤ length self.old.bytes }
         ensures* lends { sem 𝓛 (LendsTail self.entry from result) }
         ensures value { result.now ≡ drop from self.old.bytes }
