@@ -1,6 +1,6 @@
 -- The elements of a description, as they are read into its area.
 use Rattle.std.proofs.Common.{◌≡◌, ◌≢◌, ◌∙◌, ℕ, ◌+◌, ◌*◌, ◌-◌, ◌<◌, ◌≤◌, List, [], ◌∷◌, ◌++◌, length, take, drop, max, refl, sym, ap, subst, arith, le_refl, length-append}
-use Rattle.std.specs.Prelude.{Option, Some, None, is_some, ◌==◌, slice_index, unwrap_or, if◌then◌else◌}
+use Rattle.std.specs.Prelude.{Some, None, is_some, ◌==◌, slice_index, unwrap_or, if◌then◌else◌}
 use Rattle.std.proofs.lemmas.Bool.{ne_eqb}
 use Rattle.std.proofs.lemmas.Bool.Decides.{nat_tests}
 use Rattle.std.proofs.lemmas.List.{get_or-append-add}

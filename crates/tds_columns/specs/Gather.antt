@@ -1,5 +1,5 @@
 -- What reading a description from a payload does, on success and on each stop.
-use Rattle.std.specs.Prelude.{◌≡◌, ℕ, ◌+◌, ◌*◌, ◌<◌, ◌≤◌, List, [], ◌∷◌, length, max, Option, Some, None, Result, MatchResult}
+use Rattle.std.specs.Prelude.{◌≡◌, ℕ, ◌+◌, ◌*◌, ◌<◌, ◌≤◌, List, [], ◌∷◌, length, max, Option, None, Result, MatchResult}
 use Rattle.tds_values.specs.declared.kind.Kind.{Kind}
 use Rattle.tds_meter.specs.Space.{Space}
 use Rattle.tds_packet.specs.declared.fault.Stop.{Stop}

@@ -1,5 +1,5 @@
 -- Bytes of Windows-1252 that stand for themselves.
-use Rattle.std.proofs.Common.{◌≡◌, ◌∙◌, ◌≢◌, ◌+◌, ◌<◌, ◌≤◌, ◌∷◌, ◌++◌, [], ℕ, List, true, length, refl, ap, take, drop, arith, encode_utf8_all, length-append}
+use Rattle.std.proofs.Common.{◌≡◌, ◌∙◌, ◌≢◌, ◌<◌, ◌≤◌, ◌∷◌, [], ℕ, List, true, refl, ap, take, drop, arith, encode_utf8_all}
 use Rattle.std.specs.List.{prefix_len}
 use Rattle.std.proofs.lemmas.Bool.Decides.{nat_tests}
 use Rattle.std.proofs.lemmas.List.{append-nil}
@@ -9,7 +9,7 @@ use Rattle.tds_csv.specs.Quoting.{doubled}
 use Rattle.tds_csv.specs.Plain.{is_plain}
 use Rattle.tds_csv.specs.Windows1252 as windows_1252
 use Rattle.tds_csv.specs.SingleLaws.{windows_1252-append}
-use Rattle.tds_csv.proofs.Characters.{of_one, doubled_character, doubled_length}
+use Rattle.tds_csv.proofs.Characters.{of_one, doubled_character}
 use Rattle.tds_csv.proofs.Singles.{front_itself, lanes_itself}
 
 itself : (b : ℕ) → b < 128 → windows_1252.character b ≡ b

@@ -1,6 +1,6 @@
 -- The laws of UTF-8 in pieces, with their proofs. They stand here because the ghost member `joins` of the joiner cites
 -- `joins_utf8`, and a `ghost use` of a crate can name its specs/ alone.
-use Rattle.std.proofs.Common.{◌≡◌, ℕ, zero, suc, ◌+◌, ◌-◌, ◌≤◌, ◌<◌, ⊎_elim, Bool, true, false, cond, List, [], ◌∷◌, ◌++◌, length, take, drop, refl, sym, ap, subst, ◌∙◌, arith, IsUtf8, encode_utf8, encode_utf8_all, ◌&&◌}
+use Rattle.std.proofs.Common.{◌≡◌, ℕ, zero, suc, ◌+◌, ◌-◌, ◌≤◌, ◌<◌, ⊎_elim, true, false, cond, List, [], ◌∷◌, ◌++◌, length, take, drop, refl, sym, ap, subst, ◌∙◌, arith, IsUtf8, encode_utf8, encode_utf8_all}
 use Rattle.std.proofs.lemmas.List.{append_assoc, length-append, take_at, drop_at, length-take-le, take-append-drop, take_all, take-append-le}
 use Rattle.std.proofs.lemmas.Str.{IsUtf8-append, IsUtf8-nil, IsUtf8-drop, IsUtf8-encode, IsCharBoundary-from_take, is_utf8-from_IsUtf8, IsUtf8-from_is_utf8, utf8_valid_len_le, utf8_valid_len-IsUtf8, utf8_valid_len-IsValidUpTo, length-encode, len_utf8_bounds}
 use Rattle.std.proofs.lemmas.Bool.{and_parts, cases_lt}

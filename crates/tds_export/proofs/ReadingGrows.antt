@@ -1,15 +1,13 @@
 -- What is read grows by each element: the text so far, and the greatest span.
-use Rattle.std.proofs.Common.{◌≡◌, ◌∙◌, ℕ, ◌+◌, ◌-◌, ◌*◌, ◌≤◌, true, false, List, [], ◌∷◌, ◌++◌, length, max, refl, sym, ap, subst, append-nil, arith, length-append}
-use Rattle.std.specs.Prelude.{Option, Some, None, ◌==◌, ◌||◌, map, is_some, slice_index, unwrap_or, if◌then◌else◌}
-use Rattle.tds_values.specs.declared.kind.Kind.{Kind}
+use Rattle.std.proofs.Common.{◌≡◌, ◌∙◌, ℕ, ◌+◌, ◌-◌, ◌*◌, ◌≤◌, false, List, [], ◌∷◌, ◌++◌, length, max, refl, sym, ap, subst, append-nil, arith, length-append}
+use Rattle.std.specs.Prelude.{Option, Some, None, ◌==◌, ◌||◌, map, slice_index, unwrap_or}
 use Rattle.tds_values.specs.Numbers.{little}
 use Rattle.tds_values.specs.TypeInfo.{rest_length, kind_of}
 use Rattle.tds_values.proofs.TypeInfoLemmas.{bare_type}
 use Rattle.tds_packet.specs.Elements.{IsNext, Leads, Spelt}
-use Rattle.tds_packet.specs.declared.fault.Fault.{Fault}
 use Rattle.tds_packet.proofs.Choices.{choose, eq_true, is_some_value}
 use Rattle.tds_csv.specs.Quoting.{line}
-use Rattle.tds_columns.specs.Description.{Column, ColumnHead, ColumnInfo, NameCount, NameUnits, DescriptionPart, BeforeCount, NoDescription, InColumn, WholeDescription, with_column, with_kind, with_type, with_units, add_described, description, first_of_two, refused_kind, refused_type, span, too_long, type_fault}
+use Rattle.tds_columns.specs.Description.{Column, ColumnHead, ColumnInfo, NameCount, NameUnits, DescriptionPart, BeforeCount, NoDescription, InColumn, WholeDescription, with_column, with_kind, with_type, with_units, add_described, description, span, too_long}
 use Rattle.tds_columns.proofs.ColumnMeaning.{known_type, some_kind}
 use Rattle.tds_rows.specs.declared.Charset.{Charset}
 use Rattle.tds_rows.specs.Cells.{field}

@@ -1,5 +1,5 @@
 -- The tokens of a response, one after another.
-use Rattle.std.proofs.Common.{◌≡◌, ◌∙◌, inl, inr, ℕ, ◌+◌, ◌-◌, ◌^◌, ◌≤◌, Bool, true, false, List, [], ◌∷◌, ◌++◌, length, refl, sym, ap, subst, arith, append_assoc, append-nil, length-append}
+use Rattle.std.proofs.Common.{◌≡◌, ◌∙◌, inl, inr, ℕ, ◌+◌, ◌-◌, ◌^◌, ◌≤◌, Bool, true, false, List, [], ◌∷◌, ◌++◌, length, refl, sym, ap, subst, arith, append-nil, length-append}
 use Rattle.std.specs.Prelude.{Some, None, if◌then◌else◌}
 use Rattle.tds_meter.specs.Space.{Space, empty}
 use Rattle.tds_packet.specs.declared.fault.Fault.{Fault}
@@ -13,9 +13,9 @@ use Rattle.tds_packet.proofs.ElementLaws.{Spelt-append, Spelt-none}
 use Rattle.std.proofs.KnownBytes.{Consumes-nil}
 use Rattle.tds_packet.proofs.Futures.{Ends-after, Takes-none, Takes-trans}
 use Rattle.tds_csv.specs.Sinks.{FinishFails, Finishes, Held}
-use Rattle.tds_csv.specs.Streaming.{PutsText, Streams}
+use Rattle.tds_csv.specs.Streaming.{Streams}
 use Rattle.tds_csv.proofs.Streams.{breaks_after, puts_both}
-use Rattle.tds_csv.proofs.Sinks.{Puts-none, Puts-trans}
+use Rattle.tds_csv.proofs.Sinks.{Puts-none}
 use Rattle.tds_rows.specs.declared.Charset.{Charset}
 use Rattle.tds_export.specs.declared.progress.Progress.{Progress}
 use Rattle.tds_export.specs.declared.report.Report.{Report}

@@ -3,7 +3,6 @@ use Rattle.std.proofs.Common.{◌≡◌, ◌∙◌, ℕ, suc, ◌+◌, ◌-◌, 
 use Rattle.std.specs.Prelude.{Option, Some, None, ◌==◌, ◌&&◌, ◌||◌, nat_lt, map, codes, slice_index, unwrap_or, Result, Ok, Err}
 use Rattle.std.proofs.lemmas.List.{map-append}
 use Rattle.tds_values.specs.declared.kind.Kind.{Kind}
-use Rattle.tds_values.specs.declared.kind.Reach.TheVariants.{Short, Chunked}
 use Rattle.tds_values.specs.declared.scalar.ScalarValue.{ScalarValue}
 use Rattle.tds_values.specs.declared.scalar.ValueFault.{ValueFault}
 use Rattle.tds_values.specs.Numbers.{little}
@@ -19,7 +18,7 @@ use Rattle.tds_csv.specs.Conversion.{Utf16Text, is_fit, is_begun, long_field, op
 use Rattle.tds_csv.proofs.ConversionLaws.{fit_begins}
 use Rattle.tds_columns.specs.Description.{Column, ColumnHead, ColumnInfo, NameCount, NameUnits, DescriptionPart, BeforeCount, NoDescription, InColumn, WholeDescription, with_column, with_kind, add_described, description}
 use Rattle.tds_rows.specs.declared.Charset.{Charset}
-use Rattle.tds_rows.specs.Cells.{Cell, Null, DataCell, field, Shape, FixedShape, CountedShape, LongShape, shape, CellPart, ScalarBytes, ScalarLength, ShortLength, ShortData, Total, ChunkLength, ChunkData, WholeCell, cell_start, cell_add, cell, field_so_far, value_part, known_total, null_total}
+use Rattle.tds_rows.specs.Cells.{Cell, Null, DataCell, field, shape, CellPart, ScalarBytes, ScalarLength, ShortLength, ShortData, Total, ChunkLength, ChunkData, WholeCell, cell_add, cell, field_so_far, value_part, known_total, null_total}
 use Rattle.tds_rows.specs.Rows.{RowPart, Bitmap, InCell, WholeRow, bit, marked, next_cell, with_cell, row_start, nbc_row_start, row_add, row, with_field, row_so_far}
 use Rattle.tds_export.specs.ReturnValue.{ReturnPart, ReturnOrdinal, ReturnNameCount, ReturnName, ReturnHead, ReturnInfo, InReturnCell, WholeReturn, return_add}
 use Rattle.tds_export.specs.Response.{more}

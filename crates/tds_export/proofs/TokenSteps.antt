@@ -1,26 +1,24 @@
 -- The tokens that are built, as they are read and their text is put.
-use Rattle.std.proofs.Common.{◌≡◌, ◌∙◌, inl, inr, ℕ, ◌+◌, ◌-◌, ◌%◌, ◌^◌, ◌<◌, ◌≤◌, Bool, true, false, List, [], ◌∷◌, ◌++◌, length, take, max, refl, sym, ap, subst, arith, append_assoc, append-nil, length-take, suc, zero}
-use Rattle.std.specs.Prelude.{Some, None, nat_lt, ◌==◌, map, slice_index, if◌then◌else◌}
-use Rattle.tds_values.specs.declared.kind.Kind.{Kind}
-use Rattle.tds_values.specs.declared.kind.Reach.TheVariants.{Short, Chunked}
+use Rattle.std.proofs.Common.{◌≡◌, ◌∙◌, inl, inr, ℕ, ◌+◌, ◌-◌, ◌%◌, ◌^◌, ◌<◌, ◌≤◌, Bool, true, false, List, [], ◌∷◌, ◌++◌, length, take, max, refl, sym, ap, subst, arith, append-nil, length-take, suc, zero}
+use Rattle.std.specs.Prelude.{Some, nat_lt, ◌==◌, map, slice_index, if◌then◌else◌}
 use Rattle.tds_meter.specs.Space.{Space}
 use Rattle.tds_packet.specs.declared.fault.Fault.TheVariants.{MessageEnded}
 use Rattle.tds_packet.specs.declared.fault.Stop.{Stop}
 use Rattle.tds_packet.specs.Elements.{IsNext, Spelt}
 use Rattle.tds_packet.specs.Seen.{Seen, Takes, Ends, IsBetween, began_at}
 use Rattle.tds_packet.specs.Reading.{StopsReading}
-use Rattle.tds_packet.proofs.ElementLaws.{Inside-Spelt, Spelt-none, Spelt-one, one_state}
+use Rattle.tds_packet.proofs.ElementLaws.{Spelt-none, Spelt-one, one_state}
 use Rattle.tds_packet.proofs.Steps.{began_is_cut, cut_at_once}
 use Rattle.tds_columns.specs.Description.{BeforeCount, Column, DescriptionPart, InColumn, NoDescription, WholeDescription, described_size, description, description_bytes, span}
 use Rattle.tds_columns.specs.Gather.{Describes, StopsDescribing}
 use Rattle.tds_columns.specs.View.{columns_of}
 use Rattle.tds_csv.specs.Quoting.{joined, line}
 use Rattle.tds_csv.specs.Sinks.{Breaks, Held, Puts}
-use Rattle.tds_csv.specs.Streaming.{BreaksStreaming, PutsText}
+use Rattle.tds_csv.specs.Streaming.{PutsText}
 use Rattle.tds_csv.proofs.Sinks.{Puts-none}
 use Rattle.tds_rows.specs.declared.Charset.{Charset}
-use Rattle.tds_rows.specs.Cells.{Shape, FixedShape, CountedShape, LongShape, cell_start, field, field_so_far, shape}
-use Rattle.tds_rows.specs.Rows.{RowPart, Bitmap, InCell, WholeRow, row, row_size, row_so_far, row_start, with_field}
+use Rattle.tds_rows.specs.Cells.{field, shape}
+use Rattle.tds_rows.specs.Rows.{RowPart, Bitmap, InCell, WholeRow, row, row_size, row_so_far, with_field}
 use Rattle.tds_rows.specs.RowSteps.{ReadsRow, RowStops}
 use Rattle.tds_rows.specs.Unbuilt.{Stalls, is_built_row}
 use Rattle.tds_export.specs.declared.progress.Progress.{Progress}

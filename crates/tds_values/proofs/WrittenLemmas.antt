@@ -1,5 +1,5 @@
 -- What the bytes of a kind spell is written, or its fault answered.
-use Rattle.std.proofs.Common.{◌≡◌, ℕ, ◌+◌, ◌*◌, ◌/◌, ◌%◌, ◌^◌, ◌<◌, ◌≤◌, List, ◌++◌, Bool, true, false, cond, nat_eq, nat_le, nat_lt, ◌&&◌, ◌⊎◌, take, drop, length, ℤ, unsigned_abs, codes, Some, None, Ok, Err, refl, sym, ap, subst, ◌∙◌, ⊎_elim, arith}
+use Rattle.std.proofs.Common.{◌≡◌, ℕ, ◌+◌, ◌*◌, ◌/◌, ◌%◌, ◌^◌, ◌<◌, ◌≤◌, List, ◌++◌, true, false, cond, nat_eq, nat_le, nat_lt, ◌&&◌, ◌⊎◌, take, drop, length, ℤ, unsigned_abs, codes, Some, None, Ok, Err, refl, sym, ap, subst, ◌∙◌, ⊎_elim, arith}
 use Rattle.std.proofs.Math.Nat.{one-le-pow}
 use Rattle.std.proofs.lemmas.Nat.{div_below, le-div}
 use Rattle.std.proofs.lemmas.Bool.{and_from, and_parts, and_right, cases_lt}
