@@ -5,7 +5,7 @@ ghost use Rattle.tds_packet.specs.Payloads.{IsSound};
 use super::*;
 use crate::rig::{Failing, RepeatingReader, ScriptedReader, ScriptedWriter};
 use std::alloc::{AllocError, Global};
-use std::io::Read;
+use std::io::{Read, Write};
 use std::test::Fail;
 use tds_meter::Area;
 
@@ -344,5 +344,275 @@ fn empty_packets_end_at_the_limit(rt: HostRuntime) -> Result<(), Fail> {
     let mut from = Counted::new(reader);
     let out = read(rt.alloc(), By::Next, &mut from, 4096)?;
     assert_eq!(rt; out.bytes.as_slice(), &PACKET[8..]);
+    Ok(())
+}
+
+// So many bytes, no two neighbours alike.
+fn some_bytes(alloc: Global, n: usize) -> Result<Vec<u8>, AllocError> {
+    let mut bytes = Vec::new(alloc);
+    for i in 0..n {
+        bytes.push((i % 251) as u8)?;
+    }
+    Ok(bytes)
+}
+
+// A payload in packets with bodies of so many bytes, numbered from 1 on.
+fn in_packets(alloc: Global, payload: &[u8], most: usize) -> Result<Vec<u8>, AllocError>
+    requires { most ≤ 1000 }
+{
+    let mut wire = Vec::new(alloc);
+    let mut left = payload;
+    let mut id = 1u8;
+    for _ in 0..1000 {
+        let body = &left[..left.len().min(most)];
+        left = &left[body.len()..];
+        let status = if left.is_empty() { 0x01 } else { 0x00 };
+        let length = body.len() + 8;
+        let (high, low) = ((length / 256) as u8, (length % 256) as u8);
+        wire.extend_from_slice(&[0x04, status, high, low, 0x00, 0x00, id, 0x00])?;
+        wire.extend_from_slice(body)?;
+        if left.is_empty() {
+            break;
+        }
+        id = id.wrapping_add(1);
+    }
+    Ok(wire)
+}
+
+// Recuts to packets of so many bytes.
+fn recut_to<R: Read, W: Write>(
+    alloc: Global,
+    size: usize,
+    from: &mut Counted<R>,
+    to: &mut Counted<W>,
+) -> Result<Result<Recut, RecutStop>, Fail>
+    requires { (512 ≤ size) × (size ≤ 32767) }
+{
+    let mut input = Area::new(alloc, 512)?;
+    let mut output = Area::new(alloc, size)?;
+    Ok(recut(from, to, &mut input, &mut output, 1_000_000))
+}
+
+#[test]
+fn small_packets_become_one(rt: HostRuntime) -> Result<(), Fail> {
+    let alloc = rt.alloc();
+    for (name, empty, most, taken) in [
+        ("a byte a read", false, 1, 1000),
+        ("a byte a write", false, 1000, 1),
+        ("empty packets between", true, 1000, 1000),
+    ] {
+        let wire = in_single_bytes(alloc, empty)?;
+        let mut from = Counted::new(ScriptedReader::new(&wire, most));
+        let mut to = Counted::new(ScriptedWriter::new(taken, Failing::Never));
+        let answer = recut_to(alloc, 512, &mut from, &mut to)?;
+        let want = Recut {
+            packets: 1,
+            payload: 31,
+        };
+        assert_eq!(rt; answer, Ok(want), "{name}");
+        assert_eq!(rt; to.device().kept(), PACKET.as_slice(), "{name}");
+        assert_eq!(rt; to.device().flushes(), 1, "{name}");
+    }
+    Ok(())
+}
+
+// A payload cut to a size.
+struct Cut {
+    name: &'static str,
+    payload: usize,
+    size: usize,
+    // the beginning of each packet
+    headers: &'static [[u8; 8]],
+}
+
+const CUTS: [Cut; 6] = [
+    Cut {
+        name: "no byte",
+        payload: 0,
+        size: 512,
+        headers: &[[0x04, 0x01, 0x00, 0x08, 0x00, 0x00, 0x01, 0x00]],
+    },
+    Cut {
+        name: "one full packet",
+        payload: 504,
+        size: 512,
+        headers: &[[0x04, 0x01, 0x02, 0x00, 0x00, 0x00, 0x01, 0x00]],
+    },
+    Cut {
+        name: "one byte more",
+        payload: 505,
+        size: 512,
+        headers: &[
+            [0x04, 0x00, 0x02, 0x00, 0x00, 0x00, 0x01, 0x00],
+            [0x04, 0x01, 0x00, 0x09, 0x00, 0x00, 0x02, 0x00],
+        ],
+    },
+    Cut {
+        name: "two full packets",
+        payload: 1008,
+        size: 512,
+        headers: &[
+            [0x04, 0x00, 0x02, 0x00, 0x00, 0x00, 0x01, 0x00],
+            [0x04, 0x01, 0x02, 0x00, 0x00, 0x00, 0x02, 0x00],
+        ],
+    },
+    Cut {
+        name: "one greater packet",
+        payload: 1008,
+        size: 1100,
+        headers: &[[0x04, 0x01, 0x03, 0xF8, 0x00, 0x00, 0x01, 0x00]],
+    },
+    Cut {
+        name: "the rest in a third packet",
+        payload: 1500,
+        size: 600,
+        headers: &[
+            [0x04, 0x00, 0x02, 0x58, 0x00, 0x00, 0x01, 0x00],
+            [0x04, 0x00, 0x02, 0x58, 0x00, 0x00, 0x02, 0x00],
+            [0x04, 0x01, 0x01, 0x44, 0x00, 0x00, 0x03, 0x00],
+        ],
+    },
+];
+
+#[test]
+fn a_payload_is_cut_to_the_size(rt: HostRuntime) -> Result<(), Fail> {
+    let alloc = rt.alloc();
+    for row in &CUTS {
+        let payload = some_bytes(alloc, row.payload)?;
+        let wire = in_packets(alloc, &payload, 100)?;
+        let mut from = Counted::new(ScriptedReader::new(&wire, 64));
+        let mut to = Counted::new(ScriptedWriter::new(64, Failing::Never));
+        let size = row.size.max(512).min(32767);
+        let answer = recut_to(alloc, size, &mut from, &mut to)?;
+        let want = Recut {
+            packets: row.headers.len() as u64,
+            payload: row.payload as u64,
+        };
+        assert_eq!(rt; answer, Ok(want), "{}", row.name);
+        let mut written = Vec::new(alloc);
+        let mut left = payload.as_slice();
+        for header in row.headers {
+            let body = left.len().min(size - 8);
+            written.extend_from_slice(header)?;
+            written.extend_from_slice(&left[..body])?;
+            left = &left[body..];
+        }
+        assert_eq!(rt; to.device().kept(), written.as_slice(), "{}", row.name);
+        assert_eq!(rt; from.device().left().len(), 0, "{}", row.name);
+    }
+    Ok(())
+}
+
+#[test]
+fn packet_ids_go_on_with_0_behind_255(rt: HostRuntime) -> Result<(), Fail> {
+    let alloc = rt.alloc();
+    let mut full = [7u8; 512];
+    full[..8].copy_from_slice(&[0x04, 0x00, 0x02, 0x00, 0x00, 0x00, 0x01, 0x00]);
+    let mut from = Counted::new(RepeatingReader::new(&[], &full, 257, &PACKET));
+    let mut to = Counted::new(Vec::new(alloc));
+    let answer = recut_to(alloc, 512, &mut from, &mut to)?;
+    let want = Recut {
+        packets: 258,
+        payload: 257 * 504 + 31,
+    };
+    assert_eq!(rt; answer, Ok(want));
+    for (number, id) in [
+        (0, 1),
+        (1, 2),
+        (253, 254),
+        (254, 255),
+        (255, 0),
+        (256, 1),
+        (257, 2),
+    ] {
+        assert_eq!(rt; to.device().get(number * 512 + 6), Some(&id), "{number}");
+    }
+    Ok(())
+}
+
+#[test]
+fn whole_packets_stand_where_the_input_stops(rt: HostRuntime) -> Result<(), Fail> {
+    let alloc = rt.alloc();
+    let payload = some_bytes(alloc, 1111)?;
+    let wire = in_packets(alloc, &payload, 101)?;
+    let written = in_packets(alloc, &payload, 504)?;
+    for cut in 0..1199 {
+        for failing in [Failing::Never, Failing::InFlush] {
+            for fault in [Fault::InputEnded, Fault::ReadFailed] {
+                let reader = match fault {
+                    Fault::ReadFailed => ScriptedReader::failing(&wire, 1000, cut),
+                    _ => ScriptedReader::new(wire.get(..cut).unwrap_or(&[]), 1000),
+                };
+                let mut from = Counted::new(reader);
+                let mut to = Counted::new(ScriptedWriter::new(1000, failing));
+                let answer = recut_to(alloc, 512, &mut from, &mut to)?;
+                let whole = cut / 109;
+                // one packet where 505 bytes of the payload were read, and two where 1,010 were
+                let stands = if whole >= 10 {
+                    1024
+                } else if whole >= 5 {
+                    512
+                } else {
+                    0
+                };
+                let stop = RecutStop {
+                    stop: Stop {
+                        fault,
+                        place: Place::Wire(whole as u64 * 109),
+                    },
+                    written: stands as u64,
+                    unwritten: 0,
+                };
+                assert_eq!(rt; answer, Err(stop), "{cut}, {failing:?}");
+                assert_eq!(rt; Some(to.device().kept()), written.get(..stands), "{cut}");
+                assert_eq!(rt; to.device().flushes(), 1, "{cut}");
+            }
+        }
+    }
+    Ok(())
+}
+
+#[test]
+fn a_failed_write_leaves_a_beginning(rt: HostRuntime) -> Result<(), Fail> {
+    let alloc = rt.alloc();
+    let payload = some_bytes(alloc, 505)?;
+    let wire = in_packets(alloc, &payload, 101)?;
+    let written = in_packets(alloc, &payload, 504)?;
+    for taken in 0..521 {
+        for failing in [Failing::AfterBytes(taken), Failing::ZeroAfterBytes(taken)] {
+            let mut from = Counted::new(ScriptedReader::new(&wire, 1000));
+            let mut to = Counted::new(ScriptedWriter::new(100, failing));
+            let answer = recut_to(alloc, 512, &mut from, &mut to)?;
+            let end = if taken < 512 { 512 } else { 521 };
+            let stop = RecutStop {
+                stop: Stop {
+                    fault: Fault::WriteFailed,
+                    place: Place::Text(taken as u64),
+                },
+                written: taken as u64,
+                unwritten: (end - taken) as u64,
+            };
+            assert_eq!(rt; answer, Err(stop), "{failing:?}");
+            assert_eq!(rt;
+                Some(to.device().kept()),
+                written.get(..taken),
+                "{failing:?}"
+            );
+            assert_eq!(rt; to.device().flushes(), 0, "{failing:?}");
+        }
+    }
+    let mut from = Counted::new(ScriptedReader::new(&wire, 1000));
+    let mut to = Counted::new(ScriptedWriter::new(1000, Failing::InFlush));
+    let answer = recut_to(alloc, 512, &mut from, &mut to)?;
+    let stop = RecutStop {
+        stop: Stop {
+            fault: Fault::WriteFailed,
+            place: Place::Text(521),
+        },
+        written: 521,
+        unwritten: 0,
+    };
+    assert_eq!(rt; answer, Err(stop));
+    assert_eq!(rt; to.device().kept(), written.as_slice());
     Ok(())
 }
