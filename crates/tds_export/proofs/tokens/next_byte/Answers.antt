@@ -6,22 +6,22 @@ use Rattle.tds_packet.proofs.Passing.{passed}
 use Rattle.tds_export.proofs.tokens.next_byte.Goals as goal
 
 -- the first byte of those that lie ready
-first : (lying : List ℕ) → 0 < length lying → take 1 lying ≡ slice_index lying 0 ∷ []
+first : (front : List ℕ) → 0 < length front → take 1 front ≡ slice_index front 0 ∷ []
 first [] h = absurd (omega arith)
-first (x ∷ lying) h = refl
+first (x ∷ front) h = refl
 
 pub returns-clause-gives : goal.returns-clause-gives
 returns-clause-gives g c =
     let a = seen g.R.Read.remaining c.args.payload.now in
     let b = seen g.R.Read.remaining c.at_end.new.self in
     let d = seen g.R.Read.remaining c.consume.new.self in
-    let lying = buffered c.at_end.new.self in
-    let some : 0 < length lying = c.in_ok-at_end.ensures.ready c.if-branch.false in
-    let byte : take 1 lying ≡ slice_index c.buffered.result.now 0 ∷ [] = first lying some ∙ ap (λ l. slice_index l 0 ∷ []) (sym c.buffered.ensures) in
-    let both : Takes a d ([] ++ take 1 lying) (0 + 1) = Takes-trans a b d [] (take 1 lying) 1 1 (omega arith) c.in_ok-at_end.ensures.gives (Takes-more b d (take 1 lying) 0 1 (omega arith) c.consume.ensures.gives) in
+    let front = buffered c.at_end.new.self in
+    let some : 0 < length front = c.in_ok-at_end.ensures.ready c.if-branch.false in
+    let byte : take 1 front ≡ slice_index c.buffered.result.now 0 ∷ [] = first front some ∙ ap (λ l. slice_index l 0 ∷ []) (sym c.buffered.ensures) in
+    let both : Takes a d ([] ++ take 1 front) (0 + 1) = Takes-trans a b d [] (take 1 front) 1 1 (omega arith) c.in_ok-at_end.ensures.gives (Takes-more b d (take 1 front) 0 1 (omega arith) c.consume.ensures.gives) in
     let one : 0 + 1 ≡ 1 = omega arith in
     record {
-      takes = subst (λ l. Takes a d l 1) byte (subst (Takes a d (take 1 lying)) one both);
+      takes = subst (λ l. Takes a d l 1) byte (subst (Takes a d (take 1 front)) one both);
       place_is = search rules;
       between = search rules;
     }
