@@ -1,12 +1,12 @@
 -- A payload on its way into packets of one size.
-use Rattle.std.proofs.Common.{◌≡◌, ◌∙◌, inl, inr, ◌⊎◌, ℕ, zero, suc, ◌+◌, ◌-◌, ◌*◌, ◌/◌, ◌<◌, ◌≤◌, Bool, true, false, List, [], ◌∷◌, ◌++◌, length, take, drop, Option, None, Some, refl, sym, ap, subst, arith, append_assoc, append-nil, length-append, length-drop, take_all, le_refl}
+use Rattle.std.proofs.Common.{◌≡◌, ◌∙◌, inl, inr, ◌⊎◌, ℕ, zero, suc, ◌+◌, ◌-◌, ◌*◌, ◌/◌, ◌<◌, ◌≤◌, Bool, true, false, List, [], ◌∷◌, ◌++◌, length, take, drop, Option, None, refl, sym, ap, subst, arith, append-nil, length-append, length-drop, take_all, le_refl}
 use Rattle.std.proofs.lemmas.Nat.{div-mul-add}
 use Rattle.std.proofs.lemmas.Grind.{flat_map-append}
 use Rattle.std.proofs.KnownBytes.{Appends-nil, Appends-trans, Appends-kept}
 use Rattle.std.proofs.Math.Seq.{drop-append_seam}
 use Rattle.std.proofs.Math.Nat.{suc-mul}
 use Rattle.std.proofs.Math.ListN.{drop_of_length-le}
-use Rattle.std.specs.Prelude.{Result, Ok, Err, IsTrue, ◌^◌, if◌then◌else◌}
+use Rattle.std.specs.Prelude.{Result, Ok, Err, IsTrue, ◌^◌}
 use Rattle.std.specs.Io.KnownBytes.{Appends, Keeps}
 use Rattle.tds_meter.specs.Space.{Space, holding}
 use lib.Seq.{take-append-le, drop-append-le}
@@ -21,7 +21,7 @@ use Rattle.tds_packet.specs.declared.recutting.Written.{Written}
 use Rattle.tds_packet.specs.Coming.{Coming, before, coming_of, message}
 use Rattle.tds_packet.specs.Packets.{Packet, packet_bytes, wire_of}
 use Rattle.tds_packet.specs.Payloads.{buffered, seen}
-use Rattle.tds_packet.specs.Recutting.{Cuts, CutsAll, Flushes, Gains, StopsInput, StopsOutput, header_bytes, write_stop, cut_packet, cut_packets, first_packets, before_last, last_packet, packets_before}
+use Rattle.tds_packet.specs.Recutting.{Cuts, Flushes, Gains, StopsInput, StopsOutput, header_bytes, write_stop, cut_packet, cut_packets, first_packets, before_last, last_packet, packets_before}
 use Rattle.tds_packet.specs.Seen.{Ends, IsBetween, IsNotOver, IsOver, Seen, Takes}
 use Rattle.tds_packet.proofs.Futures.{Ends-after, Takes-more, Takes-none, Takes-trans}
 

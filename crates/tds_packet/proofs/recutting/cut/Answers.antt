@@ -1,7 +1,6 @@
-use Rattle.std.proofs.Common.{◌≡◌, ◌∙◌, inl, inr, ◌+◌, ◌-◌, ◌*◌, ◌<◌, ◌≤◌, true, false, drop, length, refl, sym, ap, rules, arith, length-drop}
-use Rattle.std.proofs.lemmas.Grind.{common_steps}
+use Rattle.std.proofs.Common.{◌≡◌, ◌∙◌, inl, inr, ◌+◌, ◌-◌, ◌<◌, ◌≤◌, true, false, drop, length, refl, sym, ap, rules, arith, length-drop}
 use Rattle.tds_packet.specs.Packets.{packet_bytes}
-use Rattle.tds_packet.specs.Payloads.{buffered, seen}
+use Rattle.tds_packet.specs.Payloads.{seen}
 use Rattle.tds_packet.specs.Recutting.{Cuts, cut_packet}
 use Rattle.tds_packet.proofs.Passing.{passed_on}
 use Rattle.tds_packet.proofs.Recuts.{cut_broken, cut_finished, cut_length, cut_more, cut_none, cut_stopped, some_ends, some_over}

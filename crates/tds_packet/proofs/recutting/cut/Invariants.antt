@@ -1,4 +1,4 @@
-use Rattle.std.proofs.Common.{◌≡◌, ◌+◌, ◌-◌, ◌*◌, ◌<◌, ◌≤◌, length}
+use Rattle.std.proofs.Common.{◌≡◌, ◌-◌, ◌*◌, ◌<◌, ◌≤◌, length}
 use Rattle.tds_packet.specs.Payloads.{IsGoing, IsOnSame, buffered, seen}
 use Rattle.tds_packet.proofs.Recuts.{Cutting}
 use Rattle.tds_packet.proofs.recutting.cut.Given as goal

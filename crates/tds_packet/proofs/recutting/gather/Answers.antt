@@ -1,4 +1,4 @@
-use Rattle.std.proofs.Common.{◌≡◌, ◌∙◌, ◌+◌, ◌-◌, ◌≤◌, ◌++◌, false, length, take, drop, min, sym, ap, subst, rules, arith, length-append, length-take-le}
+use Rattle.std.proofs.Common.{◌≡◌, ◌∙◌, ◌+◌, ◌-◌, ◌++◌, false, length, take, drop, min, sym, ap, subst, rules, arith, length-append, length-take-le}
 use Rattle.std.proofs.lemmas.Grind.{common_steps}
 use lib.Seq.{drop-append-le}
 use Rattle.tds_packet.specs.Payloads.{buffered, seen}
