@@ -31,6 +31,9 @@ struct Written {
 /// end. The input's room is the greatest packet size that is read, and the limit counts the bytes
 /// read, headers included. At the end the writer is flushed, also after a stop of the input: a
 /// failure then changes nothing.
+///
+/// Stops with the faults of a payload at their places, after which whole packets stand written, and
+/// with `WriteFailed` at the bytes that the writer took (MS-TDS, Packet Header).
 pub fn recut<R: Read, W: Write>(
     from: &mut Counted<R>,
     to: &mut Counted<W>,
