@@ -97,7 +97,8 @@ fields_more cells v = ap (λ n. joined (map field cells) ++ behind_comma n v) (s
 cell_more : (cells : List Cell) (v : Cell) → joined (map field cells) ++ behind_comma (length cells) (field v) ≡ joined (map field (cells ++ v ∷ []))
 cell_more cells v = fields_more cells (field v) ∙ ap joined (sym (map-append field cells (v ∷ [])))
 
-next_text : (charset : Charset) (cells : List Cell) (v : Cell) (left : List Column) (n : ℕ) → joined (map field cells) ++ in_line (length cells) (is_last left) (field v) ≡ row_so_far (next_cell charset (cells ++ v ∷ []) (coming left n))
+-- the text of a row behind one more whole cell
+pub next_text : (charset : Charset) (cells : List Cell) (v : Cell) (left : List Column) (n : ℕ) → joined (map field cells) ++ in_line (length cells) (is_last left) (field v) ≡ row_so_far (next_cell charset (cells ++ v ∷ []) (coming left n))
 next_text charset cells v [] n = sym (append_assoc (joined (map field cells)) (behind_comma (length cells) (field v)) line_end) ∙ ap (λ l. l ++ line_end) (cell_more cells v)
 next_text charset cells v (c ∷ cs) n =
     ap (λ l. joined (map field cells) ++ l) (append-nil (behind_comma (length cells) (field v))) ∙ cell_more cells v

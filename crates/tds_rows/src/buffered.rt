@@ -16,8 +16,8 @@ use tds_values::Kind;
 // How many bytes a cell has, and how many its text in its line.
 #[derive(Clone, Copy)]
 pub(crate) struct Written {
-    used: usize,
-    made: usize,
+    pub(crate) used: usize,
+    pub(crate) made: usize,
 }
 
 // Writes the cell at the front of these bytes, of a kind whose values have so many; none where it isn't
@@ -85,7 +85,7 @@ fn write_counted(
 
 // Writes the cell at the front of these bytes; none where it isn't whole, is refused or isn't a scalar.
 #[inline]
-fn write_cell(kind: &Kind, column: u16, last: bool, bytes: &[u8], to: &mut [u8]) -> Option<Written>
+pub(crate) fn write_cell(kind: &Kind, column: u16, last: bool, bytes: &[u8], to: &mut [u8]) -> Option<Written>
     requires valid { IsTrue (kinds.is_valid kind.now) }
     requires room { CELL_ROOM ≤ length to.old }
     ensures used { IfSome result (λ written. written.used ≤ length bytes.now) }

@@ -1,0 +1,99 @@
+-- A run over rows, in its response.
+use Rattle.std.proofs.Common.{◌≡◌, ◌∙◌, ℕ, ◌+◌, ◌<◌, Bool, true, false, List, [], ◌∷◌, ◌++◌, length, refl, sym, ap, subst, arith, append_assoc, append-nil}
+use Rattle.std.specs.Prelude.{Option, Some, None, ◌==◌, map, if◌then◌else◌}
+use Rattle.std.proofs.lemmas.List.{map-append}
+use Rattle.tds_meter.specs.Space.{Space}
+use Rattle.tds_packet.specs.declared.fault.Fault.{Fault}
+use Rattle.tds_packet.specs.declared.fault.Fault.TheVariants.{RefusedToken}
+use Rattle.tds_packet.specs.Elements.{Grammar, IsNext, Leads, Spelt}
+use Rattle.tds_packet.specs.Seen.{Seen}
+use Rattle.tds_columns.specs.Description.{Column}
+use Rattle.tds_csv.specs.Quoting.{line}
+use Rattle.tds_csv.specs.Sinks.{Held}
+use Rattle.tds_csv.specs.Streaming.{Streams}
+use Rattle.tds_rows.specs.declared.Charset.{Charset}
+use Rattle.tds_rows.specs.Cells.{Cell, field}
+use Rattle.tds_rows.specs.Rows.{Bitmap, InCell, RowPart, WholeRow, row_so_far, row_start}
+use Rattle.tds_rows.specs.Runs.{RowsPart, lines, rows, rows_so_far}
+use Rattle.tds_export.specs.declared.standing.Standing.{Standing}
+use Rattle.tds_export.specs.Tokens.{Row, Token, described_after, text}
+use Rattle.tds_export.specs.Reading.{Part, response, row_byte_fault, start_of_row, text_so_far, with_row}
+use Rattle.tds_export.specs.Running.{IsHolding, Tracks, behind}
+use Rattle.tds_export.proofs.ResponseLaws.{described_after-append}
+use Rattle.tds_export.proofs.TokenLaws.{text_after-snoc, tracks_row}
+use Rattle.tds_export.proofs.TokenSteps.{holds-snoc, row_holds, row_next, row_text}
+
+-- what one grammar reads, another reads there, where each element does
+module _ {S T : Type 0} (small : Grammar S Fault) (big : Grammar T Fault) (lift : S → T) (is : (s : S) (e : List ℕ) → IsNext small s e → IsNext big (lift s) e × (big.add (lift s) e ≡ lift (small.add s e))) where
+  lifted_leads : (s : S) (es : List (List ℕ)) (t : S) → Leads small s es t → Leads big (lift s) es (lift t)
+  lifted_leads s [] t h = ap lift h
+  lifted_leads s (e ∷ es) t h = let x = is s e h.0 in (x.0, subst (λ v. Leads big v es (lift t)) (sym x.1) (lifted_leads (small.add s e) es t h.1))
+
+  lifted_spelt : (s : S) (bytes : List ℕ) (t : S) → Spelt small s bytes t → Spelt big (lift s) bytes (lift t)
+  lifted_spelt s bytes t h = record { elements = h.elements; joined = h.joined; leads = lifted_leads s h.elements t h.leads }
+
+-- rows describe no columns
+rows_describe : (before : Option (List Column)) (rs : List (List Cell)) → described_after before (map Row rs) ≡ before
+rows_describe before [] = refl
+rows_describe before (r ∷ rs) = rows_describe before rs
+
+-- the lines of rows
+rows_text : (tokens : List Token) (rs : List (List Cell)) → text (tokens ++ map Row rs) ≡ text tokens ++ lines rs
+rows_text tokens [] = ap text (append-nil tokens) ∙ sym (append-nil (text tokens))
+rows_text tokens (r ∷ rs) =
+    ap text (sym (append_assoc tokens (Row r ∷ []) (map Row rs))) ∙ rows_text (tokens ++ Row r ∷ []) rs
+    ∙ ap (λ l. l ++ lines rs) (text_after-snoc false tokens (Row r) ∙ ap (λ l. text tokens ++ l) (append-nil (line (map field r)))) ∙ append_assoc (text tokens) (line (map field r)) (lines rs)
+
+module _ (charset : Charset) (room : ℕ) (all : List Column) (tokens : List Token) where
+  -- where a run is, in its response
+  abbrev pub in_rows : RowsPart → Part
+  in_rows p = with_row (tokens ++ map Row p.before) p.at
+
+  in_rows_text : (p : RowsPart) → text_so_far (in_rows p) ≡ text tokens ++ rows_so_far p
+  in_rows_text p = row_text (tokens ++ map Row p.before) p.at ∙ ap (λ l. l ++ row_so_far p.at) (rows_text tokens p.before) ∙ append_assoc (text tokens) (lines p.before) (row_so_far p.at)
+
+  is_row_byte : (x : ℕ) → (if x == 0xD1 then None else Some (RefusedToken x)) ≡ None → x ≡ 0xD1
+  is_row_byte x h = search (arith, h)
+
+  module _ (known : described_after None tokens ≡ Some all) where
+    token_next : (before : List (List Cell)) (cells : List Cell) → IsNext (response charset room) (in_rows (record { before = before; at = WholeRow cells })) (0xD1 ∷ []) × ((response charset room).add (in_rows (record { before = before; at = WholeRow cells })) (0xD1 ∷ []) ≡ in_rows (record { before = before ++ cells ∷ []; at = row_start charset all }))
+    token_next before cells =
+        let ts : (tokens ++ map Row before) ++ Row cells ∷ [] ≡ tokens ++ map Row (before ++ cells ∷ []) = append_assoc tokens (map Row before) (Row cells ∷ []) ∙ ap (λ l. tokens ++ l) (sym (map-append Row before (cells ∷ []))) in
+        let described : described_after None ((tokens ++ map Row before) ++ Row cells ∷ []) ≡ Some all =
+          ap (described_after None) ts ∙ described_after-append None tokens (map Row (before ++ cells ∷ [])) ∙ rows_describe (described_after None tokens) (before ++ cells ∷ []) ∙ known in
+        (
+          record { some = omega arith; whole = refl; free = ap (row_byte_fault true) described },
+          ap (start_of_row ((tokens ++ map Row before) ++ Row cells ∷ []) (row_start charset)) described ∙ ap (λ l. with_row l (row_start charset all)) ts,
+        )
+
+    element_next : (before : List (List Cell)) (p : RowPart) (e : List ℕ) → IsNext (rows charset all) (record { before = before; at = p }) e
+        → IsNext (response charset room) (in_rows (record { before = before; at = p })) e × ((response charset room).add (in_rows (record { before = before; at = p })) e ≡ in_rows ((rows charset all).add (record { before = before; at = p }) e))
+    element_next before (Bitmap columns) e n = row_next charset room (tokens ++ map Row before) (Bitmap columns) e (record { some = n.some; whole = n.whole; free = n.free })
+    element_next before (InCell cells part ks) e n = row_next charset room (tokens ++ map Row before) (InCell cells part ks) e (record { some = n.some; whole = n.whole; free = n.free })
+    element_next before (WholeRow cells) [] n = absurd (let s : 0 < length {A = ℕ} [] = n.some in omega arith)
+    element_next before (WholeRow cells) (x ∷ []) n =
+        subst (λ (x : ℕ). IsNext (response charset room) (in_rows (record { before = before; at = WholeRow cells })) (x ∷ []) × ((response charset room).add (in_rows (record { before = before; at = WholeRow cells })) (x ∷ []) ≡ in_rows (record { before = before ++ cells ∷ []; at = row_start charset all }))) (sym (is_row_byte x n.free)) (token_next before cells)
+    element_next before (WholeRow cells) (x ∷ y ∷ r) n = absurd (let w : length (x ∷ y ∷ r) ≡ 1 = n.whole in omega arith)
+
+    -- what a run reads and puts, is read of the response and put
+    pub rows_stream : (s t : RowsPart) (a b : Seen) (h j : Held) → Streams (rows charset all) rows_so_far s a b h j t → Streams (response charset room) text_so_far (in_rows s) a b h j (in_rows t)
+    rows_stream s t a b h j x = record {
+      bytes = x.bytes;
+      spelt = lifted_spelt (rows charset all) (response charset room) in_rows (λ p e n. element_next p.before p.at e n) s x.bytes t x.spelt;
+      takes = x.takes;
+      puts = (x.puts.0, ap (λ l. l ++ x.puts.0) (in_rows_text s) ∙ append_assoc (text tokens) (rows_so_far s) x.puts.0 ∙ ap (λ l. text tokens ++ l) x.puts.1 ∙ sym (in_rows_text t), x.puts.2);
+    }
+
+-- so many rows more are counted
+pub tracks_rows : (s : Standing) (tokens : List Token) (r : List Cell) (rs : List (List Cell)) → Tracks s tokens → Tracks (record s { report = record s.report { rows = s.report.rows + length (r ∷ rs) }; is_final = false }) (tokens ++ map Row (r ∷ rs))
+tracks_rows s tokens r [] k = tracks_row s tokens r k
+tracks_rows s tokens r (q ∷ qs) k =
+    let t = record s { report = record s.report { rows = s.report.rows + 1 }; is_final = false } in
+    let n : (s.report.rows + 1) + length (q ∷ qs) ≡ s.report.rows + length (r ∷ q ∷ qs) = omega arith in
+    subst (λ ts. Tracks (record s { report = record s.report { rows = s.report.rows + length (r ∷ q ∷ qs) }; is_final = false }) ts) (append_assoc tokens (Row r ∷ []) (map Row (q ∷ qs)))
+    (subst (λ (n : ℕ). Tracks (record s { report = record s.report { rows = n }; is_final = false }) ((tokens ++ Row r ∷ []) ++ map Row (q ∷ qs))) n (tracks_rows t (tokens ++ Row r ∷ []) q qs (tracks_row s tokens r k)))
+
+-- the description stays what it was
+pub rows_hold : (area : Space) (tokens : List Token) (rs : List (List Cell)) (at : RowPart) → IsHolding area (behind tokens) → IsHolding area (with_row (tokens ++ map Row rs) at)
+rows_hold area tokens [] at h = subst (λ ts. IsHolding area (with_row ts at)) (sym (append-nil tokens)) (row_holds area tokens at h)
+rows_hold area tokens (r ∷ rs) at h = subst (λ ts. IsHolding area (with_row ts at)) (append_assoc tokens (Row r ∷ []) (map Row rs)) (rows_hold area (tokens ++ Row r ∷ []) rs at (holds-snoc area tokens (Row r) refl h))

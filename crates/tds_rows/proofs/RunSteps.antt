@@ -1,0 +1,241 @@
+-- The cells of a run, as they are written one after another.
+use Rattle.std.proofs.Common.{◌≡◌, ◌∙◌, ℕ, ◌+◌, ◌-◌, ◌≤◌, ◌<◌, Bool, true, List, [], ◌∷◌, ◌++◌, length, take, drop, get_or, refl, sym, ap, subst, arith, append_assoc, append-nil, length-append, length-take}
+use Rattle.std.proofs.lemmas.List.{length-take-le, take-append-le, take_all, take_more}
+use Rattle.std.proofs.Math.Seq.{take-append-add}
+use lib.Seq.{take-add}
+use Rattle.tds_packet.specs.declared.fault.Fault.{Fault}
+use Rattle.tds_packet.specs.declared.fault.Stop.{Stop}
+use Rattle.std.specs.Prelude.{map}
+use Rattle.tds_packet.specs.Elements.{Grammar, Inside, Spelt}
+use Rattle.tds_packet.specs.Seen.{Seen, Takes}
+use Rattle.tds_csv.specs.Quoting.{joined, line}
+use Rattle.tds_csv.specs.Sinks.{Breaks, Held, Puts}
+use Rattle.tds_csv.specs.Streaming.{PutsText, Streams}
+use Rattle.tds_packet.proofs.ElementLaws.{Inside-Spelt, Spelt-append, Spelt-none, Spelt-one}
+use Rattle.tds_columns.specs.Description.{Column}
+use Rattle.tds_columns.proofs.ViewLaws.{all_behind}
+use Rattle.tds_rows.specs.declared.Charset.{Charset}
+use Rattle.tds_rows.specs.Cells.{DataCell, LongShape, ShortLength, SpellsShort, Cell, CellPart, field, WholeCell, cell, cell_start, shape}
+use Rattle.tds_rows.specs.Rows.{Bitmap, InCell, RowPart, WholeRow, row_start, next_cell, row, row_so_far, with_cell, with_field}
+use Rattle.tds_csv.specs.Quoting.{in_line}
+use Rattle.tds_rows.specs.CellSteps.{WritesCell, is_last}
+use Rattle.tds_rows.specs.Runs.{RunsRows, Writes, WritesCells, WritesRows, WritesWhole, behind_cells, lines, rows, rows_so_far}
+use Rattle.tds_values.specs.declared.kind.Kind.{Kind}
+use Rattle.tds_values.specs.declared.kind.Reach.TheVariants.{Short}
+use Rattle.tds_csv.specs.Conversion.{Conversion, is_fit, long_field}
+use Rattle.tds_rows.proofs.CellLaws.{cell_is_read}
+use Rattle.tds_rows.proofs.RowLaws.{begins_open, cell_in_row}
+use Rattle.tds_rows.proofs.RowSteps.{coming, next_text, start_quiet}
+
+-- ---- over any grammar
+
+pub writes_none : {S : Type 0} (g : Grammar S Fault) (text : S → List ℕ) (s : S) → Writes g text s [] [] s
+writes_none g text s = record { spelt = Spelt-none g s; text_is = append-nil (text s) }
+
+pub writes_both : {S : Type 0} (g : Grammar S Fault) (text : S → List ℕ) (s t u : S) (a b p q : List ℕ) → Writes g text s a p t → Writes g text t b q u → Writes g text s (a ++ b) (p ++ q) u
+writes_both g text s t u a b p q x y = record { spelt = Spelt-append g s a t b u x.spelt y.spelt; text_is = sym (append_assoc (text s) p q) ∙ ap (λ l. l ++ q) x.text_is ∙ y.text_is }
+
+-- ---- cells of a row
+
+pub whole_of : (from : CellPart) (column : ℕ) (last : Bool) (bytes made : List ℕ) → WritesCell from column last bytes made → WritesWhole from column last bytes made
+whole_of from column last bytes made x = record {
+  value = x.value;
+  spelt = subst (λ l. Spelt (cell column) from l (WholeCell x.value)) x.joined (Spelt-append (cell column) from x.front x.at x.element (WholeCell x.value) x.spelt (subst (λ v. Spelt (cell column) x.at x.element v) x.whole (Spelt-one (cell column) x.at x.element x.next)));
+  text_is = x.text_is;
+}
+
+from_text : (charset : Charset) (cells : List Cell) (c : Column) (left : List Column) (n : ℕ) → row_so_far (InCell cells (cell_start c.kind (shape charset c.kind)) (coming left n)) ≡ joined (map field cells)
+from_text charset cells c left n = ap (λ o. joined (with_field cells o)) (start_quiet c.kind (shape charset c.kind))
+
+spelt_there : (charset : Charset) (cells : List Cell) (c : Column) (left : List Column) (n : ℕ) (bytes : List ℕ) (at : CellPart) → Spelt (cell (length cells)) (cell_start c.kind (shape charset c.kind)) bytes at
+    → Spelt (row charset) (InCell cells (cell_start c.kind (shape charset c.kind)) (coming left n)) bytes (with_cell charset cells (coming left n) at)
+spelt_there charset cells c left n bytes at h =
+    let up = with_cell charset cells (coming left n) in
+    subst (λ s. Spelt (row charset) s bytes (up at)) (begins_open charset cells (coming left n) c.kind (shape charset c.kind)) (Inside-Spelt (cell (length cells)) (row charset) up (cell_in_row charset cells (coming left n)) (cell_start c.kind (shape charset c.kind)) bytes at h)
+
+-- one cell
+cell_writes : (charset : Charset) (cells : List Cell) (c : Column) (left : List Column) (bytes made : List ℕ) → (x : WritesWhole (cell_start c.kind (shape charset c.kind)) (length cells) (is_last left) bytes made)
+    → Writes (row charset) row_so_far (behind_cells charset cells (c ∷ left)) bytes made (behind_cells charset (cells ++ x.value ∷ []) left)
+cell_writes charset cells c left bytes made x =
+    let n : length cells + 1 ≡ length (cells ++ x.value ∷ []) = sym (length-append cells (x.value ∷ [])) in
+    subst (λ (k : ℕ). Writes (row charset) row_so_far (behind_cells charset cells (c ∷ left)) bytes made (next_cell charset (cells ++ x.value ∷ []) (coming left k))) n
+    (record {
+      spelt = spelt_there charset cells c left (length cells + 1) bytes (WholeCell x.value) x.spelt;
+      text_is = (λ i. from_text charset cells c left (length cells + 1) i ++ x.text_is i) ∙ next_text charset cells x.value left (length cells + 1);
+    })
+
+pub run_none : (charset : Charset) (cells : List Cell) (columns : List Column) (column : ℕ) → length cells ≡ column → WritesCells charset cells columns columns column [] []
+run_none charset cells columns column h = record {
+  more = [];
+  counted = ap length (append-nil cells) ∙ h;
+  writes = subst (λ l. Writes (row charset) row_so_far (behind_cells charset cells columns) [] [] (behind_cells charset l columns)) (sym (append-nil cells)) (writes_none (row charset) row_so_far (behind_cells charset cells columns));
+}
+
+pub run_more : (charset : Charset) (cells : List Cell) (columns : List Column) (c : Column) (left : List Column) (column : ℕ) (a b p q : List ℕ) → WritesCells charset cells columns (c ∷ left) column a p
+    → WritesWhole (cell_start c.kind (shape charset c.kind)) column (is_last left) b q → WritesCells charset cells columns left (column + 1) (a ++ b) (p ++ q)
+run_more charset cells columns c left column a b p q x y =
+    let whole = cells ++ x.more in
+    let z : WritesWhole (cell_start c.kind (shape charset c.kind)) (length whole) (is_last left) b q = subst (λ (n : ℕ). WritesWhole (cell_start c.kind (shape charset c.kind)) n (is_last left) b q) (sym x.counted) y in
+    let behind : whole ++ z.value ∷ [] ≡ cells ++ (x.more ++ z.value ∷ []) = append_assoc cells x.more (z.value ∷ []) in
+    record {
+      more = x.more ++ z.value ∷ [];
+      counted = ap length (sym behind) ∙ length-append whole (z.value ∷ []) ∙ ap (λ n. n + 1) x.counted;
+      writes = writes_both (row charset) row_so_far (behind_cells charset cells columns) (behind_cells charset whole (c ∷ left)) (behind_cells charset (cells ++ (x.more ++ z.value ∷ [])) left) a b p q x.writes
+          (subst (λ l. Writes (row charset) row_so_far (behind_cells charset whole (c ∷ left)) b q (behind_cells charset l left)) behind (cell_writes charset whole c left b q z));
+    }
+
+-- what is made behind what was made
+made_more : (made m : ℕ) (to new rest : List ℕ) → made ≤ length to → m ≤ length new → take (made + m) (take made to ++ (new ++ rest)) ≡ take made to ++ take m new
+made_more made m to new rest within some =
+    let len : length (take made to) ≡ made = length-take-le made to within in
+    ap (λ k. take (k + m) (take made to ++ (new ++ rest))) (sym len) ∙ take-append-add (take made to) (new ++ rest) m ∙ ap (λ l. take made to ++ l) (take-append-le m new rest some)
+
+-- what is used behind what was used
+used_more : (used u : ℕ) (bytes : List ℕ) → take (used + u) bytes ≡ take used bytes ++ take u (take (length bytes - used) (drop used bytes))
+used_more used u bytes = take-add used u bytes ∙ ap (λ l. take used bytes ++ take u l) (sym (all_behind bytes used))
+
+-- what is written behind what was made leaves it as it was
+pub made_same : (made : ℕ) (to rest : List ℕ) → made ≤ length to → take made (take made to ++ rest) ≡ take made to
+made_same made to rest within = take-append-le made (take made to) rest (omega (arith, within, length-take-le made to within)) ∙ take_all made (take made to) (omega (arith, within, length-take-le made to within))
+
+-- one cell more, in the bytes that are left and behind what was made
+pub run_step : (charset : Charset) (cells : List Cell) (columns : List Column) (c : Column) (left : List Column) (column next used u made m : ℕ) (bytes to new rest : List ℕ) → made ≤ length to → m ≤ length new → next ≡ column + 1
+    → WritesCells charset cells columns (c ∷ left) column (take used bytes) (take made to)
+    → WritesWhole (cell_start c.kind (shape charset c.kind)) column (is_last left) (take u (take (length bytes - used) (drop used bytes))) (take m new)
+    → WritesCells charset cells columns left next (take (used + u) bytes) (take (made + m) (take made to ++ (new ++ rest)))
+run_step charset cells columns c left column next used u made m bytes to new rest within some further x y =
+    subst (λ (n : ℕ). WritesCells charset cells columns left n (take (used + u) bytes) (take (made + m) (take made to ++ (new ++ rest)))) (sym further)
+    (subst (λ l. WritesCells charset cells columns left (column + 1) l (take (made + m) (take made to ++ (new ++ rest)))) (sym (used_more used u bytes))
+    (subst (λ l. WritesCells charset cells columns left (column + 1) (take used bytes ++ take u (take (length bytes - used) (drop used bytes))) l) (sym (made_more made m to new rest within some))
+    (run_more charset cells columns c left column (take used bytes) (take u (take (length bytes - used) (drop used bytes))) (take made to) (take m new) x y)))
+
+-- ---- a run between a payload and a sink
+
+-- what was written from bytes that were then passed over, and kept, was read and put
+abbrev pub writes_streams : {S : Type 0} (g : Grammar S Fault) (text : S → List ℕ) (s t : S) (a b : Seen) (h j : Held) (bytes made : List ℕ) → Writes g text s bytes made t → Takes a b bytes (length bytes) → Puts h j made → Streams g text s a b h j t
+writes_streams g text s t a b h j bytes made x takes puts = record { bytes = bytes; spelt = x.spelt; takes = takes; puts = (made, x.text_is, puts) }
+
+-- what doesn't fill a block isn't delivered, so no write of it fails
+pub fills_no_block : (h j : Held) (piece : List ℕ) (stop : Stop) → length h.waiting + length piece < 4096 → Breaks h j piece stop → ⊥
+fills_no_block h j piece stop few (sent, blocks, n, adds, most, least, less, whole, is, risen) =
+    let both : length h.waiting + length (take n piece) ≡ length sent + length j.waiting = sym (length-append h.waiting (take n piece)) ∙ ap length adds.1 ∙ length-append sent j.waiting in
+    omega (arith, both, few, whole, most, length-take n piece)
+
+-- ---- over the ends of rows
+
+row_among_rows : (charset : Charset) (all : List Column) (before : List (List Cell)) → Inside (row charset) (rows charset all) (λ p. record { before = before; at = p })
+row_among_rows charset all before = record { size = size; fault = fault; add = add }
+  where
+    size : (p : RowPart) → 0 < (row charset).size p → (rows charset all).size (record { before = before; at = p }) ≡ (row charset).size p
+    size (Bitmap columns) h = refl
+    size (InCell cells part ks) h = refl
+    size (WholeRow cells) h = absurd (omega arith)
+
+    fault : (p : RowPart) (e : List ℕ) → 0 < (row charset).size p → (rows charset all).fault (record { before = before; at = p }) e ≡ (row charset).fault p e
+    fault (Bitmap columns) e h = refl
+    fault (InCell cells part ks) e h = refl
+    fault (WholeRow cells) e h = absurd (omega arith)
+
+    add : (p : RowPart) (e : List ℕ) → 0 < (row charset).size p → (rows charset all).add (record { before = before; at = p }) e ≡ record { before = before; at = (row charset).add p e }
+    add (Bitmap columns) e h = refl
+    add (InCell cells part ks) e h = refl
+    add (WholeRow cells) e h = absurd (omega arith)
+
+-- what is written of a row is written of the rows
+row_among : (charset : Charset) (all : List Column) (before : List (List Cell)) (p q : RowPart) (bytes made : List ℕ) → Writes (row charset) row_so_far p bytes made q
+    → Writes (rows charset all) rows_so_far (record { before = before; at = p }) bytes made (record { before = before; at = q })
+row_among charset all before p q bytes made x = record {
+  spelt = Inside-Spelt (row charset) (rows charset all) (λ p. record { before = before; at = p }) (row_among_rows charset all before) p bytes q x.spelt;
+  text_is = append_assoc (lines before) (row_so_far p) made ∙ ap (λ l. lines before ++ l) x.text_is;
+}
+
+lines_snoc : (rs : List (List Cell)) (r : List Cell) → lines (rs ++ r ∷ []) ≡ lines rs ++ line (map field r)
+lines_snoc [] r = append-nil (line (map field r))
+lines_snoc (q ∷ qs) r = ap (λ l. line (map field q) ++ l) (lines_snoc qs r) ∙ sym (append_assoc (line (map field q)) (lines qs) (line (map field r)))
+
+start_text : (charset : Charset) (columns : List Column) → 0 < length columns → row_so_far (row_start charset columns) ≡ []
+start_text charset [] some = absurd (omega (arith, some))
+start_text charset (c ∷ cs) some = from_text charset [] c cs 1
+
+-- the token byte of the next row
+row_token : (charset : Charset) (all : List Column) (before : List (List Cell)) (cells : List Cell) → 0 < length all
+    → Writes (rows charset all) rows_so_far (record { before = before; at = WholeRow cells }) (0xD1 ∷ []) [] (record { before = before ++ cells ∷ []; at = row_start charset all })
+row_token charset all before cells some = record {
+  spelt = Spelt-one (rows charset all) (record { before = before; at = WholeRow cells }) (0xD1 ∷ []) (record { some = omega arith; whole = refl; free = refl });
+  text_is = append-nil (lines before ++ line (map field cells)) ∙ sym (lines_snoc before cells) ∙ sym (append-nil (lines (before ++ cells ∷ []))) ∙ ap (λ l. lines (before ++ cells ∷ []) ++ l) (sym (start_text charset all some));
+}
+
+pub rows_none : (charset : Charset) (all : List Column) (cells : List Cell) (columns : List Column) (column : ℕ) → length cells ≡ column → WritesRows charset all cells columns columns column 0 [] []
+rows_none charset all cells columns column h = record { before = []; more = cells; rows_counted = refl; counted = h; writes = writes_none (rows charset all) rows_so_far (record { before = []; at = behind_cells charset cells columns }) }
+
+rows_more : (charset : Charset) (all : List Column) (cells : List Cell) (columns left left' : List Column) (column column' count : ℕ) (a b p q : List ℕ) → WritesRows charset all cells columns left column count a p
+    → ((cells : List Cell) → length cells ≡ column → WritesCells charset cells left left' column' b q) → WritesRows charset all cells columns left' column' count (a ++ b) (p ++ q)
+rows_more charset all cells columns left left' column column' count a b p q x f =
+    let y : WritesCells charset x.more left left' column' b q = f x.more x.counted in
+    record {
+      before = x.before;
+      more = x.more ++ y.more;
+      rows_counted = x.rows_counted;
+      counted = y.counted;
+      writes = writes_both (rows charset all) rows_so_far (record { before = []; at = behind_cells charset cells columns }) (record { before = x.before; at = behind_cells charset x.more left }) (record { before = x.before; at = behind_cells charset (x.more ++ y.more) left' }) a b p q x.writes
+          (row_among charset all x.before (behind_cells charset x.more left) (behind_cells charset (x.more ++ y.more) left') b q y.writes);
+    }
+
+rows_next : (charset : Charset) (all : List Column) (cells : List Cell) (columns left : List Column) (column count : ℕ) (a p : List ℕ) → 0 < length all → left ≡ [] → WritesRows charset all cells columns left column count a p
+    → WritesRows charset all cells columns all 0 (count + 1) (a ++ 0xD1 ∷ []) p
+rows_next charset all cells columns left column count a p some none x =
+    let y : Writes (rows charset all) rows_so_far (record { before = []; at = behind_cells charset cells columns }) a p (record { before = x.before; at = WholeRow x.more }) =
+    subst (λ l. Writes (rows charset all) rows_so_far (record { before = []; at = behind_cells charset cells columns }) a p (record { before = x.before; at = behind_cells charset x.more l })) none x.writes in
+    record {
+      before = x.before ++ x.more ∷ [];
+      more = [];
+      rows_counted = length-append x.before (x.more ∷ []) ∙ ap (λ n. n + 1) x.rows_counted;
+      counted = refl;
+      writes = subst (λ l. Writes (rows charset all) rows_so_far (record { before = []; at = behind_cells charset cells columns }) (a ++ 0xD1 ∷ []) l (record { before = x.before ++ x.more ∷ []; at = row_start charset all })) (append-nil p)
+          (writes_both (rows charset all) rows_so_far (record { before = []; at = behind_cells charset cells columns }) (record { before = x.before; at = WholeRow x.more }) (record { before = x.before ++ x.more ∷ []; at = row_start charset all }) a (0xD1 ∷ []) p [] y (row_token charset all x.before x.more some));
+    }
+
+-- a run within a row, in the bytes that are left and behind what was made
+pub rows_step : (charset : Charset) (all : List Column) (cells : List Cell) (columns left left' : List Column) (column column' count used u made m : ℕ) (bytes to new rest : List ℕ) → made ≤ length to → m ≤ length new
+    → WritesRows charset all cells columns left column count (take used bytes) (take made to)
+    → ((cells : List Cell) → length cells ≡ column → WritesCells charset cells left left' column' (take u (take (length bytes - used) (drop used bytes))) (take m new))
+    → WritesRows charset all cells columns left' column' count (take (used + u) bytes) (take (made + m) (take made to ++ (new ++ rest)))
+rows_step charset all cells columns left left' column column' count used u made m bytes to new rest within some x f =
+    subst (λ l. WritesRows charset all cells columns left' column' count l (take (made + m) (take made to ++ (new ++ rest)))) (sym (used_more used u bytes))
+    (subst (λ l. WritesRows charset all cells columns left' column' count (take used bytes ++ take u (take (length bytes - used) (drop used bytes))) l) (sym (made_more made m to new rest within some))
+    (rows_more charset all cells columns left left' column column' count (take used bytes) (take u (take (length bytes - used) (drop used bytes))) (take made to) (take m new) x f))
+
+-- and then the token byte of the next row
+rows_onward : (charset : Charset) (all : List Column) (cells : List Cell) (columns left : List Column) (column count used : ℕ) (bytes p : List ℕ) → 0 < length all → left ≡ [] → used < length bytes → get_or bytes used 0 ≡ 0xD1
+    → WritesRows charset all cells columns left column count (take used bytes) p → WritesRows charset all cells columns all 0 (count + 1) (take (used + 1) bytes) p
+rows_onward charset all cells columns left column count used bytes p some none within is x =
+    let one : take (used + 1) bytes ≡ take used bytes ++ 0xD1 ∷ [] = take_more bytes used 0 within ∙ ap (λ n. take used bytes ++ n ∷ []) is in
+    subst (λ l. WritesRows charset all cells columns all 0 (count + 1) l p) (sym one) (rows_next charset all cells columns left column count (take used bytes) p some none x)
+
+none_left : (left : List Column) (n : ℕ) → n ≡ length left → n ≡ 0 → left ≡ []
+none_left [] n h z = refl
+none_left (c ∷ cs) n h z = absurd (omega (arith, h, z))
+
+-- a run to the end of a row, and the token byte of the next one
+pub rows_over : (charset : Charset) (all : List Column) (cells : List Cell) (columns left left' : List Column) (column column' next count used u made m n : ℕ) (bytes to new rest : List ℕ) → made ≤ length to → m ≤ length new
+    → 0 < length all → n ≡ length left' → n ≡ 0 → used + u < length bytes → get_or bytes (used + u) 0 ≡ 0xD1 → next ≡ 0
+    → WritesRows charset all cells columns left column count (take used bytes) (take made to)
+    → ((cells : List Cell) → length cells ≡ column → WritesCells charset cells left left' column' (take u (take (length bytes - used) (drop used bytes))) (take m new))
+    → WritesRows charset all cells columns (drop next all) next (count + 1) (take ((used + u) + 1) bytes) (take (made + m) (take made to ++ (new ++ rest)))
+rows_over charset all cells columns left left' column column' next count used u made m n bytes to new rest within fits some counted none lies is first x f =
+    subst (λ (k : ℕ). WritesRows charset all cells columns (drop k all) k (count + 1) (take ((used + u) + 1) bytes) (take (made + m) (take made to ++ (new ++ rest)))) (sym first)
+    (rows_onward charset all cells columns left' column' count (used + u) bytes (take (made + m) (take made to ++ (new ++ rest))) some (none_left left' n counted none) lies is
+    (rows_step charset all cells columns left left' column column' count used u made m bytes to new rest within fits x f))
+
+pub rows_run : (charset : Charset) (all : List Column) (cells : List Cell) (columns left : List Column) (column count : ℕ) (a b : Seen) (place place' : ℕ) (h j : Held) (bytes made : List ℕ) → WritesRows charset all cells columns left column count bytes made
+    → Takes a b bytes (length bytes) → place' ≡ place + length bytes → Puts h j made → RunsRows charset all cells columns left column count a b place place' h j
+rows_run charset all cells columns left column count a b place place' h j bytes made x takes at puts = record {
+  before = x.before;
+  more = x.more;
+  rows_counted = x.rows_counted;
+  counted = x.counted;
+  streams = writes_streams (rows charset all) rows_so_far (record { before = []; at = behind_cells charset cells columns }) (record { before = x.before; at = behind_cells charset x.more left }) a b h j bytes made x.writes takes puts;
+  place_is = at;
+}
+
+-- ---- in a row

@@ -1,0 +1,115 @@
+-- What a run of cells does, which lie whole in the packet.
+use Rattle.std.specs.Prelude.{◌≡◌, ◌==◌, ◌+◌, ℕ, Bool, false, List, [], ◌∷◌, ◌++◌, length, map, take, drop, Option, Some, None, if◌then◌else◌, slice_index}
+use Rattle.tds_packet.specs.declared.fault.Fault.{Fault}
+use Rattle.tds_packet.specs.declared.fault.Fault.TheVariants.{MessageEnded, RefusedToken}
+use Rattle.tds_packet.specs.Elements.{Grammar, Spelt}
+use Rattle.tds_packet.specs.declared.payload.Payload.{Payload}
+use Rattle.tds_packet.specs.Payloads.{seen}
+use Rattle.tds_packet.specs.Seen.{Seen}
+use Rattle.tds_columns.specs.Description.{Column}
+use Rattle.tds_csv.specs.Quoting.{in_line, line}
+use Rattle.tds_csv.specs.declared.sink.Sink.{Sink}
+use Rattle.tds_csv.specs.Sinks.{Held, held}
+use Rattle.tds_csv.specs.Streaming.{Streams}
+use Rattle.tds_rows.specs.declared.Charset.{Charset}
+use Rattle.tds_rows.specs.declared.run.Cells.{Cells}
+use Rattle.tds_rows.specs.declared.run.Run.{Run}
+use Rattle.tds_rows.specs.declared.run.TheConstants.{ROW}
+use Rattle.tds_rows.specs.declared.table.Ahead.{Ahead}
+use Rattle.tds_rows.specs.declared.table.Table.{Table}
+use Rattle.tds_rows.specs.Cells.{Cell, CellPart, WholeCell, cell, field}
+use Rattle.tds_rows.specs.Rows.{RowPart, WholeRow, marked, next_cell, row, row_add, row_fault, row_size, row_so_far, row_start}
+use Rattle.tds_rows.specs.Tables.{IsAhead, Knows}
+
+-- The bytes are whole elements, which lead from one state to another, and this is what the text of the second has more than that of the first.
+pub record Writes {S : Type 0} (g : Grammar S Fault) (text : S → List ℕ) (from : S) (bytes made : List ℕ) (to : S) : Type 0 where
+  pub spelt : Spelt g from bytes to
+  pub text_is : text from ++ made ≡ text to
+
+-- The bytes are a whole cell, and this is its text in its line.
+pub record WritesWhole (from : CellPart) (column : ℕ) (last : Bool) (bytes made : List ℕ) : Type 0 where
+  pub value : Cell
+  pub spelt : Spelt (cell column) from bytes (WholeCell value)
+  pub text_is : made ≡ in_line column last (field value)
+
+-- a row whose first cells are these, and whose other columns are to come
+abbrev pub behind_cells : Charset → List Cell → List Column → RowPart
+behind_cells charset cells left = next_cell charset cells (marked left (λ k. false) (length cells))
+
+-- The bytes are more cells of a row behind these, of the columns to come but those left, and this is their text in their line.
+pub record WritesCells (charset : Charset) (cells : List Cell) (columns left : List Column) (column : ℕ) (bytes made : List ℕ) : Type 0 where
+  pub more : List Cell
+  pub counted : length (cells ++ more) ≡ column
+  pub writes : Writes (row charset) row_so_far (behind_cells charset cells columns) bytes made (behind_cells charset (cells ++ more) left)
+
+-- ---- over the ends of rows
+
+-- rows as far as they are read, each but the first behind its token byte: those before, and the one that is read
+pub record RowsPart : Type 0 where
+  pub before : List (List Cell)
+  pub at : RowPart
+
+-- how many bytes the next element of rows has: a token byte behind a whole row
+abbrev pub rows_size : RowPart → ℕ
+rows_size (WholeRow cells) = 1
+rows_size part = row_size part
+
+-- the first fault of an element of rows: a token byte that is no ROW's
+abbrev pub rows_fault : RowPart → List ℕ → Option Fault
+rows_fault (WholeRow cells) element = if slice_index element 0 == ROW then None else Some (RefusedToken (slice_index element 0))
+rows_fault part element = row_fault part element
+
+-- what stands after an element of rows
+abbrev pub rows_add : Charset → List Column → List (List Cell) → RowPart → List ℕ → RowsPart
+rows_add charset columns before (WholeRow cells) element = record { before = before ++ cells ∷ []; at = row_start charset columns }
+rows_add charset columns before part element = record { before = before; at = row_add charset part element }
+
+-- How rows are read, one after another.
+abbrev pub rows : Charset → List Column → Grammar RowsPart Fault
+rows charset columns = record { size = λ p. rows_size p.at; fault = λ p element. rows_fault p.at element; add = λ p element. rows_add charset columns p.before p.at element; end_fault = λ p. Some MessageEnded }
+
+-- the lines of whole rows
+abbrev pub lines : List (List Cell) → List ℕ
+lines [] = []
+lines (r ∷ rs) = line (map field r) ++ lines rs
+
+-- the text so far of rows
+abbrev pub rows_so_far : RowsPart → List ℕ
+rows_so_far p = lines p.before ++ row_so_far p.at
+
+-- The bytes are more cells behind these, over the ends of so many rows, and this is their text; the columns left come behind.
+pub record WritesRows (charset : Charset) (all : List Column) (cells : List Cell) (columns left : List Column) (column count : ℕ) (bytes made : List ℕ) : Type 0 where
+  pub before : List (List Cell)
+  pub more : List Cell
+  pub rows_counted : length before ≡ count
+  pub counted : length more ≡ column
+  pub writes : Writes (rows charset all) rows_so_far (record { before = []; at = behind_cells charset cells columns }) bytes made (record { before = before; at = behind_cells charset more left })
+
+-- More cells behind these were read, over the ends of so many rows, and their text put.
+pub record RunsRows (charset : Charset) (all : List Column) (cells : List Cell) (columns left : List Column) (column count : ℕ) (old new : Seen) (place place' : ℕ) (earlier after : Held) : Type 0 where
+  pub before : List (List Cell)
+  pub more : List Cell
+  pub rows_counted : length before ≡ count
+  pub counted : length more ≡ column
+  pub streams : Streams (rows charset all) rows_so_far (record { before = []; at = behind_cells charset cells columns }) old new earlier after (record { before = before; at = behind_cells charset more left })
+  pub place_is : place' ≡ place + length streams.bytes
+
+-- ---- what a run gives, whatever the columns that its table knows, and whatever the cells before it
+
+-- A run within a row wrote the text of the bytes that it used, and ended at a place of that row.
+abbrev pub CellsWritten : Table → Ahead → List ℕ → List ℕ → Cells → Type 0
+CellsWritten table from bytes text run = (columns : List Column) → Knows table columns → IsAhead table columns from →
+    IsAhead table columns run.ahead × ((charset : Charset) (cells : List Cell) → length cells ≡ from.column →
+    WritesCells charset cells (drop from.column columns) (drop run.ahead.column columns) run.ahead.column (take run.used bytes) (take run.made text))
+
+-- The same over the ends of rows.
+abbrev pub RowsWritten : Table → Ahead → List ℕ → List ℕ → Run → Type 0
+RowsWritten table from bytes text run = (columns : List Column) → Knows table columns → IsAhead table columns from →
+    IsAhead table columns run.ahead × ((charset : Charset) (cells : List Cell) → length cells ≡ from.column →
+    WritesRows charset columns cells (drop from.column columns) (drop run.ahead.column columns) run.ahead.column run.rows (take run.used bytes) (take run.made text))
+
+-- The same between a payload and a sink.
+abbrev pub RowsPut : {R W : Type 0} → (R → Option (List ℕ)) → (W → Option (List ℕ)) → Table → Ahead → Payload R → Payload R → Sink W → Sink W → Run → Type 0
+RowsPut remaining contents table from old new before after run = (columns : List Column) → Knows table columns → IsAhead table columns from →
+    IsAhead table columns run.ahead × ((charset : Charset) (cells : List Cell) → length cells ≡ from.column →
+    RunsRows charset columns cells (drop from.column columns) (drop run.ahead.column columns) run.ahead.column run.rows (seen remaining old) (seen remaining new) old.place new.place (held contents before) (held contents after))

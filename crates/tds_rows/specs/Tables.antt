@@ -1,0 +1,36 @@
+-- What a table of a description's columns knows.
+use Rattle.std.specs.Prelude.{◌≡◌, ◌+◌, ◌≤◌, ℕ, List, [], ◌∷◌, length, take, drop, map, Option, MatchOption}
+use Rattle.tds_values.specs.declared.kind.Kind.{Kind}
+use Rattle.tds_columns.specs.Description.{Column}
+use Rattle.tds_columns.specs.Walking.{columns_left}
+use Rattle.tds_rows.specs.declared.table.Ahead.{Ahead}
+use Rattle.tds_rows.specs.declared.table.Form.{Form}
+use Rattle.tds_rows.specs.declared.table.Table.{Table}
+
+-- the kinds of columns
+abbrev pub kinds : List Column → List Kind
+kinds columns = map (λ c. c.kind) columns
+
+-- The table knows these columns: the kinds of the first ones, how many there are, and the walk over those behind.
+pub record Knows (table : Table) (columns : List Column) : Type 0 where
+  pub first : map (λ f. f.kind) (take table.known table.forms) ≡ kinds (take table.known columns)
+  pub counted : table.count ≡ length columns
+  pub behind : columns_left table.behind ≡ drop table.known columns
+
+-- The place is one in a row of these columns: its walk is over those ahead that the table doesn't know.
+pub record IsAhead (table : Table) (columns : List Column) (at : Ahead) : Type 0 where
+  pub counted : at.column + at.left ≡ length columns
+  pub within : at.column ≤ table.known → columns_left at.walk ≡ drop table.known columns
+  pub beyond : table.known ≤ at.column → columns_left at.walk ≡ drop at.column columns
+
+-- A column was taken, the next one ahead, and this is its kind.
+pub record TakesColumn (table : Table) (columns : List Column) (old new : Ahead) (form : Form) : Type 0 where
+  pub column : Column
+  pub next : drop old.column columns ≡ column ∷ drop new.column columns
+  pub kind : form.kind ≡ column.kind
+  pub further : new.column ≡ old.column + 1
+  pub ahead : IsAhead table columns new
+
+-- The next column was taken, or none is ahead.
+abbrev pub TakesForm : Table → List Column → Ahead → Option (Form × Ahead) → Type 0
+TakesForm table columns at result = MatchOption result (drop at.column columns ≡ []) (λ taken. TakesColumn table columns at taken.1 taken.0)

@@ -1,0 +1,117 @@
+// A run of cells: as many as lie whole in the packet and have room, over the ends of rows.
+ghost use Rattle.std.specs.Prelude.{◌≡◌, ◌<◌, ◌≤◌, length};
+ghost use Rattle.tds_csv.specs.Sinks.{IsOnSameSink, IsWriting, held};
+ghost use Rattle.tds_packet.specs.Payloads.{IsGoing, IsOnSame, seen};
+ghost use Rattle.tds_rows.specs.Runs.{CellsWritten, RowsPut, RowsWritten};
+
+use crate::buffered::write_cell;
+use crate::rows::CELL_ROOM;
+use crate::table::{Ahead, Table};
+use std::io::{Read, Write};
+use tds_csv::Sink;
+use tds_packet::Payload;
+
+/// The token byte of a ROW (MS-TDS, ROW).
+const ROW: u8 = 0xD1;
+
+/// How many bytes a run within a row used, how many it made, and where it ended.
+#[derive(Clone, Copy)]
+pub(crate) struct Cells<'a> {
+    used: usize,
+    made: usize,
+    ahead: Ahead<'a>,
+}
+
+/// How many bytes a run over rows used, how many it made, how many rows it began, and where it ended.
+#[derive(Clone, Copy)]
+pub(crate) struct Run<'a> {
+    used: usize,
+    made: usize,
+    pub(crate) rows: usize,
+    pub(crate) ahead: Ahead<'a>,
+}
+
+// Writes cell after cell of a row, as far as they lie whole in these bytes, are scalars and have room.
+#[inline(always)]
+fn run_cells<'a>(table: &Table<'a>, from: Ahead<'a>, bytes: &[u8], to: &mut [u8]) -> Cells<'a>
+    ensures used { result.used ≤ length bytes.now }
+    ensures made { result.made ≤ length to.old }
+    ensures gives { CellsWritten table.now from.entry bytes.now to.new result }
+{
+    let mut used = 0;
+    let mut made = 0;
+    let mut ahead = from;
+    while to.len() - made >= CELL_ROOM {
+        let Some((form, behind)) = table.next(ahead) else {
+            break;
+        };
+        let last = behind.left == 0;
+        let rest = &bytes[used..];
+        let Some(written) = write_cell(&form.kind, ahead.column, last, rest, &mut to[made..]) else {
+            break;
+        };
+        used += written.used;
+        made += written.made;
+        ahead = behind;
+    }
+    Cells { used, made, ahead }
+}
+
+// Writes the cells of row after row: behind a whole row it goes on where the byte of the next ROW lies.
+#[inline(never)]
+fn run_rows<'a>(table: &Table<'a>, from: Ahead<'a>, bytes: &[u8], to: &mut [u8]) -> Run<'a>
+    requires { 0 < table.now.count }
+    ensures used { result.used ≤ length bytes.now }
+    ensures made { result.made ≤ length to.old }
+    ensures few { result.rows ≤ result.used }
+    ensures gives { RowsWritten table.now from.entry bytes.now to.new result }
+{
+    let mut used = 0;
+    let mut made = 0;
+    let mut rows = 0;
+    let mut ahead = from;
+    loop {
+        let cells = run_cells(table, ahead, &bytes[used..], &mut to[made..]);
+        used += cells.used;
+        made += cells.made;
+        ahead = cells.ahead;
+        if ahead.left != 0 || used == bytes.len() || bytes[used] != ROW {
+            return Run {
+                used,
+                made,
+                rows,
+                ahead,
+            };
+        }
+        used += 1;
+        rows += 1;
+        ahead = table.start();
+    }
+}
+
+/// Reads the next cells, as many as lie whole in the packet, are scalars and have room, over the ends
+/// of rows, and puts their text where it waits. It reads nothing and delivers nothing.
+pub(crate) fn put_run<'a, R: Read, W: Write>(
+    payload: &mut Payload<R>,
+    sink: &mut Sink<W>,
+    table: &Table<'a>,
+    from: Ahead<'a>,
+) -> Run<'a>
+    requires going { IsGoing payload.old }
+    requires writing { IsWriting sink.old }
+    requires some { 0 < table.now.count }
+    ensures going { IsGoing payload.new }
+    ensures writing { IsWriting sink.new }
+    ensures same { IsOnSame payload.old payload.new }
+    ensures same_sink { IsOnSameSink sink.old sink.new }
+    ensures gives { RowsPut R.remaining W.contents table.now from.entry payload.old payload.new sink.old sink.new result }
+{
+    let waiting = sink.waiting() as usize;
+    let room = sink.room() - 1;
+    let run = run_rows(table, from, payload.buffered(), sink.spare(room));
+    payload.consume(run.used);
+    match sink.keep(waiting, run.made) {
+        Ok(()) => run,
+        Err(_) => unreachable!(),
+    }
+}
