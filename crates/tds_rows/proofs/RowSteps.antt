@@ -105,11 +105,12 @@ next_text charset cells v (c ∷ cs) n =
     ∙ ap (λ o. joined (with_field (cells ++ v ∷ []) o)) (sym (start_quiet c.kind (shape charset c.kind)))
 
 module _ (charset : Charset) (cells : List Cell) (left : List Column) (n : ℕ) where
-  abbrev lift : CellPart → RowPart
+  -- a cell's states in its row
+  abbrev pub lift : CellPart → RowPart
   lift = with_cell charset cells (coming left n)
 
   -- the text so far of the row is that of the whole cells and then that of the open one
-  row_text : (at : CellPart) → joined (map field cells) ++ cell_so_far (length cells) (is_last left) at ≡ row_so_far (lift at)
+  pub row_text : (at : CellPart) → joined (map field cells) ++ cell_so_far (length cells) (is_last left) at ≡ row_so_far (lift at)
   row_text (ScalarBytes kind k) = append-nil (joined (map field cells))
   row_text (ScalarLength kind) = append-nil (joined (map field cells))
   row_text (ShortLength c) = append-nil (joined (map field cells))
@@ -148,6 +149,15 @@ cells_none charset columns a place h d = record {
   place_is = omega arith;
 }
 
+-- a cell that stops, stops its row
+pub cell_stops : (charset : Charset) (cells : List Cell) (c : Column) (left : List Column) (n : ℕ) (b d : Seen) (place : ℕ) (i j : Held) (failed : Bool) (stop : Stop) → StopsCell charset c.kind (length cells) (is_last left) b d place i j failed stop
+    → RowStops charset (InCell cells (cell_start c.kind (shape charset c.kind)) (coming left n)) b d place i j failed stop
+cell_stops charset cells c left n b d place i j failed stop y =
+    let begin = cell_start c.kind (shape charset c.kind) in
+    let there = streaming_inside (cell (length cells)) (row charset) (lift charset cells left n) (cell_in_row charset cells (coming left n)) is_built_cell is_built_row (same_end charset cells left n) (same_built charset cells left n)
+    (cell_so_far (length cells) (is_last left)) row_so_far (joined (map field cells)) (row_text charset cells left n) begin b d place i j failed stop y in
+    subst (λ v. StopsStreaming (row charset) is_built_row row_so_far v b d place i j failed stop) (begins_open charset cells (coming left n) c.kind (shape charset c.kind)) there
+
 module _ (charset : Charset) (start : RowPart) (c : Column) (left : List Column) (a b d : Seen) (place middle : ℕ) (h i j : Held) (column : ℕ) where
   -- one cell more
   pub cells_more : (place' : ℕ) → ReadsCells charset start (coming (c ∷ left) column) a b place middle h i column → PutsCell charset c.kind column (is_last left) b d middle place' i j → ReadsCells charset start (coming left (column + 1)) a d place place' h j (column + 1)
@@ -171,14 +181,9 @@ module _ (charset : Charset) (start : RowPart) (c : Column) (left : List Column)
   pub cells_stop : (failed : Bool) (stop : Stop) → ReadsCells charset start (coming (c ∷ left) column) a b place middle h i column → StopsCell charset c.kind column (is_last left) b d middle i j failed stop → RowStops charset start a d place h j failed stop
   cells_stop failed stop x y =
       let z : StopsCell charset c.kind (length x.cells) (is_last left) b d middle i j failed stop = subst (λ (n : ℕ). StopsCell charset c.kind n (is_last left) b d middle i j failed stop) (sym x.counted) y in
-      let up = lift charset x.cells left (column + 1) in
-      let begin = cell_start c.kind (shape charset c.kind) in
-      let there = streaming_inside (cell (length x.cells)) (row charset) up (cell_in_row charset x.cells (coming left (column + 1))) is_built_cell is_built_row (same_end charset x.cells left (column + 1)) (same_built charset x.cells left (column + 1))
-      (cell_so_far (length x.cells) (is_last left)) row_so_far (joined (map field x.cells)) (row_text charset x.cells left (column + 1)) begin b d middle i j failed stop z in
-      let begins : up begin ≡ InCell x.cells begin (coming left (column + 1)) = begins_open charset x.cells (coming left (column + 1)) c.kind (shape charset c.kind) in
-      let from : RowPart = InCell x.cells begin (coming left (column + 1)) in
+      let from : RowPart = InCell x.cells (cell_start c.kind (shape charset c.kind)) (coming left (column + 1)) in
       let stops : StopsStreaming (row charset) is_built_row row_so_far from b d (place + length x.streams.bytes) i j failed stop =
-      subst (λ (n : ℕ). StopsStreaming (row charset) is_built_row row_so_far from b d n i j failed stop) x.place_is (subst (λ v. StopsStreaming (row charset) is_built_row row_so_far v b d middle i j failed stop) begins there) in
+      subst (λ (n : ℕ). StopsStreaming (row charset) is_built_row row_so_far from b d n i j failed stop) x.place_is (cell_stops charset x.cells c left (column + 1) b d middle i j failed stop z) in
       streaming_after (row charset) is_built_row row_so_far start from a b d h i j place failed stop x.streams stops
 
 -- behind the last cell

@@ -1,12 +1,13 @@
 -- The cells of a run, as they are written one after another.
-use Rattle.std.proofs.Common.{◌≡◌, ◌∙◌, ℕ, ◌+◌, ◌-◌, ◌≤◌, ◌<◌, Bool, true, List, [], ◌∷◌, ◌++◌, length, take, drop, get_or, refl, sym, ap, subst, arith, append_assoc, append-nil, length-append, length-take}
+use Rattle.std.proofs.Common.{◌≡◌, ◌∙◌, ℕ, ◌+◌, ◌-◌, ◌^◌, ◌≤◌, ◌<◌, Bool, true, List, [], ◌∷◌, ◌++◌, length, take, drop, get_or, refl, sym, ap, subst, arith, append_assoc, append-nil, length-append, length-take}
 use Rattle.std.proofs.lemmas.List.{length-take-le, take-append-le, take_all, take_more}
 use Rattle.std.proofs.Math.Seq.{take-append-add}
 use lib.Seq.{take-add}
 use Rattle.tds_packet.specs.declared.fault.Fault.{Fault}
 use Rattle.tds_packet.specs.declared.fault.Stop.{Stop}
 use Rattle.std.specs.Prelude.{map}
-use Rattle.tds_packet.specs.Elements.{Grammar, Inside, Spelt}
+use Rattle.std.specs.List.{concat}
+use Rattle.tds_packet.specs.Elements.{Grammar, Inside, Leads, Spelt}
 use Rattle.tds_packet.specs.Seen.{Seen, Takes}
 use Rattle.tds_csv.specs.Quoting.{joined, line}
 use Rattle.tds_csv.specs.Sinks.{Breaks, Held, Puts}
@@ -15,17 +16,21 @@ use Rattle.tds_packet.proofs.ElementLaws.{Inside-Spelt, Spelt-append, Spelt-none
 use Rattle.tds_columns.specs.Description.{Column}
 use Rattle.tds_columns.proofs.ViewLaws.{all_behind}
 use Rattle.tds_rows.specs.declared.Charset.{Charset}
-use Rattle.tds_rows.specs.Cells.{DataCell, LongShape, ShortLength, SpellsShort, Cell, CellPart, field, WholeCell, cell, cell_start, shape}
+use Rattle.tds_rows.specs.Cells.{Cell, CellPart, CountedShape, FixedShape, LongShape, Shape, WholeCell, cell, cell_start, field, shape}
 use Rattle.tds_rows.specs.Rows.{Bitmap, InCell, RowPart, WholeRow, row_start, next_cell, row, row_so_far, with_cell, with_field}
 use Rattle.tds_csv.specs.Quoting.{in_line}
-use Rattle.tds_rows.specs.CellSteps.{WritesCell, is_last}
-use Rattle.tds_rows.specs.Runs.{RunsRows, Writes, WritesCells, WritesRows, WritesWhole, behind_cells, lines, rows, rows_so_far}
+use Rattle.tds_rows.specs.CellSteps.{PutsCell, StopsCell, WritesCell, cell_so_far, is_last}
+use Rattle.tds_rows.specs.Runs.{RowsPart, RunsRows, Writes, WritesCells, WritesRows, WritesWhole, behind_cells, lines, rows, rows_so_far, rows_start}
 use Rattle.tds_values.specs.declared.kind.Kind.{Kind}
-use Rattle.tds_values.specs.declared.kind.Reach.TheVariants.{Short}
+use Rattle.tds_values.specs.declared.kind.Reach.TheVariants.{Chunked, Short}
 use Rattle.tds_csv.specs.Conversion.{Conversion, is_fit, long_field}
 use Rattle.tds_rows.proofs.CellLaws.{cell_is_read}
 use Rattle.tds_rows.proofs.RowLaws.{begins_open, cell_in_row}
-use Rattle.tds_rows.proofs.RowSteps.{coming, next_text, start_quiet}
+use Rattle.tds_rows.proofs.RowSteps.{cell_stops, coming, lift, next_text, row_text, start_quiet}
+use Rattle.tds_packet.proofs.Futures.{Takes-none}
+use Rattle.tds_csv.proofs.Sinks.{Puts-none}
+use Rattle.tds_csv.proofs.Streams.{streams_both, streams_inside}
+use Rattle.tds_rows.specs.RowSteps.{ReadsRows, RowStops, RowsStop}
 
 -- ---- over any grammar
 
@@ -239,3 +244,131 @@ rows_run charset all cells columns left column count a b place place' h j bytes 
 }
 
 -- ---- in a row
+
+-- ---- one after another, from the first row on
+
+lines-append : (rs qs : List (List Cell)) → lines (rs ++ qs) ≡ lines rs ++ lines qs
+lines-append [] qs = refl
+lines-append (r ∷ rs) qs = ap (λ l. line (map field r) ++ l) (lines-append rs qs) ∙ sym (append_assoc (line (map field r)) (lines rs) (lines qs))
+
+module _ (charset : Charset) (all : List Column) (before : List (List Cell)) where
+  -- rows behind these
+  abbrev behind_rows : RowsPart → RowsPart
+  behind_rows p = record { before = before ++ p.before; at = p.at }
+
+  rows_among_rows : Inside (rows charset all) (rows charset all) behind_rows
+  rows_among_rows = record { size = λ s h. refl; fault = λ s e h. refl; add = λ s e h. add s.before s.at e }
+    where
+      add : (bs : List (List Cell)) (p : RowPart) (e : List ℕ) → (rows charset all).add (behind_rows (record { before = bs; at = p })) e ≡ behind_rows ((rows charset all).add (record { before = bs; at = p }) e)
+      add bs (Bitmap columns) e = refl
+      add bs (InCell cells part ks) e = refl
+      add bs (WholeRow cells) e = ap (λ (l : List (List Cell)). record { before = l; at = row_start charset all }) (append_assoc before bs (cells ∷ []))
+
+  rows_behind_text : (p : RowsPart) → lines before ++ rows_so_far p ≡ rows_so_far (behind_rows p)
+  rows_behind_text p = sym (append_assoc (lines before) (lines p.before) (row_so_far p.at)) ∙ ap (λ l. l ++ row_so_far p.at) (sym (lines-append before p.before))
+
+module _ (charset : Charset) (all : List Column) (a b d : Seen) (place middle place' : ℕ) (h i j : Held) where
+  -- a run behind what was read
+  pub rows_further : (left left' : List Column) (column column' count count' : ℕ) → RunsRows charset all [] all left column count a b place middle h i
+      → ((cells : List Cell) → length cells ≡ column → RunsRows charset all cells left left' column' count' b d middle place' i j) → RunsRows charset all [] all left' column' (count + count') a d place place' h j
+  rows_further left left' column column' count count' x f =
+      let y : RunsRows charset all x.more left left' column' count' b d middle place' i j = f x.more x.counted in
+      let from : RowsPart = record { before = []; at = behind_cells charset x.more left } in
+      let to : RowsPart = record { before = y.before; at = behind_cells charset y.more left' } in
+      let there = streams_inside (rows charset all) (rows charset all) (behind_rows charset all x.before) (rows_among_rows charset all x.before) rows_so_far rows_so_far (lines x.before) (rows_behind_text charset all x.before) from b d i j to y.streams in
+      let begins : behind_rows charset all x.before from ≡ record { before = x.before; at = behind_cells charset x.more left } = ap (λ (l : List (List Cell)). record { before = l; at = behind_cells charset x.more left }) (append-nil x.before) in
+      let next : Streams (rows charset all) rows_so_far (record { before = x.before; at = behind_cells charset x.more left }) b d i j (behind_rows charset all x.before to) = record {
+        bytes = y.streams.bytes;
+        spelt = subst (λ s. Spelt (rows charset all) s y.streams.bytes (behind_rows charset all x.before to)) begins there.spelt;
+        takes = y.streams.takes;
+        puts = subst (λ s. PutsText rows_so_far s (behind_rows charset all x.before to) i j) begins there.puts;
+      } in
+      record {
+        before = x.before ++ y.before;
+        more = y.more;
+        rows_counted = omega (arith, length-append x.before y.before, x.rows_counted, y.rows_counted);
+        counted = y.counted;
+        streams = streams_both (rows charset all) rows_so_far (rows_start charset all) (record { before = x.before; at = behind_cells charset x.more left }) (behind_rows charset all x.before to) a b d h i j x.streams next;
+        place_is = omega (arith, x.place_is, y.place_is, length-append x.streams.bytes y.streams.bytes);
+      }
+
+  -- a cell behind what was read
+  pub rows_cell : (c : Column) (left : List Column) (column next count : ℕ) → next ≡ column + 1 → RunsRows charset all [] all (c ∷ left) column count a b place middle h i → PutsCell charset c.kind column (is_last left) b d middle place' i j
+      → RunsRows charset all [] all left next count a d place place' h j
+  rows_cell c left column next count further x y =
+      let z : PutsCell charset c.kind (length x.more) (is_last left) b d middle place' i j = subst (λ (n : ℕ). PutsCell charset c.kind n (is_last left) b d middle place' i j) (sym x.counted) y in
+      let n = length x.more + 1 in
+      let up = lift charset x.more left n in
+      let begin = cell_start c.kind (shape charset c.kind) in
+      let whole = x.more ++ z.value ∷ [] in
+      let in_row = streams_inside (cell (length x.more)) (row charset) up (cell_in_row charset x.more (coming left n)) (cell_so_far (length x.more) (is_last left)) row_so_far (joined (map field x.more)) (row_text charset x.more left n) begin b d i j (WholeCell z.value) z.streams in
+      let in_rows : RowPart → RowsPart = λ p. record { before = x.before; at = p } in
+      let there = streams_inside (row charset) (rows charset all) in_rows (row_among_rows charset all x.before) row_so_far rows_so_far (lines x.before) (λ p. refl) (up begin) b d i j (up (WholeCell z.value)) in_row in
+      let begins : up begin ≡ behind_cells charset x.more (c ∷ left) = begins_open charset x.more (coming left n) c.kind (shape charset c.kind) in
+      let ends : up (WholeCell z.value) ≡ behind_cells charset whole left = ap (λ (k : ℕ). next_cell charset whole (coming left k)) (sym (length-append x.more (z.value ∷ []))) in
+      let from = in_rows (behind_cells charset x.more (c ∷ left)) in
+      let to = in_rows (behind_cells charset whole left) in
+      let one : Streams (rows charset all) rows_so_far from b d i j to = record {
+        bytes = z.streams.bytes;
+        spelt = subst (λ s. Spelt (rows charset all) from z.streams.bytes (in_rows s)) ends (subst (λ s. Spelt (rows charset all) (in_rows s) z.streams.bytes (in_rows (up (WholeCell z.value)))) begins there.spelt);
+        takes = z.streams.takes;
+        puts = subst (λ s. PutsText rows_so_far from (in_rows s) i j) ends (subst (λ s. PutsText rows_so_far (in_rows s) (in_rows (up (WholeCell z.value))) i j) begins there.puts);
+      } in
+      record {
+        before = x.before;
+        more = whole;
+        rows_counted = x.rows_counted;
+        counted = omega (arith, x.counted, further, length-append x.more (z.value ∷ []));
+        streams = streams_both (rows charset all) rows_so_far (rows_start charset all) from to a b d h i j x.streams one;
+        place_is = omega (arith, x.place_is, z.place_is, length-append x.streams.bytes z.streams.bytes);
+      }
+
+  -- a cell that stops behind what was read
+  pub rows_stop : (c : Column) (left : List Column) (column count : ℕ) (failed : Bool) (stop : Stop) → RunsRows charset all [] all (c ∷ left) column count a b place middle h i → StopsCell charset c.kind column (is_last left) b d middle i j failed stop
+      → RowsStop charset all a d place h j failed stop
+  rows_stop c left column count failed stop x y =
+      let z : StopsCell charset c.kind (length x.more) (is_last left) b d middle i j failed stop = subst (λ (n : ℕ). StopsCell charset c.kind n (is_last left) b d middle i j failed stop) (sym x.counted) y in
+      record {
+        earlier = x.before;
+        part = behind_cells charset x.more (c ∷ left);
+        middle = b;
+        between = i;
+        streams = x.streams;
+        stops = subst (λ (n : ℕ). RowStops charset (behind_cells charset x.more (c ∷ left)) b d n i j failed stop) x.place_is (cell_stops charset x.more c left (length x.more + 1) b d middle i j failed stop z);
+      }
+
+-- before the first cell
+pub rows_begin : (charset : Charset) (all left : List Column) (column : ℕ) (a : Seen) (place : ℕ) (h : Held) → h.delivered ≤ 2 ^ 64 - 1 → left ≡ all → column ≡ 0 → RunsRows charset all [] all left column 0 a a place place h h
+rows_begin charset all left column a place h d same first = record {
+  before = [];
+  more = [];
+  rows_counted = refl;
+  counted = sym first;
+  streams = subst (λ (l : List Column). Streams (rows charset all) rows_so_far (rows_start charset all) a a h h (record { before = []; at = behind_cells charset [] l })) (sym same)
+      (record { bytes = []; spelt = Spelt-none (rows charset all) (rows_start charset all); takes = Takes-none a 0; puts = ([], append-nil (rows_so_far (rows_start charset all)), Puts-none h d) });
+  place_is = subst (λ (l : List Column). place ≡ place + 0) same (omega arith);
+}
+
+-- behind the last cell of the last row
+pub rows_end : (charset : Charset) (all left : List Column) (column count : ℕ) (a b : Seen) (place place' : ℕ) (h i : Held) → left ≡ [] → RunsRows charset all [] all left column count a b place place' h i → ReadsRows charset all (count + 1) a b place place' h i
+rows_end charset all left column count a b place place' h i none x =
+    let y = subst (λ (l : List Column). RunsRows charset all [] all l column count a b place place' h i) none x in
+    record { earlier = y.before; last = y.more; counted = ap (λ n. n + 1) (sym y.rows_counted); streams = y.streams; place_is = y.place_is }
+
+-- nothing but the end of a cell is whole
+not_whole : (kind : Kind) (s : Shape) (v : Cell) → cell_start kind s ≡ WholeCell v → ⊥
+not_whole kind (FixedShape n) v h = cc
+not_whole kind CountedShape v h = cc
+not_whole kind (LongShape c Short) v h = cc
+not_whole kind (LongShape c Chunked) v h = cc
+
+some_bytes : (column : ℕ) (from : CellPart) (v : Cell) (es : List (List ℕ)) → (from ≡ WholeCell v → ⊥) → Leads (cell column) from es (WholeCell v) → 0 < length (concat es)
+some_bytes column from v [] before h = absurd (before h)
+some_bytes column from v (e ∷ es) before h = omega (arith, h.0.some, length-append e (concat es))
+
+-- a cell that was read has some bytes
+pub cell_some : (charset : Charset) (kind : Kind) (column : ℕ) (last : Bool) (b d : Seen) (middle place' : ℕ) (i j : Held) → PutsCell charset kind column last b d middle place' i j → middle < place'
+cell_some charset kind column last b d middle place' i j y =
+    let spelt = y.streams.spelt in
+    let some : 0 < length (concat spelt.elements) = some_bytes column (cell_start kind (shape charset kind)) y.value spelt.elements (not_whole kind (shape charset kind) y.value) spelt.leads in
+    omega (arith, some, y.place_is, ap length spelt.joined)

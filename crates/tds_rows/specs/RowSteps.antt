@@ -11,6 +11,7 @@ use Rattle.tds_csv.specs.Streaming.{Streams}
 use Rattle.tds_rows.specs.declared.Charset.{Charset}
 use Rattle.tds_rows.specs.Cells.{Cell}
 use Rattle.tds_rows.specs.Rows.{RowPart, WholeRow, next_cell, row, row_so_far}
+use Rattle.tds_rows.specs.Runs.{rows, rows_so_far, rows_start}
 use Rattle.tds_rows.specs.Unbuilt.{StopsStreaming, is_built_row}
 
 -- The first cells of a row were read and their text put, and these columns are still to come, each with whether it is NULL by its bit.
@@ -35,6 +36,29 @@ abbrev pub RowPut : {R W U : Type 0} → (R → Option (List ℕ)) → (W → Op
 RowPut remaining contents charset start old new before after result = MatchResult result
     (λ _. ReadsRow charset start (seen remaining old) (seen remaining new) old.place new.place (held contents before) (held contents after))
     (λ stop. RowStops charset start (seen remaining old) (seen remaining new) old.place (held contents before) (held contents after) after.failed stop)
+
+-- Rows were read, so many, and their lines put.
+pub record ReadsRows (charset : Charset) (columns : List Column) (count : ℕ) (old new : Seen) (place place' : ℕ) (before after : Held) : Type 0 where
+  pub earlier : List (List Cell)
+  pub last : List Cell
+  pub counted : count ≡ length earlier + 1
+  pub streams : Streams (rows charset columns) rows_so_far (rows_start charset columns) old new before after (record { before = earlier; at = WholeRow last })
+  pub place_is : place' ≡ place + length streams.bytes
+
+-- Rows were read and their lines put, as far as a place in a row, and there the reading of that row stopped.
+pub record RowsStop (charset : Charset) (columns : List Column) (old new : Seen) (place : ℕ) (before after : Held) (failed : Bool) (stop : Stop) : Type 0 where
+  pub earlier : List (List Cell)
+  pub part : RowPart
+  pub middle : Seen
+  pub between : Held
+  pub streams : Streams (rows charset columns) rows_so_far (rows_start charset columns) old middle before between (record { before = earlier; at = part })
+  pub stops : RowStops charset part middle new (place + length streams.bytes) between after failed stop
+
+-- Rows were read and their lines put, or the call stopped in one of them.
+abbrev pub RowsRead : {R W : Type 0} → (R → Option (List ℕ)) → (W → Option (List ℕ)) → Charset → List Column → Payload R → Payload R → Sink W → Sink W → Result ℕ Stop → Type 0
+RowsRead remaining contents charset columns old new before after result = MatchResult result
+    (λ count. ReadsRows charset columns count (seen remaining old) (seen remaining new) old.place new.place (held contents before) (held contents after))
+    (λ stop. RowsStop charset columns (seen remaining old) (seen remaining new) old.place (held contents before) (held contents after) after.failed stop)
 
 -- A payload or a sink that had stopped gives its stop again, the payload's first, and nothing changes.
 pub record StopsAgain {R W U : Type 0} (contents : W → Option (List ℕ)) (old new : Payload R) (before after : Sink W) (result : Result U Stop) : Type 0 where

@@ -49,6 +49,10 @@ pub record RowsPart : Type 0 where
   pub before : List (List Cell)
   pub at : RowPart
 
+-- before the first element of a ROW and those that follow it
+abbrev pub rows_start : Charset → List Column → RowsPart
+rows_start charset columns = record { before = []; at = row_start charset columns }
+
 -- how many bytes the next element of rows has: a token byte behind a whole row
 abbrev pub rows_size : RowPart → ℕ
 rows_size (WholeRow cells) = 1

@@ -6,7 +6,7 @@ ghost use Rattle.tds_csv.specs.Sinks.{IsReady, IsWriting, LeavesSink, held, stop
 ghost use Rattle.tds_packet.specs.Payloads.{IsGoing, IsOnSame, IsSound, LeavesPayload, seen};
 ghost use Rattle.tds_rows.specs.Cells.{LongShape, ScalarBytes, ScalarLength, cell, cell_size, cell_start, shape, shape_of_length};
 ghost use Rattle.tds_rows.specs.CellSteps.{CellPut, CellRead, StallsCell, ValueRead};
-ghost use Rattle.tds_rows.specs.RowSteps.{RowPut, StopsAgain};
+ghost use Rattle.tds_rows.specs.RowSteps.{RowPut, RowsRead, StopsAgain};
 ghost use Rattle.tds_rows.specs.Rows.{row_start};
 ghost use Rattle.tds_rows.specs.declared.Charset as sets;
 ghost use Rattle.tds_values.specs.Kind as kinds;
@@ -14,6 +14,8 @@ ghost use Rattle.tds_values.specs.Kind as kinds;
 use crate::Charset;
 use crate::buffered::read_buffered;
 use crate::fields::write_value;
+use crate::run::put_run;
+use crate::table::Table;
 use std::io::{Read, Write};
 use tds_columns::Columns;
 use tds_csv::{Sink, write_null};
@@ -300,4 +302,36 @@ pub fn row<R: Read, W: Write>(
         index += 1;
     }
     Ok(())
+}
+
+/// Reads a ROW behind its token byte, and the ROWs behind it as far as their token bytes lie in the packet
+/// that the one before them ends in, and puts their lines. Answers how many they are. After a stop the
+/// payload or the sink has stopped, or what is read is refused (MS-TDS, ROW).
+pub fn read_rows<R: Read, W: Write>(
+    payload: &mut Payload<R>,
+    columns: Columns<'_>,
+    charset: Charset,
+    sink: &mut Sink<W>,
+) -> Result<u64, Stop>
+    requires going { IsGoing payload.old }
+    requires writing { IsWriting sink.old }
+    requires some { 0 < length (columns_of columns.bytes.now) }
+    ensures payload { LeavesPayload payload.old payload.new result }
+    ensures sink { LeavesSink sink.old sink.new result }
+    ensures few { IfOk result (λ count. payload.old.place + count ≤ payload.new.place + 1) }
+    ensures gives { RowsRead R.remaining W.contents charset (columns_of columns.entry.bytes.now)
+        payload.old payload.new sink.old sink.new result }
+{
+    let table = Table::of(columns);
+    let mut ahead = table.start();
+    let mut ended: u64 = 0;
+    loop {
+        let run = put_run(payload, sink, &table, ahead);
+        ended += run.rows as u64;
+        let Some((form, behind)) = table.next(run.ahead) else {
+            return Ok(ended + 1);
+        };
+        put_cell(payload, sink, &form.kind, run.ahead.column, behind.left == 0)?;
+        ahead = behind;
+    }
 }

@@ -1,5 +1,5 @@
 // A run of cells: as many as lie whole in the packet and have room, over the ends of rows.
-ghost use Rattle.std.specs.Prelude.{◌≡◌, ◌<◌, ◌≤◌, length};
+ghost use Rattle.std.specs.Prelude.{◌≡◌, ◌+◌, ◌<◌, ◌≤◌, length};
 ghost use Rattle.tds_csv.specs.Sinks.{IsOnSameSink, IsWriting, held};
 ghost use Rattle.tds_packet.specs.Payloads.{IsGoing, IsOnSame, seen};
 ghost use Rattle.tds_rows.specs.Runs.{CellsWritten, RowsPut, RowsWritten};
@@ -104,6 +104,7 @@ pub(crate) fn put_run<'a, R: Read, W: Write>(
     ensures writing { IsWriting sink.new }
     ensures same { IsOnSame payload.old payload.new }
     ensures same_sink { IsOnSameSink sink.old sink.new }
+    ensures few { payload.old.place + result.rows ≤ payload.new.place }
     ensures gives { RowsPut R.remaining W.contents table.now from.entry payload.old payload.new sink.old sink.new result }
 {
     let waiting = sink.waiting() as usize;

@@ -17,6 +17,7 @@ pub(crate) struct Form {
 }
 
 /// The columns of a description: what the cells of the first ones need, and the walk over those behind.
+#[derive(Drop)]
 pub(crate) struct Table<'a> {
     forms: [Form; TABLE_LENGTH],
     known: usize,
