@@ -12,6 +12,7 @@ pub mod HeaderTexts
 pub mod TokenLaws
 pub mod TokenSteps
 pub mod TokenBytes
+pub mod RowRuns
 pub mod RunSteps
 pub mod ReadingGrows
 pub mod GrowingTexts

@@ -1,5 +1,5 @@
 -- A run over rows, in its response.
-use Rattle.std.proofs.Common.{◌≡◌, ◌∙◌, ℕ, ◌+◌, ◌<◌, Bool, true, false, List, [], ◌∷◌, ◌++◌, length, refl, sym, ap, subst, arith, append_assoc, append-nil}
+use Rattle.std.proofs.Common.{◌≡◌, ◌∙◌, inl, inr, ℕ, ◌+◌, ◌<◌, Bool, true, false, List, [], ◌∷◌, ◌++◌, length, refl, sym, ap, subst, arith, append_assoc, append-nil, length-append}
 use Rattle.std.specs.Prelude.{Option, Some, None, ◌==◌, map, if◌then◌else◌}
 use Rattle.std.proofs.lemmas.List.{map-append}
 use Rattle.tds_meter.specs.Space.{Space}
@@ -8,20 +8,27 @@ use Rattle.tds_packet.specs.declared.fault.Fault.TheVariants.{RefusedToken}
 use Rattle.tds_packet.specs.Elements.{Grammar, IsNext, Leads, Spelt}
 use Rattle.tds_packet.specs.Seen.{Seen}
 use Rattle.tds_columns.specs.Description.{Column}
+use Rattle.tds_columns.specs.View.{columns_of}
 use Rattle.tds_csv.specs.Quoting.{line}
 use Rattle.tds_csv.specs.Sinks.{Held}
-use Rattle.tds_csv.specs.Streaming.{Streams}
+use Rattle.tds_csv.specs.Streaming.{PutsText, Streams}
 use Rattle.tds_rows.specs.declared.Charset.{Charset}
 use Rattle.tds_rows.specs.Cells.{Cell, field}
-use Rattle.tds_rows.specs.Rows.{Bitmap, InCell, RowPart, WholeRow, row_so_far, row_start}
-use Rattle.tds_rows.specs.Runs.{RowsPart, lines, rows, rows_so_far}
-use Rattle.tds_export.specs.declared.standing.Standing.{Standing}
-use Rattle.tds_export.specs.Tokens.{Row, Token, described_after, text}
-use Rattle.tds_export.specs.Reading.{Part, response, row_byte_fault, start_of_row, text_so_far, with_row}
-use Rattle.tds_export.specs.Running.{IsHolding, Tracks, behind}
-use Rattle.tds_export.proofs.ResponseLaws.{described_after-append}
+use Rattle.tds_rows.specs.Rows.{Bitmap, InCell, RowPart, WholeRow, row, row_so_far, row_start}
+use Rattle.tds_rows.specs.RowSteps.{ReadsRows, RowsStop}
+use Rattle.tds_rows.specs.Runs.{RowsPart, lines, rows, rows_so_far, rows_start}
+use Rattle.tds_rows.proofs.Stalls.{stalls_after}
+use Rattle.tds_csv.proofs.Streams.{breaks_after, puts_both}
+use Rattle.tds_packet.specs.declared.fault.Stop.{Stop}
+use Rattle.tds_export.specs.Built.{is_built}
+use Rattle.tds_export.specs.declared.progress.Progress.{Progress}
+use Rattle.tds_export.specs.Tokens.{Row, Token, described_after, encoded_after, text}
+use Rattle.tds_export.specs.TokenGrammar.{Part, response, row_byte_fault, start_of_row, text_so_far, with_row}
+use Rattle.tds_export.specs.Steps.{IsDescribed, IsHolding, ReadsTokens, StepStops, Tracks, behind, in_row}
+use Rattle.tds_export.proofs.ResponseLaws.{described_after-append, row_in_response}
 use Rattle.tds_export.proofs.TokenLaws.{text_after-snoc, tracks_row}
-use Rattle.tds_export.proofs.TokenSteps.{holds-snoc, row_holds, row_next, row_text}
+use Rattle.tds_export.proofs.TokenSteps.{holds-snoc, row_holds, row_stops, row_text}
+use Rattle.tds_packet.proofs.Lifts.{next_inside, next_some}
 
 -- what one grammar reads, another reads there, where each element does
 module _ {S T : Type 0} (small : Grammar S Fault) (big : Grammar T Fault) (lift : S → T) (is : (s : S) (e : List ℕ) → IsNext small s e → IsNext big (lift s) e × (big.add (lift s) e ≡ lift (small.add s e))) where
@@ -66,17 +73,22 @@ module _ (charset : Charset) (room : ℕ) (all : List Column) (tokens : List Tok
           ap (start_of_row ((tokens ++ map Row before) ++ Row cells ∷ []) (row_start charset)) described ∙ ap (λ l. with_row l (row_start charset all)) ts,
         )
 
+    row_next : (ts : List Token) (at : RowPart) (e : List ℕ) → IsNext (row charset) at e → IsNext (response charset room) (with_row ts at) e × ((response charset room).add (with_row ts at) e ≡ with_row ts ((row charset).add at e))
+    row_next ts at e n =
+        let inside = row_in_response charset room ts in
+        (next_inside (row charset) (response charset room) (with_row ts) inside at e (next_some (row charset) at e n) n, inside.add at e (next_some (row charset) at e n))
+
     element_next : (before : List (List Cell)) (p : RowPart) (e : List ℕ) → IsNext (rows charset all) (record { before = before; at = p }) e
         → IsNext (response charset room) (in_rows (record { before = before; at = p })) e × ((response charset room).add (in_rows (record { before = before; at = p })) e ≡ in_rows ((rows charset all).add (record { before = before; at = p }) e))
-    element_next before (Bitmap columns) e n = row_next charset room (tokens ++ map Row before) (Bitmap columns) e (record { some = n.some; whole = n.whole; free = n.free })
-    element_next before (InCell cells part ks) e n = row_next charset room (tokens ++ map Row before) (InCell cells part ks) e (record { some = n.some; whole = n.whole; free = n.free })
+    element_next before (Bitmap columns) e n = row_next (tokens ++ map Row before) (Bitmap columns) e (record { some = n.some; whole = n.whole; free = n.free })
+    element_next before (InCell cells part ks) e n = row_next (tokens ++ map Row before) (InCell cells part ks) e (record { some = n.some; whole = n.whole; free = n.free })
     element_next before (WholeRow cells) [] n = absurd (let s : 0 < length {A = ℕ} [] = n.some in omega arith)
     element_next before (WholeRow cells) (x ∷ []) n =
         subst (λ (x : ℕ). IsNext (response charset room) (in_rows (record { before = before; at = WholeRow cells })) (x ∷ []) × ((response charset room).add (in_rows (record { before = before; at = WholeRow cells })) (x ∷ []) ≡ in_rows (record { before = before ++ cells ∷ []; at = row_start charset all }))) (sym (is_row_byte x n.free)) (token_next before cells)
     element_next before (WholeRow cells) (x ∷ y ∷ r) n = absurd (let w : length (x ∷ y ∷ r) ≡ 1 = n.whole in omega arith)
 
     -- what a run reads and puts, is read of the response and put
-    pub rows_stream : (s t : RowsPart) (a b : Seen) (h j : Held) → Streams (rows charset all) rows_so_far s a b h j t → Streams (response charset room) text_so_far (in_rows s) a b h j (in_rows t)
+    abbrev rows_stream : (s t : RowsPart) (a b : Seen) (h j : Held) → Streams (rows charset all) rows_so_far s a b h j t → Streams (response charset room) text_so_far (in_rows s) a b h j (in_rows t)
     rows_stream s t a b h j x = record {
       bytes = x.bytes;
       spelt = lifted_spelt (rows charset all) (response charset room) in_rows (λ p e n. element_next p.before p.at e n) s x.bytes t x.spelt;
@@ -85,7 +97,7 @@ module _ (charset : Charset) (room : ℕ) (all : List Column) (tokens : List Tok
     }
 
 -- so many rows more are counted
-pub tracks_rows : (s : Standing) (tokens : List Token) (r : List Cell) (rs : List (List Cell)) → Tracks s tokens → Tracks (record s { report = record s.report { rows = s.report.rows + length (r ∷ rs) }; is_final = false }) (tokens ++ map Row (r ∷ rs))
+tracks_rows : (s : Progress) (tokens : List Token) (r : List Cell) (rs : List (List Cell)) → Tracks s tokens → Tracks (record s { report = record s.report { rows = s.report.rows + length (r ∷ rs) }; is_final = false }) (tokens ++ map Row (r ∷ rs))
 tracks_rows s tokens r [] k = tracks_row s tokens r k
 tracks_rows s tokens r (q ∷ qs) k =
     let t = record s { report = record s.report { rows = s.report.rows + 1 }; is_final = false } in
@@ -93,7 +105,73 @@ tracks_rows s tokens r (q ∷ qs) k =
     subst (λ ts. Tracks (record s { report = record s.report { rows = s.report.rows + length (r ∷ q ∷ qs) }; is_final = false }) ts) (append_assoc tokens (Row r ∷ []) (map Row (q ∷ qs)))
     (subst (λ (n : ℕ). Tracks (record s { report = record s.report { rows = n }; is_final = false }) ((tokens ++ Row r ∷ []) ++ map Row (q ∷ qs))) n (tracks_rows t (tokens ++ Row r ∷ []) q qs (tracks_row s tokens r k)))
 
+-- the same, the last row named
+tracks_all : (s : Progress) (tokens : List Token) (earlier : List (List Cell)) (last : List Cell) (count : ℕ) → count ≡ length earlier + 1 → Tracks s tokens → Tracks (record s { report = record s.report { rows = s.report.rows + count }; is_final = false }) (tokens ++ map Row (earlier ++ last ∷ []))
+tracks_all s tokens earlier last count counted k =
+    subst (λ (n : ℕ). Tracks (record s { report = record s.report { rows = s.report.rows + n }; is_final = false }) (tokens ++ map Row (earlier ++ last ∷ []))) (length-append earlier (last ∷ []) ∙ sym counted) (go earlier)
+  where
+    go : (earlier : List (List Cell)) → Tracks (record s { report = record s.report { rows = s.report.rows + length (earlier ++ last ∷ []) }; is_final = false }) (tokens ++ map Row (earlier ++ last ∷ []))
+    go [] = tracks_rows s tokens last [] k
+    go (r ∷ rs) = tracks_rows s tokens r (rs ++ last ∷ []) k
+
 -- the description stays what it was
-pub rows_hold : (area : Space) (tokens : List Token) (rs : List (List Cell)) (at : RowPart) → IsHolding area (behind tokens) → IsHolding area (with_row (tokens ++ map Row rs) at)
-rows_hold area tokens [] at h = subst (λ ts. IsHolding area (with_row ts at)) (sym (append-nil tokens)) (row_holds area tokens at h)
-rows_hold area tokens (r ∷ rs) at h = subst (λ ts. IsHolding area (with_row ts at)) (append_assoc tokens (Row r ∷ []) (map Row rs)) (rows_hold area (tokens ++ Row r ∷ []) rs at (holds-snoc area tokens (Row r) refl h))
+rows_hold : (area : Space) (tokens : List Token) (rs : List (List Cell)) → IsHolding area (behind tokens) → IsHolding area (behind (tokens ++ map Row rs))
+rows_hold area tokens [] h = subst (λ ts. IsHolding area (behind ts)) (sym (append-nil tokens)) h
+rows_hold area tokens (r ∷ rs) h = subst (λ ts. IsHolding area (behind ts)) (append_assoc tokens (Row r ∷ []) (map Row rs)) (rows_hold area (tokens ++ Row r ∷ []) rs (holds-snoc area tokens (Row r) refl h))
+
+-- ---- what the call that reads them gives
+
+-- the columns that the area describes are the current ones
+pub columns_known : (tokens : List Token) (described : Bool) (bytes : List ℕ) → described ≡ true → bytes ≡ encoded_after [] tokens → IsDescribed described (encoded_after [] tokens) (described_after None tokens) → described_after None tokens ≡ Some (columns_of bytes)
+columns_known tokens described bytes d is k = subst (λ b. IsDescribed b (encoded_after [] tokens) (described_after None tokens)) d k ∙ ap (λ l. Some (columns_of l)) (sym is)
+
+-- a call that reads on, and one that stops behind it
+pub stops_further : (charset : Charset) (room : ℕ) (s t : Part) (a b c : Seen) (place : ℕ) (h i k : Held) (area : Space) (failed : Bool) (stop : Stop) → (x : Streams (response charset room) text_so_far s a b h i t)
+    → StepStops (response charset room) t b c (place + length x.bytes) i k area failed stop → StepStops (response charset room) s a c place h k area failed stop
+stops_further charset room s t a b c place h i k area failed stop x (inl y) = inl (
+  record {
+    at = y.0.at;
+    stalls = stalls_after (response charset room) is_built s t a b c place y.0.at stop (record { bytes = x.bytes; spelt = x.spelt; takes = x.takes }) y.0.stalls;
+    puts = puts_both text_so_far s t y.0.at h i k x.puts y.0.puts;
+    holds = y.0.holds;
+  },
+  y.1,
+)
+stops_further charset room s t a b c place h i k area failed stop x (inr y) =
+    inr (record { at = y.0.at; breaks = breaks_after (response charset room) text_so_far s t a b c h i k y.0.at stop x y.0.breaks; holds = y.0.holds }, y.1)
+
+module _ (charset : Charset) (room : ℕ) (columns : List Column) (area : Space) (before after : Held) (tokens : List Token) (a b : Seen) (place : ℕ) (known : described_after None tokens ≡ Some columns) (holds : IsHolding area (behind tokens)) where
+  -- the state in a response before the first element of its rows
+  begins : in_rows charset room columns tokens (rows_start charset columns) ≡ in_row charset columns tokens
+  begins = ap (λ (ts : List Token). with_row ts (row_start charset columns)) (append-nil tokens)
+
+  -- rows were read, and their lines put
+  pub rows_read : (progress : Progress) (place' count : ℕ) → Tracks progress tokens → ReadsRows charset columns count a b place place' before after
+      → ReadsTokens (response charset room) (in_row charset columns tokens) tokens a b place place' before after (record progress { report = record progress.report { rows = progress.report.rows + count }; is_final = false }) area
+  rows_read progress place' count tracks x =
+      let from = in_rows charset room columns tokens (rows_start charset columns) in
+      let to : Part = in_rows charset room columns tokens (record { before = x.earlier; at = WholeRow x.last }) in
+      let there = rows_stream charset room columns tokens known (rows_start charset columns) (record { before = x.earlier; at = WholeRow x.last }) a b before after x.streams in
+      let end : to ≡ behind (tokens ++ map Row (x.earlier ++ x.last ∷ [])) = ap behind (append_assoc tokens (map Row x.earlier) (Row x.last ∷ []) ∙ ap (λ l. tokens ++ l) (sym (map-append Row x.earlier (x.last ∷ [])))) in
+      record {
+        more = map Row (x.earlier ++ x.last ∷ []);
+        streams = record {
+          bytes = x.streams.bytes;
+          spelt = subst (λ (v : Part). Spelt (response charset room) (in_row charset columns tokens) x.streams.bytes v) end (subst (λ (v : Part). Spelt (response charset room) v x.streams.bytes to) begins there.spelt);
+          takes = x.streams.takes;
+          puts = subst (λ (v : Part). PutsText text_so_far (in_row charset columns tokens) v before after) end (subst (λ (v : Part). PutsText text_so_far v to before after) begins there.puts);
+        };
+        place_is = x.place_is;
+        tracks = tracks_all progress tokens x.earlier x.last count x.counted tracks;
+        holds = rows_hold area tokens (x.earlier ++ x.last ∷ []) holds;
+      }
+
+  -- their reading stopped
+  pub rows_stop : (failed : Bool) (stop : Stop) → RowsStop charset columns a b place before after failed stop → StepStops (response charset room) (in_row charset columns tokens) a b place before after area failed stop
+  rows_stop failed stop x =
+      let from = in_rows charset room columns tokens (rows_start charset columns) in
+      let to : Part = in_rows charset room columns tokens (record { before = x.earlier; at = x.part }) in
+      let there = rows_stream charset room columns tokens known (rows_start charset columns) (record { before = x.earlier; at = x.part }) a x.middle before x.between x.streams in
+      let stops = row_stops charset room x.part area x.between after (tokens ++ map Row x.earlier) x.middle b (place + length x.streams.bytes) failed stop (rows_hold area tokens x.earlier holds) x.stops in
+      subst (λ (v : Part). StepStops (response charset room) v a b place before after area failed stop) begins
+      (stops_further charset room from to a x.middle b place before x.between after area failed stop there stops)

@@ -23,7 +23,7 @@ use Rattle.tds_export.specs.Tokens.{Token}
 use Rattle.tds_export.specs.Built.{is_built}
 use Rattle.tds_export.specs.TokenGrammar.{Part, response, response_start, text_so_far}
 use Rattle.tds_rows.specs.Unbuilt.{Stalls}
-use Rattle.tds_export.specs.Steps.{Completes, StopsAtEnd, StepStops, IsHolding, ReadsToken, ReadsWhole, Tracks, behind}
+use Rattle.tds_export.specs.Steps.{Completes, StopsAtEnd, StepStops, IsHolding, ReadsTokens, ReadsWhole, Tracks, behind}
 use Rattle.tds_packet.proofs.Steps.{cut_at_once, takes_both}
 use Rattle.tds_rows.proofs.Stalls.{stalls_after}
 use Rattle.tds_export.proofs.TokenSteps.{same_text}
@@ -45,14 +45,14 @@ runs_none charset room a place h progress area d tracks is = record {
   holds = record { bytes = ap (λ (s : Space). s.bytes) is; peak = omega (arith, ap (λ (s : Space). s.peak) is) };
 }
 
-runs_more : (g : Grammar Part Fault) (a b c : Seen) (p q r : ℕ) (h i k : Held) (s t : Progress) (area area' : Space) → (x : Runs g a b p q h i s area) → ReadsToken g (behind x.tokens) x.tokens b c q r i k t area' → Runs g a c p r h k t area'
+runs_more : (g : Grammar Part Fault) (a b c : Seen) (p q r : ℕ) (h i k : Held) (s t : Progress) (area area' : Space) → (x : Runs g a b p q h i s area) → ReadsTokens g (behind x.tokens) x.tokens b c q r i k t area' → Runs g a c p r h k t area'
 runs_more g a b c p q r h i k s t area area' x y = record {
-  tokens = x.tokens ++ y.token ∷ [];
+  tokens = x.tokens ++ y.more;
   streams = record {
     bytes = x.streams.bytes ++ y.streams.bytes;
-    spelt = Spelt-append g response_start x.streams.bytes (behind x.tokens) y.streams.bytes (behind (x.tokens ++ y.token ∷ [])) x.streams.spelt y.streams.spelt;
+    spelt = Spelt-append g response_start x.streams.bytes (behind x.tokens) y.streams.bytes (behind (x.tokens ++ y.more)) x.streams.spelt y.streams.spelt;
     takes = takes_both a b c x.streams.bytes y.streams.bytes x.streams.takes y.streams.takes;
-    puts = puts_both text_so_far response_start (behind x.tokens) (behind (x.tokens ++ y.token ∷ [])) h i k x.streams.puts y.streams.puts;
+    puts = puts_both text_so_far response_start (behind x.tokens) (behind (x.tokens ++ y.more)) h i k x.streams.puts y.streams.puts;
   };
   place_is = y.place_is ∙ omega (arith, x.place_is, length-append x.streams.bytes y.streams.bytes);
   tracks = y.tracks;
@@ -64,9 +64,9 @@ same_grammar : (c c' : Charset) (r r' : ℕ) → c' ≡ c → r' ≡ r → respo
 same_grammar c c' r r' e f = ap (λ x. response x r') e ∙ ap (response c) f
 
 pub runs_on : (c c' : Charset) (r r' : ℕ) (a b d : Seen) (p q n : ℕ) (h i k : Held) (s t : Progress) (area area' : Space) → c' ≡ c → r' ≡ r → (x : Runs (response c r) a b p q h i s area)
-    → ReadsToken (response c' r') (behind x.tokens) x.tokens b d q n i k t area' → Runs (response c r) a d p n h k t area'
+    → ReadsTokens (response c' r') (behind x.tokens) x.tokens b d q n i k t area' → Runs (response c r) a d p n h k t area'
 runs_on c c' r r' a b d p q n h i k s t area area' e f x y =
-    runs_more (response c r) a b d p q n h i k s t area area' x (subst (λ (g : Grammar Part Fault). ReadsToken g (behind x.tokens) x.tokens b d q n i k t area') (same_grammar c c' r r' e f) y)
+    runs_more (response c r) a b d p q n h i k s t area area' x (subst (λ (g : Grammar Part Fault). ReadsTokens g (behind x.tokens) x.tokens b d q n i k t area') (same_grammar c c' r r' e f) y)
 
 -- nothing but the payload has changed
 pub runs_same : (g : Grammar Part Fault) (a b : Seen) (p q q' : ℕ) (h k k' : Held) (s s' : Progress) (area area' : Space) → q' ≡ q → k' ≡ k → s' ≡ s → area' ≡ area → Runs g a b p q h k s area → Runs g a b p q' h k' s' area'

@@ -21,7 +21,7 @@ use Rattle.tds_export.specs.Tokens.{Token, described_after, encoded_after}
 use Rattle.tds_export.specs.Built.{is_built}
 use Rattle.tds_export.specs.TokenGrammar.{Part, is_row_byte, response, row_byte_fault, start_of_row, text_so_far}
 use Rattle.tds_rows.specs.Unbuilt.{ReadsUnbuilt, Stalls}
-use Rattle.tds_export.specs.Steps.{StepStops, IsDescribed, IsHolding, IsRefusal, ReadsToken, behind, in_done, in_metadata, in_row}
+use Rattle.tds_export.specs.Steps.{StepStops, IsDescribed, IsHolding, IsRefusal, ReadsTokens, behind, in_done, in_metadata, in_row}
 use Rattle.tds_packet.proofs.Steps.{cut_at_once, reads_one, refused_at_once, takes_both, takes_ahead}
 use Rattle.tds_rows.proofs.Stalls.{stalls_after, unbuilt_at_once}
 use Rattle.tds_export.proofs.TokenSteps.{same_text, start_text}
@@ -61,15 +61,15 @@ module _ (charset : Charset) (room : ℕ) (tokens : List Token) (byte : ℕ) (to
   first a b t = reads_one (response charset room) (behind tokens) a b (byte ∷ []) to begins.next t begins.to_is
 
   -- a token is read behind its first byte
-  pub reads_behind_byte : (a b c : Seen) (place middle place' : ℕ) (h k : Held) (progress : Progress) (area : Space) → Takes a b (byte ∷ []) 1 → middle ≡ place + 1 → ReadsToken (response charset room) to tokens b c middle place' h k progress area
-      → ReadsToken (response charset room) (behind tokens) tokens a c place place' h k progress area
+  pub reads_behind_byte : (a b c : Seen) (place middle place' : ℕ) (h k : Held) (progress : Progress) (area : Space) → Takes a b (byte ∷ []) 1 → middle ≡ place + 1 → ReadsTokens (response charset room) to tokens b c middle place' h k progress area
+      → ReadsTokens (response charset room) (behind tokens) tokens a c place place' h k progress area
   reads_behind_byte a b c place middle place' h k progress area t at r = record {
-    token = r.token;
+    more = r.more;
     streams = record {
       bytes = (byte ∷ []) ++ r.streams.bytes;
-      spelt = Spelt-append (response charset room) (behind tokens) (byte ∷ []) to r.streams.bytes (behind (tokens ++ r.token ∷ [])) (first a b t).spelt r.streams.spelt;
+      spelt = Spelt-append (response charset room) (behind tokens) (byte ∷ []) to r.streams.bytes (behind (tokens ++ r.more)) (first a b t).spelt r.streams.spelt;
       takes = takes_both a b c (byte ∷ []) r.streams.bytes t r.streams.takes;
-      puts = puts_before (behind (tokens ++ r.token ∷ [])) h k r.streams.puts;
+      puts = puts_before (behind (tokens ++ r.more)) h k r.streams.puts;
     };
     place_is = r.place_is ∙ omega (arith, at, length-append (byte ∷ []) r.streams.bytes);
     tracks = r.tracks;

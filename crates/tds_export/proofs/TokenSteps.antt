@@ -27,7 +27,7 @@ use Rattle.tds_export.specs.Tokens.{Token, Metadata, NoMetadata, Row, Done, betw
 use Rattle.tds_export.specs.Response.{more}
 use Rattle.tds_export.specs.Built.{is_built}
 use Rattle.tds_export.specs.TokenGrammar.{Part, response, text_so_far, with_described, with_row}
-use Rattle.tds_export.specs.Steps.{StepStops, StopsInReading, StopsInWriting, IsHolding, ReadsToken, Tracks, behind, in_done, in_metadata, in_row}
+use Rattle.tds_export.specs.Steps.{StepStops, StopsInReading, StopsInWriting, IsHolding, ReadsTokens, Tracks, behind, in_done, in_metadata, in_row}
 use Rattle.tds_packet.proofs.Lifts.{last_inside, reads_inside}
 use Rattle.tds_csv.proofs.Streams.{breaks_inside, puts_inside, streams_inside}
 use Rattle.tds_rows.proofs.RowSteps.{start_quiet}
@@ -40,7 +40,8 @@ pub same_text : (p q : Part) (h : Held) → text_so_far p ≡ text_so_far q → 
 same_text p q h e d = ([], append-nil (text_so_far p) ∙ e, Puts-none h d)
 
 -- what a description area holds behind one more token
-holds-snoc : (area : Space) (tokens : List Token) (t : Token) → encoded_after (encoded_after [] tokens) (t ∷ []) ≡ encoded_after [] tokens → IsHolding area (behind tokens) → IsHolding area (behind (tokens ++ t ∷ []))
+-- a token that describes nothing leaves the area holding what it held
+pub holds-snoc : (area : Space) (tokens : List Token) (t : Token) → encoded_after (encoded_after [] tokens) (t ∷ []) ≡ encoded_after [] tokens → IsHolding area (behind tokens) → IsHolding area (behind (tokens ++ t ∷ []))
 holds-snoc area tokens t e h = record {
   bytes = h.bytes ∙ sym (encoded_after-append [] tokens (t ∷ []) ∙ e);
   peak = omega (arith, h.peak, greatest_span-append tokens (t ∷ []));
@@ -65,11 +66,11 @@ final_or_more n = go (n % 2) (omega arith)
 
 pub done_reads : (charset : Charset) (room : ℕ) (area : Space) (sink : Held) (tokens : List Token) (progress : Progress) (fields : List ℕ) (a b : Seen) (place place' : ℕ) → place' ≡ place + length fields → sink.delivered ≤ 2 ^ 64 - 1 → Tracks progress tokens → IsHolding area (behind tokens)
     → length fields ≡ 12 → Takes a b fields (length fields)
-    → ReadsToken (response charset room) (in_done tokens) tokens a b place place' sink sink (record progress { is_final = slice_index fields 0 % 2 == 0 }) area
+    → ReadsTokens (response charset room) (in_done tokens) tokens a b place place' sink sink (record progress { is_final = slice_index fields 0 % 2 == 0 }) area
 done_reads charset room area sink tokens progress fields a b place place' at d tracks holds len takes =
     let t = Done (more fields) in
     record {
-      token = t;
+      more = t ∷ [];
       streams = record {
         bytes = fields;
         spelt = Spelt-one (response charset room) (in_done tokens) fields (record { some = omega (arith, len); whole = len; free = refl });
@@ -89,7 +90,7 @@ start_text charset [] tokens some = absurd (omega (arith, some))
 start_text charset (c ∷ cs) tokens some = ap (λ f. text tokens ++ joined (with_field [] f)) (start_quiet c.kind (shape charset c.kind))
 
 -- a row's text so far in its response
-row_text : (tokens : List Token) (part : RowPart) → text_so_far (with_row tokens part) ≡ text tokens ++ row_so_far part
+pub row_text : (tokens : List Token) (part : RowPart) → text_so_far (with_row tokens part) ≡ text tokens ++ row_so_far part
 row_text tokens (WholeRow cells) = ap (λ l. l ++ []) (text_after-snoc false tokens (Row cells)) ∙ append-nil (text tokens ++ (line (map field cells) ++ [])) ∙ ap (λ l. text tokens ++ l) (append-nil (line (map field cells)))
 row_text tokens (InCell cells part ks) = refl
 row_text tokens (Bitmap columns) = refl
@@ -98,22 +99,11 @@ row_text tokens (Bitmap columns) = refl
 abbrev row_front : (tokens : List Token) (part : RowPart) → text tokens ++ row_so_far part ≡ text_so_far (with_row tokens part)
 row_front tokens part = sym (row_text tokens part)
 
-row_holds : (area : Space) (tokens : List Token) (part : RowPart) → IsHolding area (behind tokens) → IsHolding area (with_row tokens part)
+-- and while a row is read
+pub row_holds : (area : Space) (tokens : List Token) (part : RowPart) → IsHolding area (behind tokens) → IsHolding area (with_row tokens part)
 row_holds area tokens (WholeRow cells) h = holds-snoc area tokens (Row cells) refl h
 row_holds area tokens (InCell cells part ks) h = record { bytes = h.bytes; peak = h.peak }
 row_holds area tokens (Bitmap columns) h = record { bytes = h.bytes; peak = h.peak }
-
--- a row was read, and its line put
-pub row_reads : (charset : Charset) (room : ℕ) (start : RowPart) (area : Space) (before after : Held) (tokens : List Token) (progress : Progress) (a b : Seen) (place place' : ℕ) → Tracks progress tokens → IsHolding area (behind tokens)
-    → ReadsRow charset start a b place place' before after
-    → ReadsToken (response charset room) (with_row tokens start) tokens a b place place' before after (record progress { report = record progress.report { rows = progress.report.rows + 1 }; is_final = false }) area
-row_reads charset room start area before after tokens progress a b place place' tracks holds x = record {
-  token = Row x.cells;
-  streams = streams_inside (row charset) (response charset room) (with_row tokens) (row_in_response charset room tokens) row_so_far text_so_far (text tokens) (row_front tokens) start a b before after (WholeRow x.cells) x.streams;
-  place_is = x.place_is;
-  tracks = tracks_row progress tokens x.cells tracks;
-  holds = holds-snoc area tokens (Row x.cells) refl holds;
-}
 
 row_end_is : (charset : Charset) (room : ℕ) (tokens : List Token) (part : RowPart) → 0 < row_size part → (response charset room).end_fault (with_row tokens part) ≡ (row charset).end_fault part
 row_end_is charset room tokens (Bitmap columns) h = refl
@@ -172,11 +162,11 @@ header_text progress tokens bytes columns tracks =
 
 pub none_reads : (charset : Charset) (room : ℕ) (area old_area : Space) (sink : Held) (tokens : List Token) (progress : Progress) (a b : Seen) (place place' : ℕ) → sink.delivered ≤ 2 ^ 64 - 1 → Tracks progress tokens → IsHolding old_area (behind tokens)
     → Describes room BeforeCount a b place place' old_area.peak area NoDescription
-    → ReadsToken (response charset room) (in_metadata tokens) tokens a b place place' sink sink (record progress { described = false; is_final = false }) area
+    → ReadsTokens (response charset room) (in_metadata tokens) tokens a b place place' sink sink (record progress { described = false; is_final = false }) area
 none_reads charset room area old_area sink tokens progress a b place place' d tracks holds x =
     let r = reads_inside (description room) (response charset room) (with_described tokens) (description_in_response charset room tokens) BeforeCount a b NoDescription x.reads in
     record {
-      token = NoMetadata;
+      more = NoMetadata ∷ [];
       streams = record {
         bytes = r.bytes;
         spelt = r.spelt;
@@ -199,12 +189,12 @@ metadata_holds area old_area tokens columns peak holds = record {
 
 pub metadata_reads : (charset : Charset) (room : ℕ) (area old_area : Space) (before after : Held) (tokens : List Token) (progress : Progress) (columns : List Column) (a b : Seen) (place place' : ℕ) → Tracks progress tokens → IsHolding old_area (behind tokens)
     → columns_of area.bytes ≡ columns → Describes room BeforeCount a b place place' old_area.peak area (WholeDescription area.bytes columns) → Puts before after (between (nat_lt 0 progress.report.sets) ++ header_line (columns_of area.bytes))
-    → ReadsToken (response charset room) (in_metadata tokens) tokens a b place place' before after (record progress { report = record progress.report { sets = progress.report.sets + 1 }; described = true; is_final = false }) area
+    → ReadsTokens (response charset room) (in_metadata tokens) tokens a b place place' before after (record progress { report = record progress.report { sets = progress.report.sets + 1 }; described = true; is_final = false }) area
 metadata_reads charset room area old_area before after tokens progress columns a b place place' tracks holds shown x puts =
     let r = reads_inside (description room) (response charset room) (with_described tokens) (description_in_response charset room tokens) BeforeCount a b (WholeDescription area.bytes columns) x.reads in
     let header = between (nat_lt 0 progress.report.sets) ++ header_line columns in
     record {
-      token = Metadata area.bytes columns;
+      more = Metadata area.bytes columns ∷ [];
       streams = record { bytes = r.bytes; spelt = r.spelt; takes = r.takes; puts = (header, header_text progress tokens area.bytes columns tracks, subst (λ cs. Puts before after (between (nat_lt 0 progress.report.sets) ++ header_line cs)) shown puts) };
       place_is = x.place_is;
       tracks = tracks_metadata progress tokens area.bytes columns shown tracks;

@@ -13,7 +13,7 @@ use Rattle.tds_export.specs.declared.exporter.Exporter.{Exporter}
 use Rattle.tds_export.specs.declared.progress.Progress.{Progress}
 use Rattle.tds_export.specs.declared.report.Report.{Report}
 use Rattle.tds_export.specs.TokenGrammar.{Part, response, response_start}
-use Rattle.tds_export.specs.Steps.{Completes, StepStops, IsHolding, ReadsToken, RunStops, Tracks, behind}
+use Rattle.tds_export.specs.Steps.{Completes, StepStops, IsHolding, ReadsTokens, RunStops, Tracks, behind}
 use Rattle.tds_export.specs.Tokens.{Token}
 
 -- what a run reads, writes and keeps, at a moment: its payload and the place there, its sink and whether it failed, and its description area
@@ -80,7 +80,7 @@ Advances old new = old.payload.now.place < new.payload.now.place
 -- The next token was read from this state on, behind these tokens, and its text put.
 abbrev pub ReadsNext : Charset → Part → List Token → View → View → Progress → Type 0
 ReadsNext charset from tokens old new progress =
-    ReadsToken (response charset old.area.room) from tokens old.seen new.seen old.place new.place old.held new.held progress new.area
+    ReadsTokens (response charset old.area.room) from tokens old.seen new.seen old.place new.place old.held new.held progress new.area
 
 -- The reading from this state on stopped.
 abbrev pub StopsIn : Charset → Part → View → View → Stop → Type 0

@@ -51,13 +51,13 @@ pub record Tracks (progress : Progress) (tokens : List Token) : Type 0 where
   pub final : progress.is_final ≡ is_final tokens
   pub no_error : first_error tokens ≡ None
 
--- A token was read whole, and its text put.
-pub record ReadsToken (g : Grammar Part Fault) (from : Part) (tokens : List Token) (old new : Seen) (place place' : ℕ) (before after : Held) (progress : Progress) (area : Space) : Type 0 where
-  pub token : Token
-  pub streams : Streams g text_so_far from old new before after (behind (tokens ++ token ∷ []))
+-- One token or more were read whole, and their text put.
+pub record ReadsTokens (g : Grammar Part Fault) (from : Part) (tokens : List Token) (old new : Seen) (place place' : ℕ) (before after : Held) (progress : Progress) (area : Space) : Type 0 where
+  pub more : List Token
+  pub streams : Streams g text_so_far from old new before after (behind (tokens ++ more))
   pub place_is : place' ≡ place + length streams.bytes
-  pub tracks : Tracks progress (tokens ++ token ∷ [])
-  pub holds : IsHolding area (behind (tokens ++ token ∷ []))
+  pub tracks : Tracks progress (tokens ++ more)
+  pub holds : IsHolding area (behind (tokens ++ more))
 
 -- The byte begins a token of this kind, where columns are described or not.
 abbrev pub IsOfKind : Bool → ℕ → TokenKind → Type 0

@@ -16,7 +16,7 @@ use tds_columns::{Columns, Described, gather};
 use tds_csv::Sink;
 use tds_meter::Area;
 use tds_packet::{Fault, Payload, Place, Stop};
-use tds_rows::Charset;
+use tds_rows::{Charset, read_rows};
 
 /// The run of an export: what it reads and writes, the area of its description, and its progress.
 #[derive(Drop)]
@@ -48,8 +48,8 @@ impl<'a, 'p, 's, R: Read, W: Write> Exporter<'a, 'p, 's, R, W> {
         Ok(())
     }
 
-    // Reads a ROW behind its token byte, and puts its line.
-    fn row(&mut self) -> Result<(), Stop>
+    // Reads a ROW behind its token byte and the ROWs that follow it in its packet, and puts their lines.
+    fn rows(&mut self) -> Result<(), Stop>
         requires begun { IsInToken self.old }
         requires described { self.old.progress.described ≡ true }
         ensures leaves { LeavesRun self.old self.new result }
@@ -57,8 +57,8 @@ impl<'a, 'p, 's, R: Read, W: Write> Exporter<'a, 'p, 's, R, W> {
             StepRead R.remaining W.contents (in_row self.old.charset columns) self.old self.new result }
     {
         let columns = Columns::view(self.description.bytes());
-        tds_rows::row(self.payload, columns, self.charset, self.sink)?;
-        self.progress.report.rows += 1;
+        let count = read_rows(self.payload, columns, self.charset, self.sink)?;
+        self.progress.report.rows += count;
         self.progress.is_final = false;
         Ok(())
     }
@@ -92,7 +92,7 @@ impl<'a, 'p, 's, R: Read, W: Write> Exporter<'a, 'p, 's, R, W> {
                 Ok(true)
             }
             Ok(TokenKind::Row) => {
-                self.row()?;
+                self.rows()?;
                 Ok(true)
             }
             Ok(TokenKind::Done) => {

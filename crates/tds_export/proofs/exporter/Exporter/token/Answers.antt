@@ -33,23 +33,23 @@ returns-in_err-metadata-in-Ok-Metadata-clause-gives g c = λ tokens tracks holds
 
 -- ---- ROW
 
-pub returns-in_ok-row-in-Ok-Row-clause-gives : goal.returns-in_ok-row-in-Ok-Row-clause-gives
-returns-in_ok-row-in-Ok-Row-clause-gives g c = λ tokens tracks holds.
+pub returns-in_ok-rows-in-Ok-Row-clause-gives : goal.returns-in_ok-rows-in-Ok-Row-clause-gives
+returns-in_ok-rows-in-Ok-Row-clause-gives g c = λ tokens tracks holds.
     let run = c.args.self.now in
     let bytes = run.description.now.bytes in
     let is = rw c.in-Ok-Row.field-0-is at c.in-Ok-Row.ensures in
     let read = rw c.in-Some.is at c.in_ok-byte.ensures.gives in
     let begins = begins_row run.charset run.description.now.room tokens c.in-Some.byte run.progress.described bytes is.0 is.1 holds.bytes (some_columns bytes (c.requires.described is.1)) tracks.described in
-    reads_behind_byte _ _ _ _ _ begins _ _ _ _ _ _ _ _ _ _ read.takes read.place_is (c.in_ok-row-in-Ok-Row.ensures.gives tokens tracks holds)
+    reads_behind_byte _ _ _ _ _ begins _ _ _ _ _ _ _ _ _ _ read.takes read.place_is (c.in_ok-rows-in-Ok-Row.ensures.gives tokens tracks holds)
 
-pub returns-in_err-row-in-Ok-Row-clause-gives : goal.returns-in_err-row-in-Ok-Row-clause-gives
-returns-in_err-row-in-Ok-Row-clause-gives g c = λ tokens tracks holds.
+pub returns-in_err-rows-in-Ok-Row-clause-gives : goal.returns-in_err-rows-in-Ok-Row-clause-gives
+returns-in_err-rows-in-Ok-Row-clause-gives g c = λ tokens tracks holds.
     let run = c.args.self.now in
     let bytes = run.description.now.bytes in
     let is = rw c.in-Ok-Row.field-0-is at c.in-Ok-Row.ensures in
     let read = rw c.in-Some.is at c.in_ok-byte.ensures.gives in
     let begins = begins_row run.charset run.description.now.room tokens c.in-Some.byte run.progress.described bytes is.0 is.1 holds.bytes (some_columns bytes (c.requires.described is.1)) tracks.described in
-    passed _ _ _ _ c.from_residual-in_err-row-in-Ok-Row.ensures.1 (stops_behind_byte _ _ _ _ _ begins _ _ _ _ _ _ _ _ _ _ read.takes read.place_is (c.in_err-row-in-Ok-Row.ensures.gives tokens tracks holds))
+    passed _ _ _ _ c.from_residual-in_err-rows-in-Ok-Row.ensures.1 (stops_behind_byte _ _ _ _ _ begins _ _ _ _ _ _ _ _ _ _ read.takes read.place_is (c.in_err-rows-in-Ok-Row.ensures.gives tokens tracks holds))
 
 -- ---- DONE
 

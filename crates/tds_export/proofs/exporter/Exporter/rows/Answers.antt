@@ -1,0 +1,44 @@
+use Rattle.std.proofs.Common.{◌∙◌, ◌<◌, length, ap, subst, sym}
+use Rattle.tds_columns.specs.View.{columns_of}
+use Rattle.tds_packet.specs.Payloads.{seen}
+use Rattle.tds_packet.proofs.Passing.{passed}
+use Rattle.tds_csv.specs.Sinks.{held}
+use Rattle.tds_rows.specs.RowSteps.{ReadsRows, RowsStop}
+use Rattle.tds_export.proofs.RowRuns.{columns_known, rows_read, rows_stop}
+use Rattle.tds_export.proofs.TokenBytes.{some_columns}
+use Rattle.tds_export.proofs.exporter.Exporter.rows.Goals as goal
+
+pub returns-in_err-count-clause-gives : goal.returns-in_err-count-clause-gives
+returns-in_err-count-clause-gives g c = λ tokens tracks holds.
+    let run = c.args.self.now in
+    let columns = columns_of run.description.now.bytes in
+    let a = seen g.R.Read.remaining run.payload.now in
+    let b = seen g.R.Read.remaining c.read_rows.new.payload in
+    let h = held g.W.Write.contents run.sink.now in
+    let k = held g.W.Write.contents c.read_rows.new.sink in
+    let failed = c.read_rows.new.sink.failed in
+    let stop = c.in_err-count.field-0.0 in
+    let is = ap columns_of (c.view-columns.ensures ∙ c.bytes.ensures.value) in
+    passed _ _ _ _ c.from_residual.ensures.1 (rows_stop run.charset run.description.now.room columns run.description.now h k tokens a b run.payload.now.place (columns_known tokens run.progress.described run.description.now.bytes c.requires.described holds.bytes tracks.described) holds failed stop
+    (subst (λ cs. RowsStop run.charset cs a b run.payload.now.place h k failed stop) is c.in_err-count.ensures.gives))
+
+pub returns-clause-gives : goal.returns-clause-gives
+returns-clause-gives g c = λ tokens tracks holds.
+    let run = c.args.self.now in
+    let columns = columns_of run.description.now.bytes in
+    let a = seen g.R.Read.remaining run.payload.now in
+    let b = seen g.R.Read.remaining c.read_rows.new.payload in
+    let h = held g.W.Write.contents run.sink.now in
+    let k = held g.W.Write.contents c.read_rows.new.sink in
+    let place = run.payload.now.place in
+    let place' = c.read_rows.new.payload.place in
+    let count = c.in_ok-count.count in
+    let is = ap columns_of (c.view-columns.ensures ∙ c.bytes.ensures.value) in
+    rows_read run.charset run.description.now.room columns run.description.now h k tokens a b place (columns_known tokens run.progress.described run.description.now.bytes c.requires.described holds.bytes tracks.described) holds run.progress place' count tracks
+    (subst (λ cs. ReadsRows run.charset cs count a b place place' h k) is c.in_ok-count.ensures.gives)
+
+pub read_rows-requires-clause-some : goal.read_rows-requires-clause-some
+read_rows-requires-clause-some g c =
+    let run = c.args.self.now in
+    let is = ap columns_of (c.view-columns.ensures ∙ c.bytes.ensures.value) in
+    subst (λ cs. 0 < length cs) (sym is) (some_columns run.description.now.bytes (c.requires.begun.running.described c.requires.described))
