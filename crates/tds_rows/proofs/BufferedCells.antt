@@ -1,13 +1,13 @@
--- Cells whose bytes lie whole in a packet.
+-- Cells whose bytes lie together, and the room that a sink lends for their text.
 use Rattle.std.proofs.Common.{◌≡◌, ◌≢◌, ◌∙◌, ℕ, ◌+◌, ◌-◌, ◌^◌, ◌<◌, ◌≤◌, Bool, true, false, List, [], ◌∷◌, ◌++◌, length, take, drop, Result, Ok, Err, MatchResult, inl, inr, refl, sym, ap, subst, arith, length-take, length-drop}
-use Rattle.std.specs.Prelude.{None, Option, ◌==◌, ◌||◌, is_ok, replicate, slice_index, if◌then◌else◌}
+use Rattle.std.specs.Prelude.{None, Some, Option, ◌==◌, ◌||◌, is_ok, replicate, slice_index, unwrap_or, if◌then◌else◌}
 use Rattle.std.proofs.lemmas.Bool.{ne_eqb}
 use Rattle.std.proofs.lemmas.List.{length-take-le}
 use lib.Seq.{take-add}
 use Rattle.tds_values.specs.declared.kind.Kind.{Kind}
 use Rattle.tds_values.specs.declared.scalar.ScalarValue.{ScalarValue}
 use Rattle.tds_values.specs.declared.scalar.ValueFault.TheVariants as faults
-use Rattle.tds_values.specs.Kind.{is_length_allowed}
+use Rattle.tds_values.specs.Kind.{fixed_length, is_length_allowed, is_scalar}
 use Rattle.tds_values.specs.Scalar.{checked, read_of, value_of}
 use Rattle.tds_packet.specs.declared.fault.Fault.TheVariants.{BadValue, BadValueLength}
 use Rattle.tds_packet.specs.declared.fault.Stop.{Stop}
@@ -21,10 +21,11 @@ use Rattle.tds_csv.specs.declared.sink.Sink.{Sink}
 use Rattle.tds_csv.specs.Sinks.{Breaks, Held, IsWriting, Puts, PutsPiece, held}
 use Rattle.tds_csv.proofs.Spares.{spare_before, spare_written}
 use Rattle.tds_csv.proofs.Streams.{breaks_behind, none_before}
+use Rattle.tds_rows.proofs.CellSteps.{fixed_some, scalar_shape}
 use Rattle.tds_rows.proofs.RowSteps.{at_once_breaks, at_once_streams}
 use Rattle.tds_rows.specs.declared.Charset.{Charset}
-use Rattle.tds_rows.specs.Cells.{CellPart, Null, ScalarBytes, ScalarCell, ScalarLength, WholeCell, cell, cell_start, shape, unless, value_part}
-use Rattle.tds_rows.specs.CellSteps.{IsValueText, PutsCell, ReadsCell, StopsCell, WritesCell, cell_so_far}
+use Rattle.tds_rows.specs.Cells.{CellPart, Null, ScalarBytes, ScalarCell, ScalarLength, WholeCell, cell, cell_start, shape, shape_of_length, unless, value_part}
+use Rattle.tds_rows.specs.CellSteps.{IsLeft, IsValueText, length_behind, start_behind, value_length, value_start, PutsCell, ReadsCell, StopsCell, WritesCell, cell_so_far}
 use Rattle.tds_csv.specs.Quoting.{in_line}
 
 -- a value that is read has a length that is allowed
@@ -96,9 +97,48 @@ counted_written column kind n last bytes text is some within x =
       text_is = x.2;
     }
 
-pub buffered_reads : (from : CellPart) (column : ℕ) (last : Bool) (a b : Seen) (place place' : ℕ) (bytes text : List ℕ) → WritesCell from column last bytes text → Takes a b bytes (length bytes) → IsBetween b → place' ≡ place + length bytes
+module _ (charset : Charset) (kind : Kind) (column : ℕ) (last : Bool) (bytes text : List ℕ) (scalar : is_scalar kind ≡ true) where
+  -- NULL at the front of these bytes
+  pub null_cell : (start : ℕ) → start ≡ value_start kind → value_length kind bytes ≡ 0 → start + 0 ≤ length bytes → text ≡ in_line column last null_field → WritesCell (cell_start kind (shape charset kind)) column last (take (start + 0) bytes) text
+  null_cell start at none within is = go (fixed_length kind) refl
+    where
+      go : (o : Option ℕ) → fixed_length kind ≡ o → WritesCell (cell_start kind (shape charset kind)) column last (take (start + 0) bytes) text
+      go (Some n) e = absurd (omega (arith, fixed_some kind n e, sym (ap (λ o. length_behind o bytes) e) ∙ none))
+      go None e =
+          let one : start + 0 ≡ 1 = omega (arith, at ∙ ap start_behind e) in
+          let zero : slice_index bytes 0 ≡ 0 = sym (ap (λ o. length_behind o bytes) e) ∙ none in
+          subst (λ s. WritesCell (cell_start kind s) column last (take (start + 0) bytes) text) (ap shape_of_length (sym e) ∙ sym (scalar_shape charset kind scalar))
+          (subst (λ (m : ℕ). WritesCell (ScalarLength kind) column last (take m bytes) text) (sym one) (null_written column kind last bytes text (omega (arith, within, one)) zero is))
+
+  -- a value there
+  pub value_cell : (start n : ℕ) → start ≡ value_start kind → n ≡ value_length kind bytes → n ≢ 0 → start + n ≤ length bytes → IsValueText kind column last (take n (drop start bytes)) text
+      → WritesCell (cell_start kind (shape charset kind)) column last (take (start + n) bytes) text
+  value_cell start n at many some within is = go (fixed_length kind) refl
+    where
+      go : (o : Option ℕ) → fixed_length kind ≡ o → WritesCell (cell_start kind (shape charset kind)) column last (take (start + n) bytes) text
+      go (Some m) e =
+          let none : start ≡ 0 = at ∙ ap start_behind e in
+          let all : n ≡ m = many ∙ ap (λ o. length_behind o bytes) e in
+          subst (λ s. WritesCell (cell_start kind s) column last (take (start + n) bytes) text) (ap shape_of_length (sym e) ∙ sym (scalar_shape charset kind scalar))
+          (subst (λ (k : ℕ). WritesCell (ScalarBytes kind m) column last (take k bytes) text) (omega (arith, none, all)) (fixed_written column kind m last bytes text (omega (arith, some, all)) (omega (arith, within, none, all))
+          (subst (λ (k : ℕ). IsValueText kind column last (take k bytes) text) all (subst (λ (k : ℕ). IsValueText kind column last (take n (drop k bytes)) text) none is))))
+      go None e =
+          let one : start ≡ 1 = at ∙ ap start_behind e in
+          let first : slice_index bytes 0 ≡ n = sym (ap (λ o. length_behind o bytes) e) ∙ sym many in
+          subst (λ s. WritesCell (cell_start kind s) column last (take (start + n) bytes) text) (ap shape_of_length (sym e) ∙ sym (scalar_shape charset kind scalar))
+          (subst (λ (k : ℕ). WritesCell (ScalarLength kind) column last (take k bytes) text) (omega (arith, one)) (counted_written column kind n last bytes text first some (omega (arith, within, one))
+          (subst (λ (k : ℕ). IsValueText kind column last (take n (drop k bytes)) text) one is)))
+
+-- a cell whose value is refused is left
+pub refused_left : (kind : Kind) (bytes : List ℕ) (start n : ℕ) → start ≡ value_start kind → n ≡ value_length kind bytes → n ≢ 0 → is_ok (read_of kind (take ((start + n) - start) (drop start bytes))) ≡ false → IsLeft kind bytes
+refused_left kind bytes start n at many some bad =
+    let behind : (start + n) - start ≡ value_length kind bytes = omega (arith, many) in
+    inr (inr (omega (arith, some, many), subst (λ (m : ℕ). is_ok (read_of kind (take (value_length kind bytes) (drop m bytes))) ≡ false) at (subst (λ (m : ℕ). is_ok (read_of kind (take m (drop start bytes))) ≡ false) behind bad)))
+
+-- bytes that are a cell were read
+pub cell_reads : (from : CellPart) (column : ℕ) (last : Bool) (a b : Seen) (place place' : ℕ) (bytes text : List ℕ) → WritesCell from column last bytes text → Takes a b bytes (length bytes) → IsBetween b → place' ≡ place + length bytes
     → ReadsCell from column last a b place place' text
-buffered_reads from column last a b place place' bytes text x takes between at = record {
+cell_reads from column last a b place place' bytes text x takes between at = record {
   value = x.value;
   front = x.front;
   at = x.at;
@@ -113,20 +153,7 @@ buffered_reads from column last a b place place' bytes text x takes between at =
   text_is = x.text_is;
 }
 
--- nothing was put before a cell
-pub cell_behind : {U : Type 0} (r : Result U Stop) (charset : Charset) (kind : Kind) (column : ℕ) (last : Bool) (a b : Seen) (place place' : ℕ) (h i j : Held) (failed : Bool) → Puts h i []
-    → MatchResult r (λ _. PutsCell charset kind column last a b place place' i j) (λ stop. StopsCell charset kind column last a b place i j failed stop)
-    → MatchResult r (λ _. PutsCell charset kind column last a b place place' h j) (λ stop. StopsCell charset kind column last a b place h j failed stop)
-cell_behind (Ok u) charset kind column last a b place place' h i j failed p x =
-    let s = x.streams in
-    record { value = x.value; streams = record { bytes = s.bytes; spelt = s.spelt; takes = s.takes; puts = none_before (cell_so_far column last) (cell_start kind (shape charset kind)) (WholeCell x.value) h i j p s.puts }; place_is = x.place_is }
-cell_behind (Err stop) charset kind column last a b place place' h i j failed p x = record {
-  at = x.at;
-  cause = elim x.cause [
-    | inl y ↦ inl (y.0, none_before (cell_so_far column last) (cell_start kind (shape charset kind)) x.at h i j p y.1, y.2)
-    | inr y ↦ inr (breaks_behind (cell column) (cell_so_far column last) (cell_start kind (shape charset kind)) a b h i j x.at stop p y.0, y.1)
-  ];
-}
+-- ---- what is written into the room that a sink lends
 
 module _ (h j : Held) (written : List ℕ) (n room : ℕ) (whole : length written ≡ room) (at : n ≡ length h.waiting) where
   -- what stands in the room that was lent
@@ -144,10 +171,6 @@ module _ (h j : Held) (written : List ℕ) (n room : ℕ) (whole : length writte
 
   same : lent_held ≡ h
   same = ap (λ (w : List ℕ). record h { waiting = w }) before
-
-  -- the lent room was given back, and nothing put
-  pub kept_none : Puts lent_held j [] → Puts h j []
-  kept_none x = subst (λ (k : Held). Puts k j []) same x
 
   -- the text of a cell that was written there was put
   pub kept_text : {U : Type 0} (r : Result U Stop) (made : ℕ) → MatchResult r (λ _. Puts lent_held j (take made (drop n lent))) (λ stop. Breaks lent_held j (take made (drop n lent)) stop) → MatchResult r (λ _. Puts h j (take made written)) (λ stop. Breaks h j (take made written) stop)
@@ -169,10 +192,3 @@ put_cell (Ok u) charset kind column last a b place place' contents old new text 
     puts_cell (Ok u) charset kind column last a b place place' (held contents old) (held contents new) new.failed text going.ready.2 (going.ready.1 going.writing) x.failed y x.gives
 put_cell {U = U} (Err stop) charset kind column last a b place place' contents old new text going y x =
     puts_cell {U = U} (Err stop) charset kind column last a b place place' (held contents old) (held contents new) new.failed text going.ready.2 (going.ready.1 going.writing) x.failed y (x.gives going.writing)
-
--- a cell was written into the lent room, and kept
-pub kept_cell : {U : Type 0} (r : Result U Stop) (charset : Charset) (kind : Kind) (column : ℕ) (last : Bool) (a b : Seen) (place place' : ℕ) (h j : Held) (failed : Bool) (written : List ℕ) (made n room : ℕ) (whole : length written ≡ room) → h.delivered ≤ 2 ^ 64 - 1 → length h.waiting < 4096 → failed ≡ (if is_ok r then false else true)
-    → (at : n ≡ length h.waiting) → ReadsCell (cell_start kind (shape charset kind)) column last a b place place' (take made written)
-    → MatchResult r (λ _. Puts (lent_held h j written n room whole at) j (take made (drop n (lent h j written n room whole at)))) (λ stop. Breaks (lent_held h j written n room whole at) j (take made (drop n (lent h j written n room whole at))) stop)
-    → MatchResult r (λ _. PutsCell charset kind column last a b place place' h j) (λ stop. StopsCell charset kind column last a b place h j failed stop)
-kept_cell r charset kind column last a b place place' h j failed written made n room whole d few is at y x = puts_cell r charset kind column last a b place place' h j failed (take made written) d few is y (kept_text h j written n room whole at r made x)

@@ -1,12 +1,14 @@
 -- The cells of scalar kinds, and the beginnings of long ones, as they are read.
-use Rattle.std.proofs.Common.{◌≡◌, ◌≢◌, ◌∙◌, ◌⊎◌, inl, inr, ℕ, ◌+◌, ◌<◌, Bool, true, false, List, [], length, take, Result, Ok, Err, MatchResult, refl, sym, ap, subst, arith, length-take, length-append}
-use Rattle.std.specs.Prelude.{Option, Some, None, ◌==◌, ◌||◌, is_ok, slice_index, if◌then◌else◌}
+use Rattle.std.proofs.Common.{◌≡◌, ◌≢◌, ◌∙◌, ◌⊎◌, inl, inr, ℕ, ◌+◌, ◌<◌, Bool, true, false, List, [], ◌∷◌, ◌++◌, length, take, drop, get_or, ◌≤◌, refl, sym, ap, subst, arith, length-take, length-append}
+use Rattle.std.specs.Prelude.{Option, Some, None, ◌==◌, ◌||◌, is_ok, slice_index, slice_set, if◌then◌else◌}
 use Rattle.std.proofs.lemmas.Bool.{ne_eqb}
+use Rattle.std.proofs.lemmas.List.{take-append-le, take_all, take_more_set}
+use Rattle.std.proofs.Math.Seq.{take-append-add}
 use Rattle.tds_values.specs.declared.kind.Kind.{Kind}
 use Rattle.tds_values.specs.declared.kind.Reach.{Reach}
 use Rattle.tds_values.specs.declared.kind.Reach.TheVariants.{Short, Chunked}
 use Rattle.tds_values.specs.declared.kind.Kind.TheVariants as kinds
-use Rattle.tds_values.specs.Kind.{fixed_length, is_length_allowed}
+use Rattle.tds_values.specs.Kind.{fixed_length, is_length_allowed, is_scalar}
 use Rattle.tds_values.specs.Scalar.{read_of}
 use Rattle.tds_packet.specs.declared.fault.Fault.TheVariants.{BadValue, BadValueLength, MessageEnded, NotYet}
 use Rattle.tds_packet.specs.declared.fault.Place.TheVariants.{Payload}
@@ -21,10 +23,35 @@ use Rattle.tds_csv.specs.Conversion.{Conversion, HexDigits, Utf16Text}
 use Rattle.tds_csv.specs.Quoting.{null_field}
 use Rattle.tds_rows.specs.declared.Charset.{Charset}
 use Rattle.tds_rows.specs.Cells.{CellPart, LongShape, Null, ScalarBytes, ScalarCell, ScalarLength, ShortLength, Total, WholeCell, cell, cell_end, cell_size, cell_start, narrow, shape, shape_of_length, unless, value_part}
-use Rattle.tds_rows.specs.CellSteps.{ReadsCell, ReadsValue, StallsCell}
+use Rattle.tds_rows.specs.CellSteps.{GathersCell, IsLeft, StallsCell, length_behind, start_behind, value_bytes, value_start}
 use Rattle.tds_csv.specs.Quoting.{in_line}
 use Rattle.tds_rows.specs.Unbuilt.{is_built_cell}
 use Rattle.tds_rows.proofs.Stalls.{unbuilt_at_once}
+
+-- a scalar kind's shape is that of its length
+pub scalar_shape : (charset : Charset) (kind : Kind) → is_scalar kind ≡ true → shape charset kind ≡ shape_of_length (fixed_length kind)
+scalar_shape charset kinds.Int1 h = refl
+scalar_shape charset kinds.Int2 h = refl
+scalar_shape charset kinds.Int4 h = refl
+scalar_shape charset kinds.Int8 h = refl
+scalar_shape charset kinds.Bit h = refl
+scalar_shape charset kinds.Money4 h = refl
+scalar_shape charset kinds.Money8 h = refl
+scalar_shape charset kinds.DateTime4 h = refl
+scalar_shape charset kinds.DateTime8 h = refl
+scalar_shape charset (kinds.IntN n) h = refl
+scalar_shape charset kinds.BitN h = refl
+scalar_shape charset (kinds.MoneyN n) h = refl
+scalar_shape charset (kinds.DateTimeN n) h = refl
+scalar_shape charset kinds.Guid h = refl
+scalar_shape charset (kinds.Decimal n p s) h = refl
+scalar_shape charset kinds.Date h = refl
+scalar_shape charset (kinds.Time s) h = refl
+scalar_shape charset (kinds.DateTime2 s) h = refl
+scalar_shape charset (kinds.DateTimeOffset s) h = refl
+scalar_shape charset (kinds.Binary r) h = cc
+scalar_shape charset (kinds.Narrow r) h = cc
+scalar_shape charset (kinds.Wide r) h = cc
 
 -- the values of a kind of fixed length have some bytes
 pub fixed_some : (kind : Kind) (n : ℕ) → fixed_length kind ≡ Some n → 0 < n
@@ -53,34 +80,29 @@ pub value_refused : (column : ℕ) (kind : Kind) (n : ℕ) (a b : Seen) (place :
 value_refused column kind n a b place bytes some whole bad takes between =
     refused_at_once (cell column) (ScalarBytes kind n) a b place bytes (BadValue column) (omega (arith, some, whole)) whole (ap (λ v. unless v (BadValue column)) bad) takes between
 
-value_next : (column : ℕ) (kind : Kind) (n : ℕ) (last : Bool) (a b : Seen) (place place' : ℕ) (text : List ℕ) → 0 < n → (x : ReadsValue kind n column last a b place place' text) → IsNext (cell column) (ScalarBytes kind n) x.bytes
-value_next column kind n last a b place place' text some x =
-    let whole : length x.bytes ≡ n = x.whole in
-    record { some = omega (arith, some, whole); whole = whole; free = ap (λ r. unless (is_ok r) (BadValue column)) x.value.1 }
+-- a cell that has no length before its value stops where the value does
+pub cell_stalls : (column : ℕ) (kind : Kind) (n : ℕ) (a b : Seen) (place : ℕ) (stop : Stop) → StopsReading (cell column) (ScalarBytes kind n) a b place (ScalarBytes kind n) stop → StallsCell (ScalarBytes kind n) column a b place stop
+cell_stalls column kind n a b place stop x = record { at = ScalarBytes kind n; stalls = inl x; quiet = refl }
 
-pub value_reads : (column : ℕ) (kind : Kind) (n : ℕ) (last : Bool) (a b : Seen) (place place' : ℕ) (text : List ℕ) → 0 < n → ReadsValue kind n column last a b place place' text → ReadsCell (ScalarBytes kind n) column last a b place place' text
-value_reads column kind n last a b place place' text some x = record {
-  value = ScalarCell x.value.0;
-  front = [];
-  at = ScalarBytes kind n;
-  element = x.bytes;
-  spelt = Spelt-none (cell column) (ScalarBytes kind n);
-  next = value_next column kind n last a b place place' text some x;
-  whole = ap (λ r. value_part r) x.value.1;
-  quiet = refl;
-  takes = x.takes;
-  between = x.between;
-  place_is = x.place_is;
-  text_is = x.value.2;
+-- where a value whose bytes were read is refused, the cell stops there
+value_stalls : (column : ℕ) (kind : Kind) (n : ℕ) (a b : Seen) (place : ℕ) (bytes : List ℕ) → 0 < n → length bytes ≡ n → is_ok (read_of kind bytes) ≡ false → Takes a b bytes (length bytes) → IsBetween b
+    → StallsCell (ScalarBytes kind n) column a b place (record { fault = BadValue column; place = Payload place })
+value_stalls column kind n a b place bytes some whole bad takes between = cell_stalls column kind n a b place (record { fault = BadValue column; place = Payload place }) (value_refused column kind n a b place bytes some whole bad takes between)
+
+-- the bytes of a value that has no length before it were read
+pub fixed_gathers : (column : ℕ) (kind : Kind) (n : ℕ) (a b : Seen) (place place' : ℕ) (bytes : List ℕ) → fixed_length kind ≡ Some n → length bytes ≡ n → Takes a b bytes (length bytes) → IsBetween b → place' ≡ place + length bytes
+    → GathersCell kind (ScalarBytes kind n) column a b place place' bytes
+fixed_gathers column kind n a b place place' bytes is whole takes between at = record {
+  whole = omega (arith, whole, ap start_behind is, ap (λ o. length_behind o bytes) is);
+  takes = takes;
+  between = between;
+  place_is = at;
+  refused = λ some bad.
+      let all : value_bytes kind bytes ≡ bytes = (λ i. take (length_behind (is i) bytes) (drop (start_behind (is i)) bytes)) ∙ take_all n bytes (omega (arith, whole)) in
+      let here : place ≡ place + value_start kind = omega (arith, ap start_behind is) in
+      subst (λ (k : ℕ). StallsCell (ScalarBytes kind n) column a b place (record { fault = BadValue column; place = Payload k })) here
+      (value_stalls column kind n a b place bytes (fixed_some kind n is) whole (ap (λ l. is_ok (read_of kind l)) (sym all) ∙ bad) takes between);
 }
-
-pub fixed_value : (r : Result ℕ Stop) (o : Option ℕ) (column : ℕ) (kind : Kind) (n : ℕ) (last : Bool) (a b : Seen) (place place' : ℕ) (to : List ℕ) → o ≡ Some n → 0 < n
-    → MatchResult r (λ made. ReadsValue kind n column last a b place place' (take made to)) (λ stop. StopsReading (cell column) (ScalarBytes kind n) a b place (ScalarBytes kind n) stop)
-    → MatchResult r (λ made. ReadsCell (cell_start kind (shape_of_length o)) column last a b place place' (take made to)) (λ stop. StallsCell (cell_start kind (shape_of_length o)) column a b place stop)
-fixed_value (Ok made) o column kind n last a b place place' to is some x = subst (λ v. ReadsCell (cell_start kind (shape_of_length v)) column last a b place place' (take made to)) (sym is) (value_reads column kind n last a b place place' (take made to) some x)
-fixed_value (Err stop) o column kind n last a b place place' to is some x =
-    let stalls : StallsCell (ScalarBytes kind n) column a b place stop = record { at = ScalarBytes kind n; stalls = inl x; quiet = refl } in
-    subst (λ v. StallsCell (cell_start kind (shape_of_length v)) column a b place stop) (sym is) stalls
 
 -- ---- the length before it
 
@@ -94,21 +116,28 @@ length_refused column kind a b place n bytes len is some bad takes between =
     let first : (cell column).fault (ScalarLength kind) bytes ≡ Some (BadValueLength column) = ap (λ (m : ℕ). unless ((m == 0) || is_length_allowed kind m) (BadValueLength column)) is ∙ ap (λ v. unless v (BadValueLength column)) no in
     record { at = ScalarLength kind; stalls = inl (refused_at_once (cell column) (ScalarLength kind) a b place bytes (BadValueLength column) (omega (arith, len)) len first takes between); quiet = refl }
 
-pub null_reads : (column : ℕ) (kind : Kind) (last : Bool) (a b : Seen) (place place' : ℕ) (bytes text : List ℕ) → length bytes ≡ 1 → slice_index bytes 0 ≡ 0 → Takes a b bytes (length bytes) → IsBetween b → place' ≡ place + length bytes
-    → text ≡ in_line column last null_field → ReadsCell (ScalarLength kind) column last a b place place' text
-null_reads column kind last a b place place' bytes text len is takes between place_is text_is = record {
-  value = Null;
-  front = [];
-  at = ScalarLength kind;
-  element = bytes;
-  spelt = Spelt-none (cell column) (ScalarLength kind);
-  next = record { some = omega (arith, len); whole = len; free = ap (λ (m : ℕ). unless ((m == 0) || is_length_allowed kind m) (BadValueLength column)) is };
-  whole = ap (λ (m : ℕ). if m == 0 then WholeCell Null else ScalarBytes kind m) is;
-  quiet = refl;
+-- the first byte of a slice that was written, and what stands behind it
+pub first_set : (n : ℕ) (cell : List ℕ) → 0 < length cell → take 1 (slice_set cell 0 n) ≡ n ∷ []
+first_set n cell some = take_more_set cell 0 n some
+
+pub behind_first : (n k : ℕ) (cell value rest : List ℕ) → 0 < length cell → k ≤ length value → take (1 + k) (take 1 (slice_set cell 0 n) ++ (value ++ rest)) ≡ n ∷ take k value
+behind_first n k cell value rest some within = ap (λ l. take (1 + k) (l ++ (value ++ rest))) (first_set n cell some) ∙ take-append-add (n ∷ []) (value ++ rest) k ∙ ap (λ l. n ∷ l) (take-append-le k value rest within)
+
+-- a list of one number
+pub only_one : (l : List ℕ) → length l ≡ 1 → l ≡ get_or l 0 0 ∷ []
+only_one [] h = absurd (omega (arith, h))
+only_one (x ∷ []) h = refl
+only_one (x ∷ y ∷ r) h = absurd (omega (arith, h))
+
+-- NULL was read
+pub null_gathers : (column : ℕ) (kind : Kind) (a b : Seen) (place place' : ℕ) (bytes : List ℕ) → fixed_length kind ≡ None → length bytes ≡ 1 → slice_index bytes 0 ≡ 0 → Takes a b bytes (length bytes) → IsBetween b → place' ≡ place + length bytes
+    → GathersCell kind (ScalarLength kind) column a b place place' bytes
+null_gathers column kind a b place place' bytes is len zero takes between at = record {
+  whole = omega (arith, len, zero, ap start_behind is, ap (λ o. length_behind o bytes) is);
   takes = takes;
   between = between;
-  place_is = place_is;
-  text_is = text_is;
+  place_is = at;
+  refused = λ some bad. absurd (omega (arith, some, zero, ap (λ o. length_behind o bytes) is));
 }
 
 -- a length that is allowed leads to the value's bytes
@@ -119,32 +148,46 @@ length_leads column kind n a b bytes len is some good takes =
     let to : (cell column).add (ScalarLength kind) bytes ≡ ScalarBytes kind n = ap (λ (m : ℕ). if m == 0 then WholeCell Null else ScalarBytes kind m) is ∙ choose_false (n == 0) (WholeCell Null) (ScalarBytes kind n) (ne_eqb n 0 some) in
     reads_one (cell column) (ScalarLength kind) a b bytes (ScalarBytes kind n) (record { some = omega (arith, len); whole = len; free = free }) takes to
 
-pub counted_value : (r : Result ℕ Stop) (column : ℕ) (kind : Kind) (n : ℕ) (last : Bool) (a b d : Seen) (place middle place' : ℕ) (bytes to : List ℕ) → length bytes ≡ 1 → slice_index bytes 0 ≡ n → n ≢ 0 → is_length_allowed kind n ≡ true → Takes a b bytes (length bytes)
-    → middle ≡ place + length bytes
-    → MatchResult r (λ made. ReadsValue kind n column last b d middle place' (take made to)) (λ stop. StopsReading (cell column) (ScalarBytes kind n) b d middle (ScalarBytes kind n) stop)
-    → MatchResult r (λ made. ReadsCell (ScalarLength kind) column last a d place place' (take made to)) (λ stop. StallsCell (ScalarLength kind) column a d place stop)
-counted_value (Ok made) column kind n last a b d place middle place' bytes to len is some good takes at x =
+-- where the value stops behind its length, the cell does
+length_then : (column : ℕ) (kind : Kind) (n : ℕ) (a b d : Seen) (place : ℕ) (bytes : List ℕ) (stop : Stop) → length bytes ≡ 1 → slice_index bytes 0 ≡ n → n ≢ 0 → is_length_allowed kind n ≡ true → Takes a b bytes (length bytes)
+    → StopsReading (cell column) (ScalarBytes kind n) b d (place + length bytes) (ScalarBytes kind n) stop → StallsCell (ScalarLength kind) column a d place stop
+length_then column kind n a b d place bytes stop len is some good takes x =
     let p = length_leads column kind n a b bytes len is some good takes in
-    let v : ReadsValue kind n column last b d middle place' (take made to) = x in
-    let place_is : place' ≡ middle + length v.bytes = v.place_is in
-    record {
-      value = ScalarCell v.value.0;
-      front = bytes;
-      at = ScalarBytes kind n;
-      element = v.bytes;
-      spelt = p.spelt;
-      next = value_next column kind n last b d middle place' (take made to) (omega (arith, some)) v;
-      whole = ap (λ r. value_part r) v.value.1;
-      quiet = refl;
-      takes = takes_both a b d bytes v.bytes takes v.takes;
-      between = v.between;
-      place_is = omega (arith, place_is, at, length-append bytes v.bytes);
-      text_is = v.value.2;
-    }
-counted_value (Err stop) column kind n last a b d place middle place' bytes to len is some good takes at x =
-    let p = length_leads column kind n a b bytes len is some good takes in
-    let y : StopsReading (cell column) (ScalarBytes kind n) b d (place + length bytes) (ScalarBytes kind n) stop = subst (λ (m : ℕ). StopsReading (cell column) (ScalarBytes kind n) b d m (ScalarBytes kind n) stop) at x in
-    record { at = ScalarBytes kind n; stalls = inl (stops_after (cell column) (ScalarLength kind) (ScalarBytes kind n) a b d place (ScalarBytes kind n) stop p y); quiet = refl }
+    record { at = ScalarBytes kind n; stalls = inl (stops_after (cell column) (ScalarLength kind) (ScalarBytes kind n) a b d place (ScalarBytes kind n) stop p x); quiet = refl }
+
+-- the value behind a length is cut
+pub counted_cut : (column : ℕ) (kind : Kind) (n : ℕ) (a b d : Seen) (place middle k : ℕ) (bytes value : List ℕ) (own stop : Stop) → length bytes ≡ 1 → slice_index bytes 0 ≡ n → n ≢ 0 → is_length_allowed kind n ≡ true → Takes a b bytes (length bytes)
+    → middle ≡ place + length bytes → k < length value → length value ≡ n → Ends b d (take k value) own → stop ≡ began_at middle own → StallsCell (ScalarLength kind) column a d place stop
+counted_cut column kind n a b d place middle k bytes value own stop len is some good takes at less whole ends told =
+    length_then column kind n a b d place bytes stop len is some good takes
+    (subst (λ (m : ℕ). StopsReading (cell column) (ScalarBytes kind n) b d m (ScalarBytes kind n) stop) at (cell_cut column (ScalarBytes kind n) b d middle n k value own stop refl refl (omega (arith, less, whole)) whole ends told))
+
+-- a length and the value behind it were read
+pub counted_gathers : (column : ℕ) (kind : Kind) (n : ℕ) (a b d : Seen) (place middle place' : ℕ) (value : List ℕ) → fixed_length kind ≡ None → n ≢ 0 → is_length_allowed kind n ≡ true → Takes a b (n ∷ []) 1 → middle ≡ place + 1
+    → length value ≡ n → Takes b d value (length value) → IsBetween d → place' ≡ middle + length value → GathersCell kind (ScalarLength kind) column a d place place' (n ∷ value)
+counted_gathers column kind n a b d place middle place' value is some good first at whole then_takes between there = record {
+  whole = omega (arith, whole, ap start_behind is, ap (λ o. length_behind o (n ∷ value)) is);
+  takes = takes_both a b d (n ∷ []) value first then_takes;
+  between = between;
+  place_is = omega (arith, at, there);
+  refused = λ more bad.
+      let all : value_bytes kind (n ∷ value) ≡ value = (λ i. take (length_behind (is i) (n ∷ value)) (drop (start_behind (is i)) (n ∷ value))) ∙ take_all n value (omega (arith, whole)) in
+      let here : middle ≡ place + value_start kind = omega (arith, at, ap start_behind is) in
+      let stop : ℕ → Stop = λ k. record { fault = BadValue column; place = Payload k } in
+      let refusal = value_refused column kind n b d (place + 1) value (omega (arith, some)) whole (ap (λ l. is_ok (read_of kind l)) (sym all) ∙ bad) then_takes between in
+      subst (λ (k : ℕ). StallsCell (ScalarLength kind) column a d place (stop k)) (omega (arith, at, here)) (length_then column kind n a b d place (n ∷ []) (stop (place + 1)) refl refl some good first refusal);
+}
+
+-- from the shape of a scalar kind on
+pub scalar_start : (charset : Charset) (kind : Kind) (o : Option ℕ) → is_scalar kind ≡ true → fixed_length kind ≡ o → cell_start kind (shape_of_length o) ≡ cell_start kind (shape charset kind)
+scalar_start charset kind o scalar is = ap (λ l. cell_start kind (shape_of_length l)) (sym is) ∙ ap (cell_start kind) (sym (scalar_shape charset kind scalar))
+
+-- a cell whose bytes were gathered, and that is left, stops at its value
+pub left_stalls : (kind : Kind) (from : CellPart) (column : ℕ) (a b : Seen) (place place' : ℕ) (bytes : List ℕ) → is_scalar kind ≡ true → (x : GathersCell kind from column a b place place' bytes) → IsLeft kind bytes
+    → StallsCell from column a b place (record { fault = BadValue column; place = Payload (place + value_start kind) })
+left_stalls kind from column a b place place' bytes scalar x (inl none) = absurd (let no : true ≡ false = sym scalar ∙ none in cc)
+left_stalls kind from column a b place place' bytes scalar x (inr (inl short)) = absurd (omega (arith, short, x.whole))
+left_stalls kind from column a b place place' bytes scalar x (inr (inr bad)) = x.refused bad.0 bad.1
 
 -- ---- the beginning of a long value
 

@@ -1,5 +1,5 @@
 -- The cells of a run, as they are written one after another.
-use Rattle.std.proofs.Common.{◌≡◌, ◌∙◌, ℕ, ◌+◌, ◌-◌, ◌^◌, ◌≤◌, ◌<◌, Bool, true, List, [], ◌∷◌, ◌++◌, length, take, drop, get_or, refl, sym, ap, subst, arith, append_assoc, append-nil, length-append, length-take}
+use Rattle.std.proofs.Common.{◌≡◌, ◌≢◌, ◌∙◌, ◌⊎◌, inl, inr, ℕ, ◌+◌, ◌-◌, ◌^◌, ◌≤◌, ◌<◌, Bool, true, List, [], ◌∷◌, ◌++◌, length, take, drop, get_or, refl, sym, ap, subst, arith, append_assoc, append-nil, length-append, length-take}
 use Rattle.std.proofs.lemmas.List.{length-take-le, take-append-le, take_all, take_more}
 use Rattle.std.proofs.Math.Seq.{take-append-add}
 use lib.Seq.{take-add}
@@ -19,8 +19,12 @@ use Rattle.tds_rows.specs.declared.Charset.{Charset}
 use Rattle.tds_rows.specs.Cells.{Cell, CellPart, CountedShape, FixedShape, LongShape, Shape, WholeCell, cell, cell_start, field, shape}
 use Rattle.tds_rows.specs.Rows.{Bitmap, InCell, RowPart, WholeRow, row_start, next_cell, row, row_so_far, with_cell, with_field}
 use Rattle.tds_csv.specs.Quoting.{in_line}
-use Rattle.tds_rows.specs.CellSteps.{PutsCell, StopsCell, WritesCell, cell_so_far, is_last}
-use Rattle.tds_rows.specs.Runs.{RowsPart, RunsRows, Writes, WritesCells, WritesRows, WritesWhole, behind_cells, lines, rows, rows_so_far, rows_start}
+use Rattle.tds_rows.specs.CellSteps.{IsLeft, PutsCell, StopsCell, WritesCell, cell_so_far, is_last, length_behind, scalar_size, start_behind}
+use Rattle.tds_values.specs.Kind.{fixed_length}
+use Rattle.tds_rows.specs.declared.table.Ahead.{Ahead}
+use Rattle.std.specs.Prelude.{Option, Some, None}
+use Rattle.tds_rows.proofs.CellSteps.{fixed_some}
+use Rattle.tds_rows.specs.Runs.{FirstDone, FirstLeft, RowsPart, RunsRows, Writes, WritesCells, WritesRows, WritesWhole, behind_cells, lines, rows, rows_so_far, rows_start}
 use Rattle.tds_values.specs.declared.kind.Kind.{Kind}
 use Rattle.tds_values.specs.declared.kind.Reach.TheVariants.{Chunked, Short}
 use Rattle.tds_csv.specs.Conversion.{Conversion, is_fit, long_field}
@@ -113,6 +117,103 @@ run_step charset cells columns c left column next used u made m bytes to new res
     (subst (λ l. WritesCells charset cells columns left (column + 1) l (take (made + m) (take made to ++ (new ++ rest)))) (sym (used_more used u bytes))
     (subst (λ l. WritesCells charset cells columns left (column + 1) (take used bytes ++ take u (take (length bytes - used) (drop used bytes))) l) (sym (made_more made m to new rest within some))
     (run_more charset cells columns c left column (take used bytes) (take u (take (length bytes - used) (drop used bytes))) (take made to) (take m new) x y)))
+
+-- ---- the first cell ahead
+
+-- a cell of a scalar kind has some bytes
+pub scalar_some : (kind : Kind) (bytes : List ℕ) → 0 < scalar_size kind bytes
+scalar_some kind bytes = go (fixed_length kind) refl
+  where
+    go : (o : Option ℕ) → fixed_length kind ≡ o → 0 < scalar_size kind bytes
+    go (Some n) e = omega (arith, fixed_some kind n e, ap start_behind e, ap (λ o. length_behind o bytes) e)
+    go None e = omega (arith, ap start_behind e, ap (λ o. length_behind o bytes) e)
+
+-- the bytes that are left, where none was used
+pub none_used : (used : ℕ) (bytes : List ℕ) → used ≡ 0 → take (length bytes - used) (drop used bytes) ≡ bytes
+none_used used bytes none = all_behind bytes used ∙ ap (λ n. drop n bytes) none
+
+-- it was written
+pub first_step : (at from : ℕ) (columns : List Column) (c : Column) (left : List Column) (kind : Kind) (last : Bool) (used u made m : ℕ) (bytes to new rest : List ℕ) → used ≡ 0 → made ≡ 0 → at ≡ from → made ≤ length to → m ≤ length new
+    → drop at columns ≡ c ∷ left → kind ≡ c.kind → last ≡ is_last left → u ≡ scalar_size kind (take (length bytes - used) (drop used bytes))
+    → ((charset : Charset) → WritesCell (cell_start kind (shape charset kind)) at last (take u (take (length bytes - used) (drop used bytes))) (take m new))
+    → FirstDone from columns bytes (take made to ++ (new ++ rest)) (used + u) (made + m)
+first_step at from columns c left kind last used u made m bytes to new rest no_use no_text first within some step is end size x = λ column tail h.
+    let same : c ∷ left ≡ column ∷ tail = sym step ∙ ap (λ n. drop n columns) first ∙ h in
+    let kinds_same : kind ≡ column.kind = is ∙ ap (λ (l : List Column). (get_or l 0 c).kind) same in
+    let tails_same : left ≡ tail = ap (drop 1) same in
+    let whole = none_used used bytes no_use in
+    let used_is : take (used + u) bytes ≡ take u (take (length bytes - used) (drop used bytes)) = used_more used u bytes ∙ ap (λ n. take n bytes ++ take u (take (length bytes - used) (drop used bytes))) no_use in
+    let made_is : take (made + m) (take made to ++ (new ++ rest)) ≡ take m new = made_more made m to new rest within some ∙ ap (λ n. take n to ++ take m new) no_text in
+    let all : used + u ≡ scalar_size column.kind bytes = omega (arith, no_use, size ∙ ap (scalar_size kind) whole ∙ ap (λ k. scalar_size k bytes) kinds_same) in
+    (
+      omega (arith, all),
+      λ _ charset.
+          subst (λ l. WritesCell (cell_start column.kind (shape charset column.kind)) from (is_last tail) l (take (made + m) (take made to ++ (new ++ rest)))) (sym used_is)
+          (subst (λ l. WritesCell (cell_start column.kind (shape charset column.kind)) from (is_last tail) (take u (take (length bytes - used) (drop used bytes))) l) (sym made_is)
+          (subst (λ (n : ℕ). WritesCell (cell_start column.kind (shape charset column.kind)) n (is_last tail) (take u (take (length bytes - used) (drop used bytes))) (take m new)) first
+          (subst (λ (v : Bool). WritesCell (cell_start column.kind (shape charset column.kind)) at v (take u (take (length bytes - used) (drop used bytes))) (take m new)) (end ∙ ap is_last tails_same)
+          (subst (λ (k : Kind). WritesCell (cell_start k (shape charset k)) at last (take u (take (length bytes - used) (drop used bytes))) (take m new)) kinds_same (x charset))))),
+    )
+
+-- more bytes were used behind it
+pub first_further : (from : ℕ) (columns : List Column) (bytes text text' : List ℕ) (used u made made' : ℕ) → 0 < u → FirstDone from columns bytes text used made → FirstDone from columns bytes text' (used + u) made'
+first_further from columns bytes text text' used u made made' some f = λ column tail h. let x = f column tail h in (omega (arith, x.0), λ e. absurd (omega (arith, e, x.0, some)))
+
+-- it is left
+pub first_left : (at from : ℕ) (columns : List Column) (c : Column) (left : List Column) (kind : Kind) (used : ℕ) (bytes : List ℕ) → used ≡ 0 → at ≡ from → drop at columns ≡ c ∷ left → kind ≡ c.kind
+    → IsLeft kind (take (length bytes - used) (drop used bytes)) → FirstLeft from columns bytes
+first_left at from columns c left kind used bytes no_use first step is x = λ column tail h.
+    let same : c ∷ left ≡ column ∷ tail = sym step ∙ ap (λ n. drop n columns) first ∙ h in
+    subst (λ (k : Kind). IsLeft k bytes) (is ∙ ap (λ (l : List Column). (get_or l 0 c).kind) same) (subst (IsLeft kind) (none_used used bytes no_use) x)
+
+-- none is ahead
+pub none_ahead : (at from : ℕ) (columns : List Column) (bytes : List ℕ) → at ≡ from → drop at columns ≡ [] → FirstLeft from columns bytes
+none_ahead at from columns bytes first none = λ column tail h. absurd (let e : column ∷ tail ≡ [] = sym h ∙ ap (λ n. drop n columns) (sym first) ∙ none in omega (arith, ap length e))
+
+-- what the run within the first row did with it
+pub rows_first : (at from end : Ahead) (columns : List Column) (used u made m : ℕ) (bytes to new rest : List ℕ) → used ≡ 0 → made ≡ 0 → at ≡ from → made ≤ length to → m ≤ length new
+    → ((u ≡ 0) × (end ≡ at) × FirstLeft at.column columns (take (length bytes - used) (drop used bytes))) ⊎ FirstDone at.column columns (take (length bytes - used) (drop used bytes)) new u m
+    → ((used + u ≡ 0) × (end ≡ from) × FirstLeft from.column columns bytes) ⊎ FirstDone from.column columns bytes (take made to ++ (new ++ rest)) (used + u) (made + m)
+rows_first at from end columns used u made m bytes to new rest no_use no_text same within some (inl x) =
+    inl (omega (arith, no_use, x.0), x.1 ∙ same, λ column tail h. subst (λ l. IsLeft column.kind l) (none_used used bytes no_use) (x.2 column tail (ap (λ (a : Ahead). drop a.column columns) same ∙ h)))
+rows_first at from end columns used u made m bytes to new rest no_use no_text same within some (inr f) = inr (λ column tail h.
+    let x = f column tail (ap (λ (a : Ahead). drop a.column columns) same ∙ h) in
+    let whole = none_used used bytes no_use in
+    let size = ap (scalar_size column.kind) whole in
+    let used_is : take (used + u) bytes ≡ take u (take (length bytes - used) (drop used bytes)) = used_more used u bytes ∙ ap (λ n. take n bytes ++ take u (take (length bytes - used) (drop used bytes))) no_use in
+    let made_is : take (made + m) (take made to ++ (new ++ rest)) ≡ take m new = made_more made m to new rest within some ∙ ap (λ n. take n to ++ take m new) no_text in
+    (
+      omega (arith, x.0, size, no_use),
+      λ e charset.
+          subst (λ l. WritesCell (cell_start column.kind (shape charset column.kind)) from.column (is_last tail) l (take (made + m) (take made to ++ (new ++ rest)))) (sym used_is)
+          (subst (λ l. WritesCell (cell_start column.kind (shape charset column.kind)) from.column (is_last tail) (take u (take (length bytes - used) (drop used bytes))) l) (sym made_is)
+          (subst (λ (a : Ahead). WritesCell (cell_start column.kind (shape charset column.kind)) a.column (is_last tail) (take u (take (length bytes - used) (drop used bytes))) (take m new)) same
+          (x.1 (omega (arith, e, size, no_use)) charset))),
+    ))
+
+-- ---- a run on the bytes of one cell
+
+module _ {A : Type 0} (at : ℕ) (columns : List Column) (kind : Kind) (c : Column) (rest : List Column) (bytes text : List ℕ) (used made : ℕ) (next : drop at columns ≡ c ∷ rest) (is : kind ≡ c.kind) (whole : length bytes ≡ scalar_size kind bytes)
+    (first : ((used ≡ 0) × A × FirstLeft at columns bytes) ⊎ FirstDone at columns bytes text used made) where
+  same_size : scalar_size kind bytes ≡ scalar_size c.kind bytes
+  same_size = ap (λ k. scalar_size k bytes) is
+
+  -- where they weren't used, the cell is left
+  pub one_left : used ≤ length bytes → used ≢ length bytes → IsLeft kind bytes
+  one_left within some = elim first [
+    | inl x ↦ subst (λ k. IsLeft k bytes) (sym is) (x.2 c rest next)
+    | inr f ↦ absurd (let x = f c rest next in omega (arith, x.0, same_size, whole, within, some))
+  ]
+
+  -- where they were, what was made is its text
+  pub one_whole : (last : Bool) → last ≡ is_last rest → used ≡ length bytes → (charset : Charset) → WritesCell (cell_start kind (shape charset kind)) at last bytes (take made text)
+  one_whole last end all charset = elim first [
+    | inl x ↦ absurd (omega (arith, x.0, all, whole, scalar_some kind bytes))
+    | inr f ↦ (let x = f c rest next in
+        subst (λ (v : Bool). WritesCell (cell_start kind (shape charset kind)) at v bytes (take made text)) (sym end)
+        (subst (λ (k : Kind). WritesCell (cell_start k (shape charset k)) at (is_last rest) bytes (take made text)) (sym is)
+        (subst (λ l. WritesCell (cell_start c.kind (shape charset c.kind)) at (is_last rest) l (take made text)) (take_all used bytes (omega (arith, all))) (x.1 (omega (arith, all, whole, same_size)) charset))))
+  ]
 
 -- ---- a run between a payload and a sink
 

@@ -1,14 +1,16 @@
 -- What reading a cell and putting it into its line does.
-use Rattle.std.specs.Prelude.{◌≡◌, ◌+◌, ℕ, Bool, true, false, List, [], ◌∷◌, ◌++◌, length, take, Option, Some, None, Result, Ok, IfSome, MatchResult}
+use Rattle.std.specs.Prelude.{◌≡◌, ◌⊎◌, ◌+◌, ◌<◌, ℕ, Bool, true, false, List, [], ◌∷◌, ◌++◌, length, take, drop, slice_index, is_ok, Option, Some, None, Result, Ok, MatchOption, MatchResult}
 use Rattle.tds_values.specs.declared.kind.Kind.{Kind}
 use Rattle.tds_values.specs.declared.scalar.ScalarValue.{ScalarValue}
+use Rattle.tds_values.specs.Kind.{fixed_length, is_scalar}
 use Rattle.tds_values.specs.Scalar.{read_of}
 use Rattle.tds_values.specs.ScalarText.{text_of}
+use Rattle.tds_packet.specs.declared.fault.Fault.TheVariants.{BadValue}
+use Rattle.tds_packet.specs.declared.fault.Place.TheVariants.{Payload}
 use Rattle.tds_packet.specs.declared.fault.Stop.{Stop}
 use Rattle.tds_packet.specs.Elements.{IsNext, Spelt}
-use Rattle.tds_packet.specs.declared.payload.Payload.{Payload}
+use Rattle.tds_packet.specs.declared.payload.Payload as payloads
 use Rattle.tds_packet.specs.Payloads.{seen}
-use Rattle.tds_packet.specs.Reading.{StopsReading}
 use Rattle.tds_packet.specs.Seen.{Seen, Takes, IsBetween}
 use Rattle.tds_columns.specs.Description.{Column}
 use Rattle.tds_csv.specs.Quoting.{behind_comma, in_line}
@@ -39,15 +41,6 @@ abbrev pub cell_so_far : ℕ → Bool → CellPart → List ℕ
 cell_so_far column last (WholeCell cell) = in_line column last (field cell)
 cell_so_far column last part = opened column (field_so_far part)
 
--- So many bytes of a scalar value were read, and this is its text in its line.
-pub record ReadsValue (kind : Kind) (n column : ℕ) (last : Bool) (old new : Seen) (place place' : ℕ) (text : List ℕ) : Type 0 where
-  pub bytes : List ℕ
-  pub whole : length bytes ≡ n
-  pub takes : Takes old new bytes (length bytes)
-  pub between : IsBetween new
-  pub place_is : place' ≡ place + length bytes
-  pub value : IsValueText kind column last bytes text
-
 -- A cell was read, of those whose text comes with the last element alone, and this is its text in its line.
 pub record ReadsCell (from : CellPart) (column : ℕ) (last : Bool) (old new : Seen) (place place' : ℕ) (text : List ℕ) : Type 0 where
   pub value : Cell
@@ -76,10 +69,41 @@ pub record WritesCell (from : CellPart) (column : ℕ) (last : Bool) (bytes text
   pub quiet : field_so_far at ≡ None
   pub text_is : text ≡ in_line column last (field value)
 
--- The cell at the front of these bytes, so many of them, was written to the front of others.
-abbrev pub CellWritten : CellPart → ℕ → Bool → List ℕ → List ℕ → Option Written → Type 0
-CellWritten from column last bytes text result =
-    IfSome result (λ written. WritesCell from column last (take written.used bytes) (take written.made text))
+-- where the value of a scalar cell lies in its bytes: behind a length, unless each value has as many bytes
+abbrev pub start_behind : Option ℕ → ℕ
+start_behind (Some n) = 0
+start_behind None = 1
+
+-- how many bytes it has: always as many, or what the length says
+abbrev pub length_behind : Option ℕ → List ℕ → ℕ
+length_behind (Some n) bytes = n
+length_behind None bytes = slice_index bytes 0
+
+-- where the value of a scalar cell of a kind lies in its bytes
+abbrev pub value_start : Kind → ℕ
+value_start kind = start_behind (fixed_length kind)
+
+-- how many bytes the value has of the scalar cell at the front of these bytes; 0 where it is NULL
+abbrev pub value_length : Kind → List ℕ → ℕ
+value_length kind bytes = length_behind (fixed_length kind) bytes
+
+-- how many bytes the scalar cell at the front of these bytes has
+abbrev pub scalar_size : Kind → List ℕ → ℕ
+scalar_size kind bytes = value_start kind + value_length kind bytes
+
+-- the bytes of its value
+abbrev pub value_bytes : Kind → List ℕ → List ℕ
+value_bytes kind bytes = take (value_length kind bytes) (drop (value_start kind) bytes)
+
+-- The cell at the front of these bytes is left for another way: it is of no scalar kind, it isn't whole, or its value is refused.
+abbrev pub IsLeft : Kind → List ℕ → Type 0
+IsLeft kind bytes =
+    (is_scalar kind ≡ false) ⊎ ((length bytes < scalar_size kind bytes) ⊎ ((0 < value_length kind bytes) × (is_ok (read_of kind (value_bytes kind bytes)) ≡ false)))
+
+-- The cell at the front of these bytes, so many of them, was written to the front of others; or it is left.
+abbrev pub CellWritten : Kind → ℕ → Bool → List ℕ → List ℕ → Option Written → Type 0
+CellWritten kind column last bytes text result = MatchOption result (IsLeft kind bytes)
+    (λ written. (charset : Charset) → WritesCell (cell_start kind (shape charset kind)) column last (take written.used bytes) (take written.made text))
 
 -- Reading a cell stopped before it had any text.
 pub record StallsCell (from : CellPart) (column : ℕ) (old new : Seen) (place : ℕ) (stop : Stop) : Type 0 where
@@ -97,25 +121,23 @@ pub record PutsCell (charset : Charset) (kind : Kind) (column : ℕ) (last : Boo
 abbrev pub StopsCell : Charset → Kind → ℕ → Bool → Seen → Seen → ℕ → Held → Held → Bool → Stop → Type 0
 StopsCell charset kind column last = StopsStreaming (cell column) is_built_cell (cell_so_far column last) (cell_start kind (shape charset kind))
 
--- The value of a scalar cell was read, and its text stands at the front of these bytes, so many; or the reading stopped.
-abbrev pub ValueRead : {R : Type 0} → (R → Option (List ℕ)) → Kind → ℕ → ℕ → Bool → Payload R → Payload R → List ℕ → Result ℕ Stop → Type 0
-ValueRead remaining kind n column last old new text result = MatchResult result
-    (λ made. ReadsValue kind n column last (seen remaining old) (seen remaining new) old.place new.place (take made text))
-    (λ stop. StopsReading (cell column) (ScalarBytes kind n) (seen remaining old) (seen remaining new) old.place (ScalarBytes kind n) stop)
+-- The bytes of a scalar cell were read, whose length is allowed; and where its value is refused, this is the stop.
+pub record GathersCell (kind : Kind) (from : CellPart) (column : ℕ) (old new : Seen) (place place' : ℕ) (bytes : List ℕ) : Type 0 where
+  pub whole : length bytes ≡ scalar_size kind bytes
+  pub takes : Takes old new bytes (length bytes)
+  pub between : IsBetween new
+  pub place_is : place' ≡ place + length bytes
+  pub refused : 0 < value_length kind bytes → is_ok (read_of kind (value_bytes kind bytes)) ≡ false
+      → StallsCell from column old new place (record { fault = BadValue column; place = Payload (place + value_start kind) })
 
--- A cell was read from this state on, and its text stands at the front of these bytes, so many; or the reading stopped.
-abbrev pub CellRead : {R : Type 0} → (R → Option (List ℕ)) → CellPart → ℕ → Bool → Payload R → Payload R → List ℕ → Result ℕ Stop → Type 0
-CellRead remaining from column last old new text result = MatchResult result
-    (λ made. ReadsCell from column last (seen remaining old) (seen remaining new) old.place new.place (take made text))
+-- The bytes of a scalar cell were read from this state on to the front of others, so many; or the reading stopped.
+abbrev pub CellGathered : {R : Type 0} → (R → Option (List ℕ)) → Kind → CellPart → ℕ → payloads.Payload R → payloads.Payload R → List ℕ → Result ℕ Stop → Type 0
+CellGathered remaining kind from column old new cell result = MatchResult result
+    (λ n. GathersCell kind from column (seen remaining old) (seen remaining new) old.place new.place (take n cell))
     (λ stop. StallsCell from column (seen remaining old) (seen remaining new) old.place stop)
 
--- A cell of this kind was read where it is whole in the packet, and its text stands at the front of these bytes, so many.
-abbrev pub CellFound : {R : Type 0} → (R → Option (List ℕ)) → Charset → Kind → ℕ → Bool → Payload R → Payload R → List ℕ → Option ℕ → Type 0
-CellFound remaining charset kind column last old new text result = IfSome result (λ made.
-    ReadsCell (cell_start kind (shape charset kind)) column last (seen remaining old) (seen remaining new) old.place new.place (take made text))
-
 -- A cell was read and its text put, or the call stopped.
-abbrev pub CellPut : {R W U : Type 0} → (R → Option (List ℕ)) → (W → Option (List ℕ)) → Charset → Kind → ℕ → Bool → Payload R → Payload R → Sink W → Sink W → Result U Stop → Type 0
+abbrev pub CellPut : {R W U : Type 0} → (R → Option (List ℕ)) → (W → Option (List ℕ)) → Charset → Kind → ℕ → Bool → payloads.Payload R → payloads.Payload R → Sink W → Sink W → Result U Stop → Type 0
 CellPut remaining contents charset kind column last old new before after result = MatchResult result
     (λ _. PutsCell charset kind column last (seen remaining old) (seen remaining new) old.place new.place (held contents before) (held contents after))
     (λ stop. StopsCell charset kind column last (seen remaining old) (seen remaining new) old.place (held contents before) (held contents after) after.failed stop)

@@ -1,5 +1,5 @@
 -- What a run of cells does, which lie whole in the packet.
-use Rattle.std.specs.Prelude.{◌≡◌, ◌==◌, ◌+◌, ℕ, Bool, false, List, [], ◌∷◌, ◌++◌, length, map, take, drop, Option, Some, None, if◌then◌else◌, slice_index}
+use Rattle.std.specs.Prelude.{◌≡◌, ◌==◌, ◌⊎◌, ◌+◌, ◌≤◌, ℕ, Bool, false, List, [], ◌∷◌, ◌++◌, length, map, take, drop, Option, Some, None, if◌then◌else◌, slice_index}
 use Rattle.tds_packet.specs.declared.fault.Fault.{Fault}
 use Rattle.tds_packet.specs.declared.fault.Fault.TheVariants.{MessageEnded, RefusedToken}
 use Rattle.tds_packet.specs.Elements.{Grammar, Spelt}
@@ -17,7 +17,9 @@ use Rattle.tds_rows.specs.declared.run.Run.{Run}
 use Rattle.tds_rows.specs.declared.run.TheConstants.{ROW}
 use Rattle.tds_rows.specs.declared.table.Ahead.{Ahead}
 use Rattle.tds_rows.specs.declared.table.Table.{Table}
-use Rattle.tds_rows.specs.Cells.{Cell, CellPart, WholeCell, cell, field}
+use Rattle.tds_rows.specs.declared.rows.TheConstants.{CELL_ROOM}
+use Rattle.tds_rows.specs.Cells.{Cell, CellPart, WholeCell, cell, cell_start, field, shape}
+use Rattle.tds_rows.specs.CellSteps.{IsLeft, WritesCell, is_last, scalar_size}
 use Rattle.tds_rows.specs.Rows.{RowPart, WholeRow, marked, next_cell, row, row_add, row_fault, row_size, row_so_far, row_start}
 use Rattle.tds_rows.specs.Tables.{IsAhead, Knows}
 
@@ -99,6 +101,20 @@ pub record RunsRows (charset : Charset) (all : List Column) (cells : List Cell) 
   pub place_is : place' ≡ place + length streams.bytes
 
 -- ---- what a run gives, whatever the columns that its table knows, and whatever the cells before it
+
+-- All bytes of the cell of this column, the first one ahead, were used; and where no others were, what was made is its text.
+abbrev pub FirstDone : ℕ → List Column → List ℕ → List ℕ → ℕ → ℕ → Type 0
+FirstDone at columns bytes text used made = (column : Column) (rest : List Column) → drop at columns ≡ column ∷ rest →
+    (scalar_size column.kind bytes ≤ used) × (used ≡ scalar_size column.kind bytes → (charset : Charset) → WritesCell (cell_start column.kind (shape charset column.kind)) at (is_last rest) (take used bytes) (take made text))
+
+-- The first cell ahead is left, and none of its bytes was used.
+abbrev pub FirstLeft : ℕ → List Column → List ℕ → Type 0
+FirstLeft at columns bytes = (column : Column) (rest : List Column) → drop at columns ≡ column ∷ rest → IsLeft column.kind bytes
+
+-- What a run with room for a cell did with the first one ahead: nothing, since that cell is left; or it used its bytes.
+abbrev pub FirstJudged : Table → Ahead → List ℕ → ℕ → List ℕ → Ahead → ℕ → ℕ → Type 0
+FirstJudged table from bytes room text ahead used made = (columns : List Column) → Knows table columns → IsAhead table columns from → CELL_ROOM ≤ room →
+    ((used ≡ 0) × (ahead ≡ from) × FirstLeft from.column columns bytes) ⊎ FirstDone from.column columns bytes text used made
 
 -- A run within a row wrote the text of the bytes that it used, and ended at a place of that row.
 abbrev pub CellsWritten : Table → Ahead → List ℕ → List ℕ → Cells → Type 0

@@ -1,8 +1,9 @@
 -- What a table of a description's columns knows.
-use Rattle.std.specs.Prelude.{◌≡◌, ◌+◌, ◌≤◌, ℕ, List, [], ◌∷◌, length, take, drop, map, Option, MatchOption}
+use Rattle.std.specs.Prelude.{◌≡◌, ◌+◌, ◌≤◌, ℕ, Bool, List, [], ◌∷◌, length, take, drop, map, Option, MatchOption}
 use Rattle.tds_values.specs.declared.kind.Kind.{Kind}
 use Rattle.tds_columns.specs.Description.{Column}
 use Rattle.tds_columns.specs.Walking.{columns_left}
+use Rattle.tds_rows.specs.CellSteps.{is_last}
 use Rattle.tds_rows.specs.declared.table.Ahead.{Ahead}
 use Rattle.tds_rows.specs.declared.table.Form.{Form}
 use Rattle.tds_rows.specs.declared.table.Table.{Table}
@@ -34,3 +35,14 @@ pub record TakesColumn (table : Table) (columns : List Column) (old new : Ahead)
 -- The next column was taken, or none is ahead.
 abbrev pub TakesForm : Table → List Column → Ahead → Option (Form × Ahead) → Type 0
 TakesForm table columns at result = MatchOption result (drop at.column columns ≡ []) (λ taken. TakesColumn table columns at taken.1 taken.0)
+
+-- This is the kind of the next column ahead, of columns that the table knows, and so it stands with the last one.
+pub record IsNextKind (table : Table) (at : Ahead) (next_kind : Kind) (is_end : Bool) : Type 0 where
+  pub columns : List Column
+  pub knows : Knows table columns
+  pub ahead : IsAhead table columns at
+  pub column : Column
+  pub rest : List Column
+  pub next : drop at.column columns ≡ column ∷ rest
+  pub kind : next_kind ≡ column.kind
+  pub last : is_end ≡ is_last rest

@@ -10,7 +10,7 @@ use tds_values::{Kind, write_scalar};
 
 // Writes the text of a value in its line to the front of a slice, and answers how many bytes it has;
 // none where the value is out of range.
-#[inline]
+#[inline(always)]
 pub(crate) fn write_value(
     kind: &Kind,
     column: u16,

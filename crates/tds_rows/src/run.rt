@@ -2,7 +2,7 @@
 ghost use Rattle.std.specs.Prelude.{◌≡◌, ◌+◌, ◌<◌, ◌≤◌, length};
 ghost use Rattle.tds_csv.specs.Sinks.{IsOnSameSink, IsWriting, held};
 ghost use Rattle.tds_packet.specs.Payloads.{IsGoing, IsOnSame, seen};
-ghost use Rattle.tds_rows.specs.Runs.{CellsWritten, RowsPut, RowsWritten};
+ghost use Rattle.tds_rows.specs.Runs.{CellsWritten, FirstJudged, RowsPut, RowsWritten};
 
 use crate::buffered::write_cell;
 use crate::rows::CELL_ROOM;
@@ -25,8 +25,8 @@ pub(crate) struct Cells<'a> {
 /// How many bytes a run over rows used, how many it made, how many rows it began, and where it ended.
 #[derive(Clone, Copy)]
 pub(crate) struct Run<'a> {
-    used: usize,
-    made: usize,
+    pub(crate) used: usize,
+    pub(crate) made: usize,
     pub(crate) rows: usize,
     pub(crate) ahead: Ahead<'a>,
 }
@@ -36,6 +36,7 @@ pub(crate) struct Run<'a> {
 fn run_cells<'a>(table: &Table<'a>, from: Ahead<'a>, bytes: &[u8], to: &mut [u8]) -> Cells<'a>
     ensures used { result.used ≤ length bytes.now }
     ensures made { result.made ≤ length to.old }
+    ensures first { FirstJudged table.now from.entry bytes.now (length to.old) to.new result.ahead result.used result.made }
     ensures gives { CellsWritten table.now from.entry bytes.now to.new result }
 {
     let mut used = 0;
@@ -59,11 +60,12 @@ fn run_cells<'a>(table: &Table<'a>, from: Ahead<'a>, bytes: &[u8], to: &mut [u8]
 
 // Writes the cells of row after row: behind a whole row it goes on where the byte of the next ROW lies.
 #[inline(never)]
-fn run_rows<'a>(table: &Table<'a>, from: Ahead<'a>, bytes: &[u8], to: &mut [u8]) -> Run<'a>
+pub(crate) fn run_rows<'a>(table: &Table<'a>, from: Ahead<'a>, bytes: &[u8], to: &mut [u8]) -> Run<'a>
     requires { 0 < table.now.count }
     ensures used { result.used ≤ length bytes.now }
     ensures made { result.made ≤ length to.old }
     ensures few { result.rows ≤ result.used }
+    ensures first { FirstJudged table.now from.entry bytes.now (length to.old) to.new result.ahead result.used result.made }
     ensures gives { RowsWritten table.now from.entry bytes.now to.new result }
 {
     let mut used = 0;

@@ -306,7 +306,7 @@ fn write_any(kind: &Kind, bytes: &[u8], to: &mut [u8]) -> Result<usize, ValueFau
 /// Writes the text of the value that `bytes` of a scalar kind spell, without their length, to the front of
 /// `to`, and answers how many bytes it has, at most 41; or the fault, where they spell none. What `to` holds
 /// behind the text, and after a fault, isn't fixed.
-#[inline]
+#[inline(always)]
 pub fn write_scalar(kind: &Kind, bytes: &[u8], to: &mut [u8]) -> Result<usize, ValueFault>
     requires valid { IsTrue (kinds.is_valid kind.now) }
     requires is_scalar { IsTrue (kinds.is_scalar kind.now) }

@@ -1,5 +1,4 @@
 use Rattle.std.proofs.Common.{◌≡◌, ◌∙◌, ◌+◌, ◌-◌, Bool, ℕ, List, [], length, drop, refl, sym, ap, subst, arith, rules}
-use Rattle.std.proofs.lemmas.List.{length-drop}
 use Rattle.tds_values.specs.declared.kind.Kind.{Kind}
 use Rattle.tds_packet.specs.Payloads.{seen}
 use Rattle.tds_packet.proofs.Passing.{passed}
@@ -8,7 +7,7 @@ use Rattle.tds_columns.specs.View.{columns_of}
 use Rattle.tds_csv.specs.Sinks.{held}
 use Rattle.tds_rows.specs.CellSteps.{PutsCell, StopsCell, is_last}
 use Rattle.tds_rows.specs.Runs.{RunsRows}
-use Rattle.tds_rows.proofs.RowSteps.{last_is}
+use Rattle.tds_rows.specs.Tables.{IsNextKind}
 use Rattle.tds_rows.proofs.RunSteps.{cell_some, rows_begin, rows_cell, rows_end, rows_further, rows_stop}
 use Rattle.tds_rows.proofs.rows.read_rows.Goals as goal
 
@@ -66,11 +65,11 @@ returns-in_err-put_cell-clause-gives g c =
     let behind = c.in-Some.behind in
     let left = drop behind.column columns in
     let taken = c.in-Some.ensures.gives columns knows ran.0 in
-    let counted : behind.left ≡ length left = omega (arith, taken.ahead.counted, length-drop behind.column columns) in
+    let next : IsNextKind c.of-table.result run.ahead c.in-Some.form.kind (is_last left) = record { columns = columns; knows = knows; ahead = ran.0; column = taken.column; rest = left; next = taken.next; kind = taken.kind; last = refl } in
     let y = subst (λ (l : List Column). RunsRows c.args.charset columns [] columns l run.ahead.column (c.loop-form.ended + run.rows) a d place middle h j) taken.next x in
     let stop = c.in_err-put_cell.field-0.0 in
     let failed = c.put_cell.new.sink.failed in
-    let z = subst (λ (v : Bool). StopsCell c.args.charset c.in-Some.form.kind run.ahead.column v d e middle j k failed stop) (last_is left behind.left counted) (c.in_err-put_cell.ensures.gives c.args.charset) in
+    let z = c.in_err-put_cell.ensures.gives c.args.charset (is_last left) next in
     let w = subst (λ (m : Kind). StopsCell c.args.charset m run.ahead.column (is_last left) d e middle j k failed stop) taken.kind z in
     passed _ _ _ _ c.from_residual.ensures.1 (rows_stop c.args.charset columns a d e place middle c.put_cell.new.payload.place h j k taken.column left run.ahead.column (l.ended + run.rows) failed stop y w)
 
@@ -95,11 +94,11 @@ loop-form-preserved g c =
     let behind = c.in-Some.behind in
     let left = drop behind.column columns in
     let taken = c.in-Some.ensures.gives columns knows ran.0 in
-    let counted : behind.left ≡ length left = omega (arith, taken.ahead.counted, length-drop behind.column columns) in
+    let next : IsNextKind c.of-table.result run.ahead c.in-Some.form.kind (is_last left) = record { columns = columns; knows = knows; ahead = ran.0; column = taken.column; rest = left; next = taken.next; kind = taken.kind; last = refl } in
     let y = subst (λ (l : List Column). RunsRows c.args.charset columns [] columns l run.ahead.column (c.loop-form.ended + run.rows) a d place middle h j) taken.next x in
     let done = c.in_ok-put_cell.ensures in
     let place' = c.put_cell.new.payload.place in
-    let z = subst (λ (v : Bool). PutsCell c.args.charset c.in-Some.form.kind run.ahead.column v d e middle place' j k) (last_is left behind.left counted) (done.gives c.args.charset) in
+    let z = done.gives c.args.charset (is_last left) next in
     let w = subst (λ (m : Kind). PutsCell c.args.charset m run.ahead.column (is_last left) d e middle place' j k) taken.kind z in
     let some = cell_some c.args.charset taken.column.kind run.ahead.column (is_last left) d e middle place' j k w in
     record {
@@ -133,11 +132,11 @@ loop-form-smaller g c =
     let behind = c.in-Some.behind in
     let left = drop behind.column columns in
     let taken = c.in-Some.ensures.gives columns knows ran.0 in
-    let counted : behind.left ≡ length left = omega (arith, taken.ahead.counted, length-drop behind.column columns) in
+    let next : IsNextKind c.of-table.result run.ahead c.in-Some.form.kind (is_last left) = record { columns = columns; knows = knows; ahead = ran.0; column = taken.column; rest = left; next = taken.next; kind = taken.kind; last = refl } in
     let y = subst (λ (l : List Column). RunsRows c.args.charset columns [] columns l run.ahead.column (c.loop-form.ended + run.rows) a d place middle h j) taken.next x in
     let done = c.in_ok-put_cell.ensures in
     let place' = c.put_cell.new.payload.place in
-    let z = subst (λ (v : Bool). PutsCell c.args.charset c.in-Some.form.kind run.ahead.column v d e middle place' j k) (last_is left behind.left counted) (done.gives c.args.charset) in
+    let z = done.gives c.args.charset (is_last left) next in
     let w = subst (λ (m : Kind). PutsCell c.args.charset m run.ahead.column (is_last left) d e middle place' j k) taken.kind z in
     let some = cell_some c.args.charset taken.column.kind run.ahead.column (is_last left) d e middle place' j k w in
     omega (arith, some, c.put_run-run.ensures.few, done.payload.sound.place, done.payload.sound.wire, done.payload.same.3, c.put_run-run.ensures.same.3)

@@ -1,4 +1,4 @@
-use Rattle.std.proofs.Common.{rules, arith, refl, sym, ap, subst, ◌≡◌, ◌∙◌, ◌+◌, ◌-◌, Bool, ℕ, List, length, take, drop}
+use Rattle.std.proofs.Common.{inl, inr, rules, arith, refl, sym, ap, subst, ◌≡◌, ◌∙◌, ◌+◌, ◌-◌, Bool, ℕ, List, length, take, drop}
 use Rattle.std.specs.Prelude.{◌==◌}
 use Rattle.std.proofs.lemmas.List.{length-drop}
 use Rattle.tds_values.specs.declared.kind.Kind.{Kind}
@@ -7,7 +7,7 @@ use Rattle.tds_rows.specs.Cells.{cell_start, shape}
 use Rattle.tds_rows.specs.CellSteps.{WritesCell, is_last}
 use Rattle.tds_rows.specs.Runs.{WritesCells}
 use Rattle.tds_rows.proofs.RowSteps.{last_is}
-use Rattle.tds_rows.proofs.RunSteps.{made_same, run_none, run_step, whole_of}
+use Rattle.tds_rows.proofs.RunSteps.{first_further, first_left, first_step, made_same, none_ahead, run_none, run_step, scalar_some, whole_of}
 use Rattle.tds_rows.proofs.run.run_cells.Goals.{else-loop-to-test, then-loop-to-test+in_default, then-loop-to-test+in-Some+in_default-write_cell}
 use Rattle.tds_rows.proofs.run.run_cells.Goals as goal
 
@@ -15,6 +15,7 @@ pub loop-to-init : goal.loop-to-init
 loop-to-init c = record {
   used = omega arith;
   made = omega arith;
+  begun = inl (refl, refl, refl);
   writes = λ columns knows ahead. (ahead, λ charset cells is. run_none charset cells (drop c.args.from.column columns) c.args.from.column is);
 }
 
@@ -29,6 +30,15 @@ loop-to-preserved c =
     record {
       used = search (arith, rules);
       made = search (arith, rules);
+      begun = elim l.invariant.begun [
+        | inl z ↦ inr (λ columns knows ahead.
+            let taken = c.in-Some.ensures.gives columns knows (l.invariant.writes columns knows ahead).0 in
+            let left = drop behind.column columns in
+            let counted : behind.left ≡ length left = omega (arith, taken.ahead.counted, length-drop behind.column columns) in
+            first_step l.ahead.column c.args.from.column columns taken.column left form.kind (behind.left == 0) l.used written.used l.made written.made bytes l.to c.write_cell.new.to _ z.0 z.1 (ap (λ a. a.column) z.2) l.invariant.made (search (arith, rules))
+            taken.next taken.kind (last_is left behind.left counted) c.in-Some-write_cell.ensures.whole c.in-Some-write_cell.ensures.gives)
+        | inr f ↦ inr (λ columns knows ahead. first_further c.args.from.column columns bytes l.to _ l.used written.used l.made (l.made + written.made) (omega (arith, c.in-Some-write_cell.ensures.whole, scalar_some form.kind rest)) (f columns knows ahead))
+      ];
       writes = λ columns knows ahead.
           let inv = l.invariant.writes columns knows ahead in
           let taken = c.in-Some.ensures.gives columns knows inv.0 in
@@ -55,3 +65,23 @@ returns-clause-gives c =
     λ columns knows ahead.
         let inv = c.loop-to.invariant.writes columns knows ahead in
         (inv.0, λ charset cells is. subst (λ (t : List ℕ). WritesCells charset cells (drop c.args.from.column columns) (drop c.loop-to.ahead.column columns) c.loop-to.ahead.column (take c.loop-to.used c.args.bytes.now) t) (sym same) (inv.1 charset cells is))
+
+pub returns-clause-first : goal.returns-clause-first
+returns-clause-first c =
+    let l = c.loop-to in
+    let same : take l.made c.loop-to-test.to ≡ take l.made l.to = elim c.loop-to-test.branch [
+      | else-loop-to-test w ↦ ap (take l.made) w.to-is
+      | then-loop-to-test+in_default w ↦ ap (take l.made) w.to-is
+      | then-loop-to-test+in-Some+in_default-write_cell w ↦ ap (take l.made) w.to-is ∙ made_same l.made l.to _ l.invariant.made
+    ] in
+    λ columns knows ahead room.
+        let inv = l.invariant.writes columns knows ahead in
+        elim l.invariant.begun [
+          | inl z ↦ inl (z.0, z.2, elim c.loop-to-test.branch [
+              | else-loop-to-test w ↦ absurd (omega (arith, room, z.1, w.loop-to-test.false, c.loop-to.auto.to))
+              | then-loop-to-test+in_default w ↦ none_ahead l.ahead.column c.args.from.column columns c.args.bytes.now (ap (λ a. a.column) z.2) (w.in_default.ensures.gives columns knows inv.0)
+              | then-loop-to-test+in-Some+in_default-write_cell w ↦ (let taken = w.in-Some.ensures.gives columns knows inv.0 in
+                  first_left l.ahead.column c.args.from.column columns taken.column _ w.in-Some.form.kind l.used c.args.bytes.now z.0 (ap (λ a. a.column) z.2) taken.next taken.kind w.in_default-write_cell.ensures.gives)
+            ])
+          | inr f ↦ inr (λ column tail h. let x = f columns knows ahead column tail h in (x.0, λ e charset. subst (λ t. WritesCell (cell_start column.kind (shape charset column.kind)) c.args.from.column (is_last tail) (take l.used c.args.bytes.now) t) (sym same) (x.1 e charset)))
+        ]

@@ -1,8 +1,8 @@
-use Rattle.std.proofs.Common.{◌≡◌, ◌≤◌, List, length, take, drop}
+use Rattle.std.proofs.Common.{◌≡◌, ◌≤◌, ◌⊎◌, List, length, take, drop}
 use Rattle.tds_columns.specs.Description.{Column}
 use Rattle.tds_rows.specs.declared.Charset as sets
 use Rattle.tds_rows.specs.Cells.{Cell}
-use Rattle.tds_rows.specs.Runs.{WritesCells}
+use Rattle.tds_rows.specs.Runs.{FirstDone, WritesCells}
 use Rattle.tds_rows.specs.Tables.{IsAhead, Knows}
 use Rattle.tds_rows.proofs.run.run_cells.Given as goal
 
@@ -10,6 +10,7 @@ abbrev pub invariant-loop-to : goal.invariant-loop-to
 invariant-loop-to l = record {
   used : l.used ≤ length l.fn.bytes;
   made : l.made ≤ length l.to;
+  begun : ((l.used ≡ 0) × (l.made ≡ 0) × (l.ahead ≡ l.fn.from)) ⊎ ((columns : List Column) → Knows l.fn.table columns → IsAhead l.fn.table columns l.fn.from → FirstDone l.fn.from.column columns l.fn.bytes l.to l.used l.made);
   writes : (columns : List Column) → Knows l.fn.table columns → IsAhead l.fn.table columns l.fn.from → IsAhead l.fn.table columns l.ahead
       × ((charset : sets.Charset) (cells : List Cell) → length cells ≡ l.fn.from.column → WritesCells charset cells (drop l.fn.from.column columns) (drop l.ahead.column columns) l.ahead.column (take l.used l.fn.bytes) (take l.made l.to));
 }

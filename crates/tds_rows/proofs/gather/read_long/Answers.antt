@@ -1,7 +1,7 @@
 use Rattle.std.proofs.Common.{◌≡◌, ◌∙◌, length, sym, rules}
 use Rattle.tds_packet.specs.Payloads.{seen}
 use Rattle.tds_rows.proofs.CellSteps.{long_cut, long_unbuilt}
-use Rattle.tds_rows.proofs.rows.read_long.Goals as goal
+use Rattle.tds_rows.proofs.gather.read_long.Goals as goal
 
 pub returns-in-Ok-clause-gives : goal.returns-in-Ok-clause-gives
 returns-in-Ok-clause-gives g c = λ kind conversion column.

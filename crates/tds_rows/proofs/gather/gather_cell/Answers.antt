@@ -1,6 +1,6 @@
 use Rattle.tds_packet.specs.Payloads.{seen}
 use Rattle.tds_rows.proofs.CellSteps.{long_stalls}
-use Rattle.tds_rows.proofs.rows.read_cell.Goals as goal
+use Rattle.tds_rows.proofs.gather.gather_cell.Goals as goal
 
 pub returns-in-Binary-clause-gives : goal.returns-in-Binary-clause-gives
 returns-in-Binary-clause-gives g c = λ charset.

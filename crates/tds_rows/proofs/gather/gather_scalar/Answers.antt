@@ -1,0 +1,14 @@
+use Rattle.std.proofs.Common.{◌∙◌, ℕ, Ok, Err, MatchResult, sym, subst, take, rules}
+use Rattle.tds_packet.specs.Payloads.{seen}
+use Rattle.tds_rows.specs.Cells.{CellPart}
+use Rattle.tds_rows.specs.CellSteps.{CellGathered}
+use Rattle.tds_rows.proofs.CellSteps.{scalar_start}
+use Rattle.tds_rows.proofs.gather.gather_scalar.Goals as goal
+
+pub returns-in-Some-clause-gives : goal.returns-in-Some-clause-gives
+returns-in-Some-clause-gives g c = λ charset.
+    subst (λ (from : CellPart). CellGathered g.R.Read.remaining c.args.kind.now from c.args.column c.args.payload.now c.gather_fixed.new.payload c.gather_fixed.new.cell c.gather_fixed.result) (scalar_start charset c.args.kind.now _ (search rules) (sym c.fixed_length.ensures ∙ c.in-Some.is)) c.gather_fixed.ensures.gives
+
+pub returns-in-None-clause-gives : goal.returns-in-None-clause-gives
+returns-in-None-clause-gives g c = λ charset.
+    subst (λ (from : CellPart). CellGathered g.R.Read.remaining c.args.kind.now from c.args.column c.args.payload.now c.gather_counted.new.payload c.gather_counted.new.cell c.gather_counted.result) (scalar_start charset c.args.kind.now _ (search rules) (sym c.fixed_length.ensures ∙ c.in-None.is)) c.gather_counted.ensures.gives
