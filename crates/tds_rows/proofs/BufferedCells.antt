@@ -1,6 +1,6 @@
 -- Cells whose bytes lie together, and the room that a sink lends for their text.
-use Rattle.std.proofs.Common.{◌≡◌, ◌≢◌, ◌∙◌, ℕ, ◌+◌, ◌-◌, ◌^◌, ◌<◌, ◌≤◌, Bool, true, false, List, [], ◌∷◌, ◌++◌, length, take, drop, Result, Ok, Err, MatchResult, inl, inr, refl, sym, ap, subst, arith, length-take, length-drop}
-use Rattle.std.specs.Prelude.{None, Some, Option, ◌==◌, ◌||◌, is_ok, replicate, slice_index, unwrap_or, if◌then◌else◌}
+use Rattle.std.proofs.Common.{◌≡◌, ◌≢◌, ◌∙◌, ℕ, ◌+◌, ◌-◌, ◌^◌, ◌<◌, ◌≤◌, Bool, true, false, List, [], ◌∷◌, ◌++◌, length, take, drop, Result, Ok, Err, MatchResult, inr, refl, sym, ap, subst, arith, length-take, length-drop}
+use Rattle.std.specs.Prelude.{None, Some, Option, ◌==◌, ◌||◌, is_ok, replicate, slice_index, if◌then◌else◌}
 use Rattle.std.proofs.lemmas.Bool.{ne_eqb}
 use Rattle.std.proofs.lemmas.List.{length-take-le}
 use lib.Seq.{take-add}
@@ -20,12 +20,11 @@ use Rattle.tds_meter.specs.Lent.{overwritten}
 use Rattle.tds_csv.specs.declared.sink.Sink.{Sink}
 use Rattle.tds_csv.specs.Sinks.{Breaks, Held, IsWriting, Puts, PutsPiece, held}
 use Rattle.tds_csv.proofs.Spares.{spare_before, spare_written}
-use Rattle.tds_csv.proofs.Streams.{breaks_behind, none_before}
 use Rattle.tds_rows.proofs.CellSteps.{fixed_some, scalar_shape}
 use Rattle.tds_rows.proofs.RowSteps.{at_once_breaks, at_once_streams}
 use Rattle.tds_rows.specs.declared.Charset.{Charset}
 use Rattle.tds_rows.specs.Cells.{CellPart, Null, ScalarBytes, ScalarCell, ScalarLength, WholeCell, cell, cell_start, shape, shape_of_length, unless, value_part}
-use Rattle.tds_rows.specs.CellSteps.{IsLeft, IsValueText, length_behind, start_behind, value_length, value_start, PutsCell, ReadsCell, StopsCell, WritesCell, cell_so_far}
+use Rattle.tds_rows.specs.CellSteps.{IsLeft, IsValueText, length_behind, start_behind, value_length, value_start, PutsCell, ReadsCell, StopsCell, WritesCell}
 use Rattle.tds_csv.specs.Quoting.{in_line}
 
 -- a value that is read has a length that is allowed

@@ -1,5 +1,5 @@
 -- The cells of scalar kinds, and the beginnings of long ones, as they are read.
-use Rattle.std.proofs.Common.{◌≡◌, ◌≢◌, ◌∙◌, ◌⊎◌, inl, inr, ℕ, ◌+◌, ◌<◌, Bool, true, false, List, [], ◌∷◌, ◌++◌, length, take, drop, get_or, ◌≤◌, refl, sym, ap, subst, arith, length-take, length-append}
+use Rattle.std.proofs.Common.{◌≡◌, ◌≢◌, ◌∙◌, ◌⊎◌, inl, inr, ℕ, ◌+◌, ◌<◌, true, false, List, [], ◌∷◌, ◌++◌, length, take, drop, get_or, ◌≤◌, refl, sym, ap, subst, arith, length-take}
 use Rattle.std.specs.Prelude.{Option, Some, None, ◌==◌, ◌||◌, is_ok, slice_index, slice_set, if◌then◌else◌}
 use Rattle.std.proofs.lemmas.Bool.{ne_eqb}
 use Rattle.std.proofs.lemmas.List.{take-append-le, take_all, take_more_set}
@@ -13,18 +13,14 @@ use Rattle.tds_values.specs.Scalar.{read_of}
 use Rattle.tds_packet.specs.declared.fault.Fault.TheVariants.{BadValue, BadValueLength, MessageEnded, NotYet}
 use Rattle.tds_packet.specs.declared.fault.Place.TheVariants.{Payload}
 use Rattle.tds_packet.specs.declared.fault.Stop.{Stop}
-use Rattle.tds_packet.specs.Elements.{IsNext}
 use Rattle.tds_packet.specs.Seen.{Seen, Takes, Ends, IsBetween, began_at}
 use Rattle.tds_packet.specs.Reading.{Reads, StopsReading}
 use Rattle.tds_packet.proofs.Choices.{choose_false}
-use Rattle.tds_packet.proofs.ElementLaws.{Spelt-none}
 use Rattle.tds_packet.proofs.Steps.{began_is_cut, cut_at_once, reads_one, refused_at_once, stops_after, takes_both}
 use Rattle.tds_csv.specs.Conversion.{Conversion, HexDigits, Utf16Text}
-use Rattle.tds_csv.specs.Quoting.{null_field}
 use Rattle.tds_rows.specs.declared.Charset.{Charset}
-use Rattle.tds_rows.specs.Cells.{CellPart, LongShape, Null, ScalarBytes, ScalarCell, ScalarLength, ShortLength, Total, WholeCell, cell, cell_end, cell_size, cell_start, narrow, shape, shape_of_length, unless, value_part}
+use Rattle.tds_rows.specs.Cells.{CellPart, LongShape, Null, ScalarBytes, ScalarLength, ShortLength, Total, WholeCell, cell, cell_end, cell_size, cell_start, narrow, shape, shape_of_length, unless}
 use Rattle.tds_rows.specs.CellSteps.{GathersCell, IsLeft, StallsCell, length_behind, start_behind, value_bytes, value_start}
-use Rattle.tds_csv.specs.Quoting.{in_line}
 use Rattle.tds_rows.specs.Unbuilt.{is_built_cell}
 use Rattle.tds_rows.proofs.Stalls.{unbuilt_at_once}
 

@@ -1,5 +1,5 @@
 -- The cells of a run, as they are written one after another.
-use Rattle.std.proofs.Common.{◌≡◌, ◌≢◌, ◌∙◌, ◌⊎◌, inl, inr, ℕ, ◌+◌, ◌-◌, ◌^◌, ◌≤◌, ◌<◌, Bool, true, List, [], ◌∷◌, ◌++◌, length, take, drop, get_or, refl, sym, ap, subst, arith, append_assoc, append-nil, length-append, length-take}
+use Rattle.std.proofs.Common.{◌≡◌, ◌≢◌, ◌∙◌, ◌⊎◌, inl, inr, ℕ, ◌+◌, ◌-◌, ◌^◌, ◌≤◌, ◌<◌, Bool, List, [], ◌∷◌, ◌++◌, length, take, drop, get_or, refl, sym, ap, subst, arith, append_assoc, append-nil, length-append, length-take}
 use Rattle.std.proofs.lemmas.List.{length-take-le, take-append-le, take_all, take_more}
 use Rattle.std.proofs.Math.Seq.{take-append-add}
 use lib.Seq.{take-add}
@@ -18,7 +18,6 @@ use Rattle.tds_columns.proofs.ViewLaws.{all_behind}
 use Rattle.tds_rows.specs.declared.Charset.{Charset}
 use Rattle.tds_rows.specs.Cells.{Cell, CellPart, CountedShape, FixedShape, LongShape, Shape, WholeCell, cell, cell_start, field, shape}
 use Rattle.tds_rows.specs.Rows.{Bitmap, InCell, RowPart, WholeRow, row_start, next_cell, row, row_so_far, with_cell, with_field}
-use Rattle.tds_csv.specs.Quoting.{in_line}
 use Rattle.tds_rows.specs.CellSteps.{IsLeft, PutsCell, StopsCell, WritesCell, cell_so_far, is_last, length_behind, scalar_size, start_behind}
 use Rattle.tds_values.specs.Kind.{fixed_length}
 use Rattle.tds_rows.specs.declared.table.Ahead.{Ahead}
@@ -27,8 +26,6 @@ use Rattle.tds_rows.proofs.CellSteps.{fixed_some}
 use Rattle.tds_rows.specs.Runs.{FirstDone, FirstLeft, RowsPart, RunsRows, Writes, WritesCells, WritesRows, WritesWhole, behind_cells, lines, rows, rows_so_far, rows_start}
 use Rattle.tds_values.specs.declared.kind.Kind.{Kind}
 use Rattle.tds_values.specs.declared.kind.Reach.TheVariants.{Chunked, Short}
-use Rattle.tds_csv.specs.Conversion.{Conversion, is_fit, long_field}
-use Rattle.tds_rows.proofs.CellLaws.{cell_is_read}
 use Rattle.tds_rows.proofs.RowLaws.{begins_open, cell_in_row}
 use Rattle.tds_rows.proofs.RowSteps.{cell_stops, coming, lift, next_text, row_text, start_quiet}
 use Rattle.tds_packet.proofs.Futures.{Takes-none}
@@ -144,8 +141,7 @@ first_step at from columns c left kind last used u made m bytes to new rest no_u
     let whole = none_used used bytes no_use in
     let used_is : take (used + u) bytes ≡ take u (take (length bytes - used) (drop used bytes)) = used_more used u bytes ∙ ap (λ n. take n bytes ++ take u (take (length bytes - used) (drop used bytes))) no_use in
     let made_is : take (made + m) (take made to ++ (new ++ rest)) ≡ take m new = made_more made m to new rest within some ∙ ap (λ n. take n to ++ take m new) no_text in
-    let all : used + u ≡ scalar_size column.kind bytes = omega (arith, no_use, size ∙ ap (scalar_size kind) whole ∙ ap (λ k. scalar_size k bytes) kinds_same) in
-    (
+    let all : used + u ≡ scalar_size column.kind bytes = omega (arith, no_use, size ∙ ap (scalar_size kind) whole ∙ ap (λ k. scalar_size k bytes) kinds_same) in (
       omega (arith, all),
       λ _ charset.
           subst (λ l. WritesCell (cell_start column.kind (shape charset column.kind)) from (is_last tail) l (take (made + m) (take made to ++ (new ++ rest)))) (sym used_is)
@@ -181,8 +177,7 @@ rows_first at from end columns used u made m bytes to new rest no_use no_text sa
     let whole = none_used used bytes no_use in
     let size = ap (scalar_size column.kind) whole in
     let used_is : take (used + u) bytes ≡ take u (take (length bytes - used) (drop used bytes)) = used_more used u bytes ∙ ap (λ n. take n bytes ++ take u (take (length bytes - used) (drop used bytes))) no_use in
-    let made_is : take (made + m) (take made to ++ (new ++ rest)) ≡ take m new = made_more made m to new rest within some ∙ ap (λ n. take n to ++ take m new) no_text in
-    (
+    let made_is : take (made + m) (take made to ++ (new ++ rest)) ≡ take m new = made_more made m to new rest within some ∙ ap (λ n. take n to ++ take m new) no_text in (
       omega (arith, x.0, size, no_use),
       λ e charset.
           subst (λ l. WritesCell (cell_start column.kind (shape charset column.kind)) from.column (is_last tail) l (take (made + m) (take made to ++ (new ++ rest)))) (sym used_is)

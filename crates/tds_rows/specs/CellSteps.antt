@@ -19,7 +19,7 @@ use Rattle.tds_csv.specs.Sinks.{Held, held}
 use Rattle.tds_csv.specs.Streaming.{Streams}
 use Rattle.tds_rows.specs.declared.Charset.{Charset}
 use Rattle.tds_rows.specs.declared.buffered.Written.{Written}
-use Rattle.tds_rows.specs.Cells.{Cell, CellPart, ScalarBytes, WholeCell, cell, cell_add, cell_start, field, field_so_far, shape}
+use Rattle.tds_rows.specs.Cells.{Cell, CellPart, WholeCell, cell, cell_add, cell_start, field, field_so_far, shape}
 use Rattle.tds_rows.specs.Unbuilt.{Stalls, StopsStreaming, is_built_cell}
 
 -- a field that is open, with the comma before it; nothing where it isn't

@@ -60,7 +60,12 @@ fn run_cells<'a>(table: &Table<'a>, from: Ahead<'a>, bytes: &[u8], to: &mut [u8]
 
 // Writes the cells of row after row: behind a whole row it goes on where the byte of the next ROW lies.
 #[inline(never)]
-pub(crate) fn run_rows<'a>(table: &Table<'a>, from: Ahead<'a>, bytes: &[u8], to: &mut [u8]) -> Run<'a>
+pub(crate) fn run_rows<'a>(
+    table: &Table<'a>,
+    from: Ahead<'a>,
+    bytes: &[u8],
+    to: &mut [u8],
+) -> Run<'a>
     requires { 0 < table.now.count }
     ensures used { result.used ≤ length bytes.now }
     ensures made { result.made ≤ length to.old }

@@ -1,4 +1,4 @@
-use Rattle.std.proofs.Common.{◌≡◌, ◌∙◌, ◌+◌, ◌-◌, ℕ, List, take, drop, sym, ap, subst, arith, rules}
+use Rattle.std.proofs.Common.{◌≡◌, ◌∙◌, ◌+◌, ◌-◌, ℕ, take, drop, sym, subst, arith, rules}
 use Rattle.tds_rows.specs.Cells.{cell_start, shape}
 use Rattle.tds_rows.specs.CellSteps.{IsValueText, WritesCell}
 use Rattle.tds_rows.proofs.BufferedCells.{null_cell, refused_left, value_cell}

@@ -1,4 +1,4 @@
-use Rattle.std.proofs.Common.{◌≡◌, ◌∙◌, ◌+◌, List, [], ◌∷◌, ◌++◌, ap, length, take, get_or, refl, sym, subst, arith, rules}
+use Rattle.std.proofs.Common.{◌≡◌, ◌∙◌, ◌+◌, [], ◌∷◌, ◌++◌, ap, length, take, get_or, refl, sym, subst, arith, rules}
 use Rattle.std.specs.Prelude.{slice_set}
 use Rattle.std.proofs.lemmas.List.{take_all}
 use Rattle.tds_packet.specs.Payloads.{seen}
@@ -44,7 +44,7 @@ returns-clause-gives g c =
     let value : length c.fill-2.new.to ≡ n = search (arith, rules) in
     let first : Takes a b (n ∷ []) 1 = subst (λ l. Takes a b l (length l)) (only_one c.fill.new.to whole) c.in_ok-fill.ensures.all in
     let all : n ∷ c.fill-2.new.to ≡ take (1 + n) (take 1 (slice_set c.args.cell.now 0 n) ++ (c.fill-2.new.to ++ _)) =
-      ap (λ l. n ∷ l) (sym (take_all n c.fill-2.new.to (omega (arith, value)))) ∙ sym (behind_first n n c.args.cell.now c.fill-2.new.to _ (search (arith, rules)) (omega (arith, value))) in
+    ap (λ l. n ∷ l) (sym (take_all n c.fill-2.new.to (omega (arith, value)))) ∙ sym (behind_first n n c.args.cell.now c.fill-2.new.to _ (search (arith, rules)) (omega (arith, value))) in
     subst (λ l. GathersCell c.args.kind.now (ScalarLength c.args.kind.now) c.args.column a d c.args.payload.now.place c.fill-2.new.self.place l) all
     (counted_gathers c.args.column c.args.kind.now n a b d c.args.payload.now.place c.fill.new.self.place c.fill-2.new.self.place c.fill-2.new.to c.requires.counted c.if-n-eq0.false (sym c.length_allowed.ensures ∙ c.if-not-length_allowed.false) first
     (omega (arith, whole, c.in_ok-fill.ensures.place)) value c.in_ok-fill-2.ensures.all c.in_ok-fill-2.ensures.between c.in_ok-fill-2.ensures.place)

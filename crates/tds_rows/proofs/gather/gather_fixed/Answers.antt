@@ -1,4 +1,4 @@
-use Rattle.std.proofs.Common.{◌≡◌, ◌∙◌, ◌++◌, List, ℕ, length, take, drop, refl, sym, ap, subst, arith, rules}
+use Rattle.std.proofs.Common.{◌≡◌, ◌∙◌, ◌++◌, length, take, drop, refl, sym, subst, arith, rules}
 use Rattle.std.proofs.lemmas.List.{take-append-le, take_all}
 use Rattle.tds_packet.specs.Payloads.{seen}
 use Rattle.tds_packet.proofs.Passing.{passed}
@@ -21,6 +21,6 @@ returns-clause-gives g c =
     let b = seen g.R.Read.remaining c.fill.new.self in
     let whole : length c.fill.new.to ≡ c.args.n = search rules in
     let all : c.fill.new.to ≡ take c.args.n (c.fill.new.to ++ drop c.args.n c.args.cell.now) =
-      sym (take-append-le c.args.n c.fill.new.to (drop c.args.n c.args.cell.now) (omega (arith, whole)) ∙ take_all c.args.n c.fill.new.to (omega (arith, whole))) in
+    sym (take-append-le c.args.n c.fill.new.to (drop c.args.n c.args.cell.now) (omega (arith, whole)) ∙ take_all c.args.n c.fill.new.to (omega (arith, whole))) in
     subst (λ l. GathersCell c.args.kind.now (ScalarBytes c.args.kind.now c.args.n) c.args.column a b c.args.payload.now.place c.fill.new.self.place l) all
     (fixed_gathers c.args.column c.args.kind.now c.args.n a b c.args.payload.now.place c.fill.new.self.place c.fill.new.to c.requires.fixed whole c.in_ok-fill.ensures.all c.in_ok-fill.ensures.between c.in_ok-fill.ensures.place)

@@ -1,5 +1,4 @@
-use Rattle.std.proofs.Common.{◌∙◌, ℕ, Ok, Err, MatchResult, sym, subst, take, rules}
-use Rattle.tds_packet.specs.Payloads.{seen}
+use Rattle.std.proofs.Common.{◌∙◌, sym, subst, rules}
 use Rattle.tds_rows.specs.Cells.{CellPart}
 use Rattle.tds_rows.specs.CellSteps.{CellGathered}
 use Rattle.tds_rows.proofs.CellSteps.{scalar_start}

@@ -1,11 +1,9 @@
-use Rattle.std.proofs.Common.{◌≡◌, ◌∙◌, ◌+◌, ◌-◌, ◌≤◌, inl, inr, ℕ, List, length, take, drop, refl, sym, ap, subst, arith, rules}
-use Rattle.std.proofs.lemmas.List.{length-take-le, take_all}
-use Rattle.tds_values.specs.declared.kind.Kind.{Kind}
+use Rattle.std.proofs.Common.{◌≡◌, ◌∙◌, length, take, sym, arith, rules}
+use Rattle.std.proofs.lemmas.List.{length-take-le}
 use Rattle.tds_packet.specs.Payloads.{seen}
 use Rattle.tds_packet.proofs.Passing.{passed}
 use Rattle.tds_csv.specs.Sinks.{held}
 use Rattle.tds_rows.specs.Cells.{cell_start, shape}
-use Rattle.tds_rows.specs.CellSteps.{IsLeft, WritesCell, scalar_size}
 use Rattle.tds_rows.proofs.BufferedCells.{cell_reads, put_cell as cell_put}
 use Rattle.tds_rows.proofs.CellSteps.{left_stalls}
 use Rattle.tds_rows.proofs.RowSteps.{at_once_stalls}

@@ -33,8 +33,7 @@ returns-clause-gives g c = λ columns knows ahead.
     let at : c.consume.new.self.place ≡ c.args.payload.now.place + length bytes = omega (arith, lies, ap (λ p. p.place) c.consume.ensures.rest, length-take run.used (buffered c.args.payload.now)) in
     let whole : length written ≡ c.room-room.result - 1 = c.run_rows-run.auto.to ∙ ap length c.spare.ensures.value ∙ length-replicate {A = ℕ} (c.room-room.result - 1) 0 in
     let puts = kept_text h j written c.waiting-waiting.result (c.room-room.result - 1) whole c.waiting-waiting.ensures (Ok c.in-Ok.field-0) run.made c.in-Ok.ensures.gives in
-    let ran = c.run_rows-run.ensures.gives columns knows ahead in
-    (
+    let ran = c.run_rows-run.ensures.gives columns knows ahead in (
       ran.0,
       λ charset cells is.
           let x = subst (λ (l : List ℕ). WritesRows charset columns cells (drop c.args.from.column columns) (drop run.ahead.column columns) run.ahead.column run.rows (take run.used l) (take run.made written)) c.buffered.ensures (ran.1 charset cells is) in

@@ -43,8 +43,7 @@ loop-to-preserved c =
           let inv = l.invariant.writes columns knows ahead in
           let taken = c.in-Some.ensures.gives columns knows inv.0 in
           let left = drop behind.column columns in
-          let counted : behind.left ≡ length left = omega (arith, taken.ahead.counted, length-drop behind.column columns) in
-          (
+          let counted : behind.left ≡ length left = omega (arith, taken.ahead.counted, length-drop behind.column columns) in (
             taken.ahead,
             λ charset cells is.
                 let x = subst (λ (k : List Column). WritesCells charset cells (drop c.args.from.column columns) k l.ahead.column (take l.used bytes) (take l.made l.to)) taken.next (inv.1 charset cells is) in
@@ -63,8 +62,8 @@ returns-clause-gives c =
       | then-loop-to-test+in-Some+in_default-write_cell w ↦ ap (take c.loop-to.made) w.to-is ∙ made_same c.loop-to.made c.loop-to.to _ c.loop-to.invariant.made
     ] in
     λ columns knows ahead.
-        let inv = c.loop-to.invariant.writes columns knows ahead in
-        (inv.0, λ charset cells is. subst (λ (t : List ℕ). WritesCells charset cells (drop c.args.from.column columns) (drop c.loop-to.ahead.column columns) c.loop-to.ahead.column (take c.loop-to.used c.args.bytes.now) t) (sym same) (inv.1 charset cells is))
+    let inv = c.loop-to.invariant.writes columns knows ahead in
+    (inv.0, λ charset cells is. subst (λ (t : List ℕ). WritesCells charset cells (drop c.args.from.column columns) (drop c.loop-to.ahead.column columns) c.loop-to.ahead.column (take c.loop-to.used c.args.bytes.now) t) (sym same) (inv.1 charset cells is))
 
 pub returns-clause-first : goal.returns-clause-first
 returns-clause-first c =
@@ -75,13 +74,17 @@ returns-clause-first c =
       | then-loop-to-test+in-Some+in_default-write_cell w ↦ ap (take l.made) w.to-is ∙ made_same l.made l.to _ l.invariant.made
     ] in
     λ columns knows ahead room.
-        let inv = l.invariant.writes columns knows ahead in
-        elim l.invariant.begun [
-          | inl z ↦ inl (z.0, z.2, elim c.loop-to-test.branch [
-              | else-loop-to-test w ↦ absurd (omega (arith, room, z.1, w.loop-to-test.false, c.loop-to.auto.to))
-              | then-loop-to-test+in_default w ↦ none_ahead l.ahead.column c.args.from.column columns c.args.bytes.now (ap (λ a. a.column) z.2) (w.in_default.ensures.gives columns knows inv.0)
-              | then-loop-to-test+in-Some+in_default-write_cell w ↦ (let taken = w.in-Some.ensures.gives columns knows inv.0 in
-                  first_left l.ahead.column c.args.from.column columns taken.column _ w.in-Some.form.kind l.used c.args.bytes.now z.0 (ap (λ a. a.column) z.2) taken.next taken.kind w.in_default-write_cell.ensures.gives)
-            ])
-          | inr f ↦ inr (λ column tail h. let x = f columns knows ahead column tail h in (x.0, λ e charset. subst (λ t. WritesCell (cell_start column.kind (shape charset column.kind)) c.args.from.column (is_last tail) (take l.used c.args.bytes.now) t) (sym same) (x.1 e charset)))
-        ]
+    let inv = l.invariant.writes columns knows ahead in
+    elim l.invariant.begun [
+      | inl z ↦ inl (
+        z.0,
+        z.2,
+        elim c.loop-to-test.branch [
+          | else-loop-to-test w ↦ absurd (omega (arith, room, z.1, w.loop-to-test.false, c.loop-to.auto.to))
+          | then-loop-to-test+in_default w ↦ none_ahead l.ahead.column c.args.from.column columns c.args.bytes.now (ap (λ a. a.column) z.2) (w.in_default.ensures.gives columns knows inv.0)
+          | then-loop-to-test+in-Some+in_default-write_cell w ↦ (let taken = w.in-Some.ensures.gives columns knows inv.0 in
+              first_left l.ahead.column c.args.from.column columns taken.column _ w.in-Some.form.kind l.used c.args.bytes.now z.0 (ap (λ a. a.column) z.2) taken.next taken.kind w.in_default-write_cell.ensures.gives)
+        ],
+      )
+      | inr f ↦ inr (λ column tail h. let x = f columns knows ahead column tail h in (x.0, λ e charset. subst (λ t. WritesCell (cell_start column.kind (shape charset column.kind)) c.args.from.column (is_last tail) (take l.used c.args.bytes.now) t) (sym same) (x.1 e charset)))
+    ]

@@ -1,7 +1,6 @@
-use Rattle.std.proofs.Common.{inl, inr, refl, ◌≡◌, ◌∙◌, ◌+◌, ◌-◌, ◌<◌, ℕ, List, length, take, drop, sym, ap, subst, arith, rules}
+use Rattle.std.proofs.Common.{inl, inr, refl, ◌≡◌, ◌∙◌, ◌+◌, ◌<◌, length, drop, ap, arith, rules}
 use Rattle.std.proofs.lemmas.List.{length-drop}
 use Rattle.tds_rows.specs.CellSteps.{scalar_size}
-use Rattle.tds_rows.specs.Runs.{WritesRows}
 use Rattle.tds_rows.proofs.RunSteps.{none_used, rows_first, rows_none, rows_over, rows_step}
 use Rattle.tds_rows.proofs.run.run_rows.Goals as goal
 
@@ -19,8 +18,7 @@ returns-then-ahead-ne0-clause-gives c = λ columns knows ahead.
     let l = c.loop-ahead in
     let run = c.run_cells-cells.result in
     let inv = l.invariant.writes columns knows ahead in
-    let ran = c.run_cells-cells.ensures.gives columns knows inv.0 in
-    (
+    let ran = c.run_cells-cells.ensures.gives columns knows inv.0 in (
       ran.0,
       λ charset cells is.
           rows_step charset columns cells (drop c.args.from.column columns) (drop l.ahead.column columns) (drop run.ahead.column columns) l.ahead.column run.ahead.column l.rows l.used run.used l.made run.made c.args.bytes.now l.to c.run_cells-cells.new.to _ l.invariant.made (search (arith, rules))
@@ -53,8 +51,7 @@ loop-ahead-preserved c =
           let inv = l.invariant.writes columns knows ahead in
           let ran = c.run_cells-cells.ensures.gives columns knows inv.0 in
           let some : 0 < length columns = omega (arith, c.requires, knows.counted) in
-          let counted : run.ahead.left ≡ length (drop run.ahead.column columns) = omega (arith, ran.0.counted, length-drop run.ahead.column columns) in
-          (
+          let counted : run.ahead.left ≡ length (drop run.ahead.column columns) = omega (arith, ran.0.counted, length-drop run.ahead.column columns) in (
             c.start-ahead.ensures.ahead columns knows,
             λ charset cells is.
                 rows_over charset columns cells (drop c.args.from.column columns) (drop l.ahead.column columns) (drop run.ahead.column columns) l.ahead.column run.ahead.column start.column l.rows l.used run.used l.made run.made run.ahead.left c.args.bytes.now l.to c.run_cells-cells.new.to _ l.invariant.made (search (arith, rules))

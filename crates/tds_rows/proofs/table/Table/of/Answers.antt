@@ -1,4 +1,4 @@
-use Rattle.std.proofs.Common.{◌+◌, ◌∙◌, refl, ap, sym, arith, rules}
+use Rattle.std.proofs.Common.{◌∙◌, refl, sym, arith, rules}
 use Rattle.tds_columns.specs.Walking.{column_value, columns_left}
 use Rattle.tds_columns.specs.View.{columns_of}
 use Rattle.tds_rows.proofs.TableSteps.{first_more, next_column}
