@@ -6,7 +6,8 @@ use Rattle.tds_packet.specs.declared.fault.Fault.{Fault}
 use Rattle.tds_packet.specs.declared.fault.Fault.TheVariants.{EndWithoutDone, NotYet}
 use Rattle.tds_packet.specs.declared.fault.Place.{Place}
 use Rattle.tds_packet.specs.declared.fault.Place.TheVariants.{Wire, Payload, Text}
-use Rattle.tds_packet.specs.Elements.{IsRefused, Longest, Reading, feed_all}
+use Rattle.tds_packet.specs.Elements.{IsRefused, Longest}
+use Rattle.tds_packet.proofs.Feeding.{Reading, feed_all}
 use Rattle.tds_packet.specs.Packets.{AreBefore, BeforeBody, BeforeHeader, BehindLast, Message, Packet, WireFault, WirePart, WirePlace, header_length, no_wire, packet_of, payload_of, wire, wire_add, wire_end, wire_of, wire_size, with_packet}
 use Rattle.tds_packet.proofs.ElementLaws.{Spelt-induct, Told, feed-Spelt, feed_all-append, longest_cut, one_longest, read_longest, told}
 use Rattle.tds_packet.proofs.PacketLaws.{before_are_read, before_packet}

@@ -11,7 +11,7 @@ use Rattle.tds_values.specs.Calendar.{date_of}
 use Rattle.tds_values.specs.TypeInfo.{rest_length, named_kind}
 use Rattle.tds_columns.specs.Description.{refused_kind}
 use Rattle.tds_packet.specs.declared.fault.Fault.{Fault}
-use Rattle.tds_packet.specs.Elements.{Progress, read, state_of, rest_of, fault_of}
+use Rattle.tds_packet.proofs.Feeding.{Progress, read, state_of, rest_of, fault_of}
 use Rattle.tds_rows.specs.declared.Charset.TheVariants.{Windows1252}
 use Rattle.tds_export.specs.TokenGrammar.{Part, response, response_start}
 use Rattle.tds_export.specs.Completion.{completion}
