@@ -2,7 +2,6 @@ pub mod ReturnValue
 pub mod Tokens
 pub mod Response
 pub mod TokenGrammar
-pub mod Completion
 pub mod JoinStops
 pub mod Built
 pub mod Outcome
