@@ -9,3 +9,4 @@ pub mod Steps
 pub mod Exporters
 pub mod Laws
 pub mod Moments
+pub mod Exports

@@ -6,7 +6,8 @@ use Rattle.tds_packet.specs.declared.counted.Counted.{Counted}
 use Rattle.tds_rows.specs.declared.Charset.{Charset}
 use Rattle.tds_export.specs.declared.report.Report.{Report}
 use Rattle.tds_export.specs.declared.report.Stopped.{Stopped}
-use Rattle.tds_export.specs.Moments.{Exports, Moment, moment}
+use Rattle.tds_export.specs.Exports.{Exports}
+use Rattle.tds_export.specs.Moments.{Moment, moment}
 use Rattle.tds_replay.specs.declared.job.Job.{Job}
 use Rattle.tds_replay.specs.declared.job.Job.TheVariants.{Export}
 use Rattle.tds_replay.specs.declared.status.Status.{Status}
