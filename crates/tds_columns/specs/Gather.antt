@@ -11,18 +11,6 @@ use Rattle.tds_columns.specs.declared.metadata.Described.{Described}
 use Rattle.tds_columns.specs.declared.metadata.Described.TheVariants.{Columns, NoMetadata}
 use Rattle.tds_columns.specs.Description.{Column, ColumnHead, ColumnInfo, NameCount, DescriptionPart, BeforeCount, InColumn, NoDescription, WholeDescription, SpellsDescription, description, description_bytes, span, with_column}
 
--- A description was read: the area has its bytes, which are those taken.
-pub record Gathers (room : ℕ) (old new : Seen) (area : List ℕ) (peak_before peak : ℕ) (columns : List Column) : Type 0 where
-  pub taken : Takes old new area (length area)
-  pub spelt : SpellsDescription room columns area
-  pub bound : peak ≤ max peak_before (length area)
-
--- A Count that says that there is no metadata was read, and nothing else.
-pub record GathersNone (old new : Seen) (area : List ℕ) (peak_before peak : ℕ) : Type 0 where
-  pub taken : Takes old new (255 ∷ 255 ∷ []) 2
-  pub nothing : area ≡ []
-  pub bound : peak ≤ max peak_before 2
-
 -- Elements of a description were read, which lead from one state to another, and the area has its bytes.
 pub record Describes (room : ℕ) (from : DescriptionPart) (old new : Seen) (place place' peak : ℕ) (area : Space) (to : DescriptionPart) : Type 0 where
   pub reads : Reads (description room) from old new to
@@ -39,15 +27,10 @@ pub record StopsDescribing (room : ℕ) (from : DescriptionPart) (old new : Seen
   pub bound : area.peak ≤ max peak (span at)
   pub further : span from ≤ span at
 
--- A Count was read: that of no metadata, or one of columns whose least bytes the room has.
-abbrev pub DescribesCount : ℕ → Seen → Seen → ℕ → ℕ → ℕ → Space → Described → Type 0
-DescribesCount room old new place place' peak area (Columns count) =
-    Describes room BeforeCount old new place place' peak area (InColumn area.bytes count [] ColumnHead) × (0 < count) × (length area.bytes + 8 * count ≤ room)
-DescribesCount room old new place place' peak area NoMetadata = Describes room BeforeCount old new place place' peak area NoDescription × GathersNone old new area.bytes peak area.peak
-
 -- ---- what the calls that read a part of a description answer, over a payload and an area before and after it
 
-module _ {R U : Type 0} (remaining : R → Option (List ℕ)) (old new : Payload R) (before after : Space) (result : Result U Stop) where
+module _ {R U : Type 0} (remaining : R → Option (List ℕ)) (old new : Payload R) (before after : Space)
+    (result : Result U Stop) where
   -- A part was read from one state on, and leads to one of these; or the reading stopped in it.
   abbrev pub PartRead : {X : Type 0} → DescriptionPart → (X → DescriptionPart) → Type 0
   PartRead {X = X} from to = let a = seen remaining old in let b = seen remaining new in MatchResult result
@@ -79,26 +62,37 @@ module _ {R U : Type 0} (remaining : R → Option (List ℕ)) (old new : Payload
   ColumnsRead count = PartRead (InColumn before.bytes count [] ColumnHead)
       (λ (all : (columns : List Column) × (length columns ≡ count)). WholeDescription after.bytes all.0)
 
--- What a description says, as it was read.
-abbrev pub GatherGives : ℕ → Seen → Seen → ℕ → ℕ → ℕ → Space → Described → Type 0
-GatherGives room old new place place' peak area (Columns count) = (columns : List Column) × (length columns ≡ count)
-    × Describes room BeforeCount old new place place' peak area (WholeDescription area.bytes columns) × Gathers room old new area.bytes peak area.peak columns
-GatherGives room old new place place' peak area NoMetadata = Describes room BeforeCount old new place place' peak area NoDescription × GathersNone old new area.bytes peak area.peak
+-- A Count was read: one of columns whose least bytes the room has; or that of no metadata, and nothing else.
+abbrev pub DescribesCount : (room : ℕ) → (old new : Seen) → (place place' peak : ℕ) → Space → Described → Type 0
+DescribesCount room old new place place' peak area (Columns count) =
+    Describes room BeforeCount old new place place' peak area (InColumn area.bytes count [] ColumnHead)
+    × (0 < count) × (length area.bytes + 8 * count ≤ room)
+DescribesCount room old new place place' peak area NoMetadata =
+    Describes room BeforeCount old new place place' peak area NoDescription × Takes old new (255 ∷ 255 ∷ []) 2
+
+-- A description was read: the area has its bytes, which are those taken; or a Count of no metadata was.
+abbrev pub DescribesAll : (room : ℕ) → (old new : Seen) → (place place' peak : ℕ) → Space → Described → Type 0
+DescribesAll room old new place place' peak area (Columns count) = (columns : List Column) × (length columns ≡ count)
+    × Describes room BeforeCount old new place place' peak area (WholeDescription area.bytes columns)
+    × Takes old new area.bytes (length area.bytes) × SpellsDescription room columns area.bytes
+DescribesAll room old new place place' peak area NoMetadata =
+    DescribesCount room old new place place' peak area NoMetadata
 
 -- Reading a description from its Count on stopped: the area's bytes are all those of the whole elements.
 pub record GatherStops (room : ℕ) (old new : Seen) (place peak : ℕ) (area : Space) (stop : Stop) : Type 0 where
   pub describing : StopsDescribing room BeforeCount old new place peak area stop
   pub begins : area.bytes ≡ describing.stops.bytes
 
--- A Count was read into the area, or the reading stopped there.
-abbrev pub CountRead : {R : Type 0} → (R → Option (List ℕ)) → (old new : Payload R) → (before after : Space) → Result Described Stop → Type 0
-CountRead remaining old new before after result = MatchResult result
-    (λ described. DescribesCount before.room (seen remaining old) (seen remaining new) old.place new.place before.peak after described)
-    (λ stop. old.stopped ≡ None →
-    StopsDescribing before.room BeforeCount (seen remaining old) (seen remaining new) old.place before.peak after stop)
+module _ {R : Type 0} (remaining : R → Option (List ℕ)) (old new : Payload R) (before after : Space)
+    (result : Result Described Stop) where
+  -- A Count was read into the area, or the reading stopped there.
+  abbrev pub CountRead : Type 0
+  CountRead = let a = seen remaining old in let b = seen remaining new in MatchResult result
+      (DescribesCount before.room a b old.place new.place before.peak after)
+      (λ stop. old.stopped ≡ None → StopsDescribing before.room BeforeCount a b old.place before.peak after stop)
 
--- A description was read into the area, or the reading stopped in it.
-abbrev pub DescriptionRead : {R : Type 0} → (R → Option (List ℕ)) → (old new : Payload R) → (before after : Space) → Result Described Stop → Type 0
-DescriptionRead remaining old new before after result = MatchResult result
-    (λ described. GatherGives before.room (seen remaining old) (seen remaining new) old.place new.place before.peak after described)
-    (λ stop. old.stopped ≡ None → GatherStops before.room (seen remaining old) (seen remaining new) old.place before.peak after stop)
+  -- A description was read into the area, or the reading stopped in it.
+  abbrev pub DescriptionRead : Type 0
+  DescriptionRead = let a = seen remaining old in let b = seen remaining new in MatchResult result
+      (DescribesAll before.room a b old.place new.place before.peak after)
+      (λ stop. old.stopped ≡ None → GatherStops before.room a b old.place before.peak after stop)

@@ -47,4 +47,5 @@ returns-clause-gives g c =
     let whole = subst (λ r. Describes r at b d c.read_count.new.payload.place c.read_columns.new.payload.place middle.peak after (WholeDescription after.bytes read.0.0)) room read.1 in
     let both = describes_both before.room BeforeCount at (WholeDescription after.bytes read.0.0) a b d c.args.payload.now.place c.read_count.new.payload.place c.read_columns.new.payload.place before.peak middle after count.0 whole in
     let are : AreBytes after.bytes = search rules in
-    (read.0.0, read.0.1, both, gathers before.room a d c.args.payload.now.place c.read_columns.new.payload.place before.peak after read.0.0 are both)
+    let taken = gathers before.room a d c.args.payload.now.place c.read_columns.new.payload.place before.peak after read.0.0 are both in
+    (read.0.0, read.0.1, both, taken.0, taken.1)
