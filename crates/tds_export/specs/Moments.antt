@@ -5,24 +5,16 @@ use Rattle.tds_meter.specs.declared.limits.Limits.{Limits}
 use Rattle.tds_meter.specs.Counts.{Rose}
 use Rattle.tds_packet.specs.declared.counted.Counted.{Counted}
 use Rattle.tds_packet.specs.declared.fault.Fault.{Fault}
+use Rattle.tds_packet.specs.Devices.{Device, device}
 use Rattle.tds_packet.specs.Elements.{Grammar}
 use Rattle.tds_rows.specs.declared.Charset.{Charset}
 use Rattle.tds_export.specs.TokenGrammar.{Part, response}
-
--- a device at a moment: the bytes that its reader still gives or its writer has, where that is known, and its count of failures
-pub record Device : Type 0 where
-  pub bytes : Option (List ℕ)
-  pub failures : ℕ
 
 -- what an export has to do with, at a moment
 pub record Moment : Type 0 where
   pub areas : Areas
   pub reader : Device
   pub writer : Device
-
--- a device that is counted, at a moment
-abbrev pub device : {D : Type 0} → (D → Option (List ℕ)) → Counted D → Device
-device bytes d = record { bytes = bytes d.device; failures = d.failures }
 
 -- areas, a reader and a writer, at a moment
 abbrev pub moment : {R W : Type 0} →
