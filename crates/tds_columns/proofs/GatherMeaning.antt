@@ -1,11 +1,11 @@
 -- What a description that was read spells.
-use Rattle.std.proofs.Common.{◌≡◌, ◌∙◌, inl, inr, ℕ, ◌+◌, ◌*◌, ◌-◌, ◌%◌, ◌/◌, ◌<◌, List, [], ◌∷◌, ◌++◌, length, max, refl, sym, ap, subst, arith}
+use Rattle.std.proofs.Common.{◌≡◌, ◌∙◌, inl, inr, ℕ, ◌+◌, ◌*◌, ◌-◌, ◌%◌, ◌/◌, ◌<◌, List, [], ◌∷◌, ◌++◌, length, refl, sym, ap, subst, arith}
 use Rattle.std.specs.Prelude.{Some, ◌==◌, slice_index, unwrap_or}
 use Rattle.byteorder.specs.Endian.{little_number}
 use Rattle.tds_values.specs.Numbers.{little}
 use Rattle.tds_values.specs.TypeInfo.{rest_length, kind_of}
 use Rattle.tds_values.proofs.TypeInfoLemmas.{bare_type}
-use Rattle.tds_meter.specs.Space.{Space, holding}
+use Rattle.tds_meter.specs.Space.{Space}
 use Rattle.tds_packet.specs.declared.fault.Stop.{Stop}
 use Rattle.tds_packet.specs.Elements.{AreBytes, IsNext, Spelt}
 use Rattle.tds_packet.specs.Seen.{Seen, Takes}
@@ -13,7 +13,7 @@ use Rattle.tds_packet.proofs.Choices.{choose, eq_true, is_some_value}
 use Rattle.tds_packet.proofs.ElementLaws.{Spelt-induct, AreBytes-front, AreBytes-back}
 use Rattle.tds_columns.specs.Description.{Column, ColumnPlace, ColumnHead, ColumnInfo, NameCount, NameUnits, DescriptionPart, BeforeCount, NoDescription, InColumn, WholeDescription, SpellsDescription, add_described, description, description_bytes, described_size, too_long, with_column, with_count, with_kind, with_type}
 use Rattle.tds_columns.specs.Elements.{TakesInto}
-use Rattle.tds_columns.specs.Gather.{Describes, Gathers, GathersNone, GatherStops, StopsDescribing}
+use Rattle.tds_columns.specs.Gather.{Describes, GatherStops, StopsDescribing}
 use Rattle.tds_columns.proofs.ByteLemmas.{two_bytes}
 use Rattle.tds_columns.proofs.ColumnMeaning.{DescribedMeans, described_step, known_type, some_kind}
 
@@ -58,26 +58,21 @@ module _ (room : ℕ) where
   described_means d bytes are h = Spelt-induct (description room) (λ t b. AreBytes b → DescribedMeans room t b) (λ t b e m n all. described_step room t b e (AreBytes-back b e all) (m (AreBytes-front b e all)) n) BeforeCount (λ _. refl) bytes d h are
 
 -- a description that was read whole
-pub gathers : (room : ℕ) (a b : Seen) (place place' peak : ℕ) (area : Space) (columns : List Column) → AreBytes area.bytes → Describes room BeforeCount a b place place' peak area (WholeDescription area.bytes columns) → Gathers room a b area.bytes peak area.peak columns
+pub gathers : (room : ℕ) (a b : Seen) (place place' peak : ℕ) (area : Space) (columns : List Column) → AreBytes area.bytes → Describes room BeforeCount a b place place' peak area (WholeDescription area.bytes columns)
+    → Takes a b area.bytes (length area.bytes) × SpellsDescription room columns area.bytes
 gathers room a b place place' peak area columns are x =
     let same : area.bytes ≡ x.reads.bytes = kept_bytes room (WholeDescription area.bytes columns) x.reads.bytes x.reads.spelt in
     let means = described_means room (WholeDescription area.bytes columns) x.reads.bytes (subst AreBytes same are) x.reads.spelt in
-    record {
-      taken = subst (λ l. Takes a b l (length l)) (sym same) x.reads.takes;
-      spelt = subst (SpellsDescription room columns) (sym same) means.1;
-      bound = omega (arith, x.bound);
-    }
+    (subst (λ l. Takes a b l (length l)) (sym same) x.reads.takes, subst (SpellsDescription room columns) (sym same) means.1)
 
 -- a Count that says that there is no metadata
-pub gathers_none : (a b : Seen) (before after cleared : Space) → before.bytes ≡ [] → TakesInto a b before after 2 → AreBytes after.bytes → little_number 2 after.bytes ≡ 0xFFFF → cleared ≡ holding after [] → GathersNone a b cleared.bytes before.peak cleared.peak
-gathers_none a b before after cleared none t are all clear =
+pub gathers_none : (a b : Seen) (before after : Space) → before.bytes ≡ [] → TakesInto a b before after 2 → AreBytes after.bytes → little_number 2 after.bytes ≡ 0xFFFF → Takes a b (255 ∷ 255 ∷ []) 2
+gathers_none a b before after none t are all =
     let is : after.bytes ≡ t.element = ap (λ (s : Space). s.bytes) t.stands ∙ ap (λ l. l ++ t.element) none in
     let two : length after.bytes ≡ 2 = ap length is ∙ t.whole in
     let number : little after.bytes ≡ 0xFFFF = ap (λ n. little_number n after.bytes) two ∙ all in
     let both : after.bytes ≡ 255 ∷ 255 ∷ [] = (two_bytes after.bytes two are).0 ∙ ap (λ n. n % 256 ∷ n / 256 ∷ []) number in
-    let peak : cleared.peak ≡ max before.peak (length (before.bytes ++ t.element)) = ap (λ (s : Space). s.peak) clear ∙ ap (λ (s : Space). s.peak) t.stands in
-    let len : length (before.bytes ++ t.element) ≡ 2 = ap (λ l. length (l ++ t.element)) none ∙ t.whole in
-    record { taken = subst (λ l. Takes a b l 2) (sym is ∙ both) t.takes; nothing = ap (λ (s : Space). s.bytes) clear; bound = omega (arith, peak, len) }
+    subst (λ l. Takes a b l 2) (sym is ∙ both) t.takes
 
 -- where a description stops the bytes kept are those of the whole elements
 pub gather_stops : (room : ℕ) (a b : Seen) (place peak : ℕ) (area : Space) (stop : Stop) → StopsDescribing room BeforeCount a b place peak area stop → GatherStops room a b place peak area stop

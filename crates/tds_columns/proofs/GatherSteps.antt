@@ -20,7 +20,7 @@ use Rattle.tds_packet.specs.Reading.{StopsReading}
 use Rattle.tds_packet.proofs.Choices.{choose, choose_false, choose_true}
 use Rattle.tds_columns.specs.Description.{BeforeCount, ColumnHead, ColumnInfo, Column, ColumnPlace, DescriptionPart, InColumn, NameCount, NameUnits, NoDescription, WholeDescription, count_fault, add_described, described_fault, description, description_bytes, described_end, described_size, first_of_two, span, too_long, type_fault, with_column, with_count, with_kind, with_type, with_units, head_fault}
 use Rattle.tds_columns.specs.Elements.{TakesInto, EndsInto}
-use Rattle.tds_columns.specs.Gather.{Describes, DescribesColumns, StopsDescribing}
+use Rattle.tds_columns.specs.Gather.{Describes, StopsDescribing}
 use Rattle.tds_columns.proofs.ColumnLaws.{fits_in}
 use Rattle.tds_columns.proofs.ColumnMeaning.{not_zero, room_for}
 use Rattle.tds_columns.proofs.TypeSteps.{size_of}
@@ -335,11 +335,6 @@ columns_more room count index from a b c p q r peak middle after more columns nu
 
 -- all columns are read
 pub columns_whole : (room count index : ℕ) (bytes : List ℕ) (a b : Seen) (place place' peak : ℕ) (area : Space) → index ≡ count → (columns : List Column) → length columns ≡ index → Describes room (InColumn bytes count [] ColumnHead) a b place place' peak area (behind_columns area.bytes count columns)
-    → DescribesColumns room count bytes a b place place' peak area
+    → (all : (whole : List Column) × (length whole ≡ count)) × Describes room (InColumn bytes count [] ColumnHead) a b place place' peak area (WholeDescription area.bytes all.0)
 columns_whole room count index bytes a b place place' peak area end columns number x =
-    let all : length columns ≡ count = number ∙ end in
-    record {
-      columns = columns;
-      all = all;
-      describes = subst (Describes room (InColumn bytes count [] ColumnHead) a b place place' peak area) (choose_true (length columns == count) (WholeDescription area.bytes columns) (InColumn area.bytes count columns ColumnHead) (grind (arith, nat_tests))) x;
-    }
+    ((columns, number ∙ end), subst (Describes room (InColumn bytes count [] ColumnHead) a b place place' peak area) (choose_true (length columns == count) (WholeDescription area.bytes columns) (InColumn area.bytes count columns ColumnHead) (grind (arith, nat_tests, number, end))) x)

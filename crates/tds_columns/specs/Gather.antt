@@ -9,19 +9,7 @@ use Rattle.tds_packet.specs.Seen.{Seen, Takes}
 use Rattle.tds_packet.specs.Reading.{Reads, StopsReading}
 use Rattle.tds_columns.specs.declared.metadata.Described.{Described}
 use Rattle.tds_columns.specs.declared.metadata.Described.TheVariants.{Columns, NoMetadata}
-use Rattle.tds_columns.specs.Description.{Column, ColumnHead, ColumnInfo, ColumnPlace, NameCount, DescriptionPart, BeforeCount, InColumn, NoDescription, WholeDescription, SpellsDescription, description, description_bytes, span, with_column}
-
--- A description was read: the area has its bytes, which are those taken.
-pub record Gathers (room : ℕ) (old new : Seen) (area : List ℕ) (peak_before peak : ℕ) (columns : List Column) : Type 0 where
-  pub taken : Takes old new area (length area)
-  pub spelt : SpellsDescription room columns area
-  pub bound : peak ≤ max peak_before (length area)
-
--- A Count that says that there is no metadata was read, and nothing else.
-pub record GathersNone (old new : Seen) (area : List ℕ) (peak_before peak : ℕ) : Type 0 where
-  pub taken : Takes old new (255 ∷ 255 ∷ []) 2
-  pub nothing : area ≡ []
-  pub bound : peak ≤ max peak_before 2
+use Rattle.tds_columns.specs.Description.{Column, ColumnHead, ColumnInfo, NameCount, DescriptionPart, BeforeCount, InColumn, NoDescription, WholeDescription, SpellsDescription, description, description_bytes, span, with_column}
 
 -- Elements of a description were read, which lead from one state to another, and the area has its bytes.
 pub record Describes (room : ℕ) (from : DescriptionPart) (old new : Seen) (place place' peak : ℕ) (area : Space) (to : DescriptionPart) : Type 0 where
@@ -39,94 +27,72 @@ pub record StopsDescribing (room : ℕ) (from : DescriptionPart) (old new : Seen
   pub bound : area.peak ≤ max peak (span at)
   pub further : span from ≤ span at
 
--- A Count was read: that of no metadata, or one of columns whose least bytes the room has.
-abbrev pub DescribesCount : ℕ → Seen → Seen → ℕ → ℕ → ℕ → Space → Described → Type 0
+-- ---- what the calls that read a part of a description answer, over a payload and an area before and after it
+
+module _ {R U : Type 0} (remaining : R → Option (List ℕ)) (old new : Payload R) (before after : Space)
+    (result : Result U Stop) where
+  -- A part was read from one state on, and leads to one of these; or the reading stopped in it.
+  abbrev pub PartRead : {X : Type 0} → DescriptionPart → (X → DescriptionPart) → Type 0
+  PartRead {X = X} from to = let a = seen remaining old in let b = seen remaining new in MatchResult result
+      (λ _. (x : X) × Describes before.room from a b old.place new.place before.peak after (to x))
+      (λ stop. StopsDescribing before.room from a b old.place before.peak after stop)
+
+  -- What follows the type byte of a column was read, whatever the columns before it are and however many there are.
+  abbrev pub InfoRead : (index byte : ℕ) → Type 0
+  InfoRead index byte = (count : ℕ) (columns : List Column) → length columns ≡ index → PartRead
+      (InColumn before.bytes count columns (ColumnInfo byte)) (λ kind. InColumn after.bytes count columns (NameCount kind))
+
+  -- The head of a column and its further type information were read, whatever the columns before it are.
+  abbrev pub TypeRead : (count index : ℕ) → Type 0
+  TypeRead count index = (columns : List Column) → length columns ≡ index → PartRead
+      (InColumn before.bytes count columns ColumnHead) (λ kind. InColumn after.bytes count columns (NameCount kind))
+
+  -- The name of a column was read behind the rest of it, whatever that and the columns before it are.
+  abbrev pub NameRead : (count index : ℕ) → Type 0
+  NameRead count index = (columns : List Column) (kind : Kind) → length columns ≡ index → PartRead
+      (InColumn before.bytes count columns (NameCount kind)) (with_column after.bytes count columns)
+
+  -- A column was read, whatever the columns before it are.
+  abbrev pub ColumnRead : (count index : ℕ) → Type 0
+  ColumnRead count index = (columns : List Column) → length columns ≡ index →
+      PartRead (InColumn before.bytes count columns ColumnHead) (with_column after.bytes count columns)
+
+  -- So many columns were read behind Count.
+  abbrev pub ColumnsRead : ℕ → Type 0
+  ColumnsRead count = PartRead (InColumn before.bytes count [] ColumnHead)
+      (λ (all : (columns : List Column) × (length columns ≡ count)). WholeDescription after.bytes all.0)
+
+-- A Count was read: one of columns whose least bytes the room has; or that of no metadata, and nothing else.
+abbrev pub DescribesCount : (room : ℕ) → (old new : Seen) → (place place' peak : ℕ) → Space → Described → Type 0
 DescribesCount room old new place place' peak area (Columns count) =
-    Describes room BeforeCount old new place place' peak area (InColumn area.bytes count [] ColumnHead) × (0 < count) × (length area.bytes + 8 * count ≤ room)
-DescribesCount room old new place place' peak area NoMetadata = Describes room BeforeCount old new place place' peak area NoDescription × GathersNone old new area.bytes peak area.peak
+    Describes room BeforeCount old new place place' peak area (InColumn area.bytes count [] ColumnHead)
+    × (0 < count) × (length area.bytes + 8 * count ≤ room)
+DescribesCount room old new place place' peak area NoMetadata =
+    Describes room BeforeCount old new place place' peak area NoDescription × Takes old new (255 ∷ 255 ∷ []) 2
 
--- What follows the type byte of a column was read, whatever the columns before it are.
-abbrev pub DescribesInfo : ℕ → ℕ → ℕ → ℕ → List ℕ → Seen → Seen → ℕ → ℕ → ℕ → Space → Type 0
-DescribesInfo room count index byte bytes old new place place' peak area = (columns : List Column) → length columns ≡ index →
-    (kind : Kind) × Describes room (InColumn bytes count columns (ColumnInfo byte)) old new place place' peak area (InColumn area.bytes count columns (NameCount kind))
-
--- The head of a column and its further type information were read, whatever the columns before it are.
-abbrev pub DescribesType : ℕ → ℕ → ℕ → List ℕ → Seen → Seen → ℕ → ℕ → ℕ → Space → Type 0
-DescribesType room count index bytes old new place place' peak area = (columns : List Column) → length columns ≡ index →
-    (kind : Kind) × Describes room (InColumn bytes count columns ColumnHead) old new place place' peak area (InColumn area.bytes count columns (NameCount kind))
-
--- The name of a column was read behind the rest of it, whatever that and the columns before it are.
-abbrev pub DescribesName : ℕ → ℕ → ℕ → List ℕ → Seen → Seen → ℕ → ℕ → ℕ → Space → Type 0
-DescribesName room count index bytes old new place place' peak area = (columns : List Column) (kind : Kind) → length columns ≡ index →
-    (column : Column) × Describes room (InColumn bytes count columns (NameCount kind)) old new place place' peak area (with_column area.bytes count columns column)
-
--- A column was read, whatever the columns before it are.
-abbrev pub DescribesColumn : ℕ → ℕ → ℕ → List ℕ → Seen → Seen → ℕ → ℕ → ℕ → Space → Type 0
-DescribesColumn room count index bytes old new place place' peak area = (columns : List Column) → length columns ≡ index →
-    (column : Column) × Describes room (InColumn bytes count columns ColumnHead) old new place place' peak area (with_column area.bytes count columns column)
-
--- The reading stopped in a column, whatever the columns before it are.
-abbrev pub StopsInColumn : ℕ → ℕ → ℕ → ColumnPlace → List ℕ → Seen → Seen → ℕ → ℕ → Space → Stop → Type 0
-StopsInColumn room count index at bytes old new place peak area stop = (columns : List Column) → length columns ≡ index → StopsDescribing room (InColumn bytes count columns at) old new place peak area stop
-
--- So many columns were read behind Count.
-pub record DescribesColumns (room count : ℕ) (bytes : List ℕ) (old new : Seen) (place place' peak : ℕ) (area : Space) : Type 0 where
-  pub columns : List Column
-  pub all : length columns ≡ count
-  pub describes : Describes room (InColumn bytes count [] ColumnHead) old new place place' peak area (WholeDescription area.bytes columns)
-
--- What a description says, as it was read.
-abbrev pub GatherGives : ℕ → Seen → Seen → ℕ → ℕ → ℕ → Space → Described → Type 0
-GatherGives room old new place place' peak area (Columns count) = (columns : List Column) × (length columns ≡ count)
-    × Describes room BeforeCount old new place place' peak area (WholeDescription area.bytes columns) × Gathers room old new area.bytes peak area.peak columns
-GatherGives room old new place place' peak area NoMetadata = Describes room BeforeCount old new place place' peak area NoDescription × GathersNone old new area.bytes peak area.peak
+-- A description was read: the area has its bytes, which are those taken; or a Count of no metadata was.
+abbrev pub DescribesAll : (room : ℕ) → (old new : Seen) → (place place' peak : ℕ) → Space → Described → Type 0
+DescribesAll room old new place place' peak area (Columns count) = (columns : List Column) × (length columns ≡ count)
+    × Describes room BeforeCount old new place place' peak area (WholeDescription area.bytes columns)
+    × Takes old new area.bytes (length area.bytes) × SpellsDescription room columns area.bytes
+DescribesAll room old new place place' peak area NoMetadata =
+    DescribesCount room old new place place' peak area NoMetadata
 
 -- Reading a description from its Count on stopped: the area's bytes are all those of the whole elements.
 pub record GatherStops (room : ℕ) (old new : Seen) (place peak : ℕ) (area : Space) (stop : Stop) : Type 0 where
   pub describing : StopsDescribing room BeforeCount old new place peak area stop
   pub begins : area.bytes ≡ describing.stops.bytes
 
--- ---- what each call answers, over a payload and an area before and after it
+module _ {R : Type 0} (remaining : R → Option (List ℕ)) (old new : Payload R) (before after : Space)
+    (result : Result Described Stop) where
+  -- A Count was read into the area, or the reading stopped there.
+  abbrev pub CountRead : Type 0
+  CountRead = let a = seen remaining old in let b = seen remaining new in MatchResult result
+      (DescribesCount before.room a b old.place new.place before.peak after)
+      (λ stop. old.stopped ≡ None → StopsDescribing before.room BeforeCount a b old.place before.peak after stop)
 
--- A Count was read into the area, or the reading stopped there.
-abbrev pub CountRead : {R : Type 0} → (R → Option (List ℕ)) → (old new : Payload R) → (before after : Space) → Result Described Stop → Type 0
-CountRead remaining old new before after result = MatchResult result
-    (λ described. DescribesCount before.room (seen remaining old) (seen remaining new) old.place new.place before.peak after described)
-    (λ stop. old.stopped ≡ None →
-    StopsDescribing before.room BeforeCount (seen remaining old) (seen remaining new) old.place before.peak after stop)
-
--- What follows the type byte of a column was read into the area, or the reading stopped there.
-abbrev pub InfoRead : {R U : Type 0} → (R → Option (List ℕ)) → (index byte : ℕ) → (old new : Payload R) → (before after : Space) → Result U Stop → Type 0
-InfoRead remaining index byte old new before after result = MatchResult result
-    (λ _. (count : ℕ) → DescribesInfo before.room count index byte before.bytes (seen remaining old) (seen remaining new) old.place new.place before.peak after)
-    (λ stop. (count : ℕ) → StopsInColumn before.room count index (ColumnInfo byte) before.bytes (seen remaining old) (seen remaining new) old.place before.peak after stop)
-
--- The head of a column and its further type information were read into the area, or the reading stopped there.
-abbrev pub TypeRead : {R U : Type 0} → (R → Option (List ℕ)) → (count index : ℕ) → (old new : Payload R) → (before after : Space) → Result U Stop → Type 0
-TypeRead remaining count index old new before after result = MatchResult result
-    (λ _. DescribesType before.room count index before.bytes (seen remaining old) (seen remaining new) old.place new.place before.peak after)
-    (λ stop. StopsInColumn before.room count index ColumnHead before.bytes (seen remaining old) (seen remaining new) old.place before.peak after stop)
-
--- The name of a column was read into the area, or the reading stopped there.
-abbrev pub NameRead : {R U : Type 0} → (R → Option (List ℕ)) → (count index : ℕ) → (old new : Payload R) → (before after : Space) → Result U Stop → Type 0
-NameRead remaining count index old new before after result = MatchResult result
-    (λ _. DescribesName before.room count index before.bytes (seen remaining old) (seen remaining new) old.place new.place before.peak after)
-    (λ stop. (kind : Kind) → StopsInColumn before.room count index (NameCount kind) before.bytes (seen remaining old) (seen remaining new) old.place before.peak after stop)
-
--- A column was read into the area, or the reading stopped in it.
-abbrev pub ColumnRead : {R U : Type 0} → (R → Option (List ℕ)) → (count index : ℕ) → (old new : Payload R) → (before after : Space) → Result U Stop → Type 0
-ColumnRead remaining count index old new before after result = MatchResult result
-    (λ _. DescribesColumn before.room count index before.bytes (seen remaining old) (seen remaining new) old.place new.place before.peak after)
-    (λ stop. StopsInColumn before.room count index ColumnHead before.bytes (seen remaining old) (seen remaining new) old.place before.peak after stop)
-
--- All columns were read into the area behind Count, or the reading stopped in one.
-abbrev pub ColumnsRead : {R U : Type 0} → (R → Option (List ℕ)) → (count : ℕ) → (old new : Payload R) → (before after : Space) → Result U Stop → Type 0
-ColumnsRead remaining count old new before after result = MatchResult result
-    (λ _. DescribesColumns before.room count before.bytes (seen remaining old) (seen remaining new) old.place new.place before.peak after)
-    (λ stop. StopsDescribing before.room (InColumn before.bytes count [] ColumnHead) (seen remaining old) (seen remaining new) old.place before.peak after stop)
-
--- A description was read into the area, or the reading stopped in it.
-abbrev pub DescriptionRead : {R : Type 0} → (R → Option (List ℕ)) → (old new : Payload R) → (before after : Space) → Result Described Stop → Type 0
-DescriptionRead remaining old new before after result = MatchResult result
-    (λ described. GatherGives before.room (seen remaining old) (seen remaining new) old.place new.place before.peak after described)
-    (λ stop. old.stopped ≡ None → GatherStops before.room (seen remaining old) (seen remaining new) old.place before.peak after stop)
+  -- A description was read into the area, or the reading stopped in it.
+  abbrev pub DescriptionRead : Type 0
+  DescriptionRead = let a = seen remaining old in let b = seen remaining new in MatchResult result
+      (DescribesAll before.room a b old.place new.place before.peak after)
+      (λ stop. old.stopped ≡ None → GatherStops before.room a b old.place before.peak after stop)

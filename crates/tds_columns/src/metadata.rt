@@ -125,7 +125,7 @@ fn read_info<R: Read>(
     ensures payload { LeavesPayload payload.old payload.new result }
     ensures room { area.new.room ≡ area.old.room }
     ensures length { OnOk result (length area.new.bytes ≡ length area.old.bytes + rest) }
-    ensures gives { InfoRead R.remaining index byte payload.old payload.new area.old area.new result }
+    ensures gives { InfoRead R.remaining payload.old payload.new area.old area.new result index byte }
 {
     let info_place = payload.place();
     let start = area.len();
@@ -155,7 +155,7 @@ fn read_type<R: Read>(
     ensures payload { LeavesPayload payload.old payload.new result }
     ensures room { area.new.room ≡ area.old.room }
     ensures fits { OnOk result (length area.new.bytes + 1 + LEAST_COLUMN * (count - (index + 1)) ≤ area.new.room) }
-    ensures gives { TypeRead R.remaining count index payload.old payload.new area.old area.new result }
+    ensures gives { TypeRead R.remaining payload.old payload.new area.old area.new result count index }
 {
     let place = payload.place();
     let start = area.len();
@@ -190,7 +190,7 @@ fn read_name<R: Read>(
     ensures payload { LeavesPayload payload.old payload.new result }
     ensures room { area.new.room ≡ area.old.room }
     ensures fits { OnOk result (length area.new.bytes + LEAST_COLUMN * (count - (index + 1)) ≤ area.new.room) }
-    ensures gives { NameRead R.remaining count index payload.old payload.new area.old area.new result }
+    ensures gives { NameRead R.remaining payload.old payload.new area.old area.new result count index }
 {
     let place = payload.place();
     let start = area.len();
@@ -224,7 +224,7 @@ fn read_column<R: Read>(
     ensures payload { LeavesPayload payload.old payload.new result }
     ensures room { area.new.room ≡ area.old.room }
     ensures fits { OnOk result (length area.new.bytes + LEAST_COLUMN * (count - (index + 1)) ≤ area.new.room) }
-    ensures gives { ColumnRead R.remaining count index payload.old payload.new area.old area.new result }
+    ensures gives { ColumnRead R.remaining payload.old payload.new area.old area.new result count index }
 {
     read_type(payload, area, index, count)?;
     read_name(payload, area, index, count)
@@ -237,7 +237,7 @@ fn read_columns<R: Read>(payload: &mut Payload<R>, area: &mut Area, count: u16) 
     requires fits { length area.old.bytes + LEAST_COLUMN * count ≤ area.old.room }
     ensures payload { LeavesPayload payload.old payload.new result }
     ensures room { area.new.room ≡ area.old.room }
-    ensures gives { ColumnsRead R.remaining count payload.old payload.new area.old area.new result }
+    ensures gives { ColumnsRead R.remaining payload.old payload.new area.old area.new result count }
 {
     'columns: for index in 0..count {
         read_column(payload, area, index, count)?;

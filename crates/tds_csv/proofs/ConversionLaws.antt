@@ -6,9 +6,9 @@ use Rattle.std.proofs.lemmas.Str.{is_utf8-from_IsUtf8, IsUtf8-from_is_utf8, IsUt
 use Rattle.std.specs.Str.Lossy.{utf8_error_len}
 use Rattle.tds_csv.specs.Joining.{JoinsPieces}
 use Rattle.tds_csv.specs.Utf8 as utf8
-use Rattle.tds_csv.specs.SingleLaws.{joins_binary, joins_windows_1252}
-use Rattle.tds_csv.specs.Utf16Laws.{joins_utf16}
-use Rattle.tds_csv.specs.Utf8Laws.{joins_utf8}
+use Rattle.tds_csv.proofs.SingleLaws.{joins_binary, joins_windows_1252}
+use Rattle.tds_csv.proofs.Utf16Laws.{joins_utf16}
+use Rattle.tds_csv.proofs.Utf8Laws.{joins_utf8}
 use Rattle.tds_csv.specs.Conversion.{Conversion, HexDigits, Utf16Text, Windows1252Text, Utf8Text, IsFit, Begins, conversion_rest, conversion_text, unit, is_fit, is_begun}
 use Rattle.tds_csv.proofs.Utf8Test.{begins_none, none_begins}
 

@@ -8,7 +8,7 @@ use Rattle.std.proofs.Math.Seq.{take-append-add}
 use Rattle.std.proofs.lemmas.Str.{encode_same, utf8_valid_len_le, utf8_valid_len-IsUtf8}
 use Rattle.tds_meter.specs.Space.{Space, appended}
 use Rattle.tds_csv.specs.Cutting.{whole_within}
-use Rattle.tds_csv.specs.Utf8Laws.{front, front_is, valid_len-past}
+use Rattle.tds_csv.proofs.Utf8Laws.{front, front_is, valid_len-past}
 
 -- two pieces, one after the other
 pub appended_twice : (s : Space) (x y : List ℕ) → appended (appended s x) y ≡ appended s (x ++ y)

@@ -20,3 +20,7 @@ pub mod Puttings
 pub mod Streams
 pub mod Pushings
 pub mod Utf16Seam
+pub mod Utf8Laws
+pub mod Utf16Laws
+pub mod SingleLaws
+pub mod JoiningLemmas

@@ -8,7 +8,7 @@ use Rattle.std.specs.Char.{encode_utf8}
 use Rattle.tds_csv.specs.Quoting.{doubled}
 use Rattle.tds_csv.specs.Plain.{is_plain}
 use Rattle.tds_csv.specs.Windows1252 as windows_1252
-use Rattle.tds_csv.specs.SingleLaws.{windows_1252-append}
+use Rattle.tds_csv.proofs.SingleLaws.{windows_1252-append}
 use Rattle.tds_csv.proofs.Characters.{of_one, doubled_character}
 use Rattle.tds_csv.proofs.Singles.{front_itself, lanes_itself}
 

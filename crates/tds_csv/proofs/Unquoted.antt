@@ -5,7 +5,7 @@ use Rattle.std.proofs.lemmas.Bool.Decides.{nat_tests}
 use lib.Lanes.{chunk}
 use Rattle.tds_csv.specs.Quoting.{doubled}
 use Rattle.tds_csv.specs.Plain.{is_unquoted}
-use Rattle.tds_csv.specs.JoiningLemmas.{doubled-append}
+use Rattle.tds_csv.proofs.JoiningLemmas.{doubled-append}
 use Rattle.tds_csv.proofs.Characters.{doubled_one}
 use Rattle.tds_csv.proofs.Singles.{front_itself, lanes_itself}
 

@@ -2,7 +2,7 @@
 use Rattle.std.proofs.Common.{◌≡◌, ◌<◌, ℕ, List, [], ◌∷◌, ◌++◌, length, take, drop, refl, sym, subst, arith}
 use Rattle.tds_csv.specs.Joining.{Leads, emit}
 use Rattle.tds_csv.specs.Utf16.{rest, text}
-use Rattle.tds_csv.specs.Utf16Laws.{joins_utf16}
+use Rattle.tds_csv.proofs.Utf16Laws.{joins_utf16}
 use Rattle.tds_csv.specs.Utf16Next.{seam}
 use Rattle.tds_csv.proofs.Leading.{Leads-none, Leads-seam-front}
 use Rattle.tds_csv.proofs.Utf16Steps.{text_nil}

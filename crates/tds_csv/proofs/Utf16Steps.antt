@@ -8,9 +8,9 @@ use Rattle.std.specs.Char.Utf16.{utf16_chars, utf16_lossy_chars, is_high_surroga
 use Rattle.tds_csv.specs.Joining.{emit}
 use Rattle.tds_csv.specs.Quoting.{doubled}
 use Rattle.tds_csv.specs.Utf16.{units, is_high, characters, rest, text}
-use Rattle.tds_csv.specs.Utf16Laws.{starts_low, chars-apart, front, front_step, rest_step, emit-front, short}
+use Rattle.tds_csv.proofs.Utf16Laws.{starts_low, chars-apart, front, front_step, rest_step, emit-front, short}
 use Rattle.tds_csv.specs.Utf16Next.{IsNext}
-use Rattle.tds_csv.specs.JoiningLemmas.{doubled-append}
+use Rattle.tds_csv.proofs.JoiningLemmas.{doubled-append}
 
 pub text_nil : text [] ≡ []
 unfolding utf16_chars

@@ -14,7 +14,7 @@ use Rattle.tds_csv.specs.Pushing.{Pushes, PushesPiece, TakesPiece, TakesUpTo, is
 use Rattle.tds_csv.specs.Sinks.{Held, Puts, Breaks, held}
 use Rattle.tds_csv.proofs.Puttings.{same_sink_after}
 use Rattle.tds_csv.specs.Utf8.{Begins, rest, text}
-use Rattle.tds_csv.specs.Utf8Laws.{joins_utf8, emits, rest-append, front, front-rest}
+use Rattle.tds_csv.proofs.Utf8Laws.{joins_utf8, emits, rest-append, front, front-rest}
 use Rattle.tds_csv.specs.Utf8Scan.{StopsAt}
 use Rattle.tds_csv.proofs.Sinks.{Puts-trans, Breaks-after, Breaks-longer}
 

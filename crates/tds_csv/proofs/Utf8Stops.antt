@@ -10,9 +10,9 @@ use Rattle.std.specs.Str.Lossy.{utf8_error_len, utf8_valid_len, second_byte_min,
 use Rattle.std.proofs.lemmas.Str.{utf8_valid_len_le}
 use Rattle.std.proofs.lemmas.List.{take-take}
 use Rattle.tds_csv.specs.Joining.{emit}
-use Rattle.tds_csv.specs.JoiningLemmas.{settled_front}
+use Rattle.tds_csv.proofs.JoiningLemmas.{settled_front}
 use Rattle.tds_csv.specs.Utf8.{rest, text}
-use Rattle.tds_csv.specs.Utf8Laws.{front, front_is, front-rest, length-front, take-past, rest-append, emit-front}
+use Rattle.tds_csv.proofs.Utf8Laws.{front, front_is, front-rest, length-front, take-past, rest-append, emit-front}
 use Rattle.tds_csv.specs.Utf8Scan.{StopsAt}
 use Rattle.tds_csv.proofs.Utf8Test.{NoText, no_text, begins_none, none_begins}
 

@@ -11,7 +11,7 @@ use Rattle.std.specs.Str.{all_scalars}
 use Rattle.std.proofs.lemmas.Str.{len_utf8_bounds, IsUtf8-encode, IsUtf8-append, IsUtf8-nil}
 use lib.Utf8.{scalar, scalar_cases}
 use Rattle.tds_csv.specs.Utf8.{Begins, rest}
-use Rattle.tds_csv.specs.Utf8Laws.{front, front_is, front-rest, length-front, longest_is, take-past, regrouped, after_text, no_char, shorter}
+use Rattle.tds_csv.proofs.Utf8Laws.{front, front_is, front-rest, length-front, longest_is, take-past, regrouped, after_text, no_char, shorter}
 use Rattle.std.proofs.str.Valid.{of_two, of_three, of_four}
 use Rattle.std.proofs.lemmas.List.{length-append}
 

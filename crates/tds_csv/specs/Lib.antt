@@ -5,12 +5,8 @@ pub mod Quoting
 pub mod Utf16
 pub mod Utf8
 pub mod Windows1252
-pub mod JoiningLemmas
-pub mod SingleLaws
 pub mod Utf8Scan
-pub mod Utf16Laws
 pub mod Utf16Next
-pub mod Utf8Laws
 pub mod Pushing
 pub mod Sinks
 pub mod Spare

@@ -83,7 +83,8 @@ pub trait Joiner: Sized {
         ensures { EndsPieces W.contents UNIT fit begins text (withheld self.old) (withheld self.new)
             sink.old sink.new result };
 
-    ghost joins: { JoinsPieces fit begins rest text };
-
-    ghost whole_units: { (bytes : List ℕ) → fit bytes → length bytes % UNIT ≡ 0 };
+    /// Does nothing: its clauses are the laws of the words above.
+    fn laws()
+        ensures joins { JoinsPieces fit begins rest text }
+        ensures whole_units { (bytes : List ℕ) → fit bytes → length bytes % UNIT ≡ 0 };
 }

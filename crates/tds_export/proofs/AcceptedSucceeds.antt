@@ -6,7 +6,8 @@ use Rattle.tds_packet.specs.declared.fault.Fault.{Fault}
 use Rattle.tds_packet.specs.declared.fault.Fault.TheVariants.{EndWithoutDone, NotYet}
 use Rattle.tds_packet.specs.declared.fault.Place.{Place}
 use Rattle.tds_packet.specs.declared.fault.Place.TheVariants.{Wire, Payload, Text}
-use Rattle.tds_packet.specs.Elements.{IsRefused, Longest, Reading, feed_all}
+use Rattle.tds_packet.specs.Elements.{IsRefused, Longest}
+use Rattle.tds_packet.proofs.Feeding.{Reading, feed_all}
 use Rattle.tds_packet.specs.Packets.{AreBefore, BeforeBody, BeforeHeader, BehindLast, Message, Packet, WireFault, WirePart, WirePlace, header_length, no_wire, packet_of, payload_of, wire, wire_add, wire_end, wire_of, wire_size, with_packet}
 use Rattle.tds_packet.proofs.ElementLaws.{Spelt-induct, Told, feed-Spelt, feed_all-append, longest_cut, one_longest, read_longest, told}
 use Rattle.tds_packet.proofs.PacketLaws.{before_are_read, before_packet}
@@ -16,7 +17,8 @@ use Rattle.tds_export.specs.declared.report.Report.{Report}
 use Rattle.tds_export.specs.declared.report.Stopped.{Stopped}
 use Rattle.tds_export.specs.Tokens.{Token, error_text, is_final, text}
 use Rattle.tds_export.specs.Response.{Accepted, Response}
-use Rattle.tds_export.specs.Outcome.{Outcome, Packets, Reported, Run, Stops, SucceedsIfAccepted, grammar, report_of}
+use Rattle.tds_export.specs.Moments.{Run}
+use Rattle.tds_export.specs.Outcome.{Outcome, Packets, Reported, Stops, SucceedsIfAccepted, grammar, report_of}
 use Rattle.tds_export.specs.TokenGrammar.{Part, response_start}
 use Rattle.tds_export.specs.Steps.{behind}
 use Rattle.tds_export.proofs.ResponseLaws.{one_accepted, refused_response, response_is_read}
@@ -73,10 +75,10 @@ no_wire_fault size limit input wires unread packets read fault m e f =
 
 -- ---- no stop of an accepted response is one of the input
 
-ended_accepted : (run : Run) (tokens : List Token) (payload : List ℕ) (place : ℕ) (part : Part) (fault : Fault) → Response run.charset run.limits.column_room tokens payload → Longest (grammar run) response_start payload place part → (grammar run).end_fault part ≡ Some fault → ⊥
+ended_accepted : (run : Run) (tokens : List Token) (payload : List ℕ) (place : ℕ) (part : Part) (fault : Fault) → Response run.given.charset run.given.before.areas.limits.column_room tokens payload → Longest (grammar run) response_start payload place part → (grammar run).end_fault part ≡ Some fault → ⊥
 ended_accepted run tokens payload place part fault r l end =
     let g = grammar run in
-    let read = response_is_read run.charset run.limits.column_room tokens payload r in
+    let read = response_is_read run.given.charset run.given.before.areas.limits.column_room tokens payload r in
     let all = subst (λ v. Longest g response_start v (length payload) (behind tokens)) (append-nil payload) (longest_cut g response_start payload [] (behind tokens) read (omega arith)) in
     let same : part ≡ behind tokens = (one_longest g response_start payload place (length payload) part (behind tokens) l all).1 in
     let ends : g.end_fault (behind tokens) ≡ Some fault = ap g.end_fault (sym same) ∙ end in
@@ -86,40 +88,40 @@ ended_accepted run tokens payload place part fault r l end =
     final_ends true e fault h = cc
     final_ends false e fault h = cc
 
-refused_accepted : (run : Run) (tokens : List Token) (payload more : List ℕ) (place : ℕ) (part : Part) (fault : Fault) → Response run.charset run.limits.column_room tokens (payload ++ more) → Longest (grammar run) response_start payload place part → IsRefused (grammar run) part (drop place payload) fault → ⊥
+refused_accepted : (run : Run) (tokens : List Token) (payload more : List ℕ) (place : ℕ) (part : Part) (fault : Fault) → Response run.given.charset run.given.before.areas.limits.column_room tokens (payload ++ more) → Longest (grammar run) response_start payload place part → IsRefused (grammar run) part (drop place payload) fault → ⊥
 refused_accepted run tokens payload more place part fault r l refused =
     let n = place + (grammar run).size part in
     let split : payload ++ more ≡ take n payload ++ (drop n payload ++ more) = ap (λ v. v ++ more) (sym (take-append-drop n payload)) ∙ append_assoc (take n payload) (drop n payload) more in
-    refused_response run.charset run.limits.column_room payload place part fault (drop n payload ++ more) tokens l refused (subst (λ v. Response run.charset run.limits.column_room tokens v) split r)
+    refused_response run.given.charset run.given.before.areas.limits.column_room payload place part fault (drop n payload ++ more) tokens l refused (subst (λ v. Response run.given.charset run.given.before.areas.limits.column_room tokens v) split r)
 
 -- the packets read are those of the message, or begin it
-read_begin : (run : Run) (tokens : List Token) (read packets : List Packet) → Packets run read → (a : Accepted run.charset run.limits.packet_size run.limits.column_room run.limits.max_wire tokens packets run.input) → (more : List ℕ) × (payload_of packets ≡ payload_of read ++ more)
+read_begin : (run : Run) (tokens : List Token) (read packets : List Packet) → Packets run read → (a : Accepted run.given.charset run.given.before.areas.limits.packet_size run.given.before.areas.limits.column_room run.given.before.areas.limits.max_wire tokens packets run.input) → (more : List ℕ) × (payload_of packets ≡ payload_of read ++ more)
 read_begin run tokens read packets p a = elim p.each [
-  | inl h ↦ (let same = one_message run.limits.packet_size run.limits.max_wire read packets (wire_of read) a.wire run.left a.unread (record { spelt = refl; each = h; within = p.within }) a.message (p.begin ∙ a.begins) in
+  | inl h ↦ (let same = one_message run.given.before.areas.limits.packet_size run.given.before.areas.limits.max_wire read packets (wire_of read) a.wire run.left a.unread (record { spelt = refl; each = h; within = p.within }) a.message (p.begin ∙ a.begins) in
       ([], ap payload_of (sym same) ∙ sym (append-nil (payload_of read))))
-  | inr h ↦ (let b = before_begins run.limits.packet_size run.limits.max_wire read packets a.wire run.left a.unread h p.within a.message (p.begin ∙ a.begins) in
+  | inr h ↦ (let b = before_begins run.given.before.areas.limits.packet_size run.given.before.areas.limits.max_wire read packets a.wire run.left a.unread h p.within a.message (p.begin ∙ a.begins) in
       (payload_of b.0, ap payload_of (sym b.1) ∙ flat_map-append (λ (v : Packet). v.body) read b.0))
 ]
 
-only_unbuilt : (run : Run) (fault : Fault) (place : Place) → Stops run fault place → (tokens : List Token) (packets : List Packet) → Accepted run.charset run.limits.packet_size run.limits.column_room run.limits.max_wire tokens packets run.input
-    → (Rose run.read_failures_before run.read_failures → ⊥) → (Rose run.write_failures_before run.write_failures → ⊥) → fault ≡ NotYet
+only_unbuilt : (run : Run) (fault : Fault) (place : Place) → Stops run fault place → (tokens : List Token) (packets : List Packet) → Accepted run.given.charset run.given.before.areas.limits.packet_size run.given.before.areas.limits.column_room run.given.before.areas.limits.max_wire tokens packets run.input
+    → (Rose run.given.before.reader.failures run.given.after.reader.failures → ⊥) → (Rose run.given.before.writer.failures run.given.after.writer.failures → ⊥) → fault ≡ NotYet
 only_unbuilt run fault (Payload place) (inl x) tokens packets a reads writes = elim x.first [
   | inl r ↦ (let b = read_begin run tokens x.packets packets x.stands a in
-      absurd (refused_accepted run tokens (payload_of x.packets) b.0 place x.part fault (subst (λ v. Response run.charset run.limits.column_room tokens v) b.1 a.response) x.leads r.0))
-  | inr r ↦ (let same = one_message run.limits.packet_size run.limits.max_wire x.packets packets (wire_of x.packets) a.wire run.left a.unread (record { spelt = refl; each = r.0; within = x.stands.within }) a.message (x.stands.begin ∙ a.begins) in
-      absurd (ended_accepted run tokens (payload_of x.packets) place x.part fault (subst (λ v. Response run.charset run.limits.column_room tokens (payload_of v)) (sym same) a.response) x.leads r.2))
+      absurd (refused_accepted run tokens (payload_of x.packets) b.0 place x.part fault (subst (λ v. Response run.given.charset run.given.before.areas.limits.column_room tokens v) b.1 a.response) x.leads r.0))
+  | inr r ↦ (let same = one_message run.given.before.areas.limits.packet_size run.given.before.areas.limits.max_wire x.packets packets (wire_of x.packets) a.wire run.left a.unread (record { spelt = refl; each = r.0; within = x.stands.within }) a.message (x.stands.begin ∙ a.begins) in
+      absurd (ended_accepted run tokens (payload_of x.packets) place x.part fault (subst (λ v. Response run.given.charset run.given.before.areas.limits.column_room tokens (payload_of v)) (sym same) a.response) x.leads r.2))
 ]
 only_unbuilt run fault (Payload place) (inr x) tokens packets a reads writes = x.0
 only_unbuilt run fault (Wire taken) x tokens packets a reads writes = elim x.first [
   | inl r ↦ absurd (reads r.1)
-  | inr r ↦ absurd (no_wire_fault run.limits.packet_size run.limits.max_wire run.input a.wire a.unread packets x.packets fault a.message a.begins r)
+  | inr r ↦ absurd (no_wire_fault run.given.before.areas.limits.packet_size run.given.before.areas.limits.max_wire run.input a.wire a.unread packets x.packets fault a.message a.begins r)
 ]
 only_unbuilt run fault (Text written) x tokens packets a reads writes = absurd (writes x.failed)
 
 -- a report that is answered is that of the accepted response
 reported_succeeds : (run : Run) (report : Report) → Reported run report → SucceedsIfAccepted run (Ok report)
 reported_succeeds run report r = λ tokens packets accepted reads writes.
-    let same = one_accepted run.charset run.limits.column_room run.limits.packet_size run.limits.max_wire tokens r.tokens packets r.packets run.input accepted r.accepted in
+    let same = one_accepted run.given.charset run.given.before.areas.limits.column_room run.given.before.areas.limits.packet_size run.given.before.areas.limits.max_wire tokens r.tokens packets r.packets run.input accepted r.accepted in
     inl (record {
       report_is = ap (λ v. Ok v) (r.report_is ∙ ap report_of (sym same.0));
       written = r.written ∙ ap text (sym same.0);

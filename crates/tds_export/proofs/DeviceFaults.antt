@@ -13,7 +13,8 @@ use Rattle.tds_rows.specs.declared.Charset.{Charset}
 use Rattle.tds_rows.specs.Unbuilt.{Stalls}
 use Rattle.tds_export.specs.declared.report.Stopped.{Stopped}
 use Rattle.tds_export.specs.Built.{is_built}
-use Rattle.tds_export.specs.Moments.{Given, StopsExport, begun_at, fresh_at, grammar_of}
+use Rattle.tds_export.specs.Moments.{Given, grammar_of}
+use Rattle.tds_export.specs.Exports.{StopsExport, begun_at, fresh_at}
 use Rattle.tds_export.specs.TokenGrammar.{Part, response, response_start}
 use Rattle.tds_export.specs.Steps.{RunStops}
 use Rattle.tds_export.proofs.PayloadFaults.{IsOfPayload, element_fault, end_fault}
@@ -105,29 +106,29 @@ reading_fault charset room size limit failures left b place at stop (inl x) = el
 -- ---- an export
 
 -- a failed write rose the count, and is no failed read
-by_write : (given : Given) (stopped : Stopped) (stop : Stop) (middle after : Held) → stopped.fault ≡ stop.fault → stop.fault ≡ WriteFailed → middle.failures ≡ given.write_failures_before → after.failures ≡ one_more middle.failures → after.failures ≡ given.write_failures
-    → (stopped.fault ≡ ReadFailed → Rose given.read_failures_before given.read_failures) × (stopped.fault ≡ WriteFailed → Rose given.write_failures_before given.write_failures)
+by_write : (given : Given) (stopped : Stopped) (stop : Stop) (middle after : Held) → stopped.fault ≡ stop.fault → stop.fault ≡ WriteFailed → middle.failures ≡ given.before.writer.failures → after.failures ≡ one_more middle.failures → after.failures ≡ given.after.writer.failures
+    → (stopped.fault ≡ ReadFailed → Rose given.before.reader.failures given.after.reader.failures) × (stopped.fault ≡ WriteFailed → Rose given.before.writer.failures given.after.writer.failures)
 by_write given stopped stop middle after is named start failed end =
-    (λ e. absurd (let no : WriteFailed ≡ ReadFailed = sym named ∙ sym is ∙ e in cc), λ e. subst (Rose given.write_failures_before) (sym failed' ∙ end) (rose given.write_failures_before))
+    (λ e. absurd (let no : WriteFailed ≡ ReadFailed = sym named ∙ sym is ∙ e in cc), λ e. subst (Rose given.before.writer.failures) (sym failed' ∙ end) (rose given.before.writer.failures))
   where
-    failed' : after.failures ≡ one_more given.write_failures_before
+    failed' : after.failures ≡ one_more given.before.writer.failures
     failed' = failed ∙ ap one_more start
 
 -- a device is blamed only where its count rose
-pub blamed : (given : Given) (stopped : Stopped) → StopsExport given stopped → (stopped.fault ≡ ReadFailed → Rose given.read_failures_before given.read_failures) × (stopped.fault ≡ WriteFailed → Rose given.write_failures_before given.write_failures)
+pub blamed : (given : Given) (stopped : Stopped) → StopsExport given stopped → (stopped.fault ≡ ReadFailed → Rose given.before.reader.failures given.after.reader.failures) × (stopped.fault ≡ WriteFailed → Rose given.before.writer.failures given.after.writer.failures)
 blamed given stopped x = go x.stops
   where
     is : stopped.fault ≡ x.stop.fault
     is = ap (λ (s : Stopped). s.fault) x.stopped_is
 
-    ends : (failed : x.failed ≡ true) → x.middle.failures ≡ given.write_failures
+    ends : (failed : x.failed ≡ true) → x.middle.failures ≡ given.after.writer.failures
     ends failed = ap (λ (h : Held). h.failures) (sym (x.same failed)) ∙ x.writer.failures
 
-    go : RunStops (grammar_of given) response_start (begun_at given) x.seen 0 (fresh_at given) x.middle given.description x.failed x.stop
-        → (stopped.fault ≡ ReadFailed → Rose given.read_failures_before given.read_failures) × (stopped.fault ≡ WriteFailed → Rose given.write_failures_before given.write_failures)
+    go : RunStops (grammar_of given) response_start (begun_at given) x.seen 0 (fresh_at given) x.middle given.after.areas.description x.failed x.stop
+        → (stopped.fault ≡ ReadFailed → Rose given.before.reader.failures given.after.reader.failures) × (stopped.fault ≡ WriteFailed → Rose given.before.writer.failures given.after.writer.failures)
     go (inl (inl y)) =
-        let r = reading_fault given.charset given.limits.column_room given.limits.packet_size given.limits.max_wire given.read_failures_before given.input x.seen 0 y.0.at x.stop y.0.stalls in
-        (λ e. subst (Rose given.read_failures_before) (sym (r.1 (sym is ∙ e)) ∙ x.reader.failures) (rose given.read_failures_before), λ e. absurd (r.0 (sym is ∙ e)))
+        let r = reading_fault given.charset given.before.areas.limits.column_room given.before.areas.limits.packet_size given.before.areas.limits.max_wire given.before.reader.failures given.before.reader.bytes x.seen 0 y.0.at x.stop y.0.stalls in
+        (λ e. subst (Rose given.before.reader.failures) (sym (r.1 (sym is ∙ e)) ∙ x.reader.failures) (rose given.before.reader.failures), λ e. absurd (r.0 (sym is ∙ e)))
     go (inl (inr y)) =
         let b = y.0.breaks.breaks in
         by_write given stopped x.stop y.0.breaks.middle x.middle is (ap (λ (s : Stop). s.fault) b.8) y.0.breaks.puts.2.4 b.9 (ends y.1)

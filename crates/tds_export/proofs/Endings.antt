@@ -10,7 +10,8 @@ use Rattle.tds_export.specs.declared.report.Stopped.{Stopped}
 use Rattle.tds_export.specs.TokenGrammar.{response, response_start}
 use Rattle.tds_export.specs.Steps.{Completes, RunStops}
 use Rattle.tds_export.specs.Tokens.{message_text}
-use Rattle.tds_export.specs.Moments.{Reports, Given, IsReader, IsWriter, StopsExport, Tidied, begun_at, fresh_at}
+use Rattle.tds_export.specs.Moments.{Given}
+use Rattle.tds_export.specs.Exports.{Reports, IsReader, IsWriter, StopsExport, Tidied, begun_at, fresh_at}
 
 rose_from : (f : ℕ) (b : Bool) → nat_lt f (2 ^ 64 - 1) ≡ b → Rose f (one_more f)
 rose_from f true e = let low : f < 2 ^ 64 - 1 = grind (arith, nat_tests) in inl (omega (arith, low))
@@ -27,17 +28,17 @@ tidied h k failed (Err e) going x = let y = x going in (y.0, y.1, inr (subst (Ro
 
 -- ---- what an export leaves, from what its calls did
 
-pub exports : (given : Given) (a q : Seen) (h k : Held) (room : ℕ) (report : Report) → a ≡ begun_at given → h ≡ fresh_at given → room ≡ given.limits.column_room → IsReader given q → IsWriter given k
-    → Completes (response given.charset room) response_start a q h k report given.description → given.notice ≡ [] → Reports given report
+pub exports : (given : Given) (a q : Seen) (h k : Held) (room : ℕ) (report : Report) → a ≡ begun_at given → h ≡ fresh_at given → room ≡ given.before.areas.limits.column_room → IsReader given q → IsWriter given k
+    → Completes (response given.charset room) response_start a q h k report given.after.areas.description → given.after.areas.notice.bytes ≡ [] → Reports given report
 exports given a q h k room report e1 e2 e3 reader writer x none =
-    let y = subst (λ r. Completes (response given.charset r) response_start (begun_at given) q (fresh_at given) k report given.description) e3
-    (subst (λ v. Completes (response given.charset room) response_start (begun_at given) q v k report given.description) e2
-    (subst (λ v. Completes (response given.charset room) response_start v q h k report given.description) e1 x)) in
+    let y = subst (λ r. Completes (response given.charset r) response_start (begun_at given) q (fresh_at given) k report given.after.areas.description) e3
+    (subst (λ v. Completes (response given.charset room) response_start (begun_at given) q v k report given.after.areas.description) e2
+    (subst (λ v. Completes (response given.charset room) response_start v q h k report given.after.areas.description) e1 x)) in
     record { seen = q; held = k; reader = reader; writer = writer; completes = y; notice = none ∙ sym (ap message_text y.no_error) }
 
-pub stops_export : (given : Given) (a q : Seen) (h k l : Held) (room place : ℕ) (failed : Bool) (stop : Stop) (stopped : Stopped) → a ≡ begun_at given → h ≡ fresh_at given → room ≡ given.limits.column_room → place ≡ 0 → IsReader given q → IsWriter given l
-    → RunStops (response given.charset room) response_start a q place h k given.description failed stop → (failed ≡ false → Tidied k l) → (failed ≡ true → l ≡ k)
-    → stopped ≡ record { fault = stop.fault; place = stop.place; written = l.delivered; unwritten = length l.waiting } → given.notice ≡ [] → StopsExport given stopped
+pub stops_export : (given : Given) (a q : Seen) (h k l : Held) (room place : ℕ) (failed : Bool) (stop : Stop) (stopped : Stopped) → a ≡ begun_at given → h ≡ fresh_at given → room ≡ given.before.areas.limits.column_room → place ≡ 0 → IsReader given q → IsWriter given l
+    → RunStops (response given.charset room) response_start a q place h k given.after.areas.description failed stop → (failed ≡ false → Tidied k l) → (failed ≡ true → l ≡ k)
+    → stopped ≡ record { fault = stop.fault; place = stop.place; written = l.delivered; unwritten = length l.waiting } → given.after.areas.notice.bytes ≡ [] → StopsExport given stopped
 stops_export given a q h k l room place failed stop stopped e1 e2 e3 e4 reader writer x tidy same is none = record {
   seen = q;
   middle = k;
@@ -46,10 +47,10 @@ stops_export given a q h k l room place failed stop stopped e1 e2 e3 e4 reader w
   stop = stop;
   reader = reader;
   writer = writer;
-  stops = subst (λ n. RunStops (response given.charset given.limits.column_room) response_start (begun_at given) q n (fresh_at given) k given.description failed stop) e4
-      (subst (λ r. RunStops (response given.charset r) response_start (begun_at given) q place (fresh_at given) k given.description failed stop) e3
-      (subst (λ v. RunStops (response given.charset room) response_start (begun_at given) q place v k given.description failed stop) e2
-      (subst (λ v. RunStops (response given.charset room) response_start v q place h k given.description failed stop) e1 x)));
+  stops = subst (λ n. RunStops (response given.charset given.before.areas.limits.column_room) response_start (begun_at given) q n (fresh_at given) k given.after.areas.description failed stop) e4
+      (subst (λ r. RunStops (response given.charset r) response_start (begun_at given) q place (fresh_at given) k given.after.areas.description failed stop) e3
+      (subst (λ v. RunStops (response given.charset room) response_start (begun_at given) q place v k given.after.areas.description failed stop) e2
+      (subst (λ v. RunStops (response given.charset room) response_start v q place h k given.after.areas.description failed stop) e1 x)));
   tidied = tidy;
   same = same;
   stopped_is = is;

@@ -11,7 +11,7 @@ use Rattle.byteorder.specs.Endian.{little_from, little_number}
 use Rattle.hex.proofs.HexLemmas.{length-encode_with}
 use Rattle.hex.specs.Hex.{lower_digits}
 use Rattle.tds_csv.specs.Joining.{emit}
-use Rattle.tds_csv.specs.JoiningLemmas.{doubled-append}
+use Rattle.tds_csv.proofs.JoiningLemmas.{doubled-append}
 use Rattle.tds_csv.specs.Quoting.{doubled, doubled_byte, quote}
 use Rattle.tds_csv.specs.Utf16 as utf16
 use Rattle.tds_csv.specs.Windows1252 as windows_1252

@@ -8,7 +8,7 @@ use Rattle.tds_csv.specs.Joining.{emit}
 use Rattle.tds_csv.specs.Pushing.{Completes, EndsBy, Pushes, TakesPiece}
 use Rattle.tds_csv.specs.Sinks.{Breaks, Held, Puts}
 use Rattle.tds_csv.specs.Utf16 as utf16
-use Rattle.tds_csv.specs.Utf16Laws.{joins_utf16}
+use Rattle.tds_csv.proofs.Utf16Laws.{joins_utf16}
 use Rattle.tds_csv.proofs.Sinks.{Breaks-after, Breaks-longer, Puts-trans}
 use Rattle.tds_export.specs.JoinStops.{IsStopIn, IsStopped}
 

@@ -1,7 +1,8 @@
 -- Bytes that lead from one state to another, in two parts.
 use Rattle.std.proofs.Common.{◌≡◌, ◌∙◌, ℕ, List, [], ◌++◌, sym, ap, subst, append-nil}
 use Rattle.tds_packet.specs.declared.fault.Fault.{Fault}
-use Rattle.tds_packet.specs.Elements.{Grammar, Reading, Spelt, feed_all}
+use Rattle.tds_packet.specs.Elements.{Grammar, Spelt}
+use Rattle.tds_packet.proofs.Feeding.{Reading, feed_all}
 use Rattle.tds_packet.proofs.ElementLaws.{Told, feed-Spelt, feed_all-append, told}
 
 -- what follows whole elements leads from where they lead

@@ -1,3 +1,4 @@
+pub mod Completion
 pub mod CompletionVectors
 pub mod NoticeLaws
 pub mod PrefixVectors

@@ -6,7 +6,8 @@ use Rattle.tds_packet.specs.declared.fault.Fault.TheVariants.{InputEnded, Messag
 use Rattle.tds_packet.specs.Coming.{Coming, before, front_packet, message, whole_message}
 use Rattle.tds_packet.specs.Seen.{IsOver, Seen, Takes, begun}
 use Rattle.tds_export.specs.declared.report.Report.{Report}
-use Rattle.tds_export.specs.Moments.{Given, Reports}
+use Rattle.tds_export.specs.Moments.{Given}
+use Rattle.tds_export.specs.Exports.{Reports}
 
 -- an input of no byte is over before the message is
 no_message : (size limit : ℕ) (c : Coming) → c.stop.fault ≡ MessageEnded → whole_message size limit [] ≡ c → ⊥
@@ -26,12 +27,12 @@ not_rose : (before after : ℕ) → before < 2 ^ 64 - 1 → after ≡ before →
 not_rose before after h e (inl x) = omega (arith, x, e)
 not_rose before after h e (inr x) = omega (arith, h, x.0)
 
-pub no_failure : (given : Given) (report : Report) → Reports given report → (Rose given.read_failures_before given.read_failures → ⊥) × (Rose given.write_failures_before given.write_failures → ⊥)
+pub no_failure : (given : Given) (report : Report) → Reports given report → (Rose given.before.reader.failures given.after.reader.failures → ⊥) × (Rose given.before.writer.failures given.after.writer.failures → ⊥)
 no_failure given report x =
     let t = x.completes.whole.takes in
     let p = x.completes.whole.puts.2 in
     let f = x.completes.finishes in
-    let moved = some_read given.limits.packet_size given.limits.max_wire given.read_failures_before given.input x.seen x.completes.whole.bytes _ t x.completes.whole.over in (
-      not_rose given.read_failures_before given.read_failures (t.4.1 moved) (sym x.reader.failures ∙ t.4.0),
-      not_rose given.write_failures_before given.write_failures (subst (λ n. n < 2 ^ 64 - 1) p.4 f.4) (sym x.writer.failures ∙ f.3 ∙ p.4),
+    let moved = some_read given.before.areas.limits.packet_size given.before.areas.limits.max_wire given.before.reader.failures given.before.reader.bytes x.seen x.completes.whole.bytes _ t x.completes.whole.over in (
+      not_rose given.before.reader.failures given.after.reader.failures (t.4.1 moved) (sym x.reader.failures ∙ t.4.0),
+      not_rose given.before.writer.failures given.after.writer.failures (subst (λ n. n < 2 ^ 64 - 1) p.4 f.4) (sym x.writer.failures ∙ f.3 ∙ p.4),
     )

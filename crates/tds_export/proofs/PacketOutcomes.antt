@@ -13,7 +13,8 @@ use Rattle.tds_packet.specs.Reading.{RefusesNext}
 use Rattle.tds_packet.proofs.ElementLaws.{longest_cut, longest_refused}
 use Rattle.tds_packet.proofs.Fronts.{Begins, EndsMessage, InLast, StopsBehind, in_last, takes_begins}
 use Rattle.tds_export.specs.Tokens.{Token}
-use Rattle.tds_export.specs.Outcome.{EndsInLast, IsKept, Packets, Run, StopsInPayload, StopsOnWire, StopsUnbuilt, grammar}
+use Rattle.tds_export.specs.Moments.{Run}
+use Rattle.tds_export.specs.Outcome.{EndsInLast, IsKept, Packets, StopsInPayload, StopsOnWire, StopsUnbuilt, grammar}
 use Rattle.tds_export.specs.Built.{is_built}
 use Rattle.tds_export.specs.TokenGrammar.{Describing, Open, Part, response_start, text_so_far}
 use Rattle.tds_rows.specs.Unbuilt.{ReadsUnbuilt}
@@ -28,17 +29,17 @@ kept_at area tokens at rest e = e
 pub record ReaderSide (run : Run) (q : Seen) (area : Space) : Type 0 where
   pub bytes : AreBytes run.input
   pub left : q.left ≡ Some run.left
-  pub failures : q.failures ≡ run.read_failures
-  pub description : run.description ≡ area.bytes
+  pub failures : q.failures ≡ run.given.after.reader.failures
+  pub description : run.given.after.areas.description.bytes ≡ area.bytes
 
 abbrev pub start : Run → Seen
-start run = begun run.limits.packet_size run.limits.max_wire (Some run.input) run.read_failures_before
+start run = begun run.given.before.areas.limits.packet_size run.given.before.areas.limits.max_wire (Some run.input) run.given.before.reader.failures
 
-packets_of : (run : Run) (payload : List ℕ) (b : Begins run.limits.packet_size run.limits.max_wire run.input run.left payload) → Packets run b.packets
+packets_of : (run : Run) (payload : List ℕ) (b : Begins run.given.before.areas.limits.packet_size run.given.before.areas.limits.max_wire run.input run.left payload) → Packets run b.packets
 packets_of run payload b = record { begin = b.begin; each = b.each; within = b.within }
 
 -- an element's end lies in the last of the packets that were needed for it
-ends_in_last : (run : Run) (part : Part) (packets : List Packet) (bytes element : List ℕ) → length element ≡ (grammar run).size part → InLast run.limits.packet_size packets (length (bytes ++ element)) → EndsInLast run packets (length bytes) part
+ends_in_last : (run : Run) (part : Part) (packets : List Packet) (bytes element : List ℕ) → length element ≡ (grammar run).size part → InLast run.given.before.areas.limits.packet_size packets (length (bytes ++ element)) → EndsInLast run packets (length bytes) part
 ends_in_last run part packets bytes element whole l = record {
   before = l.before;
   last = l.last;
@@ -55,17 +56,17 @@ split_payload bytes element more payload e =
 
 -- an element was refused
 pub refused_in_payload : (run : Run) (q : Seen) (area : Space) (part : Part) (bytes : List ℕ) (fault : Fault) → ReaderSide run q area → Spelt (grammar run) response_start bytes part → RefusesNext (grammar run) (start run) q bytes part fault → IsHolding area part
-    → run.gained ++ run.waiting ≡ text_so_far part → StopsInPayload run fault (length bytes)
+    → run.gained ++ run.given.after.areas.output.bytes ≡ text_so_far part → StopsInPayload run fault (length bytes)
 refused_in_payload run q area part bytes fault side spelt x holds text =
     let g = grammar run in
     let e = x.element in
     let more = x.ahead ++ (q.future []).bytes in
     let n = length (bytes ++ e) in
-    let b = takes_begins run.limits.packet_size run.limits.max_wire run.read_failures_before run.input run.left q ((bytes ++ e) ++ x.ahead) n side.bytes side.left x.takes x.between in
+    let b = takes_begins run.given.before.areas.limits.packet_size run.given.before.areas.limits.max_wire run.given.before.reader.failures run.input run.left q ((bytes ++ e) ++ x.ahead) n side.bytes side.left x.takes x.between in
     let s = split_payload bytes e more (payload_of b.packets) (b.payload_is ∙ append_assoc (bytes ++ e) x.ahead (q.future []).bytes) in
     let some : 0 < length e = x.some in
     let whole : length e ≡ g.size part = x.whole in
-    let l = in_last run.limits.packet_size run.limits.max_wire run.read_failures_before n run.input run.left q ((bytes ++ e) ++ x.ahead) (((bytes ++ e) ++ x.ahead) ++ (q.future []).bytes) side.left x.takes b (omega (arith, some, length-append ((bytes ++ e) ++ x.ahead) (q.future []).bytes, length-append (bytes ++ e) x.ahead, length-append bytes e)) in
+    let l = in_last run.given.before.areas.limits.packet_size run.given.before.areas.limits.max_wire run.given.before.reader.failures n run.input run.left q ((bytes ++ e) ++ x.ahead) (((bytes ++ e) ++ x.ahead) ++ (q.future []).bytes) side.left x.takes b (omega (arith, some, length-append ((bytes ++ e) ++ x.ahead) (q.future []).bytes, length-append (bytes ++ e) x.ahead, length-append bytes e)) in
     let refused : IsRefused g part (e ++ more) fault = record {
       some = omega (arith, some, whole);
       whole = omega (arith, whole, length-append e more);
@@ -83,18 +84,18 @@ refused_in_payload run q area part bytes fault side spelt x holds text =
 
 -- an element wasn't built
 pub unbuilt_in_payload : (run : Run) (q : Seen) (area : Space) (part : Part) (stop : Stop) (place : ℕ) → ReaderSide run q area → (x : ReadsUnbuilt (grammar run) is_built response_start (start run) q place part stop) → IsHolding area part
-    → run.gained ++ run.waiting ≡ text_so_far part → StopsUnbuilt run (length x.bytes)
+    → run.gained ++ run.given.after.areas.output.bytes ≡ text_so_far part → StopsUnbuilt run (length x.bytes)
 unbuilt_in_payload run q area part stop place side x holds text =
     let g = grammar run in
     let bytes = x.bytes in
     let e = x.element in
     let more = (q.future []).bytes in
     let n = length (bytes ++ e) in
-    let b = takes_begins run.limits.packet_size run.limits.max_wire run.read_failures_before run.input run.left q (bytes ++ e) n side.bytes side.left x.takes x.between in
+    let b = takes_begins run.given.before.areas.limits.packet_size run.given.before.areas.limits.max_wire run.given.before.reader.failures run.input run.left q (bytes ++ e) n side.bytes side.left x.takes x.between in
     let s = split_payload bytes e more (payload_of b.packets) b.payload_is in
     let some : 0 < length e = x.some in
     let whole : length e ≡ g.size part = x.whole in
-    let l = in_last run.limits.packet_size run.limits.max_wire run.read_failures_before n run.input run.left q (bytes ++ e) ((bytes ++ e) ++ more) side.left x.takes b (omega (arith, some, length-append (bytes ++ e) more, length-append bytes e)) in
+    let l = in_last run.given.before.areas.limits.packet_size run.given.before.areas.limits.max_wire run.given.before.reader.failures n run.input run.left q (bytes ++ e) ((bytes ++ e) ++ more) side.left x.takes b (omega (arith, some, length-append (bytes ++ e) more, length-append bytes e)) in
     record {
       packets = b.packets;
       part = part;
@@ -113,8 +114,8 @@ rest_of bytes part payload e = ap (drop (length bytes)) e ∙ drop-append_seam b
 
 -- the message ended
 pub ended_in_payload : (run : Run) (q : Seen) (area : Space) (part : Part) (bytes cut : List ℕ) (own : Stop) (fault : Fault) → ReaderSide run q area → Spelt (grammar run) response_start bytes part → length cut < (grammar run).size part
-    → EndsMessage run.limits.packet_size run.limits.max_wire run.input run.left (bytes ++ cut) run.read_failures_before q.failures own → (grammar run).end_fault part ≡ Some fault → IsHolding area part
-    → run.gained ++ run.waiting ≡ text_so_far part → StopsInPayload run fault (length bytes)
+    → EndsMessage run.given.before.areas.limits.packet_size run.given.before.areas.limits.max_wire run.input run.left (bytes ++ cut) run.given.before.reader.failures q.failures own → (grammar run).end_fault part ≡ Some fault → IsHolding area part
+    → run.gained ++ run.given.after.areas.output.bytes ≡ text_so_far part → StopsInPayload run fault (length bytes)
 ended_in_payload run q area part bytes cut own fault side spelt short m end holds text =
     let g = grammar run in
     let rest = rest_of bytes cut (payload_of m.packets) m.payload_is in
@@ -130,8 +131,8 @@ ended_in_payload run q area part bytes cut own fault side spelt short m end hold
 
 -- the payload stopped on the wire
 pub stopped_on_wire : (run : Run) (q : Seen) (area : Space) (part : Part) (bytes cut : List ℕ) (stop : Stop) (rose : (f : ℕ) → Rose f (one_more f)) → ReaderSide run q area → Spelt (grammar run) response_start bytes part → length cut < (grammar run).size part
-    → (x : StopsBehind run.limits.packet_size run.limits.max_wire run.input (bytes ++ cut) run.read_failures_before q.failures stop) → IsHolding area part
-    → run.gained ++ run.waiting ≡ text_so_far part → StopsOnWire run stop.fault (length (wire_of x.packets))
+    → (x : StopsBehind run.given.before.areas.limits.packet_size run.given.before.areas.limits.max_wire run.input (bytes ++ cut) run.given.before.reader.failures q.failures stop) → IsHolding area part
+    → run.gained ++ run.given.after.areas.output.bytes ≡ text_so_far part → StopsOnWire run stop.fault (length (wire_of x.packets))
 stopped_on_wire run q area part bytes cut stop rose side spelt short x holds text =
     let g = grammar run in
     let rest = rest_of bytes cut (payload_of x.packets) x.payload_is in
@@ -145,7 +146,7 @@ stopped_on_wire run q area part bytes cut stop rose side spelt short x holds tex
       within = x.within;
       taken_is = refl;
       first = elim x.cause [
-        | inl c ↦ inl (c.0, subst (Rose run.read_failures_before) (sym c.1 ∙ side.failures) (rose run.read_failures_before))
+        | inl c ↦ inl (c.0, subst (Rose run.given.before.reader.failures) (sym c.1 ∙ side.failures) (rose run.given.before.reader.failures))
         | inr c ↦ inr c.0
       ];
       leads = subst (λ p. Longest g response_start p (length bytes) part) (sym x.payload_is) (longest_cut g response_start bytes cut part spelt short);

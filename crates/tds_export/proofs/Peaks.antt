@@ -16,7 +16,8 @@ use Rattle.tds_packet.proofs.MessageLaws.{behind as behind_last, message_is_read
 use Rattle.tds_packet.proofs.Fronts.{ends_front, over_front, takes_begins}
 use Rattle.tds_csv.specs.Sinks.{Held}
 use Rattle.tds_rows.specs.declared.Charset.{Charset}
-use Rattle.tds_export.specs.Outcome.{Bounded, Run, grammar}
+use Rattle.tds_export.specs.Moments.{Run}
+use Rattle.tds_export.specs.Outcome.{Bounded, grammar}
 use Rattle.tds_export.specs.Built.{is_built}
 use Rattle.tds_export.specs.TokenGrammar.{Part, response, response_start, span_so_far}
 use Rattle.tds_rows.specs.Unbuilt.{Stalls}
@@ -58,10 +59,10 @@ front_begins size limit input rest packets w taken begin (inr each) within l =
     let f = further (wire size limit) no_wire (before_packet size limit packets) w (wire_of packets) rest taken s (subst (λ v. Longest (wire size limit) no_wire v taken w) (sym begin) l) in
     Spelt-induct (wire size limit) (λ v b. BeginsWith v.packets packets) (λ v b element h n. begins_added packets v.packets v.place element h) (before_packet size limit packets) ([], append-nil packets) f.0 w f.1
 
-pub bounded : (run : Run) (at : Part) → AreBytes run.input → Reached run.charset run.limits run.input at → run.description_peak ≤ span_so_far at → Bounded run
+pub bounded : (run : Run) (at : Part) → AreBytes run.input → Reached run.given.charset run.given.before.areas.limits run.input at → run.given.after.areas.description.peak ≤ span_so_far at → Bounded run
 bounded run at are r peak =
-    let size = run.limits.packet_size in
-    let limit = run.limits.max_wire in
+    let size = run.given.before.areas.limits.packet_size in
+    let limit = run.given.before.areas.limits.max_wire in
     let g = grammar run in
     let l = some_longest (wire size limit) no_wire run.input in
     let front = l.1.packets in
@@ -69,29 +70,29 @@ bounded run at are r peak =
     let split : payload_of front ≡ r.bytes ++ (r.more ++ payload_of b.0) = ap payload_of (sym b.1) ∙ flat_map-append (λ (v : Packet). v.body) r.packets b.0 ∙ ap (λ v. v ++ payload_of b.0) r.payload_is ∙ append_assoc r.bytes r.more (payload_of b.0) in
     let longest = some_longest g response_start (payload_of front) in
     let f = further g response_start at longest.1 r.bytes (r.more ++ payload_of b.0) longest.0 r.spelt (subst (λ v. Longest g response_start v longest.0 longest.1) split longest.2) in
-    let least : span_so_far at ≤ span_so_far longest.1 = span_along run.charset run.limits.column_room at longest.1 f.0 f.1 in
+    let least : span_so_far at ≤ span_so_far longest.1 = span_along run.given.charset run.given.before.areas.limits.column_room at longest.1 f.0 f.1 in
     record { packets = front; place = longest.0; part = longest.1; front = read_front size limit run.input l.0 l.1 are l.2; leads = longest.2; description = omega (arith, peak, least) }
 
-taken : (run : Run) (q : Seen) (at : Part) (bytes behind : List ℕ) (n : ℕ) → AreBytes run.input → q.left ≡ Some run.left → Takes (start run) q (bytes ++ behind) n → IsBetween q → Spelt (grammar run) response_start bytes at → Reached run.charset run.limits run.input at
+taken : (run : Run) (q : Seen) (at : Part) (bytes behind : List ℕ) (n : ℕ) → AreBytes run.input → q.left ≡ Some run.left → Takes (start run) q (bytes ++ behind) n → IsBetween q → Spelt (grammar run) response_start bytes at → Reached run.given.charset run.given.before.areas.limits run.input at
 taken run q at bytes behind n are left t between spelt =
-    let b = takes_begins run.limits.packet_size run.limits.max_wire run.read_failures_before run.input run.left q (bytes ++ behind) n are left t between in
+    let b = takes_begins run.given.before.areas.limits.packet_size run.given.before.areas.limits.max_wire run.given.before.reader.failures run.input run.left q (bytes ++ behind) n are left t between in
     record { packets = b.packets; rest = run.left; begin = b.begin; each = b.each; within = b.within; bytes = bytes; more = behind ++ (q.future []).bytes; spelt = spelt; payload_is = b.payload_is ∙ append_assoc bytes behind (q.future []).bytes }
 
-pub reached_stalled : (run : Run) (q : Seen) (at : Part) (stop : Stop) → AreBytes run.input → q.left ≡ Some run.left → Stalls (grammar run) is_built response_start (start run) q 0 at stop → Reached run.charset run.limits run.input at
+pub reached_stalled : (run : Run) (q : Seen) (at : Part) (stop : Stop) → AreBytes run.input → q.left ≡ Some run.left → Stalls (grammar run) is_built response_start (start run) q 0 at stop → Reached run.given.charset run.given.before.areas.limits run.input at
 reached_stalled run q at stop are left (inl s) = elim s.cause [
   | inl r ↦ taken run q at s.bytes (r.0.element ++ r.0.ahead) (length (s.bytes ++ r.0.element)) are left (subst (λ l. Takes (start run) q l (length (s.bytes ++ r.0.element))) (append_assoc s.bytes r.0.element r.0.ahead) r.0.takes) r.0.between s.spelt
-  | inr c ↦ elim (ends_front run.limits.packet_size run.limits.max_wire run.read_failures_before run.input run.left q (s.bytes ++ c.part) c.own are left c.ends) [
+  | inr c ↦ elim (ends_front run.given.before.areas.limits.packet_size run.given.before.areas.limits.max_wire run.given.before.reader.failures run.input run.left q (s.bytes ++ c.part) c.own are left c.ends) [
     | inl m ↦ record { packets = m.packets; rest = run.left; begin = m.begin; each = inl m.each; within = m.within; bytes = s.bytes; more = c.part; spelt = s.spelt; payload_is = m.payload_is }
     | inr x ↦ record { packets = x.packets; rest = x.more; begin = x.begin; each = inr x.each; within = x.within; bytes = s.bytes; more = c.part; spelt = s.spelt; payload_is = x.payload_is }
   ]
 ]
 reached_stalled run q at stop are left (inr u) = taken run q at u.bytes u.element (length (u.bytes ++ u.element)) are left u.takes u.between u.spelt
 
-pub reached_broken : (run : Run) (q : Seen) (old new : Held) (area : Space) (stop : Stop) (x : StopsInWriting (grammar run) response_start (start run) q old new area stop) → AreBytes run.input → q.left ≡ Some run.left → Reached run.charset run.limits run.input ((grammar run).add x.at x.breaks.element)
+pub reached_broken : (run : Run) (q : Seen) (old new : Held) (area : Space) (stop : Stop) (x : StopsInWriting (grammar run) response_start (start run) q old new area stop) → AreBytes run.input → q.left ≡ Some run.left → Reached run.given.charset run.given.before.areas.limits run.input ((grammar run).add x.at x.breaks.element)
 reached_broken run q old new area stop x are left =
     let be = x.breaks.bytes ++ x.breaks.element in
     let to = (grammar run).add x.at x.breaks.element in
-    let b = takes_begins run.limits.packet_size run.limits.max_wire run.read_failures_before run.input run.left q (be ++ x.breaks.ahead) (length be) are left x.breaks.takes x.breaks.between in
+    let b = takes_begins run.given.before.areas.limits.packet_size run.given.before.areas.limits.max_wire run.given.before.reader.failures run.input run.left q (be ++ x.breaks.ahead) (length be) are left x.breaks.takes x.breaks.between in
     record {
       packets = b.packets;
       rest = run.left;
@@ -104,7 +105,7 @@ reached_broken run q old new area stop x are left =
       payload_is = b.payload_is ∙ append_assoc be x.breaks.ahead (q.future []).bytes;
     }
 
-pub reached_whole : (run : Run) (q : Seen) (old new : Held) (area : Space) (x : ReadsWhole (grammar run) response_start (start run) q old new area) → AreBytes run.input → q.left ≡ Some run.left → Reached run.charset run.limits run.input (behind x.tokens)
+pub reached_whole : (run : Run) (q : Seen) (old new : Held) (area : Space) (x : ReadsWhole (grammar run) response_start (start run) q old new area) → AreBytes run.input → q.left ≡ Some run.left → Reached run.given.charset run.given.before.areas.limits run.input (behind x.tokens)
 reached_whole run q old new area x are left =
-    let m = over_front run.limits.packet_size run.limits.max_wire run.read_failures_before run.input run.left q x.bytes (length x.bytes + 1) are left x.takes x.over in
+    let m = over_front run.given.before.areas.limits.packet_size run.given.before.areas.limits.max_wire run.given.before.reader.failures run.input run.left q x.bytes (length x.bytes + 1) are left x.takes x.over in
     record { packets = m.packets; rest = run.left; begin = m.begin; each = inl m.each; within = m.within; bytes = x.bytes; more = []; spelt = x.spelt; payload_is = m.payload_is ∙ sym (append-nil x.bytes) }

@@ -15,7 +15,7 @@ use Rattle.tds_packet.specs.declared.fault.Fault.TheVariants.{BadTypeInfo, BadVa
 use Rattle.tds_rows.specs.declared.Charset.TheVariants.{Windows1252, Utf8}
 use Rattle.tds_export.proofs.Vectors.{answer}
 use Rattle.tds_packet.specs.declared.fault.RefusedKind.TheVariants.{Flt8}
-use Rattle.tds_packet.specs.Elements.{read, state_of}
+use Rattle.tds_packet.proofs.Feeding.{read, state_of}
 use Rattle.tds_export.specs.Tokens.{is_return, how_many}
 use Rattle.tds_export.specs.TokenGrammar.{response, response_start}
 

@@ -13,7 +13,7 @@ use Rattle.tds_columns.specs.Description.{refused_kind}
 use Rattle.tds_packet.specs.declared.fault.Fault.{Fault}
 use Rattle.tds_packet.specs.declared.fault.Fault.TheVariants.{BadNotice, BadTypeInfo, BadValue, BadValueLength, DescriptionTooLong, EndWithoutDone, MessageEnded, NoColumns, OddText, PlpLength, RefusedColumn, RefusedToken, RowWithoutColumns, UnknownType}
 use Rattle.tds_packet.specs.declared.fault.RefusedKind.TheVariants.{Flt8, FltN}
-use Rattle.tds_packet.specs.Elements.{Progress, read, state_of, rest_of, fault_of}
+use Rattle.tds_packet.proofs.Feeding.{Progress, read, state_of, rest_of, fault_of}
 use Rattle.tds_rows.specs.declared.Charset.{Charset}
 use Rattle.tds_rows.specs.declared.Charset.TheVariants.{Windows1252}
 use Rattle.tds_export.specs.TokenGrammar.{Part, response, response_start, text_so_far}

@@ -2,7 +2,6 @@ pub mod ReturnValue
 pub mod Tokens
 pub mod Response
 pub mod TokenGrammar
-pub mod Completion
 pub mod JoinStops
 pub mod Built
 pub mod Outcome
@@ -10,3 +9,4 @@ pub mod Steps
 pub mod Exporters
 pub mod Laws
 pub mod Moments
+pub mod Exports

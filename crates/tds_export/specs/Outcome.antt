@@ -1,7 +1,5 @@
 -- What an export answers and leaves.
 use Rattle.std.specs.Prelude.{◌≡◌, ◌+◌, ◌*◌, ◌-◌, ◌/◌, ◌^◌, ◌<◌, ◌≤◌, ◌⊎◌, ℕ, ℤ, pos, negsuc, false, List, [], ◌∷◌, ◌++◌, length, take, drop, Some, Result, Ok, Err, if◌then◌else◌, nat_lt, option_map}
-use Rattle.tds_meter.specs.declared.limits.Limits.{Limits}
-use Rattle.tds_meter.specs.Counts.{Rose}
 use Rattle.tds_packet.specs.declared.fault.Fault.{Fault}
 use Rattle.tds_packet.specs.declared.fault.Fault.TheVariants.{NotYet, ReadFailed, WriteFailed}
 use Rattle.tds_packet.specs.declared.fault.Place.{Place}
@@ -9,34 +7,14 @@ use Rattle.tds_packet.specs.declared.fault.Place.TheVariants.{Wire, Payload, Tex
 use Rattle.tds_packet.specs.Elements.{Grammar, Spelt, Longest, IsRefused, IsCut}
 use Rattle.tds_packet.specs.Packets.{Packet, wire_of, payload_of, AreBefore, AreMessage, Front, WireFault}
 use Rattle.tds_columns.specs.Description.{description_bytes}
-use Rattle.tds_rows.specs.declared.Charset.{Charset}
 use Rattle.tds_export.specs.declared.report.Report.{Report}
 use Rattle.tds_export.specs.declared.report.ServerError.{ServerError}
 use Rattle.tds_export.specs.declared.report.Stopped.{Stopped}
 use Rattle.tds_export.specs.Tokens.{Notice, Token, text, is_set, is_row, is_error, is_info, is_return, how_many, first_error, return_status, error_text, encoded_after}
 use Rattle.tds_export.specs.Response.{Accepted}
-use Rattle.tds_export.specs.TokenGrammar.{Open, Describing, Part, response, response_start, text_so_far, span_so_far}
+use Rattle.tds_export.specs.TokenGrammar.{Open, Describing, Part, response_start, text_so_far, span_so_far}
 use Rattle.tds_export.specs.Built.{is_built}
-
--- what a run was given, and what it left, where reader and writer tell their bytes
-pub record Run : Type 0 where
-  pub charset : Charset
-  pub limits : Limits
-  -- the reader's bytes before and after
-  pub input : List ℕ
-  pub left : List ℕ
-  -- what the writer gained
-  pub gained : List ℕ
-  -- the bytes of three areas, and the peak of one
-  pub waiting : List ℕ
-  pub notice : List ℕ
-  pub description : List ℕ
-  pub description_peak : ℕ
-  -- the counts of failures after the run and before it
-  pub read_failures : ℕ
-  pub read_failures_before : ℕ
-  pub write_failures : ℕ
-  pub write_failures_before : ℕ
+use Rattle.tds_export.specs.Moments.{FailsToRead, FailsToWrite, Run, grammar_of, limits, text_put, waiting}
 
 -- four bytes as a signed number
 abbrev pub signed : ℕ → ℤ
@@ -59,15 +37,20 @@ report_of tokens = record {
   return_values = how_many is_return tokens;
 }
 
+-- The input of a run begins with a response of these tokens, in these packets.
+abbrev pub IsAccepted : Run → List Token → List Packet → Type 0
+IsAccepted run tokens packets =
+    Accepted run.given.charset (limits run).packet_size (limits run).column_room (limits run).max_wire tokens packets run.input
+
 -- The packets stand at the beginning of the input, none but the last marked as the last, and the reader has come to their end.
 pub record Packets (run : Run) (packets : List Packet) : Type 0 where
   pub begin : wire_of packets ++ run.left ≡ run.input
-  pub each : AreMessage run.limits.packet_size packets ⊎ AreBefore run.limits.packet_size packets
-  pub within : length (wire_of packets) ≤ run.limits.max_wire
+  pub each : AreMessage (limits run).packet_size packets ⊎ AreBefore (limits run).packet_size packets
+  pub within : length (wire_of packets) ≤ (limits run).max_wire
 
 -- how the response of a run is read
 abbrev pub grammar : Run → Grammar Part Fault
-grammar run = response run.charset run.limits.column_room
+grammar run = grammar_of run.given
 
 -- The payload of the packets leads to this part of a response, and no more of it leads further.
 abbrev pub Reads : Run → List Packet → ℕ → Part → Type 0
@@ -87,7 +70,7 @@ pub record EndsInLast (run : Run) (packets : List Packet) (place : ℕ) (part : 
   pub before : List Packet
   pub last : Packet
   pub split : before ++ last ∷ [] ≡ packets
-  pub none_last : AreBefore run.limits.packet_size before
+  pub none_last : AreBefore (limits run).packet_size before
   pub later : length (payload_of before) < place + (grammar run).size part
 
 -- The description area has the current description, or a beginning of the one that is read.
@@ -97,20 +80,21 @@ IsKept area tokens at rest = area ≡ encoded_after [] tokens
 
 -- The description area has the description at the place where a run stopped.
 abbrev pub Keeps : Run → List Packet → ℕ → Part → Type 0
-Keeps run packets place part = IsKept run.description part.tokens part.at (drop place (payload_of packets))
+Keeps run packets place part =
+    IsKept run.given.after.areas.description.bytes part.tokens part.at (drop place (payload_of packets))
 
 -- The response is whole, and all of its text was written.
 pub record Reported (run : Run) (report : Report) : Type 0 where
   pub tokens : List Token
   pub packets : List Packet
-  pub accepted : Accepted run.charset run.limits.packet_size run.limits.column_room run.limits.max_wire tokens packets run.input
+  pub accepted : IsAccepted run tokens packets
   pub stands : Packets run packets
   pub report_is : report ≡ report_of tokens
   pub written : run.gained ≡ text tokens
-  pub none_waits : run.waiting ≡ []
-  pub notice : run.notice ≡ error_text tokens
-  pub kept : run.description ≡ encoded_after [] tokens
-  pub no_failure : (Rose run.read_failures_before run.read_failures → ⊥) × (Rose run.write_failures_before run.write_failures → ⊥)
+  pub none_waits : waiting run ≡ []
+  pub notice : run.given.after.areas.notice.bytes ≡ error_text tokens
+  pub kept : run.given.after.areas.description.bytes ≡ encoded_after [] tokens
+  pub no_failure : ¬ FailsToRead run.given × ¬ FailsToWrite run.given
 
 -- A run stopped in the payload: an element is refused, or the message ends where it may not.
 pub record StopsInPayload (run : Run) (fault : Fault) (place : ℕ) : Type 0 where
@@ -120,8 +104,9 @@ pub record StopsInPayload (run : Run) (fault : Fault) (place : ℕ) : Type 0 whe
   pub leads : Reads run packets place part
   pub first :
       (Refuses run packets place part fault × EndsInLast run packets place part)
-      ⊎ (AreMessage run.limits.packet_size packets × IsCut (grammar run) part (drop place (payload_of packets)) × ((grammar run).end_fault part ≡ Some fault))
-  pub written : run.gained ++ run.waiting ≡ text_so_far part
+      ⊎ (AreMessage (limits run).packet_size packets × IsCut (grammar run) part (drop place (payload_of packets))
+      × ((grammar run).end_fault part ≡ Some fault))
+  pub written : text_put run ≡ text_so_far part
   pub kept : Keeps run packets place part
 
 -- A run stopped in the payload: the next element is one that isn't built yet.
@@ -133,7 +118,7 @@ pub record StopsUnbuilt (run : Run) (place : ℕ) : Type 0 where
   pub whole : place + (grammar run).size part ≤ length (payload_of packets)
   pub unbuilt : is_built part (take ((grammar run).size part) (drop place (payload_of packets))) ≡ false
   pub in_last : EndsInLast run packets place part
-  pub written : run.gained ++ run.waiting ≡ text_so_far part
+  pub written : text_put run ≡ text_so_far part
   pub kept : Keeps run packets place part
 
 -- A run stopped on the wire, behind whole packets: as if the input had these packets alone.
@@ -143,21 +128,24 @@ pub record StopsOnWire (run : Run) (fault : Fault) (taken : ℕ) : Type 0 where
   pub place : ℕ
   pub part : Part
   pub begin : wire_of packets ++ rest ≡ run.input
-  pub before : AreBefore run.limits.packet_size packets
-  pub within : length (wire_of packets) ≤ run.limits.max_wire
+  pub before : AreBefore (limits run).packet_size packets
+  pub within : length (wire_of packets) ≤ (limits run).max_wire
   pub taken_is : taken ≡ length (wire_of packets)
-  pub first : ((fault ≡ ReadFailed) × Rose run.read_failures_before run.read_failures) ⊎ WireFault run.limits.packet_size run.limits.max_wire run.input packets fault
+  pub first : ((fault ≡ ReadFailed) × FailsToRead run.given)
+      ⊎ WireFault (limits run).packet_size (limits run).max_wire run.input packets fault
   pub leads : Reads run packets place part
   pub none_refused : (f : Fault) → Refuses run packets place part f → ⊥
-  pub written : run.gained ++ run.waiting ≡ text_so_far part
+  pub written : text_put run ≡ text_so_far part
   pub kept : Keeps run packets place part
 
 -- The text kept is that of a whole response; or the output area was full, and the last packet read was needed to fill it.
 abbrev pub IsNeeded : Run → List Packet → Type 0
 IsNeeded run packets =
-    ((tokens : List Token) × Accepted run.charset run.limits.packet_size run.limits.column_room run.limits.max_wire tokens packets run.input × (run.gained ++ run.waiting ≡ text tokens))
-    ⊎ ((before : List Packet) × (last : Packet) × (place : ℕ) × (earlier : Part) × (before ++ last ∷ [] ≡ packets) × Reads run before place earlier
-    × (length (run.gained ++ run.waiting) ≡ 4096 * (length run.gained / 4096 + 1)) × (length (text_so_far earlier) < length (run.gained ++ run.waiting)))
+    ((tokens : List Token) × IsAccepted run tokens packets × (text_put run ≡ text tokens))
+    ⊎ ((before : List Packet) × (last : Packet) × (place : ℕ) × (earlier : Part)
+    × (before ++ last ∷ [] ≡ packets) × Reads run before place earlier
+    × (length (text_put run) ≡ 4096 * (length run.gained / 4096 + 1))
+    × (length (text_so_far earlier) < length (text_put run)))
 
 -- A run was stopped by the writer.
 pub record StopsInText (run : Run) (fault : Fault) (written : ℕ) : Type 0 where
@@ -169,9 +157,9 @@ pub record StopsInText (run : Run) (fault : Fault) (written : ℕ) : Type 0 wher
   pub leads : Reads run packets place part
   pub fault_is : fault ≡ WriteFailed
   pub written_is : written ≡ length run.gained
-  pub begins : (run.gained ++ run.waiting) ++ more ≡ text_so_far part
+  pub begins : text_put run ++ more ≡ text_so_far part
   pub needed : IsNeeded run packets
-  pub failed : Rose run.write_failures_before run.write_failures
+  pub failed : FailsToWrite run.given
   pub kept : (n : ℕ) × (earlier : Part) × Comes run packets n earlier × Keeps run packets n earlier
 
 -- A run stopped so: in the payload, on the wire or in the text, as the place says.
@@ -184,9 +172,9 @@ Stops run fault (Text written) = StopsInText run fault written
 pub record AfterStop (run : Run) (stopped : Stopped) : Type 0 where
   pub stop : Stops run stopped.fault stopped.place
   pub written : stopped.written ≡ length run.gained
-  pub unwritten : stopped.unwritten ≡ length run.waiting
-  pub no_notice : run.notice ≡ []
-  pub none_waits : (Rose run.write_failures_before run.write_failures → ⊥) → run.waiting ≡ []
+  pub unwritten : stopped.unwritten ≡ length (waiting run)
+  pub no_notice : run.given.after.areas.notice.bytes ≡ []
+  pub none_waits : ¬ FailsToWrite run.given → waiting run ≡ []
 
 -- A run answered a report of a whole response, or a stop.
 abbrev pub Outcome : Run → Result Report Stopped → Type 0
@@ -198,9 +186,9 @@ pub record Bounded (run : Run) : Type 0 where
   pub packets : List Packet
   pub place : ℕ
   pub part : Part
-  pub front : Front run.limits.packet_size run.limits.max_wire run.input packets
+  pub front : Front (limits run).packet_size (limits run).max_wire run.input packets
   pub leads : Reads run packets place part
-  pub description : run.description_peak ≤ span_so_far part
+  pub description : run.given.after.areas.description.peak ≤ span_so_far part
 
 -- A run answered and left this, and kept the bound on its descriptions.
 pub record Answer (run : Run) (result : Result Report Stopped) : Type 0 where
@@ -208,10 +196,11 @@ pub record Answer (run : Run) (result : Result Report Stopped) : Type 0 where
   pub bounded : Bounded run
 
 -- The run answers the report of these tokens, and has written their text.
-pub record Succeeds (run : Run) (tokens : List Token) (packets : List Packet) (result : Result Report Stopped) : Type 0 where
+pub record Succeeds (run : Run) (tokens : List Token) (packets : List Packet) (result : Result Report Stopped)
+    : Type 0 where
   pub report_is : result ≡ Ok (report_of tokens)
   pub written : run.gained ≡ text tokens
-  pub notice : run.notice ≡ error_text tokens
+  pub notice : run.given.after.areas.notice.bytes ≡ error_text tokens
   pub stands : Packets run packets
 
 -- The export met what isn't built yet.
@@ -221,7 +210,5 @@ IsUnbuilt (Err stopped) = stopped.fault ≡ NotYet
 
 -- Where the input begins with an accepted response and neither count of failures rose, the run succeeds, but for what isn't built yet.
 abbrev pub SucceedsIfAccepted : Run → Result Report Stopped → Type 0
-SucceedsIfAccepted run result = (tokens : List Token) (packets : List Packet) →
-    Accepted run.charset run.limits.packet_size run.limits.column_room run.limits.max_wire tokens packets run.input →
-    (Rose run.read_failures_before run.read_failures → ⊥) → (Rose run.write_failures_before run.write_failures → ⊥) →
-    Succeeds run tokens packets result ⊎ IsUnbuilt result
+SucceedsIfAccepted run result = (tokens : List Token) (packets : List Packet) → IsAccepted run tokens packets →
+    ¬ FailsToRead run.given → ¬ FailsToWrite run.given → Succeeds run tokens packets result ⊎ IsUnbuilt result

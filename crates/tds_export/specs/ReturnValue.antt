@@ -1,12 +1,11 @@
 -- The value that a procedure returns (MS-TDS, RETURNVALUE).
-use Rattle.std.specs.Prelude.{◌≡◌, ◌==◌, ◌*◌, ◌<◌, ℕ, List, [], ◌∷◌, ◌++◌, length, Option, Some, None, if◌then◌else◌, slice_index, unwrap_or, is_some}
+use Rattle.std.specs.Prelude.{◌≡◌, ◌==◌, ◌*◌, ◌<◌, ℕ, List, [], ◌∷◌, ◌++◌, length, Option, Some, None, if◌then◌else◌, slice_index, unwrap_or}
 use Rattle.tds_values.specs.declared.kind.Kind.{Kind}
 use Rattle.tds_values.specs.TypeInfo.{IsTypeInfo, rest_length, kind_of}
 use Rattle.tds_packet.specs.Elements.{Grammar}
 use Rattle.tds_packet.specs.declared.fault.Fault.{Fault}
-use Rattle.tds_packet.specs.declared.fault.Fault.TheVariants.{MessageEnded, BadTypeInfo}
-use Rattle.tds_columns.specs.ReturnedType.{return_column}
-use Rattle.tds_columns.specs.Description.{type_fault}
+use Rattle.tds_packet.specs.declared.fault.Fault.TheVariants.{MessageEnded}
+use Rattle.tds_columns.specs.ReturnedType.{TypeHead, TypeRest, return_column, type_part_fault, type_size}
 use Rattle.tds_rows.specs.Cells.{Cell, shape, SpellsCell, CellPart, WholeCell, cell_start, cell_size, cell_fault, cell_add, return_charset}
 
 -- what a RETURNVALUE says: a name in UTF-16 units, a kind and a value of it
@@ -74,15 +73,15 @@ abbrev pub return_size : ReturnPart → ℕ
 return_size ReturnOrdinal = 2
 return_size ReturnNameCount = 1
 return_size (ReturnName n) = n
-return_size (ReturnHead name) = 8
-return_size (ReturnInfo name byte) = unwrap_or (rest_length byte) 0
+return_size (ReturnHead name) = type_size TypeHead
+return_size (ReturnInfo name byte) = type_size (TypeRest byte)
 return_size (InReturnCell name kind part) = cell_size part
 return_size (WholeReturn r) = 0
 
 -- the fault of the next element of a return value, if it has one
 abbrev pub return_fault : ReturnPart → List ℕ → Option Fault
-return_fault (ReturnHead name) element = type_fault return_column (slice_index element 7) (rest_length (slice_index element 7))
-return_fault (ReturnInfo name byte) element = if is_some (kind_of (byte ∷ element)) then None else Some (BadTypeInfo return_column)
+return_fault (ReturnHead name) element = type_part_fault TypeHead element
+return_fault (ReturnInfo name byte) element = type_part_fault (TypeRest byte) element
 return_fault (InReturnCell name kind part) element = cell_fault return_column part element
 return_fault part element = None
 

@@ -1,7 +1,8 @@
 // The export of a whole response.
 ghost use Rattle.std.specs.Prelude.{◌≡◌, ◌+◌, ◌≤◌, [], false, true, IsTrue, OnErr, OnOk};
 ghost use Rattle.tds_csv.specs.Sinks.{IsOnSameSink, IsReady, held};
-ghost use Rattle.tds_export.specs.Moments.{Exports, Tidied, moment, other_rooms, stopped_with};
+ghost use Rattle.tds_export.specs.Exports.{Exports, Tidied, stopped_with};
+ghost use Rattle.tds_export.specs.Moments.{moment};
 ghost use Rattle.tds_meter.specs.Counts.{Rose, one_more};
 ghost use Rattle.tds_meter.specs.Rooms.{is_intact, peak_rest};
 
@@ -9,7 +10,7 @@ use crate::exporter::read_response;
 use crate::report::{Report, Stopped};
 use std::io::{Read, Write};
 use tds_csv::Sink;
-use tds_meter::Areas;
+use tds_meter::{Areas, FIXED_ROOM};
 use tds_packet::{Counted, Payload, Stop};
 
 // Delivers what waits, if the writer has not failed, and says what it took.
@@ -46,7 +47,7 @@ pub fn export<R: Read, W: Write>(
     ensures intact { IsTrue (is_intact areas.new) }
     ensures limits { areas.new.limits ≡ areas.old.limits }
     ensures restarts { areas.new.restarts ≡ one_more areas.old.restarts }
-    ensures bound { peak_rest areas.new ≤ areas.old.limits.packet_size + other_rooms }
+    ensures bound { peak_rest areas.new ≤ areas.old.limits.packet_size + FIXED_ROOM }
     ensures no_failure { OnOk result (¬ Rose from.old.failures from.new.failures
         × ¬ Rose to.old.failures to.new.failures) }
     ensures no_notice { OnErr result (areas.new.notice.bytes ≡ []) }

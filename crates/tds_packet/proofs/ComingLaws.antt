@@ -9,7 +9,8 @@ use Rattle.tds_packet.specs.declared.fault.Fault.{Fault}
 use Rattle.tds_packet.specs.declared.fault.Fault.TheVariants.{InputEnded, MessageEnded, WrongPacketType, BadPacketLength, ResponseTooLong}
 use Rattle.tds_packet.specs.declared.fault.Place.TheVariants.{Wire, Payload}
 use Rattle.tds_packet.specs.declared.fault.Stop.{Stop}
-use Rattle.tds_packet.specs.Elements.{AreBytes, Progress, Reading, Refused, IsRefused, Longest, judged, feed_all, read, state_of, rest_of, fault_of}
+use Rattle.tds_packet.specs.Elements.{AreBytes, IsRefused, Longest}
+use Rattle.tds_packet.proofs.Feeding.{Progress, Reading, Refused, judged, feed_all, read, state_of, rest_of, fault_of}
 use Rattle.tds_packet.specs.Packets.{Packet, packet_bytes, wire_of, payload_of, is_last_status, WirePlace, BeforeHeader, BeforeBody, BehindLast, WirePart, no_wire, header_length, packet_of, with_packet, header_fault, wire_add, wire, AreBefore, WireFault}
 use Rattle.tds_packet.specs.Coming.{Coming, stopped_at, before, WholePacket, NoPacket, behind_header, front_packet, behind_packet, message, whole_message, IsFrontMessage}
 use Rattle.tds_packet.proofs.ElementLaws.{feed_all-append, feed_all-Refused, feed_part, feed_element, Told, told, read_longest, AreBytes-front}

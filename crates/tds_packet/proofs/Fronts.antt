@@ -10,7 +10,8 @@ use Rattle.tds_packet.specs.declared.fault.Fault.{Fault}
 use Rattle.tds_packet.specs.declared.fault.Fault.TheVariants.{InputEnded, MessageEnded, ReadFailed, WrongPacketType, BadPacketLength, ResponseTooLong}
 use Rattle.tds_packet.specs.declared.fault.Place.TheVariants.{Wire, Payload}
 use Rattle.tds_packet.specs.declared.fault.Stop.{Stop}
-use Rattle.tds_packet.specs.Elements.{AreBytes, Progress, Reading, state_of, feed_all}
+use Rattle.tds_packet.specs.Elements.{AreBytes}
+use Rattle.tds_packet.proofs.Feeding.{Progress, Reading, state_of, feed_all}
 use Rattle.tds_packet.specs.Packets.{Packet, packet_bytes, wire_of, payload_of, AreBefore, AreMessage, WireFault, WirePlace, BeforeHeader, BeforeBody, BehindLast, WirePart, no_wire, header_length, wire_fault, wire_end, wire}
 use Rattle.tds_packet.specs.Coming.{Coming, before, whole_message, IsFrontMessage}
 use Rattle.tds_packet.specs.Seen.{Seen, Takes, Ends, IsBetween, IsOver, begun}

@@ -15,10 +15,10 @@ use Rattle.tds_packet.specs.declared.fault.Stop.{Stop}
 use Rattle.tds_packet.specs.declared.packet.Header.{Header}
 use Rattle.tds_packet.specs.Packets.{header_length, header_fault, is_last_status}
 use Rattle.tds_packet.specs.Coming.{FrontPacket, WholePacket, NoPacket, Coming, before, stopped_at, front_packet, behind_header, behind_packet, message, coming_of}
-use Rattle.tds_packet.specs.Reads.{PacketRead}
+use Rattle.tds_packet.specs.Reads.{ReadsPacket}
 use Rattle.tds_packet.specs.Seen.{Seen, Follows, Takes, Needs, Ends, IsOver, IsNotOver, IsBetween, begun}
 use Rattle.tds_packet.proofs.Choices.{choose}
-use Rattle.tds_packet.proofs.Joins.{Stays-none, Stays-trans}
+use Rattle.tds_packet.proofs.Joins.{Stays-none, Stays-trans, device_of}
 
 -- ---- a packet is not empty
 
@@ -94,7 +94,7 @@ abbrev at : ℕ → ℕ → ℕ → ℕ → Bool → Option Stop → List ℕ �
 at room max wire place last stopped bs left f = record { left = left; future = coming_of room max wire place last stopped bs; wire = wire; failures = f }
 
 pub advance_ok : (room room' max wire place n : ℕ) (last : Bool) (stopped : Option Stop) (bs body : List ℕ) (old new : Option (List ℕ)) (f g : ℕ) (h : Header)
-    → room' ≡ room → last ≡ false → stopped ≡ None → bs ≡ [] → n ≡ h.length → PacketRead room max wire old new f g body (Ok h)
+    → room' ≡ room → last ≡ false → stopped ≡ None → bs ≡ [] → n ≡ h.length → ReadsPacket room max wire (device_of old f) (device_of new g) body (Ok h)
     → Takes (at room max wire place last stopped bs old f) (at room' max (wire + n) place h.last stopped body new g) [] 1
 advance_ok room room' max wire place n last stopped bs body old new f g h er el es eb en p =
     let read = p.0 in
@@ -112,7 +112,7 @@ unfolding front_packet
 nothing_read room max wire = refl
 
 pub advance_err : (room max wire place : ℕ) (last : Bool) (stopped : Option Stop) (bs body : List ℕ) (old new : Option (List ℕ)) (f g : ℕ) (e : Fault)
-    → last ≡ false → stopped ≡ None → bs ≡ [] → PacketRead room max wire old new f g body (Err e)
+    → last ≡ false → stopped ≡ None → bs ≡ [] → ReadsPacket room max wire (device_of old f) (device_of new g) body (Err e)
     → Ends (at room max wire place last stopped bs old f) (at room max wire place last stopped bs new g) [] (record { fault = e; place = Wire wire })
 advance_err room max wire place last stopped bs body old new f g e el es eb (inl p) =
     let from : (zs : List ℕ) → coming_of room max wire place last stopped bs zs ≡ coming_of room max wire place false None [] zs = λ zs. rw (el, es, eb) refl in

@@ -6,13 +6,14 @@ use Rattle.std.specs.Prelude.{nat_lt, slice_index, if◌then◌else◌}
 use Rattle.std.specs.Io.KnownBytes.{Consumes}
 use Rattle.std.proofs.KnownBytes.{Consumes-trans}
 use Rattle.tds_meter.specs.Counts.{one_more}
+use Rattle.tds_packet.specs.Devices.{Device}
 use Rattle.tds_packet.specs.Filling.{Stays}
 use Rattle.tds_packet.specs.declared.fault.Fault.{Fault}
 use Rattle.tds_packet.specs.declared.fault.Fault.TheVariants.{InputEnded, ReadFailed}
 use Rattle.tds_packet.specs.declared.packet.Header.{Header}
 use Rattle.tds_packet.specs.Packets.{header_length, header_fault, is_last_status}
 use Rattle.tds_packet.specs.Coming.{WholePacket, NoPacket, front_packet, behind_header}
-use Rattle.tds_packet.specs.Reads.{Faulted, PacketRead, judged_header, header_of}
+use Rattle.tds_packet.specs.Reads.{Faulted, ReadsPacket, judged_header, header_of}
 use Rattle.tds_packet.proofs.Choices.{choose_true, choose_false, test_lt}
 
 lt_false : (a b : ℕ) → b ≤ a → nat_lt a b ≡ false
@@ -102,18 +103,21 @@ cut size limit wire hdr body h j false e len fits lt good =
 
 -- ---- the ends of a packet's read
 
-pub fill_err : (size limit wire : ℕ) (old new : Option (List ℕ)) (f g : ℕ) (hdr body : List ℕ) (e : Fault) → length hdr ≡ 8 → Faulted old new f g (length hdr) e → PacketRead size limit wire old new f g body (Err e)
+abbrev pub device_of : Option (List ℕ) → ℕ → Device
+device_of bytes failures = record { bytes = bytes; failures = failures }
+
+pub fill_err : (size limit wire : ℕ) (old new : Option (List ℕ)) (f g : ℕ) (hdr body : List ℕ) (e : Fault) → length hdr ≡ 8 → Faulted (device_of old f) (device_of new g) (length hdr) e → ReadsPacket size limit wire (device_of old f) (device_of new g) body (Err e)
 fill_err size limit wire old new f g hdr body InputEnded len h = inr (inl ((refl, (h.0.0.0, h.0.0.2, h.0.1, short_input size limit wire h.0.0.0 (omega (arith, h.0.0.1)))), h.1))
 fill_err size limit wire old new f g hdr body ReadFailed len h = inr (inr ((refl, (h.0.0, h.0.2)), h.1))
 fill_err size limit wire old new f g hdr body e len h = absurd h
 
 pub header_err : (size limit wire : ℕ) (old new : Option (List ℕ)) (f g : ℕ) (hdr body : List ℕ) (e : Fault) → length hdr ≡ 8 → Consumes old new hdr → g ≡ f
-    → header_of size limit wire hdr ≡ Err e → PacketRead size limit wire old new f g body (Err e)
+    → header_of size limit wire hdr ≡ Err e → ReadsPacket size limit wire (device_of old f) (device_of new g) body (Err e)
 header_err size limit wire old new f g hdr body e len h same bad =
     inl ((hdr, h, λ zs. after_header size limit wire hdr zs (Some e) len (judged_err hdr (header_fault size limit wire hdr) e bad)), same)
 
 pub body_err : (size limit wire : ℕ) (old mid new : Option (List ℕ)) (f k g : ℕ) (hdr body : List ℕ) (h : Header) (e : Fault) → length hdr ≡ 8 → length body + 8 ≡ h.length → Consumes old mid hdr → k ≡ f
-    → header_of size limit wire hdr ≡ Ok h → Faulted mid new k g (length body) e → PacketRead size limit wire old new f g body (Err e)
+    → header_of size limit wire hdr ≡ Ok h → Faulted (device_of mid k) (device_of new g) (length body) e → ReadsPacket size limit wire (device_of old f) (device_of new g) body (Err e)
 body_err size limit wire old mid new f k g hdr body h InputEnded len fits p same good r =
     let bs = r.0.0.0 in
     inr (inl ((refl, (hdr ++ bs, Consumes-trans old mid new hdr bs p r.0.0.2, r.0.1, ended_body size limit wire hdr bs h len (omega (arith, r.0.0.1, fits)) good)), r.1 ∙ same))
@@ -122,7 +126,7 @@ body_err size limit wire old mid new f k g hdr body h ReadFailed len fits p same
 body_err size limit wire old mid new f k g hdr body h e len fits p same good r = absurd r
 
 pub body_ok : (size limit wire : ℕ) (old mid new : Option (List ℕ)) (f k g : ℕ) (hdr body : List ℕ) (h : Header) → length hdr ≡ 8 → length body + 8 ≡ h.length → Consumes old mid hdr → Stays f k hdr
-    → header_of size limit wire hdr ≡ Ok h → Consumes mid new body → Stays k g body → PacketRead size limit wire old new f g body (Ok h)
+    → header_of size limit wire hdr ≡ Ok h → Consumes mid new body → Stays k g body → ReadsPacket size limit wire (device_of old f) (device_of new g) body (Ok h)
 body_ok size limit wire old mid new f k g hdr body h len fits p same good r last =
     let whole : (zs : List ℕ) → front_packet size limit wire ((hdr ++ body) ++ zs) ≡ WholePacket body h.last h.length zs = λ zs.
     ap (front_packet size limit wire) (append_assoc hdr body zs) ∙ whole_packet size limit wire hdr body zs h len fits good in

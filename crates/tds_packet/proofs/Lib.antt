@@ -1,6 +1,7 @@
 pub mod Choices
 pub mod ComingLaws
 pub mod MessageLaws
+pub mod Feeding
 pub mod ElementLaws
 pub mod PacketLaws
 pub mod WireVectors

@@ -3,7 +3,8 @@ use Rattle.std.proofs.Common.{◌≡◌, ℕ, ◌+◌, ◌≤◌, List, [], ◌�
 use Rattle.std.proofs.lemmas.Grind.{flat_map-append}
 use Rattle.std.specs.Prelude.{if◌then◌else◌}
 use Rattle.tds_packet.specs.declared.fault.Fault.{Fault}
-use Rattle.tds_packet.specs.Elements.{Reading, Spelt, feed_all, state_of}
+use Rattle.tds_packet.specs.Elements.{Spelt}
+use Rattle.tds_packet.proofs.Feeding.{Reading, feed_all, state_of}
 use Rattle.tds_packet.specs.Packets.{Packet, packet_length, packet_bytes, wire_of, AreMessage, Message, BeforeHeader, BehindLast, WirePart, no_wire, wire}
 use Rattle.tds_packet.proofs.ElementLaws.{Spelt-append, feed-Spelt, feed_all-append, feed_part}
 use Rattle.tds_packet.proofs.PacketLaws.{before_packet, packet_is_read, length-packet_bytes}

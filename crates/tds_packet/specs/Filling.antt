@@ -2,9 +2,9 @@
 use Rattle.std.specs.Prelude.{◌≡◌, ℕ, ◌-◌, ◌^◌, ◌<◌, List, length, Option, Result, Ok, Err}
 use Rattle.std.specs.Io.KnownBytes.{Consumes, IsAtEnd}
 use Rattle.tds_meter.specs.Counts.{one_more}
-use Rattle.tds_packet.specs.declared.counted.Counted.{Counted}
 use Rattle.tds_packet.specs.declared.counted.Short.{Short}
 use Rattle.tds_packet.specs.declared.counted.Short.TheVariants.{Ended, Failed}
+use Rattle.tds_packet.specs.Devices.{Device}
 
 -- The count of failures stayed, and where bytes were moved it was not the greatest, at which each call counts as failed.
 abbrev pub Stays : ℕ → ℕ → List ℕ → Type 0
@@ -19,11 +19,8 @@ abbrev pub RunsOut : Option (List ℕ) → Option (List ℕ) → ℕ → Type 0
 RunsOut old new n = ReadsFewer old new n × IsAtEnd new
 
 -- All was read; or the input ended; or a read failed, which was counted.
-abbrev pub FillOutcome : {U : Type 0} → Option (List ℕ) → Option (List ℕ) → ℕ → ℕ → List ℕ → Result U Short → Type 0
-FillOutcome old new f g bytes (Ok _) = Consumes old new bytes × Stays f g bytes
-FillOutcome old new f g bytes (Err Ended) = RunsOut old new (length bytes) × (g ≡ f)
-FillOutcome old new f g bytes (Err Failed) = ReadsFewer old new (length bytes) × (g ≡ one_more f)
-
--- The same of a counted reader.
-abbrev pub FillsSlice : {R U : Type 0} → (R → Option (List ℕ)) → Counted R → Counted R → List ℕ → Result U Short → Type 0
-FillsSlice remaining old new bytes result = FillOutcome (remaining old.device) (remaining new.device) old.failures new.failures bytes result
+abbrev pub FillsSlice : {U : Type 0} → (old new : Device) → List ℕ → Result U Short → Type 0
+FillsSlice old new bytes (Ok _) = Consumes old.bytes new.bytes bytes × Stays old.failures new.failures bytes
+FillsSlice old new bytes (Err Ended) = RunsOut old.bytes new.bytes (length bytes) × (new.failures ≡ old.failures)
+FillsSlice old new bytes (Err Failed) =
+    ReadsFewer old.bytes new.bytes (length bytes) × (new.failures ≡ one_more old.failures)

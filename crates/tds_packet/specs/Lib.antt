@@ -2,6 +2,7 @@ pub mod Faults
 pub mod Elements
 pub mod Packets
 pub mod Coming
+pub mod Devices
 pub mod Filling
 pub mod Reads
 pub mod Seen

@@ -2,6 +2,7 @@
 ghost use Rattle.std.specs.Io.KnownBytes.{Appends, Consumes, IsAtEnd, Keeps};
 ghost use Rattle.std.specs.Prelude.{◌≡◌, ◌-◌, ◌^◌, ◌<◌, ◌≤◌, length, take, IfErr, IfOk, IsTrue, OnErr, OnOk, false};
 ghost use Rattle.tds_meter.specs.Counts.{one_more};
+ghost use Rattle.tds_packet.specs.Devices.{device};
 ghost use Rattle.tds_packet.specs.Filling.{FillsSlice, Stays};
 
 use std::io::{Read, Write};
@@ -93,7 +94,7 @@ impl<R: Read> Counted<R> {
 
     // Reads until the slice is full.
     pub(crate) fn fill(&mut self, to: &mut [u8]) -> Result<(), Short>
-        ensures { FillsSlice R.remaining self.old self.new to.new result }
+        ensures { let at = device R.remaining in FillsSlice (at self.old) (at self.new) to.new result }
     {
         let mut at = 0;
         while at < to.len() {

@@ -1,5 +1,6 @@
 // One packet.
 ghost use Rattle.std.specs.Prelude.{◌≡◌, ◌+◌, ◌^◌, ◌<◌, ◌≤◌, length, IfErr, IfOk};
+ghost use Rattle.tds_packet.specs.Devices.{device};
 ghost use Rattle.tds_packet.specs.Reads.{FillsFrom, IsOfPackets, ReadsPacket, header_of};
 
 use crate::counted::{Counted, Short};
@@ -43,7 +44,7 @@ fn judge(header: &[u8], room: usize, max_wire: u64, wire: u64) -> Result<Header,
 }
 
 fn fill<R: Read>(from: &mut Counted<R>, to: &mut [u8]) -> Result<(), Fault>
-    ensures read { FillsFrom R.remaining from.old from.new to.new result }
+    ensures read { let at = device R.remaining in FillsFrom (at from.old) (at from.new) to.new result }
     ensures fault { IfErr result (λ fault. IsOfPackets fault) }
 {
     match from.fill(to) {
@@ -56,7 +57,7 @@ fn fill<R: Read>(from: &mut Counted<R>, to: &mut [u8]) -> Result<(), Fault>
 fn read_body<R: Read>(from: &mut Counted<R>, packet: &mut Area, n: usize) -> Result<(), Fault>
     requires fits { n ≤ packet.old.room }
     requires peak { packet.old.peak ≤ packet.old.room }
-    ensures bytes { FillsFrom R.remaining from.old from.new packet.new.bytes result }
+    ensures bytes { let at = device R.remaining in FillsFrom (at from.old) (at from.new) packet.new.bytes result }
     ensures len { length packet.new.bytes ≡ n }
     ensures room { packet.new.room ≡ packet.old.room }
     ensures peak { packet.new.peak ≤ packet.new.room }
@@ -78,7 +79,8 @@ pub(crate) fn read_packet<R: Read>(
 ) -> Result<Header, Fault>
     requires within { wire ≤ 2 ^ 56 }
     requires peak { packet.old.peak ≤ packet.old.room }
-    ensures read { ReadsPacket R.remaining from.old from.new packet.old.room max_wire wire packet.new.bytes result }
+    ensures read { let at = device R.remaining in
+        ReadsPacket packet.old.room max_wire wire (at from.old) (at from.new) packet.new.bytes result }
     ensures room { packet.new.room ≡ packet.old.room }
     ensures peak { packet.new.peak ≤ packet.new.room }
     ensures fits { IfOk result (λ h. (length packet.new.bytes + 8 ≡ h.length) × (wire + h.length ≤ max_wire)) }

@@ -6,7 +6,8 @@ use Rattle.tds_packet.specs.declared.counted.Counted.{Counted}
 use Rattle.tds_rows.specs.declared.Charset.{Charset}
 use Rattle.tds_export.specs.declared.report.Report.{Report}
 use Rattle.tds_export.specs.declared.report.Stopped.{Stopped}
-use Rattle.tds_export.specs.Moments.{Exports, Moment, moment}
+use Rattle.tds_export.specs.Exports.{Exports}
+use Rattle.tds_export.specs.Moments.{Moment, moment}
 use Rattle.tds_replay.specs.declared.job.Job.{Job}
 use Rattle.tds_replay.specs.declared.job.Job.TheVariants.{Export}
 use Rattle.tds_replay.specs.declared.status.Status.{Status}
@@ -14,14 +15,6 @@ use Rattle.tds_replay.specs.declared.status.Status.TheVariants.{WantOfMemory}
 use Rattle.tds_replay.specs.Lines.{answer_lines, memory_line}
 use Rattle.tds_replay.specs.Saying.{SaysOrFails}
 use Rattle.tds_replay.specs.Statuses.{status_number, status_of}
-
--- the limits of a job
-abbrev pub limits_of : Job → Limits
-limits_of (Export limits charset file) = limits
-
--- its character set
-abbrev pub charset_of : Job → Charset
-charset_of (Export limits charset file) = charset
 
 -- the devices of a job at a moment
 pub record Devices (R W N : Type 0) : Type 0 where
@@ -47,10 +40,6 @@ telling remaining contents said = record { remaining = remaining; contents = con
 abbrev pub with_areas : {R W N : Type 0} → Telling R W N → Devices R W N → Areas → Moment
 with_areas tell d areas = moment tell.remaining tell.contents areas d.from d.to
 
--- These lines were written to the notes, or a write of them failed.
-abbrev pub SaysTo : {R W N : Type 0} → Telling R W N → Devices R W N → Devices R W N → List ℕ → Type 0
-SaysTo tell before after lines = SaysOrFails tell.said before.notes after.notes lines
-
 -- An export answered, and the status and the lines are those of its answer.
 pub record Performs {R W N : Type 0} (tell : Telling R W N) (charset : Charset) (limits : Limits) (before after : Devices R W N) (status : Status) : Type 0 where
   pub areas : Areas
@@ -59,19 +48,22 @@ pub record Performs {R W N : Type 0} (tell : Telling R W N) (charset : Charset) 
   pub answer : Result Report Stopped
   pub exports : Exports charset (with_areas tell before areas) (with_areas tell after areas') answer
   pub status_is : status ≡ status_of answer
-  pub lines : SaysTo tell before after (answer_lines answer areas'.notice.bytes)
+  pub lines : SaysOrFails tell.said before.notes after.notes (answer_lines answer areas'.notice.bytes)
 
 -- There was no memory, and the line of that was written; reader and writer are as they were.
 pub record LacksMemory {R W N : Type 0} (tell : Telling R W N) (before after : Devices R W N) (status : Status) : Type 0 where
   pub reader : after.from ≡ before.from
   pub writer : after.to ≡ before.to
   pub status_is : status ≡ WantOfMemory
-  pub line : SaysTo tell before after memory_line
+  pub line : SaysOrFails tell.said before.notes after.notes memory_line
 
 -- An export was performed within these limits, with this status.
-abbrev pub PerformsExport : {R W N : Type 0} → Telling R W N → Charset → Limits → Devices R W N → Devices R W N → Status → Type 0
-PerformsExport tell charset limits before after status = Performs tell charset limits before after status ⊎ LacksMemory tell before after status
+abbrev pub PerformsExport : {R W N : Type 0} →
+    Telling R W N → Charset → Limits → (before after : Devices R W N) → Status → Type 0
+PerformsExport tell charset limits before after status =
+    Performs tell charset limits before after status ⊎ LacksMemory tell before after status
 
 -- A job was performed, with this exit status.
-abbrev pub PerformsJob : {R W N : Type 0} → Telling R W N → Job → Devices R W N → Devices R W N → ℕ → Type 0
-PerformsJob tell job before after number = (status : Status) × (number ≡ status_number status) × PerformsExport tell (charset_of job) (limits_of job) before after status
+abbrev pub PerformsJob : {R W N : Type 0} → Telling R W N → Job → (before after : Devices R W N) → ℕ → Type 0
+PerformsJob tell (Export limits charset file) before after number = (status : Status)
+    × (number ≡ status_number status) × PerformsExport tell charset limits before after status

@@ -1,5 +1,5 @@
 -- What the numbers of a kind allow (MS-TDS, Data Type Definitions).
-use Rattle.std.specs.Prelude.{ℕ, ◌+◌, ◌%◌, ◌==◌, nat_le, ◌&&◌, ◌||◌, Bool, true, false, Option, Some, None}
+use Rattle.std.specs.Prelude.{ℕ, ◌+◌, ◌%◌, ◌==◌, nat_le, ◌&&◌, ◌||◌, Bool, true, false, Option, Some, None, option_map, unwrap_or}
 use Rattle.tds_values.specs.declared.kind.Kind.{Kind}
 use Rattle.tds_values.specs.declared.kind.Kind.TheVariants as kinds
 use Rattle.tds_values.specs.TimeOfDay.{time_length}
@@ -24,10 +24,6 @@ fixed_length kinds.DateTime4 = Some 4
 fixed_length kinds.DateTime8 = Some 8
 fixed_length _ = None
 
--- 1, 2, 4 or 8
-abbrev pub is_integer_length : ℕ → Bool
-is_integer_length n = n == 1 || n == 2 || n == 4 || n == 8
-
 -- 4 or 8
 abbrev pub is_half_or_whole : ℕ → Bool
 is_half_or_whole n = n == 4 || n == 8
@@ -38,7 +34,7 @@ is_decimal_length n = n == 5 || n == 9 || n == 13 || n == 17
 
 -- the numbers that a TYPE_INFO may give this kind
 abbrev pub is_valid : Kind → Bool
-is_valid (kinds.IntN n) = is_integer_length n
+is_valid (kinds.IntN n) = n == 1 || n == 2 || n == 4 || n == 8
 is_valid (kinds.MoneyN n) = is_half_or_whole n
 is_valid (kinds.DateTimeN n) = is_half_or_whole n
 is_valid (kinds.Decimal n precision scale) =
@@ -50,15 +46,6 @@ is_valid _ = true
 
 -- a value that isn't NULL may have n bytes
 abbrev pub is_length_allowed : Kind → ℕ → Bool
-is_length_allowed kinds.Int1 n = n == 1
-is_length_allowed kinds.Int2 n = n == 2
-is_length_allowed kinds.Int4 n = n == 4
-is_length_allowed kinds.Int8 n = n == 8
-is_length_allowed kinds.Bit n = n == 1
-is_length_allowed kinds.Money4 n = n == 4
-is_length_allowed kinds.Money8 n = n == 8
-is_length_allowed kinds.DateTime4 n = n == 4
-is_length_allowed kinds.DateTime8 n = n == 8
 is_length_allowed (kinds.IntN described) n = n == described
 is_length_allowed kinds.BitN n = n == 1
 is_length_allowed (kinds.MoneyN described) n = n == described
@@ -72,3 +59,4 @@ is_length_allowed (kinds.DateTimeOffset scale) n = n == time_length scale + 5
 is_length_allowed (kinds.Binary reach) n = true
 is_length_allowed (kinds.Narrow reach) n = true
 is_length_allowed (kinds.Wide reach) n = n % 2 == 0
+is_length_allowed kind n = unwrap_or (option_map (λ length. n == length) (fixed_length kind)) false

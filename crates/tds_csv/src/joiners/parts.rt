@@ -28,9 +28,10 @@ pub(crate) trait Bytewise {
         requires short { length bytes.now ≤ CHUNK }
         ensures { PutsPiece W.contents sink.old sink.new (text bytes.now) result };
 
-    ghost appends: { (a b : List ℕ) → text (a ++ b) ≡ text a ++ text b };
-
-    ghost empty: { text [] ≡ [] };
+    /// Does nothing: its clauses are the laws of the text.
+    fn laws()
+        ensures appends { (a b : List ℕ) → text (a ++ b) ≡ text a ++ text b }
+        ensures empty { text [] ≡ [] };
 }
 
 // Puts the text of bytes: a long run that stands for itself, or a chunk, at a time.
@@ -41,6 +42,7 @@ pub(crate) fn put_text<C: Bytewise, W: Write>(
     requires { IsWriting sink.old }
     ensures { PutsPiece W.contents sink.old sink.new (C.text bytes.now) result }
 {
+    C::laws();
     let mut taken = 0;
     while taken < bytes.len() {
         let plain = C::plain_end(bytes, taken);

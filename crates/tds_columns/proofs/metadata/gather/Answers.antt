@@ -3,7 +3,7 @@ use Rattle.tds_meter.specs.Space.{Space}
 use Rattle.tds_packet.specs.Elements.{AreBytes}
 use Rattle.tds_packet.specs.Payloads.{seen}
 use Rattle.tds_columns.specs.Description.{BeforeCount, ColumnHead, InColumn, WholeDescription}
-use Rattle.tds_columns.specs.Gather.{DescribesColumns, StopsDescribing}
+use Rattle.tds_columns.specs.Gather.{Describes, StopsDescribing}
 use Rattle.tds_columns.proofs.GatherSteps.{describes_both, stops_describing_after}
 use Rattle.tds_columns.proofs.GatherMeaning.{gather_stops, gathers}
 use Rattle.tds_packet.proofs.Passing.{passed}
@@ -43,8 +43,9 @@ returns-clause-gives g c =
     let at = InColumn middle.bytes c.in-Columns.count [] ColumnHead in
     let count = rw (c.in-Columns.is, c.clear.ensures.value) at c.in_ok-count.ensures.gives in
     let room : middle.room ≡ before.room = c.in_ok-count.ensures.room ∙ ap (λ (s : Space). s.room) c.clear.ensures.value in
-    let whole : DescribesColumns before.room c.in-Columns.count middle.bytes b d c.read_count.new.payload.place c.read_columns.new.payload.place middle.peak after =
-    subst (λ r. DescribesColumns r c.in-Columns.count middle.bytes b d c.read_count.new.payload.place c.read_columns.new.payload.place middle.peak after) room c.in_ok-read_columns.ensures.gives in
-    let both = describes_both before.room BeforeCount at (WholeDescription after.bytes whole.columns) a b d c.args.payload.now.place c.read_count.new.payload.place c.read_columns.new.payload.place before.peak middle after count.0 whole.describes in
+    let read = c.in_ok-read_columns.ensures.gives in
+    let whole = subst (λ r. Describes r at b d c.read_count.new.payload.place c.read_columns.new.payload.place middle.peak after (WholeDescription after.bytes read.0.0)) room read.1 in
+    let both = describes_both before.room BeforeCount at (WholeDescription after.bytes read.0.0) a b d c.args.payload.now.place c.read_count.new.payload.place c.read_columns.new.payload.place before.peak middle after count.0 whole in
     let are : AreBytes after.bytes = search rules in
-    (whole.columns, whole.all, both, gathers before.room a d c.args.payload.now.place c.read_columns.new.payload.place before.peak after whole.columns are both)
+    let taken = gathers before.room a d c.args.payload.now.place c.read_columns.new.payload.place before.peak after read.0.0 are both in
+    (read.0.0, read.0.1, both, taken.0, taken.1)

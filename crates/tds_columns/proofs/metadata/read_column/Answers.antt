@@ -8,7 +8,7 @@ use Rattle.tds_packet.proofs.Passing.{passed}
 use Rattle.tds_columns.proofs.metadata.read_column.Goals as goal
 
 pub returns-in_err-read_type-clause-gives : goal.returns-in_err-read_type-clause-gives
-returns-in_err-read_type-clause-gives g c = passed _ _ _ _ c.from_residual.ensures.1 c.in_err-read_type.ensures.gives
+returns-in_err-read_type-clause-gives g c = λ columns number. passed _ _ _ _ c.from_residual.ensures.1 (c.in_err-read_type.ensures.gives columns number)
 
 pub returns-clause-gives : goal.returns-clause-gives
 returns-clause-gives g c =
@@ -18,17 +18,15 @@ returns-clause-gives g c =
     let a = seen g.R.Read.remaining c.args.payload.now in
     let b = seen g.R.Read.remaining c.read_type.new.payload in
     let d = seen g.R.Read.remaining c.read_name.new.payload in
-    let type_of = c.in_ok-read_type.ensures.gives in
-    MatchResult-weaker c.read_name.result c.read_name.ensures.gives (λ _ gives columns number.
-    let type = type_of columns number in
-    let name = gives columns type.0 number in (
+    λ columns number.
+    let type = c.in_ok-read_type.ensures.gives columns number in
+    MatchResult-weaker c.read_name.result (c.read_name.ensures.gives columns type.0 number) (λ _ name. (
       name.0,
       describes_both before.room (InColumn before.bytes c.args.count columns ColumnHead) (InColumn middle.bytes c.args.count columns (NameCount type.0)) (with_column after.bytes c.args.count columns name.0) a b d
           c.args.payload.now.place c.read_type.new.payload.place c.read_name.new.payload.place before.peak middle after type.1
           (subst (λ r. Describes r (InColumn middle.bytes c.args.count columns (NameCount type.0)) b d c.read_type.new.payload.place c.read_name.new.payload.place middle.peak after (with_column after.bytes c.args.count columns name.0)) c.in_ok-read_type.ensures.room name.1),
     ))
-    (λ stop gives columns number.
-    let type = type_of columns number in
+    (λ stop name.
     stops_describing_after before.room (InColumn before.bytes c.args.count columns ColumnHead) (InColumn middle.bytes c.args.count columns (NameCount type.0)) a b d
     c.args.payload.now.place c.read_type.new.payload.place before.peak middle after stop type.1
-    (subst (λ r. StopsDescribing r (InColumn middle.bytes c.args.count columns (NameCount type.0)) b d c.read_type.new.payload.place middle.peak after stop) c.in_ok-read_type.ensures.room (gives type.0 columns number)))
+    (subst (λ r. StopsDescribing r (InColumn middle.bytes c.args.count columns (NameCount type.0)) b d c.read_type.new.payload.place middle.peak after stop) c.in_ok-read_type.ensures.room name))

@@ -20,7 +20,7 @@ returns-then-count-clause-gives g c =
     let b = seen g.R.Read.remaining c.take_into.new.payload in
     let all : little_number 2 c.take_into.new.area.bytes ≡ 0xFFFF = search rules in (
       count_none c.args.area.now.room a b c.args.area.now c.take_into.new.area c.clear.new.self c.args.payload.now.place c.take_into.new.payload.place c.requires.empty c.in_ok-take_into.ensures.gives all c.in_ok-take_into.ensures.place c.clear.ensures.value,
-      gathers_none a b c.args.area.now c.take_into.new.area c.clear.new.self c.requires.empty c.in_ok-take_into.ensures.gives (search rules) all c.clear.ensures.value,
+      gathers_none a b c.args.area.now c.take_into.new.area c.requires.empty c.in_ok-take_into.ensures.gives (search rules) all,
     )
 
 pub returns-in-None-clause-gives : goal.returns-in-None-clause-gives

@@ -13,7 +13,7 @@ all_behind byte bytes n = ap (λ l. kind_of (byte ∷ l)) (sym (take_all (length
 
 pub returns-in_err-take_into-clause-gives : goal.returns-in_err-take_into-clause-gives
 returns-in_err-take_into-clause-gives g c =
-    passed _ _ _ _ c.from_residual.ensures.1 (λ count columns number.
+    λ count columns number. passed _ _ _ _ c.from_residual.ensures.1 (
     info_cut c.args.area.now.room c.args.index c.args.byte c.args.rest count columns (seen g.R.Read.remaining c.args.payload.now) (seen g.R.Read.remaining c.take_into.new.payload) c.args.area.now c.take_into.new.area c.args.payload.now.place c.in_err-take_into.field-0.0
     c.requires.known (c.in_err-take_into.ensures.gives c.requires.going.going))
 

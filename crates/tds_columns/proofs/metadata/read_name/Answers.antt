@@ -16,12 +16,12 @@ limit room n units left room' n' left' p q r = ap (λ v. too_long v (n' + 1) (2 
 
 pub returns-in_err-take_into-clause-gives : goal.returns-in_err-take_into-clause-gives
 returns-in_err-take_into-clause-gives g c =
-    passed _ _ _ _ c.from_residual.ensures.1 (λ kind columns number.
+    λ columns kind number. passed _ _ _ _ c.from_residual.ensures.1 (
     units_cut c.args.area.now.room c.args.count columns kind (seen g.R.Read.remaining c.args.payload.now) (seen g.R.Read.remaining c.take_into.new.payload) c.args.area.now c.take_into.new.area c.args.payload.now.place c.in_err-take_into.field-0.0
     (c.in_err-take_into.ensures.gives c.requires.going.going))
 
 pub returns-in-Some-clause-gives : goal.returns-in-Some-clause-gives
-returns-in-Some-clause-gives g c = λ kind columns number.
+returns-in-Some-clause-gives g c = λ columns kind number.
     let before = c.args.area.now in
     let middle = c.take_into.new.area in
     let a = seen g.R.Read.remaining c.args.payload.now in
@@ -65,7 +65,7 @@ returns-clause-gives g c = λ columns kind number.
     some c.in_ok-take_into.ensures.place c.in_ok-take_into-2.ensures.gives c.in_ok-take_into-2.ensures.place
 
 pub returns-in_err-take_into-2-clause-gives : goal.returns-in_err-take_into-2-clause-gives
-returns-in_err-take_into-2-clause-gives g c = passed _ _ _ _ c.from_residual-in_err-take_into-2.ensures.1 (λ kind columns number.
+returns-in_err-take_into-2-clause-gives g c = λ columns kind number. passed _ _ _ _ c.from_residual-in_err-take_into-2.ensures.1 (
     let before = c.args.area.now in
     let middle = c.take_into.new.area in
     let a = seen g.R.Read.remaining c.args.payload.now in

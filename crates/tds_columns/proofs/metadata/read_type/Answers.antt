@@ -14,7 +14,7 @@ type_byte area bytes start n same at = ap (λ l. get_or l (start + 6) 0) same �
 
 pub returns-in_err-take_into-clause-gives : goal.returns-in_err-take_into-clause-gives
 returns-in_err-take_into-clause-gives g c =
-    passed _ _ _ _ c.from_residual.ensures.1 (λ columns number.
+    λ columns number. passed _ _ _ _ c.from_residual.ensures.1 (
     head_cut c.args.area.now.room c.args.count columns (seen g.R.Read.remaining c.args.payload.now) (seen g.R.Read.remaining c.take_into.new.payload) c.args.area.now c.take_into.new.area c.args.payload.now.place c.in_err-take_into.field-0.0
     (c.in_err-take_into.ensures.gives c.requires.going.going))
 
@@ -59,14 +59,13 @@ returns-clause-gives g c =
     let fits : ((length before.bytes + 7) + c.in-Ok.rest) + 1 + 8 * left ≤ before.room = omega (arith, c.in-Ok.ensures.1, start, room) in
     let head : (columns : List Column) → length columns ≡ c.args.index → Describes before.room (InColumn before.bytes c.args.count columns ColumnHead) a b c.args.payload.now.place c.take_into.new.payload.place before.peak middle (InColumn middle.bytes c.args.count columns (ColumnInfo byte)) = λ columns number.
     head_open before.room c.args.index c.args.count byte left c.in-Ok.rest columns a b before middle c.args.payload.now.place c.take_into.new.payload.place number refl c.in_ok-take_into.ensures.gives is c.in-Ok.ensures.0 fits c.in_ok-take_into.ensures.place c.if-rest-eq0.false in
-    MatchResult-weaker c.read_info.result c.read_info.ensures.gives (λ _ gives columns number.
-    let info = gives c.args.count columns number in (
+    λ columns number. MatchResult-weaker c.read_info.result (c.read_info.ensures.gives c.args.count columns number) (λ _ info. (
       info.0,
       describes_both before.room (InColumn before.bytes c.args.count columns ColumnHead) (InColumn middle.bytes c.args.count columns (ColumnInfo byte)) (InColumn c.read_info.new.area.bytes c.args.count columns (NameCount info.0)) a b d
           c.args.payload.now.place c.take_into.new.payload.place c.read_info.new.payload.place before.peak middle c.read_info.new.area (head columns number)
           (subst (λ r. Describes r (InColumn middle.bytes c.args.count columns (ColumnInfo byte)) b d c.take_into.new.payload.place c.read_info.new.payload.place middle.peak c.read_info.new.area (InColumn c.read_info.new.area.bytes c.args.count columns (NameCount info.0))) c.in_ok-take_into.ensures.room info.1),
     ))
-    (λ stop gives columns number.
+    (λ stop info.
     stops_describing_after before.room (InColumn before.bytes c.args.count columns ColumnHead) (InColumn middle.bytes c.args.count columns (ColumnInfo byte)) a b d
     c.args.payload.now.place c.take_into.new.payload.place before.peak middle c.read_info.new.area stop (head columns number)
-    (subst (λ r. StopsDescribing r (InColumn middle.bytes c.args.count columns (ColumnInfo byte)) b d c.take_into.new.payload.place middle.peak c.read_info.new.area stop) c.in_ok-take_into.ensures.room (gives c.args.count columns number)))
+    (subst (λ r. StopsDescribing r (InColumn middle.bytes c.args.count columns (ColumnInfo byte)) b d c.take_into.new.payload.place middle.peak c.read_info.new.area stop) c.in_ok-take_into.ensures.room info))

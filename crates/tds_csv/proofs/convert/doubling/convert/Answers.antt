@@ -1,6 +1,6 @@
 use Rattle.std.proofs.Common.{◌≡◌, ◌∙◌, ◌+◌, take, arith}
 use Rattle.tds_csv.specs.Quoting.{doubled}
-use Rattle.tds_csv.specs.JoiningLemmas.{doubled-append}
+use Rattle.tds_csv.proofs.JoiningLemmas.{doubled-append}
 use Rattle.tds_csv.proofs.Singles.{text_more, text_next}
 use Rattle.tds_csv.proofs.convert.doubling.convert.Goals as goal
 

@@ -7,7 +7,7 @@ use borrow.Rule.Slice.PartMut.{put_mid, post_of}
 use lib.Lanes.{put_chunk, chunk}
 use lib.Seq.{take-add}
 use Rattle.hex.specs.Hex.{encode_lower, lower_digits}
-use Rattle.tds_csv.specs.SingleLaws.{hex-append, hex-nil}
+use Rattle.tds_csv.proofs.SingleLaws.{hex-append, hex-nil}
 use Rattle.tds_csv.proofs.convert.lanes_hex.encode.Goals as goal
 
 pub loop-at-init : goal.loop-at-init

@@ -7,7 +7,7 @@ use Rattle.std.specs.Char.{encode_utf8}
 use Rattle.tds_csv.specs.Joining.{Leads}
 use Rattle.tds_csv.specs.Quoting.{doubled}
 use Rattle.tds_csv.specs.Utf16 as utf16
-use Rattle.tds_csv.specs.Utf16Laws.{short}
+use Rattle.tds_csv.proofs.Utf16Laws.{short}
 use Rattle.tds_csv.specs.Utf16Next.{IsNext}
 use Rattle.tds_csv.proofs.Characters.{doubled_length}
 use Rattle.tds_csv.proofs.Utf16Steps.{text_nil}

@@ -1,6 +1,6 @@
 use Rattle.std.proofs.Common.{◌∙◌, take, arith, rules}
 use Rattle.tds_csv.specs.Windows1252 as windows_1252
-use Rattle.tds_csv.specs.SingleLaws.{windows_1252-append}
+use Rattle.tds_csv.proofs.SingleLaws.{windows_1252-append}
 use Rattle.tds_csv.proofs.Singles.{text_more}
 use Rattle.tds_csv.proofs.convert.windows_1252.convert.Goals as goal
 

@@ -2,7 +2,7 @@ use Rattle.std.proofs.Common.{◌≡◌, ◌∙◌, ◌<◌, ◌++◌, get_or, l
 use Rattle.std.specs.Char.{encode_utf8}
 use Rattle.tds_csv.specs.Quoting.{doubled}
 use Rattle.tds_csv.specs.Windows1252 as windows_1252
-use Rattle.tds_csv.specs.SingleLaws.{windows_1252-append}
+use Rattle.tds_csv.proofs.SingleLaws.{windows_1252-append}
 use Rattle.tds_csv.proofs.Characters.{doubled_length}
 use Rattle.tds_csv.proofs.PlainText.{text_one}
 use Rattle.tds_csv.proofs.Singles.{text_next}

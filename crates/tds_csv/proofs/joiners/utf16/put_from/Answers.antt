@@ -2,7 +2,7 @@ use Rattle.std.proofs.Common.{◌≡◌, ◌+◌, ◌-◌, ◌≤◌, ◌++◌, 
 use Rattle.tds_csv.specs.Joining.{emit}
 use Rattle.tds_csv.specs.Sinks.{PutsPiece}
 use Rattle.tds_csv.specs.Utf16.{rest, text}
-use Rattle.tds_csv.specs.Utf16Laws.{joins_utf16}
+use Rattle.tds_csv.proofs.Utf16Laws.{joins_utf16}
 use Rattle.tds_csv.proofs.Puttings.{PutsPiece-error, PutsPiece-none, PutsPiece-ok, PutsPiece-trans}
 use Rattle.tds_csv.proofs.Leading.{Leads-front, Leads-next, Leads-none, Leads-trans, puts_part, puts_whole}
 use Rattle.tds_csv.proofs.joiners.utf16.put_from.Goals as goal

@@ -29,7 +29,7 @@ returns-in_err-gather-clause-gives g c = λ tokens tracks holds.
 pub view-columns-requires : goal.view-columns-requires
 view-columns-requires g c =
     let gives = rw c.in_default.is at c.in_ok-gather.ensures.gives in
-    subst IsDescription (sym c.bytes.ensures.value) (c.args.self.now.description.now.room, gives.0, gives.3.spelt)
+    subst IsDescription (sym c.bytes.ensures.value) (c.args.self.now.description.now.room, gives.0, gives.4)
 
 pub returns-in_err-put_header-clause-gives : goal.returns-in_err-put_header-clause-gives
 returns-in_err-put_header-clause-gives g c = λ tokens tracks holds.
@@ -42,7 +42,7 @@ returns-in_err-put_header-clause-gives g c = λ tokens tracks holds.
     let breaks = subst (λ l. Breaks h k (between (nat_lt 0 run.progress.report.sets) ++ header_line (columns_of l)) c.in_err-put_header.field-0.0) bytes (c.in_err-put_header.ensures.gives sink.writing) in
     passed _ _ _ _ c.from_residual-in_err-put_header.ensures.1 (inr (
       metadata_breaks run.charset run.description.now.room c.gather.new.area run.description.now h k tokens run.progress gives.0 (seen g.R.Read.remaining run.payload.now) (seen g.R.Read.remaining c.gather.new.payload) run.payload.now.place c.gather.new.payload.place c.in_err-put_header.field-0.0
-          sink.ready.2 (sink.ready.1 sink.writing) tracks holds (description_shows run.description.now.room gives.0 c.gather.new.area.bytes gives.3.spelt).0 gives.2 (between_of g.R.Read.remaining c.gather.new.payload c.in_ok-gather.ensures.payload.going) breaks,
+          sink.ready.2 (sink.ready.1 sink.writing) tracks holds (description_shows run.description.now.room gives.0 c.gather.new.area.bytes gives.4).0 gives.2 (between_of g.R.Read.remaining c.gather.new.payload c.in_ok-gather.ensures.payload.going) breaks,
       c.in_err-put_header.ensures.failed,
     ))
 
@@ -55,4 +55,4 @@ returns-clause-gives g c = λ tokens tracks holds.
     let bytes = c.view-columns.ensures ∙ c.bytes.ensures.value in
     let puts = subst (λ l. Puts h k (between (nat_lt 0 run.progress.report.sets) ++ header_line (columns_of l))) bytes c.in_ok-put_header.ensures.gives in
     metadata_reads run.charset run.description.now.room c.gather.new.area run.description.now h k tokens run.progress gives.0 (seen g.R.Read.remaining run.payload.now) (seen g.R.Read.remaining c.gather.new.payload) run.payload.now.place c.gather.new.payload.place tracks holds
-    (description_shows run.description.now.room gives.0 c.gather.new.area.bytes gives.3.spelt).0 gives.2 puts
+    (description_shows run.description.now.room gives.0 c.gather.new.area.bytes gives.4).0 gives.2 puts

@@ -1,6 +1,6 @@
 use Rattle.std.proofs.Common.{◌≡◌, ◌-◌, take, drop, subst, arith}
 use Rattle.tds_csv.specs.Binary as binary
-use Rattle.tds_csv.specs.SingleLaws.{hex-nil}
+use Rattle.tds_csv.proofs.SingleLaws.{hex-nil}
 use Rattle.tds_csv.proofs.joiners.binary.HexJoinerBytewise.plain_end.Goals as goal
 
 pub returns-clause-plain : goal.returns-clause-plain

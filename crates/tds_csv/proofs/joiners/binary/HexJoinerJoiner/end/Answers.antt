@@ -1,6 +1,6 @@
 use Rattle.std.proofs.Common.{[], refl, sym}
 use Rattle.tds_csv.specs.Binary as binary
-use Rattle.tds_csv.specs.SingleLaws.{hex-nil}
+use Rattle.tds_csv.proofs.SingleLaws.{hex-nil}
 use Rattle.tds_csv.proofs.Puttings.{PutsPiece-none}
 use Rattle.tds_csv.proofs.Pushings.{ends_whole, passes}
 use Rattle.tds_csv.proofs.joiners.binary.HexJoinerJoiner.end.Goals as goal

@@ -1,5 +1,5 @@
 use Rattle.std.proofs.Common.{[], refl, sym, ap}
-use Rattle.tds_csv.specs.JoiningLemmas.{settled_all}
+use Rattle.tds_csv.proofs.JoiningLemmas.{settled_all}
 use Rattle.tds_csv.specs.Binary as binary
 use Rattle.tds_csv.proofs.Pushings.{passes, pushes_stopped, pushes_taken}
 use Rattle.tds_csv.proofs.joiners.binary.HexJoinerJoiner.push.Goals as goal

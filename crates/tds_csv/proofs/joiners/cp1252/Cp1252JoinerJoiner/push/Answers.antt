@@ -1,5 +1,5 @@
 use Rattle.std.proofs.Common.{[], refl, sym, ap}
-use Rattle.tds_csv.specs.JoiningLemmas.{settled_all}
+use Rattle.tds_csv.proofs.JoiningLemmas.{settled_all}
 use Rattle.tds_csv.specs.Windows1252 as windows_1252
 use Rattle.tds_csv.proofs.Pushings.{passes, pushes_stopped, pushes_taken}
 use Rattle.tds_csv.proofs.joiners.cp1252.Cp1252JoinerJoiner.push.Goals as goal

@@ -2,7 +2,7 @@ use Rattle.std.proofs.Common.{◌≡◌, ◌∙◌, ◌+◌, ◌-◌, ◌<◌, �
 use Rattle.tds_csv.specs.Joining.{Leads, emit}
 use Rattle.tds_csv.specs.Sinks.{PutsPiece}
 use Rattle.tds_csv.specs.Utf16.{rest, text}
-use Rattle.tds_csv.specs.Utf16Laws.{joins_utf16}
+use Rattle.tds_csv.proofs.Utf16Laws.{joins_utf16}
 use Rattle.tds_csv.specs.Utf16Next.{seam}
 use Rattle.tds_csv.proofs.Puttings.{PutsPiece-none}
 use Rattle.tds_csv.proofs.Leading.{Leads-seam}

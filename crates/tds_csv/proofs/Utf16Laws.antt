@@ -1,5 +1,4 @@
--- The laws of UTF-16 in pieces, with their proofs. They stand here because the ghost member `joins` of the joiner cites
--- `joins_utf16`, and a `ghost use` of a crate can name its specs/ alone.
+-- The laws of UTF-16 in pieces.
 use Rattle.std.proofs.Common.{◌≡◌, ℕ, ◌+◌, ◌*◌, ◌%◌, ◌≤◌, ◌&&◌, Bool, true, false, cond, List, [], ◌∷◌, ◌++◌, length, map, refl, sym, ap, ◌∙◌, arith, encode_utf8_all, Some, unwrap_or}
 use Rattle.std.specs.Prelude.{⊤}
 use Rattle.std.proofs.lemmas.List.{map-append, length-append}
@@ -10,7 +9,7 @@ use Rattle.std.specs.Char.Utf16.{utf16_chars, utf16_lossy_chars, is_high_surroga
 use Rattle.tds_csv.specs.Joining.{JoinsPieces, emit}
 use Rattle.tds_csv.specs.Quoting.{doubled}
 use Rattle.tds_csv.specs.Utf16.{units, is_high, IsFit, text, rest}
-use Rattle.tds_csv.specs.JoiningLemmas.{doubled-append, settled_front}
+use Rattle.tds_csv.proofs.JoiningLemmas.{doubled-append, settled_front}
 
 -- the first unit is a low surrogate
 unfoldable pub starts_low : List ℕ → Bool

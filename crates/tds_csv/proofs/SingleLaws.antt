@@ -1,5 +1,4 @@
--- The laws of the conversions in which each byte stands alone, with their proofs. They stand here because the ghost members
--- `appends`, `empty` and `joins` of the joiners cite them, and a `ghost use` of a crate can name its specs/ alone.
+-- The laws of the conversions in which each byte stands alone.
 use Rattle.std.proofs.Common.{◌≡◌, ℕ, ◌/◌, ◌%◌, List, [], ◌∷◌, ◌++◌, map, refl, sym, ap, ◌∙◌, arith, encode_utf8_all, slice_index}
 use Rattle.std.specs.Prelude.{⊤}
 use Rattle.std.proofs.lemmas.List.{map-append, append-nil}
@@ -9,7 +8,7 @@ use Rattle.tds_csv.specs.Joining.{JoinsPieces, emit}
 use Rattle.tds_csv.specs.Binary as binary
 use Rattle.tds_csv.specs.Windows1252 as windows_1252
 use Rattle.tds_csv.specs.Quoting.{doubled}
-use Rattle.tds_csv.specs.JoiningLemmas.{doubled-append, settled_all}
+use Rattle.tds_csv.proofs.JoiningLemmas.{doubled-append, settled_all}
 
 module _ (text : List ℕ → List ℕ) (appends : (x y : List ℕ) → text (x ++ y) ≡ text x ++ text y) (empty : text [] ≡ []) where
   emit_all : (bytes : List ℕ) → emit (λ _. []) text bytes ≡ text bytes

@@ -1,5 +1,4 @@
--- The laws of UTF-8 in pieces, with their proofs. They stand here because the ghost member `joins` of the joiner cites
--- `joins_utf8`, and a `ghost use` of a crate can name its specs/ alone.
+-- The laws of UTF-8 in pieces.
 use Rattle.std.proofs.Common.{◌≡◌, ℕ, zero, suc, ◌+◌, ◌-◌, ◌≤◌, ◌<◌, ⊎_elim, true, false, cond, List, [], ◌∷◌, ◌++◌, length, take, drop, refl, sym, ap, subst, ◌∙◌, arith, IsUtf8, encode_utf8, encode_utf8_all}
 use Rattle.std.proofs.lemmas.List.{append_assoc, length-append, take_at, drop_at, length-take-le, take-append-drop, take_all, take-append-le}
 use Rattle.std.proofs.lemmas.Str.{IsUtf8-append, IsUtf8-nil, IsUtf8-drop, IsUtf8-encode, IsCharBoundary-from_take, is_utf8-from_IsUtf8, IsUtf8-from_is_utf8, utf8_valid_len_le, utf8_valid_len-IsUtf8, utf8_valid_len-IsValidUpTo, length-encode, len_utf8_bounds}
@@ -9,7 +8,7 @@ use lib.Utf8.{scalar}
 use Rattle.std.specs.Str.Lossy.{valid_len_up_to, utf8_valid_len}
 use Rattle.tds_csv.specs.Joining.{JoinsPieces, emit}
 use Rattle.tds_csv.specs.Utf8.{IsFit, Begins, rest, text}
-use Rattle.tds_csv.specs.JoiningLemmas.{doubled-append, settled_front}
+use Rattle.tds_csv.proofs.JoiningLemmas.{doubled-append, settled_front}
 
 -- what is found going down is UTF-8, and nothing longer is
 front_up_to : (bs : List ℕ) (n : ℕ) → IsUtf8 (take (valid_len_up_to bs n) bs)

@@ -1,0 +1,9 @@
+use Rattle.hex.specs.Hex.{lower_digits}
+use Rattle.tds_csv.proofs.SingleLaws.{hex-append, hex-nil}
+use Rattle.tds_csv.proofs.joiners.binary.HexJoinerBytewise.laws.Goals as goal
+
+pub returns-clause-appends : goal.returns-clause-appends
+returns-clause-appends c = hex-append lower_digits
+
+pub returns-clause-empty : goal.returns-clause-empty
+returns-clause-empty c = hex-nil

@@ -1,0 +1,87 @@
+-- How an export ended, where reader and writer may not tell their bytes.
+use Rattle.std.specs.Prelude.{◌≡◌, ◌⊎◌, Bool, true, false, List, ℕ, [], ◌++◌, length, Some, Result, IfErr, MatchResult}
+use Rattle.tds_meter.specs.Counts.{Rose}
+use Rattle.tds_packet.specs.declared.fault.Fault.TheVariants.{ReadFailed, WriteFailed}
+use Rattle.tds_packet.specs.declared.fault.Stop.{Stop}
+use Rattle.tds_packet.specs.Elements.{AreBytes}
+use Rattle.tds_packet.specs.Seen.{Seen, begun}
+use Rattle.tds_csv.specs.Sinks.{Adds, Held, fresh}
+use Rattle.tds_rows.specs.declared.Charset.{Charset}
+use Rattle.tds_export.specs.declared.report.Report.{Report}
+use Rattle.tds_export.specs.declared.report.Stopped.{Stopped}
+use Rattle.tds_export.specs.Moments.{FailsToRead, FailsToWrite, Given, Moment, given_of, grammar_of, limits_of, run_of}
+use Rattle.tds_export.specs.Outcome.{Answer, SucceedsIfAccepted}
+use Rattle.tds_export.specs.TokenGrammar.{response_start}
+use Rattle.tds_export.specs.Steps.{Completes, RunStops}
+use Rattle.tds_export.specs.Tokens.{error_text}
+
+-- the payload of an export before the first packet
+abbrev pub begun_at : Given → Seen
+begun_at given = let from = given.before.reader in
+    begun (limits_of given).packet_size (limits_of given).max_wire from.bytes from.failures
+
+-- the sink of an export before the first byte of text
+abbrev pub fresh_at : Given → Held
+fresh_at given = fresh given.before.writer.bytes given.before.writer.failures
+
+-- The payload is that of the reader.
+pub record IsReader (given : Given) (seen : Seen) : Type 0 where
+  pub left : seen.left ≡ given.after.reader.bytes
+  pub failures : seen.failures ≡ given.after.reader.failures
+
+-- The sink is that of the writer.
+pub record IsWriter (given : Given) (held : Held) : Type 0 where
+  pub has : held.had ≡ given.after.writer.bytes
+  pub waiting : held.waiting ≡ given.after.areas.output.bytes
+  pub failures : held.failures ≡ given.after.writer.failures
+
+-- What waited was delivered and the writer flushed, or one of the two failed.
+abbrev pub Tidied : Held → Held → Type 0
+Tidied old new = (sent : List ℕ) × Adds old new sent []
+    × (((new.waiting ≡ []) × (new.failures ≡ old.failures)) ⊎ Rose old.failures new.failures)
+
+-- The response was read whole, its text delivered, and its report answered. The notice area has the text of its first error.
+pub record Reports (given : Given) (report : Report) : Type 0 where
+  pub seen : Seen
+  pub held : Held
+  pub reader : IsReader given seen
+  pub writer : IsWriter given held
+  pub completes : let area = given.after.areas.description in
+      Completes (grammar_of given) response_start (begun_at given) seen (fresh_at given) held report area
+  pub notice : given.after.areas.notice.bytes ≡ error_text completes.whole.tokens
+
+-- the answer of an export that stopped, where the sink is left in this state
+abbrev pub stopped_with : Stop → Held → Stopped
+stopped_with stop held =
+    record { fault = stop.fault; place = stop.place; written = held.delivered; unwritten = length held.waiting }
+
+-- The export stopped, and what waited was delivered unless the writer had failed. The notice area is empty.
+pub record StopsExport (given : Given) (stopped : Stopped) : Type 0 where
+  pub seen : Seen
+  pub middle : Held
+  pub held : Held
+  pub failed : Bool
+  pub stop : Stop
+  pub reader : IsReader given seen
+  pub writer : IsWriter given held
+  pub stops : let area = given.after.areas.description in
+      RunStops (grammar_of given) response_start (begun_at given) seen 0 (fresh_at given) middle area failed stop
+  pub tidied : failed ≡ false → Tidied middle held
+  pub same : failed ≡ true → held ≡ middle
+  pub stopped_is : stopped ≡ stopped_with stop held
+  pub notice : given.after.areas.notice.bytes ≡ []
+
+-- A reader that told its bytes and a writer that told those that it had still do, and the export answers what they make of the response; of an accepted one its report, but for a device that fails and for what isn't built.
+unfoldable pub Tells : Given → Result Report Stopped → Type 0
+Tells given result = (input had : List ℕ) → AreBytes input →
+    given.before.reader.bytes ≡ Some input → given.before.writer.bytes ≡ Some had →
+    (left : List ℕ) × (gained : List ℕ) × (given.after.reader.bytes ≡ Some left)
+    × (given.after.writer.bytes ≡ Some (had ++ gained))
+    × Answer (run_of given input left gained) result × SucceedsIfAccepted (run_of given input left gained) result
+
+-- Between two moments an export gave this answer: it says what was read and written, and a device is blamed only where its count of failures rose.
+pub record Exports (charset : Charset) (before after : Moment) (result : Result Report Stopped) : Type 0 where
+  pub gives : MatchResult result (Reports (given_of charset before after)) (StopsExport (given_of charset before after))
+  pub tells : Tells (given_of charset before after) result
+  pub failed_reads : IfErr result (λ stopped. stopped.fault ≡ ReadFailed → FailsToRead (given_of charset before after))
+  pub failed_writes : IfErr result (λ stopped. stopped.fault ≡ WriteFailed → FailsToWrite (given_of charset before after))
