@@ -5,8 +5,8 @@ ghost use Rattle.tds_packet.specs.Payloads.{IsSound};
 
 use super::*;
 use std::alloc::{AllocError, Global};
+use std::fmt::{Debug, Display};
 use std::io::Read;
-use std::process::Abort;
 use std::test::Fail;
 use tds_meter::Area;
 use tds_packet::rig::{RepeatingReader, ScriptedReader};
@@ -27,17 +27,40 @@ const TWO_INTS: &[u8] = &[
 // The collation of US English.
 const COLLATION: [u8; 5] = [0x09, 0x04, 0xD0, 0x00, 0x34];
 
-// What reading a description came to: how the area and the payload stand, and the columns seen.
-#[derive(Debug, Drop)]
+// What reading a description came to: how the area and the payload stand.
+#[derive(Debug, Clone, Copy, PartialEq, Eq)]
 struct Outcome {
     answer: Result<Described, Stop>,
     place: u64,
-    kept: Vec<u8>,
+    // how many bytes the area keeps, the first behind the token byte
+    kept: Option<usize>,
     peak: usize,
-    // the view counts as many columns as the answer
-    counted: bool,
-    kinds: Vec<Kind>,
-    names: Vec<u8>,
+}
+
+// The columns that are expected, their names with a bar behind each.
+#[derive(Clone, Copy)]
+struct Seen<'a> {
+    kinds: &'a [Kind],
+    names: &'a [u8],
+}
+
+// Fails where what came isn't what is wanted.
+fn same<D: Display + Drop, T: PartialEq + Debug>(what: D, came: &T, want: &T) -> Result<(), Fail> {
+    if came == want {
+        Ok(())
+    } else {
+        Err(Fail::new(format_args!("{what}: came {came:?}, wanted {want:?}")))
+    }
+}
+
+// How many bytes the area keeps, if they are the first behind the token byte.
+fn kept_of(area: &Area, payload: &[u8]) -> Option<usize> {
+    let kept = area.bytes();
+    if payload[payload.len().min(1)..].starts_with(kept) {
+        Some(kept.len())
+    } else {
+        None
+    }
 }
 
 const fn at_payload<T>(fault: Fault, place: u64) -> Result<T, Stop> {
@@ -66,36 +89,75 @@ fn in_packets(alloc: Global, payload: &[u8], size: usize) -> Result<Vec<u8>, All
     Ok(wire)
 }
 
-// Reads the description behind the token byte, and walks over its columns.
-fn describe(alloc: Global, area: &mut Area, wire: &[u8], most: usize) -> Result<Outcome, Fail>
+// Walks over columns, which are as many as were counted.
+fn check_columns(
+    alloc: Global,
+    what: &str,
+    columns: Columns<'_>,
+    count: u16,
+    want: Seen<'_>,
+) -> Result<(), Fail> {
+    let mut kinds = Vec::new(alloc);
+    let mut names = Vec::new(alloc);
+    for column in columns.walk() {
+        kinds.push(column.kind)?;
+        names.extend_from_slice(column.name)?;
+        names.push(b'|')?;
+    }
+    same(
+        what,
+        &(columns.count(), kinds.len()),
+        &(count, usize::from(count)),
+    )?;
+    same(what, &kinds.as_slice(), &want.kinds)?;
+    same(what, &names.as_slice(), &want.names)
+}
+
+// Gathers a description, and looks at its columns where some are expected.
+fn gather_columns<R: Read>(
+    alloc: Global,
+    what: &str,
+    payload: &mut Payload<R>,
+    area: &mut Area,
+    want: Option<Seen<'_>>,
+) -> Result<Result<Described, Stop>, Fail>
+    requires sound { IsSound payload.old }
+    requires room { 2 ≤ area.old.room }
+    ensures { area.new.room ≡ area.old.room }
+{
+    let answer = gather(payload, area);
+    if let Ok(Described::Columns(count)) = answer {
+        if let Some(want) = want {
+            check_columns(alloc, what, Columns::view(area.bytes()), count, want)?;
+        }
+    }
+    Ok(answer)
+}
+
+// Reads the description behind the token byte, in packets of so many bytes and so many a read.
+fn describe(
+    alloc: Global,
+    what: &str,
+    area: &mut Area,
+    payload: &[u8],
+    reads: (usize, usize),
+    want: Option<Seen<'_>>,
+) -> Result<Outcome, Fail>
     requires { 2 ≤ area.old.room }
     ensures { area.new.room ≡ area.old.room }
 {
-    let mut from = Counted::new(ScriptedReader::new(wire, most));
+    let (size, most) = reads;
+    let wire = in_packets(alloc, payload, size)?;
+    let mut from = Counted::new(ScriptedReader::new(&wire, most));
     let mut packet = Area::new(alloc, 4096)?;
-    let mut payload = Payload::new(&mut from, &mut packet, 1_000_000_000);
-    let _ = payload.next();
-    let answer = gather(&mut payload, area);
-    let mut kinds = Vec::new(alloc);
-    let mut names = Vec::new(alloc);
-    let mut counted = true;
-    if let Ok(Described::Columns(count)) = answer {
-        let columns = Columns::view(area.bytes());
-        counted = columns.count() == count && columns.walk().count() == usize::from(count);
-        for column in columns.walk() {
-            kinds.push(column.kind)?;
-            names.extend_from_slice(column.name)?;
-            names.push(b'|')?;
-        }
-    }
+    let mut read = Payload::new(&mut from, &mut packet, 1_000_000_000);
+    let _ = read.next();
+    let answer = gather_columns(alloc, what, &mut read, area, want)?;
     Ok(Outcome {
         answer,
-        place: payload.place(),
-        kept: area.bytes().to_vec(alloc)?,
+        place: read.place(),
+        kept: kept_of(area, payload),
         peak: area.peak(),
-        counted,
-        kinds,
-        names,
     })
 }
 
@@ -126,16 +188,30 @@ fn description_of(
     Ok(payload)
 }
 
-// The bytes behind the token byte, up to a place in the payload.
-fn behind_token(payload: &[u8], place: usize) -> &[u8] {
-    let end = place.min(payload.len());
-    &payload[end.min(1)..end]
-}
-
 // The type information of a character type: its type byte, a length and a collation.
 const fn with_collation(byte: u8, length: [u8; 2]) -> [u8; 8] {
     let c = COLLATION;
     [byte, length[0], length[1], c[0], c[1], c[2], c[3], c[4]]
+}
+
+// A description that is read whole.
+fn check_gathered(
+    alloc: Global,
+    what: &str,
+    payload: &[u8],
+    reads: (usize, usize),
+    want: Seen<'_>,
+) -> Result<(), Fail> {
+    let mut area = new_area(alloc, ROOM)?;
+    let outcome = describe(alloc, what, &mut area, payload, reads, Some(want))?;
+    let length = payload.len().saturating_sub(1);
+    let all = Outcome {
+        answer: Ok(Described::Columns(want.kinds.len().min(0xFFFF) as u16)),
+        place: payload.len() as u64,
+        kept: Some(length),
+        peak: length,
+    };
+    same(format_args!("{what}, {reads:?}"), &outcome, &all)
 }
 
 // The description is read whole, in packets of any size.
@@ -147,51 +223,26 @@ fn descriptions_are_gathered(rt: HostRuntime) -> Result<(), Fail> {
         ("two ints", TWO_INTS, &[Kind::Int4; 2], b"a\0|b\0|"),
         ("nine", nine.as_slice(), &[Kind::IntN(4); 9], b"|||||||||"),
     ] {
-        for (size, most) in [(4000, 1000), (1, 1), (5, 3)] {
-            let wire = in_packets(rt.alloc(), payload, size)?;
-            let mut area = new_area(rt.alloc(), ROOM)?;
-            let outcome = describe(rt.alloc(), &mut area, &wire, most)?;
-            let count = kinds.len() as u16;
-            assert_eq!(rt;
-                outcome.answer,
-                Ok(Described::Columns(count)),
-                "{what}, {size} a packet"
-            );
-            assert_eq!(rt;
-                outcome.kept.as_slice(),
-                behind_token(payload, payload.len()),
-                "{what}, {size} a packet"
-            );
-            let place = payload.len() as u64;
-            assert_eq!(rt; outcome.place, place, "{what}, {size} a packet");
-            assert_eq!(rt; outcome.peak, outcome.kept.len(), "{what}, {size} a packet");
-            assert!(rt; outcome.counted, "{what}, {size} a packet");
-            assert_eq!(rt; outcome.kinds.as_slice(), kinds, "{what}, {size} a packet");
-            assert_eq!(rt; outcome.names.as_slice(), names, "{what}, {size} a packet");
+        for reads in [(4000, 1000), (1, 1), (5, 3)] {
+            check_gathered(rt.alloc(), what, payload, reads, Seen { kinds, names })?;
         }
     }
     Ok(())
 }
 
 // Checks the kind of columns and of a returned value that have this type information.
-fn check_kind(
-    rt: &impl Abort,
-    alloc: Global,
-    what: &str,
-    info: &[u8],
-    kind: Kind,
-) -> Result<(), Fail> {
+fn check_kind(alloc: Global, what: &str, info: &[u8], kind: Kind) -> Result<(), Fail> {
     let payload = description_of(alloc, 2, info, b"t\0")?;
-    let wire = in_packets(alloc, &payload, 7)?;
     let mut area = new_area(alloc, ROOM)?;
-    let outcome = describe(alloc, &mut area, &wire, 1000)?;
-    assert_eq!(rt; outcome.answer, Ok(Described::Columns(2)), "{what}");
-    assert_eq!(rt; outcome.kinds.as_slice(), [kind; 2].as_slice(), "{what}");
-    assert_eq!(rt; outcome.names.as_slice(), b"t\0|t\0|".as_slice(), "{what}");
+    let want = Seen {
+        kinds: &[kind; 2],
+        names: b"t\0|t\0|",
+    };
+    let outcome = describe(alloc, what, &mut area, &payload, (7, 1000), Some(want))?;
+    same(what, &outcome.answer, &Ok(Described::Columns(2)))?;
     let returned = return_type(alloc, info)?;
     let place = info.len().saturating_add(15) as u64;
-    assert_eq!(rt; returned, (Ok(kind), place), "{what}: returned");
-    Ok(())
+    same(what, &returned, &(Ok(kind), place))
 }
 
 // Each type byte of the profile whose values have a fixed length.
@@ -208,7 +259,7 @@ fn fixed_types_are_known(rt: HostRuntime) -> Result<(), Fail> {
         ("smallmoney", 0x7A, Kind::Money4),
         ("money", 0x3C, Kind::Money8),
     ] {
-        check_kind(&rt, rt.alloc(), what, &[byte], kind)?;
+        check_kind(rt.alloc(), what, &[byte], kind)?;
     }
     Ok(())
 }
@@ -235,7 +286,7 @@ fn types_with_a_length_are_known(rt: HostRuntime) -> Result<(), Fail> {
         ("decimal(5, 2)", &[0x6A, 5, 5, 2], decimal(5, 5, 2)),
         ("numeric(38, 37)", &[0x6C, 17, 38, 37], decimal(17, 38, 37)),
     ] {
-        check_kind(&rt, rt.alloc(), what, info, kind)?;
+        check_kind(rt.alloc(), what, info, kind)?;
     }
     Ok(())
 }
@@ -262,59 +313,163 @@ fn long_types_are_known(rt: HostRuntime) -> Result<(), Fail> {
         ("nvarchar(max)", &wide_max, Kind::Wide(Reach::Chunked)),
         ("a long nchar", &wide_padded, Kind::Wide(Reach::Short)),
     ] {
-        check_kind(&rt, rt.alloc(), what, info, kind)?;
+        check_kind(rt.alloc(), what, info, kind)?;
     }
     Ok(())
 }
 
+// An int named a, and a second column of this type information.
+fn second_of(alloc: Global, info: &[u8]) -> Result<Vec<u8>, AllocError> {
+    let mut payload = Vec::new(alloc);
+    payload.extend_from_slice(&TWO_INTS[..13])?;
+    payload.extend_from_slice(&[0; 6])?;
+    payload.extend_from_slice(info)?;
+    payload.extend_from_slice(&[0; 9])?;
+    Ok(payload)
+}
+
+// What is wanted of the answer and the bytes kept where a fault stands at a place.
+const fn refused_at(fault: Fault, place: usize) -> (Result<Described, Stop>, Option<usize>) {
+    (
+        at_payload(fault, place as u64),
+        Some(place.saturating_sub(1)),
+    )
+}
+
 // Checks that a second column of this type information is refused, at this place of the payload.
 fn check_refused(
-    rt: &impl Abort,
     alloc: Global,
     what: &str,
     info: &[u8],
     fault: Fault,
     place: usize,
 ) -> Result<(), Fail> {
-    // an int stands before it, 10 bytes with the name a
-    let mut payload = Vec::new(alloc);
-    payload.extend_from_slice(&TWO_INTS[..13])?;
-    payload.extend_from_slice(&[0; 6])?;
-    payload.extend_from_slice(info)?;
-    payload.extend_from_slice(&[0; 9])?;
-    let wire = in_packets(alloc, &payload, 7)?;
+    let payload = second_of(alloc, info)?;
     let mut area = new_area(alloc, ROOM)?;
-    let outcome = describe(alloc, &mut area, &wire, 1000)?;
-    assert_eq!(rt; outcome.answer, at_payload(fault, place as u64), "{what}");
-    assert_eq!(rt;
-        outcome.kept.as_slice(),
-        behind_token(&payload, place),
-        "{what}"
-    );
-    Ok(())
+    let outcome = describe(alloc, what, &mut area, &payload, (7, 1000), None)?;
+    let came = (outcome.answer, outcome.kept);
+    same(what, &came, &refused_at(fault, place))
 }
 
-// Type bytes that aren't accepted, each at the head of its column.
+// A type byte that isn't accepted.
+struct BadType {
+    what: &'static str,
+    byte: u8,
+    fault: Fault,
+}
+
+const BAD_TYPES: [BadType; 13] = [
+    BadType {
+        what: "real",
+        byte: 0x3B,
+        fault: Fault::RefusedColumn {
+            index: 1,
+            kind: RefusedKind::Flt4,
+        },
+    },
+    BadType {
+        what: "float",
+        byte: 0x3E,
+        fault: Fault::RefusedColumn {
+            index: 1,
+            kind: RefusedKind::Flt8,
+        },
+    },
+    BadType {
+        what: "a nullable float",
+        byte: 0x6D,
+        fault: Fault::RefusedColumn {
+            index: 1,
+            kind: RefusedKind::FltN,
+        },
+    },
+    BadType {
+        what: "text",
+        byte: 0x23,
+        fault: Fault::RefusedColumn {
+            index: 1,
+            kind: RefusedKind::Text,
+        },
+    },
+    BadType {
+        what: "ntext",
+        byte: 0x63,
+        fault: Fault::RefusedColumn {
+            index: 1,
+            kind: RefusedKind::NText,
+        },
+    },
+    BadType {
+        what: "image",
+        byte: 0x22,
+        fault: Fault::RefusedColumn {
+            index: 1,
+            kind: RefusedKind::Image,
+        },
+    },
+    BadType {
+        what: "sql_variant",
+        byte: 0x62,
+        fault: Fault::RefusedColumn {
+            index: 1,
+            kind: RefusedKind::SsVariant,
+        },
+    },
+    BadType {
+        what: "a type of the user's",
+        byte: 0xF0,
+        fault: Fault::RefusedColumn {
+            index: 1,
+            kind: RefusedKind::Udt,
+        },
+    },
+    BadType {
+        what: "xml",
+        byte: 0xF1,
+        fault: Fault::RefusedColumn {
+            index: 1,
+            kind: RefusedKind::Xml,
+        },
+    },
+    BadType {
+        what: "the null type",
+        byte: 0x1F,
+        fault: Fault::UnknownType {
+            index: 1,
+            byte: 0x1F,
+        },
+    },
+    BadType {
+        what: "the old char",
+        byte: 0x2F,
+        fault: Fault::UnknownType {
+            index: 1,
+            byte: 0x2F,
+        },
+    },
+    BadType {
+        what: "the least byte",
+        byte: 0x00,
+        fault: Fault::UnknownType {
+            index: 1,
+            byte: 0x00,
+        },
+    },
+    BadType {
+        what: "the greatest byte",
+        byte: 0xFF,
+        fault: Fault::UnknownType {
+            index: 1,
+            byte: 0xFF,
+        },
+    },
+];
+
+// Each stands at the head of its column.
 #[test]
 fn types_are_refused(rt: HostRuntime) -> Result<(), Fail> {
-    let by_name = |kind| Fault::RefusedColumn { index: 1, kind };
-    let unknown = |byte| Fault::UnknownType { index: 1, byte };
-    for (what, byte, fault) in [
-        ("real", 0x3B, by_name(RefusedKind::Flt4)),
-        ("float", 0x3E, by_name(RefusedKind::Flt8)),
-        ("a nullable float", 0x6D, by_name(RefusedKind::FltN)),
-        ("text", 0x23, by_name(RefusedKind::Text)),
-        ("ntext", 0x63, by_name(RefusedKind::NText)),
-        ("image", 0x22, by_name(RefusedKind::Image)),
-        ("sql_variant", 0x62, by_name(RefusedKind::SsVariant)),
-        ("a type of the user's", 0xF0, by_name(RefusedKind::Udt)),
-        ("xml", 0xF1, by_name(RefusedKind::Xml)),
-        ("the null type", 0x1F, unknown(0x1F)),
-        ("the old char", 0x2F, unknown(0x2F)),
-        ("the least byte", 0x00, unknown(0x00)),
-        ("the greatest byte", 0xFF, unknown(0xFF)),
-    ] {
-        check_refused(&rt, rt.alloc(), what, &[byte], fault, 13)?;
+    for row in &BAD_TYPES {
+        check_refused(rt.alloc(), row.what, &[row.byte], row.fault, 13)?;
     }
     Ok(())
 }
@@ -341,16 +496,30 @@ fn type_information_is_refused(rt: HostRuntime) -> Result<(), Fail> {
         ("char(max)", &long_char),
         ("nchar(max)", &long_nchar),
     ] {
-        check_refused(
-            &rt,
-            rt.alloc(),
-            what,
-            info,
-            Fault::BadTypeInfo { index: 1 },
-            20,
-        )?;
+        let fault = Fault::BadTypeInfo { index: 1 };
+        check_refused(rt.alloc(), what, info, fault, 20)?;
     }
     Ok(())
+}
+
+// What comes of a description in a room, and how many bytes of the payload it comes to.
+fn check_room(
+    alloc: Global,
+    what: &str,
+    payload: &[u8],
+    room: usize,
+    answer: Result<u16, Fault>,
+    place: usize,
+) -> Result<(), Fail>
+    requires { (2 ≤ room) × (room ≤ 1048576) }
+{
+    let mut area = new_area(alloc, room)?;
+    let outcome = describe(alloc, what, &mut area, payload, (4000, 1000), None)?;
+    let want = match answer {
+        Ok(count) => (Ok(Described::Columns(count)), Some(place.saturating_sub(1))),
+        Err(fault) => refused_at(fault, place),
+    };
+    same(what, &(outcome.answer, outcome.kept), &want)
 }
 
 // Where the room is too small, and where it is just large enough. The area keeps what stands before
@@ -361,37 +530,23 @@ fn rooms_are_kept(rt: HostRuntime) -> Result<(), Fail> {
     let nine_ints = description_of(rt.alloc(), 9, &[0x38], b"")?;
     let most = &[0x81, 0xFE, 0xFF, 0, 0, 0, 0, 0, 0, 0x38, 0][..];
     let nothing = &[0x81, 0, 0, 0xD1][..];
-    let too_long = |place| at_payload(Fault::DescriptionTooLong, place);
-    for (what, payload, room, answer, kept) in [
-        ("an int", ONE_INT, 12, Ok(Described::Columns(1)), 13),
-        ("a name", ONE_INT, 11, too_long(10), 10),
-        ("a Count", ONE_INT, 9, too_long(1), 1),
-        ("two", TWO_INTS, 22, Ok(Described::Columns(2)), 23),
-        ("the second name", TWO_INTS, 21, too_long(20), 20),
-        ("two of least size", TWO_INTS, 17, too_long(1), 1),
-        ("nine ints", &nine_ints, 74, Ok(Described::Columns(9)), 75),
-        ("nine too many", &nine_ints, 73, too_long(1), 1),
-        (
-            "nine with lengths",
-            &nine,
-            83,
-            Ok(Described::Columns(9)),
-            84,
-        ),
-        ("the first of nine", &nine, 74, too_long(3), 3),
-        ("the last of nine", &nine, 82, too_long(75), 75),
-        ("the most columns", most, 1024, too_long(1), 1),
-        ("no columns", nothing, 2, at_payload(Fault::NoColumns, 1), 1),
+    let too_long = Err(Fault::DescriptionTooLong);
+    for (what, payload, room, answer, place) in [
+        ("an int", ONE_INT, 12, Ok(1), 13),
+        ("a name", ONE_INT, 11, too_long, 10),
+        ("a Count", ONE_INT, 9, too_long, 1),
+        ("two", TWO_INTS, 22, Ok(2), 23),
+        ("the second name", TWO_INTS, 21, too_long, 20),
+        ("two of least size", TWO_INTS, 17, too_long, 1),
+        ("nine ints", &nine_ints, 74, Ok(9), 75),
+        ("nine too many", &nine_ints, 73, too_long, 1),
+        ("nine with lengths", &nine, 83, Ok(9), 84),
+        ("the first of nine", &nine, 74, too_long, 3),
+        ("the last of nine", &nine, 82, too_long, 75),
+        ("the most columns", most, 1024, too_long, 1),
+        ("no columns", nothing, 2, Err(Fault::NoColumns), 1),
     ] {
-        let wire = in_packets(rt.alloc(), payload, 4000)?;
-        let mut area = new_area(rt.alloc(), room)?;
-        let outcome = describe(rt.alloc(), &mut area, &wire, 1000)?;
-        assert_eq!(rt; outcome.answer, answer, "{what}");
-        assert_eq!(rt;
-            outcome.kept.as_slice(),
-            behind_token(payload, kept),
-            "{what}"
-        );
+        check_room(rt.alloc(), what, payload, room, answer, place)?;
     }
     Ok(())
 }
@@ -400,44 +555,57 @@ fn rooms_are_kept(rt: HostRuntime) -> Result<(), Fail> {
 #[test]
 fn no_metadata_leaves_nothing(rt: HostRuntime) -> Result<(), Fail> {
     let mut area = new_area(rt.alloc(), ROOM)?;
-    let wire = in_packets(rt.alloc(), ONE_INT, 4000)?;
-    let one = describe(rt.alloc(), &mut area, &wire, 1)?;
-    assert_eq!(rt; one.answer, Ok(Described::Columns(1)));
-    assert_eq!(rt; one.kept.len(), 12);
-    let wire = in_packets(rt.alloc(), &[0x81, 0xFF, 0xFF, 0xD1], 4000)?;
-    let none = describe(rt.alloc(), &mut area, &wire, 1)?;
-    assert_eq!(rt; none.answer, Ok(Described::NoMetadata));
-    assert_eq!(rt; none.place, 3);
-    assert_eq!(rt; none.kept.len(), 0);
-    assert_eq!(rt; none.peak, 12);
+    let one = describe(rt.alloc(), "one", &mut area, ONE_INT, (4000, 1), None)?;
+    let nothing = &[0x81, 0xFF, 0xFF, 0xD1];
+    let none = describe(rt.alloc(), "none", &mut area, nothing, (4000, 1), None)?;
+    assert_eq!(rt;
+        (one.answer, one.kept),
+        (Ok(Described::Columns(1)), Some(12))
+    );
+    let want = Outcome {
+        answer: Ok(Described::NoMetadata),
+        place: 3,
+        kept: Some(0),
+        peak: 12,
+    };
+    assert_eq!(rt; none, want);
     Ok(())
 }
 
-// The message ends after each byte of a description of two columns.
+// The message ends after so many bytes of a description of two columns.
+fn check_cut(alloc: Global, n: usize) -> Result<(), Fail> {
+    let place = match n {
+        1..=2 => 1,
+        3..=9 => 3,
+        10 => 10,
+        11..=12 => 11,
+        13..=19 => 13,
+        20 => 20,
+        _ => 21,
+    };
+    let payload = TWO_INTS.get(..n).unwrap_or(&[]);
+    let mut area = new_area(alloc, ROOM)?;
+    let outcome = describe(alloc, "cut", &mut area, payload, (3, 1000), None)?;
+    let came = (outcome.answer, outcome.kept);
+    same(n, &came, &refused_at(Fault::MessageEnded, place))
+}
+
 #[test]
 fn cut_descriptions_stop(rt: HostRuntime) -> Result<(), Fail> {
     for n in 1..TWO_INTS.len() {
-        let place = match n {
-            1..=2 => 1,
-            3..=9 => 3,
-            10 => 10,
-            11..=12 => 11,
-            13..=19 => 13,
-            20 => 20,
-            _ => 21,
-        };
-        let wire = in_packets(rt.alloc(), &TWO_INTS[..n], 3)?;
-        let mut area = new_area(rt.alloc(), ROOM)?;
-        let outcome = describe(rt.alloc(), &mut area, &wire, 1000)?;
-        let stop = at_payload(Fault::MessageEnded, place);
-        assert_eq!(rt; outcome.answer, stop, "cut behind {n} bytes");
-        assert_eq!(rt;
-            outcome.kept.as_slice(),
-            behind_token(TWO_INTS, place as usize),
-            "cut behind {n} bytes"
-        );
+        check_cut(rt.alloc(), n)?;
     }
     Ok(())
+}
+
+// A packet of 217 ints without names that isn't the last.
+fn packet_of_ints(alloc: Global) -> Result<Vec<u8>, AllocError> {
+    let mut wire = Vec::new(alloc);
+    wire.extend_from_slice(&[0x04, 0x00, 0x06, 0xD0, 0x00, 0x00, 0x01, 0x00])?;
+    for _ in 0..217 {
+        wire.extend_from_slice(&[0, 0, 0, 0, 0, 0, 0x38, 0])?;
+    }
+    Ok(wire)
 }
 
 // As many ints as a description can have, without names: 302 packets of 217 columns each.
@@ -446,18 +614,14 @@ fn the_most_columns_are_walked(rt: HostRuntime) -> Result<(), Fail> {
     let first = [
         0x04, 0x00, 0x00, 11, 0x00, 0x00, 0x01, 0x00, 0x81, 0xFE, 0xFF,
     ];
-    let mut again = Vec::new(rt.alloc());
-    again.extend_from_slice(&[0x04, 0x00, 0x06, 0xD0, 0x00, 0x00, 0x01, 0x00])?;
-    for _ in 0..217 {
-        again.extend_from_slice(&[0, 0, 0, 0, 0, 0, 0x38, 0])?;
-    }
+    let again = packet_of_ints(rt.alloc())?;
     let mut from = Counted::new(RepeatingReader::new(&first, &again, 302, &[]));
     let mut packet = Area::new(rt.alloc(), 4096)?;
     let mut payload = Payload::new(&mut from, &mut packet, 1_000_000_000);
     let mut area = new_area(rt.alloc(), 524_274)?;
-    assert_eq!(rt; payload.next(), Ok(0x81));
-    assert_eq!(rt; walked(&mut payload, &mut area), Ok(65_534));
-    assert_eq!(rt; area.len(), 524_274);
+    let token = payload.next();
+    let count = walked(&mut payload, &mut area);
+    assert_eq!(rt; (token, count, area.len()), (Ok(0x81), Ok(65_534), 524_274));
     Ok(())
 }
 
@@ -481,6 +645,38 @@ fn walked<R: Read>(payload: &mut Payload<R>, area: &mut Area) -> Result<usize, S
     }
 }
 
+// A description that is gathered again: the answers, and how many bytes of two ints are kept.
+#[derive(Debug, Clone, Copy, PartialEq, Eq)]
+struct Again {
+    token: Result<u8, Stop>,
+    first: (Result<Described, Stop>, Option<usize>),
+    second: (Result<Described, Stop>, Option<usize>),
+}
+
+fn gather_again<R: Read>(payload: &mut Payload<R>, area: &mut Area) -> Again
+    requires sound { IsSound payload.old }
+    requires room { 2 ≤ area.old.room }
+{
+    let token = payload.next();
+    let first = gather(payload, area);
+    let first = (first, kept_of(area, TWO_INTS));
+    let second = gather(payload, area);
+    Again {
+        token,
+        first,
+        second: (second, kept_of(area, TWO_INTS)),
+    }
+}
+
+// The stop came after so many bytes, and then again.
+const fn stopped_twice(stop: Stop, kept: usize) -> Again {
+    Again {
+        token: Ok(0x81),
+        first: (Err(stop), Some(kept)),
+        second: (Err(stop), Some(0)),
+    }
+}
+
 // A payload that stopped before gives its stop again, and the area is empty.
 #[test]
 fn a_stopped_payload_stays_so(rt: HostRuntime) -> Result<(), Fail> {
@@ -489,13 +685,12 @@ fn a_stopped_payload_stays_so(rt: HostRuntime) -> Result<(), Fail> {
     let mut packet = Area::new(rt.alloc(), 4096)?;
     let mut payload = Payload::new(&mut from, &mut packet, 1_000_000_000);
     let mut area = new_area(rt.alloc(), ROOM)?;
-    assert_eq!(rt; payload.next(), Ok(0x81));
-    let stop = at_payload(Fault::MessageEnded, 13);
-    assert_eq!(rt; gather(&mut payload, &mut area), stop);
-    assert_eq!(rt; area.len(), 12);
-    assert_eq!(rt; gather(&mut payload, &mut area), stop);
-    assert_eq!(rt; area.len(), 0);
-    assert_eq!(rt; area.peak(), 19);
+    let came = gather_again(&mut payload, &mut area);
+    let stop = Stop {
+        fault: Fault::MessageEnded,
+        place: Place::Payload(13),
+    };
+    assert_eq!(rt; (came, area.peak()), (stopped_twice(stop, 12), 19));
     Ok(())
 }
 
@@ -507,36 +702,43 @@ fn a_failed_read_stops(rt: HostRuntime) -> Result<(), Fail> {
     let mut packet = Area::new(rt.alloc(), 4096)?;
     let mut payload = Payload::new(&mut from, &mut packet, 1_000_000_000);
     let mut area = new_area(rt.alloc(), ROOM)?;
-    assert_eq!(rt; payload.next(), Ok(0x81));
-    let stop = Err(Stop {
+    let came = gather_again(&mut payload, &mut area);
+    let stop = Stop {
         fault: Fault::ReadFailed,
         place: Place::Wire(28),
-    });
-    assert_eq!(rt; gather(&mut payload, &mut area), stop);
-    assert_eq!(rt; area.bytes(), behind_token(TWO_INTS, 11));
-    assert_eq!(rt; gather(&mut payload, &mut area), stop);
-    assert_eq!(rt; area.len(), 0);
+    };
+    assert_eq!(rt; came, stopped_twice(stop, 10));
     Ok(())
 }
 
 // Reads the type of a value that a procedure returns: behind the token byte an ordinal, a name of
-// two units, and status, UserType and Flags. The answer, and how many bytes were read.
-fn return_type(alloc: Global, info: &[u8]) -> Result<(Result<Kind, Stop>, u64), Fail> {
+// two units, and status, UserType and Flags.
+fn read_returned<R: Read>(payload: &mut Payload<R>, small: &mut Area) -> Result<Kind, Stop>
+    requires sound { IsSound payload.old }
+    requires small { small.old ≡ empty 128 }
+{
+    payload.fill(&mut [0; 8])?;
+    take_into(payload, small, 8)?;
+    read_type_info(payload, small)
+}
+
+// A returned value up to its type information.
+fn returned_message(alloc: Global, info: &[u8]) -> Result<Vec<u8>, AllocError> {
     let mut message = Vec::new(alloc);
     message.extend_from_slice(&[0xAC, 1, 0, 2, 0x40, 0, 0x70, 0, 1, 0, 0, 0, 0, 0, 0])?;
     message.extend_from_slice(info)?;
+    Ok(message)
+}
+
+// The type of a returned value, and how many bytes were read.
+fn return_type(alloc: Global, info: &[u8]) -> Result<(Result<Kind, Stop>, u64), Fail> {
+    let message = returned_message(alloc, info)?;
     let wire = in_packets(alloc, &message, 6)?;
     let mut from = Counted::new(ScriptedReader::new(&wire, 1000));
     let mut packet = Area::new(alloc, 4096)?;
     let mut payload = Payload::new(&mut from, &mut packet, 1_000_000_000);
     let mut small = new_area(alloc, 128)?;
-    if let Err(stop) = payload.fill(&mut [0; 8]) {
-        return Ok((Err(stop), payload.place()));
-    }
-    if let Err(stop) = take_into(&mut payload, &mut small, 8) {
-        return Ok((Err(stop), payload.place()));
-    }
-    let answer = read_type_info(&mut payload, &mut small);
+    let answer = read_returned(&mut payload, &mut small);
     Ok((answer, payload.place()))
 }
 

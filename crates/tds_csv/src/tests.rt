@@ -1,6 +1,9 @@
 // Texts worked out by hand, from pieces to the bytes that a writer has.
+ghost use Rattle.tds_csv.specs.Sinks.{IsReady};
+
 use super::*;
-use std::alloc::Global;
+use std::alloc::{AllocError, Global};
+use std::fmt::{Debug, Display};
 use std::io::{self, Write};
 use std::test::Fail;
 use tds_meter::Area;
@@ -42,30 +45,69 @@ fn make_writer(alloc: Global, bad_write: u8, bad_flush: bool) -> Counted<Breakin
     })
 }
 
-// What the writer has after three pieces and the end.
-fn joined<J: Joiner + Drop>(
-    rt: HostRuntime,
+// Fails where what came isn't what is wanted.
+fn same<D: Display + Drop, T: PartialEq + Debug>(what: D, came: &T, want: &T) -> Result<(), Fail> {
+    if came == want {
+        Ok(())
+    } else {
+        Err(Fail::new(format_args!("{what}: came {came:?}, wanted {want:?}")))
+    }
+}
+
+// Puts three pieces and their end.
+fn join<J: Joiner + Drop, W: Write>(
+    sink: &mut Sink<'_, W>,
     a: &[u8],
     b: &[u8],
     c: &[u8],
-) -> Result<Vec<u8>, Fail> {
-    let mut area = Area::new(rt.alloc(), 4096)?;
-    let mut to = make_writer(rt.alloc(), 0, false);
-    let mut sink = Sink::new(&mut to, &mut area);
+) -> Result<(), JoinFault>
+    requires { IsReady sink.old }
+    ensures { IsReady sink.new }
+{
     let mut joiner = J::new();
-    joiner.push(a, &mut sink)?;
-    joiner.push(b, &mut sink)?;
-    joiner.push(c, &mut sink)?;
-    joiner.end(&mut sink)?;
+    joiner.push(a, sink)?;
+    joiner.push(b, sink)?;
+    joiner.push(c, sink)?;
+    joiner.end(sink)
+}
+
+// What the writer has after three pieces and the end.
+fn joined<J: Joiner + Drop>(alloc: Global, a: &[u8], b: &[u8], c: &[u8]) -> Result<Vec<u8>, Fail> {
+    let mut area = Area::new(alloc, 4096)?;
+    let mut to = make_writer(alloc, 0, false);
+    let mut sink = Sink::new(&mut to, &mut area);
+    join::<J, _>(&mut sink, a, b, c)?;
     sink.finish()?;
     Ok(to.into_device().got)
 }
 
-#[test]
-fn the_fields_of_two_lines(rt: HostRuntime) -> Result<(), Fail> {
-    let mut area = Area::new(rt.alloc(), 4096)?;
-    let mut to = make_writer(rt.alloc(), 0, false);
-    let mut sink = Sink::new(&mut to, &mut area);
+// Three pieces give this text.
+fn check_joined<J: Joiner + Drop, D: Display + Drop>(
+    alloc: Global,
+    what: D,
+    pieces: (&[u8], &[u8], &[u8]),
+    want: &[u8],
+) -> Result<(), Fail> {
+    let (a, b, c) = pieces;
+    let got = joined::<J>(alloc, a, b, c)?;
+    same(what, &got.as_slice(), &want)
+}
+
+// One piece gives this text.
+fn check_piece<J: Joiner + Drop, D: Display + Drop>(
+    alloc: Global,
+    what: D,
+    piece: &[u8],
+    want: &[u8],
+) -> Result<(), Fail> {
+    let got = joined::<J>(alloc, piece, b"", b"")?;
+    same(what, &got.as_slice(), &want)
+}
+
+fn put_two_lines<W: Write>(sink: &mut Sink<'_, W>) -> Result<(), Stop>
+    requires { IsReady sink.old }
+    ensures { IsReady sink.new }
+{
     sink.null()?;
     sink.comma()?;
     sink.plain(b"-12.50")?;
@@ -76,10 +118,18 @@ fn the_fields_of_two_lines(rt: HostRuntime) -> Result<(), Fail> {
     sink.open_quoted()?;
     sink.put(b"a")?;
     sink.close_quoted()?;
-    sink.line_end()?;
-    assert_eq!(rt; sink.waiting(), 25);
+    sink.line_end()
+}
+
+#[test]
+fn the_fields_of_two_lines(rt: HostRuntime) -> Result<(), Fail> {
+    let mut area = Area::new(rt.alloc(), 4096)?;
+    let mut to = make_writer(rt.alloc(), 0, false);
+    let mut sink = Sink::new(&mut to, &mut area);
+    put_two_lines(&mut sink)?;
+    let waiting = sink.waiting();
     sink.finish()?;
-    assert_eq!(rt; sink.delivered(), 25);
+    assert_eq!(rt; (waiting, sink.delivered()), (25, 25));
     assert_eq!(rt;
         to.device().got.as_slice(),
         b"NULL,-12.50,0x0aff\r\n\"a\"\r\n".as_slice()
@@ -89,22 +139,28 @@ fn the_fields_of_two_lines(rt: HostRuntime) -> Result<(), Fail> {
 
 #[test]
 fn digits_are_lower_case(rt: HostRuntime) -> Result<(), Fail> {
-    let got = joined::<HexJoiner>(rt, b"\x00\x1f", b"", b"\xab\xff")?;
-    assert_eq!(rt; got.as_slice(), b"001fabff".as_slice());
-    Ok(())
+    let pieces: (&[u8], &[u8], &[u8]) = (b"\x00\x1f", b"", b"\xab\xff");
+    check_joined::<HexJoiner, _>(rt.alloc(), "digits", pieces, b"001fabff")
 }
 
 // The units 22 00, 3D D8, 00 DE and 00 D8: a quote, a pair and a high surrogate alone.
+fn put_name<W: Write>(sink: &mut Sink<'_, W>) -> Result<(), JoinFault>
+    requires { IsReady sink.old }
+    ensures { IsReady sink.new }
+{
+    sink.open_quoted()?;
+    let name = b"\x22\x00\x3D\xD8\x00\xDE\x00\xD8";
+    join::<Utf16Joiner, _>(sink, name, b"", b"")?;
+    sink.close_quoted()?;
+    Ok(())
+}
+
 #[test]
 fn a_name_in_quotes(rt: HostRuntime) -> Result<(), Fail> {
     let mut area = Area::new(rt.alloc(), 4096)?;
     let mut to = make_writer(rt.alloc(), 0, false);
     let mut sink = Sink::new(&mut to, &mut area);
-    let mut joiner = Utf16Joiner::new();
-    sink.open_quoted()?;
-    joiner.push(b"\x22\x00\x3D\xD8\x00\xDE\x00\xD8", &mut sink)?;
-    joiner.end(&mut sink)?;
-    sink.close_quoted()?;
+    put_name(&mut sink)?;
     sink.finish()?;
     assert_eq!(rt;
         to.device().got.as_slice(),
@@ -113,32 +169,47 @@ fn a_name_in_quotes(rt: HostRuntime) -> Result<(), Fail> {
     Ok(())
 }
 
+// Puts a pair in three pieces, and answers how many bytes wait behind each.
+fn put_pair<W: Write>(sink: &mut Sink<'_, W>) -> Result<(u64, u64, u64), JoinFault>
+    requires { IsReady sink.old }
+    ensures { IsReady sink.new }
+{
+    let mut joiner = Utf16Joiner::new();
+    joiner.push(b"\x3D", sink)?;
+    let first = sink.waiting();
+    joiner.push(b"\xD8\x00", sink)?;
+    let second = sink.waiting();
+    joiner.push(b"\xDE", sink)?;
+    let third = sink.waiting();
+    joiner.end(sink)?;
+    Ok((first, second, third))
+}
+
 #[test]
 fn a_pair_in_three_pieces(rt: HostRuntime) -> Result<(), Fail> {
     let mut area = Area::new(rt.alloc(), 4096)?;
     let mut to = make_writer(rt.alloc(), 0, false);
     let mut sink = Sink::new(&mut to, &mut area);
-    let mut joiner = Utf16Joiner::new();
-    joiner.push(b"\x3D", &mut sink)?;
-    assert_eq!(rt; sink.waiting(), 0);
-    joiner.push(b"\xD8\x00", &mut sink)?;
-    assert_eq!(rt; sink.waiting(), 0);
-    joiner.push(b"\xDE", &mut sink)?;
-    assert_eq!(rt; sink.waiting(), 4);
-    joiner.end(&mut sink)?;
+    let waiting = put_pair(&mut sink)?;
     sink.finish()?;
+    assert_eq!(rt; waiting, (0, 0, 4));
     assert_eq!(rt; to.device().got.as_slice(), b"\xF0\x9F\x98\x80".as_slice());
     Ok(())
 }
 
+// What the end of a piece that is taken answers.
+fn ended<J: Joiner + Drop>(alloc: Global, piece: &[u8]) -> Result<Result<(), JoinFault>, Fail> {
+    let mut area = Area::new(alloc, 4096)?;
+    let mut to = make_writer(alloc, 0, false);
+    let mut sink = Sink::new(&mut to, &mut area);
+    let mut joiner = J::new();
+    joiner.push(piece, &mut sink)?;
+    Ok(joiner.end(&mut sink))
+}
+
 #[test]
 fn an_odd_byte_at_the_end(rt: HostRuntime) -> Result<(), Fail> {
-    let mut area = Area::new(rt.alloc(), 4096)?;
-    let mut to = make_writer(rt.alloc(), 0, false);
-    let mut sink = Sink::new(&mut to, &mut area);
-    let mut joiner = Utf16Joiner::new();
-    joiner.push(b"\x41", &mut sink)?;
-    let ended = joiner.end(&mut sink);
+    let ended = ended::<Utf16Joiner>(rt.alloc(), b"\x41")?;
     assert_eq!(rt; ended, Err(JoinFault::Odd));
     Ok(())
 }
@@ -153,25 +224,23 @@ const UPPER_TEXT: &str =
 fn windows_1252_in_every_cutting(rt: HostRuntime) -> Result<(), Fail> {
     let upper = &UPPER[..];
     for cut in 0..upper.len() {
-        let got = joined::<Cp1252Joiner>(rt, &upper[..cut], &upper[cut..], b"")?;
-        assert_eq!(rt; got.as_slice(), UPPER_TEXT.as_bytes(), "cut at {cut}");
+        let pieces: (&[u8], &[u8], &[u8]) = (&upper[..cut], &upper[cut..], b"");
+        check_joined::<Cp1252Joiner, _>(rt.alloc(), cut, pieces, UPPER_TEXT.as_bytes())?;
     }
-    let got = joined::<Cp1252Joiner>(rt, b"a\"", b"b\xE9\xFF", b"c")?;
-    assert_eq!(rt; got.as_slice(), "a\"\"b\u{E9}\u{FF}c".as_bytes());
-    Ok(())
+    let pieces: (&[u8], &[u8], &[u8]) = (b"a\"", b"b\xE9\xFF", b"c");
+    let text = "a\"\"b\u{E9}\u{FF}c".as_bytes();
+    check_joined::<Cp1252Joiner, _>(rt.alloc(), "a quote", pieces, text)
 }
 
 #[test]
 fn utf8_in_every_cutting(rt: HostRuntime) -> Result<(), Fail> {
     let bytes = b"\xC3\xA9\x22\xF0\x9F\x98\x80";
+    let text = b"\xC3\xA9\x22\x22\xF0\x9F\x98\x80";
     for cut in 0..bytes.len() {
         for end in cut..bytes.len() {
-            let got = joined::<Utf8Joiner>(rt, &bytes[..cut], &bytes[cut..end], &bytes[end..])?;
-            assert_eq!(rt;
-                got.as_slice(),
-                b"\xC3\xA9\x22\x22\xF0\x9F\x98\x80".as_slice(),
-                "cut at {cut} and {end}"
-            );
+            let pieces: (&[u8], &[u8], &[u8]) = (&bytes[..cut], &bytes[cut..end], &bytes[end..]);
+            let what = format_args!("cut at {cut} and {end}");
+            check_joined::<Utf8Joiner, _>(rt.alloc(), what, pieces, text)?;
         }
     }
     Ok(())
@@ -212,33 +281,39 @@ const BAD_PIECES: [BadPiece; 4] = [
     },
 ];
 
+// What a second piece answers behind a first one that is taken.
+fn pushed<J: Joiner + Drop>(
+    alloc: Global,
+    first: &[u8],
+    second: &[u8],
+) -> Result<Result<(), JoinFault>, Fail> {
+    let mut area = Area::new(alloc, 4096)?;
+    let mut to = make_writer(alloc, 0, false);
+    let mut sink = Sink::new(&mut to, &mut area);
+    let mut joiner = J::new();
+    joiner.push(first, &mut sink)?;
+    Ok(joiner.push(second, &mut sink))
+}
+
 #[test]
 fn the_first_bad_byte_of_utf8(rt: HostRuntime) -> Result<(), Fail> {
     for row in &BAD_PIECES {
-        let mut area = Area::new(rt.alloc(), 4096)?;
-        let mut to = make_writer(rt.alloc(), 0, false);
-        let mut sink = Sink::new(&mut to, &mut area);
-        let mut joiner = Utf8Joiner::new();
-        joiner.push(row.first, &mut sink)?;
-        let pushed = joiner.push(row.second, &mut sink);
+        let pushed = pushed::<Utf8Joiner>(rt.alloc(), row.first, row.second)?;
         assert_eq!(rt; pushed, Err(JoinFault::BadText(row.good)), "{}", row.name);
     }
-    let mut area = Area::new(rt.alloc(), 4096)?;
-    let mut to = make_writer(rt.alloc(), 0, false);
-    let mut sink = Sink::new(&mut to, &mut area);
-    let mut joiner = Utf8Joiner::new();
-    joiner.push(b"\xC3", &mut sink)?;
-    let ended = joiner.end(&mut sink);
+    let ended = ended::<Utf8Joiner>(rt.alloc(), b"\xC3")?;
     assert_eq!(rt; ended, Err(JoinFault::BadText(0)));
     Ok(())
 }
 
-// How many bytes are put; the write and the flush that fail; the place of the stop, if any; what waits.
+// How many bytes are put; the write and the flush that fail; how many bytes are delivered at once, if
+// all are taken; the place of the stop, if any; what waits.
 struct Delivery {
     name: &'static str,
     len: usize,
     bad_write: u8,
     bad_flush: bool,
+    at_once: Option<u64>,
     place: Option<u64>,
     waiting: u64,
 }
@@ -249,6 +324,7 @@ const DELIVERIES: [Delivery; 6] = [
         len: 4095,
         bad_write: 0,
         bad_flush: false,
+        at_once: Some(0),
         place: None,
         waiting: 0,
     },
@@ -257,6 +333,7 @@ const DELIVERIES: [Delivery; 6] = [
         len: 4096,
         bad_write: 0,
         bad_flush: false,
+        at_once: Some(4096),
         place: None,
         waiting: 0,
     },
@@ -265,6 +342,7 @@ const DELIVERIES: [Delivery; 6] = [
         len: 4095,
         bad_write: 1,
         bad_flush: false,
+        at_once: Some(0),
         place: Some(0),
         waiting: 4095,
     },
@@ -273,6 +351,7 @@ const DELIVERIES: [Delivery; 6] = [
         len: 4096,
         bad_write: 1,
         bad_flush: false,
+        at_once: None,
         place: Some(0),
         waiting: 4096,
     },
@@ -281,6 +360,7 @@ const DELIVERIES: [Delivery; 6] = [
         len: 4096,
         bad_write: 0,
         bad_flush: true,
+        at_once: Some(4096),
         place: Some(4096),
         waiting: 0,
     },
@@ -289,55 +369,94 @@ const DELIVERIES: [Delivery; 6] = [
         len: 4097,
         bad_write: 2,
         bad_flush: false,
+        at_once: Some(4096),
         place: Some(4096),
         waiting: 1,
     },
 ];
 
+// So many bytes that are alike.
+fn many(alloc: Global, n: usize, byte: u8) -> Result<Vec<u8>, AllocError> {
+    let mut bytes = Vec::new(alloc);
+    bytes.resize(n, byte)?;
+    Ok(bytes)
+}
+
+// What came of putting so many bytes: how many were delivered at once, if they were taken; how the
+// sink finished; what waits; and the writer's failures.
+#[derive(Debug, Clone, Copy, PartialEq, Eq)]
+struct Delivered {
+    at_once: Option<u64>,
+    finished: Result<(), Stop>,
+    waiting: u64,
+    failures: u64,
+}
+
+fn deliver(alloc: Global, row: &Delivery) -> Result<Delivered, Fail> {
+    let piece = many(alloc, row.len, 0x78)?;
+    let mut area = Area::new(alloc, 4096)?;
+    let mut to = make_writer(alloc, row.bad_write, row.bad_flush);
+    let mut sink = Sink::new(&mut to, &mut area);
+    let at_once = match sink.put(&piece) {
+        Ok(()) => Some(sink.delivered()),
+        Err(_) => None,
+    };
+    let finished = sink.finish();
+    let waiting = sink.waiting();
+    Ok(Delivered {
+        at_once,
+        finished,
+        waiting,
+        failures: to.failures(),
+    })
+}
+
+const fn write_failed(place: u64) -> Stop {
+    Stop {
+        fault: Fault::WriteFailed,
+        place: Place::Text(place),
+    }
+}
+
 #[test]
 fn a_block_is_delivered_at_once(rt: HostRuntime) -> Result<(), Fail> {
-    let piece = [0x78; 4097];
     for row in &DELIVERIES {
-        let mut area = Area::new(rt.alloc(), 4096)?;
-        let mut to = make_writer(rt.alloc(), row.bad_write, row.bad_flush);
-        let mut sink = Sink::new(&mut to, &mut area);
-        let put = sink.put(&piece[..row.len]);
-        if put.is_ok() {
-            let delivered = if row.len < 4096 { 0 } else { 4096 };
-            assert_eq!(rt; sink.delivered(), delivered, "{}: put", row.name);
-        }
-        let finished = sink.finish();
-        let want = match row.place {
-            Some(place) => Err(Stop {
-                fault: Fault::WriteFailed,
-                place: Place::Text(place),
-            }),
-            None => Ok(()),
+        let (finished, failures) = match row.place {
+            Some(place) => (Err(write_failed(place)), 1),
+            None => (Ok(()), 0),
         };
-        assert_eq!(rt; finished, want, "{}: finished", row.name);
-        assert_eq!(rt; sink.waiting(), row.waiting, "{}: left", row.name);
-        let failures = if row.place.is_some() { 1 } else { 0 };
-        assert_eq!(rt; to.failures(), failures, "{}: failures", row.name);
+        let want = Delivered {
+            at_once: row.at_once,
+            finished,
+            waiting: row.waiting,
+            failures,
+        };
+        assert_eq!(rt; deliver(rt.alloc(), row)?, want, "{}", row.name);
     }
     Ok(())
 }
 
+// Two pushes of digits, and what waits then.
+fn push_twice<W: Write>(
+    sink: &mut Sink<'_, W>,
+    piece: &[u8],
+) -> (Result<(), JoinFault>, Result<(), JoinFault>, u64)
+    requires { IsReady sink.old }
+{
+    let mut joiner = HexJoiner::new();
+    let first = joiner.push(piece, sink);
+    let second = joiner.push(b"", sink);
+    (first, second, sink.waiting())
+}
+
 #[test]
 fn a_joiner_stops_with_its_sink(rt: HostRuntime) -> Result<(), Fail> {
-    let piece = [0x41; 3000];
+    let piece = many(rt.alloc(), 3000, 0x41)?;
     let mut area = Area::new(rt.alloc(), 4096)?;
     let mut to = make_writer(rt.alloc(), 1, false);
     let mut sink = Sink::new(&mut to, &mut area);
-    let mut joiner = HexJoiner::new();
-    let stop = Err(JoinFault::Stopped(Stop {
-        fault: Fault::WriteFailed,
-        place: Place::Text(0),
-    }));
-    let pushed = joiner.push(&piece, &mut sink);
-    assert_eq!(rt; pushed, stop);
-    let again = joiner.push(b"", &mut sink);
-    assert_eq!(rt; again, stop);
-    assert_eq!(rt; sink.waiting(), 4096);
+    let stop = Err(JoinFault::Stopped(write_failed(0)));
+    assert_eq!(rt; push_twice(&mut sink, &piece), (stop, stop, 4096));
     Ok(())
 }
 
@@ -464,57 +583,70 @@ fn plain_text(alloc: Global, bytes: &[u8]) -> Result<Vec<u8>, Fail> {
     Ok(text)
 }
 
+// The units of characters below U+0100.
+fn in_units(alloc: Global, bytes: &[u8]) -> Result<Vec<u8>, AllocError> {
+    let mut units = Vec::new(alloc);
+    for byte in bytes {
+        units.extend_from_slice(&[*byte, 0])?;
+    }
+    Ok(units)
+}
+
+// A byte in a place of a long piece of Windows-1252, and as a unit of UTF-16.
+fn check_care(alloc: Global, care: u8, place: usize) -> Result<(), Fail> {
+    let mut piece = many(alloc, LONG, 0x61)?;
+    if let Some(byte) = piece.get_mut(place) {
+        *byte = care;
+    }
+    let want = plain_text(alloc, &piece)?;
+    let what = format_args!("{care} at {place} in Windows-1252");
+    check_piece::<Cp1252Joiner, _>(alloc, what, &piece, &want)?;
+    let units = in_units(alloc, &piece)?;
+    let what = format_args!("{care} at {place} in UTF-16");
+    check_piece::<Utf16Joiner, _>(alloc, what, &units, &want)
+}
+
+// A quote in a place of a long piece of UTF-8.
+fn check_quote(alloc: Global, place: usize) -> Result<(), Fail> {
+    let mut piece = many(alloc, LONG, 0x61)?;
+    if let Some(byte) = piece.get_mut(place) {
+        *byte = 0x22;
+    }
+    let want = plain_text(alloc, &piece)?;
+    let what = format_args!("a quote at {place} in UTF-8");
+    check_piece::<Utf8Joiner, _>(alloc, what, &piece, &want)
+}
+
 #[test]
 fn a_byte_that_needs_care_in_every_place(rt: HostRuntime) -> Result<(), Fail> {
-    for care in [0x22, 0xE9] {
-        for place in 0..LONG {
-            let mut piece = [0x61; LONG];
-            piece[place] = care;
-            let want = plain_text(rt.alloc(), &piece)?;
-            let got = joined::<Cp1252Joiner>(rt, &piece, b"", b"")?;
-            assert_eq!(rt;
-                got.as_slice(),
-                want.as_slice(),
-                "{care} at {place} in Windows-1252"
-            );
-            let mut units = Vec::new(rt.alloc());
-            for byte in piece {
-                units.push(byte)?;
-                units.push(0)?;
-            }
-            let got = joined::<Utf16Joiner>(rt, &units, b"", b"")?;
-            assert_eq!(rt;
-                got.as_slice(),
-                want.as_slice(),
-                "{care} at {place} in UTF-16"
-            );
-            if care == 0x22 {
-                let got = joined::<Utf8Joiner>(rt, &piece, b"", b"")?;
-                assert_eq!(rt;
-                    got.as_slice(),
-                    want.as_slice(),
-                    "a quote at {place} in UTF-8"
-                );
-            }
-        }
+    for place in 0..LONG {
+        check_care(rt.alloc(), 0x22, place)?;
+        check_care(rt.alloc(), 0xE9, place)?;
+        check_quote(rt.alloc(), place)?;
     }
     Ok(())
 }
 
-#[test]
-fn the_digits_of_every_byte(rt: HostRuntime) -> Result<(), Fail> {
+// All bytes, and their digits.
+fn all_bytes(alloc: Global) -> Result<(Vec<u8>, Vec<u8>), AllocError> {
     let digits = b"0123456789abcdef";
-    let mut bytes = Vec::new(rt.alloc());
-    let mut want = Vec::new(rt.alloc());
+    let mut bytes = Vec::new(alloc);
+    let mut text = Vec::new(alloc);
     for byte in 0..=255u8 {
         bytes.push(byte)?;
-        want.push(digits[usize::from(byte / 16)])?;
-        want.push(digits[usize::from(byte % 16)])?;
+        text.push(digits[usize::from(byte / 16)])?;
+        text.push(digits[usize::from(byte % 16)])?;
     }
+    Ok((bytes, text))
+}
+
+#[test]
+fn the_digits_of_every_byte(rt: HostRuntime) -> Result<(), Fail> {
+    let (bytes, want) = all_bytes(rt.alloc())?;
     let all = bytes.as_slice();
     for cut in 0..all.len() {
-        let got = joined::<HexJoiner>(rt, &all[..cut], &all[cut..], b"")?;
-        assert_eq!(rt; got.as_slice(), want.as_slice(), "cut at {cut}");
+        let pieces: (&[u8], &[u8], &[u8]) = (&all[..cut], &all[cut..], b"");
+        check_joined::<HexJoiner, _>(rt.alloc(), cut, pieces, &want)?;
     }
     Ok(())
 }

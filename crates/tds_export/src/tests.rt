@@ -4,12 +4,14 @@ ghost use Rattle.tds_meter.specs.Rooms.{is_intact};
 
 use super::*;
 use std::alloc::{AllocError, Global};
+use std::fmt::{Debug, Display};
 use std::test::Fail;
 use tds_meter::{Areas, Limits};
 use tds_packet::rig::{Failing, RepeatingReader, ScriptedReader, ScriptedWriter};
 use tds_packet::{Counted, Fault, Place};
 
 mod columns;
+mod cuts;
 mod kinds;
 
 // A column of numbers named a, a row of 42, and a DONE, in one packet.
@@ -17,6 +19,12 @@ const WIRE: [u8; 39] = [
     0x04, 0x01, 0x00, 0x27, 0x00, 0x00, 0x01, 0x00, 0x81, 0x01, 0x00, 0x00, 0x00, 0x00, 0x00, 0x08,
     0x00, 0x38, 0x01, 0x61, 0x00, 0xD1, 0x2A, 0x00, 0x00, 0x00, 0xFD, 0x10, 0x00, 0xC1, 0x00, 0x01,
     0x00, 0x00, 0x00, 0x00, 0x00, 0x00, 0x00,
+];
+
+// What the packet carries.
+const PAYLOAD: [u8; 31] = [
+    0x81, 0x01, 0x00, 0x00, 0x00, 0x00, 0x00, 0x08, 0x00, 0x38, 0x01, 0x61, 0x00, 0xD1, 0x2A, 0x00,
+    0x00, 0x00, 0xFD, 0x10, 0x00, 0xC1, 0x00, 0x01, 0x00, 0x00, 0x00, 0x00, 0x00, 0x00, 0x00,
 ];
 
 // Its text, and the header line alone.
@@ -69,14 +77,26 @@ const COLUMN_ROOM: u32 = 1_048_576;
 const MAX_WIRE: u64 = 1_099_511_627_776;
 
 // What an export came to.
-#[derive(Debug, Drop)]
+#[derive(Debug, Clone, Copy, PartialEq, Eq)]
 struct Outcome {
     answer: Result<Report, Stopped>,
-    text: Vec<u8>,
+    // how many bytes the writer took, the first of the text that is expected
+    text: Option<usize>,
     // the bytes that the reader still has
     left: usize,
     read_failures: u64,
     write_failures: u64,
+}
+
+// All of the text was written, and all of the input read.
+const fn came_to(answer: Result<Report, Stopped>, text: &[u8]) -> Outcome {
+    Outcome {
+        answer,
+        text: Some(text.len()),
+        left: 0,
+        read_failures: 0,
+        write_failures: 0,
+    }
 }
 
 fn make_areas(
@@ -98,35 +118,63 @@ fn make_usual_areas(alloc: Global) -> Result<Areas, Fail>
     make_areas(alloc, PACKET_SIZE, COLUMN_ROOM, MAX_WIRE)
 }
 
+// Fails where what came isn't what is wanted.
+fn same<D: Display + Drop, T: PartialEq + Debug>(what: D, came: &T, want: &T) -> Result<(), Fail> {
+    if came == want {
+        Ok(())
+    } else {
+        Err(Fail::new(format_args!("{what}: came {came:?}, wanted {want:?}")))
+    }
+}
+
+// How many bytes there are, if a longer list begins with them.
+fn front_of(bytes: &[u8], longer: &[u8]) -> Option<usize> {
+    if longer.starts_with(bytes) {
+        Some(bytes.len())
+    } else {
+        None
+    }
+}
+
+// What came of an input, where this text is expected. Nothing comes of areas that were exchanged.
 fn run(
-    alloc: Global,
     areas: &mut Areas,
     from: ScriptedReader<'_>,
     to: ScriptedWriter,
-) -> Result<Outcome, AllocError> {
+    text: &[u8],
+) -> Option<Outcome> {
     if !areas.intact() {
-        return Err(AllocError);
+        return None;
     }
     let mut from = Counted::new(from);
     let mut to = Counted::new(to);
     let answer = export(areas, &mut from, &mut to, Charset::Windows1252);
-    Ok(Outcome {
+    Some(Outcome {
         answer,
-        text: to.device().kept().to_vec(alloc)?,
+        text: front_of(to.device().kept(), text),
         left: from.device().left().len(),
         read_failures: from.failures(),
         write_failures: to.failures(),
     })
 }
 
-// A run with a writer that takes all.
-fn read(alloc: Global, areas: &mut Areas, from: ScriptedReader<'_>) -> Result<Outcome, AllocError> {
-    run(
-        alloc,
-        areas,
-        from,
-        ScriptedWriter::new(1000, Failing::Never),
-    )
+// What came of a wire, where devices give and take so many bytes a call.
+fn read(areas: &mut Areas, wire: &[u8], most: usize, text: &[u8]) -> Option<Outcome> {
+    let from = ScriptedReader::new(wire, most);
+    let to = ScriptedWriter::new(most, Failing::Never);
+    run(areas, from, to, text)
+}
+
+// What came of a payload in one packet, where devices give and take so many bytes a call.
+fn read_payload(
+    alloc: Global,
+    areas: &mut Areas,
+    payload: &[u8],
+    most: usize,
+    text: &[u8],
+) -> Result<Option<Outcome>, AllocError> {
+    let wire = in_one_packet(alloc, payload)?;
+    Ok(read(areas, &wire, most, text))
 }
 
 const fn report(sets: u64, rows: u64, written: u64) -> Report {
@@ -156,15 +204,6 @@ fn front(bytes: &[u8], n: usize) -> &[u8] {
     &bytes[..n.min(bytes.len())]
 }
 
-// The text of the first n bytes of the payload.
-fn text_of(n: usize) -> &'static [u8] {
-    match n {
-        0..=12 => NOTHING,
-        13..=17 => HEADER_LINE,
-        _ => TEXT,
-    }
-}
-
 fn in_one_packet(alloc: Global, payload: &[u8]) -> Result<Vec<u8>, AllocError> {
     let length = ((8 + payload.len()).min(0xFFFF) as u16).to_be_bytes();
     let mut wire = Vec::new(alloc);
@@ -176,7 +215,7 @@ fn in_one_packet(alloc: Global, payload: &[u8]) -> Result<Vec<u8>, AllocError> {
 // The payload in packets of one byte each, with an empty one before each but the first.
 fn in_single_bytes(alloc: Global, empty: bool) -> Result<Vec<u8>, AllocError> {
     let mut wire = Vec::new(alloc);
-    for (i, byte) in WIRE[8..].iter().enumerate() {
+    for (i, byte) in PAYLOAD.iter().enumerate() {
         if empty && i > 0 {
             wire.extend_from_slice(&EMPTY)?;
         }
@@ -186,275 +225,318 @@ fn in_single_bytes(alloc: Global, empty: bool) -> Result<Vec<u8>, AllocError> {
     Ok(wire)
 }
 
-// Payloads that are accepted, and how long the description is that stands in the end. The devices
-// give and take few bytes a call, and the areas are those of the response before.
+// A payload that is accepted, its sets, rows and text, and how long the description is that stands
+// in the end.
+struct Accepted {
+    what: &'static str,
+    payload: &'static [u8],
+    sets: u64,
+    rows: u64,
+    text: &'static [u8],
+    described: u64,
+}
+
+const ACCEPTED: [Accepted; 6] = [
+    Accepted {
+        what: "one row",
+        payload: &PAYLOAD,
+        sets: 1,
+        rows: 1,
+        text: TEXT,
+        described: 12,
+    },
+    Accepted {
+        what: "DONE alone",
+        payload: DONE,
+        sets: 0,
+        rows: 0,
+        text: NOTHING,
+        described: 0,
+    },
+    Accepted {
+        what: "DONEPROC alone",
+        payload: DONEPROC,
+        sets: 0,
+        rows: 0,
+        text: NOTHING,
+        described: 0,
+    },
+    Accepted {
+        what: "no metadata",
+        payload: NO_METADATA,
+        sets: 0,
+        rows: 0,
+        text: NOTHING,
+        described: 0,
+    },
+    Accepted {
+        what: "an odd name",
+        payload: ODD_NAME,
+        sets: 1,
+        rows: 0,
+        text: ODD_NAME_TEXT,
+        described: 18,
+    },
+    Accepted {
+        what: "two sets",
+        payload: TWO_SETS,
+        sets: 2,
+        rows: 3,
+        text: TWO_SETS_TEXT,
+        described: 12,
+    },
+];
+
+// The devices give and take so many bytes a call.
+fn check_accepted(
+    alloc: Global,
+    areas: &mut Areas,
+    row: &Accepted,
+    most: usize,
+) -> Result<(), Fail> {
+    let out = read_payload(alloc, areas, row.payload, most, row.text)?;
+    let answer = Ok(report(row.sets, row.rows, row.text.len() as u64));
+    let ends = (areas.description_held(), areas.error_text().len());
+    same(row.what, &out, &Some(came_to(answer, row.text)))?;
+    same(row.what, &ends, &(row.described, 0))
+}
+
+// The areas are those of the response before.
 #[test]
 fn responses_are_written(rt: HostRuntime) -> Result<(), Fail> {
     let mut areas = make_usual_areas(rt.alloc())?;
-    for (what, payload, expected, text, described) in [
-        ("one row", &WIRE[8..], report(1, 1, 9), TEXT, 12),
-        ("DONE alone", DONE, report(0, 0, 0), NOTHING, 0),
-        ("DONEPROC alone", DONEPROC, report(0, 0, 0), NOTHING, 0),
-        ("no metadata", NO_METADATA, report(0, 0, 0), NOTHING, 0),
-        ("an odd name", ODD_NAME, report(1, 0, 13), ODD_NAME_TEXT, 18),
-        ("two sets", TWO_SETS, report(2, 3, 21), TWO_SETS_TEXT, 12),
-    ] {
-        let wire = in_one_packet(rt.alloc(), payload)?;
+    for row in &ACCEPTED {
         for most in [1, 5, 1000] {
-            let from = ScriptedReader::new(&wire, most);
-            let to = ScriptedWriter::new(most, Failing::Never);
-            let out = run(rt.alloc(), &mut areas, from, to)?;
-            assert_eq!(rt; out.answer, Ok(expected), "{what}");
-            assert_eq!(rt; out.text.as_slice(), text, "{what}");
-            assert_eq!(rt; out.left, 0, "{what}");
-            assert_eq!(rt; (out.read_failures, out.write_failures), (0, 0), "{what}");
-            assert_eq!(rt; areas.description_held(), described, "{what}");
-            assert!(rt; areas.error_text().is_empty(), "{what}");
+            check_accepted(rt.alloc(), &mut areas, row, most)?;
         }
     }
     Ok(())
 }
 
+// What comes of a wire, and then the restarts of the areas, the bytes of their description, and the
+// most that it had.
+fn check_meters(
+    areas: &mut Areas,
+    wire: &[u8],
+    want: Outcome,
+    text: &[u8],
+    meters: (u64, u64, u64),
+) -> Result<(), Fail> {
+    let out = read(areas, wire, 1000, text);
+    same("an answer", &out, &Some(want))?;
+    let (held, peak) = (areas.description_held(), areas.description_peak());
+    same("meters", &(areas.restarts(), held, peak), &meters)
+}
+
 #[test]
 fn areas_are_metered(rt: HostRuntime) -> Result<(), Fail> {
     let mut areas = make_usual_areas(rt.alloc())?;
+    let done = in_one_packet(rt.alloc(), DONE)?;
+    let (one, none) = (Ok(report(1, 1, 9)), Ok(report(0, 0, 0)));
     assert_eq!(rt; areas.restarts(), 0);
-    read(rt.alloc(), &mut areas, ScriptedReader::new(&WIRE, 1000))?;
-    assert_eq!(rt; areas.restarts(), 1);
-    assert_eq!(rt; areas.description_held(), 12);
-    assert_eq!(rt; areas.description_peak(), 12);
+    check_meters(&mut areas, &WIRE, came_to(one, TEXT), TEXT, (1, 12, 12))?;
     assert!(rt; areas.peak_rest() <= 4096 + 65_536 + 4736);
-    let wire = in_one_packet(rt.alloc(), DONE)?;
-    let out = read(rt.alloc(), &mut areas, ScriptedReader::new(&wire, 1000))?;
-    assert_eq!(rt; out.answer, Ok(report(0, 0, 0)));
-    assert_eq!(rt; areas.restarts(), 2);
-    assert_eq!(rt; areas.description_held(), 0);
-    assert_eq!(rt; areas.description_peak(), 0);
+    check_meters(
+        &mut areas,
+        &done,
+        came_to(none, NOTHING),
+        NOTHING,
+        (2, 0, 0),
+    )
+}
+
+// The payload in packets of one byte each.
+fn check_single_bytes(alloc: Global, areas: &mut Areas, empty: bool) -> Result<(), Fail> {
+    let wire = in_single_bytes(alloc, empty)?;
+    let want = came_to(Ok(report(1, 1, 9)), TEXT);
+    for most in [1, 5, 1000] {
+        let out = read(areas, &wire, most, TEXT);
+        same(format_args!("{empty} {most}"), &out, &Some(want))?;
+    }
     Ok(())
 }
 
 #[test]
 fn packets_of_one_byte_are_joined(rt: HostRuntime) -> Result<(), Fail> {
     let mut areas = make_usual_areas(rt.alloc())?;
-    for empty in [false, true] {
-        let wire = in_single_bytes(rt.alloc(), empty)?;
-        for most in [1, 5, 1000] {
-            let out = read(rt.alloc(), &mut areas, ScriptedReader::new(&wire, most))?;
-            assert_eq!(rt; out.answer, Ok(report(1, 1, 9)), "{empty} {most}");
-            assert_eq!(rt; out.text.as_slice(), TEXT, "{empty} {most}");
-            assert_eq!(rt; out.left, 0, "{empty} {most}");
-        }
-    }
-    Ok(())
+    check_single_bytes(rt.alloc(), &mut areas, false)?;
+    check_single_bytes(rt.alloc(), &mut areas, true)
 }
 
-// The first bytes of the payload, from as many to as many, in one packet.
-#[test]
-fn a_cut_message_says_where(rt: HostRuntime) -> Result<(), Fail> {
-    let mut areas = make_usual_areas(rt.alloc())?;
-    for (what, least, most, fault, place, text) in [
-        (
-            "before the first token",
-            0,
-            0,
-            Fault::EndWithoutDone,
-            0,
-            NOTHING,
-        ),
-        ("in Count", 1, 2, Fault::MessageEnded, 1, NOTHING),
-        (
-            "in the column's head",
-            3,
-            9,
-            Fault::MessageEnded,
-            3,
-            NOTHING,
-        ),
-        (
-            "before the name's length",
-            10,
-            10,
-            Fault::MessageEnded,
-            10,
-            NOTHING,
-        ),
-        ("in the name", 11, 12, Fault::MessageEnded, 11, NOTHING),
-        (
-            "behind the description",
-            13,
-            13,
-            Fault::EndWithoutDone,
-            13,
-            HEADER_LINE,
-        ),
-        ("in the value", 14, 17, Fault::MessageEnded, 14, HEADER_LINE),
-        ("behind the row", 18, 18, Fault::EndWithoutDone, 18, TEXT),
-        ("in the DONE", 19, 30, Fault::MessageEnded, 19, TEXT),
-    ] {
-        let expected = stopped(fault, Place::Payload(place), text);
-        for n in least..=most {
-            let wire = in_one_packet(rt.alloc(), front(&WIRE[8..], n))?;
-            let out = read(rt.alloc(), &mut areas, ScriptedReader::new(&wire, 1000))?;
-            assert_eq!(rt; out.answer, expected, "{what}: {n}");
-            assert_eq!(rt; out.text.as_slice(), text, "{what}: {n}");
-            assert_eq!(rt; out.left, 0, "{what}: {n}");
-        }
-    }
-    Ok(())
+// A payload in one packet that stops the export at a place of the payload.
+fn check_stop(
+    alloc: Global,
+    areas: &mut Areas,
+    what: &str,
+    payload: &[u8],
+    fault: Fault,
+    place: u64,
+    text: &[u8],
+) -> Result<(), Fail> {
+    let out = read_payload(alloc, areas, payload, 1000, text)?;
+    let answer = stopped(fault, Place::Payload(place), text);
+    same(what, &out, &Some(came_to(answer, text)))
 }
 
-// Packets of one byte each that are over, or whose reader fails, behind so many bytes of the wire.
-#[test]
-fn a_cut_wire_says_where(rt: HostRuntime) -> Result<(), Fail> {
-    let mut areas = make_usual_areas(rt.alloc())?;
-    let wire = in_single_bytes(rt.alloc(), false)?;
-    assert_eq!(rt; wire.len(), 279);
-    for length in 0..279 {
-        let whole = length / 9;
-        let text = text_of(whole);
-        let place = Place::Wire(9 * whole as u64);
-        let over = stopped(Fault::InputEnded, place, text);
-        let failed = stopped(Fault::ReadFailed, place, text);
-        let from = ScriptedReader::new(front(&wire, length), 4);
-        let out = read(rt.alloc(), &mut areas, from)?;
-        assert_eq!(rt; out.answer, over, "{length}");
-        assert_eq!(rt; out.text.as_slice(), text, "{length}");
-        assert_eq!(rt; out.read_failures, 0, "{length}");
-        let from = ScriptedReader::failing(&wire, 4, length);
-        let out = read(rt.alloc(), &mut areas, from)?;
-        assert_eq!(rt; out.answer, failed, "{length}");
-        assert_eq!(rt; out.text.as_slice(), text, "{length}");
-        assert_eq!(rt; out.read_failures, 1, "{length}");
-    }
-    Ok(())
+// What came of the wire with another type and length, in areas of a packet size.
+fn read_header(
+    alloc: Global,
+    packet_type: u8,
+    length: u16,
+    packet_size: u16,
+) -> Result<Option<Outcome>, Fail> {
+    let mut areas = make_areas(alloc, packet_size, COLUMN_ROOM, MAX_WIRE)?;
+    let mut wire = WIRE;
+    let [high, low] = length.to_be_bytes();
+    wire[0] = packet_type;
+    wire[2] = high;
+    wire[3] = low;
+    Ok(read(&mut areas, &wire, 1000, NOTHING))
 }
 
-#[test]
-fn a_cut_packet_gives_nothing(rt: HostRuntime) -> Result<(), Fail> {
-    let mut areas = make_usual_areas(rt.alloc())?;
-    for length in 0..39 {
-        let from = ScriptedReader::new(front(&WIRE, length), 1000);
-        let out = read(rt.alloc(), &mut areas, from)?;
-        let answer = stopped(Fault::InputEnded, Place::Wire(0), NOTHING);
-        assert_eq!(rt; out.answer, answer, "{length}");
-        assert!(rt; out.text.is_empty() && out.left == 0, "{length}");
-    }
-    Ok(())
-}
-
-// The type and the length of the packet are judged under a packet size.
+// The type and the length of the packet are judged under a packet size, before its body is read.
 #[test]
 fn headers_are_judged(rt: HostRuntime) -> Result<(), Fail> {
     for (what, packet_type, length, packet_size, fault) in [
-        ("another type", 0x03, 39u16, 4096, Fault::WrongPacketType(3)),
+        ("another type", 0x03, 39, 4096, Fault::WrongPacketType(3)),
         ("too short", 0x04, 7, 4096, Fault::BadPacketLength(7)),
         ("too long", 0x04, 513, 512, Fault::BadPacketLength(513)),
     ] {
-        let mut areas = make_areas(rt.alloc(), packet_size, COLUMN_ROOM, MAX_WIRE)?;
-        let mut wire = WIRE;
-        wire[0] = packet_type;
-        wire[2..4].copy_from_slice(&length.to_be_bytes());
-        let out = read(rt.alloc(), &mut areas, ScriptedReader::new(&wire, 1000))?;
-        let answer = stopped(fault, Place::Wire(0), NOTHING);
-        assert_eq!(rt; out.answer, answer, "{what}");
-        assert!(rt; out.text.is_empty(), "{what}");
+        let out = read_header(rt.alloc(), packet_type, length, packet_size)?;
+        let want = Outcome {
+            left: 31,
+            ..came_to(stopped(fault, Place::Wire(0), NOTHING), NOTHING)
+        };
+        assert_eq!(rt; out, Some(want), "{what}");
     }
     Ok(())
+}
+
+// What came of a wire in areas of a column room and a limit.
+fn read_within(
+    alloc: Global,
+    wire: &[u8],
+    column_room: u32,
+    max_wire: u64,
+    text: &[u8],
+) -> Result<Option<Outcome>, Fail> {
+    let mut areas = make_areas(alloc, PACKET_SIZE, column_room, max_wire)?;
+    Ok(read(&mut areas, wire, 1000, text))
 }
 
 // One row keeps the limits exactly, or passes one of them by a byte.
 #[test]
 fn limits_are_kept(rt: HostRuntime) -> Result<(), Fail> {
+    let all = came_to(Ok(report(1, 1, 9)), TEXT);
     let too_long = stopped(Fault::DescriptionTooLong, Place::Payload(10), NOTHING);
-    let too_much = stopped(Fault::ResponseTooLong, Place::Wire(0), NOTHING);
-    for (what, column_room, max_wire, answer, text) in [
-        (
-            "room for the column",
-            12,
-            MAX_WIRE,
-            Ok(report(1, 1, 9)),
-            TEXT,
-        ),
-        ("too little room", 11, MAX_WIRE, too_long, NOTHING),
-        (
-            "as long as allowed",
-            COLUMN_ROOM,
-            39,
-            Ok(report(1, 1, 9)),
-            TEXT,
-        ),
-        ("too long", COLUMN_ROOM, 38, too_much, NOTHING),
+    let too_much = Outcome {
+        left: 31,
+        ..came_to(
+            stopped(Fault::ResponseTooLong, Place::Wire(0), NOTHING),
+            NOTHING,
+        )
+    };
+    for (what, column_room, max_wire, want) in [
+        ("room for the column", 12, MAX_WIRE, all),
+        ("too little room", 11, MAX_WIRE, came_to(too_long, NOTHING)),
+        ("as long as allowed", COLUMN_ROOM, 39, all),
+        ("too long", COLUMN_ROOM, 38, too_much),
     ] {
-        let mut areas = make_areas(rt.alloc(), PACKET_SIZE, column_room, max_wire)?;
-        let out = read(rt.alloc(), &mut areas, ScriptedReader::new(&WIRE, 1000))?;
-        assert_eq!(rt; out.answer, answer, "{what}");
-        assert_eq!(rt; out.text.as_slice(), text, "{what}");
+        let out = read_within(rt.alloc(), &WIRE, column_room, max_wire, TEXT)?;
+        assert_eq!(rt; out, Some(want), "{what}");
     }
     Ok(())
 }
 
-// Payloads that are refused before there is any text, under a column room.
+// A payload that is refused before there is any text, under a column room.
+struct Refused {
+    what: &'static str,
+    payload: &'static [u8],
+    column_room: u32,
+    fault: Fault,
+    place: u64,
+}
+
+const REFUSED: [Refused; 9] = [
+    Refused {
+        what: "a DONE with more to come",
+        payload: DONE_WITH_MORE,
+        column_room: 1024,
+        fault: Fault::EndWithoutDone,
+        place: 13,
+    },
+    Refused {
+        what: "a ROW first",
+        payload: &[0xD1, 0x2A, 0, 0, 0],
+        column_room: 1024,
+        fault: Fault::RowWithoutColumns,
+        place: 0,
+    },
+    Refused {
+        what: "an NBCROW first",
+        payload: &[0xD2],
+        column_room: 1024,
+        fault: Fault::RowWithoutColumns,
+        place: 0,
+    },
+    Refused {
+        what: "a ROW without metadata",
+        payload: &[0x81, 0xFF, 0xFF, 0xD1],
+        column_room: 1024,
+        fault: Fault::RowWithoutColumns,
+        place: 3,
+    },
+    Refused {
+        what: "a LOGINACK",
+        payload: &[0xAD],
+        column_room: 1024,
+        fault: Fault::RefusedToken(0xAD),
+        place: 0,
+    },
+    Refused {
+        what: "no columns",
+        payload: &[0x81, 0x00, 0x00],
+        column_room: 1024,
+        fault: Fault::NoColumns,
+        place: 1,
+    },
+    Refused {
+        what: "65,534 columns",
+        payload: &[0x81, 0xFE, 0xFF],
+        column_room: 1024,
+        fault: Fault::DescriptionTooLong,
+        place: 1,
+    },
+    Refused {
+        what: "2 columns",
+        payload: &[0x81, 0x02, 0x00],
+        column_room: 17,
+        fault: Fault::DescriptionTooLong,
+        place: 1,
+    },
+    Refused {
+        what: "9 columns",
+        payload: &[0x81, 0x09, 0x00],
+        column_room: 73,
+        fault: Fault::DescriptionTooLong,
+        place: 1,
+    },
+];
+
 #[test]
 fn payloads_are_judged(rt: HostRuntime) -> Result<(), Fail> {
-    for (what, payload, column_room, fault, place) in [
-        (
-            "a DONE with more to come",
-            DONE_WITH_MORE,
-            1024,
-            Fault::EndWithoutDone,
-            13,
-        ),
-        (
-            "a ROW first",
-            &[0xD1, 0x2A, 0, 0, 0],
-            1024,
-            Fault::RowWithoutColumns,
-            0,
-        ),
-        (
-            "an NBCROW first",
-            &[0xD2],
-            1024,
-            Fault::RowWithoutColumns,
-            0,
-        ),
-        (
-            "a ROW without metadata",
-            &[0x81, 0xFF, 0xFF, 0xD1],
-            1024,
-            Fault::RowWithoutColumns,
-            3,
-        ),
-        ("a LOGINACK", &[0xAD], 1024, Fault::RefusedToken(0xAD), 0),
-        ("no columns", &[0x81, 0x00, 0x00], 1024, Fault::NoColumns, 1),
-        (
-            "65,534 columns",
-            &[0x81, 0xFE, 0xFF],
-            1024,
-            Fault::DescriptionTooLong,
-            1,
-        ),
-        (
-            "2 columns",
-            &[0x81, 0x02, 0x00],
-            17,
-            Fault::DescriptionTooLong,
-            1,
-        ),
-        (
-            "9 columns",
-            &[0x81, 0x09, 0x00],
-            73,
-            Fault::DescriptionTooLong,
-            1,
-        ),
-    ] {
-        let mut areas = make_areas(rt.alloc(), PACKET_SIZE, column_room, MAX_WIRE)?;
-        let wire = in_one_packet(rt.alloc(), payload)?;
-        let out = read(rt.alloc(), &mut areas, ScriptedReader::new(&wire, 1000))?;
-        let answer = stopped(fault, Place::Payload(place), NOTHING);
-        assert_eq!(rt; out.answer, answer, "{what}");
-        assert!(rt; out.text.is_empty() && out.left == 0, "{what}");
+    for row in &REFUSED {
+        let mut areas = make_areas(rt.alloc(), PACKET_SIZE, row.column_room, MAX_WIRE)?;
+        let areas = &mut areas;
+        check_stop(
+            rt.alloc(),
+            areas,
+            row.what,
+            row.payload,
+            row.fault,
+            row.place,
+            NOTHING,
+        )?;
     }
     Ok(())
 }
@@ -462,43 +544,36 @@ fn payloads_are_judged(rt: HostRuntime) -> Result<(), Fail> {
 // A packet with one byte, before the header of a packet of another type.
 #[test]
 fn the_next_packet_is_read_when_needed(rt: HostRuntime) -> Result<(), Fail> {
-    let mut areas = make_usual_areas(rt.alloc())?;
-    for (what, byte, fault, place, left) in [
-        (
-            "a LOGINACK",
-            0xAD,
-            Fault::RefusedToken(0xAD),
-            Place::Payload(0),
-            8,
-        ),
-        (
-            "a COLMETADATA",
-            0x81,
-            Fault::WrongPacketType(3),
-            Place::Wire(9),
-            0,
-        ),
+    let login = (Fault::RefusedToken(0xAD), Place::Payload(0));
+    let header = (Fault::WrongPacketType(3), Place::Wire(9));
+    for (what, byte, (fault, place), left) in [
+        ("a LOGINACK", 0xAD, login, 8),
+        ("a COLMETADATA", 0x81, header, 0),
     ] {
         let wire = [
             0x04, 0x00, 0x00, 0x09, 0x00, 0x00, 0x01, 0x00, byte, 0x03, 0x01, 0x00, 0x09, 0x00,
             0x00, 0x01, 0x00,
         ];
-        let out = read(rt.alloc(), &mut areas, ScriptedReader::new(&wire, 1000))?;
-        assert_eq!(rt; out.answer, stopped(fault, place, NOTHING), "{what}");
-        assert!(rt; out.text.is_empty() && out.left == left, "{what}");
+        let out = read_within(rt.alloc(), &wire, COLUMN_ROOM, MAX_WIRE, NOTHING)?;
+        let want = Outcome {
+            left,
+            ..came_to(stopped(fault, place, NOTHING), NOTHING)
+        };
+        assert_eq!(rt; out, Some(want), "{what}");
     }
     Ok(())
 }
 
 #[test]
 fn nothing_behind_the_last_packet_is_read(rt: HostRuntime) -> Result<(), Fail> {
-    let mut areas = make_usual_areas(rt.alloc())?;
     let mut wire = WIRE.to_vec(rt.alloc())?;
     wire.push(0xFF)?;
-    let out = read(rt.alloc(), &mut areas, ScriptedReader::new(&wire, 1000))?;
-    assert_eq!(rt; out.answer, Ok(report(1, 1, 9)));
-    assert_eq!(rt; out.text.as_slice(), TEXT);
-    assert_eq!(rt; out.left, 1);
+    let out = read_within(rt.alloc(), &wire, COLUMN_ROOM, MAX_WIRE, TEXT)?;
+    let want = Outcome {
+        left: 1,
+        ..came_to(Ok(report(1, 1, 9)), TEXT)
+    };
+    assert_eq!(rt; out, Some(want));
     Ok(())
 }
 
@@ -509,8 +584,7 @@ fn empty_packets_end_at_the_limit(rt: HostRuntime) -> Result<(), Fail> {
     let mut to = Counted::new(ScriptedWriter::new(1000, Failing::Never));
     let answer = export(&mut areas, &mut from, &mut to, Charset::Windows1252);
     let expected = stopped(Fault::ResponseTooLong, Place::Wire(4096), NOTHING);
-    assert_eq!(rt; answer, expected);
-    assert!(rt; to.device().kept().is_empty());
+    assert_eq!(rt; (answer, to.device().taken()), (expected, 0));
     Ok(())
 }
 
@@ -546,19 +620,40 @@ const fn ended_before(failing: Failing, written: usize) -> Broken {
 }
 
 // The writer takes at most four bytes a call.
+fn check_broken(alloc: Global, areas: &mut Areas, case: Broken) -> Result<(), Fail> {
+    let wire = in_one_packet(alloc, front(&PAYLOAD, case.length))?;
+    let from = ScriptedReader::new(&wire, 1000);
+    let writer = ScriptedWriter::new(4, case.failing);
+    let (taken, waiting) = TEXT.split_at(TEXT.len().min(case.written));
+    let out = run(areas, from, writer, taken);
+    let answer = Err(Stopped {
+        fault: case.fault,
+        place: case.place,
+        written: taken.len() as u64,
+        unwritten: waiting.len() as u64,
+    });
+    let want = Outcome {
+        write_failures: 1,
+        ..came_to(answer, taken)
+    };
+    same(
+        format_args!("{:?}", case.failing),
+        &(out, areas.waiting()),
+        &(Some(want), waiting),
+    )
+}
+
 #[test]
 fn a_failed_write_says_what_was_taken(rt: HostRuntime) -> Result<(), Fail> {
     let mut areas = make_usual_areas(rt.alloc())?;
+    for taken in 0..9 {
+        check_broken(
+            rt.alloc(),
+            &mut areas,
+            broken_by(Failing::AfterBytes(taken), taken),
+        )?;
+    }
     for case in [
-        broken_by(Failing::AfterBytes(0), 0),
-        broken_by(Failing::AfterBytes(1), 1),
-        broken_by(Failing::AfterBytes(2), 2),
-        broken_by(Failing::AfterBytes(3), 3),
-        broken_by(Failing::AfterBytes(4), 4),
-        broken_by(Failing::AfterBytes(5), 5),
-        broken_by(Failing::AfterBytes(6), 6),
-        broken_by(Failing::AfterBytes(7), 7),
-        broken_by(Failing::AfterBytes(8), 8),
         broken_by(Failing::ZeroAfterBytes(0), 0),
         broken_by(Failing::AtWrite(0), 0),
         broken_by(Failing::AtWrite(1), 4),
@@ -566,27 +661,7 @@ fn a_failed_write_says_what_was_taken(rt: HostRuntime) -> Result<(), Fail> {
         ended_before(Failing::AfterBytes(0), 0),
         ended_before(Failing::InFlush, 9),
     ] {
-        let failing = case.failing;
-        let wire = in_one_packet(rt.alloc(), front(&WIRE[8..], case.length))?;
-        let from = ScriptedReader::new(&wire, 1000);
-        let out = run(
-            rt.alloc(),
-            &mut areas,
-            from,
-            ScriptedWriter::new(4, failing),
-        )?;
-        let (taken, waiting) = TEXT.split_at(TEXT.len().min(case.written));
-        let expected = Err(Stopped {
-            fault: case.fault,
-            place: case.place,
-            written: taken.len() as u64,
-            unwritten: waiting.len() as u64,
-        });
-        let what = (case.fault, failing);
-        assert_eq!(rt; out.answer, expected, "{what:?}");
-        assert_eq!(rt; out.text.as_slice(), taken, "{what:?}");
-        assert_eq!(rt; areas.waiting(), waiting, "{what:?}");
-        assert_eq!(rt; (out.write_failures, out.left), (1, 0), "{what:?}");
+        check_broken(rt.alloc(), &mut areas, case)?;
     }
     Ok(())
 }

@@ -5,9 +5,11 @@ ghost use Rattle.tds_packet.specs.Payloads.{IsSound};
 use super::*;
 use crate::rig::{Failing, RepeatingReader, ScriptedReader, ScriptedWriter};
 use std::alloc::{AllocError, Global};
-use std::io::{Read, Write};
+use std::io::Read;
 use std::test::Fail;
 use tds_meter::Area;
+
+mod recuts;
 
 // One packet of 39 bytes.
 const PACKET: [u8; 39] = [
@@ -28,20 +30,42 @@ enum By {
 }
 
 // What came of a payload.
-#[derive(Debug, Drop)]
+#[derive(Debug, Clone, Copy, PartialEq, Eq)]
 struct Outcome {
-    bytes: Vec<u8>,
+    // how many bytes it handed out, the first of the packet's body
+    handed: Option<usize>,
     stop: Option<Stop>,
     place: u64,
     // each call after the stop answered the same stop
     again: bool,
+    failures: u64,
 }
 
-const fn at_wire(fault: Fault, place: u64) -> Option<Stop> {
-    Some(Stop {
+// The first bytes of the packet's body, and then a stop that stays.
+const fn handed_out(handed: usize, stop: Stop, failures: u64) -> Outcome {
+    Outcome {
+        handed: Some(handed),
+        stop: Some(stop),
+        place: handed as u64,
+        again: true,
+        failures,
+    }
+}
+
+const fn at_wire(fault: Fault, place: u64) -> Stop {
+    Stop {
         fault,
         place: Place::Wire(place),
-    })
+    }
+}
+
+// How many bytes there are, if a longer list begins with them.
+fn front_of(bytes: &[u8], longer: &[u8]) -> Option<usize> {
+    if longer.starts_with(bytes) {
+        Some(bytes.len())
+    } else {
+        None
+    }
 }
 
 // The packet's payload in packets of one byte each, with an empty one before each but the first.
@@ -118,11 +142,26 @@ fn read<R: Read>(
         None => false,
     };
     Ok(Outcome {
-        bytes,
+        handed: front_of(&bytes, &PACKET[8..]),
         stop,
         place,
         again,
+        failures: from.failures(),
     })
+}
+
+// What came of a wire, and how many of its bytes were left.
+fn read_wire(
+    alloc: Global,
+    by: By,
+    wire: ScriptedReader<'_>,
+    max_wire: u64,
+) -> Result<(Outcome, usize), Fail>
+    requires { max_wire ≤ 72057594037927936 }
+{
+    let mut from = Counted::new(wire);
+    let out = read(alloc, by, &mut from, max_wire)?;
+    Ok((out, from.device().left().len()))
 }
 
 #[test]
@@ -158,94 +197,214 @@ fn faults_have_numbers(rt: HostRuntime) {
     }
 }
 
+const DELIVERED: &[u8] = b"delivered";
+
+// What came of a delivery and a flush behind it.
+#[derive(Debug, Clone, Copy, PartialEq, Eq)]
+struct Delivery {
+    answer: Result<(), usize>,
+    failures: u64,
+    writes: usize,
+    // how many bytes the writer took, the first of those to be delivered
+    taken: Option<usize>,
+    flushed: bool,
+    failures_then: u64,
+    flushes: usize,
+}
+
+fn deliver(most: usize, failing: Failing) -> Delivery {
+    let mut to = Counted::new(ScriptedWriter::new(most, failing));
+    let answer = to.deliver(DELIVERED);
+    let failures = to.failures();
+    let flushed = to.flush();
+    let failures_then = to.failures();
+    let device = to.device();
+    Delivery {
+        answer,
+        failures,
+        writes: device.writes(),
+        taken: front_of(device.kept(), DELIVERED),
+        flushed,
+        failures_then,
+        flushes: device.flushes(),
+    }
+}
+
+// A delivery of so many writes that takes all, or so many bytes, before a flush that doesn't fail.
+const fn delivered_in(answer: Result<(), usize>, writes: usize) -> Delivery {
+    let (taken, failures) = match answer {
+        Ok(()) => (9, 0),
+        Err(taken) => (taken, 1),
+    };
+    Delivery {
+        answer,
+        failures,
+        writes,
+        taken: Some(taken),
+        flushed: true,
+        failures_then: failures,
+        flushes: 1,
+    }
+}
+
+// All is delivered, in three writes, and the flush fails.
+const fn unflushed() -> Delivery {
+    Delivery {
+        flushed: false,
+        failures_then: 1,
+        ..delivered_in(Ok(()), 3)
+    }
+}
+
 #[test]
 fn bytes_are_delivered(rt: HostRuntime) {
-    let text = b"delivered";
-    for (what, most, failing, answer, failures, writes) in [
-        ("a byte a write", 1, Failing::Never, Ok(()), 0, 9),
-        ("four a write", 4, Failing::Never, Ok(()), 0, 3),
-        ("a late error", 2, Failing::AfterBytes(5), Err(5), 1, 4),
-        ("a late zero", 2, Failing::ZeroAfterBytes(5), Err(5), 1, 4),
-        ("an early error", 4, Failing::AfterBytes(0), Err(0), 1, 1),
-        ("the second write", 4, Failing::AtWrite(1), Err(4), 1, 2),
-        ("the flush", 4, Failing::InFlush, Ok(()), 0, 3),
+    for (what, most, failing, want) in [
+        ("a byte a write", 1, Failing::Never, delivered_in(Ok(()), 9)),
+        ("four a write", 4, Failing::Never, delivered_in(Ok(()), 3)),
+        (
+            "a late error",
+            2,
+            Failing::AfterBytes(5),
+            delivered_in(Err(5), 4),
+        ),
+        (
+            "a late zero",
+            2,
+            Failing::ZeroAfterBytes(5),
+            delivered_in(Err(5), 4),
+        ),
+        (
+            "an early error",
+            4,
+            Failing::AfterBytes(0),
+            delivered_in(Err(0), 1),
+        ),
+        (
+            "the second write",
+            4,
+            Failing::AtWrite(1),
+            delivered_in(Err(4), 2),
+        ),
+        ("the flush", 4, Failing::InFlush, unflushed()),
     ] {
-        let mut to = Counted::new(ScriptedWriter::new(most, failing));
-        assert_eq!(rt; to.deliver(text), answer, "{what}");
-        assert_eq!(rt; to.failures(), failures, "{what}");
-        assert_eq!(rt; to.device().writes(), writes, "{what}");
-        let taken = match answer {
-            Ok(()) => 9,
-            Err(k) => k,
-        };
-        assert_eq!(rt; to.device().taken(), taken, "{what}");
-        assert_eq!(rt; Some(to.device().kept()), text.get(..taken), "{what}");
-        let flushed = failing != Failing::InFlush;
-        assert_eq!(rt; to.flush(), flushed, "{what}");
-        let failures = if flushed { failures } else { 1 };
-        assert_eq!(rt; to.failures(), failures, "{what}: flushed");
-        assert_eq!(rt; to.into_device().flushes(), 1, "{what}");
+        assert_eq!(rt; deliver(most, failing), want, "{what}");
+    }
+}
+
+// What came of the packet's body in packets of one byte each.
+fn read_single_bytes(alloc: Global, by: By, empty: bool, most: usize) -> Result<Outcome, Fail> {
+    let wire = in_single_bytes(alloc, empty)?;
+    let reader = ScriptedReader::new(&wire, most);
+    let (out, _) = read_wire(alloc, by, reader, 72057594037927936)?;
+    Ok(out)
+}
+
+const fn message_ended(place: u64) -> Stop {
+    Stop {
+        fault: Fault::MessageEnded,
+        place: Place::Payload(place),
     }
 }
 
 #[test]
 fn packets_of_one_byte_are_joined(rt: HostRuntime) -> Result<(), Fail> {
-    let alloc = rt.alloc();
-    for (by, length, place) in [(By::Next, 31, 31), (By::Fill, 28, 28), (By::Piece, 31, 31)] {
+    for (by, length) in [(By::Next, 31), (By::Fill, 28), (By::Piece, 31)] {
+        let want = handed_out(length, message_ended(length as u64), 0);
         for (what, empty) in [("alone", false), ("among empty ones", true)] {
             for most in [1, 5, 1000] {
-                let wire = in_single_bytes(alloc, empty)?;
-                let mut from = Counted::new(ScriptedReader::new(&wire, most));
-                let out = read(alloc, by, &mut from, 72057594037927936)?;
-                assert_eq!(rt;
-                    Some(out.bytes.as_slice()),
-                    PACKET[8..].get(..length),
-                    "{by:?} {what}, {most} a read"
-                );
-                let stop = Stop {
-                    fault: Fault::MessageEnded,
-                    place: Place::Payload(place),
-                };
-                assert_eq!(rt; out.stop, Some(stop), "{by:?} {what}, {most} a read");
-                assert_eq!(rt; out.place, place, "{by:?} {what}, {most} a read");
-                assert!(rt; out.again, "{by:?} {what}, {most} a read");
-                assert_eq!(rt; from.failures(), 0, "{by:?} {what}, {most} a read");
+                let out = read_single_bytes(rt.alloc(), by, empty, most)?;
+                assert_eq!(rt; out, want, "{by:?} {what}, {most} a read");
             }
         }
     }
     Ok(())
 }
 
+// The packet with a byte changed, and what comes of it.
+struct Judged {
+    what: &'static str,
+    at: usize,
+    byte: u8,
+    max_wire: u64,
+    handed: usize,
+    stop: (Fault, Place),
+    left: usize,
+}
+
+const JUDGED: [Judged; 6] = [
+    Judged {
+        what: "as long as the limit",
+        at: 0,
+        byte: 0x04,
+        max_wire: 39,
+        handed: 31,
+        stop: (Fault::MessageEnded, Place::Payload(31)),
+        left: 0,
+    },
+    Judged {
+        what: "a byte beyond the limit",
+        at: 0,
+        byte: 0x04,
+        max_wire: 38,
+        handed: 0,
+        stop: (Fault::ResponseTooLong, Place::Wire(0)),
+        left: 31,
+    },
+    Judged {
+        what: "another packet type",
+        at: 0,
+        byte: 0x03,
+        max_wire: 39,
+        handed: 0,
+        stop: (Fault::WrongPacketType(3), Place::Wire(0)),
+        left: 31,
+    },
+    Judged {
+        what: "shorter than its header",
+        at: 3,
+        byte: 0x07,
+        max_wire: 39,
+        handed: 0,
+        stop: (Fault::BadPacketLength(7), Place::Wire(0)),
+        left: 31,
+    },
+    Judged {
+        what: "longer than the packet size",
+        at: 2,
+        byte: 0x02,
+        max_wire: 39,
+        handed: 0,
+        stop: (Fault::BadPacketLength(0x227), Place::Wire(0)),
+        left: 31,
+    },
+    Judged {
+        what: "longer than the input",
+        at: 3,
+        byte: 0x28,
+        max_wire: 40,
+        handed: 0,
+        stop: (Fault::InputEnded, Place::Wire(0)),
+        left: 0,
+    },
+];
+
+// What came of the packet with a byte changed, and how much of it was left.
+fn read_changed(alloc: Global, row: &Judged) -> Result<(Outcome, usize), Fail> {
+    let mut wire = PACKET;
+    if let Some(byte) = wire.get_mut(row.at) {
+        *byte = row.byte;
+    }
+    let max_wire = row.max_wire.min(4096);
+    read_wire(alloc, By::Next, ScriptedReader::new(&wire, 10), max_wire)
+}
+
 #[test]
 fn packets_are_judged(rt: HostRuntime) -> Result<(), Fail> {
-    let alloc = rt.alloc();
-    let ended = Some(Stop {
-        fault: Fault::MessageEnded,
-        place: Place::Payload(31),
-    });
-    let too_long = at_wire(Fault::ResponseTooLong, 0);
-    let wrong_type = at_wire(Fault::WrongPacketType(3), 0);
-    let short = at_wire(Fault::BadPacketLength(7), 0);
-    let large = at_wire(Fault::BadPacketLength(0x227), 0);
-    let cut = at_wire(Fault::InputEnded, 0);
-    for (what, at, byte, max_wire, handed, stop, left) in [
-        ("as long as the limit", 0, 0x04, 39, 31, ended, 0),
-        ("a byte beyond the limit", 0, 0x04, 38, 0, too_long, 31),
-        ("another packet type", 0, 0x03, 39, 0, wrong_type, 31),
-        ("shorter than its header", 3, 0x07, 39, 0, short, 31),
-        ("longer than the packet size", 2, 0x02, 39, 0, large, 31),
-        ("longer than the input", 3, 0x28, 40, 0, cut, 0),
-    ] {
-        let mut wire = PACKET;
-        wire[at] = byte;
-        let mut from = Counted::new(ScriptedReader::new(&wire, 10));
-        let out = read(alloc, By::Next, &mut from, max_wire)?;
-        assert_eq!(rt; out.stop, stop, "{what}");
-        assert_eq!(rt; out.bytes.len(), handed, "{what}");
-        assert_eq!(rt; out.place, handed as u64, "{what}");
-        assert!(rt; out.again, "{what}");
-        assert_eq!(rt; from.device().left().len(), left, "{what}");
-        assert_eq!(rt; from.failures(), 0, "{what}");
+    for row in &JUDGED {
+        let (fault, place) = row.stop;
+        let want = handed_out(row.handed, Stop { fault, place }, 0);
+        let came = read_changed(rt.alloc(), row)?;
+        assert_eq!(rt; came, (want, row.left), "{}", row.what);
     }
     Ok(())
 }
@@ -254,23 +413,41 @@ fn packets_are_judged(rt: HostRuntime) -> Result<(), Fail> {
 fn a_length_above_the_packet_size_is_refused(rt: HostRuntime) -> Result<(), Fail> {
     let mut wire = [0; 513];
     wire[..8].copy_from_slice(&[0x04, 0x01, 0x02, 0x01, 0x00, 0x00, 0x01, 0x00]);
-    let mut from = Counted::new(ScriptedReader::new(&wire, 1000));
-    let out = read(rt.alloc(), By::Piece, &mut from, 1000)?;
-    assert_eq!(rt; out.stop, at_wire(Fault::BadPacketLength(513), 0));
-    assert!(rt; out.again);
+    let (out, _) = read_wire(
+        rt.alloc(),
+        By::Piece,
+        ScriptedReader::new(&wire, 1000),
+        1000,
+    )?;
+    assert_eq!(rt;
+        out,
+        handed_out(0, at_wire(Fault::BadPacketLength(513), 0), 0)
+    );
     Ok(())
 }
 
 #[test]
 fn nothing_of_a_cut_packet_is_handed_out(rt: HostRuntime) -> Result<(), Fail> {
+    let want = handed_out(0, at_wire(Fault::InputEnded, 0), 0);
     for by in [By::Next, By::Fill, By::Piece] {
-        let mut from = Counted::new(ScriptedReader::new(&PACKET[..38], 1000));
-        let out = read(rt.alloc(), by, &mut from, 1000)?;
-        assert_eq!(rt; out.stop, at_wire(Fault::InputEnded, 0), "{by:?}");
-        assert!(rt; out.bytes.is_empty() && out.again, "{by:?}");
-        assert_eq!(rt; from.device().left().len(), 0, "{by:?}");
+        let reader = ScriptedReader::new(&PACKET[..38], 1000);
+        let came = read_wire(rt.alloc(), by, reader, 1000)?;
+        assert_eq!(rt; came, (want, 0), "{by:?}");
     }
     Ok(())
+}
+
+// Fills a slice with the packet's body, and answers what stands there, the end and the place.
+fn fill_body<R: Read>(payload: &mut Payload<'_, R>) -> (Option<usize>, Result<bool, Stop>, u64)
+    requires { IsSound payload.old }
+    ensures { IsSound payload.new }
+{
+    let mut bytes = [0; 31];
+    let handed = match payload.fill(&mut bytes) {
+        Ok(()) => front_of(&bytes, &PACKET[8..]),
+        Err(_) => None,
+    };
+    (handed, payload.at_end(), payload.place())
 }
 
 #[test]
@@ -280,13 +457,33 @@ fn nothing_behind_the_last_packet_is_read(rt: HostRuntime) -> Result<(), Fail> {
     let mut from = Counted::new(ScriptedReader::new(&wire, 1000));
     let mut area = Area::new(rt.alloc(), 512)?;
     let mut payload = Payload::new(&mut from, &mut area, 1000);
-    let mut bytes = [0; 31];
-    assert_eq!(rt; payload.fill(&mut bytes), Ok(()));
-    assert_eq!(rt; bytes.as_slice(), &PACKET[8..]);
-    assert_eq!(rt; payload.at_end(), Ok(true));
-    assert_eq!(rt; payload.place(), 31);
+    let came = fill_body(&mut payload);
+    assert_eq!(rt; came, (Some(31), Ok(true), 31));
     assert_eq!(rt; from.device().left(), [0xFF].as_slice());
     Ok(())
+}
+
+// The length of a piece of at most four bytes, the first of the packet's body.
+fn front_piece<R: Read>(payload: &mut Payload<'_, R>) -> Option<usize>
+    requires { IsSound payload.old }
+    ensures { IsSound payload.new }
+{
+    match payload.piece(4) {
+        Ok(piece) => front_of(piece, &PACKET[8..]),
+        Err(_) => None,
+    }
+}
+
+// How many bytes were ready, the last of the packet's body. They are consumed.
+fn consume_rest<R: Read>(payload: &mut Payload<'_, R>) -> Option<usize>
+    requires { IsSound payload.old }
+    ensures { IsSound payload.new }
+{
+    let ready = payload.buffered();
+    let n = ready.len();
+    let last = PACKET[8..].ends_with(ready);
+    payload.consume(n);
+    if last { Some(n) } else { None }
 }
 
 #[test]
@@ -294,21 +491,14 @@ fn a_piece_lies_at_the_front(rt: HostRuntime) -> Result<(), Fail> {
     let mut from = Counted::new(ScriptedReader::new(&PACKET, 1000));
     let mut area = Area::new(rt.alloc(), 512)?;
     let mut payload = Payload::new(&mut from, &mut area, 1000);
-    assert_eq!(rt; payload.at_end(), Ok(false));
-    let n = match payload.piece(4) {
-        Ok(piece) => {
-            assert!(rt; !piece.is_empty() && piece.len() <= 4);
-            assert!(rt; PACKET[8..].starts_with(piece));
-            piece.len()
-        }
-        Err(_) => 0,
-    };
-    assert_eq!(rt; payload.place(), n as u64);
-    assert_eq!(rt; Some(payload.buffered()), PACKET[8..].get(n..));
-    let more = payload.buffered().len();
-    payload.consume(more);
-    assert_eq!(rt; payload.place(), 31);
-    assert_eq!(rt; payload.at_end(), Ok(true));
+    let before = payload.at_end();
+    let n = front_piece(&mut payload).unwrap_or(0);
+    let place = payload.place();
+    let rest = consume_rest(&mut payload);
+    let after = (payload.place(), payload.at_end());
+    assert!(rt; 1 <= n && n <= 4);
+    assert_eq!(rt; (before, place, rest), (Ok(false), n as u64, Some(31 - n)));
+    assert_eq!(rt; after, (31, Ok(true)));
     Ok(())
 }
 
@@ -323,296 +513,28 @@ fn a_failed_read_stops_behind_whole_packets(rt: HostRuntime) -> Result<(), Fail>
         ("in the header of the twelfth", 100, 11),
         ("behind the last header", 278, 30),
     ] {
-        let mut from = Counted::new(ScriptedReader::failing(&wire, 4, fails_at));
-        let out = read(alloc, By::Next, &mut from, 1000)?;
-        assert_eq!(rt; out.stop, at_wire(Fault::ReadFailed, 9 * whole), "{what}");
-        assert_eq!(rt; out.place, whole, "{what}");
-        assert!(rt; out.again, "{what}");
-        assert_eq!(rt; from.failures(), 1, "{what}");
+        let reader = ScriptedReader::failing(&wire, 4, fails_at);
+        let (out, _) = read_wire(alloc, By::Next, reader, 1000)?;
+        let stop = at_wire(Fault::ReadFailed, 9 * whole as u64);
+        assert_eq!(rt; out, handed_out(whole, stop, 1), "{what}");
     }
     Ok(())
+}
+
+// What came of so many packets with no body and then the packet.
+fn read_behind_empty_ones(alloc: Global, times: u64) -> Result<Outcome, Fail> {
+    let reader = RepeatingReader::new(&EMPTY, &EMPTY, times, &PACKET);
+    read(alloc, By::Next, &mut Counted::new(reader), 4096)
 }
 
 #[test]
 fn empty_packets_end_at_the_limit(rt: HostRuntime) -> Result<(), Fail> {
-    let reader = RepeatingReader::new(&EMPTY, &EMPTY, 1_000_000, &PACKET);
-    let mut from = Counted::new(reader);
-    let out = read(rt.alloc(), By::Next, &mut from, 4096)?;
-    assert_eq!(rt; out.stop, at_wire(Fault::ResponseTooLong, 4096));
-    assert!(rt; out.bytes.is_empty() && out.again);
-    let reader = RepeatingReader::new(&EMPTY, &EMPTY, 40, &PACKET);
-    let mut from = Counted::new(reader);
-    let out = read(rt.alloc(), By::Next, &mut from, 4096)?;
-    assert_eq!(rt; out.bytes.as_slice(), &PACKET[8..]);
-    Ok(())
-}
-
-// So many bytes, no two neighbours alike.
-fn some_bytes(alloc: Global, n: usize) -> Result<Vec<u8>, AllocError> {
-    let mut bytes = Vec::new(alloc);
-    for i in 0..n {
-        bytes.push((i % 251) as u8)?;
-    }
-    Ok(bytes)
-}
-
-// A payload in packets with bodies of so many bytes, numbered from 1 on.
-fn in_packets(alloc: Global, payload: &[u8], most: usize) -> Result<Vec<u8>, AllocError>
-    requires { most ≤ 1000 }
-{
-    let mut wire = Vec::new(alloc);
-    let mut left = payload;
-    let mut id = 1u8;
-    for _ in 0..1000 {
-        let body = &left[..left.len().min(most)];
-        left = &left[body.len()..];
-        let status = if left.is_empty() { 0x01 } else { 0x00 };
-        let length = body.len() + 8;
-        let (high, low) = ((length / 256) as u8, (length % 256) as u8);
-        wire.extend_from_slice(&[0x04, status, high, low, 0x00, 0x00, id, 0x00])?;
-        wire.extend_from_slice(body)?;
-        if left.is_empty() {
-            break;
-        }
-        id = id.wrapping_add(1);
-    }
-    Ok(wire)
-}
-
-// Recuts to packets of so many bytes.
-fn recut_to<R: Read, W: Write>(
-    alloc: Global,
-    size: usize,
-    from: &mut Counted<R>,
-    to: &mut Counted<W>,
-) -> Result<Result<Recut, RecutStop>, Fail>
-    requires { (512 ≤ size) × (size ≤ 32767) }
-{
-    let mut input = Area::new(alloc, 512)?;
-    let mut output = Area::new(alloc, size)?;
-    Ok(recut(from, to, &mut input, &mut output, 1_000_000))
-}
-
-#[test]
-fn small_packets_become_one(rt: HostRuntime) -> Result<(), Fail> {
-    let alloc = rt.alloc();
-    for (name, empty, most, taken) in [
-        ("a byte a read", false, 1, 1000),
-        ("a byte a write", false, 1000, 1),
-        ("empty packets between", true, 1000, 1000),
-    ] {
-        let wire = in_single_bytes(alloc, empty)?;
-        let mut from = Counted::new(ScriptedReader::new(&wire, most));
-        let mut to = Counted::new(ScriptedWriter::new(taken, Failing::Never));
-        let answer = recut_to(alloc, 512, &mut from, &mut to)?;
-        let want = Recut {
-            packets: 1,
-            payload: 31,
-        };
-        assert_eq!(rt; answer, Ok(want), "{name}");
-        assert_eq!(rt; to.device().kept(), PACKET.as_slice(), "{name}");
-        assert_eq!(rt; to.device().flushes(), 1, "{name}");
-    }
-    Ok(())
-}
-
-// A payload cut to a size.
-struct Cut {
-    name: &'static str,
-    payload: usize,
-    size: usize,
-    // the beginning of each packet
-    headers: &'static [[u8; 8]],
-}
-
-const CUTS: [Cut; 6] = [
-    Cut {
-        name: "no byte",
-        payload: 0,
-        size: 512,
-        headers: &[[0x04, 0x01, 0x00, 0x08, 0x00, 0x00, 0x01, 0x00]],
-    },
-    Cut {
-        name: "one full packet",
-        payload: 504,
-        size: 512,
-        headers: &[[0x04, 0x01, 0x02, 0x00, 0x00, 0x00, 0x01, 0x00]],
-    },
-    Cut {
-        name: "one byte more",
-        payload: 505,
-        size: 512,
-        headers: &[
-            [0x04, 0x00, 0x02, 0x00, 0x00, 0x00, 0x01, 0x00],
-            [0x04, 0x01, 0x00, 0x09, 0x00, 0x00, 0x02, 0x00],
-        ],
-    },
-    Cut {
-        name: "two full packets",
-        payload: 1008,
-        size: 512,
-        headers: &[
-            [0x04, 0x00, 0x02, 0x00, 0x00, 0x00, 0x01, 0x00],
-            [0x04, 0x01, 0x02, 0x00, 0x00, 0x00, 0x02, 0x00],
-        ],
-    },
-    Cut {
-        name: "one greater packet",
-        payload: 1008,
-        size: 1100,
-        headers: &[[0x04, 0x01, 0x03, 0xF8, 0x00, 0x00, 0x01, 0x00]],
-    },
-    Cut {
-        name: "the rest in a third packet",
-        payload: 1500,
-        size: 600,
-        headers: &[
-            [0x04, 0x00, 0x02, 0x58, 0x00, 0x00, 0x01, 0x00],
-            [0x04, 0x00, 0x02, 0x58, 0x00, 0x00, 0x02, 0x00],
-            [0x04, 0x01, 0x01, 0x44, 0x00, 0x00, 0x03, 0x00],
-        ],
-    },
-];
-
-#[test]
-fn a_payload_is_cut_to_the_size(rt: HostRuntime) -> Result<(), Fail> {
-    let alloc = rt.alloc();
-    for row in &CUTS {
-        let payload = some_bytes(alloc, row.payload)?;
-        let wire = in_packets(alloc, &payload, 100)?;
-        let mut from = Counted::new(ScriptedReader::new(&wire, 64));
-        let mut to = Counted::new(ScriptedWriter::new(64, Failing::Never));
-        let size = row.size.max(512).min(32767);
-        let answer = recut_to(alloc, size, &mut from, &mut to)?;
-        let want = Recut {
-            packets: row.headers.len() as u64,
-            payload: row.payload as u64,
-        };
-        assert_eq!(rt; answer, Ok(want), "{}", row.name);
-        let mut written = Vec::new(alloc);
-        let mut left = payload.as_slice();
-        for header in row.headers {
-            let body = left.len().min(size - 8);
-            written.extend_from_slice(header)?;
-            written.extend_from_slice(&left[..body])?;
-            left = &left[body..];
-        }
-        assert_eq!(rt; to.device().kept(), written.as_slice(), "{}", row.name);
-        assert_eq!(rt; from.device().left().len(), 0, "{}", row.name);
-    }
-    Ok(())
-}
-
-#[test]
-fn packet_ids_go_on_with_0_behind_255(rt: HostRuntime) -> Result<(), Fail> {
-    let alloc = rt.alloc();
-    let mut full = [7u8; 512];
-    full[..8].copy_from_slice(&[0x04, 0x00, 0x02, 0x00, 0x00, 0x00, 0x01, 0x00]);
-    let mut from = Counted::new(RepeatingReader::new(&[], &full, 257, &PACKET));
-    let mut to = Counted::new(Vec::new(alloc));
-    let answer = recut_to(alloc, 512, &mut from, &mut to)?;
-    let want = Recut {
-        packets: 258,
-        payload: 257 * 504 + 31,
-    };
-    assert_eq!(rt; answer, Ok(want));
-    for (number, id) in [
-        (0, 1),
-        (1, 2),
-        (253, 254),
-        (254, 255),
-        (255, 0),
-        (256, 1),
-        (257, 2),
-    ] {
-        assert_eq!(rt; to.device().get(number * 512 + 6), Some(&id), "{number}");
-    }
-    Ok(())
-}
-
-#[test]
-fn whole_packets_stand_where_the_input_stops(rt: HostRuntime) -> Result<(), Fail> {
-    let alloc = rt.alloc();
-    let payload = some_bytes(alloc, 1111)?;
-    let wire = in_packets(alloc, &payload, 101)?;
-    let written = in_packets(alloc, &payload, 504)?;
-    for cut in 0..1199 {
-        for failing in [Failing::Never, Failing::InFlush] {
-            for fault in [Fault::InputEnded, Fault::ReadFailed] {
-                let reader = match fault {
-                    Fault::ReadFailed => ScriptedReader::failing(&wire, 1000, cut),
-                    _ => ScriptedReader::new(wire.get(..cut).unwrap_or(&[]), 1000),
-                };
-                let mut from = Counted::new(reader);
-                let mut to = Counted::new(ScriptedWriter::new(1000, failing));
-                let answer = recut_to(alloc, 512, &mut from, &mut to)?;
-                let whole = cut / 109;
-                // one packet where 505 bytes of the payload were read, and two where 1,010 were
-                let stands = if whole >= 10 {
-                    1024
-                } else if whole >= 5 {
-                    512
-                } else {
-                    0
-                };
-                let stop = RecutStop {
-                    stop: Stop {
-                        fault,
-                        place: Place::Wire(whole as u64 * 109),
-                    },
-                    written: stands as u64,
-                    unwritten: 0,
-                };
-                assert_eq!(rt; answer, Err(stop), "{cut}, {failing:?}");
-                assert_eq!(rt; Some(to.device().kept()), written.get(..stands), "{cut}");
-                assert_eq!(rt; to.device().flushes(), 1, "{cut}");
-            }
-        }
-    }
-    Ok(())
-}
-
-#[test]
-fn a_failed_write_leaves_a_beginning(rt: HostRuntime) -> Result<(), Fail> {
-    let alloc = rt.alloc();
-    let payload = some_bytes(alloc, 505)?;
-    let wire = in_packets(alloc, &payload, 101)?;
-    let written = in_packets(alloc, &payload, 504)?;
-    for taken in 0..521 {
-        for failing in [Failing::AfterBytes(taken), Failing::ZeroAfterBytes(taken)] {
-            let mut from = Counted::new(ScriptedReader::new(&wire, 1000));
-            let mut to = Counted::new(ScriptedWriter::new(100, failing));
-            let answer = recut_to(alloc, 512, &mut from, &mut to)?;
-            let end = if taken < 512 { 512 } else { 521 };
-            let stop = RecutStop {
-                stop: Stop {
-                    fault: Fault::WriteFailed,
-                    place: Place::Text(taken as u64),
-                },
-                written: taken as u64,
-                unwritten: (end - taken) as u64,
-            };
-            assert_eq!(rt; answer, Err(stop), "{failing:?}");
-            assert_eq!(rt;
-                Some(to.device().kept()),
-                written.get(..taken),
-                "{failing:?}"
-            );
-            assert_eq!(rt; to.device().flushes(), 0, "{failing:?}");
-        }
-    }
-    let mut from = Counted::new(ScriptedReader::new(&wire, 1000));
-    let mut to = Counted::new(ScriptedWriter::new(1000, Failing::InFlush));
-    let answer = recut_to(alloc, 512, &mut from, &mut to)?;
-    let stop = RecutStop {
-        stop: Stop {
-            fault: Fault::WriteFailed,
-            place: Place::Text(521),
-        },
-        written: 521,
-        unwritten: 0,
-    };
-    assert_eq!(rt; answer, Err(stop));
-    assert_eq!(rt; to.device().kept(), written.as_slice());
+    let out = read_behind_empty_ones(rt.alloc(), 1_000_000)?;
+    assert_eq!(rt;
+        out,
+        handed_out(0, at_wire(Fault::ResponseTooLong, 4096), 0)
+    );
+    let out = read_behind_empty_ones(rt.alloc(), 40)?;
+    assert_eq!(rt; out, handed_out(31, message_ended(31), 0));
     Ok(())
 }

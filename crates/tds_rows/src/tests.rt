@@ -66,11 +66,13 @@ const MONEY_ROW: &[u8] = &[
 
 const FILLER: [u8; 4095] = [b'x'; 4095];
 
-// What a row came to, and how many bytes behind the description were handed out.
-#[derive(Debug, Drop)]
+// What a row came to.
+#[derive(Debug, Clone, Copy, PartialEq, Eq)]
 struct Outcome {
     answer: Result<(), Stop>,
-    text: Vec<u8>,
+    // how many bytes the writer took, the last of which are those that are wanted
+    text: Option<usize>,
+    // how many bytes behind the description were handed out
     place: u64,
 }
 
@@ -116,23 +118,33 @@ fn describe<R: Read>(payload: &mut Payload<R>, area: &mut Area) -> bool
     }
 }
 
+// How many bytes there are, if they end with others.
+fn length_behind(bytes: &[u8], end: &[u8]) -> Option<usize> {
+    if bytes.ends_with(end) {
+        Some(bytes.len())
+    } else {
+        None
+    }
+}
+
 // Reads a row in packets of so many bytes of the payload, into a sink where so many bytes wait.
 fn run(
-    rt: &HostRuntime,
+    alloc: Global,
     columns: &[&[u8]],
     bytes: &[u8],
     size: usize,
     waiting: usize,
     to: ScriptedWriter,
+    wanted: &[u8],
 ) -> Result<Outcome, Fail> {
-    let payload = payload_of(rt.alloc(), columns, bytes)?;
+    let payload = payload_of(alloc, columns, bytes)?;
     let start = (payload.len() - bytes.len().min(payload.len())) as u64;
-    let wire = in_packets(rt.alloc(), &payload, size)?;
+    let wire = in_packets(alloc, &payload, size)?;
     let mut from = Counted::new(ScriptedReader::new(&wire, 5));
     let mut to = Counted::new(to);
-    let mut packet = Area::new(rt.alloc(), 4096)?;
-    let mut output = Area::new(rt.alloc(), 4096)?;
-    let mut description = Area::new(rt.alloc(), 4096)?;
+    let mut packet = Area::new(alloc, 4096)?;
+    let mut output = Area::new(alloc, 4096)?;
+    let mut description = Area::new(alloc, 4096)?;
     let mut payload = Payload::new(&mut from, &mut packet, 1_000_000);
     let mut sink = Sink::new(&mut to, &mut output);
     if !describe(&mut payload, &mut description) {
@@ -145,7 +157,7 @@ fn run(
     let _ = sink.finish();
     Ok(Outcome {
         answer,
-        text: to.device().kept().to_vec(rt.alloc())?,
+        text: length_behind(to.device().kept(), wanted),
         place,
     })
 }
@@ -276,19 +288,22 @@ const GOOD_ROWS: [Good; 17] = [
     },
 ];
 
+fn write_good(alloc: Global, case: &Good, size: usize) -> Result<Outcome, Fail> {
+    let to = usual_writer();
+    run(alloc, case.columns, case.bytes, size, 0, to, case.text)
+}
+
 #[test]
 fn rows_are_written(rt: HostRuntime) -> Result<(), Fail> {
     for case in &GOOD_ROWS {
-        let what = case.what;
+        let want = Outcome {
+            answer: Ok(()),
+            text: Some(case.text.len()),
+            place: case.bytes.len() as u64,
+        };
         for size in [1, 3, 4000] {
-            let out = run(&rt, case.columns, case.bytes, size, 0, usual_writer())?;
-            assert_eq!(rt; out.answer, Ok(()), "{what}, {size} a packet");
-            assert_eq!(rt; out.text.as_slice(), case.text, "{what}, {size} a packet");
-            assert_eq!(rt;
-                out.place,
-                case.bytes.len() as u64,
-                "{what}, {size} a packet"
-            );
+            let out = write_good(rt.alloc(), case, size)?;
+            assert_eq!(rt; out, want, "{}, {size} a packet", case.what);
         }
     }
     Ok(())
@@ -411,35 +426,46 @@ const BAD_ROWS: [Bad; 13] = [
     },
 ];
 
+fn write_bad(alloc: Global, case: &Bad, size: usize) -> Result<Outcome, Fail> {
+    let to = usual_writer();
+    run(alloc, case.columns, case.bytes, size, 0, to, case.text)
+}
+
 #[test]
 fn rows_are_refused(rt: HostRuntime) -> Result<(), Fail> {
     for case in &BAD_ROWS {
-        let what = case.what;
         let stop = Stop {
             fault: case.fault,
             place: Place::Payload(described(case.columns).saturating_add(case.at)),
         };
+        let want = (Err(stop), Some(case.text.len()));
         for size in [1, 4000] {
-            let out = run(&rt, case.columns, case.bytes, size, 0, usual_writer())?;
-            assert_eq!(rt; out.answer, Err(stop), "{what}, {size} a packet");
-            assert_eq!(rt; out.text.as_slice(), case.text, "{what}, {size} a packet");
+            let out = write_bad(rt.alloc(), case, size)?;
+            let came = (out.answer, out.text);
+            assert_eq!(rt; came, want, "{}, {size} a packet", case.what);
         }
     }
     Ok(())
+}
+
+// Three kinds behind so many bytes that wait.
+fn write_behind(
+    alloc: Global,
+    waiting: usize,
+    to: ScriptedWriter,
+    wanted: &[u8],
+) -> Result<(Result<(), Stop>, Option<usize>), Fail> {
+    let out = run(alloc, MIXED, MIXED_ROW, 4000, waiting, to, wanted)?;
+    Ok((out.answer, out.text))
 }
 
 // The line lies across the end of a block, or behind it.
 #[test]
 fn a_line_lies_across_a_block(rt: HostRuntime) -> Result<(), Fail> {
     for waiting in 4060..=4095 {
-        let out = run(&rt, MIXED, MIXED_ROW, 4000, waiting, usual_writer())?;
-        assert_eq!(rt; out.answer, Ok(()), "{waiting} bytes wait");
-        assert_eq!(rt;
-            out.text.len(),
-            waiting + MIXED_TEXT.len(),
-            "{waiting} bytes wait"
-        );
-        assert!(rt; out.text.ends_with(MIXED_TEXT), "{waiting} bytes wait");
+        let came = write_behind(rt.alloc(), waiting, usual_writer(), MIXED_TEXT)?;
+        let want = (Ok(()), Some(waiting + MIXED_TEXT.len()));
+        assert_eq!(rt; came, want, "{waiting} bytes wait");
     }
     Ok(())
 }
@@ -453,9 +479,8 @@ fn a_write_fails(rt: HostRuntime) -> Result<(), Fail> {
     };
     for waiting in 4076..=4095 {
         let to = ScriptedWriter::new(1000, Failing::AfterBytes(4000));
-        let out = run(&rt, MIXED, MIXED_ROW, 4000, waiting, to)?;
-        assert_eq!(rt; out.answer, Err(stop), "{waiting} bytes wait");
-        assert_eq!(rt; out.text.len(), 4000, "{waiting} bytes wait");
+        let came = write_behind(rt.alloc(), waiting, to, b"")?;
+        assert_eq!(rt; came, (Err(stop), Some(4000)), "{waiting} bytes wait");
     }
     Ok(())
 }

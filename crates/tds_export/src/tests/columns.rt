@@ -1,4 +1,5 @@
 // Responses of several columns, and of kinds whose values have a length before them.
+use super::cuts::{CutPayload, check_cut};
 use super::*;
 use tds_packet::RefusedKind;
 
@@ -128,78 +129,94 @@ const SETS: [Set; 10] = [
 ];
 
 // The devices give and take few bytes a call.
-#[test]
-fn sets_are_written(rt: HostRuntime) -> Result<(), Fail> {
-    let mut areas = make_usual_areas(rt.alloc())?;
-    for set in &SETS {
-        let what = set.what;
-        let mut head = ONE.to_vec(rt.alloc())?;
-        head[1] = set.columns;
-        let wire = response_of(rt.alloc(), &[&head, set.described, set.rows])?;
-        for most in [1, 5, 1000] {
-            let from = ScriptedReader::new(&wire, most);
-            let to = ScriptedWriter::new(most, Failing::Never);
-            let out = run(rt.alloc(), &mut areas, from, to)?;
-            let expected = Ok(report(1, set.count, set.text.len() as u64));
-            assert_eq!(rt; out.answer, expected, "{what}");
-            assert_eq!(rt; out.text.as_slice(), set.text, "{what}");
-        }
+fn check_set(alloc: Global, areas: &mut Areas, set: &Set) -> Result<(), Fail> {
+    let head = [0x81, set.columns, 0, 0, 0, 0, 0, 0, 0];
+    let wire = response_of(alloc, &[&head, set.described, set.rows])?;
+    let answer = Ok(report(1, set.count, set.text.len() as u64));
+    let want = came_to(answer, set.text);
+    for most in [1, 5, 1000] {
+        let out = read(areas, &wire, most, set.text);
+        same(set.what, &out, &Some(want))?;
     }
     Ok(())
 }
 
-// Nine columns of numbers with empty names, and a row without a value.
 #[test]
-fn nine_columns_are_written(rt: HostRuntime) -> Result<(), Fail> {
+fn sets_are_written(rt: HostRuntime) -> Result<(), Fail> {
     let mut areas = make_usual_areas(rt.alloc())?;
-    let mut payload = Vec::new(rt.alloc());
+    for set in &SETS {
+        check_set(rt.alloc(), &mut areas, set)?;
+    }
+    Ok(())
+}
+
+// Nine columns of a type that has so many bytes, with empty names.
+fn nine_columns(alloc: Global, described: &[u8]) -> Result<Vec<u8>, AllocError> {
+    let mut payload = Vec::new(alloc);
     payload.extend_from_slice(&[0x81, 9, 0])?;
     for _ in 0..9 {
-        payload.extend_from_slice(&[0, 0, 0, 0, 0, 0, 0x26, 4, 0])?;
+        payload.extend_from_slice(&[0, 0, 0, 0, 0, 0])?;
+        payload.extend_from_slice(described)?;
     }
-    payload.extend_from_slice(&[0xD1, 0, 0, 0, 0, 0, 0, 0, 0, 0])?;
-    let wire = response_of(rt.alloc(), &[&payload])?;
-    let out = read(rt.alloc(), &mut areas, ScriptedReader::new(&wire, 1000))?;
+    Ok(payload)
+}
+
+// A row without a value.
+#[test]
+fn nine_columns_are_written(rt: HostRuntime) -> Result<(), Fail> {
+    let columns = nine_columns(rt.alloc(), &[0x26, 4, 0])?;
+    let row = [0xD1, 0, 0, 0, 0, 0, 0, 0, 0, 0];
+    let wire = response_of(rt.alloc(), &[&columns, &row])?;
     let text: &[u8] =
         b"\"\",\"\",\"\",\"\",\"\",\"\",\"\",\"\",\"\"\r\nNULL,NULL,NULL,NULL,NULL,NULL,NULL,NULL,NULL\r\n";
-    assert_eq!(rt; out.answer, Ok(report(1, 1, 74)));
-    assert_eq!(rt; out.text.as_slice(), text);
+    let out = read_within(rt.alloc(), &wire, COLUMN_ROOM, MAX_WIRE, text)?;
+    assert_eq!(rt; out, Some(came_to(Ok(report(1, 1, 74)), text)));
     Ok(())
+}
+
+// Columns that stand in a room, or stop behind so many bytes.
+fn check_room(
+    alloc: Global,
+    what: &str,
+    columns: &[u8],
+    room: u32,
+    text: &[u8],
+    stop: Option<u64>,
+) -> Result<(), Fail> {
+    let wire = response_of(alloc, &[columns])?;
+    let answer = match stop {
+        None => Ok(report(1, 0, text.len() as u64)),
+        Some(place) => stopped(Fault::DescriptionTooLong, Place::Payload(place), text),
+    };
+    let out = read_within(alloc, &wire, room, MAX_WIRE, text)?;
+    same(what, &out, &Some(came_to(answer, text)))
 }
 
 // Nine columns of type byte 38 with empty names have 74 bytes, and two with names of one unit 22.
 #[test]
 fn descriptions_keep_the_room(rt: HostRuntime) -> Result<(), Fail> {
-    let mut nine = Vec::new(rt.alloc());
-    nine.extend_from_slice(&[0x81, 9, 0])?;
-    for _ in 0..9 {
-        nine.extend_from_slice(&[0, 0, 0, 0, 0, 0, 0x38, 0])?;
-    }
+    let nine = nine_columns(rt.alloc(), &[0x38, 0])?;
     let none: &[u8] = b"\"\",\"\",\"\",\"\",\"\",\"\",\"\",\"\",\"\"\r\n";
     let two: &[u8] = b"\"a\",\"b\"\r\n";
-    let too_long = Fault::DescriptionTooLong;
-    for (what, payload, room, text, stop) in [
-        ("room for nine", nine.as_slice(), 74, none, None),
-        ("too little for nine", nine.as_slice(), 73, NOTHING, Some(1)),
-        ("room for two", TWO, 22, two, None),
-        ("too little for a name", TWO, 21, NOTHING, Some(20)),
-        ("too little for two", TWO, 17, NOTHING, Some(1)),
-    ] {
-        let mut areas = make_areas(rt.alloc(), PACKET_SIZE, room, MAX_WIRE)?;
-        let wire = response_of(rt.alloc(), &[payload])?;
-        let out = read(rt.alloc(), &mut areas, ScriptedReader::new(&wire, 1000))?;
-        let expected = match stop {
-            None => Ok(report(1, 0, text.len() as u64)),
-            Some(place) => stopped(too_long, Place::Payload(place), text),
-        };
-        assert_eq!(rt; out.answer, expected, "{what}");
-        assert_eq!(rt; out.text.as_slice(), text, "{what}");
-    }
-    Ok(())
-}
-
-const fn bad_type(index: u16) -> Fault {
-    Fault::BadTypeInfo { index }
+    check_room(rt.alloc(), "room for nine", &nine, 74, none, None)?;
+    check_room(
+        rt.alloc(),
+        "too little for nine",
+        &nine,
+        73,
+        NOTHING,
+        Some(1),
+    )?;
+    check_room(rt.alloc(), "room for two", TWO, 22, two, None)?;
+    check_room(
+        rt.alloc(),
+        "too little for a name",
+        TWO,
+        21,
+        NOTHING,
+        Some(20),
+    )?;
+    check_room(rt.alloc(), "too little for two", TWO, 17, NOTHING, Some(1))
 }
 
 const FLT8: Fault = Fault::RefusedColumn {
@@ -208,93 +225,165 @@ const FLT8: Fault = Fault::RefusedColumn {
 };
 
 // What follows the Count, with the fault that stands there and the text before it.
+struct Judged {
+    what: &'static str,
+    rest: &'static [u8],
+    fault: Fault,
+    place: u64,
+    text: &'static [u8],
+}
+
+const HEADER_D: &[u8] = b"\"d\"\r\n";
+
+const JUDGED: [Judged; 9] = [
+    Judged {
+        what: "a number of 3 bytes",
+        rest: &[0x26, 0x03],
+        fault: Fault::BadTypeInfo { index: 0 },
+        place: 10,
+        text: NOTHING,
+    },
+    Judged {
+        what: "a scale above the precision",
+        rest: &[0x6A, 0x05, 0x05, 0x06],
+        fault: Fault::BadTypeInfo { index: 0 },
+        place: 10,
+        text: NOTHING,
+    },
+    Judged {
+        what: "a bit of 2 bytes",
+        rest: &[0x68, 0x02],
+        fault: Fault::BadTypeInfo { index: 0 },
+        place: 10,
+        text: NOTHING,
+    },
+    Judged {
+        what: "a time of scale 8",
+        rest: &[0x29, 0x08],
+        fault: Fault::BadTypeInfo { index: 0 },
+        place: 10,
+        text: NOTHING,
+    },
+    Judged {
+        what: "BIGBINARY of unlimited length",
+        rest: &[0xAD, 0xFF, 0xFF],
+        fault: Fault::BadTypeInfo { index: 0 },
+        place: 10,
+        text: NOTHING,
+    },
+    Judged {
+        what: "a day behind the last date",
+        rest: &[0x28, 1, 0x64, 0, 0xD1, 3, 0xDB, 0xB9, 0x37],
+        fault: Fault::BadValue { column: 0 },
+        place: 15,
+        text: HEADER_D,
+    },
+    Judged {
+        what: "a date of 4 bytes",
+        rest: &[0x28, 1, 0x64, 0, 0xD1, 4, 0],
+        fault: Fault::BadValueLength { column: 0 },
+        place: 14,
+        text: HEADER_D,
+    },
+    Judged {
+        what: "a moment a minute west of Greenwich before the first day",
+        rest: &[0x2B, 0, 1, 0x64, 0, 0xD1, 8, 0, 0, 0, 0, 0, 0, 0xFF, 0xFF],
+        fault: Fault::BadValue { column: 0 },
+        place: 16,
+        text: HEADER_D,
+    },
+    Judged {
+        what: "a time behind the last of a day",
+        rest: &[0x29, 7, 1, 0x64, 0, 0xD1, 5, 0x00, 0xC0, 0x69, 0x2A, 0xC9],
+        fault: Fault::BadValue { column: 0 },
+        place: 16,
+        text: HEADER_D,
+    },
+];
+
+// Pieces of a payload, and a DONE behind them, that stop the export at a place of the payload.
+fn check_stopped(
+    alloc: Global,
+    areas: &mut Areas,
+    what: &str,
+    pieces: &[&[u8]],
+    fault: Fault,
+    place: u64,
+    text: &[u8],
+) -> Result<(), Fail> {
+    let wire = response_of(alloc, pieces)?;
+    let out = read(areas, &wire, 1000, text);
+    let answer = stopped(fault, Place::Payload(place), text);
+    same(what, &out, &Some(came_to(answer, text)))
+}
+
 #[test]
 fn columns_are_judged(rt: HostRuntime) -> Result<(), Fail> {
     let mut areas = make_usual_areas(rt.alloc())?;
-    let header: &[u8] = b"\"d\"\r\n";
-    let value = Fault::BadValue { column: 0 };
-    let length = Fault::BadValueLength { column: 0 };
-    for (what, rest, fault, place, text) in [
-        (
-            "a number of 3 bytes",
-            &[0x26u8, 0x03] as &[u8],
-            bad_type(0),
-            10,
-            NOTHING,
-        ),
-        (
-            "a scale above the precision",
-            &[0x6A, 0x05, 0x05, 0x06],
-            bad_type(0),
-            10,
-            NOTHING,
-        ),
-        ("a bit of 2 bytes", &[0x68, 0x02], bad_type(0), 10, NOTHING),
-        ("a time of scale 8", &[0x29, 0x08], bad_type(0), 10, NOTHING),
-        (
-            "BIGBINARY of unlimited length",
-            &[0xAD, 0xFF, 0xFF],
-            bad_type(0),
-            10,
-            NOTHING,
-        ),
-        (
-            "a day behind the last date",
-            &[0x28, 1, 0x64, 0, 0xD1, 3, 0xDB, 0xB9, 0x37],
-            value,
-            15,
-            header,
-        ),
-        (
-            "a date of 4 bytes",
-            &[0x28, 1, 0x64, 0, 0xD1, 4, 0],
-            length,
-            14,
-            header,
-        ),
-        (
-            "a moment a minute west of Greenwich before the first day",
-            &[0x2B, 0, 1, 0x64, 0, 0xD1, 8, 0, 0, 0, 0, 0, 0, 0xFF, 0xFF],
-            value,
-            16,
-            header,
-        ),
-        (
-            "a time behind the last of a day",
-            &[0x29, 7, 1, 0x64, 0, 0xD1, 5, 0x00, 0xC0, 0x69, 0x2A, 0xC9],
-            value,
-            16,
-            header,
-        ),
-    ] {
-        let wire = response_of(rt.alloc(), &[ONE, rest])?;
-        let out = read(rt.alloc(), &mut areas, ScriptedReader::new(&wire, 1000))?;
-        let expected = stopped(fault, Place::Payload(place), text);
-        assert_eq!(rt; out.answer, expected, "{what}");
-        assert_eq!(rt; out.text.as_slice(), text, "{what}");
+    for row in &JUDGED {
+        let (pieces, areas) = ([ONE, row.rest], &mut areas);
+        check_stopped(
+            rt.alloc(),
+            areas,
+            row.what,
+            &pieces,
+            row.fault,
+            row.place,
+            row.text,
+        )?;
     }
-    let mut payload = TWO.to_vec(rt.alloc())?;
-    payload[19] = 0x3E;
-    let wire = response_of(rt.alloc(), &[&payload])?;
-    let out = read(rt.alloc(), &mut areas, ScriptedReader::new(&wire, 1000))?;
-    assert_eq!(rt; out.answer, stopped(FLT8, Place::Payload(13), NOTHING));
-    assert!(rt; out.text.is_empty());
     Ok(())
+}
+
+// Two columns, named a and b, of which the second has another type byte.
+const fn two_with(type_byte: u8) -> [u8; 23] {
+    [
+        0x81, 2, 0, 0, 0, 0, 0, 0, 0, 0x38, 1, 0x61, 0, 0, 0, 0, 0, 0, 0, type_byte, 1, 0x62, 0,
+    ]
+}
+
+#[test]
+fn a_second_column_is_judged(rt: HostRuntime) -> Result<(), Fail> {
+    let mut areas = make_usual_areas(rt.alloc())?;
+    let two = two_with(0x3E);
+    check_stopped(rt.alloc(), &mut areas, "FLT8", &[&two], FLT8, 13, NOTHING)
 }
 
 // The second value of a row stops it: what stands before it is written.
 #[test]
 fn a_row_stops_behind_its_whole_fields(rt: HostRuntime) -> Result<(), Fail> {
     let mut areas = make_usual_areas(rt.alloc())?;
-    let mut two = TWO.to_vec(rt.alloc())?;
-    two[19] = 0x3A;
-    let wire = response_of(rt.alloc(), &[&two, &[0xD1, 7, 0, 0, 0, 0, 0, 0xA0, 0x05]])?;
-    let out = read(rt.alloc(), &mut areas, ScriptedReader::new(&wire, 1000))?;
-    let text: &[u8] = b"\"a\",\"b\"\r\n7";
+    let two = two_with(0x3A);
+    let row = [0xD1, 7, 0, 0, 0, 0, 0, 0xA0, 0x05];
     let fault = Fault::BadValue { column: 1 };
-    assert_eq!(rt; out.answer, stopped(fault, Place::Payload(28), text));
-    assert_eq!(rt; out.text.as_slice(), text);
-    Ok(())
+    let text: &[u8] = b"\"a\",\"b\"\r\n7";
+    let areas = &mut areas;
+    check_stopped(
+        rt.alloc(),
+        areas,
+        "a minute too many",
+        &[&two, &row],
+        fault,
+        28,
+        text,
+    )
+}
+
+// A column of a long kind, of so many bytes, and a row of it.
+fn check_long(
+    alloc: Global,
+    areas: &mut Areas,
+    what: &str,
+    type_byte: u8,
+    length: [u8; 2],
+) -> Result<(), Fail> {
+    let [low, high] = length;
+    let column = [type_byte, low, high, 9, 4, 0xD0, 0, 0x34, 1, 0x74, 0];
+    let row = [0xD1, 4, 0, 0, 0, 0, 0, 0, 0];
+    let pieces = [ONE, &column, &row];
+    check_stopped(alloc, areas, what, &pieces, Fault::NotYet, 21, b"\"t\"\r\n")?;
+    let (held, peak) = (areas.description_held(), areas.description_peak());
+    same(what, &(held, peak), &(19, 19))
 }
 
 // Values of long kinds aren't read yet. Their descriptions of 19 bytes are.
@@ -302,118 +391,129 @@ fn a_row_stops_behind_its_whole_fields(rt: HostRuntime) -> Result<(), Fail> {
 fn long_values_are_not_built(rt: HostRuntime) -> Result<(), Fail> {
     let mut areas = make_usual_areas(rt.alloc())?;
     for (what, type_byte, length) in [
-        ("nvarchar(max)", 0xE7, 0xFF),
-        ("varchar(max)", 0xA7, 0xFF),
-        ("nvarchar(10)", 0xE7, 0x14),
-        ("varchar(10)", 0xA7, 0x0A),
+        ("nvarchar(max)", 0xE7, [0xFF, 0xFF]),
+        ("varchar(max)", 0xA7, [0xFF, 0xFF]),
+        ("nvarchar(10)", 0xE7, [0x14, 0]),
+        ("varchar(10)", 0xA7, [0x0A, 0]),
     ] {
-        let high = if length == 0xFF { 0xFF } else { 0 };
-        let column = [type_byte, length, high, 9, 4, 0xD0, 0, 0x34, 1, 0x74, 0];
-        let row = [0xD1, 4, 0, 0, 0, 0, 0, 0, 0];
-        let wire = response_of(rt.alloc(), &[ONE, &column, &row])?;
-        let out = read(rt.alloc(), &mut areas, ScriptedReader::new(&wire, 1000))?;
-        let text: &[u8] = b"\"t\"\r\n";
-        let expected = stopped(Fault::NotYet, Place::Payload(21), text);
-        assert_eq!(rt; out.answer, expected, "{what}");
-        assert_eq!(rt; out.text.as_slice(), text, "{what}");
-        assert_eq!(rt; areas.description_held(), 19, "{what}");
-        assert_eq!(rt; areas.description_peak(), 19, "{what}");
+        check_long(rt.alloc(), &mut areas, what, type_byte, length)?;
     }
     Ok(())
 }
 
-// Two sets, and a row behind a COLMETADATA without metadata.
+const NO_COLUMNS: &[u8] = &[0x81, 0xFF, 0xFF];
+
+const TWO_VALUES: &[u8] = &[0xD1, 1, 0, 0, 0, 2, 0, 0, 0];
+
+// A COLMETADATA without metadata stands between two sets.
 #[test]
 fn no_metadata_ends_a_set(rt: HostRuntime) -> Result<(), Fail> {
-    let mut areas = make_usual_areas(rt.alloc())?;
-    let none: &[u8] = &[0x81, 0xFF, 0xFF];
-    let row: &[u8] = &[0xD1, 1, 0, 0, 0, 2, 0, 0, 0];
-    let wire = response_of(rt.alloc(), &[TWO, row, none, TWO, row])?;
-    let out = read(rt.alloc(), &mut areas, ScriptedReader::new(&wire, 1000))?;
+    let pieces = [TWO, TWO_VALUES, NO_COLUMNS, TWO, TWO_VALUES];
+    let wire = response_of(rt.alloc(), &pieces)?;
     let text: &[u8] = b"\"a\",\"b\"\r\n1,2\r\n\r\n\"a\",\"b\"\r\n1,2\r\n";
-    assert_eq!(rt; out.answer, Ok(report(2, 2, text.len() as u64)));
-    assert_eq!(rt; out.text.as_slice(), text);
-    let wire = response_of(rt.alloc(), &[TWO, none, row])?;
-    let out = read(rt.alloc(), &mut areas, ScriptedReader::new(&wire, 1000))?;
+    let out = read_within(rt.alloc(), &wire, COLUMN_ROOM, MAX_WIRE, text)?;
+    assert_eq!(rt;
+        out,
+        Some(came_to(Ok(report(2, 2, text.len() as u64)), text))
+    );
+    Ok(())
+}
+
+// A row stands behind a COLMETADATA without metadata.
+#[test]
+fn no_row_has_no_metadata(rt: HostRuntime) -> Result<(), Fail> {
+    let mut areas = make_usual_areas(rt.alloc())?;
+    let fault = Fault::RowWithoutColumns;
+    let pieces = [TWO, NO_COLUMNS, TWO_VALUES];
     let text: &[u8] = b"\"a\",\"b\"\r\n";
-    let expected = stopped(Fault::RowWithoutColumns, Place::Payload(26), text);
-    assert_eq!(rt; out.answer, expected);
+    check_stopped(rt.alloc(), &mut areas, "a row", &pieces, fault, 26, text)?;
     assert_eq!(rt; areas.description_held(), 0);
     Ok(())
 }
+
+const NAMES: &[u8] = b"\"a\",\"b\"\r\n";
+
+const CUT_DESCRIPTIONS: [CutPayload; 9] = [
+    CutPayload {
+        what: "before the first token",
+        least: 0,
+        most: 0,
+        fault: Fault::EndWithoutDone,
+        place: 0,
+        text: NOTHING,
+    },
+    CutPayload {
+        what: "in Count",
+        least: 1,
+        most: 2,
+        fault: Fault::MessageEnded,
+        place: 1,
+        text: NOTHING,
+    },
+    CutPayload {
+        what: "in the first head",
+        least: 3,
+        most: 9,
+        fault: Fault::MessageEnded,
+        place: 3,
+        text: NOTHING,
+    },
+    CutPayload {
+        what: "before the first name's length",
+        least: 10,
+        most: 10,
+        fault: Fault::MessageEnded,
+        place: 10,
+        text: NOTHING,
+    },
+    CutPayload {
+        what: "in the first name",
+        least: 11,
+        most: 12,
+        fault: Fault::MessageEnded,
+        place: 11,
+        text: NOTHING,
+    },
+    CutPayload {
+        what: "in the second head",
+        least: 13,
+        most: 19,
+        fault: Fault::MessageEnded,
+        place: 13,
+        text: NOTHING,
+    },
+    CutPayload {
+        what: "before the second name's length",
+        least: 20,
+        most: 20,
+        fault: Fault::MessageEnded,
+        place: 20,
+        text: NOTHING,
+    },
+    CutPayload {
+        what: "in the second name",
+        least: 21,
+        most: 22,
+        fault: Fault::MessageEnded,
+        place: 21,
+        text: NOTHING,
+    },
+    CutPayload {
+        what: "behind the description",
+        least: 23,
+        most: 23,
+        fault: Fault::EndWithoutDone,
+        place: 23,
+        text: NAMES,
+    },
+];
 
 // A description of two columns ends behind each of its bytes.
 #[test]
 fn a_cut_description_says_where(rt: HostRuntime) -> Result<(), Fail> {
     let mut areas = make_usual_areas(rt.alloc())?;
-    let text: &[u8] = b"\"a\",\"b\"\r\n";
-    for (what, least, most, fault, place, text) in [
-        (
-            "before the first token",
-            0,
-            0,
-            Fault::EndWithoutDone,
-            0,
-            NOTHING,
-        ),
-        ("in Count", 1, 2, Fault::MessageEnded, 1, NOTHING),
-        ("in the first head", 3, 9, Fault::MessageEnded, 3, NOTHING),
-        (
-            "before the first name's length",
-            10,
-            10,
-            Fault::MessageEnded,
-            10,
-            NOTHING,
-        ),
-        (
-            "in the first name",
-            11,
-            12,
-            Fault::MessageEnded,
-            11,
-            NOTHING,
-        ),
-        (
-            "in the second head",
-            13,
-            19,
-            Fault::MessageEnded,
-            13,
-            NOTHING,
-        ),
-        (
-            "before the second name's length",
-            20,
-            20,
-            Fault::MessageEnded,
-            20,
-            NOTHING,
-        ),
-        (
-            "in the second name",
-            21,
-            22,
-            Fault::MessageEnded,
-            21,
-            NOTHING,
-        ),
-        (
-            "behind the description",
-            23,
-            23,
-            Fault::EndWithoutDone,
-            23,
-            text,
-        ),
-    ] {
-        let expected = stopped(fault, Place::Payload(place), text);
-        for n in least..=most {
-            let wire = in_one_packet(rt.alloc(), front(TWO, n))?;
-            let out = read(rt.alloc(), &mut areas, ScriptedReader::new(&wire, 1000))?;
-            assert_eq!(rt; out.answer, expected, "{what}: {n}");
-            assert_eq!(rt; out.text.as_slice(), text, "{what}: {n}");
-        }
+    for row in &CUT_DESCRIPTIONS {
+        check_cut(rt.alloc(), &mut areas, TWO, row)?;
     }
     Ok(())
 }

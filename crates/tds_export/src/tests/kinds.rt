@@ -1,4 +1,5 @@
 // Responses of one column, of each kind that has values of a fixed length.
+use super::cuts::{CutPayload, check_cut};
 use super::*;
 use tds_packet::RefusedKind;
 
@@ -34,181 +35,252 @@ struct Sample {
     text: &'static [u8],
 }
 
-const fn value_of(
-    what: &'static str,
-    type_byte: u8,
-    value: &'static [u8],
-    text: &'static [u8],
-) -> Sample {
+const SAMPLES: [Sample; 18] = [
     Sample {
-        what,
-        type_byte,
-        value,
-        text,
-    }
-}
+        what: "the least tinyint",
+        type_byte: 0x30,
+        value: &[0x00],
+        text: b"\"a\"\r\n0\r\n",
+    },
+    Sample {
+        what: "the greatest tinyint",
+        type_byte: 0x30,
+        value: &[0xFF],
+        text: b"\"a\"\r\n255\r\n",
+    },
+    Sample {
+        what: "a clear bit",
+        type_byte: 0x32,
+        value: &[0x00],
+        text: b"\"a\"\r\n0\r\n",
+    },
+    Sample {
+        what: "a set bit",
+        type_byte: 0x32,
+        value: &[0x02],
+        text: b"\"a\"\r\n1\r\n",
+    },
+    Sample {
+        what: "the least smallint",
+        type_byte: 0x34,
+        value: &[0x00, 0x80],
+        text: b"\"a\"\r\n-32768\r\n",
+    },
+    Sample {
+        what: "the greatest smallint",
+        type_byte: 0x34,
+        value: &[0xFF, 0x7F],
+        text: b"\"a\"\r\n32767\r\n",
+    },
+    Sample {
+        what: "a negative int",
+        type_byte: 0x38,
+        value: &[0xFE, 0xFF, 0xFF, 0xFF],
+        text: b"\"a\"\r\n-2\r\n",
+    },
+    Sample {
+        what: "the least bigint",
+        type_byte: 0x7F,
+        value: &[0x00, 0x00, 0x00, 0x00, 0x00, 0x00, 0x00, 0x80],
+        text: b"\"a\"\r\n-9223372036854775808\r\n",
+    },
+    Sample {
+        what: "the greatest smallmoney",
+        type_byte: 0x7A,
+        value: &[0xFF, 0xFF, 0xFF, 0x7F],
+        text: b"\"a\"\r\n214748.3647\r\n",
+    },
+    Sample {
+        what: "the smallest debt in smallmoney",
+        type_byte: 0x7A,
+        value: &[0xFF, 0xFF, 0xFF, 0xFF],
+        text: b"\"a\"\r\n-0.0001\r\n",
+    },
+    Sample {
+        what: "the smallest debt",
+        type_byte: 0x3C,
+        value: &[0xFF, 0xFF, 0xFF, 0xFF, 0xFF, 0xFF, 0xFF, 0xFF],
+        text: b"\"a\"\r\n-0.0001\r\n",
+    },
+    Sample {
+        what: "a unit of money",
+        type_byte: 0x3C,
+        value: &[0x00, 0x00, 0x00, 0x00, 0x10, 0x27, 0x00, 0x00],
+        text: b"\"a\"\r\n1.0000\r\n",
+    },
+    Sample {
+        what: "the greatest debt",
+        type_byte: 0x3C,
+        value: &[0x00, 0x00, 0x00, 0x80, 0x00, 0x00, 0x00, 0x00],
+        text: b"\"a\"\r\n-922337203685477.5808\r\n",
+    },
+    Sample {
+        what: "the last tick of a day",
+        type_byte: 0x3D,
+        value: &[0x00, 0x00, 0x00, 0x00, 0xFF, 0x81, 0x8B, 0x01],
+        text: b"\"a\"\r\n1900-01-01 23:59:59.997\r\n",
+    },
+    Sample {
+        what: "the first datetime",
+        type_byte: 0x3D,
+        value: &[0xA5, 0x6A, 0xF5, 0xFF, 0x00, 0x00, 0x00, 0x00],
+        text: b"\"a\"\r\n0001-01-01 00:00:00.000\r\n",
+    },
+    Sample {
+        what: "the last datetime",
+        type_byte: 0x3D,
+        value: &[0x7F, 0x24, 0x2D, 0x00, 0xFF, 0x81, 0x8B, 0x01],
+        text: b"\"a\"\r\n9999-12-31 23:59:59.997\r\n",
+    },
+    Sample {
+        what: "the last minute of a day",
+        type_byte: 0x3A,
+        value: &[0x00, 0x00, 0x9F, 0x05],
+        text: b"\"a\"\r\n1900-01-01 23:59:00\r\n",
+    },
+    Sample {
+        what: "the last smalldatetime day",
+        type_byte: 0x3A,
+        value: &[0xFF, 0xFF, 0x00, 0x00],
+        text: b"\"a\"\r\n2079-06-06 00:00:00\r\n",
+    },
+];
 
 // The devices give and take few bytes a call.
+fn check_sample(alloc: Global, areas: &mut Areas, case: &Sample) -> Result<(), Fail> {
+    let wire = a_row_of(alloc, case.type_byte, case.value)?;
+    let answer = Ok(report(1, 1, case.text.len() as u64));
+    let want = came_to(answer, case.text);
+    for most in [1, 5, 1000] {
+        let out = read(areas, &wire, most, case.text);
+        same(case.what, &out, &Some(want))?;
+    }
+    Ok(())
+}
+
 #[test]
 fn values_of_fixed_length_are_written(rt: HostRuntime) -> Result<(), Fail> {
     let mut areas = make_usual_areas(rt.alloc())?;
-    for case in [
-        value_of("the least tinyint", 0x30, &[0x00], b"\"a\"\r\n0\r\n"),
-        value_of("the greatest tinyint", 0x30, &[0xFF], b"\"a\"\r\n255\r\n"),
-        value_of("a clear bit", 0x32, &[0x00], b"\"a\"\r\n0\r\n"),
-        value_of("a set bit", 0x32, &[0x02], b"\"a\"\r\n1\r\n"),
-        value_of(
-            "the least smallint",
-            0x34,
-            &[0x00, 0x80],
-            b"\"a\"\r\n-32768\r\n",
-        ),
-        value_of(
-            "the greatest smallint",
-            0x34,
-            &[0xFF, 0x7F],
-            b"\"a\"\r\n32767\r\n",
-        ),
-        value_of(
-            "a negative int",
-            0x38,
-            &[0xFE, 0xFF, 0xFF, 0xFF],
-            b"\"a\"\r\n-2\r\n",
-        ),
-        value_of(
-            "the least bigint",
-            0x7F,
-            &[0x00, 0x00, 0x00, 0x00, 0x00, 0x00, 0x00, 0x80],
-            b"\"a\"\r\n-9223372036854775808\r\n",
-        ),
-        value_of(
-            "the greatest smallmoney",
-            0x7A,
-            &[0xFF, 0xFF, 0xFF, 0x7F],
-            b"\"a\"\r\n214748.3647\r\n",
-        ),
-        value_of(
-            "the smallest debt in smallmoney",
-            0x7A,
-            &[0xFF, 0xFF, 0xFF, 0xFF],
-            b"\"a\"\r\n-0.0001\r\n",
-        ),
-        value_of(
-            "the smallest debt",
-            0x3C,
-            &[0xFF, 0xFF, 0xFF, 0xFF, 0xFF, 0xFF, 0xFF, 0xFF],
-            b"\"a\"\r\n-0.0001\r\n",
-        ),
-        value_of(
-            "a unit of money",
-            0x3C,
-            &[0x00, 0x00, 0x00, 0x00, 0x10, 0x27, 0x00, 0x00],
-            b"\"a\"\r\n1.0000\r\n",
-        ),
-        value_of(
-            "the greatest debt",
-            0x3C,
-            &[0x00, 0x00, 0x00, 0x80, 0x00, 0x00, 0x00, 0x00],
-            b"\"a\"\r\n-922337203685477.5808\r\n",
-        ),
-        value_of(
-            "the last tick of a day",
-            0x3D,
-            &[0x00, 0x00, 0x00, 0x00, 0xFF, 0x81, 0x8B, 0x01],
-            b"\"a\"\r\n1900-01-01 23:59:59.997\r\n",
-        ),
-        value_of(
-            "the first datetime",
-            0x3D,
-            &[0xA5, 0x6A, 0xF5, 0xFF, 0x00, 0x00, 0x00, 0x00],
-            b"\"a\"\r\n0001-01-01 00:00:00.000\r\n",
-        ),
-        value_of(
-            "the last datetime",
-            0x3D,
-            &[0x7F, 0x24, 0x2D, 0x00, 0xFF, 0x81, 0x8B, 0x01],
-            b"\"a\"\r\n9999-12-31 23:59:59.997\r\n",
-        ),
-        value_of(
-            "the last minute of a day",
-            0x3A,
-            &[0x00, 0x00, 0x9F, 0x05],
-            b"\"a\"\r\n1900-01-01 23:59:00\r\n",
-        ),
-        value_of(
-            "the last smalldatetime day",
-            0x3A,
-            &[0xFF, 0xFF, 0x00, 0x00],
-            b"\"a\"\r\n2079-06-06 00:00:00\r\n",
-        ),
-    ] {
-        let what = case.what;
-        let expected = Ok(report(1, 1, case.text.len() as u64));
-        let wire = a_row_of(rt.alloc(), case.type_byte, case.value)?;
-        for most in [1, 5, 1000] {
-            let from = ScriptedReader::new(&wire, most);
-            let to = ScriptedWriter::new(most, Failing::Never);
-            let out = run(rt.alloc(), &mut areas, from, to)?;
-            assert_eq!(rt; out.answer, expected, "{what}");
-            assert_eq!(rt; out.text.as_slice(), case.text, "{what}");
-            assert_eq!(rt; out.left, 0, "{what}");
-        }
+    for case in &SAMPLES {
+        check_sample(rt.alloc(), &mut areas, case)?;
     }
     Ok(())
+}
+
+// A column of bigint, so many rows of the least one, and a DONE.
+fn rows_of_bigint(alloc: Global, rows: usize) -> Result<Vec<u8>, AllocError> {
+    let mut payload = Vec::new(alloc);
+    payload.extend_from_slice(&[0x81, 1, 0, 0, 0, 0, 0, 0, 0, 0x7F, 1, 0x61, 0])?;
+    for _ in 0..rows {
+        payload.extend_from_slice(&[0xD1, 0, 0, 0, 0, 0, 0, 0, 0x80])?;
+    }
+    payload.extend_from_slice(DONE)?;
+    Ok(payload)
+}
+
+// Their text.
+fn text_of_bigint(alloc: Global, rows: usize) -> Result<Vec<u8>, AllocError> {
+    let mut text = HEADER_LINE.to_vec(alloc)?;
+    for _ in 0..rows {
+        text.extend_from_slice(b"-9223372036854775808\r\n")?;
+    }
+    Ok(text)
+}
+
+// All is written, and where the writer fails in the end of the block, what stands before.
+fn check_block(alloc: Global, wire: &[u8], text: &[u8], body: usize) -> Result<(), Fail> {
+    let mut areas = make_usual_areas(alloc)?;
+    let all = came_to(Ok(report(1, 370, 8145)), text);
+    let out = run(
+        &mut areas,
+        ScriptedReader::new(wire, 700),
+        ScriptedWriter::new(1000, Failing::Never),
+        text,
+    );
+    same(body, &out, &Some(all))?;
+    let answer = Err(Stopped {
+        fault: Fault::WriteFailed,
+        place: Place::Text(4090),
+        written: 4090,
+        unwritten: 6,
+    });
+    let out = run(
+        &mut areas,
+        ScriptedReader::new(wire, 700),
+        ScriptedWriter::new(1000, Failing::AfterBytes(4090)),
+        text,
+    );
+    let came = out.map(|out| (out.answer, out.text));
+    same(body, &came, &Some((answer, Some(4090))))
 }
 
 // Rows of the least bigint, whose text fills a block and a part of one, and whose values lie across
 // the ends of packets where these are small. The block is delivered, or fails in its end.
 #[test]
 fn many_rows_are_written(rt: HostRuntime) -> Result<(), Fail> {
-    let mut areas = make_usual_areas(rt.alloc())?;
-    let mut payload = Vec::new(rt.alloc());
-    let mut text = HEADER_LINE.to_vec(rt.alloc())?;
-    payload.extend_from_slice(&[0x81, 1, 0, 0, 0, 0, 0, 0, 0, 0x7F, 1, 0x61, 0])?;
-    for _ in 0..370 {
-        payload.extend_from_slice(&[0xD1, 0, 0, 0, 0, 0, 0, 0, 0x80])?;
-        text.extend_from_slice(b"-9223372036854775808\r\n")?;
-    }
-    payload.extend_from_slice(DONE)?;
+    let payload = rows_of_bigint(rt.alloc(), 370)?;
+    let text = text_of_bigint(rt.alloc(), 370)?;
     assert_eq!(rt; (payload.len(), text.len()), (3356, 8145));
     for body in [504, 505, 3356] {
         let wire = in_packets(rt.alloc(), &payload, body)?;
-        let out = read(rt.alloc(), &mut areas, ScriptedReader::new(&wire, 700))?;
-        assert_eq!(rt; out.answer, Ok(report(1, 370, 8145)), "{body}");
-        assert!(rt; out.text.as_slice() == text.as_slice(), "{body}");
-        let from = ScriptedReader::new(&wire, 700);
-        let to = ScriptedWriter::new(1000, Failing::AfterBytes(4090));
-        let out = run(rt.alloc(), &mut areas, from, to)?;
-        let expected = Err(Stopped {
-            fault: Fault::WriteFailed,
-            place: Place::Text(4090),
-            written: 4090,
-            unwritten: 6,
-        });
-        assert_eq!(rt; out.answer, expected, "{body}");
-        assert!(rt; out.text.as_slice() == front(&text, 4090), "{body}");
+        check_block(rt.alloc(), &wire, &text, body)?;
     }
     Ok(())
 }
+
+const ROW_OF_MONEY: [u8; 22] = [
+    0x81, 1, 0, 0, 0, 0, 0, 0, 0, 0x3C, 1, 0x61, 0, 0xD1, 0, 0, 0, 0x80, 0, 0, 0, 0,
+];
+
+const CUT_MONEY: CutPayload = CutPayload {
+    what: "in the value",
+    least: 14,
+    most: 21,
+    fault: Fault::MessageEnded,
+    place: 14,
+    text: HEADER_LINE,
+};
 
 // The message ends behind each byte of the row of the greatest debt but the last.
 #[test]
 fn a_cut_value_counts_for_nothing(rt: HostRuntime) -> Result<(), Fail> {
     let mut areas = make_usual_areas(rt.alloc())?;
-    let expected = stopped(Fault::MessageEnded, Place::Payload(14), HEADER_LINE);
-    for n in 14..22 {
-        let row = [
-            0x81, 1, 0, 0, 0, 0, 0, 0, 0, 0x3C, 1, 0x61, 0, 0xD1, 0, 0, 0, 0x80, 0, 0, 0, 0,
-        ];
-        let wire = in_one_packet(rt.alloc(), front(&row, n))?;
-        let out = read(rt.alloc(), &mut areas, ScriptedReader::new(&wire, 1000))?;
-        assert_eq!(rt; out.answer, expected, "{n}");
-        assert_eq!(rt; out.text.as_slice(), HEADER_LINE, "{n}");
-    }
-    Ok(())
+    check_cut(rt.alloc(), &mut areas, &ROW_OF_MONEY, &CUT_MONEY)
 }
 
-// Each behind a row that is written.
+// A row of a type byte that stops the export at a place of the payload.
+fn check_row(
+    alloc: Global,
+    areas: &mut Areas,
+    what: &str,
+    (type_byte, value): (u8, &[u8]),
+    (fault, place): (Fault, u64),
+    text: &[u8],
+) -> Result<(), Fail> {
+    let wire = a_row_of(alloc, type_byte, value)?;
+    let out = read(areas, &wire, 1000, text);
+    let answer = stopped(fault, Place::Payload(place), text);
+    same(what, &out, &Some(came_to(answer, text)))
+}
+
+const FIRST_MOMENT: &[u8] = b"\"a\"\r\n1900-01-01 00:00:00.000\r\n";
+
+const OUT_OF_RANGE: Fault = Fault::BadValue { column: 0 };
+
+// A moment behind a row that is written.
+fn check_moment(alloc: Global, areas: &mut Areas, what: &str, value: [u8; 8]) -> Result<(), Fail> {
+    let [a, b, c, d, e, f, g, h] = value;
+    let rows = [0, 0, 0, 0, 0, 0, 0, 0, 0xD1, a, b, c, d, e, f, g, h];
+    check_row(
+        alloc,
+        areas,
+        what,
+        (0x3D, &rows),
+        (OUT_OF_RANGE, 23),
+        FIRST_MOMENT,
+    )
+}
+
 #[test]
 fn moments_out_of_range_are_refused(rt: HostRuntime) -> Result<(), Fail> {
     let mut areas = make_usual_areas(rt.alloc())?;
@@ -217,62 +289,142 @@ fn moments_out_of_range_are_refused(rt: HostRuntime) -> Result<(), Fail> {
         ("a day too many", [0x80, 0x24, 0x2D, 0x00, 0, 0, 0, 0]),
         ("a day too few", [0xA4, 0x6A, 0xF5, 0xFF, 0, 0, 0, 0]),
     ] {
-        let mut rows = [0; 17];
-        rows[8] = 0xD1;
-        rows[9..].copy_from_slice(&value);
-        let wire = a_row_of(rt.alloc(), 0x3D, &rows)?;
-        let out = read(rt.alloc(), &mut areas, ScriptedReader::new(&wire, 1000))?;
-        let text: &[u8] = b"\"a\"\r\n1900-01-01 00:00:00.000\r\n";
-        let fault = Fault::BadValue { column: 0 };
-        assert_eq!(rt;
-            out.answer,
-            stopped(fault, Place::Payload(23), text),
-            "{what}"
-        );
-        assert_eq!(rt; out.text.as_slice(), text, "{what}");
+        check_moment(rt.alloc(), &mut areas, what, value)?;
     }
-    let wire = a_row_of(rt.alloc(), 0x3A, &[0x00, 0x00, 0xA0, 0x05])?;
-    let out = read(rt.alloc(), &mut areas, ScriptedReader::new(&wire, 1000))?;
-    let fault = Fault::BadValue { column: 0 };
-    let expected = stopped(fault, Place::Payload(14), HEADER_LINE);
-    assert_eq!(rt; out.answer, expected, "a minute too many");
-    assert_eq!(rt; out.text.as_slice(), HEADER_LINE, "a minute too many");
-    Ok(())
+    let minute: (u8, &[u8]) = (0x3A, &[0x00, 0x00, 0xA0, 0x05]);
+    let (areas, stop) = (&mut areas, (OUT_OF_RANGE, 14));
+    check_row(
+        rt.alloc(),
+        areas,
+        "a minute too many",
+        minute,
+        stop,
+        HEADER_LINE,
+    )
 }
 
-const fn refused(kind: RefusedKind) -> Fault {
-    Fault::RefusedColumn { index: 0, kind }
+// A type byte that is refused.
+struct BadType {
+    what: &'static str,
+    type_byte: u8,
+    fault: Fault,
 }
 
-const fn unknown(byte: u8) -> Fault {
-    Fault::UnknownType { index: 0, byte }
-}
+const BAD_TYPES: [BadType; 13] = [
+    BadType {
+        what: "FLT4",
+        type_byte: 0x3B,
+        fault: Fault::RefusedColumn {
+            index: 0,
+            kind: RefusedKind::Flt4,
+        },
+    },
+    BadType {
+        what: "FLT8",
+        type_byte: 0x3E,
+        fault: Fault::RefusedColumn {
+            index: 0,
+            kind: RefusedKind::Flt8,
+        },
+    },
+    BadType {
+        what: "FLTN",
+        type_byte: 0x6D,
+        fault: Fault::RefusedColumn {
+            index: 0,
+            kind: RefusedKind::FltN,
+        },
+    },
+    BadType {
+        what: "TEXT",
+        type_byte: 0x23,
+        fault: Fault::RefusedColumn {
+            index: 0,
+            kind: RefusedKind::Text,
+        },
+    },
+    BadType {
+        what: "NTEXT",
+        type_byte: 0x63,
+        fault: Fault::RefusedColumn {
+            index: 0,
+            kind: RefusedKind::NText,
+        },
+    },
+    BadType {
+        what: "IMAGE",
+        type_byte: 0x22,
+        fault: Fault::RefusedColumn {
+            index: 0,
+            kind: RefusedKind::Image,
+        },
+    },
+    BadType {
+        what: "SSVARIANT",
+        type_byte: 0x62,
+        fault: Fault::RefusedColumn {
+            index: 0,
+            kind: RefusedKind::SsVariant,
+        },
+    },
+    BadType {
+        what: "UDT",
+        type_byte: 0xF0,
+        fault: Fault::RefusedColumn {
+            index: 0,
+            kind: RefusedKind::Udt,
+        },
+    },
+    BadType {
+        what: "XML",
+        type_byte: 0xF1,
+        fault: Fault::RefusedColumn {
+            index: 0,
+            kind: RefusedKind::Xml,
+        },
+    },
+    BadType {
+        what: "zero",
+        type_byte: 0x00,
+        fault: Fault::UnknownType {
+            index: 0,
+            byte: 0x00,
+        },
+    },
+    BadType {
+        what: "NULLTYPE",
+        type_byte: 0x1F,
+        fault: Fault::UnknownType {
+            index: 0,
+            byte: 0x1F,
+        },
+    },
+    BadType {
+        what: "no type",
+        type_byte: 0x3F,
+        fault: Fault::UnknownType {
+            index: 0,
+            byte: 0x3F,
+        },
+    },
+    BadType {
+        what: "the greatest byte",
+        type_byte: 0xFF,
+        fault: Fault::UnknownType {
+            index: 0,
+            byte: 0xFF,
+        },
+    },
+];
 
 // Nothing of a set stands where its column is refused.
 #[test]
 fn type_bytes_are_judged(rt: HostRuntime) -> Result<(), Fail> {
     let mut areas = make_usual_areas(rt.alloc())?;
-    for (what, type_byte, fault) in [
-        ("FLT4", 0x3B, refused(RefusedKind::Flt4)),
-        ("FLT8", 0x3E, refused(RefusedKind::Flt8)),
-        ("FLTN", 0x6D, refused(RefusedKind::FltN)),
-        ("TEXT", 0x23, refused(RefusedKind::Text)),
-        ("NTEXT", 0x63, refused(RefusedKind::NText)),
-        ("IMAGE", 0x22, refused(RefusedKind::Image)),
-        ("SSVARIANT", 0x62, refused(RefusedKind::SsVariant)),
-        ("UDT", 0xF0, refused(RefusedKind::Udt)),
-        ("XML", 0xF1, refused(RefusedKind::Xml)),
-        ("zero", 0x00, unknown(0x00)),
-        ("NULLTYPE", 0x1F, unknown(0x1F)),
-        ("no type", 0x3F, unknown(0x3F)),
-        ("the greatest byte", 0xFF, unknown(0xFF)),
-    ] {
-        let wire = a_row_of(rt.alloc(), type_byte, &[0; 8])?;
-        let out = read(rt.alloc(), &mut areas, ScriptedReader::new(&wire, 1000))?;
-        let expected = stopped(fault, Place::Payload(3), NOTHING);
-        assert_eq!(rt; out.answer, expected, "{what}");
-        assert!(rt; out.text.is_empty() && out.left == 0, "{what}");
-        assert_eq!(rt; areas.description_held(), 2, "{what}");
+    for row in &BAD_TYPES {
+        let (value, stop) = ((row.type_byte, [0u8; 8].as_slice()), (row.fault, 3));
+        check_row(rt.alloc(), &mut areas, row.what, value, stop, NOTHING)?;
+        assert_eq!(rt; areas.description_held(), 2, "{}", row.what);
     }
     Ok(())
 }
