@@ -58,7 +58,7 @@ def seconds_of(program, path):
     """The processor time of one run, in the program and in the system."""
     before = resource.getrusage(resource.RUSAGE_CHILDREN)
     with open(path, "rb") as source:
-        subprocess.run([program], stdin=source, stdout=subprocess.DEVNULL, stderr=subprocess.DEVNULL, check=True)
+        subprocess.run([program, "export"], stdin=source, stdout=subprocess.DEVNULL, stderr=subprocess.DEVNULL, check=True)
     after = resource.getrusage(resource.RUSAGE_CHILDREN)
     return after.ru_utime - before.ru_utime + after.ru_stime - before.ru_stime
 
