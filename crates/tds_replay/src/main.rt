@@ -24,7 +24,9 @@ use crate::perform::perform;
 use crate::status::Status;
 use crate::usage::Usage;
 use crate::words::parse;
+use std::alloc::AllocError;
 use std::env;
+use std::env::Args;
 use std::fs::File;
 use std::io::{ErrorKind, Write};
 use std::process::ExitCode;
@@ -33,18 +35,23 @@ use tds_packet::Counted;
 /// What is written on standard error where a word isn't text.
 const NO_TEXT: &str = "error: the words of the command line aren't UTF-8\n";
 
+// The words behind the program's name.
+fn words_of(rt: &HostRuntime, args: Args) -> Result<Vec<String>, AllocError> {
+    let mut words = Vec::new(rt.alloc());
+    for word in args.skip(1) {
+        words.push(word)?;
+    }
+    Ok(words)
+}
+
 // Reads the command line.
 fn read_job(rt: &HostRuntime) -> Result<Job, Usage>
     ensures { IfOk result IsInRange }
 {
-    let words: Vec<String> = match env::args(rt) {
-        Ok(words) => words.collect(rt.alloc())?,
-        Err(error) if error.kind() == ErrorKind::OutOfMemory => return Err(Usage::OutOfMemory),
-        Err(_) => return Err(Usage::Refused(String::from_str(rt.alloc(), NO_TEXT)?)),
-    };
-    match words.as_slice() {
-        [_, words @ ..] => parse(rt.alloc(), words),
-        [] => parse(rt.alloc(), &[]),
+    match env::args(rt) {
+        Ok(args) => parse(rt.alloc(), words_of(rt, args)?.as_slice()),
+        Err(error) if error.kind() == ErrorKind::OutOfMemory => Err(Usage::OutOfMemory),
+        Err(_) => Err(Usage::Refused(String::from_str(rt.alloc(), NO_TEXT)?)),
     }
 }
 

@@ -56,10 +56,33 @@ fn packet_sizes<'a>() -> ValueParser<'a> {
     value_parser!(u16).range(i64::from(LEAST_PACKET_SIZE)..=i64::from(GREATEST_PACKET_SIZE))
 }
 
+// The option of the greatest packet that is read.
+fn packet_size<'a>(alloc: Global) -> Arg<'a> {
+    number(alloc, PACKET_SIZE, packet_sizes(), help::PACKET_SIZE).default_value("4096")
+}
+
+// The option of the room for a description.
+fn column_room<'a>(alloc: Global) -> Arg<'a> {
+    let rooms = value_parser!(u32).range(
+        i64::from(LEAST_COLUMN_ROOM)..=i64::from(GREATEST_COLUMN_ROOM),
+    );
+    number(alloc, COLUMN_ROOM, rooms, help::COLUMN_ROOM).default_value("1048576")
+}
+
 // The option of the limit of the wire.
 fn max_wire<'a>(alloc: Global) -> Arg<'a> {
-    let parser = value_parser!(u64).range(LEAST_MAX_WIRE as i64..=GREATEST_MAX_WIRE as i64);
-    number(alloc, MAX_WIRE, parser, help::MAX_WIRE).default_value("1099511627776")
+    let limits = value_parser!(u64).range(LEAST_MAX_WIRE as i64..=GREATEST_MAX_WIRE as i64);
+    number(alloc, MAX_WIRE, limits, help::MAX_WIRE).default_value("1099511627776")
+}
+
+// The option of the character set.
+fn charset<'a>(alloc: Global) -> Arg<'a> {
+    Arg::new(alloc, CHARSET)
+        .long(CHARSET)
+        .value_name("NAME")
+        .value_parser(CHARSETS.as_slice())
+        .default_value(WINDOWS_1252)
+        .help(help::CHARSET)
 }
 
 // The file, which may be left out.
@@ -67,23 +90,17 @@ fn file<'a>(alloc: Global) -> Arg<'a> {
     Arg::new(alloc, FILE).help(help::FILE)
 }
 
+// A command with the limits of a response.
+fn limited<'a>(alloc: Global, name: &'a str) -> Result<Command<'a>, AllocError> {
+    Command::new(alloc, name)
+        .arg(packet_size(alloc))?
+        .arg(column_room(alloc))?
+        .arg(max_wire(alloc))
+}
+
 // A command that reads a response, with its options.
 fn reading<'a>(alloc: Global, name: &'a str) -> Result<Command<'a>, AllocError> {
-    let rooms = value_parser!(u32).range(
-        i64::from(LEAST_COLUMN_ROOM)..=i64::from(GREATEST_COLUMN_ROOM),
-    );
-    let charset = Arg::new(alloc, CHARSET)
-        .long(CHARSET)
-        .value_name("NAME")
-        .value_parser(CHARSETS.as_slice())
-        .default_value(WINDOWS_1252)
-        .help(help::CHARSET);
-    Command::new(alloc, name)
-        .arg(number(alloc, PACKET_SIZE, packet_sizes(), help::PACKET_SIZE).default_value("4096"))?
-        .arg(number(alloc, COLUMN_ROOM, rooms, help::COLUMN_ROOM).default_value("1048576"))?
-        .arg(max_wire(alloc))?
-        .arg(charset)?
-        .arg(file(alloc))
+    limited(alloc, name)?.arg(charset(alloc))?.arg(file(alloc))
 }
 
 /// The command `export`.
@@ -120,15 +137,24 @@ pub(crate) fn recut<'a>(alloc: Global) -> Result<Command<'a>, AllocError> {
     )
 }
 
-/// The whole command line, behind the program's name.
-pub(crate) fn program<'a>(alloc: Global) -> Result<Command<'a>, AllocError> {
+// The program without its commands.
+fn without_commands<'a>(alloc: Global) -> Result<Command<'a>, AllocError> {
     Command::new(alloc, "tds_replay")
-        .bin_name("tds_replay")?
         .no_binary_name(true)
         .subcommand_required(true)
         .about(help::PROGRAM)
         .after_help(help::PROGRAM_END)
+        .bin_name("tds_replay")
+}
+
+// The program with the commands that read a response.
+fn with_reading<'a>(alloc: Global) -> Result<Command<'a>, AllocError> {
+    without_commands(alloc)?
         .subcommand(export(alloc)?)?
-        .subcommand(check(alloc)?)?
-        .subcommand(recut(alloc)?)
+        .subcommand(check(alloc)?)
+}
+
+/// The whole command line, behind the program's name.
+pub(crate) fn program<'a>(alloc: Global) -> Result<Command<'a>, AllocError> {
+    with_reading(alloc)?.subcommand(recut(alloc)?)
 }

@@ -52,40 +52,45 @@ fn small_packets_become_one(rt: HostRuntime) -> Result<(), Fail> {
     Ok(())
 }
 
-// A payload of so many bytes, how many packets of 512 bytes it becomes, and the headers of the first
-// and the last of them.
+// A payload of so many bytes, the headers of the first and the last of the packets of 512 bytes that
+// it becomes, where the last one stands, and the line.
 #[derive(Clone, Copy)]
 struct Cut {
     length: u16,
-    packets: usize,
     first: [u8; 8],
     last: [u8; 8],
+    at: usize,
+    line: &'static [u8],
 }
 
 const CUTS: [Cut; 4] = [
     Cut {
         length: 0,
-        packets: 1,
         first: [0x04, 0x01, 0x00, 0x08, 0x00, 0x00, 0x01, 0x00],
         last: [0x04, 0x01, 0x00, 0x08, 0x00, 0x00, 0x01, 0x00],
+        at: 0,
+        line: b"packets 1 payload 0\n",
     },
     Cut {
         length: 504,
-        packets: 1,
         first: [0x04, 0x01, 0x02, 0x00, 0x00, 0x00, 0x01, 0x00],
         last: [0x04, 0x01, 0x02, 0x00, 0x00, 0x00, 0x01, 0x00],
+        at: 0,
+        line: b"packets 1 payload 504\n",
     },
     Cut {
         length: 505,
-        packets: 2,
         first: [0x04, 0x00, 0x02, 0x00, 0x00, 0x00, 0x01, 0x00],
         last: [0x04, 0x01, 0x00, 0x09, 0x00, 0x00, 0x02, 0x00],
+        at: 512,
+        line: b"packets 2 payload 505\n",
     },
     Cut {
         length: 4088,
-        packets: 9,
         first: [0x04, 0x00, 0x02, 0x00, 0x00, 0x00, 0x01, 0x00],
         last: [0x04, 0x01, 0x00, 0x40, 0x00, 0x00, 0x09, 0x00],
+        at: 4096,
+        line: b"packets 9 payload 4088\n",
     },
 ];
 
@@ -110,20 +115,30 @@ fn recut_to(rt: &HostRuntime, line: &[&str], wire: &[u8]) -> Result<Outcome, All
     Ok(outcome)
 }
 
-// Each payload is cut into packets of 512 bytes, and these are joined to one packet again.
 #[test]
-fn payloads_are_cut_and_joined(rt: HostRuntime) -> Result<(), Fail> {
+fn payloads_are_cut(rt: HostRuntime) -> Result<(), Fail> {
     'cuts: for cut in CUTS {
         let wire = one_packet(rt.alloc(), cut.length)?;
         let small = recut_to(&rt, &TO_512, wire.as_slice())?;
-        let (packets, length) = (cut.packets, cut.length);
-        let line = format!(in rt.alloc(); "packets {packets} payload {length}\n")?;
         assert_eq!(rt; small.status, 0);
-        assert_eq!(rt; small.line.as_slice(), line.as_bytes());
-        let at = cut.packets.saturating_sub(1).saturating_mul(512);
-        let last = small.wire.as_slice().get(at..at.saturating_add(8));
-        assert_eq!(rt; small.wire.as_slice().get(..8), Some(cut.first.as_slice()));
-        assert_eq!(rt; last, Some(cut.last.as_slice()));
+        assert_eq!(rt; small.line.as_slice(), cut.line);
+        assert!(rt; small.wire.as_slice().starts_with(&cut.first));
+        let (_, last) = small
+            .wire
+            .as_slice()
+            .split_at_checked(cut.at)
+            .ok_or("a packet")?;
+        assert!(rt; last.starts_with(&cut.last));
+    }
+    Ok(())
+}
+
+// Packets of 512 bytes that are joined to one packet are those that it was cut from.
+#[test]
+fn packets_are_joined_again(rt: HostRuntime) -> Result<(), Fail> {
+    for length in [0, 31, 504, 505, 1008, 4088] {
+        let wire = one_packet(rt.alloc(), length)?;
+        let small = recut_to(&rt, &TO_512, wire.as_slice())?;
         let back = recut_to(&rt, &TO_4096, small.wire.as_slice())?;
         assert_eq!(rt; back.wire.as_slice(), wire.as_slice());
     }
@@ -134,15 +149,21 @@ fn payloads_are_cut_and_joined(rt: HostRuntime) -> Result<(), Fail> {
 #[test]
 fn a_cut_message_ends_with_4(rt: HostRuntime) -> Result<(), Fail> {
     let wire = single_bytes(rt.alloc(), &WIRE[8..])?;
-    for (bytes, place) in [(0usize, 0), (8, 0), (9, 9), (17, 9), (270, 270), (278, 270)] {
-        let (mut to, mut notes) = (writer(Failing::Never), writer(Failing::Never));
+    let rows: [(usize, &[u8]); 4] = [
+        (0, b"fault 2 InputEnded at wire 0, written 0, unwritten 0\n"),
+        (8, b"fault 2 InputEnded at wire 0, written 0, unwritten 0\n"),
+        (9, b"fault 2 InputEnded at wire 9, written 0, unwritten 0\n"),
+        (
+            278,
+            b"fault 2 InputEnded at wire 270, written 0, unwritten 0\n",
+        ),
+    ];
+    for (bytes, line) in rows {
         let cut = wire.as_slice().get(..bytes).ok_or("a shorter wire")?;
-        assert_eq!(rt; run(&rt, &TO_512, &mut reader(cut), &mut to, &mut notes), 4);
-        assert_eq!(rt; to.device().taken(), 0);
-        let line = format!(in rt.alloc();
-            "fault 2 InputEnded at wire {place}, written 0, unwritten 0\n"
-        )?;
-        assert_eq!(rt; notes.device().kept(), line.as_bytes());
+        let outcome = recut_to(&rt, &TO_512, cut)?;
+        assert_eq!(rt; outcome.status, 4);
+        assert_eq!(rt; outcome.wire.len(), 0);
+        assert_eq!(rt; outcome.line.as_slice(), line);
     }
     Ok(())
 }
@@ -150,23 +171,32 @@ fn a_cut_message_ends_with_4(rt: HostRuntime) -> Result<(), Fail> {
 // A writer that fails behind so many bytes, and one that fails in its flush.
 #[test]
 fn a_failed_write_ends_with_5(rt: HostRuntime) -> Result<(), Fail> {
-    for (failing, taken) in [
-        (Failing::AfterBytes(0), 0usize),
-        (Failing::AfterBytes(8), 8),
-        (Failing::ZeroAfterBytes(38), 38),
-        (Failing::InFlush, 39),
-    ] {
+    let rows: [(Failing, &[u8]); 4] = [
+        (
+            Failing::AfterBytes(0),
+            b"fault 20 WriteFailed at text 0, written 0, unwritten 39\n",
+        ),
+        (
+            Failing::AfterBytes(8),
+            b"fault 20 WriteFailed at text 8, written 8, unwritten 31\n",
+        ),
+        (
+            Failing::ZeroAfterBytes(38),
+            b"fault 20 WriteFailed at text 38, written 38, unwritten 1\n",
+        ),
+        (
+            Failing::InFlush,
+            b"fault 20 WriteFailed at text 39, written 39, unwritten 0\n",
+        ),
+    ];
+    for (failing, line) in rows {
         let (mut to, mut notes) = (writer(failing), writer(Failing::Never));
         assert_eq!(rt;
             run(&rt, &TO_512, &mut reader(&WIRE), &mut to, &mut notes),
             5
         );
-        assert_eq!(rt; Some(to.device().kept()), WIRE.as_slice().get(..taken));
-        let left = 39usize.saturating_sub(taken);
-        let line = format!(in rt.alloc();
-            "fault 20 WriteFailed at text {taken}, written {taken}, unwritten {left}\n"
-        )?;
-        assert_eq!(rt; notes.device().kept(), line.as_bytes());
+        assert!(rt; WIRE.as_slice().starts_with(to.device().kept()));
+        assert_eq!(rt; notes.device().kept(), line);
     }
     Ok(())
 }
