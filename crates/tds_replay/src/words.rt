@@ -1,6 +1,6 @@
 // The words of a command line.
 ghost use Rattle.std.specs.Prelude.{IfOk};
-ghost use Rattle.tds_replay.specs.Jobs.{IsInRange, IsColumnRoom, IsMaxWire, IsPacketSize};
+ghost use Rattle.tds_replay.specs.Jobs.{IsInRange};
 
 use crate::job::Job;
 use crate::options::{
