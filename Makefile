@@ -3,6 +3,9 @@
 # The response that `make export` reads.
 FILE ?= examples/first.tds
 
+# Where `make install` puts the program and its man page.
+PREFIX ?= /usr/local
+
 # The crates, in the order of crates.txt, and what each stands on. Kit crates have no file here.
 CRATES := $(shell sed -n 's/^\(tds_[a-z]*\):.*/\1/p' crates.txt)
 below = $(filter tds_%,$(shell sed -n 's/^$(1)://p' crates.txt))
@@ -13,10 +16,11 @@ files_of = $(shell find crates/$(1)/src crates/$(1)/specs crates/$(1)/proofs -ty
 # Where the benchmarks are built: outside of the repository, whose gate refuses files that no crate of crates.txt has.
 BENCH = $(or $(TMPDIR),/tmp)/gavyreto-bench
 
-.PHONY: help build export refused-memory refused-borrow test check bench-text bench-values bench-export
+.PHONY: help build install export refused-memory refused-borrow test check bench-text bench-values bench-export
 
 help:
 	@echo "make build             proves and builds the program, bin/tds_replay"
+	@echo "make install PREFIX=P  builds it, and puts it into P/bin and its man page into P/share/man/man1"
 	@echo "make export FILE=F     exports the response in F: text to standard output, report to standard error"
 	@echo "make test              the whole gate: every proof, test and must-fail edit of every crate"
 	@echo "make check             the proofs alone, with what earlier checks left"
@@ -24,7 +28,7 @@ help:
 	@echo "make refused-borrow    code that keeps a column while its area is emptied"
 	@echo "make bench-text        megabytes a second of the sink and of each joiner"
 	@echo "make bench-values      values a second of each scalar kind"
-	@echo "make bench-export      what a cell and a byte of a whole export cost"
+	@echo "make bench-export      what a cell of a whole export costs, beside a native reader"
 
 build: bin/tds_replay
 
@@ -40,8 +44,13 @@ $(foreach crate,$(CRATES),$(eval $(call proved,$(crate))))
 bin/tds_replay: $(addprefix bin/proved/,$(CRATES))
 	@cp crates/tds_replay/out/tds_replay bin/tds_replay
 
+install: bin/tds_replay
+	install -d "$(DESTDIR)$(PREFIX)/bin" "$(DESTDIR)$(PREFIX)/share/man/man1"
+	install -m 755 bin/tds_replay "$(DESTDIR)$(PREFIX)/bin/tds_replay"
+	install -m 644 docs/tds_replay.1 "$(DESTDIR)$(PREFIX)/share/man/man1/tds_replay.1"
+
 export: bin/tds_replay
-	@bin/tds_replay < "$(FILE)"
+	@bin/tds_replay export "$(FILE)"
 
 refused-memory refused-borrow:
 	tools/$@
@@ -67,5 +76,10 @@ bench-text bench-values: bench-%:
 	(cat crates.txt; echo "bench_text: tds_meter tds_packet tds_csv"; echo "bench_values: tds_values") > $(BENCH)/crates.txt
 	cd $(BENCH)/crates/bench_$* && rt run
 
+# Beside a reader in plain Rust, where there is a compiler for it.
 bench-export: bin/tds_replay
-	bench/export.py bin/tds_replay
+	mkdir -p $(BENCH)
+	@if command -v rustc > /dev/null; then \
+		rustc --edition 2021 -C opt-level=3 -C codegen-units=1 -C lto=fat -C panic=abort --crate-name native -o $(BENCH)/native bench/native.txt \
+		&& bench/export.py bin/tds_replay $(BENCH)/native; \
+	else echo "rustc isn't there: no native reader beside it"; bench/export.py bin/tds_replay; fi

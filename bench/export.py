@@ -1,7 +1,13 @@
 #!/usr/bin/env python3
-"""Times bin/tds_replay on made-up responses, and prints what a cell and a byte cost."""
+"""Times bin/tds_replay on made-up responses, beside the native reader where one is given, and prints what a cell costs.
+
+usage: export.py PROGRAM [NATIVE]. Both texts are compared, and a difference ends the run. Where valgrind is there,
+the instructions a cell are counted too."""
+import hashlib
 import os
+import re
 import resource
+import shutil
 import struct
 import subprocess
 import sys
@@ -54,32 +60,88 @@ def mixed(rows):
     return bytes(payload + DONE)
 
 
-def seconds_of(program, path):
+def seconds_of(command, path):
     """The processor time of one run, in the program and in the system."""
     before = resource.getrusage(resource.RUSAGE_CHILDREN)
     with open(path, "rb") as source:
-        subprocess.run([program], stdin=source, stdout=subprocess.DEVNULL, stderr=subprocess.DEVNULL, check=True)
+        subprocess.run(command, stdin=source, stdout=subprocess.DEVNULL, stderr=subprocess.DEVNULL, check=True)
     after = resource.getrusage(resource.RUSAGE_CHILDREN)
     return after.ru_utime - before.ru_utime + after.ru_stime - before.ru_stime
 
 
+def text_of(command, path):
+    """A digest of what a program writes."""
+    digest = hashlib.sha256()
+    with open(path, "rb") as source:
+        run = subprocess.Popen(command, stdin=source, stdout=subprocess.PIPE, stderr=subprocess.DEVNULL)
+        while piece := run.stdout.read(1 << 20):
+            digest.update(piece)
+        run.wait()
+    return digest.hexdigest()
+
+
+def instructions_of(command, path):
+    """How many instructions a run takes, which is the same on every machine."""
+    with open(path, "rb") as source:
+        said = subprocess.run(
+            ["valgrind", "--tool=callgrind", "--callgrind-out-file=/dev/null", *command],
+            stdin=source, stdout=subprocess.DEVNULL, stderr=subprocess.PIPE, text=True, check=True,
+        ).stderr
+    return int(re.search(r"Collected : (\d+)", said).group(1))
+
+
+def response(folder, payload):
+    """A file with this payload in packets."""
+    path = os.path.join(folder, "response.tds")
+    with open(path, "wb") as file:
+        file.writelines(packets_of(payload))
+    return path
+
+
+def instructions_a_cell(command, folder, made, columns):
+    """What a cell costs, without what the start of the program does: the difference of two responses."""
+    counts = [instructions_of(command, response(folder, made(rows))) for rows in (100, 5_100)]
+    return (counts[1] - counts[0]) / (5_000 * columns)
+
+
+RESPONSES = [
+    ("4 columns of int", 4, 1_500_000, lambda rows: ints(4, rows)),
+    ("50 columns of int", 50, 150_000, lambda rows: ints(50, rows)),
+    ("8 columns of eight kinds", 8, 600_000, mixed),
+]
+
+
+def times(folder, commands):
+    """The least time of each program on each response, run in turn, and whether their texts are equal."""
+    for name, columns, rows, made in RESPONSES:
+        path = response(folder, made(rows))
+        if len({text_of(command, path) for command in commands.values()}) > 1:
+            sys.exit(f"{name}: the texts differ")
+        best = dict.fromkeys(commands, float("inf"))
+        for _ in range(RUNS):
+            for who, command in commands.items():
+                best[who] = min(best[who], seconds_of(command, path))
+        cells = rows * columns
+        size = os.path.getsize(path) / 1e6
+        for who, seconds in best.items():
+            ratio = f"{seconds / best['native']:.2f}" if "native" in best else ""
+            print(f"| {name} | {who} | {cells:,} | {size:.1f} | {seconds:.3f} | {seconds / cells * 1e9:.1f} | {ratio} |")
+
+
 def main():
-    program = sys.argv[1]
-    print("| response | cells | MB | seconds | MB a second | nanoseconds a cell |")
-    print("|---|---:|---:|---:|---:|---:|")
-    responses = [
-        ("4 columns of int", 6_000_000, ints(4, 1_500_000)),
-        ("50 columns of int", 7_500_000, ints(50, 150_000)),
-        ("8 columns of eight kinds", 4_800_000, mixed(600_000)),
-    ]
+    commands = {"gavyreto": [sys.argv[1], "export"]}
+    if len(sys.argv) > 2:
+        commands["native"] = [sys.argv[2]]
     with tempfile.TemporaryDirectory() as folder:
-        for name, cells, payload in responses:
-            path = os.path.join(folder, "response.tds")
-            with open(path, "wb") as response:
-                response.writelines(packets_of(payload))
-            size = os.path.getsize(path) / 1e6
-            best = min(seconds_of(program, path) for _ in range(RUNS))
-            print(f"| {name} | {cells:,} | {size:.1f} | {best:.3f} | {size / best:.0f} | {best / cells * 1e9:.1f} |")
+        print("| response | program | cells | MB | seconds | nanoseconds a cell | to native |")
+        print("|---|---|---:|---:|---:|---:|---:|")
+        times(folder, commands)
+        if shutil.which("valgrind") is None:
+            print("instructions a cell: valgrind isn't there")
+            return
+        for name, columns, _, made in RESPONSES:
+            for who, command in commands.items():
+                print(f"{name}, {who}: {instructions_a_cell(command, folder, made, columns):.0f} instructions a cell")
 
 
 main()

@@ -42,7 +42,7 @@ impl<'a> Columns<'a> {
     {
         Walk {
             rest: &self.bytes[2..],
-            left: self.count(),
+            left: self.count() as usize,
         }
     }
 }

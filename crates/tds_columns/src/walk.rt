@@ -36,7 +36,7 @@ fn column_at<'a>(bytes: &'a [u8]) -> (Column<'a>, usize)
 #[derive(Clone, Copy, Debug)]
 pub struct Walk<'a> {
     pub(crate) rest: &'a [u8],
-    pub(crate) left: u16,
+    pub(crate) left: usize,
     ghost whole: { IsTrue (are_columns left rest.now) },
 }
 

@@ -27,7 +27,7 @@ use Rattle.tds_export.specs.TokenGrammar.{Part, response, row_byte_fault, start_
 use Rattle.tds_export.specs.Steps.{IsDescribed, IsHolding, ReadsTokens, StepStops, Tracks, behind, in_row}
 use Rattle.tds_export.proofs.ResponseLaws.{described_after-append, row_in_response}
 use Rattle.tds_export.proofs.TokenLaws.{text_after-snoc, tracks_row}
-use Rattle.tds_export.proofs.TokenSteps.{holds-snoc, row_holds, row_stops, row_text}
+use Rattle.tds_export.proofs.TokenSteps.{holds-snoc, row_stops, row_text}
 use Rattle.tds_packet.proofs.Lifts.{next_inside, next_some}
 
 -- what one grammar reads, another reads there, where each element does
@@ -67,8 +67,7 @@ module _ (charset : Charset) (room : ℕ) (all : List Column) (tokens : List Tok
     token_next before cells =
         let ts : (tokens ++ map Row before) ++ Row cells ∷ [] ≡ tokens ++ map Row (before ++ cells ∷ []) = append_assoc tokens (map Row before) (Row cells ∷ []) ∙ ap (λ l. tokens ++ l) (sym (map-append Row before (cells ∷ []))) in
         let described : described_after None ((tokens ++ map Row before) ++ Row cells ∷ []) ≡ Some all =
-          ap (described_after None) ts ∙ described_after-append None tokens (map Row (before ++ cells ∷ [])) ∙ rows_describe (described_after None tokens) (before ++ cells ∷ []) ∙ known in
-        (
+        ap (described_after None) ts ∙ described_after-append None tokens (map Row (before ++ cells ∷ [])) ∙ rows_describe (described_after None tokens) (before ++ cells ∷ []) ∙ known in (
           record { some = omega arith; whole = refl; free = ap (row_byte_fault true) described },
           ap (start_of_row ((tokens ++ map Row before) ++ Row cells ∷ []) (row_start charset)) described ∙ ap (λ l. with_row l (row_start charset all)) ts,
         )

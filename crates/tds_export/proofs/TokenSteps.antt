@@ -19,7 +19,7 @@ use Rattle.tds_csv.proofs.Sinks.{Puts-none}
 use Rattle.tds_rows.specs.declared.Charset.{Charset}
 use Rattle.tds_rows.specs.Cells.{field, shape}
 use Rattle.tds_rows.specs.Rows.{RowPart, Bitmap, InCell, WholeRow, row, row_size, row_so_far, with_field}
-use Rattle.tds_rows.specs.RowSteps.{ReadsRow, RowStops}
+use Rattle.tds_rows.specs.RowSteps.{RowStops}
 use Rattle.tds_rows.specs.Unbuilt.{Stalls, is_built_row}
 use Rattle.tds_export.specs.declared.progress.Progress.{Progress}
 use Rattle.tds_export.specs.declared.report.Report.{Report}
@@ -29,11 +29,11 @@ use Rattle.tds_export.specs.Built.{is_built}
 use Rattle.tds_export.specs.TokenGrammar.{Part, response, text_so_far, with_described, with_row}
 use Rattle.tds_export.specs.Steps.{StepStops, StopsInReading, StopsInWriting, IsHolding, ReadsTokens, Tracks, behind, in_done, in_metadata, in_row}
 use Rattle.tds_packet.proofs.Lifts.{last_inside, reads_inside}
-use Rattle.tds_csv.proofs.Streams.{breaks_inside, puts_inside, streams_inside}
+use Rattle.tds_csv.proofs.Streams.{breaks_inside, puts_inside}
 use Rattle.tds_rows.proofs.RowSteps.{start_quiet}
 use Rattle.tds_rows.proofs.Stalls.{stalls_inside, stalls_size}
 use Rattle.tds_export.proofs.ResponseLaws.{description_in_response, row_in_response}
-use Rattle.tds_export.proofs.TokenLaws.{begun_after, begun_where_sets, encoded_after-append, greatest_span-append, text_after-snoc, tracks_done, tracks_metadata, tracks_none, tracks_row}
+use Rattle.tds_export.proofs.TokenLaws.{begun_after, begun_where_sets, encoded_after-append, greatest_span-append, text_after-snoc, tracks_done, tracks_metadata, tracks_none}
 
 -- nothing more is put for the same text
 pub same_text : (p q : Part) (h : Held) → text_so_far p ≡ text_so_far q → h.delivered ≤ 2 ^ 64 - 1 → PutsText text_so_far p q h h

@@ -1,9 +1,33 @@
--- What the command does without words.
-use Rattle.std.specs.Prelude.{◌≡◌, None}
-use Rattle.tds_rows.specs.declared.Charset.TheVariants.{Windows1252}
+-- What jobs are made of.
+use Rattle.std.specs.Prelude.{ℕ, ◌≤◌, List, Option, option_map, string_bytes}
+use Rattle.tds_meter.specs.declared.limits.TheConstants.{GREATEST_COLUMN_ROOM, GREATEST_MAX_WIRE, GREATEST_PACKET_SIZE, LEAST_COLUMN_ROOM, LEAST_MAX_WIRE, LEAST_PACKET_SIZE}
 use Rattle.tds_replay.specs.declared.job.Job.{Job}
-use Rattle.tds_replay.specs.declared.job.Job.TheVariants.{Export}
+use Rattle.tds_replay.specs.declared.job.Job.TheVariants.{Export, Check, Recut}
 
--- An export of standard input with a packet size of 4,096, a column room of 1 MiB, at most 1 TiB of wire, and text in Windows-1252.
-abbrev pub IsStandard : Job → Type 0
-IsStandard (Export limits charset file) = (limits.packet_size ≡ 4096) × (limits.column_room ≡ 1048576) × (limits.max_wire ≡ 1099511627776) × (charset ≡ Windows1252) × (file ≡ None)
+-- the name of a job's file, or none for standard input
+abbrev pub file_of : Job → Option (List ℕ)
+file_of (Export limits charset file) = option_map string_bytes file
+file_of (Check limits charset file) = option_map string_bytes file
+file_of (Recut packet_size max_wire file) = option_map string_bytes file
+
+-- A number lies between two others, both included.
+abbrev pub IsFrom : ℕ → ℕ → ℕ → Type 0
+IsFrom least greatest n = (least ≤ n) × (n ≤ greatest)
+
+-- The greatest packet, in bytes, lies in its range.
+abbrev pub IsPacketSize : ℕ → Type 0
+IsPacketSize n = IsFrom LEAST_PACKET_SIZE GREATEST_PACKET_SIZE n
+
+-- The room for an encoded description, in bytes, lies in its range.
+abbrev pub IsColumnRoom : ℕ → Type 0
+IsColumnRoom n = IsFrom LEAST_COLUMN_ROOM GREATEST_COLUMN_ROOM n
+
+-- The greatest number of wire bytes lies in its range.
+abbrev pub IsMaxWire : ℕ → Type 0
+IsMaxWire n = IsFrom LEAST_MAX_WIRE GREATEST_MAX_WIRE n
+
+-- Each number of the job lies in its range.
+abbrev pub IsInRange : Job → Type 0
+IsInRange (Export limits charset file) = IsPacketSize limits.packet_size × IsColumnRoom limits.column_room × IsMaxWire limits.max_wire
+IsInRange (Check limits charset file) = IsPacketSize limits.packet_size × IsColumnRoom limits.column_room × IsMaxWire limits.max_wire
+IsInRange (Recut packet_size max_wire file) = IsPacketSize packet_size × IsMaxWire max_wire

@@ -9,6 +9,8 @@ use Rattle.tds_packet.specs.declared.fault.Place.{Place}
 use Rattle.tds_packet.specs.declared.fault.Place.TheVariants.{Wire, Payload, Text}
 use Rattle.tds_packet.specs.declared.fault.RefusedKind.{RefusedKind}
 use Rattle.tds_packet.specs.declared.fault.RefusedKind.TheVariants.{Flt4, Flt8, FltN, Text as OldText, NText, Image, SsVariant, Udt, Xml}
+use Rattle.tds_packet.specs.declared.answer.Recut.{Recut}
+use Rattle.tds_packet.specs.declared.answer.RecutStop.{RecutStop}
 use Rattle.tds_packet.specs.Faults.{number_of}
 use Rattle.tds_export.specs.declared.report.Report.{Report}
 use Rattle.tds_export.specs.declared.report.ServerError.{ServerError}
@@ -128,6 +130,23 @@ error_line (Some e) message = concat (codes "server error " ∷ signed_decimal e
 abbrev pub answer_lines : Result Report Stopped → List ℕ → List ℕ
 answer_lines (Ok r) message = counts_line r ++ (values_line r.return_values ++ (status_line r.return_status ++ error_line r.first_error message))
 answer_lines (Err s) message = stop_line s
+
+-- the line of a recut's numbers
+unfoldable pub recut_line : Recut → List ℕ
+recut_line r = concat (codes "packets " ∷ decimal r.packets ∷ codes " payload " ∷ decimal r.payload ∷ codes "\n" ∷ [])
+
+-- the stop of a recut as that of an export
+abbrev pub recut_stopped : RecutStop → Stopped
+recut_stopped s = record { fault = s.stop.fault; place = s.stop.place; written = s.written; unwritten = s.unwritten }
+
+-- the line of a recut's answer
+abbrev pub recut_lines : Result Recut RecutStop → List ℕ
+recut_lines (Ok r) = recut_line r
+recut_lines (Err s) = stop_line (recut_stopped s)
+
+-- the line of a file that can't be opened
+unfoldable pub unreadable_line : List ℕ → List ℕ
+unreadable_line path = concat (codes "cannot read " ∷ path ∷ codes "\n" ∷ [])
 
 -- the line of want of memory
 abbrev pub memory_line : List ℕ

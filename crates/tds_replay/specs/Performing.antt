@@ -1,20 +1,25 @@
 -- What performing a job does.
-use Rattle.std.specs.Prelude.{◌≡◌, ◌⊎◌, ℕ, List, Option, Result}
+use Rattle.std.specs.Prelude.{◌≡◌, ◌⊎◌, ◌-◌, ℕ, List, Option, None, Result}
+use Rattle.std.specs.declared.io.Sink.{Sink}
 use Rattle.tds_meter.specs.declared.areas.Areas.{Areas}
 use Rattle.tds_meter.specs.declared.limits.Limits.{Limits}
+use Rattle.tds_meter.specs.declared.limits.TheConstants.{GREATEST_PACKET_SIZE}
+use Rattle.tds_packet.specs.declared.answer.Recut.{Recut as Recutting}
+use Rattle.tds_packet.specs.declared.answer.RecutStop.{RecutStop}
 use Rattle.tds_packet.specs.declared.counted.Counted.{Counted}
+use Rattle.tds_packet.specs.Recutting.{Recuts}
 use Rattle.tds_rows.specs.declared.Charset.{Charset}
 use Rattle.tds_export.specs.declared.report.Report.{Report}
 use Rattle.tds_export.specs.declared.report.Stopped.{Stopped}
 use Rattle.tds_export.specs.Exports.{Exports}
 use Rattle.tds_export.specs.Moments.{Moment, moment}
 use Rattle.tds_replay.specs.declared.job.Job.{Job}
-use Rattle.tds_replay.specs.declared.job.Job.TheVariants.{Export}
+use Rattle.tds_replay.specs.declared.job.Job.TheVariants.{Export, Check, Recut}
 use Rattle.tds_replay.specs.declared.status.Status.{Status}
 use Rattle.tds_replay.specs.declared.status.Status.TheVariants.{WantOfMemory}
-use Rattle.tds_replay.specs.Lines.{answer_lines, memory_line}
+use Rattle.tds_replay.specs.Lines.{answer_lines, memory_line, recut_lines}
 use Rattle.tds_replay.specs.Saying.{SaysOrFails}
-use Rattle.tds_replay.specs.Statuses.{status_number, status_of}
+use Rattle.tds_replay.specs.Statuses.{status_number, status_of, status_of_recut}
 
 -- the devices of a job at a moment
 pub record Devices (R W N : Type 0) : Type 0 where
@@ -58,12 +63,41 @@ pub record LacksMemory {R W N : Type 0} (tell : Telling R W N) (before after : D
   pub line : SaysOrFails tell.said before.notes after.notes memory_line
 
 -- An export was performed within these limits, with this status.
-abbrev pub PerformsExport : {R W N : Type 0} →
-    Telling R W N → Charset → Limits → (before after : Devices R W N) → Status → Type 0
-PerformsExport tell charset limits before after status =
-    Performs tell charset limits before after status ⊎ LacksMemory tell before after status
+abbrev pub PerformsExport : {R W N : Type 0} → Telling R W N → Charset → Limits → Devices R W N → Devices R W N → Status → Type 0
+PerformsExport tell charset limits before after status = Performs tell charset limits before after status ⊎ LacksMemory tell before after status
+
+-- what a writer tells that takes all and keeps nothing
+abbrev pub untold : Sink → Option (List ℕ)
+untold own = None
+
+-- An export was performed to a writer of its own, none of whose calls had failed.
+pub record Checks {R N : Type 0} (remaining : R → Option (List ℕ)) (said : N → Option (List ℕ)) (charset : Charset) (limits : Limits) (from from' : Counted R) (notes notes' : Counted N) (status : Status) : Type 0 where
+  pub own : Counted Sink
+  pub own' : Counted Sink
+  pub unfailed : own.failures ≡ 0
+  pub performs : PerformsExport (telling remaining untold said) charset limits (devices from own notes) (devices from' own' notes') status
+
+-- An export was performed to a writer of its own, with this status, and the writer given is as it was.
+abbrev pub PerformsCheck : {R W N : Type 0} → Telling R W N → Charset → Limits → Devices R W N → Devices R W N → Status → Type 0
+PerformsCheck tell charset limits before after status = Checks tell.remaining tell.said charset limits before.from after.from before.notes after.notes status × (after.to ≡ before.to)
+
+-- A recut answered, and the status and the line are those of its answer.
+pub record Rewrites {R W N : Type 0} (tell : Telling R W N) (packet_size max_wire : ℕ) (before after : Devices R W N) (status : Status) : Type 0 where
+  pub answer : Result Recutting RecutStop
+  pub recuts : Recuts tell.remaining tell.contents GREATEST_PACKET_SIZE max_wire (packet_size - 8) before.from after.from before.to after.to answer
+  pub status_is : status ≡ status_of_recut answer
+  pub lines : SaysOrFails tell.said before.notes after.notes (recut_lines answer)
+
+-- A recut to packets of this size was performed, with this status.
+abbrev pub PerformsRecut : {R W N : Type 0} → Telling R W N → ℕ → ℕ → Devices R W N → Devices R W N → Status → Type 0
+PerformsRecut tell packet_size max_wire before after status = Rewrites tell packet_size max_wire before after status ⊎ LacksMemory tell before after status
+
+-- What a job is for was performed, with this status.
+abbrev pub PerformsAs : {R W N : Type 0} → Telling R W N → Job → Devices R W N → Devices R W N → Status → Type 0
+PerformsAs tell (Export limits charset file) before after status = PerformsExport tell charset limits before after status
+PerformsAs tell (Check limits charset file) before after status = PerformsCheck tell charset limits before after status
+PerformsAs tell (Recut packet_size max_wire file) before after status = PerformsRecut tell packet_size max_wire before after status
 
 -- A job was performed, with this exit status.
-abbrev pub PerformsJob : {R W N : Type 0} → Telling R W N → Job → (before after : Devices R W N) → ℕ → Type 0
-PerformsJob tell (Export limits charset file) before after number = (status : Status)
-    × (number ≡ status_number status) × PerformsExport tell charset limits before after status
+abbrev pub PerformsJob : {R W N : Type 0} → Telling R W N → Job → Devices R W N → Devices R W N → ℕ → Type 0
+PerformsJob tell job before after number = (status : Status) × (number ≡ status_number status) × PerformsAs tell job before after status

@@ -2,6 +2,8 @@
 use Rattle.std.specs.Prelude.{ℕ, Result, Ok, Err, ◌==◌, if◌then◌else◌}
 use Rattle.tds_packet.specs.declared.fault.Fault.{Fault}
 use Rattle.tds_packet.specs.declared.fault.Fault.TheVariants.{ReadFailed, WriteFailed}
+use Rattle.tds_packet.specs.declared.answer.Recut.{Recut}
+use Rattle.tds_packet.specs.declared.answer.RecutStop.{RecutStop}
 use Rattle.tds_export.specs.declared.report.Report.{Report}
 use Rattle.tds_export.specs.declared.report.Stopped.{Stopped}
 use Rattle.tds_replay.specs.declared.status.Status.{Status}
@@ -26,3 +28,8 @@ status_of_fault fault = BadInput
 abbrev pub status_of : Result Report Stopped → Status
 status_of (Ok report) = if report.errors == 0 then Done else ServerError
 status_of (Err stopped) = status_of_fault stopped.fault
+
+-- how it ends by this answer of a recut
+abbrev pub status_of_recut : Result Recut RecutStop → Status
+status_of_recut (Ok done) = Done
+status_of_recut (Err stop) = status_of_fault stop.stop.fault

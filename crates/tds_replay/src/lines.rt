@@ -1,13 +1,13 @@
 // The lines on standard error.
 ghost use Rattle.std.specs.Prelude.{◌≡◌, ◌≤◌, Ok, length, map};
-ghost use Rattle.tds_replay.specs.Lines.{answer_lines, counts_line, error_line, fault_fields, fault_name as name_of_fault, kind_name as name_of_kind, memory_line, place_number, place_unit, shown_byte, status_line, stop_line, values_line};
+ghost use Rattle.tds_replay.specs.Lines.{answer_lines, counts_line, error_line, fault_fields, fault_name as name_of_fault, kind_name as name_of_kind, memory_line, place_number, place_unit, recut_line, recut_lines, shown_byte, status_line, stop_line, unreadable_line, values_line};
 ghost use Rattle.tds_replay.specs.Saying.{Says};
 
 use crate::pieces::{Piece, Unsaid, say};
 use arrayvec::ArrayVec;
 use std::io::Write;
 use tds_export::{Report, ServerError, Stopped};
-use tds_packet::{Counted, Fault, Place, RefusedKind};
+use tds_packet::{Counted, Fault, Place, Recut, RecutStop, RefusedKind};
 
 /// The most bytes of a message that is kept.
 const MESSAGE_ROOM: usize = 512;
@@ -272,6 +272,57 @@ pub(crate) fn say_answer<W: Write>(
         Ok(report) => say_report(notes, report, message),
         Err(stopped) => say_stop(notes, stopped),
     }
+}
+
+// Writes the line of a recut's numbers.
+fn say_recut<W: Write>(notes: &mut Counted<W>, done: &Recut) -> Result<(), Unsaid>
+    ensures { Says W.contents notes.old notes.new (recut_line done.now) result }
+{
+    say(
+        notes,
+        &[
+            Piece::Text(b"packets "),
+            Piece::Number(done.packets),
+            Piece::Text(b" payload "),
+            Piece::Number(done.payload),
+            Piece::Text(b"\n"),
+        ],
+    )
+}
+
+/// Writes the line of a recut's answer.
+pub(crate) fn say_recut_answer<W: Write>(
+    notes: &mut Counted<W>,
+    answer: &Result<Recut, RecutStop>,
+) -> Result<(), Unsaid>
+    ensures { Says W.contents notes.old notes.new (recut_lines answer.now) result }
+{
+    match answer {
+        Ok(done) => say_recut(notes, done),
+        Err(stopped) => say_stop(
+            notes,
+            &Stopped {
+                fault: stopped.stop.fault,
+                place: stopped.stop.place,
+                written: stopped.written,
+                unwritten: stopped.unwritten,
+            },
+        ),
+    }
+}
+
+/// Writes the line of a file that can't be opened.
+pub(crate) fn say_unreadable<W: Write>(notes: &mut Counted<W>, path: &str) -> Result<(), Unsaid>
+    ensures { Says W.contents notes.old notes.new (unreadable_line path.now) result }
+{
+    say(
+        notes,
+        &[
+            Piece::Text(b"cannot read "),
+            Piece::Text(path.as_bytes()),
+            Piece::Text(b"\n"),
+        ],
+    )
 }
 
 /// Writes the line of want of memory.

@@ -23,8 +23,8 @@ pub(crate) enum Piece<'a> {
 #[derive(Debug, Clone, Copy)]
 pub(crate) struct Unsaid;
 
-// Writes bytes.
-fn put<W: Write>(notes: &mut Counted<W>, bytes: &[u8]) -> Result<(), Unsaid>
+/// Writes bytes.
+pub(crate) fn put<W: Write>(notes: &mut Counted<W>, bytes: &[u8]) -> Result<(), Unsaid>
     ensures { Says W.contents notes.old notes.new bytes.now result }
 {
     match notes.deliver(bytes) {

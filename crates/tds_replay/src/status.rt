@@ -1,9 +1,9 @@
 // How the command ends.
 ghost use Rattle.std.specs.Prelude.{◌≡◌};
-ghost use Rattle.tds_replay.specs.Statuses.{status_of as status_of_answer, status_number};
+ghost use Rattle.tds_replay.specs.Statuses.{status_of as status_of_answer, status_of_fault as fault_status, status_of_recut as recut_status, status_number};
 
 use tds_export::{Report, Stopped};
-use tds_packet::Fault;
+use tds_packet::{Fault, Recut, RecutStop};
 
 /// How the command ends, as its exit status tells it.
 #[derive(Debug, Clone, Copy, PartialEq, Eq)]
@@ -38,6 +38,16 @@ impl Status {
     }
 }
 
+// The status that a fault ends with.
+fn status_of_fault(fault: &Fault) -> Status
+    ensures { result ≡ fault_status fault.now }
+{
+    match fault {
+        Fault::ReadFailed | Fault::WriteFailed => Status::BadDevice,
+        _ => Status::BadInput,
+    }
+}
+
 /// The status that an export's answer ends with.
 pub(crate) fn status_of(answer: &Result<Report, Stopped>) -> Status
     ensures { result ≡ status_of_answer answer.now }
@@ -45,9 +55,16 @@ pub(crate) fn status_of(answer: &Result<Report, Stopped>) -> Status
     match answer {
         Ok(report) if report.errors == 0 => Status::Done,
         Ok(_) => Status::ServerError,
-        Err(stopped) => match stopped.fault {
-            Fault::ReadFailed | Fault::WriteFailed => Status::BadDevice,
-            _ => Status::BadInput,
-        },
+        Err(stopped) => status_of_fault(&stopped.fault),
+    }
+}
+
+/// The status that a recut's answer ends with.
+pub(crate) fn status_of_recut(answer: &Result<Recut, RecutStop>) -> Status
+    ensures { result ≡ recut_status answer.now }
+{
+    match answer {
+        Ok(_) => Status::Done,
+        Err(stopped) => status_of_fault(&stopped.stop.fault),
     }
 }

@@ -1,13 +1,20 @@
 // The command's statuses and lines.
+ghost use Rattle.std.specs.Prelude.{IfOk};
+ghost use Rattle.tds_replay.specs.Jobs.{IsInRange};
+
+mod lines;
+mod recuts;
+mod words;
+
 use crate::job::Job;
-use crate::lines::say_answer;
 use crate::perform::perform;
+use crate::usage::Usage;
+use crate::words::parse;
 use csv::{ByteRecord, ReaderBuilder};
+use std::alloc::{AllocError, Global};
 use std::test::Fail;
-use tds_export::{Charset, Report, ServerError, Stopped};
-use tds_meter::Limits;
+use tds_packet::Counted;
 use tds_packet::rig::{Failing, ScriptedReader, ScriptedWriter};
-use tds_packet::{Counted, Fault, Place, RefusedKind};
 
 // A column of numbers named a, a row of 42, and a DONE, in one packet.
 const WIRE: [u8; 39] = [
@@ -99,29 +106,52 @@ const CASES: [Case; 7] = [
     },
 ];
 
+// A line of words.
+fn words_of(alloc: Global, line: &[&str]) -> Result<Vec<String>, AllocError> {
+    let mut words = Vec::new(alloc);
+    for word in line {
+        words.push(String::from_str(alloc, word)?)?;
+    }
+    Ok(words)
+}
+
+// The job of a line of words.
+fn job(rt: &HostRuntime, line: &[&str]) -> Result<Job, Usage>
+    ensures { IfOk result IsInRange }
+{
+    parse(rt.alloc(), words_of(rt.alloc(), line)?.as_slice())
+}
+
 // The command over a reader and two writers, and its status.
 fn run(
     rt: &HostRuntime,
-    reader: ScriptedReader,
+    line: &[&str],
+    from: &mut Counted<ScriptedReader>,
     to: &mut Counted<ScriptedWriter>,
     notes: &mut Counted<ScriptedWriter>,
 ) -> u8 {
-    let mut from = Counted::new(reader);
-    perform(rt.alloc(), &Job::standard(), &mut from, to, notes)
+    match job(rt, line) {
+        Ok(job) => perform(rt.alloc(), &job, from, to, notes),
+        Err(usage) => usage.say(to, notes).number(),
+    }
 }
 
 fn writer(failing: Failing) -> Counted<ScriptedWriter> {
     Counted::new(ScriptedWriter::new(4096, failing))
 }
 
+fn reader(bytes: &[u8]) -> Counted<ScriptedReader<'_>> {
+    Counted::new(ScriptedReader::new(bytes, 4096))
+}
+
 #[test]
 fn statuses_and_lines(rt: HostRuntime) -> Result<(), Fail> {
     'cases: for case in &CASES {
-        let mut to = writer(Failing::Never);
-        let mut notes = writer(Failing::Never);
+        let (mut to, mut notes) = (writer(Failing::Never), writer(Failing::Never));
         let status = run(
             &rt,
-            ScriptedReader::new(case.wire, 4096),
+            &["export"],
+            &mut reader(case.wire),
             &mut to,
             &mut notes,
         );
@@ -132,13 +162,43 @@ fn statuses_and_lines(rt: HostRuntime) -> Result<(), Fail> {
     Ok(())
 }
 
+// A check has the status and the lines of an export, and writes nothing, not even to a writer that
+// takes nothing.
+#[test]
+fn checks(rt: HostRuntime) -> Result<(), Fail> {
+    'cases: for case in &CASES {
+        let (mut to, mut notes) = (writer(Failing::AfterBytes(0)), writer(Failing::Never));
+        let status = run(&rt, &["check"], &mut reader(case.wire), &mut to, &mut notes);
+        assert_eq!(rt; status, case.status, "{}", case.name);
+        assert_eq!(rt; to.device().writes(), 0, "{}", case.name);
+        assert_eq!(rt; to.device().flushes(), 0, "{}", case.name);
+        assert_eq!(rt; notes.device().kept(), case.line, "{}", case.name);
+    }
+    Ok(())
+}
+
+// What stands behind the last packet is left unread, for what reads the same file next.
+#[test]
+fn nothing_is_read_behind_the_last_packet(rt: HostRuntime) -> Result<(), Fail> {
+    let mut bytes = Vec::new(rt.alloc());
+    bytes.extend_from_slice(&WIRE)?;
+    bytes.push(0xFF)?;
+    let lines: [&[&str]; 3] = [&["export"], &["check"], &["recut", "--packet-size", "512"]];
+    'lines: for line in lines {
+        let (mut to, mut notes) = (writer(Failing::Never), writer(Failing::Never));
+        let mut from = reader(bytes.as_slice());
+        assert_eq!(rt; run(&rt, line, &mut from, &mut to, &mut notes), 0);
+        assert_eq!(rt; from.device().left(), b"\xFF".as_slice());
+    }
+    Ok(())
+}
+
 // Another program's reader of CSV finds the name and the number in the text.
 #[test]
 fn the_text_reads_back(rt: HostRuntime) -> Result<(), Fail> {
-    let mut to = writer(Failing::Never);
-    let mut notes = writer(Failing::Never);
-    run(&rt, ScriptedReader::new(&WIRE, 4096), &mut to, &mut notes);
-    let mut reader = ReaderBuilder::new()
+    let (mut to, mut notes) = (writer(Failing::Never), writer(Failing::Never));
+    run(&rt, &["export"], &mut reader(&WIRE), &mut to, &mut notes);
+    let mut text = ReaderBuilder::new()
         .has_headers(false)
         .from_reader(rt.alloc(), to.device().kept());
     let mut row = ByteRecord::new(rt.alloc());
@@ -146,52 +206,49 @@ fn the_text_reads_back(rt: HostRuntime) -> Result<(), Fail> {
         ("the name", b"a".as_slice()),
         ("the number", b"42".as_slice()),
     ] {
-        assert_eq!(rt;
-            reader.read_byte_record(&mut row).ok(),
-            Some(true),
-            "{what}"
-        );
+        assert_eq!(rt; text.read_byte_record(&mut row).ok(), Some(true), "{what}");
         assert_eq!(rt; row.len(), 1, "{what}");
         assert_eq!(rt; row.get(0), Some(field), "{what}");
     }
-    assert_eq!(rt; reader.read_byte_record(&mut row).ok(), Some(false));
+    assert_eq!(rt; text.read_byte_record(&mut row).ok(), Some(false));
     Ok(())
 }
 
 #[test]
 fn a_failed_read_ends_with_5(rt: HostRuntime) -> Result<(), Fail> {
-    let mut to = writer(Failing::Never);
-    let mut notes = writer(Failing::Never);
-    let status = run(
-        &rt,
-        ScriptedReader::failing(&WIRE, 4096, 20),
-        &mut to,
-        &mut notes,
-    );
-    assert_eq!(rt; status, 5);
-    assert_eq!(rt; to.device().taken(), 0);
-    let line = b"fault 1 ReadFailed at wire 0, written 0, unwritten 0\n";
-    assert_eq!(rt; notes.device().kept(), line.as_slice());
+    let lines: [&[&str]; 3] = [&["export"], &["check"], &["recut", "--packet-size", "512"]];
+    'lines: for line in lines {
+        let (mut to, mut notes) = (writer(Failing::Never), writer(Failing::Never));
+        let mut from = Counted::new(ScriptedReader::failing(&WIRE, 4096, 20));
+        assert_eq!(rt; run(&rt, line, &mut from, &mut to, &mut notes), 5);
+        assert_eq!(rt; to.device().taken(), 0);
+        let said = b"fault 1 ReadFailed at wire 0, written 0, unwritten 0\n";
+        assert_eq!(rt; notes.device().kept(), said.as_slice());
+    }
     Ok(())
 }
 
+// A writer that takes so many bytes and then fails, as a pipe that is closed behind its first line.
 #[test]
 fn a_failed_write_ends_with_5(rt: HostRuntime) -> Result<(), Fail> {
-    let mut to = writer(Failing::AfterBytes(4));
-    let mut notes = writer(Failing::Never);
-    let status = run(&rt, ScriptedReader::new(&WIRE, 4096), &mut to, &mut notes);
-    assert_eq!(rt; status, 5);
-    assert_eq!(rt; to.device().kept(), b"\"a\"\r".as_slice());
-    let line = b"fault 20 WriteFailed at text 4, written 4, unwritten 5\n";
-    assert_eq!(rt; notes.device().kept(), line.as_slice());
+    for taken in 0..9usize {
+        let (mut to, mut notes) = (writer(Failing::AfterBytes(taken)), writer(Failing::Never));
+        let status = run(&rt, &["export"], &mut reader(&WIRE), &mut to, &mut notes);
+        assert_eq!(rt; status, 5);
+        assert_eq!(rt; to.device().kept(), &TEXT[..taken]);
+        let left = 9 - taken;
+        let line = format!(in rt.alloc();
+            "fault 20 WriteFailed at text {taken}, written {taken}, unwritten {left}\n"
+        )?;
+        assert_eq!(rt; notes.device().kept(), line.as_bytes());
+    }
     Ok(())
 }
 
 #[test]
 fn a_failed_note_changes_no_status(rt: HostRuntime) -> Result<(), Fail> {
-    let mut to = writer(Failing::Never);
-    let mut notes = writer(Failing::AfterBytes(8));
-    let status = run(&rt, ScriptedReader::new(&WIRE, 4096), &mut to, &mut notes);
+    let (mut to, mut notes) = (writer(Failing::Never), writer(Failing::AfterBytes(8)));
+    let status = run(&rt, &["export"], &mut reader(&WIRE), &mut to, &mut notes);
     assert_eq!(rt; status, 0);
     assert_eq!(rt; to.device().kept(), TEXT);
     assert_eq!(rt; notes.device().kept(), b"sets 1 r".as_slice());
@@ -199,144 +256,38 @@ fn a_failed_note_changes_no_status(rt: HostRuntime) -> Result<(), Fail> {
     Ok(())
 }
 
-// A stop, and its line.
-struct StopCase {
-    name: &'static str,
-    stopped: Stopped,
-    line: &'static [u8],
-}
-
-const STOPS: [StopCase; 6] = [
-    StopCase {
-        name: "a cut message",
-        stopped: Stopped {
-            fault: Fault::MessageEnded,
-            place: Place::Payload(40),
-            written: 6,
-            unwritten: 0,
-        },
-        line: b"fault 7 MessageEnded at payload 40, written 6, unwritten 0\n",
-    },
-    StopCase {
-        name: "no columns",
-        stopped: Stopped {
-            fault: Fault::NoColumns,
-            place: Place::Payload(1),
-            written: 0,
-            unwritten: 0,
-        },
-        line: b"fault 9 NoColumns at payload 1, written 0, unwritten 0\n",
-    },
-    StopCase {
-        name: "a float",
-        stopped: Stopped {
-            fault: Fault::RefusedColumn {
-                index: 1,
-                kind: RefusedKind::Flt8,
-            },
-            place: Place::Payload(13),
-            written: 0,
-            unwritten: 0,
-        },
-        line: b"fault 10 RefusedColumn 1 FLT8 at payload 13, written 0, unwritten 0\n",
-    },
-    StopCase {
-        name: "an unknown type",
-        stopped: Stopped {
-            fault: Fault::UnknownType {
-                index: 2,
-                byte: 0xAB,
-            },
-            place: Place::Payload(13),
-            written: 0,
-            unwritten: 0,
-        },
-        line: b"fault 11 UnknownType 2 0xab at payload 13, written 0, unwritten 0\n",
-    },
-    StopCase {
-        name: "a bad value",
-        stopped: Stopped {
-            fault: Fault::BadValue { column: 65535 },
-            place: Place::Payload(14),
-            written: 5,
-            unwritten: 0,
-        },
-        line: b"fault 16 BadValue 65535 at payload 14, written 5, unwritten 0\n",
-    },
-    StopCase {
-        name: "a failed write",
-        stopped: Stopped {
-            fault: Fault::WriteFailed,
-            place: Place::Text(8192),
-            written: 8192,
-            unwritten: 4096,
-        },
-        line: b"fault 20 WriteFailed at text 8192, written 8192, unwritten 4096\n",
-    },
-];
-
+// The limits are those that the words name.
 #[test]
-fn lines_of_stops(rt: HostRuntime) -> Result<(), Fail> {
-    'cases: for case in &STOPS {
-        let mut notes = writer(Failing::Never);
-        let said = say_answer(&mut notes, &Err(case.stopped), b"");
-        assert!(rt; said.is_ok(), "{}", case.name);
-        assert_eq!(rt; notes.device().kept(), case.line, "{}", case.name);
+fn limits_are_kept(rt: HostRuntime) -> Result<(), Fail> {
+    let cases: [(&[&str], u8, &[u8]); 4] = [
+        (
+            &["export", "--column-room", "12", "--max-wire", "39"],
+            0,
+            COUNTS,
+        ),
+        (
+            &["export", "--max-wire", "38"],
+            4,
+            b"fault 5 ResponseTooLong at wire 0, written 0, unwritten 0\n",
+        ),
+        (
+            &["check", "--column-room", "11"],
+            4,
+            b"fault 13 DescriptionTooLong at payload 10, written 0, unwritten 0\n",
+        ),
+        (
+            &["recut", "--packet-size", "512", "--max-wire", "38"],
+            4,
+            b"fault 5 ResponseTooLong at wire 0, written 0, unwritten 0\n",
+        ),
+    ];
+    'cases: for (line, status, said) in cases {
+        let (mut to, mut notes) = (writer(Failing::Never), writer(Failing::Never));
+        assert_eq!(rt;
+            run(&rt, line, &mut reader(&WIRE), &mut to, &mut notes),
+            status
+        );
+        assert_eq!(rt; notes.device().kept(), said);
     }
-    Ok(())
-}
-
-const REPORT: Report = Report {
-    sets: 2,
-    rows: 3,
-    errors: 1,
-    infos: 1,
-    first_error: Some(ServerError {
-        number: 208,
-        state: 1,
-        class: 16,
-        line: 1,
-    }),
-    return_status: None,
-    written: 21,
-    return_values: 0,
-};
-
-#[test]
-fn lines_of_reports(rt: HostRuntime) -> Result<(), Fail> {
-    let mut notes = writer(Failing::Never);
-    assert!(rt; say_answer(&mut notes, &Ok(REPORT), b"no").is_ok());
-    let lines =
-        b"sets 2 rows 3 errors 1 infos 1 written 21\nserver error 208, state 1, class 16, line 1: no\n";
-    assert_eq!(rt; notes.device().kept(), lines.as_slice());
-    let mut report = REPORT;
-    report.return_values = 7;
-    report.return_status = Some(-6);
-    let mut notes = writer(Failing::Never);
-    assert!(rt; say_answer(&mut notes, &Ok(report), b"a\tb\x7F\xC2\x80").is_ok());
-    let lines =
-        b"sets 2 rows 3 errors 1 infos 1 written 21\nreturn values 7\nreturn status -6\nserver error 208, state 1, class 16, line 1: a b \xC2\x80\n";
-    assert_eq!(rt; notes.device().kept(), lines.as_slice());
-    Ok(())
-}
-
-// The limits are those that the job names.
-#[test]
-fn a_wire_limit_is_kept(rt: HostRuntime) -> Result<(), Fail> {
-    let limits = Limits::new(512, 12, 38).expect(&rt, "limits in their ranges");
-    let job = Job::Export {
-        limits,
-        charset: Charset::Windows1252,
-        file: None,
-    };
-    let mut from = Counted::new(ScriptedReader::new(&WIRE, 1));
-    let mut to = writer(Failing::Never);
-    let mut notes = writer(Failing::Never);
-    assert_eq!(rt;
-        perform(rt.alloc(), &job, &mut from, &mut to, &mut notes),
-        4
-    );
-    let line = b"fault 5 ResponseTooLong at wire 0, written 0, unwritten 0\n";
-    assert_eq!(rt; notes.device().kept(), line.as_slice());
     Ok(())
 }

@@ -228,6 +228,40 @@ fn many_rows_are_written(rt: HostRuntime) -> Result<(), Fail> {
     Ok(())
 }
 
+// Two columns of int, the first behind a length, and three rows.
+const PAIRS_OF_INTS: [u8; 49] = [
+    0x81, 2, 0, 0, 0, 0, 0, 0, 0, 0x26, 4, 1, 0x61, 0, 0, 0, 0, 0, 0, 0, 0x38, 1, 0x62, 0, 0xD1, 4,
+    42, 0, 0, 0, 0xFF, 0xFF, 0xFF, 0xFF, 0xD1, 0, 7, 0, 0, 0, 0xD1, 4, 0, 0, 0, 0x80, 0, 0, 0,
+];
+
+const TEXT_OF_PAIRS: &[u8] = b"\"a\",\"b\"\r\n42,-1\r\nNULL,7\r\n-2147483648,0\r\n";
+
+fn pairs_of_ints(alloc: Global) -> Result<Vec<u8>, AllocError> {
+    let mut payload = PAIRS_OF_INTS.to_vec(alloc)?;
+    payload.push(0)?;
+    payload.extend_from_slice(DONE)?;
+    Ok(payload)
+}
+
+fn check_cells(areas: &mut Areas, wire: &[u8], body: usize) -> Result<(), Fail> {
+    let written = TEXT_OF_PAIRS.len() as u64;
+    let came = came_to(Ok(report(1, 3, written)), TEXT_OF_PAIRS);
+    same(body, &read(areas, wire, 1000, TEXT_OF_PAIRS), &Some(came))
+}
+
+// Packets of 9 to 80 bytes end at each place of a row: between cells, in a length and in a value, at a
+// row's end and behind a token byte.
+#[test]
+fn runs_of_cells_end_anywhere(rt: HostRuntime) -> Result<(), Fail> {
+    let payload = pairs_of_ints(rt.alloc())?;
+    let mut areas = make_usual_areas(rt.alloc())?;
+    for body in 1..=72 {
+        let wire = in_packets(rt.alloc(), &payload, body)?;
+        check_cells(&mut areas, &wire, body)?;
+    }
+    Ok(())
+}
+
 const ROW_OF_MONEY: [u8; 22] = [
     0x81, 1, 0, 0, 0, 0, 0, 0, 0, 0x3C, 1, 0x61, 0, 0xD1, 0, 0, 0, 0x80, 0, 0, 0, 0,
 ];

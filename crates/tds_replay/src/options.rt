@@ -1,0 +1,160 @@
+// The commands with their options.
+
+use crate::help;
+use clap::builder::ValueParser;
+use clap::{Arg, Command, value_parser};
+use std::alloc::{AllocError, Global};
+use tds_meter::{
+    GREATEST_COLUMN_ROOM, GREATEST_MAX_WIRE, GREATEST_PACKET_SIZE, LEAST_COLUMN_ROOM,
+    LEAST_MAX_WIRE, LEAST_PACKET_SIZE,
+};
+
+/// The command that writes rows.
+pub(crate) const EXPORT: &str = "export";
+
+/// The command that counts rows.
+pub(crate) const CHECK: &str = "check";
+
+/// The command that writes packets.
+pub(crate) const RECUT: &str = "recut";
+
+/// The option of the packet size.
+pub(crate) const PACKET_SIZE: &str = "packet-size";
+
+/// The option of the room for a description.
+pub(crate) const COLUMN_ROOM: &str = "column-room";
+
+/// The option of the limit of the wire.
+pub(crate) const MAX_WIRE: &str = "max-wire";
+
+/// The option of the character set.
+pub(crate) const CHARSET: &str = "charset";
+
+/// The file.
+pub(crate) const FILE: &str = "FILE";
+
+/// The word of UTF-8.
+pub(crate) const UTF_8: &str = "utf-8";
+
+/// The word of Windows-1252.
+const WINDOWS_1252: &str = "windows-1252";
+
+/// The words of character sets.
+static CHARSETS: [&str; 2] = [WINDOWS_1252, UTF_8];
+
+// An option whose value is a number.
+fn number<'a>(alloc: Global, name: &'a str, parser: ValueParser<'a>, help: &'a str) -> Arg<'a> {
+    Arg::new(alloc, name)
+        .long(name)
+        .value_name("N")
+        .value_parser(parser)
+        .help(help)
+}
+
+// The parser of packet sizes.
+fn packet_sizes<'a>() -> ValueParser<'a> {
+    value_parser!(u16).range(i64::from(LEAST_PACKET_SIZE)..=i64::from(GREATEST_PACKET_SIZE))
+}
+
+// The option of the greatest packet that is read.
+fn packet_size<'a>(alloc: Global) -> Arg<'a> {
+    number(alloc, PACKET_SIZE, packet_sizes(), help::PACKET_SIZE).default_value("4096")
+}
+
+// The option of the room for a description.
+fn column_room<'a>(alloc: Global) -> Arg<'a> {
+    let rooms = value_parser!(u32).range(
+        i64::from(LEAST_COLUMN_ROOM)..=i64::from(GREATEST_COLUMN_ROOM),
+    );
+    number(alloc, COLUMN_ROOM, rooms, help::COLUMN_ROOM).default_value("1048576")
+}
+
+// The option of the limit of the wire.
+fn max_wire<'a>(alloc: Global) -> Arg<'a> {
+    let limits = value_parser!(u64).range(LEAST_MAX_WIRE as i64..=GREATEST_MAX_WIRE as i64);
+    number(alloc, MAX_WIRE, limits, help::MAX_WIRE).default_value("1099511627776")
+}
+
+// The option of the character set.
+fn charset<'a>(alloc: Global) -> Arg<'a> {
+    Arg::new(alloc, CHARSET)
+        .long(CHARSET)
+        .value_name("NAME")
+        .value_parser(CHARSETS.as_slice())
+        .default_value(WINDOWS_1252)
+        .help(help::CHARSET)
+}
+
+// The file, which may be left out.
+fn file<'a>(alloc: Global) -> Arg<'a> {
+    Arg::new(alloc, FILE).help(help::FILE)
+}
+
+// A command with the limits of a response.
+fn limited<'a>(alloc: Global, name: &'a str) -> Result<Command<'a>, AllocError> {
+    Command::new(alloc, name)
+        .arg(packet_size(alloc))?
+        .arg(column_room(alloc))?
+        .arg(max_wire(alloc))
+}
+
+// A command that reads a response, with its options.
+fn reading<'a>(alloc: Global, name: &'a str) -> Result<Command<'a>, AllocError> {
+    limited(alloc, name)?.arg(charset(alloc))?.arg(file(alloc))
+}
+
+/// The command `export`.
+pub(crate) fn export<'a>(alloc: Global) -> Result<Command<'a>, AllocError> {
+    Ok(
+        reading(alloc, EXPORT)?
+            .about(help::EXPORT)
+            .long_about(help::EXPORT_LONG)
+            .after_help(help::EXPORT_END),
+    )
+}
+
+/// The command `check`.
+pub(crate) fn check<'a>(alloc: Global) -> Result<Command<'a>, AllocError> {
+    Ok(
+        reading(alloc, CHECK)?
+            .about(help::CHECK)
+            .long_about(help::CHECK_LONG)
+            .after_help(help::CHECK_END),
+    )
+}
+
+/// The command `recut`.
+pub(crate) fn recut<'a>(alloc: Global) -> Result<Command<'a>, AllocError> {
+    let packet_size = number(alloc, PACKET_SIZE, packet_sizes(), help::NEW_PACKET_SIZE);
+    Ok(
+        Command::new(alloc, RECUT)
+            .arg(packet_size.required(true))?
+            .arg(max_wire(alloc))?
+            .arg(file(alloc))?
+            .about(help::RECUT)
+            .long_about(help::RECUT_LONG)
+            .after_help(help::RECUT_END),
+    )
+}
+
+// The program without its commands.
+fn without_commands<'a>(alloc: Global) -> Result<Command<'a>, AllocError> {
+    Command::new(alloc, "tds_replay")
+        .no_binary_name(true)
+        .subcommand_required(true)
+        .about(help::PROGRAM)
+        .after_help(help::PROGRAM_END)
+        .bin_name("tds_replay")
+}
+
+// The program with the commands that read a response.
+fn with_reading<'a>(alloc: Global) -> Result<Command<'a>, AllocError> {
+    without_commands(alloc)?
+        .subcommand(export(alloc)?)?
+        .subcommand(check(alloc)?)
+}
+
+/// The whole command line, behind the program's name.
+pub(crate) fn program<'a>(alloc: Global) -> Result<Command<'a>, AllocError> {
+    with_reading(alloc)?.subcommand(recut(alloc)?)
+}
