@@ -51,7 +51,8 @@ fn gather_fixed<R: Read>(
     requires longest { n ≤ LONGEST }
     ensures payload { LeavesPayload payload.old payload.new result }
     ensures most { IfOk result (λ n. n ≤ LONGEST_CELL) }
-    ensures gives { CellGathered R.remaining kind.now (ScalarBytes kind.now n) column payload.old payload.new cell.new result }
+    ensures gives { CellGathered R.remaining kind.now (ScalarBytes kind.now n) column
+        payload.old payload.new cell.new result }
 {
     let size = n as usize;
     payload.fill(&mut cell[..size])?;
@@ -72,7 +73,8 @@ fn gather_counted<R: Read>(
     requires counted { kinds.fixed_length kind.now ≡ None }
     ensures payload { LeavesPayload payload.old payload.new result }
     ensures most { IfOk result (λ n. n ≤ LONGEST_CELL) }
-    ensures gives { CellGathered R.remaining kind.now (ScalarLength kind.now) column payload.old payload.new cell.new result }
+    ensures gives { CellGathered R.remaining kind.now (ScalarLength kind.now) column
+        payload.old payload.new cell.new result }
 {
     let place = payload.place();
     let mut length = [0u8; 1];
@@ -104,7 +106,8 @@ fn gather_scalar<R: Read>(
     ensures payload { LeavesPayload payload.old payload.new result }
     ensures most { IfOk result (λ n. n ≤ LONGEST_CELL) }
     ensures gives { (charset : sets.Charset) →
-        CellGathered R.remaining kind.now (cell_start kind.now (shape charset kind.now)) column payload.old payload.new cell.new result }
+        CellGathered R.remaining kind.now (cell_start kind.now (shape charset kind.now)) column
+        payload.old payload.new cell.new result }
 {
     match kind.fixed_length() {
         Some(n) => gather_fixed(payload, kind, n, column, cell),
@@ -159,7 +162,8 @@ pub(crate) fn gather_cell<R: Read>(
     ensures most { IfOk result (λ n. n ≤ LONGEST_CELL) }
     ensures scalar { IfOk result (λ n. IsTrue (kinds.is_scalar kind.now)) }
     ensures gives { (charset : sets.Charset) →
-        CellGathered R.remaining kind.now (cell_start kind.now (shape charset kind.now)) column payload.old payload.new cell.new result }
+        CellGathered R.remaining kind.now (cell_start kind.now (shape charset kind.now)) column
+        payload.old payload.new cell.new result }
 {
     match *kind {
         Kind::Binary(reach) | Kind::Narrow(reach) | Kind::Wide(reach) => {

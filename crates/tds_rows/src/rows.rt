@@ -44,7 +44,8 @@ fn put_cell<R: Read, W: Write>(
     ensures payload { LeavesPayload payload.old payload.new result }
     ensures sink { LeavesSink sink.old sink.new result }
     ensures gives { (charset : sets.Charset) (last : Bool) → IsNextKind table.now at.entry kind.now last →
-        CellPut R.remaining W.contents charset kind.now at.entry.column last payload.old payload.new sink.old sink.new result }
+        CellPut R.remaining W.contents charset kind.now at.entry.column last
+        payload.old payload.new sink.old sink.new result }
 {
     let place = payload.place();
     let mut cell = [0u8; LONGEST_CELL];

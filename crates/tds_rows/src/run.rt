@@ -36,7 +36,8 @@ pub(crate) struct Run<'a> {
 fn run_cells<'a>(table: &Table<'a>, from: Ahead<'a>, bytes: &[u8], to: &mut [u8]) -> Cells<'a>
     ensures used { result.used ≤ length bytes.now }
     ensures made { result.made ≤ length to.old }
-    ensures first { FirstJudged table.now from.entry bytes.now (length to.old) to.new result.ahead result.used result.made }
+    ensures first { FirstJudged table.now from.entry bytes.now (length to.old) to.new
+        result.ahead result.used result.made }
     ensures gives { CellsWritten table.now from.entry bytes.now to.new result }
 {
     let mut used = 0;
@@ -70,7 +71,8 @@ pub(crate) fn run_rows<'a>(
     ensures used { result.used ≤ length bytes.now }
     ensures made { result.made ≤ length to.old }
     ensures few { result.rows ≤ result.used }
-    ensures first { FirstJudged table.now from.entry bytes.now (length to.old) to.new result.ahead result.used result.made }
+    ensures first { FirstJudged table.now from.entry bytes.now (length to.old) to.new
+        result.ahead result.used result.made }
     ensures gives { RowsWritten table.now from.entry bytes.now to.new result }
 {
     let mut used = 0;
@@ -112,7 +114,8 @@ pub(crate) fn put_run<'a, R: Read, W: Write>(
     ensures same { IsOnSame payload.old payload.new }
     ensures same_sink { IsOnSameSink sink.old sink.new }
     ensures few { payload.old.place + result.rows ≤ payload.new.place }
-    ensures gives { RowsPut R.remaining W.contents table.now from.entry payload.old payload.new sink.old sink.new result }
+    ensures gives { RowsPut R.remaining W.contents table.now from.entry payload.old payload.new
+        sink.old sink.new result }
 {
     let waiting = sink.waiting() as usize;
     let room = sink.room() - 1;
