@@ -20,7 +20,6 @@ use Rattle.tds_rows.specs.Cells.{Cell, CellPart, CountedShape, FixedShape, LongS
 use Rattle.tds_rows.specs.Rows.{Bitmap, InCell, RowPart, WholeRow, row_start, next_cell, row, row_so_far, with_cell, with_field}
 use Rattle.tds_rows.specs.CellSteps.{IsLeft, PutsCell, StopsCell, WritesCell, cell_so_far, is_last, length_behind, scalar_size, start_behind}
 use Rattle.tds_values.specs.Kind.{fixed_length}
-use Rattle.tds_rows.specs.declared.table.Ahead.{Ahead}
 use Rattle.std.specs.Prelude.{Option, Some, None}
 use Rattle.tds_rows.proofs.CellSteps.{fixed_some}
 use Rattle.tds_rows.specs.Runs.{FirstDone, FirstLeft, RowsPart, RunsRows, Writes, WritesCells, WritesRows, WritesWhole, behind_cells, lines, rows, rows_so_far, rows_start}
@@ -70,25 +69,12 @@ cell_writes charset cells c left bytes made x =
       text_is = (λ i. from_text charset cells c left (length cells + 1) i ++ x.text_is i) ∙ next_text charset cells x.value left (length cells + 1);
     })
 
-pub run_none : (charset : Charset) (cells : List Cell) (columns : List Column) (column : ℕ) → length cells ≡ column → WritesCells charset cells columns columns column [] []
-run_none charset cells columns column h = record {
-  more = [];
-  counted = ap length (append-nil cells) ∙ h;
-  writes = subst (λ l. Writes (row charset) row_so_far (behind_cells charset cells columns) [] [] (behind_cells charset l columns)) (sym (append-nil cells)) (writes_none (row charset) row_so_far (behind_cells charset cells columns));
-}
-
-pub run_more : (charset : Charset) (cells : List Cell) (columns : List Column) (c : Column) (left : List Column) (column : ℕ) (a b p q : List ℕ) → WritesCells charset cells columns (c ∷ left) column a p
-    → WritesWhole (cell_start c.kind (shape charset c.kind)) column (is_last left) b q → WritesCells charset cells columns left (column + 1) (a ++ b) (p ++ q)
-run_more charset cells columns c left column a b p q x y =
-    let whole = cells ++ x.more in
-    let z : WritesWhole (cell_start c.kind (shape charset c.kind)) (length whole) (is_last left) b q = subst (λ (n : ℕ). WritesWhole (cell_start c.kind (shape charset c.kind)) n (is_last left) b q) (sym x.counted) y in
-    let behind : whole ++ z.value ∷ [] ≡ cells ++ (x.more ++ z.value ∷ []) = append_assoc cells x.more (z.value ∷ []) in
-    record {
-      more = x.more ++ z.value ∷ [];
-      counted = ap length (sym behind) ∙ length-append whole (z.value ∷ []) ∙ ap (λ n. n + 1) x.counted;
-      writes = writes_both (row charset) row_so_far (behind_cells charset cells columns) (behind_cells charset whole (c ∷ left)) (behind_cells charset (cells ++ (x.more ++ z.value ∷ [])) left) a b p q x.writes
-          (subst (λ l. Writes (row charset) row_so_far (behind_cells charset whole (c ∷ left)) b q (behind_cells charset l left)) behind (cell_writes charset whole c left b q z));
-    }
+-- one more cell of a row
+pub one_cell : (charset : Charset) (c : Column) (left : List Column) (column : ℕ) (bytes made : List ℕ) → WritesWhole (cell_start c.kind (shape charset c.kind)) column (is_last left) bytes made
+    → (cells : List Cell) → length cells ≡ column → WritesCells charset cells (c ∷ left) left (column + 1) bytes made
+one_cell charset c left column bytes made x cells is =
+    let y : WritesWhole (cell_start c.kind (shape charset c.kind)) (length cells) (is_last left) bytes made = subst (λ (n : ℕ). WritesWhole (cell_start c.kind (shape charset c.kind)) n (is_last left) bytes made) (sym is) x in
+    record { more = y.value ∷ []; counted = length-append cells (y.value ∷ []) ∙ ap (λ n. n + 1) is; writes = cell_writes charset cells c left bytes made y }
 
 -- what is made behind what was made
 made_more : (made m : ℕ) (to new rest : List ℕ) → made ≤ length to → m ≤ length new → take (made + m) (take made to ++ (new ++ rest)) ≡ take made to ++ take m new
@@ -103,17 +89,6 @@ used_more used u bytes = take-add used u bytes ∙ ap (λ l. take used bytes ++ 
 -- what is written behind what was made leaves it as it was
 pub made_same : (made : ℕ) (to rest : List ℕ) → made ≤ length to → take made (take made to ++ rest) ≡ take made to
 made_same made to rest within = take-append-le made (take made to) rest (omega (arith, within, length-take-le made to within)) ∙ take_all made (take made to) (omega (arith, within, length-take-le made to within))
-
--- one cell more, in the bytes that are left and behind what was made
-pub run_step : (charset : Charset) (cells : List Cell) (columns : List Column) (c : Column) (left : List Column) (column next used u made m : ℕ) (bytes to new rest : List ℕ) → made ≤ length to → m ≤ length new → next ≡ column + 1
-    → WritesCells charset cells columns (c ∷ left) column (take used bytes) (take made to)
-    → WritesWhole (cell_start c.kind (shape charset c.kind)) column (is_last left) (take u (take (length bytes - used) (drop used bytes))) (take m new)
-    → WritesCells charset cells columns left next (take (used + u) bytes) (take (made + m) (take made to ++ (new ++ rest)))
-run_step charset cells columns c left column next used u made m bytes to new rest within some further x y =
-    subst (λ (n : ℕ). WritesCells charset cells columns left n (take (used + u) bytes) (take (made + m) (take made to ++ (new ++ rest)))) (sym further)
-    (subst (λ l. WritesCells charset cells columns left (column + 1) l (take (made + m) (take made to ++ (new ++ rest)))) (sym (used_more used u bytes))
-    (subst (λ l. WritesCells charset cells columns left (column + 1) (take used bytes ++ take u (take (length bytes - used) (drop used bytes))) l) (sym (made_more made m to new rest within some))
-    (run_more charset cells columns c left column (take used bytes) (take u (take (length bytes - used) (drop used bytes))) (take made to) (take m new) x y)))
 
 -- ---- the first cell ahead
 
@@ -155,6 +130,10 @@ first_step at from columns c left kind last used u made m bytes to new rest no_u
 pub first_further : (from : ℕ) (columns : List Column) (bytes text text' : List ℕ) (used u made made' : ℕ) → 0 < u → FirstDone from columns bytes text used made → FirstDone from columns bytes text' (used + u) made'
 first_further from columns bytes text text' used u made made' some f = λ column tail h. let x = f column tail h in (omega (arith, x.0), λ e. absurd (omega (arith, e, x.0, some)))
 
+-- none is ahead, so whatever was done, it was done with it
+pub none_first : (at from : ℕ) (columns : List Column) (bytes text : List ℕ) (used made : ℕ) → at ≡ from → drop at columns ≡ [] → FirstDone from columns bytes text used made
+none_first at from columns bytes text used made first none = λ column tail h. absurd (let e : column ∷ tail ≡ [] = sym h ∙ ap (λ n. drop n columns) (sym first) ∙ none in omega (arith, ap length e))
+
 -- it is left
 pub first_left : (at from : ℕ) (columns : List Column) (c : Column) (left : List Column) (kind : Kind) (used : ℕ) (bytes : List ℕ) → used ≡ 0 → at ≡ from → drop at columns ≡ c ∷ left → kind ≡ c.kind
     → IsLeft kind (take (length bytes - used) (drop used bytes)) → FirstLeft from columns bytes
@@ -165,26 +144,6 @@ first_left at from columns c left kind used bytes no_use first step is x = λ co
 -- none is ahead
 pub none_ahead : (at from : ℕ) (columns : List Column) (bytes : List ℕ) → at ≡ from → drop at columns ≡ [] → FirstLeft from columns bytes
 none_ahead at from columns bytes first none = λ column tail h. absurd (let e : column ∷ tail ≡ [] = sym h ∙ ap (λ n. drop n columns) (sym first) ∙ none in omega (arith, ap length e))
-
--- what the run within the first row did with it
-pub rows_first : (at from end : Ahead) (columns : List Column) (used u made m : ℕ) (bytes to new rest : List ℕ) → used ≡ 0 → made ≡ 0 → at ≡ from → made ≤ length to → m ≤ length new
-    → ((u ≡ 0) × (end ≡ at) × FirstLeft at.column columns (take (length bytes - used) (drop used bytes))) ⊎ FirstDone at.column columns (take (length bytes - used) (drop used bytes)) new u m
-    → ((used + u ≡ 0) × (end ≡ from) × FirstLeft from.column columns bytes) ⊎ FirstDone from.column columns bytes (take made to ++ (new ++ rest)) (used + u) (made + m)
-rows_first at from end columns used u made m bytes to new rest no_use no_text same within some (inl x) =
-    inl (omega (arith, no_use, x.0), x.1 ∙ same, λ column tail h. subst (λ l. IsLeft column.kind l) (none_used used bytes no_use) (x.2 column tail (ap (λ (a : Ahead). drop a.column columns) same ∙ h)))
-rows_first at from end columns used u made m bytes to new rest no_use no_text same within some (inr f) = inr (λ column tail h.
-    let x = f column tail (ap (λ (a : Ahead). drop a.column columns) same ∙ h) in
-    let whole = none_used used bytes no_use in
-    let size = ap (scalar_size column.kind) whole in
-    let used_is : take (used + u) bytes ≡ take u (take (length bytes - used) (drop used bytes)) = used_more used u bytes ∙ ap (λ n. take n bytes ++ take u (take (length bytes - used) (drop used bytes))) no_use in
-    let made_is : take (made + m) (take made to ++ (new ++ rest)) ≡ take m new = made_more made m to new rest within some ∙ ap (λ n. take n to ++ take m new) no_text in (
-      omega (arith, x.0, size, no_use),
-      λ e charset.
-          subst (λ l. WritesCell (cell_start column.kind (shape charset column.kind)) from.column (is_last tail) l (take (made + m) (take made to ++ (new ++ rest)))) (sym used_is)
-          (subst (λ l. WritesCell (cell_start column.kind (shape charset column.kind)) from.column (is_last tail) (take u (take (length bytes - used) (drop used bytes))) l) (sym made_is)
-          (subst (λ (a : Ahead). WritesCell (cell_start column.kind (shape charset column.kind)) a.column (is_last tail) (take u (take (length bytes - used) (drop used bytes))) (take m new)) same
-          (x.1 (omega (arith, e, size, no_use)) charset))),
-    ))
 
 -- ---- a run on the bytes of one cell
 
@@ -306,8 +265,19 @@ rows_step charset all cells columns left left' column column' count used u made 
     (subst (λ l. WritesRows charset all cells columns left' column' count (take used bytes ++ take u (take (length bytes - used) (drop used bytes))) l) (sym (made_more made m to new rest within some))
     (rows_more charset all cells columns left left' column column' count (take used bytes) (take u (take (length bytes - used) (drop used bytes))) (take made to) (take m new) x f))
 
+-- one cell more, in the bytes that are left and behind what was made
+pub rows_one : (charset : Charset) (all : List Column) (cells : List Cell) (columns left left' : List Column) (c : Column) (column next count used u made m : ℕ) (bytes to new rest : List ℕ) → made ≤ length to → m ≤ length new → left ≡ c ∷ left' → next ≡ column + 1
+    → WritesRows charset all cells columns left column count (take used bytes) (take made to)
+    → WritesWhole (cell_start c.kind (shape charset c.kind)) column (is_last left') (take u (take (length bytes - used) (drop used bytes))) (take m new)
+    → WritesRows charset all cells columns left' next count (take (used + u) bytes) (take (made + m) (take made to ++ (new ++ rest)))
+rows_one charset all cells columns left left' c column next count used u made m bytes to new rest within some step further x y =
+    let taken = take u (take (length bytes - used) (drop used bytes)) in
+    subst (λ (n : ℕ). WritesRows charset all cells columns left' n count (take (used + u) bytes) (take (made + m) (take made to ++ (new ++ rest)))) (sym further)
+    (rows_step charset all cells columns left left' column (column + 1) count used u made m bytes to new rest within some x
+    (λ cs h. subst (λ (l : List Column). WritesCells charset cs l left' (column + 1) taken (take m new)) (sym step) (one_cell charset c left' column taken (take m new) y cs h)))
+
 -- and then the token byte of the next row
-rows_onward : (charset : Charset) (all : List Column) (cells : List Cell) (columns left : List Column) (column count used : ℕ) (bytes p : List ℕ) → 0 < length all → left ≡ [] → used < length bytes → get_or bytes used 0 ≡ 0xD1
+pub rows_onward : (charset : Charset) (all : List Column) (cells : List Cell) (columns left : List Column) (column count used : ℕ) (bytes p : List ℕ) → 0 < length all → left ≡ [] → used < length bytes → get_or bytes used 0 ≡ 0xD1
     → WritesRows charset all cells columns left column count (take used bytes) p → WritesRows charset all cells columns all 0 (count + 1) (take (used + 1) bytes) p
 rows_onward charset all cells columns left column count used bytes p some none within is x =
     let one : take (used + 1) bytes ≡ take used bytes ++ 0xD1 ∷ [] = take_more bytes used 0 within ∙ ap (λ n. take used bytes ++ n ∷ []) is in
@@ -316,17 +286,6 @@ rows_onward charset all cells columns left column count used bytes p some none w
 none_left : (left : List Column) (n : ℕ) → n ≡ length left → n ≡ 0 → left ≡ []
 none_left [] n h z = refl
 none_left (c ∷ cs) n h z = absurd (omega (arith, h, z))
-
--- a run to the end of a row, and the token byte of the next one
-pub rows_over : (charset : Charset) (all : List Column) (cells : List Cell) (columns left left' : List Column) (column column' next count used u made m n : ℕ) (bytes to new rest : List ℕ) → made ≤ length to → m ≤ length new
-    → 0 < length all → n ≡ length left' → n ≡ 0 → used + u < length bytes → get_or bytes (used + u) 0 ≡ 0xD1 → next ≡ 0
-    → WritesRows charset all cells columns left column count (take used bytes) (take made to)
-    → ((cells : List Cell) → length cells ≡ column → WritesCells charset cells left left' column' (take u (take (length bytes - used) (drop used bytes))) (take m new))
-    → WritesRows charset all cells columns (drop next all) next (count + 1) (take ((used + u) + 1) bytes) (take (made + m) (take made to ++ (new ++ rest)))
-rows_over charset all cells columns left left' column column' next count used u made m n bytes to new rest within fits some counted none lies is first x f =
-    subst (λ (k : ℕ). WritesRows charset all cells columns (drop k all) k (count + 1) (take ((used + u) + 1) bytes) (take (made + m) (take made to ++ (new ++ rest)))) (sym first)
-    (rows_onward charset all cells columns left' column' count (used + u) bytes (take (made + m) (take made to ++ (new ++ rest))) some (none_left left' n counted none) lies is
-    (rows_step charset all cells columns left left' column column' count used u made m bytes to new rest within fits x f))
 
 pub rows_run : (charset : Charset) (all : List Column) (cells : List Cell) (columns left : List Column) (column count : ℕ) (a b : Seen) (place place' : ℕ) (h j : Held) (bytes made : List ℕ) → WritesRows charset all cells columns left column count bytes made
     → Takes a b bytes (length bytes) → place' ≡ place + length bytes → Puts h j made → RunsRows charset all cells columns left column count a b place place' h j

@@ -1,13 +1,20 @@
 -- A table of columns, column by column.
-use Rattle.std.proofs.Common.{◌≡◌, ◌∙◌, ℕ, ◌+◌, ◌-◌, ◌≤◌, ◌<◌, List, [], ◌∷◌, ◌++◌, length, take, drop, get_or, sym, ap, arith}
-use Rattle.std.specs.Prelude.{map, slice_set}
-use Rattle.std.proofs.lemmas.List.{drop_more, get_or-map, get_or-take, length-drop, length-take, map-append, take_more, take_more_set}
+use Rattle.std.proofs.Common.{◌≡◌, ◌∙◌, ℕ, ◌+◌, ◌≤◌, ◌<◌, List, [], ◌∷◌, ◌++◌, length, take, drop, get_or, sym, ap, arith}
+use Rattle.std.specs.Prelude.{map, slice_set, ◌==◌}
+use Rattle.tds_rows.specs.CellSteps.{is_last}
+use Rattle.std.proofs.lemmas.Bool.{eq-eqb, ne_eqb}
+use Rattle.std.proofs.lemmas.List.{drop_all, drop_more, get_or-map, get_or-take, length-drop, length-take, map-append, take_more, take_more_set}
 use Rattle.tds_columns.specs.Description.{Column}
-use Rattle.tds_columns.specs.Walking.{columns_left}
+use Rattle.std.specs.Prelude.{Option, Some, None}
+use Rattle.std.specs.Iterator.{YieldsFirstBy}
+use lib.Seq.{drop-drop}
+use Rattle.tds_columns.specs.declared.walk.Column as walks
+use Rattle.tds_columns.specs.declared.walk.Walk.{Walk}
+use Rattle.tds_columns.specs.Walking.{column_value, columns_left}
 use Rattle.tds_rows.specs.declared.table.Ahead.{Ahead}
 use Rattle.tds_rows.specs.declared.table.Form.{Form}
 use Rattle.tds_rows.specs.declared.table.Table.{Table}
-use Rattle.tds_rows.specs.Tables.{IsAhead, Knows, TakesColumn, kinds}
+use Rattle.tds_rows.specs.Tables.{IsAhead, Knows, NextColumn, TakesColumn, kinds}
 
 -- what is ahead begins with the next column
 pub next_column : (columns : List Column) (k : ℕ) (c : Column) (rest : List Column) → drop k columns ≡ c ∷ rest → (k < length columns) × ((get_or columns k c ≡ c) × (drop (k + 1) columns ≡ rest))
@@ -32,40 +39,62 @@ known_kind forms columns n k f c first known some within =
     ap (λ (f : Form). f.kind) (sym (get_or-take n forms k f known)) ∙ sym (get_or-map (λ f. f.kind) (take n forms) k f f.kind one) ∙ ap (λ l. get_or l k f.kind) first
     ∙ get_or-map (λ c. c.kind) (take n columns) k c f.kind two ∙ ap (λ (c : Column). c.kind) (get_or-take n columns k c known)
 
-module _ (table : Table) (columns : List Column) (old new : Ahead) (form : Form) (knows : Knows table columns) (is : IsAhead table columns old) (further : new.column ≡ old.column + 1) (some : 0 < old.left) (less : new.left ≡ old.left - 1) where
-  -- a column that the table knows was taken
-  pub takes_known : (d : Form) → old.column < table.known → table.known ≤ length table.forms → form.kind ≡ (get_or table.forms old.column d).kind → columns_left new.walk ≡ columns_left old.walk → TakesColumn table columns old new form
-  takes_known d known fits kind same =
-      let counted : old.column + old.left ≡ length columns = is.counted in
-      let within : old.column < length columns = omega (arith, counted, some) in
-      let c : Column = get_or columns old.column (record { kind = form.kind; name = [] }) in
+module _ (table : Table) (columns : List Column) (at : Ahead) (form : Form) (knows : Knows table columns) (is : IsAhead table columns at) where
+  -- a column that the table knows is next
+  pub next_known : (d : Form) → at.column < table.count → at.column < table.known → table.known ≤ length table.forms → form.kind ≡ (get_or table.forms at.column d).kind → NextColumn columns at form
+  next_known d some known fits kind =
+      let within : at.column < length columns = omega (arith, knows.counted, some) in
+      let c : Column = record { kind = form.kind; name = [] } in
       record {
-        column = c;
-        next = drop_more columns old.column (record { kind = form.kind; name = [] }) within ∙ ap (λ (n : ℕ). c ∷ drop n columns) (sym further);
-        kind = kind ∙ known_kind table.forms columns table.known old.column d (record { kind = form.kind; name = [] }) knows.first known fits within;
-        further = further;
-        ahead = record {
-          counted = omega (arith, counted, further, less, some);
-          within = λ _. same ∙ is.within (omega (arith, known));
-          beyond = λ most. same ∙ is.within (omega (arith, known)) ∙ ap (λ (n : ℕ). drop n columns) (omega (arith, most, known, further));
-        };
+        column = get_or columns at.column c;
+        rest = drop (at.column + 1) columns;
+        next = drop_more columns at.column c within;
+        kind = kind ∙ known_kind table.forms columns table.known at.column d c knows.first known fits within;
       }
 
-  -- a column that the walk gave was taken
-  pub takes_walked : (c : Column) → table.known ≤ old.column → columns_left old.walk ≡ c ∷ columns_left new.walk → form.kind ≡ c.kind → TakesColumn table columns old new form
-  takes_walked c beyond steps kind =
-      let counted : old.column + old.left ≡ length columns = is.counted in
-      let at : drop old.column columns ≡ c ∷ columns_left new.walk = sym (is.beyond beyond) ∙ steps in
-      let next = next_column columns old.column c (columns_left new.walk) at in
-      let rest : columns_left new.walk ≡ drop new.column columns = sym next.1.1 ∙ ap (λ (n : ℕ). drop n columns) (sym further) in
+  -- a column that the walk gives is next
+  pub next_walked : (c : Column) (rest : List Column) → table.known ≤ at.column → columns_left at.walk ≡ c ∷ rest → form.kind ≡ c.kind → NextColumn columns at form
+  next_walked c rest beyond steps kind = record { column = c; rest = rest; next = sym (is.beyond beyond) ∙ steps; kind = kind }
+
+module _ (table : Table) (columns : List Column) (old new : Ahead) (knows : Knows table columns) (is : IsAhead table columns old) (further : new.column ≡ old.column + 1) (some : old.column < table.count) where
+  -- the place behind a column that the table knows
+  pub behind_known : old.column < table.known → columns_left new.walk ≡ columns_left old.walk → IsAhead table columns new
+  behind_known known same =
       record {
-        column = c;
-        next = at ∙ ap (λ l. c ∷ l) rest;
-        kind = kind;
-        further = further;
-        ahead = record {
-          counted = omega (arith, counted, further, less, some);
-          within = λ most. absurd (omega (arith, most, beyond, further));
-          beyond = λ _. rest;
-        };
+        counted = omega (arith, knows.counted, further, some);
+        within = λ _. same ∙ is.within (omega (arith, known));
+        beyond = λ most. same ∙ is.within (omega (arith, known)) ∙ ap (λ (n : ℕ). drop n columns) (omega (arith, most, known, further));
       }
+
+  -- the place behind a column that the walk gives
+  pub behind_walked : table.known ≤ old.column → columns_left new.walk ≡ drop 1 (columns_left old.walk) → IsAhead table columns new
+  behind_walked beyond steps =
+      record {
+        counted = omega (arith, knows.counted, further, some);
+        within = λ most. absurd (omega (arith, most, beyond, further));
+        beyond = λ _. steps ∙ ap (drop 1) (is.beyond beyond) ∙ drop-drop 1 old.column columns ∙ ap (λ (n : ℕ). drop n columns) (omega (arith, further));
+      }
+
+-- what a walk leaves behind its next column
+pub walk_behind : (walk new : Walk) (column : Option walks.Column) → YieldsFirstBy column_value columns_left walk column new → columns_left new ≡ drop 1 (columns_left walk)
+walk_behind walk new None y = y.1 ∙ ap (drop 1) (sym y.0)
+walk_behind walk new (Some c) y = ap (drop 1) (sym y)
+
+-- the next column was taken
+pub takes : (table : Table) (columns : List Column) (old new : Ahead) (form : Form) → NextColumn columns old form → new.column ≡ old.column + 1 → IsAhead table columns new → TakesColumn table columns old new form
+takes table columns old new form x further ahead = record {
+  column = x.column;
+  next = x.next ∙ ap (λ l. x.column ∷ l) (sym (next_column columns old.column x.column x.rest x.next).1.1 ∙ ap (λ (n : ℕ). drop n columns) (sym further));
+  kind = x.kind;
+  further = further;
+  ahead = ahead;
+}
+
+-- a column is the last one where as many as there are lie before what is behind it
+pub last_one : (columns rest : List Column) (c : Column) (k n : ℕ) → n ≡ length columns → drop k columns ≡ c ∷ rest → (k + 1 == n) ≡ is_last rest
+last_one columns [] c k n whole next = eq-eqb (k + 1) n (omega (arith, whole, length-drop k columns, ap length next))
+last_one columns (d ∷ ds) c k n whole next = ne_eqb (k + 1) n (λ e. omega (arith, e, whole, length-drop k columns, ap length next))
+
+-- none is next where as many as there are lie before
+pub none_next : (columns : List Column) (k n : ℕ) → n ≡ length columns → n ≤ k → drop k columns ≡ []
+none_next columns k n whole all = drop_all k columns (omega (arith, whole, all))

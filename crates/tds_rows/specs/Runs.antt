@@ -12,7 +12,6 @@ use Rattle.tds_csv.specs.declared.sink.Sink.{Sink}
 use Rattle.tds_csv.specs.Sinks.{Held, held}
 use Rattle.tds_csv.specs.Streaming.{Streams}
 use Rattle.tds_rows.specs.declared.Charset.{Charset}
-use Rattle.tds_rows.specs.declared.run.Cells.{Cells}
 use Rattle.tds_rows.specs.declared.run.Run.{Run}
 use Rattle.tds_rows.specs.declared.run.TheConstants.{ROW}
 use Rattle.tds_rows.specs.declared.table.Ahead.{Ahead}
@@ -116,13 +115,7 @@ abbrev pub FirstJudged : Table → Ahead → List ℕ → ℕ → List ℕ → A
 FirstJudged table from bytes room text ahead used made = (columns : List Column) → Knows table columns → IsAhead table columns from → CELL_ROOM ≤ room →
     ((used ≡ 0) × (ahead ≡ from) × FirstLeft from.column columns bytes) ⊎ FirstDone from.column columns bytes text used made
 
--- A run within a row wrote the text of the bytes that it used, and ended at a place of that row.
-abbrev pub CellsWritten : Table → Ahead → List ℕ → List ℕ → Cells → Type 0
-CellsWritten table from bytes text run = (columns : List Column) → Knows table columns → IsAhead table columns from →
-    IsAhead table columns run.ahead × ((charset : Charset) (cells : List Cell) → length cells ≡ from.column →
-    WritesCells charset cells (drop from.column columns) (drop run.ahead.column columns) run.ahead.column (take run.used bytes) (take run.made text))
-
--- The same over the ends of rows.
+-- A run wrote the text of the bytes that it used, over the ends of rows, and ended at a place of a row.
 abbrev pub RowsWritten : Table → Ahead → List ℕ → List ℕ → Run → Type 0
 RowsWritten table from bytes text run = (columns : List Column) → Knows table columns → IsAhead table columns from →
     IsAhead table columns run.ahead × ((charset : Charset) (cells : List Cell) → length cells ≡ from.column →

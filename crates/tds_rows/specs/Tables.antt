@@ -20,9 +20,20 @@ pub record Knows (table : Table) (columns : List Column) : Type 0 where
 
 -- The place is one in a row of these columns: its walk is over those ahead that the table doesn't know.
 pub record IsAhead (table : Table) (columns : List Column) (at : Ahead) : Type 0 where
-  pub counted : at.column + at.left ≡ length columns
+  pub counted : at.column ≤ length columns
   pub within : at.column ≤ table.known → columns_left at.walk ≡ drop table.known columns
   pub beyond : table.known ≤ at.column → columns_left at.walk ≡ drop at.column columns
+
+-- The next column is ahead, and this is its kind.
+pub record NextColumn (columns : List Column) (at : Ahead) (form : Form) : Type 0 where
+  pub column : Column
+  pub rest : List Column
+  pub next : drop at.column columns ≡ column ∷ rest
+  pub kind : form.kind ≡ column.kind
+
+-- This is the kind of the next column, or none is ahead.
+abbrev pub NextForm : List Column → Ahead → Option Form → Type 0
+NextForm columns at result = MatchOption result (drop at.column columns ≡ []) (λ form. NextColumn columns at form)
 
 -- A column was taken, the next one ahead, and this is its kind.
 pub record TakesColumn (table : Table) (columns : List Column) (old new : Ahead) (form : Form) : Type 0 where

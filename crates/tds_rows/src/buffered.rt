@@ -1,10 +1,11 @@
 // A cell of a scalar kind whose bytes lie together.
-ghost use Rattle.std.specs.Prelude.{◌≡◌, ◌≤◌, ◌<◌, length, IsTrue, IfSome, MatchOption};
+ghost use Rattle.std.specs.Prelude.{◌≡◌, ◌≤◌, ◌<◌, ◌⊎◌, false, length, IsTrue, IfSome, MatchOption};
 ghost use Rattle.tds_rows.specs.CellSteps.{CellWritten, scalar_size, value_length, value_start};
 ghost use Rattle.tds_values.specs.Kind as kinds;
 
 use crate::fields::write_value;
 use crate::rows::{CELL_ROOM, TEXT_ROOM};
+use crate::table::{Form, Layout};
 use tds_csv::write_null;
 use tds_values::Kind;
 
@@ -29,44 +30,42 @@ pub(crate) fn length_size(kind: &Kind) -> usize
 }
 
 // Where the value of a cell lies in these bytes, and how many it has: behind its length, unless each value of
-// its kind has as many. None where no length is there.
+// its kind has as many. None where its kind is a long one, or no length is there.
 #[inline(always)]
-fn value_at(kind: &Kind, bytes: &[u8]) -> Option<(usize, usize)>
-    requires valid { IsTrue (kinds.is_valid kind.now) }
-    ensures { MatchOption result (length bytes.now < scalar_size kind.now bytes.now)
-        (λ at. (at.0 ≡ value_start kind.now) × (at.1 ≡ value_length kind.now bytes.now)) }
+fn value_at(form: &Form, bytes: &[u8]) -> Option<(usize, usize)>
+    ensures scalar { IfSome result (λ at. IsTrue (kinds.is_scalar form.now.kind)) }
+    ensures gives { MatchOption result
+        ((kinds.is_scalar form.now.kind ≡ false) ⊎ (length bytes.now < scalar_size form.now.kind bytes.now))
+        (λ at. (at.0 ≡ value_start form.now.kind) × (at.1 ≡ value_length form.now.kind bytes.now)) }
 {
-    match kind.fixed_length() {
-        Some(n) => Some((0, n as usize)),
-        None => {
+    match form.layout {
+        Layout::Fixed(n) => Some((0, n as usize)),
+        Layout::Counted => {
             if bytes.is_empty() {
                 return None;
             }
             Some((1, bytes[0] as usize))
         }
+        Layout::Long => None,
     }
 }
 
 // Writes the cell at the front of these bytes; none where it isn't whole, is refused or isn't a scalar.
 #[inline(always)]
 pub(crate) fn write_cell(
-    kind: &Kind,
+    form: &Form,
     column: u16,
     last: bool,
     bytes: &[u8],
     to: &mut [u8],
 ) -> Option<Written>
-    requires valid { IsTrue (kinds.is_valid kind.now) }
     requires room { CELL_ROOM ≤ length to.old }
     ensures used { IfSome result (λ written. written.used ≤ length bytes.now) }
     ensures most { IfSome result (λ written. written.made ≤ TEXT_ROOM) }
-    ensures whole { IfSome result (λ written. written.used ≡ scalar_size kind.now bytes.now) }
-    ensures gives { CellWritten kind.now column last bytes.now to.new result }
+    ensures whole { IfSome result (λ written. written.used ≡ scalar_size form.now.kind bytes.now) }
+    ensures gives { CellWritten form.now.kind column last bytes.now to.new result }
 {
-    if !kind.is_scalar() {
-        return None;
-    }
-    let Some((start, n)) = value_at(kind, bytes) else {
+    let Some((start, n)) = value_at(form, bytes) else {
         return None;
     };
     let used = start + n;
@@ -77,7 +76,7 @@ pub(crate) fn write_cell(
         let made = write_null(column, last, to);
         return Some(Written { used, made });
     }
-    match write_value(kind, column, last, &bytes[start..used], to) {
+    match write_value(&form.kind, column, last, &bytes[start..used], to) {
         Some(made) => Some(Written { used, made }),
         None => None,
     }

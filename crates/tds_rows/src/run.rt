@@ -2,7 +2,7 @@
 ghost use Rattle.std.specs.Prelude.{◌≡◌, ◌+◌, ◌<◌, ◌≤◌, length};
 ghost use Rattle.tds_csv.specs.Sinks.{IsOnSameSink, IsWriting, held};
 ghost use Rattle.tds_packet.specs.Payloads.{IsGoing, IsOnSame, seen};
-ghost use Rattle.tds_rows.specs.Runs.{CellsWritten, FirstJudged, RowsPut, RowsWritten};
+ghost use Rattle.tds_rows.specs.Runs.{FirstJudged, RowsPut, RowsWritten};
 
 use crate::buffered::write_cell;
 use crate::rows::CELL_ROOM;
@@ -14,14 +14,6 @@ use tds_packet::Payload;
 /// The token byte of a ROW (MS-TDS, ROW).
 const ROW: u8 = 0xD1;
 
-/// How many bytes a run within a row used, how many it made, and where it ended.
-#[derive(Clone, Copy)]
-pub(crate) struct Cells<'a> {
-    used: usize,
-    made: usize,
-    ahead: Ahead<'a>,
-}
-
 /// How many bytes a run over rows used, how many it made, how many rows it began, and where it ended.
 #[derive(Clone, Copy)]
 pub(crate) struct Run<'a> {
@@ -31,35 +23,8 @@ pub(crate) struct Run<'a> {
     pub(crate) ahead: Ahead<'a>,
 }
 
-// Writes cell after cell of a row, as far as they lie whole in these bytes, are scalars and have room.
-#[inline(always)]
-fn run_cells<'a>(table: &Table<'a>, from: Ahead<'a>, bytes: &[u8], to: &mut [u8]) -> Cells<'a>
-    ensures used { result.used ≤ length bytes.now }
-    ensures made { result.made ≤ length to.old }
-    ensures first { FirstJudged table.now from.entry bytes.now (length to.old) to.new
-        result.ahead result.used result.made }
-    ensures gives { CellsWritten table.now from.entry bytes.now to.new result }
-{
-    let mut used = 0;
-    let mut made = 0;
-    let mut ahead = from;
-    while to.len() - made >= CELL_ROOM {
-        let Some((form, behind)) = table.next(ahead) else {
-            break;
-        };
-        let last = behind.left == 0;
-        let rest = &bytes[used..];
-        let Some(written) = write_cell(&form.kind, ahead.column, last, rest, &mut to[made..]) else {
-            break;
-        };
-        used += written.used;
-        made += written.made;
-        ahead = behind;
-    }
-    Cells { used, made, ahead }
-}
-
-// Writes the cells of row after row: behind a whole row it goes on where the byte of the next ROW lies.
+// Writes cell after cell, as far as they lie whole in these bytes, are scalars and have room, over the ends
+// of rows: behind a whole row it goes on where the byte of the next ROW lies.
 #[inline(never)]
 pub(crate) fn run_rows<'a>(
     table: &Table<'a>,
@@ -79,22 +44,30 @@ pub(crate) fn run_rows<'a>(
     let mut made = 0;
     let mut rows = 0;
     let mut ahead = from;
-    loop {
-        let cells = run_cells(table, ahead, &bytes[used..], &mut to[made..]);
-        used += cells.used;
-        made += cells.made;
-        ahead = cells.ahead;
-        if ahead.left != 0 || used == bytes.len() || bytes[used] != ROW {
-            return Run {
-                used,
-                made,
-                rows,
-                ahead,
-            };
-        }
-        used += 1;
-        rows += 1;
-        ahead = table.start();
+    while to.len() - made >= CELL_ROOM {
+        let Some(form) = table.form(ahead) else {
+            if used == bytes.len() || bytes[used] != ROW {
+                break;
+            }
+            used += 1;
+            rows += 1;
+            ahead = table.start();
+            continue;
+        };
+        let last = table.is_last(ahead);
+        let rest = &bytes[used..];
+        let Some(written) = write_cell(&form, ahead.column, last, rest, &mut to[made..]) else {
+            break;
+        };
+        used += written.used;
+        made += written.made;
+        ahead = table.behind(ahead);
+    }
+    Run {
+        used,
+        made,
+        rows,
+        ahead,
     }
 }
 

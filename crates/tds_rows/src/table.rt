@@ -1,19 +1,33 @@
 // What the cells of a description's columns need of them, known once for all its rows.
-ghost use Rattle.std.specs.Prelude.{◌≡◌, ◌+◌, ◌<◌, ◌≤◌, IfSome, IsTrue, List};
+ghost use Rattle.std.specs.Prelude.{◌≡◌, ◌==◌, ◌+◌, ◌<◌, ◌≤◌, IfSome, IsTrue, List};
+ghost use Rattle.tds_rows.specs.Layouts.{layout_of};
 ghost use Rattle.tds_rows.specs.declared.table.TheConstants.{TABLE_LENGTH};
 ghost use Rattle.tds_values.specs.Kind.{is_valid};
 
 use tds_columns::{Columns, Walk};
 use tds_values::Kind;
 
-/// How many columns a table knows by itself. It takes 4 bytes for each, in a local variable.
+/// How many columns a table knows by itself. It takes 6 bytes for each, in a local variable.
 const TABLE_LENGTH: usize = 64;
 
-/// What a cell needs of its column: the kind of its values.
+/// How the value of a cell lies in it.
+#[derive(Clone, Copy)]
+pub(crate) enum Layout {
+    /// Alone, and each value has so many bytes.
+    Fixed(u8),
+    /// Behind a length of one byte, which is 0 for NULL.
+    Counted,
+    /// Behind the length or total of a long value.
+    Long,
+}
+
+/// What a cell needs of its column: the kind of its values, and how they lie.
 #[derive(Clone, Copy)]
 pub(crate) struct Form {
     pub(crate) kind: Kind,
+    pub(crate) layout: Layout,
     pub(crate) ghost valid: { IsTrue (is_valid kind) },
+    pub(crate) ghost laid: { layout ≡ layout_of kind },
 }
 
 /// The columns of a description: what the cells of the first ones need, and the walk over those behind.
@@ -27,33 +41,58 @@ pub(crate) struct Table<'a> {
     ghost fits: { count ≤ 65535 },
 }
 
-/// A place between the cells of a row: how many columns lie before it, how many ahead, and the walk over
-/// those that the table doesn't know.
+/// A place between the cells of a row: how many columns lie before it, and the walk over those ahead that
+/// the table doesn't know.
 #[derive(Clone, Copy)]
 pub(crate) struct Ahead<'a> {
     pub(crate) column: u16,
-    pub(crate) left: u16,
     walk: Walk<'a>,
-    ghost within: { column + left ≤ 65535 },
+}
+
+// How the values of a kind lie in their cells.
+fn lay_out(kind: &Kind) -> Layout
+    requires { IsTrue (is_valid kind.now) }
+    ensures { result ≡ layout_of kind.now }
+{
+    if !kind.is_scalar() {
+        return Layout::Long;
+    }
+    match kind.fixed_length() {
+        Some(n) => Layout::Fixed(n),
+        None => Layout::Counted,
+    }
+}
+
+impl Form {
+    // What a cell of a kind needs.
+    fn of(kind: Kind) -> Form
+        requires { IsTrue (is_valid kind) }
+        ensures { result.kind ≡ kind }
+    {
+        Form {
+            kind,
+            layout: lay_out(&kind),
+        }
+    }
 }
 
 impl<'a> Table<'a> {
     ghost use Rattle.tds_columns.specs.Description as spec;
     ghost use Rattle.tds_columns.specs.View.{columns_of};
-    ghost use Rattle.tds_rows.specs.Tables.{IsAhead, Knows, TakesForm};
+    ghost use Rattle.tds_rows.specs.Tables.{IsAhead, Knows, NextForm, TakesForm};
 
     /// The table of a description's columns.
     pub(crate) fn of(columns: Columns<'a>) -> Table<'a>
         ensures { Knows result (columns_of columns.entry.bytes.now) }
     {
-        let mut forms = [Form { kind: Kind::Int4 }; TABLE_LENGTH];
+        let mut forms = [Form::of(Kind::Int4); TABLE_LENGTH];
         let mut known = 0;
         let mut behind = columns.walk();
         while known < TABLE_LENGTH {
             let Some(column) = behind.next() else {
                 break;
             };
-            forms[known] = Form { kind: column.kind };
+            forms[known] = Form::of(column.kind);
             known += 1;
         }
         Table {
@@ -65,43 +104,72 @@ impl<'a> Table<'a> {
     }
 
     /// The place before the first cell of a row.
+    #[inline(always)]
     pub(crate) fn start(&self) -> Ahead<'a>
         ensures first { result.column ≡ 0 }
         ensures ahead { (columns : List spec.Column) → Knows self.now columns → IsAhead self.now columns result }
     {
         Ahead {
             column: 0,
-            left: self.count,
             walk: self.behind,
         }
     }
 
-    /// What the next cell needs, and the place behind it; none at the row's end.
+    /// What the next cell needs; none at the row's end.
     #[inline(always)]
+    pub(crate) fn form(&self, at: Ahead<'a>) -> Option<Form>
+        ensures some { IfSome result (λ form. at.entry.column < self.now.count) }
+        ensures gives { (columns : List spec.Column) → Knows self.now columns → IsAhead self.now columns at.entry →
+            NextForm columns at.entry result }
+    {
+        if at.column >= self.count {
+            return None;
+        }
+        if (at.column as usize) < self.known {
+            return Some(self.forms[at.column as usize]);
+        }
+        let mut walk = at.walk;
+        match walk.next() {
+            Some(column) => Some(Form::of(column.kind)),
+            None => None,
+        }
+    }
+
+    /// Whether the next cell is a row's last.
+    #[inline(always)]
+    pub(crate) fn is_last(&self, at: Ahead<'a>) -> bool
+        requires { at.column < self.now.count }
+        ensures { result ≡ (at.entry.column + 1 == self.now.count) }
+    {
+        at.column + 1 == self.count
+    }
+
+    /// The place behind the next cell.
+    #[inline(always)]
+    pub(crate) fn behind(&self, at: Ahead<'a>) -> Ahead<'a>
+        requires { at.column < self.now.count }
+        ensures further { result.column ≡ at.entry.column + 1 }
+        ensures gives { (columns : List spec.Column) → Knows self.now columns → IsAhead self.now columns at.entry →
+            IsAhead self.now columns result }
+    {
+        let mut walk = at.walk;
+        if (at.column as usize) >= self.known {
+            let _ = walk.next();
+        }
+        Ahead {
+            column: at.column + 1,
+            walk,
+        }
+    }
+
+    /// What the next cell needs, and the place behind it; none at the row's end.
     pub(crate) fn next(&self, at: Ahead<'a>) -> Option<(Form, Ahead<'a>)>
-        ensures nearer { IfSome result (λ taken. taken.1.left < at.entry.left) }
+        ensures further { IfSome result (λ taken. at.entry.column < taken.1.column) }
+        ensures within { IfSome result (λ taken. taken.1.column ≤ self.now.count) }
         ensures gives { (columns : List spec.Column) → Knows self.now columns → IsAhead self.now columns at.entry →
             TakesForm self.now columns at.entry result }
     {
-        if at.left == 0 {
-            return None;
-        }
-        let mut walk = at.walk;
-        let form = if (at.column as usize) < self.known {
-            self.forms[at.column as usize]
-        } else {
-            let Some(column) = walk.next() else {
-                return None;
-            };
-            Form { kind: column.kind }
-        };
-        Some((
-            form,
-            Ahead {
-                column: at.column + 1,
-                left: at.left - 1,
-                walk,
-            },
-        ))
+        let form = self.form(at)?;
+        Some((form, self.behind(at)))
     }
 }

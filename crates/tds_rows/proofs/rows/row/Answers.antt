@@ -30,7 +30,7 @@ loop-form-init g c =
 pub put_cell-requires-clause-some : goal.put_cell-requires-clause-some
 put_cell-requires-clause-some g c =
     let columns = columns_of c.args.columns.bytes.now in
-    omega (arith, c.in-Some-next.ensures.nearer, c.loop-form.invariant.ahead.counted, c.of-table.ensures.counted)
+    omega (arith, c.in-Some-next.ensures.further, c.in-Some-next.ensures.within)
 
 pub returns-in_err-put_cell-clause-gives : goal.returns-in_err-put_cell-clause-gives
 returns-in_err-put_cell-clause-gives g c = λ _ _.

@@ -1,4 +1,4 @@
-use Rattle.std.proofs.Common.{drop}
+use Rattle.std.proofs.Common.{◌-◌, drop}
 use Rattle.tds_columns.specs.View.{columns_of}
 use Rattle.tds_csv.specs.Sinks.{IsOnSameSink, IsWriting, held}
 use Rattle.tds_packet.specs.Payloads.{IsGoing, IsOnSame, seen}
@@ -20,4 +20,4 @@ invariant-loop-form g l = record {
 }
 
 abbrev pub decreases-loop-form : goal.decreases-loop-form
-decreases-loop-form g l = l.at.left
+decreases-loop-form g l = l.table.count - l.at.column

@@ -1,11 +1,15 @@
-use Rattle.std.proofs.Common.{inl, inr, refl, ◌≡◌, ◌∙◌, ◌+◌, ◌<◌, length, drop, ap, arith, rules}
-use Rattle.std.proofs.lemmas.List.{length-drop}
-use Rattle.tds_rows.specs.CellSteps.{scalar_size}
-use Rattle.tds_rows.proofs.RunSteps.{none_used, rows_first, rows_none, rows_over, rows_step}
+use Rattle.std.proofs.Common.{inl, inr, rules, arith, refl, sym, ap, subst, ◌≡◌, ◌∙◌, ◌+◌, ◌-◌, ◌<◌, Bool, ℕ, length, take, drop}
+use Rattle.tds_values.specs.declared.kind.Kind.{Kind}
+use Rattle.tds_rows.specs.Cells.{cell_start, shape}
+use Rattle.tds_rows.specs.CellSteps.{WritesCell, is_last}
+use Rattle.tds_rows.specs.Runs.{WritesRows}
+use Rattle.tds_rows.proofs.TableSteps.{last_one, takes}
+use Rattle.tds_rows.proofs.RunSteps.{first_further, first_left, first_step, made_same, none_ahead, none_first, rows_none, rows_one, rows_onward, scalar_some, whole_of}
+use Rattle.tds_rows.proofs.run.run_rows.Goals.{else-loop-to-test, then-loop-to-test+in-Some+in_default-write_cell, then-loop-to-test+in_default+then-used-bytes}
 use Rattle.tds_rows.proofs.run.run_rows.Goals as goal
 
-pub loop-ahead-init : goal.loop-ahead-init
-loop-ahead-init c = record {
+pub loop-to-init : goal.loop-to-init
+loop-to-init c = record {
   used = omega arith;
   made = omega arith;
   few = omega arith;
@@ -13,58 +17,89 @@ loop-ahead-init c = record {
   writes = λ columns knows ahead. (ahead, λ charset cells is. rows_none charset columns cells (drop c.args.from.column columns) c.args.from.column is);
 }
 
-pub returns-then-ahead-ne0-clause-gives : goal.returns-then-ahead-ne0-clause-gives
-returns-then-ahead-ne0-clause-gives c = λ columns knows ahead.
-    let l = c.loop-ahead in
-    let run = c.run_cells-cells.result in
-    let inv = l.invariant.writes columns knows ahead in
-    let ran = c.run_cells-cells.ensures.gives columns knows inv.0 in (
-      ran.0,
-      λ charset cells is.
-          rows_step charset columns cells (drop c.args.from.column columns) (drop l.ahead.column columns) (drop run.ahead.column columns) l.ahead.column run.ahead.column l.rows l.used run.used l.made run.made c.args.bytes.now l.to c.run_cells-cells.new.to _ l.invariant.made (search (arith, rules))
-          (inv.1 charset cells is) (ran.1 charset),
-    )
-
-pub loop-ahead-preserved : goal.loop-ahead-preserved
-loop-ahead-preserved c =
-    let l = c.loop-ahead in
-    let run = c.run_cells-cells.result in
+pub loop-to-preserved-in_default : goal.loop-to-preserved-in_default
+loop-to-preserved-in_default c =
+    let l = c.loop-to in
+    let bytes = c.args.bytes.now in
     let start = c.start-ahead.result in
-    let within : l.used + run.used < length c.args.bytes.now = search (arith, rules) in
+    let within : l.used < length bytes = search (arith, rules) in
     record {
       used = omega (arith, within);
-      made = search (arith, rules);
+      made = l.invariant.made;
       few = omega (arith, l.invariant.few);
       begun = elim l.invariant.begun [
-        | inl z ↦ inr (λ columns knows ahead room column tail h.
-            let here = l.invariant.writes columns knows ahead in
-            let at : l.ahead.column ≡ c.args.from.column = ap (λ a. a.column) z.2 in
-            let ran = c.run_cells-cells.ensures.gives columns knows here.0 in
-            let open_ = ap (λ n. drop n columns) at ∙ h in
-            elim (c.run_cells-cells.ensures.first columns knows here.0 (search (arith, rules))) [
-              | inl y ↦ absurd (omega (arith, ap (λ a. a.left) y.1, c.if-ahead-ne0.false, here.0.counted, ap length open_, length-drop l.ahead.column columns))
-              | inr y ↦ (let x = y column tail open_ in omega (arith, x.0, z.0, ap (scalar_size column.kind) (none_used l.used c.args.bytes.now z.0)))
-            ])
-        | inr f ↦ inr (λ columns knows ahead room column tail h. omega (arith, f columns knows ahead room column tail h))
+        | inl z ↦ inr (λ columns knows ahead. none_first l.ahead.column c.args.from.column columns bytes l.to (l.used + 1) l.made (ap (λ a. a.column) z.2) (c.in_default.ensures.gives columns knows (l.invariant.writes columns knows ahead).0))
+        | inr f ↦ inr (λ columns knows ahead. first_further c.args.from.column columns bytes l.to l.to l.used 1 l.made l.made (omega arith) (f columns knows ahead))
       ];
       writes = λ columns knows ahead.
           let inv = l.invariant.writes columns knows ahead in
-          let ran = c.run_cells-cells.ensures.gives columns knows inv.0 in
-          let some : 0 < length columns = omega (arith, c.requires, knows.counted) in
-          let counted : run.ahead.left ≡ length (drop run.ahead.column columns) = omega (arith, ran.0.counted, length-drop run.ahead.column columns) in (
+          let none = c.in_default.ensures.gives columns knows inv.0 in
+          let some : 0 < length columns = omega (arith, c.requires, knows.counted) in (
             c.start-ahead.ensures.ahead columns knows,
             λ charset cells is.
-                rows_over charset columns cells (drop c.args.from.column columns) (drop l.ahead.column columns) (drop run.ahead.column columns) l.ahead.column run.ahead.column start.column l.rows l.used run.used l.made run.made run.ahead.left c.args.bytes.now l.to c.run_cells-cells.new.to _ l.invariant.made (search (arith, rules))
-                some counted c.if-ahead-ne0.false within c.if-bytes-used.false c.start-ahead.ensures.first (inv.1 charset cells is) (ran.1 charset),
+                subst (λ (k : ℕ). WritesRows charset columns cells (drop c.args.from.column columns) (drop k columns) k (l.rows + 1) (take (l.used + 1) bytes) (take l.made l.to)) (sym c.start-ahead.ensures.first)
+                (rows_onward charset columns cells (drop c.args.from.column columns) (drop l.ahead.column columns) l.ahead.column l.rows l.used bytes (take l.made l.to) some none within c.if-bytes-used.false (inv.1 charset cells is)),
           );
     }
 
-pub returns-then-ahead-ne0-clause-first : goal.returns-then-ahead-ne0-clause-first
-returns-then-ahead-ne0-clause-first c = λ columns knows ahead room.
-    let l = c.loop-ahead in
-    let run = c.run_cells-cells.result in
-    let here = l.invariant.writes columns knows ahead in
+pub loop-to-preserved : goal.loop-to-preserved
+loop-to-preserved c =
+    let l = c.loop-to in
+    let form = c.in-Some.form in
+    let behind = c.behind-ahead.result in
+    let last = c.is_last-last.result in
+    let written = c.in-Some-write_cell.written in
+    let bytes = c.args.bytes.now in
+    let rest = take (length bytes - l.used) (drop l.used bytes) in
+    record {
+      used = search (arith, rules);
+      made = search (arith, rules);
+      few = omega (arith, l.invariant.few);
+      begun = elim l.invariant.begun [
+        | inl z ↦ inr (λ columns knows ahead.
+            let here = (l.invariant.writes columns knows ahead).0 in
+            let taken = takes c.args.table.now columns l.ahead behind form (c.in-Some.ensures.gives columns knows here) c.behind-ahead.ensures.further (c.behind-ahead.ensures.gives columns knows here) in
+            let left = drop behind.column columns in
+            let end : last ≡ is_last left = c.is_last-last.ensures ∙ last_one columns left taken.column l.ahead.column c.args.table.now.count knows.counted taken.next in
+            first_step l.ahead.column c.args.from.column columns taken.column left form.kind last l.used written.used l.made written.made bytes l.to c.write_cell.new.to _ z.0 z.1 (ap (λ a. a.column) z.2) l.invariant.made (search (arith, rules))
+            taken.next taken.kind end c.in-Some-write_cell.ensures.whole c.in-Some-write_cell.ensures.gives)
+        | inr f ↦ inr (λ columns knows ahead. first_further c.args.from.column columns bytes l.to _ l.used written.used l.made (l.made + written.made) (omega (arith, c.in-Some-write_cell.ensures.whole, scalar_some form.kind rest)) (f columns knows ahead))
+      ];
+      writes = λ columns knows ahead.
+          let inv = l.invariant.writes columns knows ahead in
+          let taken = takes c.args.table.now columns l.ahead behind form (c.in-Some.ensures.gives columns knows inv.0) c.behind-ahead.ensures.further (c.behind-ahead.ensures.gives columns knows inv.0) in
+          let left = drop behind.column columns in
+          let end : last ≡ is_last left = c.is_last-last.ensures ∙ last_one columns left taken.column l.ahead.column c.args.table.now.count knows.counted taken.next in (
+            taken.ahead,
+            λ charset cells is.
+                let y = subst (λ (v : Bool). WritesCell (cell_start form.kind (shape charset form.kind)) l.ahead.column v (take written.used rest) (take written.made c.write_cell.new.to)) end (c.in-Some-write_cell.ensures.gives charset) in
+                let z = subst (λ (k : Kind). WritesCell (cell_start k (shape charset k)) l.ahead.column (is_last left) (take written.used rest) (take written.made c.write_cell.new.to)) taken.kind y in
+                let w = whole_of (cell_start taken.column.kind (shape charset taken.column.kind)) l.ahead.column (is_last left) (take written.used rest) (take written.made c.write_cell.new.to) z in
+                rows_one charset columns cells (drop c.args.from.column columns) (drop l.ahead.column columns) left taken.column l.ahead.column behind.column l.rows l.used written.used l.made written.made bytes l.to c.write_cell.new.to _
+                l.invariant.made (search (arith, rules)) taken.next taken.further (inv.1 charset cells is) w,
+          );
+    }
+
+pub returns-clause-first : goal.returns-clause-first
+returns-clause-first c =
+    let l = c.loop-to in
+    let same : take l.made c.loop-to-test.to ≡ take l.made l.to = elim c.loop-to-test.branch [
+      | else-loop-to-test w ↦ ap (take l.made) w.to-is
+      | then-loop-to-test+in_default+then-used-bytes w ↦ ap (take l.made) w.to-is
+      | then-loop-to-test+in-Some+in_default-write_cell w ↦ ap (take l.made) w.to-is ∙ made_same l.made l.to _ l.invariant.made
+    ] in
+    λ columns knows ahead room.
+    let inv = l.invariant.writes columns knows ahead in
     elim l.invariant.begun [
-      | inl z ↦ rows_first l.ahead c.args.from run.ahead columns l.used run.used l.made run.made c.args.bytes.now l.to c.run_cells-cells.new.to _ z.0 z.1 z.2 l.invariant.made (search (arith, rules)) (c.run_cells-cells.ensures.first columns knows here.0 (search (arith, rules)))
-      | inr f ↦ inr (λ column tail h. let x = f columns knows ahead room column tail h in (omega (arith, x), λ e. absurd (omega (arith, e, x))))
+      | inl z ↦ inl (
+        z.0,
+        z.2,
+        elim c.loop-to-test.branch [
+          | else-loop-to-test w ↦ absurd (omega (arith, room, z.1, w.loop-to-test.false, c.loop-to.auto.to))
+          | then-loop-to-test+in_default+then-used-bytes w ↦ none_ahead l.ahead.column c.args.from.column columns c.args.bytes.now (ap (λ a. a.column) z.2) (w.in_default.ensures.gives columns knows inv.0)
+          | then-loop-to-test+in-Some+in_default-write_cell w ↦ (let next = w.in-Some.ensures.gives columns knows inv.0 in
+              first_left l.ahead.column c.args.from.column columns next.column _ w.in-Some.form.kind l.used c.args.bytes.now z.0 (ap (λ a. a.column) z.2) next.next next.kind w.in_default-write_cell.ensures.gives)
+        ],
+      )
+      | inr f ↦ inr (λ column tail h. let x = f columns knows ahead column tail h in (x.0, λ e charset. subst (λ t. WritesCell (cell_start column.kind (shape charset column.kind)) c.args.from.column (is_last tail) (take l.used c.args.bytes.now) t) (sym same) (x.1 e charset)))
     ]

@@ -1,4 +1,4 @@
-use Rattle.std.proofs.Common.{◌∙◌, refl, sym, arith, rules}
+use Rattle.std.proofs.Common.{◌∙◌, sym, arith, rules}
 use Rattle.tds_columns.specs.Walking.{column_value, columns_left}
 use Rattle.tds_columns.specs.View.{columns_of}
 use Rattle.tds_rows.proofs.TableSteps.{first_more, next_column}
@@ -13,6 +13,6 @@ loop-known-preserved c =
     record {
       most = search (arith, rules);
       whole = search (arith, rules);
-      first = first_more c.loop-known.forms columns c.loop-known.known _ (column_value c.in-Some.column) (columns_left c.next.new.self) (omega (arith, inv.whole, c.loop-known-test.true)) inv.first step refl;
+      first = first_more c.loop-known.forms columns c.loop-known.known c.of.result (column_value c.in-Some.column) (columns_left c.next.new.self) (omega (arith, inv.whole, c.loop-known-test.true)) inv.first step c.of.ensures;
       behind = sym next.1.1;
     }
