@@ -1,5 +1,5 @@
 // Digits and other bytes, written to a slice from a place on. Each call answers the place behind what it wrote.
-ghost use Rattle.std.specs.Prelude.{◌≡◌, ◌+◌, ◌-◌, ◌<◌, ◌≤◌, ◌^◌, ◌/◌, ◌*◌, [], ◌∷◌, ◌++◌, ◌⊎◌, take, length, decimal};
+ghost use Rattle.std.specs.Prelude.{◌≡◌, ◌+◌, ◌-◌, ◌<◌, ◌≤◌, ◌^◌, ◌/◌, ◌*◌, [], ◌∷◌, ◌++◌, ◌⊎◌, if◌then◌else◌, take, length, decimal};
 ghost use Rattle.tds_values.specs.ScalarText.{last_digits, minus_if};
 ghost use Rattle.tds_values.specs.Words.{word_of, bytes_of};
 
@@ -30,6 +30,17 @@ pub(crate) fn put_byte(to: &mut [u8], at: usize, byte: u8) -> usize
     at + 1
 }
 
+// One byte where it is kept: it is written in any case, and what comes next lies over it where it isn't.
+#[inline(always)]
+fn put_kept(to: &mut [u8], at: usize, byte: u8, kept: bool) -> usize
+    requires { at < length to.old }
+    ensures end { result ≤ at + 1 }
+    ensures written { take result to.new ≡ take at to.old ++ (if kept then byte ∷ [] else []) }
+{
+    to[at] = byte;
+    at + kept as usize
+}
+
 // The sign, where a number is negative.
 #[inline(always)]
 pub(crate) fn put_minus(to: &mut [u8], at: usize, negative: bool) -> usize
@@ -37,8 +48,7 @@ pub(crate) fn put_minus(to: &mut [u8], at: usize, negative: bool) -> usize
     ensures end { result ≤ at + 1 }
     ensures written { take result to.new ≡ take at to.old ++ minus_if negative }
 {
-    to[at] = b'-';
-    at + negative as usize
+    put_kept(to, at, b'-', negative)
 }
 
 // Two digits.
@@ -108,7 +118,8 @@ pub(crate) fn put_tail(to: &mut [u8], at: usize, k: usize, n: u32) -> usize
     at + k
 }
 
-// How many of eight digits are needed.
+// How many of eight digits are needed: the bytes of the zeros before them are 0 once each loses 48, and one bit
+// more in the last byte keeps the last digit.
 #[inline(always)]
 fn needed(n: u32) -> usize
     requires { n < 100000000 }
@@ -117,11 +128,8 @@ fn needed(n: u32) -> usize
     ensures fits { n < 10 ^ result }
     ensures needed { (result ≡ 1) ⊎ (10 ^ (result - 1) ≤ n) }
 {
-    let large = n >= 10000;
-    let four = if large { n / 10000 } else { n };
-    let wide = four >= 100;
-    let two = if wide { four / 100 } else { four };
-    1 + 4 * large as usize + 2 * wide as usize + (two >= 10) as usize
+    let values = word(n) - 0x2030_3030_3030_3030;
+    8 - values.trailing_zeros() as usize / 8
 }
 
 // A number of at most eight digits.
@@ -135,6 +143,31 @@ fn put_short(to: &mut [u8], at: usize, n: u32) -> usize
     put_tail(to, at, needed(n), n)
 }
 
+// A number below 100 without a needless zero.
+#[inline(always)]
+fn put_head(to: &mut [u8], at: usize, n: u32) -> usize
+    requires room { at + 2 ≤ length to.old }
+    requires small { n < 100 }
+    ensures end { result ≤ at + 2 }
+    ensures written { take result to.new ≡ take at to.old ++ decimal n }
+{
+    let k = n as usize * 2;
+    let at = put_kept(to, at, PAIRS[k], n >= 10);
+    put_byte(to, at, PAIRS[k + 1])
+}
+
+// A number of 32 bits that has more than eight digits.
+#[inline(always)]
+fn put_long(to: &mut [u8], at: usize, n: u32) -> usize
+    requires room { at + 10 ≤ length to.old }
+    requires large { 100000000 ≤ n }
+    ensures end { result ≤ at + 10 }
+    ensures written { take result to.new ≡ take at to.old ++ decimal n }
+{
+    let at = put_head(to, at, n / 100000000);
+    put_tail(to, at, 8, n % 100000000)
+}
+
 // A number without needless zeros.
 #[inline(always)]
 pub(crate) fn put_number(to: &mut [u8], at: usize, n: u64) -> usize
@@ -144,6 +177,9 @@ pub(crate) fn put_number(to: &mut [u8], at: usize, n: u64) -> usize
 {
     if n < 100000000 {
         return put_short(to, at, n as u32);
+    }
+    if n <= u32::MAX as u64 {
+        return put_long(to, at, n as u32);
     }
     let low = (n % 100000000) as u32;
     if n < 10000000000000000 {
