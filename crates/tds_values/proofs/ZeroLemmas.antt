@@ -9,16 +9,16 @@ use Rattle.tds_values.specs.Words.{word_of}
 use Rattle.tds_values.proofs.DigitLemmas.{last_digits-add}
 
 -- the values of the last k + 1 digits as the bytes of a number, the first the lowest, and a bit more in the last
-abbrev pub values_of : ℕ → ℕ → ℕ
+abbrev values_of : ℕ → ℕ → ℕ
 values_of zero n = n % 10 + 16
 values_of (suc k) n = n / 10 ^ suc k % 10 + 256 * values_of k n
 
 -- what a word of digits has more
-abbrev pub offset_of : ℕ → ℕ
+abbrev offset_of : ℕ → ℕ
 offset_of zero = 32
 offset_of (suc k) = 48 + 256 * offset_of k
 
-pub word_values : (k n : ℕ) → word_of (last_digits (suc k) n) ≡ values_of k n + offset_of k
+word_values : (k n : ℕ) → word_of (last_digits (suc k) n) ≡ values_of k n + offset_of k
 word_values zero n = omega arith
 word_values (suc k) n =
     let one : suc (suc k) ≡ 1 + suc k = omega arith in
@@ -60,7 +60,7 @@ low_zeros (suc a) r m =
     ap (λ w. count_trailing_zeros w (2 ^ suc a * m)) width ∙ (λ i. under (bit i) (count_trailing_zeros (a + r) (half i))) ∙ ap suc (low_zeros a r m) ∙ more
 
 -- of k + 1 digits the first t are needless
-abbrev pub IsNeedless : ℕ → ℕ → ℕ → Type 0
+abbrev IsNeedless : ℕ → ℕ → ℕ → Type 0
 IsNeedless k n t = (t ≤ k) × ((n < 10 ^ (suc k - t)) × ((t ≡ k) ⊎ (10 ^ (k - t) ≤ n)))
 
 next : (k n t s : ℕ) → s ≡ suc t → IsNeedless k n t → IsNeedless (suc k) n s
@@ -76,7 +76,7 @@ first_set k n t e small large =
     let most : k ≡ k - t = omega arith in
     (omega arith, (subst (λ m. n < 10 ^ m) all small, ⊎_elim (λ one. inl (omega arith)) (λ more. inr (subst (λ m. 10 ^ m ≤ n) most more)) large))
 
-pub needless : (k n : ℕ) → n < 10 ^ suc k → IsNeedless k n (count_trailing_zeros (8 * suc k) (values_of k n) / 8)
+needless : (k n : ℕ) → n < 10 ^ suc k → IsNeedless k n (count_trailing_zeros (8 * suc k) (values_of k n) / 8)
 needless zero n h =
     let value : n % 10 + 16 ≡ n % 10 + 16 + 256 * 0 = omega arith in
     let less : count_trailing_zeros 8 (n % 10 + 16 + 256 * 0) < 8 = low_bit 8 0 (n % 10 + 16) 0 (omega arith) (omega arith) in
@@ -102,8 +102,9 @@ needless (suc k) n h =
     first_set (suc k) n _ none h (inr more))
     (cases_lt n (10 ^ suc k))
 
--- so with eight digits
-pub needed_of : (n w : ℕ) → n < 100000000 → w ≡ word_of (last_digits 8 n) → IsNeedless 7 n (count_trailing_zeros 64 (w - 2319406791620833328) / 8)
-needed_of n w h e =
+-- of eight digits in a word, as many are needless zeros as its bytes without 48 are 0
+pub zeros_of : (n w : ℕ) → n < 100000000 → w ≡ word_of (last_digits 8 n)
+    → let t = count_trailing_zeros 64 (w - 2319406791620833328) / 8 in (t ≤ 7) × ((n < 10 ^ (8 - t)) × ((t ≡ 7) ⊎ (10 ^ (7 - t) ≤ n)))
+zeros_of n w h e =
     let values : w - 2319406791620833328 ≡ values_of 7 n = omega (arith, e, word_values 7 n) in
     subst (λ v. IsNeedless 7 n (count_trailing_zeros 64 v / 8)) (sym values) (needless 7 n h)

@@ -104,6 +104,19 @@ fn put_word(to: &mut [u8], at: usize, word: u64) -> usize
     put_byte(to, at, (word / 0x100_0000_0000_0000 % 256) as u8)
 }
 
+// The digits of eight that come behind some zeros, or behind digits that aren't wanted.
+#[inline(always)]
+fn put_behind(to: &mut [u8], at: usize, skipped: usize, n: u32) -> usize
+    requires room { at + 8 ≤ length to.old }
+    requires few { skipped ≤ 7 }
+    requires small { n < 100000000 }
+    ensures end { result ≡ at + (8 - skipped) }
+    ensures written { take result to.new ≡ take at to.old ++ last_digits (8 - skipped) n }
+{
+    put_word(to, at, word(n) >> (8 * skipped as u32));
+    at + (8 - skipped)
+}
+
 // The last k digits of eight.
 #[inline(always)]
 pub(crate) fn put_tail(to: &mut [u8], at: usize, k: usize, n: u32) -> usize
@@ -114,22 +127,20 @@ pub(crate) fn put_tail(to: &mut [u8], at: usize, k: usize, n: u32) -> usize
     ensures end { result ≡ at + k }
     ensures written { take result to.new ≡ take at to.old ++ last_digits k n }
 {
-    put_word(to, at, word(n) >> (8 * (8 - k) as u32));
-    at + k
+    put_behind(to, at, 8 - k, n)
 }
 
-// How many of eight digits are needed: the bytes of the zeros before them are 0 once each loses 48, and one bit
-// more in the last byte keeps the last digit.
+// How many of eight digits are needless zeros: their bytes are 0 once each loses 48, and one bit more in the
+// last byte keeps the last digit.
 #[inline(always)]
-fn needed(n: u32) -> usize
+fn needless(n: u32) -> usize
     requires { n < 100000000 }
-    ensures low { 1 ≤ result }
-    ensures high { result ≤ 8 }
-    ensures fits { n < 10 ^ result }
-    ensures needed { (result ≡ 1) ⊎ (10 ^ (result - 1) ≤ n) }
+    ensures few { result ≤ 7 }
+    ensures fits { n < 10 ^ (8 - result) }
+    ensures needed { (result ≡ 7) ⊎ (10 ^ (7 - result) ≤ n) }
 {
     let values = word(n) - 0x2030_3030_3030_3030;
-    8 - values.trailing_zeros() as usize / 8
+    values.trailing_zeros() as usize / 8
 }
 
 // A number of at most eight digits.
@@ -140,7 +151,7 @@ fn put_short(to: &mut [u8], at: usize, n: u32) -> usize
     ensures end { result ≤ at + 8 }
     ensures written { take result to.new ≡ take at to.old ++ decimal n }
 {
-    put_tail(to, at, needed(n), n)
+    put_behind(to, at, needless(n), n)
 }
 
 // A number below 100 without a needless zero.
