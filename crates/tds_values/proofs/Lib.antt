@@ -10,3 +10,4 @@ pub mod TextLengths
 pub mod TypeInfoLemmas
 pub mod WordLemmas
 pub mod WrittenLemmas
+pub mod ZeroLemmas

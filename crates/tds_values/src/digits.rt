@@ -1,5 +1,5 @@
 // Digits and other bytes, written to a slice from a place on. Each call answers the place behind what it wrote.
-ghost use Rattle.std.specs.Prelude.{◌≡◌, ◌+◌, ◌-◌, ◌<◌, ◌≤◌, ◌^◌, ◌/◌, ◌*◌, [], ◌∷◌, ◌++◌, ◌⊎◌, take, length, decimal};
+ghost use Rattle.std.specs.Prelude.{◌≡◌, ◌+◌, ◌-◌, ◌<◌, ◌≤◌, ◌^◌, ◌/◌, ◌*◌, [], ◌∷◌, ◌++◌, ◌⊎◌, if◌then◌else◌, take, length, decimal};
 ghost use Rattle.tds_values.specs.ScalarText.{last_digits, minus_if};
 ghost use Rattle.tds_values.specs.Words.{word_of, bytes_of};
 
@@ -30,6 +30,17 @@ pub(crate) fn put_byte(to: &mut [u8], at: usize, byte: u8) -> usize
     at + 1
 }
 
+// One byte where it is kept: it is written in any case, and what comes next lies over it where it isn't.
+#[inline(always)]
+fn put_kept(to: &mut [u8], at: usize, byte: u8, kept: bool) -> usize
+    requires { at < length to.old }
+    ensures end { result ≤ at + 1 }
+    ensures written { take result to.new ≡ take at to.old ++ (if kept then byte ∷ [] else []) }
+{
+    to[at] = byte;
+    at + kept as usize
+}
+
 // The sign, where a number is negative.
 #[inline(always)]
 pub(crate) fn put_minus(to: &mut [u8], at: usize, negative: bool) -> usize
@@ -37,8 +48,7 @@ pub(crate) fn put_minus(to: &mut [u8], at: usize, negative: bool) -> usize
     ensures end { result ≤ at + 1 }
     ensures written { take result to.new ≡ take at to.old ++ minus_if negative }
 {
-    to[at] = b'-';
-    at + negative as usize
+    put_kept(to, at, b'-', negative)
 }
 
 // Two digits.
@@ -94,6 +104,19 @@ fn put_word(to: &mut [u8], at: usize, word: u64) -> usize
     put_byte(to, at, (word / 0x100_0000_0000_0000 % 256) as u8)
 }
 
+// The digits of eight that come behind some zeros, or behind digits that aren't wanted.
+#[inline(always)]
+fn put_behind(to: &mut [u8], at: usize, skipped: usize, n: u32) -> usize
+    requires room { at + 8 ≤ length to.old }
+    requires few { skipped ≤ 7 }
+    requires small { n < 100000000 }
+    ensures end { result ≡ at + (8 - skipped) }
+    ensures written { take result to.new ≡ take at to.old ++ last_digits (8 - skipped) n }
+{
+    put_word(to, at, word(n) >> (8 * skipped as u32));
+    at + (8 - skipped)
+}
+
 // The last k digits of eight.
 #[inline(always)]
 pub(crate) fn put_tail(to: &mut [u8], at: usize, k: usize, n: u32) -> usize
@@ -104,24 +127,20 @@ pub(crate) fn put_tail(to: &mut [u8], at: usize, k: usize, n: u32) -> usize
     ensures end { result ≡ at + k }
     ensures written { take result to.new ≡ take at to.old ++ last_digits k n }
 {
-    put_word(to, at, word(n) >> (8 * (8 - k) as u32));
-    at + k
+    put_behind(to, at, 8 - k, n)
 }
 
-// How many of eight digits are needed.
+// How many of eight digits are needless zeros: their bytes are 0 once each loses 48, and one bit more in the
+// last byte keeps the last digit.
 #[inline(always)]
-fn needed(n: u32) -> usize
+fn needless(n: u32) -> usize
     requires { n < 100000000 }
-    ensures low { 1 ≤ result }
-    ensures high { result ≤ 8 }
-    ensures fits { n < 10 ^ result }
-    ensures needed { (result ≡ 1) ⊎ (10 ^ (result - 1) ≤ n) }
+    ensures few { result ≤ 7 }
+    ensures fits { n < 10 ^ (8 - result) }
+    ensures needed { (result ≡ 7) ⊎ (10 ^ (7 - result) ≤ n) }
 {
-    let large = n >= 10000;
-    let four = if large { n / 10000 } else { n };
-    let wide = four >= 100;
-    let two = if wide { four / 100 } else { four };
-    1 + 4 * large as usize + 2 * wide as usize + (two >= 10) as usize
+    let values = word(n) - 0x2030_3030_3030_3030;
+    values.trailing_zeros() as usize / 8
 }
 
 // A number of at most eight digits.
@@ -132,7 +151,32 @@ fn put_short(to: &mut [u8], at: usize, n: u32) -> usize
     ensures end { result ≤ at + 8 }
     ensures written { take result to.new ≡ take at to.old ++ decimal n }
 {
-    put_tail(to, at, needed(n), n)
+    put_behind(to, at, needless(n), n)
+}
+
+// A number below 100 without a needless zero.
+#[inline(always)]
+fn put_head(to: &mut [u8], at: usize, n: u32) -> usize
+    requires room { at + 2 ≤ length to.old }
+    requires small { n < 100 }
+    ensures end { result ≤ at + 2 }
+    ensures written { take result to.new ≡ take at to.old ++ decimal n }
+{
+    let k = n as usize * 2;
+    let at = put_kept(to, at, PAIRS[k], n >= 10);
+    put_byte(to, at, PAIRS[k + 1])
+}
+
+// A number of 32 bits that has more than eight digits.
+#[inline(always)]
+fn put_long(to: &mut [u8], at: usize, n: u32) -> usize
+    requires room { at + 10 ≤ length to.old }
+    requires large { 100000000 ≤ n }
+    ensures end { result ≤ at + 10 }
+    ensures written { take result to.new ≡ take at to.old ++ decimal n }
+{
+    let at = put_head(to, at, n / 100000000);
+    put_tail(to, at, 8, n % 100000000)
 }
 
 // A number without needless zeros.
@@ -144,6 +188,9 @@ pub(crate) fn put_number(to: &mut [u8], at: usize, n: u64) -> usize
 {
     if n < 100000000 {
         return put_short(to, at, n as u32);
+    }
+    if n <= u32::MAX as u64 {
+        return put_long(to, at, n as u32);
     }
     let low = (n % 100000000) as u32;
     if n < 10000000000000000 {

@@ -1,0 +1,26 @@
+use Rattle.std.proofs.Common.{◌≡◌, ℕ, ◌+◌, ◌/◌, ◌%◌, ◌<◌, ◌≤◌, [], ◌∷◌, ◌++◌, true, false, cond, nat_le, inl, inr, refl, sym, ap, ◌∙◌, ⊎_elim, arith, decimal}
+use Rattle.std.proofs.lemmas.Bool.{cases_lt}
+use Rattle.std.proofs.lemmas.Bool.Decides.{nat_tests}
+use Rattle.tds_values.proofs.DigitLemmas.{decimal_last}
+use Rattle.tds_values.proofs.Joining.{joined}
+use Rattle.tds_values.proofs.TableLemmas.{digits_at}
+use Rattle.tds_values.proofs.digits.put_head.Goals as goal
+
+one : (n p q : ℕ) → n < 10 → q ≡ 48 + n % 10 → decimal n ≡ cond (nat_le 10 n) (p ∷ []) [] ++ q ∷ []
+one n p q h e =
+    let test : nat_le 10 n ≡ false = grind (arith, nat_tests) in
+    decimal_last 1 n (omega arith) (inl refl) (omega arith) (omega arith) ∙ ap (λ b. b ∷ []) (sym e) ∙ ap (λ b. cond b (p ∷ []) [] ++ q ∷ []) (sym test)
+
+two : (n p q : ℕ) → 10 ≤ n → n < 100 → p ≡ 48 + n / 10 → q ≡ 48 + n % 10 → decimal n ≡ cond (nat_le 10 n) (p ∷ []) [] ++ q ∷ []
+two n p q h less ep eq =
+    let test : nat_le 10 n ≡ true = grind (arith, nat_tests) in
+    let first : 48 + n / 10 % 10 ≡ p = omega arith in
+    decimal_last 2 n (omega arith) (inr (omega arith)) (omega arith) (omega arith) ∙ (λ i. first i ∷ sym eq i ∷ []) ∙ ap (λ b. cond b (p ∷ []) [] ++ q ∷ []) (sym test)
+
+text : (n p q : ℕ) → n < 100 → p ≡ 48 + n / 10 → q ≡ 48 + n % 10 → decimal n ≡ cond (nat_le 10 n) (p ∷ []) [] ++ q ∷ []
+text n p q h ep eq = ⊎_elim (λ less. one n p q less eq) (λ more. two n p q more h ep eq) (cases_lt n 10)
+
+pub returns-clause-written : goal.returns-clause-written
+returns-clause-written c =
+    let d = digits_at c.args.n c.requires.small in
+    joined _ _ _ _ _ _ c.put_kept-at.ensures.written c.put_byte.ensures.written (text c.args.n _ _ c.requires.small d.first d.second)
