@@ -1,5 +1,5 @@
 -- A sink whose room is lent for writing.
-use Rattle.std.specs.Prelude.{◌≡◌, ◌^◌, ◌-◌, ◌≤◌, ℕ, true, false, if◌then◌else◌, List, [], Option, Result, MatchResult, is_ok, length, drop, replicate, take}
+use Rattle.std.specs.Prelude.{◌≡◌, ◌^◌, ◌-◌, ◌≤◌, ℕ, true, false, if◌then◌else◌, List, [], Option, Result, MatchResult, is_ok, length, drop, take}
 use Rattle.std.specs.Borrow.{Lends, Fml, RattleType, MutBor, Array, u8}
 use mir.Syntax.{named}
 use Rattle.tds_meter.specs.Lent.{with_tail}
@@ -9,13 +9,13 @@ use Rattle.tds_csv.specs.contracts.sink.Sink.{the_row}
 use Rattle.tds_packet.specs.declared.fault.Stop.{Stop}
 use Rattle.tds_csv.specs.Sinks.{Breaks, Held, IsOnSameSink, IsReady, Puts, held}
 
--- n bytes stand behind those that wait, and these are written over them
-abbrev pub with_spare : {W : Type 0} → Sink W → ℕ → List ℕ → Sink W
-with_spare s n written = record s { output = record s.output { now = with_tail (appended s.output.now (replicate n 0)) (length s.output.now.bytes) written } }
+-- the bytes that are lent stand behind those that wait, and these are written over them
+abbrev pub with_spare : {W : Type 0} → Sink W → List ℕ → List ℕ → Sink W
+with_spare s lent written = record s { output = record s.output { now = with_tail (appended s.output.now lent) (length s.output.now.bytes) written } }
 
--- The sink ends with n bytes behind those that wait: what the lent bytes end as.
-abbrev pub LendsSpare : (W : RattleType) → MutBor (Sink W.Denot) → ℕ → MutBor (List ℕ) → Fml
-LendsSpare W s n r = Lends (the_row (record { mir = named 0; lft = [] }) W) (Array u8 0) s r (with_spare s.now n)
+-- The sink ends with the lent bytes behind those that wait, as what they end as.
+abbrev pub LendsSpare : (W : RattleType) → MutBor (Sink W.Denot) → MutBor (List ℕ) → Fml
+LendsSpare W s r = Lends (the_row (record { mir = named 0; lft = [] }) W) (Array u8 0) s r (with_spare s.now r.now)
 
 -- It has room for a block, and no write has failed.
 abbrev pub IsLent : {W : Type 0} → Sink W → Type 0

@@ -1,6 +1,6 @@
 // Text on its way to a writer.
 ghost use Rattle.std.specs.Borrow.{sem};
-ghost use Rattle.std.specs.Prelude.{◌≡◌, ◌+◌, ◌-◌, ◌≤◌, [], ◌∷◌, codes, if◌then◌else◌, length, replicate, Err, None, Ok, Some};
+ghost use Rattle.std.specs.Prelude.{◌≡◌, ◌+◌, ◌-◌, ◌≤◌, [], ◌∷◌, codes, if◌then◌else◌, length, Err, None, Ok, Some};
 ghost use Rattle.tds_csv.specs.Quoting.{binary_mark, line_end, null_field, quote};
 ghost use Rattle.tds_csv.specs.Sinks.{Delivers, FinishesSink, IsReady, IsWriting, PutsPiece, fresh, held, stop_of};
 ghost use Rattle.tds_csv.specs.Spare.{IsLent, KeepsPiece, LendsSpare};
@@ -199,12 +199,14 @@ impl<'a, W: Write> Sink<'a, W> {
         BLOCK.saturating_sub(self.output.len())
     }
 
-    /// Lends room behind the bytes that wait, to be written and then kept by [`Sink::keep`].
+    /// Lends room behind the bytes that wait, to be written and then kept by [`Sink::keep`]. What
+    /// stands in it before it is written isn't promised: bytes that stood in the output area before,
+    /// or zeros that it was made with.
     pub fn spare(&mut self, n: usize) -> &mut [u8]
         requires writing { IsWriting self.old }
         requires fits { length self.old.output.now.bytes + n ≤ BLOCK }
-        ensures* lends { sem 𝓛 (LendsSpare W.row self.entry n result) }
-        ensures value { result.now ≡ replicate n 0 }
+        ensures* lends { sem 𝓛 (LendsSpare W.row self.entry result) }
+        ensures value { length result.now ≡ n }
     {
         self.output.grow_within(n)
     }

@@ -1,12 +1,11 @@
 -- A list over whose end others are written, seen through its front.
-use Rattle.std.proofs.Common.{◌≡◌, ◌∙◌, ◌+◌, ◌≤◌, ◌++◌, ℕ, zero, suc, List, [], ◌∷◌, length, take, drop, max, replicate, refl, sym, ap, arith, append-nil, length-append, length-drop, length-take-le}
+use Rattle.std.proofs.Common.{◌≡◌, ◌∙◌, ◌+◌, ◌≤◌, ◌++◌, ℕ, zero, suc, List, [], ◌∷◌, length, take, drop, max, refl, sym, ap, arith, append-nil, length-append, length-drop, length-take-le}
 use Rattle.std.proofs.lemmas.List.{take-append-le, take-take, take_all}
 use Rattle.std.proofs.Math.ListN.{drop_of_length-le}
 use Rattle.std.specs.List.{refill}
 use Rattle.tds_meter.specs.Space.{Space, appended}
 use Rattle.tds_meter.specs.Lent.{overwritten, with_tail}
-use Rattle.std.proofs.Math.Seq.{take-append_seam}
-use Rattle.std.proofs.lemmas.List.{length-replicate}
+use Rattle.std.proofs.Math.Seq.{take-add, take-append_seam}
 
 take_twice : (m : ℕ) (xs : List ℕ) → take m xs ≡ take m (take m xs)
 take_twice zero xs = refl
@@ -46,12 +45,37 @@ overwritten_all from w xs e =
     let mid = ap (λ r. take from xs ++ (w ++ r)) rest ∙ ap (λ r. take from xs ++ r) (append-nil w) in
     ap (take (length xs)) mid ∙ take_all (length xs) (take from xs ++ w) (omega (arith, length-append (take from xs) w, length-take-le from xs (omega arith)))
 
--- an area that grew by zeros, over all of which others are written
-pub grown : (s : Space) (n : ℕ) (w : List ℕ) → length w ≡ n → with_tail (appended s (replicate n 0)) (length s.bytes) w ≡ appended s w
-grown s n w e =
-    let zeros = replicate n 0 in
-    let len : length (s.bytes ++ zeros) ≡ length (s.bytes ++ w) = length-append s.bytes zeros ∙ ap (λ k. length s.bytes + k) (length-replicate n 0 ∙ sym e) ∙ sym (length-append s.bytes w) in
-    let all : overwritten (length s.bytes) w (s.bytes ++ zeros) ≡ s.bytes ++ w =
-    overwritten_all (length s.bytes) w (s.bytes ++ zeros) (sym (length-append s.bytes w) ∙ sym len) ∙ ap (λ l. l ++ w) (take-append_seam s.bytes zeros) in
-    ap (λ bytes. record { bytes = bytes; room = s.room; peak = max s.peak (length (s.bytes ++ zeros)) }) all
+-- equal parts make equal areas
+same_space : (s t : Space) → s.bytes ≡ t.bytes → s.room ≡ t.room → s.peak ≡ t.peak → s ≡ t
+same_space s t bytes room peak =
+    ap (λ l. record { bytes = l; room = s.room; peak = s.peak }) bytes ∙ ap (λ m. record { bytes = t.bytes; room = m; peak = s.peak }) room ∙ ap (λ m. record { bytes = t.bytes; room = t.room; peak = m }) peak
+
+-- a front that grows by n items of the list behind it, which are written over
+front_grows : (len n : ℕ) (w xs : List ℕ) → len + n ≤ length xs
+    → take (len + n) (refill (length xs) xs (take len xs ++ (w ++ drop (length w) (drop len xs)))) ≡ overwritten (length (take len xs)) w (take len xs ++ take n (drop len xs))
+front_grows len n w xs fits =
+    front-refill (len + n) len w xs (omega arith) fits
+    ∙ ap (overwritten len w) (take-add len n xs)
+    ∙ ap (λ k. overwritten k w (take len xs ++ take n (drop len xs))) (sym (length-take-le len xs (omega (arith, fits))))
+
+-- so for an area, whose peak is raised
+pub grows : (len n peak' : ℕ) (w xs : List ℕ) (s : Space) (lent : List ℕ) → s.room ≡ length xs → len + n ≤ length xs → take len xs ≡ s.bytes → lent ≡ take n (drop len xs) → peak' ≡ max s.peak (len + n)
+    → record { bytes = take (len + n) (refill s.room xs (take len xs ++ (w ++ drop (length w) (drop len xs)))); room = s.room; peak = peak' } ≡ with_tail (appended s lent) (length s.bytes) w
+grows len n peak' w xs s lent all fits front stood top =
+    let whole : take (len + n) xs ≡ s.bytes ++ lent = take-add len n xs ∙ ap (λ l. l ++ take n (drop len xs)) front ∙ ap (λ l. s.bytes ++ l) (sym stood) in
+    let long : len + n ≡ length (s.bytes ++ lent) = sym (length-take-le (len + n) xs fits) ∙ ap length whole in
+    same_space _ _
+    (ap (λ m. take (len + n) (refill m xs (take len xs ++ (w ++ drop (length w) (drop len xs))))) all
+    ∙ front_grows len n w xs fits
+    ∙ ap (λ l. overwritten (length l) w (l ++ take n (drop len xs))) front
+    ∙ ap (λ l. overwritten (length s.bytes) w (s.bytes ++ l)) (sym stood))
+    refl (top ∙ ap (λ k. max s.peak k) long)
+
+-- an area that grew, and all over which others are written
+pub grown : (s : Space) (lent w : List ℕ) → length w ≡ length lent → with_tail (appended s lent) (length s.bytes) w ≡ appended s w
+grown s lent w e =
+    let len : length (s.bytes ++ lent) ≡ length (s.bytes ++ w) = length-append s.bytes lent ∙ ap (λ k. length s.bytes + k) (sym e) ∙ sym (length-append s.bytes w) in
+    let all : overwritten (length s.bytes) w (s.bytes ++ lent) ≡ s.bytes ++ w =
+    overwritten_all (length s.bytes) w (s.bytes ++ lent) (sym (length-append s.bytes w) ∙ sym len) ∙ ap (λ l. l ++ w) (take-append_seam s.bytes lent) in
+    ap (λ bytes. record { bytes = bytes; room = s.room; peak = max s.peak (length (s.bytes ++ lent)) }) all
     ∙ ap (λ k. record { bytes = s.bytes ++ w; room = s.room; peak = max s.peak k }) len

@@ -1,5 +1,5 @@
 -- What becomes of an area whose last bytes are lent.
-use Rattle.std.specs.Prelude.{ℕ, List, ◌++◌, length, take, drop, replicate}
+use Rattle.std.specs.Prelude.{ℕ, List, ◌++◌, length, take, drop}
 use Rattle.std.specs.Borrow.{Lends, MutBor, Fml, Array, u8}
 use Rattle.tds_meter.specs.Space.{Space, appended, holding}
 use Rattle.tds_meter.specs.contracts.area.Area.{the_row}
@@ -16,6 +16,6 @@ with_tail s from written = holding s (overwritten from written s.bytes)
 abbrev pub LendsTail : MutBor Space → ℕ → MutBor (List ℕ) → Fml
 LendsTail s from r = Lends the_row (Array u8 0) s r (with_tail s.now from)
 
--- The area ends as its own bytes and what the n lent ones end as.
-abbrev pub LendsNew : MutBor Space → ℕ → MutBor (List ℕ) → Fml
-LendsNew s n r = Lends the_row (Array u8 0) s r (with_tail (appended s.now (replicate n 0)) (length s.now.bytes))
+-- The area ends as its own bytes and what the lent ones behind them end as.
+abbrev pub LendsNew : MutBor Space → MutBor (List ℕ) → Fml
+LendsNew s r = Lends the_row (Array u8 0) s r (with_tail (appended s.now r.now) (length s.now.bytes))

@@ -170,17 +170,18 @@ impl Area {
         self.store.slice_mut(from..self.len)
     }
 
-    /// Adds `n` zero bytes at the end, and lends them for writing.
+    /// Adds `n` bytes at the end, and lends them for writing. What stands in them before they are
+    /// written isn't promised: bytes that stood in this area before, or zeros that it was made with.
     pub fn grow_within(&mut self, n: usize) -> &mut [u8]
         requires { length self.old.bytes + n ≤ self.old.room }
-        ensures* lends { sem 𝓛 (LendsNew self.entry n result) }
-        ensures value { result.now ≡ replicate n 0 }
+        ensures* lends { sem 𝓛 (LendsNew self.entry result) }
+        ensures value { length result.now ≡ n }
     {
-        let len = self.len();
-        let Ok(()) = self.extend(n) else {
-            unreachable!()
-        };
-        self.tail(len)
+        let len = self.len;
+        let end = len + n;
+        self.len = end;
+        self.peak = self.peak.max(end);
+        self.store.slice_mut(len..end)
     }
 
     /// Takes all bytes away, and sets the peak to 0.

@@ -108,7 +108,7 @@ fn an_area_lends_its_end(rt: HostRuntime) -> Result<(), Fail> {
     assert_eq!(rt; area.append(b"ab"), Ok(()));
     assert!(rt; area.free() >= 3);
     let lent = area.grow_within(3);
-    assert_eq!(rt; &*lent, b"\0\0\0".as_slice());
+    assert_eq!(rt; lent.len(), 3);
     lent.copy_from_slice(b"cde");
     check_area(&rt, "written at its end", &area, b"abcde", 5);
     assert!(rt; area.len() == 5);

@@ -1,6 +1,6 @@
 -- Cells whose bytes lie together, and the room that a sink lends for their text.
 use Rattle.std.proofs.Common.{◌≡◌, ◌≢◌, ◌∙◌, ℕ, ◌+◌, ◌-◌, ◌^◌, ◌<◌, ◌≤◌, Bool, true, false, List, [], ◌∷◌, ◌++◌, length, take, drop, Result, Ok, Err, MatchResult, inr, refl, sym, ap, subst, arith, length-take, length-drop}
-use Rattle.std.specs.Prelude.{None, Some, Option, ◌==◌, ◌||◌, is_ok, replicate, slice_index, if◌then◌else◌}
+use Rattle.std.specs.Prelude.{None, Some, Option, ◌==◌, ◌||◌, is_ok, slice_index, if◌then◌else◌}
 use Rattle.std.proofs.lemmas.Bool.{ne_eqb}
 use Rattle.std.proofs.lemmas.List.{length-take-le}
 use lib.Seq.{take-add}
@@ -154,16 +154,16 @@ cell_reads from column last a b place place' bytes text x takes between at = rec
 
 -- ---- what is written into the room that a sink lends
 
-module _ (h j : Held) (written : List ℕ) (n room : ℕ) (whole : length written ≡ room) (at : n ≡ length h.waiting) where
-  -- what stands in the room that was lent
+module _ (h j : Held) (room written : List ℕ) (n : ℕ) (whole : length written ≡ length room) (at : n ≡ length h.waiting) where
+  -- what stands in the area once the room that was lent is written
   abbrev lent : List ℕ
-  lent = overwritten (length h.waiting) written (h.waiting ++ replicate room 0)
+  lent = overwritten (length h.waiting) written (h.waiting ++ room)
 
   before : take n lent ≡ h.waiting
-  before = ap (λ k. take k lent) at ∙ spare_before h.waiting written room whole
+  before = ap (λ k. take k lent) at ∙ spare_before h.waiting room written whole
 
   behind : drop n lent ≡ written
-  behind = ap (λ k. drop k lent) at ∙ spare_written h.waiting written room whole
+  behind = ap (λ k. drop k lent) at ∙ spare_written h.waiting room written whole
 
   abbrev lent_held : Held
   lent_held = record h { waiting = take n lent }

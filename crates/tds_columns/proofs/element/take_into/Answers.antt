@@ -1,6 +1,5 @@
 use Rattle.std.proofs.Common.{◌≡◌, ◌∙◌, ◌+◌, ◌≤◌, ◌<◌, ◌++◌, ℕ, List, length, take, max, ap, subst, arith, length-append, length-take-le}
 use Rattle.std.proofs.Math.Seq.{take-append_seam}
-use Rattle.std.proofs.lemmas.List.{length-replicate}
 use Rattle.tds_meter.specs.Space.{Space, appended, holding}
 use Rattle.tds_meter.proofs.Overwriting.{grown}
 use Rattle.tds_packet.specs.Payloads.{seen}
@@ -10,13 +9,13 @@ use Rattle.tds_columns.proofs.element.take_into.Goals as goal
 pub returns-in-Ok-clause-gives : goal.returns-in-Ok-clause-gives
 returns-in-Ok-clause-gives g c =
     let bytes = c.fill.new.to in
-    let n : length bytes ≡ c.args.n = c.fill.auto.to ∙ ap length c.grow_within-lent.ensures.value ∙ length-replicate c.args.n 0 in
+    let n : length bytes ≡ c.args.n = c.fill.auto.to ∙ c.grow_within-lent.ensures.value in
     record {
       element = bytes;
       whole = n;
       takes = subst (λ k. Takes (seen g.R.Read.remaining c.args.payload.now) (seen g.R.Read.remaining c.fill.new.self) bytes k) n c.in-Ok.ensures.all;
       between = c.in-Ok.ensures.between;
-      stands = grown c.args.area.now c.args.n bytes n;
+      stands = grown c.args.area.now c.grow_within-lent.result.now bytes c.fill.auto.to;
     }
 
 -- an area that grew and was cut back
@@ -29,11 +28,11 @@ cut_back s written n start after full e l at is =
 pub returns-in-Err-clause-gives : goal.returns-in-Err-clause-gives
 returns-in-Err-clause-gives g c = λ going.
     let bytes = c.fill.new.to in
-    let n : length bytes ≡ c.args.n = c.fill.auto.to ∙ ap length c.grow_within-lent.ensures.value ∙ length-replicate c.args.n 0 in
+    let n : length bytes ≡ c.args.n = c.fill.auto.to ∙ c.grow_within-lent.ensures.value in
     let part = c.in-Err.ensures.part going in
     let less : part.0 < length bytes = part.2 in
     let few : length (take part.0 bytes) ≡ part.0 = length-take-le part.0 bytes (omega (arith, less)) in
-    let back = cut_back c.args.area.now bytes c.args.n c.len-start.result c.truncate.new.self _ (grown c.args.area.now c.args.n bytes n) n c.len-start.ensures.value c.truncate.ensures in
+    let back = cut_back c.args.area.now bytes c.args.n c.len-start.result c.truncate.new.self _ (grown c.args.area.now c.grow_within-lent.result.now bytes c.fill.auto.to) n c.len-start.ensures.value c.truncate.ensures in
     record {
       part = take part.0 bytes;
       fewer = omega (arith, few, less, n);

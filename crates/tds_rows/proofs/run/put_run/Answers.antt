@@ -1,5 +1,4 @@
-use Rattle.std.proofs.Common.{◌≡◌, ◌∙◌, ap, ◌+◌, ◌-◌, ◌≤◌, ◌<◌, ℕ, List, Ok, Err, length, take, drop, subst, arith, rules, length-take}
-use Rattle.std.proofs.lemmas.List.{length-replicate}
+use Rattle.std.proofs.Common.{◌≡◌, ap, ◌+◌, ◌≤◌, ◌<◌, ℕ, List, Ok, Err, length, take, drop, subst, arith, rules, length-take}
 use Rattle.tds_packet.specs.Payloads.{buffered, seen}
 use Rattle.tds_packet.specs.Seen.{Takes}
 use Rattle.tds_packet.proofs.Futures.{Takes-more}
@@ -14,9 +13,10 @@ unreachable-requires g c =
     let h = held g.W.Write.contents c.args.sink.now in
     let j = held g.W.Write.contents c.keep.new.self in
     let written = c.run_rows-run.new.to in
-    let whole : length written ≡ c.room-room.result - 1 = c.run_rows-run.auto.to ∙ ap length c.spare.ensures.value ∙ length-replicate {A = ℕ} (c.room-room.result - 1) 0 in
-    let breaks = kept_text h j written c.waiting-waiting.result (c.room-room.result - 1) whole c.waiting-waiting.ensures {U = Unit {0}} (Err c.in-Err.field-0) c.run_rows-run.result.made c.in-Err.ensures.gives in
-    let few : length h.waiting + length (take c.run_rows-run.result.made written) < 4096 = omega (arith, whole, c.room-room.ensures, c.requires.writing.ready.1 c.requires.writing.writing, length-take c.run_rows-run.result.made written) in
+    let lent = c.spare.result.now in
+    let whole : length written ≡ length lent = c.run_rows-run.auto.to in
+    let breaks = kept_text h j lent written c.waiting-waiting.result whole c.waiting-waiting.ensures {U = Unit {0}} (Err c.in-Err.field-0) c.run_rows-run.result.made c.in-Err.ensures.gives in
+    let few : length h.waiting + length (take c.run_rows-run.result.made written) < 4096 = omega (arith, whole, c.spare.ensures.value, c.room-room.ensures, c.requires.writing.ready.1 c.requires.writing.writing, length-take c.run_rows-run.result.made written) in
     fills_no_block h j (take c.run_rows-run.result.made written) c.in-Err.field-0 few breaks
 
 pub returns-clause-gives : goal.returns-clause-gives
@@ -31,8 +31,9 @@ returns-clause-gives g c = λ columns knows ahead.
     let lies : run.used ≤ length (buffered c.args.payload.now) = search (arith, rules) in
     let takes : Takes a b bytes (length bytes) = Takes-more a b bytes 0 (length bytes) (omega arith) c.consume.ensures.gives in
     let at : c.consume.new.self.place ≡ c.args.payload.now.place + length bytes = omega (arith, lies, ap (λ p. p.place) c.consume.ensures.rest, length-take run.used (buffered c.args.payload.now)) in
-    let whole : length written ≡ c.room-room.result - 1 = c.run_rows-run.auto.to ∙ ap length c.spare.ensures.value ∙ length-replicate {A = ℕ} (c.room-room.result - 1) 0 in
-    let puts = kept_text h j written c.waiting-waiting.result (c.room-room.result - 1) whole c.waiting-waiting.ensures (Ok c.in-Ok.field-0) run.made c.in-Ok.ensures.gives in
+    let lent = c.spare.result.now in
+    let whole : length written ≡ length lent = c.run_rows-run.auto.to in
+    let puts = kept_text h j lent written c.waiting-waiting.result whole c.waiting-waiting.ensures (Ok c.in-Ok.field-0) run.made c.in-Ok.ensures.gives in
     let ran = c.run_rows-run.ensures.gives columns knows ahead in (
       ran.0,
       λ charset cells is.
