@@ -5,6 +5,7 @@ use Rattle.std.proofs.lemmas.Bool.{ne_eqb}
 use Rattle.std.proofs.lemmas.List.{length-take-le}
 use lib.Seq.{take-add}
 use Rattle.tds_values.specs.declared.kind.Kind.{Kind}
+use Rattle.tds_values.specs.declared.kind.Kind.TheVariants.{IntN}
 use Rattle.tds_values.specs.declared.scalar.ScalarValue.{ScalarValue}
 use Rattle.tds_values.specs.declared.scalar.ValueFault.TheVariants as faults
 use Rattle.tds_values.specs.Kind.{fixed_length, is_length_allowed, is_scalar}
@@ -24,7 +25,7 @@ use Rattle.tds_rows.proofs.CellSteps.{fixed_some, scalar_shape}
 use Rattle.tds_rows.proofs.RowSteps.{at_once_breaks, at_once_streams}
 use Rattle.tds_rows.specs.declared.Charset.{Charset}
 use Rattle.tds_rows.specs.Cells.{CellPart, Null, ScalarBytes, ScalarCell, ScalarLength, WholeCell, cell, cell_start, shape, shape_of_length, unless, value_part}
-use Rattle.tds_rows.specs.CellSteps.{IsLeft, IsValueText, length_behind, start_behind, value_length, value_start, PutsCell, ReadsCell, StopsCell, WritesCell}
+use Rattle.tds_rows.specs.CellSteps.{HasInt4, IsLeft, IsValueText, length_behind, start_behind, value_length, value_start, PutsCell, ReadsCell, StopsCell, WritesCell}
 use Rattle.tds_csv.specs.Quoting.{in_line}
 
 -- a value that is read has a length that is allowed
@@ -127,6 +128,13 @@ module _ (charset : Charset) (kind : Kind) (column : ℕ) (last : Bool) (bytes t
           subst (λ s. WritesCell (cell_start kind s) column last (take (start + n) bytes) text) (ap shape_of_length (sym e) ∙ sym (scalar_shape charset kind scalar))
           (subst (λ (k : ℕ). WritesCell (ScalarLength kind) column last (take k bytes) text) (omega (arith, one)) (counted_written column kind n last bytes text first some (omega (arith, within, one))
           (subst (λ (k : ℕ). IsValueText kind column last (take n (drop k bytes)) text) one is)))
+
+-- a whole number of four bytes there
+pub int4_cell : (charset : Charset) (kind : Kind) (column : ℕ) (last : Bool) (bytes text : List ℕ) → HasInt4 kind bytes → IsValueText (IntN 4) column last (take 4 (drop 1 bytes)) text
+    → WritesCell (cell_start kind (shape charset kind)) column last (take 5 bytes) text
+int4_cell charset kind column last bytes text h x =
+    subst (λ (k : Kind). WritesCell (cell_start k (shape charset k)) column last (take 5 bytes) text) (sym h.kind_is)
+    (value_cell charset (IntN 4) column last bytes text refl 1 4 refl (sym h.length_is) (λ e. omega (arith, e)) h.whole x)
 
 -- a cell whose value is refused is left
 pub refused_left : (kind : Kind) (bytes : List ℕ) (start n : ℕ) → start ≡ value_start kind → n ≡ value_length kind bytes → n ≢ 0 → is_ok (read_of kind (take ((start + n) - start) (drop start bytes))) ≡ false → IsLeft kind bytes

@@ -1,6 +1,7 @@
 -- What reading a cell and putting it into its line does.
-use Rattle.std.specs.Prelude.{◌≡◌, ◌⊎◌, ◌+◌, ◌<◌, ℕ, Bool, true, false, List, [], ◌∷◌, ◌++◌, length, take, drop, slice_index, is_ok, Option, Some, None, Result, Ok, MatchOption, MatchResult}
+use Rattle.std.specs.Prelude.{◌≡◌, ◌⊎◌, ◌+◌, ◌<◌, ◌≤◌, ℕ, Bool, true, false, List, [], ◌∷◌, ◌++◌, length, take, drop, slice_index, is_ok, Option, Some, None, Result, Ok, MatchOption, MatchResult}
 use Rattle.tds_values.specs.declared.kind.Kind.{Kind}
+use Rattle.tds_values.specs.declared.kind.Kind.TheVariants.{IntN}
 use Rattle.tds_values.specs.declared.scalar.ScalarValue.{ScalarValue}
 use Rattle.tds_values.specs.Kind.{fixed_length, is_scalar}
 use Rattle.tds_values.specs.Scalar.{read_of}
@@ -94,6 +95,12 @@ scalar_size kind bytes = value_start kind + value_length kind bytes
 -- the bytes of its value
 abbrev pub value_bytes : Kind → List ℕ → List ℕ
 value_bytes kind bytes = take (value_length kind bytes) (drop (value_start kind) bytes)
+
+-- A whole number of four bytes, behind its length, is at the front of these bytes.
+pub record HasInt4 (kind : Kind) (bytes : List ℕ) : Type 0 where
+  pub kind_is : kind ≡ IntN 4
+  pub whole : 5 ≤ length bytes
+  pub length_is : slice_index bytes 0 ≡ 4
 
 -- The cell at the front of these bytes is left for another way: it is of no scalar kind, it isn't whole, or its value is refused.
 abbrev pub IsLeft : Kind → List ℕ → Type 0

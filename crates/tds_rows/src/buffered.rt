@@ -1,9 +1,9 @@
 // A cell of a scalar kind whose bytes lie together.
-ghost use Rattle.std.specs.Prelude.{◌≡◌, ◌≤◌, ◌<◌, ◌⊎◌, false, length, IsTrue, IfSome, MatchOption};
-ghost use Rattle.tds_rows.specs.CellSteps.{CellWritten, scalar_size, value_length, value_start};
+ghost use Rattle.std.specs.Prelude.{◌≡◌, ◌≤◌, ◌<◌, ◌⊎◌, false, true, length, IsTrue, IfSome, MatchOption};
+ghost use Rattle.tds_rows.specs.CellSteps.{CellWritten, HasInt4, scalar_size, value_length, value_start};
 ghost use Rattle.tds_values.specs.Kind as kinds;
 
-use crate::fields::write_value;
+use crate::fields::{write_int4_field, write_value};
 use crate::rows::{CELL_ROOM, TEXT_ROOM};
 use crate::table::{Form, Layout};
 use tds_csv::write_null;
@@ -50,6 +50,14 @@ fn value_at(form: &Form, bytes: &[u8]) -> Option<(usize, usize)>
     }
 }
 
+// Whether a whole number of four bytes lies at the front of these bytes, behind its length.
+#[inline(always)]
+fn has_int4(kind: &Kind, bytes: &[u8]) -> bool
+    ensures { result ≡ true → HasInt4 kind.now bytes.now }
+{
+    matches!(*kind, Kind::IntN(4)) && bytes.len() >= 5 && bytes[0] == 4
+}
+
 // Writes the cell at the front of these bytes; none where it isn't whole, is refused or isn't a scalar.
 #[inline(always)]
 pub(crate) fn write_cell(
@@ -65,6 +73,10 @@ pub(crate) fn write_cell(
     ensures whole { IfSome result (λ written. written.used ≡ scalar_size form.now.kind bytes.now) }
     ensures gives { CellWritten form.now.kind column last bytes.now to.new result }
 {
+    if has_int4(&form.kind, bytes) {
+        let made = write_int4_field(column, last, &bytes[1..5], to);
+        return Some(Written { used: 5, made });
+    }
     let Some((start, n)) = value_at(form, bytes) else {
         return None;
     };

@@ -6,7 +6,7 @@ ghost use Rattle.tds_values.specs.Scalar.{read_of};
 
 use crate::rows::{CELL_ROOM, TEXT_ROOM};
 use tds_csv::{write_comma, write_line_end};
-use tds_values::{Kind, write_scalar};
+use tds_values::{Kind, write_int4, write_scalar};
 
 // Writes the text of a value in its line to the front of a slice, and answers how many bytes it has;
 // none where the value is out of range.
@@ -31,4 +31,17 @@ pub(crate) fn write_value(
         Ok(made) => Some(write_line_end(last, start + made, to)),
         Err(_) => None,
     }
+}
+
+// Writes the text of a whole number of four bytes in its line, and answers how many bytes it has.
+#[inline(always)]
+pub(crate) fn write_int4_field(column: u16, last: bool, bytes: &[u8], to: &mut [u8]) -> usize
+    requires whole { length bytes.now ≡ 4 }
+    requires room { CELL_ROOM ≤ length to.old }
+    ensures most { result ≤ TEXT_ROOM }
+    ensures gives { IsValueText (Kind.IntN 4) column last bytes.now (take result to.new) }
+{
+    let start = write_comma(column, to);
+    let made = write_int4(bytes, &mut to[start..]);
+    write_line_end(last, start + made, to)
 }

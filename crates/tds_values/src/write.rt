@@ -316,3 +316,16 @@ pub fn write_scalar(kind: &Kind, bytes: &[u8], to: &mut [u8]) -> Result<usize, V
 {
     write_any(kind, bytes, to)
 }
+
+/// Writes the text of a whole number in four bytes, as [`write_scalar`] does of [`Kind::IntN`] with 4.
+#[inline(always)]
+pub fn write_int4(bytes: &[u8], to: &mut [u8]) -> usize
+    requires length { length bytes.now ≡ 4 }
+    requires room { TEXT_ROOM ≤ length to.old }
+    ensures { IsTextOf (read_of (Kind.IntN 4) bytes.now) result to.new }
+{
+    match write_integer(4, bytes, to) {
+        Ok(made) => made,
+        Err(_) => unreachable!(),
+    }
+}

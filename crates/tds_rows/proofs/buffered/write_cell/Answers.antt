@@ -1,7 +1,7 @@
 use Rattle.std.proofs.Common.{◌≡◌, ◌∙◌, ◌+◌, ◌-◌, ℕ, take, drop, sym, subst, arith, rules}
 use Rattle.tds_rows.specs.Cells.{cell_start, shape}
 use Rattle.tds_rows.specs.CellSteps.{IsValueText, WritesCell}
-use Rattle.tds_rows.proofs.BufferedCells.{null_cell, refused_left, value_cell}
+use Rattle.tds_rows.proofs.BufferedCells.{int4_cell, null_cell, refused_left, value_cell}
 use Rattle.tds_rows.proofs.buffered.write_cell.Goals as goal
 
 pub returns-then-n-eq0-clause-gives : goal.returns-then-n-eq0-clause-gives
@@ -25,3 +25,7 @@ pub returns-in-None-clause-gives : goal.returns-in-None-clause-gives
 returns-in-None-clause-gives c =
     let at = c.in-Some.ensures.gives in
     refused_left c.args.form.now.kind c.args.bytes.now c.in-Some.start c.in-Some.n at.0 at.1 c.if-n-eq0.false c.in-None.ensures.gives
+
+pub returns-then-has_int4-clause-gives : goal.returns-then-has_int4-clause-gives
+returns-then-has_int4-clause-gives c = λ charset.
+    int4_cell charset c.args.form.now.kind c.args.column c.args.last c.args.bytes.now (take c.write_int4_field-made.result c.write_int4_field-made.new.to) (c.has_int4.ensures c.if-has_int4.true) c.write_int4_field-made.ensures.gives
