@@ -1,6 +1,10 @@
 -- Digits as the bytes of one number.
-use Rattle.std.proofs.Common.{◌≡◌, ℕ, zero, suc, ◌+◌, ◌*◌, ◌/◌, ◌%◌, ◌^◌, ◌<◌, List, [], ◌∷◌, ◌++◌, refl, sym, ap, ◌∙◌, arith, take, length}
-use Rattle.std.proofs.Math.Nat.{pow-succ', div-div-eq-div-mul}
+use Rattle.std.proofs.Common.{◌≡◌, ℕ, zero, suc, ◌+◌, ◌*◌, ◌/◌, ◌%◌, ◌^◌, ◌<◌, ◌≤◌, List, [], ◌∷◌, ◌++◌, refl, sym, ap, ◌∙◌, arith, take, length}
+use Rattle.std.proofs.Math.Nat.{pow-succ', pow-suc, div-div-eq-div-mul}
+use Rattle.std.specs.Int.{bytes_low_first, byte_at}
+use Rattle.std.proofs.lemmas.Slice.{take-put_mid}
+use Rattle.std.proofs.lemmas.List.{append-nil}
+use borrow.Rule.Slice.PartMut.{put_mid}
 use Rattle.tds_values.specs.ScalarText.{last_digits}
 use Rattle.tds_values.specs.Words.{word_of, bytes_of}
 use Rattle.tds_values.proofs.DigitLemmas.{last_digits-add}
@@ -53,3 +57,21 @@ take-bytes_of zero j w = refl
 take-bytes_of (suc k) j w =
     let e : suc k + j ≡ suc (k + j) = omega arith in
     ap (λ m. take (suc k) (bytes_of m w)) e ∙ ap (λ t. w % 256 ∷ t) (take-bytes_of k j (w / 256))
+
+low_bytes : (i k n : ℕ) → bytes_low_first i k n ≡ bytes_of k (n / 256 ^ i)
+low_bytes i zero n = refl
+low_bytes i (suc k) n =
+    let next : n / 256 ^ suc i ≡ n / 256 ^ i / 256 = ap (λ p. n / p) (pow-suc 256 i) ∙ sym (div-div-eq-div-mul n (256 ^ i) 256) in
+    (λ j. first i n j ∷ bytes_low_first (suc i) k n) ∙ ap (λ t. n / 256 ^ i % 256 ∷ t) (low_bytes (suc i) k n ∙ ap (bytes_of k) next)
+  where
+    first : (i n : ℕ) → byte_at i n ≡ n / 256 ^ i % 256
+    first zero n = omega arith
+    first (suc i) n = refl
+
+-- the bytes of a word, stored behind `at`
+pub stored : (old part rest : List ℕ) (at k w : ℕ) → at ≤ length old → part ≡ bytes_low_first 0 8 w ++ rest → rest ≡ []
+    → take (at + 8) (put_mid at k old part) ≡ take at old ++ bytes_of 8 w
+stored old part rest at k w h e none =
+    let one : w / 256 ^ 0 ≡ w = omega arith in
+    let bytes : part ≡ bytes_of 8 w = e ∙ ap (λ r. bytes_low_first 0 8 w ++ r) none ∙ append-nil _ ∙ low_bytes 0 8 w ∙ ap (bytes_of 8) one in
+    ap (λ p. take (at + 8) (put_mid at k old p)) bytes ∙ take-put_mid at k old (bytes_of 8 w) (at + 8) refl h

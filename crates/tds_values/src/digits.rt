@@ -3,6 +3,8 @@ ghost use Rattle.std.specs.Prelude.{◌≡◌, ◌+◌, ◌-◌, ◌<◌, ◌≤
 ghost use Rattle.tds_values.specs.ScalarText.{last_digits, minus_if};
 ghost use Rattle.tds_values.specs.Words.{word_of, bytes_of};
 
+use byteorder::{ByteOrder, LittleEndian};
+
 // The two digits of each number below 100.
 static PAIRS: [u8; 200] =
     *b"00010203040506070809101112131415161718192021222324252627282930313233343536373839404142434445464748495051525354555657585960616263646566676869707172737475767778798081828384858687888990919293949596979899";
@@ -94,14 +96,8 @@ fn put_word(to: &mut [u8], at: usize, word: u64) -> usize
     ensures end { result ≡ at + 8 }
     ensures written { take result to.new ≡ take at to.old ++ bytes_of 8 word }
 {
-    let at = put_byte(to, at, (word % 256) as u8);
-    let at = put_byte(to, at, (word / 0x100 % 256) as u8);
-    let at = put_byte(to, at, (word / 0x1_0000 % 256) as u8);
-    let at = put_byte(to, at, (word / 0x100_0000 % 256) as u8);
-    let at = put_byte(to, at, (word / 0x1_0000_0000 % 256) as u8);
-    let at = put_byte(to, at, (word / 0x100_0000_0000 % 256) as u8);
-    let at = put_byte(to, at, (word / 0x1_0000_0000_0000 % 256) as u8);
-    put_byte(to, at, (word / 0x100_0000_0000_0000 % 256) as u8)
+    LittleEndian::write_u64(&mut to[at..at + 8], word);
+    at + 8
 }
 
 // The digits of eight that come behind some zeros, or behind digits that aren't wanted.

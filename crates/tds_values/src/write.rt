@@ -5,6 +5,7 @@ ghost use Rattle.std.specs.Int.{cast_signed, w16};
 ghost use Rattle.tds_values.specs.Kind as kinds;
 ghost use Rattle.tds_values.specs.Kind.{is_decimal_length};
 ghost use Rattle.tds_values.specs.Scalar.{read_of, checked, decimal_of};
+ghost use Rattle.tds_values.specs.TimeOfDay.{time_length as time_length_of};
 ghost use Rattle.tds_values.specs.Written.{IsText, IsTextOf, IsWritten};
 ghost use Rattle.tds_values.specs.declared.scalar.ScalarValue.{ScalarValue};
 
@@ -77,6 +78,19 @@ fn write_date(bytes: &[u8], to: &mut [u8]) -> Result<usize, ValueFault>
     Ok(put_date(to, 0, day))
 }
 
+// The units of a time of day, in the first bytes: each length is read by itself, which takes no call.
+#[inline(always)]
+fn units_in(scale: u8, bytes: &[u8]) -> u64
+    requires { time_length_of scale ≤ length bytes.now }
+    ensures { result ≡ little_number (time_length_of scale) bytes.now }
+{
+    match scale {
+        0..=2 => LittleEndian::read_uint(bytes, 3),
+        3 | 4 => LittleEndian::read_uint(bytes, 4),
+        _ => LittleEndian::read_uint(bytes, 5),
+    }
+}
+
 // A time of day.
 #[inline(always)]
 fn write_time(scale: u8, bytes: &[u8], to: &mut [u8]) -> Result<usize, ValueFault>
@@ -88,7 +102,7 @@ fn write_time(scale: u8, bytes: &[u8], to: &mut [u8]) -> Result<usize, ValueFaul
     if bytes.len() != t {
         return Err(ValueFault::Length);
     }
-    let units = LittleEndian::read_uint(bytes, t);
+    let units = units_in(scale, bytes);
     let seconds = seconds_in(scale, units);
     if seconds >= SECONDS_A_DAY {
         return Err(ValueFault::Value);
@@ -116,7 +130,7 @@ fn write_date_time2(scale: u8, bytes: &[u8], to: &mut [u8]) -> Result<usize, Val
     if bytes.len() != t + 3 {
         return Err(ValueFault::Length);
     }
-    let units = LittleEndian::read_uint(bytes, t);
+    let units = units_in(scale, bytes);
     let day = day_at(t, bytes);
     let seconds = seconds_in(scale, units);
     if seconds >= SECONDS_A_DAY || day > LAST_DAY {
@@ -168,7 +182,7 @@ fn write_date_time_offset(scale: u8, bytes: &[u8], to: &mut [u8]) -> Result<usiz
     if bytes.len() != t + 5 {
         return Err(ValueFault::Length);
     }
-    let units = LittleEndian::read_uint(bytes, t);
+    let units = units_in(scale, bytes);
     write_local(scale, units, day_at(t, bytes), offset_at(t + 3, bytes), to)
 }
 
