@@ -22,7 +22,7 @@ use tds_packet::{Payload, Stop};
 use tds_values::Kind;
 
 /// How many bytes the text of a scalar in its line may want, and a few to spare.
-pub(crate) const CELL_ROOM: usize = 80;
+pub(crate) const CELL_ROOM: usize = 66;
 
 /// The most bytes that the text of a scalar in its line has.
 pub(crate) const TEXT_ROOM: usize = 44;
