@@ -1,9 +1,9 @@
 -- Digits as the bytes of one number.
-use Rattle.std.proofs.Common.{◌≡◌, ℕ, zero, suc, ◌+◌, ◌*◌, ◌/◌, ◌%◌, ◌^◌, ◌<◌, ◌≤◌, List, [], ◌∷◌, ◌++◌, refl, sym, ap, ◌∙◌, arith, take, length}
+use Rattle.std.proofs.Common.{◌≡◌, ℕ, zero, suc, ◌+◌, ◌-◌, ◌*◌, ◌/◌, ◌%◌, ◌^◌, ◌<◌, ◌≤◌, List, [], ◌∷◌, ◌++◌, refl, sym, ap, ◌∙◌, arith, take, drop, length}
 use Rattle.std.proofs.Math.Nat.{pow-succ', pow-suc, div-div-eq-div-mul}
 use Rattle.std.specs.Int.{bytes_low_first, byte_at}
 use Rattle.std.proofs.lemmas.Slice.{take-put_mid}
-use Rattle.std.proofs.lemmas.List.{append-nil}
+use Rattle.std.proofs.lemmas.List.{append-nil, drop-take}
 use borrow.Rule.Slice.PartMut.{put_mid}
 use Rattle.tds_values.specs.ScalarText.{last_digits}
 use Rattle.tds_values.specs.Words.{word_of, bytes_of}
@@ -68,10 +68,21 @@ low_bytes i (suc k) n =
     first zero n = omega arith
     first (suc i) n = refl
 
--- the bytes of a word, stored behind `at`
-pub stored : (old part rest : List ℕ) (at k w : ℕ) → at ≤ length old → part ≡ bytes_low_first 0 8 w ++ rest → rest ≡ []
-    → take (at + 8) (put_mid at k old part) ≡ take at old ++ bytes_of 8 w
-stored old part rest at k w h e none =
+-- the m bytes of a word, stored behind `at`
+pub stored : (old part rest : List ℕ) (m at k w : ℕ) → at ≤ length old → part ≡ bytes_low_first 0 m w ++ rest → rest ≡ []
+    → take (at + m) (put_mid at k old part) ≡ take at old ++ bytes_of m w
+stored old part rest m at k w h e none =
     let one : w / 256 ^ 0 ≡ w = omega arith in
-    let bytes : part ≡ bytes_of 8 w = e ∙ ap (λ r. bytes_low_first 0 8 w ++ r) none ∙ append-nil _ ∙ low_bytes 0 8 w ∙ ap (bytes_of 8) one in
-    ap (λ p. take (at + 8) (put_mid at k old p)) bytes ∙ take-put_mid at k old (bytes_of 8 w) (at + 8) refl h
+    let bytes : part ≡ bytes_of m w = e ∙ ap (λ r. bytes_low_first 0 m w ++ r) none ∙ append-nil _ ∙ low_bytes 0 m w ∙ ap (bytes_of m) one in
+    let long : at + m ≡ at + length (bytes_of m w) = ap (λ j. at + j) (sym (length-bytes_of m w)) in
+    ap (λ p. take (at + m) (put_mid at k old p)) bytes ∙ take-put_mid at k old (bytes_of m w) (at + m) long h
+  where
+    length-bytes_of : (m w : ℕ) → length (bytes_of m w) ≡ m
+    length-bytes_of zero w = refl
+    length-bytes_of (suc m) w = ap suc (length-bytes_of m (w / 256))
+
+-- and nothing stands behind them
+pub nothing_behind : (xs : List ℕ) (m at : ℕ) → drop m (take (at + m - at) xs) ≡ []
+nothing_behind xs m at =
+    let e : at + m - at ≡ m + 0 = omega arith in
+    ap (λ n. drop m (take n xs)) e ∙ drop-take m 0 xs

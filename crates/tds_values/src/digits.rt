@@ -61,9 +61,8 @@ pub(crate) fn put_two(to: &mut [u8], at: usize, n: u32) -> usize
     ensures end { result ≡ at + 2 }
     ensures written { take result to.new ≡ take at to.old ++ last_digits 2 n }
 {
-    let k = n as usize * 2;
-    let at = put_byte(to, at, PAIRS[k]);
-    put_byte(to, at, PAIRS[k + 1])
+    LittleEndian::write_u16(&mut to[at..at + 2], WORDS[n as usize]);
+    at + 2
 }
 
 // Two digits as one number, the first digit in its low byte.

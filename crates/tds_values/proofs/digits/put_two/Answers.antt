@@ -1,14 +1,17 @@
-use Rattle.std.proofs.Common.{◌≡◌, ℕ, ◌+◌, ◌/◌, ◌%◌, ◌<◌, List, [], ◌∷◌, ◌++◌, ap, ◌∙◌, append_assoc, arith}
+use Rattle.std.proofs.Common.{◌≡◌, ℕ, ◌+◌, ◌*◌, ◌/◌, ◌%◌, ◌<◌, [], ◌∷◌, ◌++◌, take, drop, ap, ◌∙◌, arith}
+use Rattle.tds_values.specs.Words.{bytes_of}
+use Rattle.tds_values.specs.ScalarText.{last_digits}
 use Rattle.tds_values.proofs.TableLemmas.{digits_at}
+use Rattle.tds_values.proofs.WordLemmas.{stored, nothing_behind}
 use Rattle.tds_values.proofs.digits.put_two.Goals as goal
 
-joined : (n a b : ℕ) (t u v : List ℕ) → n < 100 → a ≡ 48 + n / 10 → b ≡ 48 + n % 10 → u ≡ t ++ a ∷ [] → v ≡ u ++ b ∷ []
-    → v ≡ t ++ (48 + n / 10 % 10) ∷ (48 + n % 10) ∷ []
-joined n a b t u v h ea eb eu ev =
-    let first : a ≡ 48 + n / 10 % 10 = omega arith in
-    ev ∙ ap (λ s. s ++ b ∷ []) eu ∙ append_assoc t (a ∷ []) (b ∷ []) ∙ (λ i. t ++ first i ∷ eb i ∷ [])
+spelt : (n w : ℕ) → n < 100 → w ≡ 48 + n / 10 + 256 * (48 + n % 10) → bytes_of 2 w ≡ last_digits 2 n
+spelt n w h e =
+    let first : w % 256 ≡ 48 + n / 10 % 10 = omega arith in
+    let second : w / 256 % 256 ≡ 48 + n % 10 = omega arith in
+    λ i. first i ∷ second i ∷ []
 
 pub returns-clause-written : goal.returns-clause-written
 returns-clause-written c =
-    let d = digits_at c.args.n c.requires.small in
-    joined c.args.n _ _ _ _ _ c.requires.small d.first d.second c.put_byte-at.ensures.written c.put_byte.ensures.written
+    stored c.args.to.now c.write_u16.new.buf _ 2 c.args.at _ _ (omega arith) c.write_u16.ensures (nothing_behind (drop c.args.at c.args.to.now) 2 c.args.at)
+    ∙ ap (λ t. take c.args.at c.args.to.now ++ t) (spelt c.args.n _ c.requires.small (digits_at c.args.n c.requires.small).word)
