@@ -10,6 +10,7 @@ use Rattle.tds_export.specs.declared.report.Report.{Report}
 use Rattle.tds_export.specs.declared.progress.Progress.{Progress}
 use Rattle.tds_export.specs.Tokens.{Token, described_after, Metadata, NoMetadata, Row, Order, EnvChange, Error, Info, ReturnStatus, Returned, Done, DoneInProc, between, encoded_after, first_error, greatest_span, header_line, how_many, is_error, is_final, is_info, is_return, is_row, is_set, return_status_after, text, text_after}
 use Rattle.tds_export.specs.Outcome.{report_of, server_error, signed}
+use Rattle.tds_export.specs.TokenGrammar.{Bodied, AnOrder, AnEnvChange, AnError, AnInfo, bodied, is_notice}
 use Rattle.tds_export.specs.Steps.{IsDescribed, Tracks}
 use Rattle.tds_export.proofs.ResponseLaws.{described_after-append}
 
@@ -166,6 +167,12 @@ quiet_done_in_proc m = record { text = λ _. refl; encoded = λ _. refl; columns
 pub quiet_status : (n : ℕ) → IsQuiet (ReturnStatus n)
 quiet_status n = record { text = λ _. refl; encoded = λ _. refl; columns = λ _. refl; sets = refl; rows = refl; errors = refl; infos = refl; returns = refl }
 
+pub quiet_body : (which : Bodied) (body : List ℕ) → is_notice which ≡ false → IsQuiet (bodied which body)
+quiet_body AnOrder body h = record { text = λ _. refl; encoded = λ _. refl; columns = λ _. refl; sets = refl; rows = refl; errors = refl; infos = refl; returns = refl }
+quiet_body AnEnvChange body h = record { text = λ _. refl; encoded = λ _. refl; columns = λ _. refl; sets = refl; rows = refl; errors = refl; infos = refl; returns = refl }
+quiet_body AnError body h = cc
+quiet_body AnInfo body h = cc
+
 uncounted : (p : Token → Bool) (ts : List Token) (t : Token) → how_many p (t ∷ []) ≡ 0 → how_many p ts + how_many p (t ∷ []) ≡ how_many p ts
 uncounted p ts t e = ap (λ n. how_many p ts + n) e ∙ none (how_many p ts)
 
@@ -182,6 +189,12 @@ tracks_done s ts m final k e = tracks_quiet s ts (Done m) final (quiet_done m) r
 
 pub tracks_done_in_proc : (s : Progress) (ts : List Token) (m : Bool) → Tracks s ts → Tracks (record s { is_final = false }) (ts ++ DoneInProc m ∷ [])
 tracks_done_in_proc s ts m k = tracks_quiet s ts (DoneInProc m) false (quiet_done_in_proc m) refl refl k
+
+pub tracks_body : (s : Progress) (ts : List Token) (which : Bodied) (body : List ℕ) → is_notice which ≡ false → Tracks s ts → Tracks (record s { is_final = false }) (ts ++ bodied which body ∷ [])
+tracks_body s ts AnOrder body h k = tracks_quiet s ts (Order body) false (quiet_body AnOrder body refl) refl refl k
+tracks_body s ts AnEnvChange body h k = tracks_quiet s ts (EnvChange body) false (quiet_body AnEnvChange body refl) refl refl k
+tracks_body s ts AnError body h k = cc
+tracks_body s ts AnInfo body h k = cc
 
 pub tracks_status : (s : Progress) (ts : List Token) (n : ℕ) (status : ℤ) → status ≡ signed n → Tracks s ts → Tracks (record s { report = record s.report { return_status = Some status }; is_final = false }) (ts ++ ReturnStatus n ∷ [])
 tracks_status s ts n status e k =

@@ -15,14 +15,14 @@ use Rattle.tds_csv.specs.Streaming.{PutsText, Streams, BreaksStreaming}
 use Rattle.tds_rows.specs.declared.Charset.{Charset}
 use Rattle.tds_rows.specs.Rows.{row_start}
 use Rattle.tds_rows.specs.Unbuilt.{Stalls}
-use Rattle.tds_export.specs.declared.token_bytes.TheConstants.{COLMETADATA, ROW, NBCROW, RETURNSTATUS, DONE, DONEPROC, DONEINPROC}
+use Rattle.tds_export.specs.declared.token_bytes.TheConstants.{COLMETADATA, ROW, NBCROW, ORDER, ENVCHANGE, RETURNSTATUS, DONE, DONEPROC, DONEINPROC}
 use Rattle.tds_export.specs.declared.progress.Progress.{Progress}
 use Rattle.tds_export.specs.declared.report.Report.{Report}
 use Rattle.tds_export.specs.declared.tokens.TokenKind.{TokenKind}
 use Rattle.tds_export.specs.declared.tokens.TokenKind.TheVariants as kinds
 use Rattle.tds_export.specs.Built.{is_built, is_built_token}
 use Rattle.tds_export.specs.Outcome.{report_of}
-use Rattle.tds_export.specs.TokenGrammar.{Between, Describing, DoneFields, DoneInProcFields, Open, Part, Status, is_token_byte, text_so_far, span_so_far, with_row}
+use Rattle.tds_export.specs.TokenGrammar.{AnEnvChange, AnOrder, Between, Bodied, Describing, DoneFields, DoneInProcFields, Open, Part, Status, TokenLength, is_token_byte, text_so_far, span_so_far, with_row}
 use Rattle.tds_export.specs.Tokens.{Token, described_after, encoded_after, first_error, is_final, text}
 
 -- Columns are described, and they are those in these bytes; or none are.
@@ -66,6 +66,8 @@ IsOfKind described byte kinds.Row = (byte ≡ ROW) × (described ≡ true)
 IsOfKind described byte kinds.Done = (byte ≡ DONE) ⊎ (byte ≡ DONEPROC)
 IsOfKind described byte kinds.DoneInProc = byte ≡ DONEINPROC
 IsOfKind described byte kinds.ReturnStatus = byte ≡ RETURNSTATUS
+IsOfKind described byte kinds.Order = byte ≡ ORDER
+IsOfKind described byte kinds.EnvChange = byte ≡ ENVCHANGE
 
 -- The byte is refused with this fault, or isn't built.
 abbrev pub IsRefusal : Bool → ℕ → Fault → Type 0
@@ -93,6 +95,10 @@ in_done_in_proc tokens = record { tokens = tokens; at = DoneInProcFields }
 abbrev pub in_status : List Token → Part
 in_status tokens = record { tokens = tokens; at = Status }
 
+-- behind the token byte of a token with a body
+abbrev pub in_length : Bodied → List Token → Part
+in_length which tokens = record { tokens = tokens; at = TokenLength which }
+
 -- The token is a ROW.
 abbrev pub IsRow : TokenKind → Type 0
 IsRow kinds.Row = ⊤
@@ -105,6 +111,8 @@ in_kind charset columns kinds.Row = in_row charset columns
 in_kind charset columns kinds.Done = in_done
 in_kind charset columns kinds.DoneInProc = in_done_in_proc
 in_kind charset columns kinds.ReturnStatus = in_status
+in_kind charset columns kinds.Order = in_length AnOrder
+in_kind charset columns kinds.EnvChange = in_length AnEnvChange
 
 -- A call inside an export stopped in reading: the text of the state that it reached was put.
 pub record StopsInReading (g : Grammar Part Fault) (from : Part) (old new : Seen) (place : ℕ) (before after : Held) (area : Space) (stop : Stop) : Type 0 where

@@ -1,8 +1,9 @@
 // The run of an export: token after token to the message's end.
-ghost use Rattle.std.specs.Prelude.{◌≡◌, true, IfOk};
+ghost use Rattle.std.specs.Prelude.{◌≡◌, false, true, IfOk};
 ghost use Rattle.tds_columns.specs.View.{columns_of};
 ghost use Rattle.tds_csv.specs.Sinks.{LeavesSink};
-ghost use Rattle.tds_export.specs.Steps.{IsRow, in_done, in_done_in_proc, in_kind, in_metadata, in_row, in_status};
+ghost use Rattle.tds_export.specs.Steps.{IsRow, in_done, in_done_in_proc, in_kind, in_length, in_metadata, in_row, in_status};
+ghost use Rattle.tds_export.specs.TokenGrammar.{Bodied, is_notice};
 ghost use Rattle.tds_export.specs.Exporters.{Advances, CanBegin, IsInToken, IsRunning, LeavesRun};
 ghost use Rattle.tds_export.specs.Exporters.{ResponseRead, StepRead, TokenRead, WholeRead, view};
 ghost use Rattle.tds_packet.specs.Payloads.{LeavesPayload};
@@ -101,6 +102,22 @@ impl<'a, 'p, 's, R: Read, W: Write> Exporter<'a, 'p, 's, R, W> {
         Ok(())
     }
 
+    // Passes over an ORDER or ENVCHANGE behind its token byte: a Length, and a body of so many bytes
+    // (MS-TDS, ORDER and ENVCHANGE).
+    fn skip(&mut self) -> Result<(), Stop>
+        requires { IsInToken self.old }
+        ensures leaves { LeavesRun self.old self.new result }
+        ensures gives { (which : Bodied) → is_notice which ≡ false →
+            StepRead R.remaining W.contents (in_length which) self.old self.new result }
+    {
+        let mut length = [0u8; 2];
+        self.payload.fill(&mut length)?;
+        let length = LittleEndian::read_u16(&length);
+        self.payload.pass(usize::from(length))?;
+        self.progress.is_final = false;
+        Ok(())
+    }
+
     // Reads a token of this kind behind its first byte.
     fn body(&mut self, kind: TokenKind) -> Result<(), Stop>
         requires begun { IsInToken self.old }
@@ -115,6 +132,7 @@ impl<'a, 'p, 's, R: Read, W: Write> Exporter<'a, 'p, 's, R, W> {
             TokenKind::Done => self.done(),
             TokenKind::DoneInProc => self.done_in_proc(),
             TokenKind::ReturnStatus => self.return_status(),
+            TokenKind::Order | TokenKind::EnvChange => self.skip(),
         }
     }
 

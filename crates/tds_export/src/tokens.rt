@@ -18,6 +18,8 @@ pub(crate) enum TokenKind {
     Done,
     DoneInProc,
     ReturnStatus,
+    Order,
+    EnvChange,
 }
 
 /// The kind of a token by its first byte, where columns are described or not; or why it is none.
@@ -32,7 +34,9 @@ pub(crate) fn judge(byte: u8, described: bool) -> Result<TokenKind, Fault>
         DONE | DONEPROC => Ok(TokenKind::Done),
         DONEINPROC => Ok(TokenKind::DoneInProc),
         RETURNSTATUS => Ok(TokenKind::ReturnStatus),
-        NBCROW | ORDER | ERROR | INFO | RETURNVALUE | ENVCHANGE => Err(Fault::NotYet),
+        ORDER => Ok(TokenKind::Order),
+        ENVCHANGE => Ok(TokenKind::EnvChange),
+        NBCROW | ERROR | INFO | RETURNVALUE => Err(Fault::NotYet),
         _ => Err(Fault::RefusedToken(byte)),
     }
 }
