@@ -13,6 +13,7 @@ pub mod HeaderTexts
 pub mod TokenLaws
 pub mod TokenSteps
 pub mod TokenBytes
+pub mod Bodies
 pub mod RowRuns
 pub mod RunSteps
 pub mod ReadingGrows

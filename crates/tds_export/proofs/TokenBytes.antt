@@ -1,5 +1,5 @@
 -- Tokens by their first bytes.
-use Rattle.std.proofs.Common.{◌≡◌, ◌∙◌, ◌⊎◌, inl, inr, ℕ, ◌+◌, ◌<◌, ◌≤◌, ◌^◌, ◌-◌, Bool, true, false, List, [], ◌∷◌, ◌++◌, length, refl, sym, ap, subst, arith, length-append}
+use Rattle.std.proofs.Common.{◌≡◌, ◌∙◌, inl, inr, ℕ, ◌+◌, ◌<◌, ◌≤◌, ◌^◌, ◌-◌, Bool, true, false, List, [], ◌∷◌, ◌++◌, length, refl, sym, ap, subst, arith, length-append}
 use Rattle.std.specs.Prelude.{Some, None, if◌then◌else◌}
 use Rattle.tds_meter.specs.Space.{Space}
 use Rattle.tds_packet.specs.declared.fault.Fault.{Fault}
@@ -17,11 +17,13 @@ use Rattle.tds_csv.specs.Streaming.{PutsText}
 use Rattle.tds_rows.specs.declared.Charset.{Charset}
 use Rattle.tds_rows.specs.Rows.{row_start}
 use Rattle.tds_export.specs.declared.progress.Progress.{Progress}
+use Rattle.tds_export.specs.declared.tokens.TokenKind.{TokenKind}
+use Rattle.tds_export.specs.declared.tokens.TokenKind.TheVariants as kinds
 use Rattle.tds_export.specs.Tokens.{Token, described_after, encoded_after}
 use Rattle.tds_export.specs.Built.{is_built}
-use Rattle.tds_export.specs.TokenGrammar.{Part, is_row_byte, response, row_byte_fault, start_of_row, text_so_far}
+use Rattle.tds_export.specs.TokenGrammar.{AnEnvChange, AnOrder, Part, is_row_byte, response, row_byte_fault, start_of_row, text_so_far}
 use Rattle.tds_rows.specs.Unbuilt.{ReadsUnbuilt, Stalls}
-use Rattle.tds_export.specs.Steps.{StepStops, IsDescribed, IsHolding, IsRefusal, ReadsTokens, behind, in_done, in_metadata, in_row}
+use Rattle.tds_export.specs.Steps.{StepStops, IsDescribed, IsHolding, IsOfKind, IsRefusal, ReadsTokens, behind, in_done, in_done_in_proc, in_kind, in_length, in_metadata, in_row, in_status}
 use Rattle.tds_packet.proofs.Steps.{cut_at_once, reads_one, refused_at_once, takes_both, takes_ahead}
 use Rattle.tds_rows.proofs.Stalls.{stalls_after, unbuilt_at_once}
 use Rattle.tds_export.proofs.TokenSteps.{same_text, start_text}
@@ -31,13 +33,6 @@ pub record BeginsToken (charset : Charset) (room : ℕ) (tokens : List Token) (b
   pub next : IsNext (response charset room) (behind tokens) (byte ∷ [])
   pub to_is : (response charset room).add (behind tokens) (byte ∷ []) ≡ to
   pub text_is : text_so_far (behind tokens) ≡ text_so_far to
-
-pub begins_metadata : (charset : Charset) (room : ℕ) (tokens : List Token) (byte : ℕ) → byte ≡ 0x81 → BeginsToken charset room tokens byte (in_metadata tokens)
-begins_metadata charset room tokens byte e = subst (λ b. BeginsToken charset room tokens b (in_metadata tokens)) (sym e) (record { next = record { some = omega arith; whole = refl; free = refl }; to_is = refl; text_is = refl })
-
-pub begins_done : (charset : Charset) (room : ℕ) (tokens : List Token) (byte : ℕ) → (byte ≡ 0xFD) ⊎ (byte ≡ 0xFE) → BeginsToken charset room tokens byte (in_done tokens)
-begins_done charset room tokens byte (inl e) = subst (λ b. BeginsToken charset room tokens b (in_done tokens)) (sym e) (record { next = record { some = omega arith; whole = refl; free = refl }; to_is = refl; text_is = refl })
-begins_done charset room tokens byte (inr e) = subst (λ b. BeginsToken charset room tokens b (in_done tokens)) (sym e) (record { next = record { some = omega arith; whole = refl; free = refl }; to_is = refl; text_is = refl })
 
 -- a description has columns
 pub some_columns : (bytes : List ℕ) → IsDescription bytes → 0 < length (columns_of bytes)
@@ -52,6 +47,21 @@ begins_row charset room tokens byte described bytes e d is some k =
       to_is = ap (start_of_row tokens (row_start charset)) known;
       text_is = sym (start_text charset (columns_of bytes) tokens some);
     })
+
+-- a token by its first byte, of which the columns aren't asked
+pub begins_by : (charset : Charset) (room : ℕ) (tokens : List Token) (byte known : ℕ) (to : Part) → byte ≡ known → BeginsToken charset room tokens known to → BeginsToken charset room tokens byte to
+begins_by charset room tokens byte known to e begins = subst (λ b. BeginsToken charset room tokens b to) (sym e) begins
+
+pub begins_kind : (charset : Charset) (room : ℕ) (tokens : List Token) (byte : ℕ) (described : Bool) (bytes : List ℕ) (kind : TokenKind) → IsOfKind described byte kind → bytes ≡ encoded_after [] tokens → (described ≡ true → IsDescription bytes)
+    → IsDescribed described (encoded_after [] tokens) (described_after None tokens) → BeginsToken charset room tokens byte (in_kind charset (columns_of bytes) kind tokens)
+begins_kind charset room tokens byte described bytes kinds.Metadata e is d k = begins_by charset room tokens byte 0x81 (in_metadata tokens) e (record { next = record { some = omega arith; whole = refl; free = refl }; to_is = refl; text_is = refl })
+begins_kind charset room tokens byte described bytes kinds.Row e is d k = begins_row charset room tokens byte described bytes e.0 e.1 is (some_columns bytes (d e.1)) k
+begins_kind charset room tokens byte described bytes kinds.Done (inl e) is d k = begins_by charset room tokens byte 0xFD (in_done tokens) e (record { next = record { some = omega arith; whole = refl; free = refl }; to_is = refl; text_is = refl })
+begins_kind charset room tokens byte described bytes kinds.Done (inr e) is d k = begins_by charset room tokens byte 0xFE (in_done tokens) e (record { next = record { some = omega arith; whole = refl; free = refl }; to_is = refl; text_is = refl })
+begins_kind charset room tokens byte described bytes kinds.DoneInProc e is d k = begins_by charset room tokens byte 0xFF (in_done_in_proc tokens) e (record { next = record { some = omega arith; whole = refl; free = refl }; to_is = refl; text_is = refl })
+begins_kind charset room tokens byte described bytes kinds.Order e is d k = begins_by charset room tokens byte 0xA9 (in_length AnOrder tokens) e (record { next = record { some = omega arith; whole = refl; free = refl }; to_is = refl; text_is = refl })
+begins_kind charset room tokens byte described bytes kinds.EnvChange e is d k = begins_by charset room tokens byte 0xE3 (in_length AnEnvChange tokens) e (record { next = record { some = omega arith; whole = refl; free = refl }; to_is = refl; text_is = refl })
+begins_kind charset room tokens byte described bytes kinds.ReturnStatus e is d k = begins_by charset room tokens byte 0x79 (in_status tokens) e (record { next = record { some = omega arith; whole = refl; free = refl }; to_is = refl; text_is = refl })
 
 module _ (charset : Charset) (room : ℕ) (tokens : List Token) (byte : ℕ) (to : Part) (begins : BeginsToken charset room tokens byte to) where
   puts_before : (q : Part) (h k : Held) → PutsText text_so_far to q h k → PutsText text_so_far (behind tokens) q h k

@@ -1,6 +1,6 @@
 -- What one more token adds to a response.
 use Rattle.std.proofs.Common.{◌≡◌, ◌∙◌, ℕ, ◌+◌, Bool, true, false, List, [], ◌∷◌, ◌++◌, length, max, refl, sym, ap, subst, arith, append_assoc}
-use Rattle.std.specs.Prelude.{Option, Some, None, nat_lt, map, if◌then◌else◌, option_map}
+use Rattle.std.specs.Prelude.{ℤ, Option, Some, None, nat_lt, map, if◌then◌else◌, option_map}
 use Rattle.std.proofs.lemmas.Bool.Decides.{nat_tests}
 use Rattle.tds_csv.specs.Quoting.{line}
 use Rattle.tds_rows.specs.Cells.{Cell, field}
@@ -10,6 +10,7 @@ use Rattle.tds_export.specs.declared.report.Report.{Report}
 use Rattle.tds_export.specs.declared.progress.Progress.{Progress}
 use Rattle.tds_export.specs.Tokens.{Token, described_after, Metadata, NoMetadata, Row, Order, EnvChange, Error, Info, ReturnStatus, Returned, Done, DoneInProc, between, encoded_after, first_error, greatest_span, header_line, how_many, is_error, is_final, is_info, is_return, is_row, is_set, return_status_after, text, text_after}
 use Rattle.tds_export.specs.Outcome.{report_of, server_error, signed}
+use Rattle.tds_export.specs.TokenGrammar.{Bodied, AnOrder, AnEnvChange, AnError, AnInfo, bodied, is_notice}
 use Rattle.tds_export.specs.Steps.{IsDescribed, Tracks}
 use Rattle.tds_export.proofs.ResponseLaws.{described_after-append}
 
@@ -97,6 +98,16 @@ is_final-snoc [] t = refl
 is_final-snoc (u ∷ []) t = refl
 is_final-snoc (u ∷ v ∷ ts) t = is_final-snoc (v ∷ ts) t
 
+status_is_no_error : (ts : List Token) (n : ℕ) → first_error (ts ++ ReturnStatus n ∷ []) ≡ first_error ts
+status_is_no_error [] n = refl
+status_is_no_error (Error m ∷ ts) n = refl
+status_is_no_error (u ∷ ts) n = status_is_no_error ts n
+
+last_status : (before : Option ℕ) (ts : List Token) (n : ℕ) → return_status_after before (ts ++ ReturnStatus n ∷ []) ≡ Some n
+last_status before [] n = refl
+last_status before (ReturnStatus m ∷ ts) n = last_status (Some m) ts n
+last_status before (u ∷ ts) n = last_status before ts n
+
 -- the report with one more token, but for what was written
 report-snoc : (ts : List Token) (t : Token) → is_silent t ≡ true → report_of (ts ++ t ∷ []) ≡ record {
   sets = how_many is_set ts + how_many is_set (t ∷ []);
@@ -113,6 +124,20 @@ report-snoc ts t h = rw (how_many-snoc is_set ts t, how_many-snoc is_row ts t, h
 none : (n : ℕ) → n + 0 ≡ n
 none n = omega arith
 
+-- the report with one more status, but for what was written
+status_report : (ts : List Token) (n : ℕ) → report_of (ts ++ ReturnStatus n ∷ []) ≡ record (report_of ts) { return_status = Some (signed n); written = length (text (ts ++ ReturnStatus n ∷ [])) }
+status_report ts n =
+    let t = ReturnStatus n in
+    rw (
+      how_many-snoc is_set ts t ∙ none (how_many is_set ts),
+      how_many-snoc is_row ts t ∙ none (how_many is_row ts),
+      how_many-snoc is_error ts t ∙ none (how_many is_error ts),
+      how_many-snoc is_info ts t ∙ none (how_many is_info ts),
+      how_many-snoc is_return ts t ∙ none (how_many is_return ts),
+      status_is_no_error ts n,
+      last_status None ts n,
+    ) refl
+
 -- ---- what is tracked, with one more token
 
 -- a token that describes nothing leaves the columns as they are
@@ -122,13 +147,64 @@ same_columns described ts t bytes columns k =
     subst (λ b. IsDescribed described b (described_after None (ts ++ t ∷ []))) (sym (encoded_after-append [] ts (t ∷ []) ∙ bytes))
     (subst (IsDescribed described (encoded_after [] ts)) (sym (described_after-append None ts (t ∷ []) ∙ columns)) k)
 
-pub tracks_done : (s : Progress) (ts : List Token) (m final : Bool) → Tracks s ts → final ≡ (if m then false else true) → Tracks (record s { is_final = final }) (ts ++ Done m ∷ [])
-tracks_done s ts m final k e = record {
-  report = ap (λ (r : Report). record r { written = length (text (ts ++ Done m ∷ [])) }) k.report ∙ sym (report-snoc ts (Done m) refl ∙ rw (none (how_many is_set ts), none (how_many is_row ts), none (how_many is_error ts), none (how_many is_info ts), none (how_many is_return ts)) refl);
-  described = same_columns s.described ts (Done m) refl refl k.described;
-  final = e ∙ sym (is_final-snoc ts (Done m));
-  no_error = first_error-snoc ts (Done m) refl ∙ k.no_error;
+-- A token that has no text, describes nothing and is counted nowhere.
+pub record IsQuiet (t : Token) : Type 0 where
+  pub text : (begun : Bool) → text_after begun (t ∷ []) ≡ []
+  pub encoded : (before : List ℕ) → encoded_after before (t ∷ []) ≡ before
+  pub columns : (before : Option (List Column)) → described_after before (t ∷ []) ≡ before
+  pub sets : how_many is_set (t ∷ []) ≡ 0
+  pub rows : how_many is_row (t ∷ []) ≡ 0
+  pub errors : how_many is_error (t ∷ []) ≡ 0
+  pub infos : how_many is_info (t ∷ []) ≡ 0
+  pub returns : how_many is_return (t ∷ []) ≡ 0
+
+pub quiet_done : (m : Bool) → IsQuiet (Done m)
+quiet_done m = record { text = λ _. refl; encoded = λ _. refl; columns = λ _. refl; sets = refl; rows = refl; errors = refl; infos = refl; returns = refl }
+
+pub quiet_done_in_proc : (m : Bool) → IsQuiet (DoneInProc m)
+quiet_done_in_proc m = record { text = λ _. refl; encoded = λ _. refl; columns = λ _. refl; sets = refl; rows = refl; errors = refl; infos = refl; returns = refl }
+
+pub quiet_status : (n : ℕ) → IsQuiet (ReturnStatus n)
+quiet_status n = record { text = λ _. refl; encoded = λ _. refl; columns = λ _. refl; sets = refl; rows = refl; errors = refl; infos = refl; returns = refl }
+
+pub quiet_body : (which : Bodied) (body : List ℕ) → is_notice which ≡ false → IsQuiet (bodied which body)
+quiet_body AnOrder body h = record { text = λ _. refl; encoded = λ _. refl; columns = λ _. refl; sets = refl; rows = refl; errors = refl; infos = refl; returns = refl }
+quiet_body AnEnvChange body h = record { text = λ _. refl; encoded = λ _. refl; columns = λ _. refl; sets = refl; rows = refl; errors = refl; infos = refl; returns = refl }
+quiet_body AnError body h = cc
+quiet_body AnInfo body h = cc
+
+uncounted : (p : Token → Bool) (ts : List Token) (t : Token) → how_many p (t ∷ []) ≡ 0 → how_many p ts + how_many p (t ∷ []) ≡ how_many p ts
+uncounted p ts t e = ap (λ n. how_many p ts + n) e ∙ none (how_many p ts)
+
+pub tracks_quiet : (s : Progress) (ts : List Token) (t : Token) (final : Bool) → IsQuiet t → is_silent t ≡ true → final ≡ is_final (t ∷ []) → Tracks s ts → Tracks (record s { is_final = final }) (ts ++ t ∷ [])
+tracks_quiet s ts t final q h e k = record {
+  report = ap (λ (r : Report). record r { written = length (text (ts ++ t ∷ [])) }) k.report ∙ sym (report-snoc ts t h ∙ rw (uncounted is_set ts t q.sets, uncounted is_row ts t q.rows, uncounted is_error ts t q.errors, uncounted is_info ts t q.infos, uncounted is_return ts t q.returns) refl);
+  described = same_columns s.described ts t (q.encoded (encoded_after [] ts)) (q.columns (described_after None ts)) k.described;
+  final = e ∙ sym (is_final-snoc ts t);
+  no_error = first_error-snoc ts t h ∙ k.no_error;
 }
+
+pub tracks_done : (s : Progress) (ts : List Token) (m final : Bool) → Tracks s ts → final ≡ (if m then false else true) → Tracks (record s { is_final = final }) (ts ++ Done m ∷ [])
+tracks_done s ts m final k e = tracks_quiet s ts (Done m) final (quiet_done m) refl e k
+
+pub tracks_done_in_proc : (s : Progress) (ts : List Token) (m : Bool) → Tracks s ts → Tracks (record s { is_final = false }) (ts ++ DoneInProc m ∷ [])
+tracks_done_in_proc s ts m k = tracks_quiet s ts (DoneInProc m) false (quiet_done_in_proc m) refl refl k
+
+pub tracks_body : (s : Progress) (ts : List Token) (which : Bodied) (body : List ℕ) → is_notice which ≡ false → Tracks s ts → Tracks (record s { is_final = false }) (ts ++ bodied which body ∷ [])
+tracks_body s ts AnOrder body h k = tracks_quiet s ts (Order body) false (quiet_body AnOrder body refl) refl refl k
+tracks_body s ts AnEnvChange body h k = tracks_quiet s ts (EnvChange body) false (quiet_body AnEnvChange body refl) refl refl k
+tracks_body s ts AnError body h k = cc
+tracks_body s ts AnInfo body h k = cc
+
+pub tracks_status : (s : Progress) (ts : List Token) (n : ℕ) (status : ℤ) → status ≡ signed n → Tracks s ts → Tracks (record s { report = record s.report { return_status = Some status }; is_final = false }) (ts ++ ReturnStatus n ∷ [])
+tracks_status s ts n status e k =
+    let t = ReturnStatus n in
+    record {
+      report = ap (λ (r : Report). record r { return_status = Some status; written = length (text (ts ++ t ∷ [])) }) k.report ∙ ap (λ z. record (report_of ts) { return_status = Some z; written = length (text (ts ++ t ∷ [])) }) e ∙ sym (status_report ts n);
+      described = same_columns s.described ts t refl refl k.described;
+      final = sym (is_final-snoc ts t);
+      no_error = status_is_no_error ts n ∙ k.no_error;
+    }
 
 pub tracks_none : (s : Progress) (ts : List Token) → Tracks s ts → Tracks (record s { described = false; is_final = false }) (ts ++ NoMetadata ∷ [])
 tracks_none s ts k = record {

@@ -1,6 +1,9 @@
 -- The tokens that are built, as they are read and their text is put.
 use Rattle.std.proofs.Common.{◌≡◌, ◌∙◌, inl, inr, ℕ, ◌+◌, ◌-◌, ◌%◌, ◌^◌, ◌<◌, ◌≤◌, Bool, true, false, List, [], ◌∷◌, ◌++◌, length, take, max, refl, sym, ap, subst, arith, append-nil, length-take, suc, zero}
-use Rattle.std.specs.Prelude.{Some, nat_lt, ◌==◌, map, slice_index, if◌then◌else◌}
+use Rattle.std.specs.Prelude.{ℤ, pos, negsuc, Some, nat_lt, ◌==◌, map, slice_index, if◌then◌else◌}
+use Rattle.std.specs.Int.{cast_signed, w32}
+use Rattle.byteorder.specs.Endian.{little_number}
+use Rattle.tds_values.specs.Numbers.{little}
 use Rattle.tds_meter.specs.Space.{Space}
 use Rattle.tds_packet.specs.declared.fault.Fault.TheVariants.{MessageEnded}
 use Rattle.tds_packet.specs.declared.fault.Stop.{Stop}
@@ -23,17 +26,18 @@ use Rattle.tds_rows.specs.RowSteps.{RowStops}
 use Rattle.tds_rows.specs.Unbuilt.{Stalls, is_built_row}
 use Rattle.tds_export.specs.declared.progress.Progress.{Progress}
 use Rattle.tds_export.specs.declared.report.Report.{Report}
-use Rattle.tds_export.specs.Tokens.{Token, Metadata, NoMetadata, Row, Done, between, encoded_after, greatest_span, header_line, how_many, is_set, text}
+use Rattle.tds_export.specs.Tokens.{Token, Metadata, NoMetadata, Row, ReturnStatus, Done, DoneInProc, between, encoded_after, greatest_span, header_line, how_many, is_set, text, text_after}
 use Rattle.tds_export.specs.Response.{more}
 use Rattle.tds_export.specs.Built.{is_built}
-use Rattle.tds_export.specs.TokenGrammar.{Part, response, text_so_far, with_described, with_row}
-use Rattle.tds_export.specs.Steps.{StepStops, StopsInReading, StopsInWriting, IsHolding, ReadsTokens, Tracks, behind, in_done, in_metadata, in_row}
+use Rattle.tds_export.specs.Outcome.{signed}
+use Rattle.tds_export.specs.TokenGrammar.{Open, Part, DoneFields, DoneInProcFields, Status, open_text, part_add, response, text_so_far, with_described, with_row}
+use Rattle.tds_export.specs.Steps.{StepStops, StopsInReading, StopsInWriting, IsHolding, ReadsTokens, Tracks, behind, in_done, in_done_in_proc, in_metadata, in_row, in_status}
 use Rattle.tds_packet.proofs.Lifts.{last_inside, reads_inside}
 use Rattle.tds_csv.proofs.Streams.{breaks_inside, puts_inside}
 use Rattle.tds_rows.proofs.RowSteps.{start_quiet}
 use Rattle.tds_rows.proofs.Stalls.{stalls_inside, stalls_size}
 use Rattle.tds_export.proofs.ResponseLaws.{description_in_response, row_in_response}
-use Rattle.tds_export.proofs.TokenLaws.{begun_after, begun_where_sets, encoded_after-append, greatest_span-append, text_after-snoc, tracks_done, tracks_metadata, tracks_none}
+use Rattle.tds_export.proofs.TokenLaws.{IsQuiet, begun_after, begun_where_sets, encoded_after-append, greatest_span-append, quiet_done, quiet_done_in_proc, quiet_status, text_after-snoc, tracks_done, tracks_done_in_proc, tracks_metadata, tracks_none, tracks_status}
 
 -- nothing more is put for the same text
 pub same_text : (p q : Part) (h : Held) → text_so_far p ≡ text_so_far q → h.delivered ≤ 2 ^ 64 - 1 → PutsText text_so_far p q h h
@@ -54,6 +58,12 @@ token_cut charset room s a b place n k bytes own stop size end less len ends is 
     cut_at_once (response charset room) s a b place (take k bytes) own stop (omega (arith, less, len, size, length-take k bytes)) ends
     (began_is_cut place ((response charset room).end_fault s) own stop end is)
 
+-- so is one of which these bytes came
+pub part_cut : (charset : Charset) (room : ℕ) (s : Part) (a b : Seen) (place n : ℕ) (part : List ℕ) (own stop : Stop) → (response charset room).size s ≡ n → (response charset room).end_fault s ≡ Some MessageEnded → length part < n
+    → Ends a b part own → stop ≡ began_at place own → StopsReading (response charset room) s a b place s stop
+part_cut charset room s a b place n part own stop size end fewer ends is =
+    cut_at_once (response charset room) s a b place part own stop (omega (arith, fewer, size)) ends (began_is_cut place ((response charset room).end_fault s) own stop end is)
+
 -- ---- DONE
 
 final_or_more : (n : ℕ) → (n % 2 == 0) ≡ (if n % 2 == 1 then false else true)
@@ -64,23 +74,69 @@ final_or_more n = go (n % 2) (omega arith)
     go (suc zero) h = refl
     go (suc (suc m)) h = absurd (omega arith)
 
+-- a token that has no text and describes nothing was read
+pub quiet_reads : (charset : Charset) (room : ℕ) (area : Space) (sink : Held) (tokens : List Token) (t : Token) (from : Open) (progress : Progress) (bytes : List ℕ) (a b : Seen) (place place' : ℕ) → open_text from ≡ [] → IsQuiet t → place' ≡ place + length bytes → sink.delivered ≤ 2 ^ 64 - 1
+    → Tracks progress (tokens ++ t ∷ []) → IsHolding area (behind tokens) → Spelt (response charset room) (record { tokens = tokens; at = from }) bytes (behind (tokens ++ t ∷ [])) → Takes a b bytes (length bytes)
+    → ReadsTokens (response charset room) (record { tokens = tokens; at = from }) tokens a b place place' sink sink progress area
+quiet_reads charset room area sink tokens t from progress bytes a b place place' none q at d tracks holds spelt takes =
+    let same : text_after false (tokens ++ t ∷ []) ≡ text tokens = text_after-snoc false tokens t ∙ ap (λ l. text tokens ++ l) (q.text (begun_after false tokens)) ∙ append-nil (text tokens) in
+    record {
+      more = t ∷ [];
+      streams = record {
+        bytes = bytes;
+        spelt = spelt;
+        takes = takes;
+        puts = same_text (record { tokens = tokens; at = from }) (behind (tokens ++ t ∷ [])) sink (ap (λ l. text tokens ++ l) none ∙ ap (λ l. l ++ []) (sym same)) d;
+      };
+      place_is = at;
+      tracks = tracks;
+      holds = holds-snoc area tokens t (q.encoded (encoded_after [] tokens)) holds;
+    }
+
+-- the one element behind its first byte was read whole
+one_reads : (charset : Charset) (room : ℕ) (area : Space) (sink : Held) (tokens : List Token) (t : Token) (from : Open) (progress : Progress) (element : List ℕ) (a b : Seen) (place place' : ℕ) → open_text from ≡ [] → IsQuiet t → place' ≡ place + length element → sink.delivered ≤ 2 ^ 64 - 1
+    → Tracks progress (tokens ++ t ∷ []) → IsHolding area (behind tokens) → IsNext (response charset room) (record { tokens = tokens; at = from }) element → part_add charset tokens from element ≡ behind (tokens ++ t ∷ []) → Takes a b element (length element)
+    → ReadsTokens (response charset room) (record { tokens = tokens; at = from }) tokens a b place place' sink sink progress area
+one_reads charset room area sink tokens t from progress element a b place place' none q at d tracks holds next to takes =
+    let s : Part = record { tokens = tokens; at = from } in
+    quiet_reads charset room area sink tokens t from progress element a b place place' none q at d tracks holds
+    (subst (λ v. Spelt (response charset room) s element v) to (Spelt-one (response charset room) s element next)) takes
+
 pub done_reads : (charset : Charset) (room : ℕ) (area : Space) (sink : Held) (tokens : List Token) (progress : Progress) (fields : List ℕ) (a b : Seen) (place place' : ℕ) → place' ≡ place + length fields → sink.delivered ≤ 2 ^ 64 - 1 → Tracks progress tokens → IsHolding area (behind tokens)
     → length fields ≡ 12 → Takes a b fields (length fields)
     → ReadsTokens (response charset room) (in_done tokens) tokens a b place place' sink sink (record progress { is_final = slice_index fields 0 % 2 == 0 }) area
 done_reads charset room area sink tokens progress fields a b place place' at d tracks holds len takes =
-    let t = Done (more fields) in
-    record {
-      more = t ∷ [];
-      streams = record {
-        bytes = fields;
-        spelt = Spelt-one (response charset room) (in_done tokens) fields (record { some = omega (arith, len); whole = len; free = refl });
-        takes = takes;
-        puts = same_text (in_done tokens) (behind (tokens ++ t ∷ [])) sink (ap (λ l. l ++ []) (sym (text_after-snoc false tokens t ∙ append-nil (text tokens)))) d;
-      };
-      place_is = at;
-      tracks = tracks_done progress tokens (more fields) (slice_index fields 0 % 2 == 0) tracks (final_or_more (slice_index fields 0));
-      holds = holds-snoc area tokens t refl holds;
-    }
+    let final = slice_index fields 0 % 2 == 0 in
+    one_reads charset room area sink tokens (Done (more fields)) DoneFields (record progress { is_final = final }) fields a b place place' refl (quiet_done (more fields)) at d
+    (tracks_done progress tokens (more fields) final tracks (final_or_more (slice_index fields 0))) holds (record { some = omega (arith, len); whole = len; free = refl }) refl takes
+
+-- ---- DONEINPROC
+
+pub done_in_proc_reads : (charset : Charset) (room : ℕ) (area : Space) (sink : Held) (tokens : List Token) (progress : Progress) (fields : List ℕ) (a b : Seen) (place place' : ℕ) → place' ≡ place + 12 → sink.delivered ≤ 2 ^ 64 - 1 → Tracks progress tokens → IsHolding area (behind tokens)
+    → length fields ≡ 12 → Takes a b fields 12
+    → ReadsTokens (response charset room) (in_done_in_proc tokens) tokens a b place place' sink sink (record progress { is_final = false }) area
+done_in_proc_reads charset room area sink tokens progress fields a b place place' at d tracks holds len takes =
+    one_reads charset room area sink tokens (DoneInProc (more fields)) DoneInProcFields (record progress { is_final = false }) fields a b place place' refl (quiet_done_in_proc (more fields)) (omega (arith, at, len)) d
+    (tracks_done_in_proc progress tokens (more fields) tracks) holds (record { some = omega (arith, len); whole = len; free = refl }) refl (subst (Takes a b fields) (sym len) takes)
+
+-- ---- RETURNSTATUS
+
+-- four bytes as a number with a sign
+signed_four : (bytes : List ℕ) → length bytes ≡ 4 → cast_signed w32 (little_number 4 bytes) ≡ signed (little bytes)
+signed_four bytes len = signed_is (little_number 4 bytes) ∙ ap (λ n. signed (little_number n bytes)) (sym len)
+  where
+    signed_is : (n : ℕ) → cast_signed w32 n ≡ signed n
+    signed_is n =
+        let same : 2 ^ 32 - suc n ≡ 2 ^ 32 - n - 1 = omega arith in
+        ap (λ m. if nat_lt n (2 ^ 31) then pos n else negsuc m) same
+
+pub status_reads : (charset : Charset) (room : ℕ) (area : Space) (sink : Held) (tokens : List Token) (progress : Progress) (status : ℤ) (element : List ℕ) (a b : Seen) (place place' : ℕ) → place' ≡ place + length element → sink.delivered ≤ 2 ^ 64 - 1 → Tracks progress tokens → IsHolding area (behind tokens)
+    → length element ≡ 4 → status ≡ cast_signed w32 (little_number 4 element) → Takes a b element (length element)
+    → ReadsTokens (response charset room) (in_status tokens) tokens a b place place' sink sink (record progress { report = record progress.report { return_status = Some status }; is_final = false }) area
+status_reads charset room area sink tokens progress status element a b place place' at d tracks holds len is takes =
+    let n = little element in
+    one_reads charset room area sink tokens (ReturnStatus n) Status (record progress { report = record progress.report { return_status = Some status }; is_final = false }) element a b place place' refl (quiet_status n) at d
+    (tracks_status progress tokens n status (is ∙ signed_four element len) tracks) holds (record { some = omega (arith, len); whole = len; free = refl }) refl takes
 
 -- ---- ROW
 

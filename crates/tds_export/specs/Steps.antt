@@ -1,5 +1,5 @@
 -- What the calls inside an export do.
-use Rattle.std.specs.Prelude.{◌≡◌, ◌⊎◌, ◌+◌, ◌≤◌, ℕ, Bool, true, false, List, [], ◌∷◌, ◌++◌, length, Option, Some, None, Result, MatchOption, MatchResult}
+use Rattle.std.specs.Prelude.{◌≡◌, ◌⊎◌, ◌+◌, ◌≤◌, ℕ, Bool, true, false, List, [], ◌∷◌, ◌++◌, length, Option, Some, None, Result, MatchOption, MatchResult, ⊤}
 use Rattle.tds_meter.specs.Space.{Space}
 use Rattle.tds_packet.specs.declared.fault.Fault.{Fault}
 use Rattle.tds_packet.specs.declared.fault.Fault.TheVariants.{MessageEnded, NotYet, RefusedToken, RowWithoutColumns}
@@ -15,14 +15,14 @@ use Rattle.tds_csv.specs.Streaming.{PutsText, Streams, BreaksStreaming}
 use Rattle.tds_rows.specs.declared.Charset.{Charset}
 use Rattle.tds_rows.specs.Rows.{row_start}
 use Rattle.tds_rows.specs.Unbuilt.{Stalls}
-use Rattle.tds_export.specs.declared.token_bytes.TheConstants.{COLMETADATA, ROW, NBCROW, DONE, DONEPROC}
+use Rattle.tds_export.specs.declared.token_bytes.TheConstants.{COLMETADATA, ROW, NBCROW, ORDER, ENVCHANGE, RETURNSTATUS, DONE, DONEPROC, DONEINPROC}
 use Rattle.tds_export.specs.declared.progress.Progress.{Progress}
 use Rattle.tds_export.specs.declared.report.Report.{Report}
 use Rattle.tds_export.specs.declared.tokens.TokenKind.{TokenKind}
 use Rattle.tds_export.specs.declared.tokens.TokenKind.TheVariants as kinds
 use Rattle.tds_export.specs.Built.{is_built, is_built_token}
 use Rattle.tds_export.specs.Outcome.{report_of}
-use Rattle.tds_export.specs.TokenGrammar.{Between, Describing, DoneFields, Open, Part, is_token_byte, text_so_far, span_so_far, with_row}
+use Rattle.tds_export.specs.TokenGrammar.{AnEnvChange, AnOrder, Between, Bodied, Describing, DoneFields, DoneInProcFields, Open, Part, Status, TokenLength, is_token_byte, text_so_far, span_so_far, with_row}
 use Rattle.tds_export.specs.Tokens.{Token, described_after, encoded_after, first_error, is_final, text}
 
 -- Columns are described, and they are those in these bytes; or none are.
@@ -64,6 +64,10 @@ abbrev pub IsOfKind : Bool → ℕ → TokenKind → Type 0
 IsOfKind described byte kinds.Metadata = byte ≡ COLMETADATA
 IsOfKind described byte kinds.Row = (byte ≡ ROW) × (described ≡ true)
 IsOfKind described byte kinds.Done = (byte ≡ DONE) ⊎ (byte ≡ DONEPROC)
+IsOfKind described byte kinds.DoneInProc = byte ≡ DONEINPROC
+IsOfKind described byte kinds.ReturnStatus = byte ≡ RETURNSTATUS
+IsOfKind described byte kinds.Order = byte ≡ ORDER
+IsOfKind described byte kinds.EnvChange = byte ≡ ENVCHANGE
 
 -- The byte is refused with this fault, or isn't built.
 abbrev pub IsRefusal : Bool → ℕ → Fault → Type 0
@@ -82,6 +86,33 @@ in_row charset columns tokens = with_row tokens (row_start charset columns)
 -- behind the token byte of a DONE or DONEPROC
 abbrev pub in_done : List Token → Part
 in_done tokens = record { tokens = tokens; at = DoneFields }
+
+-- behind the token byte of a DONEINPROC
+abbrev pub in_done_in_proc : List Token → Part
+in_done_in_proc tokens = record { tokens = tokens; at = DoneInProcFields }
+
+-- behind the token byte of a RETURNSTATUS
+abbrev pub in_status : List Token → Part
+in_status tokens = record { tokens = tokens; at = Status }
+
+-- behind the token byte of a token with a body
+abbrev pub in_length : Bodied → List Token → Part
+in_length which tokens = record { tokens = tokens; at = TokenLength which }
+
+-- The token is a ROW.
+abbrev pub IsRow : TokenKind → Type 0
+IsRow kinds.Row = ⊤
+IsRow kind = ⊥
+
+-- behind the first byte of a token of this kind, under these columns
+abbrev pub in_kind : Charset → List Column → TokenKind → List Token → Part
+in_kind charset columns kinds.Metadata = in_metadata
+in_kind charset columns kinds.Row = in_row charset columns
+in_kind charset columns kinds.Done = in_done
+in_kind charset columns kinds.DoneInProc = in_done_in_proc
+in_kind charset columns kinds.ReturnStatus = in_status
+in_kind charset columns kinds.Order = in_length AnOrder
+in_kind charset columns kinds.EnvChange = in_length AnEnvChange
 
 -- A call inside an export stopped in reading: the text of the state that it reached was put.
 pub record StopsInReading (g : Grammar Part Fault) (from : Part) (old new : Seen) (place : ℕ) (before after : Held) (area : Space) (stop : Stop) : Type 0 where

@@ -1,8 +1,9 @@
 // The run of an export: token after token to the message's end.
-ghost use Rattle.std.specs.Prelude.{◌≡◌, true, IfOk};
+ghost use Rattle.std.specs.Prelude.{◌≡◌, false, true, IfOk};
 ghost use Rattle.tds_columns.specs.View.{columns_of};
 ghost use Rattle.tds_csv.specs.Sinks.{LeavesSink};
-ghost use Rattle.tds_export.specs.Steps.{in_done, in_metadata, in_row};
+ghost use Rattle.tds_export.specs.Steps.{IsRow, in_done, in_done_in_proc, in_kind, in_length, in_metadata, in_row, in_status};
+ghost use Rattle.tds_export.specs.TokenGrammar.{Bodied, is_notice};
 ghost use Rattle.tds_export.specs.Exporters.{Advances, CanBegin, IsInToken, IsRunning, LeavesRun};
 ghost use Rattle.tds_export.specs.Exporters.{ResponseRead, StepRead, TokenRead, WholeRead, view};
 ghost use Rattle.tds_packet.specs.Payloads.{LeavesPayload};
@@ -11,6 +12,7 @@ use crate::progress::Progress;
 use crate::report::Report;
 use crate::set::put_header;
 use crate::tokens::{TokenKind, judge, next_byte};
+use byteorder::{ByteOrder, LittleEndian};
 use std::io::{Read, Write};
 use tds_columns::{Columns, Described, gather};
 use tds_csv::Sink;
@@ -75,6 +77,65 @@ impl<'a, 'p, 's, R: Read, W: Write> Exporter<'a, 'p, 's, R, W> {
         Ok(())
     }
 
+    // Reads a DONEINPROC behind its token byte, of which nothing is kept (MS-TDS, DONEINPROC).
+    fn done_in_proc(&mut self) -> Result<(), Stop>
+        requires { IsInToken self.old }
+        ensures leaves { LeavesRun self.old self.new result }
+        ensures gives { StepRead R.remaining W.contents in_done_in_proc self.old self.new result }
+    {
+        self.payload.pass(12)?;
+        self.progress.is_final = false;
+        Ok(())
+    }
+
+    // Reads a RETURNSTATUS behind its token byte (MS-TDS, RETURNSTATUS).
+    fn return_status(&mut self) -> Result<(), Stop>
+        requires { IsInToken self.old }
+        ensures leaves { LeavesRun self.old self.new result }
+        ensures gives { StepRead R.remaining W.contents in_status self.old self.new result }
+    {
+        let mut value = [0u8; 4];
+        self.payload.fill(&mut value)?;
+        let status = LittleEndian::read_i32(&value);
+        self.progress.report.return_status = Some(status);
+        self.progress.is_final = false;
+        Ok(())
+    }
+
+    // Passes over an ORDER or ENVCHANGE behind its token byte: a Length, and a body of so many bytes
+    // (MS-TDS, ORDER and ENVCHANGE).
+    fn skip(&mut self) -> Result<(), Stop>
+        requires { IsInToken self.old }
+        ensures leaves { LeavesRun self.old self.new result }
+        ensures gives { (which : Bodied) → is_notice which ≡ false →
+            StepRead R.remaining W.contents (in_length which) self.old self.new result }
+    {
+        let mut length = [0u8; 2];
+        self.payload.fill(&mut length)?;
+        let length = LittleEndian::read_u16(&length);
+        self.payload.pass(usize::from(length))?;
+        self.progress.is_final = false;
+        Ok(())
+    }
+
+    // Reads a token of this kind behind its first byte.
+    fn body(&mut self, kind: TokenKind) -> Result<(), Stop>
+        requires begun { IsInToken self.old }
+        requires described { IsRow kind → self.old.progress.described ≡ true }
+        ensures leaves { LeavesRun self.old self.new result }
+        ensures gives { let columns = columns_of self.old.description.now.bytes in
+            StepRead R.remaining W.contents (in_kind self.old.charset columns kind) self.old self.new result }
+    {
+        match kind {
+            TokenKind::Metadata => self.metadata(),
+            TokenKind::Row => self.rows(),
+            TokenKind::Done => self.done(),
+            TokenKind::DoneInProc => self.done_in_proc(),
+            TokenKind::ReturnStatus => self.return_status(),
+            TokenKind::Order | TokenKind::EnvChange => self.skip(),
+        }
+    }
+
     // Reads the next token. False where the message is over.
     fn token(&mut self) -> Result<bool, Stop>
         requires { IsRunning self.old }
@@ -87,16 +148,8 @@ impl<'a, 'p, 's, R: Read, W: Write> Exporter<'a, 'p, 's, R, W> {
         };
         let place = self.payload.place() - 1;
         match judge(byte, self.progress.described) {
-            Ok(TokenKind::Metadata) => {
-                self.metadata()?;
-                Ok(true)
-            }
-            Ok(TokenKind::Row) => {
-                self.rows()?;
-                Ok(true)
-            }
-            Ok(TokenKind::Done) => {
-                self.done()?;
+            Ok(kind) => {
+                self.body(kind)?;
                 Ok(true)
             }
             Err(fault) => Err(Stop {

@@ -66,6 +66,26 @@ const TWO_SETS: &[u8] = &[
 
 const TWO_SETS_TEXT: &[u8] = b"\"a\"\r\n1\r\n2\r\n\r\n\"b\"\r\n3\r\n";
 
+// An ORDER, an ENVCHANGE, a RETURNSTATUS of -1 and a DONEPROC.
+const STATUS: &[u8] = &[
+    0xA9, 0x02, 0x00, 0x01, 0x00, 0xE3, 0x03, 0x00, 0x04, 0x01, 0x02, 0x79, 0xFF, 0xFF, 0xFF, 0xFF,
+    0xFE, 0x00, 0x00, 0x00, 0x00, 0x00, 0x00, 0x00, 0x00, 0x00, 0x00, 0x00, 0x00,
+];
+
+// An ORDER and an ENVCHANGE without a body, a RETURNSTATUS of 1, one of the least number, and a DONE.
+const TWO_STATUSES: &[u8] = &[
+    0xA9, 0x00, 0x00, 0xE3, 0x00, 0x00, 0x79, 0x01, 0x00, 0x00, 0x00, 0x79, 0x00, 0x00, 0x00, 0x80,
+    0xFD, 0x00, 0x00, 0x00, 0x00, 0x00, 0x00, 0x00, 0x00, 0x00, 0x00, 0x00, 0x00,
+];
+
+// A DONEINPROC, and one before a DONE.
+const DONEINPROC: &[u8] = &[0xFF, 0, 0, 0, 0, 0, 0, 0, 0, 0, 0, 0, 0];
+
+const DONEINPROC_AND_DONE: &[u8] = &[
+    0xFF, 0x01, 0x00, 0x00, 0x00, 0x00, 0x00, 0x00, 0x00, 0x00, 0x00, 0x00, 0x00, 0xFD, 0x00, 0x00,
+    0x00, 0x00, 0x00, 0x00, 0x00, 0x00, 0x00, 0x00, 0x00, 0x00,
+];
+
 // A packet with no body that isn't the last.
 const EMPTY: [u8; 8] = [0x04, 0x00, 0x00, 0x08, 0x00, 0x00, 0x01, 0x00];
 
@@ -212,14 +232,14 @@ fn in_one_packet(alloc: Global, payload: &[u8]) -> Result<Vec<u8>, AllocError> {
     Ok(wire)
 }
 
-// The payload in packets of one byte each, with an empty one before each but the first.
-fn in_single_bytes(alloc: Global, empty: bool) -> Result<Vec<u8>, AllocError> {
+// A payload in packets of one byte each, with an empty one before each but the first.
+fn in_single_bytes(alloc: Global, payload: &[u8], empty: bool) -> Result<Vec<u8>, AllocError> {
     let mut wire = Vec::new(alloc);
-    for (i, byte) in PAYLOAD.iter().enumerate() {
+    for (i, byte) in payload.iter().enumerate() {
         if empty && i > 0 {
             wire.extend_from_slice(&EMPTY)?;
         }
-        let status = if i == 30 { 0x01 } else { 0x00 };
+        let status = if i + 1 == payload.len() { 0x01 } else { 0x00 };
         wire.extend_from_slice(&[0x04, status, 0x00, 0x09, 0x00, 0x00, 0x01, 0x00, *byte])?;
     }
     Ok(wire)
@@ -313,6 +333,38 @@ fn responses_are_written(rt: HostRuntime) -> Result<(), Fail> {
     Ok(())
 }
 
+// The payload in one packet, and in packets of one byte each.
+fn check_status(
+    alloc: Global,
+    areas: &mut Areas,
+    what: &str,
+    payload: &[u8],
+    return_status: Option<i32>,
+) -> Result<(), Fail> {
+    let answer = Ok(Report {
+        return_status,
+        ..report(0, 0, 0)
+    });
+    let whole = read_payload(alloc, areas, payload, 5, NOTHING)?;
+    same(what, &whole, &Some(came_to(answer, NOTHING)))?;
+    let wire = in_single_bytes(alloc, payload, false)?;
+    let cut = read(areas, &wire, 1000, NOTHING);
+    same(what, &cut, &Some(came_to(answer, NOTHING)))
+}
+
+#[test]
+fn the_last_status_is_reported(rt: HostRuntime) -> Result<(), Fail> {
+    let mut areas = make_usual_areas(rt.alloc())?;
+    for (what, payload, status) in [
+        ("one status", STATUS, Some(-1)),
+        ("two statuses", TWO_STATUSES, Some(-2_147_483_648)),
+        ("a DONEINPROC and a DONE", DONEINPROC_AND_DONE, None),
+    ] {
+        check_status(rt.alloc(), &mut areas, what, payload, status)?;
+    }
+    Ok(())
+}
+
 // What comes of a wire, and then the restarts of the areas, the bytes of their description, and the
 // most that it had.
 fn check_meters(
@@ -347,7 +399,7 @@ fn areas_are_metered(rt: HostRuntime) -> Result<(), Fail> {
 
 // The payload in packets of one byte each.
 fn check_single_bytes(alloc: Global, areas: &mut Areas, empty: bool) -> Result<(), Fail> {
-    let wire = in_single_bytes(alloc, empty)?;
+    let wire = in_single_bytes(alloc, &PAYLOAD, empty)?;
     let want = came_to(Ok(report(1, 1, 9)), TEXT);
     for most in [1, 5, 1000] {
         let out = read(areas, &wire, most, TEXT);
@@ -457,7 +509,14 @@ struct Refused {
     place: u64,
 }
 
-const REFUSED: [Refused; 9] = [
+const REFUSED: [Refused; 10] = [
+    Refused {
+        what: "a DONEINPROC alone",
+        payload: DONEINPROC,
+        column_room: 1024,
+        fault: Fault::EndWithoutDone,
+        place: 13,
+    },
     Refused {
         what: "a DONE with more to come",
         payload: DONE_WITH_MORE,

@@ -16,6 +16,10 @@ pub(crate) enum TokenKind {
     Metadata,
     Row,
     Done,
+    DoneInProc,
+    ReturnStatus,
+    Order,
+    EnvChange,
 }
 
 /// The kind of a token by its first byte, where columns are described or not; or why it is none.
@@ -28,9 +32,11 @@ pub(crate) fn judge(byte: u8, described: bool) -> Result<TokenKind, Fault>
         ROW => Err(Fault::RowWithoutColumns),
         NBCROW if !described => Err(Fault::RowWithoutColumns),
         DONE | DONEPROC => Ok(TokenKind::Done),
-        NBCROW | ORDER | ERROR | INFO | RETURNVALUE | ENVCHANGE | RETURNSTATUS | DONEINPROC => {
-            Err(Fault::NotYet)
-        }
+        DONEINPROC => Ok(TokenKind::DoneInProc),
+        RETURNSTATUS => Ok(TokenKind::ReturnStatus),
+        ORDER => Ok(TokenKind::Order),
+        ENVCHANGE => Ok(TokenKind::EnvChange),
+        NBCROW | ERROR | INFO | RETURNVALUE => Err(Fault::NotYet),
         _ => Err(Fault::RefusedToken(byte)),
     }
 }

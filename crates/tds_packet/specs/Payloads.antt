@@ -85,6 +85,20 @@ abbrev pub CutsFill : {R : Type 0} → (R → Option (List ℕ)) → Payload R �
 CutsFill remaining old new to stop =
     (n : ℕ) × (own : Stop) × (n < length to) × Ends (seen remaining old) (seen remaining new) (take n to) own × (stop ≡ began_at old.place own)
 
+-- So many bytes were handed out.
+pub record PassesOver {R : Type 0} (remaining : R → Option (List ℕ)) (old new : Payload R) (n : ℕ) : Type 0 where
+  pub bytes : List ℕ
+  pub counted : length bytes ≡ n
+  pub takes : Takes (seen remaining old) (seen remaining new) bytes n
+
+-- The payload stopped before so many bytes; where the message ended, the stop stands where the call began.
+pub record CutsPass {R : Type 0} (remaining : R → Option (List ℕ)) (old new : Payload R) (n : ℕ) (stop : Stop) : Type 0 where
+  pub part : List ℕ
+  pub own : Stop
+  pub fewer : length part < n
+  pub ends : Ends (seen remaining old) (seen remaining new) part own
+  pub stop_is : stop ≡ began_at old.place own
+
 -- A piece of the packet was lent, and counts as handed out; or the payload stopped.
 abbrev pub LendsPiece : {R B : Type 0} → (R → Option (List ℕ)) → Payload R → Payload R → (B → List ℕ) → Result B Stop → Type 0
 LendsPiece remaining old new now result = IsSound new × IsOnSame old new

@@ -1,7 +1,7 @@
 // The bytes that the packets of one message carry.
 ghost use Rattle.std.specs.Borrow.{sem};
 ghost use Rattle.std.specs.Prelude.{◌≡◌, ℕ, ◌+◌, ◌^◌, ◌<◌, ◌≤◌, [], ◌∷◌, true, false, None, Some, Err, length, take, IfErr, IfOk, IfSome, IsTrue, MatchResult, OnOk, is_ok, if◌then◌else◌};
-ghost use Rattle.tds_packet.specs.Payloads.{AnswersAgain, CutsFill, IsBegun, IsGoing, IsOnSame, IsSound, LeavesPayload, LendsPiece, RestsPayload, TakesOrEnds, buffered, further, seen};
+ghost use Rattle.tds_packet.specs.Payloads.{AnswersAgain, CutsFill, CutsPass, IsBegun, IsGoing, IsOnSame, IsSound, LeavesPayload, LendsPiece, PassesOver, RestsPayload, TakesOrEnds, buffered, further, seen};
 ghost use Rattle.tds_packet.specs.Reads.{IsOfPackets};
 ghost use Rattle.tds_packet.specs.Seen.{IsBetween, IsNotOver, IsOver, Takes, began_at};
 
@@ -179,6 +179,31 @@ impl<'a, R: Read> Payload<'a, R> {
                     at = end;
                 }
                 Err(stop) => return Err(self.cut(stop, start)),
+            }
+        }
+        Ok(())
+    }
+
+    /// Hands out the next `n` bytes and passes over them where they lie: nothing is kept. A message
+    /// that ends before the last of them stops the call at the place where it began, and none of them
+    /// counts as handed out.
+    pub fn pass(&mut self, n: usize) -> Result<(), Stop>
+        requires { IsSound self.old }
+        ensures payload { AnswersAgain self.old self.new result }
+        ensures place { self.new.place ≡ (if is_ok result then self.old.place + n else self.old.place) }
+        ensures all { OnOk result (PassesOver R.remaining self.old self.new n) }
+        ensures between { OnOk result (IsBetween (seen R.remaining self.new)) }
+        ensures part { IfErr result (λ stop. self.old.stopped ≡ None → CutsPass R.remaining self.old self.new n stop) }
+    {
+        if let Some(stop) = self.stopped {
+            return Err(stop);
+        }
+        let began = self.place;
+        let mut passed = 0;
+        while passed < n {
+            match self.piece(n - passed) {
+                Ok(bytes) => passed += bytes.len(),
+                Err(stop) => return Err(self.cut(stop, began)),
             }
         }
         Ok(())

@@ -120,6 +120,7 @@ fn stays_stopped<R: Read>(payload: &mut Payload<'_, R>, stop: Stop) -> bool
     payload.next() == Err(stop)
         && payload.at_end() == Err(stop)
         && payload.fill(&mut [0; 2]) == Err(stop)
+        && payload.pass(1) == Err(stop)
         && payload.buffered().is_empty()
         && payload.piece(1).err() == Some(stop)
 }
@@ -460,6 +461,47 @@ fn nothing_behind_the_last_packet_is_read(rt: HostRuntime) -> Result<(), Fail> {
     let came = fill_body(&mut payload);
     assert_eq!(rt; came, (Some(31), Ok(true), 31));
     assert_eq!(rt; from.device().left(), [0xFF].as_slice());
+    Ok(())
+}
+
+// Passes over so many bytes, and gives the byte behind them, or what stopped it, and the place then.
+fn byte_behind<R: Read>(payload: &mut Payload<'_, R>, n: usize) -> (Result<u8, Stop>, u64)
+    requires { IsSound payload.old }
+{
+    let came = match payload.pass(n) {
+        Ok(()) => payload.next(),
+        Err(stop) => Err(stop),
+    };
+    (came, payload.place())
+}
+
+// Passes over so many bytes of the packet's body in packets of one byte each.
+fn pass_single_bytes(
+    alloc: Global,
+    empty: bool,
+    n: usize,
+) -> Result<(Result<u8, Stop>, u64), Fail> {
+    let wire = in_single_bytes(alloc, empty)?;
+    let mut area = Area::new(alloc, 512)?;
+    let mut from = Counted::new(ScriptedReader::new(&wire, 1000));
+    let mut payload = Payload::new(&mut from, &mut area, 4096);
+    Ok(byte_behind(&mut payload, n))
+}
+
+#[test]
+fn bytes_are_passed_over(rt: HostRuntime) -> Result<(), Fail> {
+    for (n, came, place) in [
+        (0, Ok(0x81), 1),
+        (13, Ok(0xD1), 14),
+        (30, Ok(0x00), 31),
+        (31, Err(message_ended(31)), 31),
+        (32, Err(message_ended(0)), 0),
+    ] {
+        for empty in [false, true] {
+            let out = pass_single_bytes(rt.alloc(), empty, n)?;
+            assert_eq!(rt; out, (came, place), "{n} {empty}");
+        }
+    }
     Ok(())
 }
 

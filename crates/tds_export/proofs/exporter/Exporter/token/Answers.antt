@@ -4,7 +4,7 @@ use Rattle.tds_packet.specs.Payloads.{seen}
 use Rattle.tds_csv.specs.Sinks.{held}
 use Rattle.tds_export.specs.TokenGrammar.{response}
 use Rattle.tds_export.specs.Steps.{StepStops, behind}
-use Rattle.tds_export.proofs.TokenBytes.{begins_done, begins_metadata, begins_row, stops_at_byte, stops_behind_byte, stops_between, reads_behind_byte, some_columns}
+use Rattle.tds_export.proofs.TokenBytes.{begins_kind, stops_at_byte, stops_behind_byte, stops_between, reads_behind_byte}
 use Rattle.tds_packet.proofs.Passing.{passed}
 use Rattle.tds_export.proofs.exporter.Exporter.token.Goals as goal
 
@@ -13,61 +13,21 @@ returns-in_err-byte-clause-gives g c = λ tokens tracks holds.
     let sink = c.requires.sink in
     passed _ _ _ _ c.from_residual.ensures.1 (stops_between _ _ tokens _ _ _ _ _ _ _ sink.ready.2 sink.writing holds c.in_err-byte.ensures.gives.0 c.in_err-byte.ensures.gives.1)
 
--- ---- COLMETADATA
+-- ---- a token
 
-pub returns-in_ok-metadata-in-Ok-Metadata-clause-gives : goal.returns-in_ok-metadata-in-Ok-Metadata-clause-gives
-returns-in_ok-metadata-in-Ok-Metadata-clause-gives g c = λ tokens tracks holds.
+pub returns-in_ok-body-in-Ok-clause-gives : goal.returns-in_ok-body-in-Ok-clause-gives
+returns-in_ok-body-in-Ok-clause-gives g c = λ tokens tracks holds.
     let run = c.args.self.now in
-    let kind = rw c.in-Ok-Metadata.field-0-is at c.in-Ok-Metadata.ensures in
     let read = rw c.in-Some.is at c.in_ok-byte.ensures.gives in
-    let begins = begins_metadata run.charset run.description.now.room tokens c.in-Some.byte kind in
-    reads_behind_byte _ _ _ _ _ begins _ _ _ _ _ _ _ _ _ _ read.takes read.place_is (c.in_ok-metadata-in-Ok-Metadata.ensures.gives tokens tracks holds)
+    let begins = begins_kind run.charset run.description.now.room tokens c.in-Some.byte run.progress.described run.description.now.bytes c.in-Ok.kind c.in-Ok.ensures holds.bytes c.requires.described tracks.described in
+    reads_behind_byte _ _ _ _ _ begins _ _ _ _ _ _ _ _ _ _ read.takes read.place_is (c.in_ok-body-in-Ok.ensures.gives tokens tracks holds)
 
-pub returns-in_err-metadata-in-Ok-Metadata-clause-gives : goal.returns-in_err-metadata-in-Ok-Metadata-clause-gives
-returns-in_err-metadata-in-Ok-Metadata-clause-gives g c = λ tokens tracks holds.
+pub returns-in_err-body-in-Ok-clause-gives : goal.returns-in_err-body-in-Ok-clause-gives
+returns-in_err-body-in-Ok-clause-gives g c = λ tokens tracks holds.
     let run = c.args.self.now in
-    let kind = rw c.in-Ok-Metadata.field-0-is at c.in-Ok-Metadata.ensures in
     let read = rw c.in-Some.is at c.in_ok-byte.ensures.gives in
-    let begins = begins_metadata run.charset run.description.now.room tokens c.in-Some.byte kind in
-    passed _ _ _ _ c.from_residual-in_err-metadata-in-Ok-Metadata.ensures.1 (stops_behind_byte _ _ _ _ _ begins _ _ _ _ _ _ _ _ _ _ read.takes read.place_is (c.in_err-metadata-in-Ok-Metadata.ensures.gives tokens tracks holds))
-
--- ---- ROW
-
-pub returns-in_ok-rows-in-Ok-Row-clause-gives : goal.returns-in_ok-rows-in-Ok-Row-clause-gives
-returns-in_ok-rows-in-Ok-Row-clause-gives g c = λ tokens tracks holds.
-    let run = c.args.self.now in
-    let bytes = run.description.now.bytes in
-    let is = rw c.in-Ok-Row.field-0-is at c.in-Ok-Row.ensures in
-    let read = rw c.in-Some.is at c.in_ok-byte.ensures.gives in
-    let begins = begins_row run.charset run.description.now.room tokens c.in-Some.byte run.progress.described bytes is.0 is.1 holds.bytes (some_columns bytes (c.requires.described is.1)) tracks.described in
-    reads_behind_byte _ _ _ _ _ begins _ _ _ _ _ _ _ _ _ _ read.takes read.place_is (c.in_ok-rows-in-Ok-Row.ensures.gives tokens tracks holds)
-
-pub returns-in_err-rows-in-Ok-Row-clause-gives : goal.returns-in_err-rows-in-Ok-Row-clause-gives
-returns-in_err-rows-in-Ok-Row-clause-gives g c = λ tokens tracks holds.
-    let run = c.args.self.now in
-    let bytes = run.description.now.bytes in
-    let is = rw c.in-Ok-Row.field-0-is at c.in-Ok-Row.ensures in
-    let read = rw c.in-Some.is at c.in_ok-byte.ensures.gives in
-    let begins = begins_row run.charset run.description.now.room tokens c.in-Some.byte run.progress.described bytes is.0 is.1 holds.bytes (some_columns bytes (c.requires.described is.1)) tracks.described in
-    passed _ _ _ _ c.from_residual-in_err-rows-in-Ok-Row.ensures.1 (stops_behind_byte _ _ _ _ _ begins _ _ _ _ _ _ _ _ _ _ read.takes read.place_is (c.in_err-rows-in-Ok-Row.ensures.gives tokens tracks holds))
-
--- ---- DONE
-
-pub returns-in_ok-done-in-Ok-Done-clause-gives : goal.returns-in_ok-done-in-Ok-Done-clause-gives
-returns-in_ok-done-in-Ok-Done-clause-gives g c = λ tokens tracks holds.
-    let run = c.args.self.now in
-    let kind = rw c.in-Ok-Done.field-0-is at c.in-Ok-Done.ensures in
-    let read = rw c.in-Some.is at c.in_ok-byte.ensures.gives in
-    let begins = begins_done run.charset run.description.now.room tokens c.in-Some.byte kind in
-    reads_behind_byte _ _ _ _ _ begins _ _ _ _ _ _ _ _ _ _ read.takes read.place_is (c.in_ok-done-in-Ok-Done.ensures.gives tokens tracks holds)
-
-pub returns-in_err-done-in-Ok-Done-clause-gives : goal.returns-in_err-done-in-Ok-Done-clause-gives
-returns-in_err-done-in-Ok-Done-clause-gives g c = λ tokens tracks holds.
-    let run = c.args.self.now in
-    let kind = rw c.in-Ok-Done.field-0-is at c.in-Ok-Done.ensures in
-    let read = rw c.in-Some.is at c.in_ok-byte.ensures.gives in
-    let begins = begins_done run.charset run.description.now.room tokens c.in-Some.byte kind in
-    passed _ _ _ _ c.from_residual-in_err-done-in-Ok-Done.ensures.1 (stops_behind_byte _ _ _ _ _ begins _ _ _ _ _ _ _ _ _ _ read.takes read.place_is (c.in_err-done-in-Ok-Done.ensures.gives tokens tracks holds))
+    let begins = begins_kind run.charset run.description.now.room tokens c.in-Some.byte run.progress.described run.description.now.bytes c.in-Ok.kind c.in-Ok.ensures holds.bytes c.requires.described tracks.described in
+    passed _ _ _ _ c.from_residual-in_err-body-in-Ok.ensures.1 (stops_behind_byte _ _ _ _ _ begins _ _ _ _ _ _ _ _ _ _ read.takes read.place_is (c.in_err-body-in-Ok.ensures.gives tokens tracks holds))
 
 -- ---- a byte that begins no token
 

@@ -1,0 +1,56 @@
+use Rattle.std.proofs.Common.{◌≡◌, ◌∙◌, ℕ, List, [], ◌++◌, ◌+◌, ◌<◌, length, ap, subst, arith, rules, append-nil, length-append}
+use Rattle.tds_packet.specs.Seen.{Seen, Takes, Ends}
+use Rattle.tds_packet.specs.Payloads.{seen}
+use Rattle.tds_packet.proofs.Futures.{Takes-more, Takes-trans, Ends-after}
+use Rattle.tds_packet.proofs.PayloadLaws.{at_ok, at_err, between_of}
+use Rattle.tds_packet.proofs.payload.Payload.pass.Goals as goal
+
+taken : (a b d : Seen) (front bytes : List ℕ) (i : ℕ) → length front ≡ i → 0 < length bytes → Takes a b front i → Takes b d bytes 1 → Takes a d (front ++ bytes) (i + length bytes)
+taken a b d front bytes i len some p q =
+    subst (λ n. Takes a d (front ++ bytes) (n + length bytes)) len (Takes-trans a b d front bytes i (length bytes) (omega (arith, len)) p (Takes-more b d bytes 1 (length bytes) some q))
+
+pub loop-passed-preserved : goal.loop-passed-preserved
+loop-passed-preserved g c =
+    let h = c.piece.follows.holds-at-none in
+    let k = at_ok _ _ _ _ c.in-Ok.is h.2 in
+    let a = seen g.R.Read.remaining c.args.self.now in
+    let b = seen g.R.Read.remaining c.loop-passed.self in
+    let d = seen g.R.Read.remaining c.piece.follows.lender-at-none in
+    let before = c.loop-passed.invariant.passes in
+    let bytes = c.in-Ok.bytes.now in
+    record {
+      sound = h.0;
+      same = search rules;
+      began = c.loop-passed.invariant.began;
+      within = search rules;
+      place = omega (arith, k.2, c.loop-passed.invariant.place);
+      going = k.3;
+      passes = record {
+        bytes = before.bytes ++ bytes;
+        counted = length-append before.bytes bytes ∙ ap (λ n. n + length bytes) before.counted;
+        takes = taken a b d before.bytes bytes c.loop-passed.passed before.counted c.in-Ok.ensures.len.0 before.takes k.0;
+      };
+    }
+
+pub returns-in-Err-clause-part : goal.returns-in-Err-clause-part
+returns-in-Err-clause-part g c = λ _.
+    let h = c.piece.follows.holds-at-none in
+    let k = at_err _ _ _ _ c.in-Err.is h.2 in
+    let s = c.piece.follows.lender-at-none in
+    let a = seen g.R.Read.remaining c.args.self.now in
+    let b = seen g.R.Read.remaining c.loop-passed.self in
+    let d = seen g.R.Read.remaining s in
+    let before = c.loop-passed.invariant.passes in
+    let all = Ends-after a b d before.bytes [] c.loop-passed.passed c.in-Err.stop before.takes k.0 in
+    let left : g.R.Read.remaining c.cut.new.self.from.now.device ≡ g.R.Read.remaining s.from.now.device = search rules in
+    let count : c.cut.new.self.from.now.failures ≡ s.from.now.failures = search rules in
+    record {
+      part = before.bytes;
+      own = c.in-Err.stop;
+      fewer = omega (arith, before.counted, c.loop-passed-test.true);
+      ends = rw (left, count) (subst (λ l. Ends a d l c.in-Err.stop) (append-nil before.bytes) all);
+      stop_is = search rules;
+    }
+
+pub returns-clause-between : goal.returns-clause-between
+returns-clause-between g c = between_of g.R.Read.remaining c.loop-passed.self c.loop-passed.invariant.going
