@@ -20,6 +20,7 @@ use Rattle.tds_csv.specs.Sinks.{Held, held}
 use Rattle.tds_csv.specs.Streaming.{Streams}
 use Rattle.tds_rows.specs.declared.Charset.{Charset}
 use Rattle.tds_rows.specs.declared.buffered.Written.{Written}
+use Rattle.tds_rows.specs.declared.rows.TheConstants.{CELL_ROOM}
 use Rattle.tds_rows.specs.Cells.{Cell, CellPart, WholeCell, cell, cell_add, cell_start, field, field_so_far, shape}
 use Rattle.tds_rows.specs.Unbuilt.{Stalls, StopsStreaming, is_built_cell}
 
@@ -107,9 +108,9 @@ abbrev pub IsLeft : Kind → List ℕ → Type 0
 IsLeft kind bytes =
     (is_scalar kind ≡ false) ⊎ ((length bytes < scalar_size kind bytes) ⊎ ((0 < value_length kind bytes) × (is_ok (read_of kind (value_bytes kind bytes)) ≡ false)))
 
--- The cell at the front of these bytes, so many of them, was written to the front of others; or it is left.
-abbrev pub CellWritten : Kind → ℕ → Bool → List ℕ → List ℕ → Option Written → Type 0
-CellWritten kind column last bytes text result = MatchOption result (IsLeft kind bytes)
+-- The cell at the front of these bytes, so many of them, was written to the front of others; or it is left, or there isn't room for every cell.
+abbrev pub CellWritten : Kind → ℕ → Bool → List ℕ → ℕ → List ℕ → Option Written → Type 0
+CellWritten kind column last bytes room text result = MatchOption result ((room < CELL_ROOM) ⊎ IsLeft kind bytes)
     (λ written. (charset : Charset) → WritesCell (cell_start kind (shape charset kind)) column last (take written.used bytes) (take written.made text))
 
 -- Reading a cell stopped before it had any text.

@@ -4,7 +4,7 @@ ghost use Rattle.tds_rows.specs.CellSteps.{CellWritten, HasInt4, scalar_size, va
 ghost use Rattle.tds_values.specs.Kind as kinds;
 
 use crate::fields::{write_int4_field, write_value};
-use crate::rows::{CELL_ROOM, TEXT_ROOM};
+use crate::rows::{CELL_ROOM, INT4_ROOM};
 use crate::table::{Form, Layout};
 use tds_csv::write_null;
 use tds_values::Kind;
@@ -58,7 +58,8 @@ fn has_int4(kind: &Kind, bytes: &[u8]) -> bool
     matches!(*kind, Kind::IntN(4)) && bytes.len() >= 5 && bytes[0] == 4
 }
 
-// Writes the cell at the front of these bytes; none where it isn't whole, is refused or isn't a scalar.
+// Writes the cell at the front of these bytes; none where it isn't whole, is refused or isn't a scalar, or
+// where there isn't the room that its text may need.
 #[inline(always)]
 pub(crate) fn write_cell(
     form: &Form,
@@ -67,15 +68,18 @@ pub(crate) fn write_cell(
     bytes: &[u8],
     to: &mut [u8],
 ) -> Option<Written>
-    requires room { CELL_ROOM ≤ length to.old }
+    requires room { INT4_ROOM ≤ length to.old }
     ensures used { IfSome result (λ written. written.used ≤ length bytes.now) }
-    ensures most { IfSome result (λ written. written.made ≤ TEXT_ROOM) }
+    ensures most { IfSome result (λ written. written.made ≤ length to.old) }
     ensures whole { IfSome result (λ written. written.used ≡ scalar_size form.now.kind bytes.now) }
-    ensures gives { CellWritten form.now.kind column last bytes.now to.new result }
+    ensures gives { CellWritten form.now.kind column last bytes.now (length to.old) to.new result }
 {
     if has_int4(&form.kind, bytes) {
         let made = write_int4_field(column, last, &bytes[1..5], to);
         return Some(Written { used: 5, made });
+    }
+    if to.len() < CELL_ROOM {
+        return None;
     }
     let Some((start, n)) = value_at(form, bytes) else {
         return None;

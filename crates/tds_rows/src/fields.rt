@@ -4,7 +4,7 @@ ghost use Rattle.tds_rows.specs.CellSteps.{IsValueText};
 ghost use Rattle.tds_values.specs.Kind as kinds;
 ghost use Rattle.tds_values.specs.Scalar.{read_of};
 
-use crate::rows::{CELL_ROOM, TEXT_ROOM};
+use crate::rows::{CELL_ROOM, INT4_ROOM, TEXT_ROOM};
 use tds_csv::{write_comma, write_line_end};
 use tds_values::{Kind, write_int4, write_scalar};
 
@@ -37,8 +37,8 @@ pub(crate) fn write_value(
 #[inline(always)]
 pub(crate) fn write_int4_field(column: u16, last: bool, bytes: &[u8], to: &mut [u8]) -> usize
     requires whole { length bytes.now ≡ 4 }
-    requires room { CELL_ROOM ≤ length to.old }
-    ensures most { result ≤ TEXT_ROOM }
+    requires room { INT4_ROOM ≤ length to.old }
+    ensures most { result ≤ INT4_ROOM }
     ensures gives { IsValueText (Kind.IntN 4) column last bytes.now (take result to.new) }
 {
     let start = write_comma(column, to);

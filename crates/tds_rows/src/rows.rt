@@ -24,6 +24,9 @@ use tds_values::Kind;
 /// How many bytes the text of a scalar in its line may want, and a few to spare.
 pub(crate) const CELL_ROOM: usize = 66;
 
+/// How many bytes the text of a whole number of four bytes in its line may want, and a few to spare.
+pub(crate) const INT4_ROOM: usize = 28;
+
 /// The most bytes that the text of a scalar in its line has.
 pub(crate) const TEXT_ROOM: usize = 44;
 

@@ -5,7 +5,7 @@ ghost use Rattle.tds_packet.specs.Payloads.{IsGoing, IsOnSame, seen};
 ghost use Rattle.tds_rows.specs.Runs.{FirstJudged, RowsPut, RowsWritten};
 
 use crate::buffered::write_cell;
-use crate::rows::CELL_ROOM;
+use crate::rows::INT4_ROOM;
 use crate::table::{Ahead, Table};
 use std::io::{Read, Write};
 use tds_csv::Sink;
@@ -44,7 +44,7 @@ pub(crate) fn run_rows<'a>(
     let mut made = 0;
     let mut rows = 0;
     let mut ahead = from;
-    while to.len() - made >= CELL_ROOM {
+    while to.len() - made >= INT4_ROOM {
         let Some(form) = table.form(ahead) else {
             if used == bytes.len() || bytes[used] != ROW {
                 break;

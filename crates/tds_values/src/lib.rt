@@ -18,4 +18,4 @@ pub use kind::{Kind, Reach};
 pub use laws::{one_date, one_type_info, short_texts};
 pub use scalar::{Scalar, ScalarValue, ValueFault, read_scalar};
 pub use text::{LONGEST_TEXT, ScalarText, TEXT_ROOM, scalar_text};
-pub use write::{write_int4, write_scalar};
+pub use write::{INTEGER_ROOM, write_int4, write_scalar};

@@ -28,7 +28,7 @@ use byteorder::{ByteOrder, LittleEndian};
 #[inline(always)]
 fn write_integer(n: u8, bytes: &[u8], to: &mut [u8]) -> Result<usize, ValueFault>
     requires size { (n ≡ 1) ⊎ ((n ≡ 2) ⊎ ((n ≡ 4) ⊎ (n ≡ 8))) }
-    requires room { TEXT_ROOM ≤ length to.old }
+    requires room { INTEGER_ROOM ≤ length to.old }
     ensures { IsWritten (read_of (Kind.IntN n) bytes.now) result to.new }
 {
     if bytes.len() != n as usize {
@@ -331,15 +331,16 @@ pub fn write_scalar(kind: &Kind, bytes: &[u8], to: &mut [u8]) -> Result<usize, V
     write_any(kind, bytes, to)
 }
 
+/// How much room [`write_int4`] needs for a text, in bytes: it writes some bytes behind the text too.
+pub const INTEGER_ROOM: usize = 25;
+
 /// Writes the text of a whole number in four bytes, as [`write_scalar`] does of [`Kind::IntN`] with 4.
 #[inline(always)]
 pub fn write_int4(bytes: &[u8], to: &mut [u8]) -> usize
     requires length { length bytes.now ≡ 4 }
-    requires room { TEXT_ROOM ≤ length to.old }
-    ensures { IsTextOf (read_of (Kind.IntN 4) bytes.now) result to.new }
+    requires room { INTEGER_ROOM ≤ length to.old }
+    ensures most { result ≤ INTEGER_ROOM }
+    ensures text { IsWritten (read_of (Kind.IntN 4) bytes.now) (Ok result) to.new }
 {
-    match write_integer(4, bytes, to) {
-        Ok(made) => made,
-        Err(_) => unreachable!(),
-    }
+    put_integer(to, 0, integer_of(4, bytes))
 }

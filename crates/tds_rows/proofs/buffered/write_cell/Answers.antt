@@ -1,4 +1,4 @@
-use Rattle.std.proofs.Common.{◌≡◌, ◌∙◌, ◌+◌, ◌-◌, ℕ, take, drop, sym, subst, arith, rules}
+use Rattle.std.proofs.Common.{inr, ◌≡◌, ◌∙◌, ◌+◌, ◌-◌, ℕ, take, drop, sym, subst, arith, rules}
 use Rattle.tds_rows.specs.Cells.{cell_start, shape}
 use Rattle.tds_rows.specs.CellSteps.{IsValueText, WritesCell}
 use Rattle.tds_rows.proofs.BufferedCells.{int4_cell, null_cell, refused_left, value_cell}
@@ -24,7 +24,7 @@ returns-in-Some-write_value-clause-gives c = λ charset.
 pub returns-in-None-clause-gives : goal.returns-in-None-clause-gives
 returns-in-None-clause-gives c =
     let at = c.in-Some.ensures.gives in
-    refused_left c.args.form.now.kind c.args.bytes.now c.in-Some.start c.in-Some.n at.0 at.1 c.if-n-eq0.false c.in-None.ensures.gives
+    inr (refused_left c.args.form.now.kind c.args.bytes.now c.in-Some.start c.in-Some.n at.0 at.1 c.if-n-eq0.false c.in-None.ensures.gives)
 
 pub returns-then-has_int4-clause-gives : goal.returns-then-has_int4-clause-gives
 returns-then-has_int4-clause-gives c = λ charset.

@@ -98,7 +98,10 @@ returns-clause-first c =
           | else-loop-to-test w ↦ absurd (omega (arith, room, z.1, w.loop-to-test.false, c.loop-to.auto.to))
           | then-loop-to-test+in_default+then-used-bytes w ↦ none_ahead l.ahead.column c.args.from.column columns c.args.bytes.now (ap (λ a. a.column) z.2) (w.in_default.ensures.gives columns knows inv.0)
           | then-loop-to-test+in-Some+in_default-write_cell w ↦ (let next = w.in-Some.ensures.gives columns knows inv.0 in
-              first_left l.ahead.column c.args.from.column columns next.column _ w.in-Some.form.kind l.used c.args.bytes.now z.0 (ap (λ a. a.column) z.2) next.next next.kind w.in_default-write_cell.ensures.gives)
+              elim w.in_default-write_cell.ensures.gives [
+                | inl few ↦ absurd (omega (arith, room, z.1, few, c.loop-to.auto.to))
+                | inr left ↦ first_left l.ahead.column c.args.from.column columns next.column _ w.in-Some.form.kind l.used c.args.bytes.now z.0 (ap (λ a. a.column) z.2) next.next next.kind left
+              ])
         ],
       )
       | inr f ↦ inr (λ column tail h. let x = f columns knows ahead column tail h in (x.0, λ e charset. subst (λ t. WritesCell (cell_start column.kind (shape charset column.kind)) c.args.from.column (is_last tail) (take l.used c.args.bytes.now) t) (sym same) (x.1 e charset)))
