@@ -13,10 +13,11 @@ use Rattle.tds_values.specs.Kind.{is_length_allowed}
 use Rattle.tds_values.specs.Scalar.{read_of}
 use Rattle.tds_csv.specs.Conversion.{Conversion, unit, is_fit, is_begun}
 use Rattle.tds_csv.proofs.ConversionLaws.{no_data_is_fit}
-use Rattle.tds_packet.specs.Elements.{AreBytes, IsNext}
+use Rattle.tds_packet.specs.Elements.{AreBytes, Spelt, IsNext}
+use Rattle.tds_packet.proofs.ElementLaws.{Spelt-induct, AreBytes-front, AreBytes-back}
 use Rattle.tds_packet.specs.declared.fault.Fault.{Fault}
 use Rattle.tds_packet.specs.declared.fault.Fault.TheVariants.{BadValue, BadValueLength, BadText, OddText, PlpLength}
-use Rattle.tds_rows.specs.Cells.{Null, ScalarCell, DataCell, Shape, FixedShape, CountedShape, LongShape, SpellsChunk, SpellsChunks, SpellsCell, CellPart, ScalarBytes, ScalarLength, ShortLength, ShortData, Total, ChunkLength, ChunkData, WholeCell, cell_start, cell_add, cell, unless, within_total, is_total, end_of_chunks, chunk_fault, value_part, known_total, unknown_total, null_total}
+use Rattle.tds_rows.specs.Cells.{Cell, Null, ScalarCell, DataCell, Shape, FixedShape, CountedShape, LongShape, SpellsChunk, SpellsChunks, SpellsCell, CellPart, ScalarBytes, ScalarLength, ShortLength, ShortData, Total, ChunkLength, ChunkData, WholeCell, cell_start, cell_add, cell, unless, within_total, is_total, end_of_chunks, chunk_fault, value_part, known_total, unknown_total, null_total}
 use Rattle.std.proofs.lemmas.Bool.{and_parts}
 use Rattle.tds_packet.proofs.Choices.{choose, eq_true, eq_false}
 use Rattle.tds_columns.proofs.ByteLemmas.{one_byte, two_bytes}
@@ -280,3 +281,7 @@ start_means kind (FixedShape n) = (refl, refl, refl)
 start_means kind CountedShape = (refl, refl)
 start_means kind (LongShape c Short) = (refl, refl)
 start_means kind (LongShape c Chunked) = (refl, refl)
+
+-- What is read as a cell spells it.
+pub cell_is_spelt : (column : ℕ) (kind : Kind) (sh : Shape) (x : Cell) (bytes : List ℕ) → AreBytes bytes → Spelt (cell column) (cell_start kind sh) bytes (WholeCell x) → SpellsCell kind sh x bytes
+cell_is_spelt column kind sh x bytes are h = Spelt-induct (cell column) (λ p b. AreBytes b → CellMeans kind sh p b) (λ p b e m n all. cell_step column kind sh p b e (AreBytes-back b e all) (m (AreBytes-front b e all)) n) (cell_start kind sh) (λ _. start_means kind sh) bytes (WholeCell x) h are
