@@ -1,8 +1,7 @@
 -- The cells of a row, as they are read one after another and their text is put.
 use Rattle.std.proofs.Common.{◌≡◌, ◌∙◌, inl, ℕ, ◌+◌, ◌^◌, ◌-◌, ◌<◌, ◌≤◌, Bool, false, List, [], ◌∷◌, ◌++◌, length, refl, sym, ap, subst, arith, append_assoc, append-nil, length-append}
-use Rattle.std.specs.Prelude.{None, ◌==◌, map}
+use Rattle.std.specs.Prelude.{None, map}
 use Rattle.std.proofs.lemmas.List.{length-map, map-append}
-use Rattle.std.proofs.lemmas.Bool.{ne_eqb}
 use Rattle.tds_values.specs.declared.kind.Kind.{Kind}
 use Rattle.tds_values.specs.declared.kind.Reach.TheVariants.{Short, Chunked}
 use Rattle.tds_packet.specs.declared.fault.Stop.{Stop}
@@ -189,8 +188,3 @@ module _ (charset : Charset) (start : RowPart) (c : Column) (left : List Column)
 -- behind the last cell
 pub cells_all : (charset : Charset) (start : RowPart) (a b : Seen) (place place' : ℕ) (h i : Held) (column : ℕ) → ReadsCells charset start [] a b place place' h i column → ReadsRow charset start a b place place' h i
 cells_all charset start a b place place' h i column x = record { cells = x.cells; streams = x.streams; place_is = x.place_is }
-
--- the last column is that behind which none follows
-pub last_is : (left : List Column) (n : ℕ) → n ≡ length left → (n == 0) ≡ is_last left
-last_is [] n h = ap (λ (m : ℕ). m == 0) h
-last_is (c ∷ cs) n h = ne_eqb n 0 (λ e. omega (arith, h, e))

@@ -283,10 +283,7 @@ rows_onward charset all cells columns left column count used bytes p some none w
     let one : take (used + 1) bytes ≡ take used bytes ++ 0xD1 ∷ [] = take_more bytes used 0 within ∙ ap (λ n. take used bytes ++ n ∷ []) is in
     subst (λ l. WritesRows charset all cells columns all 0 (count + 1) l p) (sym one) (rows_next charset all cells columns left column count (take used bytes) p some none x)
 
-none_left : (left : List Column) (n : ℕ) → n ≡ length left → n ≡ 0 → left ≡ []
-none_left [] n h z = refl
-none_left (c ∷ cs) n h z = absurd (omega (arith, h, z))
-
+-- a run between a payload and a sink, over the ends of rows
 pub rows_run : (charset : Charset) (all : List Column) (cells : List Cell) (columns left : List Column) (column count : ℕ) (a b : Seen) (place place' : ℕ) (h j : Held) (bytes made : List ℕ) → WritesRows charset all cells columns left column count bytes made
     → Takes a b bytes (length bytes) → place' ≡ place + length bytes → Puts h j made → RunsRows charset all cells columns left column count a b place place' h j
 rows_run charset all cells columns left column count a b place place' h j bytes made x takes at puts = record {
@@ -297,8 +294,6 @@ rows_run charset all cells columns left column count a b place place' h j bytes 
   streams = writes_streams (rows charset all) rows_so_far (record { before = []; at = behind_cells charset cells columns }) (record { before = x.before; at = behind_cells charset x.more left }) a b h j bytes made x.writes takes puts;
   place_is = at;
 }
-
--- ---- in a row
 
 -- ---- one after another, from the first row on
 

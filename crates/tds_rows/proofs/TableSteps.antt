@@ -52,10 +52,6 @@ module _ (table : Table) (columns : List Column) (at : Ahead) (form : Form) (kno
         kind = kind ∙ known_kind table.forms columns table.known at.column d c knows.first known fits within;
       }
 
-  -- a column that the walk gives is next
-  pub next_walked : (c : Column) (rest : List Column) → table.known ≤ at.column → columns_left at.walk ≡ c ∷ rest → form.kind ≡ c.kind → NextColumn columns at form
-  next_walked c rest beyond steps kind = record { column = c; rest = rest; next = sym (is.beyond beyond) ∙ steps; kind = kind }
-
 module _ (table : Table) (columns : List Column) (old new : Ahead) (knows : Knows table columns) (is : IsAhead table columns old) (further : new.column ≡ old.column + 1) (some : old.column < table.count) where
   -- the place behind a column that the table knows
   pub behind_known : old.column < table.known → columns_left new.walk ≡ columns_left old.walk → IsAhead table columns new
