@@ -1,5 +1,5 @@
 -- How an export ends, from what its calls did.
-use Rattle.std.proofs.Common.{◌≡◌, ◌∙◌, inl, inr, ℕ, ◌-◌, ◌^◌, ◌<◌, ◌≤◌, Bool, true, false, [], length, refl, sym, ap, subst, arith, nat_lt, Result, Ok, Err, MatchResult}
+use Rattle.std.proofs.Common.{◌≡◌, inl, inr, ℕ, ◌-◌, ◌^◌, ◌<◌, ◌≤◌, Bool, true, false, [], length, refl, sym, subst, arith, nat_lt, Result, Ok, Err, MatchResult}
 use Rattle.std.proofs.lemmas.Bool.Decides.{nat_tests}
 use Rattle.tds_meter.specs.Counts.{Rose, one_more}
 use Rattle.tds_packet.specs.declared.fault.Stop.{Stop}
@@ -8,8 +8,7 @@ use Rattle.tds_packet.specs.Seen.{Seen}
 use Rattle.tds_export.specs.declared.report.Report.{Report}
 use Rattle.tds_export.specs.declared.report.Stopped.{Stopped}
 use Rattle.tds_export.specs.TokenGrammar.{response, response_start}
-use Rattle.tds_export.specs.Steps.{Completes, RunStops}
-use Rattle.tds_export.specs.Tokens.{message_text}
+use Rattle.tds_export.specs.Steps.{Completes, IsNoted, RunStops}
 use Rattle.tds_export.specs.Moments.{Given}
 use Rattle.tds_export.specs.Exports.{Reports, IsReader, IsWriter, StopsExport, Tidied, begun_at, fresh_at}
 
@@ -29,12 +28,12 @@ tidied h k failed (Err e) going x = let y = x going in (y.0, y.1, inr (subst (Ro
 -- ---- what an export leaves, from what its calls did
 
 pub exports : (given : Given) (a q : Seen) (h k : Held) (room : ℕ) (report : Report) → a ≡ begun_at given → h ≡ fresh_at given → room ≡ given.before.areas.limits.column_room → IsReader given q → IsWriter given k
-    → Completes (response given.charset room) response_start a q h k report given.after.areas.description → given.after.areas.notice.bytes ≡ [] → Reports given report
-exports given a q h k room report e1 e2 e3 reader writer x none =
-    let y = subst (λ r. Completes (response given.charset r) response_start (begun_at given) q (fresh_at given) k report given.after.areas.description) e3
-    (subst (λ v. Completes (response given.charset room) response_start (begun_at given) q v k report given.after.areas.description) e2
-    (subst (λ v. Completes (response given.charset room) response_start v q h k report given.after.areas.description) e1 x)) in
-    record { seen = q; held = k; reader = reader; writer = writer; completes = y; notice = none ∙ sym (ap message_text y.no_error) }
+    → (c : Completes (response given.charset room) response_start a q h k report given.after.areas.description) × IsNoted given.after.areas.notice c.whole.tokens → Reports given report
+exports given a q h k room report e1 e2 e3 reader writer x =
+    let y = subst (λ (r : ℕ). (c : Completes (response given.charset r) response_start (begun_at given) q (fresh_at given) k report given.after.areas.description) × IsNoted given.after.areas.notice c.whole.tokens) e3
+    (subst (λ (v : Held). (c : Completes (response given.charset room) response_start (begun_at given) q v k report given.after.areas.description) × IsNoted given.after.areas.notice c.whole.tokens) e2
+    (subst (λ (v : Seen). (c : Completes (response given.charset room) response_start v q h k report given.after.areas.description) × IsNoted given.after.areas.notice c.whole.tokens) e1 x)) in
+    record { seen = q; held = k; reader = reader; writer = writer; completes = y.0; notice = y.1 }
 
 pub stops_export : (given : Given) (a q : Seen) (h k l : Held) (room place : ℕ) (failed : Bool) (stop : Stop) (stopped : Stopped) → a ≡ begun_at given → h ≡ fresh_at given → room ≡ given.before.areas.limits.column_room → place ≡ 0 → IsReader given q → IsWriter given l
     → RunStops (response given.charset room) response_start a q place h k given.after.areas.description failed stop → (failed ≡ false → Tidied k l) → (failed ≡ true → l ≡ k)

@@ -13,6 +13,9 @@ pub mod HeaderTexts
 pub mod TokenLaws
 pub mod TokenSteps
 pub mod TokenBytes
+pub mod NoticeReading
+pub mod Notices
+pub mod NoticeSteps
 pub mod Bodies
 pub mod RowRuns
 pub mod RunSteps

@@ -23,7 +23,7 @@ use Rattle.tds_export.specs.Tokens.{Token}
 use Rattle.tds_export.specs.Built.{is_built}
 use Rattle.tds_export.specs.TokenGrammar.{Part, response, response_start, text_so_far}
 use Rattle.tds_rows.specs.Unbuilt.{Stalls}
-use Rattle.tds_export.specs.Steps.{Completes, StopsAtEnd, StepStops, IsHolding, ReadsTokens, ReadsWhole, Tracks, behind}
+use Rattle.tds_export.specs.Steps.{Completes, StopsAtEnd, StepStops, IsHolding, IsNoted, ReadsTokens, ReadsWhole, Tracks, behind}
 use Rattle.tds_packet.proofs.Steps.{cut_at_once, takes_both}
 use Rattle.tds_rows.proofs.Stalls.{stalls_after}
 use Rattle.tds_export.proofs.TokenSteps.{same_text}
@@ -36,7 +36,7 @@ pub record Runs (g : Grammar Part Fault) (old new : Seen) (place place' : ℕ) (
   pub tracks : Tracks progress tokens
   pub holds : IsHolding area (behind tokens)
 
-pub runs_none : (charset : Charset) (room : ℕ) (a : Seen) (place : ℕ) (h : Held) (progress : Progress) (area : Space) → h.delivered ≤ 2 ^ 64 - 1 → Tracks progress [] → area ≡ empty area.room → Runs (response charset room) a a place place h h progress area
+abbrev pub runs_none : (charset : Charset) (room : ℕ) (a : Seen) (place : ℕ) (h : Held) (progress : Progress) (area : Space) → h.delivered ≤ 2 ^ 64 - 1 → Tracks progress [] → area ≡ empty area.room → Runs (response charset room) a a place place h h progress area
 runs_none charset room a place h progress area d tracks is = record {
   tokens = [];
   streams = record { bytes = []; spelt = Spelt-none (response charset room) response_start; takes = Takes-none a 0; puts = ([], refl, Puts-none h d) };
@@ -45,7 +45,7 @@ runs_none charset room a place h progress area d tracks is = record {
   holds = record { bytes = ap (λ (s : Space). s.bytes) is; peak = omega (arith, ap (λ (s : Space). s.peak) is) };
 }
 
-runs_more : (g : Grammar Part Fault) (a b c : Seen) (p q r : ℕ) (h i k : Held) (s t : Progress) (area area' : Space) → (x : Runs g a b p q h i s area) → ReadsTokens g (behind x.tokens) x.tokens b c q r i k t area' → Runs g a c p r h k t area'
+abbrev runs_more : (g : Grammar Part Fault) (a b c : Seen) (p q r : ℕ) (h i k : Held) (s t : Progress) (area area' : Space) → (x : Runs g a b p q h i s area) → ReadsTokens g (behind x.tokens) x.tokens b c q r i k t area' → Runs g a c p r h k t area'
 runs_more g a b c p q r h i k s t area area' x y = record {
   tokens = x.tokens ++ y.more;
   streams = record {
@@ -63,15 +63,20 @@ runs_more g a b c p q r h i k s t area area' x y = record {
 same_grammar : (c c' : Charset) (r r' : ℕ) → c' ≡ c → r' ≡ r → response c' r' ≡ response c r
 same_grammar c c' r r' e f = ap (λ x. response x r') e ∙ ap (response c) f
 
-pub runs_on : (c c' : Charset) (r r' : ℕ) (a b d : Seen) (p q n : ℕ) (h i k : Held) (s t : Progress) (area area' : Space) → c' ≡ c → r' ≡ r → (x : Runs (response c r) a b p q h i s area)
-    → ReadsTokens (response c' r') (behind x.tokens) x.tokens b d q n i k t area' → Runs (response c r) a d p n h k t area'
-runs_on c c' r r' a b d p q n h i k s t area area' e f x y =
-    runs_more (response c r) a b d p q n h i k s t area area' x (subst (λ (g : Grammar Part Fault). ReadsTokens g (behind x.tokens) x.tokens b d q n i k t area') (same_grammar c c' r r' e f) y)
+pub runs_on : (c c' : Charset) (r r' : ℕ) (a b d : Seen) (p q n : ℕ) (h i k : Held) (s t : Progress) (area area' notice : Space) → c' ≡ c → r' ≡ r → (x : Runs (response c r) a b p q h i s area)
+    → (y : ReadsTokens (response c' r') (behind x.tokens) x.tokens b d q n i k t area') × IsNoted notice (x.tokens ++ y.more) → (z : Runs (response c r) a d p n h k t area') × IsNoted notice z.tokens
+runs_on c c' r r' a b d p q n h i k s t area area' notice e f x y =
+    let w = subst (λ (g : Grammar Part Fault). (y : ReadsTokens g (behind x.tokens) x.tokens b d q n i k t area') × IsNoted notice (x.tokens ++ y.more)) (same_grammar c c' r r' e f) y in
+    (runs_more (response c r) a b d p q n h i k s t area area' x w.0, w.1)
 
 -- nothing but the payload has changed
-pub runs_same : (g : Grammar Part Fault) (a b : Seen) (p q q' : ℕ) (h k k' : Held) (s s' : Progress) (area area' : Space) → q' ≡ q → k' ≡ k → s' ≡ s → area' ≡ area → Runs g a b p q h k s area → Runs g a b p q' h k' s' area'
-runs_same g a b p q q' h k k' s s' area area' e1 e2 e3 e4 x =
-    subst (λ v. Runs g a b p v h k' s' area') (sym e1) (subst (λ v. Runs g a b p q h v s' area') (sym e2) (subst (λ v. Runs g a b p q h k v area') (sym e3) (subst (λ v. Runs g a b p q h k s v) (sym e4) x)))
+pub runs_same : (g : Grammar Part Fault) (a b : Seen) (p q q' : ℕ) (h k k' : Held) (s s' : Progress) (area area' notice notice' : Space) → q' ≡ q → k' ≡ k → s' ≡ s → area' ≡ area → notice' ≡ notice → (x : Runs g a b p q h k s area) × IsNoted notice x.tokens → (x : Runs g a b p q' h k' s' area') × IsNoted notice' x.tokens
+runs_same g a b p q q' h k k' s s' area area' notice notice' e1 e2 e3 e4 e5 x =
+    subst (λ (v : ℕ). (x : Runs g a b p v h k' s' area') × IsNoted notice' x.tokens) (sym e1)
+    (subst (λ (v : Held). (x : Runs g a b p q h v s' area') × IsNoted notice' x.tokens) (sym e2)
+    (subst (λ (v : Progress). (x : Runs g a b p q h k v area') × IsNoted notice' x.tokens) (sym e3)
+    (subst (λ (v : Space). (x : Runs g a b p q h k s v) × IsNoted notice' x.tokens) (sym e4)
+    (subst (λ (v : Space). (x : Runs g a b p q h k s area) × IsNoted v x.tokens) (sym e5) x))))
 
 stops_after : (charset : Charset) (room : ℕ) (a b c : Seen) (p q : ℕ) (h i k : Held) (s : Progress) (area area' : Space) (failed : Bool) (stop : Stop) → (x : Runs (response charset room) a b p q h i s area)
     → StepStops (response charset room) (behind x.tokens) b c q i k area' failed stop → StepStops (response charset room) response_start a c p h k area' failed stop
@@ -127,14 +132,13 @@ module _ (charset : Charset) (room : ℕ) (a b c : Seen) (p q : ℕ) (h k : Held
     holds = x.holds;
   }
 
-  pub completes : (l : Held) (report : Report) → s.is_final ≡ true → Finishes k l → report ≡ record s.report { written = l.delivered }
+  abbrev pub completes : (l : Held) (report : Report) → s.is_final ≡ true → Finishes k l → report ≡ record s.report { written = l.delivered }
       → Completes (response charset room) response_start a c h l report area
   completes l report final f is = record {
     middle = k;
     whole = reads_whole final;
     finishes = f;
     report_is = is ∙ ap (λ (r : Report). record r { written = l.delivered }) x.tracks.report;
-    no_error = x.tracks.no_error;
   }
 
   pub stops_at_end : (l : Held) (stop : Stop) → s.is_final ≡ true → FinishFails k l stop → StopsAtEnd (response charset room) response_start a c h l area stop

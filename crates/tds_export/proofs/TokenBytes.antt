@@ -21,7 +21,7 @@ use Rattle.tds_export.specs.declared.tokens.TokenKind.{TokenKind}
 use Rattle.tds_export.specs.declared.tokens.TokenKind.TheVariants as kinds
 use Rattle.tds_export.specs.Tokens.{Token, described_after, encoded_after}
 use Rattle.tds_export.specs.Built.{is_built}
-use Rattle.tds_export.specs.TokenGrammar.{AnEnvChange, AnOrder, Part, is_row_byte, response, row_byte_fault, start_of_row, text_so_far}
+use Rattle.tds_export.specs.TokenGrammar.{AnEnvChange, AnError, AnInfo, AnOrder, Part, is_row_byte, response, row_byte_fault, start_of_row, text_so_far}
 use Rattle.tds_rows.specs.Unbuilt.{ReadsUnbuilt, Stalls}
 use Rattle.tds_export.specs.Steps.{StepStops, IsDescribed, IsHolding, IsOfKind, IsRefusal, ReadsTokens, behind, in_done, in_done_in_proc, in_kind, in_length, in_metadata, in_row, in_status}
 use Rattle.tds_packet.proofs.Steps.{cut_at_once, reads_one, refused_at_once, takes_both, takes_ahead}
@@ -61,17 +61,19 @@ begins_kind charset room tokens byte described bytes kinds.Done (inr e) is d k =
 begins_kind charset room tokens byte described bytes kinds.DoneInProc e is d k = begins_by charset room tokens byte 0xFF (in_done_in_proc tokens) e (record { next = record { some = omega arith; whole = refl; free = refl }; to_is = refl; text_is = refl })
 begins_kind charset room tokens byte described bytes kinds.Order e is d k = begins_by charset room tokens byte 0xA9 (in_length AnOrder tokens) e (record { next = record { some = omega arith; whole = refl; free = refl }; to_is = refl; text_is = refl })
 begins_kind charset room tokens byte described bytes kinds.EnvChange e is d k = begins_by charset room tokens byte 0xE3 (in_length AnEnvChange tokens) e (record { next = record { some = omega arith; whole = refl; free = refl }; to_is = refl; text_is = refl })
+begins_kind charset room tokens byte described bytes kinds.Error e is d k = begins_by charset room tokens byte 0xAA (in_length AnError tokens) e (record { next = record { some = omega arith; whole = refl; free = refl }; to_is = refl; text_is = refl })
+begins_kind charset room tokens byte described bytes kinds.Info e is d k = begins_by charset room tokens byte 0xAB (in_length AnInfo tokens) e (record { next = record { some = omega arith; whole = refl; free = refl }; to_is = refl; text_is = refl })
 begins_kind charset room tokens byte described bytes kinds.ReturnStatus e is d k = begins_by charset room tokens byte 0x79 (in_status tokens) e (record { next = record { some = omega arith; whole = refl; free = refl }; to_is = refl; text_is = refl })
 
 module _ (charset : Charset) (room : ℕ) (tokens : List Token) (byte : ℕ) (to : Part) (begins : BeginsToken charset room tokens byte to) where
-  puts_before : (q : Part) (h k : Held) → PutsText text_so_far to q h k → PutsText text_so_far (behind tokens) q h k
+  abbrev pub puts_before : (q : Part) (h k : Held) → PutsText text_so_far to q h k → PutsText text_so_far (behind tokens) q h k
   puts_before q h k p = (p.0, ap (λ l. l ++ p.0) begins.text_is ∙ p.1, p.2)
 
   abbrev first : (a b : Seen) → Takes a b (byte ∷ []) 1 → Reads (response charset room) (behind tokens) a b to
   first a b t = reads_one (response charset room) (behind tokens) a b (byte ∷ []) to begins.next t begins.to_is
 
   -- a token is read behind its first byte
-  pub reads_behind_byte : (a b c : Seen) (place middle place' : ℕ) (h k : Held) (progress : Progress) (area : Space) → Takes a b (byte ∷ []) 1 → middle ≡ place + 1 → ReadsTokens (response charset room) to tokens b c middle place' h k progress area
+  abbrev pub reads_behind_byte : (a b c : Seen) (place middle place' : ℕ) (h k : Held) (progress : Progress) (area : Space) → Takes a b (byte ∷ []) 1 → middle ≡ place + 1 → ReadsTokens (response charset room) to tokens b c middle place' h k progress area
       → ReadsTokens (response charset room) (behind tokens) tokens a c place place' h k progress area
   reads_behind_byte a b c place middle place' h k progress area t at r = record {
     more = r.more;

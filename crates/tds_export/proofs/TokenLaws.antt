@@ -1,5 +1,5 @@
 -- What one more token adds to a response.
-use Rattle.std.proofs.Common.{◌≡◌, ◌∙◌, ℕ, ◌+◌, Bool, true, false, List, [], ◌∷◌, ◌++◌, length, max, refl, sym, ap, subst, arith, append_assoc}
+use Rattle.std.proofs.Common.{◌≡◌, ◌∙◌, ℕ, ◌+◌, ◌<◌, Bool, true, false, List, [], ◌∷◌, ◌++◌, length, max, refl, sym, ap, subst, arith, append_assoc}
 use Rattle.std.specs.Prelude.{ℤ, Option, Some, None, nat_lt, map, if◌then◌else◌, option_map}
 use Rattle.std.proofs.lemmas.Bool.Decides.{nat_tests}
 use Rattle.tds_csv.specs.Quoting.{line}
@@ -7,8 +7,9 @@ use Rattle.tds_rows.specs.Cells.{Cell, field}
 use Rattle.tds_columns.specs.Description.{Column}
 use Rattle.tds_columns.specs.View.{columns_of}
 use Rattle.tds_export.specs.declared.report.Report.{Report}
+use Rattle.tds_export.specs.declared.report.ServerError.{ServerError}
 use Rattle.tds_export.specs.declared.progress.Progress.{Progress}
-use Rattle.tds_export.specs.Tokens.{Token, described_after, Metadata, NoMetadata, Row, Order, EnvChange, Error, Info, ReturnStatus, Returned, Done, DoneInProc, between, encoded_after, first_error, greatest_span, header_line, how_many, is_error, is_final, is_info, is_return, is_row, is_set, return_status_after, text, text_after}
+use Rattle.tds_export.specs.Tokens.{Notice, Token, described_after, Metadata, NoMetadata, Row, Order, EnvChange, Error, Info, ReturnStatus, Returned, Done, DoneInProc, between, encoded_after, first_error, greatest_span, header_line, how_many, is_error, is_final, is_info, is_return, is_row, is_set, return_status_after, text, text_after}
 use Rattle.tds_export.specs.Outcome.{report_of, server_error, signed}
 use Rattle.tds_export.specs.TokenGrammar.{Bodied, AnOrder, AnEnvChange, AnError, AnInfo, bodied, is_notice}
 use Rattle.tds_export.specs.Steps.{IsDescribed, Tracks}
@@ -181,7 +182,6 @@ tracks_quiet s ts t final q h e k = record {
   report = ap (λ (r : Report). record r { written = length (text (ts ++ t ∷ [])) }) k.report ∙ sym (report-snoc ts t h ∙ rw (uncounted is_set ts t q.sets, uncounted is_row ts t q.rows, uncounted is_error ts t q.errors, uncounted is_info ts t q.infos, uncounted is_return ts t q.returns) refl);
   described = same_columns s.described ts t (q.encoded (encoded_after [] ts)) (q.columns (described_after None ts)) k.described;
   final = e ∙ sym (is_final-snoc ts t);
-  no_error = first_error-snoc ts t h ∙ k.no_error;
 }
 
 pub tracks_done : (s : Progress) (ts : List Token) (m final : Bool) → Tracks s ts → final ≡ (if m then false else true) → Tracks (record s { is_final = final }) (ts ++ Done m ∷ [])
@@ -203,7 +203,6 @@ tracks_status s ts n status e k =
       report = ap (λ (r : Report). record r { return_status = Some status; written = length (text (ts ++ t ∷ [])) }) k.report ∙ ap (λ z. record (report_of ts) { return_status = Some z; written = length (text (ts ++ t ∷ [])) }) e ∙ sym (status_report ts n);
       described = same_columns s.described ts t refl refl k.described;
       final = sym (is_final-snoc ts t);
-      no_error = status_is_no_error ts n ∙ k.no_error;
     }
 
 pub tracks_none : (s : Progress) (ts : List Token) → Tracks s ts → Tracks (record s { described = false; is_final = false }) (ts ++ NoMetadata ∷ [])
@@ -211,7 +210,6 @@ tracks_none s ts k = record {
   report = ap (λ (r : Report). record r { written = length (text (ts ++ NoMetadata ∷ [])) }) k.report ∙ sym (report-snoc ts NoMetadata refl ∙ rw (none (how_many is_set ts), none (how_many is_row ts), none (how_many is_error ts), none (how_many is_info ts), none (how_many is_return ts)) refl);
   described = described_after-append None ts (NoMetadata ∷ []);
   final = sym (is_final-snoc ts NoMetadata);
-  no_error = first_error-snoc ts NoMetadata refl ∙ k.no_error;
 }
 
 pub tracks_metadata : (s : Progress) (ts : List Token) (bytes : List ℕ) (columns : List Column) → columns_of bytes ≡ columns → Tracks s ts
@@ -222,7 +220,6 @@ tracks_metadata s ts bytes columns shown k =
       report = ap (λ (r : Report). record r { sets = r.sets + 1; written = length (text (ts ++ t ∷ [])) }) k.report ∙ sym (report-snoc ts t refl ∙ rw (none (how_many is_row ts), none (how_many is_error ts), none (how_many is_info ts), none (how_many is_return ts)) refl);
       described = described_after-append None ts (t ∷ []) ∙ ap Some (sym shown ∙ ap columns_of (sym (encoded_after-append [] ts (t ∷ []))));
       final = sym (is_final-snoc ts t);
-      no_error = first_error-snoc ts t refl ∙ k.no_error;
     }
 
 pub tracks_row : (s : Progress) (ts : List Token) (cells : List Cell) → Tracks s ts → Tracks (record s { report = record s.report { rows = s.report.rows + 1 }; is_final = false }) (ts ++ Row cells ∷ [])
@@ -230,5 +227,65 @@ tracks_row s ts cells k = record {
   report = ap (λ (r : Report). record r { rows = r.rows + 1; written = length (text (ts ++ Row cells ∷ [])) }) k.report ∙ sym (report-snoc ts (Row cells) refl ∙ rw (none (how_many is_set ts), none (how_many is_error ts), none (how_many is_info ts), none (how_many is_return ts)) refl);
   described = same_columns s.described ts (Row cells) refl refl k.described;
   final = sym (is_final-snoc ts (Row cells));
-  no_error = first_error-snoc ts (Row cells) refl ∙ k.no_error;
 }
+
+-- ---- ERROR and INFO
+
+error_is_no_status : (before : Option ℕ) (ts : List Token) (n : Notice) → return_status_after before (ts ++ Error n ∷ []) ≡ return_status_after before ts
+error_is_no_status before [] n = refl
+error_is_no_status before (ReturnStatus m ∷ ts) n = error_is_no_status (Some m) ts n
+error_is_no_status before (u ∷ ts) n = error_is_no_status before ts n
+
+-- the report with one more error, but for what was written
+error_report : (ts : List Token) (n : Notice) → report_of (ts ++ Error n ∷ []) ≡ record (report_of ts) { errors = how_many is_error ts + 1; first_error = option_map server_error (first_error (ts ++ Error n ∷ [])); written = length (text (ts ++ Error n ∷ [])) }
+error_report ts n =
+    let t = Error n in
+    rw (
+      how_many-snoc is_set ts t ∙ none (how_many is_set ts),
+      how_many-snoc is_row ts t ∙ none (how_many is_row ts),
+      how_many-snoc is_error ts t,
+      how_many-snoc is_info ts t ∙ none (how_many is_info ts),
+      how_many-snoc is_return ts t ∙ none (how_many is_return ts),
+      error_is_no_status None ts n,
+    ) refl
+
+pub tracks_error : (s : Progress) (ts : List Token) (n : Notice) (first : Option ServerError) → first ≡ option_map server_error (first_error (ts ++ Error n ∷ [])) → Tracks s ts
+    → Tracks (record s { report = record s.report { errors = s.report.errors + 1; first_error = first }; is_final = false }) (ts ++ Error n ∷ [])
+tracks_error s ts n first e k =
+    let t = Error n in
+    record {
+      report = ap (λ (r : Report). record r { errors = r.errors + 1; first_error = first; written = length (text (ts ++ t ∷ [])) }) k.report ∙ ap (λ f. record (report_of ts) { errors = how_many is_error ts + 1; first_error = f; written = length (text (ts ++ t ∷ [])) }) e ∙ sym (error_report ts n);
+      described = same_columns s.described ts t refl refl k.described;
+      final = sym (is_final-snoc ts t);
+    }
+
+pub tracks_info : (s : Progress) (ts : List Token) (n : Notice) → Tracks s ts → Tracks (record s { report = record s.report { infos = s.report.infos + 1 }; is_final = false }) (ts ++ Info n ∷ [])
+tracks_info s ts n k = record {
+  report = ap (λ (r : Report). record r { infos = r.infos + 1; written = length (text (ts ++ Info n ∷ [])) }) k.report ∙ sym (report-snoc ts (Info n) refl ∙ rw (none (how_many is_set ts), none (how_many is_row ts), none (how_many is_error ts), none (how_many is_return ts)) refl);
+  described = same_columns s.described ts (Info n) refl refl k.described;
+  final = sym (is_final-snoc ts (Info n));
+}
+
+-- without an error there is no first one
+pub no_errors : (ts : List Token) → how_many is_error ts ≡ 0 → first_error ts ≡ None
+no_errors [] h = refl
+no_errors (Error n ∷ ts) h = absurd (omega (arith, h))
+no_errors (u ∷ ts) h = no_errors ts h
+
+-- and the next one is
+pub first_next : (ts : List Token) (n : Notice) → first_error ts ≡ None → first_error (ts ++ Error n ∷ []) ≡ Some n
+first_next [] n h = refl
+first_next (Error m ∷ ts) n h = cc
+first_next (u ∷ ts) n h = first_next ts n h
+
+-- behind an error none is the first
+pub first_stays : (ts us : List Token) → 0 < how_many is_error ts → first_error (ts ++ us) ≡ first_error ts
+first_stays [] us h = absurd (omega (arith, h))
+first_stays (Error n ∷ ts) us h = refl
+first_stays (u ∷ ts) us h = first_stays ts us h
+
+-- where no error is added, the first one is the same
+pub same_first : (ts us : List Token) → how_many is_error (ts ++ us) ≡ how_many is_error ts → first_error (ts ++ us) ≡ first_error ts
+same_first [] us h = no_errors us h
+same_first (Error n ∷ ts) us h = refl
+same_first (u ∷ ts) us h = same_first ts us h

@@ -75,11 +75,11 @@ final_or_more n = go (n % 2) (omega arith)
     go (suc (suc m)) h = absurd (omega arith)
 
 -- a token that has no text and describes nothing was read
-pub quiet_reads : (charset : Charset) (room : ℕ) (area : Space) (sink : Held) (tokens : List Token) (t : Token) (from : Open) (progress : Progress) (bytes : List ℕ) (a b : Seen) (place place' : ℕ) → open_text from ≡ [] → IsQuiet t → place' ≡ place + length bytes → sink.delivered ≤ 2 ^ 64 - 1
+abbrev pub bare_reads : (charset : Charset) (room : ℕ) (area : Space) (sink : Held) (tokens : List Token) (t : Token) (from : Open) (progress : Progress) (bytes : List ℕ) (a b : Seen) (place place' : ℕ) → open_text from ≡ [] → ((begun : Bool) → text_after begun (t ∷ []) ≡ []) → ((before : List ℕ) → encoded_after before (t ∷ []) ≡ before) → place' ≡ place + length bytes → sink.delivered ≤ 2 ^ 64 - 1
     → Tracks progress (tokens ++ t ∷ []) → IsHolding area (behind tokens) → Spelt (response charset room) (record { tokens = tokens; at = from }) bytes (behind (tokens ++ t ∷ [])) → Takes a b bytes (length bytes)
     → ReadsTokens (response charset room) (record { tokens = tokens; at = from }) tokens a b place place' sink sink progress area
-quiet_reads charset room area sink tokens t from progress bytes a b place place' none q at d tracks holds spelt takes =
-    let same : text_after false (tokens ++ t ∷ []) ≡ text tokens = text_after-snoc false tokens t ∙ ap (λ l. text tokens ++ l) (q.text (begun_after false tokens)) ∙ append-nil (text tokens) in
+bare_reads charset room area sink tokens t from progress bytes a b place place' none textless encoded at d tracks holds spelt takes =
+    let same : text_after false (tokens ++ t ∷ []) ≡ text tokens = text_after-snoc false tokens t ∙ ap (λ l. text tokens ++ l) (textless (begun_after false tokens)) ∙ append-nil (text tokens) in
     record {
       more = t ∷ [];
       streams = record {
@@ -90,8 +90,15 @@ quiet_reads charset room area sink tokens t from progress bytes a b place place'
       };
       place_is = at;
       tracks = tracks;
-      holds = holds-snoc area tokens t (q.encoded (encoded_after [] tokens)) holds;
+      holds = holds-snoc area tokens t (encoded (encoded_after [] tokens)) holds;
     }
+
+-- and one that is counted nowhere
+pub quiet_reads : (charset : Charset) (room : ℕ) (area : Space) (sink : Held) (tokens : List Token) (t : Token) (from : Open) (progress : Progress) (bytes : List ℕ) (a b : Seen) (place place' : ℕ) → open_text from ≡ [] → IsQuiet t → place' ≡ place + length bytes → sink.delivered ≤ 2 ^ 64 - 1
+    → Tracks progress (tokens ++ t ∷ []) → IsHolding area (behind tokens) → Spelt (response charset room) (record { tokens = tokens; at = from }) bytes (behind (tokens ++ t ∷ [])) → Takes a b bytes (length bytes)
+    → ReadsTokens (response charset room) (record { tokens = tokens; at = from }) tokens a b place place' sink sink progress area
+quiet_reads charset room area sink tokens t from progress bytes a b place place' none q at d tracks holds spelt takes =
+    bare_reads charset room area sink tokens t from progress bytes a b place place' none q.text q.encoded at d tracks holds spelt takes
 
 -- the one element behind its first byte was read whole
 one_reads : (charset : Charset) (room : ℕ) (area : Space) (sink : Held) (tokens : List Token) (t : Token) (from : Open) (progress : Progress) (element : List ℕ) (a b : Seen) (place place' : ℕ) → open_text from ≡ [] → IsQuiet t → place' ≡ place + length element → sink.delivered ≤ 2 ^ 64 - 1

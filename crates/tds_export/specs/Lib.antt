@@ -10,3 +10,4 @@ pub mod Exporters
 pub mod Laws
 pub mod Moments
 pub mod Exports
+pub mod Noticing

@@ -15,15 +15,15 @@ use Rattle.tds_csv.specs.Streaming.{PutsText, Streams, BreaksStreaming}
 use Rattle.tds_rows.specs.declared.Charset.{Charset}
 use Rattle.tds_rows.specs.Rows.{row_start}
 use Rattle.tds_rows.specs.Unbuilt.{Stalls}
-use Rattle.tds_export.specs.declared.token_bytes.TheConstants.{COLMETADATA, ROW, NBCROW, ORDER, ENVCHANGE, RETURNSTATUS, DONE, DONEPROC, DONEINPROC}
+use Rattle.tds_export.specs.declared.token_bytes.TheConstants.{COLMETADATA, ROW, NBCROW, ORDER, ENVCHANGE, ERROR, INFO, RETURNSTATUS, DONE, DONEPROC, DONEINPROC}
 use Rattle.tds_export.specs.declared.progress.Progress.{Progress}
 use Rattle.tds_export.specs.declared.report.Report.{Report}
 use Rattle.tds_export.specs.declared.tokens.TokenKind.{TokenKind}
 use Rattle.tds_export.specs.declared.tokens.TokenKind.TheVariants as kinds
 use Rattle.tds_export.specs.Built.{is_built, is_built_token}
 use Rattle.tds_export.specs.Outcome.{report_of}
-use Rattle.tds_export.specs.TokenGrammar.{AnEnvChange, AnOrder, Between, Bodied, Describing, DoneFields, DoneInProcFields, Open, Part, Status, TokenLength, is_token_byte, text_so_far, span_so_far, with_row}
-use Rattle.tds_export.specs.Tokens.{Token, described_after, encoded_after, first_error, is_final, text}
+use Rattle.tds_export.specs.TokenGrammar.{AnEnvChange, AnError, AnInfo, AnOrder, Between, Bodied, Describing, DoneFields, DoneInProcFields, Open, Part, Status, TokenLength, is_token_byte, text_so_far, span_so_far, with_row}
+use Rattle.tds_export.specs.Tokens.{Token, described_after, encoded_after, error_text, is_final, text}
 
 -- Columns are described, and they are those in these bytes; or none are.
 abbrev pub IsDescribed : Bool → List ℕ → Option (List Column) → Type 0
@@ -40,16 +40,19 @@ pub record IsHolding (area : Space) (part : Part) : Type 0 where
   pub bytes : area.bytes ≡ description_of part.tokens part.at
   pub peak : area.peak ≤ span_so_far part
 
+-- The notice area has the text of the first error.
+abbrev pub IsNoted : Space → List Token → Type 0
+IsNoted notice tokens = notice.bytes ≡ error_text tokens
+
 -- between tokens
 abbrev pub behind : List Token → Part
 behind tokens = record { tokens = tokens; at = Between }
 
--- What stands after these tokens is known: the report but for what was written, whether columns are described, and whether the last token is a final one. None is an error.
+-- What stands after these tokens is known: the report but for what was written, whether columns are described, and whether the last token is a final one.
 pub record Tracks (progress : Progress) (tokens : List Token) : Type 0 where
   pub report : record progress.report { written = length (text tokens) } ≡ report_of tokens
   pub described : IsDescribed progress.described (encoded_after [] tokens) (described_after None tokens)
   pub final : progress.is_final ≡ is_final tokens
-  pub no_error : first_error tokens ≡ None
 
 -- One token or more were read whole, and their text put.
 pub record ReadsTokens (g : Grammar Part Fault) (from : Part) (tokens : List Token) (old new : Seen) (place place' : ℕ) (before after : Held) (progress : Progress) (area : Space) : Type 0 where
@@ -68,6 +71,8 @@ IsOfKind described byte kinds.DoneInProc = byte ≡ DONEINPROC
 IsOfKind described byte kinds.ReturnStatus = byte ≡ RETURNSTATUS
 IsOfKind described byte kinds.Order = byte ≡ ORDER
 IsOfKind described byte kinds.EnvChange = byte ≡ ENVCHANGE
+IsOfKind described byte kinds.Error = byte ≡ ERROR
+IsOfKind described byte kinds.Info = byte ≡ INFO
 
 -- The byte is refused with this fault, or isn't built.
 abbrev pub IsRefusal : Bool → ℕ → Fault → Type 0
@@ -113,6 +118,8 @@ in_kind charset columns kinds.DoneInProc = in_done_in_proc
 in_kind charset columns kinds.ReturnStatus = in_status
 in_kind charset columns kinds.Order = in_length AnOrder
 in_kind charset columns kinds.EnvChange = in_length AnEnvChange
+in_kind charset columns kinds.Error = in_length AnError
+in_kind charset columns kinds.Info = in_length AnInfo
 
 -- A call inside an export stopped in reading: the text of the state that it reached was put.
 pub record StopsInReading (g : Grammar Part Fault) (from : Part) (old new : Seen) (place : ℕ) (before after : Held) (area : Space) (stop : Stop) : Type 0 where
@@ -144,13 +151,12 @@ pub record ReadsWhole (g : Grammar Part Fault) (from : Part) (old new : Seen) (b
   pub final : is_final tokens ≡ true
   pub holds : IsHolding area (behind tokens)
 
--- The whole response was read and all of its text delivered, and this is its report. None of its tokens is an error.
+-- The whole response was read and all of its text delivered, and this is its report.
 pub record Completes (g : Grammar Part Fault) (from : Part) (old new : Seen) (before after : Held) (report : Report) (area : Space) : Type 0 where
   pub middle : Held
   pub whole : ReadsWhole g from old new before middle area
   pub finishes : Finishes middle after
   pub report_is : report ≡ record (report_of whole.tokens) { written = after.delivered }
-  pub no_error : first_error whole.tokens ≡ None
 
 -- The whole response was read, and then the rest of its text couldn't be delivered, or the writer not be flushed.
 pub record StopsAtEnd (g : Grammar Part Fault) (from : Part) (old new : Seen) (before after : Held) (area : Space) (stop : Stop) : Type 0 where

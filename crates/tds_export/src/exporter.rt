@@ -1,13 +1,14 @@
 // The run of an export: token after token to the message's end.
-ghost use Rattle.std.specs.Prelude.{◌≡◌, false, true, IfOk};
+ghost use Rattle.std.specs.Prelude.{◌≡◌, ◌≤◌, false, true, IfOk};
 ghost use Rattle.tds_columns.specs.View.{columns_of};
 ghost use Rattle.tds_csv.specs.Sinks.{LeavesSink};
 ghost use Rattle.tds_export.specs.Steps.{IsRow, in_done, in_done_in_proc, in_kind, in_length, in_metadata, in_row, in_status};
-ghost use Rattle.tds_export.specs.TokenGrammar.{Bodied, is_notice};
+ghost use Rattle.tds_export.specs.TokenGrammar.{AnError, AnInfo, Bodied, is_notice};
 ghost use Rattle.tds_export.specs.Exporters.{Advances, CanBegin, IsInToken, IsRunning, LeavesRun};
 ghost use Rattle.tds_export.specs.Exporters.{ResponseRead, StepRead, TokenRead, WholeRead, view};
 ghost use Rattle.tds_packet.specs.Payloads.{LeavesPayload};
 
+use crate::notice::{error_of, message_of, take_notice};
 use crate::progress::Progress;
 use crate::report::Report;
 use crate::set::put_header;
@@ -15,17 +16,20 @@ use crate::tokens::{TokenKind, judge, next_byte};
 use byteorder::{ByteOrder, LittleEndian};
 use std::io::{Read, Write};
 use tds_columns::{Columns, Described, gather};
-use tds_csv::Sink;
+use tds_csv::{Sink, utf16_into};
 use tds_meter::Area;
 use tds_packet::{Fault, Payload, Place, Stop};
 use tds_rows::{Charset, read_rows};
 
-/// The run of an export: what it reads and writes, the area of its description, and its progress.
+/// The run of an export: what it reads and writes, the areas of its description, of a token's body
+/// and of the first error's text, and its progress.
 #[derive(Drop)]
 pub(crate) struct Exporter<'a, 'p, 's, R, W> {
     payload: &'a mut Payload<'p, R>,
     sink: &'a mut Sink<'s, W>,
     description: &'a mut Area,
+    token: &'a mut Area,
+    notice: &'a mut Area,
     charset: Charset,
     progress: Progress,
 }
@@ -118,6 +122,38 @@ impl<'a, 'p, 's, R: Read, W: Write> Exporter<'a, 'p, 's, R, W> {
         Ok(())
     }
 
+    // Reads an ERROR behind its token byte. The first one is kept, and its message put into the notice
+    // area (MS-TDS, ERROR).
+    fn error(&mut self) -> Result<(), Stop>
+        requires { IsInToken self.old }
+        ensures leaves { LeavesRun self.old self.new result }
+        ensures gives { StepRead R.remaining W.contents (in_length AnError) self.old self.new result }
+    {
+        take_notice(self.payload, self.token)?;
+        self.progress.report.errors += 1;
+        self.progress.is_final = false;
+        if self.progress.report.errors > 1 {
+            return Ok(());
+        }
+        let body = self.token.bytes();
+        self.progress.report.first_error = Some(error_of(body));
+        self.notice.clear();
+        utf16_into(message_of(body), self.notice);
+        Ok(())
+    }
+
+    // Reads an INFO behind its token byte (MS-TDS, INFO).
+    fn info(&mut self) -> Result<(), Stop>
+        requires { IsInToken self.old }
+        ensures leaves { LeavesRun self.old self.new result }
+        ensures gives { StepRead R.remaining W.contents (in_length AnInfo) self.old self.new result }
+    {
+        take_notice(self.payload, self.token)?;
+        self.progress.report.infos += 1;
+        self.progress.is_final = false;
+        Ok(())
+    }
+
     // Reads a token of this kind behind its first byte.
     fn body(&mut self, kind: TokenKind) -> Result<(), Stop>
         requires begun { IsInToken self.old }
@@ -133,6 +169,8 @@ impl<'a, 'p, 's, R: Read, W: Write> Exporter<'a, 'p, 's, R, W> {
             TokenKind::DoneInProc => self.done_in_proc(),
             TokenKind::ReturnStatus => self.return_status(),
             TokenKind::Order | TokenKind::EnvChange => self.skip(),
+            TokenKind::Error => self.error(),
+            TokenKind::Info => self.info(),
         }
     }
 
@@ -185,20 +223,28 @@ pub(crate) fn read_response<R: Read, W: Write>(
     payload: &mut Payload<R>,
     sink: &mut Sink<W>,
     description: &mut Area,
+    token: &mut Area,
+    notice: &mut Area,
     charset: Charset,
 ) -> Result<Report, Stop>
-    requires { CanBegin payload.old sink.old description.old }
+    requires { CanBegin payload.old sink.old description.old token.old notice.old }
     ensures payload { LeavesPayload payload.old payload.new result }
     ensures sink { LeavesSink sink.old sink.new result }
     ensures room { description.new.room ≡ description.old.room }
+    ensures token { token.new.room ≡ token.old.room }
+    ensures token_peak { token.new.peak ≤ token.new.room }
+    ensures notice { notice.new.room ≡ notice.old.room }
+    ensures notice_peak { notice.new.peak ≤ notice.new.room }
     ensures gives { let at = view R.remaining W.contents in
-        ResponseRead charset (at payload.old sink.old description.old)
-        (at payload.new sink.new description.new) result }
+        ResponseRead charset (at payload.old sink.old description.old notice.old)
+        (at payload.new sink.new description.new notice.new) result }
 {
     let mut run = Exporter {
         payload,
         sink,
         description,
+        token,
+        notice,
         charset,
         progress: Progress::new(),
     };

@@ -22,6 +22,7 @@
 
 mod exporter;
 pub mod laws;
+mod notice;
 mod progress;
 mod report;
 mod run;

@@ -58,8 +58,18 @@ pub fn export<R: Read, W: Write>(
     let max_wire = areas.limits().max_wire();
     let mut payload = Payload::new(from, &mut areas.packet, max_wire);
     let mut sink = Sink::new(to, &mut areas.output);
-    match read_response(&mut payload, &mut sink, &mut areas.description, charset) {
+    match read_response(
+        &mut payload,
+        &mut sink,
+        &mut areas.description,
+        &mut areas.token,
+        &mut areas.notice,
+        charset,
+    ) {
         Ok(report) => Ok(report),
-        Err(stop) => Err(stop_at(&mut sink, stop)),
+        Err(stop) => {
+            areas.notice.clear();
+            Err(stop_at(&mut sink, stop))
+        }
     }
 }

@@ -13,6 +13,7 @@ use tds_packet::{Counted, Fault, Place};
 mod columns;
 mod cuts;
 mod kinds;
+mod notices;
 
 // A column of numbers named a, a row of 42, and a DONE, in one packet.
 const WIRE: [u8; 39] = [

@@ -20,6 +20,8 @@ pub(crate) enum TokenKind {
     ReturnStatus,
     Order,
     EnvChange,
+    Error,
+    Info,
 }
 
 /// The kind of a token by its first byte, where columns are described or not; or why it is none.
@@ -36,7 +38,9 @@ pub(crate) fn judge(byte: u8, described: bool) -> Result<TokenKind, Fault>
         RETURNSTATUS => Ok(TokenKind::ReturnStatus),
         ORDER => Ok(TokenKind::Order),
         ENVCHANGE => Ok(TokenKind::EnvChange),
-        NBCROW | ERROR | INFO | RETURNVALUE => Err(Fault::NotYet),
+        ERROR => Ok(TokenKind::Error),
+        INFO => Ok(TokenKind::Info),
+        NBCROW | RETURNVALUE => Err(Fault::NotYet),
         _ => Err(Fault::RefusedToken(byte)),
     }
 }

@@ -20,7 +20,7 @@ reported g c = let at = moment g.R.Read.remaining g.W.Write.contents in record {
   charset = c.args.charset;
   before = at c.args.areas.now c.args.from.now c.args.to.now;
   after = at
-      (record c.restart.new.self { packet = c.read_response.new.payload.packet.now; output = c.read_response.new.sink.output.now; description = c.read_response.new.description })
+      (record c.restart.new.self { packet = c.read_response.new.payload.packet.now; output = c.read_response.new.sink.output.now; description = c.read_response.new.description; token = c.read_response.new.token; notice = c.read_response.new.notice })
       c.read_response.new.payload.from.now c.read_response.new.sink.to.now;
 }
 
@@ -36,7 +36,7 @@ all_read g c =
     let begins : a ≡ begun_at given = c.new-payload.ensures.begun.begins ∙ ap (λ n. begun n c.max_wire-max_wire.result given.before.reader.bytes given.before.reader.failures) size ∙ ap (λ n. begun given.before.areas.limits.packet_size n given.before.reader.bytes given.before.reader.failures) limit in
     let first : h ≡ fresh_at given = c.new-sink.ensures.held in
     exports given a (seen g.R.Read.remaining c.read_response.new.payload) h (held g.W.Write.contents c.read_response.new.sink) c.restart.new.self.description.room c.in-Ok.report begins first room
-    (record { left = refl; failures = refl }) (record { has = refl; waiting = refl; failures = refl }) c.in-Ok.ensures.gives (ap (λ (s : Space). s.bytes) emptied.notice)
+    (record { left = refl; failures = refl }) (record { has = refl; waiting = refl; failures = refl }) c.in-Ok.ensures.gives
 
 pub returns-in-Ok-clause-exports : goal.returns-in-Ok-clause-exports
 returns-in-Ok-clause-exports g c =
@@ -54,7 +54,7 @@ stopped g c = let at = moment g.R.Read.remaining g.W.Write.contents in record {
   charset = c.args.charset;
   before = at c.args.areas.now c.args.from.now c.args.to.now;
   after = at
-      (record c.restart.new.self { packet = c.read_response.new.payload.packet.now; output = c.stop_at.new.sink.output.now; description = c.read_response.new.description })
+      (record c.restart.new.self { packet = c.read_response.new.payload.packet.now; output = c.stop_at.new.sink.output.now; description = c.read_response.new.description; token = c.read_response.new.token; notice = c.clear.new.self })
       c.read_response.new.payload.from.now c.stop_at.new.sink.to.now;
 }
 
@@ -71,7 +71,7 @@ read_so_far g c =
     let first : h ≡ fresh_at given = c.new-sink.ensures.held in
     stops_export given a (seen g.R.Read.remaining c.read_response.new.payload) h (held g.W.Write.contents c.read_response.new.sink) (held g.W.Write.contents c.stop_at.new.sink) c.restart.new.self.description.room c.new-payload.result.place c.read_response.new.sink.failed c.in-Err.stop c.stop_at.result
     begins first room c.new-payload.ensures.begun.place (record { left = refl; failures = refl }) (record { has = refl; waiting = refl; failures = refl }) (c.in-Err.ensures.gives) c.stop_at.ensures.tidied (λ failed. ap (held g.W.Write.contents) (c.stop_at.ensures.failed failed)) c.stop_at.ensures.stop
-    (ap (λ (s : Space). s.bytes) emptied.notice)
+    (ap (λ (s : Space). s.bytes) c.clear.ensures.value)
 
 pub returns-in-Err-clause-exports : goal.returns-in-Err-clause-exports
 returns-in-Err-clause-exports g c =

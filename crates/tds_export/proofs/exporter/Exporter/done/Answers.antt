@@ -3,11 +3,12 @@ use Rattle.tds_packet.specs.Payloads.{seen}
 use Rattle.tds_csv.specs.Sinks.{held}
 use Rattle.tds_export.specs.Steps.{in_done}
 use Rattle.tds_export.proofs.TokenSteps.{done_reads, stops_reading, token_cut}
+use Rattle.tds_export.proofs.NoticeSteps.{quietly}
 use Rattle.tds_packet.proofs.Passing.{passed}
 use Rattle.tds_export.proofs.exporter.Exporter.done.Goals as goal
 
 pub returns-in_err-fill-clause-gives : goal.returns-in_err-fill-clause-gives
-returns-in_err-fill-clause-gives g c = λ tokens tracks holds.
+returns-in_err-fill-clause-gives g c = λ tokens tracks holds noted.
     let run = c.args.self.now in
     let sink = held g.W.Write.contents run.sink.now in
     let room = run.description.now.room in
@@ -21,10 +22,11 @@ returns-in_err-fill-clause-gives g c = λ tokens tracks holds.
     (token_cut run.charset room (in_done tokens) a b run.payload.now.place 12 part.0 c.fill.new.to part.1 c.in_err-fill.field-0.0 refl refl (omega (arith, less, twelve)) twelve part.3 part.4))
 
 pub returns-clause-gives : goal.returns-clause-gives
-returns-clause-gives g c = λ tokens tracks holds.
+returns-clause-gives g c = λ tokens tracks holds noted.
     let run = c.args.self.now in
     let a = seen g.R.Read.remaining run.payload.now in
     let b = seen g.R.Read.remaining c.fill.new.self in
     let twelve : length c.fill.new.to ≡ 12 = search rules in
-    done_reads run.charset run.description.now.room run.description.now (held g.W.Write.contents run.sink.now) tokens run.progress c.fill.new.to a b run.payload.now.place c.fill.new.self.place c.in_ok-fill.ensures.place
-    c.requires.running.sink.ready.2 tracks holds twelve c.in_ok-fill.ensures.all
+    quietly _ _ _ _ _ _ _ _ _ _ _ _ run.notice.now tracks noted refl
+    (done_reads run.charset run.description.now.room run.description.now (held g.W.Write.contents run.sink.now) tokens run.progress c.fill.new.to a b run.payload.now.place c.fill.new.self.place c.in_ok-fill.ensures.place
+    c.requires.running.sink.ready.2 tracks holds twelve c.in_ok-fill.ensures.all)

@@ -1,4 +1,4 @@
-use Rattle.std.proofs.Common.{◌∙◌, ◌++◌, inl, inr, sym, subst, nat_lt}
+use Rattle.std.proofs.Common.{◌∙◌, ◌++◌, inl, inr, sym, subst, nat_lt, refl}
 use Rattle.tds_packet.specs.Payloads.{seen}
 use Rattle.tds_packet.proofs.PayloadLaws.{between_of}
 use Rattle.tds_columns.specs.View.{IsDescription, columns_of}
@@ -6,18 +6,20 @@ use Rattle.tds_columns.proofs.ViewLaws.{description_shows}
 use Rattle.tds_csv.specs.Sinks.{Breaks, Puts, held}
 use Rattle.tds_export.specs.Tokens.{between, header_line}
 use Rattle.tds_export.proofs.TokenSteps.{metadata_breaks, metadata_reads, metadata_stops, none_reads}
+use Rattle.tds_export.proofs.NoticeSteps.{quietly}
 use Rattle.tds_packet.proofs.Passing.{passed}
 use Rattle.tds_export.proofs.exporter.Exporter.metadata.Goals as goal
 
 pub returns-in-NoMetadata-clause-gives : goal.returns-in-NoMetadata-clause-gives
-returns-in-NoMetadata-clause-gives g c = λ tokens tracks holds.
+returns-in-NoMetadata-clause-gives g c = λ tokens tracks holds noted.
     let run = c.args.self.now in
     let gives = rw c.in-NoMetadata.is at c.in_ok-gather.ensures.gives in
-    none_reads run.charset run.description.now.room c.gather.new.area run.description.now (held g.W.Write.contents run.sink.now) tokens run.progress (seen g.R.Read.remaining run.payload.now) (seen g.R.Read.remaining c.gather.new.payload)
-    run.payload.now.place c.gather.new.payload.place c.requires.running.sink.ready.2 tracks holds gives.0
+    quietly _ _ _ _ _ _ _ _ _ _ _ _ run.notice.now tracks noted refl
+    (none_reads run.charset run.description.now.room c.gather.new.area run.description.now (held g.W.Write.contents run.sink.now) tokens run.progress (seen g.R.Read.remaining run.payload.now) (seen g.R.Read.remaining c.gather.new.payload)
+    run.payload.now.place c.gather.new.payload.place c.requires.running.sink.ready.2 tracks holds gives.0)
 
 pub returns-in_err-gather-clause-gives : goal.returns-in_err-gather-clause-gives
-returns-in_err-gather-clause-gives g c = λ tokens tracks holds.
+returns-in_err-gather-clause-gives g c = λ tokens tracks holds noted.
     let run = c.args.self.now in
     let running = c.requires.running in
     passed _ _ _ _ c.from_residual.ensures.1 (inl (
@@ -32,7 +34,7 @@ view-columns-requires g c =
     subst IsDescription (sym c.bytes.ensures.value) (c.args.self.now.description.now.room, gives.0, gives.4)
 
 pub returns-in_err-put_header-clause-gives : goal.returns-in_err-put_header-clause-gives
-returns-in_err-put_header-clause-gives g c = λ tokens tracks holds.
+returns-in_err-put_header-clause-gives g c = λ tokens tracks holds noted.
     let run = c.args.self.now in
     let sink = c.requires.running.sink in
     let gives = rw c.in_default.is at c.in_ok-gather.ensures.gives in
@@ -47,12 +49,13 @@ returns-in_err-put_header-clause-gives g c = λ tokens tracks holds.
     ))
 
 pub returns-clause-gives : goal.returns-clause-gives
-returns-clause-gives g c = λ tokens tracks holds.
+returns-clause-gives g c = λ tokens tracks holds noted.
     let run = c.args.self.now in
     let gives = rw c.in_default.is at c.in_ok-gather.ensures.gives in
     let h = held g.W.Write.contents run.sink.now in
     let k = held g.W.Write.contents c.put_header.new.sink in
     let bytes = c.view-columns.ensures ∙ c.bytes.ensures.value in
     let puts = subst (λ l. Puts h k (between (nat_lt 0 run.progress.report.sets) ++ header_line (columns_of l))) bytes c.in_ok-put_header.ensures.gives in
-    metadata_reads run.charset run.description.now.room c.gather.new.area run.description.now h k tokens run.progress gives.0 (seen g.R.Read.remaining run.payload.now) (seen g.R.Read.remaining c.gather.new.payload) run.payload.now.place c.gather.new.payload.place tracks holds
-    (description_shows run.description.now.room gives.0 c.gather.new.area.bytes gives.4).0 gives.2 puts
+    quietly _ _ _ _ _ _ _ _ _ _ _ _ run.notice.now tracks noted refl
+    (metadata_reads run.charset run.description.now.room c.gather.new.area run.description.now h k tokens run.progress gives.0 (seen g.R.Read.remaining run.payload.now) (seen g.R.Read.remaining c.gather.new.payload) run.payload.now.place c.gather.new.payload.place tracks holds
+    (description_shows run.description.now.room gives.0 c.gather.new.area.bytes gives.4).0 gives.2 puts)

@@ -4,11 +4,12 @@ use Rattle.tds_packet.specs.Payloads.{seen}
 use Rattle.tds_csv.specs.Sinks.{held}
 use Rattle.tds_export.specs.Steps.{in_status}
 use Rattle.tds_export.proofs.TokenSteps.{status_reads, stops_reading, token_cut}
+use Rattle.tds_export.proofs.NoticeSteps.{quietly}
 use Rattle.tds_packet.proofs.Passing.{passed}
 use Rattle.tds_export.proofs.exporter.Exporter.return_status.Goals as goal
 
 pub returns-in_err-fill-clause-gives : goal.returns-in_err-fill-clause-gives
-returns-in_err-fill-clause-gives g c = λ tokens tracks holds.
+returns-in_err-fill-clause-gives g c = λ tokens tracks holds noted.
     let run = c.args.self.now in
     let sink = held g.W.Write.contents run.sink.now in
     let room = run.description.now.room in
@@ -22,11 +23,12 @@ returns-in_err-fill-clause-gives g c = λ tokens tracks holds.
     (token_cut run.charset room (in_status tokens) a b run.payload.now.place 4 part.0 c.fill.new.to part.1 c.in_err-fill.field-0.0 refl refl (omega (arith, less, four)) four part.3 part.4))
 
 pub returns-clause-gives : goal.returns-clause-gives
-returns-clause-gives g c = λ tokens tracks holds.
+returns-clause-gives g c = λ tokens tracks holds noted.
     let run = c.args.self.now in
     let a = seen g.R.Read.remaining run.payload.now in
     let b = seen g.R.Read.remaining c.fill.new.self in
     let four : length c.fill.new.to ≡ 4 = search rules in
     let kept : cast_signed w32 (cast_unsigned w32 c.read_i32-status.result) ≡ c.read_i32-status.result = search rules in
-    status_reads run.charset run.description.now.room run.description.now (held g.W.Write.contents run.sink.now) tokens run.progress (cast_signed w32 (cast_unsigned w32 c.read_i32-status.result)) c.fill.new.to a b run.payload.now.place c.fill.new.self.place c.in_ok-fill.ensures.place
-    c.requires.running.sink.ready.2 tracks holds four (kept ∙ c.read_i32-status.ensures) c.in_ok-fill.ensures.all
+    quietly _ _ _ _ _ _ _ _ _ _ _ _ run.notice.now tracks noted refl
+    (status_reads run.charset run.description.now.room run.description.now (held g.W.Write.contents run.sink.now) tokens run.progress (cast_signed w32 (cast_unsigned w32 c.read_i32-status.result)) c.fill.new.to a b run.payload.now.place c.fill.new.self.place c.in_ok-fill.ensures.place
+    c.requires.running.sink.ready.2 tracks holds four (kept ∙ c.read_i32-status.ensures) c.in_ok-fill.ensures.all)

@@ -1,6 +1,7 @@
-use Rattle.std.proofs.Common.{◌∙◌, ◌<◌, length, ap, subst, sym}
+use Rattle.std.proofs.Common.{◌∙◌, ◌<◌, length, ap, subst, sym, refl}
 use Rattle.tds_columns.specs.View.{columns_of}
 use Rattle.tds_packet.specs.Payloads.{seen}
+use Rattle.tds_export.proofs.NoticeSteps.{quietly}
 use Rattle.tds_packet.proofs.Passing.{passed}
 use Rattle.tds_csv.specs.Sinks.{held}
 use Rattle.tds_rows.specs.RowSteps.{ReadsRows, RowsStop}
@@ -9,7 +10,7 @@ use Rattle.tds_export.proofs.TokenBytes.{some_columns}
 use Rattle.tds_export.proofs.exporter.Exporter.rows.Goals as goal
 
 pub returns-in_err-count-clause-gives : goal.returns-in_err-count-clause-gives
-returns-in_err-count-clause-gives g c = λ tokens tracks holds.
+returns-in_err-count-clause-gives g c = λ tokens tracks holds noted.
     let run = c.args.self.now in
     let columns = columns_of run.description.now.bytes in
     let a = seen g.R.Read.remaining run.payload.now in
@@ -23,7 +24,7 @@ returns-in_err-count-clause-gives g c = λ tokens tracks holds.
     (subst (λ cs. RowsStop run.charset cs a b run.payload.now.place h k failed stop) is c.in_err-count.ensures.gives))
 
 pub returns-clause-gives : goal.returns-clause-gives
-returns-clause-gives g c = λ tokens tracks holds.
+returns-clause-gives g c = λ tokens tracks holds noted.
     let run = c.args.self.now in
     let columns = columns_of run.description.now.bytes in
     let a = seen g.R.Read.remaining run.payload.now in
@@ -34,8 +35,9 @@ returns-clause-gives g c = λ tokens tracks holds.
     let place' = c.read_rows.new.payload.place in
     let count = c.in_ok-count.count in
     let is = ap columns_of (c.view-columns.ensures ∙ c.bytes.ensures.value) in
-    rows_read run.charset run.description.now.room columns run.description.now h k tokens a b place (columns_known tokens run.progress.described run.description.now.bytes c.requires.described holds.bytes tracks.described) holds run.progress place' count tracks
-    (subst (λ cs. ReadsRows run.charset cs count a b place place' h k) is c.in_ok-count.ensures.gives)
+    quietly _ _ _ _ _ _ _ _ _ _ _ _ run.notice.now tracks noted refl
+    (rows_read run.charset run.description.now.room columns run.description.now h k tokens a b place (columns_known tokens run.progress.described run.description.now.bytes c.requires.described holds.bytes tracks.described) holds run.progress place' count tracks
+    (subst (λ cs. ReadsRows run.charset cs count a b place place' h k) is c.in_ok-count.ensures.gives))
 
 pub read_rows-requires-clause-some : goal.read_rows-requires-clause-some
 read_rows-requires-clause-some g c =

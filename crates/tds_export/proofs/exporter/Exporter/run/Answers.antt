@@ -7,12 +7,14 @@ use Rattle.tds_export.proofs.exporter.Exporter.run.Goals as goal
 pub tokens-init : goal.tokens-init
 tokens-init g c = record {
   running = c.requires;
-  same = (refl, refl, refl, refl);
+  same = (refl, refl, refl, refl, refl, refl);
   same_payload = (refl, refl, refl, refl);
   same_sink = (refl, refl, refl);
   room = refl;
+  token = refl;
+  notice = refl;
   forward = omega arith;
-  runs = λ tracks empty. runs_none _ _ _ _ _ _ _ c.requires.sink.ready.2 tracks empty;
+  runs = λ tracks empty noted. (runs_none _ _ _ _ _ _ _ c.requires.sink.ready.2 tracks empty, noted);
 }
 
 pub tokens-preserved : goal.tokens-preserved
@@ -22,46 +24,48 @@ tokens-preserved g c = record {
   same_payload = search rules;
   same_sink = search rules;
   room = c.in_ok-token.ensures.leaves.room ∙ c.tokens.invariant.room;
+  token = c.in_ok-token.ensures.leaves.token ∙ c.tokens.invariant.token;
+  notice = c.in_ok-token.ensures.leaves.notice ∙ c.tokens.invariant.notice;
   forward = omega (arith, c.tokens.invariant.forward, c.in_ok-token.ensures.leaves.forward);
-  runs = λ tracks empty.
-      let x = c.tokens.invariant.runs tracks empty in
-      let y = rw c.if-branch.true at (c.in_ok-token.ensures.gives x.tokens x.tracks x.holds) in
-      runs_on _ _ _ _ _ _ _ _ _ _ _ _ _ _ _ _ _ c.tokens.invariant.same.3 c.tokens.invariant.room x y;
+  runs = λ tracks empty noted.
+      let x = c.tokens.invariant.runs tracks empty noted in
+      let y = rw c.if-branch.true at (c.in_ok-token.ensures.gives x.0.tokens x.0.tracks x.0.holds x.1) in
+      runs_on _ _ _ _ _ _ _ _ _ _ _ _ _ _ _ _ _ c.token.new.self.notice.now c.tokens.invariant.same.5 c.tokens.invariant.room x.0 y;
 }
 
 pub returns-in_err-token-clause-gives : goal.returns-in_err-token-clause-gives
-returns-in_err-token-clause-gives g c = λ tracks empty.
-    let x = c.tokens.invariant.runs tracks empty in
-    let y = c.in_err-token.ensures.gives x.tokens x.tracks x.holds in
-    passed _ _ _ _ c.from_residual.ensures.1 (inl (stops_on _ _ _ _ _ _ _ _ _ _ _ _ _ _ _ _ _ c.tokens.invariant.same.3 c.tokens.invariant.room x y))
+returns-in_err-token-clause-gives g c = λ tracks empty noted.
+    let x = c.tokens.invariant.runs tracks empty noted in
+    let y = c.in_err-token.ensures.gives x.0.tokens x.0.tracks x.0.holds x.1 in
+    passed _ _ _ _ c.from_residual.ensures.1 (inl (stops_on _ _ _ _ _ _ _ _ _ _ _ _ _ _ _ _ _ c.tokens.invariant.same.5 c.tokens.invariant.room x.0 y))
 
 pub returns-then-not-self-clause-gives : goal.returns-then-not-self-clause-gives
-returns-then-not-self-clause-gives g c = λ tracks empty.
-    let first = c.tokens.invariant.runs tracks empty in
-    let y = rw c.if-branch.false at (c.in_ok-token.ensures.gives first.tokens first.tracks first.holds) in
-    let x = runs_same _ _ _ _ _ _ _ _ _ _ _ _ _ y.place (ap (held g.W.Write.contents) y.sink) y.progress y.area first in
+returns-then-not-self-clause-gives g c = λ tracks empty noted.
+    let first = c.tokens.invariant.runs tracks empty noted in
+    let y = rw c.if-branch.false at (c.in_ok-token.ensures.gives first.0.tokens first.0.tracks first.0.holds first.1) in
+    let x = runs_same _ _ _ _ _ _ _ _ _ _ _ _ _ c.tokens.self.notice.now c.token.new.self.notice.now y.place (ap (held g.W.Write.contents) y.sink) y.progress y.area y.notice first in
     let open_end : c.token.new.self.progress.is_final ≡ false = search rules in
     let sink = c.in_ok-token.ensures.leaves.running.sink in
-    let stops = stops_end c.args.self.now.charset c.args.self.now.description.now.room _ _ _ _ _ _ _ _ _ x y.takes y.over _ sink.writing sink.ready.2 open_end in
+    let stops = stops_end c.args.self.now.charset c.args.self.now.description.now.room _ _ _ _ _ _ _ _ _ x.0 y.takes y.over _ sink.writing sink.ready.2 open_end in
     rw c.place.ensures (inl stops)
 
 pub returns-in_err-finish-clause-gives : goal.returns-in_err-finish-clause-gives
-returns-in_err-finish-clause-gives g c = λ tracks empty.
-    let first = c.tokens.invariant.runs tracks empty in
-    let y = rw c.if-branch.false at (c.in_ok-token.ensures.gives first.tokens first.tracks first.holds) in
-    let x = runs_same _ _ _ _ _ _ _ _ _ _ _ _ _ y.place (ap (held g.W.Write.contents) y.sink) y.progress y.area first in
+returns-in_err-finish-clause-gives g c = λ tracks empty noted.
+    let first = c.tokens.invariant.runs tracks empty noted in
+    let y = rw c.if-branch.false at (c.in_ok-token.ensures.gives first.0.tokens first.0.tracks first.0.holds first.1) in
+    let x = runs_same _ _ _ _ _ _ _ _ _ _ _ _ _ c.tokens.self.notice.now c.token.new.self.notice.now y.place (ap (held g.W.Write.contents) y.sink) y.progress y.area y.notice first in
     let final : c.token.new.self.progress.is_final ≡ true = search rules in
-    let fails = stops_at_end c.args.self.now.charset c.args.self.now.description.now.room _ _ _ _ _ _ _ _ _ x y.takes y.over _ _ final (c.in_err-finish.ensures.gives c.in_ok-token.ensures.leaves.running.sink.writing) in
+    let fails = stops_at_end c.args.self.now.charset c.args.self.now.description.now.room _ _ _ _ _ _ _ _ _ x.0 y.takes y.over _ _ final (c.in_err-finish.ensures.gives c.in_ok-token.ensures.leaves.running.sink.writing) in
     passed _ _ _ _ c.from_residual-in_err-finish.ensures.1 (inr (fails, c.in_err-finish.ensures.failed))
 
 pub returns-clause-gives : goal.returns-clause-gives
-returns-clause-gives g c = λ tracks empty.
-    let first = c.tokens.invariant.runs tracks empty in
-    let y = rw c.if-branch.false at (c.in_ok-token.ensures.gives first.tokens first.tracks first.holds) in
-    let x = runs_same _ _ _ _ _ _ _ _ _ _ _ _ _ y.place (ap (held g.W.Write.contents) y.sink) y.progress y.area first in
+returns-clause-gives g c = λ tracks empty noted.
+    let first = c.tokens.invariant.runs tracks empty noted in
+    let y = rw c.if-branch.false at (c.in_ok-token.ensures.gives first.0.tokens first.0.tracks first.0.holds first.1) in
+    let x = runs_same _ _ _ _ _ _ _ _ _ _ _ _ _ c.tokens.self.notice.now c.token.new.self.notice.now y.place (ap (held g.W.Write.contents) y.sink) y.progress y.area y.notice first in
     let final : c.token.new.self.progress.is_final ≡ true = search rules in
     let is = ap (λ n. record c.token.new.self.progress.report { written = n }) c.delivered.ensures in
-    completes c.args.self.now.charset c.args.self.now.description.now.room _ _ _ _ _ _ _ _ _ x y.takes y.over (held g.W.Write.contents c.finish.new.self) _ final c.in_ok-finish.ensures.gives is
+    (completes c.args.self.now.charset c.args.self.now.description.now.room _ _ _ _ _ _ _ _ _ x.0 y.takes y.over (held g.W.Write.contents c.finish.new.self) _ final c.in_ok-finish.ensures.gives is, x.1)
 
 pub returns-clause-leaves : goal.returns-clause-leaves
 returns-clause-leaves g c =
@@ -71,11 +75,19 @@ returns-clause-leaves g c =
       payload = record { sound = running.payload.sound; same = search rules; going = running.payload.going };
       sink = record { ready = c.in_ok-finish.ensures.ready; same = search rules; writing = c.in_ok-finish.ensures.failed };
       room = c.in_ok-token.ensures.leaves.room ∙ c.tokens.invariant.room;
+      token = c.in_ok-token.ensures.leaves.token ∙ c.tokens.invariant.token;
+      notice = c.in_ok-token.ensures.leaves.notice ∙ c.tokens.invariant.notice;
+      token_peak = running.token_peak;
+      notice_peak = running.notice_peak;
       forward = omega (arith, c.tokens.invariant.forward, c.in_ok-token.ensures.leaves.forward);
       running = record {
         payload = running.payload;
         sink = record { ready = c.in_ok-finish.ensures.ready; writing = c.in_ok-finish.ensures.failed };
         room = running.room;
+        token = running.token;
+        token_peak = running.token_peak;
+        notice = running.notice;
+        notice_peak = running.notice_peak;
         counted = running.counted;
         described = running.described;
       };

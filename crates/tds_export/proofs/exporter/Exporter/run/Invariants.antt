@@ -4,7 +4,7 @@ use Rattle.tds_packet.specs.Payloads.{IsOnSame, seen}
 use Rattle.tds_csv.specs.Sinks.{IsOnSameSink, held}
 use Rattle.tds_export.specs.Exporters.{IsOnSameRun, IsRunning}
 use Rattle.tds_export.specs.TokenGrammar.{response}
-use Rattle.tds_export.specs.Steps.{Tracks}
+use Rattle.tds_export.specs.Steps.{IsNoted, Tracks}
 use Rattle.tds_export.proofs.RunSteps.{Runs}
 use Rattle.tds_export.proofs.exporter.Exporter.run.Given as goal
 
@@ -15,10 +15,12 @@ invariant-tokens g l = record {
   same_payload : IsOnSame l.initial.self.payload.now l.self.payload.now;
   same_sink : IsOnSameSink l.initial.self.sink.now l.self.sink.now;
   room : l.self.description.now.room ≡ l.initial.self.description.now.room;
+  token : l.self.token.now.room ≡ l.initial.self.token.now.room;
+  notice : l.self.notice.now.room ≡ l.initial.self.notice.now.room;
   forward : l.initial.self.payload.now.place ≤ l.self.payload.now.place;
-  runs : Tracks l.initial.self.progress [] → l.initial.self.description.now ≡ empty l.initial.self.description.now.room →
-      Runs (response l.initial.self.charset l.initial.self.description.now.room) (seen g.R.Read.remaining l.initial.self.payload.now) (seen g.R.Read.remaining l.self.payload.now) l.initial.self.payload.now.place l.self.payload.now.place
-      (held g.W.Write.contents l.initial.self.sink.now) (held g.W.Write.contents l.self.sink.now) l.self.progress l.self.description.now;
+  runs : Tracks l.initial.self.progress [] → l.initial.self.description.now ≡ empty l.initial.self.description.now.room → IsNoted l.initial.self.notice.now [] →
+      (x : Runs (response l.initial.self.charset l.initial.self.description.now.room) (seen g.R.Read.remaining l.initial.self.payload.now) (seen g.R.Read.remaining l.self.payload.now) l.initial.self.payload.now.place l.self.payload.now.place
+      (held g.W.Write.contents l.initial.self.sink.now) (held g.W.Write.contents l.self.sink.now) l.self.progress l.self.description.now) × IsNoted l.self.notice.now x.tokens;
 }
 
 abbrev pub decreases-tokens : goal.decreases-tokens

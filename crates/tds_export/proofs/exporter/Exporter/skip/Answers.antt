@@ -4,11 +4,12 @@ use Rattle.tds_csv.specs.Sinks.{held}
 use Rattle.tds_export.specs.Steps.{in_length}
 use Rattle.tds_export.proofs.Bodies.{body_reads, body_stops}
 use Rattle.tds_export.proofs.TokenSteps.{stops_reading, token_cut}
+use Rattle.tds_export.proofs.NoticeSteps.{quietly}
 use Rattle.tds_packet.proofs.Passing.{passed}
 use Rattle.tds_export.proofs.exporter.Exporter.skip.Goals as goal
 
 pub returns-in_err-fill-clause-gives : goal.returns-in_err-fill-clause-gives
-returns-in_err-fill-clause-gives g c = λ which quiet tokens tracks holds.
+returns-in_err-fill-clause-gives g c = λ which quiet tokens tracks holds noted.
     let run = c.args.self.now in
     let sink = held g.W.Write.contents run.sink.now in
     let room = run.description.now.room in
@@ -22,7 +23,7 @@ returns-in_err-fill-clause-gives g c = λ which quiet tokens tracks holds.
     (token_cut run.charset room (in_length which tokens) a b run.payload.now.place 2 part.0 c.fill.new.to part.1 c.in_err-fill.field-0.0 refl refl (omega (arith, less, two)) two part.3 part.4))
 
 pub returns-in_err-pass-clause-gives : goal.returns-in_err-pass-clause-gives
-returns-in_err-pass-clause-gives g c = λ which quiet tokens tracks holds.
+returns-in_err-pass-clause-gives g c = λ which quiet tokens tracks holds noted.
     let run = c.args.self.now in
     let sink = held g.W.Write.contents run.sink.now in
     let a = seen g.R.Read.remaining run.payload.now in
@@ -35,7 +36,7 @@ returns-in_err-pass-clause-gives g c = λ which quiet tokens tracks holds.
     running.sink.ready.2 running.sink.writing holds c.in_ok-fill.ensures.all cut.fewer cut.ends cut.stop_is)
 
 pub returns-clause-gives : goal.returns-clause-gives
-returns-clause-gives g c = λ which quiet tokens tracks holds.
+returns-clause-gives g c = λ which quiet tokens tracks holds noted.
     let run = c.args.self.now in
     let sink = held g.W.Write.contents run.sink.now in
     let a = seen g.R.Read.remaining run.payload.now in
@@ -43,5 +44,6 @@ returns-clause-gives g c = λ which quiet tokens tracks holds.
     let d = seen g.R.Read.remaining c.pass.new.self in
     let two : length c.fill.new.to ≡ 2 = search rules in
     let all = c.in_ok-pass.ensures.all in
-    body_reads run.charset run.description.now.room tokens which quiet run.description.now sink run.progress c.fill.new.to all.bytes c.from.result a b d run.payload.now.place c.fill.new.self.place c.pass.new.self.place two (c.from.ensures ∙ c.read_u16-length.ensures) all.counted c.in_ok-fill.ensures.place c.in_ok-pass.ensures.place
-    c.requires.running.sink.ready.2 tracks holds c.in_ok-fill.ensures.all all.takes
+    quietly _ _ _ _ _ _ _ _ _ _ _ _ run.notice.now tracks noted refl
+    (body_reads run.charset run.description.now.room tokens which quiet run.description.now sink run.progress c.fill.new.to all.bytes c.from.result a b d run.payload.now.place c.fill.new.self.place c.pass.new.self.place two (c.from.ensures ∙ c.read_u16-length.ensures) all.counted c.in_ok-fill.ensures.place c.in_ok-pass.ensures.place
+    c.requires.running.sink.ready.2 tracks holds c.in_ok-fill.ensures.all all.takes)

@@ -9,30 +9,31 @@ use Rattle.tds_packet.proofs.Passing.{passed}
 use Rattle.tds_export.proofs.exporter.Exporter.token.Goals as goal
 
 pub returns-in_err-byte-clause-gives : goal.returns-in_err-byte-clause-gives
-returns-in_err-byte-clause-gives g c = λ tokens tracks holds.
+returns-in_err-byte-clause-gives g c = λ tokens tracks holds noted.
     let sink = c.requires.sink in
     passed _ _ _ _ c.from_residual.ensures.1 (stops_between _ _ tokens _ _ _ _ _ _ _ sink.ready.2 sink.writing holds c.in_err-byte.ensures.gives.0 c.in_err-byte.ensures.gives.1)
 
 -- ---- a token
 
 pub returns-in_ok-body-in-Ok-clause-gives : goal.returns-in_ok-body-in-Ok-clause-gives
-returns-in_ok-body-in-Ok-clause-gives g c = λ tokens tracks holds.
+returns-in_ok-body-in-Ok-clause-gives g c = λ tokens tracks holds noted.
     let run = c.args.self.now in
     let read = rw c.in-Some.is at c.in_ok-byte.ensures.gives in
     let begins = begins_kind run.charset run.description.now.room tokens c.in-Some.byte run.progress.described run.description.now.bytes c.in-Ok.kind c.in-Ok.ensures holds.bytes c.requires.described tracks.described in
-    reads_behind_byte _ _ _ _ _ begins _ _ _ _ _ _ _ _ _ _ read.takes read.place_is (c.in_ok-body-in-Ok.ensures.gives tokens tracks holds)
+    let x = c.in_ok-body-in-Ok.ensures.gives tokens tracks holds noted in
+    (reads_behind_byte _ _ _ _ _ begins _ _ _ _ _ _ _ _ _ _ read.takes read.place_is x.0, x.1)
 
 pub returns-in_err-body-in-Ok-clause-gives : goal.returns-in_err-body-in-Ok-clause-gives
-returns-in_err-body-in-Ok-clause-gives g c = λ tokens tracks holds.
+returns-in_err-body-in-Ok-clause-gives g c = λ tokens tracks holds noted.
     let run = c.args.self.now in
     let read = rw c.in-Some.is at c.in_ok-byte.ensures.gives in
     let begins = begins_kind run.charset run.description.now.room tokens c.in-Some.byte run.progress.described run.description.now.bytes c.in-Ok.kind c.in-Ok.ensures holds.bytes c.requires.described tracks.described in
-    passed _ _ _ _ c.from_residual-in_err-body-in-Ok.ensures.1 (stops_behind_byte _ _ _ _ _ begins _ _ _ _ _ _ _ _ _ _ read.takes read.place_is (c.in_err-body-in-Ok.ensures.gives tokens tracks holds))
+    passed _ _ _ _ c.from_residual-in_err-body-in-Ok.ensures.1 (stops_behind_byte _ _ _ _ _ begins _ _ _ _ _ _ _ _ _ _ read.takes read.place_is (c.in_err-body-in-Ok.ensures.gives tokens tracks holds noted))
 
 -- ---- a byte that begins no token
 
 pub returns-in-Err-clause-gives : goal.returns-in-Err-clause-gives
-returns-in-Err-clause-gives g c = λ tokens tracks holds.
+returns-in-Err-clause-gives g c = λ tokens tracks holds noted.
     let run = c.args.self.now in
     let sink = c.requires.sink in
     let h = held g.W.Write.contents run.sink.now in

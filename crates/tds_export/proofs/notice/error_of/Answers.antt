@@ -1,0 +1,16 @@
+use Rattle.std.specs.Int.{cast_signed, cast_unsigned, w32}
+use Rattle.std.proofs.Common.{◌≡◌, ◌∙◌, ◌-◌, length, length-drop, take, take_all, drop, ap, arith, rules}
+use Rattle.byteorder.specs.Endian.{little_number}
+use Rattle.tds_export.proofs.NoticeReading.{error_is, parts_within}
+use Rattle.tds_export.proofs.notice.error_of.Goals as goal
+
+pub returns : goal.returns
+returns c =
+    let number : cast_signed w32 (cast_unsigned w32 c.read_i32-number.result) ≡ c.read_i32-number.result = search rules in
+    let body = c.args.body.now in
+    let at = c.line.result in
+    let rest : take (length body - at) (drop at body) ≡ drop at body = take_all (length body - at) (drop at body) (omega (arith, length-drop at body)) in
+    let kept : cast_signed w32 (cast_unsigned w32 c.read_i32-line.result) ≡ c.read_i32-line.result = search rules in
+    let line : cast_signed w32 (cast_unsigned w32 c.read_i32-line.result) ≡ cast_signed w32 (little_number 4 (drop at body)) = kept ∙ c.read_i32-line.ensures ∙ ap (λ l. cast_signed w32 (little_number 4 l)) rest in
+    error_is c.args.body.now (cast_signed w32 (cast_unsigned w32 c.read_i32-number.result)) (cast_signed w32 (cast_unsigned w32 c.read_i32-line.result)) c.line.result c.requires.long c.line.ensures (parts_within c.args.body.now c.requires.holds).2
+    (number ∙ c.read_i32-number.ensures) line

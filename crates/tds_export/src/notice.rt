@@ -1,0 +1,120 @@
+// The bodies of ERROR and INFO (MS-TDS, ERROR and INFO).
+ghost use Rattle.std.specs.Prelude.{◌≡◌, ◌+◌, ◌%◌, ◌<◌, ◌≤◌, true, length, OnOk};
+ghost use Rattle.tds_export.specs.Noticing.{NoticeRead};
+ghost use Rattle.tds_export.specs.Outcome.{server_error};
+ghost use Rattle.tds_export.specs.TokenGrammar.{holds_notice, line_at, notice_of, procedure_at, server_at};
+ghost use Rattle.tds_packet.specs.Payloads.{IsGoing, LeavesPayload};
+
+use crate::report::ServerError;
+use byteorder::{ByteOrder, LittleEndian};
+use std::io::Read;
+use tds_columns::take_into;
+use tds_meter::Area;
+use tds_packet::{Fault, Payload, Place, Stop};
+
+/// The least number of bytes that the Length of an ERROR or INFO counts.
+pub(crate) const LEAST_NOTICE: u16 = 14;
+
+// Where the message ends, and the server's name begins with the byte that counts its units.
+fn server(body: &[u8]) -> usize
+    requires { 8 ≤ length body.now }
+    ensures { result ≡ server_at body.now }
+{
+    8 + 2 * usize::from(LittleEndian::read_u16(&body[6..]))
+}
+
+// Where the procedure's name begins with the byte that counts its units.
+fn procedure(body: &[u8]) -> usize
+    requires long { 8 ≤ length body.now }
+    requires within { server_at body.now < length body.now }
+    ensures { result ≡ procedure_at body.now }
+{
+    let at = server(body);
+    at + 1 + 2 * usize::from(body[at])
+}
+
+// Where the line number begins.
+fn line(body: &[u8]) -> usize
+    requires long { 8 ≤ length body.now }
+    requires server { server_at body.now < length body.now }
+    requires procedure { procedure_at body.now < length body.now }
+    ensures { result ≡ line_at body.now }
+{
+    let at = procedure(body);
+    at + 1 + 2 * usize::from(body[at])
+}
+
+/// Whether the inner lengths of a body stay within it.
+pub(crate) fn holds(body: &[u8]) -> bool
+    requires { LEAST_NOTICE ≤ length body.now }
+    ensures { result ≡ holds_notice body.now }
+{
+    if server(body) >= body.len() {
+        return false;
+    }
+    if procedure(body) >= body.len() {
+        return false;
+    }
+    line(body) + 4 <= body.len()
+}
+
+/// What a body says of an error, but for its message.
+pub(crate) fn error_of(body: &[u8]) -> ServerError
+    requires long { LEAST_NOTICE ≤ length body.now }
+    requires holds { holds_notice body.now ≡ true }
+    ensures { result ≡ server_error (notice_of body.now) }
+{
+    let number = LittleEndian::read_i32(body);
+    let line = LittleEndian::read_i32(&body[line(body)..]);
+    ServerError {
+        number,
+        state: body[4],
+        class: body[5],
+        line,
+    }
+}
+
+/// The units of a body's message, where they lie.
+pub(crate) fn message_of(body: &[u8]) -> &[u8]
+    requires long { LEAST_NOTICE ≤ length body.now }
+    requires holds { holds_notice body.now ≡ true }
+    ensures value { result.now ≡ (notice_of body.now).message }
+    ensures even { length result.now % 2 ≡ 0 }
+{
+    &body[8..server(body)]
+}
+
+/// Reads the Length and the body of an ERROR or INFO behind its token byte. The body stands in the
+/// token area, and its inner lengths stay within it.
+pub(crate) fn take_notice<R: Read>(payload: &mut Payload<R>, token: &mut Area) -> Result<(), Stop>
+    requires going { IsGoing payload.old }
+    requires room { 65535 ≤ token.old.room }
+    ensures leaves { LeavesPayload payload.old payload.new result }
+    ensures room { token.new.room ≡ token.old.room }
+    ensures peak { token.new.peak ≤ token.new.room }
+    ensures forward { OnOk result (payload.old.place < payload.new.place) }
+    ensures long { OnOk result (LEAST_NOTICE ≤ length token.new.bytes) }
+    ensures holds { OnOk result (holds_notice token.new.bytes ≡ true) }
+    ensures gives { NoticeRead R.remaining payload.old payload.new token.new.bytes result }
+{
+    token.clear();
+    let place = payload.place();
+    let mut length = [0u8; 2];
+    payload.fill(&mut length)?;
+    let length = LittleEndian::read_u16(&length);
+    if length < LEAST_NOTICE {
+        return Err(Stop {
+            fault: Fault::BadNotice,
+            place: Place::Payload(place),
+        });
+    }
+    let place = payload.place();
+    take_into(payload, token, usize::from(length))?;
+    if !holds(token.bytes()) {
+        return Err(Stop {
+            fault: Fault::BadNotice,
+            place: Place::Payload(place),
+        });
+    }
+    Ok(())
+}
