@@ -93,7 +93,7 @@ fn gather_counted<R: Read>(
 }
 
 // Reads a cell of a scalar kind to the front of a slice.
-fn gather_scalar<R: Read>(
+pub(crate) fn gather_scalar<R: Read>(
     payload: &mut Payload<R>,
     kind: &Kind,
     column: u16,

@@ -13,6 +13,8 @@ use tds_meter::Area;
 use tds_packet::rig::{Failing, ScriptedReader, ScriptedWriter};
 use tds_packet::{Counted, Fault, Payload, Place, Stop};
 
+mod passed;
+
 const INT4: &[u8] = &[0x38];
 
 const MONEY: &[u8] = &[0x3C];

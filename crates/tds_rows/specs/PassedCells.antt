@@ -1,0 +1,104 @@
+-- What passing over the value of a RETURNVALUE does.
+use Rattle.std.specs.Prelude.{◌≡◌, ℕ, ◌+◌, ◌-◌, ◌%◌, ◌<◌, ◌==◌, true, false, is_ok, List, length, Option, Result, MatchResult, if◌then◌else◌}
+use Rattle.tds_packet.specs.declared.fault.Fault.{Fault}
+use Rattle.tds_packet.specs.declared.fault.Stop.{Stop}
+use Rattle.tds_packet.specs.Elements.{Grammar}
+use Rattle.tds_packet.specs.declared.payload.Payload as payloads
+use Rattle.tds_packet.specs.Payloads.{seen}
+use Rattle.tds_packet.specs.Reading.{Reads, StopsReading}
+use Rattle.tds_packet.specs.Seen.{Seen, Takes, Ends, IsBetween, began_at}
+use Rattle.tds_csv.specs.Conversion.{Conversion, is_begun, is_fit, unit}
+use Rattle.tds_values.specs.declared.kind.Kind.{Kind}
+use Rattle.tds_values.specs.Scalar.{read_of}
+use Rattle.tds_rows.specs.CellSteps.{value_bytes, value_length}
+use Rattle.tds_rows.specs.Cells.{Cell, CellPart, ChunkData, ChunkLength, DataCell, ShortData, WholeCell, cell}
+
+-- the column that stands for the value of a RETURNVALUE
+abbrev pub return_column : ℕ
+return_column = 65535
+
+-- how such a value is read
+abbrev pub return_cell : Grammar CellPart Fault
+return_cell = cell return_column
+
+-- Any bytes may be such data, in units of so many.
+pub record AnyData (c : Conversion) (size : ℕ) : Type 0 where
+  pub begun : (bytes : List ℕ) → is_begun c bytes ≡ true
+  pub fit : (bytes : List ℕ) → length bytes % size ≡ 0 → is_fit c bytes ≡ true
+  pub unit_is : unit c ≡ size
+
+-- The value of a scalar cell of these bytes is out of range.
+abbrev pub IsRefusedValue : Kind → List ℕ → Type 0
+IsRefusedValue kind bytes = (0 < value_length kind bytes) × (is_ok (read_of kind (value_bytes kind bytes)) ≡ false)
+
+-- It is NULL, or in range.
+abbrev pub IsGoodValue : Kind → List ℕ → Type 0
+IsGoodValue kind bytes = 0 < value_length kind bytes → is_ok (read_of kind (value_bytes kind bytes)) ≡ true
+
+-- So many bytes were handed out.
+pub record PassesData (n : ℕ) (old new : Seen) (place place' : ℕ) : Type 0 where
+  pub bytes : List ℕ
+  pub counted : length bytes ≡ n
+  pub takes : Takes old new bytes n
+  pub between : IsBetween new
+  pub place_is : place' ≡ place + n
+
+-- The payload stopped before so many bytes; where the message ended, the stop stands at the byte that is missing.
+pub record CutsData (n : ℕ) (old new : Seen) (place : ℕ) (stop : Stop) : Type 0 where
+  pub bytes : List ℕ
+  pub own : Stop
+  pub fewer : length bytes < n
+  pub ends : Ends old new bytes own
+  pub stop_is : stop ≡ began_at (place + length bytes) own
+
+-- So many bytes were handed out, or the payload stopped before.
+abbrev pub DataPassed : {R U : Type 0} → (R → Option (List ℕ)) → ℕ → payloads.Payload R → payloads.Payload R → Result U Stop → Type 0
+DataPassed remaining n old new result = MatchResult result
+    (λ _. PassesData n (seen remaining old) (seen remaining new) old.place new.place)
+    (λ stop. CutsData n (seen remaining old) (seen remaining new) old.place stop)
+
+-- As many bytes as the answer says were handed out, or the payload stopped before the first.
+abbrev pub PiecePassed : {R : Type 0} → (R → Option (List ℕ)) → payloads.Payload R → payloads.Payload R → Result ℕ Stop → Type 0
+PiecePassed remaining old new result = MatchResult result
+    (λ n. PassesData n (seen remaining old) (seen remaining new) old.place new.place)
+    (λ stop. CutsData 1 (seen remaining old) (seen remaining new) old.place stop)
+
+-- Whole elements of a value were read without a fault, which lead from one state to another.
+pub record StepsOver (from to : CellPart) (old new : Seen) (place place' : ℕ) : Type 0 where
+  pub reads : Reads return_cell from old new to
+  pub between : IsBetween new
+  pub place_is : place' ≡ place + length reads.bytes
+
+-- Reading a value stopped: at the first fault of an element, or as the payload does.
+pub record StopsPassing (from : CellPart) (old new : Seen) (place : ℕ) (stop : Stop) : Type 0 where
+  pub at : CellPart
+  pub stops : StopsReading return_cell from old new place at stop
+
+-- A whole value was read, and no byte behind it.
+pub record PassesCell (from : CellPart) (old new : Seen) (place place' : ℕ) : Type 0 where
+  pub value : Cell
+  pub steps : StepsOver from (WholeCell value) old new place place'
+
+-- Elements were read up to a state that the answer names, or the reading stopped.
+abbrev pub PartPassed : {R U : Type 0} → (R → Option (List ℕ)) → CellPart → (U → CellPart) → payloads.Payload R → payloads.Payload R → Result U Stop → Type 0
+PartPassed remaining from to old new result = MatchResult result
+    (λ answer. StepsOver from (to answer) (seen remaining old) (seen remaining new) old.place new.place)
+    (λ stop. StopsPassing from (seen remaining old) (seen remaining new) old.place stop)
+
+-- A value was read from this state on, or the reading stopped.
+abbrev pub CellPassed : {R U : Type 0} → (R → Option (List ℕ)) → CellPart → payloads.Payload R → payloads.Payload R → Result U Stop → Type 0
+CellPassed remaining from old new result = MatchResult result
+    (λ _. PassesCell from (seen remaining old) (seen remaining new) old.place new.place)
+    (λ stop. StopsPassing from (seen remaining old) (seen remaining new) old.place stop)
+
+-- within a short value: so many bytes follow its data so far
+abbrev pub short_left : Conversion → ℕ → List ℕ → CellPart
+short_left c left content = if left == 0 then WholeCell (DataCell c content) else ShortData c (left - 1) content
+
+-- within a chunk: so many bytes follow the data so far
+abbrev pub chunk_left : Conversion → Option ℕ → ℕ → List ℕ → CellPart
+chunk_left c total left content = if left == 0 then ChunkLength c total content else ChunkData c total (left - 1) content
+
+-- behind the length of a chunk; 0 is the terminator
+abbrev pub behind_length : Conversion → Option ℕ → List ℕ → ℕ → CellPart
+behind_length c total content n = if n == 0 then WholeCell (DataCell c content) else ChunkData c total (n - 1) content

@@ -1,0 +1,160 @@
+// The value of a RETURNVALUE, which is passed over (MS-TDS, RETURNVALUE).
+ghost use Rattle.std.specs.Prelude.{◌≡◌, ◌≤◌, ◌<◌, true, false, length, None, Err, IfOk, IfSome, IsTrue};
+ghost use Rattle.tds_csv.specs.Conversion.{Conversion};
+ghost use Rattle.tds_packet.specs.Payloads.{IsGoing, IsSound, LeavesPayload};
+ghost use Rattle.tds_rows.specs.Cells.{LongShape, ShortLength, cell_start, return_charset, shape};
+ghost use Rattle.tds_rows.specs.CellSteps.{scalar_size};
+ghost use Rattle.tds_rows.specs.PassedCells.{AnyData, CellPassed, DataPassed, IsGoodValue, IsRefusedValue, PiecePassed};
+ghost use Rattle.tds_values.specs.Kind as kinds;
+ghost use Rattle.tds_values.specs.declared.kind.Kind.{Kind};
+
+use crate::buffered::length_size;
+use crate::chunks::pass_chunked;
+use crate::gather::{LONGEST_CELL, bad_value, gather_scalar};
+use byteorder::{ByteOrder, LittleEndian};
+use std::io::Read;
+use tds_packet::{Fault, Payload, Place, Stop};
+use tds_values::{Kind, Reach, read_scalar};
+
+/// The column of the stops in the value of a RETURNVALUE.
+pub(crate) const RETURN_COLUMN: u16 = 65535;
+
+// The length that stands for NULL in a short value.
+const NULL_LENGTH: u16 = 0xFFFF;
+
+// The stop of data in half units, whose length or total began behind so many bytes of the payload.
+pub(crate) fn odd_text(place: u64) -> Stop
+    ensures { result ≡ record { fault = Fault.OddText RETURN_COLUMN; place = Place.Payload place } }
+{
+    Stop {
+        fault: Fault::OddText {
+            column: RETURN_COLUMN,
+        },
+        place: Place::Payload(place),
+    }
+}
+
+// Passes over those of the next bytes that lie in the packet, or over the first of another packet, and
+// answers how many they are.
+fn pass_piece<R: Read>(payload: &mut Payload<R>, most: u64) -> Result<u64, Stop>
+    requires going { IsGoing payload.old }
+    requires some { 0 < most }
+    ensures payload { LeavesPayload payload.old payload.new result }
+    ensures some { IfOk result (λ n. (0 < n) × (n ≤ most)) }
+    ensures gives { PiecePassed R.remaining payload.old payload.new result }
+{
+    let held = payload.buffered().len() as u64;
+    if held == 0 {
+        payload.pass(1)?;
+        return Ok(1);
+    }
+    let n = held.min(most);
+    payload.consume(n as usize);
+    Ok(n)
+}
+
+// Passes over so many bytes, and stops at the first that is missing.
+pub(crate) fn pass_data<R: Read>(payload: &mut Payload<R>, n: u64) -> Result<(), Stop>
+    requires going { IsGoing payload.old }
+    ensures payload { LeavesPayload payload.old payload.new result }
+    ensures gives { DataPassed R.remaining n payload.old payload.new result }
+{
+    let mut left = n;
+    while left > 0 {
+        left -= pass_piece(payload, left)?;
+    }
+    Ok(())
+}
+
+// Whether the value of a scalar cell is out of range; NULL isn't.
+fn is_refused(kind: &Kind, cell: &[u8]) -> bool
+    requires valid { IsTrue (kinds.is_valid kind.now) }
+    requires scalar { IsTrue (kinds.is_scalar kind.now) }
+    requires whole { length cell.now ≡ scalar_size kind.now cell.now }
+    ensures refused { result ≡ true → IsRefusedValue kind.now cell.now }
+    ensures good { result ≡ false → IsGoodValue kind.now cell.now }
+{
+    let start = length_size(kind);
+    start < cell.len() && read_scalar(kind, &cell[start..]).is_err()
+}
+
+// Passes over a value of a scalar kind.
+fn pass_scalar<R: Read>(payload: &mut Payload<R>, kind: &Kind) -> Result<(), Stop>
+    requires going { IsGoing payload.old }
+    requires valid { IsTrue (kinds.is_valid kind.now) }
+    requires scalar { IsTrue (kinds.is_scalar kind.now) }
+    ensures payload { LeavesPayload payload.old payload.new result }
+    ensures gives { CellPassed R.remaining (cell_start kind.now (shape return_charset kind.now))
+        payload.old payload.new result }
+{
+    let place = payload.place();
+    let mut cell = [0u8; LONGEST_CELL];
+    let size = gather_scalar(payload, kind, RETURN_COLUMN, &mut cell)?;
+    if is_refused(kind, &cell[..size]) {
+        return Err(bad_value(RETURN_COLUMN, place + length_size(kind) as u64));
+    }
+    Ok(())
+}
+
+// Passes over a short value, whose data has units of so many bytes.
+fn pass_short<R: Read>(payload: &mut Payload<R>, unit: u64) -> Result<(), Stop>
+    requires going { IsGoing payload.old }
+    requires unit { 0 < unit }
+    ensures payload { LeavesPayload payload.old payload.new result }
+    ensures gives { (c : Conversion) → AnyData c unit →
+        CellPassed R.remaining (ShortLength c) payload.old payload.new result }
+{
+    let place = payload.place();
+    let mut bytes = [0u8; 2];
+    payload.fill(&mut bytes)?;
+    let length = LittleEndian::read_u16(&bytes);
+    if length == NULL_LENGTH {
+        return Ok(());
+    }
+    let n = u64::from(length);
+    if n % unit != 0 {
+        return Err(odd_text(place));
+    }
+    pass_data(payload, n)
+}
+
+// Passes over a long value, whose data has units of so many bytes.
+fn pass_long<R: Read>(payload: &mut Payload<R>, reach: Reach, unit: u64) -> Result<(), Stop>
+    requires going { IsGoing payload.old }
+    requires unit { 0 < unit }
+    ensures payload { LeavesPayload payload.old payload.new result }
+    ensures gives { (kind : Kind) (c : Conversion) → AnyData c unit →
+        CellPassed R.remaining (cell_start kind (LongShape c reach)) payload.old payload.new result }
+{
+    match reach {
+        Reach::Short => pass_short(payload, unit),
+        Reach::Chunked => pass_chunked(payload, unit),
+    }
+}
+
+/// Passes over the value of a RETURNVALUE, which may be of any kind: reads it from its first byte on, and
+/// keeps and puts nothing of it. Its stops are those of a cell whose column is 65,535, but for its text,
+/// which may be any bytes: [`Fault::BadValueLength`] and [`Fault::BadValue`] as in a row,
+/// [`Fault::OddText`] at the length, the total or the terminator of an odd Wide value, and
+/// [`Fault::PlpLength`] at the length of the chunk that passes the total or at the terminator before it.
+/// Any other stop is the payload's own: where the message ends, it stands at the first byte of the element
+/// that isn't whole, of which each byte of long data is one. After a stop of the payload the same stop is
+/// answered, and nothing changes.
+pub fn pass_over<R: Read>(payload: &mut Payload<R>, kind: &Kind) -> Result<(), Stop>
+    requires sound { IsSound payload.old }
+    requires valid { IsTrue (kinds.is_valid kind.now) }
+    ensures payload { LeavesPayload payload.old payload.new result }
+    ensures gives { payload.old.stopped ≡ None →
+        CellPassed R.remaining (cell_start kind.now (shape return_charset kind.now))
+        payload.old payload.new result }
+    ensures again { IfSome payload.old.stopped (λ stop. (result ≡ Err stop) × (payload.new ≡ payload.old)) }
+{
+    if let Some(stop) = payload.stopped() {
+        return Err(stop);
+    }
+    match *kind {
+        Kind::Binary(reach) | Kind::Narrow(reach) => pass_long(payload, reach, 1),
+        Kind::Wide(reach) => pass_long(payload, reach, 2),
+        _ => pass_scalar(payload, kind),
+    }
+}
