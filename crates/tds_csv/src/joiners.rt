@@ -86,5 +86,6 @@ pub trait Joiner: Sized {
     /// Does nothing: its clauses are the laws of the words above.
     fn laws()
         ensures joins { JoinsPieces fit begins rest text }
+        ensures none_begins { begins [] }
         ensures whole_units { (bytes : List ℕ) → fit bytes → length bytes % UNIT ≡ 0 };
 }

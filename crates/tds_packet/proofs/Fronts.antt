@@ -32,7 +32,7 @@ no_more a [] c e l = (refl, sym (append-nil a) ∙ e)
 no_more a (x ∷ b) c e l = absurd (omega (arith, l, ap length e, length-append a (x ∷ b)))
 
 -- no fault of the wire is the message's end
-not_header : (a b c : Bool) (length kind : ℕ) → (if a then (if b then Some (BadPacketLength length) else if c then Some ResponseTooLong else None) else Some (WrongPacketType kind)) ≡ Some MessageEnded → ⊥
+pub not_header : (a b c : Bool) (length kind : ℕ) → (if a then (if b then Some (BadPacketLength length) else if c then Some ResponseTooLong else None) else Some (WrongPacketType kind)) ≡ Some MessageEnded → ⊥
 not_header true true c length kind e = cc
 not_header true false true length kind e = cc
 not_header true false false length kind e = cc

@@ -14,3 +14,4 @@ pub mod Steps
 pub mod Passing
 pub mod Lifts
 pub mod Recuts
+pub mod Places

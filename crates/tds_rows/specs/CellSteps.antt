@@ -119,15 +119,23 @@ pub record StallsCell (from : CellPart) (column : ℕ) (old new : Seen) (place :
   pub stalls : Stalls (cell column) is_built_cell from old new place at stop
   pub quiet : field_so_far at ≡ None
 
--- A cell was read, and its text put.
-pub record PutsCell (charset : Charset) (kind : Kind) (column : ℕ) (last : Bool) (old new : Seen) (place place' : ℕ) (before after : Held) : Type 0 where
+-- A cell was read from its first element on, and its text put.
+pub record PutsField (from : CellPart) (column : ℕ) (last : Bool) (old new : Seen) (place place' : ℕ) (before after : Held) : Type 0 where
   pub value : Cell
-  pub streams : Streams (cell column) (cell_so_far column last) (cell_start kind (shape charset kind)) old new before after (WholeCell value)
+  pub streams : Streams (cell column) (cell_so_far column last) from old new before after (WholeCell value)
   pub place_is : place' ≡ place + length streams.bytes
 
 -- A cell wasn't read whole, is refused or isn't built, or a write of its text failed.
+abbrev pub StopsField : CellPart → ℕ → Bool → Seen → Seen → ℕ → Held → Held → Bool → Stop → Type 0
+StopsField from column last = StopsStreaming (cell column) is_built_cell (cell_so_far column last) from
+
+-- A cell of a kind was read, and its text put.
+abbrev pub PutsCell : Charset → Kind → ℕ → Bool → Seen → Seen → ℕ → ℕ → Held → Held → Type 0
+PutsCell charset kind = PutsField (cell_start kind (shape charset kind))
+
+-- A cell of a kind stopped so.
 abbrev pub StopsCell : Charset → Kind → ℕ → Bool → Seen → Seen → ℕ → Held → Held → Bool → Stop → Type 0
-StopsCell charset kind column last = StopsStreaming (cell column) is_built_cell (cell_so_far column last) (cell_start kind (shape charset kind))
+StopsCell charset kind = StopsField (cell_start kind (shape charset kind))
 
 -- The bytes of a scalar cell were read, whose length is allowed; and where its value is refused, this is the stop.
 pub record GathersCell (kind : Kind) (from : CellPart) (column : ℕ) (old new : Seen) (place place' : ℕ) (bytes : List ℕ) : Type 0 where
@@ -144,8 +152,12 @@ CellGathered remaining kind from column old new cell result = MatchResult result
     (λ n. GathersCell kind from column (seen remaining old) (seen remaining new) old.place new.place (take n cell))
     (λ stop. StallsCell from column (seen remaining old) (seen remaining new) old.place stop)
 
--- A cell was read and its text put, or the call stopped.
+-- A cell was read from its first element on and its text put, or the call stopped.
+abbrev pub FieldPut : {R W U : Type 0} → (R → Option (List ℕ)) → (W → Option (List ℕ)) → CellPart → ℕ → Bool → payloads.Payload R → payloads.Payload R → Sink W → Sink W → Result U Stop → Type 0
+FieldPut remaining contents from column last old new before after result = MatchResult result
+    (λ _. PutsField from column last (seen remaining old) (seen remaining new) old.place new.place (held contents before) (held contents after))
+    (λ stop. StopsField from column last (seen remaining old) (seen remaining new) old.place (held contents before) (held contents after) after.failed stop)
+
+-- A cell of a kind was read and its text put, or the call stopped.
 abbrev pub CellPut : {R W U : Type 0} → (R → Option (List ℕ)) → (W → Option (List ℕ)) → Charset → Kind → ℕ → Bool → payloads.Payload R → payloads.Payload R → Sink W → Sink W → Result U Stop → Type 0
-CellPut remaining contents charset kind column last old new before after result = MatchResult result
-    (λ _. PutsCell charset kind column last (seen remaining old) (seen remaining new) old.place new.place (held contents before) (held contents after))
-    (λ stop. StopsCell charset kind column last (seen remaining old) (seen remaining new) old.place (held contents before) (held contents after) after.failed stop)
+CellPut remaining contents charset kind = FieldPut remaining contents (cell_start kind (shape charset kind))

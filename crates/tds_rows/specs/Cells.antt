@@ -127,12 +127,16 @@ pub data CellPart : Type 0 where
   -- all of it
   WholeCell : Cell → CellPart
 
+-- before the first element of a long value
+abbrev pub long_start : Conversion → Reach → CellPart
+long_start c Short = ShortLength c
+long_start c Chunked = Total c
+
 -- before the first element
 abbrev pub cell_start : Kind → Shape → CellPart
 cell_start kind (FixedShape n) = ScalarBytes kind n
 cell_start kind CountedShape = ScalarLength kind
-cell_start kind (LongShape c Short) = ShortLength c
-cell_start kind (LongShape c Chunked) = Total c
+cell_start kind (LongShape c reach) = long_start c reach
 
 -- how many bytes the next element of a cell has; 0 where nothing follows
 abbrev pub cell_size : CellPart → ℕ

@@ -60,7 +60,7 @@ joined_last (f ∷ []) a b h = grows_under (f ++ codes ",") a b h
 joined_last (f ∷ g ∷ fs) a b h = grows_under (f ++ codes ",") (joined (g ∷ (fs ++ a ∷ []))) (joined (g ∷ (fs ++ b ∷ []))) (joined_last (g ∷ fs) a b h)
 
 -- the text of a field that may not be there yet
-abbrev OptionGrows : Option (List ℕ) → Option (List ℕ) → Type 0
+abbrev pub OptionGrows : Option (List ℕ) → Option (List ℕ) → Type 0
 OptionGrows None b = Unit {0}
 OptionGrows (Some a) None = ⊥
 OptionGrows (Some a) (Some b) = Grows a b
@@ -83,7 +83,7 @@ ends_by_name : (c : Conversion) (a : List ℕ) → is_fit c a ≡ true → Grows
 ends_by_name c a h = (conversion_text c (conversion_rest c a), sym ((joins_by_name c).ends a ((fit_by_test c a).0 h)))
 
 -- more data
-open_grows : (c : Conversion) (a b : List ℕ) → is_begun c (a ++ b) ≡ true → Grows (open_field c a) (open_field c (a ++ b))
+pub open_grows : (c : Conversion) (a b : List ℕ) → is_begun c (a ++ b) ≡ true → Grows (open_field c a) (open_field c (a ++ b))
 open_grows HexDigits a b h = grows_under binary_mark (emit (conversion_rest HexDigits) (conversion_text HexDigits) a) (emit (conversion_rest HexDigits) (conversion_text HexDigits) (a ++ b)) (emits_by_name HexDigits a b h)
 open_grows Utf16Text a b h = grows_under (quote ∷ []) (emit (conversion_rest Utf16Text) (conversion_text Utf16Text) a) (emit (conversion_rest Utf16Text) (conversion_text Utf16Text) (a ++ b)) (emits_by_name Utf16Text a b h)
 open_grows Windows1252Text a b h = grows_under (quote ∷ []) (emit (conversion_rest Windows1252Text) (conversion_text Windows1252Text) a) (emit (conversion_rest Windows1252Text) (conversion_text Windows1252Text) (a ++ b)) (emits_by_name Windows1252Text a b h)
@@ -94,7 +94,7 @@ closing : (x a b : List ℕ) → Grows a b → Grows (x ++ a) (x ++ (b ++ quote 
 closing x a b h = grows_under x a (b ++ quote ∷ []) (grows_trans a b (b ++ quote ∷ []) h (grows_by b (quote ∷ [])))
 
 -- the end of the data
-long_grows : (c : Conversion) (a : List ℕ) → is_fit c a ≡ true → Grows (open_field c a) (long_field c a)
+pub long_grows : (c : Conversion) (a : List ℕ) → is_fit c a ≡ true → Grows (open_field c a) (long_field c a)
 long_grows HexDigits a h = grows_under binary_mark (emit (conversion_rest HexDigits) (conversion_text HexDigits) a) (conversion_text HexDigits a) (ends_by_name HexDigits a h)
 long_grows Utf16Text a h = closing (quote ∷ []) (emit (conversion_rest Utf16Text) (conversion_text Utf16Text) a) (conversion_text Utf16Text a) (ends_by_name Utf16Text a h)
 long_grows Windows1252Text a h = closing (quote ∷ []) (emit (conversion_rest Windows1252Text) (conversion_text Windows1252Text) a) (conversion_text Windows1252Text a) (ends_by_name Windows1252Text a h)
@@ -125,7 +125,7 @@ end_fit column c total content n h z =
 
 module _ (column : ℕ) where
   -- each element of a cell adds to its text
-  cell_grows : (p : CellPart) (e : List ℕ) → IsNext (cell column) p e → OptionGrows (field_so_far p) (field_so_far (cell_add p e))
+  pub cell_grows : (p : CellPart) (e : List ℕ) → IsNext (cell column) p e → OptionGrows (field_so_far p) (field_so_far (cell_add p e))
   cell_grows (ScalarBytes k i) e n = tt
   cell_grows (ScalarLength k) e n = tt
   cell_grows (ShortLength c) e n = tt

@@ -1,0 +1,205 @@
+-- What the parts of reading a long value do: its lengths, the pieces of its data, and its end.
+use Rattle.std.specs.Prelude.{◌≡◌, ◌⊎◌, ◌==◌, ◌||◌, ◌%◌, ℕ, ◌+◌, ◌-◌, ◌<◌, ◌≤◌, Bool, true, false, List, [], ◌∷◌, ◌++◌, length, take, drop, nat_le, Option, Some, None, Result, MatchResult, if◌then◌else◌}
+use Rattle.tds_values.specs.Numbers.{little}
+use Rattle.tds_packet.specs.declared.fault.Fault.{Fault}
+use Rattle.tds_packet.specs.declared.fault.Fault.TheVariants.{BadText, OddText, PlpLength}
+use Rattle.tds_packet.specs.declared.fault.Place.TheVariants.{Payload}
+use Rattle.tds_packet.specs.declared.fault.Stop.{Stop}
+use Rattle.tds_packet.specs.declared.payload.Payload as payloads
+use Rattle.tds_packet.specs.Payloads.{seen}
+use Rattle.tds_packet.specs.Seen.{Seen, Takes, Ends, IsBetween, began_at}
+use Rattle.tds_csv.specs.Conversion.{Begins, Conversion, IsFit, conversion_rest, conversion_text}
+use Rattle.tds_csv.specs.Joining.{emit}
+use Rattle.tds_csv.specs.Quoting.{binary_mark, end_behind, quote}
+use Rattle.tds_csv.specs.declared.sink.Sink.{Sink}
+use Rattle.tds_csv.specs.Sinks.{Breaks, Held, Puts, held}
+use Rattle.tds_rows.specs.declared.lengths.ChunkedTotal.{ChunkedTotal}
+use Rattle.tds_rows.specs.declared.lengths.ChunkedTotal.TheVariants.{Known, NullValue, Unknown}
+use Rattle.tds_rows.specs.Cells.{is_total, null_total, unknown_total, unless, within_total}
+
+-- what stands before the text of a long value, and what behind it
+abbrev pub opening : Bool → List ℕ
+opening true = quote ∷ []
+opening false = binary_mark
+
+abbrev pub closing : Bool → List ℕ
+closing true = quote ∷ []
+closing false = []
+
+-- ---- lengths
+
+-- A length or total of so many bytes was read, and this is its number.
+pub record ReadsNumber (size : ℕ) (old new : Seen) (place place' n : ℕ) : Type 0 where
+  pub element : List ℕ
+  pub whole : length element ≡ size
+  pub number : little element ≡ n
+  pub takes : Takes old new element (length element)
+  pub between : IsBetween new
+  pub place_is : place' ≡ place + size
+
+-- The payload stopped in it.
+pub record CutsNumber (size : ℕ) (old new : Seen) (place : ℕ) (stop : Stop) : Type 0 where
+  pub part : List ℕ
+  pub own : Stop
+  pub fewer : length part < size
+  pub ends : Ends old new part own
+  pub stop_is : stop ≡ began_at place own
+
+-- It was read, and is refused with this fault.
+pub record RefusesNumber (size : ℕ) (fault : ℕ → Option Fault) (old new : Seen) (place : ℕ) (stop : Stop) : Type 0 where
+  pub n : ℕ
+  pub place' : ℕ
+  pub reads : ReadsNumber size old new place place' n
+  pub first : fault n ≡ Some stop.fault
+  pub stands : stop.place ≡ Payload place
+
+-- A number was read, or the payload stopped in it.
+abbrev pub NumberRead : {R : Type 0} → (R → Option (List ℕ)) → ℕ → payloads.Payload R → payloads.Payload R → Result ℕ Stop → Type 0
+NumberRead remaining size old new result = MatchResult result
+    (λ n. ReadsNumber size (seen remaining old) (seen remaining new) old.place new.place n)
+    (λ stop. CutsNumber size (seen remaining old) (seen remaining new) old.place stop)
+
+-- A number without such a fault was read, and the answer says so of it; or it is refused, or the payload stopped in it.
+abbrev pub LengthRead : {R A : Type 0} → (R → Option (List ℕ)) → ℕ → (ℕ → Option Fault) → (ℕ → A) → payloads.Payload R → payloads.Payload R → Result A Stop → Type 0
+LengthRead remaining size fault says old new result = MatchResult result
+    (λ answer. (n : ℕ) × ReadsNumber size (seen remaining old) (seen remaining new) old.place new.place n × (fault n ≡ None) × (answer ≡ says n))
+    (λ stop. RefusesNumber size fault (seen remaining old) (seen remaining new) old.place stop ⊎ CutsNumber size (seen remaining old) (seen remaining new) old.place stop)
+
+-- the fault of the length of a short value, by the bytes of a unit
+abbrev pub short_fault : ℕ → ℕ → ℕ → Option Fault
+short_fault column size n = unless ((n == 0xFFFF) || (n % size == 0)) (OddText column)
+
+-- the fault of a total
+abbrev pub total_fault : ℕ → ℕ → ℕ → Option Fault
+total_fault column size n = unless (nat_le unknown_total n || (n % size == 0)) (OddText column)
+
+-- the fault of a terminator behind so many bytes of data, but for what the data itself has
+abbrev pub end_fault : ℕ → ℕ → Option ℕ → ℕ → Option Fault
+end_fault column size total sum = if is_total total sum then unless (sum % size == 0) (OddText column) else Some (PlpLength column)
+
+-- the fault of the length of a chunk behind so many bytes of data, 0 being the terminator
+abbrev pub chunk_length_fault : ℕ → ℕ → Option ℕ → ℕ → ℕ → Option Fault
+chunk_length_fault column size total sum n = if n == 0 then end_fault column size total sum else unless (within_total total (sum + n)) (PlpLength column)
+
+-- a length, unless it stands for NULL
+abbrev pub short_length : ℕ → Option ℕ
+short_length n = if n == 0xFFFF then None else Some n
+
+-- what a total stands for
+abbrev pub total_of : ℕ → ChunkedTotal
+total_of n = if n == null_total then NullValue else if n == unknown_total then Unknown else Known n
+
+-- ---- data
+
+-- the text that some data adds behind other data
+abbrev pub added_text : Conversion → List ℕ → List ℕ → List ℕ
+added_text c data more = emit (conversion_rest c) (conversion_text c) (conversion_rest c data ++ more)
+
+-- So many bytes behind this data were read in a piece, and their text put; what is withheld then is the rest of all of it.
+pub record TakesData (c : Conversion) (data kept : List ℕ) (old new : Seen) (place place' : ℕ) (before after : Held) (n : ℕ) : Type 0 where
+  pub piece : List ℕ
+  pub counted : length piece ≡ n
+  pub some : 0 < n
+  pub takes : Takes old new piece 1
+  pub between : IsBetween new
+  pub place_is : place' ≡ place + n
+  pub begun : Begins c (data ++ piece)
+  pub puts : Puts before after (added_text c data piece)
+  pub kept_is : kept ≡ conversion_rest c (data ++ piece)
+
+-- The payload stopped before the next byte.
+pub record CutsData (old new : Seen) (place : ℕ) (before after : Held) (stop : Stop) : Type 0 where
+  pub own : Stop
+  pub ends : Ends old new [] own
+  pub stop_is : stop ≡ began_at place own
+  pub same : after ≡ before
+
+-- A piece was read; its first bytes and their text are good, and the next one is bad.
+pub record RefusesData (c : Conversion) (data : List ℕ) (column most : ℕ) (old new : Seen) (place : ℕ) (before after : Held) (stop : Stop) : Type 0 where
+  pub good : List ℕ
+  pub bad : ℕ
+  pub ahead : List ℕ
+  pub within : length good < most
+  pub takes : Takes old new (good ++ bad ∷ ahead) 1
+  pub between : IsBetween new
+  pub begun : Begins c (data ++ good)
+  pub no_text : ¬ (Begins c ((data ++ good) ++ bad ∷ []))
+  pub puts : Puts before after (added_text c data good)
+  pub stop_is : stop ≡ record { fault = BadText column; place = Payload (place + length good) }
+
+-- A piece was read, and a write of the text of its first bytes failed.
+pub record BreaksData (c : Conversion) (data : List ℕ) (most : ℕ) (old new : Seen) (before after : Held) (stop : Stop) : Type 0 where
+  pub good : List ℕ
+  pub ahead : List ℕ
+  pub within : length good ≤ most
+  pub takes : Takes old new (good ++ ahead) 1
+  pub between : IsBetween new
+  pub begun : Begins c (data ++ good)
+  pub breaks : Breaks before after (added_text c data good) stop
+
+-- The next piece of the data stopped, of at most so many bytes.
+abbrev pub StopsData : Conversion → List ℕ → ℕ → ℕ → Seen → Seen → ℕ → Held → Held → Bool → Stop → Type 0
+StopsData c data column most old new place before after failed stop =
+    (CutsData old new place before after stop × (failed ≡ false))
+    ⊎ ((RefusesData c data column most old new place before after stop × (failed ≡ false))
+    ⊎ (BreaksData c data most old new before after stop × (failed ≡ true)))
+
+-- The next piece of the data was read and its text put, or that stopped.
+abbrev pub PieceTaken : {R W : Type 0} → (R → Option (List ℕ)) → (W → Option (List ℕ)) → Conversion → List ℕ → List ℕ → ℕ → ℕ → payloads.Payload R → payloads.Payload R → Sink W → Sink W → Result ℕ Stop → Type 0
+PieceTaken remaining contents c data kept column most old new before after result = MatchResult result
+    (λ n. TakesData c data kept (seen remaining old) (seen remaining new) old.place new.place (held contents before) (held contents after) n)
+    (λ stop. StopsData c data column most (seen remaining old) (seen remaining new) old.place (held contents before) (held contents after) after.failed stop)
+
+-- Bytes behind this data were read piece by piece, and their text put.
+pub record FillsData (c : Conversion) (data : List ℕ) (old new : Seen) (place place' : ℕ) (before after : Held) (more : List ℕ) : Type 0 where
+  pub takes : Takes old new more (length more)
+  pub between : IsBetween new
+  pub place_is : place' ≡ place + length more
+  pub begun : Begins c (data ++ more)
+  pub puts : Puts before after (added_text c data more)
+  pub few : length after.waiting < 4096
+
+-- Bytes were read so, and then a last piece.
+pub record EndsData (c : Conversion) (data kept : List ℕ) (old new : Seen) (place place' : ℕ) (before after : Held) (n : ℕ) : Type 0 where
+  pub front : List ℕ
+  pub middle : Seen
+  pub there : ℕ
+  pub between : Held
+  pub fills : FillsData c data old middle place there before between front
+  pub last : ℕ
+  pub takes : TakesData c (data ++ front) kept middle new there place' between after last
+  pub counted : length front + last ≡ n
+
+-- Bytes were read so, fewer than all, and then a piece stopped.
+pub record StopsFilling (c : Conversion) (data : List ℕ) (column n : ℕ) (old new : Seen) (place : ℕ) (before after : Held) (failed : Bool) (stop : Stop) : Type 0 where
+  pub front : List ℕ
+  pub middle : Seen
+  pub there : ℕ
+  pub between : Held
+  pub fewer : length front < n
+  pub fills : FillsData c data old middle place there before between front
+  pub stops : StopsData c (data ++ front) column (n - length front) middle new there between after failed stop
+
+-- The data of so many bytes, one at least, was read and its text put, or that stopped.
+abbrev pub DataTaken : {R W U : Type 0} → (R → Option (List ℕ)) → (W → Option (List ℕ)) → Conversion → List ℕ → List ℕ → ℕ → ℕ → payloads.Payload R → payloads.Payload R → Sink W → Sink W → Result U Stop → Type 0
+DataTaken remaining contents c data kept column n old new before after result = MatchResult result
+    (λ _. EndsData c data kept (seen remaining old) (seen remaining new) old.place new.place (held contents before) (held contents after) n)
+    (λ stop. StopsFilling c data column n (seen remaining old) (seen remaining new) old.place (held contents before) (held contents after) after.failed stop)
+
+-- ---- the end
+
+-- what the end of this data adds to its line
+abbrev pub ending : Conversion → Bool → Bool → List ℕ → List ℕ
+ending c quoted last data = conversion_text c (conversion_rest c data) ++ (closing quoted ++ end_behind last)
+
+-- The data is whole, and a write of its end failed; or it isn't, and nothing was put.
+abbrev pub StopsEnding : Conversion → Bool → Bool → List ℕ → ℕ → ℕ → Held → Held → Bool → Stop → Type 0
+StopsEnding c quoted last data column place before after failed stop =
+    (IsFit c data × Breaks before after (ending c quoted last data) stop × (failed ≡ true))
+    ⊎ ((¬ (IsFit c data)) × (after ≡ before) × (stop ≡ record { fault = BadText column; place = Payload place }) × (failed ≡ false))
+
+-- The data is whole and its end was put, or that stopped.
+abbrev pub EndPut : {W U : Type 0} → (W → Option (List ℕ)) → Conversion → Bool → Bool → List ℕ → ℕ → ℕ → Sink W → Sink W → Result U Stop → Type 0
+EndPut contents c quoted last data column place before after result = MatchResult result
+    (λ _. IsFit c data × Puts (held contents before) (held contents after) (ending c quoted last data))
+    (λ stop. StopsEnding c quoted last data column place (held contents before) (held contents after) after.failed stop)

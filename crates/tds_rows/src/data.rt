@@ -1,0 +1,154 @@
+// The data of long values, by pieces that lie in the packet.
+ghost use Rattle.std.specs.Prelude.{◌≡◌, ◌≤◌, ◌<◌, ℕ, List, Bool};
+ghost use Rattle.tds_csv.specs.Conversion.{Begins, Conversion, Suits, conversion_rest, is_quoted};
+ghost use Rattle.tds_csv.specs.Quoting.{behind_comma, end_behind, in_line, null_field};
+ghost use Rattle.tds_csv.specs.Sinks.{IsReady, IsWriting, LeavesSink, PutsPiece};
+ghost use Rattle.tds_packet.specs.Payloads.{IsGoing, LeavesPayload};
+ghost use Rattle.tds_rows.specs.LongCells.{DataTaken, EndPut, PieceTaken, closing, opening};
+
+use std::io::{Read, Write};
+use tds_csv::{JoinFault, Joiner, NULL_ROOM, Sink, write_null};
+use tds_packet::{Fault, Payload, Place, Stop};
+
+// The most bytes that a piece is asked for.
+const LONGEST_PIECE: u64 = 65_536;
+
+// The stop of data that is no text, whose bad byte or end stands behind so many bytes of the payload.
+fn bad_text(column: u16, place: u64) -> Stop
+    ensures { result ≡ record { fault = Fault.BadText column; place = Place.Payload place } }
+{
+    Stop {
+        fault: Fault::BadText { column },
+        place: Place::Payload(place),
+    }
+}
+
+/// Puts the comma before a long value, and what stands before its text.
+pub(crate) fn put_opening<W: Write>(
+    column: u16,
+    quoted: bool,
+    sink: &mut Sink<W>,
+) -> Result<(), Stop>
+    requires { IsWriting sink.old }
+    ensures { PutsPiece W.contents sink.old sink.new (behind_comma column (opening quoted)) result }
+{
+    if column > 0 {
+        sink.comma()?;
+    }
+    if quoted {
+        return sink.open_quoted();
+    }
+    sink.open_binary()
+}
+
+/// Puts what stands behind the text of a long value, and the end of the line if it is the last.
+pub(crate) fn put_closing<W: Write>(
+    quoted: bool,
+    last: bool,
+    sink: &mut Sink<W>,
+) -> Result<(), Stop>
+    requires { IsWriting sink.old }
+    ensures { PutsPiece W.contents sink.old sink.new (closing quoted ++ end_behind last) result }
+{
+    if quoted {
+        sink.close_quoted()?;
+    }
+    if last {
+        sink.line_end()?;
+    }
+    Ok(())
+}
+
+/// Puts NULL in its line.
+pub(crate) fn put_null<W: Write>(column: u16, last: bool, sink: &mut Sink<W>) -> Result<(), Stop>
+    requires { IsWriting sink.old }
+    ensures { PutsPiece W.contents sink.old sink.new (in_line column last null_field) result }
+{
+    let mut text = [0u8; NULL_ROOM];
+    let made = write_null(column, last, &mut text);
+    sink.put(&text[..made])
+}
+
+// Hands the next piece of the data, at most so many bytes, to the joiner where it lies, and answers how many
+// it has.
+fn push_piece<J: Joiner, R: Read, W: Write>(
+    payload: &mut Payload<R>,
+    most: u64,
+    column: u16,
+    joiner: &mut J,
+    sink: &mut Sink<W>,
+) -> Result<u64, Stop>
+    requires going { IsGoing payload.old }
+    requires writing { IsWriting sink.old }
+    requires some { 0 < most }
+    requires begun { J.begins (J.withheld joiner.old) }
+    ensures payload { LeavesPayload payload.old payload.new result }
+    ensures sink { LeavesSink sink.old sink.new result }
+    ensures begun { J.begins (J.withheld joiner.new) }
+    ensures most { IfOk result (λ n. n ≤ most) }
+    ensures gives { (c : Conversion) (data : List ℕ) → Suits J.fit J.begins J.rest J.text J.UNIT J.QUOTED c →
+        J.withheld joiner.old ≡ conversion_rest c data → Begins c data →
+        PieceTaken R.remaining W.contents c data (J.withheld joiner.new) column most
+        payload.old payload.new sink.old sink.new result }
+{
+    let place = payload.place();
+    let piece = payload.piece(most.min(LONGEST_PIECE) as usize)?;
+    match joiner.push(piece, sink) {
+        Ok(()) => Ok(piece.len() as u64),
+        Err(JoinFault::Stopped(stop)) => Err(stop),
+        Err(JoinFault::BadText(good)) => Err(bad_text(column, place + good as u64)),
+        Err(JoinFault::Odd) => unreachable!(),
+    }
+}
+
+/// Hands so many bytes of data to the joiner, piece by piece.
+pub(crate) fn push_data<J: Joiner, R: Read, W: Write>(
+    payload: &mut Payload<R>,
+    n: u64,
+    column: u16,
+    joiner: &mut J,
+    sink: &mut Sink<W>,
+) -> Result<(), Stop>
+    requires going { IsGoing payload.old }
+    requires writing { IsWriting sink.old }
+    requires some { 0 < n }
+    requires begun { J.begins (J.withheld joiner.old) }
+    ensures payload { LeavesPayload payload.old payload.new result }
+    ensures sink { LeavesSink sink.old sink.new result }
+    ensures begun { J.begins (J.withheld joiner.new) }
+    ensures place { IfOk result (λ _. payload.new.place ≡ payload.old.place + n) }
+    ensures gives { (c : Conversion) (data : List ℕ) → Suits J.fit J.begins J.rest J.text J.UNIT J.QUOTED c →
+        J.withheld joiner.old ≡ conversion_rest c data → Begins c data →
+        DataTaken R.remaining W.contents c data (J.withheld joiner.new) column n
+        payload.old payload.new sink.old sink.new result }
+{
+    let mut left = n;
+    loop {
+        left -= push_piece(payload, left, column, joiner, sink)?;
+        if left == 0 {
+            return Ok(());
+        }
+    }
+}
+
+/// Puts the end of a value whose data was handed to the joiner. Where the data isn't whole text it stops at
+/// this place.
+pub(crate) fn put_end<J: Joiner, W: Write>(
+    joiner: &mut J,
+    column: u16,
+    last: bool,
+    place: u64,
+    sink: &mut Sink<W>,
+) -> Result<(), Stop>
+    requires { IsWriting sink.old }
+    ensures sink { LeavesSink sink.old sink.new result }
+    ensures gives { (c : Conversion) (data : List ℕ) → Suits J.fit J.begins J.rest J.text J.UNIT J.QUOTED c →
+        J.withheld joiner.old ≡ conversion_rest c data → Begins c data →
+        EndPut W.contents c J.QUOTED last data column place sink.old sink.new result }
+{
+    match joiner.end(sink) {
+        Ok(()) => put_closing(J::QUOTED, last, sink),
+        Err(JoinFault::Stopped(stop)) => Err(stop),
+        Err(JoinFault::Odd | JoinFault::BadText(_)) => Err(bad_text(column, place)),
+    }
+}

@@ -1,0 +1,163 @@
+// Long values (MS-TDS, Data Stream Types).
+ghost use Rattle.std.specs.Prelude.{◌≡◌, ◌≤◌, ◌<◌, ℕ, [], false, None, Option};
+ghost use Rattle.tds_csv.specs.Conversion.{Conversion, Suits};
+ghost use Rattle.tds_csv.specs.Sinks.{IsReady, IsWriting, LeavesSink};
+ghost use Rattle.tds_packet.specs.Payloads.{IsGoing, IsSound, LeavesPayload};
+ghost use Rattle.tds_rows.specs.Cells.{ChunkLength, ShortLength, Total, long_start};
+ghost use Rattle.tds_rows.specs.CellSteps.{FieldPut};
+ghost use Rattle.tds_rows.specs.LongCells.{ChunksPut};
+ghost use Rattle.tds_rows.specs.RowSteps.{StopsAgain};
+
+use crate::data::{push_data, put_end, put_null, put_opening};
+use crate::lengths::{ChunkedTotal, read_chunk_length, read_short_length, read_total};
+use std::io::{Read, Write};
+use tds_csv::{Joiner, Sink};
+use tds_packet::{Payload, Stop};
+use tds_values::Reach;
+
+// Reads a short value from its length on, and puts its field, and the end of the line if it is the last.
+fn stream_short<J: Joiner, R: Read, W: Write>(
+    payload: &mut Payload<R>,
+    column: u16,
+    last: bool,
+    joiner: &mut J,
+    sink: &mut Sink<W>,
+) -> Result<(), Stop>
+    requires going { IsGoing payload.old }
+    requires writing { IsWriting sink.old }
+    requires withheld { J.withheld joiner.old ≡ [] }
+    requires begun { J.begins (J.withheld joiner.old) }
+    ensures payload { LeavesPayload payload.old payload.new result }
+    ensures sink { LeavesSink sink.old sink.new result }
+    ensures gives { (c : Conversion) → Suits J.fit J.begins J.rest J.text J.UNIT J.QUOTED c →
+        FieldPut R.remaining W.contents (ShortLength c) column last payload.old payload.new sink.old sink.new result }
+{
+    let Some(n) = read_short_length(payload, column, J::UNIT)? else {
+        return put_null(column, last, sink);
+    };
+    put_opening(column, J::QUOTED, sink)?;
+    if n == 0 {
+        return put_end(joiner, column, last, payload.place(), sink);
+    }
+    push_data(payload, n, column, joiner, sink)?;
+    put_end(joiner, column, last, payload.place() - 1, sink)
+}
+
+// Reads the chunks and the terminator behind a total, and puts the text of the data and its end.
+fn stream_chunks<J: Joiner, R: Read, W: Write>(
+    payload: &mut Payload<R>,
+    total: Option<u64>,
+    column: u16,
+    last: bool,
+    joiner: &mut J,
+    sink: &mut Sink<W>,
+) -> Result<(), Stop>
+    requires going { IsGoing payload.old }
+    requires writing { IsWriting sink.old }
+    requires withheld { J.withheld joiner.old ≡ [] }
+    requires begun { J.begins (J.withheld joiner.old) }
+    ensures payload { LeavesPayload payload.old payload.new result }
+    ensures sink { LeavesSink sink.old sink.new result }
+    ensures gives { (c : Conversion) → Suits J.fit J.begins J.rest J.text J.UNIT J.QUOTED c →
+        FieldPut R.remaining W.contents (ChunkLength c total []) column last payload.old payload.new sink.old sink.new result }
+{
+    let mut sum = 0u64;
+    loop {
+        let place = payload.place();
+        let n = read_chunk_length(payload, column, J::UNIT, total, sum)?;
+        if n == 0 {
+            return put_end(joiner, column, last, place, sink);
+        }
+        push_data(payload, n, column, joiner, sink)?;
+        sum += n;
+    }
+}
+
+// Reads a value in chunks from its total on, and puts its field, and the end of the line if it is the last.
+fn stream_chunked<J: Joiner, R: Read, W: Write>(
+    payload: &mut Payload<R>,
+    column: u16,
+    last: bool,
+    joiner: &mut J,
+    sink: &mut Sink<W>,
+) -> Result<(), Stop>
+    requires going { IsGoing payload.old }
+    requires writing { IsWriting sink.old }
+    requires withheld { J.withheld joiner.old ≡ [] }
+    requires begun { J.begins (J.withheld joiner.old) }
+    ensures payload { LeavesPayload payload.old payload.new result }
+    ensures sink { LeavesSink sink.old sink.new result }
+    ensures gives { (c : Conversion) → Suits J.fit J.begins J.rest J.text J.UNIT J.QUOTED c →
+        FieldPut R.remaining W.contents (Total c) column last payload.old payload.new sink.old sink.new result }
+{
+    let total = match read_total(payload, column, J::UNIT)? {
+        ChunkedTotal::NullValue => return put_null(column, last, sink),
+        ChunkedTotal::Unknown => None,
+        ChunkedTotal::Known(n) => Some(n),
+    };
+    put_opening(column, J::QUOTED, sink)?;
+    stream_chunks(payload, total, column, last, joiner, sink)
+}
+
+/// Reads a long value from its length or total on, and puts its field, and the end of the line if it is the last.
+pub(crate) fn stream_long<J: Joiner, R: Read, W: Write>(
+    payload: &mut Payload<R>,
+    reach: Reach,
+    column: u16,
+    last: bool,
+    joiner: &mut J,
+    sink: &mut Sink<W>,
+) -> Result<(), Stop>
+    requires going { IsGoing payload.old }
+    requires writing { IsWriting sink.old }
+    requires withheld { J.withheld joiner.old ≡ [] }
+    requires begun { J.begins (J.withheld joiner.old) }
+    ensures payload { LeavesPayload payload.old payload.new result }
+    ensures sink { LeavesSink sink.old sink.new result }
+    ensures gives { (c : Conversion) → Suits J.fit J.begins J.rest J.text J.UNIT J.QUOTED c →
+        FieldPut R.remaining W.contents (long_start c reach) column last payload.old payload.new sink.old sink.new result }
+{
+    match reach {
+        Reach::Short => stream_short(payload, column, last, joiner, sink),
+        Reach::Chunked => stream_chunked(payload, column, last, joiner, sink),
+    }
+}
+
+/// Reads a long value from its length or total on, and puts its field, behind a comma unless it is that of
+/// column 0. The joiner withholds nothing, and gets the data in pieces that lie in the packet: nothing is
+/// copied into an area (MS-TDS, Data Stream Types).
+///
+/// [`Fault::OddText`] stands at the length, the total or the terminator of data that isn't in whole units of
+/// the joiner, [`Fault::PlpLength`] at the length of the chunk that passes the total or at the terminator before
+/// it is reached, [`Fault::BadText`] at the byte that begins no text; where the text isn't whole at the end,
+/// at the last byte of a short value and at the terminator. Any other stop is the payload's or the sink's own.
+/// The text so far of the value stands at a stop: nothing before its length or total is accepted, then the comma,
+/// the quote or `0x`, and the text of the whole characters. After a stop of the payload or the sink the same stop
+/// is answered, and nothing changes.
+pub fn stream_value<J: Joiner, R: Read, W: Write>(
+    payload: &mut Payload<R>,
+    reach: Reach,
+    column: u16,
+    joiner: J,
+    sink: &mut Sink<W>,
+) -> Result<(), Stop>
+    requires sound { IsSound payload.old }
+    requires ready { IsReady sink.old }
+    requires withheld { J.withheld joiner ≡ [] }
+    ensures payload { LeavesPayload payload.old payload.new result }
+    ensures sink { LeavesSink sink.old sink.new result }
+    ensures gives { payload.old.stopped ≡ None → sink.old.failed ≡ false → (c : Conversion) →
+        Suits J.fit J.begins J.rest J.text J.UNIT J.QUOTED c →
+        FieldPut R.remaining W.contents (long_start c reach) column false
+        payload.old payload.new sink.old sink.new result }
+    ensures again { StopsAgain W.contents payload.old payload.new sink.old sink.new result }
+{
+    if let Some(stop) = payload.stopped() {
+        return Err(stop);
+    }
+    if let Some(stop) = sink.failure() {
+        return Err(stop);
+    }
+    let mut joiner = joiner;
+    stream_long(payload, reach, column, false, &mut joiner, sink)
+}
