@@ -134,11 +134,11 @@ pub(crate) fn stream_long<J: Joiner, R: Read, W: Write>(
 /// The text so far of the value stands at a stop: nothing before its length or total is accepted, then the comma,
 /// the quote or `0x`, and the text of the whole characters. After a stop of the payload or the sink the same stop
 /// is answered, and nothing changes.
-pub fn stream_value<J: Joiner, R: Read, W: Write>(
+pub fn stream_value<J: Joiner + Drop, R: Read, W: Write>(
     payload: &mut Payload<R>,
     reach: Reach,
     column: u16,
-    joiner: J,
+    mut joiner: J,
     sink: &mut Sink<W>,
 ) -> Result<(), Stop>
     requires sound { IsSound payload.old }
@@ -158,6 +158,6 @@ pub fn stream_value<J: Joiner, R: Read, W: Write>(
     if let Some(stop) = sink.failure() {
         return Err(stop);
     }
-    let mut joiner = joiner;
+    J::laws();
     stream_long(payload, reach, column, false, &mut joiner, sink)
 }
