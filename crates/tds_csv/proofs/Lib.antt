@@ -18,6 +18,9 @@ pub mod Unquoted
 pub mod Encoding
 pub mod Puttings
 pub mod Streams
+pub mod Splits
+pub mod Nears
+pub mod Pieces
 pub mod Pushings
 pub mod Utf16Seam
 pub mod Utf8Laws
