@@ -21,6 +21,7 @@ pub mod Streams
 pub mod Splits
 pub mod Nears
 pub mod Pieces
+pub mod Begun
 pub mod Pushings
 pub mod Utf16Seam
 pub mod Utf8Laws

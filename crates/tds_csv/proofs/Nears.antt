@@ -15,7 +15,7 @@ use Rattle.tds_csv.proofs.Sinks.{Breaks-after, Breaks-longer, Puts-none, Puts-tr
 use Rattle.tds_csv.proofs.Streams.{puts_both}
 use Rattle.tds_csv.proofs.Splits.{Puts_split}
 
--- Whole elements were read, which lead from one state to another, and the text before the last of them was put, and of that one's text a part: only the tail of it is to be put.
+-- Whole elements were read, which lead from one state to another. The text of all but the last was put, and that of the last but for its tail.
 pub record Nears {S : Type 0} (g : Grammar S Fault) (text : S → List ℕ) (from : S) (old new : Seen) (before after : Held) (to : S) (tail : List ℕ) : Type 0 where
   pub bytes : List ℕ
   pub element : List ℕ
