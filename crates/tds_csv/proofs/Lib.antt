@@ -18,6 +18,10 @@ pub mod Unquoted
 pub mod Encoding
 pub mod Puttings
 pub mod Streams
+pub mod Splits
+pub mod Nears
+pub mod Pieces
+pub mod Begun
 pub mod Pushings
 pub mod Utf16Seam
 pub mod Utf8Laws

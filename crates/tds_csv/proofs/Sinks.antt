@@ -11,7 +11,7 @@ use Rattle.tds_csv.specs.Sinks.{Held, Adds, Puts, Breaks, Sends, FinishFails}
 pub counted-none : (n : ℕ) → n ≤ 2 ^ 64 - 1 → n ≡ counted n 0
 counted-none n h = omega (arith, h)
 
-counted-twice : (n k l : ℕ) → counted (counted n k) l ≡ counted n (k + l)
+pub counted-twice : (n k l : ℕ) → counted (counted n k) l ≡ counted n (k + l)
 counted-twice n k l = omega arith
 
 pub Adds-none : (a : Held) → a.delivered ≤ 2 ^ 64 - 1 → Adds a a [] []

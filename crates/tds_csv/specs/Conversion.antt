@@ -1,5 +1,5 @@
 -- The conversions of the data of long values to text, by name, with tests of their facts.
-use Rattle.std.specs.Prelude.{◌≡◌, ◌↔◌, ℕ, ◌==◌, ◌%◌, Bool, true, false, not, List, ◌∷◌, ◌++◌, length, is_some}
+use Rattle.std.specs.Prelude.{◌≡◌, ◌↔◌, ℕ, ◌==◌, ◌%◌, Bool, true, false, not, List, [], ◌∷◌, ◌++◌, length, is_some}
 use Rattle.std.specs.Str.{is_utf8}
 use Rattle.std.specs.Str.Lossy.{utf8_error_len}
 use Rattle.tds_csv.specs.Joining.{emit}
@@ -74,6 +74,11 @@ open_field conversion bytes = quote ∷ emit (conversion_rest conversion) (conve
 abbrev pub is_quoted : Conversion → Bool
 is_quoted HexDigits = false
 is_quoted conversion = true
+
+-- what closes a field behind the text of its data
+abbrev pub closing : Bool → List ℕ
+closing true = quote ∷ []
+closing false = []
 
 -- A joiner with these facts and texts of its data, units and quotes does this conversion.
 pub record Suits (fit begins : List ℕ → Type 0) (rest text : List ℕ → List ℕ) (bytes_of_unit : ℕ) (quoted : Bool) (c : Conversion) : Type 0 where

@@ -1,0 +1,179 @@
+-- Calls that put the text of an element part after part.
+use Rattle.std.proofs.Common.{◌≡◌, ◌∙◌, ℕ, ◌-◌, ◌^◌, ◌<◌, ◌≤◌, List, [], ◌∷◌, ◌++◌, length, refl, sym, ap, subst, arith, append_assoc, append-nil}
+use Rattle.std.specs.List.{concat}
+use Rattle.std.proofs.lemmas.List.{append_cancel_left}
+use Rattle.tds_packet.specs.declared.fault.Fault.{Fault}
+use Rattle.tds_packet.specs.declared.fault.Stop.{Stop}
+use Rattle.tds_packet.specs.Elements.{Grammar, Inside, IsNext, Leads, Spelt}
+use Rattle.tds_packet.specs.Seen.{Seen, Takes, IsBetween}
+use Rattle.tds_packet.proofs.ElementLaws.{Inside-Spelt, Spelt-append, Spelt-one}
+use Rattle.tds_packet.proofs.Lifts.{LastInside, last_inside, next_inside, next_some}
+use Rattle.tds_packet.proofs.Steps.{takes_both}
+use Rattle.tds_csv.specs.Sinks.{Held, Puts, Breaks}
+use Rattle.tds_csv.specs.Streaming.{BreaksStreaming, PutsText, Streams}
+use Rattle.tds_csv.proofs.Sinks.{Breaks-after, Breaks-longer, Puts-none, Puts-trans}
+use Rattle.tds_csv.proofs.Streams.{puts_both}
+use Rattle.tds_csv.proofs.Splits.{Puts_split}
+
+-- Whole elements were read, which lead from one state to another. The text of all but the last was put, and that of the last but for its tail.
+pub record Nears {S : Type 0} (g : Grammar S Fault) (text : S → List ℕ) (from : S) (old new : Seen) (before after : Held) (to : S) (tail : List ℕ) : Type 0 where
+  pub bytes : List ℕ
+  pub element : List ℕ
+  pub at : S
+  pub spelt : Spelt g from bytes at
+  pub next : IsNext g at element
+  pub to_is : g.add at element ≡ to
+  pub takes : Takes old new (bytes ++ element) (length (bytes ++ element))
+  pub between : IsBetween new
+  pub middle : Held
+  pub few : length middle.waiting < 4096
+  pub puts : PutsText text from at before middle
+  pub part : List ℕ
+  pub text_is : text at ++ (part ++ tail) ≡ text to
+  pub half : Puts middle after part
+
+-- The text of each element stands behind that of what was read before it.
+abbrev pub Grows : {S : Type 0} → Grammar S Fault → (S → List ℕ) → Type 0
+Grows {S} g text = (s : S) (element : List ℕ) → IsNext g s element → (more : List ℕ) × (text s ++ more ≡ text (g.add s element))
+
+module _ {S : Type 0} (g : Grammar S Fault) (text : S → List ℕ) where
+  -- an element was read behind what was read and put
+  abbrev pub nears_from : (s at : S) (a b c : Seen) (h i : Held) (element tail : List ℕ) → Streams g text s a b h i at → IsNext g at element → Takes b c element (length element) → IsBetween c → length i.waiting < 4096 → i.delivered ≤ 2 ^ 64 - 1
+      → text at ++ tail ≡ text (g.add at element) → Nears g text s a c h i (g.add at element) tail
+  nears_from s at a b c h i element tail x next takes between few delivered text_is = record {
+    bytes = x.bytes;
+    element = element;
+    at = at;
+    spelt = x.spelt;
+    next = next;
+    to_is = refl;
+    takes = takes_both a b c x.bytes element x.takes takes;
+    between = between;
+    middle = i;
+    few = few;
+    puts = x.puts;
+    part = [];
+    text_is = text_is;
+    half = Puts-none i delivered;
+  }
+
+  -- a further part was put
+  abbrev pub nears_put : (s : S) (a b : Seen) (h i j : Held) (to : S) (p q : List ℕ) → Nears g text s a b h i to (p ++ q) → Puts i j p → Nears g text s a b h j to q
+  nears_put s a b h i j to p q x puts = record {
+    bytes = x.bytes;
+    element = x.element;
+    at = x.at;
+    spelt = x.spelt;
+    next = x.next;
+    to_is = x.to_is;
+    takes = x.takes;
+    between = x.between;
+    middle = x.middle;
+    few = x.few;
+    puts = x.puts;
+    part = x.part ++ p;
+    text_is = ap (λ l. text x.at ++ l) (append_assoc x.part p q) ∙ x.text_is;
+    half = Puts-trans x.middle i j x.part p x.half puts;
+  }
+
+  -- all was put
+  abbrev pub nears_done : (s : S) (a b : Seen) (h i j : Held) (to : S) (tail : List ℕ) → Nears g text s a b h i to tail → Puts i j tail → Streams g text s a b h j to
+  nears_done s a b h i j to tail x puts = record {
+    bytes = x.bytes ++ x.element;
+    spelt = Spelt-append g s x.bytes x.at x.element to x.spelt (subst (λ t. Spelt g x.at x.element t) x.to_is (Spelt-one g x.at x.element x.next));
+    takes = x.takes;
+    puts = puts_both text s x.at to h x.middle j x.puts (x.part ++ tail, x.text_is, Puts-trans x.middle i j x.part tail x.half puts);
+  }
+
+  -- a write of a further part failed
+  abbrev pub nears_breaks : (s : S) (a b : Seen) (h i j : Held) (to : S) (tail p q : List ℕ) (stop : Stop) → Nears g text s a b h i to tail → tail ≡ p ++ q → Breaks i j p stop → (at : S) × BreaksStreaming g text s a b h j at stop
+  nears_breaks s a b h i j to tail p q stop x parts breaks = (
+    x.at,
+    record {
+      bytes = x.bytes;
+      element = x.element;
+      ahead = [];
+      spelt = x.spelt;
+      next = x.next;
+      takes = subst (λ l. Takes a b l (length (x.bytes ++ x.element))) (sym (append-nil (x.bytes ++ x.element))) x.takes;
+      between = x.between;
+      middle = x.middle;
+      few = x.few;
+      puts = x.puts;
+      more = x.part ++ tail;
+      text_is = x.text_is ∙ ap text (sym x.to_is);
+      breaks =
+          subst (λ l. Breaks x.middle j l stop) (append_assoc x.part p q ∙ ap (λ l. x.part ++ l) (sym parts)) (Breaks-longer x.middle j (x.part ++ p) q stop (Breaks-after x.middle i j x.part p stop x.half breaks));
+    },
+  )
+
+  -- the text of what is read later stands behind that of what is read before
+  grown : Grows g text → (s : S) (es : List (List ℕ)) (t : S) → Leads g s es t → (more : List ℕ) × (text s ++ more ≡ text t)
+  grown grows s [] t leads = ([], append-nil (text s) ∙ ap text leads)
+  grown grows s (e ∷ es) t leads =
+      let one : (more : List ℕ) × (text s ++ more ≡ text (g.add s e)) = grows s e leads.0 in
+      let all : (more : List ℕ) × (text (g.add s e) ++ more ≡ text t) = grown grows (g.add s e) es t leads.1 in
+      (one.0 ++ all.0, sym (append_assoc (text s) one.0 all.0) ∙ ap (λ l. l ++ all.0) one.1 ∙ all.1)
+
+  pub grown_leads : Grows g text → (s : S) (es : List (List ℕ)) (t : S) → Leads g s es t → (more : List ℕ) × (text s ++ more ≡ text t)
+  grown_leads grows s es t leads = grown grows s es t leads
+
+  pub grown_spelt : Grows g text → (s : S) (bytes : List ℕ) (t : S) → Spelt g s bytes t → (more : List ℕ) × (text s ++ more ≡ text t)
+  grown_spelt grows s bytes t spelt = grown grows s spelt.elements t spelt.leads
+
+module _ {S : Type 0} (g : Grammar S Fault) where
+  -- what reads some bytes has a next element before them
+  pub first_size : (s : S) (bytes : List ℕ) (t : S) → Spelt g s bytes t → 0 < length bytes → 0 < g.size s
+  first_size s bytes t spelt some = go spelt.elements spelt.joined spelt.leads
+    where
+      go : (es : List (List ℕ)) → concat es ≡ bytes → Leads g s es t → 0 < g.size s
+      go [] joined leads = absurd (let z : length bytes ≡ 0 = ap length (sym joined) in omega arith)
+      go (e ∷ es) joined leads = next_some g s e leads.0
+
+  -- a grammar is inside itself
+  pub inside_itself : Inside g g (λ s. s)
+  inside_itself = record { size = λ s some. refl; fault = λ s e some. refl; add = λ s e some. refl }
+
+  -- the last element of what was read
+  last_read : (s : S) (bytes : List ℕ) (t : S) → Spelt g s bytes t → 0 < length bytes → LastInside g g (λ u. u) inside_itself s bytes t
+  last_read s bytes t spelt some = last_inside g g (λ u. u) inside_itself s bytes t spelt some
+
+-- A small grammar inside a big one, whose text is that of the small one behind a text that stands before it, where the small one has a next element.
+module _ {S T : Type 0} (small : Grammar S Fault) (big : Grammar T Fault) (lift : S → T) (is : Inside small big lift) (text : S → List ℕ) (whole : T → List ℕ) (front : List ℕ) (text_is : (s : S) → 0 < small.size s → front ++ text s ≡ whole (lift s)) (grows : Grows small text) where
+  -- what is added to the small text between two states with a next element is added to the big one
+  pub added_between : (s t : S) (more : List ℕ) → 0 < small.size s → 0 < small.size t → text s ++ more ≡ text t → whole (lift s) ++ more ≡ whole (lift t)
+  added_between s t more some more_to_come e = ap (λ l. l ++ more) (sym (text_is s some)) ∙ append_assoc front (text s) more ∙ ap (λ l. front ++ l) e ∙ text_is t more_to_come
+
+  -- behind the small text the big one has a tail
+  tail_behind : (s t : S) (more tail : List ℕ) → 0 < small.size s → text s ++ more ≡ text t → (front ++ text t) ++ tail ≡ whole (lift t) → whole (lift s) ++ (more ++ tail) ≡ whole (lift t)
+  tail_behind s t more tail some e end =
+      ap (λ l. l ++ (more ++ tail)) (sym (text_is s some)) ∙ sym (append_assoc (front ++ text s) more tail) ∙ ap (λ l. l ++ tail) (append_assoc front (text s) more ∙ ap (λ l. front ++ l) e) ∙ end
+
+  -- the small grammar was read to its end, and its text put: of the big one's text only what stands behind it is to be put
+  pub nears_inside : (from : S) (a b : Seen) (h i : Held) (to : S) (tail : List ℕ) → (x : Streams small text from a b h i to) → 0 < length x.bytes → IsBetween b → length i.waiting < 4096 → (front ++ text to) ++ tail ≡ whole (lift to)
+      → Nears big whole (lift from) a b h i (lift to) tail
+  nears_inside from a b h i to tail x some between few end =
+      let l : LastInside small small (λ u. u) (inside_itself small) from x.bytes to = last_read small from x.bytes to x.spelt some in
+      let begin : 0 < small.size from = first_size small from x.bytes to x.spelt some in
+      let before : (more : List ℕ) × (text from ++ more ≡ text l.at) = grown_spelt small text grows from l.front l.at l.spelt in
+      let last : (more : List ℕ) × (text l.at ++ more ≡ text (small.add l.at l.element)) = grows l.at l.element l.next in
+      let closed : text l.at ++ last.0 ≡ text to = last.1 ∙ ap text l.to_is in
+      let added : text from ++ x.puts.0 ≡ text from ++ (before.0 ++ last.0) = x.puts.1 ∙ sym closed ∙ ap (λ t. t ++ last.0) (sym before.1) ∙ append_assoc (text from) before.0 last.0 in
+      let parts : x.puts.0 ≡ before.0 ++ last.0 = append_cancel_left (text from) x.puts.0 (before.0 ++ last.0) added in
+      let cut : (m : Held) × (length m.waiting < 4096) × Puts h m before.0 × Puts m i last.0 × (m.delivered ≤ 2 ^ 64 - 1) = Puts_split h i before.0 last.0 few (subst (Puts h i) parts x.puts.2) in
+      record {
+        bytes = l.front;
+        element = l.element;
+        at = lift l.at;
+        spelt = Inside-Spelt small big lift is from l.front l.at l.spelt;
+        next = next_inside small big lift is l.at l.element l.size l.next;
+        to_is = is.add l.at l.element l.size ∙ ap lift l.to_is;
+        takes = subst (λ v. Takes a b v (length v)) (sym l.joined) x.takes;
+        between = between;
+        middle = cut.0;
+        few = cut.1;
+        puts = (before.0, added_between from l.at before.0 begin l.size before.1, cut.2);
+        part = last.0;
+        text_is = tail_behind l.at to last.0 tail l.size closed end;
+        half = cut.3;
+      }

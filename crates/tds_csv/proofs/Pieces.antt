@@ -1,0 +1,62 @@
+-- A piece that was lent is many elements: where a write of their text fails, it fails in that of one of them.
+use Rattle.std.proofs.Common.{◌≡◌, ◌∙◌, inl, inr, ℕ, ◌-◌, ◌^◌, ◌<◌, ◌≤◌, List, [], ◌∷◌, ◌++◌, length, sym, ap, subst, arith, append_assoc, append-nil, length-append}
+use Rattle.std.specs.List.{concat}
+use Rattle.std.proofs.lemmas.List.{append_cancel_left}
+use Rattle.tds_packet.specs.declared.fault.Fault.{Fault}
+use Rattle.tds_packet.specs.declared.fault.Stop.{Stop}
+use Rattle.tds_packet.specs.Elements.{Grammar, IsNext, Leads, Spelt}
+use Rattle.tds_packet.specs.Seen.{Seen, Takes, IsBetween}
+use Rattle.tds_packet.proofs.ElementLaws.{Spelt-append, Spelt-none, Spelt-one}
+use Rattle.tds_packet.proofs.Futures.{Takes-more}
+use Rattle.tds_csv.specs.Sinks.{Held, Breaks}
+use Rattle.tds_csv.specs.Streaming.{BreaksStreaming, PutsText}
+use Rattle.tds_csv.proofs.Sinks.{Puts-none}
+use Rattle.tds_csv.proofs.Streams.{puts_both}
+use Rattle.tds_csv.proofs.Splits.{Breaks_none, Breaks_split}
+use Rattle.tds_csv.proofs.Nears.{Grows, grown_leads}
+
+module _ {S : Type 0} (g : Grammar S Fault) (text : S → List ℕ) (grows : Grows g text) (s : S) (a b : Seen) (h j : Held) (stop : Stop) (between : IsBetween b) where
+  -- a write failed in the text of this element, and so much of the piece lies ahead
+  breaks_here : (at : S) (bytes element ahead : List ℕ) (m : Held) (more : List ℕ) → Spelt g s bytes at → IsNext g at element → Takes a b ((bytes ++ element) ++ ahead) 1 → PutsText text s at h m → length m.waiting < 4096 → text at ++ more ≡ text (g.add at element) → Breaks m j more stop
+      → BreaksStreaming g text s a b h j at stop
+  breaks_here at bytes element ahead m more spelt next takes puts few text_is breaks = record {
+    bytes = bytes;
+    element = element;
+    ahead = ahead;
+    spelt = spelt;
+    next = next;
+    takes = Takes-more a b ((bytes ++ element) ++ ahead) 1 (length (bytes ++ element)) (let some : 0 < length element = next.some in omega (arith, length-append bytes element)) takes;
+    between = between;
+    middle = m;
+    few = few;
+    puts = puts;
+    more = more;
+    text_is = text_is;
+    breaks = breaks;
+  }
+
+  -- the elements from a state on, before which all was put
+  breaks_from : (at t : S) (es : List (List ℕ)) (bytes rest : List ℕ) (m : Held) (added : List ℕ) → Spelt g s bytes at → Leads g at es t → Takes a b ((bytes ++ concat es) ++ rest) 1 → PutsText text s at h m → length m.waiting < 4096 → text at ++ added ≡ text t → Breaks m j added stop
+      → (to : S) × BreaksStreaming g text s a b h j to stop
+  breaks_from at t [] bytes rest m added spelt leads takes puts few text_is breaks =
+      let none : added ≡ [] = append_cancel_left (text at) added [] (text_is ∙ ap text (sym leads) ∙ sym (append-nil (text at))) in
+      absurd (Breaks_none m j stop few (subst (λ l. Breaks m j l stop) none breaks))
+  breaks_from at t (e ∷ es) bytes rest m added spelt leads takes puts few text_is breaks =
+      let next : IsNext g at e = leads.0 in
+      let more : (x : List ℕ) × (text at ++ x ≡ text (g.add at e)) = grows at e next in
+      let later : (x : List ℕ) × (text (g.add at e) ++ x ≡ text t) = grown_leads g text grows (g.add at e) es t leads.1 in
+      let both : text at ++ (more.0 ++ later.0) ≡ text t = sym (append_assoc (text at) more.0 later.0) ∙ ap (λ l. l ++ later.0) more.1 ∙ later.1 in
+      let parts : added ≡ more.0 ++ later.0 = append_cancel_left (text at) added (more.0 ++ later.0) (text_is ∙ sym both) in
+      let joined : (bytes ++ concat (e ∷ es)) ++ rest ≡ ((bytes ++ e) ++ concat es) ++ rest = ap (λ l. l ++ rest) (sym (append_assoc bytes e (concat es))) in
+      let taken : Takes a b (((bytes ++ e) ++ concat es) ++ rest) 1 = subst (λ l. Takes a b l 1) joined takes in
+      elim (Breaks_split m j more.0 later.0 stop (subst (λ l. Breaks m j l stop) parts breaks)) [
+        | inl broken ↦ (at, breaks_here at bytes e (concat es ++ rest) m more.0 spelt next (subst (λ l. Takes a b l 1) (append_assoc (bytes ++ e) (concat es) rest) taken) puts few more.1 broken)
+        | inr x ↦
+            breaks_from (g.add at e) t es (bytes ++ e) rest x.0 later.0 (Spelt-append g s bytes at e (g.add at e) spelt (Spelt-one g at e next)) leads.1 taken (puts_both text s at (g.add at e) h m x.0 puts (more.0, more.1, x.2)) x.1 later.1 x.3
+      ]
+
+  -- a piece was read at once, and a write of its text failed: it failed in that of one of its elements
+  pub breaks_somewhere : (t : S) (piece rest : List ℕ) (added : List ℕ) → Spelt g s piece t → Takes a b (piece ++ rest) 1 → length h.waiting < 4096 → h.delivered ≤ 2 ^ 64 - 1 → text s ++ added ≡ text t → Breaks h j added stop
+      → (at : S) × BreaksStreaming g text s a b h j at stop
+  breaks_somewhere t piece rest added spelt takes few delivered text_is breaks =
+      breaks_from s t spelt.elements [] rest h added (Spelt-none g s) spelt.leads (subst (λ l. Takes a b (l ++ rest) 1) (sym spelt.joined) takes) ([], append-nil (text s), Puts-none h delivered) few text_is breaks
