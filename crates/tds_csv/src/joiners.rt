@@ -1,5 +1,5 @@
 // Conversions whose data comes in pieces.
-ghost use Rattle.std.specs.Prelude.{◌≡◌, ◌%◌, ℕ, Bool, List, [], length};
+ghost use Rattle.std.specs.Prelude.{◌≡◌, ◌<◌, ◌%◌, ℕ, Bool, List, [], length};
 ghost use Rattle.tds_csv.specs.Joining.{JoinsPieces};
 ghost use Rattle.tds_csv.specs.Pushing.{EndsPieces, PushesPiece};
 ghost use Rattle.tds_csv.specs.Sinks.{IsReady};
@@ -87,5 +87,6 @@ pub trait Joiner: Sized {
     fn laws()
         ensures joins { JoinsPieces fit begins rest text }
         ensures none_begins { begins [] }
+        ensures some_unit { 0 < UNIT }
         ensures whole_units { (bytes : List ℕ) → fit bytes → length bytes % UNIT ≡ 0 };
 }

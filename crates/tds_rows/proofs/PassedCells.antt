@@ -72,7 +72,7 @@ stops_behind s t a b d place middle stop x y = record {
 
 -- ---- data, byte by byte
 
-unless_true : (b : Bool) (f : Fault) → b ≡ true → unless b f ≡ None
+pub unless_true : (b : Bool) (f : Fault) → b ≡ true → unless b f ≡ None
 unless_true true f h = refl
 unless_true false f h = cc
 
@@ -131,7 +131,7 @@ short_free c size n any even zero d x all =
 short_free c size n any even (suc r) d x all =
     and_from (is_begun c (d ++ x ∷ [])) (nat_lt 0 (suc r) || is_fit c (d ++ x ∷ [])) (any.begun (d ++ x ∷ [])) (or_left (nat_lt 0 (suc r)) (is_fit c (d ++ x ∷ [])) (test_lt 0 (suc r) (omega arith)))
 
-short_next : (c : Conversion) (r : ℕ) (d : List ℕ) → short_left c (suc r) d ≡ ShortData c r d
+pub short_next : (c : Conversion) (r : ℕ) (d : List ℕ) → short_left c (suc r) d ≡ ShortData c r d
 short_next c r d = choose_false (suc r == 0) (WholeCell (DataCell c d)) (ShortData c (suc r - 1) d) (ne_eqb (suc r) 0 (λ e. omega (arith, e))) ∙ ap (λ (k : ℕ). ShortData c k d) (omega arith)
 
 -- the data of a short value
@@ -143,7 +143,7 @@ short_runs c size n any even = record {
   end = λ r d. ap cell_end (short_next c r d);
 }
 
-chunk_next : (c : Conversion) (total : Option ℕ) (r : ℕ) (d : List ℕ) → chunk_left c total (suc r) d ≡ ChunkData c total r d
+pub chunk_next : (c : Conversion) (total : Option ℕ) (r : ℕ) (d : List ℕ) → chunk_left c total (suc r) d ≡ ChunkData c total r d
 chunk_next c total r d = choose_false (suc r == 0) (ChunkLength c total d) (ChunkData c total (suc r - 1) d) (ne_eqb (suc r) 0 (λ e. omega (arith, e))) ∙ ap (λ (k : ℕ). ChunkData c total k d) (omega arith)
 
 -- the data of a chunk

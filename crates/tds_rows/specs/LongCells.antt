@@ -1,5 +1,5 @@
--- What the parts of reading a long value do: its lengths, the pieces of its data, and its end.
-use Rattle.std.specs.Prelude.{◌≡◌, ◌⊎◌, ◌==◌, ◌||◌, ◌%◌, ℕ, ◌+◌, ◌-◌, ◌<◌, ◌≤◌, Bool, true, false, List, [], ◌∷◌, ◌++◌, length, take, drop, nat_le, Option, Some, None, Result, MatchResult, if◌then◌else◌}
+-- What the parts of reading a long value do: its lengths, the pieces of its content, and its end.
+use Rattle.std.specs.Prelude.{◌≡◌, ◌⊎◌, ◌==◌, ◌||◌, ◌%◌, ◌^◌, ℕ, ◌+◌, ◌-◌, ◌<◌, ◌≤◌, Bool, true, false, List, [], ◌∷◌, ◌++◌, length, nat_le, Option, Some, None, Result, MatchResult, if◌then◌else◌}
 use Rattle.tds_values.specs.Numbers.{little}
 use Rattle.tds_packet.specs.declared.fault.Fault.{Fault}
 use Rattle.tds_packet.specs.declared.fault.Fault.TheVariants.{BadText, OddText, PlpLength}
@@ -8,23 +8,20 @@ use Rattle.tds_packet.specs.declared.fault.Stop.{Stop}
 use Rattle.tds_packet.specs.declared.payload.Payload as payloads
 use Rattle.tds_packet.specs.Payloads.{seen}
 use Rattle.tds_packet.specs.Seen.{Seen, Takes, Ends, IsBetween, began_at}
-use Rattle.tds_csv.specs.Conversion.{Begins, Conversion, IsFit, conversion_rest, conversion_text}
+use Rattle.tds_csv.specs.Conversion.{Begins, Conversion, IsFit, closing, conversion_rest, conversion_text}
 use Rattle.tds_csv.specs.Joining.{emit}
+use Rattle.tds_csv.specs.declared.joiners.JoinFault.{JoinFault}
+use Rattle.tds_csv.specs.declared.joiners.JoinFault.TheVariants.{Stopped}
+use Rattle.tds_csv.specs.declared.joiners.JoinFault.TheVariants as join_faults
 use Rattle.tds_csv.specs.Quoting.{binary_mark, end_behind, quote}
 use Rattle.tds_csv.specs.declared.sink.Sink.{Sink}
 use Rattle.tds_csv.specs.Sinks.{Breaks, Held, Puts, held}
-use Rattle.tds_rows.specs.declared.lengths.ChunkedTotal.{ChunkedTotal}
-use Rattle.tds_rows.specs.declared.lengths.ChunkedTotal.TheVariants.{Known, NullValue, Unknown}
-use Rattle.tds_rows.specs.Cells.{is_total, null_total, unknown_total, unless, within_total}
+use Rattle.tds_rows.specs.Cells.{is_total, known_total, null_total, unknown_total, unless, within_total}
 
--- what stands before the text of a long value, and what behind it
+-- what stands before the text of a long value
 abbrev pub opening : Bool → List ℕ
 opening true = quote ∷ []
 opening false = binary_mark
-
-abbrev pub closing : Bool → List ℕ
-closing true = quote ∷ []
-closing false = []
 
 -- ---- lengths
 
@@ -73,11 +70,11 @@ short_fault column size n = unless ((n == 0xFFFF) || (n % size == 0)) (OddText c
 abbrev pub total_fault : ℕ → ℕ → ℕ → Option Fault
 total_fault column size n = unless (nat_le unknown_total n || (n % size == 0)) (OddText column)
 
--- the fault of a terminator behind so many bytes of data, but for what the data itself has
+-- the fault of a terminator behind so many bytes of content, but for what the content itself has
 abbrev pub end_fault : ℕ → ℕ → Option ℕ → ℕ → Option Fault
 end_fault column size total sum = if is_total total sum then unless (sum % size == 0) (OddText column) else Some (PlpLength column)
 
--- the fault of the length of a chunk behind so many bytes of data, 0 being the terminator
+-- the fault of the length of a chunk behind so many bytes of content, 0 being the terminator
 abbrev pub chunk_length_fault : ℕ → ℕ → Option ℕ → ℕ → ℕ → Option Fault
 chunk_length_fault column size total sum n = if n == 0 then end_fault column size total sum else unless (within_total total (sum + n)) (PlpLength column)
 
@@ -85,27 +82,27 @@ chunk_length_fault column size total sum n = if n == 0 then end_fault column siz
 abbrev pub short_length : ℕ → Option ℕ
 short_length n = if n == 0xFFFF then None else Some n
 
--- what a total stands for
-abbrev pub total_of : ℕ → ChunkedTotal
-total_of n = if n == null_total then NullValue else if n == unknown_total then Unknown else Known n
+-- what a total says: nothing of NULL, else how many bytes there are, if that is known
+abbrev pub total_of : ℕ → Option (Option ℕ)
+total_of n = if n == null_total then None else Some (known_total n)
 
--- ---- data
+-- ---- content
 
--- the text that some data adds behind other data
+-- the text that some content adds behind other content
 abbrev pub added_text : Conversion → List ℕ → List ℕ → List ℕ
-added_text c data more = emit (conversion_rest c) (conversion_text c) (conversion_rest c data ++ more)
+added_text c content more = emit (conversion_rest c) (conversion_text c) (conversion_rest c content ++ more)
 
--- So many bytes behind this data were read in a piece, and their text put; what is withheld then is the rest of all of it.
-pub record TakesData (c : Conversion) (data kept : List ℕ) (old new : Seen) (place place' : ℕ) (before after : Held) (n : ℕ) : Type 0 where
+-- So many bytes behind this content were read in a piece, and their text put; what is withheld then is the rest of all of it.
+pub record TakesData (c : Conversion) (content kept : List ℕ) (old new : Seen) (place place' : ℕ) (before after : Held) (n : ℕ) : Type 0 where
   pub piece : List ℕ
   pub counted : length piece ≡ n
   pub some : 0 < n
   pub takes : Takes old new piece 1
   pub between : IsBetween new
   pub place_is : place' ≡ place + n
-  pub begun : Begins c (data ++ piece)
-  pub puts : Puts before after (added_text c data piece)
-  pub kept_is : kept ≡ conversion_rest c (data ++ piece)
+  pub begun : Begins c (content ++ piece)
+  pub puts : Puts before after (added_text c content piece)
+  pub kept_is : kept ≡ conversion_rest c (content ++ piece)
 
 -- The payload stopped before the next byte.
 pub record CutsData (old new : Seen) (place : ℕ) (before after : Held) (stop : Stop) : Type 0 where
@@ -115,91 +112,102 @@ pub record CutsData (old new : Seen) (place : ℕ) (before after : Held) (stop :
   pub same : after ≡ before
 
 -- A piece was read; its first bytes and their text are good, and the next one is bad.
-pub record RefusesData (c : Conversion) (data : List ℕ) (column most : ℕ) (old new : Seen) (place : ℕ) (before after : Held) (stop : Stop) : Type 0 where
+pub record RefusesData (c : Conversion) (content : List ℕ) (column most : ℕ) (old new : Seen) (place : ℕ) (before after : Held) (stop : Stop) : Type 0 where
   pub good : List ℕ
   pub bad : ℕ
   pub ahead : List ℕ
   pub within : length good < most
   pub takes : Takes old new (good ++ bad ∷ ahead) 1
   pub between : IsBetween new
-  pub begun : Begins c (data ++ good)
-  pub no_text : ¬ (Begins c ((data ++ good) ++ bad ∷ []))
-  pub puts : Puts before after (added_text c data good)
+  pub begun : Begins c (content ++ good)
+  pub no_text : ¬ (Begins c ((content ++ good) ++ bad ∷ []))
+  pub puts : Puts before after (added_text c content good)
   pub stop_is : stop ≡ record { fault = BadText column; place = Payload (place + length good) }
 
 -- A piece was read, and a write of the text of its first bytes failed.
-pub record BreaksData (c : Conversion) (data : List ℕ) (most : ℕ) (old new : Seen) (before after : Held) (stop : Stop) : Type 0 where
+pub record BreaksData (c : Conversion) (content : List ℕ) (most : ℕ) (old new : Seen) (before after : Held) (stop : Stop) : Type 0 where
   pub good : List ℕ
   pub ahead : List ℕ
   pub within : length good ≤ most
   pub takes : Takes old new (good ++ ahead) 1
   pub between : IsBetween new
-  pub begun : Begins c (data ++ good)
-  pub breaks : Breaks before after (added_text c data good) stop
+  pub begun : Begins c (content ++ good)
+  pub breaks : Breaks before after (added_text c content good) stop
 
--- The next piece of the data stopped, of at most so many bytes.
+-- The next piece of the content stopped, of at most so many bytes.
 abbrev pub StopsData : Conversion → List ℕ → ℕ → ℕ → Seen → Seen → ℕ → Held → Held → Bool → Stop → Type 0
-StopsData c data column most old new place before after failed stop =
+StopsData c content column most old new place before after failed stop =
     (CutsData old new place before after stop × (failed ≡ false))
-    ⊎ ((RefusesData c data column most old new place before after stop × (failed ≡ false))
-    ⊎ (BreaksData c data most old new before after stop × (failed ≡ true)))
+    ⊎ ((RefusesData c content column most old new place before after stop × (failed ≡ false))
+    ⊎ (BreaksData c content most old new before after stop × (failed ≡ true)))
 
--- The next piece of the data was read and its text put, or that stopped.
+-- The next piece of the content was read and its text put, or that stopped.
 abbrev pub PieceTaken : {R W : Type 0} → (R → Option (List ℕ)) → (W → Option (List ℕ)) → Conversion → List ℕ → List ℕ → ℕ → ℕ → payloads.Payload R → payloads.Payload R → Sink W → Sink W → Result ℕ Stop → Type 0
-PieceTaken remaining contents c data kept column most old new before after result = MatchResult result
-    (λ n. TakesData c data kept (seen remaining old) (seen remaining new) old.place new.place (held contents before) (held contents after) n)
-    (λ stop. StopsData c data column most (seen remaining old) (seen remaining new) old.place (held contents before) (held contents after) after.failed stop)
+PieceTaken remaining contents c content kept column most old new before after result = MatchResult result
+    (λ n. TakesData c content kept (seen remaining old) (seen remaining new) old.place new.place (held contents before) (held contents after) n)
+    (λ stop. StopsData c content column most (seen remaining old) (seen remaining new) old.place (held contents before) (held contents after) after.failed stop)
 
--- Bytes behind this data were read piece by piece, and their text put.
-pub record FillsData (c : Conversion) (data : List ℕ) (old new : Seen) (place place' : ℕ) (before after : Held) (more : List ℕ) : Type 0 where
+-- Bytes behind this content were read piece by piece, and their text put.
+pub record FillsData (c : Conversion) (content : List ℕ) (old new : Seen) (place place' : ℕ) (before after : Held) (more : List ℕ) : Type 0 where
   pub takes : Takes old new more (length more)
   pub between : IsBetween new
   pub place_is : place' ≡ place + length more
-  pub begun : Begins c (data ++ more)
-  pub puts : Puts before after (added_text c data more)
+  pub begun : Begins c (content ++ more)
+  pub puts : Puts before after (added_text c content more)
   pub few : length after.waiting < 4096
+  pub delivered : after.delivered ≤ 2 ^ 64 - 1
 
 -- Bytes were read so, and then a last piece.
-pub record EndsData (c : Conversion) (data kept : List ℕ) (old new : Seen) (place place' : ℕ) (before after : Held) (n : ℕ) : Type 0 where
+pub record EndsData (c : Conversion) (content kept : List ℕ) (old new : Seen) (place place' : ℕ) (before after : Held) (n : ℕ) : Type 0 where
   pub front : List ℕ
   pub middle : Seen
   pub there : ℕ
   pub between : Held
-  pub fills : FillsData c data old middle place there before between front
+  pub fills : FillsData c content old middle place there before between front
   pub last : ℕ
-  pub takes : TakesData c (data ++ front) kept middle new there place' between after last
+  pub takes : TakesData c (content ++ front) kept middle new there place' between after last
   pub counted : length front + last ≡ n
 
 -- Bytes were read so, fewer than all, and then a piece stopped.
-pub record StopsFilling (c : Conversion) (data : List ℕ) (column n : ℕ) (old new : Seen) (place : ℕ) (before after : Held) (failed : Bool) (stop : Stop) : Type 0 where
+pub record StopsFilling (c : Conversion) (content : List ℕ) (column n : ℕ) (old new : Seen) (place : ℕ) (before after : Held) (failed : Bool) (stop : Stop) : Type 0 where
   pub front : List ℕ
   pub middle : Seen
   pub there : ℕ
   pub between : Held
   pub fewer : length front < n
-  pub fills : FillsData c data old middle place there before between front
-  pub stops : StopsData c (data ++ front) column (n - length front) middle new there between after failed stop
+  pub fills : FillsData c content old middle place there before between front
+  pub stops : StopsData c (content ++ front) column (n - length front) middle new there between after failed stop
 
--- The data of so many bytes, one at least, was read and its text put, or that stopped.
+-- The content of so many bytes, one at least, was read and its text put, or that stopped.
 abbrev pub DataTaken : {R W U : Type 0} → (R → Option (List ℕ)) → (W → Option (List ℕ)) → Conversion → List ℕ → List ℕ → ℕ → ℕ → payloads.Payload R → payloads.Payload R → Sink W → Sink W → Result U Stop → Type 0
-DataTaken remaining contents c data kept column n old new before after result = MatchResult result
-    (λ _. EndsData c data kept (seen remaining old) (seen remaining new) old.place new.place (held contents before) (held contents after) n)
-    (λ stop. StopsFilling c data column n (seen remaining old) (seen remaining new) old.place (held contents before) (held contents after) after.failed stop)
+DataTaken remaining contents c content kept column n old new before after result = MatchResult result
+    (λ _. EndsData c content kept (seen remaining old) (seen remaining new) old.place new.place (held contents before) (held contents after) n)
+    (λ stop. StopsFilling c content column n (seen remaining old) (seen remaining new) old.place (held contents before) (held contents after) after.failed stop)
+
+-- how many bytes are good before a fault of a joiner
+abbrev pub good_of : JoinFault → ℕ
+good_of (join_faults.BadText k) = k
+good_of fault = 0
+
+-- the stop of a fault of a joiner whose piece, or whose end, stands behind so many bytes
+abbrev pub join_stop : ℕ → ℕ → JoinFault → Stop
+join_stop column place (Stopped stop) = stop
+join_stop column place fault = record { fault = BadText column; place = Payload (place + good_of fault) }
 
 -- ---- the end
 
--- what the end of this data adds to its line
+-- what the end of this content adds to its line
 abbrev pub ending : Conversion → Bool → Bool → List ℕ → List ℕ
-ending c quoted last data = conversion_text c (conversion_rest c data) ++ (closing quoted ++ end_behind last)
+ending c quoted last content = conversion_text c (conversion_rest c content) ++ (closing quoted ++ end_behind last)
 
--- The data is whole, and a write of its end failed; or it isn't, and nothing was put.
+-- The content is whole, and a write of its end failed; or it isn't, and nothing was put.
 abbrev pub StopsEnding : Conversion → Bool → Bool → List ℕ → ℕ → ℕ → Held → Held → Bool → Stop → Type 0
-StopsEnding c quoted last data column place before after failed stop =
-    (IsFit c data × Breaks before after (ending c quoted last data) stop × (failed ≡ true))
-    ⊎ ((¬ (IsFit c data)) × (after ≡ before) × (stop ≡ record { fault = BadText column; place = Payload place }) × (failed ≡ false))
+StopsEnding c quoted last content column place before after failed stop =
+    (IsFit c content × Breaks before after (ending c quoted last content) stop × (failed ≡ true))
+    ⊎ ((¬ (IsFit c content)) × (after ≡ before) × (stop ≡ record { fault = BadText column; place = Payload place }) × (failed ≡ false))
 
--- The data is whole and its end was put, or that stopped.
+-- The content is whole and its end was put, or that stopped.
 abbrev pub EndPut : {W U : Type 0} → (W → Option (List ℕ)) → Conversion → Bool → Bool → List ℕ → ℕ → ℕ → Sink W → Sink W → Result U Stop → Type 0
-EndPut contents c quoted last data column place before after result = MatchResult result
-    (λ _. IsFit c data × Puts (held contents before) (held contents after) (ending c quoted last data))
-    (λ stop. StopsEnding c quoted last data column place (held contents before) (held contents after) after.failed stop)
+EndPut contents c quoted last content column place before after result = MatchResult result
+    (λ _. IsFit c content × Puts (held contents before) (held contents after) (ending c quoted last content))
+    (λ stop. StopsEnding c quoted last content column place (held contents before) (held contents after) after.failed stop)

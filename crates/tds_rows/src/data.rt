@@ -1,25 +1,32 @@
 // The data of long values, by pieces that lie in the packet.
-ghost use Rattle.std.specs.Prelude.{◌≡◌, ◌≤◌, ◌<◌, ℕ, List, Bool};
-ghost use Rattle.tds_csv.specs.Conversion.{Begins, Conversion, Suits, conversion_rest, is_quoted};
+ghost use Rattle.std.specs.Prelude.{◌≡◌, ◌≤◌, ◌<◌, ◌+◌, ◌^◌, ◌++◌, ℕ, List, IfOk};
+ghost use Rattle.tds_csv.specs.Conversion.{Begins, Conversion, Suits, closing, conversion_rest};
 ghost use Rattle.tds_csv.specs.Quoting.{behind_comma, end_behind, in_line, null_field};
 ghost use Rattle.tds_csv.specs.Sinks.{IsReady, IsWriting, LeavesSink, PutsPiece};
 ghost use Rattle.tds_packet.specs.Payloads.{IsGoing, LeavesPayload};
-ghost use Rattle.tds_rows.specs.LongCells.{DataTaken, EndPut, PieceTaken, closing, opening};
+ghost use Rattle.tds_rows.specs.LongCells.{DataTaken, EndPut, PieceTaken, good_of, join_stop, opening};
 
 use std::io::{Read, Write};
-use tds_csv::{JoinFault, Joiner, NULL_ROOM, Sink, write_null};
+use tds_csv::{JoinFault, Joiner, NULL_ROOM, Sink, write_comma, write_line_end, write_null};
 use tds_packet::{Fault, Payload, Place, Stop};
 
 // The most bytes that a piece is asked for.
 const LONGEST_PIECE: u64 = 65_536;
 
-// The stop of data that is no text, whose bad byte or end stands behind so many bytes of the payload.
-fn bad_text(column: u16, place: u64) -> Stop
-    ensures { result ≡ record { fault = Fault.BadText column; place = Place.Payload place } }
+// The stop of a joiner whose piece, or whose end, stands behind so many bytes of the payload: the sink's own, or
+// that of the bad byte.
+fn join_stop(fault: JoinFault, column: u16, place: u64) -> Stop
+    requires { place + good_of fault < 2 ^ 64 }
+    ensures { result ≡ join_stop column place fault }
 {
+    let good = match fault {
+        JoinFault::Stopped(stop) => return stop,
+        JoinFault::BadText(good) => good as u64,
+        JoinFault::Odd => 0,
+    };
     Stop {
         fault: Fault::BadText { column },
-        place: Place::Payload(place),
+        place: Place::Payload(place + good),
     }
 }
 
@@ -32,9 +39,9 @@ pub(crate) fn put_opening<W: Write>(
     requires { IsWriting sink.old }
     ensures { PutsPiece W.contents sink.old sink.new (behind_comma column (opening quoted)) result }
 {
-    if column > 0 {
-        sink.comma()?;
-    }
+    let mut comma = [0u8; 1];
+    let made = write_comma(column, &mut comma);
+    sink.put(&comma[..made])?;
     if quoted {
         return sink.open_quoted();
     }
@@ -50,13 +57,13 @@ pub(crate) fn put_closing<W: Write>(
     requires { IsWriting sink.old }
     ensures { PutsPiece W.contents sink.old sink.new (closing quoted ++ end_behind last) result }
 {
-    if quoted {
-        sink.close_quoted()?;
+    let mut end = [0u8; 2];
+    let made = write_line_end(last, 0, &mut end);
+    if !quoted {
+        return sink.put(&end[..made]);
     }
-    if last {
-        sink.line_end()?;
-    }
-    Ok(())
+    sink.close_quoted()?;
+    sink.put(&end[..made])
 }
 
 /// Puts NULL in its line.
@@ -85,19 +92,19 @@ fn push_piece<J: Joiner, R: Read, W: Write>(
     ensures payload { LeavesPayload payload.old payload.new result }
     ensures sink { LeavesSink sink.old sink.new result }
     ensures begun { J.begins (J.withheld joiner.new) }
+    ensures some { IfOk result (λ n. 0 < n) }
     ensures most { IfOk result (λ n. n ≤ most) }
-    ensures gives { (c : Conversion) (data : List ℕ) → Suits J.fit J.begins J.rest J.text J.UNIT J.QUOTED c →
-        J.withheld joiner.old ≡ conversion_rest c data → Begins c data →
-        PieceTaken R.remaining W.contents c data (J.withheld joiner.new) column most
+    ensures place { IfOk result (λ n. payload.new.place ≡ payload.old.place + n) }
+    ensures gives { (c : Conversion) (content : List ℕ) → Suits J.fit J.begins J.rest J.text J.UNIT J.QUOTED c →
+        J.withheld joiner.old ≡ conversion_rest c content → Begins c content →
+        PieceTaken R.remaining W.contents c content (J.withheld joiner.new) column most
         payload.old payload.new sink.old sink.new result }
 {
     let place = payload.place();
     let piece = payload.piece(most.min(LONGEST_PIECE) as usize)?;
     match joiner.push(piece, sink) {
         Ok(()) => Ok(piece.len() as u64),
-        Err(JoinFault::Stopped(stop)) => Err(stop),
-        Err(JoinFault::BadText(good)) => Err(bad_text(column, place + good as u64)),
-        Err(JoinFault::Odd) => unreachable!(),
+        Err(fault) => Err(join_stop(fault, column, place)),
     }
 }
 
@@ -117,9 +124,9 @@ pub(crate) fn push_data<J: Joiner, R: Read, W: Write>(
     ensures sink { LeavesSink sink.old sink.new result }
     ensures begun { J.begins (J.withheld joiner.new) }
     ensures place { IfOk result (λ _. payload.new.place ≡ payload.old.place + n) }
-    ensures gives { (c : Conversion) (data : List ℕ) → Suits J.fit J.begins J.rest J.text J.UNIT J.QUOTED c →
-        J.withheld joiner.old ≡ conversion_rest c data → Begins c data →
-        DataTaken R.remaining W.contents c data (J.withheld joiner.new) column n
+    ensures gives { (c : Conversion) (content : List ℕ) → Suits J.fit J.begins J.rest J.text J.UNIT J.QUOTED c →
+        J.withheld joiner.old ≡ conversion_rest c content → Begins c content →
+        DataTaken R.remaining W.contents c content (J.withheld joiner.new) column n
         payload.old payload.new sink.old sink.new result }
 {
     let mut left = n;
@@ -142,13 +149,12 @@ pub(crate) fn put_end<J: Joiner, W: Write>(
 ) -> Result<(), Stop>
     requires { IsWriting sink.old }
     ensures sink { LeavesSink sink.old sink.new result }
-    ensures gives { (c : Conversion) (data : List ℕ) → Suits J.fit J.begins J.rest J.text J.UNIT J.QUOTED c →
-        J.withheld joiner.old ≡ conversion_rest c data → Begins c data →
-        EndPut W.contents c J.QUOTED last data column place sink.old sink.new result }
+    ensures gives { (c : Conversion) (content : List ℕ) → Suits J.fit J.begins J.rest J.text J.UNIT J.QUOTED c →
+        J.withheld joiner.old ≡ conversion_rest c content → Begins c content →
+        EndPut W.contents c J.QUOTED last content column place sink.old sink.new result }
 {
     match joiner.end(sink) {
         Ok(()) => put_closing(J::QUOTED, last, sink),
-        Err(JoinFault::Stopped(stop)) => Err(stop),
-        Err(JoinFault::Odd | JoinFault::BadText(_)) => Err(bad_text(column, place)),
+        Err(fault) => Err(join_stop(fault, column, place)),
     }
 }

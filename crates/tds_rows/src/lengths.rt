@@ -16,14 +16,6 @@ const NULL_TOTAL: u64 = 0xFFFF_FFFF_FFFF_FFFF;
 // The total that stands for an unknown one.
 const UNKNOWN_TOTAL: u64 = 0xFFFF_FFFF_FFFF_FFFE;
 
-/// What the total of a value in chunks stands for: NULL, a number of bytes that isn't known, or this one.
-#[derive(Clone, Copy)]
-pub(crate) enum ChunkedTotal {
-    NullValue,
-    Unknown,
-    Known(u64),
-}
-
 // Reads a number of so many bytes, the lowest first.
 fn read_number<R: Read>(payload: &mut Payload<R>, size: usize) -> Result<u64, Stop>
     requires going { IsGoing payload.old }
@@ -69,12 +61,13 @@ pub(crate) fn read_short_length<R: Read>(
     Ok(Some(n))
 }
 
-/// Reads the total of a value in chunks, whose data has units of so many bytes.
+/// Reads the total of a value in chunks, whose data has units of so many bytes: the number of its bytes, if
+/// that is known; none where it is NULL.
 pub(crate) fn read_total<R: Read>(
     payload: &mut Payload<R>,
     column: u16,
     unit: u64,
-) -> Result<ChunkedTotal, Stop>
+) -> Result<Option<Option<u64>>, Stop>
     requires going { IsGoing payload.old }
     requires unit { 0 < unit }
     ensures payload { LeavesPayload payload.old payload.new result }
@@ -83,15 +76,15 @@ pub(crate) fn read_total<R: Read>(
     let place = payload.place();
     let n = read_number(payload, 8)?;
     if n == NULL_TOTAL {
-        return Ok(ChunkedTotal::NullValue);
+        return Ok(None);
     }
     if n == UNKNOWN_TOTAL {
-        return Ok(ChunkedTotal::Unknown);
+        return Ok(Some(None));
     }
     if n % unit != 0 {
         return Err(stop_at(Fault::OddText { column }, place));
     }
-    Ok(ChunkedTotal::Known(n))
+    Ok(Some(Some(n)))
 }
 
 // The fault of a terminator behind so many bytes of data, but for what the data itself has.
@@ -107,13 +100,7 @@ fn end_fault(column: u16, unit: u64, total: Option<u64>, sum: u64) -> Option<Fau
 }
 
 // The fault of the length of a chunk behind so many bytes of data; 0 is the terminator.
-fn chunk_length_fault(
-    column: u16,
-    unit: u64,
-    total: Option<u64>,
-    sum: u64,
-    n: u64,
-) -> Option<Fault>
+fn chunk_length_fault(column: u16, unit: u64, total: Option<u64>, sum: u64, n: u64) -> Option<Fault>
     requires { 0 < unit }
     ensures { result ≡ chunk_length_fault column unit total sum n }
 {

@@ -1,15 +1,14 @@
 // Long values (MS-TDS, Data Stream Types).
-ghost use Rattle.std.specs.Prelude.{◌≡◌, ◌≤◌, ◌<◌, ℕ, [], false, None, Option};
+ghost use Rattle.std.specs.Prelude.{◌≡◌, ◌<◌, [], false, None};
 ghost use Rattle.tds_csv.specs.Conversion.{Conversion, Suits};
 ghost use Rattle.tds_csv.specs.Sinks.{IsReady, IsWriting, LeavesSink};
 ghost use Rattle.tds_packet.specs.Payloads.{IsGoing, IsSound, LeavesPayload};
 ghost use Rattle.tds_rows.specs.Cells.{ChunkLength, ShortLength, Total, long_start};
 ghost use Rattle.tds_rows.specs.CellSteps.{FieldPut};
-ghost use Rattle.tds_rows.specs.LongCells.{ChunksPut};
 ghost use Rattle.tds_rows.specs.RowSteps.{StopsAgain};
 
 use crate::data::{push_data, put_end, put_null, put_opening};
-use crate::lengths::{ChunkedTotal, read_chunk_length, read_short_length, read_total};
+use crate::lengths::{read_chunk_length, read_short_length, read_total};
 use std::io::{Read, Write};
 use tds_csv::{Joiner, Sink};
 use tds_packet::{Payload, Stop};
@@ -25,6 +24,7 @@ fn stream_short<J: Joiner, R: Read, W: Write>(
 ) -> Result<(), Stop>
     requires going { IsGoing payload.old }
     requires writing { IsWriting sink.old }
+    requires unit { 0 < J.UNIT }
     requires withheld { J.withheld joiner.old ≡ [] }
     requires begun { J.begins (J.withheld joiner.old) }
     ensures payload { LeavesPayload payload.old payload.new result }
@@ -54,6 +54,7 @@ fn stream_chunks<J: Joiner, R: Read, W: Write>(
 ) -> Result<(), Stop>
     requires going { IsGoing payload.old }
     requires writing { IsWriting sink.old }
+    requires unit { 0 < J.UNIT }
     requires withheld { J.withheld joiner.old ≡ [] }
     requires begun { J.begins (J.withheld joiner.old) }
     ensures payload { LeavesPayload payload.old payload.new result }
@@ -83,6 +84,7 @@ fn stream_chunked<J: Joiner, R: Read, W: Write>(
 ) -> Result<(), Stop>
     requires going { IsGoing payload.old }
     requires writing { IsWriting sink.old }
+    requires unit { 0 < J.UNIT }
     requires withheld { J.withheld joiner.old ≡ [] }
     requires begun { J.begins (J.withheld joiner.old) }
     ensures payload { LeavesPayload payload.old payload.new result }
@@ -90,10 +92,8 @@ fn stream_chunked<J: Joiner, R: Read, W: Write>(
     ensures gives { (c : Conversion) → Suits J.fit J.begins J.rest J.text J.UNIT J.QUOTED c →
         FieldPut R.remaining W.contents (Total c) column last payload.old payload.new sink.old sink.new result }
 {
-    let total = match read_total(payload, column, J::UNIT)? {
-        ChunkedTotal::NullValue => return put_null(column, last, sink),
-        ChunkedTotal::Unknown => None,
-        ChunkedTotal::Known(n) => Some(n),
+    let Some(total) = read_total(payload, column, J::UNIT)? else {
+        return put_null(column, last, sink);
     };
     put_opening(column, J::QUOTED, sink)?;
     stream_chunks(payload, total, column, last, joiner, sink)
@@ -110,6 +110,7 @@ pub(crate) fn stream_long<J: Joiner, R: Read, W: Write>(
 ) -> Result<(), Stop>
     requires going { IsGoing payload.old }
     requires writing { IsWriting sink.old }
+    requires unit { 0 < J.UNIT }
     requires withheld { J.withheld joiner.old ≡ [] }
     requires begun { J.begins (J.withheld joiner.old) }
     ensures payload { LeavesPayload payload.old payload.new result }
