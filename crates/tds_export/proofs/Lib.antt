@@ -20,7 +20,6 @@ pub mod Bodies
 pub mod RowRuns
 pub mod RunSteps
 pub mod ReadingGrows
-pub mod GrowingTexts
 pub mod FieldLengths
 pub mod TextBound
 pub mod PacketOutcomes

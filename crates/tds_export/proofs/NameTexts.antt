@@ -10,7 +10,7 @@ use Rattle.tds_csv.specs.declared.sink.Sink.{Sink}
 use Rattle.tds_csv.specs.Sinks.{IsWriting, PutsPiece}
 use Rattle.tds_csv.proofs.Puttings.{PutsPiece-none, PutsPiece-passed, PutsPiece-trans}
 use Rattle.tds_export.specs.Tokens.{name_field, text_if}
-use Rattle.tds_export.proofs.GrowingTexts.{joined_more}
+use Rattle.tds_rows.proofs.GrowingTexts.{joined_more}
 
 abbrev is_none : List (List ℕ) → Bool
 is_none [] = true

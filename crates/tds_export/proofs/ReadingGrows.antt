@@ -16,7 +16,7 @@ use Rattle.tds_export.specs.ReturnValue.{ReturnPart, ReturnOrdinal, ReturnNameCo
 use Rattle.tds_export.specs.Response.{more}
 use Rattle.tds_export.specs.Tokens.{Token, Metadata, NoMetadata, Row, ReturnStatus, Returned, Done, DoneInProc, described_after, greatest_span, span_of, text, text_after}
 use Rattle.tds_export.specs.TokenGrammar.{AnOrder, AnEnvChange, AnError, AnInfo, Open, Between, Describing, InRow, InReturn, TokenLength, TokenBody, Status, DoneFields, DoneInProcFields, Part, response, bodied, after_byte, open_span, open_text, part_add, span_so_far, start_of_row, text_so_far, with_described, with_return, with_row, with_token}
-use Rattle.tds_export.proofs.GrowingTexts.{Grows, grows_all, grows_same, grows_trans, grows_under, row_grows}
+use Rattle.tds_rows.proofs.GrowingTexts.{Grows, grows_all, grows_same, grows_trans, grows_under, row_grows}
 use Rattle.tds_export.proofs.TokenLaws.{begun_after, greatest_span-append, text_after-snoc}
 
 -- a part by its tokens and where it is read

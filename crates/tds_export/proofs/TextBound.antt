@@ -26,7 +26,7 @@ use Rattle.tds_export.specs.Tokens.{Token, Metadata, NoMetadata, Row, ReturnStat
 use Rattle.tds_export.specs.TokenGrammar.{Bodied, AnOrder, AnEnvChange, AnError, AnInfo, Open, Between, Describing, InRow, InReturn, TokenLength, TokenBody, Status, DoneFields, DoneInProcFields, Part, response, response_start, bodied, open_text, part_add, start_of_row, text_so_far, with_described, with_return, with_row, with_token}
 use Rattle.tds_rows.proofs.CellMeaning.{unless_none}
 use Rattle.tds_rows.proofs.RowSteps.{start_quiet}
-use Rattle.tds_export.proofs.GrowingTexts.{last_fit, end_fit}
+use Rattle.tds_rows.proofs.GrowingTexts.{last_fit, end_fit}
 use Rattle.tds_export.proofs.FieldLengths.{open_length, long_length, open_more, long_more, ReadShort, read_short}
 use Rattle.tds_export.proofs.TokenLaws.{begun_after, text_after-snoc}
 use Rattle.tds_export.proofs.ReadingGrows.{IsFresh, part_at, byte_cases}

@@ -39,7 +39,7 @@ pub grows_under : (x a b : List ℕ) → Grows a b → Grows (x ++ a) (x ++ b)
 grows_under x a b h = (h.0, append_assoc x a h.0 ∙ ap (λ v. x ++ v) h.1)
 
 -- a text that ends more
-grows_by : (a b : List ℕ) → Grows a (a ++ b)
+pub grows_by : (a b : List ℕ) → Grows a (a ++ b)
 grows_by a b = (b, refl)
 
 -- a comma and more behind a field
@@ -60,7 +60,7 @@ joined_last (f ∷ []) a b h = grows_under (f ++ codes ",") a b h
 joined_last (f ∷ g ∷ fs) a b h = grows_under (f ++ codes ",") (joined (g ∷ (fs ++ a ∷ []))) (joined (g ∷ (fs ++ b ∷ []))) (joined_last (g ∷ fs) a b h)
 
 -- the text of a field that may not be there yet
-abbrev OptionGrows : Option (List ℕ) → Option (List ℕ) → Type 0
+abbrev pub OptionGrows : Option (List ℕ) → Option (List ℕ) → Type 0
 OptionGrows None b = Unit {0}
 OptionGrows (Some a) None = ⊥
 OptionGrows (Some a) (Some b) = Grows a b
@@ -125,7 +125,7 @@ end_fit column c total content n h z =
 
 module _ (column : ℕ) where
   -- each element of a cell adds to its text
-  cell_grows : (p : CellPart) (e : List ℕ) → IsNext (cell column) p e → OptionGrows (field_so_far p) (field_so_far (cell_add p e))
+  pub cell_grows : (p : CellPart) (e : List ℕ) → IsNext (cell column) p e → OptionGrows (field_so_far p) (field_so_far (cell_add p e))
   cell_grows (ScalarBytes k i) e n = tt
   cell_grows (ScalarLength k) e n = tt
   cell_grows (ShortLength c) e n = tt
