@@ -33,7 +33,7 @@ pub(crate) const TEXT_ROOM: usize = 44;
 // Reads the next cell, and puts its text: across the end of a packet or of a block, or one that stops
 // the row. Its bytes are gathered, and a run on them alone judges it.
 #[inline(never)]
-fn put_cell<R: Read, W: Write>(
+pub(crate) fn put_cell<R: Read, W: Write>(
     payload: &mut Payload<R>,
     sink: &mut Sink<W>,
     table: &Table,
