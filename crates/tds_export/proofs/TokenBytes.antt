@@ -23,7 +23,7 @@ use Rattle.tds_export.specs.Tokens.{Token, described_after, encoded_after}
 use Rattle.tds_export.specs.Built.{is_built}
 use Rattle.tds_export.specs.TokenGrammar.{AnEnvChange, AnError, AnInfo, AnOrder, Part, is_row_byte, response, row_byte_fault, start_of_row, text_so_far}
 use Rattle.tds_rows.specs.Unbuilt.{ReadsUnbuilt, Stalls}
-use Rattle.tds_export.specs.Steps.{StepStops, IsDescribed, IsHolding, IsOfKind, IsRefusal, ReadsTokens, behind, in_done, in_done_in_proc, in_kind, in_length, in_metadata, in_row, in_status}
+use Rattle.tds_export.specs.Steps.{StepStops, IsDescribed, IsHolding, IsOfKind, IsRefusal, ReadsTokens, behind, in_done, in_done_in_proc, in_kind, in_length, in_metadata, in_return, in_row, in_status}
 use Rattle.tds_packet.proofs.Steps.{cut_at_once, reads_one, refused_at_once, takes_both, takes_ahead}
 use Rattle.tds_rows.proofs.Stalls.{stalls_after, unbuilt_at_once}
 use Rattle.tds_export.proofs.TokenSteps.{same_text, start_text}
@@ -63,6 +63,7 @@ begins_kind charset room tokens byte described bytes kinds.Order e is d k = begi
 begins_kind charset room tokens byte described bytes kinds.EnvChange e is d k = begins_by charset room tokens byte 0xE3 (in_length AnEnvChange tokens) e (record { next = record { some = omega arith; whole = refl; free = refl }; to_is = refl; text_is = refl })
 begins_kind charset room tokens byte described bytes kinds.Error e is d k = begins_by charset room tokens byte 0xAA (in_length AnError tokens) e (record { next = record { some = omega arith; whole = refl; free = refl }; to_is = refl; text_is = refl })
 begins_kind charset room tokens byte described bytes kinds.Info e is d k = begins_by charset room tokens byte 0xAB (in_length AnInfo tokens) e (record { next = record { some = omega arith; whole = refl; free = refl }; to_is = refl; text_is = refl })
+begins_kind charset room tokens byte described bytes kinds.ReturnValue e is d k = begins_by charset room tokens byte 0xAC (in_return tokens) e (record { next = record { some = omega arith; whole = refl; free = refl }; to_is = refl; text_is = refl })
 begins_kind charset room tokens byte described bytes kinds.ReturnStatus e is d k = begins_by charset room tokens byte 0x79 (in_status tokens) e (record { next = record { some = omega arith; whole = refl; free = refl }; to_is = refl; text_is = refl })
 
 module _ (charset : Charset) (room : ℕ) (tokens : List Token) (byte : ℕ) (to : Part) (begins : BeginsToken charset room tokens byte to) where

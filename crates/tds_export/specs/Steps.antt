@@ -15,14 +15,15 @@ use Rattle.tds_csv.specs.Streaming.{PutsText, Streams, BreaksStreaming}
 use Rattle.tds_rows.specs.declared.Charset.{Charset}
 use Rattle.tds_rows.specs.Rows.{row_start}
 use Rattle.tds_rows.specs.Unbuilt.{Stalls}
-use Rattle.tds_export.specs.declared.token_bytes.TheConstants.{COLMETADATA, ROW, NBCROW, ORDER, ENVCHANGE, ERROR, INFO, RETURNSTATUS, DONE, DONEPROC, DONEINPROC}
+use Rattle.tds_export.specs.declared.token_bytes.TheConstants.{COLMETADATA, ROW, NBCROW, ORDER, ENVCHANGE, ERROR, INFO, RETURNSTATUS, RETURNVALUE, DONE, DONEPROC, DONEINPROC}
 use Rattle.tds_export.specs.declared.progress.Progress.{Progress}
 use Rattle.tds_export.specs.declared.report.Report.{Report}
 use Rattle.tds_export.specs.declared.tokens.TokenKind.{TokenKind}
 use Rattle.tds_export.specs.declared.tokens.TokenKind.TheVariants as kinds
 use Rattle.tds_export.specs.Built.{is_built, is_built_token}
 use Rattle.tds_export.specs.Outcome.{report_of}
-use Rattle.tds_export.specs.TokenGrammar.{AnEnvChange, AnError, AnInfo, AnOrder, Between, Bodied, Describing, DoneFields, DoneInProcFields, Open, Part, Status, TokenLength, is_token_byte, text_so_far, span_so_far, with_row}
+use Rattle.tds_export.specs.ReturnValue.{ReturnOrdinal}
+use Rattle.tds_export.specs.TokenGrammar.{AnEnvChange, AnError, AnInfo, AnOrder, Between, Bodied, Describing, DoneFields, DoneInProcFields, InReturn, Open, Part, Status, TokenLength, is_token_byte, text_so_far, span_so_far, with_row}
 use Rattle.tds_export.specs.Tokens.{Token, described_after, encoded_after, error_text, is_final, text}
 
 -- Columns are described, and they are those in these bytes; or none are.
@@ -73,6 +74,7 @@ IsOfKind described byte kinds.Order = byte ≡ ORDER
 IsOfKind described byte kinds.EnvChange = byte ≡ ENVCHANGE
 IsOfKind described byte kinds.Error = byte ≡ ERROR
 IsOfKind described byte kinds.Info = byte ≡ INFO
+IsOfKind described byte kinds.ReturnValue = byte ≡ RETURNVALUE
 
 -- The byte is refused with this fault, or isn't built.
 abbrev pub IsRefusal : Bool → ℕ → Fault → Type 0
@@ -100,6 +102,10 @@ in_done_in_proc tokens = record { tokens = tokens; at = DoneInProcFields }
 abbrev pub in_status : List Token → Part
 in_status tokens = record { tokens = tokens; at = Status }
 
+-- behind the token byte of a RETURNVALUE
+abbrev pub in_return : List Token → Part
+in_return tokens = record { tokens = tokens; at = InReturn ReturnOrdinal }
+
 -- behind the token byte of a token with a body
 abbrev pub in_length : Bodied → List Token → Part
 in_length which tokens = record { tokens = tokens; at = TokenLength which }
@@ -120,6 +126,7 @@ in_kind charset columns kinds.Order = in_length AnOrder
 in_kind charset columns kinds.EnvChange = in_length AnEnvChange
 in_kind charset columns kinds.Error = in_length AnError
 in_kind charset columns kinds.Info = in_length AnInfo
+in_kind charset columns kinds.ReturnValue = in_return
 
 -- A call inside an export stopped in reading: the text of the state that it reached was put.
 pub record StopsInReading (g : Grammar Part Fault) (from : Part) (old new : Seen) (place : ℕ) (before after : Held) (area : Space) (stop : Stop) : Type 0 where

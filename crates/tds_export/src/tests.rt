@@ -14,6 +14,7 @@ mod columns;
 mod cuts;
 mod kinds;
 mod notices;
+mod return_values;
 
 // A column of numbers named a, a row of 42, and a DONE, in one packet.
 const WIRE: [u8; 39] = [

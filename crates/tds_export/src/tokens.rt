@@ -22,6 +22,7 @@ pub(crate) enum TokenKind {
     EnvChange,
     Error,
     Info,
+    ReturnValue,
 }
 
 /// The kind of a token by its first byte, where columns are described or not; or why it is none.
@@ -40,7 +41,8 @@ pub(crate) fn judge(byte: u8, described: bool) -> Result<TokenKind, Fault>
         ENVCHANGE => Ok(TokenKind::EnvChange),
         ERROR => Ok(TokenKind::Error),
         INFO => Ok(TokenKind::Info),
-        NBCROW | RETURNVALUE => Err(Fault::NotYet),
+        RETURNVALUE => Ok(TokenKind::ReturnValue),
+        NBCROW => Err(Fault::NotYet),
         _ => Err(Fault::RefusedToken(byte)),
     }
 }
