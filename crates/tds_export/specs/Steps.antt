@@ -2,7 +2,7 @@
 use Rattle.std.specs.Prelude.{◌≡◌, ◌⊎◌, ◌+◌, ◌≤◌, ℕ, Bool, true, false, List, [], ◌∷◌, ◌++◌, length, Option, Some, None, Result, MatchOption, MatchResult, ⊤}
 use Rattle.tds_meter.specs.Space.{Space}
 use Rattle.tds_packet.specs.declared.fault.Fault.{Fault}
-use Rattle.tds_packet.specs.declared.fault.Fault.TheVariants.{MessageEnded, NotYet, RefusedToken, RowWithoutColumns}
+use Rattle.tds_packet.specs.declared.fault.Fault.TheVariants.{MessageEnded, RefusedToken, RowWithoutColumns}
 use Rattle.tds_packet.specs.declared.fault.Stop.{Stop}
 use Rattle.tds_packet.specs.Elements.{Grammar, Spelt}
 use Rattle.tds_packet.specs.declared.payload.Payload.{Payload}
@@ -13,14 +13,14 @@ use Rattle.tds_columns.specs.View.{columns_of}
 use Rattle.tds_csv.specs.Sinks.{Held, Finishes, FinishFails}
 use Rattle.tds_csv.specs.Streaming.{PutsText, Streams, BreaksStreaming}
 use Rattle.tds_rows.specs.declared.Charset.{Charset}
-use Rattle.tds_rows.specs.Rows.{row_start}
+use Rattle.tds_rows.specs.Rows.{nbc_row_start, row_start}
 use Rattle.tds_rows.specs.Unbuilt.{Stalls}
 use Rattle.tds_export.specs.declared.token_bytes.TheConstants.{COLMETADATA, ROW, NBCROW, ORDER, ENVCHANGE, ERROR, INFO, RETURNSTATUS, RETURNVALUE, DONE, DONEPROC, DONEINPROC}
 use Rattle.tds_export.specs.declared.progress.Progress.{Progress}
 use Rattle.tds_export.specs.declared.report.Report.{Report}
 use Rattle.tds_export.specs.declared.tokens.TokenKind.{TokenKind}
 use Rattle.tds_export.specs.declared.tokens.TokenKind.TheVariants as kinds
-use Rattle.tds_export.specs.Built.{is_built, is_built_token}
+use Rattle.tds_export.specs.Built.{is_built}
 use Rattle.tds_export.specs.Outcome.{report_of}
 use Rattle.tds_export.specs.ReturnValue.{ReturnOrdinal}
 use Rattle.tds_export.specs.TokenGrammar.{AnEnvChange, AnError, AnInfo, AnOrder, Between, Bodied, Describing, DoneFields, DoneInProcFields, InReturn, Open, Part, Status, TokenLength, is_token_byte, text_so_far, span_so_far, with_row}
@@ -67,6 +67,7 @@ pub record ReadsTokens (g : Grammar Part Fault) (from : Part) (tokens : List Tok
 abbrev pub IsOfKind : Bool → ℕ → TokenKind → Type 0
 IsOfKind described byte kinds.Metadata = byte ≡ COLMETADATA
 IsOfKind described byte kinds.Row = (byte ≡ ROW) × (described ≡ true)
+IsOfKind described byte kinds.NbcRow = (byte ≡ NBCROW) × (described ≡ true)
 IsOfKind described byte kinds.Done = (byte ≡ DONE) ⊎ (byte ≡ DONEPROC)
 IsOfKind described byte kinds.DoneInProc = byte ≡ DONEINPROC
 IsOfKind described byte kinds.ReturnStatus = byte ≡ RETURNSTATUS
@@ -76,11 +77,11 @@ IsOfKind described byte kinds.Error = byte ≡ ERROR
 IsOfKind described byte kinds.Info = byte ≡ INFO
 IsOfKind described byte kinds.ReturnValue = byte ≡ RETURNVALUE
 
--- The byte is refused with this fault, or isn't built.
+-- The byte is refused with this fault.
 abbrev pub IsRefusal : Bool → ℕ → Fault → Type 0
 IsRefusal described byte fault =
     ((fault ≡ RefusedToken byte) × (is_token_byte byte ≡ false))
-    ⊎ (((fault ≡ RowWithoutColumns) × (described ≡ false) × ((byte ≡ ROW) ⊎ (byte ≡ NBCROW))) ⊎ ((fault ≡ NotYet) × (is_built_token byte ≡ false)))
+    ⊎ ((fault ≡ RowWithoutColumns) × (described ≡ false) × ((byte ≡ ROW) ⊎ (byte ≡ NBCROW)))
 
 -- behind the token byte of a COLMETADATA
 abbrev pub in_metadata : List Token → Part
@@ -89,6 +90,10 @@ in_metadata tokens = record { tokens = tokens; at = Describing BeforeCount }
 -- behind the token byte of a ROW under these columns
 abbrev pub in_row : Charset → List Column → List Token → Part
 in_row charset columns tokens = with_row tokens (row_start charset columns)
+
+-- behind the token byte of an NBCROW under these columns
+abbrev pub in_nbc_row : List Column → List Token → Part
+in_nbc_row columns tokens = with_row tokens (nbc_row_start columns)
 
 -- behind the token byte of a DONE or DONEPROC
 abbrev pub in_done : List Token → Part
@@ -110,15 +115,17 @@ in_return tokens = record { tokens = tokens; at = InReturn ReturnOrdinal }
 abbrev pub in_length : Bodied → List Token → Part
 in_length which tokens = record { tokens = tokens; at = TokenLength which }
 
--- The token is a ROW.
+-- The token is a ROW or an NBCROW.
 abbrev pub IsRow : TokenKind → Type 0
 IsRow kinds.Row = ⊤
+IsRow kinds.NbcRow = ⊤
 IsRow kind = ⊥
 
 -- behind the first byte of a token of this kind, under these columns
 abbrev pub in_kind : Charset → List Column → TokenKind → List Token → Part
 in_kind charset columns kinds.Metadata = in_metadata
 in_kind charset columns kinds.Row = in_row charset columns
+in_kind charset columns kinds.NbcRow = in_nbc_row columns
 in_kind charset columns kinds.Done = in_done
 in_kind charset columns kinds.DoneInProc = in_done_in_proc
 in_kind charset columns kinds.ReturnStatus = in_status

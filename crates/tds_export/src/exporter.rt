@@ -2,7 +2,7 @@
 ghost use Rattle.std.specs.Prelude.{◌≡◌, ◌≤◌, false, true, IfOk};
 ghost use Rattle.tds_columns.specs.View.{columns_of};
 ghost use Rattle.tds_csv.specs.Sinks.{LeavesSink};
-ghost use Rattle.tds_export.specs.Steps.{IsRow, in_done, in_done_in_proc, in_kind, in_length, in_metadata, in_return, in_row, in_status};
+ghost use Rattle.tds_export.specs.Steps.{IsRow, in_done, in_done_in_proc, in_kind, in_length, in_metadata, in_nbc_row, in_return, in_row, in_status};
 ghost use Rattle.tds_export.specs.TokenGrammar.{AnError, AnInfo, Bodied, is_notice};
 ghost use Rattle.tds_export.specs.Exporters.{Advances, CanBegin, IsInToken, IsRunning, LeavesRun};
 ghost use Rattle.tds_export.specs.Exporters.{ResponseRead, StepRead, TokenRead, WholeRead, view};
@@ -20,7 +20,7 @@ use tds_columns::{Columns, Described, gather};
 use tds_csv::{Sink, utf16_into};
 use tds_meter::Area;
 use tds_packet::{Fault, Payload, Place, Stop};
-use tds_rows::{Charset, read_rows};
+use tds_rows::{Charset, nbc_row, read_rows};
 
 /// The run of an export: what it reads and writes, the areas of its description, of a token's body,
 /// of the first error's text and of a returned value's type, and its progress.
@@ -67,6 +67,21 @@ impl<'a, 'p, 's, R: Read, W: Write> Exporter<'a, 'p, 's, R, W> {
         let columns = Columns::view(self.description.bytes());
         let count = read_rows(self.payload, columns, self.charset, self.sink)?;
         self.progress.report.rows += count;
+        self.progress.is_final = false;
+        Ok(())
+    }
+
+    // Reads an NBCROW behind its token byte, and puts its line. Its bitmap stands in the token area.
+    fn nbc_row(&mut self) -> Result<(), Stop>
+        requires begun { IsInToken self.old }
+        requires described { self.old.progress.described ≡ true }
+        ensures leaves { LeavesRun self.old self.new result }
+        ensures gives { let columns = columns_of self.old.description.now.bytes in
+            StepRead R.remaining W.contents (in_nbc_row columns) self.old self.new result }
+    {
+        let columns = Columns::view(self.description.bytes());
+        nbc_row(self.payload, columns, self.charset, self.token, self.sink)?;
+        self.progress.report.rows += 1;
         self.progress.is_final = false;
         Ok(())
     }
@@ -180,6 +195,7 @@ impl<'a, 'p, 's, R: Read, W: Write> Exporter<'a, 'p, 's, R, W> {
         match kind {
             TokenKind::Metadata => self.metadata(),
             TokenKind::Row => self.rows(),
+            TokenKind::NbcRow => self.nbc_row(),
             TokenKind::Done => self.done(),
             TokenKind::DoneInProc => self.done_in_proc(),
             TokenKind::ReturnStatus => self.return_status(),

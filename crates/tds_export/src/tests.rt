@@ -13,6 +13,7 @@ use tds_packet::{Counted, Fault, Place};
 mod columns;
 mod cuts;
 mod kinds;
+mod nbc_rows;
 mod notices;
 mod return_values;
 
