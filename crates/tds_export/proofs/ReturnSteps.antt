@@ -76,11 +76,16 @@ ordinal_read ordinal a b place middle two takes at = record {
 }
 
 -- the count of the name's units was read
-abbrev pub count_read : (element : List ℕ) (a b : Seen) (place middle : ℕ) → length element ≡ 1 → Takes a b element (length element) → middle ≡ place + length element → ReadsReturn ReturnNameCount (with_return_units (slice_index element 0)) a b place middle
+abbrev count_read : (element : List ℕ) (a b : Seen) (place middle : ℕ) → length element ≡ 1 → Takes a b element (length element) → middle ≡ place + length element → ReadsReturn ReturnNameCount (with_return_units (slice_index element 0)) a b place middle
 count_read element a b place middle one takes at = record {
   reads = reads_one return_value ReturnNameCount a b element (with_return_units (slice_index element 0)) (record { some = omega (arith, one); whole = one; free = refl }) takes refl;
   place_is = at;
 }
+
+-- the ordinal and the count were read
+abbrev pub front_read : (ordinal element : List ℕ) (a b c : Seen) (place one two : ℕ) → length ordinal ≡ 2 → Takes a b ordinal 2 → one ≡ place + 2 → length element ≡ 1 → Takes b c element (length element) → two ≡ one + length element → ReadsReturn ReturnOrdinal (with_return_units (slice_index element 0)) a c place two
+front_read ordinal element a b c place one two counted first at single second at' =
+    return_reads_after ReturnOrdinal ReturnNameCount (with_return_units (slice_index element 0)) a b c place one two (ordinal_read ordinal a b place one counted first at) (count_read element b c one two single second at')
 
 -- the name is cut
 pub name_cut : (units : ℕ) (a b : Seen) (place n : ℕ) (part : List ℕ) (own stop : Stop) → n ≡ 2 * units → length part < n → Ends a b part own → stop ≡ began_at place own → StopsReturn (with_return_units units) a b place stop

@@ -6,13 +6,13 @@ use Rattle.tds_packet.specs.declared.payload.Payload.{Payload}
 use Rattle.tds_packet.specs.Payloads.{IsGoing, LeavesPayload, seen}
 use Rattle.tds_packet.specs.Seen.{Seen, Takes, IsOver}
 use Rattle.tds_columns.specs.View.{IsDescription}
+use Rattle.tds_columns.specs.declared.returned.TheConstants.{TYPE_ROOM}
 use Rattle.tds_csv.specs.declared.sink.Sink.{Sink}
 use Rattle.tds_csv.specs.Sinks.{Held, IsWriting, LeavesSink, held}
 use Rattle.tds_rows.specs.declared.Charset.{Charset}
 use Rattle.tds_export.specs.declared.exporter.Exporter.{Exporter}
 use Rattle.tds_export.specs.declared.progress.Progress.{Progress}
 use Rattle.tds_export.specs.declared.report.Report.{Report}
-use Rattle.tds_export.specs.declared.returned.TheConstants.{TYPE_ROOM}
 use Rattle.tds_export.specs.TokenGrammar.{Part, response, response_start}
 use Rattle.tds_export.specs.Steps.{Completes, StepStops, IsHolding, IsNoted, ReadsTokens, RunStops, Tracks, behind}
 use Rattle.tds_export.specs.Tokens.{Token}

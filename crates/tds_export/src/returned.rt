@@ -5,7 +5,7 @@ ghost use Rattle.tds_packet.specs.Payloads.{IsGoing, LeavesPayload};
 ghost use Rattle.tds_values.specs.Kind as kinds;
 
 use std::io::Read;
-use tds_columns::{read_type_info, take_into};
+use tds_columns::{TYPE_HEAD, TYPE_ROOM, read_type_info, take_into};
 use tds_meter::Area;
 use tds_packet::{Payload, Stop};
 use tds_rows::pass_over;
@@ -13,12 +13,6 @@ use tds_values::Kind;
 
 // The bytes of the ordinal.
 const ORDINAL: usize = 2;
-
-// The bytes of status, UserType, Flags and the type byte.
-const HEAD: usize = 8;
-
-/// The most bytes from a status to the end of its type information.
-pub(crate) const TYPE_ROOM: usize = 15;
 
 // Passes over the ordinal and the name.
 fn pass_name<R: Read>(payload: &mut Payload<R>) -> Result<(), Stop>
@@ -46,7 +40,7 @@ fn take_type<R: Read>(payload: &mut Payload<R>, small: &mut Area) -> Result<Kind
     ensures gives { TypeTaken R.remaining payload.old payload.new result }
 {
     small.clear();
-    take_into(payload, small, HEAD)?;
+    take_into(payload, small, TYPE_HEAD)?;
     read_type_info(payload, small)
 }
 

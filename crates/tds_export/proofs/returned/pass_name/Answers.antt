@@ -2,7 +2,7 @@ use Rattle.std.proofs.Common.{◌≡◌, ◌*◌, ℕ, length, refl, ap, rules, 
 use Rattle.tds_packet.specs.Payloads.{seen}
 use Rattle.tds_packet.proofs.Passing.{passed}
 use Rattle.tds_export.specs.ReturnValue.{ReturnHead, ReturnNameCount, ReturnOrdinal, with_return_units}
-use Rattle.tds_export.proofs.ReturnSteps.{count_read, fill_cut, name_cut, name_read, ordinal_read, return_cut, return_reads_after, return_stops_after}
+use Rattle.tds_export.proofs.ReturnSteps.{fill_cut, front_read, name_cut, name_read, ordinal_read, return_cut, return_reads_after, return_stops_after}
 use Rattle.tds_export.proofs.returned.pass_name.Goals as goal
 
 pub returns-in_err-pass-clause-gives : goal.returns-in_err-pass-clause-gives
@@ -41,9 +41,7 @@ returns-in_err-pass-2-clause-gives g c =
     let units : ℕ = slice_index c.fill.new.to 0 in
     let cut = c.in_err-pass-2.ensures.part c.in_ok-fill.ensures.payload.going in
     let single : length c.fill.new.to ≡ 1 = search rules in
-    let front = return_reads_after ReturnOrdinal ReturnNameCount (with_return_units units) a b d place one two
-    (ordinal_read ordinal.bytes a b place one ordinal.counted ordinal.takes c.in_ok-pass.ensures.place)
-    (count_read c.fill.new.to b d one two single c.in_ok-fill.ensures.all c.in_ok-fill.ensures.place) in
+    let front = front_read ordinal.bytes c.fill.new.to a b d place one two ordinal.counted ordinal.takes c.in_ok-pass.ensures.place single c.in_ok-fill.ensures.all c.in_ok-fill.ensures.place in
     passed _ _ _ _ c.from_residual-in_err-pass-2.ensures.1 (return_stops_after ReturnOrdinal (with_return_units units) a d e place two stop front
     (name_cut units d e two (2 * c.from.result) cut.part cut.own stop (ap (λ n. 2 * n) c.from.ensures) cut.fewer cut.ends cut.stop_is))
 
@@ -61,9 +59,7 @@ returns-clause-gives g c =
     let name = c.in_ok-pass-2.ensures.all in
     let units : ℕ = slice_index c.fill.new.to 0 in
     let single : length c.fill.new.to ≡ 1 = search rules in
-    let front = return_reads_after ReturnOrdinal ReturnNameCount (with_return_units units) a b d place one two
-    (ordinal_read ordinal.bytes a b place one ordinal.counted ordinal.takes c.in_ok-pass.ensures.place)
-    (count_read c.fill.new.to b d one two single c.in_ok-fill.ensures.all c.in_ok-fill.ensures.place) in
+    let front = front_read ordinal.bytes c.fill.new.to a b d place one two ordinal.counted ordinal.takes c.in_ok-pass.ensures.place single c.in_ok-fill.ensures.all c.in_ok-fill.ensures.place in
     record {
       name = name.bytes;
       steps = return_reads_after ReturnOrdinal (with_return_units units) (ReturnHead name.bytes) a d e place two place' front
