@@ -1,5 +1,5 @@
 // The type of the value that a procedure returns (MS-TDS, RETURNVALUE).
-ghost use Rattle.std.specs.Prelude.{◌≡◌, ◌+◌, ◌-◌, ◌≤◌, length, max, slice_index, MatchResult, IfOk, OnErr};
+ghost use Rattle.std.specs.Prelude.{◌≡◌, ◌-◌, ◌≤◌, length, max, slice_index, MatchResult, IfOk, OnErr};
 ghost use Rattle.tds_columns.specs.ReturnedType.{KnownType, StopsType, TypeHead, TypeRead, WereTaken, returned_type};
 ghost use Rattle.tds_packet.specs.Payloads.{IsGoing, LeavesPayload, seen};
 ghost use Rattle.tds_packet.specs.Reading.{Reads};
@@ -15,11 +15,11 @@ use tds_values::Kind;
 // What stands in faults for the number of a column.
 const RETURN_VALUE: u16 = 0xFFFF;
 
-// The bytes of status, UserType, Flags and the type byte.
-const HEAD: usize = 8;
+/// The bytes of status, UserType, Flags and the type byte of a RETURNVALUE.
+pub const TYPE_HEAD: usize = 8;
 
-// The most bytes that follow a type byte.
-const MOST: usize = 7;
+/// The most bytes from its status to the end of its type information.
+pub const TYPE_ROOM: usize = 15;
 
 /// Reads what follows the type byte of a RETURNVALUE, and answers its kind. The area holds the eight
 /// bytes that end with the type byte, just read from the payload, and has room for seven more; what
@@ -30,34 +30,34 @@ const MOST: usize = 7;
 /// The number of the column is 65,535. The area has the eight bytes then.
 pub fn read_type_info<R: Read>(payload: &mut Payload<R>, small: &mut Area) -> Result<Kind, Stop>
     requires going { IsGoing payload.old }
-    requires place { HEAD ≤ payload.old.place }
-    requires head { length small.old.bytes ≡ HEAD }
-    requires room { HEAD + MOST ≤ small.old.room }
+    requires place { TYPE_HEAD ≤ payload.old.place }
+    requires head { length small.old.bytes ≡ TYPE_HEAD }
+    requires room { TYPE_ROOM ≤ small.old.room }
     ensures payload { LeavesPayload payload.old payload.new result }
     ensures room { small.new.room ≡ small.old.room }
     ensures kept { OnErr result (small.new.bytes ≡ small.old.bytes) }
-    ensures bound { small.new.peak ≤ max small.old.peak (HEAD + MOST) }
+    ensures bound { small.new.peak ≤ max small.old.peak TYPE_ROOM }
     ensures kind { IfOk result (λ kind. TypeRead R.remaining payload.old payload.new (slice_index small.old.bytes 7) kind) }
     ensures gives { (before : Seen) → WereTaken before (seen R.remaining payload.old) small.old.bytes → MatchResult result
         (λ kind. Reads returned_type TypeHead before (seen R.remaining payload.new) (KnownType kind))
-        (λ stop. StopsType before (seen R.remaining payload.new) (payload.old.place - HEAD) stop) }
+        (λ stop. StopsType before (seen R.remaining payload.new) (payload.old.place - TYPE_HEAD) stop) }
 {
     let place = payload.place();
-    let byte = small.bytes()[HEAD - 1];
+    let byte = small.bytes()[TYPE_HEAD - 1];
     let rest = match judge_type(RETURN_VALUE, byte) {
         Ok(rest) => rest,
         Err(fault) => {
             return Err(Stop {
                 fault,
-                place: Place::Payload(place - HEAD as u64),
+                place: Place::Payload(place - TYPE_HEAD as u64),
             });
         }
     };
     take_into(payload, small, rest)?;
-    match kind_of(byte, &small.bytes()[HEAD..]) {
+    match kind_of(byte, &small.bytes()[TYPE_HEAD..]) {
         Some(kind) => Ok(kind),
         None => {
-            small.truncate(HEAD);
+            small.truncate(TYPE_HEAD);
             Err(Stop {
                 fault: Fault::BadTypeInfo {
                     index: RETURN_VALUE,

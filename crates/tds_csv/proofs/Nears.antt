@@ -107,6 +107,25 @@ module _ {S : Type 0} (g : Grammar S Fault) (text : S → List ℕ) where
     },
   )
 
+  -- a call that reads on, of whose last element's text a part was put
+  abbrev pub nears_after : (s t : S) (a b c : Seen) (h i j : Held) (to : S) (tail : List ℕ) → Streams g text s a b h i t → Nears g text t b c i j to tail → Nears g text s a c h j to tail
+  nears_after s t a b c h i j to tail x y = record {
+    bytes = x.bytes ++ y.bytes;
+    element = y.element;
+    at = y.at;
+    spelt = Spelt-append g s x.bytes t y.bytes y.at x.spelt y.spelt;
+    next = y.next;
+    to_is = y.to_is;
+    takes = subst (λ l. Takes a c l (length l)) (sym (append_assoc x.bytes y.bytes y.element)) (takes_both a b c x.bytes (y.bytes ++ y.element) x.takes y.takes);
+    between = y.between;
+    middle = y.middle;
+    few = y.few;
+    puts = puts_both text s t y.at h i y.middle x.puts y.puts;
+    part = y.part;
+    text_is = y.text_is;
+    half = y.half;
+  }
+
   -- the text of what is read later stands behind that of what is read before
   grown : Grows g text → (s : S) (es : List (List ℕ)) (t : S) → Leads g s es t → (more : List ℕ) × (text s ++ more ≡ text t)
   grown grows s [] t leads = ([], append-nil (text s) ∙ ap text leads)
@@ -135,7 +154,7 @@ module _ {S : Type 0} (g : Grammar S Fault) where
   inside_itself = record { size = λ s some. refl; fault = λ s e some. refl; add = λ s e some. refl }
 
   -- the last element of what was read
-  last_read : (s : S) (bytes : List ℕ) (t : S) → Spelt g s bytes t → 0 < length bytes → LastInside g g (λ u. u) inside_itself s bytes t
+  pub last_read : (s : S) (bytes : List ℕ) (t : S) → Spelt g s bytes t → 0 < length bytes → LastInside g g (λ u. u) inside_itself s bytes t
   last_read s bytes t spelt some = last_inside g g (λ u. u) inside_itself s bytes t spelt some
 
 -- A small grammar inside a big one, whose text is that of the small one behind a text that stands before it, where the small one has a next element.
@@ -145,12 +164,12 @@ module _ {S T : Type 0} (small : Grammar S Fault) (big : Grammar T Fault) (lift 
   added_between s t more some more_to_come e = ap (λ l. l ++ more) (sym (text_is s some)) ∙ append_assoc front (text s) more ∙ ap (λ l. front ++ l) e ∙ text_is t more_to_come
 
   -- behind the small text the big one has a tail
-  tail_behind : (s t : S) (more tail : List ℕ) → 0 < small.size s → text s ++ more ≡ text t → (front ++ text t) ++ tail ≡ whole (lift t) → whole (lift s) ++ (more ++ tail) ≡ whole (lift t)
+  pub tail_behind : (s t : S) (more tail : List ℕ) → 0 < small.size s → text s ++ more ≡ text t → (front ++ text t) ++ tail ≡ whole (lift t) → whole (lift s) ++ (more ++ tail) ≡ whole (lift t)
   tail_behind s t more tail some e end =
       ap (λ l. l ++ (more ++ tail)) (sym (text_is s some)) ∙ sym (append_assoc (front ++ text s) more tail) ∙ ap (λ l. l ++ tail) (append_assoc front (text s) more ∙ ap (λ l. front ++ l) e) ∙ end
 
   -- the small grammar was read to its end, and its text put: of the big one's text only what stands behind it is to be put
-  pub nears_inside : (from : S) (a b : Seen) (h i : Held) (to : S) (tail : List ℕ) → (x : Streams small text from a b h i to) → 0 < length x.bytes → IsBetween b → length i.waiting < 4096 → (front ++ text to) ++ tail ≡ whole (lift to)
+  abbrev pub nears_inside : (from : S) (a b : Seen) (h i : Held) (to : S) (tail : List ℕ) → (x : Streams small text from a b h i to) → 0 < length x.bytes → IsBetween b → length i.waiting < 4096 → (front ++ text to) ++ tail ≡ whole (lift to)
       → Nears big whole (lift from) a b h i (lift to) tail
   nears_inside from a b h i to tail x some between few end =
       let l : LastInside small small (λ u. u) (inside_itself small) from x.bytes to = last_read small from x.bytes to x.spelt some in

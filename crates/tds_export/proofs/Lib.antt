@@ -16,6 +16,7 @@ pub mod TokenBytes
 pub mod NoticeReading
 pub mod Notices
 pub mod NoticeSteps
+pub mod ReturnSteps
 pub mod Bodies
 pub mod RowRuns
 pub mod RunSteps

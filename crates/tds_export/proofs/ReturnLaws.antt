@@ -23,7 +23,7 @@ use Rattle.tds_export.specs.ReturnValue.{ReturnValue, SpellsReturnName, SpellsRe
 use Rattle.tds_columns.specs.ReturnedType.{return_column}
 
 -- a value is read in its token as by itself
-value_in_return : (name : List ℕ) (kind : Kind) → Inside (cell return_column) return_value (with_value name kind)
+pub value_in_return : (name : List ℕ) (kind : Kind) → Inside (cell return_column) return_value (with_value name kind)
 value_in_return name kind = record { size = size; fault = fault; add = add }
   where
     size : (p : CellPart) → 0 < (cell return_column).size p → return_value.size (with_value name kind p) ≡ (cell return_column).size p
@@ -56,7 +56,7 @@ value_in_return name kind = record { size = size; fault = fault; add = add }
     add (ChunkData c t n d) e h = refl
     add (WholeCell x) e h = absurd (omega arith)
 
-return_name_is_read : (units : ℕ) (name : List ℕ) → length name ≡ 2 * units → Spelt return_value (with_return_units units) name (ReturnHead name)
+pub return_name_is_read : (units : ℕ) (name : List ℕ) → length name ≡ 2 * units → Spelt return_value (with_return_units units) name (ReturnHead name)
 return_name_is_read units [] l =
     let e : (units == 0) ≡ true = grind (arith, nat_tests) in
     subst (λ v. Spelt return_value v [] (ReturnHead [])) (sym (choose_true (units == 0) (ReturnHead []) (ReturnName (2 * units)) e)) (Spelt-none return_value (ReturnHead []))
@@ -82,7 +82,7 @@ head_is_read name ignored byte n seven known =
     (ap (λ v. type_fault return_column v (rest_length v)) at ∙ ap (λ o. type_fault return_column byte o) known)
     (ap (λ v. with_return_type name v (unwrap_or (rest_length v) 0)) at ∙ ap (λ o. with_return_type name byte (unwrap_or o 0)) known)
 
-info_is_read : (name : List ℕ) (byte : ℕ) (rest : List ℕ) (kind : Kind) → rest_length byte ≡ Some (length rest) → kind_of (byte ∷ rest) ≡ Some kind → Spelt return_value (with_return_type name byte (length rest)) rest (with_return_kind name (Some kind))
+pub info_is_read : (name : List ℕ) (byte : ℕ) (rest : List ℕ) (kind : Kind) → rest_length byte ≡ Some (length rest) → kind_of (byte ∷ rest) ≡ Some kind → Spelt return_value (with_return_type name byte (length rest)) rest (with_return_kind name (Some kind))
 info_is_read name byte [] kind n k = subst (λ o. Spelt return_value (with_return_kind name o) [] (with_return_kind name (Some kind))) (sym k) (Spelt-none return_value (with_return_kind name (Some kind)))
 info_is_read name byte (x ∷ xs) kind n k =
     let from : with_return_type name byte (length (x ∷ xs)) ≡ ReturnInfo name byte = choose_false (length (x ∷ xs) == 0) (with_return_kind name (kind_of (byte ∷ []))) (ReturnInfo name byte) (ne_eqb (length (x ∷ xs)) 0 (λ e. omega arith)) in

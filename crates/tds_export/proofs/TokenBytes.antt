@@ -15,17 +15,18 @@ use Rattle.tds_columns.proofs.ViewLaws.{description_shows}
 use Rattle.tds_csv.specs.Sinks.{Held}
 use Rattle.tds_csv.specs.Streaming.{PutsText}
 use Rattle.tds_rows.specs.declared.Charset.{Charset}
-use Rattle.tds_rows.specs.Rows.{row_start}
+use Rattle.tds_rows.specs.Rows.{nbc_row_start, row_start}
 use Rattle.tds_export.specs.declared.progress.Progress.{Progress}
 use Rattle.tds_export.specs.declared.tokens.TokenKind.{TokenKind}
 use Rattle.tds_export.specs.declared.tokens.TokenKind.TheVariants as kinds
 use Rattle.tds_export.specs.Tokens.{Token, described_after, encoded_after}
 use Rattle.tds_export.specs.Built.{is_built}
 use Rattle.tds_export.specs.TokenGrammar.{AnEnvChange, AnError, AnInfo, AnOrder, Part, is_row_byte, response, row_byte_fault, start_of_row, text_so_far}
-use Rattle.tds_rows.specs.Unbuilt.{ReadsUnbuilt, Stalls}
-use Rattle.tds_export.specs.Steps.{StepStops, IsDescribed, IsHolding, IsOfKind, IsRefusal, ReadsTokens, behind, in_done, in_done_in_proc, in_kind, in_length, in_metadata, in_row, in_status}
+use Rattle.tds_rows.specs.Unbuilt.{Stalls}
+use Rattle.tds_export.specs.Steps.{StepStops, IsDescribed, IsHolding, IsOfKind, IsRefusal, ReadsTokens, behind, in_done, in_done_in_proc, in_kind, in_length, in_metadata, in_nbc_row, in_return, in_row, in_status}
 use Rattle.tds_packet.proofs.Steps.{cut_at_once, reads_one, refused_at_once, takes_both, takes_ahead}
-use Rattle.tds_rows.proofs.Stalls.{stalls_after, unbuilt_at_once}
+use Rattle.tds_rows.proofs.Stalls.{stalls_after}
+use Rattle.tds_export.proofs.RowRuns.{columns_known}
 use Rattle.tds_export.proofs.TokenSteps.{same_text, start_text}
 
 -- a token byte that is accepted
@@ -41,11 +42,21 @@ some_columns bytes d = subst (λ cs. 0 < length cs) (sym (description_shows d.0 
 pub begins_row : (charset : Charset) (room : ℕ) (tokens : List Token) (byte : ℕ) (described : Bool) (bytes : List ℕ) → byte ≡ 0xD1 → described ≡ true → bytes ≡ encoded_after [] tokens → 0 < length (columns_of bytes)
     → IsDescribed described (encoded_after [] tokens) (described_after None tokens) → BeginsToken charset room tokens byte (in_row charset (columns_of bytes) tokens)
 begins_row charset room tokens byte described bytes e d is some k =
-    let known : described_after None tokens ≡ Some (columns_of bytes) = subst (λ b. IsDescribed b (encoded_after [] tokens) (described_after None tokens)) d k ∙ ap (λ l. Some (columns_of l)) (sym is) in
+    let known : described_after None tokens ≡ Some (columns_of bytes) = columns_known tokens described bytes d is k in
     subst (λ b. BeginsToken charset room tokens b (in_row charset (columns_of bytes) tokens)) (sym e) (record {
       next = record { some = omega arith; whole = refl; free = ap (row_byte_fault true) known };
       to_is = ap (start_of_row tokens (row_start charset)) known;
       text_is = sym (start_text charset (columns_of bytes) tokens some);
+    })
+
+pub begins_nbc_row : (charset : Charset) (room : ℕ) (tokens : List Token) (byte : ℕ) (described : Bool) (bytes : List ℕ) → byte ≡ 0xD2 → described ≡ true → bytes ≡ encoded_after [] tokens
+    → IsDescribed described (encoded_after [] tokens) (described_after None tokens) → BeginsToken charset room tokens byte (in_nbc_row (columns_of bytes) tokens)
+begins_nbc_row charset room tokens byte described bytes e d is k =
+    let known : described_after None tokens ≡ Some (columns_of bytes) = columns_known tokens described bytes d is k in
+    subst (λ b. BeginsToken charset room tokens b (in_nbc_row (columns_of bytes) tokens)) (sym e) (record {
+      next = record { some = omega arith; whole = refl; free = ap (row_byte_fault true) known };
+      to_is = ap (start_of_row tokens nbc_row_start) known;
+      text_is = refl;
     })
 
 -- a token by its first byte, of which the columns aren't asked
@@ -56,6 +67,7 @@ pub begins_kind : (charset : Charset) (room : ℕ) (tokens : List Token) (byte :
     → IsDescribed described (encoded_after [] tokens) (described_after None tokens) → BeginsToken charset room tokens byte (in_kind charset (columns_of bytes) kind tokens)
 begins_kind charset room tokens byte described bytes kinds.Metadata e is d k = begins_by charset room tokens byte 0x81 (in_metadata tokens) e (record { next = record { some = omega arith; whole = refl; free = refl }; to_is = refl; text_is = refl })
 begins_kind charset room tokens byte described bytes kinds.Row e is d k = begins_row charset room tokens byte described bytes e.0 e.1 is (some_columns bytes (d e.1)) k
+begins_kind charset room tokens byte described bytes kinds.NbcRow e is d k = begins_nbc_row charset room tokens byte described bytes e.0 e.1 is k
 begins_kind charset room tokens byte described bytes kinds.Done (inl e) is d k = begins_by charset room tokens byte 0xFD (in_done tokens) e (record { next = record { some = omega arith; whole = refl; free = refl }; to_is = refl; text_is = refl })
 begins_kind charset room tokens byte described bytes kinds.Done (inr e) is d k = begins_by charset room tokens byte 0xFE (in_done tokens) e (record { next = record { some = omega arith; whole = refl; free = refl }; to_is = refl; text_is = refl })
 begins_kind charset room tokens byte described bytes kinds.DoneInProc e is d k = begins_by charset room tokens byte 0xFF (in_done_in_proc tokens) e (record { next = record { some = omega arith; whole = refl; free = refl }; to_is = refl; text_is = refl })
@@ -63,6 +75,7 @@ begins_kind charset room tokens byte described bytes kinds.Order e is d k = begi
 begins_kind charset room tokens byte described bytes kinds.EnvChange e is d k = begins_by charset room tokens byte 0xE3 (in_length AnEnvChange tokens) e (record { next = record { some = omega arith; whole = refl; free = refl }; to_is = refl; text_is = refl })
 begins_kind charset room tokens byte described bytes kinds.Error e is d k = begins_by charset room tokens byte 0xAA (in_length AnError tokens) e (record { next = record { some = omega arith; whole = refl; free = refl }; to_is = refl; text_is = refl })
 begins_kind charset room tokens byte described bytes kinds.Info e is d k = begins_by charset room tokens byte 0xAB (in_length AnInfo tokens) e (record { next = record { some = omega arith; whole = refl; free = refl }; to_is = refl; text_is = refl })
+begins_kind charset room tokens byte described bytes kinds.ReturnValue e is d k = begins_by charset room tokens byte 0xAC (in_return tokens) e (record { next = record { some = omega arith; whole = refl; free = refl }; to_is = refl; text_is = refl })
 begins_kind charset room tokens byte described bytes kinds.ReturnStatus e is d k = begins_by charset room tokens byte 0x79 (in_status tokens) e (record { next = record { some = omega arith; whole = refl; free = refl }; to_is = refl; text_is = refl })
 
 module _ (charset : Charset) (room : ℕ) (tokens : List Token) (byte : ℕ) (to : Part) (begins : BeginsToken charset room tokens byte to) where
@@ -123,23 +136,20 @@ module _ (charset : Charset) (room : ℕ) (tokens : List Token) (byte : ℕ) (to
     x.1,
   )
 
--- ---- a byte that begins no token, or one that isn't built
+-- ---- a byte that begins no token
 
 refused : (charset : Charset) (room : ℕ) (tokens : List Token) (a b : Seen) (place byte : ℕ) (described : Bool) (fault : Fault) → IsDescribed described (encoded_after [] tokens) (described_after None tokens) → IsRefusal described byte fault → Takes a b (byte ∷ []) 1 → IsBetween b
     → Stalls (response charset room) is_built (behind tokens) a b place (behind tokens) (record { fault = fault; place = Payload place })
 refused charset room tokens a b place byte described fault k (inl x) t between =
     let first : (response charset room).fault (behind tokens) (byte ∷ []) ≡ Some fault = ap (λ v. if v then row_byte_fault (is_row_byte byte) (described_after None tokens) else Some (RefusedToken byte)) x.1 ∙ ap Some (sym x.0) in
     inl (refused_at_once (response charset room) (behind tokens) a b place (byte ∷ []) fault (omega arith) refl first t between)
-refused charset room tokens a b place byte described fault k (inr (inl x)) t between =
+refused charset room tokens a b place byte described fault k (inr x) t between =
     let none : described_after None tokens ≡ None = subst (λ d. IsDescribed d (encoded_after [] tokens) (described_after None tokens)) x.1 k in
     let first : (response charset room).fault (behind tokens) (byte ∷ []) ≡ Some fault = elim x.2 [
       | inl e ↦ subst (λ v. (response charset room).fault (behind tokens) (v ∷ []) ≡ Some fault) (sym e) (ap (row_byte_fault true) none ∙ ap Some (sym x.0))
       | inr e ↦ subst (λ v. (response charset room).fault (behind tokens) (v ∷ []) ≡ Some fault) (sym e) (ap (row_byte_fault true) none ∙ ap Some (sym x.0))
     ] in
     inl (refused_at_once (response charset room) (behind tokens) a b place (byte ∷ []) fault (omega arith) refl first t between)
-refused charset room tokens a b place byte described fault k (inr (inr x)) t between =
-    inr (subst (λ f. ReadsUnbuilt (response charset room) is_built (behind tokens) a b place (behind tokens) (record { fault = f; place = Payload place })) (sym x.0)
-    (unbuilt_at_once (response charset room) is_built (behind tokens) a b place (byte ∷ []) (omega arith) refl x.1 t between))
 
 pub stops_at_byte : (charset : Charset) (room : ℕ) (tokens : List Token) (a b : Seen) (place byte : ℕ) (described : Bool) (fault : Fault) (h : Held) (area : Space) (failed : Bool) → h.delivered ≤ 2 ^ 64 - 1 → failed ≡ false → IsHolding area (behind tokens)
     → IsDescribed described (encoded_after [] tokens) (described_after None tokens) → IsRefusal described byte fault → Takes a b (byte ∷ []) 1 → IsBetween b → StepStops (response charset room) (behind tokens) a b place h h area failed (record { fault = fault; place = Payload place })

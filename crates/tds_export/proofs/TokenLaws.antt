@@ -9,6 +9,7 @@ use Rattle.tds_columns.specs.View.{columns_of}
 use Rattle.tds_export.specs.declared.report.Report.{Report}
 use Rattle.tds_export.specs.declared.report.ServerError.{ServerError}
 use Rattle.tds_export.specs.declared.progress.Progress.{Progress}
+use Rattle.tds_export.specs.ReturnValue.{ReturnValue}
 use Rattle.tds_export.specs.Tokens.{Notice, Token, described_after, Metadata, NoMetadata, Row, Order, EnvChange, Error, Info, ReturnStatus, Returned, Done, DoneInProc, between, encoded_after, first_error, greatest_span, header_line, how_many, is_error, is_final, is_info, is_return, is_row, is_set, return_status_after, text, text_after}
 use Rattle.tds_export.specs.Outcome.{report_of, server_error, signed}
 use Rattle.tds_export.specs.TokenGrammar.{Bodied, AnOrder, AnEnvChange, AnError, AnInfo, bodied, is_notice}
@@ -265,6 +266,17 @@ tracks_info s ts n k = record {
   described = same_columns s.described ts (Info n) refl refl k.described;
   final = sym (is_final-snoc ts (Info n));
 }
+
+-- ---- RETURNVALUE
+
+pub tracks_returned : (s : Progress) (ts : List Token) (v : ReturnValue) → Tracks s ts → Tracks (record s { report = record s.report { return_values = s.report.return_values + 1 }; is_final = false }) (ts ++ Returned v ∷ [])
+tracks_returned s ts v k = record {
+  report = ap (λ (r : Report). record r { return_values = r.return_values + 1; written = length (text (ts ++ Returned v ∷ [])) }) k.report ∙ sym (report-snoc ts (Returned v) refl ∙ rw (none (how_many is_set ts), none (how_many is_row ts), none (how_many is_error ts), none (how_many is_info ts)) refl);
+  described = same_columns s.described ts (Returned v) refl refl k.described;
+  final = sym (is_final-snoc ts (Returned v));
+}
+
+-- ---- the first ERROR
 
 -- without an error there is no first one
 pub no_errors : (ts : List Token) → how_many is_error ts ≡ 0 → first_error ts ≡ None

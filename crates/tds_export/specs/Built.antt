@@ -1,17 +1,10 @@
 -- Which elements of a response are built. It shrinks to none that isn't as the exporter grows.
-use Rattle.std.specs.Prelude.{◌==◌, ◌||◌, ℕ, Bool, true, List, slice_index}
+use Rattle.std.specs.Prelude.{ℕ, Bool, true, List}
 use Rattle.tds_rows.specs.Unbuilt.{is_built_row}
-use Rattle.tds_export.specs.declared.token_bytes.TheConstants.{COLMETADATA, ROW, ORDER, ENVCHANGE, ERROR, INFO, RETURNSTATUS, DONE, DONEPROC, DONEINPROC}
-use Rattle.tds_export.specs.TokenGrammar.{Open, Between, InRow, Part}
+use Rattle.tds_export.specs.TokenGrammar.{Open, InRow, Part}
 
--- a COLMETADATA, ROW, ORDER, ENVCHANGE, ERROR, INFO, RETURNSTATUS, DONE, DONEPROC or DONEINPROC
-abbrev pub is_built_token : ℕ → Bool
-is_built_token byte =
-    (byte == COLMETADATA) || (byte == ROW) || (byte == ORDER) || (byte == ENVCHANGE) || (byte == ERROR) || (byte == INFO) || (byte == RETURNSTATUS) || (byte == DONE) || (byte == DONEPROC) || (byte == DONEINPROC)
-
--- whether the next element is built where a response is read: all but the other tokens, and the values of long kinds
+-- whether the next element is built where a response is read: all but the values of long kinds in a row
 abbrev pub is_built_open : Open → List ℕ → Bool
-is_built_open Between element = is_built_token (slice_index element 0)
 is_built_open (InRow part) element = is_built_row part element
 is_built_open at element = true
 

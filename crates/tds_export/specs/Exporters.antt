@@ -6,6 +6,7 @@ use Rattle.tds_packet.specs.declared.payload.Payload.{Payload}
 use Rattle.tds_packet.specs.Payloads.{IsGoing, LeavesPayload, seen}
 use Rattle.tds_packet.specs.Seen.{Seen, Takes, IsOver}
 use Rattle.tds_columns.specs.View.{IsDescription}
+use Rattle.tds_columns.specs.declared.returned.TheConstants.{TYPE_ROOM}
 use Rattle.tds_csv.specs.declared.sink.Sink.{Sink}
 use Rattle.tds_csv.specs.Sinks.{Held, IsWriting, LeavesSink, held}
 use Rattle.tds_rows.specs.declared.Charset.{Charset}
@@ -40,8 +41,8 @@ view remaining contents payload sink area notice = record {
 abbrev pub view_of : {R W : Type 0} → (R → Option (List ℕ)) → (W → Option (List ℕ)) → Exporter R W → View
 view_of remaining contents e = view remaining contents e.payload.now e.sink.now e.description.now e.notice.now
 
--- A response can be read from here: the payload goes on, the sink takes text, the description area is empty and has room for a column, the token area has room for a body, and the notice area is empty.
-pub record CanBegin {R W : Type 0} (payload : Payload R) (sink : Sink W) (area token notice : Space) : Type 0 where
+-- A response can be read from here: the payload goes on, the sink takes text, the description area is empty and has room for a column, the token area has room for a body, the notice area is empty, and the small area has room for a type.
+pub record CanBegin {R W : Type 0} (payload : Payload R) (sink : Sink W) (area token notice small : Space) : Type 0 where
   pub going : IsGoing payload
   pub writing : IsWriting sink
   pub room : 10 ≤ area.room
@@ -51,12 +52,14 @@ pub record CanBegin {R W : Type 0} (payload : Payload R) (sink : Sink W) (area t
   pub notice_room : notice.room ≡ 512
   pub notice_peak : notice.peak ≤ notice.room
   pub none_noted : notice.bytes ≡ []
+  pub small_room : TYPE_ROOM ≤ small.room
+  pub small_peak : small.peak ≤ small.room
 
--- the sets, rows, errors and messages of a report
+-- the sets, rows, errors, messages and returned values of a report
 abbrev pub counted : Report → ℕ
-counted report = report.sets + report.rows + report.errors + report.infos
+counted report = report.sets + report.rows + report.errors + report.infos + report.return_values
 
--- The run goes on: its payload and its sink do, its areas have their rooms, no more sets, rows and notices are counted than bytes were read, and the columns that are described stand in the area.
+-- The run goes on: its payload and its sink do, its areas have their rooms, no more sets, rows, notices and returned values are counted than bytes were read, and the columns that are described stand in the area.
 pub record IsRunning {R W : Type 0} (e : Exporter R W) : Type 0 where
   pub payload : IsGoing e.payload.now
   pub sink : IsWriting e.sink.now
@@ -65,6 +68,8 @@ pub record IsRunning {R W : Type 0} (e : Exporter R W) : Type 0 where
   pub token_peak : e.token.now.peak ≤ e.token.now.room
   pub notice : e.notice.now.room ≡ 512
   pub notice_peak : e.notice.now.peak ≤ e.notice.now.room
+  pub small : TYPE_ROOM ≤ e.small.now.room
+  pub small_peak : e.small.now.peak ≤ e.small.now.room
   pub counted : counted e.progress.report ≤ e.payload.now.place
   pub described : e.progress.described ≡ true → IsDescription e.description.now.bytes
 
@@ -78,7 +83,7 @@ abbrev pub IsOnSameRun : {R W : Type 0} → Exporter R W → Exporter R W → Ty
 IsOnSameRun old new =
     (new.payload.ghost_name ≡ old.payload.ghost_name) × (new.sink.ghost_name ≡ old.sink.ghost_name)
     × (new.description.ghost_name ≡ old.description.ghost_name) × (new.token.ghost_name ≡ old.token.ghost_name)
-    × (new.notice.ghost_name ≡ old.notice.ghost_name) × (new.charset ≡ old.charset)
+    × (new.notice.ghost_name ≡ old.notice.ghost_name) × (new.small.ghost_name ≡ old.small.ghost_name) × (new.charset ≡ old.charset)
 
 -- A call left the run on the same devices and areas, and where it answered no error, going on and no further back in the payload.
 pub record LeavesRun {R W U : Type 0} (old new : Exporter R W) (result : Result U Stop) : Type 0 where
@@ -90,6 +95,8 @@ pub record LeavesRun {R W U : Type 0} (old new : Exporter R W) (result : Result 
   pub token_peak : new.token.now.peak ≤ new.token.now.room
   pub notice : new.notice.now.room ≡ old.notice.now.room
   pub notice_peak : new.notice.now.peak ≤ new.notice.now.room
+  pub small : new.small.now.room ≡ old.small.now.room
+  pub small_peak : new.small.now.peak ≤ new.small.now.room
   pub forward : OnOk result (old.payload.now.place ≤ new.payload.now.place)
   pub running : OnOk result (IsRunning new)
 

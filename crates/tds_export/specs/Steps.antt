@@ -2,7 +2,7 @@
 use Rattle.std.specs.Prelude.{◌≡◌, ◌⊎◌, ◌+◌, ◌≤◌, ℕ, Bool, true, false, List, [], ◌∷◌, ◌++◌, length, Option, Some, None, Result, MatchOption, MatchResult, ⊤}
 use Rattle.tds_meter.specs.Space.{Space}
 use Rattle.tds_packet.specs.declared.fault.Fault.{Fault}
-use Rattle.tds_packet.specs.declared.fault.Fault.TheVariants.{MessageEnded, NotYet, RefusedToken, RowWithoutColumns}
+use Rattle.tds_packet.specs.declared.fault.Fault.TheVariants.{MessageEnded, RefusedToken, RowWithoutColumns}
 use Rattle.tds_packet.specs.declared.fault.Stop.{Stop}
 use Rattle.tds_packet.specs.Elements.{Grammar, Spelt}
 use Rattle.tds_packet.specs.declared.payload.Payload.{Payload}
@@ -13,16 +13,17 @@ use Rattle.tds_columns.specs.View.{columns_of}
 use Rattle.tds_csv.specs.Sinks.{Held, Finishes, FinishFails}
 use Rattle.tds_csv.specs.Streaming.{PutsText, Streams, BreaksStreaming}
 use Rattle.tds_rows.specs.declared.Charset.{Charset}
-use Rattle.tds_rows.specs.Rows.{row_start}
+use Rattle.tds_rows.specs.Rows.{nbc_row_start, row_start}
 use Rattle.tds_rows.specs.Unbuilt.{Stalls}
-use Rattle.tds_export.specs.declared.token_bytes.TheConstants.{COLMETADATA, ROW, NBCROW, ORDER, ENVCHANGE, ERROR, INFO, RETURNSTATUS, DONE, DONEPROC, DONEINPROC}
+use Rattle.tds_export.specs.declared.token_bytes.TheConstants.{COLMETADATA, ROW, NBCROW, ORDER, ENVCHANGE, ERROR, INFO, RETURNSTATUS, RETURNVALUE, DONE, DONEPROC, DONEINPROC}
 use Rattle.tds_export.specs.declared.progress.Progress.{Progress}
 use Rattle.tds_export.specs.declared.report.Report.{Report}
 use Rattle.tds_export.specs.declared.tokens.TokenKind.{TokenKind}
 use Rattle.tds_export.specs.declared.tokens.TokenKind.TheVariants as kinds
-use Rattle.tds_export.specs.Built.{is_built, is_built_token}
+use Rattle.tds_export.specs.Built.{is_built}
 use Rattle.tds_export.specs.Outcome.{report_of}
-use Rattle.tds_export.specs.TokenGrammar.{AnEnvChange, AnError, AnInfo, AnOrder, Between, Bodied, Describing, DoneFields, DoneInProcFields, Open, Part, Status, TokenLength, is_token_byte, text_so_far, span_so_far, with_row}
+use Rattle.tds_export.specs.ReturnValue.{ReturnOrdinal}
+use Rattle.tds_export.specs.TokenGrammar.{AnEnvChange, AnError, AnInfo, AnOrder, Between, Bodied, Describing, DoneFields, DoneInProcFields, InReturn, Open, Part, Status, TokenLength, is_token_byte, text_so_far, span_so_far, with_row}
 use Rattle.tds_export.specs.Tokens.{Token, described_after, encoded_after, error_text, is_final, text}
 
 -- Columns are described, and they are those in these bytes; or none are.
@@ -66,6 +67,7 @@ pub record ReadsTokens (g : Grammar Part Fault) (from : Part) (tokens : List Tok
 abbrev pub IsOfKind : Bool → ℕ → TokenKind → Type 0
 IsOfKind described byte kinds.Metadata = byte ≡ COLMETADATA
 IsOfKind described byte kinds.Row = (byte ≡ ROW) × (described ≡ true)
+IsOfKind described byte kinds.NbcRow = (byte ≡ NBCROW) × (described ≡ true)
 IsOfKind described byte kinds.Done = (byte ≡ DONE) ⊎ (byte ≡ DONEPROC)
 IsOfKind described byte kinds.DoneInProc = byte ≡ DONEINPROC
 IsOfKind described byte kinds.ReturnStatus = byte ≡ RETURNSTATUS
@@ -73,12 +75,13 @@ IsOfKind described byte kinds.Order = byte ≡ ORDER
 IsOfKind described byte kinds.EnvChange = byte ≡ ENVCHANGE
 IsOfKind described byte kinds.Error = byte ≡ ERROR
 IsOfKind described byte kinds.Info = byte ≡ INFO
+IsOfKind described byte kinds.ReturnValue = byte ≡ RETURNVALUE
 
--- The byte is refused with this fault, or isn't built.
+-- The byte is refused with this fault.
 abbrev pub IsRefusal : Bool → ℕ → Fault → Type 0
 IsRefusal described byte fault =
     ((fault ≡ RefusedToken byte) × (is_token_byte byte ≡ false))
-    ⊎ (((fault ≡ RowWithoutColumns) × (described ≡ false) × ((byte ≡ ROW) ⊎ (byte ≡ NBCROW))) ⊎ ((fault ≡ NotYet) × (is_built_token byte ≡ false)))
+    ⊎ ((fault ≡ RowWithoutColumns) × (described ≡ false) × ((byte ≡ ROW) ⊎ (byte ≡ NBCROW)))
 
 -- behind the token byte of a COLMETADATA
 abbrev pub in_metadata : List Token → Part
@@ -87,6 +90,10 @@ in_metadata tokens = record { tokens = tokens; at = Describing BeforeCount }
 -- behind the token byte of a ROW under these columns
 abbrev pub in_row : Charset → List Column → List Token → Part
 in_row charset columns tokens = with_row tokens (row_start charset columns)
+
+-- behind the token byte of an NBCROW under these columns
+abbrev pub in_nbc_row : List Column → List Token → Part
+in_nbc_row columns tokens = with_row tokens (nbc_row_start columns)
 
 -- behind the token byte of a DONE or DONEPROC
 abbrev pub in_done : List Token → Part
@@ -100,19 +107,25 @@ in_done_in_proc tokens = record { tokens = tokens; at = DoneInProcFields }
 abbrev pub in_status : List Token → Part
 in_status tokens = record { tokens = tokens; at = Status }
 
+-- behind the token byte of a RETURNVALUE
+abbrev pub in_return : List Token → Part
+in_return tokens = record { tokens = tokens; at = InReturn ReturnOrdinal }
+
 -- behind the token byte of a token with a body
 abbrev pub in_length : Bodied → List Token → Part
 in_length which tokens = record { tokens = tokens; at = TokenLength which }
 
--- The token is a ROW.
+-- The token is a ROW or an NBCROW.
 abbrev pub IsRow : TokenKind → Type 0
 IsRow kinds.Row = ⊤
+IsRow kinds.NbcRow = ⊤
 IsRow kind = ⊥
 
 -- behind the first byte of a token of this kind, under these columns
 abbrev pub in_kind : Charset → List Column → TokenKind → List Token → Part
 in_kind charset columns kinds.Metadata = in_metadata
 in_kind charset columns kinds.Row = in_row charset columns
+in_kind charset columns kinds.NbcRow = in_nbc_row columns
 in_kind charset columns kinds.Done = in_done
 in_kind charset columns kinds.DoneInProc = in_done_in_proc
 in_kind charset columns kinds.ReturnStatus = in_status
@@ -120,6 +133,7 @@ in_kind charset columns kinds.Order = in_length AnOrder
 in_kind charset columns kinds.EnvChange = in_length AnEnvChange
 in_kind charset columns kinds.Error = in_length AnError
 in_kind charset columns kinds.Info = in_length AnInfo
+in_kind charset columns kinds.ReturnValue = in_return
 
 -- A call inside an export stopped in reading: the text of the state that it reached was put.
 pub record StopsInReading (g : Grammar Part Fault) (from : Part) (old new : Seen) (place : ℕ) (before after : Held) (area : Space) (stop : Stop) : Type 0 where

@@ -2,7 +2,7 @@
 ghost use Rattle.std.specs.Prelude.{◌≡◌, ◌≤◌, false, true, IfOk};
 ghost use Rattle.tds_columns.specs.View.{columns_of};
 ghost use Rattle.tds_csv.specs.Sinks.{LeavesSink};
-ghost use Rattle.tds_export.specs.Steps.{IsRow, in_done, in_done_in_proc, in_kind, in_length, in_metadata, in_row, in_status};
+ghost use Rattle.tds_export.specs.Steps.{IsRow, in_done, in_done_in_proc, in_kind, in_length, in_metadata, in_nbc_row, in_return, in_row, in_status};
 ghost use Rattle.tds_export.specs.TokenGrammar.{AnError, AnInfo, Bodied, is_notice};
 ghost use Rattle.tds_export.specs.Exporters.{Advances, CanBegin, IsInToken, IsRunning, LeavesRun};
 ghost use Rattle.tds_export.specs.Exporters.{ResponseRead, StepRead, TokenRead, WholeRead, view};
@@ -11,6 +11,7 @@ ghost use Rattle.tds_packet.specs.Payloads.{LeavesPayload};
 use crate::notice::{error_of, message_of, take_notice};
 use crate::progress::Progress;
 use crate::report::Report;
+use crate::returned::pass_return;
 use crate::set::put_header;
 use crate::tokens::{TokenKind, judge, next_byte};
 use byteorder::{ByteOrder, LittleEndian};
@@ -19,10 +20,10 @@ use tds_columns::{Columns, Described, gather};
 use tds_csv::{Sink, utf16_into};
 use tds_meter::Area;
 use tds_packet::{Fault, Payload, Place, Stop};
-use tds_rows::{Charset, read_rows};
+use tds_rows::{Charset, nbc_row, read_rows};
 
-/// The run of an export: what it reads and writes, the areas of its description, of a token's body
-/// and of the first error's text, and its progress.
+/// The run of an export: what it reads and writes, the areas of its description, of a token's body,
+/// of the first error's text and of a returned value's type, and its progress.
 #[derive(Drop)]
 pub(crate) struct Exporter<'a, 'p, 's, R, W> {
     payload: &'a mut Payload<'p, R>,
@@ -30,6 +31,7 @@ pub(crate) struct Exporter<'a, 'p, 's, R, W> {
     description: &'a mut Area,
     token: &'a mut Area,
     notice: &'a mut Area,
+    small: &'a mut Area,
     charset: Charset,
     progress: Progress,
 }
@@ -65,6 +67,21 @@ impl<'a, 'p, 's, R: Read, W: Write> Exporter<'a, 'p, 's, R, W> {
         let columns = Columns::view(self.description.bytes());
         let count = read_rows(self.payload, columns, self.charset, self.sink)?;
         self.progress.report.rows += count;
+        self.progress.is_final = false;
+        Ok(())
+    }
+
+    // Reads an NBCROW behind its token byte, and puts its line. Its bitmap stands in the token area.
+    fn nbc_row(&mut self) -> Result<(), Stop>
+        requires begun { IsInToken self.old }
+        requires described { self.old.progress.described ≡ true }
+        ensures leaves { LeavesRun self.old self.new result }
+        ensures gives { let columns = columns_of self.old.description.now.bytes in
+            StepRead R.remaining W.contents (in_nbc_row columns) self.old self.new result }
+    {
+        let columns = Columns::view(self.description.bytes());
+        nbc_row(self.payload, columns, self.charset, self.token, self.sink)?;
+        self.progress.report.rows += 1;
         self.progress.is_final = false;
         Ok(())
     }
@@ -154,6 +171,19 @@ impl<'a, 'p, 's, R: Read, W: Write> Exporter<'a, 'p, 's, R, W> {
         Ok(())
     }
 
+    // Reads a RETURNVALUE behind its token byte, which is counted and else passed over (MS-TDS,
+    // RETURNVALUE).
+    fn return_value(&mut self) -> Result<(), Stop>
+        requires { IsInToken self.old }
+        ensures leaves { LeavesRun self.old self.new result }
+        ensures gives { StepRead R.remaining W.contents in_return self.old self.new result }
+    {
+        pass_return(self.payload, self.small)?;
+        self.progress.report.return_values += 1;
+        self.progress.is_final = false;
+        Ok(())
+    }
+
     // Reads a token of this kind behind its first byte.
     fn body(&mut self, kind: TokenKind) -> Result<(), Stop>
         requires begun { IsInToken self.old }
@@ -165,12 +195,14 @@ impl<'a, 'p, 's, R: Read, W: Write> Exporter<'a, 'p, 's, R, W> {
         match kind {
             TokenKind::Metadata => self.metadata(),
             TokenKind::Row => self.rows(),
+            TokenKind::NbcRow => self.nbc_row(),
             TokenKind::Done => self.done(),
             TokenKind::DoneInProc => self.done_in_proc(),
             TokenKind::ReturnStatus => self.return_status(),
             TokenKind::Order | TokenKind::EnvChange => self.skip(),
             TokenKind::Error => self.error(),
             TokenKind::Info => self.info(),
+            TokenKind::ReturnValue => self.return_value(),
         }
     }
 
@@ -225,9 +257,10 @@ pub(crate) fn read_response<R: Read, W: Write>(
     description: &mut Area,
     token: &mut Area,
     notice: &mut Area,
+    small: &mut Area,
     charset: Charset,
 ) -> Result<Report, Stop>
-    requires { CanBegin payload.old sink.old description.old token.old notice.old }
+    requires { CanBegin payload.old sink.old description.old token.old notice.old small.old }
     ensures payload { LeavesPayload payload.old payload.new result }
     ensures sink { LeavesSink sink.old sink.new result }
     ensures room { description.new.room ≡ description.old.room }
@@ -235,6 +268,8 @@ pub(crate) fn read_response<R: Read, W: Write>(
     ensures token_peak { token.new.peak ≤ token.new.room }
     ensures notice { notice.new.room ≡ notice.old.room }
     ensures notice_peak { notice.new.peak ≤ notice.new.room }
+    ensures small { small.new.room ≡ small.old.room }
+    ensures small_peak { small.new.peak ≤ small.new.room }
     ensures gives { let at = view R.remaining W.contents in
         ResponseRead charset (at payload.old sink.old description.old notice.old)
         (at payload.new sink.new description.new notice.new) result }
@@ -245,6 +280,7 @@ pub(crate) fn read_response<R: Read, W: Write>(
         description,
         token,
         notice,
+        small,
         charset,
         progress: Progress::new(),
     };

@@ -25,6 +25,7 @@ pub mod laws;
 mod notice;
 mod progress;
 mod report;
+mod returned;
 mod run;
 mod set;
 #[cfg(test)]

@@ -64,6 +64,7 @@ pub fn export<R: Read, W: Write>(
         &mut areas.description,
         &mut areas.token,
         &mut areas.notice,
+        &mut areas.small,
         charset,
     ) {
         Ok(report) => Ok(report),

@@ -13,7 +13,9 @@ use tds_packet::{Counted, Fault, Place};
 mod columns;
 mod cuts;
 mod kinds;
+mod nbc_rows;
 mod notices;
+mod return_values;
 
 // A column of numbers named a, a row of 42, and a DONE, in one packet.
 const WIRE: [u8; 39] = [

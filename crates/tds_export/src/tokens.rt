@@ -10,11 +10,12 @@ use crate::token_bytes::{
 use std::io::Read;
 use tds_packet::{Fault, Payload, Stop};
 
-/// The tokens that are built.
+/// The tokens.
 #[derive(Debug, Clone, Copy)]
 pub(crate) enum TokenKind {
     Metadata,
     Row,
+    NbcRow,
     Done,
     DoneInProc,
     ReturnStatus,
@@ -22,6 +23,7 @@ pub(crate) enum TokenKind {
     EnvChange,
     Error,
     Info,
+    ReturnValue,
 }
 
 /// The kind of a token by its first byte, where columns are described or not; or why it is none.
@@ -31,8 +33,8 @@ pub(crate) fn judge(byte: u8, described: bool) -> Result<TokenKind, Fault>
     match byte {
         COLMETADATA => Ok(TokenKind::Metadata),
         ROW if described => Ok(TokenKind::Row),
-        ROW => Err(Fault::RowWithoutColumns),
-        NBCROW if !described => Err(Fault::RowWithoutColumns),
+        NBCROW if described => Ok(TokenKind::NbcRow),
+        ROW | NBCROW => Err(Fault::RowWithoutColumns),
         DONE | DONEPROC => Ok(TokenKind::Done),
         DONEINPROC => Ok(TokenKind::DoneInProc),
         RETURNSTATUS => Ok(TokenKind::ReturnStatus),
@@ -40,7 +42,7 @@ pub(crate) fn judge(byte: u8, described: bool) -> Result<TokenKind, Fault>
         ENVCHANGE => Ok(TokenKind::EnvChange),
         ERROR => Ok(TokenKind::Error),
         INFO => Ok(TokenKind::Info),
-        NBCROW | RETURNVALUE => Err(Fault::NotYet),
+        RETURNVALUE => Ok(TokenKind::ReturnValue),
         _ => Err(Fault::RefusedToken(byte)),
     }
 }

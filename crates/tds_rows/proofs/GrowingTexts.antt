@@ -39,7 +39,7 @@ pub grows_under : (x a b : List ℕ) → Grows a b → Grows (x ++ a) (x ++ b)
 grows_under x a b h = (h.0, append_assoc x a h.0 ∙ ap (λ v. x ++ v) h.1)
 
 -- a text that ends more
-grows_by : (a b : List ℕ) → Grows a (a ++ b)
+pub grows_by : (a b : List ℕ) → Grows a (a ++ b)
 grows_by a b = (b, refl)
 
 -- a comma and more behind a field

@@ -90,10 +90,10 @@ module _ (kind : Kind) (s : Shape) (column : ℕ) (last : Bool) where
 
 -- ---- a cell in its row
 
-fields_more : (cells : List Cell) (v : List ℕ) → joined (map field cells) ++ behind_comma (length cells) v ≡ joined (map field cells ++ v ∷ [])
+pub fields_more : (cells : List Cell) (v : List ℕ) → joined (map field cells) ++ behind_comma (length cells) v ≡ joined (map field cells ++ v ∷ [])
 fields_more cells v = ap (λ n. joined (map field cells) ++ behind_comma n v) (sym (length-map cells field)) ∙ joined_snoc (map field cells) v
 
-cell_more : (cells : List Cell) (v : Cell) → joined (map field cells) ++ behind_comma (length cells) (field v) ≡ joined (map field (cells ++ v ∷ []))
+pub cell_more : (cells : List Cell) (v : Cell) → joined (map field cells) ++ behind_comma (length cells) (field v) ≡ joined (map field (cells ++ v ∷ []))
 cell_more cells v = fields_more cells (field v) ∙ ap joined (sym (map-append field cells (v ∷ [])))
 
 -- the text of a row behind one more whole cell
@@ -119,7 +119,10 @@ module _ (charset : Charset) (cells : List Cell) (left : List Column) (n : ℕ) 
   row_text (ChunkData c t k d) = fields_more cells (open_field c d)
   row_text (WholeCell v) = next_text charset cells v left n
 
-  same_end : (at : CellPart) → 0 < cell_size at → (row charset).end_fault (lift at) ≡ cell_end at
+-- the columns to come, each with whether it is NULL by its bit
+module _ (charset : Charset) (cells : List Cell) (ks : List (Column × Bool)) where
+  -- a row ends as its open cell does
+  pub same_end : (at : CellPart) → 0 < cell_size at → (row charset).end_fault (with_cell charset cells ks at) ≡ cell_end at
   same_end (ScalarBytes kind k) h = refl
   same_end (ScalarLength kind) h = refl
   same_end (ShortLength c) h = refl
@@ -129,7 +132,8 @@ module _ (charset : Charset) (cells : List Cell) (left : List Column) (n : ℕ) 
   same_end (ChunkData c t k d) h = refl
   same_end (WholeCell v) h = absurd (omega arith)
 
-  same_built : (at : CellPart) (e : List ℕ) → 0 < cell_size at → is_built_row (lift at) e ≡ is_built_cell at e
+  -- the next element of a row is built where that of its open cell is
+  pub same_built : (at : CellPart) (e : List ℕ) → 0 < cell_size at → is_built_row (with_cell charset cells ks at) e ≡ is_built_cell at e
   same_built (ScalarBytes kind k) e h = refl
   same_built (ScalarLength kind) e h = refl
   same_built (ShortLength c) e h = refl
@@ -153,7 +157,7 @@ pub cell_stops : (charset : Charset) (cells : List Cell) (c : Column) (left : Li
     → RowStops charset (InCell cells (cell_start c.kind (shape charset c.kind)) (coming left n)) b d place i j failed stop
 cell_stops charset cells c left n b d place i j failed stop y =
     let begin = cell_start c.kind (shape charset c.kind) in
-    let there = streaming_inside (cell (length cells)) (row charset) (lift charset cells left n) (cell_in_row charset cells (coming left n)) is_built_cell is_built_row (same_end charset cells left n) (same_built charset cells left n)
+    let there = streaming_inside (cell (length cells)) (row charset) (lift charset cells left n) (cell_in_row charset cells (coming left n)) is_built_cell is_built_row (same_end charset cells (coming left n)) (same_built charset cells (coming left n))
     (cell_so_far (length cells) (is_last left)) row_so_far (joined (map field cells)) (row_text charset cells left n) begin b d place i j failed stop y in
     subst (λ v. StopsStreaming (row charset) is_built_row row_so_far v b d place i j failed stop) (begins_open charset cells (coming left n) c.kind (shape charset c.kind)) there
 

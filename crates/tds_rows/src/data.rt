@@ -1,13 +1,13 @@
 // The data of long values, by pieces that lie in the packet.
 ghost use Rattle.std.specs.Prelude.{◌≡◌, ◌≤◌, ◌<◌, ◌+◌, ◌^◌, ◌++◌, ℕ, List, IfOk};
 ghost use Rattle.tds_csv.specs.Conversion.{Begins, Conversion, Suits, closing, conversion_rest};
-ghost use Rattle.tds_csv.specs.Quoting.{behind_comma, end_behind, in_line, null_field};
+ghost use Rattle.tds_csv.specs.Quoting.{behind_comma, end_behind};
 ghost use Rattle.tds_csv.specs.Sinks.{IsReady, IsWriting, LeavesSink, PutsPiece};
 ghost use Rattle.tds_packet.specs.Payloads.{IsGoing, LeavesPayload};
 ghost use Rattle.tds_rows.specs.LongCells.{DataTaken, EndPut, PieceTaken, good_of, join_stop, opening};
 
 use std::io::{Read, Write};
-use tds_csv::{JoinFault, Joiner, NULL_ROOM, Sink, write_comma, write_line_end, write_null};
+use tds_csv::{JoinFault, Joiner, Sink, write_comma, write_line_end};
 use tds_packet::{Fault, Payload, Place, Stop};
 
 // The most bytes that a piece is asked for.
@@ -64,16 +64,6 @@ pub(crate) fn put_closing<W: Write>(
     }
     sink.close_quoted()?;
     sink.put(&end[..made])
-}
-
-/// Puts NULL in its line.
-pub(crate) fn put_null<W: Write>(column: u16, last: bool, sink: &mut Sink<W>) -> Result<(), Stop>
-    requires { IsWriting sink.old }
-    ensures { PutsPiece W.contents sink.old sink.new (in_line column last null_field) result }
-{
-    let mut text = [0u8; NULL_ROOM];
-    let made = write_null(column, last, &mut text);
-    sink.put(&text[..made])
 }
 
 // Hands the next piece of the data, at most so many bytes, to the joiner where it lies, and answers how many

@@ -1,11 +1,15 @@
 // The text of a scalar value in its line.
 ghost use Rattle.std.specs.Prelude.{◌≡◌, ◌≤◌, false, is_ok, length, take, IsTrue, MatchOption, IfSome};
+ghost use Rattle.tds_csv.specs.Quoting.{in_line, null_field};
+ghost use Rattle.tds_csv.specs.Sinks.{IsWriting, PutsPiece};
 ghost use Rattle.tds_rows.specs.CellSteps.{IsValueText};
 ghost use Rattle.tds_values.specs.Kind as kinds;
 ghost use Rattle.tds_values.specs.Scalar.{read_of};
 
 use crate::rows::{CELL_ROOM, INT4_ROOM, TEXT_ROOM};
-use tds_csv::{write_comma, write_line_end};
+use std::io::Write;
+use tds_csv::{NULL_ROOM, Sink, write_comma, write_line_end, write_null};
+use tds_packet::Stop;
 use tds_values::{Kind, write_int4, write_scalar};
 
 // Writes the text of a value in its line to the front of a slice, and answers how many bytes it has;
@@ -44,4 +48,14 @@ pub(crate) fn write_int4_field(column: u16, last: bool, bytes: &[u8], to: &mut [
     let start = write_comma(column, to);
     let made = write_int4(bytes, &mut to[start..]);
     write_line_end(last, start + made, to)
+}
+
+/// Puts NULL in its line.
+pub(crate) fn put_null<W: Write>(column: u16, last: bool, sink: &mut Sink<W>) -> Result<(), Stop>
+    requires { IsWriting sink.old }
+    ensures { PutsPiece W.contents sink.old sink.new (in_line column last null_field) result }
+{
+    let mut text = [0u8; NULL_ROOM];
+    let made = write_null(column, last, &mut text);
+    sink.put(&text[..made])
 }

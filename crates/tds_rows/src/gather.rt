@@ -9,7 +9,7 @@ ghost use Rattle.tds_values.specs.Kind as kinds;
 
 use std::io::Read;
 use tds_packet::{Fault, Payload, Place, Stop};
-use tds_values::{Kind, Reach};
+use tds_values::Kind;
 
 /// The most bytes that a cell of a scalar kind has: a length and a decimal.
 pub(crate) const LONGEST_CELL: usize = 18;
@@ -112,63 +112,5 @@ pub(crate) fn gather_scalar<R: Read>(
     match kind.fixed_length() {
         Some(n) => gather_fixed(payload, kind, n, column, cell),
         None => gather_counted(payload, kind, column, cell),
-    }
-}
-
-// How many bytes the length or the total of a long value has.
-fn long_size(reach: Reach) -> usize
-    ensures value { (kind : Kind) (conversion : Conversion) →
-        cell_size (cell_start kind (LongShape conversion reach)) ≡ result }
-    ensures most { result ≤ 8 }
-{
-    match reach {
-        Reach::Short => 2,
-        Reach::Chunked => 8,
-    }
-}
-
-// Reads the length or the total of a long value, which isn't built yet, and answers the stop.
-fn read_long<R: Read>(payload: &mut Payload<R>, reach: Reach) -> Stop
-    requires going { IsGoing payload.old }
-    ensures sound { IsSound payload.new }
-    ensures same { IsOnSame payload.old payload.new }
-    ensures gives { (kind : Kind) (conversion : Conversion) (column : ℕ) →
-        let from = cell_start kind (LongShape conversion reach) in
-        StallsCell from column (seen R.remaining payload.old) (seen R.remaining payload.new) payload.old.place result }
-{
-    let place = payload.place();
-    let mut bytes = [0u8; 8];
-    match payload.fill(&mut bytes[..long_size(reach)]) {
-        Ok(()) => Stop {
-            fault: Fault::NotYet,
-            place: Place::Payload(place),
-        },
-        Err(stop) => stop,
-    }
-}
-
-/// Reads a cell to the front of a slice, and answers how many bytes it has. It stops at a length that
-/// isn't allowed, and at the length or total of a long value, which isn't built yet.
-pub(crate) fn gather_cell<R: Read>(
-    payload: &mut Payload<R>,
-    kind: &Kind,
-    column: u16,
-    cell: &mut [u8],
-) -> Result<usize, Stop>
-    requires going { IsGoing payload.old }
-    requires valid { IsTrue (kinds.is_valid kind.now) }
-    requires room { LONGEST_CELL ≤ length cell.old }
-    ensures payload { LeavesPayload payload.old payload.new result }
-    ensures most { IfOk result (λ n. n ≤ LONGEST_CELL) }
-    ensures scalar { IfOk result (λ n. IsTrue (kinds.is_scalar kind.now)) }
-    ensures gives { (charset : sets.Charset) →
-        CellGathered R.remaining kind.now (cell_start kind.now (shape charset kind.now)) column
-        payload.old payload.new cell.new result }
-{
-    match *kind {
-        Kind::Binary(reach) | Kind::Narrow(reach) | Kind::Wide(reach) => {
-            Err(read_long(payload, reach))
-        }
-        _ => gather_scalar(payload, kind, column, cell),
     }
 }

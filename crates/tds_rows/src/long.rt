@@ -7,7 +7,8 @@ ghost use Rattle.tds_rows.specs.Cells.{ChunkLength, ShortLength, Total, long_sta
 ghost use Rattle.tds_rows.specs.CellSteps.{FieldPut};
 ghost use Rattle.tds_rows.specs.RowSteps.{StopsAgain};
 
-use crate::data::{push_data, put_end, put_null, put_opening};
+use crate::data::{push_data, put_end, put_opening};
+use crate::fields::put_null;
 use crate::lengths::{read_chunk_length, read_short_length, read_total};
 use std::io::{Read, Write};
 use tds_csv::{Joiner, Sink};

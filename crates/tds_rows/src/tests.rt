@@ -13,6 +13,7 @@ use tds_meter::Area;
 use tds_packet::rig::{Failing, ScriptedReader, ScriptedWriter};
 use tds_packet::{Counted, Fault, Payload, Place, Stop};
 
+mod nulls;
 mod passed;
 
 const INT4: &[u8] = &[0x38];
@@ -67,6 +68,13 @@ const MONEY_ROW: &[u8] = &[
 ];
 
 const FILLER: [u8; 4095] = [b'x'; 4095];
+
+// The token whose row is read.
+#[derive(Clone, Copy)]
+enum Token {
+    Row,
+    NbcRow,
+}
 
 // What a row came to.
 #[derive(Debug, Clone, Copy, PartialEq, Eq)]
@@ -132,6 +140,7 @@ fn length_behind(bytes: &[u8], end: &[u8]) -> Option<usize> {
 // Reads a row in packets of so many bytes of the payload, into a sink where so many bytes wait.
 fn run(
     alloc: Global,
+    token: Token,
     columns: &[&[u8]],
     bytes: &[u8],
     size: usize,
@@ -147,6 +156,7 @@ fn run(
     let mut packet = Area::new(alloc, 4096)?;
     let mut output = Area::new(alloc, 4096)?;
     let mut description = Area::new(alloc, 4096)?;
+    let mut bitmap = Area::new(alloc, 8192)?;
     let mut payload = Payload::new(&mut from, &mut packet, 1_000_000);
     let mut sink = Sink::new(&mut to, &mut output);
     if !describe(&mut payload, &mut description) {
@@ -154,7 +164,14 @@ fn run(
     }
     sink.put(&FILLER[..waiting.min(4095)])?;
     let columns = Columns::view(description.bytes());
-    let answer = row(&mut payload, columns, Charset::Windows1252, &mut sink);
+    if columns.count() == 0 {
+        return Err(Fail::from(AllocError));
+    }
+    let charset = Charset::Windows1252;
+    let answer = match token {
+        Token::Row => row(&mut payload, columns, charset, &mut sink),
+        Token::NbcRow => nbc_row(&mut payload, columns, charset, &mut bitmap, &mut sink),
+    };
     let place = payload.place().saturating_sub(start);
     let _ = sink.finish();
     Ok(Outcome {
@@ -292,7 +309,16 @@ const GOOD_ROWS: [Good; 17] = [
 
 fn write_good(alloc: Global, case: &Good, size: usize) -> Result<Outcome, Fail> {
     let to = usual_writer();
-    run(alloc, case.columns, case.bytes, size, 0, to, case.text)
+    run(
+        alloc,
+        Token::Row,
+        case.columns,
+        case.bytes,
+        size,
+        0,
+        to,
+        case.text,
+    )
 }
 
 #[test]
@@ -430,7 +456,16 @@ const BAD_ROWS: [Bad; 13] = [
 
 fn write_bad(alloc: Global, case: &Bad, size: usize) -> Result<Outcome, Fail> {
     let to = usual_writer();
-    run(alloc, case.columns, case.bytes, size, 0, to, case.text)
+    run(
+        alloc,
+        Token::Row,
+        case.columns,
+        case.bytes,
+        size,
+        0,
+        to,
+        case.text,
+    )
 }
 
 #[test]
@@ -457,7 +492,16 @@ fn write_behind(
     to: ScriptedWriter,
     wanted: &[u8],
 ) -> Result<(Result<(), Stop>, Option<usize>), Fail> {
-    let out = run(alloc, MIXED, MIXED_ROW, 4000, waiting, to, wanted)?;
+    let out = run(
+        alloc,
+        Token::Row,
+        MIXED,
+        MIXED_ROW,
+        4000,
+        waiting,
+        to,
+        wanted,
+    )?;
     Ok((out.answer, out.text))
 }
 

@@ -20,7 +20,7 @@ reported g c = let at = moment g.R.Read.remaining g.W.Write.contents in record {
   charset = c.args.charset;
   before = at c.args.areas.now c.args.from.now c.args.to.now;
   after = at
-      (record c.restart.new.self { packet = c.read_response.new.payload.packet.now; output = c.read_response.new.sink.output.now; description = c.read_response.new.description; token = c.read_response.new.token; notice = c.read_response.new.notice })
+      (record c.restart.new.self { packet = c.read_response.new.payload.packet.now; output = c.read_response.new.sink.output.now; description = c.read_response.new.description; token = c.read_response.new.token; notice = c.read_response.new.notice; small = c.read_response.new.small })
       c.read_response.new.payload.from.now c.read_response.new.sink.to.now;
 }
 
@@ -54,7 +54,7 @@ stopped g c = let at = moment g.R.Read.remaining g.W.Write.contents in record {
   charset = c.args.charset;
   before = at c.args.areas.now c.args.from.now c.args.to.now;
   after = at
-      (record c.restart.new.self { packet = c.read_response.new.payload.packet.now; output = c.stop_at.new.sink.output.now; description = c.read_response.new.description; token = c.read_response.new.token; notice = c.clear.new.self })
+      (record c.restart.new.self { packet = c.read_response.new.payload.packet.now; output = c.stop_at.new.sink.output.now; description = c.read_response.new.description; token = c.read_response.new.token; notice = c.clear.new.self; small = c.read_response.new.small })
       c.read_response.new.payload.from.now c.stop_at.new.sink.to.now;
 }
 

@@ -7,12 +7,13 @@ use Rattle.tds_export.proofs.exporter.Exporter.run.Goals as goal
 pub tokens-init : goal.tokens-init
 tokens-init g c = record {
   running = c.requires;
-  same = (refl, refl, refl, refl, refl, refl);
+  same = (refl, refl, refl, refl, refl, refl, refl);
   same_payload = (refl, refl, refl, refl);
   same_sink = (refl, refl, refl);
   room = refl;
   token = refl;
   notice = refl;
+  small = refl;
   forward = omega arith;
   runs = λ tracks empty noted. (runs_none _ _ _ _ _ _ _ c.requires.sink.ready.2 tracks empty, noted);
 }
@@ -26,18 +27,19 @@ tokens-preserved g c = record {
   room = c.in_ok-token.ensures.leaves.room ∙ c.tokens.invariant.room;
   token = c.in_ok-token.ensures.leaves.token ∙ c.tokens.invariant.token;
   notice = c.in_ok-token.ensures.leaves.notice ∙ c.tokens.invariant.notice;
+  small = c.in_ok-token.ensures.leaves.small ∙ c.tokens.invariant.small;
   forward = omega (arith, c.tokens.invariant.forward, c.in_ok-token.ensures.leaves.forward);
   runs = λ tracks empty noted.
       let x = c.tokens.invariant.runs tracks empty noted in
       let y = rw c.if-branch.true at (c.in_ok-token.ensures.gives x.0.tokens x.0.tracks x.0.holds x.1) in
-      runs_on _ _ _ _ _ _ _ _ _ _ _ _ _ _ _ _ _ c.token.new.self.notice.now c.tokens.invariant.same.5 c.tokens.invariant.room x.0 y;
+      runs_on _ _ _ _ _ _ _ _ _ _ _ _ _ _ _ _ _ c.token.new.self.notice.now c.tokens.invariant.same.6 c.tokens.invariant.room x.0 y;
 }
 
 pub returns-in_err-token-clause-gives : goal.returns-in_err-token-clause-gives
 returns-in_err-token-clause-gives g c = λ tracks empty noted.
     let x = c.tokens.invariant.runs tracks empty noted in
     let y = c.in_err-token.ensures.gives x.0.tokens x.0.tracks x.0.holds x.1 in
-    passed _ _ _ _ c.from_residual.ensures.1 (inl (stops_on _ _ _ _ _ _ _ _ _ _ _ _ _ _ _ _ _ c.tokens.invariant.same.5 c.tokens.invariant.room x.0 y))
+    passed _ _ _ _ c.from_residual.ensures.1 (inl (stops_on _ _ _ _ _ _ _ _ _ _ _ _ _ _ _ _ _ c.tokens.invariant.same.6 c.tokens.invariant.room x.0 y))
 
 pub returns-then-not-self-clause-gives : goal.returns-then-not-self-clause-gives
 returns-then-not-self-clause-gives g c = λ tracks empty noted.
@@ -77,8 +79,10 @@ returns-clause-leaves g c =
       room = c.in_ok-token.ensures.leaves.room ∙ c.tokens.invariant.room;
       token = c.in_ok-token.ensures.leaves.token ∙ c.tokens.invariant.token;
       notice = c.in_ok-token.ensures.leaves.notice ∙ c.tokens.invariant.notice;
+      small = c.in_ok-token.ensures.leaves.small ∙ c.tokens.invariant.small;
       token_peak = running.token_peak;
       notice_peak = running.notice_peak;
+      small_peak = running.small_peak;
       forward = omega (arith, c.tokens.invariant.forward, c.in_ok-token.ensures.leaves.forward);
       running = record {
         payload = running.payload;
@@ -88,6 +92,8 @@ returns-clause-leaves g c =
         token_peak = running.token_peak;
         notice = running.notice;
         notice_peak = running.notice_peak;
+        small = running.small;
+        small_peak = running.small_peak;
         counted = running.counted;
         described = running.described;
       };

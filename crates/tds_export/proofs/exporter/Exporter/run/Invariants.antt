@@ -17,6 +17,7 @@ invariant-tokens g l = record {
   room : l.self.description.now.room ≡ l.initial.self.description.now.room;
   token : l.self.token.now.room ≡ l.initial.self.token.now.room;
   notice : l.self.notice.now.room ≡ l.initial.self.notice.now.room;
+  small : l.self.small.now.room ≡ l.initial.self.small.now.room;
   forward : l.initial.self.payload.now.place ≤ l.self.payload.now.place;
   runs : Tracks l.initial.self.progress [] → l.initial.self.description.now ≡ empty l.initial.self.description.now.room → IsNoted l.initial.self.notice.now [] →
       (x : Runs (response l.initial.self.charset l.initial.self.description.now.room) (seen g.R.Read.remaining l.initial.self.payload.now) (seen g.R.Read.remaining l.self.payload.now) l.initial.self.payload.now.place l.self.payload.now.place

@@ -1,0 +1,62 @@
+// The value that a procedure returns (MS-TDS, RETURNVALUE).
+ghost use Rattle.std.specs.Prelude.{◌≡◌, ◌≤◌, IfOk, IsTrue, OnOk};
+ghost use Rattle.tds_export.specs.Returning.{NamePassed, ReturnPassed, TypeTaken};
+ghost use Rattle.tds_packet.specs.Payloads.{IsGoing, LeavesPayload};
+ghost use Rattle.tds_values.specs.Kind as kinds;
+
+use std::io::Read;
+use tds_columns::{TYPE_HEAD, TYPE_ROOM, read_type_info, take_into};
+use tds_meter::Area;
+use tds_packet::{Payload, Stop};
+use tds_rows::pass_over;
+use tds_values::Kind;
+
+// The bytes of the ordinal.
+const ORDINAL: usize = 2;
+
+// Passes over the ordinal and the name.
+fn pass_name<R: Read>(payload: &mut Payload<R>) -> Result<(), Stop>
+    requires { IsGoing payload.old }
+    ensures leaves { LeavesPayload payload.old payload.new result }
+    ensures forward { OnOk result (payload.old.place ≤ payload.new.place) }
+    ensures gives { NamePassed R.remaining payload.old payload.new result }
+{
+    payload.pass(ORDINAL)?;
+    let mut units = [0u8; 1];
+    payload.fill(&mut units)?;
+    payload.pass(2 * usize::from(units[0]))?;
+    Ok(())
+}
+
+// Reads status, UserType, Flags and the type information behind a name, and answers the kind.
+fn take_type<R: Read>(payload: &mut Payload<R>, small: &mut Area) -> Result<Kind, Stop>
+    requires going { IsGoing payload.old }
+    requires room { TYPE_ROOM ≤ small.old.room }
+    ensures leaves { LeavesPayload payload.old payload.new result }
+    ensures room { small.new.room ≡ small.old.room }
+    ensures peak { small.new.peak ≤ small.new.room }
+    ensures forward { OnOk result (payload.old.place ≤ payload.new.place) }
+    ensures valid { IfOk result (λ kind. IsTrue (kinds.is_valid kind)) }
+    ensures gives { TypeTaken R.remaining payload.old payload.new result }
+{
+    small.clear();
+    take_into(payload, small, TYPE_HEAD)?;
+    read_type_info(payload, small)
+}
+
+/// Reads a RETURNVALUE behind its token byte, of which nothing is kept but its type information, in the
+/// small area, until the value is passed over.
+pub(crate) fn pass_return<R: Read>(payload: &mut Payload<R>, small: &mut Area) -> Result<(), Stop>
+    requires going { IsGoing payload.old }
+    requires room { TYPE_ROOM ≤ small.old.room }
+    requires peak { small.old.peak ≤ small.old.room }
+    ensures leaves { LeavesPayload payload.old payload.new result }
+    ensures room { small.new.room ≡ small.old.room }
+    ensures peak { small.new.peak ≤ small.new.room }
+    ensures forward { OnOk result (payload.old.place ≤ payload.new.place) }
+    ensures gives { ReturnPassed R.remaining payload.old payload.new result }
+{
+    pass_name(payload)?;
+    let kind = take_type(payload, small)?;
+    pass_over(payload, &kind)
+}

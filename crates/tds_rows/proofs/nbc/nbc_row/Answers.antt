@@ -1,0 +1,190 @@
+use Rattle.std.proofs.Common.{ℕ, Bool, ◌+◌, List, drop, length, refl, sym, subst, arith, rules, ◌∙◌, ◌≡◌, ap, ◌++◌, false, true}
+use Rattle.tds_values.specs.declared.kind.Kind.{Kind}
+use Rattle.tds_packet.specs.Payloads.{seen}
+use Rattle.tds_packet.specs.Seen.{Takes}
+use Rattle.tds_packet.proofs.Passing.{passed}
+use Rattle.tds_packet.proofs.PayloadLaws.{between_of}
+use Rattle.tds_columns.specs.Description.{Column}
+use Rattle.tds_columns.specs.View.{columns_of}
+use Rattle.tds_csv.specs.Quoting.{in_line, null_field}
+use Rattle.tds_csv.specs.Sinks.{Breaks, Puts, held}
+use Rattle.tds_meter.specs.Space.{Space}
+use Rattle.tds_rows.specs.CellSteps.{PutsCell, StopsCell, is_last}
+use Rattle.tds_rows.specs.Rows.{bit, bitmap_length, marked, nbc_row_start}
+use Rattle.tds_rows.specs.RowSteps.{RowStops}
+use Rattle.tds_rows.specs.Tables.{IsNextKind}
+use Rattle.tds_rows.proofs.NullSteps.{NearsCells, bitmap_cut, bitmap_nears, cell_nears, cell_stops_row, next_left, null_breaks, null_nears, row_ends}
+use Rattle.tds_rows.proofs.NullTexts.{ends, ends_marked}
+use Rattle.tds_rows.proofs.TableSteps.{last_one}
+use Rattle.tds_rows.proofs.nbc.nbc_row.Goals as goal
+
+pub returns-in_err-take_into-clause-gives : goal.returns-in_err-take_into-clause-gives
+returns-in_err-take_into-clause-gives g c = λ going writing.
+    let columns = columns_of c.args.columns.bytes.now in
+    let a = seen g.R.Read.remaining c.args.payload.now in
+    let b = seen g.R.Read.remaining c.take_into.new.payload in
+    let h = held g.W.Write.contents c.args.sink.now in
+    let x = c.in_err-take_into.ensures.gives going in
+    passed _ _ _ _ c.from_residual.ensures.1 (rw writing (bitmap_cut c.args.charset columns a b c.args.payload.now.place h x.part x.own c.in_err-take_into.field-0.0 (omega (arith, x.fewer, c.bitmap_size.ensures.value, c.count.ensures.value)) x.ends x.stop_is c.requires.ready.2))
+
+pub loop-form-init : goal.loop-form-init
+loop-form-init g c =
+    let columns = columns_of c.args.columns.bytes.now in
+    let a = seen g.R.Read.remaining c.args.payload.now in
+    let b = seen g.R.Read.remaining c.take_into.new.payload in
+    let h = held g.W.Write.contents c.args.sink.now in
+    let place = c.args.payload.now.place in
+    let place' = c.take_into.new.payload.place in
+    let start = nbc_row_start columns in
+    let x = c.in_ok-take_into.ensures.gives in
+    let whole : length x.element ≡ bitmap_length (length columns) = x.whole ∙ c.bitmap_size.ensures.value ∙ ap bitmap_length c.count.ensures.value in
+    let bytes : c.take_into.new.area.bytes ≡ x.element = ap (λ (s : Space). s.bytes) x.stands ∙ ap (λ (s : Space). s.bytes ++ x.element) c.clear.ensures.value in
+    let writing : c.args.sink.now.failed ≡ false = search rules in
+    record {
+      going = record { sound = c.in_ok-take_into.ensures.payload.sound; going = c.in_ok-take_into.ensures.payload.going };
+      writing = record { ready = c.requires.ready; writing = writing };
+      same = search rules;
+      same_sink = (refl, refl, refl);
+      ahead = c.start-at.ensures.ahead columns c.of-table.ensures;
+      reads = subst (λ (n : ℕ). NearsCells c.args.charset start (marked (drop n columns) (bit c.take_into.new.area.bytes) n) a b place place' h h n) (sym c.start-at.ensures.first)
+          (subst (λ (l : List ℕ). NearsCells c.args.charset start (marked columns (bit l) 0) a b place place' h h 0) (sym bytes)
+          (bitmap_nears c.args.charset columns a b place place' h x.element c.requires.some whole (subst (λ (k : ℕ). Takes a b x.element k) (sym x.whole) x.takes) x.between (c.requires.ready.1 writing) c.requires.ready.2 (omega (arith, x.whole, c.in_ok-take_into.ensures.place))));
+    }
+
+pub returns-in_err-put_null-clause-gives : goal.returns-in_err-put_null-clause-gives
+returns-in_err-put_null-clause-gives g c = λ _ _.
+    let columns = columns_of c.args.columns.bytes.now in
+    let knows = c.of-table.ensures in
+    let l = c.loop-form in
+    let n = l.at.column in
+    let a = seen g.R.Read.remaining c.args.payload.now in
+    let b = seen g.R.Read.remaining l.payload in
+    let h = held g.W.Write.contents c.args.sink.now in
+    let i = held g.W.Write.contents l.sink in
+    let j = held g.W.Write.contents c.put_null.new.sink in
+    let place = c.args.payload.now.place in
+    let middle = l.payload.place in
+    let start = nbc_row_start columns in
+    let bits = bit c.take_into.new.area.bytes in
+    let taken = c.in-Some-next.ensures.gives columns knows l.invariant.ahead in
+    let left = drop c.in-Some-next.behind.column columns in
+    let ks = marked left bits (n + 1) in
+    let is : bits n ≡ true = ap (λ (l : List ℕ). bit l n) (sym c.bytes.ensures.value) ∙ sym c.is_null.ensures ∙ c.if-is_null.true in
+    let last : c.is_last.result ≡ ends ks = c.is_last.ensures ∙ last_one columns left taken.column n c.of-table.result.count knows.counted taken.next ∙ ends_marked left bits (n + 1) in
+    let x = next_left c.args.charset start columns left taken.column bits true a b place middle h i n taken.next is l.invariant.reads in
+    let stop = c.in_err-put_null.field-0.0 in
+    let breaks = subst (λ (e : Bool). Breaks i j (in_line n e null_field) stop) last (c.in_err-put_null.ensures.gives l.invariant.writing.writing) in
+    let stops = null_breaks c.args.charset start taken.column ks a b place middle h i n j stop x breaks in
+    passed _ _ _ _ c.from_residual-in_err-put_null.ensures.1 (subst (λ (e : Bool). RowStops c.args.charset start a b place h j e stop) (sym c.in_err-put_null.ensures.failed) stops)
+
+pub returns-in_err-put_cell-clause-gives : goal.returns-in_err-put_cell-clause-gives
+returns-in_err-put_cell-clause-gives g c = λ _ _.
+    let columns = columns_of c.args.columns.bytes.now in
+    let knows = c.of-table.ensures in
+    let l = c.loop-form in
+    let n = l.at.column in
+    let a = seen g.R.Read.remaining c.args.payload.now in
+    let b = seen g.R.Read.remaining l.payload in
+    let d = seen g.R.Read.remaining c.put_cell.new.payload in
+    let h = held g.W.Write.contents c.args.sink.now in
+    let i = held g.W.Write.contents l.sink in
+    let j = held g.W.Write.contents c.put_cell.new.sink in
+    let place = c.args.payload.now.place in
+    let middle = l.payload.place in
+    let start = nbc_row_start columns in
+    let bits = bit c.take_into.new.area.bytes in
+    let taken = c.in-Some-next.ensures.gives columns knows l.invariant.ahead in
+    let left = drop c.in-Some-next.behind.column columns in
+    let ks = marked left bits (n + 1) in
+    let is : bits n ≡ false = ap (λ (l : List ℕ). bit l n) (sym c.bytes.ensures.value) ∙ sym c.is_null.ensures ∙ c.if-is_null.false in
+    let next : IsNextKind c.of-table.result l.at c.in-Some-next.form.kind (is_last left) = record { columns = columns; knows = knows; ahead = l.invariant.ahead; column = taken.column; rest = left; next = taken.next; kind = taken.kind; last = refl } in
+    let x = next_left c.args.charset start columns left taken.column bits false a b place middle h i n taken.next is l.invariant.reads in
+    let stop = c.in_err-put_cell.field-0.0 in
+    let failed = c.put_cell.new.sink.failed in
+    let y = subst (λ (k : Kind). StopsCell c.args.charset k n (is_last left) b d middle i j failed stop) taken.kind (c.in_err-put_cell.ensures.gives c.args.charset (is_last left) next) in
+    let z = subst (λ (e : Bool). StopsCell c.args.charset taken.column.kind n e b d middle i j failed stop) (ends_marked left bits (n + 1)) y in
+    passed _ _ _ _ c.from_residual-in_err-put_cell.ensures.1 (cell_stops_row c.args.charset start taken.column ks a b d place middle h i j n l.invariant.writing.ready.2 failed stop x z)
+
+pub loop-form-preserved-in_ok-put_null : goal.loop-form-preserved-in_ok-put_null
+loop-form-preserved-in_ok-put_null g c =
+    let columns = columns_of c.args.columns.bytes.now in
+    let knows = c.of-table.ensures in
+    let l = c.loop-form in
+    let n = l.at.column in
+    let a = seen g.R.Read.remaining c.args.payload.now in
+    let b = seen g.R.Read.remaining l.payload in
+    let h = held g.W.Write.contents c.args.sink.now in
+    let i = held g.W.Write.contents l.sink in
+    let j = held g.W.Write.contents c.put_null.new.sink in
+    let place = c.args.payload.now.place in
+    let middle = l.payload.place in
+    let start = nbc_row_start columns in
+    let bits = bit c.take_into.new.area.bytes in
+    let taken = c.in-Some-next.ensures.gives columns knows l.invariant.ahead in
+    let left = drop c.in-Some-next.behind.column columns in
+    let ks = marked left bits (n + 1) in
+    let is : bits n ≡ true = ap (λ (l : List ℕ). bit l n) (sym c.bytes.ensures.value) ∙ sym c.is_null.ensures ∙ c.if-is_null.true in
+    let last : c.is_last.result ≡ ends ks = c.is_last.ensures ∙ last_one columns left taken.column n c.of-table.result.count knows.counted taken.next ∙ ends_marked left bits (n + 1) in
+    let x = next_left c.args.charset start columns left taken.column bits true a b place middle h i n taken.next is l.invariant.reads in
+    let done = c.in_ok-put_null.ensures in
+    let puts = subst (λ (e : Bool). Puts i j (in_line n e null_field)) last done.gives in
+    let y = null_nears c.args.charset start taken.column ks a b place middle h i n j x puts in
+    record {
+      going = l.invariant.going;
+      writing = record { ready = done.ready; writing = done.failed };
+      same = l.invariant.same;
+      same_sink = search rules;
+      ahead = taken.ahead;
+      reads = subst (λ (m : ℕ). NearsCells c.args.charset start (marked left bits m) a b place middle h j m) (sym taken.further) y;
+    }
+
+pub loop-form-preserved : goal.loop-form-preserved
+loop-form-preserved g c =
+    let columns = columns_of c.args.columns.bytes.now in
+    let knows = c.of-table.ensures in
+    let l = c.loop-form in
+    let n = l.at.column in
+    let a = seen g.R.Read.remaining c.args.payload.now in
+    let b = seen g.R.Read.remaining l.payload in
+    let d = seen g.R.Read.remaining c.put_cell.new.payload in
+    let h = held g.W.Write.contents c.args.sink.now in
+    let i = held g.W.Write.contents l.sink in
+    let j = held g.W.Write.contents c.put_cell.new.sink in
+    let place = c.args.payload.now.place in
+    let middle = l.payload.place in
+    let start = nbc_row_start columns in
+    let bits = bit c.take_into.new.area.bytes in
+    let taken = c.in-Some-next.ensures.gives columns knows l.invariant.ahead in
+    let left = drop c.in-Some-next.behind.column columns in
+    let ks = marked left bits (n + 1) in
+    let is : bits n ≡ false = ap (λ (l : List ℕ). bit l n) (sym c.bytes.ensures.value) ∙ sym c.is_null.ensures ∙ c.if-is_null.false in
+    let next : IsNextKind c.of-table.result l.at c.in-Some-next.form.kind (is_last left) = record { columns = columns; knows = knows; ahead = l.invariant.ahead; column = taken.column; rest = left; next = taken.next; kind = taken.kind; last = refl } in
+    let x = next_left c.args.charset start columns left taken.column bits false a b place middle h i n taken.next is l.invariant.reads in
+    let done = c.in_ok-put_cell.ensures in
+    let place' = c.put_cell.new.payload.place in
+    let y = subst (λ (k : Kind). PutsCell c.args.charset k n (is_last left) b d middle place' i j) taken.kind (done.gives c.args.charset (is_last left) next) in
+    let z = subst (λ (e : Bool). PutsCell c.args.charset taken.column.kind n e b d middle place' i j) (ends_marked left bits (n + 1)) y in
+    let between = between_of g.R.Read.remaining c.put_cell.new.payload done.payload.going in
+    let w = cell_nears c.args.charset start taken.column ks a b d place middle h i j n l.invariant.writing.ready.2 place' between (done.sink.ready.1 done.sink.writing) x z in
+    record {
+      going = record { sound = done.payload.sound; going = done.payload.going };
+      writing = record { ready = done.sink.ready; writing = done.sink.writing };
+      same = search rules;
+      same_sink = search rules;
+      ahead = taken.ahead;
+      reads = subst (λ (m : ℕ). NearsCells c.args.charset start (marked left bits m) a d place place' h j m) (sym taken.further) w;
+    }
+
+pub returns-clause-gives : goal.returns-clause-gives
+returns-clause-gives g c = λ _ _.
+    let columns = columns_of c.args.columns.bytes.now in
+    let l = c.loop-form in
+    let a = seen g.R.Read.remaining c.args.payload.now in
+    let b = seen g.R.Read.remaining l.payload in
+    let h = held g.W.Write.contents c.args.sink.now in
+    let i = held g.W.Write.contents l.sink in
+    let start = nbc_row_start columns in
+    let bits = bit c.take_into.new.area.bytes in
+    let none = c.in_default-next.ensures.gives columns c.of-table.ensures l.invariant.ahead in
+    row_ends c.args.charset start a b c.args.payload.now.place l.payload.place h i l.at.column l.invariant.writing.ready.2
+    (subst (λ (r : List Column). NearsCells c.args.charset start (marked r bits l.at.column) a b c.args.payload.now.place l.payload.place h i l.at.column) none l.invariant.reads)

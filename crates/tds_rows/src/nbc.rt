@@ -1,0 +1,84 @@
+// A row with a bitmap of the columns that are NULL (MS-TDS, NBCROW).
+ghost use Rattle.std.specs.Prelude.{◌≡◌, ◌+◌, ◌*◌, ◌<◌, ◌≤◌, None, false, length};
+ghost use Rattle.tds_columns.specs.View.{columns_of};
+ghost use Rattle.tds_csv.specs.Sinks.{IsReady, LeavesSink};
+ghost use Rattle.tds_packet.specs.Payloads.{IsSound, LeavesPayload};
+ghost use Rattle.tds_rows.specs.RowSteps.{RowPut, StopsAgain};
+ghost use Rattle.tds_rows.specs.Rows.{bit, bitmap_length, nbc_row_start};
+
+use crate::Charset;
+use crate::fields::put_null;
+use crate::rows::put_cell;
+use crate::table::Table;
+use std::io::{Read, Write};
+use tds_columns::{Columns, take_into};
+use tds_csv::Sink;
+use tds_meter::Area;
+use tds_packet::{Payload, Stop};
+
+/// The most bytes that a bitmap has.
+const LONGEST_BITMAP: usize = 8192;
+
+// How many bytes the bitmap of so many columns has.
+fn bitmap_size(columns: u16) -> usize
+    ensures value { result ≡ bitmap_length columns }
+    ensures most { result ≤ LONGEST_BITMAP }
+{
+    (columns as usize + 7) / 8
+}
+
+// Whether the bit of a column is set, the lowest of the first byte being that of column 0.
+fn is_null(bitmap: &[u8], column: u16) -> bool
+    requires { column < 8 * length bitmap.now }
+    ensures { result ≡ bit bitmap.now column }
+{
+    (bitmap[column as usize / 8] >> (column % 8) as u32) & 1 == 1
+}
+
+/// Reads an NBCROW behind its token byte, and puts its line (MS-TDS, NBCROW). The bitmap is read into
+/// the area, which is emptied first and has room for 8,192 bytes at least; a column whose bit is set
+/// is NULL and has no data, and the bits behind the last column's say nothing. The NULLs that stand
+/// before the next cell with data, or at the row's end, count with what is read before them: the
+/// cell, or the bitmap. Faults and places are those of [`row`](crate::row), and `MessageEnded` stands
+/// at the bitmap's first byte where the message ends in it. After a stop of the payload or the sink
+/// the same stop is answered, and neither changes.
+pub fn nbc_row<R: Read, W: Write>(
+    payload: &mut Payload<R>,
+    columns: Columns<'_>,
+    charset: Charset,
+    bitmap: &mut Area,
+    sink: &mut Sink<W>,
+) -> Result<(), Stop>
+    requires sound { IsSound payload.old }
+    requires ready { IsReady sink.old }
+    requires room { LONGEST_BITMAP ≤ bitmap.old.room }
+    requires some { 0 < length (columns_of columns.bytes.now) }
+    ensures payload { LeavesPayload payload.old payload.new result }
+    ensures sink { LeavesSink sink.old sink.new result }
+    ensures room { bitmap.new.room ≡ bitmap.old.room }
+    ensures peak { bitmap.new.peak ≤ bitmap.new.room }
+    ensures gives { payload.old.stopped ≡ None → sink.old.failed ≡ false →
+        RowPut R.remaining W.contents charset (nbc_row_start (columns_of columns.entry.bytes.now))
+        payload.old payload.new sink.old sink.new result }
+    ensures again { StopsAgain W.contents payload.old payload.new sink.old sink.new result }
+{
+    bitmap.clear();
+    if let Some(stop) = payload.stopped() {
+        return Err(stop);
+    }
+    if let Some(stop) = sink.failure() {
+        return Err(stop);
+    }
+    take_into(payload, bitmap, bitmap_size(columns.count()))?;
+    let table = Table::of(columns);
+    let mut at = table.start();
+    while let Some((form, behind)) = table.next(at) {
+        if is_null(bitmap.bytes(), at.column) {
+            put_null(at.column, table.is_last(at), sink)?;
+        } else {
+            put_cell(payload, sink, &table, at, charset, &form.kind)?;
+        }
+        at = behind;
+    }
+    Ok(())
+}
