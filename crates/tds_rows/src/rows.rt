@@ -19,7 +19,9 @@ use crate::run::{put_run, run_rows};
 use crate::table::{Ahead, Table};
 use std::io::{Read, Write};
 use tds_columns::Columns;
-use tds_csv::{Cp1252Joiner, HexJoiner, Joiner, Sink, Utf8Joiner, Utf16Joiner};
+use tds_csv::{
+    Cp1252Joiner, HexJoiner, Joiner, Sink, Utf8Joiner, Utf16Joiner, joiners_suit,
+};
 use tds_packet::{Payload, Stop};
 use tds_values::{Kind, Reach};
 
@@ -79,6 +81,7 @@ fn put_narrow<R: Read, W: Write>(
     ensures gives { FieldPut R.remaining W.contents (long_start (narrow charset) reach) column last
         payload.old payload.new sink.old sink.new result }
 {
+    joiners_suit();
     match charset {
         Charset::Windows1252 => {
             stream_long(payload, reach, column, last, &mut Cp1252Joiner::new(), sink)
@@ -107,6 +110,7 @@ pub(crate) fn put_cell<R: Read, W: Write>(
         CellPut R.remaining W.contents charset kind.now at.entry.column last
         payload.old payload.new sink.old sink.new result }
 {
+    joiners_suit();
     let last = table.is_last(at);
     match *kind {
         Kind::Binary(reach) => {

@@ -101,7 +101,7 @@ returns-in_err-put_cell-clause-gives g c = λ _ _.
     let x = next_left c.args.charset start columns left taken.column bits false a b place middle h i n taken.next is l.invariant.reads in
     let stop = c.in_err-put_cell.field-0.0 in
     let failed = c.put_cell.new.sink.failed in
-    let y = subst (λ (k : Kind). StopsCell c.args.charset k n (is_last left) b d middle i j failed stop) taken.kind (c.in_err-put_cell.ensures.gives c.args.charset (is_last left) next) in
+    let y = subst (λ (k : Kind). StopsCell c.args.charset k n (is_last left) b d middle i j failed stop) taken.kind (c.in_err-put_cell.ensures.gives (is_last left) next) in
     let z = subst (λ (e : Bool). StopsCell c.args.charset taken.column.kind n e b d middle i j failed stop) (ends_marked left bits (n + 1)) y in
     passed _ _ _ _ c.from_residual-in_err-put_cell.ensures.1 (cell_stops_row c.args.charset start taken.column ks a b d place middle h i j n l.invariant.writing.ready.2 failed stop x z)
 
@@ -162,7 +162,7 @@ loop-form-preserved g c =
     let x = next_left c.args.charset start columns left taken.column bits false a b place middle h i n taken.next is l.invariant.reads in
     let done = c.in_ok-put_cell.ensures in
     let place' = c.put_cell.new.payload.place in
-    let y = subst (λ (k : Kind). PutsCell c.args.charset k n (is_last left) b d middle place' i j) taken.kind (done.gives c.args.charset (is_last left) next) in
+    let y = subst (λ (k : Kind). PutsCell c.args.charset k n (is_last left) b d middle place' i j) taken.kind (done.gives (is_last left) next) in
     let z = subst (λ (e : Bool). PutsCell c.args.charset taken.column.kind n e b d middle place' i j) (ends_marked left bits (n + 1)) y in
     let between = between_of g.R.Read.remaining c.put_cell.new.payload done.payload.going in
     let w = cell_nears c.args.charset start taken.column ks a b d place middle h i j n l.invariant.writing.ready.2 place' between (done.sink.ready.1 done.sink.writing) x z in

@@ -1,46 +1,25 @@
-use Rattle.std.proofs.Common.{◌≡◌, ◌∙◌, length, take, sym, arith, rules}
-use Rattle.std.proofs.lemmas.List.{length-take-le}
-use Rattle.tds_packet.specs.Payloads.{seen}
-use Rattle.tds_packet.proofs.Passing.{passed}
-use Rattle.tds_csv.specs.Sinks.{held}
-use Rattle.tds_rows.specs.Cells.{cell_start, shape}
-use Rattle.tds_rows.proofs.BufferedCells.{cell_reads, put_cell as cell_put}
-use Rattle.tds_rows.proofs.CellSteps.{left_stalls}
-use Rattle.tds_rows.proofs.RowSteps.{at_once_stalls}
-use Rattle.tds_rows.proofs.RunSteps.{one_left, one_whole}
+use Rattle.std.proofs.Common.{◌≡◌, ◌∙◌, Bool, sym, subst}
+use Rattle.tds_csv.specs.Conversion.{HexDigits, Utf16Text}
+use Rattle.tds_rows.specs.Cells.{long_start, narrow}
+use Rattle.tds_rows.specs.CellSteps.{FieldPut}
+use Rattle.tds_rows.proofs.TableSteps.{last_one}
 use Rattle.tds_rows.proofs.rows.put_cell.Goals as goal
 
-pub returns-in_err-size-clause-gives : goal.returns-in_err-size-clause-gives
-returns-in_err-size-clause-gives g c = λ charset last next.
-    rw c.requires.writing.writing (passed _ _ _ _ c.from_residual.ensures.1 (at_once_stalls c.args.kind.now (shape charset c.args.kind.now) c.args.at.column last (seen g.R.Read.remaining c.args.payload.now) (seen g.R.Read.remaining c.gather_cell.new.payload) c.args.payload.now.place
-    (held g.W.Write.contents c.args.sink.now) c.in_err-size.field-0.0 c.requires.writing.ready.2 (c.in_err-size.ensures.gives charset)))
+pub returns-in-Binary-clause-gives : goal.returns-in-Binary-clause-gives
+returns-in-Binary-clause-gives g c = λ last next.
+    let end = c.is_last-last.ensures ∙ last_one next.columns next.rest next.column c.args.at.column c.args.table.now.count next.knows.counted next.next ∙ sym next.last in
+    let from = long_start HexDigits c.in-Binary.reach in
+    rw c.in-Binary.is (subst (λ (e : Bool). FieldPut g.R.Read.remaining g.W.Write.contents from c.args.at.column e c.args.payload.now c.stream_long.new.payload c.args.sink.now c.stream_long.new.sink c.stream_long.result) end (c.stream_long.ensures.gives HexDigits c.joiners_suit.ensures.binary))
 
-pub returns-then-run-size-clause-gives : goal.returns-then-run-size-clause-gives
-returns-then-run-size-clause-gives g c = λ charset last next.
-    let kind = c.args.kind.now in
-    let bytes = take c.in_ok-size.size c.gather_cell.new.cell in
-    let a = seen g.R.Read.remaining c.args.payload.now in
-    let b = seen g.R.Read.remaining c.gather_cell.new.payload in
-    let h = held g.W.Write.contents c.args.sink.now in
-    let run = c.run_rows-run.result in
-    let x = c.in_ok-size.ensures.gives charset in
-    let size : length bytes ≡ c.in_ok-size.size = length-take-le c.in_ok-size.size c.gather_cell.new.cell (search (arith, rules)) in
-    let first = c.run_rows-run.ensures.first next.columns next.knows next.ahead (search (arith, rules)) in
-    let left = one_left c.args.at.column next.columns kind next.column next.rest bytes c.run_rows-run.new.to run.used run.made next.next next.kind x.whole first (search (arith, rules)) (λ e. c.if-run-size.true (e ∙ size)) in
-    let stops = left_stalls kind (cell_start kind (shape charset kind)) c.args.at.column a b c.args.payload.now.place c.gather_cell.new.payload.place bytes (search (arith, rules)) x left in
-    rw (c.requires.writing.writing, c.bad_value.ensures, c.place-place.ensures, c.length_size.ensures.value) (at_once_stalls kind (shape charset kind) c.args.at.column last a b c.args.payload.now.place h _ c.requires.writing.ready.2 stops)
+pub returns-in-Narrow-clause-gives : goal.returns-in-Narrow-clause-gives
+returns-in-Narrow-clause-gives g c = λ last next.
+    let end = c.is_last-last.ensures ∙ last_one next.columns next.rest next.column c.args.at.column c.args.table.now.count next.knows.counted next.next ∙ sym next.last in
+    let from = long_start (narrow c.args.charset) c.in-Narrow.reach in
+    rw c.in-Narrow.is (subst (λ (e : Bool). FieldPut g.R.Read.remaining g.W.Write.contents from c.args.at.column e c.args.payload.now c.put_narrow.new.payload c.args.sink.now c.put_narrow.new.sink c.put_narrow.result) end c.put_narrow.ensures.gives)
 
-pub returns-clause-gives : goal.returns-clause-gives
-returns-clause-gives g c = λ charset last next.
-    let kind = c.args.kind.now in
-    let bytes = take c.in_ok-size.size c.gather_cell.new.cell in
-    let a = seen g.R.Read.remaining c.args.payload.now in
-    let b = seen g.R.Read.remaining c.gather_cell.new.payload in
-    let run = c.run_rows-run.result in
-    let text = take run.made c.run_rows-run.new.to in
-    let x = c.in_ok-size.ensures.gives charset in
-    let size : length bytes ≡ c.in_ok-size.size = length-take-le c.in_ok-size.size c.gather_cell.new.cell (search (arith, rules)) in
-    let first = c.run_rows-run.ensures.first next.columns next.knows next.ahead (search (arith, rules)) in
-    let writes = one_whole c.args.at.column next.columns kind next.column next.rest bytes c.run_rows-run.new.to run.used run.made next.next next.kind x.whole first last next.last (c.if-run-size.false ∙ sym size) charset in
-    let reads = cell_reads (cell_start kind (shape charset kind)) c.args.at.column last a b c.args.payload.now.place c.gather_cell.new.payload.place bytes text writes x.takes x.between x.place_is in
-    cell_put c.put.result charset kind c.args.at.column last a b c.args.payload.now.place c.gather_cell.new.payload.place g.W.Write.contents c.args.sink.now c.put.new.self text c.requires.writing reads c.put.ensures
+pub returns-in-Wide-clause-gives : goal.returns-in-Wide-clause-gives
+returns-in-Wide-clause-gives g c = λ last next.
+    let end = c.is_last-last.ensures ∙ last_one next.columns next.rest next.column c.args.at.column c.args.table.now.count next.knows.counted next.next ∙ sym next.last in
+    let from = long_start Utf16Text c.in-Wide.reach in
+    rw c.in-Wide.is (subst (λ (e : Bool). FieldPut g.R.Read.remaining g.W.Write.contents from c.args.at.column e c.args.payload.now c.stream_long-in-Wide.new.payload c.args.sink.now c.stream_long-in-Wide.new.sink c.stream_long-in-Wide.result) end
+    (c.stream_long-in-Wide.ensures.gives Utf16Text c.joiners_suit.ensures.utf16))

@@ -69,7 +69,7 @@ returns-in_err-put_cell-clause-gives g c =
     let y = subst (λ (l : List Column). RunsRows c.args.charset columns [] columns l run.ahead.column (c.loop-form.ended + run.rows) a d place middle h j) taken.next x in
     let stop = c.in_err-put_cell.field-0.0 in
     let failed = c.put_cell.new.sink.failed in
-    let z = c.in_err-put_cell.ensures.gives c.args.charset (is_last left) next in
+    let z = c.in_err-put_cell.ensures.gives (is_last left) next in
     let w = subst (λ (m : Kind). StopsCell c.args.charset m run.ahead.column (is_last left) d e middle j k failed stop) taken.kind z in
     passed _ _ _ _ c.from_residual.ensures.1 (rows_stop c.args.charset columns a d e place middle c.put_cell.new.payload.place h j k taken.column left run.ahead.column (l.ended + run.rows) failed stop y w)
 
@@ -98,7 +98,7 @@ loop-form-preserved g c =
     let y = subst (λ (l : List Column). RunsRows c.args.charset columns [] columns l run.ahead.column (c.loop-form.ended + run.rows) a d place middle h j) taken.next x in
     let done = c.in_ok-put_cell.ensures in
     let place' = c.put_cell.new.payload.place in
-    let z = done.gives c.args.charset (is_last left) next in
+    let z = done.gives (is_last left) next in
     let w = subst (λ (m : Kind). PutsCell c.args.charset m run.ahead.column (is_last left) d e middle place' j k) taken.kind z in
     let some = cell_some c.args.charset taken.column.kind run.ahead.column (is_last left) d e middle place' j k w in
     record {
@@ -136,7 +136,7 @@ loop-form-smaller g c =
     let y = subst (λ (l : List Column). RunsRows c.args.charset columns [] columns l run.ahead.column (c.loop-form.ended + run.rows) a d place middle h j) taken.next x in
     let done = c.in_ok-put_cell.ensures in
     let place' = c.put_cell.new.payload.place in
-    let z = done.gives c.args.charset (is_last left) next in
+    let z = done.gives (is_last left) next in
     let w = subst (λ (m : Kind). PutsCell c.args.charset m run.ahead.column (is_last left) d e middle place' j k) taken.kind z in
     let some = cell_some c.args.charset taken.column.kind run.ahead.column (is_last left) d e middle place' j k w in
     omega (arith, some, c.put_run-run.ensures.few, done.payload.sound.place, done.payload.sound.wire, done.payload.same.3, c.put_run-run.ensures.same.3)

@@ -27,11 +27,6 @@ loop-form-init g c =
       reads = subst (λ (n : ℕ). ReadsCells c.args.charset (row_start c.args.charset columns) (coming (drop n columns) n) a a place place h h n) (sym c.start-at.ensures.first) (cells_none c.args.charset columns a place h c.requires.ready.2);
     }
 
-pub put_cell-requires-clause-some : goal.put_cell-requires-clause-some
-put_cell-requires-clause-some g c =
-    let columns = columns_of c.args.columns.bytes.now in
-    omega (arith, c.in-Some-next.ensures.further, c.in-Some-next.ensures.within)
-
 pub returns-in_err-put_cell-clause-gives : goal.returns-in_err-put_cell-clause-gives
 returns-in_err-put_cell-clause-gives g c = λ _ _.
     let columns = columns_of c.args.columns.bytes.now in
@@ -52,7 +47,7 @@ returns-in_err-put_cell-clause-gives g c = λ _ _.
     let x = subst (λ (r : List Column). ReadsCells c.args.charset start (coming r l.at.column) a b place middle h i l.at.column) taken.next l.invariant.reads in
     let stop = c.in_err-put_cell.field-0.0 in
     let failed = c.put_cell.new.sink.failed in
-    let y = subst (λ (k : Kind). StopsCell c.args.charset k l.at.column (is_last left) b d middle i j failed stop) taken.kind (c.in_err-put_cell.ensures.gives c.args.charset (is_last left) next) in
+    let y = subst (λ (k : Kind). StopsCell c.args.charset k l.at.column (is_last left) b d middle i j failed stop) taken.kind (c.in_err-put_cell.ensures.gives (is_last left) next) in
     passed _ _ _ _ c.from_residual.ensures.1 (cells_stop c.args.charset start taken.column left a b d place middle h i j l.at.column failed stop x y)
 
 pub loop-form-preserved : goal.loop-form-preserved
@@ -75,7 +70,7 @@ loop-form-preserved g c =
     let x = subst (λ (r : List Column). ReadsCells c.args.charset start (coming r l.at.column) a b place middle h i l.at.column) taken.next l.invariant.reads in
     let done = c.in_ok-put_cell.ensures in
     let place' = c.put_cell.new.payload.place in
-    let y = subst (λ (k : Kind). PutsCell c.args.charset k l.at.column (is_last left) b d middle place' i j) taken.kind (done.gives c.args.charset (is_last left) next) in
+    let y = subst (λ (k : Kind). PutsCell c.args.charset k l.at.column (is_last left) b d middle place' i j) taken.kind (done.gives (is_last left) next) in
     record {
       going = record { sound = done.payload.sound; going = done.payload.going };
       writing = record { ready = done.sink.ready; writing = done.sink.writing };
