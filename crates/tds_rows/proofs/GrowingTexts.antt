@@ -4,9 +4,10 @@ use Rattle.std.specs.Prelude.{◌⊎◌, ◌%◌, Option, Some, None, ◌==◌, 
 use Rattle.std.proofs.lemmas.List.{map-append}
 use Rattle.tds_values.specs.Numbers.{little}
 use Rattle.tds_csv.specs.Joining.{emit}
-use Rattle.tds_csv.specs.Quoting.{quote, joined, line, line_end, null_field, binary_mark}
-use Rattle.tds_csv.specs.Conversion.{Conversion, HexDigits, Utf16Text, Windows1252Text, Utf8Text, conversion_rest, conversion_text, unit, is_fit, is_begun, long_field, open_field}
-use Rattle.tds_csv.proofs.ConversionLaws.{joins_by_name, fit_by_test, begun_by_test}
+use Rattle.tds_csv.specs.Quoting.{joined, line, line_end, null_field}
+use Rattle.tds_csv.specs.Conversion.{Conversion, closing, conversion_rest, conversion_text, unit, is_fit, is_begun, is_quoted, long_field, open_field}
+use Rattle.tds_csv.proofs.Begun.{open_closes, open_grows}
+use Rattle.tds_csv.proofs.ConversionLaws.{begun_by_test}
 use Rattle.tds_packet.specs.Elements.{IsNext}
 use Rattle.tds_packet.specs.declared.fault.Fault.{Fault}
 use Rattle.tds_packet.specs.declared.fault.Fault.TheVariants.{BadText, OddText, PlpLength}
@@ -74,31 +75,13 @@ with_field_grows cells (Some a) (Some b) h = joined_last (map field cells) a b h
 
 -- ---- a field
 
--- a piece adds to the fixed text
-emits_by_name : (c : Conversion) (a b : List ℕ) → is_begun c (a ++ b) ≡ true → Grows (emit (conversion_rest c) (conversion_text c) a) (emit (conversion_rest c) (conversion_text c) (a ++ b))
-emits_by_name c a b h = (emit (conversion_rest c) (conversion_text c) (conversion_rest c a ++ b), sym ((joins_by_name c).emits a b ((begun_by_test c (a ++ b)).0 h)))
-
--- the whole text begins with the fixed text
-ends_by_name : (c : Conversion) (a : List ℕ) → is_fit c a ≡ true → Grows (emit (conversion_rest c) (conversion_text c) a) (conversion_text c a)
-ends_by_name c a h = (conversion_text c (conversion_rest c a), sym ((joins_by_name c).ends a ((fit_by_test c a).0 h)))
-
 -- more data
-pub open_grows : (c : Conversion) (a b : List ℕ) → is_begun c (a ++ b) ≡ true → Grows (open_field c a) (open_field c (a ++ b))
-open_grows HexDigits a b h = grows_under binary_mark (emit (conversion_rest HexDigits) (conversion_text HexDigits) a) (emit (conversion_rest HexDigits) (conversion_text HexDigits) (a ++ b)) (emits_by_name HexDigits a b h)
-open_grows Utf16Text a b h = grows_under (quote ∷ []) (emit (conversion_rest Utf16Text) (conversion_text Utf16Text) a) (emit (conversion_rest Utf16Text) (conversion_text Utf16Text) (a ++ b)) (emits_by_name Utf16Text a b h)
-open_grows Windows1252Text a b h = grows_under (quote ∷ []) (emit (conversion_rest Windows1252Text) (conversion_text Windows1252Text) a) (emit (conversion_rest Windows1252Text) (conversion_text Windows1252Text) (a ++ b)) (emits_by_name Windows1252Text a b h)
-open_grows Utf8Text a b h = grows_under (quote ∷ []) (emit (conversion_rest Utf8Text) (conversion_text Utf8Text) a) (emit (conversion_rest Utf8Text) (conversion_text Utf8Text) (a ++ b)) (emits_by_name Utf8Text a b h)
-
--- the text behind its mark, and the closing quote
-closing : (x a b : List ℕ) → Grows a b → Grows (x ++ a) (x ++ (b ++ quote ∷ []))
-closing x a b h = grows_under x a (b ++ quote ∷ []) (grows_trans a b (b ++ quote ∷ []) h (grows_by b (quote ∷ [])))
+open_more : (c : Conversion) (a b : List ℕ) → is_begun c (a ++ b) ≡ true → Grows (open_field c a) (open_field c (a ++ b))
+open_more c a b h = (emit (conversion_rest c) (conversion_text c) (conversion_rest c a ++ b), open_grows c a b ((begun_by_test c (a ++ b)).0 h))
 
 -- the end of the data
-pub long_grows : (c : Conversion) (a : List ℕ) → is_fit c a ≡ true → Grows (open_field c a) (long_field c a)
-long_grows HexDigits a h = grows_under binary_mark (emit (conversion_rest HexDigits) (conversion_text HexDigits) a) (conversion_text HexDigits a) (ends_by_name HexDigits a h)
-long_grows Utf16Text a h = closing (quote ∷ []) (emit (conversion_rest Utf16Text) (conversion_text Utf16Text) a) (conversion_text Utf16Text a) (ends_by_name Utf16Text a h)
-long_grows Windows1252Text a h = closing (quote ∷ []) (emit (conversion_rest Windows1252Text) (conversion_text Windows1252Text) a) (conversion_text Windows1252Text a) (ends_by_name Windows1252Text a h)
-long_grows Utf8Text a h = closing (quote ∷ []) (emit (conversion_rest Utf8Text) (conversion_text Utf8Text) a) (conversion_text Utf8Text a) (ends_by_name Utf8Text a h)
+long_grows : (c : Conversion) (a : List ℕ) → is_fit c a ≡ true → Grows (open_field c a) (long_field c a)
+long_grows c a h = (conversion_text c (conversion_rest c a) ++ closing (is_quoted c), open_closes c a h)
 
 -- ---- a cell
 
@@ -133,7 +116,7 @@ module _ (column : ℕ) where
   cell_grows (WholeCell x) e n = grows_same (field x)
   cell_grows (ShortData c left content) e n =
       let free = and_parts (is_begun c (content ++ e)) (nat_lt 0 left || is_fit c (content ++ e)) (unless_none (is_begun c (content ++ e) && (nat_lt 0 left || is_fit c (content ++ e))) (BadText column) n.free) in
-      let one : Grows (open_field c content) (open_field c (content ++ e)) = open_grows c content e free.0 in
+      let one : Grows (open_field c content) (open_field c (content ++ e)) = open_more c content e free.0 in
       choose (λ p. OptionGrows (Some (open_field c content)) (field_so_far p)) (left == 0) (WholeCell (DataCell c (content ++ e))) (ShortData c (left - 1) (content ++ e))
       (λ z. grows_trans (open_field c content) (open_field c (content ++ e)) (long_field c (content ++ e)) one (long_grows c (content ++ e) (last_fit left (is_fit c (content ++ e)) free.1 z)))
       (λ z. one)
@@ -142,7 +125,7 @@ module _ (column : ℕ) where
       (λ z. long_grows c content (end_fit column c total content (little e) n.free z))
       (λ z. grows_same (open_field c content))
   cell_grows (ChunkData c total left content) e n =
-      let one : Grows (open_field c content) (open_field c (content ++ e)) = open_grows c content e (unless_none (is_begun c (content ++ e)) (BadText column) n.free) in
+      let one : Grows (open_field c content) (open_field c (content ++ e)) = open_more c content e (unless_none (is_begun c (content ++ e)) (BadText column) n.free) in
       choose (λ p. OptionGrows (Some (open_field c content)) (field_so_far p)) (left == 0) (ChunkLength c total (content ++ e)) (ChunkData c total (left - 1) (content ++ e))
       (λ z. one)
       (λ z. one)
