@@ -88,7 +88,7 @@ module _ (charset : Charset) (room : ℕ) where
       add (WholeRow cells) e h = absurd (omega arith)
 
   -- a return value is read in its response as by itself
-  return_in_response : (tokens : List Token) → Inside return_value (response charset room) (with_return tokens)
+  pub return_in_response : (tokens : List Token) → Inside return_value (response charset room) (with_return tokens)
   return_in_response tokens = record { size = size; fault = fault; add = add }
     where
       size : (p : ReturnPart) → 0 < return_value.size p → (response charset room).size (with_return tokens p) ≡ return_value.size p

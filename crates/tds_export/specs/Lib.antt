@@ -11,3 +11,4 @@ pub mod Laws
 pub mod Moments
 pub mod Exports
 pub mod Noticing
+pub mod Completion
