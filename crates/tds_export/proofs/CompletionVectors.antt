@@ -14,7 +14,7 @@ use Rattle.tds_packet.specs.declared.fault.Fault.{Fault}
 use Rattle.tds_packet.proofs.Feeding.{Progress, read, state_of, rest_of, fault_of}
 use Rattle.tds_rows.specs.declared.Charset.TheVariants.{Windows1252}
 use Rattle.tds_export.specs.TokenGrammar.{Part, response, response_start}
-use Rattle.tds_export.proofs.Completion.{completion}
+use Rattle.tds_export.specs.Completion.{completion}
 
 abbrev complete : ℕ → List ℕ → Progress Part Fault → Option Fault
 complete room payload p = fault_of (response Windows1252 room) (read (response Windows1252 room) response_start (take (length payload - length (rest_of p)) payload ++ completion (state_of p)))

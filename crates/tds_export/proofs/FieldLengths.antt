@@ -30,6 +30,7 @@ use Rattle.tds_values.specs.ScalarRange.{is_in_range}
 use Rattle.tds_values.specs.ScalarText.{text_of, FitsWidths}
 use Rattle.tds_values.proofs.TextLengths.{length-text_of}
 use Rattle.tds_packet.specs.Elements.{AreBytes}
+use Rattle.tds_export.proofs.SomeBytes.{byte_below, little_below, AreBytes-drop}
 use Rattle.std.proofs.lemmas.Bool.{and_parts, or_cases}
 use Rattle.tds_packet.proofs.Choices.{choose, eq_true}
 
@@ -153,27 +154,6 @@ long_more Windows1252Text a h b = omega (arith, text_more Windows1252Text a h b,
 long_more Utf8Text a h b = omega (arith, text_more Utf8Text a h b, length-append (conversion_text Utf8Text a) (quote ∷ []))
 
 -- ---- the text of a scalar
-
--- each of some bytes is below 256
-byte_below : (xs : List ℕ) (i : ℕ) → AreBytes xs → slice_index xs i < 256
-byte_below [] i h = omega arith
-byte_below (x ∷ xs) zero h = h.0
-byte_below (x ∷ xs) (suc i) h = byte_below xs i h.1
-
--- so many bytes spell a number below that power
-little_below : (n i : ℕ) (xs : List ℕ) → AreBytes xs → little_from i n xs < 256 ^ n
-little_below zero i xs h = omega arith
-little_below (suc n) i xs h =
-    let b : slice_index xs i < 256 = byte_below xs i h in
-    let r : little_from (suc i) n xs < 256 ^ n = little_below n (suc i) xs h in
-    let p : 256 ^ (suc n) ≡ 256 ^ n * 256 = pow-suc 256 n in
-    omega arith
-
--- the bytes behind some bytes
-AreBytes-drop : (n : ℕ) (xs : List ℕ) → AreBytes xs → AreBytes (drop n xs)
-AreBytes-drop zero xs h = h
-AreBytes-drop (suc n) [] h = h
-AreBytes-drop (suc n) (x ∷ xs) h = AreBytes-drop n xs h.1
 
 -- signed numbers of 64 bits
 signed_16 : (n : ℕ) → unsigned_abs (cast_signed w16 n) < 2 ^ 64

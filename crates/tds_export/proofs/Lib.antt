@@ -1,4 +1,3 @@
-pub mod Completion
 pub mod CompletionVectors
 pub mod NoticeLaws
 pub mod PrefixVectors
@@ -34,3 +33,11 @@ mod Emptied
 mod NameTexts
 mod DeviceFaults
 pub mod NoFailures
+mod SomeBytes
+mod LeastTypes
+mod CompletedCells
+mod CompletedRows
+mod CompletedDescriptions
+mod CompletedReturns
+mod CompletionBytes
+mod CompletedResponses

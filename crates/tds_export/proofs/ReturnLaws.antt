@@ -147,7 +147,7 @@ value_begins name o kind b front ignored info is spelt named seven type =
       begun = start_means kind (shape return_charset kind);
     }))
 
-accepted : (byte : ℕ) (o : Option ℕ) → type_fault return_column byte o ≡ None → (n : ℕ) × (o ≡ Some n)
+pub accepted : (byte : ℕ) (o : Option ℕ) → type_fault return_column byte o ≡ None → (n : ℕ) × (o ≡ Some n)
 accepted byte (Some n) h = (n, refl)
 accepted byte None h = go (refused_kind byte) h
   where
@@ -163,7 +163,7 @@ type_begins name byte n b front ignored spelt named seven known =
     value_begins name (kind_of (byte ∷ [])) k.0 b front ignored (byte ∷ []) k.1 spelt named seven k.1)
     (λ z. (front, ignored, spelt, named, seven, n, known))
 
-some_kind : (o : Option Kind) → (if is_some o then None else Some (BadTypeInfo return_column)) ≡ None → is_some o ≡ true
+pub some_kind : (o : Option Kind) → (if is_some o then None else Some (BadTypeInfo return_column)) ≡ None → is_some o ≡ true
 some_kind (Some k) q = refl
 some_kind None q = cc
 

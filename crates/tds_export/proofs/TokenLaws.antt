@@ -95,7 +95,7 @@ pub greatest_span-append : (a b : List Token) → greatest_span (a ++ b) ≡ max
 greatest_span-append [] b = omega arith
 greatest_span-append (t ∷ a) b = omega (arith, greatest_span-append a b)
 
-is_final-snoc : (ts : List Token) (t : Token) → is_final (ts ++ t ∷ []) ≡ is_final (t ∷ [])
+pub is_final-snoc : (ts : List Token) (t : Token) → is_final (ts ++ t ∷ []) ≡ is_final (t ∷ [])
 is_final-snoc [] t = refl
 is_final-snoc (u ∷ []) t = refl
 is_final-snoc (u ∷ v ∷ ts) t = is_final-snoc (v ∷ ts) t

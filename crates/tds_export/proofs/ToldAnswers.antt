@@ -35,6 +35,7 @@ use Rattle.tds_export.specs.TokenGrammar.{Part, response, response_start, text_s
 use Rattle.tds_rows.specs.Unbuilt.{Stalls}
 use Rattle.tds_export.specs.Steps.{Completes, StopsAtEnd, StopsInReading, StopsInWriting, IsHolding, ReadsWhole, RunStops, behind}
 use Rattle.tds_export.specs.Exports.{Reports, IsReader, IsWriter, StopsExport, Tells, Tidied, begun_at, fresh_at}
+use Rattle.tds_export.proofs.SomeBytes.{AreBytes-append}
 use Rattle.tds_export.proofs.ReadingGrows.{text_along}
 use Rattle.tds_export.proofs.TextBound.{bounded_along}
 use Rattle.tds_export.proofs.ResponseMeaning.{response_is_spelt}
@@ -113,10 +114,6 @@ delivers given had l sent text e writer a = record {
 payload_short : (packets : List Packet) → length (payload_of packets) ≤ length (wire_of packets)
 payload_short [] = omega arith
 payload_short (p ∷ packets) = omega (arith, payload_short packets, length-append p.body (payload_of packets), length-append (packet_bytes p) (wire_of packets), length-append p.id p.body)
-
-AreBytes-append : (a b : List ℕ) → AreBytes a → AreBytes b → AreBytes (a ++ b)
-AreBytes-append [] b p q = q
-AreBytes-append (x ∷ a) b p q = (p.0, AreBytes-append a b p.1 q)
 
 payload_bytes : (packets : List Packet) → AreBytes (wire_of packets) → AreBytes (payload_of packets)
 payload_bytes [] h = tt

@@ -12,3 +12,4 @@ pub mod Moments
 pub mod Exports
 pub mod Noticing
 pub mod Returning
+pub mod Completion

@@ -1,0 +1,338 @@
+-- What completes a cell is read as its rest.
+use Rattle.std.proofs.Common.{◌≡◌, ◌≢◌, inl, inr, ℕ, zero, suc, ◌+◌, ◌-◌, ◌%◌, ◌^◌, ◌<◌, ◌≤◌, Bool, true, false, List, [], ◌∷◌, ◌++◌, length, replicate, refl, sym, ◌∙◌, ap, subst, arith, add-one, length-append, append_assoc}
+use Rattle.std.specs.Prelude.{Option, Some, None, ◌==◌, ◌&&◌, ◌||◌, nat_lt, nat_le, Result, Ok, Err, is_ok, slice_index, if◌then◌else◌}
+use Rattle.std.proofs.lemmas.Bool.{and_parts, or_cases, eq-eqb, ne_eqb}
+use Rattle.std.proofs.lemmas.List.{length-replicate}
+use Rattle.tds_values.specs.declared.kind.Kind.{Kind}
+use Rattle.tds_values.specs.declared.kind.Kind.TheVariants.{Int1, Int2, Int4, Int8, Bit, Money4, Money8, DateTime4, DateTime8, IntN, BitN, MoneyN, DateTimeN, Guid, Decimal, Date, Time, DateTime2, DateTimeOffset, Binary, Narrow, Wide}
+use Rattle.tds_values.specs.declared.kind.Reach.TheVariants.{Short, Chunked}
+use Rattle.tds_values.specs.declared.scalar.ScalarValue.{ScalarValue}
+use Rattle.tds_values.specs.declared.scalar.ValueFault.{ValueFault}
+use Rattle.tds_values.specs.Numbers.{little}
+use Rattle.tds_values.specs.Kind.{is_scalar, is_valid, is_length_allowed, is_decimal_length}
+use Rattle.tds_values.specs.Scalar.{read_of, checked, value_of}
+use Rattle.tds_csv.specs.Conversion.{Conversion, HexDigits, Utf16Text, Windows1252Text, Utf8Text, unit, is_fit, is_begun}
+use Rattle.tds_packet.specs.declared.fault.Fault.TheVariants.{BadValue, BadValueLength, BadText, OddText, PlpLength}
+use Rattle.tds_packet.specs.Elements.{AreBytes, Spelt, IsNext}
+use Rattle.tds_packet.proofs.ElementLaws.{Spelt-step, Spelt-append, Spelt-none}
+use Rattle.tds_packet.proofs.Choices.{choose, choose_false, eq_true, eq_false, le_true, test_le, test_lt}
+use Rattle.tds_rows.specs.declared.Charset.TheVariants.{Windows1252}
+use Rattle.tds_rows.specs.Cells.{Cell, Null, ScalarCell, DataCell, shape, CellPart, ScalarBytes, ScalarLength, ShortLength, ShortData, Total, ChunkLength, ChunkData, WholeCell, cell_start, cell_add, cell, unless, within_total, is_total, end_of_chunks, value_part, known_total, unknown_total, null_total}
+use Rattle.tds_rows.proofs.CellMeaning.{unless_none}
+use Rattle.tds_export.specs.Completion.{zeros, zero_chunks, one_zero, terminator, rest_of_chunks, rest_of_cell}
+use Rattle.tds_export.proofs.SomeBytes.{little_below}
+
+-- the conversions that Windows-1252 names: none judges data before its end
+abbrev pub is_plain : Conversion → Bool
+is_plain Utf8Text = false
+is_plain c = true
+
+plain_begun : (c : Conversion) (b : List ℕ) → is_plain c ≡ true → is_begun c b ≡ true
+plain_begun HexDigits b h = refl
+plain_begun Utf16Text b h = refl
+plain_begun Windows1252Text b h = refl
+plain_begun Utf8Text b h = cc
+
+plain_fit : (c : Conversion) (b : List ℕ) → is_plain c ≡ true → length b % unit c ≡ 0 → is_fit c b ≡ true
+plain_fit HexDigits b h e = refl
+plain_fit Utf16Text b h e = ap (λ v. v == 0) e
+plain_fit Windows1252Text b h e = refl
+plain_fit Utf8Text b h e = cc
+
+-- a known total is of whole units, and the sum may still become it
+abbrev pub HoldsTotal : Conversion → Option ℕ → ℕ → Type 0
+HoldsTotal c None sum = Unit {0}
+HoldsTotal c (Some total) sum = (sum ≤ total) × (total % unit c ≡ 0)
+
+-- what is known of a part of a cell that bytes led to
+abbrev pub CellReached : CellPart → Type 0
+CellReached (ScalarBytes kind n) = (0 < n) × (is_valid kind ≡ true) × (is_scalar kind ≡ true) × (is_length_allowed kind n ≡ true)
+CellReached (ScalarLength kind) = (is_valid kind ≡ true) × (is_scalar kind ≡ true)
+CellReached (ShortLength c) = is_plain c ≡ true
+CellReached (ShortData c left content) = (is_plain c ≡ true) × ((length content + (left + 1)) % unit c ≡ 0)
+CellReached (Total c) = is_plain c ≡ true
+CellReached (ChunkLength c total content) = (is_plain c ≡ true) × HoldsTotal c total (length content)
+CellReached (ChunkData c total left content) = (is_plain c ≡ true) × HoldsTotal c total (length content + (left + 1))
+CellReached (WholeCell x) = Unit {0}
+
+-- the second of two, where the first isn't
+if_not_first : (p q : Bool) → p ≡ false → (p || q) ≡ true → q ≡ true
+if_not_first true q a h = cc
+if_not_first false q a h = h
+
+-- numbers up to 7
+below_eight : (P : ℕ → Type 0) → P 0 → P 1 → P 2 → P 3 → P 4 → P 5 → P 6 → P 7 → (s : ℕ) → s ≤ 7 → P s
+below_eight P a b c d e f g h s l = go (7 - s) s (omega arith)
+  where
+    go : (n s : ℕ) → s + n ≡ 7 → P s
+    go zero s q = subst P (let r : 7 ≡ s = omega arith in r) h
+    go (suc zero) s q = subst P (let r : 6 ≡ s = omega arith in r) g
+    go (suc (suc zero)) s q = subst P (let r : 5 ≡ s = omega arith in r) f
+    go (suc (suc (suc zero))) s q = subst P (let r : 4 ≡ s = omega arith in r) e
+    go (suc (suc (suc (suc zero)))) s q = subst P (let r : 3 ≡ s = omega arith in r) d
+    go (suc (suc (suc (suc (suc zero))))) s q = subst P (let r : 2 ≡ s = omega arith in r) c
+    go (suc (suc (suc (suc (suc (suc zero)))))) s q = subst P (let r : 1 ≡ s = omega arith in r) b
+    go (suc (suc (suc (suc (suc (suc (suc zero))))))) s q = subst P (let r : 0 ≡ s = omega arith in r) a
+    go (suc (suc (suc (suc (suc (suc (suc (suc n)))))))) s q = absurd (omega arith)
+
+-- a value was read
+abbrev IsRead : Result ScalarValue ValueFault → Type 0
+IsRead r = (v : ScalarValue) × (r ≡ Ok v)
+
+-- of a kind, so many zeros are a value
+abbrev ZerosAre : Kind → ℕ → Type 0
+ZerosAre kind n = IsRead (read_of kind (zeros n))
+
+-- a test for one of four numbers
+one_of_four : (P : ℕ → Type 0) (a b c d n : ℕ) → (n == a || n == b || n == c || n == d) ≡ true → P a → P b → P c → P d → P n
+one_of_four P a b c d n h pa pb pc pd =
+    elim (or_cases (n == a || n == b || n == c) (n == d) h) [
+      | inl x ↦
+          elim (or_cases (n == a || n == b) (n == c) x) [
+            | inl y ↦ elim (or_cases (n == a) (n == b) y) [ inl z ↦ subst P (sym (eq_true n a z)) pa | inr z ↦ subst P (sym (eq_true n b z)) pb ]
+            | inr y ↦ subst P (sym (eq_true n c y)) pc
+          ]
+      | inr x ↦ subst P (sym (eq_true n d x)) pd
+    ]
+
+one_of_two : (P : ℕ → Type 0) (a b n : ℕ) → (n == a || n == b) ≡ true → P a → P b → P n
+one_of_two P a b n h pa pb = elim (or_cases (n == a) (n == b) h) [ inl z ↦ subst P (sym (eq_true n a z)) pa | inr z ↦ subst P (sym (eq_true n b z)) pb ]
+
+exactly : (P : ℕ → Type 0) (n m : ℕ) → (n == m) ≡ true → P m → P n
+exactly P n m h p = subst P (sym (eq_true n m h)) p
+
+zero_decimal : (d p s n : ℕ) → is_valid (Decimal d p s) ≡ true → is_length_allowed (Decimal d p s) n ≡ true → ZerosAre (Decimal d p s) n
+zero_decimal d p s n valid allowed =
+    let one = and_parts (is_decimal_length d && nat_le 1 p && nat_le p 38) (nat_le s p) valid in
+    let two = and_parts (is_decimal_length d && nat_le 1 p) (nat_le p 38) one.0 in
+    let small : nat_le s 38 ≡ true = test_le s 38 (omega (arith, le_true s p one.1, le_true p 38 two.1)) in
+    let long : is_length_allowed (Decimal d p s) (length (zeros n)) ≡ true = ap (λ v. is_length_allowed (Decimal d p s) v) (length-replicate n 0) ∙ allowed in
+    choose IsRead (is_length_allowed (Decimal d p s) (length (zeros n))) (checked (value_of (Decimal d p s) (zeros n))) _
+    (λ t. choose IsRead (nat_le s 38) (Ok _) _ (λ u. (_, refl)) (λ f. cc))
+    (λ f. cc)
+
+zeros_are_a_value : (kind : Kind) (n : ℕ) → is_valid kind ≡ true → is_scalar kind ≡ true → is_length_allowed kind n ≡ true → ZerosAre kind n
+zeros_are_a_value Int1 n v s h = exactly (ZerosAre Int1) n 1 h (_, refl)
+zeros_are_a_value Int2 n v s h = exactly (ZerosAre Int2) n 2 h (_, refl)
+zeros_are_a_value Int4 n v s h = exactly (ZerosAre Int4) n 4 h (_, refl)
+zeros_are_a_value Int8 n v s h = exactly (ZerosAre Int8) n 8 h (_, refl)
+zeros_are_a_value Bit n v s h = exactly (ZerosAre Bit) n 1 h (_, refl)
+zeros_are_a_value Money4 n v s h = exactly (ZerosAre Money4) n 4 h (_, refl)
+zeros_are_a_value Money8 n v s h = exactly (ZerosAre Money8) n 8 h (_, refl)
+zeros_are_a_value DateTime4 n v s h = exactly (ZerosAre DateTime4) n 4 h (_, refl)
+zeros_are_a_value DateTime8 n v s h = exactly (ZerosAre DateTime8) n 8 h (_, refl)
+zeros_are_a_value (IntN d) n v s h = exactly (ZerosAre (IntN d)) n d h (one_of_four (λ d. ZerosAre (IntN d) d) 1 2 4 8 d v (_, refl) (_, refl) (_, refl) (_, refl))
+zeros_are_a_value BitN n v s h = exactly (ZerosAre BitN) n 1 h (_, refl)
+zeros_are_a_value (MoneyN d) n v s h = exactly (ZerosAre (MoneyN d)) n d h (one_of_two (λ d. ZerosAre (MoneyN d) d) 4 8 d v (_, refl) (_, refl))
+zeros_are_a_value (DateTimeN d) n v s h = exactly (ZerosAre (DateTimeN d)) n d h (one_of_two (λ d. ZerosAre (DateTimeN d) d) 4 8 d v (_, refl) (_, refl))
+zeros_are_a_value Guid n v s h = exactly (ZerosAre Guid) n 16 h (_, refl)
+zeros_are_a_value (Decimal d p sc) n v s h = zero_decimal d p sc n v h
+zeros_are_a_value Date n v s h = exactly (ZerosAre Date) n 3 h (_, refl)
+zeros_are_a_value (Time sc) n v s h =
+    below_eight (λ sc. is_length_allowed (Time sc) n ≡ true → ZerosAre (Time sc) n)
+    (λ h. exactly (ZerosAre (Time 0)) n 3 h (_, refl)) (λ h. exactly (ZerosAre (Time 1)) n 3 h (_, refl)) (λ h. exactly (ZerosAre (Time 2)) n 3 h (_, refl)) (λ h. exactly (ZerosAre (Time 3)) n 4 h (_, refl))
+    (λ h. exactly (ZerosAre (Time 4)) n 4 h (_, refl)) (λ h. exactly (ZerosAre (Time 5)) n 5 h (_, refl)) (λ h. exactly (ZerosAre (Time 6)) n 5 h (_, refl)) (λ h. exactly (ZerosAre (Time 7)) n 5 h (_, refl))
+    sc (le_true sc 7 v) h
+zeros_are_a_value (DateTime2 sc) n v s h =
+    below_eight (λ sc. is_length_allowed (DateTime2 sc) n ≡ true → ZerosAre (DateTime2 sc) n)
+    (λ h. exactly (ZerosAre (DateTime2 0)) n 6 h (_, refl)) (λ h. exactly (ZerosAre (DateTime2 1)) n 6 h (_, refl)) (λ h. exactly (ZerosAre (DateTime2 2)) n 6 h (_, refl)) (λ h. exactly (ZerosAre (DateTime2 3)) n 7 h (_, refl))
+    (λ h. exactly (ZerosAre (DateTime2 4)) n 7 h (_, refl)) (λ h. exactly (ZerosAre (DateTime2 5)) n 8 h (_, refl)) (λ h. exactly (ZerosAre (DateTime2 6)) n 8 h (_, refl)) (λ h. exactly (ZerosAre (DateTime2 7)) n 8 h (_, refl))
+    sc (le_true sc 7 v) h
+zeros_are_a_value (DateTimeOffset sc) n v s h =
+    below_eight (λ sc. is_length_allowed (DateTimeOffset sc) n ≡ true → ZerosAre (DateTimeOffset sc) n)
+    (λ h. exactly (ZerosAre (DateTimeOffset 0)) n 8 h (_, refl)) (λ h. exactly (ZerosAre (DateTimeOffset 1)) n 8 h (_, refl)) (λ h. exactly (ZerosAre (DateTimeOffset 2)) n 8 h (_, refl)) (λ h. exactly (ZerosAre (DateTimeOffset 3)) n 9 h (_, refl))
+    (λ h. exactly (ZerosAre (DateTimeOffset 4)) n 9 h (_, refl)) (λ h. exactly (ZerosAre (DateTimeOffset 5)) n 10 h (_, refl)) (λ h. exactly (ZerosAre (DateTimeOffset 6)) n 10 h (_, refl)) (λ h. exactly (ZerosAre (DateTimeOffset 7)) n 10 h (_, refl))
+    sc (le_true sc 7 v) h
+zeros_are_a_value (Binary r) n v s h = cc
+zeros_are_a_value (Narrow r) n v s h = cc
+zeros_are_a_value (Wide r) n v s h = cc
+
+zeros_more : (n : ℕ) → zeros (n + 1) ≡ 0 ∷ zeros n
+zeros_more n = ap (λ v. replicate v 0) (add-one n)
+
+-- a sum that stays below that of a known total may still become it
+within : (total : Option ℕ) (m k : ℕ) → is_total total m ≡ true → k ≤ m → within_total total k ≡ true
+within None m k h le = refl
+within (Some t) m k h le = let e : m ≡ t = eq_true m t h in test_le k t (omega arith)
+
+-- one zero byte where the sum is odd makes it even
+made_even : (c : Conversion) (n : ℕ) → (n + n % unit c) % unit c ≡ 0
+made_even HexDigits n = omega arith
+made_even Utf16Text n = omega arith
+made_even Windows1252Text n = omega arith
+made_even Utf8Text n = omega arith
+
+module _ (column : ℕ) where
+  -- the rest of a short value
+  short_ends : (c : Conversion) (left : ℕ) (content : List ℕ) → CellReached (ShortData c left content) → (x : Cell) × Spelt (cell column) (ShortData c left content) (zeros (left + 1)) (WholeCell x)
+  short_ends c zero content (plain, even) =
+      let l : length (content ++ 0 ∷ []) ≡ length content + 1 = length-append content (0 ∷ []) in
+      let begun : is_begun c (content ++ 0 ∷ []) ≡ true = plain_begun c (content ++ 0 ∷ []) plain in
+      let fit : is_fit c (content ++ 0 ∷ []) ≡ true = plain_fit c (content ++ 0 ∷ []) plain (ap (λ v. v % unit c) l ∙ even) in
+      (DataCell c (content ++ 0 ∷ []), Spelt-step (cell column) (ShortData c 0 content) (0 ∷ []) (WholeCell (DataCell c (content ++ 0 ∷ []))) (omega arith) refl (λ i. unless (begun i && fit i) (BadText column)) refl)
+  short_ends c (suc left) content (plain, even) =
+      let l : length (content ++ 0 ∷ []) ≡ length content + 1 = length-append content (0 ∷ []) in
+      let begun : is_begun c (content ++ 0 ∷ []) ≡ true = plain_begun c (content ++ 0 ∷ []) plain in
+      let some : nat_lt 0 (suc left) ≡ true = test_lt 0 (suc left) (omega arith) in
+      let to : cell_add (ShortData c (suc left) content) (0 ∷ []) ≡ ShortData c left (content ++ 0 ∷ []) =
+      choose_false (suc left == 0) (WholeCell (DataCell c (content ++ 0 ∷ []))) (ShortData c (suc left - 1) (content ++ 0 ∷ [])) (ne_eqb (suc left) 0 (λ q. omega arith)) ∙ ap (λ v. ShortData c v (content ++ 0 ∷ [])) (omega arith) in
+      let one : Spelt (cell column) (ShortData c (suc left) content) (0 ∷ []) (ShortData c left (content ++ 0 ∷ [])) = Spelt-step (cell column) (ShortData c (suc left) content) (0 ∷ []) (ShortData c left (content ++ 0 ∷ [])) (omega arith) refl (λ i. unless (begun i && (some i || is_fit c (content ++ 0 ∷ []))) (BadText column)) to in
+      let same : length (content ++ 0 ∷ []) + (left + 1) ≡ length content + (suc left + 1) = omega (arith, l) in
+      let more = short_ends c left (content ++ 0 ∷ []) (plain, ap (λ v. v % unit c) same ∙ even) in
+      let bytes : 0 ∷ zeros (left + 1) ≡ zeros (suc left + 1) = ap (λ v. 0 ∷ zeros v) (add-one left) ∙ sym (zeros_more (suc left)) in
+      (more.0, subst (λ v. Spelt (cell column) (ShortData c (suc left) content) v (WholeCell more.0)) bytes (Spelt-append (cell column) (ShortData c (suc left) content) (0 ∷ []) (ShortData c left (content ++ 0 ∷ [])) (zeros (left + 1)) (WholeCell more.0) one more.1))
+
+  -- the rest of a chunk
+  chunk_ends : (c : Conversion) (total : Option ℕ) (left : ℕ) (content : List ℕ) → is_plain c ≡ true → Spelt (cell column) (ChunkData c total left content) (zeros (left + 1)) (ChunkLength c total (content ++ zeros (left + 1)))
+  chunk_ends c total zero content plain =
+      let begun : is_begun c (content ++ 0 ∷ []) ≡ true = plain_begun c (content ++ 0 ∷ []) plain in
+      Spelt-step (cell column) (ChunkData c total 0 content) (0 ∷ []) (ChunkLength c total (content ++ 0 ∷ [])) (omega arith) refl (λ i. unless (begun i) (BadText column)) refl
+  chunk_ends c total (suc left) content plain =
+      let begun : is_begun c (content ++ 0 ∷ []) ≡ true = plain_begun c (content ++ 0 ∷ []) plain in
+      let to : cell_add (ChunkData c total (suc left) content) (0 ∷ []) ≡ ChunkData c total left (content ++ 0 ∷ []) =
+      choose_false (suc left == 0) (ChunkLength c total (content ++ 0 ∷ [])) (ChunkData c total (suc left - 1) (content ++ 0 ∷ [])) (ne_eqb (suc left) 0 (λ q. omega arith)) ∙ ap (λ v. ChunkData c total v (content ++ 0 ∷ [])) (omega arith) in
+      let one : Spelt (cell column) (ChunkData c total (suc left) content) (0 ∷ []) (ChunkData c total left (content ++ 0 ∷ [])) = Spelt-step (cell column) (ChunkData c total (suc left) content) (0 ∷ []) (ChunkData c total left (content ++ 0 ∷ [])) (omega arith) refl (λ i. unless (begun i) (BadText column)) to in
+      let bytes : 0 ∷ zeros (left + 1) ≡ zeros (suc left + 1) = ap (λ v. 0 ∷ zeros v) (add-one left) ∙ sym (zeros_more (suc left)) in
+      let all : (content ++ 0 ∷ []) ++ zeros (left + 1) ≡ content ++ (0 ∷ zeros (left + 1)) = append_assoc content (0 ∷ []) (zeros (left + 1)) in
+      subst (λ v. Spelt (cell column) (ChunkData c total (suc left) content) v (ChunkLength c total (content ++ v))) bytes
+      (subst (λ v. Spelt (cell column) (ChunkData c total (suc left) content) (0 ∷ zeros (left + 1)) (ChunkLength c total v)) all
+      (Spelt-append (cell column) (ChunkData c total (suc left) content) (0 ∷ []) (ChunkData c total left (content ++ 0 ∷ [])) (zeros (left + 1)) (ChunkLength c total ((content ++ 0 ∷ []) ++ zeros (left + 1))) one (chunk_ends c total left (content ++ 0 ∷ []) plain)))
+
+  -- a chunk of one zero byte
+  one_chunk : (c : Conversion) (total : Option ℕ) (content : List ℕ) → is_plain c ≡ true → within_total total (length content + 1) ≡ true → Spelt (cell column) (ChunkLength c total content) one_zero (ChunkLength c total (content ++ 0 ∷ []))
+  one_chunk c total content plain fits =
+      Spelt-append (cell column) (ChunkLength c total content) (1 ∷ 0 ∷ 0 ∷ 0 ∷ []) (ChunkData c total 0 content) (0 ∷ []) (ChunkLength c total (content ++ 0 ∷ []))
+      (Spelt-step (cell column) (ChunkLength c total content) (1 ∷ 0 ∷ 0 ∷ 0 ∷ []) (ChunkData c total 0 content) (omega arith) refl (ap (λ b. unless b (PlpLength column)) fits) refl)
+      (chunk_ends c total 0 content plain)
+
+  -- so many of them, and the terminator
+  chunks_end : (c : Conversion) (total : Option ℕ) (n : ℕ) (content : List ℕ) → is_plain c ≡ true → is_total total (length content + n) ≡ true → (length content + n) % unit c ≡ 0 → (x : Cell) × Spelt (cell column) (ChunkLength c total content) (zero_chunks n ++ terminator) (WholeCell x)
+  chunks_end c total zero content plain all even =
+      let same : length content + 0 ≡ length content = omega arith in
+      let t : is_total total (length content) ≡ true = subst (λ v. is_total total v ≡ true) same all in
+      let p : (length content % unit c == 0) ≡ true = ap (λ v. v == 0) (ap (λ v. v % unit c) (sym same) ∙ even) in
+      let f : is_fit c content ≡ true = plain_fit c content plain (ap (λ v. v % unit c) (sym same) ∙ even) in
+      (DataCell c content, Spelt-step (cell column) (ChunkLength c total content) (0 ∷ 0 ∷ 0 ∷ 0 ∷ []) (WholeCell (DataCell c content)) (omega arith) refl (λ i. (if t i then (if p i then unless (f i) (BadText column) else Some (OddText column)) else Some (PlpLength column))) refl)
+  chunks_end c total (suc n) content plain all even =
+      let l : length (content ++ 0 ∷ []) ≡ length content + 1 = length-append content (0 ∷ []) in
+      let same : length content + suc n ≡ length (content ++ 0 ∷ []) + n = omega (arith, l) in
+      let one = one_chunk c total content plain (within total (length content + suc n) (length content + 1) all (omega arith)) in
+      let more = chunks_end c total n (content ++ 0 ∷ []) plain (subst (λ v. is_total total v ≡ true) same all) (subst (λ v. v % unit c ≡ 0) same even) in
+      (more.0, Spelt-append (cell column) (ChunkLength c total content) one_zero (ChunkLength c total (content ++ 0 ∷ [])) (zero_chunks n ++ terminator) (WholeCell more.0) one more.1)
+
+  -- the rest of the chunks
+  length_ends : (c : Conversion) (total : Option ℕ) (content : List ℕ) → is_plain c ≡ true → HoldsTotal c total (length content) → (x : Cell) × Spelt (cell column) (ChunkLength c total content) (rest_of_chunks c total (length content)) (WholeCell x)
+  length_ends c None content plain h = chunks_end c None (length content % unit c) content plain refl (made_even c (length content))
+  length_ends c (Some t) content plain (le, even) =
+      let e : length content + (t - length content) ≡ t = omega arith in
+      chunks_end c (Some t) (t - length content) content plain (eq-eqb (length content + (t - length content)) t e) (ap (λ v. v % unit c) e ∙ even)
+
+  -- A part of a cell followed by what completes it is a whole cell.
+  pub cell_ends : (p : CellPart) → CellReached p → (x : Cell) × Spelt (cell column) p (rest_of_cell p) (WholeCell x)
+  cell_ends (ScalarBytes kind n) (some, valid, scalar, allowed) =
+      let v = zeros_are_a_value kind n valid scalar allowed in
+      let l : length (zeros n) ≡ n = length-replicate n 0 in
+      (ScalarCell v.0, Spelt-step (cell column) (ScalarBytes kind n) (zeros n) (WholeCell (ScalarCell v.0)) (omega (arith, l)) l (ap (λ r. unless (is_ok r) (BadValue column)) v.1) (ap value_part v.1))
+  cell_ends (ScalarLength kind) h = (Null, Spelt-step (cell column) (ScalarLength kind) (0 ∷ []) (WholeCell Null) (omega arith) refl refl refl)
+  cell_ends (ShortLength c) h = (Null, Spelt-step (cell column) (ShortLength c) (255 ∷ 255 ∷ []) (WholeCell Null) (omega arith) refl refl refl)
+  cell_ends (ShortData c left content) h = short_ends c left content h
+  cell_ends (Total c) h = (Null, Spelt-step (cell column) (Total c) (replicate 8 255) (WholeCell Null) (omega arith) refl refl refl)
+  cell_ends (ChunkLength c total content) (plain, h) = length_ends c total content plain h
+  cell_ends (ChunkData c total left content) (plain, h) =
+      let now : List ℕ = content ++ zeros (left + 1) in
+      let l : length now ≡ length content + (left + 1) = length-append content (zeros (left + 1)) ∙ ap (λ v. length content + v) (length-replicate (left + 1) 0) in
+      let more = length_ends c total now plain (subst (λ v. HoldsTotal c total v) (sym l) h) in
+      (more.0, Spelt-append (cell column) (ChunkData c total left content) (zeros (left + 1)) (ChunkLength c total now) (rest_of_chunks c total (length content + (left + 1))) (WholeCell more.0) (chunk_ends c total left content plain) (subst (λ v. Spelt (cell column) (ChunkLength c total now) (rest_of_chunks c total v) (WholeCell more.0)) l more.1))
+  cell_ends (WholeCell x) h = (x, Spelt-none (cell column) (WholeCell x))
+
+  value_reached : (r : Result ScalarValue ValueFault) → CellReached (value_part r)
+  value_reached (Ok v) = tt
+  value_reached (Err f) = tt
+
+  total_reached : (c : Conversion) (n : ℕ) → n < 2 ^ 64 → n ≢ null_total → (nat_le unknown_total n || (n % unit c == 0)) ≡ true → HoldsTotal c (known_total n) 0
+  total_reached c n small other h =
+      choose (λ t. HoldsTotal c t 0) (n == unknown_total) None (Some n) (λ z. tt)
+      (λ z.
+      let off : n ≢ unknown_total = eq_false n unknown_total z in
+      (omega arith, elim (or_cases (nat_le unknown_total n) (n % unit c == 0) h) [ inl x ↦ absurd (let le : unknown_total ≤ n = le_true unknown_total n x in omega arith) | inr y ↦ eq_true (n % unit c) 0 y ]))
+
+  within_reached : (c : Conversion) (total : Option ℕ) (sum more n : ℕ) → more ≡ sum + n → HoldsTotal c total sum → within_total total (sum + n) ≡ true → HoldsTotal c total more
+  within_reached c None sum more n e h w = tt
+  within_reached c (Some t) sum more n e (le, even) w = (let q : sum + n ≤ t = le_true (sum + n) t w in omega arith, even)
+
+  -- Each element keeps what is known.
+  pub cell_keeps : (p : CellPart) (e : List ℕ) → AreBytes e → CellReached p → IsNext (cell column) p e → CellReached (cell_add p e)
+  cell_keeps (ScalarBytes kind m) e are h n = value_reached (read_of kind e)
+  cell_keeps (ScalarLength kind) e are (valid, scalar) n =
+      let free : ((slice_index e 0 == 0) || is_length_allowed kind (slice_index e 0)) ≡ true = unless_none ((slice_index e 0 == 0) || is_length_allowed kind (slice_index e 0)) (BadValueLength column) n.free in
+      choose CellReached (slice_index e 0 == 0) (WholeCell Null) (ScalarBytes kind (slice_index e 0)) (λ z. tt)
+      (λ z.
+      let some : slice_index e 0 ≢ 0 = eq_false (slice_index e 0) 0 z in
+      (omega arith, valid, scalar, if_not_first (slice_index e 0 == 0) (is_length_allowed kind (slice_index e 0)) z free))
+  cell_keeps (ShortLength c) e are plain n =
+      let free : ((little e == 0xFFFF) || (little e % unit c == 0)) ≡ true = unless_none ((little e == 0xFFFF) || (little e % unit c == 0)) (OddText column) n.free in
+      choose CellReached (little e == 0xFFFF) (WholeCell Null) (if little e == 0 then WholeCell (DataCell c []) else ShortData c (little e - 1) []) (λ z. tt)
+      (λ z. choose CellReached (little e == 0) (WholeCell (DataCell c [])) (ShortData c (little e - 1) []) (λ y. tt)
+      (λ y.
+      let some : little e ≢ 0 = eq_false (little e) 0 y in
+      let same : 0 + (little e - 1 + 1) ≡ little e = omega arith in
+      (plain, ap (λ v. v % unit c) same ∙ eq_true (little e % unit c) 0 (if_not_first (little e == 0xFFFF) (little e % unit c == 0) z free))))
+  cell_keeps (ShortData c left content) e are (plain, even) n =
+      let l : length (content ++ e) ≡ length content + 1 = length-append content e ∙ ap (λ v. length content + v) n.whole in
+      choose CellReached (left == 0) (WholeCell (DataCell c (content ++ e))) (ShortData c (left - 1) (content ++ e)) (λ z. tt)
+      (λ z.
+      let some : left ≢ 0 = eq_false left 0 z in
+      let same : length (content ++ e) + (left - 1 + 1) ≡ length content + (left + 1) = omega (arith, l) in
+      (plain, ap (λ v. v % unit c) same ∙ even))
+  cell_keeps (Total c) e are plain n =
+      let free : (nat_le unknown_total (little e) || (little e % unit c == 0)) ≡ true = unless_none (nat_le unknown_total (little e) || (little e % unit c == 0)) (OddText column) n.free in
+      let eight : length e ≡ 8 = n.whole in
+      let small : little e < 2 ^ 64 = subst (λ v. little e < 256 ^ v) eight (little_below (length e) 0 e are) in
+      choose CellReached (little e == null_total) (WholeCell Null) (ChunkLength c (known_total (little e)) []) (λ z. tt) (λ z. (plain, total_reached c (little e) small (eq_false (little e) null_total z) free))
+  cell_keeps (ChunkLength c total content) e are (plain, h) n =
+      choose CellReached (little e == 0) (WholeCell (DataCell c content)) (ChunkData c total (little e - 1) content) (λ z. tt)
+      (λ z.
+      let some : little e ≢ 0 = eq_false (little e) 0 z in
+      let same : length content + (little e - 1 + 1) ≡ length content + little e = omega arith in
+      let free : unless (within_total total (length content + little e)) (PlpLength column) ≡ None = sym (choose_false (little e == 0) (end_of_chunks column c total content) (unless (within_total total (length content + little e)) (PlpLength column)) z) ∙ n.free in
+      (plain, within_reached c total (length content) (length content + (little e - 1 + 1)) (little e) same h (unless_none (within_total total (length content + little e)) (PlpLength column) free)))
+  cell_keeps (ChunkData c total left content) e are (plain, h) n =
+      let l : length (content ++ e) ≡ length content + 1 = length-append content e ∙ ap (λ v. length content + v) n.whole in
+      choose CellReached (left == 0) (ChunkLength c total (content ++ e)) (ChunkData c total (left - 1) (content ++ e))
+      (λ z.
+      let none : left ≡ 0 = eq_true left 0 z in
+      let same : length content + (left + 1) ≡ length (content ++ e) = omega (arith, l) in
+      (plain, subst (λ v. HoldsTotal c total v) same h))
+      (λ z.
+      let some : left ≢ 0 = eq_false left 0 z in
+      let same : length content + (left + 1) ≡ length (content ++ e) + (left - 1 + 1) = omega (arith, l) in
+      (plain, subst (λ v. HoldsTotal c total v) same h))
+  cell_keeps (WholeCell x) e are h n = tt
+
+-- A cell of a valid kind begins so.
+pub start_reached : (kind : Kind) → is_valid kind ≡ true → CellReached (cell_start kind (shape Windows1252 kind))
+start_reached Int1 v = (omega arith, v, refl, refl)
+start_reached Int2 v = (omega arith, v, refl, refl)
+start_reached Int4 v = (omega arith, v, refl, refl)
+start_reached Int8 v = (omega arith, v, refl, refl)
+start_reached Bit v = (omega arith, v, refl, refl)
+start_reached Money4 v = (omega arith, v, refl, refl)
+start_reached Money8 v = (omega arith, v, refl, refl)
+start_reached DateTime4 v = (omega arith, v, refl, refl)
+start_reached DateTime8 v = (omega arith, v, refl, refl)
+start_reached (IntN n) v = (v, refl)
+start_reached BitN v = (v, refl)
+start_reached (MoneyN n) v = (v, refl)
+start_reached (DateTimeN n) v = (v, refl)
+start_reached Guid v = (v, refl)
+start_reached (Decimal l p s) v = (v, refl)
+start_reached Date v = (v, refl)
+start_reached (Time s) v = (v, refl)
+start_reached (DateTime2 s) v = (v, refl)
+start_reached (DateTimeOffset s) v = (v, refl)
+start_reached (Binary Short) v = refl
+start_reached (Binary Chunked) v = refl
+start_reached (Narrow Short) v = refl
+start_reached (Narrow Chunked) v = refl
+start_reached (Wide Short) v = refl
+start_reached (Wide Chunked) v = refl

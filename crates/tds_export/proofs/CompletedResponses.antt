@@ -1,0 +1,201 @@
+-- What completes a response is read as its rest.
+use Rattle.std.proofs.Common.{◌≡◌, ◌≢◌, ℕ, ◌+◌, ◌-◌, ◌<◌, ◌≤◌, Bool, true, false, List, [], ◌∷◌, ◌++◌, length, refl, sym, ◌∙◌, ap, subst, arith}
+use Rattle.std.specs.Prelude.{Option, Some, None, ◌==◌, ◌&&◌, ◌||◌, nat_lt, nat_le, not, slice_index, if◌then◌else◌}
+use Rattle.std.proofs.lemmas.Bool.Decides.{nat_tests}
+use Rattle.std.proofs.lemmas.List.{length-replicate, replicate-append-replicate}
+use Rattle.tds_values.specs.Numbers.{little}
+use Rattle.tds_packet.specs.declared.fault.Fault.TheVariants.{BadNotice}
+use Rattle.tds_packet.specs.Elements.{AreBytes, Spelt, IsNext}
+use Rattle.tds_packet.proofs.ElementLaws.{Spelt-step, Spelt-append, Spelt-none, Spelt-induct, Inside-Spelt, AreBytes-front, AreBytes-back}
+use Rattle.tds_packet.proofs.Choices.{choose, eq_false, test_lt, test_le}
+use Rattle.tds_columns.specs.Description.{Column, DescriptionPart, BeforeCount, NoDescription, InColumn, WholeDescription, add_described, description}
+use Rattle.tds_rows.specs.declared.Charset.TheVariants.{Windows1252}
+use Rattle.tds_rows.specs.Rows.{RowPart, WholeRow, marked, row_start, nbc_row_start, row_add, row}
+use Rattle.tds_export.specs.declared.token_bytes.TheConstants.{COLMETADATA, ROW, NBCROW, ORDER, ENVCHANGE, ERROR, INFO, RETURNVALUE, RETURNSTATUS, DONE, DONEPROC, DONEINPROC}
+use Rattle.tds_export.specs.ReturnValue.{ReturnPart, ReturnOrdinal, WholeReturn, return_add, return_value}
+use Rattle.tds_export.specs.Tokens.{Token, Metadata, NoMetadata, Row, Order, EnvChange, Error, Info, ReturnStatus, Returned, Done, DoneInProc, described_after}
+use Rattle.tds_export.specs.TokenGrammar.{Bodied, AnOrder, AnEnvChange, AnError, AnInfo, Open, Between, Describing, InRow, InReturn, TokenLength, TokenBody, Status, DoneFields, DoneInProcFields, Part, response_start, with_token, with_described, with_row, with_return, start_of_row, after_byte, holds_notice, notice_of, bodied, is_notice, part_add, response}
+use Rattle.tds_export.specs.Completion.{zeros, rest_of_token, done, completion, CanBeCompleted}
+use Rattle.tds_export.proofs.ResponseLaws.{described_after-append, description_in_response, row_in_response, return_in_response}
+use Rattle.tds_export.proofs.ResponseMeaning.{response_is_spelt}
+use Rattle.tds_export.proofs.TokenLaws.{is_final-snoc}
+use Rattle.tds_export.proofs.CompletedRows.{AreValid, RowReached, row_keeps, row_ends, next_reached, marked_valid}
+use Rattle.tds_export.proofs.CompletedDescriptions.{DescribedReached, IsOpenDescription, described_keeps, described_ends}
+use Rattle.tds_export.proofs.CompletedReturns.{ReturnReached, return_keeps, return_ends}
+use Rattle.tds_export.proofs.CompletionBytes.{IsOpenRow, IsOpenReturn, OpenReached, AreBytes-completion}
+use Rattle.tds_export.proofs.SomeBytes.{AreBytes-append}
+
+-- the columns that are described are some, of valid kinds
+abbrev CurrentReached : Option (List Column) → Type 0
+CurrentReached None = Unit {0}
+CurrentReached (Some columns) = (0 < length columns) × AreValid columns
+
+-- what is known of a part of a response that bytes led to
+abbrev PartReached : ℕ → Part → Type 0
+PartReached room p = CurrentReached (described_after None p.tokens) × OpenReached room p.at
+
+-- a notice of zero bytes holds its inner lengths
+zeros_hold : (n : ℕ) → 14 ≤ n → holds_notice (zeros n) ≡ true
+zeros_hold n h =
+    let more : List ℕ = zeros (n - 14) in
+    let body : List ℕ = zeros 14 ++ more in
+    let l : length body ≡ 14 + length more = omega arith in
+    let a : nat_lt 8 (length body) ≡ true = test_lt 8 (length body) (omega arith) in
+    let b : nat_lt 9 (length body) ≡ true = test_lt 9 (length body) (omega arith) in
+    let c : nat_le 14 (length body) ≡ true = test_le 14 (length body) (omega arith) in
+    let same : body ≡ zeros n = replicate-append-replicate 14 (n - 14) 0 ∙ ap zeros (omega arith) in
+    subst (λ v. holds_notice v ≡ true) same (λ i. (a i && b i) && c i)
+
+not_short : (n : ℕ) (t : Bool) → nat_lt n 14 ≡ t → ((if t then Some BadNotice else None) ≡ None) → 14 ≤ n
+not_short n true e f = cc
+not_short n false e f = grind (arith, nat_tests)
+
+module _ (room : ℕ) where
+  -- a token that describes nothing
+  token_reached : (tokens : List Token) (t : Token) → ((c : Option (List Column)) → described_after c (t ∷ []) ≡ c) → CurrentReached (described_after None tokens) → PartReached room (with_token tokens t)
+  token_reached tokens t same h = (subst CurrentReached (sym (described_after-append None tokens (t ∷ []) ∙ same (described_after None tokens))) h, tt)
+
+  body_reached : (tokens : List Token) (b : Bodied) (body : List ℕ) → CurrentReached (described_after None tokens) → PartReached room (with_token tokens (bodied b body))
+  body_reached tokens AnOrder body h = token_reached tokens (Order body) (λ c. refl) h
+  body_reached tokens AnEnvChange body h = token_reached tokens (EnvChange body) (λ c. refl) h
+  body_reached tokens AnError body h = token_reached tokens (Error (notice_of body)) (λ c. refl) h
+  body_reached tokens AnInfo body h = token_reached tokens (Info (notice_of body)) (λ c. refl) h
+
+  described_reached : (tokens : List Token) (d : DescriptionPart) → CurrentReached (described_after None tokens) → DescribedReached room d → PartReached room (with_described tokens d)
+  described_reached tokens BeforeCount h r = (h, (tt, r))
+  described_reached tokens NoDescription h r = (subst CurrentReached (sym (described_after-append None tokens (NoMetadata ∷ []))) tt, tt)
+  described_reached tokens (InColumn bytes count cols place) h r = (h, (tt, r))
+  described_reached tokens (WholeDescription bytes cols) h r = (subst CurrentReached (sym (described_after-append None tokens (Metadata bytes cols ∷ []))) r, tt)
+
+  row_reached : (tokens : List Token) (part : RowPart) → CurrentReached (described_after None tokens) → RowReached part → PartReached room (with_row tokens part)
+  row_reached tokens (WholeRow cells) h r = token_reached tokens (Row cells) (λ c. refl) h
+  row_reached tokens part h r = (h, (tt, r))
+
+  return_reached : (tokens : List Token) (part : ReturnPart) → CurrentReached (described_after None tokens) → ReturnReached part → PartReached room (with_return tokens part)
+  return_reached tokens (WholeReturn v) h r = token_reached tokens (Returned v) (λ c. refl) h
+  return_reached tokens part h r = (h, (tt, r))
+
+  row_starts : (tokens : List Token) (start : List Column → RowPart) → ((columns : List Column) → (0 < length columns) × AreValid columns → RowReached (start columns)) → (current : Option (List Column)) → described_after None tokens ≡ current → CurrentReached current → PartReached room (start_of_row tokens start current)
+  row_starts tokens start begins None is h = (subst CurrentReached (sym is) h, tt)
+  row_starts tokens start begins (Some columns) is h = row_reached tokens (start columns) (subst CurrentReached (sym is) h) (begins columns h)
+
+  byte_reached : (tokens : List Token) (x : ℕ) → CurrentReached (described_after None tokens) → PartReached room (after_byte Windows1252 tokens x)
+  byte_reached tokens x h =
+      choose (PartReached room) (x == COLMETADATA) (record { tokens = tokens; at = Describing BeforeCount }) _ (λ z. (h, (tt, tt))) (λ z.
+      choose (PartReached room) (x == ROW) (start_of_row tokens (row_start Windows1252) (described_after None tokens)) _ (λ z. row_starts tokens (row_start Windows1252) (λ columns v. next_reached [] (marked columns (λ k. false) 0) (marked_valid columns (λ k. false) 0 v.1)) (described_after None tokens) refl h) (λ z.
+      choose (PartReached room) (x == NBCROW) (start_of_row tokens nbc_row_start (described_after None tokens)) _ (λ z. row_starts tokens nbc_row_start (λ columns v. v) (described_after None tokens) refl h) (λ z.
+      choose (PartReached room) (x == ORDER) (record { tokens = tokens; at = TokenLength AnOrder }) _ (λ z. (h, tt)) (λ z.
+      choose (PartReached room) (x == ENVCHANGE) (record { tokens = tokens; at = TokenLength AnEnvChange }) _ (λ z. (h, tt)) (λ z.
+      choose (PartReached room) (x == ERROR) (record { tokens = tokens; at = TokenLength AnError }) _ (λ z. (h, tt)) (λ z.
+      choose (PartReached room) (x == INFO) (record { tokens = tokens; at = TokenLength AnInfo }) _ (λ z. (h, tt)) (λ z.
+      choose (PartReached room) (x == RETURNSTATUS) (record { tokens = tokens; at = Status }) _ (λ z. (h, tt)) (λ z.
+      choose (PartReached room) ((x == DONE) || (x == DONEPROC)) (record { tokens = tokens; at = DoneFields }) _ (λ z. (h, tt)) (λ z.
+      choose (PartReached room) (x == DONEINPROC) (record { tokens = tokens; at = DoneInProcFields }) _ (λ z. (h, tt)) (λ z.
+      choose (PartReached room) (x == RETURNVALUE) (record { tokens = tokens; at = InReturn ReturnOrdinal }) _ (λ z. (h, (tt, tt))) (λ z. (h, tt))))))))))))
+
+  length_reached : (b : Bodied) (n : ℕ) → ((if is_notice b && nat_lt n 14 then Some BadNotice else None) ≡ None) → is_notice b ≡ true → 14 ≤ n
+  length_reached AnOrder n f h = cc
+  length_reached AnEnvChange n f h = cc
+  length_reached AnError n f h = not_short n (nat_lt n 14) refl f
+  length_reached AnInfo n f h = not_short n (nat_lt n 14) refl f
+
+  -- Each element keeps what is known.
+  open_keeps : (tokens : List Token) (at : Open) (e : List ℕ) → AreBytes e → CurrentReached (described_after None tokens) → OpenReached room at → IsNext (response Windows1252 room) (record { tokens = tokens; at = at }) e → PartReached room (part_add Windows1252 tokens at e)
+  open_keeps tokens Between e are h o n = byte_reached tokens (slice_index e 0) h
+  open_keeps tokens (Describing d) e are h (begun, r) n = described_reached tokens (add_described d e) h (described_keeps room d e are r (record { some = n.some; whole = n.whole; free = n.free }))
+  open_keeps tokens (InRow part) e are h (begun, r) n = row_reached tokens (row_add Windows1252 part e) h (row_keeps part e are r (record { some = n.some; whole = n.whole; free = n.free }))
+  open_keeps tokens (InReturn part) e are h (begun, r) n = return_reached tokens (return_add part e) h (return_keeps part e are r (record { some = n.some; whole = n.whole; free = n.free }))
+  open_keeps tokens (TokenLength b) e are h o n =
+      choose (PartReached room) (little e == 0) (with_token tokens (bodied b [])) (record { tokens = tokens; at = TokenBody b (little e) }) (λ z. body_reached tokens b [] h)
+      (λ z. let some : little e ≢ 0 = eq_false (little e) 0 z in (h, (omega arith, length_reached b (little e) n.free)))
+  open_keeps tokens (TokenBody b m) e are h o n = body_reached tokens b e h
+  open_keeps tokens Status e are h o n = token_reached tokens _ (λ c. refl) h
+  open_keeps tokens DoneFields e are h o n = token_reached tokens _ (λ c. refl) h
+  open_keeps tokens DoneInProcFields e are h o n = token_reached tokens _ (λ c. refl) h
+
+  part_reached : (bytes : List ℕ) (p : Part) → AreBytes bytes → Spelt (response Windows1252 room) response_start bytes p → PartReached room p
+  part_reached bytes p are h =
+      Spelt-induct (response Windows1252 room) (λ q b. AreBytes b → PartReached room q) (λ q b e k n all. let r = k (AreBytes-front b e all) in open_keeps q.tokens q.at e (AreBytes-back b e all) r.0 r.1 n) response_start (λ t. (tt, tt)) bytes p h are
+
+  -- the rest of a token, up to its end
+  abbrev Ends : List Token → Open → List ℕ → Type 0
+  Ends tokens at rest = (ts : List Token) × Spelt (response Windows1252 room) (record { tokens = tokens; at = at }) rest (record { tokens = ts; at = Between })
+
+  described_opens : (tokens : List Token) (d : DescriptionPart) → IsOpenDescription d → with_described tokens d ≡ record { tokens = tokens; at = Describing d }
+  described_opens tokens BeforeCount h = refl
+  described_opens tokens NoDescription h = absurd h
+  described_opens tokens (InColumn bytes count cols place) h = refl
+  described_opens tokens (WholeDescription bytes cols) h = absurd h
+
+  row_opens : (tokens : List Token) (part : RowPart) → IsOpenRow part → with_row tokens part ≡ record { tokens = tokens; at = InRow part }
+  row_opens tokens (WholeRow cells) h = absurd h
+  row_opens tokens part h = refl
+
+  return_opens : (tokens : List Token) (part : ReturnPart) → IsOpenReturn part → with_return tokens part ≡ record { tokens = tokens; at = InReturn part }
+  return_opens tokens (WholeReturn r) h = absurd h
+  return_opens tokens part h = refl
+
+  body_ends : (tokens : List Token) (b : Bodied) (n : ℕ) → OpenReached room (TokenBody b n) → Ends tokens (TokenBody b n) (zeros n)
+  body_ends tokens b n (some, long) =
+      let l : length (zeros n) ≡ n = length-replicate n 0 in
+      (tokens ++ bodied b (zeros n) ∷ [], Spelt-step (response Windows1252 room) (record { tokens = tokens; at = TokenBody b n }) (zeros n) (with_token tokens (bodied b (zeros n))) (omega (arith, l)) l (free b long) refl)
+    where
+      free : (b : Bodied) → (is_notice b ≡ true → 14 ≤ n) → ((if is_notice b && not (holds_notice (zeros n)) then Some BadNotice else None) ≡ None)
+      free AnOrder long = refl
+      free AnEnvChange long = refl
+      free AnError long = ap (λ t. (if not t then Some BadNotice else None)) (zeros_hold n (long refl))
+      free AnInfo long = ap (λ t. (if not t then Some BadNotice else None)) (zeros_hold n (long refl))
+
+  notice_ends : (tokens : List Token) (b : Bodied) → ((if is_notice b && nat_lt 14 14 then Some BadNotice else None) ≡ None) → Ends tokens (TokenLength b) (14 ∷ 0 ∷ zeros 14)
+  notice_ends tokens b free =
+      let more = body_ends tokens b 14 (omega arith, λ t. omega arith) in (
+        more.0,
+        Spelt-append (response Windows1252 room) (record { tokens = tokens; at = TokenLength b }) (14 ∷ 0 ∷ []) (record { tokens = tokens; at = TokenBody b 14 }) (zeros 14) (record { tokens = more.0; at = Between })
+            (Spelt-step (response Windows1252 room) (record { tokens = tokens; at = TokenLength b }) (14 ∷ 0 ∷ []) (record { tokens = tokens; at = TokenBody b 14 }) (omega arith) refl free refl) more.1,
+      )
+
+  one_ends : (tokens : List Token) (at : Open) (e : List ℕ) (t : Token) → Spelt (response Windows1252 room) (record { tokens = tokens; at = at }) e (with_token tokens t) → Ends tokens at e
+  one_ends tokens at e t h = (tokens ++ t ∷ [], h)
+
+  -- The rest of the token that is read ends it.
+  token_ends : 10 ≤ room → (tokens : List Token) (at : Open) → OpenReached room at → Ends tokens at (rest_of_token at)
+  token_ends ten tokens Between o = (tokens, Spelt-none (response Windows1252 room) (record { tokens = tokens; at = Between }))
+  token_ends ten tokens (Describing d) (begun, r) =
+      let all = described_ends room ten d begun r in
+      one_ends tokens (Describing d) (rest_of_token (Describing d)) (Metadata all.0 all.1)
+      (subst (λ p. Spelt (response Windows1252 room) p (rest_of_token (Describing d)) (with_token tokens (Metadata all.0 all.1))) (described_opens tokens d begun)
+      (Inside-Spelt (description room) (response Windows1252 room) (with_described tokens) (description_in_response Windows1252 room tokens) d (rest_of_token (Describing d)) (WholeDescription all.0 all.1) all.2))
+  token_ends ten tokens (InRow part) (begun, r) =
+      let all = row_ends part r in
+      one_ends tokens (InRow part) (rest_of_token (InRow part)) (Row all.0)
+      (subst (λ p. Spelt (response Windows1252 room) p (rest_of_token (InRow part)) (with_token tokens (Row all.0))) (row_opens tokens part begun)
+      (Inside-Spelt (row Windows1252) (response Windows1252 room) (with_row tokens) (row_in_response Windows1252 room tokens) part (rest_of_token (InRow part)) (WholeRow all.0) all.1))
+  token_ends ten tokens (InReturn part) (begun, r) =
+      let all = return_ends part r in
+      one_ends tokens (InReturn part) (rest_of_token (InReturn part)) (Returned all.0)
+      (subst (λ p. Spelt (response Windows1252 room) p (rest_of_token (InReturn part)) (with_token tokens (Returned all.0))) (return_opens tokens part begun)
+      (Inside-Spelt return_value (response Windows1252 room) (with_return tokens) (return_in_response Windows1252 room tokens) part (rest_of_token (InReturn part)) (WholeReturn all.0) all.1))
+  token_ends ten tokens (TokenLength AnOrder) o = one_ends tokens (TokenLength AnOrder) (zeros 2) (Order []) (Spelt-step (response Windows1252 room) (record { tokens = tokens; at = TokenLength AnOrder }) (zeros 2) (with_token tokens (Order [])) (omega arith) refl refl refl)
+  token_ends ten tokens (TokenLength AnEnvChange) o = one_ends tokens (TokenLength AnEnvChange) (zeros 2) (EnvChange []) (Spelt-step (response Windows1252 room) (record { tokens = tokens; at = TokenLength AnEnvChange }) (zeros 2) (with_token tokens (EnvChange [])) (omega arith) refl refl refl)
+  token_ends ten tokens (TokenLength AnError) o = notice_ends tokens AnError refl
+  token_ends ten tokens (TokenLength AnInfo) o = notice_ends tokens AnInfo refl
+  token_ends ten tokens (TokenBody b n) o = body_ends tokens b n o
+  token_ends ten tokens Status o = one_ends tokens Status (zeros 4) (ReturnStatus 0) (Spelt-step (response Windows1252 room) (record { tokens = tokens; at = Status }) (zeros 4) (with_token tokens (ReturnStatus 0)) (omega arith) refl refl refl)
+  token_ends ten tokens DoneFields o = one_ends tokens DoneFields (zeros 12) (Done false) (Spelt-step (response Windows1252 room) (record { tokens = tokens; at = DoneFields }) (zeros 12) (with_token tokens (Done false)) (omega arith) refl refl refl)
+  token_ends ten tokens DoneInProcFields o = one_ends tokens DoneInProcFields (zeros 12) (DoneInProc false) (Spelt-step (response Windows1252 room) (record { tokens = tokens; at = DoneInProcFields }) (zeros 12) (with_token tokens (DoneInProc false)) (omega arith) refl refl refl)
+
+  done_ends : (tokens : List Token) → Spelt (response Windows1252 room) (record { tokens = tokens; at = Between }) done (with_token tokens (Done false))
+  done_ends tokens =
+      Spelt-append (response Windows1252 room) (record { tokens = tokens; at = Between }) (DONE ∷ []) (record { tokens = tokens; at = DoneFields }) (zeros 12) (with_token tokens (Done false))
+      (Spelt-step (response Windows1252 room) (record { tokens = tokens; at = Between }) (DONE ∷ []) (record { tokens = tokens; at = DoneFields }) (omega arith) refl refl refl)
+      (Spelt-step (response Windows1252 room) (record { tokens = tokens; at = DoneFields }) (zeros 12) (with_token tokens (Done false)) (omega arith) refl refl refl)
+
+-- Whatever has been read can be completed.
+pub can_be_completed : CanBeCompleted
+can_be_completed room part bytes ten are h =
+    let r = part_reached room bytes part are h in
+    let end = token_ends room ten part.tokens part.at r.1 in
+    let tokens : List Token = end.0 ++ Done false ∷ [] in
+    let rest : Spelt (response Windows1252 room) part (completion part) (with_token end.0 (Done false)) = Spelt-append (response Windows1252 room) part (rest_of_token part.at) (record { tokens = end.0; at = Between }) done (with_token end.0 (Done false)) end.1 (done_ends room end.0) in
+    let all : Spelt (response Windows1252 room) response_start (bytes ++ completion part) (with_token end.0 (Done false)) = Spelt-append (response Windows1252 room) response_start bytes part (completion part) (with_token end.0 (Done false)) h rest in
+    (tokens, response_is_spelt Windows1252 room (bytes ++ completion part) tokens (AreBytes-append bytes (completion part) are (AreBytes-completion room part r.1)) (is_final-snoc end.0 (Done false)) all)

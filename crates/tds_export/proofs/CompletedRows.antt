@@ -1,0 +1,115 @@
+-- What completes a row is read as its rest.
+use Rattle.std.proofs.Common.{◌≡◌, ℕ, zero, suc, ◌+◌, ◌/◌, ◌%◌, ◌^◌, ◌<◌, ◌≤◌, Bool, true, false, List, [], ◌∷◌, ◌++◌, length, refl, ◌∙◌, ap, subst, arith}
+use Rattle.std.specs.Prelude.{◌==◌, slice_index}
+use Rattle.std.proofs.Math.Nat.{one-le-pow, div-eq_of_lt}
+use Rattle.std.proofs.lemmas.List.{length-replicate}
+use Rattle.tds_values.specs.declared.kind.Kind.{Kind}
+use Rattle.tds_values.specs.declared.kind.Reach.TheVariants.{Short, Chunked}
+use Rattle.tds_values.specs.Kind.{is_valid}
+use Rattle.tds_packet.specs.Elements.{AreBytes, Spelt, IsNext}
+use Rattle.tds_packet.proofs.ElementLaws.{Spelt-step, Spelt-append, Spelt-none, Inside-Spelt}
+use Rattle.tds_columns.specs.Description.{Column}
+use Rattle.tds_rows.specs.declared.Charset.TheVariants.{Windows1252}
+use Rattle.tds_rows.specs.Cells.{Cell, Null, Shape, FixedShape, CountedShape, LongShape, shape, CellPart, WholeCell, cell_start, cell_add, cell}
+use Rattle.tds_rows.specs.Rows.{marked, bit, bitmap_length, RowPart, Bitmap, InCell, WholeRow, next_cell, with_cell, row_add, row}
+use Rattle.tds_rows.proofs.RowLaws.{cell_in_row, begins_open, some_bitmap}
+use Rattle.tds_export.specs.Completion.{zeros, rest_of_cell, rest_of_cells, all_clear, rest_of_row}
+use Rattle.tds_export.proofs.CompletedCells.{CellReached, cell_ends, cell_keeps, start_reached}
+
+-- the kinds of the columns are valid
+abbrev pub AreValid : List Column → Type 0
+AreValid [] = Unit {0}
+AreValid (c ∷ cs) = (is_valid c.kind ≡ true) × AreValid cs
+
+-- so are those of columns with their null bits
+abbrev pub AreMarkedValid : List (Column × Bool) → Type 0
+AreMarkedValid [] = Unit {0}
+AreMarkedValid ((c, null) ∷ ks) = (is_valid c.kind ≡ true) × AreMarkedValid ks
+
+-- a part of a cell that isn't all of it
+abbrev pub IsOpenCell : CellPart → Type 0
+IsOpenCell (WholeCell x) = ⊥
+IsOpenCell p = Unit {0}
+
+-- what is known of a part of a row that bytes led to
+abbrev pub RowReached : RowPart → Type 0
+RowReached (Bitmap columns) = (0 < length columns) × AreValid columns
+RowReached (InCell cells part ks) = IsOpenCell part × CellReached part × AreMarkedValid ks
+RowReached (WholeRow cells) = Unit {0}
+
+pub marked_valid : (columns : List Column) (nulls : ℕ → Bool) (k : ℕ) → AreValid columns → AreMarkedValid (marked columns nulls k)
+marked_valid [] nulls k h = tt
+marked_valid (c ∷ cs) nulls k (v, h) = (v, marked_valid cs nulls (k + 1) h)
+
+pub starts_open : (kind : Kind) (sh : Shape) → IsOpenCell (cell_start kind sh)
+starts_open kind (FixedShape n) = tt
+starts_open kind CountedShape = tt
+starts_open kind (LongShape c Short) = tt
+starts_open kind (LongShape c Chunked) = tt
+
+pub next_reached : (cells : List Cell) (ks : List (Column × Bool)) → AreMarkedValid ks → RowReached (next_cell Windows1252 cells ks)
+next_reached cells [] h = tt
+next_reached cells ((k, true) ∷ ks) (v, h) = next_reached (cells ++ Null ∷ []) ks h
+next_reached cells ((k, false) ∷ ks) (v, h) = (starts_open k.kind (shape Windows1252 k.kind), start_reached k.kind v, h)
+
+with_reached : (cells : List Cell) (ks : List (Column × Bool)) (part : CellPart) → CellReached part → AreMarkedValid ks → RowReached (with_cell Windows1252 cells ks part)
+with_reached cells ks (WholeCell x) h m = next_reached (cells ++ x ∷ []) ks m
+with_reached cells ks part h m = (tt, h, m)
+
+-- Each element keeps what is known.
+pub row_keeps : (p : RowPart) (e : List ℕ) → AreBytes e → RowReached p → IsNext (row Windows1252) p e → RowReached (row_add Windows1252 p e)
+row_keeps (Bitmap columns) e are (some, h) n = next_reached [] (marked columns (bit e) 0) (marked_valid columns (bit e) 0 h)
+row_keeps (InCell cells part ks) e are (begun, h, m) n = with_reached cells ks (cell_add part e) (cell_keeps (length cells) part e are h (record { some = n.some; whole = n.whole; free = n.free })) m
+row_keeps (WholeRow cells) e are h n = tt
+
+-- the cell that is read, and those to come
+part_ends : (before : List Cell) (part : CellPart) (ks : List (Column × Bool)) → CellReached part → ((b : List Cell) → (cells : List Cell) × Spelt (row Windows1252) (next_cell Windows1252 b ks) (rest_of_cells ks) (WholeRow cells)) → (cells : List Cell) × Spelt (row Windows1252) (with_cell Windows1252 before ks part) (rest_of_cell part ++ rest_of_cells ks) (WholeRow cells)
+part_ends before part ks h next =
+    let one = cell_ends (length before) part h in
+    let there : Spelt (row Windows1252) (with_cell Windows1252 before ks part) (rest_of_cell part) (next_cell Windows1252 (before ++ one.0 ∷ []) ks) = Inside-Spelt (cell (length before)) (row Windows1252) (with_cell Windows1252 before ks) (cell_in_row Windows1252 before ks) part (rest_of_cell part) (WholeCell one.0) one.1 in
+    let more = next (before ++ one.0 ∷ []) in
+    (more.0, Spelt-append (row Windows1252) (with_cell Windows1252 before ks part) (rest_of_cell part) (next_cell Windows1252 (before ++ one.0 ∷ []) ks) (rest_of_cells ks) (WholeRow more.0) there more.1)
+
+-- the cells to come
+cells_end : (before : List Cell) (ks : List (Column × Bool)) → AreMarkedValid ks → (cells : List Cell) × Spelt (row Windows1252) (next_cell Windows1252 before ks) (rest_of_cells ks) (WholeRow cells)
+cells_end before [] h = (before, Spelt-none (row Windows1252) (WholeRow before))
+cells_end before ((k, true) ∷ ks) (v, h) = cells_end (before ++ Null ∷ []) ks h
+cells_end before ((k, false) ∷ ks) (v, h) =
+    let start : CellPart = cell_start k.kind (shape Windows1252 k.kind) in
+    let all = part_ends before start ks (start_reached k.kind v) (λ b. cells_end b ks h) in
+    (all.0, subst (λ p. Spelt (row Windows1252) p (rest_of_cell start ++ rest_of_cells ks) (WholeRow all.0)) (begins_open Windows1252 before ks k.kind (shape Windows1252 k.kind)) all.1)
+
+pub stays_open : (cells : List Cell) (ks : List (Column × Bool)) (part : CellPart) → IsOpenCell part → with_cell Windows1252 cells ks part ≡ InCell cells part ks
+stays_open cells ks (WholeCell x) h = absurd h
+stays_open cells ks part h = refl
+
+zero_at : (n i : ℕ) → slice_index (zeros n) i ≡ 0
+zero_at zero i = refl
+zero_at (suc n) zero = refl
+zero_at (suc n) (suc i) = zero_at n i
+
+-- no bit of zero bytes is set
+clear_at : (n k : ℕ) → bit (zeros n) k ≡ false
+clear_at n k =
+    let some : 1 ≤ 2 ^ (k % 8) = one-le-pow (k % 8) 2 (omega arith) in
+    let none : 0 / 2 ^ (k % 8) ≡ 0 = div-eq_of_lt (omega arith) in
+    ap (λ v. (v / 2 ^ (k % 8)) % 2 == 1) (zero_at n (k / 8)) ∙ ap (λ v. v % 2 == 1) none
+
+marked_clear : (columns : List Column) (nulls : ℕ → Bool) (k : ℕ) → ((i : ℕ) → nulls i ≡ false) → marked columns nulls k ≡ all_clear columns
+marked_clear [] nulls k h = refl
+marked_clear (c ∷ cs) nulls k h = λ i. (c, h k i) ∷ marked_clear cs nulls (k + 1) h i
+
+-- A part of a row followed by what completes it is a whole row.
+pub row_ends : (p : RowPart) → RowReached p → (cells : List Cell) × Spelt (row Windows1252) p (rest_of_row p) (WholeRow cells)
+row_ends (Bitmap columns) (some, h) =
+    let n : ℕ = bitmap_length (length columns) in
+    let l : length (zeros n) ≡ n = length-replicate n 0 in
+    let less : 0 < n = some_bitmap columns some in
+    let one : Spelt (row Windows1252) (Bitmap columns) (zeros n) (next_cell Windows1252 [] (marked columns (bit (zeros n)) 0)) = Spelt-step (row Windows1252) (Bitmap columns) (zeros n) (next_cell Windows1252 [] (marked columns (bit (zeros n)) 0)) (omega (arith, l, less)) l refl refl in
+    let clear : marked columns (bit (zeros n)) 0 ≡ all_clear columns = marked_clear columns (bit (zeros n)) 0 (clear_at n) in
+    let more = cells_end [] (all_clear columns) (subst (λ ks. AreMarkedValid ks) clear (marked_valid columns (bit (zeros n)) 0 h)) in
+    (more.0, Spelt-append (row Windows1252) (Bitmap columns) (zeros n) (next_cell Windows1252 [] (all_clear columns)) (rest_of_cells (all_clear columns)) (WholeRow more.0) (subst (λ ks. Spelt (row Windows1252) (Bitmap columns) (zeros n) (next_cell Windows1252 [] ks)) clear one) more.1)
+row_ends (InCell cells part ks) (begun, h, m) =
+    let all = part_ends cells part ks h (λ b. cells_end b ks m) in
+    (all.0, subst (λ p. Spelt (row Windows1252) p (rest_of_cell part ++ rest_of_cells ks) (WholeRow all.0)) (stays_open cells ks part begun) all.1)
+row_ends (WholeRow cells) h = (cells, Spelt-none (row Windows1252) (WholeRow cells))

@@ -1,0 +1,123 @@
+-- What completes a response are bytes.
+use Rattle.std.proofs.Common.{◌≡◌, ℕ, zero, suc, ◌+◌, ◌-◌, ◌%◌, ◌<◌, ◌≤◌, Bool, true, false, List, [], ◌∷◌, length, arith}
+use Rattle.std.specs.Prelude.{Option, Some, None}
+use Rattle.tds_values.specs.declared.kind.Kind.{Kind}
+use Rattle.tds_values.specs.TypeInfo.{kind_of}
+use Rattle.tds_csv.specs.Conversion.{Conversion, unit}
+use Rattle.tds_packet.specs.Elements.{AreBytes}
+use Rattle.tds_columns.specs.Description.{Column, ColumnPlace, ColumnHead, ColumnInfo, NameCount, NameUnits, DescriptionPart, BeforeCount, NoDescription, InColumn, WholeDescription}
+use Rattle.tds_rows.specs.declared.Charset.TheVariants.{Windows1252}
+use Rattle.tds_rows.specs.Cells.{CellPart, ScalarBytes, ScalarLength, ShortLength, ShortData, Total, ChunkLength, ChunkData, WholeCell, cell_start, shape, return_charset}
+use Rattle.tds_rows.specs.Rows.{RowPart, Bitmap, InCell, WholeRow, bitmap_length}
+use Rattle.tds_export.specs.ReturnValue.{ReturnPart, ReturnOrdinal, ReturnNameCount, ReturnName, ReturnHead, ReturnInfo, InReturnCell, WholeReturn}
+use Rattle.tds_export.specs.TokenGrammar.{Bodied, AnOrder, AnEnvChange, AnError, AnInfo, Open, Between, Describing, InRow, InReturn, TokenLength, TokenBody, Status, DoneFields, DoneInProcFields, Part, is_notice}
+use Rattle.tds_export.specs.Completion.{zeros, int_column, int_columns, least_info, rest_of_column, rest_of_description, zero_chunks, terminator, rest_of_chunks, rest_of_cell, rest_of_cells, all_clear, rest_of_row, rest_of_return_head, rest_of_value, rest_of_return, least_body, rest_of_token, done, completion}
+use Rattle.tds_export.proofs.SomeBytes.{AreBytes-append, AreBytes-replicate}
+use Rattle.tds_export.proofs.LeastTypes.{least_type}
+use Rattle.tds_export.proofs.CompletedRows.{RowReached}
+use Rattle.tds_export.proofs.CompletedDescriptions.{PlaceReached, DescribedReached, IsOpenDescription}
+use Rattle.tds_export.proofs.CompletedReturns.{ReturnReached}
+
+-- a row, and a return value, that isn't whole
+abbrev pub IsOpenRow : RowPart → Type 0
+IsOpenRow (WholeRow cells) = ⊥
+IsOpenRow part = Unit {0}
+
+abbrev pub IsOpenReturn : ReturnPart → Type 0
+IsOpenReturn (WholeReturn r) = ⊥
+IsOpenReturn part = Unit {0}
+
+-- what is known of the token that bytes led into
+abbrev pub OpenReached : ℕ → Open → Type 0
+OpenReached room (Describing d) = IsOpenDescription d × DescribedReached room d
+OpenReached room (InRow part) = IsOpenRow part × RowReached part
+OpenReached room (InReturn part) = IsOpenReturn part × ReturnReached part
+OpenReached room (TokenBody b n) = (0 < n) × (is_notice b ≡ true → 14 ≤ n)
+OpenReached room at = Unit {0}
+
+AreBytes-zeros : (n : ℕ) → AreBytes (zeros n)
+AreBytes-zeros n = AreBytes-replicate n 0 (omega arith)
+
+AreBytes-int : AreBytes int_column
+AreBytes-int = AreBytes-append (zeros 6) (0x38 ∷ 0 ∷ []) (AreBytes-zeros 6) (omega arith, (omega arith, tt))
+
+AreBytes-ints : (n : ℕ) → AreBytes (int_columns n)
+AreBytes-ints zero = tt
+AreBytes-ints (suc n) = AreBytes-append int_column (int_columns n) AreBytes-int (AreBytes-ints n)
+
+AreBytes-column : (room : ℕ) (bytes : List ℕ) (left : ℕ) (place : ColumnPlace) → PlaceReached room bytes left place → AreBytes (rest_of_column place)
+AreBytes-column room bytes left ColumnHead h = AreBytes-int
+AreBytes-column room bytes left (ColumnInfo byte) (n, known, some, fits) = AreBytes-append (least_info byte) (0 ∷ []) (least_type byte n known).bytes (AreBytes-zeros 1)
+AreBytes-column room bytes left (NameCount kind) h = AreBytes-zeros 1
+AreBytes-column room bytes left (NameUnits kind n) h = AreBytes-zeros n
+
+AreBytes-description : (room : ℕ) (d : DescriptionPart) → DescribedReached room d → AreBytes (rest_of_description d)
+AreBytes-description room BeforeCount h = (omega arith, (omega arith, AreBytes-int))
+AreBytes-description room NoDescription h = tt
+AreBytes-description room (InColumn bytes count cols place) (fewer, valid, fits) = AreBytes-append (rest_of_column place) (int_columns (count - (length cols + 1))) (AreBytes-column room bytes (count - (length cols + 1)) place fits) (AreBytes-ints (count - (length cols + 1)))
+AreBytes-description room (WholeDescription bytes cols) h = tt
+
+AreBytes-zero_chunks : (n : ℕ) → AreBytes (zero_chunks n)
+AreBytes-zero_chunks zero = tt
+AreBytes-zero_chunks (suc n) = (omega arith, AreBytes-append (zeros 4) (zero_chunks n) (AreBytes-zeros 4) (AreBytes-zero_chunks n))
+
+AreBytes-chunks : (c : Conversion) (total : Option ℕ) (sum : ℕ) → AreBytes (rest_of_chunks c total sum)
+AreBytes-chunks c (Some total) sum = AreBytes-append (zero_chunks (total - sum)) terminator (AreBytes-zero_chunks (total - sum)) (AreBytes-zeros 4)
+AreBytes-chunks c None sum = AreBytes-append (zero_chunks (sum % unit c)) terminator (AreBytes-zero_chunks (sum % unit c)) (AreBytes-zeros 4)
+
+AreBytes-cell : (p : CellPart) → AreBytes (rest_of_cell p)
+AreBytes-cell (ScalarBytes kind n) = AreBytes-zeros n
+AreBytes-cell (ScalarLength kind) = AreBytes-zeros 1
+AreBytes-cell (ShortLength c) = AreBytes-replicate 2 255 (omega arith)
+AreBytes-cell (ShortData c left content) = AreBytes-zeros (left + 1)
+AreBytes-cell (Total c) = AreBytes-replicate 8 255 (omega arith)
+AreBytes-cell (ChunkLength c total content) = AreBytes-chunks c total (length content)
+AreBytes-cell (ChunkData c total left content) = AreBytes-append (zeros (left + 1)) (rest_of_chunks c total (length content + (left + 1))) (AreBytes-zeros (left + 1)) (AreBytes-chunks c total (length content + (left + 1)))
+AreBytes-cell (WholeCell x) = tt
+
+AreBytes-cells : (ks : List (Column × Bool)) → AreBytes (rest_of_cells ks)
+AreBytes-cells [] = tt
+AreBytes-cells ((k, true) ∷ ks) = AreBytes-cells ks
+AreBytes-cells ((k, false) ∷ ks) = AreBytes-append (rest_of_cell (cell_start k.kind (shape Windows1252 k.kind))) (rest_of_cells ks) (AreBytes-cell (cell_start k.kind (shape Windows1252 k.kind))) (AreBytes-cells ks)
+
+AreBytes-row : (p : RowPart) → AreBytes (rest_of_row p)
+AreBytes-row (Bitmap columns) = AreBytes-append (zeros (bitmap_length (length columns))) (rest_of_cells (all_clear columns)) (AreBytes-zeros (bitmap_length (length columns))) (AreBytes-cells (all_clear columns))
+AreBytes-row (InCell cells part ks) = AreBytes-append (rest_of_cell part) (rest_of_cells ks) (AreBytes-cell part) (AreBytes-cells ks)
+AreBytes-row (WholeRow cells) = tt
+
+AreBytes-head : AreBytes rest_of_return_head
+AreBytes-head = AreBytes-append (zeros 7) (0x24 ∷ 16 ∷ 0 ∷ []) (AreBytes-zeros 7) (omega arith, (omega arith, (omega arith, tt)))
+
+AreBytes-value : (o : Option Kind) → AreBytes (rest_of_value o)
+AreBytes-value (Some kind) = AreBytes-cell (cell_start kind (shape return_charset kind))
+AreBytes-value None = tt
+
+AreBytes-return : (p : ReturnPart) → ReturnReached p → AreBytes (rest_of_return p)
+AreBytes-return ReturnOrdinal h = AreBytes-append (zeros 3) rest_of_return_head (AreBytes-zeros 3) AreBytes-head
+AreBytes-return ReturnNameCount h = AreBytes-append (zeros 1) rest_of_return_head (AreBytes-zeros 1) AreBytes-head
+AreBytes-return (ReturnName n) h = AreBytes-append (zeros n) rest_of_return_head (AreBytes-zeros n) AreBytes-head
+AreBytes-return (ReturnHead name) h = AreBytes-head
+AreBytes-return (ReturnInfo name byte) (n, known, some) = AreBytes-append (least_info byte) (rest_of_value (kind_of (byte ∷ least_info byte))) (least_type byte n known).bytes (AreBytes-value (kind_of (byte ∷ least_info byte)))
+AreBytes-return (InReturnCell name kind part) h = AreBytes-cell part
+AreBytes-return (WholeReturn r) h = tt
+
+AreBytes-body : (b : Bodied) → AreBytes (least_body b)
+AreBytes-body AnOrder = AreBytes-zeros 2
+AreBytes-body AnEnvChange = AreBytes-zeros 2
+AreBytes-body AnError = (omega arith, AreBytes-zeros 15)
+AreBytes-body AnInfo = (omega arith, AreBytes-zeros 15)
+
+AreBytes-token : (room : ℕ) (at : Open) → OpenReached room at → AreBytes (rest_of_token at)
+AreBytes-token room Between h = tt
+AreBytes-token room (Describing d) (begun, h) = AreBytes-description room d h
+AreBytes-token room (InRow part) h = AreBytes-row part
+AreBytes-token room (InReturn part) (begun, h) = AreBytes-return part h
+AreBytes-token room (TokenLength b) h = AreBytes-body b
+AreBytes-token room (TokenBody b n) h = AreBytes-zeros n
+AreBytes-token room Status h = AreBytes-zeros 4
+AreBytes-token room DoneFields h = AreBytes-zeros 12
+AreBytes-token room DoneInProcFields h = AreBytes-zeros 12
+
+-- What completes a part that bytes led to are bytes.
+pub AreBytes-completion : (room : ℕ) (p : Part) → OpenReached room p.at → AreBytes (completion p)
+AreBytes-completion room p h = AreBytes-append (rest_of_token p.at) done (AreBytes-token room p.at h) (omega arith, AreBytes-zeros 12)
