@@ -1,15 +1,24 @@
 -- Calls that read by a grammar and put the text of what they read: one after another, and inside a greater grammar.
-use Rattle.std.proofs.Common.{◌≡◌, ◌∙◌, ℕ, List, [], ◌++◌, length, sym, ap, subst, append_assoc}
+use Rattle.std.proofs.Common.{◌≡◌, ◌∙◌, inl, inr, ℕ, ◌+◌, ◌<◌, Bool, List, [], ◌++◌, length, sym, ap, subst, arith, append_assoc}
 use Rattle.tds_packet.specs.declared.fault.Fault.{Fault}
 use Rattle.tds_packet.specs.declared.fault.Stop.{Stop}
 use Rattle.tds_packet.specs.Elements.{Grammar, Inside}
 use Rattle.tds_packet.specs.Seen.{Seen, Takes}
 use Rattle.tds_packet.proofs.ElementLaws.{Inside-Spelt, Spelt-append}
-use Rattle.tds_packet.proofs.Lifts.{next_inside, next_some}
-use Rattle.tds_packet.proofs.Steps.{takes_ahead, takes_both}
+use Rattle.tds_packet.specs.Reading.{StopsReading}
+use Rattle.tds_packet.proofs.Lifts.{next_inside, next_some, stops_inside}
+use Rattle.tds_packet.proofs.Steps.{stops_after, takes_ahead, takes_both}
 use Rattle.tds_csv.specs.Sinks.{Held, Puts}
-use Rattle.tds_csv.specs.Streaming.{BreaksStreaming, PutsText, Streams}
+use Rattle.tds_csv.specs.Streaming.{BreaksStreaming, PutsText, StopsStreaming, Streams}
 use Rattle.tds_csv.proofs.Sinks.{Puts-trans}
+
+-- a state where a reading stops has a next element
+pub stops_size : {S : Type 0} (g : Grammar S Fault) (from : S) (a b : Seen) (place : ℕ) (at : S) (stop : Stop) → StopsReading g from a b place at stop → 0 < g.size at
+stops_size g from a b place at stop r =
+    elim r.cause [
+      | inl x ↦ (let s : 0 < length x.0.element = x.0.some in let w : length x.0.element ≡ g.size at = x.0.whole in omega arith)
+      | inr x ↦ (let c : length x.part < g.size at = x.cut in omega arith)
+    ]
 
 -- the text between three states, put by two calls
 pub puts_both : {S : Type 0} (text : S → List ℕ) (s t u : S) (a b c : Held) → PutsText text s t a b → PutsText text t u b c → PutsText text s u a c
@@ -65,6 +74,17 @@ module _ {S : Type 0} (g : Grammar S Fault) (text : S → List ℕ) where
     breaks = y.breaks;
   }
 
+module _ {S : Type 0} (g : Grammar S Fault) (text : S → List ℕ) where
+  -- what stops a call that puts text stops one that began before it
+  pub streaming_after : (s t : S) (a b c : Seen) (h i j : Held) (place : ℕ) (failed : Bool) (stop : Stop) → (x : Streams g text s a b h i t) → StopsStreaming g text t b c (place + length x.bytes) i j failed stop → StopsStreaming g text s a c place h j failed stop
+  streaming_after s t a b c h i j place failed stop x y = record {
+    at = y.at;
+    cause = elim y.cause [
+      | inl z ↦ inl (stops_after g s t a b c place y.at stop (record { bytes = x.bytes; spelt = x.spelt; takes = x.takes }) z.0, puts_both text s t y.at h i j x.puts z.1, z.2)
+      | inr z ↦ inr (breaks_after g text s t a b c h i j y.at stop x z.0, z.1)
+    ];
+  }
+
 -- A small grammar inside a big one, whose text is that of the small one behind a text that stands before it.
 module _ {S T : Type 0} (small : Grammar S Fault) (big : Grammar T Fault) (lift : S → T) (is : Inside small big lift) (text : S → List ℕ) (whole : T → List ℕ) (front : List ℕ) (text_is : (s : S) → front ++ text s ≡ whole (lift s)) where
   -- what is added to the small text is added to the big one
@@ -95,4 +115,15 @@ module _ {S T : Type 0} (small : Grammar S Fault) (big : Grammar T Fault) (lift 
     more = x.more;
     text_is = added_inside at (small.add at x.element) x.more x.text_is ∙ ap whole (sym (is.add at x.element (next_some small at x.element x.next)));
     breaks = x.breaks;
+  }
+
+  -- and so does a call that stops, where the ends of the two have the same faults
+  pub streaming_inside : ((s : S) → 0 < small.size s → big.end_fault (lift s) ≡ small.end_fault s) → (from : S) (a b : Seen) (place : ℕ) (h i : Held) (failed : Bool) (stop : Stop) → StopsStreaming small text from a b place h i failed stop
+      → StopsStreaming big whole (lift from) a b place h i failed stop
+  streaming_inside ends from a b place h i failed stop x = record {
+    at = lift x.at;
+    cause = elim x.cause [
+      | inl y ↦ inl (stops_inside small big lift is from a b place x.at stop (ends x.at (stops_size small from a b place x.at stop y.0)) y.0, puts_inside from x.at h i y.1, y.2)
+      | inr y ↦ inr (breaks_inside from a b h i x.at stop y.0, y.1)
+    ];
   }

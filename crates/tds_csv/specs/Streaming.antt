@@ -1,8 +1,9 @@
--- What a call that reads by a grammar and puts the text of what it reads does, on success and where a write fails.
-use Rattle.std.specs.Prelude.{◌≡◌, ◌<◌, ℕ, List, ◌++◌, length}
+-- What a call that reads by a grammar and puts the text of what it reads does, on success and on each stop.
+use Rattle.std.specs.Prelude.{◌≡◌, ◌⊎◌, ◌<◌, ℕ, Bool, true, false, List, ◌++◌, length}
 use Rattle.tds_packet.specs.declared.fault.Fault.{Fault}
 use Rattle.tds_packet.specs.declared.fault.Stop.{Stop}
 use Rattle.tds_packet.specs.Elements.{Grammar, Spelt, IsNext}
+use Rattle.tds_packet.specs.Reading.{StopsReading}
 use Rattle.tds_packet.specs.Seen.{Seen, Takes, IsBetween}
 use Rattle.tds_csv.specs.Sinks.{Held, Puts, Breaks}
 
@@ -32,3 +33,10 @@ pub record BreaksStreaming {S : Type 0} (g : Grammar S Fault) (text : S → List
   pub more : List ℕ
   pub text_is : text at ++ more ≡ text (g.add at element)
   pub breaks : Breaks middle after more stop
+
+-- A call that reads by a grammar and puts the text of what it reads stopped: in reading, with the text of the state that it reached; or in writing. It began behind so many bytes of the payload.
+pub record StopsStreaming {S : Type 0} (g : Grammar S Fault) (text : S → List ℕ) (from : S) (old new : Seen) (place : ℕ) (before after : Held) (failed : Bool) (stop : Stop) : Type 0 where
+  pub at : S
+  pub cause :
+      (StopsReading g from old new place at stop × PutsText text from at before after × (failed ≡ false))
+      ⊎ (BreaksStreaming g text from old new before after at stop × (failed ≡ true))

@@ -16,21 +16,19 @@ use Rattle.tds_csv.specs.Conversion.{Begins, Conversion, conversion_rest, conver
 use Rattle.tds_csv.specs.Joining.{emit}
 use Rattle.tds_csv.specs.Quoting.{behind_comma, end_behind, in_line}
 use Rattle.tds_csv.specs.Sinks.{Breaks, Held, Puts}
-use Rattle.tds_csv.specs.Streaming.{BreaksStreaming, PutsText, Streams}
+use Rattle.tds_csv.specs.Streaming.{BreaksStreaming, PutsText, StopsStreaming, Streams}
 use Rattle.tds_csv.proofs.Begun.{open_grows, open_closes, unfit_adds_none}
 use Rattle.tds_csv.proofs.ConversionLaws.{begun_by_test, joins_by_name}
 use Rattle.tds_csv.proofs.Nears.{Grows}
 use Rattle.tds_csv.proofs.Pieces.{breaks_somewhere}
 use Rattle.tds_csv.proofs.Sinks.{Breaks-after, Breaks-longer, Puts-none, Puts-trans}
-use Rattle.tds_csv.proofs.Streams.{streams_both}
+use Rattle.tds_csv.proofs.Streams.{streaming_after, streams_both}
 use Rattle.tds_rows.specs.Cells.{CellPart, ChunkData, ChunkLength, ScalarBytes, ScalarLength, ShortData, ShortLength, Total, WholeCell, cell, cell_add, cell_end, cell_fault, cell_size, field_so_far, unless}
 use Rattle.tds_rows.specs.CellSteps.{cell_so_far, opened}
 use Rattle.tds_rows.specs.LongCells.{BreaksData, CutsData, EndsData, FillsData, RefusesData, StopsData, StopsFilling, added_text, ending}
 use Rattle.tds_rows.specs.PassedCells.{chunk_left, short_left}
-use Rattle.tds_rows.specs.Unbuilt.{StopsStreaming, is_built_cell}
 use Rattle.tds_rows.proofs.GrowingTexts.{OptionGrows, cell_grows}
 use Rattle.tds_rows.proofs.PassedCells.{chunk_next, short_next, unless_true}
-use Rattle.tds_rows.proofs.Stalls.{streaming_after}
 
 -- ---- the text of a cell grows with each element
 
@@ -188,7 +186,7 @@ module _ (column : ℕ) (last : Bool) (c : Conversion) (state : ℕ → List ℕ
       append_cancel_left (e d) (added_text c d (p ++ x ∷ [])) (added_text c d p) (sym (laws.emits d (p ++ x ∷ []) begun) ∙ ap e regroup ∙ same ∙ laws.emits d p front)
 
   module _ (d : List ℕ) (r : ℕ) (a b : Seen) (place : ℕ) (h i : Held) (few : length h.waiting < 4096) (delivered : h.delivered ≤ 2 ^ 64 - 1) where
-    piece_cut : (stop : Stop) → CutsData a b place h i stop → StopsStreaming (cell column) is_built_cell (cell_so_far column last) (state (suc r) d) a b place h i false stop
+    piece_cut : (stop : Stop) → CutsData a b place h i stop → StopsStreaming (cell column) (cell_so_far column last) (state (suc r) d) a b place h i false stop
     piece_cut stop x = record {
       at = state (suc r) d;
       cause = inl (
@@ -198,7 +196,7 @@ module _ (column : ℕ) (last : Bool) (c : Conversion) (state : ℕ → List ℕ
       );
     }
 
-    piece_refused : (stop : Stop) → RefusesData c d column (suc r) a b place h i stop → StopsStreaming (cell column) is_built_cell (cell_so_far column last) (state (suc r) d) a b place h i false stop
+    piece_refused : (stop : Stop) → RefusesData c d column (suc r) a b place h i stop → StopsStreaming (cell column) (cell_so_far column last) (state (suc r) d) a b place h i false stop
     piece_refused stop x =
         let within : length x.good < suc r = x.within in
         let r' : ℕ = r - length x.good in
@@ -206,7 +204,7 @@ module _ (column : ℕ) (last : Bool) (c : Conversion) (state : ℕ → List ℕ
         let at : CellPart = state (suc r') (d ++ x.good) in
         let no : is_begun c ((d ++ x.good) ++ x.bad ∷ []) ≡ false = no_text_false c ((d ++ x.good) ++ x.bad ∷ []) (is_begun c ((d ++ x.good) ++ x.bad ∷ [])) refl x.no_text in
         let taken : Takes a b ((x.good ++ x.bad ∷ []) ++ x.ahead) 1 = subst (λ l. Takes a b l 1) (sym (append_assoc x.good (x.bad ∷ []) x.ahead)) x.takes in
-        subst (λ t. StopsStreaming (cell column) is_built_cell (cell_so_far column last) (state (suc r) d) a b place h i false t) (sym x.stop_is) (record {
+        subst (λ t. StopsStreaming (cell column) (cell_so_far column last) (state (suc r) d) a b place h i false t) (sym x.stop_is) (record {
           at = at;
           cause = inl (
             inl (record {
@@ -232,19 +230,19 @@ module _ (column : ℕ) (last : Bool) (c : Conversion) (state : ℕ → List ℕ
 
     -- a write of the text of a piece failed, whose bytes lead to a state
     broken : (good ahead added : List ℕ) (to : CellPart) (stop : Stop) → Spelt (cell column) (state (suc r) d) good to → Takes a b (good ++ ahead) 1 → IsBetween b → cell_so_far column last (state (suc r) d) ++ added ≡ cell_so_far column last to → Breaks h i added stop
-        → StopsStreaming (cell column) is_built_cell (cell_so_far column last) (state (suc r) d) a b place h i true stop
+        → StopsStreaming (cell column) (cell_so_far column last) (state (suc r) d) a b place h i true stop
     broken good ahead added to stop spelt takes between text_is breaks =
         let x = breaks_somewhere (cell column) (cell_so_far column last) (cell_text_grows column last) (state (suc r) d) a b h i stop between to good ahead added spelt takes few delivered text_is breaks in
         record { at = x.0; cause = inr (x.1, refl) }
 
-    piece_broken_before : (stop : Stop) (x : BreaksData c d (suc r) a b h i stop) → length x.good < suc r → StopsStreaming (cell column) is_built_cell (cell_so_far column last) (state (suc r) d) a b place h i true stop
+    piece_broken_before : (stop : Stop) (x : BreaksData c d (suc r) a b h i stop) → length x.good < suc r → StopsStreaming (cell column) (cell_so_far column last) (state (suc r) d) a b place h i true stop
     piece_broken_before stop x less =
         let r' : ℕ = r - length x.good in
         let split : suc r ≡ length x.good + suc r' = omega (arith, less) in
         broken x.good x.ahead (added_text c d x.good) (state (suc r') (d ++ x.good)) stop (content_spelt d x.good (suc r) (suc r') split x.begun (λ none _. absurd (omega (arith, none)))) x.takes x.between (text_grown d x.good r r' x.begun) x.breaks
 
     piece_broken_at : (stop : Stop) (good ahead p : List ℕ) (x : ℕ) → good ≡ p ++ x ∷ [] → length good ≡ suc r → Takes a b (good ++ ahead) 1 → IsBetween b → Begins c (d ++ good) → Breaks h i (added_text c d good) stop
-        → StopsStreaming (cell column) is_built_cell (cell_so_far column last) (state (suc r) d) a b place h i true stop
+        → StopsStreaming (cell column) (cell_so_far column last) (state (suc r) d) a b place h i true stop
     piece_broken_at stop good ahead p x is all takes between begun breaks =
         let same : d ++ good ≡ (d ++ p) ++ x ∷ [] = ap (λ l. d ++ l) is ∙ sym (append_assoc d p (x ∷ [])) in
         elim (holds.ends (d ++ p) x) [
@@ -263,7 +261,7 @@ module _ (column : ℕ) (last : Bool) (c : Conversion) (state : ℕ → List ℕ
               broken p (x ∷ ahead) (added_text c d p) (state 1 (d ++ p)) stop (content_spelt d p (suc r) 1 (omega (arith, all, len)) begun_front (λ e _. absurd (omega (arith, e)))) taken between (text_grown d p r 0 begun_front) (subst (λ l. Breaks h i l stop) adds breaks))
         ]
 
-    piece_broken : (stop : Stop) → BreaksData c d (suc r) a b h i stop → StopsStreaming (cell column) is_built_cell (cell_so_far column last) (state (suc r) d) a b place h i true stop
+    piece_broken : (stop : Stop) → BreaksData c d (suc r) a b h i stop → StopsStreaming (cell column) (cell_so_far column last) (state (suc r) d) a b place h i true stop
     piece_broken stop x =
         elim (cases_lt (length x.good) (suc r)) [
           | inl less ↦ piece_broken_before stop x less
@@ -274,9 +272,9 @@ module _ (column : ℕ) (last : Bool) (c : Conversion) (state : ℕ → List ℕ
         ]
 
     -- the next piece stopped
-    pub piece_stops : (failed : Bool) (stop : Stop) → StopsData c d column (suc r) a b place h i failed stop → StopsStreaming (cell column) is_built_cell (cell_so_far column last) (state (suc r) d) a b place h i failed stop
+    pub piece_stops : (failed : Bool) (stop : Stop) → StopsData c d column (suc r) a b place h i failed stop → StopsStreaming (cell column) (cell_so_far column last) (state (suc r) d) a b place h i failed stop
     piece_stops failed stop x =
-        let at = StopsStreaming (cell column) is_built_cell (cell_so_far column last) (state (suc r) d) a b place h i in
+        let at = StopsStreaming (cell column) (cell_so_far column last) (state (suc r) d) a b place h i in
         elim x [
           | inl y ↦ subst (λ f. at f stop) (sym y.1) (piece_cut stop y.0)
           | inr (inl y) ↦ subst (λ f. at f stop) (sym y.1) (piece_refused stop y.0)
@@ -285,7 +283,7 @@ module _ (column : ℕ) (last : Bool) (c : Conversion) (state : ℕ → List ℕ
 
   -- the content stopped in one of its pieces
   pub filling_stops : (d : List ℕ) (m : ℕ) (a b : Seen) (place : ℕ) (h i : Held) (failed : Bool) (stop : Stop) → StopsFilling c d column m a b place h i failed stop
-      → StopsStreaming (cell column) is_built_cell (cell_so_far column last) (state m d) a b place h i failed stop
+      → StopsStreaming (cell column) (cell_so_far column last) (state m d) a b place h i failed stop
   filling_stops d m a b place h i failed stop x =
       let fewer : length x.front < m = x.fewer in
       let r : ℕ = m - length x.front - 1 in
@@ -295,7 +293,7 @@ module _ (column : ℕ) (last : Bool) (c : Conversion) (state : ℕ → List ℕ
       let stops : StopsData c (d ++ x.front) column (suc r) x.middle b (place + length x.front) x.between i failed stop =
       subst (λ (k : ℕ). StopsData c (d ++ x.front) column k x.middle b (place + length x.front) x.between i failed stop) left
       (subst (λ (k : ℕ). StopsData c (d ++ x.front) column (m - length x.front) x.middle b k x.between i failed stop) there x.stops) in
-      streaming_after (cell column) is_built_cell (cell_so_far column last) (state m d) (state (suc r) (d ++ x.front)) a x.middle b h x.between i place failed stop
+      streaming_after (cell column) (cell_so_far column last) (state m d) (state (suc r) (d ++ x.front)) a x.middle b h x.between i place failed stop
       (fills_streams d x.front m r a x.middle place x.there h x.between split x.fills)
       (piece_stops (d ++ x.front) r x.middle b (place + length x.front) x.between i x.fills.few x.fills.delivered failed stop stops)
 
@@ -338,16 +336,16 @@ module _ (column : ℕ) (last : Bool) (c : Conversion) (state : ℕ → List ℕ
 
     -- a write of what ends it failed
     pub ends_break : (j : Held) (p q : List ℕ) (stop : Stop) → Good all_content → behind_comma column (open_field c all_content) ++ (p ++ q) ≡ cell_so_far column last (state 0 all_content) → Breaks i j p stop
-        → StopsStreaming (cell column) is_built_cell (cell_so_far column last) (state m d) a b place h j true stop
+        → StopsStreaming (cell column) (cell_so_far column last) (state m d) a b place h j true stop
     ends_break j p q stop good whole breaks =
         let taken : Takes x.middle b (x.takes.piece ++ []) 1 = subst (λ l. Takes x.middle b l 1) (sym (append-nil x.takes.piece)) x.takes.takes in
-        streaming_after (cell column) is_built_cell (cell_so_far column last) (state m d) (state (suc last_left) (d ++ x.front)) a x.middle b h x.between j place true stop front_streams
+        streaming_after (cell column) (cell_so_far column last) (state m d) (state (suc last_left) (d ++ x.front)) a x.middle b h x.between j place true stop front_streams
         (broken (d ++ x.front) last_left x.middle b (place + length x.front) x.between j x.fills.few x.fills.delivered x.takes.piece [] (added_text c (d ++ x.front) x.takes.piece ++ (p ++ q)) (state 0 all_content) stop (last_spelt good) taken x.takes.between
         (last_text (p ++ q) whole) (Breaks-after x.between i j (added_text c (d ++ x.front) x.takes.piece) (p ++ q) stop x.takes.puts (Breaks-longer i j p q stop breaks)))
 
     -- where the content isn't whole, its last byte is refused
     pub ends_refused : ((e : List ℕ) (y : ℕ) → is_fit c (e ++ y ∷ []) ≡ false → cell_fault column (state 1 e) (y ∷ []) ≡ Some (BadText column)) → is_fit c all_content ≡ false
-        → StopsStreaming (cell column) is_built_cell (cell_so_far column last) (state m d) a b place h i false (record { fault = BadText column; place = Payload (place' - 1) })
+        → StopsStreaming (cell column) (cell_so_far column last) (state m d) a b place h i false (record { fault = BadText column; place = Payload (place' - 1) })
     ends_refused bad unfit =
         let some : 0 < x.last = x.takes.some in
         let s = snoc_of x.takes.piece (omega (arith, some, x.takes.counted)) in
@@ -362,8 +360,8 @@ module _ (column : ℕ) (last : Bool) (c : Conversion) (state : ℕ → List ℕ
         let adds : added_text c e x.takes.piece ≡ added_text c e p = ap (added_text c e) is ∙ adds_none e p y (subst (λ l. Begins c (e ++ l)) is x.takes.begun) (unfit_adds_none c (e ++ p) y unfit_here) in
         let stands : place' - 1 ≡ (place + length x.front) + length p = omega (arith, x.takes.place_is, x.fills.place_is, x.takes.counted, len) in
         let taken : Takes x.middle b ((p ++ y ∷ []) ++ []) 1 = subst (λ l. Takes x.middle b l 1) (is ∙ sym (append-nil (p ++ y ∷ []))) x.takes.takes in
-        streaming_after (cell column) is_built_cell (cell_so_far column last) (state m d) (state (suc last_left) e) a x.middle b h x.between i place false (record { fault = BadText column; place = Payload (place' - 1) }) front_streams
-        (subst (λ (k : ℕ). StopsStreaming (cell column) is_built_cell (cell_so_far column last) (state (suc last_left) e) x.middle b (place + length x.front) x.between i false (record { fault = BadText column; place = Payload k })) (sym stands)
+        streaming_after (cell column) (cell_so_far column last) (state m d) (state (suc last_left) e) a x.middle b h x.between i place false (record { fault = BadText column; place = Payload (place' - 1) }) front_streams
+        (subst (λ (k : ℕ). StopsStreaming (cell column) (cell_so_far column last) (state (suc last_left) e) x.middle b (place + length x.front) x.between i false (record { fault = BadText column; place = Payload k })) (sym stands)
         (record {
           at = state 1 (e ++ p);
           cause = inl (

@@ -12,17 +12,17 @@ use Rattle.tds_packet.specs.declared.fault.Stop.{Stop}
 use Rattle.tds_packet.specs.Elements.{IsNext, Spelt}
 use Rattle.tds_packet.specs.declared.payload.Payload as payloads
 use Rattle.tds_packet.specs.Payloads.{seen}
+use Rattle.tds_packet.specs.Reading.{StopsReading}
 use Rattle.tds_packet.specs.Seen.{Seen, Takes, IsBetween}
 use Rattle.tds_columns.specs.Description.{Column}
 use Rattle.tds_csv.specs.Quoting.{behind_comma, in_line}
 use Rattle.tds_csv.specs.declared.sink.Sink.{Sink}
 use Rattle.tds_csv.specs.Sinks.{Held, held}
-use Rattle.tds_csv.specs.Streaming.{Streams}
+use Rattle.tds_csv.specs.Streaming.{StopsStreaming, Streams}
 use Rattle.tds_rows.specs.declared.Charset.{Charset}
 use Rattle.tds_rows.specs.declared.buffered.Written.{Written}
 use Rattle.tds_rows.specs.declared.rows.TheConstants.{CELL_ROOM}
 use Rattle.tds_rows.specs.Cells.{Cell, CellPart, WholeCell, cell, cell_add, cell_start, field, field_so_far, shape}
-use Rattle.tds_rows.specs.Unbuilt.{Stalls, StopsStreaming, is_built_cell}
 
 -- a field that is open, with the comma before it; nothing where it isn't
 abbrev pub opened : ℕ → Option (List ℕ) → List ℕ
@@ -116,7 +116,7 @@ CellWritten kind column last bytes room text result = MatchOption result ((room 
 -- Reading a cell stopped before it had any text.
 pub record StallsCell (from : CellPart) (column : ℕ) (old new : Seen) (place : ℕ) (stop : Stop) : Type 0 where
   pub at : CellPart
-  pub stalls : Stalls (cell column) is_built_cell from old new place at stop
+  pub stops : StopsReading (cell column) from old new place at stop
   pub quiet : field_so_far at ≡ None
 
 -- A cell was read from its first element on, and its text put.
@@ -125,9 +125,9 @@ pub record PutsField (from : CellPart) (column : ℕ) (last : Bool) (old new : S
   pub streams : Streams (cell column) (cell_so_far column last) from old new before after (WholeCell value)
   pub place_is : place' ≡ place + length streams.bytes
 
--- A cell wasn't read whole, is refused or isn't built, or a write of its text failed.
+-- A cell wasn't read whole or is refused, or a write of its text failed.
 abbrev pub StopsField : CellPart → ℕ → Bool → Seen → Seen → ℕ → Held → Held → Bool → Stop → Type 0
-StopsField from column last = StopsStreaming (cell column) is_built_cell (cell_so_far column last) from
+StopsField from column last = StopsStreaming (cell column) (cell_so_far column last) from
 
 -- A cell of a kind was read, and its text put.
 abbrev pub PutsCell : Charset → Kind → ℕ → Bool → Seen → Seen → ℕ → ℕ → Held → Held → Type 0

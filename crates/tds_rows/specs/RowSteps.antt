@@ -7,12 +7,11 @@ use Rattle.tds_packet.specs.Seen.{Seen}
 use Rattle.tds_columns.specs.Description.{Column}
 use Rattle.tds_csv.specs.declared.sink.Sink.{Sink}
 use Rattle.tds_csv.specs.Sinks.{Held, held, stop_of}
-use Rattle.tds_csv.specs.Streaming.{Streams}
+use Rattle.tds_csv.specs.Streaming.{StopsStreaming, Streams}
 use Rattle.tds_rows.specs.declared.Charset.{Charset}
 use Rattle.tds_rows.specs.Cells.{Cell}
 use Rattle.tds_rows.specs.Rows.{RowPart, WholeRow, next_cell, row, row_so_far}
 use Rattle.tds_rows.specs.Runs.{rows, rows_so_far, rows_start}
-use Rattle.tds_rows.specs.Unbuilt.{StopsStreaming, is_built_row}
 
 -- The first cells of a row were read and their text put, and these columns are still to come, each with whether it is NULL by its bit.
 pub record ReadsCells (charset : Charset) (start : RowPart) (left : List (Column × Bool)) (old new : Seen) (place place' : ℕ) (before after : Held) (column : ℕ) : Type 0 where
@@ -27,9 +26,9 @@ pub record ReadsRow (charset : Charset) (start : RowPart) (old new : Seen) (plac
   pub streams : Streams (row charset) row_so_far start old new before after (WholeRow cells)
   pub place_is : place' ≡ place + length streams.bytes
 
--- Reading a row stopped: at an element that is refused, cut or not built, with the text of the state that it reached; or in writing.
+-- Reading a row stopped: at an element that is refused or cut, with the text of the state that it reached; or in writing.
 abbrev pub RowStops : Charset → RowPart → Seen → Seen → ℕ → Held → Held → Bool → Stop → Type 0
-RowStops charset = StopsStreaming (row charset) is_built_row row_so_far
+RowStops charset = StopsStreaming (row charset) row_so_far
 
 -- A row was read and its line put, or the call stopped.
 abbrev pub RowPut : {R W U : Type 0} → (R → Option (List ℕ)) → (W → Option (List ℕ)) → Charset → RowPart → Payload R → Payload R → Sink W → Sink W → Result U Stop → Type 0
