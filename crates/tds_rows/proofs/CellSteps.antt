@@ -1,28 +1,23 @@
--- The cells of scalar kinds, and the beginnings of long ones, as they are read.
-use Rattle.std.proofs.Common.{◌≡◌, ◌≢◌, ◌∙◌, ◌⊎◌, inl, inr, ℕ, ◌+◌, ◌<◌, true, false, List, [], ◌∷◌, ◌++◌, length, take, drop, get_or, ◌≤◌, refl, sym, ap, subst, arith, length-take}
+-- The cells of scalar kinds, as they are read.
+use Rattle.std.proofs.Common.{◌≡◌, ◌≢◌, ◌∙◌, inl, inr, ℕ, ◌+◌, ◌<◌, true, false, List, [], ◌∷◌, ◌++◌, length, take, drop, get_or, ◌≤◌, refl, sym, ap, subst, arith, length-take}
 use Rattle.std.specs.Prelude.{Option, Some, None, ◌==◌, ◌||◌, is_ok, slice_index, slice_set, if◌then◌else◌}
 use Rattle.std.proofs.lemmas.Bool.{ne_eqb}
 use Rattle.std.proofs.lemmas.List.{take-append-le, take_all, take_more_set}
 use Rattle.std.proofs.Math.Seq.{take-append-add}
 use Rattle.tds_values.specs.declared.kind.Kind.{Kind}
-use Rattle.tds_values.specs.declared.kind.Reach.{Reach}
-use Rattle.tds_values.specs.declared.kind.Reach.TheVariants.{Short, Chunked}
 use Rattle.tds_values.specs.declared.kind.Kind.TheVariants as kinds
 use Rattle.tds_values.specs.Kind.{fixed_length, is_length_allowed, is_scalar}
 use Rattle.tds_values.specs.Scalar.{read_of}
-use Rattle.tds_packet.specs.declared.fault.Fault.TheVariants.{BadValue, BadValueLength, MessageEnded, NotYet}
+use Rattle.tds_packet.specs.declared.fault.Fault.TheVariants.{BadValue, BadValueLength, MessageEnded}
 use Rattle.tds_packet.specs.declared.fault.Place.TheVariants.{Payload}
 use Rattle.tds_packet.specs.declared.fault.Stop.{Stop}
 use Rattle.tds_packet.specs.Seen.{Seen, Takes, Ends, IsBetween, began_at}
 use Rattle.tds_packet.specs.Reading.{Reads, StopsReading}
 use Rattle.tds_packet.proofs.Choices.{choose_false}
 use Rattle.tds_packet.proofs.Steps.{began_is_cut, cut_at_once, reads_one, refused_at_once, stops_after, takes_both}
-use Rattle.tds_csv.specs.Conversion.{Conversion, HexDigits, Utf16Text}
 use Rattle.tds_rows.specs.declared.Charset.{Charset}
-use Rattle.tds_rows.specs.Cells.{CellPart, LongShape, Null, ScalarBytes, ScalarLength, ShortLength, Total, WholeCell, cell, cell_end, cell_size, cell_start, narrow, shape, shape_of_length, unless}
+use Rattle.tds_rows.specs.Cells.{CellPart, Null, ScalarBytes, ScalarLength, WholeCell, cell, cell_end, cell_size, cell_start, shape, shape_of_length, unless}
 use Rattle.tds_rows.specs.CellSteps.{GathersCell, IsLeft, StallsCell, length_behind, start_behind, value_bytes, value_start}
-use Rattle.tds_rows.specs.Unbuilt.{is_built_cell}
-use Rattle.tds_rows.proofs.Stalls.{unbuilt_at_once}
 
 -- a scalar kind's shape is that of its length
 pub scalar_shape : (charset : Charset) (kind : Kind) → is_scalar kind ≡ true → shape charset kind ≡ shape_of_length (fixed_length kind)
@@ -78,7 +73,7 @@ value_refused column kind n a b place bytes some whole bad takes between =
 
 -- a cell that has no length before its value stops where the value does
 pub cell_stalls : (column : ℕ) (kind : Kind) (n : ℕ) (a b : Seen) (place : ℕ) (stop : Stop) → StopsReading (cell column) (ScalarBytes kind n) a b place (ScalarBytes kind n) stop → StallsCell (ScalarBytes kind n) column a b place stop
-cell_stalls column kind n a b place stop x = record { at = ScalarBytes kind n; stalls = inl x; quiet = refl }
+cell_stalls column kind n a b place stop x = record { at = ScalarBytes kind n; stops = x; quiet = refl }
 
 -- where a value whose bytes were read is refused, the cell stops there
 value_stalls : (column : ℕ) (kind : Kind) (n : ℕ) (a b : Seen) (place : ℕ) (bytes : List ℕ) → 0 < n → length bytes ≡ n → is_ok (read_of kind bytes) ≡ false → Takes a b bytes (length bytes) → IsBetween b
@@ -103,14 +98,14 @@ fixed_gathers column kind n a b place place' bytes is whole takes between at = r
 -- ---- the length before it
 
 pub length_cut : (column : ℕ) (kind : Kind) (a b : Seen) (place k : ℕ) (bytes : List ℕ) (own stop : Stop) → k < length bytes → length bytes ≡ 1 → Ends a b (take k bytes) own → stop ≡ began_at place own → StallsCell (ScalarLength kind) column a b place stop
-length_cut column kind a b place k bytes own stop less len ends is = record { at = ScalarLength kind; stalls = inl (cell_cut column (ScalarLength kind) a b place 1 k bytes own stop refl refl (omega (arith, less, len)) len ends is); quiet = refl }
+length_cut column kind a b place k bytes own stop less len ends is = record { at = ScalarLength kind; stops = cell_cut column (ScalarLength kind) a b place 1 k bytes own stop refl refl (omega (arith, less, len)) len ends is; quiet = refl }
 
 pub length_refused : (column : ℕ) (kind : Kind) (a b : Seen) (place n : ℕ) (bytes : List ℕ) → length bytes ≡ 1 → slice_index bytes 0 ≡ n → n ≢ 0 → is_length_allowed kind n ≡ false → Takes a b bytes (length bytes) → IsBetween b
     → StallsCell (ScalarLength kind) column a b place (record { fault = BadValueLength column; place = Payload place })
 length_refused column kind a b place n bytes len is some bad takes between =
     let no : ((n == 0) || is_length_allowed kind n) ≡ false = ap (λ v. v || is_length_allowed kind n) (ne_eqb n 0 some) ∙ bad in
     let first : (cell column).fault (ScalarLength kind) bytes ≡ Some (BadValueLength column) = ap (λ (m : ℕ). unless ((m == 0) || is_length_allowed kind m) (BadValueLength column)) is ∙ ap (λ v. unless v (BadValueLength column)) no in
-    record { at = ScalarLength kind; stalls = inl (refused_at_once (cell column) (ScalarLength kind) a b place bytes (BadValueLength column) (omega (arith, len)) len first takes between); quiet = refl }
+    record { at = ScalarLength kind; stops = refused_at_once (cell column) (ScalarLength kind) a b place bytes (BadValueLength column) (omega (arith, len)) len first takes between; quiet = refl }
 
 -- the first byte of a slice that was written, and what stands behind it
 pub first_set : (n : ℕ) (cell : List ℕ) → 0 < length cell → take 1 (slice_set cell 0 n) ≡ n ∷ []
@@ -149,7 +144,7 @@ length_then : (column : ℕ) (kind : Kind) (n : ℕ) (a b d : Seen) (place : ℕ
     → StopsReading (cell column) (ScalarBytes kind n) b d (place + length bytes) (ScalarBytes kind n) stop → StallsCell (ScalarLength kind) column a d place stop
 length_then column kind n a b d place bytes stop len is some good takes x =
     let p = length_leads column kind n a b bytes len is some good takes in
-    record { at = ScalarBytes kind n; stalls = inl (stops_after (cell column) (ScalarLength kind) (ScalarBytes kind n) a b d place (ScalarBytes kind n) stop p x); quiet = refl }
+    record { at = ScalarBytes kind n; stops = stops_after (cell column) (ScalarLength kind) (ScalarBytes kind n) a b d place (ScalarBytes kind n) stop p x; quiet = refl }
 
 -- the value behind a length is cut
 pub counted_cut : (column : ℕ) (kind : Kind) (n : ℕ) (a b d : Seen) (place middle k : ℕ) (bytes value : List ℕ) (own stop : Stop) → length bytes ≡ 1 → slice_index bytes 0 ≡ n → n ≢ 0 → is_length_allowed kind n ≡ true → Takes a b bytes (length bytes)
@@ -184,21 +179,3 @@ pub left_stalls : (kind : Kind) (from : CellPart) (column : ℕ) (a b : Seen) (p
 left_stalls kind from column a b place place' bytes scalar x (inl none) = absurd (let no : true ≡ false = sym scalar ∙ none in cc)
 left_stalls kind from column a b place place' bytes scalar x (inr (inl short)) = absurd (omega (arith, short, x.whole))
 left_stalls kind from column a b place place' bytes scalar x (inr (inr bad)) = x.refused bad.0 bad.1
-
--- ---- the beginning of a long value
-
-pub long_cut : (reach : Reach) (kind : Kind) (c : Conversion) (column : ℕ) (a b : Seen) (place k : ℕ) (bytes : List ℕ) (own stop : Stop) → k < length bytes → cell_size (cell_start kind (LongShape c reach)) ≡ length bytes → Ends a b (take k bytes) own → stop ≡ began_at place own
-    → StallsCell (cell_start kind (LongShape c reach)) column a b place stop
-long_cut Short kind c column a b place k bytes own stop less len ends is = record { at = ShortLength c; stalls = inl (cell_cut column (ShortLength c) a b place (length bytes) k bytes own stop len refl less refl ends is); quiet = refl }
-long_cut Chunked kind c column a b place k bytes own stop less len ends is = record { at = Total c; stalls = inl (cell_cut column (Total c) a b place (length bytes) k bytes own stop len refl less refl ends is); quiet = refl }
-
-pub long_unbuilt : (reach : Reach) (kind : Kind) (c : Conversion) (column : ℕ) (a b : Seen) (place : ℕ) (bytes : List ℕ) → cell_size (cell_start kind (LongShape c reach)) ≡ length bytes → Takes a b bytes (length bytes) → IsBetween b
-    → StallsCell (cell_start kind (LongShape c reach)) column a b place (record { fault = NotYet; place = Payload place })
-long_unbuilt Short kind c column a b place bytes len takes between = record { at = ShortLength c; stalls = inr (unbuilt_at_once (cell column) is_built_cell (ShortLength c) a b place bytes (omega (arith, len)) (sym len) refl takes between); quiet = refl }
-long_unbuilt Chunked kind c column a b place bytes len takes between = record { at = Total c; stalls = inr (unbuilt_at_once (cell column) is_built_cell (Total c) a b place bytes (omega (arith, len)) (sym len) refl takes between); quiet = refl }
-
-pub long_stalls : (charset : Charset) (kind : Kind) (reach : Reach) (column : ℕ) (a b : Seen) (place : ℕ) (stop : Stop) → (kind ≡ kinds.Binary reach) ⊎ ((kind ≡ kinds.Narrow reach) ⊎ (kind ≡ kinds.Wide reach))
-    → ((k : Kind) (c : Conversion) (n : ℕ) → StallsCell (cell_start k (LongShape c reach)) n a b place stop) → StallsCell (cell_start kind (shape charset kind)) column a b place stop
-long_stalls charset kind reach column a b place stop (inl is) x = subst (λ k. StallsCell (cell_start k (shape charset k)) column a b place stop) (sym is) (x (kinds.Binary reach) HexDigits column)
-long_stalls charset kind reach column a b place stop (inr (inl is)) x = subst (λ k. StallsCell (cell_start k (shape charset k)) column a b place stop) (sym is) (x (kinds.Narrow reach) (narrow charset) column)
-long_stalls charset kind reach column a b place stop (inr (inr is)) x = subst (λ k. StallsCell (cell_start k (shape charset k)) column a b place stop) (sym is) (x (kinds.Wide reach) Utf16Text column)

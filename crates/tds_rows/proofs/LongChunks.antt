@@ -142,7 +142,7 @@ module _ (column : ℕ) (last : Bool) (c : Conversion) (size : ℕ) (unit_is : s
           record {
             at = ChunkLength c total x.content;
             cause = inl (
-              inl (refused_at_once (cell column) (ChunkLength c total x.content) b d middle y.element (BadText column) (omega (arith, y.whole)) y.whole first y.takes y.between),
+              refused_at_once (cell column) (ChunkLength c total x.content) b d middle y.element (BadText column) (omega (arith, y.whole)) y.whole first y.takes y.between,
               ([], append-nil (cell_so_far column last (ChunkLength c total x.content)), Puts-none i delivered),
               refl,
             );

@@ -190,7 +190,7 @@ module _ (column : ℕ) (last : Bool) (c : Conversion) (state : ℕ → List ℕ
     piece_cut stop x = record {
       at = state (suc r) d;
       cause = inl (
-        inl (cut_at_once (cell column) (state (suc r) d) a b place [] x.own stop (omega (arith, holds.size r d)) x.ends (began_is_cut place (cell_end (state (suc r) d)) x.own stop (holds.end r d) x.stop_is)),
+        cut_at_once (cell column) (state (suc r) d) a b place [] x.own stop (omega (arith, holds.size r d)) x.ends (began_is_cut place (cell_end (state (suc r) d)) x.own stop (holds.end r d) x.stop_is),
         subst (PutsText (cell_so_far column last) (state (suc r) d) (state (suc r) d) h) (sym x.same) (puts_none (state (suc r) d) h delivered),
         refl,
       );
@@ -207,7 +207,7 @@ module _ (column : ℕ) (last : Bool) (c : Conversion) (state : ℕ → List ℕ
         subst (λ t. StopsStreaming (cell column) (cell_so_far column last) (state (suc r) d) a b place h i false t) (sym x.stop_is) (record {
           at = at;
           cause = inl (
-            inl (record {
+            record {
               bytes = x.good;
               spelt = content_spelt d x.good (suc r) (suc r') split x.begun (λ none _. absurd (omega (arith, none)));
               cause = inl (
@@ -222,7 +222,7 @@ module _ (column : ℕ) (last : Bool) (c : Conversion) (state : ℕ → List ℕ
                 },
                 refl,
               );
-            }),
+            },
             (added_text c d x.good, text_grown d x.good r r' x.begun, x.puts),
             refl,
           );
@@ -365,7 +365,7 @@ module _ (column : ℕ) (last : Bool) (c : Conversion) (state : ℕ → List ℕ
         (record {
           at = state 1 (e ++ p);
           cause = inl (
-            inl (record {
+            record {
               bytes = p;
               spelt = content_spelt e p (suc last_left) 1 (omega (arith, x.takes.counted, last_split, len)) begun (λ none _. absurd (omega (arith, none)));
               cause = inl (
@@ -380,7 +380,7 @@ module _ (column : ℕ) (last : Bool) (c : Conversion) (state : ℕ → List ℕ
                 },
                 refl,
               );
-            }),
+            },
             (added_text c e p, text_grown e p last_left 0 begun, subst (Puts x.between i) adds x.takes.puts),
             refl,
           );

@@ -22,15 +22,13 @@ use Rattle.tds_csv.specs.Streaming.{Streams}
 use Rattle.tds_csv.proofs.ConversionLaws.{begun_by_test, fit_begins, fit_by_test, no_data_is_fit}
 use Rattle.tds_csv.proofs.SingleLaws.{hex-nil}
 use Rattle.tds_csv.proofs.Sinks.{Breaks-after, Puts-none, Puts-trans}
-use Rattle.tds_csv.proofs.Streams.{streams_both}
+use Rattle.tds_csv.proofs.Streams.{streaming_after, streams_both}
 use Rattle.tds_csv.proofs.Utf16Steps.{text_nil}
 use Rattle.tds_rows.specs.Cells.{Cell, CellPart, DataCell, Null, ShortLength, WholeCell, cell, cell_add, cell_end, cell_fault, cell_size, known_total, null_total, unless}
 use Rattle.tds_rows.specs.CellSteps.{PutsField, StopsField, cell_so_far}
 use Rattle.tds_rows.specs.LongCells.{CutsNumber, EndsData, ReadsNumber, RefusesNumber, StopsEnding, StopsFilling, ending, opening, short_fault, short_length, total_of}
 use Rattle.tds_rows.specs.PassedCells.{short_left}
-use Rattle.tds_rows.specs.Unbuilt.{is_built_cell}
 use Rattle.tds_rows.proofs.LongSteps.{element_breaks, ending_text, ends_break, ends_refused, ends_streams, all_content, filling_stops, short_holds, short_refused, text_at}
-use Rattle.tds_rows.proofs.Stalls.{streaming_after}
 
 -- ---- no content
 
@@ -71,14 +69,14 @@ module _ (column : ℕ) (last : Bool) where
 
   pub field_stops : (s t : CellPart) (a b d : Seen) (place middle : ℕ) (h i j : Held) (failed : Bool) (stop : Stop) → (x : Streams (cell column) (cell_so_far column last) s a b h i t) → middle ≡ place + length x.bytes → StopsField t column last b d middle i j failed stop → StopsField s column last a d place h j failed stop
   field_stops s t a b d place middle h i j failed stop x at y =
-      streaming_after (cell column) is_built_cell (cell_so_far column last) s t a b d h i j place failed stop x (subst (λ (k : ℕ). StopsField t column last b d k i j failed stop) at y)
+      streaming_after (cell column) (cell_so_far column last) s t a b d h i j place failed stop x (subst (λ (k : ℕ). StopsField t column last b d k i j failed stop) at y)
 
   -- an element was cut
   pub number_cut : (s : CellPart) (size : ℕ) (a b : Seen) (place : ℕ) (h : Held) (failed : Bool) (stop : Stop) → cell_size s ≡ size → cell_end s ≡ Some MessageEnded → h.delivered ≤ 2 ^ 64 - 1 → failed ≡ false → CutsNumber size a b place stop → StopsField s column last a b place h h failed stop
   number_cut s size a b place h failed stop is end delivered going x = record {
     at = s;
     cause = inl (
-      inl (cut_at_once (cell column) s a b place x.part x.own stop (let few : length x.part < size = x.fewer in omega (arith, few, is)) x.ends (began_is_cut place (cell_end s) x.own stop end x.stop_is)),
+      cut_at_once (cell column) s a b place x.part x.own stop (let few : length x.part < size = x.fewer in omega (arith, few, is)) x.ends (began_is_cut place (cell_end s) x.own stop end x.stop_is),
       ([], append-nil (cell_so_far column last s), Puts-none h delivered),
       going,
     );
@@ -93,7 +91,7 @@ module _ (column : ℕ) (last : Bool) where
       subst (λ t. StopsField s column last a b place h h failed t) told (record {
         at = s;
         cause = inl (
-          inl (refused_at_once (cell column) s a b place r.element stop.fault (omega (arith, r.whole, some)) (r.whole ∙ sym is) (first r.element x.n stop.fault r.number x.first) r.takes r.between),
+          refused_at_once (cell column) s a b place r.element stop.fault (omega (arith, r.whole, some)) (r.whole ∙ sym is) (first r.element x.n stop.fault r.number x.first) r.takes r.between,
           ([], append-nil (cell_so_far column last s), Puts-none h delivered),
           going,
         );

@@ -8,25 +8,24 @@ use Rattle.tds_packet.specs.Elements.{Grammar, IsNext, Spelt}
 use Rattle.tds_packet.specs.Seen.{Ends, IsBetween, Seen, Takes, began_at}
 use Rattle.tds_packet.proofs.ElementLaws.{Inside-Spelt, Spelt-none}
 use Rattle.tds_packet.proofs.Futures.{Takes-none}
-use Rattle.tds_packet.proofs.Lifts.{next_inside, next_some}
+use Rattle.tds_packet.proofs.Lifts.{next_inside, next_some, stops_inside}
 use Rattle.tds_packet.proofs.Steps.{began_is_cut, cut_at_once}
 use Rattle.tds_columns.specs.Description.{Column}
 use Rattle.tds_csv.specs.Quoting.{in_line, joined, null_field}
 use Rattle.tds_csv.specs.Sinks.{Breaks, Held, Puts}
-use Rattle.tds_csv.specs.Streaming.{BreaksStreaming, PutsText, Streams}
+use Rattle.tds_csv.specs.Streaming.{BreaksStreaming, PutsText, StopsStreaming, Streams}
 use Rattle.tds_csv.proofs.Nears.{Nears, added_between, last_read, nears_after, nears_breaks, nears_done, nears_from, nears_inside, nears_put, tail_behind}
 use Rattle.tds_csv.proofs.Sinks.{Breaks-longer, Puts-none}
 use Rattle.tds_rows.specs.declared.Charset.{Charset}
 use Rattle.tds_rows.specs.Cells.{Cell, CellPart, Null, WholeCell, cell, cell_add, cell_size, cell_start, field, shape}
 use Rattle.tds_rows.specs.CellSteps.{PutsCell, StopsCell, cell_so_far}
 use Rattle.tds_rows.specs.Rows.{Bitmap, InCell, RowPart, bit, bitmap_length, marked, nbc_row_start, next_cell, row, row_so_far, with_cell}
+use Rattle.tds_csv.proofs.Streams.{stops_size, streaming_after}
 use Rattle.tds_rows.specs.RowSteps.{ReadsRow, RowStops}
-use Rattle.tds_rows.specs.Unbuilt.{StopsStreaming, is_built_cell, is_built_row}
 use Rattle.tds_rows.proofs.NullTexts.{begun_text, ends, line_grows, nulls_ahead, nulls_text, part_text, rest_of, start_size}
 use Rattle.tds_rows.proofs.RowLaws.{begins_open, cell_in_row, shape-HasBytes}
-use Rattle.tds_rows.proofs.RowSteps.{same_built, same_end}
+use Rattle.tds_rows.proofs.RowSteps.{same_end}
 use Rattle.tds_rows.proofs.RunSteps.{cell_some}
-use Rattle.tds_rows.proofs.Stalls.{stalls_inside, stalls_size, streaming_after}
 
 -- ---- a cell in its row, with the NULLs behind it
 
@@ -72,19 +71,18 @@ module _ (charset : Charset) (cells : List Cell) (ks : List (Column × Bool)) wh
       }
 
   -- the cell stopped, and so the row
-  stops_there : (from : CellPart) (b d : Seen) (place : ℕ) (i j : Held) (failed : Bool) (stop : Stop) → 0 < cell_size from → StopsStreaming small is_built_cell text from b d place i j failed stop → StopsStreaming big is_built_row row_so_far (up from) b d place i j failed stop
+  stops_there : (from : CellPart) (b d : Seen) (place : ℕ) (i j : Held) (failed : Bool) (stop : Stop) → 0 < cell_size from → StopsStreaming small text from b d place i j failed stop → StopsStreaming big row_so_far (up from) b d place i j failed stop
   stops_there from b d place i j failed stop some x =
       let is = cell_in_row charset cells ks in
       let begun = begun_text charset cells ks in
       let grows = line_grows (length cells) (ends ks) in
       let end = same_end charset cells ks in
-      let built = same_built charset cells ks in
       record {
         at = up x.at;
         cause = elim x.cause [
           | inl y ↦ inl (
-            stalls_inside small big up is is_built_cell is_built_row end built from b d place x.at stop y.0,
-            (y.1.0, added_between small big up is text row_so_far front begun grows from x.at y.1.0 some (stalls_size small big up is is_built_cell is_built_row end built from b d place x.at stop y.0) y.1.1, y.1.2),
+            stops_inside small big up is from b d place x.at stop (end x.at (stops_size small from b d place x.at stop y.0)) y.0,
+            (y.1.0, added_between small big up is text row_so_far front begun grows from x.at y.1.0 some (stops_size small from b d place x.at stop y.0) y.1.1, y.1.2),
             y.2,
           )
           | inr y ↦ inr (breaks_there from x.at b d i j stop some y.0, y.1)
@@ -97,7 +95,7 @@ module _ (charset : Charset) (cells : List Cell) (ks : List (Column × Bool)) wh
 
   pub marked_stops : (c : Column) (b d : Seen) (place : ℕ) (i j : Held) (failed : Bool) (stop : Stop) → StopsCell charset c.kind (length cells) (ends ks) b d place i j failed stop → RowStops charset (InCell cells (cell_start c.kind (shape charset c.kind)) ks) b d place i j failed stop
   marked_stops c b d place i j failed stop x =
-      subst (λ v. StopsStreaming big is_built_row row_so_far v b d place i j failed stop) (begins_open charset cells ks c.kind (shape charset c.kind)) (stops_there (cell_start c.kind (shape charset c.kind)) b d place i j failed stop (begin_size c) x)
+      subst (λ v. StopsStreaming big row_so_far v b d place i j failed stop) (begins_open charset cells ks c.kind (shape charset c.kind)) (stops_there (cell_start c.kind (shape charset c.kind)) b d place i j failed stop (begin_size c) x)
 
 -- ---- column after column
 
@@ -137,7 +135,7 @@ pub bitmap_cut : (charset : Charset) (columns : List Column) (a b : Seen) (place
     → RowStops charset (nbc_row_start columns) a b place h h false stop
 bitmap_cut charset columns a b place h part own stop fewer ended is d = record {
   at = Bitmap columns;
-  cause = inl (inl (cut_at_once (row charset) (Bitmap columns) a b place part own stop fewer ended (began_is_cut place (Some MessageEnded) own stop refl is)), ([], refl, Puts-none h d), refl);
+  cause = inl (cut_at_once (row charset) (Bitmap columns) a b place part own stop fewer ended (began_is_cut place (Some MessageEnded) own stop refl is), ([], refl, Puts-none h d), refl);
 }
 
 module _ (charset : Charset) (start : RowPart) (c : Column) (ks : List (Column × Bool)) (a b : Seen) (place middle : ℕ) (h i : Held) (column : ℕ) where
@@ -195,7 +193,7 @@ module _ (charset : Charset) (start : RowPart) (c : Column) (ks : List (Column �
       let z : StopsCell charset c.kind (length x.cells) (ends ks) b d middle i j failed stop = subst (λ (n : ℕ). StopsCell charset c.kind n (ends ks) b d middle i j failed stop) (sym x.counted) y in
       let begin = InCell x.cells (cell_start c.kind (shape charset c.kind)) ks in
       let begun : Streams (row charset) row_so_far start a b h i begin = all_put charset start ((c, false) ∷ ks) a b place middle h i column refl delivered x in
-      streaming_after (row charset) is_built_row row_so_far start begin a b d h i j place failed stop begun
+      streaming_after (row charset) row_so_far start begin a b d h i j place failed stop begun
       (subst (λ (n : ℕ). RowStops charset begin b d n i j failed stop) x.place_is (marked_stops charset x.cells ks c b d middle i j failed stop z))
 
 -- behind the last column

@@ -1,6 +1,6 @@
 -- The value of a RETURNVALUE, as it is passed over.
 use Rattle.std.proofs.Common.{◌≡◌, ◌≢◌, ◌∙◌, ◌⊎◌, inl, inr, ℕ, zero, suc, ◌+◌, ◌-◌, ◌%◌, ◌<◌, ◌≤◌, Bool, true, false, List, [], ◌∷◌, ◌++◌, length, take, refl, sym, ap, subst, arith, append_assoc, append-nil, length-append, take_all}
-use Rattle.std.specs.Prelude.{Option, Some, None, Result, Ok, Err, ◌==◌, ◌&&◌, ◌||◌, is_ok, nat_le, nat_lt, slice_index}
+use Rattle.std.specs.Prelude.{Option, Some, None, Result, Ok, Err, ◌==◌, ◌&&◌, ◌||◌, is_ok, nat_le, nat_lt}
 use Rattle.std.proofs.lemmas.Bool.Decides.{nat_tests}
 use Rattle.std.proofs.lemmas.Bool.{and_from, ne_eqb, or_left, or_right}
 use Rattle.tds_values.specs.declared.kind.Kind.{Kind}
@@ -8,7 +8,7 @@ use Rattle.tds_values.specs.declared.kind.Kind.TheVariants.{Binary, Narrow, Wide
 use Rattle.tds_values.specs.declared.kind.Reach.{Reach}
 use Rattle.tds_values.specs.declared.scalar.ScalarValue.{ScalarValue}
 use Rattle.tds_values.specs.declared.scalar.ValueFault.{ValueFault}
-use Rattle.tds_values.specs.Kind.{fixed_length, is_scalar}
+use Rattle.tds_values.specs.Kind.{is_scalar}
 use Rattle.tds_values.specs.Scalar.{read_of}
 use Rattle.tds_values.specs.ScalarText.{text_of}
 use Rattle.tds_values.specs.Numbers.{little}
@@ -16,22 +16,21 @@ use Rattle.tds_packet.specs.declared.fault.Fault.{Fault}
 use Rattle.tds_packet.specs.declared.fault.Fault.TheVariants.{BadText, MessageEnded, OddText}
 use Rattle.tds_packet.specs.declared.fault.Place.TheVariants.{Payload}
 use Rattle.tds_packet.specs.declared.fault.Stop.{Stop}
-use Rattle.tds_packet.specs.Elements.{IsNext, Spelt}
+use Rattle.tds_packet.specs.Elements.{Spelt}
 use Rattle.tds_packet.specs.Reading.{StopsReading}
 use Rattle.tds_packet.specs.Seen.{Seen, Takes, Ends, IsBetween, began_at}
-use Rattle.tds_packet.proofs.Choices.{choose, choose_false, choose_true, test_le, test_lt}
-use Rattle.tds_packet.proofs.ElementLaws.{Spelt-none, Spelt-append, Spelt-induct, Spelt-one, Spelt-step}
+use Rattle.tds_packet.proofs.Choices.{choose_false, choose_true, test_le, test_lt}
+use Rattle.tds_packet.proofs.ElementLaws.{Spelt-none, Spelt-append, Spelt-one, Spelt-step}
 use Rattle.tds_packet.proofs.Futures.{Ends-after, Takes-none, Takes-trans}
 use Rattle.tds_packet.proofs.Steps.{add_none, began_is_cut, reads_both, reads_none, reads_one, refused_at_once, stops_after}
 use Rattle.tds_csv.specs.Conversion.{Conversion, HexDigits, Utf16Text, Windows1252Text, is_begun, is_fit, unit}
 use Rattle.tds_csv.specs.Quoting.{in_line, null_field}
 use Rattle.tds_rows.specs.declared.Charset.{Charset}
-use Rattle.tds_rows.specs.Cells.{Cell, CellPart, ChunkData, ChunkLength, DataCell, LongShape, ScalarBytes, ScalarLength, ShortData, ShortLength, Total, WholeCell, Null, cell_add, cell_end, cell_fault, cell_size, cell_start, chunk_fault, known_total, null_total, return_charset, shape, shape_of_length, unknown_total, unless, value_part}
+use Rattle.tds_rows.specs.Cells.{Cell, CellPart, ChunkData, ChunkLength, DataCell, LongShape, ShortData, ShortLength, Total, WholeCell, Null, cell_add, cell_end, cell_fault, cell_size, cell_start, chunk_fault, known_total, null_total, return_charset, shape, unknown_total, unless}
 use Rattle.tds_rows.specs.CellSteps.{GathersCell, StallsCell, WritesCell, scalar_size, value_bytes, value_length, value_start}
 use Rattle.tds_rows.specs.PassedCells.{AnyData, CutsData, IsGoodValue, PassesCell, PassesData, StepsOver, StopsPassing, behind_length, chunk_left, return_cell, return_column, short_left}
-use Rattle.tds_rows.specs.Unbuilt.{is_built_cell}
 use Rattle.tds_rows.proofs.BufferedCells.{null_cell, value_cell}
-use Rattle.tds_rows.proofs.CellSteps.{cell_cut, scalar_shape}
+use Rattle.tds_rows.proofs.CellSteps.{cell_cut}
 
 -- ---- elements
 
@@ -157,52 +156,9 @@ chunk_runs c size n total any = record {
 
 -- ---- scalars
 
--- The part is one of a cell of a scalar kind.
-abbrev IsScalarPart : CellPart → Type 0
-IsScalarPart (ScalarBytes k n) = Unit {0}
-IsScalarPart (ScalarLength k) = Unit {0}
-IsScalarPart (WholeCell x) = Unit {0}
-IsScalarPart part = ⊥
-
-scalar_value : (r : Result ScalarValue ValueFault) → IsScalarPart (value_part r)
-scalar_value (Ok v) = tt
-scalar_value (Err f) = tt
-
-scalar_step : (s : CellPart) (b e : List ℕ) → IsScalarPart s → IsNext return_cell s e → IsScalarPart (cell_add s e)
-scalar_step (ScalarBytes k n) b e h next = scalar_value (read_of k e)
-scalar_step (ScalarLength k) b e h next = choose IsScalarPart (slice_index e 0 == 0) (WholeCell Null) (ScalarBytes k (slice_index e 0)) (λ _. tt) (λ _. tt)
-scalar_step (WholeCell x) b e h next = tt
-scalar_step (ShortLength c) b e h next = absurd h
-scalar_step (ShortData c left d) b e h next = absurd h
-scalar_step (Total c) b e h next = absurd h
-scalar_step (ChunkLength c total d) b e h next = absurd h
-scalar_step (ChunkData c total left d) b e h next = absurd h
-
-scalar_from : (kind : Kind) (o : Option ℕ) → IsScalarPart (cell_start kind (shape_of_length o))
-scalar_from kind (Some n) = tt
-scalar_from kind None = tt
-
-scalar_built : (s : CellPart) (e : List ℕ) → IsScalarPart s → is_built_cell s e ≡ true
-scalar_built (ScalarBytes k n) e h = refl
-scalar_built (ScalarLength k) e h = refl
-scalar_built (WholeCell x) e h = refl
-scalar_built (ShortLength c) e h = absurd h
-scalar_built (ShortData c left d) e h = absurd h
-scalar_built (Total c) e h = absurd h
-scalar_built (ChunkLength c total d) e h = absurd h
-scalar_built (ChunkData c total left d) e h = absurd h
-
--- all elements of a scalar are built
-pub scalar_stops : (charset : Charset) (kind : Kind) (a b : Seen) (place : ℕ) (stop : Stop) → is_scalar kind ≡ true → StallsCell (cell_start kind (shape charset kind)) return_column a b place stop → StopsPassing (cell_start kind (shape charset kind)) a b place stop
-scalar_stops charset kind a b place stop scalar x =
-    elim x.stalls [
-      | inl y ↦ record { at = x.at; stops = y }
-      | inr y ↦
-          (let from : IsScalarPart (cell_start kind (shape charset kind)) = subst (λ s. IsScalarPart (cell_start kind s)) (sym (scalar_shape charset kind scalar)) (scalar_from kind (fixed_length kind)) in
-          let there : IsScalarPart x.at = Spelt-induct return_cell (λ s _. IsScalarPart s) scalar_step (cell_start kind (shape charset kind)) from y.bytes x.at y.spelt in
-          let no : true ≡ false = sym (scalar_built x.at y.element there) ∙ y.unbuilt in
-          absurd (cc))
-    ]
+-- a scalar's cell stops as any
+pub scalar_stops : (charset : Charset) (kind : Kind) (a b : Seen) (place : ℕ) (stop : Stop) → StallsCell (cell_start kind (shape charset kind)) return_column a b place stop → StopsPassing (cell_start kind (shape charset kind)) a b place stop
+scalar_stops charset kind a b place stop x = record { at = x.at; stops = x.stops }
 
 -- what is written of a cell is its spelling
 written_spelt : (from : CellPart) (last : Bool) (bytes text : List ℕ) → WritesCell from return_column last bytes text → (value : Cell) × Spelt return_cell from bytes (WholeCell value)

@@ -12,9 +12,9 @@ use Rattle.tds_packet.proofs.Futures.{Takes-none}
 use Rattle.tds_columns.specs.Description.{Column}
 use Rattle.tds_csv.specs.Quoting.{joined, line_end}
 use Rattle.tds_csv.specs.Sinks.{Breaks, Held, Puts}
-use Rattle.tds_csv.specs.Streaming.{BreaksStreaming, PutsText, Streams}
+use Rattle.tds_csv.specs.Streaming.{BreaksStreaming, PutsText, StopsStreaming, Streams}
 use Rattle.tds_csv.proofs.Sinks.{Puts-none}
-use Rattle.tds_csv.proofs.Streams.{streams_both, streams_inside}
+use Rattle.tds_csv.proofs.Streams.{streaming_after, streaming_inside, streams_both, streams_inside}
 use Rattle.tds_rows.specs.declared.Charset.{Charset}
 use Rattle.tds_rows.specs.Cells.{Cell, CellPart, ChunkData, ChunkLength, CountedShape, FixedShape, LongShape, ScalarBytes, ScalarLength, Shape, ShortData, ShortLength, Total, WholeCell, cell, cell_end, cell_size, cell_start, field, field_so_far, shape}
 use Rattle.tds_csv.specs.Conversion.{open_field}
@@ -22,10 +22,8 @@ use Rattle.tds_rows.specs.Rows.{InCell, RowPart, marked, next_cell, row, row_so_
 use Rattle.tds_rows.specs.CellSteps.{PutsCell, ReadsCell, StallsCell, StopsCell, cell_so_far, is_last}
 use Rattle.tds_csv.specs.Quoting.{behind_comma, in_line}
 use Rattle.tds_rows.specs.RowSteps.{ReadsCells, ReadsRow, RowStops}
-use Rattle.tds_rows.specs.Unbuilt.{StopsStreaming, is_built_cell, is_built_row}
 use Rattle.tds_rows.proofs.LineTexts.{joined_snoc}
 use Rattle.tds_rows.proofs.RowLaws.{begins_open, cell_in_row}
-use Rattle.tds_rows.proofs.Stalls.{streaming_after, streaming_inside}
 
 -- no column is NULL by its bit
 abbrev pub coming : List Column → ℕ → List (Column × Bool)
@@ -85,8 +83,8 @@ module _ (kind : Kind) (s : Shape) (column : ℕ) (last : Bool) where
   }
 
   -- it stopped before it had any text
-  pub at_once_stalls : (a b : Seen) (place : ℕ) (h : Held) (stop : Stop) → h.delivered ≤ 2 ^ 64 - 1 → StallsCell (cell_start kind s) column a b place stop → StopsStreaming (cell column) is_built_cell (cell_so_far column last) (cell_start kind s) a b place h h false stop
-  at_once_stalls a b place h stop d x = record { at = x.at; cause = inl (x.stalls, none_put x.at h x.quiet d, refl) }
+  pub at_once_stalls : (a b : Seen) (place : ℕ) (h : Held) (stop : Stop) → h.delivered ≤ 2 ^ 64 - 1 → StallsCell (cell_start kind s) column a b place stop → StopsStreaming (cell column) (cell_so_far column last) (cell_start kind s) a b place h h false stop
+  at_once_stalls a b place h stop d x = record { at = x.at; cause = inl (x.stops, none_put x.at h x.quiet d, refl) }
 
 -- ---- a cell in its row
 
@@ -132,17 +130,6 @@ module _ (charset : Charset) (cells : List Cell) (ks : List (Column × Bool)) wh
   same_end (ChunkData c t k d) h = refl
   same_end (WholeCell v) h = absurd (omega arith)
 
-  -- the next element of a row is built where that of its open cell is
-  pub same_built : (at : CellPart) (e : List ℕ) → 0 < cell_size at → is_built_row (with_cell charset cells ks at) e ≡ is_built_cell at e
-  same_built (ScalarBytes kind k) e h = refl
-  same_built (ScalarLength kind) e h = refl
-  same_built (ShortLength c) e h = refl
-  same_built (ShortData c k d) e h = refl
-  same_built (Total c) e h = refl
-  same_built (ChunkLength c t d) e h = refl
-  same_built (ChunkData c t k d) e h = refl
-  same_built (WholeCell v) e h = absurd (omega arith)
-
 -- before the first cell of a ROW
 pub cells_none : (charset : Charset) (columns : List Column) (a : Seen) (place : ℕ) (h : Held) → h.delivered ≤ 2 ^ 64 - 1 → ReadsCells charset (row_start charset columns) (coming columns 0) a a place place h h 0
 cells_none charset columns a place h d = record {
@@ -157,9 +144,9 @@ pub cell_stops : (charset : Charset) (cells : List Cell) (c : Column) (left : Li
     → RowStops charset (InCell cells (cell_start c.kind (shape charset c.kind)) (coming left n)) b d place i j failed stop
 cell_stops charset cells c left n b d place i j failed stop y =
     let begin = cell_start c.kind (shape charset c.kind) in
-    let there = streaming_inside (cell (length cells)) (row charset) (lift charset cells left n) (cell_in_row charset cells (coming left n)) is_built_cell is_built_row (same_end charset cells (coming left n)) (same_built charset cells (coming left n))
-    (cell_so_far (length cells) (is_last left)) row_so_far (joined (map field cells)) (row_text charset cells left n) begin b d place i j failed stop y in
-    subst (λ v. StopsStreaming (row charset) is_built_row row_so_far v b d place i j failed stop) (begins_open charset cells (coming left n) c.kind (shape charset c.kind)) there
+    let there = streaming_inside (cell (length cells)) (row charset) (lift charset cells left n) (cell_in_row charset cells (coming left n)) (cell_so_far (length cells) (is_last left)) row_so_far (joined (map field cells)) (row_text charset cells left n)
+    (same_end charset cells (coming left n)) begin b d place i j failed stop y in
+    subst (λ v. StopsStreaming (row charset) row_so_far v b d place i j failed stop) (begins_open charset cells (coming left n) c.kind (shape charset c.kind)) there
 
 module _ (charset : Charset) (start : RowPart) (c : Column) (left : List Column) (a b d : Seen) (place middle : ℕ) (h i j : Held) (column : ℕ) where
   -- one cell more
@@ -185,9 +172,9 @@ module _ (charset : Charset) (start : RowPart) (c : Column) (left : List Column)
   cells_stop failed stop x y =
       let z : StopsCell charset c.kind (length x.cells) (is_last left) b d middle i j failed stop = subst (λ (n : ℕ). StopsCell charset c.kind n (is_last left) b d middle i j failed stop) (sym x.counted) y in
       let from : RowPart = InCell x.cells (cell_start c.kind (shape charset c.kind)) (coming left (column + 1)) in
-      let stops : StopsStreaming (row charset) is_built_row row_so_far from b d (place + length x.streams.bytes) i j failed stop =
-      subst (λ (n : ℕ). StopsStreaming (row charset) is_built_row row_so_far from b d n i j failed stop) x.place_is (cell_stops charset x.cells c left (column + 1) b d middle i j failed stop z) in
-      streaming_after (row charset) is_built_row row_so_far start from a b d h i j place failed stop x.streams stops
+      let stops : StopsStreaming (row charset) row_so_far from b d (place + length x.streams.bytes) i j failed stop =
+      subst (λ (n : ℕ). StopsStreaming (row charset) row_so_far from b d n i j failed stop) x.place_is (cell_stops charset x.cells c left (column + 1) b d middle i j failed stop z) in
+      streaming_after (row charset) row_so_far start from a b d h i j place failed stop x.streams stops
 
 -- behind the last cell
 pub cells_all : (charset : Charset) (start : RowPart) (a b : Seen) (place place' : ℕ) (h i : Held) (column : ℕ) → ReadsCells charset start [] a b place place' h i column → ReadsRow charset start a b place place' h i

@@ -19,9 +19,7 @@ use crate::run::{put_run, run_rows};
 use crate::table::{Ahead, Table};
 use std::io::{Read, Write};
 use tds_columns::Columns;
-use tds_csv::{
-    Cp1252Joiner, HexJoiner, Joiner, Sink, Utf8Joiner, Utf16Joiner, joiners_suit,
-};
+use tds_csv::{Cp1252Joiner, HexJoiner, Joiner, Sink, Utf8Joiner, Utf16Joiner, joiners_suit};
 use tds_packet::{Payload, Stop};
 use tds_values::{Kind, Reach};
 
@@ -118,18 +116,25 @@ pub(crate) fn put_cell<R: Read, W: Write>(
         }
         Kind::Narrow(reach) => put_narrow(payload, sink, reach, at.column, last, charset),
         Kind::Wide(reach) => {
-            stream_long(payload, reach, at.column, last, &mut Utf16Joiner::new(), sink)
+            stream_long(
+                payload,
+                reach,
+                at.column,
+                last,
+                &mut Utf16Joiner::new(),
+                sink,
+            )
         }
         _ => put_scalar(payload, sink, table, at, kind),
     }
 }
 
 /// Reads a ROW behind its token byte, and puts its line (MS-TDS, ROW). The cells before a stop count,
-/// with their text: [`Fault::BadValueLength`] stands at the length byte that isn't allowed,
-/// [`Fault::BadValue`] at the first byte of the value out of range, and [`Fault::NotYet`] at the
-/// length or the total of a long value, which aren't built yet and are read first. Columns are
-/// numbered from 0. Any other stop is the payload's or the sink's own. After a
-/// stop of the payload or the sink the same stop is answered, and nothing changes.
+/// with their text, and so does the text so far of a long value. [`Fault::BadValueLength`] stands at the
+/// length byte that isn't allowed, and [`Fault::BadValue`] at the first byte of the value out of range; the
+/// faults of long values and their places are those of [`stream_value`](crate::stream_value). Columns are
+/// numbered from 0, and single-byte text is read in this set. Any other stop is the payload's or the sink's
+/// own. After a stop of the payload or the sink the same stop is answered, and nothing changes.
 pub fn row<R: Read, W: Write>(
     payload: &mut Payload<R>,
     columns: Columns<'_>,

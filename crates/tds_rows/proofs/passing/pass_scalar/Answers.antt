@@ -9,7 +9,7 @@ pub returns-in_err-size-clause-gives : goal.returns-in_err-size-clause-gives
 returns-in_err-size-clause-gives g c =
     let a = seen g.R.Read.remaining c.args.payload.now in
     let b = seen g.R.Read.remaining c.gather_scalar.new.payload in
-    passed _ _ _ _ c.from_residual.ensures.1 (scalar_stops return_charset c.args.kind.now a b c.args.payload.now.place c.in_err-size.field-0.0 (search rules) (c.in_err-size.ensures.gives return_charset))
+    passed _ _ _ _ c.from_residual.ensures.1 (scalar_stops return_charset c.args.kind.now a b c.args.payload.now.place c.in_err-size.field-0.0 (c.in_err-size.ensures.gives return_charset))
 
 pub is_refused-requires-clause-whole : goal.is_refused-requires-clause-whole
 is_refused-requires-clause-whole g c = (c.in_ok-size.ensures.gives return_charset).whole
@@ -20,7 +20,7 @@ returns-then-is_refused-clause-gives g c =
     let b = seen g.R.Read.remaining c.gather_scalar.new.payload in
     let bad = c.is_refused.ensures.refused c.if-is_refused.true in
     let x = c.in_ok-size.ensures.gives return_charset in
-    rw (c.bad_value.ensures, c.place-place.ensures, c.length_size.ensures.value) (scalar_stops return_charset c.args.kind.now a b c.args.payload.now.place _ (search rules) (x.refused bad.0 bad.1))
+    rw (c.bad_value.ensures, c.place-place.ensures, c.length_size.ensures.value) (scalar_stops return_charset c.args.kind.now a b c.args.payload.now.place _ (x.refused bad.0 bad.1))
 
 pub returns-clause-gives : goal.returns-clause-gives
 returns-clause-gives g c =

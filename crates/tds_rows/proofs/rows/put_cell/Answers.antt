@@ -1,4 +1,4 @@
-use Rattle.std.proofs.Common.{◌≡◌, ◌∙◌, Bool, sym, subst}
+use Rattle.std.proofs.Common.{◌∙◌, Bool, sym, subst}
 use Rattle.tds_csv.specs.Conversion.{HexDigits, Utf16Text}
 use Rattle.tds_rows.specs.Cells.{long_start, narrow}
 use Rattle.tds_rows.specs.CellSteps.{FieldPut}
