@@ -326,7 +326,14 @@ fn a_character_lies_across_packets(rt: HostRuntime) -> Result<(), Fail> {
 // The first bytes of the payload, from as many to as many, the fault and its place, and how many bytes
 // of the text stand.
 const CUTS: [(&str, usize, usize, Fault, u64, usize); 12] = [
-    ("behind the description", 20, 20, Fault::EndWithoutDone, 20, 5),
+    (
+        "behind the description",
+        20,
+        20,
+        Fault::EndWithoutDone,
+        20,
+        5,
+    ),
     ("in the total", 21, 28, Fault::MessageEnded, 21, 5),
     ("in the first length", 29, 32, Fault::MessageEnded, 29, 6),
     ("in the first chunk", 33, 33, Fault::MessageEnded, 33, 6),

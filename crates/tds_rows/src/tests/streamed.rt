@@ -172,14 +172,29 @@ fn each_joiner_has_its_text(rt: HostRuntime) -> Result<(), Fail> {
     Ok(())
 }
 
-// A joiner of binary data that counts its pieces.
-#[derive(Drop)]
-struct CountingJoiner<'a> {
-    inner: HexJoiner,
-    pushes: Option<&'a mut u64>,
+// What counts.
+trait Count {
+    fn count(&mut self);
 }
 
-impl Joiner for CountingJoiner<'_> {
+// A count elsewhere.
+#[derive(Drop)]
+struct Tally<'a>(&'a mut u64);
+
+impl Count for Tally<'_> {
+    fn count(&mut self) {
+        *self.0 = self.0.saturating_add(1);
+    }
+}
+
+// A joiner of binary data that has its pieces counted.
+#[derive(Drop)]
+struct CountingJoiner<C> {
+    inner: HexJoiner,
+    pushes: Option<C>,
+}
+
+impl<C: Count> Joiner for CountingJoiner<C> {
     const UNIT: u64 = 1;
 
     ghost UNIT = { 1 };
@@ -207,7 +222,7 @@ impl Joiner for CountingJoiner<'_> {
 
     fn push<W: Write>(&mut self, piece: &[u8], sink: &mut Sink<'_, W>) -> Result<(), JoinFault> {
         if let Some(pushes) = &mut self.pushes {
-            **pushes = pushes.saturating_add(1);
+            pushes.count();
         }
         self.inner.push(piece, sink)
     }
@@ -236,7 +251,7 @@ fn a_value_comes_in_few_pieces(rt: HostRuntime) -> Result<(), Fail> {
     let mut pushes = 0;
     let joiner = CountingJoiner {
         inner: HexJoiner::new(),
-        pushes: Some(&mut pushes),
+        pushes: Some(Tally(&mut pushes)),
     };
     let came = stream(rt.alloc(), &value, 4000, Reach::Short, 0, joiner, &text)?;
     assert_eq!(rt; came, (Ok(()), Some(802)));
