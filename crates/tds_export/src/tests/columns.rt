@@ -4,7 +4,7 @@ use super::*;
 use tds_packet::RefusedKind;
 
 // The Count of one column, and its UserType and Flags.
-const ONE: &[u8] = &[0x81, 1, 0, 0, 0, 0, 0, 0, 0];
+pub(super) const ONE: &[u8] = &[0x81, 1, 0, 0, 0, 0, 0, 0, 0];
 
 // Two columns of type byte 38, named a and b.
 const TWO: &[u8] = &[
