@@ -160,7 +160,8 @@ fn front_of(bytes: &[u8], longer: &[u8]) -> Option<usize> {
     }
 }
 
-// What came of an input under a character set, where this text is expected. Nothing comes of areas that were exchanged.
+// What came of an input under a character set, where this text is expected. Nothing comes of areas
+// that were exchanged.
 fn run_under(
     areas: &mut Areas,
     from: ScriptedReader<'_>,

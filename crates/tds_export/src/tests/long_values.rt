@@ -384,7 +384,7 @@ fn a_failed_write_leaves_the_rest_of_a_character(rt: HostRuntime) -> Result<(), 
     let mut areas = make_usual_areas(rt.alloc())?;
     let wire = in_one_packet(rt.alloc(), FACE)?;
     for n in 0..FACE_TEXT.len() {
-        let (taken, waiting) = FACE_TEXT.split_at(n);
+        let (taken, waiting) = FACE_TEXT.split_at(n.min(FACE_TEXT.len()));
         let from = ScriptedReader::new(&wire, 1000);
         let to = ScriptedWriter::new(4, Failing::AfterBytes(n));
         let out = run(&mut areas, from, to, taken);
