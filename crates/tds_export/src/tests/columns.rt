@@ -4,7 +4,7 @@ use super::*;
 use tds_packet::RefusedKind;
 
 // The Count of one column, and its UserType and Flags.
-const ONE: &[u8] = &[0x81, 1, 0, 0, 0, 0, 0, 0, 0];
+pub(super) const ONE: &[u8] = &[0x81, 1, 0, 0, 0, 0, 0, 0, 0];
 
 // Two columns of type byte 38, named a and b.
 const TWO: &[u8] = &[
@@ -369,83 +369,42 @@ fn a_row_stops_behind_its_whole_fields(rt: HostRuntime) -> Result<(), Fail> {
     )
 }
 
-// A column of a long kind, of so many bytes, and a row of it whose value is ab.
-struct LongColumn {
-    what: &'static str,
+// A column of a long kind, of so many bytes, and a row that is NULL.
+fn check_long(
+    alloc: Global,
+    areas: &mut Areas,
+    what: &str,
     type_byte: u8,
     length: [u8; 2],
-    row: &'static [u8],
-}
-
-const LONG_COLUMNS: [LongColumn; 4] = [
-    LongColumn {
-        what: "nvarchar(max), of a known total",
-        type_byte: 0xE7,
-        length: [0xFF, 0xFF],
-        row: &[
-            0xD1, 4, 0, 0, 0, 0, 0, 0, 0, 4, 0, 0, 0, 0x61, 0, 0x62, 0, 0, 0, 0, 0,
-        ],
-    },
-    LongColumn {
-        what: "varchar(max), of two chunks and no known total",
-        type_byte: 0xA7,
-        length: [0xFF, 0xFF],
-        row: &[
-            0xD1, 0xFE, 0xFF, 0xFF, 0xFF, 0xFF, 0xFF, 0xFF, 0xFF, 1, 0, 0, 0, 0x61, 1, 0, 0, 0,
-            0x62, 0, 0, 0, 0,
-        ],
-    },
-    LongColumn {
-        what: "nvarchar(10)",
-        type_byte: 0xE7,
-        length: [0x14, 0],
-        row: &[0xD1, 4, 0, 0x61, 0, 0x62, 0],
-    },
-    LongColumn {
-        what: "varchar(10)",
-        type_byte: 0xA7,
-        length: [0x0A, 0],
-        row: &[0xD1, 2, 0, 0x61, 0x62],
-    },
-];
-
-// The value is written as it comes, and nothing of it joins the description of 19 bytes.
-fn check_long(alloc: Global, areas: &mut Areas, long: &LongColumn) -> Result<(), Fail> {
-    let [low, high] = long.length;
-    let column = [long.type_byte, low, high, 9, 4, 0xD0, 0, 0x34, 1, 0x74, 0];
-    let wire = response_of(alloc, &[ONE, &column, long.row])?;
-    let text: &[u8] = b"\"t\"\r\n\"ab\"\r\n";
+    row: &[u8],
+) -> Result<(), Fail> {
+    let [low, high] = length;
+    let column = [type_byte, low, high, 9, 4, 0xD0, 0, 0x34, 1, 0x74, 0];
+    let wire = response_of(alloc, &[ONE, &column, row])?;
+    let text = b"\"t\"\r\nNULL\r\n";
     let out = read(areas, &wire, 1000, text);
-    let answer = Ok(report(1, 1, text.len() as u64));
-    same(long.what, &out, &Some(came_to(answer, text)))?;
+    same(what, &out, &Some(came_to(Ok(report(1, 1, 11)), text)))?;
     let (held, peak) = (areas.description_held(), areas.description_peak());
-    same(long.what, &(held, peak), &(19, 19))
+    same(what, &(held, peak), &(19, 19))
 }
 
+const SHORT_NULL: &[u8] = &[0xD1, 0xFF, 0xFF];
+
+const LONG_NULL: &[u8] = &[0xD1, 0xFF, 0xFF, 0xFF, 0xFF, 0xFF, 0xFF, 0xFF, 0xFF];
+
+// Descriptions of long kinds have 19 bytes.
 #[test]
-fn long_values_are_read(rt: HostRuntime) -> Result<(), Fail> {
+fn long_kinds_are_described(rt: HostRuntime) -> Result<(), Fail> {
     let mut areas = make_usual_areas(rt.alloc())?;
-    for long in &LONG_COLUMNS {
-        check_long(rt.alloc(), &mut areas, long)?;
+    for (what, type_byte, length, row) in [
+        ("nvarchar(max)", 0xE7, [0xFF, 0xFF], LONG_NULL),
+        ("varchar(max)", 0xA7, [0xFF, 0xFF], LONG_NULL),
+        ("nvarchar(10)", 0xE7, [0x14, 0], SHORT_NULL),
+        ("varchar(10)", 0xA7, [0x0A, 0], SHORT_NULL),
+    ] {
+        check_long(rt.alloc(), &mut areas, what, type_byte, length, row)?;
     }
     Ok(())
-}
-
-// A value that a fault ends: the text has what came of it, behind its quote.
-#[test]
-fn a_long_value_stops_within_its_field(rt: HostRuntime) -> Result<(), Fail> {
-    let mut areas = make_usual_areas(rt.alloc())?;
-    let column = [0xA7, 0xFF, 0xFF, 9, 4, 0xD0, 0, 0x34, 1, 0x74, 0];
-    let row = [0xD1, 2, 0, 0, 0, 0, 0, 0, 0, 1, 0, 0, 0, 0x61, 2, 0, 0, 0];
-    check_stopped(
-        rt.alloc(),
-        &mut areas,
-        "a chunk that passes the total",
-        &[ONE, &column, &row],
-        Fault::PlpLength { column: 0 },
-        34,
-        b"\"t\"\r\n\"a",
-    )
 }
 
 const NO_COLUMNS: &[u8] = &[0x81, 0xFF, 0xFF];
