@@ -1,9 +1,9 @@
--- What an export answers of an accepted response: it succeeds, but for a device that fails and for what isn't built.
+-- What an export answers of an accepted response: it succeeds, but for a device that fails.
 use Rattle.std.proofs.Common.{◌≡◌, ◌∙◌, inl, inr, ℕ, ◌+◌, ◌<◌, ◌≤◌, Bool, true, false, List, [], ◌∷◌, ◌++◌, length, take, drop, refl, sym, ap, subst, arith, append_assoc, append-nil, take-append-drop}
 use Rattle.std.specs.Prelude.{◌==◌, Some, None, Result, Ok, Err, if◌then◌else◌}
 use Rattle.std.proofs.lemmas.Grind.{flat_map-append}
 use Rattle.tds_packet.specs.declared.fault.Fault.{Fault}
-use Rattle.tds_packet.specs.declared.fault.Fault.TheVariants.{EndWithoutDone, NotYet}
+use Rattle.tds_packet.specs.declared.fault.Fault.TheVariants.{EndWithoutDone}
 use Rattle.tds_packet.specs.declared.fault.Place.{Place}
 use Rattle.tds_packet.specs.declared.fault.Place.TheVariants.{Wire, Payload, Text}
 use Rattle.tds_packet.specs.Elements.{IsRefused, Longest}
@@ -103,33 +103,33 @@ read_begin run tokens read packets p a = elim p.each [
       (payload_of b.0, ap payload_of (sym b.1) ∙ flat_map-append (λ (v : Packet). v.body) read b.0))
 ]
 
-only_unbuilt : (run : Run) (fault : Fault) (place : Place) → Stops run fault place → (tokens : List Token) (packets : List Packet) → Accepted run.given.charset run.given.before.areas.limits.packet_size run.given.before.areas.limits.column_room run.given.before.areas.limits.max_wire tokens packets run.input
-    → (Rose run.given.before.reader.failures run.given.after.reader.failures → ⊥) → (Rose run.given.before.writer.failures run.given.after.writer.failures → ⊥) → fault ≡ NotYet
-only_unbuilt run fault (Payload place) (inl x) tokens packets a reads writes = elim x.first [
+-- no run of an accepted response stops but by a device
+none_stops : (run : Run) (fault : Fault) (place : Place) → Stops run fault place → (tokens : List Token) (packets : List Packet) → Accepted run.given.charset run.given.before.areas.limits.packet_size run.given.before.areas.limits.column_room run.given.before.areas.limits.max_wire tokens packets run.input
+    → (Rose run.given.before.reader.failures run.given.after.reader.failures → ⊥) → (Rose run.given.before.writer.failures run.given.after.writer.failures → ⊥) → ⊥
+none_stops run fault (Payload place) x tokens packets a reads writes = elim x.first [
   | inl r ↦ (let b = read_begin run tokens x.packets packets x.stands a in
-      absurd (refused_accepted run tokens (payload_of x.packets) b.0 place x.part fault (subst (λ v. Response run.given.charset run.given.before.areas.limits.column_room tokens v) b.1 a.response) x.leads r.0))
+      refused_accepted run tokens (payload_of x.packets) b.0 place x.part fault (subst (λ v. Response run.given.charset run.given.before.areas.limits.column_room tokens v) b.1 a.response) x.leads r.0)
   | inr r ↦ (let same = one_message run.given.before.areas.limits.packet_size run.given.before.areas.limits.max_wire x.packets packets (wire_of x.packets) a.wire run.left a.unread (record { spelt = refl; each = r.0; within = x.stands.within }) a.message (x.stands.begin ∙ a.begins) in
-      absurd (ended_accepted run tokens (payload_of x.packets) place x.part fault (subst (λ v. Response run.given.charset run.given.before.areas.limits.column_room tokens (payload_of v)) (sym same) a.response) x.leads r.2))
+      ended_accepted run tokens (payload_of x.packets) place x.part fault (subst (λ v. Response run.given.charset run.given.before.areas.limits.column_room tokens (payload_of v)) (sym same) a.response) x.leads r.2)
 ]
-only_unbuilt run fault (Payload place) (inr x) tokens packets a reads writes = x.0
-only_unbuilt run fault (Wire taken) x tokens packets a reads writes = elim x.first [
-  | inl r ↦ absurd (reads r.1)
-  | inr r ↦ absurd (no_wire_fault run.given.before.areas.limits.packet_size run.given.before.areas.limits.max_wire run.input a.wire a.unread packets x.packets fault a.message a.begins r)
+none_stops run fault (Wire taken) x tokens packets a reads writes = elim x.first [
+  | inl r ↦ reads r.1
+  | inr r ↦ no_wire_fault run.given.before.areas.limits.packet_size run.given.before.areas.limits.max_wire run.input a.wire a.unread packets x.packets fault a.message a.begins r
 ]
-only_unbuilt run fault (Text written) x tokens packets a reads writes = absurd (writes x.failed)
+none_stops run fault (Text written) x tokens packets a reads writes = writes x.failed
 
 -- a report that is answered is that of the accepted response
 reported_succeeds : (run : Run) (report : Report) → Reported run report → SucceedsIfAccepted run (Ok report)
 reported_succeeds run report r = λ tokens packets accepted reads writes.
     let same = one_accepted run.given.charset run.given.before.areas.limits.column_room run.given.before.areas.limits.packet_size run.given.before.areas.limits.max_wire tokens r.tokens packets r.packets run.input accepted r.accepted in
-    inl (record {
+    record {
       report_is = ap (λ v. Ok v) (r.report_is ∙ ap report_of (sym same.0));
       written = r.written ∙ ap text (sym same.0);
       notice = r.notice ∙ ap error_text (sym same.0);
       stands = subst (λ v. Packets run v) (sym same.1) r.stands;
-    })
+    }
 
 -- an answer that is true of an accepted response is its report
 pub outcome_succeeds : (run : Run) (result : Result Report Stopped) → Outcome run result → SucceedsIfAccepted run result
 outcome_succeeds run (Ok report) r = reported_succeeds run report r
-outcome_succeeds run (Err stopped) r = λ tokens packets a reads writes. inr (only_unbuilt run stopped.fault stopped.place r.stop tokens packets a reads writes)
+outcome_succeeds run (Err stopped) r = λ tokens packets a reads writes. absurd (none_stops run stopped.fault stopped.place r.stop tokens packets a reads writes)

@@ -66,10 +66,8 @@ module _ (charset : Charset) (room : ℕ) (tokens : List Token) (which : Bodied)
       inl (
         record {
           at = in_body n;
-          stalls = inl (
-              stops_after (response charset room) (in_length which tokens) (in_body n) a b c place (in_body n) stop (record { bytes = element; spelt = length_spelt element n two number (omega (arith, fewer)); takes = first })
-              (subst (λ m. StopsReading (response charset room) (in_body n) b c m (in_body n) stop) at cut)
-              );
+          stops = stops_after (response charset room) (in_length which tokens) (in_body n) a b c place (in_body n) stop (record { bytes = element; spelt = length_spelt element n two number (omega (arith, fewer)); takes = first })
+              (subst (λ m. StopsReading (response charset room) (in_body n) b c m (in_body n) stop) at cut);
           puts = same_text (in_length which tokens) (in_body n) sink refl d;
           holds = record { bytes = holds.bytes; peak = holds.peak };
         },

@@ -3,16 +3,15 @@ use Rattle.std.proofs.Common.{◌≡◌, ◌∙◌, ◌⊎◌, inl, inr, ℕ, ze
 use Rattle.std.specs.Prelude.{Option, Some, None, ⊤, ◌==◌, ◌||◌, nat_lt, slice_index, if◌then◌else◌}
 use Rattle.tds_meter.specs.Counts.{Rose, one_more}
 use Rattle.tds_packet.specs.declared.fault.Fault.{Fault}
-use Rattle.tds_packet.specs.declared.fault.Fault.TheVariants.{NotYet, ReadFailed, WriteFailed, WrongPacketType, BadPacketLength, ResponseTooLong, InputEnded}
+use Rattle.tds_packet.specs.declared.fault.Fault.TheVariants.{ReadFailed, WriteFailed, WrongPacketType, BadPacketLength, ResponseTooLong, InputEnded}
 use Rattle.tds_packet.specs.declared.fault.Stop.{Stop}
 use Rattle.tds_packet.specs.Packets.{header_fault, header_length}
 use Rattle.tds_packet.specs.Coming.{Coming, FrontPacket, NoPacket, WholePacket, behind_header, behind_packet, front_packet, message}
 use Rattle.tds_packet.specs.Seen.{Seen, Ends, begun}
+use Rattle.tds_packet.specs.Reading.{StopsReading}
 use Rattle.tds_csv.specs.Sinks.{Held}
 use Rattle.tds_rows.specs.declared.Charset.{Charset}
-use Rattle.tds_rows.specs.Unbuilt.{Stalls}
 use Rattle.tds_export.specs.declared.report.Stopped.{Stopped}
-use Rattle.tds_export.specs.Built.{is_built}
 use Rattle.tds_export.specs.Moments.{Given, grammar_of}
 use Rattle.tds_export.specs.Exports.{StopsExport, begun_at, fresh_at}
 use Rattle.tds_export.specs.TokenGrammar.{Part, response, response_start}
@@ -88,11 +87,8 @@ of_payload before after fault h = (λ e. subst IsOfPayload e h, λ e. absurd (su
 of_wire : (before after : ℕ) (fault : Fault) → IsOfWire fault → ReadingFault before after fault
 of_wire before after fault h = (λ e. subst IsOfWire e h, λ e. absurd (subst IsOfWire e h))
 
-reading_fault : (charset : Charset) (room size limit failures : ℕ) (left : Option (List ℕ)) (b : Seen) (place : ℕ) (at : Part) (stop : Stop) → Stalls (response charset room) is_built response_start (begun size limit left failures) b place at stop → ReadingFault failures b.failures stop.fault
-reading_fault charset room size limit failures left b place at stop (inr x) =
-    let is = ap (λ (s : Stop). s.fault) x.stop_is in
-    (λ e. (let no : NotYet ≡ WriteFailed = sym is ∙ e in cc), λ e. absurd (let no : NotYet ≡ ReadFailed = sym is ∙ e in cc))
-reading_fault charset room size limit failures left b place at stop (inl x) = elim x.cause [
+reading_fault : (charset : Charset) (room size limit failures : ℕ) (left : Option (List ℕ)) (b : Seen) (place : ℕ) (at : Part) (stop : Stop) → StopsReading (response charset room) response_start (begun size limit left failures) b place at stop → ReadingFault failures b.failures stop.fault
+reading_fault charset room size limit failures left b place at stop x = elim x.cause [
   | inl y ↦ of_payload failures b.failures stop.fault (element_fault charset room at y.0.element stop.fault y.0.first)
   | inr y ↦ elim y.stop_is [
     | inl z ↦ subst (ReadingFault failures b.failures) (sym (ap (λ (s : Stop). s.fault) z.1.2)) (of_payload failures b.failures z.1.0 (end_fault charset room at z.1.0 z.1.1))
@@ -127,7 +123,7 @@ blamed given stopped x = go x.stops
     go : RunStops (grammar_of given) response_start (begun_at given) x.seen 0 (fresh_at given) x.middle given.after.areas.description x.failed x.stop
         → (stopped.fault ≡ ReadFailed → Rose given.before.reader.failures given.after.reader.failures) × (stopped.fault ≡ WriteFailed → Rose given.before.writer.failures given.after.writer.failures)
     go (inl (inl y)) =
-        let r = reading_fault given.charset given.before.areas.limits.column_room given.before.areas.limits.packet_size given.before.areas.limits.max_wire given.before.reader.failures given.before.reader.bytes x.seen 0 y.0.at x.stop y.0.stalls in
+        let r = reading_fault given.charset given.before.areas.limits.column_room given.before.areas.limits.packet_size given.before.areas.limits.max_wire given.before.reader.failures given.before.reader.bytes x.seen 0 y.0.at x.stop y.0.stops in
         (λ e. subst (Rose given.before.reader.failures) (sym (r.1 (sym is ∙ e)) ∙ x.reader.failures) (rose given.before.reader.failures), λ e. absurd (r.0 (sym is ∙ e)))
     go (inl (inr y)) =
         let b = y.0.breaks.breaks in

@@ -43,7 +43,7 @@ module _ (charset : Charset) (room : ℕ) (tokens : List Token) (area : Space) (
   notice_stops which a b place failed stop going x = inl (
     record {
       at = x.at;
-      stalls = inl x.stops;
+      stops = x.stops;
       puts = same_text (in_length which tokens) x.at sink (no_text x.at x.in_body) d;
       holds = held_on x.at x.in_body;
     },

@@ -14,10 +14,8 @@ use Rattle.tds_packet.proofs.ElementLaws.{longest_cut, longest_refused}
 use Rattle.tds_packet.proofs.Fronts.{Begins, EndsMessage, InLast, StopsBehind, in_last, takes_begins}
 use Rattle.tds_export.specs.Tokens.{Token}
 use Rattle.tds_export.specs.Moments.{Run}
-use Rattle.tds_export.specs.Outcome.{EndsInLast, IsKept, Packets, StopsInPayload, StopsOnWire, StopsUnbuilt, grammar}
-use Rattle.tds_export.specs.Built.{is_built}
+use Rattle.tds_export.specs.Outcome.{EndsInLast, IsKept, Packets, StopsInPayload, StopsOnWire, grammar}
 use Rattle.tds_export.specs.TokenGrammar.{Describing, Open, Part, response_start, text_so_far}
-use Rattle.tds_rows.specs.Unbuilt.{ReadsUnbuilt}
 use Rattle.tds_export.specs.Steps.{IsHolding, description_of}
 
 -- what the area holds at a part is kept, whatever follows
@@ -78,32 +76,6 @@ refused_in_payload run q area part bytes fault side spelt x holds text =
       stands = packets_of run (((bytes ++ e) ++ x.ahead) ++ (q.future []).bytes) b;
       leads = subst (λ p. Longest g response_start p (length bytes) part) (sym s.0) (longest_refused g response_start bytes (e ++ more) part fault spelt refused);
       first = inl (subst (λ r. IsRefused g part r fault) (sym s.1) refused, ends_in_last run part b.packets bytes e whole l);
-      written = text;
-      kept = subst (λ a. IsKept a part.tokens part.at (drop (length bytes) (payload_of b.packets))) (sym side.description) (kept_at area part.tokens part.at (drop (length bytes) (payload_of b.packets)) holds.bytes);
-    }
-
--- an element wasn't built
-pub unbuilt_in_payload : (run : Run) (q : Seen) (area : Space) (part : Part) (stop : Stop) (place : ℕ) → ReaderSide run q area → (x : ReadsUnbuilt (grammar run) is_built response_start (start run) q place part stop) → IsHolding area part
-    → run.gained ++ run.given.after.areas.output.bytes ≡ text_so_far part → StopsUnbuilt run (length x.bytes)
-unbuilt_in_payload run q area part stop place side x holds text =
-    let g = grammar run in
-    let bytes = x.bytes in
-    let e = x.element in
-    let more = (q.future []).bytes in
-    let n = length (bytes ++ e) in
-    let b = takes_begins run.given.before.areas.limits.packet_size run.given.before.areas.limits.max_wire run.given.before.reader.failures run.input run.left q (bytes ++ e) n side.bytes side.left x.takes x.between in
-    let s = split_payload bytes e more (payload_of b.packets) b.payload_is in
-    let some : 0 < length e = x.some in
-    let whole : length e ≡ g.size part = x.whole in
-    let l = in_last run.given.before.areas.limits.packet_size run.given.before.areas.limits.max_wire run.given.before.reader.failures n run.input run.left q (bytes ++ e) ((bytes ++ e) ++ more) side.left x.takes b (omega (arith, some, length-append (bytes ++ e) more, length-append bytes e)) in
-    record {
-      packets = b.packets;
-      part = part;
-      stands = packets_of run ((bytes ++ e) ++ more) b;
-      comes = record { within = omega (arith, ap length s.0, length-append bytes (e ++ more)); spelt = subst (λ v. Spelt g response_start v part) (sym s.2) x.spelt };
-      whole = omega (arith, ap length s.0, length-append bytes (e ++ more), length-append e more, whole);
-      unbuilt = ap (λ r. is_built part (take (g.size part) r)) s.1 ∙ ap (λ k. is_built part (take k (e ++ more))) (sym whole) ∙ ap (is_built part) (take-append_seam e more) ∙ x.unbuilt;
-      in_last = ends_in_last run part b.packets bytes e whole l;
       written = text;
       kept = subst (λ a. IsKept a part.tokens part.at (drop (length bytes) (payload_of b.packets))) (sym side.description) (kept_at area part.tokens part.at (drop (length bytes) (payload_of b.packets)) holds.bytes);
     }

@@ -1,4 +1,4 @@
--- No element of a response has a fault of a device, or one of what isn't built.
+-- No element of a response has a fault of a device.
 use Rattle.std.proofs.Common.{◌≡◌, ℕ, List, ◌∷◌, subst}
 use Rattle.std.specs.Prelude.{◌==◌, ◌&&◌, ◌||◌, ◌+◌, ◌*◌, ◌-◌, ◌%◌, ◌++◌, Bool, true, false, not, length, Option, Some, None, ⊤, if◌then◌else◌, nat_lt, nat_le, slice_index, is_some, unwrap_or, is_ok}
 use Rattle.tds_values.specs.Numbers.{little}
@@ -7,7 +7,7 @@ use Rattle.tds_values.specs.Scalar.{read_of}
 use Rattle.tds_values.specs.TypeInfo.{rest_length, kind_of}
 use Rattle.tds_packet.specs.declared.fault.RefusedKind.{RefusedKind}
 use Rattle.tds_packet.specs.declared.fault.Fault.{Fault}
-use Rattle.tds_packet.specs.declared.fault.Fault.TheVariants.{NotYet, ReadFailed, WriteFailed, EndWithoutDone, RefusedToken, BadNotice, NoColumns, BadTypeInfo, DescriptionTooLong, BadValueLength, BadValue, OddText, PlpLength, BadText}
+use Rattle.tds_packet.specs.declared.fault.Fault.TheVariants.{ReadFailed, WriteFailed, EndWithoutDone, RefusedToken, BadNotice, NoColumns, BadTypeInfo, DescriptionTooLong, BadValueLength, BadValue, OddText, PlpLength, BadText}
 use Rattle.tds_csv.specs.Conversion.{Conversion, unit, is_fit, is_begun}
 use Rattle.tds_columns.specs.Description.{Column, ColumnPlace, ColumnHead, ColumnInfo, NameCount, NameUnits, DescriptionPart, BeforeCount, NoDescription, InColumn, WholeDescription, described_fault, column_fault, count_fault, too_long, type_fault, refused_type, refused_kind, first_of_two}
 use Rattle.tds_rows.specs.declared.Charset.{Charset}
@@ -20,7 +20,6 @@ use Rattle.tds_export.specs.TokenGrammar.{Part, Open, Between, Describing, InRow
 
 -- a fault that elements may have, or the end of a message
 abbrev pub IsOfPayload : Fault → Type 0
-IsOfPayload NotYet = ⊥
 IsOfPayload ReadFailed = ⊥
 IsOfPayload WriteFailed = ⊥
 IsOfPayload fault = ⊤

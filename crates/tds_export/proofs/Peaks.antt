@@ -9,6 +9,7 @@ use Rattle.tds_packet.specs.declared.fault.Fault.{Fault}
 use Rattle.tds_packet.specs.declared.fault.Stop.{Stop}
 use Rattle.tds_packet.specs.Elements.{AreBytes, Grammar, Longest, Spelt}
 use Rattle.tds_packet.specs.Packets.{AreBefore, AreMessage, Packet, WirePart, no_wire, payload_of, wire, wire_of}
+use Rattle.tds_packet.specs.Reading.{StopsReading}
 use Rattle.tds_packet.specs.Seen.{Seen, Takes, IsBetween}
 use Rattle.tds_packet.proofs.ElementLaws.{Spelt-append, Spelt-induct, Spelt-one, some_longest}
 use Rattle.tds_packet.proofs.PacketLaws.{before_are_read, before_packet, read_front}
@@ -18,9 +19,7 @@ use Rattle.tds_csv.specs.Sinks.{Held}
 use Rattle.tds_rows.specs.declared.Charset.{Charset}
 use Rattle.tds_export.specs.Moments.{Run}
 use Rattle.tds_export.specs.Outcome.{Bounded, grammar}
-use Rattle.tds_export.specs.Built.{is_built}
 use Rattle.tds_export.specs.TokenGrammar.{Part, response, response_start, span_so_far}
-use Rattle.tds_rows.specs.Unbuilt.{Stalls}
 use Rattle.tds_export.specs.Steps.{StopsInWriting, ReadsWhole, behind}
 use Rattle.tds_export.proofs.ReadingGrows.{span_along}
 use Rattle.tds_export.proofs.Leading.{rest_leads}
@@ -78,15 +77,14 @@ taken run q at bytes behind n are left t between spelt =
     let b = takes_begins run.given.before.areas.limits.packet_size run.given.before.areas.limits.max_wire run.given.before.reader.failures run.input run.left q (bytes ++ behind) n are left t between in
     record { packets = b.packets; rest = run.left; begin = b.begin; each = b.each; within = b.within; bytes = bytes; more = behind ++ (q.future []).bytes; spelt = spelt; payload_is = b.payload_is ∙ append_assoc bytes behind (q.future []).bytes }
 
-pub reached_stalled : (run : Run) (q : Seen) (at : Part) (stop : Stop) → AreBytes run.input → q.left ≡ Some run.left → Stalls (grammar run) is_built response_start (start run) q 0 at stop → Reached run.given.charset run.given.before.areas.limits run.input at
-reached_stalled run q at stop are left (inl s) = elim s.cause [
+pub reached_stopped : (run : Run) (q : Seen) (at : Part) (stop : Stop) → AreBytes run.input → q.left ≡ Some run.left → StopsReading (grammar run) response_start (start run) q 0 at stop → Reached run.given.charset run.given.before.areas.limits run.input at
+reached_stopped run q at stop are left s = elim s.cause [
   | inl r ↦ taken run q at s.bytes (r.0.element ++ r.0.ahead) (length (s.bytes ++ r.0.element)) are left (subst (λ l. Takes (start run) q l (length (s.bytes ++ r.0.element))) (append_assoc s.bytes r.0.element r.0.ahead) r.0.takes) r.0.between s.spelt
   | inr c ↦ elim (ends_front run.given.before.areas.limits.packet_size run.given.before.areas.limits.max_wire run.given.before.reader.failures run.input run.left q (s.bytes ++ c.part) c.own are left c.ends) [
     | inl m ↦ record { packets = m.packets; rest = run.left; begin = m.begin; each = inl m.each; within = m.within; bytes = s.bytes; more = c.part; spelt = s.spelt; payload_is = m.payload_is }
     | inr x ↦ record { packets = x.packets; rest = x.more; begin = x.begin; each = inr x.each; within = x.within; bytes = s.bytes; more = c.part; spelt = s.spelt; payload_is = x.payload_is }
   ]
 ]
-reached_stalled run q at stop are left (inr u) = taken run q at u.bytes u.element (length (u.bytes ++ u.element)) are left u.takes u.between u.spelt
 
 pub reached_broken : (run : Run) (q : Seen) (old new : Held) (area : Space) (stop : Stop) (x : StopsInWriting (grammar run) response_start (start run) q old new area stop) → AreBytes run.input → q.left ≡ Some run.left → Reached run.given.charset run.given.before.areas.limits run.input ((grammar run).add x.at x.breaks.element)
 reached_broken run q old new area stop x are left =

@@ -1,15 +1,14 @@
 -- RETURNVALUE as it is read, and in its response.
-use Rattle.std.proofs.Common.{◌≡◌, ◌∙◌, inl, inr, ℕ, ◌+◌, ◌*◌, ◌-◌, ◌^◌, ◌<◌, ◌≤◌, Bool, true, false, List, [], ◌∷◌, ◌++◌, length, length-take, take, refl, sym, ap, subst, arith, Result, Ok, Err, MatchResult}
+use Rattle.std.proofs.Common.{◌≡◌, ◌∙◌, inl, ℕ, ◌+◌, ◌*◌, ◌-◌, ◌^◌, ◌<◌, ◌≤◌, Bool, true, false, List, [], ◌∷◌, ◌++◌, length, length-take, take, refl, sym, ap, subst, arith, Result, Ok, Err, MatchResult}
 use Rattle.std.specs.Prelude.{Option, Some, None, ◌==◌, IfOk, if◌then◌else◌, slice_index, unwrap_or}
 use Rattle.std.proofs.lemmas.Bool.{ne_eqb}
 use Rattle.tds_values.specs.declared.kind.Kind.{Kind}
 use Rattle.tds_values.specs.TypeInfo.{kind_of, rest_length}
 use Rattle.tds_values.proofs.TypeInfoLemmas.{rest_length_of}
 use Rattle.tds_meter.specs.Space.{Space}
-use Rattle.tds_packet.specs.declared.fault.Fault.{Fault}
 use Rattle.tds_packet.specs.declared.fault.Fault.TheVariants.{MessageEnded}
 use Rattle.tds_packet.specs.declared.fault.Stop.{Stop}
-use Rattle.tds_packet.specs.Elements.{Grammar, Inside}
+use Rattle.tds_packet.specs.Elements.{Inside}
 use Rattle.tds_packet.specs.Reading.{Reads, StopsReading}
 use Rattle.tds_packet.specs.Seen.{Seen, Takes, Ends, began_at}
 use Rattle.tds_packet.proofs.Choices.{choose_false}
@@ -18,6 +17,7 @@ use Rattle.tds_packet.proofs.Steps.{began_is_cut, cut_at_once, place_after, read
 use Rattle.tds_columns.specs.Description.{type_fault}
 use Rattle.tds_columns.specs.ReturnedType.{KnownType, NoType, ReadsType, StopsType, TypeHead, TypePart, TypeRest, return_column, returned_type, with_known}
 use Rattle.tds_csv.specs.Sinks.{Held}
+use Rattle.tds_csv.proofs.Streams.{stops_size}
 use Rattle.tds_rows.specs.declared.Charset.{Charset}
 use Rattle.tds_rows.specs.Cells.{CellPart, ChunkData, ChunkLength, ScalarBytes, ScalarLength, ShortData, ShortLength, Total, WholeCell, cell, cell_start, return_charset, shape}
 use Rattle.tds_rows.specs.PassedCells.{PassesCell, StopsPassing}
@@ -32,14 +32,6 @@ use Rattle.tds_export.proofs.ResponseLaws.{return_in_response}
 use Rattle.tds_export.proofs.TokenLaws.{tracks_returned}
 use Rattle.tds_export.proofs.TokenSteps.{bare_reads, same_text}
 use Rattle.tds_export.proofs.NoticeSteps.{quietly}
-
--- where a reading stops there is a next element
-stops_some : {S : Type 0} (g : Grammar S Fault) (from : S) (a b : Seen) (place : ℕ) (at : S) (stop : Stop) → StopsReading g from a b place at stop → 0 < g.size at
-stops_some g from a b place at stop x =
-    elim x.cause [
-      | inl y ↦ (let s : 0 < length y.0.element = y.0.some in let w : length y.0.element ≡ g.size at = y.0.whole in omega arith)
-      | inr y ↦ (let c : length y.part < g.size at = y.cut in omega arith)
-    ]
 
 -- the next element is cut
 pub return_cut : (at : ReturnPart) (a b : Seen) (place n : ℕ) (part : List ℕ) (own stop : Stop) → return_size at ≡ n → return_end at ≡ Some MessageEnded → length part < n → Ends a b part own → stop ≡ began_at place own → StopsReturn at a b place stop
@@ -149,7 +141,7 @@ type_end_is name NoType h = absurd (omega arith)
 type_stops : (name : List ℕ) (a b : Seen) (place : ℕ) (stop : Stop) → StopsType a b place stop → StopsReturn (ReturnHead name) a b place stop
 type_stops name a b place stop x = record {
   at = behind_name name x.at;
-  stops = stops_inside returned_type return_value (behind_name name) (type_in_return name) TypeHead a b place x.at stop (type_end_is name x.at (stops_some returned_type TypeHead a b place x.at stop x.stops)) x.stops;
+  stops = stops_inside returned_type return_value (behind_name name) (type_in_return name) TypeHead a b place x.at stop (type_end_is name x.at (stops_size returned_type TypeHead a b place x.at stop x.stops)) x.stops;
 }
 
 -- the eight bytes and what follows them were read
@@ -197,7 +189,7 @@ value_passed (Ok u) name kind a b c place middle place' x y =
     }
 value_passed (Err stop) name kind a b c place middle place' x y =
     let start = cell_start kind (shape return_charset kind) in
-    let some = stops_some (cell return_column) start b c middle y.at stop y.stops in
+    let some = stops_size (cell return_column) start b c middle y.at stop y.stops in
     return_stops_after ReturnOrdinal (before_value name kind) a b c place middle stop x
     (record { at = with_value name kind y.at; stops = stops_inside (cell return_column) return_value (with_value name kind) (value_in_return name kind) start b c middle y.at stop (value_end_is name kind y.at some) y.stops })
 
@@ -234,11 +226,11 @@ module _ (charset : Charset) (room : ℕ) (tokens : List Token) (area : Space) (
   -- a return value stopped the call
   pub return_stops : (a b : Seen) (place : ℕ) (failed : Bool) (stop : Stop) → failed ≡ false → StopsReturn ReturnOrdinal a b place stop → StepStops (response charset room) (in_return tokens) a b place sink sink area failed stop
   return_stops a b place failed stop going x =
-      let some = stops_some return_value ReturnOrdinal a b place x.at stop x.stops in
+      let some = stops_size return_value ReturnOrdinal a b place x.at stop x.stops in
       inl (
         record {
           at = with_return tokens x.at;
-          stalls = inl (stops_inside return_value (response charset room) (with_return tokens) (return_in_response charset room tokens) ReturnOrdinal a b place x.at stop (return_end_is x.at some) x.stops);
+          stops = stops_inside return_value (response charset room) (with_return tokens) (return_in_response charset room tokens) ReturnOrdinal a b place x.at stop (return_end_is x.at some) x.stops;
           puts = same_text (in_return tokens) (with_return tokens x.at) sink (no_text x.at some) d;
           holds = held_on x.at some;
         },

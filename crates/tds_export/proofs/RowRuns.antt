@@ -17,10 +17,9 @@ use Rattle.tds_rows.specs.Cells.{Cell, field}
 use Rattle.tds_rows.specs.Rows.{Bitmap, InCell, RowPart, WholeRow, row, row_so_far, row_start}
 use Rattle.tds_rows.specs.RowSteps.{ReadsRows, RowsStop}
 use Rattle.tds_rows.specs.Runs.{RowsPart, lines, rows, rows_so_far, rows_start}
-use Rattle.tds_rows.proofs.Stalls.{stalls_after}
+use Rattle.tds_packet.proofs.Steps.{stops_after}
 use Rattle.tds_csv.proofs.Streams.{breaks_after, puts_both}
 use Rattle.tds_packet.specs.declared.fault.Stop.{Stop}
-use Rattle.tds_export.specs.Built.{is_built}
 use Rattle.tds_export.specs.declared.progress.Progress.{Progress}
 use Rattle.tds_export.specs.Tokens.{Row, Token, described_after, encoded_after, text}
 use Rattle.tds_export.specs.TokenGrammar.{Part, response, row_byte_fault, start_of_row, text_so_far, with_row}
@@ -130,7 +129,7 @@ pub stops_further : (charset : Charset) (room : ℕ) (s t : Part) (a b c : Seen)
 stops_further charset room s t a b c place h i k area failed stop x (inl y) = inl (
   record {
     at = y.0.at;
-    stalls = stalls_after (response charset room) is_built s t a b c place y.0.at stop (record { bytes = x.bytes; spelt = x.spelt; takes = x.takes }) y.0.stalls;
+    stops = stops_after (response charset room) s t a b c place y.0.at stop (record { bytes = x.bytes; spelt = x.spelt; takes = x.takes }) y.0.stops;
     puts = puts_both text_so_far s t y.0.at h i k x.puts y.0.puts;
     holds = y.0.holds;
   },

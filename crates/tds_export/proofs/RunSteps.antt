@@ -8,7 +8,7 @@ use Rattle.tds_packet.specs.declared.fault.Place.TheVariants.{Payload}
 use Rattle.tds_packet.specs.declared.fault.Stop.{Stop}
 use Rattle.tds_packet.specs.Elements.{Grammar}
 use Rattle.tds_packet.specs.Seen.{Seen, Takes, Ends, IsOver}
-use Rattle.tds_packet.specs.Reading.{IsCutStop}
+use Rattle.tds_packet.specs.Reading.{IsCutStop, StopsReading}
 use Rattle.tds_packet.proofs.ElementLaws.{Spelt-append, Spelt-none}
 use Rattle.std.proofs.KnownBytes.{Consumes-nil}
 use Rattle.tds_packet.proofs.Futures.{Ends-after, Takes-none, Takes-trans}
@@ -20,12 +20,9 @@ use Rattle.tds_rows.specs.declared.Charset.{Charset}
 use Rattle.tds_export.specs.declared.progress.Progress.{Progress}
 use Rattle.tds_export.specs.declared.report.Report.{Report}
 use Rattle.tds_export.specs.Tokens.{Token}
-use Rattle.tds_export.specs.Built.{is_built}
 use Rattle.tds_export.specs.TokenGrammar.{Part, response, response_start, text_so_far}
-use Rattle.tds_rows.specs.Unbuilt.{Stalls}
 use Rattle.tds_export.specs.Steps.{Completes, StopsAtEnd, StepStops, IsHolding, IsNoted, ReadsTokens, ReadsWhole, Tracks, behind}
-use Rattle.tds_packet.proofs.Steps.{cut_at_once, takes_both}
-use Rattle.tds_rows.proofs.Stalls.{stalls_after}
+use Rattle.tds_packet.proofs.Steps.{cut_at_once, stops_after as reading_after, takes_both}
 use Rattle.tds_export.proofs.TokenSteps.{same_text}
 
 -- whole tokens were read and their text put
@@ -83,8 +80,8 @@ stops_after : (charset : Charset) (room : ℕ) (a b c : Seen) (p q : ℕ) (h i k
 stops_after charset room a b c p q h i k s area area' failed stop x (inl y) = inl (
   record {
     at = y.0.at;
-    stalls = stalls_after (response charset room) is_built response_start (behind x.tokens) a b c p y.0.at stop (record { bytes = x.streams.bytes; spelt = x.streams.spelt; takes = x.streams.takes })
-        (subst (λ n. Stalls (response charset room) is_built (behind x.tokens) b c n y.0.at stop) x.place_is y.0.stalls);
+    stops = reading_after (response charset room) response_start (behind x.tokens) a b c p y.0.at stop (record { bytes = x.streams.bytes; spelt = x.streams.spelt; takes = x.streams.takes })
+        (subst (λ n. StopsReading (response charset room) (behind x.tokens) b c n y.0.at stop) x.place_is y.0.stops);
     puts = puts_both text_so_far response_start (behind x.tokens) y.0.at h i k x.streams.puts y.0.puts;
     holds = y.0.holds;
   },
@@ -118,7 +115,7 @@ module _ (charset : Charset) (room : ℕ) (a b c : Seen) (p q : ℕ) (h k : Held
       let is : IsCutStop q ((response charset room).end_fault (behind x.tokens)) o.0 (record { fault = EndWithoutDone; place = Payload q }) = inl (o.1, (EndWithoutDone, end, refl)) in
       let cut = cut_at_once (response charset room) (behind x.tokens) b c q [] o.0 (record { fault = EndWithoutDone; place = Payload q }) (omega arith) (Ends-after b c c [] [] 1 o.0 t (over_ends c o)) is in
       stops_after charset room a b c p q h k k s area area failed (record { fault = EndWithoutDone; place = Payload q }) x
-      (inl (record { at = behind x.tokens; stalls = inl cut; puts = same_text (behind x.tokens) (behind x.tokens) k refl d; holds = x.holds }, going))
+      (inl (record { at = behind x.tokens; stops = cut; puts = same_text (behind x.tokens) (behind x.tokens) k refl d; holds = x.holds }, going))
 
   abbrev reads_whole : s.is_final ≡ true → ReadsWhole (response charset room) response_start a c h k area
   reads_whole final = record {

@@ -8,7 +8,7 @@ use Rattle.tds_packet.specs.declared.fault.Place.TheVariants.{Payload}
 use Rattle.tds_packet.specs.declared.fault.Stop.{Stop}
 use Rattle.tds_packet.specs.Elements.{IsNext}
 use Rattle.tds_packet.specs.Seen.{Seen, Takes, Ends, IsBetween}
-use Rattle.tds_packet.specs.Reading.{Reads}
+use Rattle.tds_packet.specs.Reading.{Reads, StopsReading}
 use Rattle.tds_packet.proofs.ElementLaws.{Spelt-append}
 use Rattle.tds_columns.specs.View.{IsDescription, columns_of}
 use Rattle.tds_columns.proofs.ViewLaws.{description_shows}
@@ -20,12 +20,9 @@ use Rattle.tds_export.specs.declared.progress.Progress.{Progress}
 use Rattle.tds_export.specs.declared.tokens.TokenKind.{TokenKind}
 use Rattle.tds_export.specs.declared.tokens.TokenKind.TheVariants as kinds
 use Rattle.tds_export.specs.Tokens.{Token, described_after, encoded_after}
-use Rattle.tds_export.specs.Built.{is_built}
 use Rattle.tds_export.specs.TokenGrammar.{AnEnvChange, AnError, AnInfo, AnOrder, Part, is_row_byte, response, row_byte_fault, start_of_row, text_so_far}
-use Rattle.tds_rows.specs.Unbuilt.{Stalls}
 use Rattle.tds_export.specs.Steps.{StepStops, IsDescribed, IsHolding, IsOfKind, IsRefusal, ReadsTokens, behind, in_done, in_done_in_proc, in_kind, in_length, in_metadata, in_nbc_row, in_return, in_row, in_status}
-use Rattle.tds_packet.proofs.Steps.{cut_at_once, reads_one, refused_at_once, takes_both, takes_ahead}
-use Rattle.tds_rows.proofs.Stalls.{stalls_after}
+use Rattle.tds_packet.proofs.Steps.{cut_at_once, reads_one, refused_at_once, stops_after, takes_both, takes_ahead}
 use Rattle.tds_export.proofs.RowRuns.{columns_known}
 use Rattle.tds_export.proofs.TokenSteps.{same_text, start_text}
 
@@ -107,7 +104,7 @@ module _ (charset : Charset) (room : ℕ) (tokens : List Token) (byte : ℕ) (to
   stops_behind_byte a b c place middle h k area failed stop t at (inl x) = inl (
     record {
       at = x.0.at;
-      stalls = stalls_after (response charset room) is_built (behind tokens) to a b c place x.0.at stop (first a b t) (subst (λ n. Stalls (response charset room) is_built to b c n x.0.at stop) at x.0.stalls);
+      stops = stops_after (response charset room) (behind tokens) to a b c place x.0.at stop (first a b t) (subst (λ n. StopsReading (response charset room) to b c n x.0.at stop) at x.0.stops);
       puts = puts_before x.0.at h k x.0.puts;
       holds = x.0.holds;
     },
@@ -139,22 +136,22 @@ module _ (charset : Charset) (room : ℕ) (tokens : List Token) (byte : ℕ) (to
 -- ---- a byte that begins no token
 
 refused : (charset : Charset) (room : ℕ) (tokens : List Token) (a b : Seen) (place byte : ℕ) (described : Bool) (fault : Fault) → IsDescribed described (encoded_after [] tokens) (described_after None tokens) → IsRefusal described byte fault → Takes a b (byte ∷ []) 1 → IsBetween b
-    → Stalls (response charset room) is_built (behind tokens) a b place (behind tokens) (record { fault = fault; place = Payload place })
+    → StopsReading (response charset room) (behind tokens) a b place (behind tokens) (record { fault = fault; place = Payload place })
 refused charset room tokens a b place byte described fault k (inl x) t between =
     let first : (response charset room).fault (behind tokens) (byte ∷ []) ≡ Some fault = ap (λ v. if v then row_byte_fault (is_row_byte byte) (described_after None tokens) else Some (RefusedToken byte)) x.1 ∙ ap Some (sym x.0) in
-    inl (refused_at_once (response charset room) (behind tokens) a b place (byte ∷ []) fault (omega arith) refl first t between)
+    refused_at_once (response charset room) (behind tokens) a b place (byte ∷ []) fault (omega arith) refl first t between
 refused charset room tokens a b place byte described fault k (inr x) t between =
     let none : described_after None tokens ≡ None = subst (λ d. IsDescribed d (encoded_after [] tokens) (described_after None tokens)) x.1 k in
     let first : (response charset room).fault (behind tokens) (byte ∷ []) ≡ Some fault = elim x.2 [
       | inl e ↦ subst (λ v. (response charset room).fault (behind tokens) (v ∷ []) ≡ Some fault) (sym e) (ap (row_byte_fault true) none ∙ ap Some (sym x.0))
       | inr e ↦ subst (λ v. (response charset room).fault (behind tokens) (v ∷ []) ≡ Some fault) (sym e) (ap (row_byte_fault true) none ∙ ap Some (sym x.0))
     ] in
-    inl (refused_at_once (response charset room) (behind tokens) a b place (byte ∷ []) fault (omega arith) refl first t between)
+    refused_at_once (response charset room) (behind tokens) a b place (byte ∷ []) fault (omega arith) refl first t between
 
 pub stops_at_byte : (charset : Charset) (room : ℕ) (tokens : List Token) (a b : Seen) (place byte : ℕ) (described : Bool) (fault : Fault) (h : Held) (area : Space) (failed : Bool) → h.delivered ≤ 2 ^ 64 - 1 → failed ≡ false → IsHolding area (behind tokens)
     → IsDescribed described (encoded_after [] tokens) (described_after None tokens) → IsRefusal described byte fault → Takes a b (byte ∷ []) 1 → IsBetween b → StepStops (response charset room) (behind tokens) a b place h h area failed (record { fault = fault; place = Payload place })
 stops_at_byte charset room tokens a b place byte described fault h area failed d going holds k why t between =
-    inl (record { at = behind tokens; stalls = refused charset room tokens a b place byte described fault k why t between; puts = same_text (behind tokens) (behind tokens) h refl d; holds = holds }, going)
+    inl (record { at = behind tokens; stops = refused charset room tokens a b place byte described fault k why t between; puts = same_text (behind tokens) (behind tokens) h refl d; holds = holds }, going)
 
 -- ---- the payload stopped between tokens
 
@@ -164,7 +161,7 @@ stops_between charset room tokens a b place stop h area failed d going holds end
     inl (
       record {
         at = behind tokens;
-        stalls = inl (cut_at_once (response charset room) (behind tokens) a b place [] stop stop (omega arith) ends (inr (other, refl)));
+        stops = cut_at_once (response charset room) (behind tokens) a b place [] stop stop (omega arith) ends (inr (other, refl));
         puts = same_text (behind tokens) (behind tokens) h refl d;
         holds = holds;
       },

@@ -1,4 +1,4 @@
--- The tokens that are built, as they are read and their text is put.
+-- The tokens, as they are read and their text is put.
 use Rattle.std.proofs.Common.{◌≡◌, ◌∙◌, inl, inr, ℕ, ◌+◌, ◌-◌, ◌%◌, ◌^◌, ◌<◌, ◌≤◌, Bool, true, false, List, [], ◌∷◌, ◌++◌, length, take, max, refl, sym, ap, subst, arith, append-nil, length-take, suc, zero}
 use Rattle.std.specs.Prelude.{ℤ, pos, negsuc, Some, nat_lt, ◌==◌, map, slice_index, if◌then◌else◌}
 use Rattle.std.specs.Int.{cast_signed, w32}
@@ -23,19 +23,16 @@ use Rattle.tds_rows.specs.declared.Charset.{Charset}
 use Rattle.tds_rows.specs.Cells.{field, shape}
 use Rattle.tds_rows.specs.Rows.{RowPart, Bitmap, InCell, WholeRow, row, row_size, row_so_far, with_field}
 use Rattle.tds_rows.specs.RowSteps.{ReadsRow, RowStops}
-use Rattle.tds_rows.specs.Unbuilt.{Stalls, is_built_row}
 use Rattle.tds_export.specs.declared.progress.Progress.{Progress}
 use Rattle.tds_export.specs.declared.report.Report.{Report}
 use Rattle.tds_export.specs.Tokens.{Token, Metadata, NoMetadata, Row, ReturnStatus, Done, DoneInProc, between, encoded_after, greatest_span, header_line, how_many, is_set, text, text_after}
 use Rattle.tds_export.specs.Response.{more}
-use Rattle.tds_export.specs.Built.{is_built}
 use Rattle.tds_export.specs.Outcome.{signed}
 use Rattle.tds_export.specs.TokenGrammar.{Open, Part, DoneFields, DoneInProcFields, Status, open_text, part_add, response, text_so_far, with_described, with_row}
 use Rattle.tds_export.specs.Steps.{StepStops, StopsInReading, StopsInWriting, IsHolding, ReadsTokens, Tracks, behind, in_done, in_done_in_proc, in_metadata, in_row, in_status}
-use Rattle.tds_packet.proofs.Lifts.{last_inside, reads_inside}
-use Rattle.tds_csv.proofs.Streams.{breaks_inside, puts_inside, streams_inside}
+use Rattle.tds_packet.proofs.Lifts.{last_inside, reads_inside, stops_inside}
+use Rattle.tds_csv.proofs.Streams.{breaks_inside, puts_inside, stops_size, streams_inside}
 use Rattle.tds_rows.proofs.RowSteps.{start_quiet}
-use Rattle.tds_rows.proofs.Stalls.{stalls_inside, stalls_size}
 use Rattle.tds_export.proofs.ResponseLaws.{description_in_response, row_in_response}
 use Rattle.tds_export.proofs.TokenLaws.{IsQuiet, begun_after, begun_where_sets, encoded_after-append, greatest_span-append, quiet_done, quiet_done_in_proc, quiet_status, text_after-snoc, tracks_done, tracks_done_in_proc, tracks_metadata, tracks_none, tracks_row, tracks_status}
 
@@ -173,11 +170,6 @@ row_end_is charset room tokens (Bitmap columns) h = refl
 row_end_is charset room tokens (InCell cells part ks) h = refl
 row_end_is charset room tokens (WholeRow cells) h = absurd (omega arith)
 
-row_built_is : (tokens : List Token) (part : RowPart) (e : List ℕ) → 0 < row_size part → is_built (with_row tokens part) e ≡ is_built_row part e
-row_built_is tokens (Bitmap columns) e h = refl
-row_built_is tokens (InCell cells part ks) e h = refl
-row_built_is tokens (WholeRow cells) e h = absurd (omega arith)
-
 -- a row stopped the call
 pub row_stops : (charset : Charset) (room : ℕ) (start : RowPart) (area : Space) (before after : Held) (tokens : List Token) (a b : Seen) (place : ℕ) (failed : Bool) (stop : Stop) → IsHolding area (behind tokens)
     → RowStops charset start a b place before after failed stop → StepStops (response charset room) (with_row tokens start) a b place before after area failed stop
@@ -187,7 +179,7 @@ row_stops charset room start area before after tokens a b place failed stop hold
       | inl y ↦ inl (
         record {
           at = with_row tokens x.at;
-          stalls = stalls_inside (row charset) (response charset room) (with_row tokens) inside is_built_row is_built (row_end_is charset room tokens) (row_built_is tokens) start a b place x.at stop y.0;
+          stops = stops_inside (row charset) (response charset room) (with_row tokens) inside start a b place x.at stop (row_end_is charset room tokens x.at (stops_size (row charset) start a b place x.at stop y.0)) y.0;
           puts = puts_inside (row charset) (response charset room) (with_row tokens) inside row_so_far text_so_far (text tokens) (row_front tokens) start x.at before after y.1;
           holds = row_holds area tokens x.at holds;
         },
@@ -219,7 +211,7 @@ row_reads charset room start area before after tokens progress a b place place' 
 
 pub stops_reading : (charset : Charset) (room : ℕ) (s : Part) (a b : Seen) (place : ℕ) (h : Held) (area : Space) (failed : Bool) (stop : Stop) → h.delivered ≤ 2 ^ 64 - 1 → failed ≡ false → IsHolding area s → StopsReading (response charset room) s a b place s stop
     → StepStops (response charset room) s a b place h h area failed stop
-stops_reading charset room s a b place h area failed stop d going holds stops = inl (record { at = s; stalls = inl stops; puts = same_text s s h refl d; holds = holds }, going)
+stops_reading charset room s a b place h area failed stop d going holds stops = inl (record { at = s; stops = stops; puts = same_text s s h refl d; holds = holds }, going)
 
 -- ---- COLMETADATA
 
@@ -318,12 +310,6 @@ end_is charset room tokens (InColumn bytes count columns place) h = refl
 end_is charset room tokens NoDescription h = absurd (omega arith)
 end_is charset room tokens (WholeDescription bytes columns) h = absurd (omega arith)
 
-built_is : (tokens : List Token) (d : DescriptionPart) (e : List ℕ) → 0 < described_size d → is_built (with_described tokens d) e ≡ true
-built_is tokens BeforeCount e h = refl
-built_is tokens (InColumn bytes count columns place) e h = refl
-built_is tokens NoDescription e h = absurd (omega arith)
-built_is tokens (WholeDescription bytes columns) e h = absurd (omega arith)
-
 open_holds : (area : Space) (tokens : List Token) (k : ℕ) (d : DescriptionPart) → 0 < described_size d → area.bytes ≡ description_bytes d → area.peak ≤ max k (span d) → k ≤ max (greatest_span tokens) 0 → IsHolding area (with_described tokens d)
 open_holds area tokens k BeforeCount h e p q = record { bytes = e; peak = omega (arith, p, q) }
 open_holds area tokens k (InColumn bytes count columns place) h e p q = record { bytes = e; peak = omega (arith, p, q) }
@@ -335,11 +321,10 @@ pub metadata_stops : (charset : Charset) (room : ℕ) (area old_area : Space) (s
     → StopsInReading (response charset room) (in_metadata tokens) a b place sink sink area stop
 metadata_stops charset room area old_area sink tokens a b place stop d holds x =
     let inside = description_in_response charset room tokens in
-    let stalls : Stalls (description room) (λ _ _. true) BeforeCount a b place x.at stop = inl x.stops in
-    let some = stalls_size (description room) (response charset room) (with_described tokens) inside (λ _ _. true) is_built (end_is charset room tokens) (built_is tokens) BeforeCount a b place x.at stop stalls in
+    let some = stops_size (description room) BeforeCount a b place x.at stop x.stops in
     record {
       at = with_described tokens x.at;
-      stalls = stalls_inside (description room) (response charset room) (with_described tokens) inside (λ _ _. true) is_built (end_is charset room tokens) (built_is tokens) BeforeCount a b place x.at stop stalls;
+      stops = stops_inside (description room) (response charset room) (with_described tokens) inside BeforeCount a b place x.at stop (end_is charset room tokens x.at some) x.stops;
       puts = same_text (in_metadata tokens) (with_described tokens x.at) sink (sym (open_text_none tokens x.at some)) d;
       holds = open_holds area tokens old_area.peak x.at some x.kept x.bound holds.peak;
     }

@@ -10,14 +10,14 @@ use Rattle.std.specs.Io.KnownBytes.{Appends, Consumes}
 use Rattle.tds_meter.specs.Counts.{Rose, counted, one_more}
 use Rattle.tds_meter.specs.Space.{Space}
 use Rattle.tds_packet.specs.declared.fault.Fault.{Fault}
-use Rattle.tds_packet.specs.declared.fault.Fault.TheVariants.{MessageEnded, NotYet, ReadFailed, WriteFailed}
+use Rattle.tds_packet.specs.declared.fault.Fault.TheVariants.{MessageEnded, ReadFailed, WriteFailed}
 use Rattle.tds_packet.specs.declared.fault.Place.{Place}
 use Rattle.tds_packet.specs.declared.fault.Place.TheVariants.{Wire, Payload, Text}
 use Rattle.tds_packet.specs.declared.fault.Stop.{Stop}
 use Rattle.tds_packet.specs.Elements.{AreBytes, Grammar, Longest, Spelt}
 use Rattle.tds_packet.specs.Packets.{Packet, packet_bytes, payload_of, wire_of}
 use Rattle.tds_packet.specs.Seen.{Ends, Seen, begun}
-use Rattle.tds_packet.specs.Reading.{CutsNext}
+use Rattle.tds_packet.specs.Reading.{CutsNext, StopsReading}
 use Rattle.tds_packet.proofs.ElementLaws.{AreBytes-back, AreBytes-front, Spelt-append, Spelt-one, longest_cut, no_further, some_longest}
 use Rattle.tds_packet.proofs.Fronts.{StopsBehind, ends_front, in_last, over_front, takes_begins, wire_goes_on}
 use Rattle.tds_csv.specs.Sinks.{Adds, Held, Puts}
@@ -30,19 +30,17 @@ use Rattle.tds_export.specs.Tokens.{Token, error_text, text}
 use Rattle.tds_export.specs.Response.{Accepted}
 use Rattle.tds_export.specs.Moments.{Run, Given, grammar_of, run_of}
 use Rattle.tds_export.specs.Outcome.{AfterStop, Bounded, IsKept, Packets, Reported, Reads, Stops, StopsInText, grammar, report_of}
-use Rattle.tds_export.specs.Built.{is_built}
 use Rattle.tds_export.specs.TokenGrammar.{Part, response, response_start, text_so_far}
-use Rattle.tds_rows.specs.Unbuilt.{Stalls}
 use Rattle.tds_export.specs.Steps.{Completes, StopsAtEnd, StopsInReading, StopsInWriting, IsHolding, ReadsWhole, RunStops, behind}
 use Rattle.tds_export.specs.Exports.{Reports, IsReader, IsWriter, StopsExport, Tells, Tidied, begun_at, fresh_at}
 use Rattle.tds_export.proofs.SomeBytes.{AreBytes-append}
 use Rattle.tds_export.proofs.ReadingGrows.{text_along}
 use Rattle.tds_export.proofs.TextBound.{bounded_along}
 use Rattle.tds_export.proofs.ResponseMeaning.{response_is_spelt}
-use Rattle.tds_export.proofs.PacketOutcomes.{ReaderSide, ended_in_payload, kept_at, refused_in_payload, start, stopped_on_wire, unbuilt_in_payload}
+use Rattle.tds_export.proofs.PacketOutcomes.{ReaderSide, ended_in_payload, kept_at, refused_in_payload, start, stopped_on_wire}
 use Rattle.tds_export.proofs.Leading.{rest_leads}
 use Rattle.tds_export.proofs.NoFailures.{no_failure}
-use Rattle.tds_export.proofs.Peaks.{bounded, reached_broken, reached_stalled, reached_whole}
+use Rattle.tds_export.proofs.Peaks.{bounded, reached_broken, reached_stopped, reached_whole}
 use Rattle.tds_export.proofs.AcceptedSucceeds.{outcome_succeeds}
 use Rattle.tds_export.proofs.Endings.{rose}
 
@@ -57,7 +55,7 @@ cut_stops run q area at bytes stop side spelt c holds text =
     let zero : (n : ℕ) → 0 + n ≡ n = λ n. omega arith in
     elim (ends_front size limit run.given.before.reader.failures run.input run.left q (bytes ++ c.part) c.own side.bytes side.left c.ends) [
       | inl m ↦ elim c.stop_is [
-        | inl e ↦ subst (λ (s : Stop). Stops run s.fault s.place) (sym (e.1.2 ∙ ap (λ n. record { fault = e.1.0; place = Payload n }) (zero (length bytes)))) (inl (ended_in_payload run q area at bytes c.part c.own e.1.0 side spelt c.cut m e.1.1 holds text))
+        | inl e ↦ subst (λ (s : Stop). Stops run s.fault s.place) (sym (e.1.2 ∙ ap (λ n. record { fault = e.1.0; place = Payload n }) (zero (length bytes)))) (ended_in_payload run q area at bytes c.part c.own e.1.0 side spelt c.cut m e.1.1 holds text)
         | inr e ↦ absurd (e.0 (ap (λ (s : Stop). s.fault) m.ended))
       ]
       | inr x ↦ elim c.stop_is [
@@ -72,15 +70,11 @@ cut_stops run q area at bytes stop side spelt c holds text =
       | inr y ↦ wire_goes_on run.given.before.areas.limits.packet_size run.given.before.areas.limits.max_wire run.input x.packets own.fault y.0 e
     ]
 
-stalled : (run : Run) (q : Seen) (area : Space) (at : Part) (stop : Stop) → ReaderSide run q area → Stalls (grammar run) is_built response_start (start run) q 0 at stop → IsHolding area at → run.gained ++ run.given.after.areas.output.bytes ≡ text_so_far at → Stops run stop.fault stop.place
-stalled run q area at stop side (inl s) holds text = elim s.cause [
-  | inl r ↦ subst (Stops run stop.fault) (sym (r.1 ∙ ap Payload (zero (length s.bytes)))) (inl (refused_in_payload run q area at s.bytes stop.fault side s.spelt r.0 holds text))
+reading_stops : (run : Run) (q : Seen) (area : Space) (at : Part) (stop : Stop) → ReaderSide run q area → StopsReading (grammar run) response_start (start run) q 0 at stop → IsHolding area at → run.gained ++ run.given.after.areas.output.bytes ≡ text_so_far at → Stops run stop.fault stop.place
+reading_stops run q area at stop side s holds text = elim s.cause [
+  | inl r ↦ subst (Stops run stop.fault) (sym (r.1 ∙ ap Payload (zero (length s.bytes)))) (refused_in_payload run q area at s.bytes stop.fault side s.spelt r.0 holds text)
   | inr c ↦ cut_stops run q area at s.bytes stop side s.spelt c holds text
 ]
-  where
-    zero : (n : ℕ) → 0 + n ≡ n
-    zero n = omega arith
-stalled run q area at stop side (inr u) holds text = subst (λ (s : Stop). Stops run s.fault s.place) (sym (u.stop_is ∙ ap (λ n. record { fault = NotYet; place = Payload n }) (zero (length u.bytes)))) (inr (refl, unbuilt_in_payload run q area at stop 0 side u holds text))
   where
     zero : (n : ℕ) → 0 + n ≡ n
     zero n = omega arith
@@ -130,8 +124,7 @@ fits_at run packets rest place part n are begin within spelt few =
     omega (arith, few, most, within, payload_short packets, ap length (take-append-drop place payload), length-append (take place payload) (drop place payload))
 
 fits : (run : Run) (fault : Fault) (place : Place) → AreBytes run.input → Stops run fault place → length (run.gained ++ run.given.after.areas.output.bytes) ≤ 64 * run.given.before.areas.limits.max_wire
-fits run fault (Payload place) are (inl x) = fits_at run x.packets run.left place x.part (length (run.gained ++ run.given.after.areas.output.bytes)) are x.stands.begin x.stands.within x.leads.spelt (omega (arith, ap length x.written))
-fits run fault (Payload place) are (inr x) = let y = x.1 in fits_at run y.packets run.left place y.part (length (run.gained ++ run.given.after.areas.output.bytes)) are y.stands.begin y.stands.within y.comes.spelt (omega (arith, ap length y.written))
+fits run fault (Payload place) are x = fits_at run x.packets run.left place x.part (length (run.gained ++ run.given.after.areas.output.bytes)) are x.stands.begin x.stands.within x.leads.spelt (omega (arith, ap length x.written))
 fits run fault (Wire taken) are x = fits_at run x.packets x.rest x.place x.part (length (run.gained ++ run.given.after.areas.output.bytes)) are x.begin x.within x.leads.spelt (omega (arith, ap length x.written))
 fits run fault (Text written) are x = fits_at run x.packets run.left x.place x.part (length (run.gained ++ run.given.after.areas.output.bytes)) are x.stands.begin x.stands.within x.leads.spelt (omega (arith, ap length x.begins, length-append (run.gained ++ run.given.after.areas.output.bytes) x.more))
 
@@ -146,9 +139,8 @@ ends_read p q bytes stop (inl x) = (x.0.0, x.0.1)
 ends_read p q bytes stop (inr (inl x)) = (x.0.0, x.0.1)
 ends_read p q bytes stop (inr (inr x)) = (x.0.0 ++ x.0.1, x.0.2)
 
-stalls_read : (g : Grammar Part Fault) (from : Part) (p q : Seen) (place : ℕ) (at : Part) (stop : Stop) → Stalls g is_built from p q place at stop → (read : List ℕ) × Consumes p.left q.left read
-stalls_read g from p q place at stop (inl s) = elim s.cause [ inl r ↦ (r.0.takes.0, r.0.takes.1.0) | inr c ↦ ends_read p q (s.bytes ++ c.part) c.own c.ends ]
-stalls_read g from p q place at stop (inr u) = (u.takes.0, u.takes.1.0)
+stopped_read : (g : Grammar Part Fault) (from : Part) (p q : Seen) (place : ℕ) (at : Part) (stop : Stop) → StopsReading g from p q place at stop → (read : List ℕ) × Consumes p.left q.left read
+stopped_read g from p q place at stop s = elim s.cause [ inl r ↦ (r.0.takes.0, r.0.takes.1.0) | inr c ↦ ends_read p q (s.bytes ++ c.part) c.own c.ends ]
 
 -- ---- a run that stopped in reading
 
@@ -163,8 +155,8 @@ stop_reading given input had left q middle l stop are e1 e2 ql reader writer non
     let same = d.all ∙ append-nil (text_so_far y.at) in
     let side : ReaderSide run q given.after.areas.description = record { bytes = are; left = ql; failures = reader.failures; description = refl } in
     let first : begun_at given ≡ start run = ap (λ i. begun given.before.areas.limits.packet_size given.before.areas.limits.max_wire i given.before.reader.failures) e1 in
-    let stalls = subst (λ (a : Seen). Stalls (grammar run) is_built response_start a q 0 y.at stop) first y.stalls in
-    let stops : Stops run stop.fault stop.place = stalled run q given.after.areas.description y.at stop side stalls y.holds same in (
+    let reading = subst (λ (a : Seen). StopsReading (grammar run) response_start a q 0 y.at stop) first y.stops in
+    let stops : Stops run stop.fault stop.place = reading_stops run q given.after.areas.description y.at stop side reading y.holds same in (
       d.gained,
       d.has,
       record {
@@ -394,7 +386,7 @@ stop_at_end given input had left q k l stop are e1 e2 ql reader writer none y sa
 
 -- what a run that stopped read
 stops_read : (given : Given) (q : Seen) (k : Held) (failed : Bool) (stop : Stop) → RunStops (grammar_of given) response_start (begun_at given) q 0 (fresh_at given) k given.after.areas.description failed stop → (read : List ℕ) × Consumes given.before.reader.bytes q.left read
-stops_read given q k failed stop (inl (inl y)) = stalls_read (grammar_of given) response_start (begun_at given) q 0 y.0.at stop y.0.stalls
+stops_read given q k failed stop (inl (inl y)) = stopped_read (grammar_of given) response_start (begun_at given) q 0 y.0.at stop y.0.stops
 stops_read given q k failed stop (inl (inr y)) = (y.0.breaks.takes.0, y.0.breaks.takes.1.0)
 stops_read given q k failed stop (inr y) = (y.0.whole.takes.0, y.0.whole.takes.1.0)
 
@@ -410,8 +402,8 @@ stop_bounded : (given : Given) (input left gained : List ℕ) (q : Seen) (k : He
 stop_bounded given input left gained q k failed stop are e ql (inl (inl y)) =
     let run = run_of given input left gained in
     let first : begun_at given ≡ start run = ap (λ i. begun given.before.areas.limits.packet_size given.before.areas.limits.max_wire i given.before.reader.failures) e in
-    let stalls = subst (λ (a : Seen). Stalls (grammar run) is_built response_start a q 0 y.0.at stop) first y.0.stalls in
-    bounded run y.0.at are (reached_stalled run q y.0.at stop are ql stalls) y.0.holds.peak
+    let reading = subst (λ (a : Seen). StopsReading (grammar run) response_start a q 0 y.0.at stop) first y.0.stops in
+    bounded run y.0.at are (reached_stopped run q y.0.at stop are ql reading) y.0.holds.peak
 stop_bounded given input left gained q k failed stop are e ql (inl (inr y)) =
     let run = run_of given input left gained in
     let first : begun_at given ≡ start run = ap (λ i. begun given.before.areas.limits.packet_size given.before.areas.limits.max_wire i given.before.reader.failures) e in

@@ -71,7 +71,7 @@ pub record StopsExport (given : Given) (stopped : Stopped) : Type 0 where
   pub stopped_is : stopped ≡ stopped_with stop held
   pub notice : given.after.areas.notice.bytes ≡ []
 
--- A reader that told its bytes and a writer that told those that it had still do, and the export answers what they make of the response; of an accepted one its report, but for a device that fails and for what isn't built.
+-- A reader that told its bytes and a writer that told those that it had still do, and the export answers what they make of the response; of an accepted one its report, but for a device that fails.
 unfoldable pub Tells : Given → Result Report Stopped → Type 0
 Tells given result = (input had : List ℕ) → AreBytes input →
     given.before.reader.bytes ≡ Some input → given.before.writer.bytes ≡ Some had →

@@ -1,7 +1,7 @@
 -- What an export answers and leaves.
-use Rattle.std.specs.Prelude.{◌≡◌, ◌+◌, ◌*◌, ◌-◌, ◌/◌, ◌^◌, ◌<◌, ◌≤◌, ◌⊎◌, ℕ, ℤ, pos, negsuc, false, List, [], ◌∷◌, ◌++◌, length, take, drop, Some, Result, Ok, Err, if◌then◌else◌, nat_lt, option_map}
+use Rattle.std.specs.Prelude.{◌≡◌, ◌+◌, ◌*◌, ◌-◌, ◌/◌, ◌^◌, ◌<◌, ◌≤◌, ◌⊎◌, ℕ, ℤ, pos, negsuc, List, [], ◌∷◌, ◌++◌, length, take, drop, Some, Result, Ok, Err, if◌then◌else◌, nat_lt, option_map}
 use Rattle.tds_packet.specs.declared.fault.Fault.{Fault}
-use Rattle.tds_packet.specs.declared.fault.Fault.TheVariants.{NotYet, ReadFailed, WriteFailed}
+use Rattle.tds_packet.specs.declared.fault.Fault.TheVariants.{ReadFailed, WriteFailed}
 use Rattle.tds_packet.specs.declared.fault.Place.{Place}
 use Rattle.tds_packet.specs.declared.fault.Place.TheVariants.{Wire, Payload, Text}
 use Rattle.tds_packet.specs.Elements.{Grammar, Spelt, Longest, IsRefused, IsCut}
@@ -13,7 +13,6 @@ use Rattle.tds_export.specs.declared.report.Stopped.{Stopped}
 use Rattle.tds_export.specs.Tokens.{Notice, Token, text, is_set, is_row, is_error, is_info, is_return, how_many, first_error, return_status, error_text, encoded_after}
 use Rattle.tds_export.specs.Response.{Accepted}
 use Rattle.tds_export.specs.TokenGrammar.{Open, Describing, Part, response_start, text_so_far, span_so_far}
-use Rattle.tds_export.specs.Built.{is_built}
 use Rattle.tds_export.specs.Moments.{FailsToRead, FailsToWrite, Run, grammar_of, limits, text_put, waiting}
 
 -- four bytes as a signed number
@@ -109,18 +108,6 @@ pub record StopsInPayload (run : Run) (fault : Fault) (place : ℕ) : Type 0 whe
   pub written : text_put run ≡ text_so_far part
   pub kept : Keeps run packets place part
 
--- A run stopped in the payload: the next element is one that isn't built yet.
-pub record StopsUnbuilt (run : Run) (place : ℕ) : Type 0 where
-  pub packets : List Packet
-  pub part : Part
-  pub stands : Packets run packets
-  pub comes : Comes run packets place part
-  pub whole : place + (grammar run).size part ≤ length (payload_of packets)
-  pub unbuilt : is_built part (take ((grammar run).size part) (drop place (payload_of packets))) ≡ false
-  pub in_last : EndsInLast run packets place part
-  pub written : text_put run ≡ text_so_far part
-  pub kept : Keeps run packets place part
-
 -- A run stopped on the wire, behind whole packets: as if the input had these packets alone.
 pub record StopsOnWire (run : Run) (fault : Fault) (taken : ℕ) : Type 0 where
   pub packets : List Packet
@@ -164,7 +151,7 @@ pub record StopsInText (run : Run) (fault : Fault) (written : ℕ) : Type 0 wher
 
 -- A run stopped so: in the payload, on the wire or in the text, as the place says.
 abbrev pub Stops : Run → Fault → Place → Type 0
-Stops run fault (Payload place) = StopsInPayload run fault place ⊎ ((fault ≡ NotYet) × StopsUnbuilt run place)
+Stops run fault (Payload place) = StopsInPayload run fault place
 Stops run fault (Wire taken) = StopsOnWire run fault taken
 Stops run fault (Text written) = StopsInText run fault written
 
@@ -203,12 +190,7 @@ pub record Succeeds (run : Run) (tokens : List Token) (packets : List Packet) (r
   pub notice : run.given.after.areas.notice.bytes ≡ error_text tokens
   pub stands : Packets run packets
 
--- The export met what isn't built yet.
-abbrev pub IsUnbuilt : Result Report Stopped → Type 0
-IsUnbuilt (Ok report) = ⊥
-IsUnbuilt (Err stopped) = stopped.fault ≡ NotYet
-
--- Where the input begins with an accepted response and neither count of failures rose, the run succeeds, but for what isn't built yet.
+-- Where the input begins with an accepted response and neither count of failures rose, the run succeeds.
 abbrev pub SucceedsIfAccepted : Run → Result Report Stopped → Type 0
 SucceedsIfAccepted run result = (tokens : List Token) (packets : List Packet) → IsAccepted run tokens packets →
-    ¬ FailsToRead run.given → ¬ FailsToWrite run.given → Succeeds run tokens packets result ⊎ IsUnbuilt result
+    ¬ FailsToRead run.given → ¬ FailsToWrite run.given → Succeeds run tokens packets result

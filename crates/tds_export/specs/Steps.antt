@@ -5,6 +5,7 @@ use Rattle.tds_packet.specs.declared.fault.Fault.{Fault}
 use Rattle.tds_packet.specs.declared.fault.Fault.TheVariants.{MessageEnded, RefusedToken, RowWithoutColumns}
 use Rattle.tds_packet.specs.declared.fault.Stop.{Stop}
 use Rattle.tds_packet.specs.Elements.{Grammar, Spelt}
+use Rattle.tds_packet.specs.Reading.{StopsReading}
 use Rattle.tds_packet.specs.declared.payload.Payload.{Payload}
 use Rattle.tds_packet.specs.Payloads.{seen}
 use Rattle.tds_packet.specs.Seen.{Seen, Takes, Ends, IsBetween, IsOver}
@@ -14,13 +15,11 @@ use Rattle.tds_csv.specs.Sinks.{Held, Finishes, FinishFails}
 use Rattle.tds_csv.specs.Streaming.{PutsText, Streams, BreaksStreaming}
 use Rattle.tds_rows.specs.declared.Charset.{Charset}
 use Rattle.tds_rows.specs.Rows.{nbc_row_start, row_start}
-use Rattle.tds_rows.specs.Unbuilt.{Stalls}
 use Rattle.tds_export.specs.declared.token_bytes.TheConstants.{COLMETADATA, ROW, NBCROW, ORDER, ENVCHANGE, ERROR, INFO, RETURNSTATUS, RETURNVALUE, DONE, DONEPROC, DONEINPROC}
 use Rattle.tds_export.specs.declared.progress.Progress.{Progress}
 use Rattle.tds_export.specs.declared.report.Report.{Report}
 use Rattle.tds_export.specs.declared.tokens.TokenKind.{TokenKind}
 use Rattle.tds_export.specs.declared.tokens.TokenKind.TheVariants as kinds
-use Rattle.tds_export.specs.Built.{is_built}
 use Rattle.tds_export.specs.Outcome.{report_of}
 use Rattle.tds_export.specs.ReturnValue.{ReturnOrdinal}
 use Rattle.tds_export.specs.TokenGrammar.{AnEnvChange, AnError, AnInfo, AnOrder, Between, Bodied, Describing, DoneFields, DoneInProcFields, InReturn, Open, Part, Status, TokenLength, is_token_byte, text_so_far, span_so_far, with_row}
@@ -138,7 +137,7 @@ in_kind charset columns kinds.ReturnValue = in_return
 -- A call inside an export stopped in reading: the text of the state that it reached was put.
 pub record StopsInReading (g : Grammar Part Fault) (from : Part) (old new : Seen) (place : ℕ) (before after : Held) (area : Space) (stop : Stop) : Type 0 where
   pub at : Part
-  pub stalls : Stalls g is_built from old new place at stop
+  pub stops : StopsReading g from old new place at stop
   pub puts : PutsText text_so_far from at before after
   pub holds : IsHolding area at
 

@@ -13,6 +13,7 @@ use tds_packet::{Counted, Fault, Place};
 mod columns;
 mod cuts;
 mod kinds;
+mod long_values;
 mod nbc_rows;
 mod notices;
 mod return_values;
@@ -159,11 +160,13 @@ fn front_of(bytes: &[u8], longer: &[u8]) -> Option<usize> {
     }
 }
 
-// What came of an input, where this text is expected. Nothing comes of areas that were exchanged.
-fn run(
+// What came of an input under a character set, where this text is expected. Nothing comes of areas
+// that were exchanged.
+fn run_under(
     areas: &mut Areas,
     from: ScriptedReader<'_>,
     to: ScriptedWriter,
+    charset: Charset,
     text: &[u8],
 ) -> Option<Outcome> {
     if !areas.intact() {
@@ -171,7 +174,7 @@ fn run(
     }
     let mut from = Counted::new(from);
     let mut to = Counted::new(to);
-    let answer = export(areas, &mut from, &mut to, Charset::Windows1252);
+    let answer = export(areas, &mut from, &mut to, charset);
     Some(Outcome {
         answer,
         text: front_of(to.device().kept(), text),
@@ -179,6 +182,16 @@ fn run(
         read_failures: from.failures(),
         write_failures: to.failures(),
     })
+}
+
+// What came of an input whose single-byte text is Windows-1252.
+fn run(
+    areas: &mut Areas,
+    from: ScriptedReader<'_>,
+    to: ScriptedWriter,
+    text: &[u8],
+) -> Option<Outcome> {
+    run_under(areas, from, to, Charset::Windows1252, text)
 }
 
 // What came of a wire, where devices give and take so many bytes a call.

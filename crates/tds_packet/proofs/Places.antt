@@ -69,10 +69,10 @@ began_there place stop h = go stop.fault refl
 -- where a payload stops that had not, and hands out nothing, the message ends at its place if it does
 pub stops_here : {R : Type 0} (remaining : R → Option (List ℕ)) (p : payloads.Payload R) (new : Seen) (stop : Stop) → p.stopped ≡ None → Ends (seen remaining p) new [] stop → stop ≡ began_at p.place stop
 stops_here remaining p new stop going ends = began_there p.place stop (elim ends [
-      | inl x ↦ stands (x.0.0 ++ []) [] (x.0.2 [])
-      | inr (inl x) ↦ stands x.0.0 [] x.0.3
-      | inr (inr x) ↦ λ e. (let f : ReadFailed ≡ MessageEnded = sym (ap (λ (s : Stop). s.fault) x.0.3) ∙ e in cc)
-    ])
+  | inl x ↦ stands (x.0.0 ++ []) [] (x.0.2 [])
+  | inr (inl x) ↦ stands x.0.0 [] x.0.3
+  | inr (inr x) ↦ λ e. (let f : ReadFailed ≡ MessageEnded = sym (ap (λ (s : Stop). s.fault) x.0.3) ∙ e in cc)
+])
   where
     stands : (input rest : List ℕ) → (seen remaining p).future input ≡ record { bytes = []; stop = stop; rest = rest } → stop.fault ≡ MessageEnded → stop.place ≡ Payload p.place
     stands input rest e ended =

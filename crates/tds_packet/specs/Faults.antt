@@ -1,11 +1,10 @@
 -- The faults by their numbers.
 use Rattle.std.specs.Prelude.{ℕ}
 use Rattle.tds_packet.specs.declared.fault.Fault.{Fault}
-use Rattle.tds_packet.specs.declared.fault.Fault.TheVariants.{NotYet, ReadFailed, InputEnded, WrongPacketType, BadPacketLength, ResponseTooLong, RefusedToken, MessageEnded, EndWithoutDone, NoColumns, RefusedColumn, UnknownType, BadTypeInfo, DescriptionTooLong, RowWithoutColumns, BadValueLength, BadValue, OddText, PlpLength, BadNotice, WriteFailed, BadText}
+use Rattle.tds_packet.specs.declared.fault.Fault.TheVariants.{ReadFailed, InputEnded, WrongPacketType, BadPacketLength, ResponseTooLong, RefusedToken, MessageEnded, EndWithoutDone, NoColumns, RefusedColumn, UnknownType, BadTypeInfo, DescriptionTooLong, RowWithoutColumns, BadValueLength, BadValue, OddText, PlpLength, BadNotice, WriteFailed, BadText}
 
 -- the number of a fault, as a report shows it
 abbrev pub number_of : Fault → ℕ
-number_of NotYet = 0
 number_of ReadFailed = 1
 number_of InputEnded = 2
 number_of (WrongPacketType kind) = 3

@@ -19,8 +19,6 @@ pub enum RefusedKind {
 /// What stopped a run. Columns are numbered from 0; 65,535 stands for the value of a RETURNVALUE.
 #[derive(Debug, Clone, Copy, PartialEq, Eq)]
 pub enum Fault {
-    /// The response is accepted by this profile, and what follows isn't built yet.
-    NotYet,
     /// A read failed: the reader's count of failures rose.
     ReadFailed,
     /// The input is over before the last packet's end.
@@ -81,12 +79,11 @@ pub struct Stop {
 }
 
 impl Fault {
-    /// The fault's number, as a report shows it: 1 to 21, and 0 for what isn't built yet.
+    /// The fault's number, as a report shows it: 1 to 21.
     pub fn number(&self) -> u8
         ensures { result ≡ number_of self.now }
     {
         match self {
-            Fault::NotYet => 0,
             Fault::ReadFailed => 1,
             Fault::InputEnded => 2,
             Fault::WrongPacketType(_) => 3,

@@ -171,7 +171,6 @@ fn faults_have_numbers(rt: HostRuntime) {
     let index = 7;
     let kind = RefusedKind::Xml;
     for (fault, number) in [
-        (Fault::NotYet, 0),
         (Fault::ReadFailed, 1),
         (Fault::InputEnded, 2),
         (Fault::WrongPacketType(3), 3),

@@ -4,7 +4,7 @@ use Rattle.std.specs.Fmt.{signed_decimal}
 use Rattle.std.specs.List.{concat}
 use Rattle.hex.specs.Hex.{encode_lower}
 use Rattle.tds_packet.specs.declared.fault.Fault.{Fault}
-use Rattle.tds_packet.specs.declared.fault.Fault.TheVariants.{NotYet, ReadFailed, InputEnded, WrongPacketType, BadPacketLength, ResponseTooLong, RefusedToken, MessageEnded, EndWithoutDone, NoColumns, RefusedColumn, UnknownType, BadTypeInfo, DescriptionTooLong, RowWithoutColumns, BadValueLength, BadValue, OddText, PlpLength, BadNotice, WriteFailed, BadText}
+use Rattle.tds_packet.specs.declared.fault.Fault.TheVariants.{ReadFailed, InputEnded, WrongPacketType, BadPacketLength, ResponseTooLong, RefusedToken, MessageEnded, EndWithoutDone, NoColumns, RefusedColumn, UnknownType, BadTypeInfo, DescriptionTooLong, RowWithoutColumns, BadValueLength, BadValue, OddText, PlpLength, BadNotice, WriteFailed, BadText}
 use Rattle.tds_packet.specs.declared.fault.Place.{Place}
 use Rattle.tds_packet.specs.declared.fault.Place.TheVariants.{Wire, Payload, Text}
 use Rattle.tds_packet.specs.declared.fault.RefusedKind.{RefusedKind}
@@ -35,7 +35,6 @@ text_of xs = flat_map piece_text xs
 
 -- the name of a fault
 abbrev pub fault_name : Fault → List ℕ
-fault_name NotYet = codes "NotYet"
 fault_name ReadFailed = codes "ReadFailed"
 fault_name InputEnded = codes "InputEnded"
 fault_name (WrongPacketType kind) = codes "WrongPacketType"

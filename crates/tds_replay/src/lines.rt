@@ -17,7 +17,6 @@ fn fault_name(fault: &Fault) -> &'static [u8]
     ensures { result.now ≡ name_of_fault fault.now }
 {
     match fault {
-        Fault::NotYet => b"NotYet",
         Fault::ReadFailed => b"ReadFailed",
         Fault::InputEnded => b"InputEnded",
         Fault::WrongPacketType(_) => b"WrongPacketType",

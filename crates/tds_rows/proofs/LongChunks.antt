@@ -64,22 +64,22 @@ module _ (column : ℕ) (last : Bool) (c : Conversion) (size : ℕ) (unit_is : s
         if is i == 0 then (if is_total total (counted i) then (if counted i % (sym unit_is i) == 0 then unless (is_fit c content) (BadText column) else Some (OddText column)) else Some (PlpLength column))
         else unless (within_total total (counted i + is i)) (PlpLength column)
 
-    chunk_first : (f : Fault) → chunk_length_fault column size total sum n ≡ Some f → cell_fault column (ChunkLength c total content) e ≡ Some f
+    pub chunk_first : (f : Fault) → chunk_length_fault column size total sum n ≡ Some f → cell_fault column (ChunkLength c total content) e ≡ Some f
     unfolding judged
     chunk_first f h = chunk_same ∙ first_same (n == 0) (is_total total sum) (sum % size == 0) (is_fit c content) (OddText column) (PlpLength column) (BadText column) f (unless (within_total total (sum + n)) (PlpLength column)) h
 
-    chunk_free : n ≢ 0 → chunk_length_fault column size total sum n ≡ None → cell_fault column (ChunkLength c total content) e ≡ None
+    pub chunk_free : n ≢ 0 → chunk_length_fault column size total sum n ≡ None → cell_fault column (ChunkLength c total content) e ≡ None
     unfolding judged
     chunk_free some h = chunk_same ∙ later_none (n == 0) (is_total total sum) (sum % size == 0) (is_fit c content) (OddText column) (PlpLength column) (BadText column) (unless (within_total total (sum + n)) (PlpLength column)) (ne_eqb n 0 some) h
 
-    end_judged : n ≡ 0 → chunk_length_fault column size total sum n ≡ None → cell_fault column (ChunkLength c total content) e ≡ unless (is_fit c content) (BadText column)
+    pub end_judged : n ≡ 0 → chunk_length_fault column size total sum n ≡ None → cell_fault column (ChunkLength c total content) e ≡ unless (is_fit c content) (BadText column)
     unfolding judged
     end_judged none h = chunk_same ∙ end_last (n == 0) (is_total total sum) (sum % size == 0) (is_fit c content) (OddText column) (PlpLength column) (BadText column) (unless (within_total total (sum + n)) (PlpLength column)) (zero_true n none) h
 
-    to_end : n ≡ 0 → cell_add (ChunkLength c total content) e ≡ WholeCell (DataCell c content)
+    pub to_end : n ≡ 0 → cell_add (ChunkLength c total content) e ≡ WholeCell (DataCell c content)
     to_end none = choose_true (little e == 0) (WholeCell (DataCell c content)) (ChunkData c total (little e - 1) content) (zero_true (little e) (is ∙ none))
 
-    to_data : n ≢ 0 → cell_add (ChunkLength c total content) e ≡ chunk_left c total n content
+    pub to_data : n ≢ 0 → cell_add (ChunkLength c total content) e ≡ chunk_left c total n content
     to_data some =
         choose_false (little e == 0) (WholeCell (DataCell c content)) (ChunkData c total (little e - 1) content) (ne_eqb (little e) 0 (λ z. some (sym is ∙ z))) ∙ ap (λ (m : ℕ). ChunkData c total (m - 1) content) is
         ∙ sym (choose_false (n == 0) (ChunkLength c total content) (ChunkData c total (n - 1) content) (ne_eqb n 0 some))
@@ -194,7 +194,7 @@ module _ (column : ℕ) (last : Bool) (c : Conversion) (size : ℕ) (unit_is : s
 -- ---- the total
 
 module _ (column : ℕ) (last : Bool) (c : Conversion) (size : ℕ) (unit_is : size ≡ unit c) where
-  total_same : (e : List ℕ) (n : ℕ) → little e ≡ n → cell_fault column (Total c) e ≡ total_fault column size n
+  pub total_same : (e : List ℕ) (n : ℕ) → little e ≡ n → cell_fault column (Total c) e ≡ total_fault column size n
   total_same e n is = λ i. unless (nat_le unknown_total (is i) || (is i % (sym unit_is i) == 0)) (OddText column)
 
   -- the total was refused, or is cut
@@ -206,10 +206,10 @@ module _ (column : ℕ) (last : Bool) (c : Conversion) (size : ℕ) (unit_is : s
     total_free : cell_fault column (Total c) x.element ≡ None
     total_free = total_same x.element n x.number ∙ free
 
-    total_to_null : n ≡ null_total → cell_add (Total c) x.element ≡ WholeCell Null
+    pub total_to_null : n ≡ null_total → cell_add (Total c) x.element ≡ WholeCell Null
     total_to_null null = choose_true (little x.element == null_total) (WholeCell Null) (ChunkLength c (known_total (little x.element)) []) (ap (λ (m : ℕ). m == null_total) (x.number ∙ null))
 
-    total_to : (t : Option ℕ) → n ≢ null_total → known_total n ≡ t → cell_add (Total c) x.element ≡ ChunkLength c t []
+    pub total_to : (t : Option ℕ) → n ≢ null_total → known_total n ≡ t → cell_add (Total c) x.element ≡ ChunkLength c t []
     total_to t some known =
         choose_false (little x.element == null_total) (WholeCell Null) (ChunkLength c (known_total (little x.element)) []) (ap (λ (m : ℕ). m == null_total) x.number ∙ ne_eqb n null_total some)
         ∙ ap (λ (m : ℕ). ChunkLength c (known_total m) []) x.number ∙ ap (λ o. ChunkLength c o []) known

@@ -1,7 +1,6 @@
 -- The value of a RETURNVALUE, as it is passed over.
-use Rattle.std.proofs.Common.{◌≡◌, ◌≢◌, ◌∙◌, ◌⊎◌, inl, inr, ℕ, zero, suc, ◌+◌, ◌-◌, ◌%◌, ◌<◌, ◌≤◌, Bool, true, false, List, [], ◌∷◌, ◌++◌, length, take, refl, sym, ap, subst, arith, append_assoc, append-nil, length-append, take_all}
-use Rattle.std.specs.Prelude.{Option, Some, None, Result, Ok, Err, ◌==◌, ◌&&◌, ◌||◌, is_ok, nat_le, nat_lt}
-use Rattle.std.proofs.lemmas.Bool.Decides.{nat_tests}
+use Rattle.std.proofs.Common.{◌≡◌, ◌∙◌, ◌⊎◌, inl, inr, ℕ, zero, suc, ◌+◌, ◌-◌, ◌%◌, ◌<◌, ◌≤◌, Bool, true, false, List, [], ◌∷◌, ◌++◌, length, take, refl, sym, ap, subst, arith, append_assoc, append-nil, length-append, take_all}
+use Rattle.std.specs.Prelude.{Option, Some, None, Result, Ok, Err, ◌==◌, ◌&&◌, ◌||◌, is_ok, nat_lt}
 use Rattle.std.proofs.lemmas.Bool.{and_from, ne_eqb, or_left, or_right}
 use Rattle.tds_values.specs.declared.kind.Kind.{Kind}
 use Rattle.tds_values.specs.declared.kind.Kind.TheVariants.{Binary, Narrow, Wide}
@@ -11,24 +10,23 @@ use Rattle.tds_values.specs.declared.scalar.ValueFault.{ValueFault}
 use Rattle.tds_values.specs.Kind.{is_scalar}
 use Rattle.tds_values.specs.Scalar.{read_of}
 use Rattle.tds_values.specs.ScalarText.{text_of}
-use Rattle.tds_values.specs.Numbers.{little}
 use Rattle.tds_packet.specs.declared.fault.Fault.{Fault}
-use Rattle.tds_packet.specs.declared.fault.Fault.TheVariants.{BadText, MessageEnded, OddText}
+use Rattle.tds_packet.specs.declared.fault.Fault.TheVariants.{BadText, MessageEnded}
 use Rattle.tds_packet.specs.declared.fault.Place.TheVariants.{Payload}
 use Rattle.tds_packet.specs.declared.fault.Stop.{Stop}
 use Rattle.tds_packet.specs.Elements.{Spelt}
 use Rattle.tds_packet.specs.Reading.{StopsReading}
 use Rattle.tds_packet.specs.Seen.{Seen, Takes, Ends, IsBetween, began_at}
-use Rattle.tds_packet.proofs.Choices.{choose_false, choose_true, test_le, test_lt}
+use Rattle.tds_packet.proofs.Choices.{choose_false, test_lt}
 use Rattle.tds_packet.proofs.ElementLaws.{Spelt-none, Spelt-append, Spelt-one, Spelt-step}
 use Rattle.tds_packet.proofs.Futures.{Ends-after, Takes-none, Takes-trans}
 use Rattle.tds_packet.proofs.Steps.{add_none, began_is_cut, reads_both, reads_none, reads_one, refused_at_once, stops_after}
-use Rattle.tds_csv.specs.Conversion.{Conversion, HexDigits, Utf16Text, Windows1252Text, is_begun, is_fit, unit}
+use Rattle.tds_csv.specs.Conversion.{Conversion, HexDigits, Utf16Text, Windows1252Text, is_begun, is_fit}
 use Rattle.tds_csv.specs.Quoting.{in_line, null_field}
 use Rattle.tds_rows.specs.declared.Charset.{Charset}
-use Rattle.tds_rows.specs.Cells.{Cell, CellPart, ChunkData, ChunkLength, DataCell, LongShape, ShortData, ShortLength, Total, WholeCell, Null, cell_add, cell_end, cell_fault, cell_size, cell_start, chunk_fault, known_total, null_total, return_charset, shape, unknown_total, unless}
+use Rattle.tds_rows.specs.Cells.{Cell, CellPart, ChunkData, ChunkLength, DataCell, LongShape, ShortData, ShortLength, WholeCell, cell_add, cell_end, cell_fault, cell_size, cell_start, return_charset, shape, unless}
 use Rattle.tds_rows.specs.CellSteps.{GathersCell, StallsCell, WritesCell, scalar_size, value_bytes, value_length, value_start}
-use Rattle.tds_rows.specs.PassedCells.{AnyData, CutsData, IsGoodValue, PassesCell, PassesData, StepsOver, StopsPassing, behind_length, chunk_left, return_cell, return_column, short_left}
+use Rattle.tds_rows.specs.PassedCells.{AnyData, CutsData, IsGoodValue, PassesCell, PassesData, StepsOver, StopsPassing, chunk_left, return_cell, return_column, short_left}
 use Rattle.tds_rows.proofs.BufferedCells.{null_cell, value_cell}
 use Rattle.tds_rows.proofs.CellSteps.{cell_cut}
 
@@ -228,39 +226,6 @@ scalar_passes charset kind a b place place' bytes scalar x good =
 
 -- ---- short values
 
-not_le : (m n : ℕ) → n < m → nat_le m n ≡ false
-not_le m n less = grind (arith, nat_tests)
-
-odd_false : (c : Conversion) (size n : ℕ) → AnyData c size → n % size ≢ 0 → (n % unit c == 0) ≡ false
-odd_false c size n any odd = ap (λ (k : ℕ). n % k == 0) any.unit_is ∙ ne_eqb (n % size) 0 odd
-
-even_true : (c : Conversion) (size n : ℕ) → AnyData c size → n % size ≡ 0 → (n % unit c == 0) ≡ true
-even_true c size n any even = ap (λ (k : ℕ). n % k == 0) any.unit_is ∙ ap (λ (k : ℕ). k == 0) even
-
-unless_false : (b : Bool) (f : Fault) → b ≡ false → unless b f ≡ Some f
-unless_false true f h = cc
-unless_false false f h = refl
-
-module _ (c : Conversion) (size : ℕ) (any : AnyData c size) (a b : Seen) (place place' : ℕ) (bytes : List ℕ) (n : ℕ) (two : length bytes ≡ 2) (is : little bytes ≡ n) (takes : Takes a b bytes (length bytes)) (between : IsBetween b) where
-  pub short_null : n ≡ 65535 → place' ≡ place + length bytes → PassesCell (ShortLength c) a b place place'
-  short_null null at = record {
-    value = Null;
-    steps = step_one (ShortLength c) (WholeCell Null) a b place place' bytes (omega (arith, two)) two
-        (unless_true ((little bytes == 0xFFFF) || (little bytes % unit c == 0)) (OddText return_column) (or_left (little bytes == 0xFFFF) (little bytes % unit c == 0) (ap (λ (k : ℕ). k == 0xFFFF) (is ∙ null))))
-        (choose_true (little bytes == 0xFFFF) (WholeCell Null) (short_left c (little bytes) []) (ap (λ (k : ℕ). k == 0xFFFF) (is ∙ null))) takes between at;
-  }
-
-  pub short_odd : n ≢ 65535 → n % size ≢ 0 → StopsPassing (ShortLength c) a b place (record { fault = OddText return_column; place = Payload place })
-  short_odd some odd =
-      let no : ((little bytes == 0xFFFF) || (little bytes % unit c == 0)) ≡ false = ap (λ (k : ℕ). (k == 0xFFFF) || (k % unit c == 0)) is ∙ ap (λ v. v || (n % unit c == 0)) (ne_eqb n 65535 some) ∙ odd_false c size n any odd in
-      step_refused (ShortLength c) a b place bytes (OddText return_column) (omega (arith, two)) two (unless_false ((little bytes == 0xFFFF) || (little bytes % unit c == 0)) (OddText return_column) no) takes between
-
-  pub short_begins : n ≢ 65535 → n % size ≡ 0 → place' ≡ place + length bytes → StepsOver (ShortLength c) (short_left c n []) a b place place'
-  short_begins some even at =
-      step_one (ShortLength c) (short_left c n []) a b place place' bytes (omega (arith, two)) two
-      (unless_true ((little bytes == 0xFFFF) || (little bytes % unit c == 0)) (OddText return_column) (or_right (little bytes == 0xFFFF) (little bytes % unit c == 0) (ap (λ (k : ℕ). k % unit c == 0) is ∙ even_true c size n any even)))
-      (choose_false (little bytes == 0xFFFF) (WholeCell Null) (short_left c (little bytes) []) (ap (λ (k : ℕ). k == 0xFFFF) is ∙ ne_eqb n 65535 some) ∙ ap (λ (k : ℕ). short_left c k []) is) takes between at
-
 -- a value behind what was read of it
 pub cell_behind : (s t : CellPart) (a b d : Seen) (place middle place' : ℕ) → StepsOver s t a b place middle → PassesCell t b d middle place' → PassesCell s a d place place'
 cell_behind s t a b d place middle place' x y = record { value = y.value; steps = steps_both s t (WholeCell y.value) a b d place middle place' x y.steps }
@@ -275,13 +240,6 @@ short_cuts c size n a b d place middle stop any even x y =
     stops_behind (ShortLength c) (short_left c n []) a b d place middle stop x (data_stops (short_left c) n (short_runs c size n any even) [] n b d middle stop (omega arith) y)
 
 -- ---- chunks
-
-module _ (c : Conversion) (total : Option ℕ) (content : List ℕ) (a b : Seen) (place place' : ℕ) (bytes : List ℕ) (n : ℕ) (four : length bytes ≡ 4) (is : little bytes ≡ n) (takes : Takes a b bytes (length bytes)) (between : IsBetween b) where
-  pub length_steps : chunk_fault return_column c total content n ≡ None → place' ≡ place + length bytes → StepsOver (ChunkLength c total content) (behind_length c total content n) a b place place'
-  length_steps free at = step_one (ChunkLength c total content) (behind_length c total content n) a b place place' bytes (omega (arith, four)) four (ap (chunk_fault return_column c total content) is ∙ free) (ap (behind_length c total content) is) takes between at
-
-  pub length_stops : (fault : Fault) → chunk_fault return_column c total content n ≡ Some fault → StopsPassing (ChunkLength c total content) a b place (record { fault = fault; place = Payload place })
-  length_stops fault first = step_refused (ChunkLength c total content) a b place bytes fault (omega (arith, four)) four (ap (chunk_fault return_column c total content) is ∙ first) takes between
 
 -- So many bytes of data were passed over, in whole chunks.
 pub record WalksChunks (c : Conversion) (total : Option ℕ) (sum : ℕ) (old new : Seen) (place place' : ℕ) : Type 0 where
@@ -298,65 +256,28 @@ module _ (c : Conversion) (total : Option ℕ) (sum n : ℕ) (a b d : Seen) (pla
   chunks_stop stop y = stops_behind (ChunkLength c total []) (ChunkLength c total x.content) a b d place middle stop x.steps y
 
   -- the terminator was read
-  pub chunks_end : n ≡ 0 → StepsOver (ChunkLength c total x.content) (behind_length c total x.content n) b d middle there → PassesCell (ChunkLength c total []) a d place there
-  chunks_end none y = record {
+  pub chunks_end : StepsOver (ChunkLength c total x.content) (WholeCell (DataCell c x.content)) b d middle there → PassesCell (ChunkLength c total []) a d place there
+  chunks_end y = record {
     value = DataCell c x.content;
-    steps = steps_both (ChunkLength c total []) (ChunkLength c total x.content) (WholeCell (DataCell c x.content)) a b d place middle there x.steps (subst (λ s. StepsOver (ChunkLength c total x.content) s b d middle there) (ap (behind_length c total x.content) none) y);
+    steps = steps_both (ChunkLength c total []) (ChunkLength c total x.content) (WholeCell (DataCell c x.content)) a b d place middle there x.steps y;
   }
 
-  to_data : n ≢ 0 → StepsOver (ChunkLength c total x.content) (behind_length c total x.content n) b d middle there → StepsOver (ChunkLength c total []) (chunk_left c total n x.content) a d place there
-  to_data some y =
-      let no : (n == 0) ≡ false = ne_eqb n 0 some in
-      let same : behind_length c total x.content n ≡ chunk_left c total n x.content =
-      choose_false (n == 0) (WholeCell (DataCell c x.content)) (ChunkData c total (n - 1) x.content) no ∙ sym (choose_false (n == 0) (ChunkLength c total x.content) (ChunkData c total (n - 1) x.content) no) in
-      steps_both (ChunkLength c total []) (ChunkLength c total x.content) (chunk_left c total n x.content) a b d place middle there x.steps (subst (λ s. StepsOver (ChunkLength c total x.content) s b d middle there) same y)
-
   -- a chunk more was passed over
-  pub chunks_more : (size : ℕ) (e : Seen) (place' : ℕ) → AnyData c size → n ≢ 0 → StepsOver (ChunkLength c total x.content) (behind_length c total x.content n) b d middle there → PassesData n d e there place' → WalksChunks c total (sum + n) a e place place'
-  chunks_more size e place' any some y z = record {
+  pub chunks_more : (size : ℕ) (e : Seen) (place' : ℕ) → AnyData c size → StepsOver (ChunkLength c total x.content) (chunk_left c total n x.content) b d middle there → PassesData n d e there place' → WalksChunks c total (sum + n) a e place place'
+  chunks_more size e place' any y z = record {
     content = x.content ++ z.bytes;
     counted = omega (arith, length-append x.content z.bytes, x.counted, z.counted);
-    steps = steps_both (ChunkLength c total []) (chunk_left c total n x.content) (ChunkLength c total (x.content ++ z.bytes)) a d e place there place' (to_data some y)
+    steps = steps_both (ChunkLength c total []) (chunk_left c total n x.content) (ChunkLength c total (x.content ++ z.bytes)) a d e place there place'
+        (steps_both (ChunkLength c total []) (ChunkLength c total x.content) (chunk_left c total n x.content) a b d place middle there x.steps y)
         (data_steps (chunk_left c total) (length x.content + n) (chunk_runs c size (length x.content + n) total any) x.content n d e there place' refl z);
   }
 
   -- the data of a chunk is cut
-  pub chunks_cut : (size : ℕ) (e : Seen) (stop : Stop) → AnyData c size → n ≢ 0 → StepsOver (ChunkLength c total x.content) (behind_length c total x.content n) b d middle there → CutsData n d e there stop → StopsPassing (ChunkLength c total []) a e place stop
-  chunks_cut size e stop any some y z =
-      stops_behind (ChunkLength c total []) (chunk_left c total n x.content) a d e place there stop (to_data some y)
+  pub chunks_cut : (size : ℕ) (e : Seen) (stop : Stop) → AnyData c size → StepsOver (ChunkLength c total x.content) (chunk_left c total n x.content) b d middle there → CutsData n d e there stop → StopsPassing (ChunkLength c total []) a e place stop
+  chunks_cut size e stop any y z =
+      stops_behind (ChunkLength c total []) (chunk_left c total n x.content) a d e place there stop
+      (steps_both (ChunkLength c total []) (ChunkLength c total x.content) (chunk_left c total n x.content) a b d place middle there x.steps y)
       (data_stops (chunk_left c total) (length x.content + n) (chunk_runs c size (length x.content + n) total any) x.content n d e there stop refl z)
-
--- ---- the total
-
-module _ (c : Conversion) (size : ℕ) (any : AnyData c size) (a b : Seen) (place place' : ℕ) (bytes : List ℕ) (n : ℕ) (eight : length bytes ≡ 8) (is : little bytes ≡ n) (takes : Takes a b bytes (length bytes)) (between : IsBetween b) where
-  total_free : (nat_le unknown_total n || (n % unit c == 0)) ≡ true → cell_fault return_column (Total c) bytes ≡ None
-  total_free good = unless_true (nat_le unknown_total (little bytes) || (little bytes % unit c == 0)) (OddText return_column) (ap (λ (k : ℕ). nat_le unknown_total k || (k % unit c == 0)) is ∙ good)
-
-  great : unknown_total ≤ n → (nat_le unknown_total n || (n % unit c == 0)) ≡ true
-  great most = or_left (nat_le unknown_total n) (n % unit c == 0) (test_le unknown_total n most)
-
-  total_steps : (t : Option ℕ) → (nat_le unknown_total n || (n % unit c == 0)) ≡ true → n ≢ null_total → known_total n ≡ t → place' ≡ place + length bytes → StepsOver (Total c) (ChunkLength c t []) a b place place'
-  total_steps t good some known at =
-      step_one (Total c) (ChunkLength c t []) a b place place' bytes (omega (arith, eight)) eight (total_free good)
-      (choose_false (little bytes == null_total) (WholeCell Null) (ChunkLength c (known_total (little bytes)) []) (ap (λ (k : ℕ). k == null_total) is ∙ ne_eqb n null_total some) ∙ ap (λ (k : ℕ). ChunkLength c (known_total k) []) is ∙ ap (λ o. ChunkLength c o []) known) takes between at
-
-  pub total_null : n ≡ null_total → place' ≡ place + length bytes → PassesCell (Total c) a b place place'
-  total_null null at = record {
-    value = Null;
-    steps = step_one (Total c) (WholeCell Null) a b place place' bytes (omega (arith, eight)) eight (total_free (great (omega (arith, null))))
-        (choose_true (little bytes == null_total) (WholeCell Null) (ChunkLength c (known_total (little bytes)) []) (ap (λ (k : ℕ). k == null_total) (is ∙ null))) takes between at;
-  }
-
-  pub total_unknown : n ≡ unknown_total → place' ≡ place + length bytes → StepsOver (Total c) (ChunkLength c None []) a b place place'
-  total_unknown unknown at = total_steps None (great (omega (arith, unknown))) (λ e. omega (arith, e, unknown)) (ap known_total unknown) at
-
-  pub total_known : n ≢ null_total → n ≢ unknown_total → n % size ≡ 0 → place' ≡ place + length bytes → StepsOver (Total c) (ChunkLength c (Some n) []) a b place place'
-  total_known some known even at = total_steps (Some n) (or_right (nat_le unknown_total n) (n % unit c == 0) (even_true c size n any even)) some (choose_false (n == unknown_total) None (Some n) (ne_eqb n unknown_total known)) at
-
-  pub total_odd : n < unknown_total → n % size ≢ 0 → StopsPassing (Total c) a b place (record { fault = OddText return_column; place = Payload place })
-  total_odd less odd =
-      let no : (nat_le unknown_total (little bytes) || (little bytes % unit c == 0)) ≡ false = ap (λ (k : ℕ). nat_le unknown_total k || (k % unit c == 0)) is ∙ ap (λ v. v || (n % unit c == 0)) (not_le unknown_total n less) ∙ odd_false c size n any odd in
-      step_refused (Total c) a b place bytes (OddText return_column) (omega (arith, eight)) eight (unless_false (nat_le unknown_total (little bytes) || (little bytes % unit c == 0)) (OddText return_column) no) takes between
 
 -- ---- the data of a RETURNVALUE may be any bytes
 

@@ -79,12 +79,6 @@ pub record PassesCell (from : CellPart) (old new : Seen) (place place' : ℕ) : 
   pub value : Cell
   pub steps : StepsOver from (WholeCell value) old new place place'
 
--- Elements were read up to a state that the answer names, or the reading stopped.
-abbrev pub PartPassed : {R U : Type 0} → (R → Option (List ℕ)) → CellPart → (U → CellPart) → payloads.Payload R → payloads.Payload R → Result U Stop → Type 0
-PartPassed remaining from to old new result = MatchResult result
-    (λ answer. StepsOver from (to answer) (seen remaining old) (seen remaining new) old.place new.place)
-    (λ stop. StopsPassing from (seen remaining old) (seen remaining new) old.place stop)
-
 -- A value was read from this state on, or the reading stopped.
 abbrev pub CellPassed : {R U : Type 0} → (R → Option (List ℕ)) → CellPart → payloads.Payload R → payloads.Payload R → Result U Stop → Type 0
 CellPassed remaining from old new result = MatchResult result
@@ -98,7 +92,3 @@ short_left c left content = if left == 0 then WholeCell (DataCell c content) els
 -- within a chunk: so many bytes follow the data so far
 abbrev pub chunk_left : Conversion → Option ℕ → ℕ → List ℕ → CellPart
 chunk_left c total left content = if left == 0 then ChunkLength c total content else ChunkData c total (left - 1) content
-
--- behind the length of a chunk; 0 is the terminator
-abbrev pub behind_length : Conversion → Option ℕ → List ℕ → ℕ → CellPart
-behind_length c total content n = if n == 0 then WholeCell (DataCell c content) else ChunkData c total (n - 1) content

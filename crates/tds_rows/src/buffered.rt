@@ -53,7 +53,8 @@ fn value_at(form: &Form, bytes: &[u8]) -> Option<(usize, usize)>
 // Whether a whole number of four bytes lies at the front of these bytes, behind its length.
 #[inline(always)]
 fn has_int4(kind: &Kind, bytes: &[u8]) -> bool
-    ensures { result ≡ true → HasInt4 kind.now bytes.now }
+    ensures so { result ≡ true → HasInt4 kind.now bytes.now }
+    ensures only { HasInt4 kind.now bytes.now → result ≡ true }
 {
     matches!(*kind, Kind::IntN(4)) && bytes.len() >= 5 && bytes[0] == 4
 }

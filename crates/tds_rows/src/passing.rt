@@ -11,28 +11,13 @@ ghost use Rattle.tds_values.specs.declared.kind.Kind.{Kind};
 use crate::buffered::length_size;
 use crate::chunks::pass_chunked;
 use crate::gather::{LONGEST_CELL, bad_value, gather_scalar};
-use byteorder::{ByteOrder, LittleEndian};
+use crate::lengths::read_short_length;
 use std::io::Read;
-use tds_packet::{Fault, Payload, Place, Stop};
+use tds_packet::{Payload, Stop};
 use tds_values::{Kind, Reach, read_scalar};
 
 /// The column of the stops in the value of a RETURNVALUE.
 pub(crate) const RETURN_COLUMN: u16 = 65535;
-
-// The length that stands for NULL in a short value.
-const NULL_LENGTH: u16 = 0xFFFF;
-
-// The stop of data in half units, whose length or total began behind so many bytes of the payload.
-pub(crate) fn odd_text(place: u64) -> Stop
-    ensures { result ≡ record { fault = Fault.OddText RETURN_COLUMN; place = Place.Payload place } }
-{
-    Stop {
-        fault: Fault::OddText {
-            column: RETURN_COLUMN,
-        },
-        place: Place::Payload(place),
-    }
-}
 
 // Passes over those of the next bytes that lie in the packet, or over the first of another packet, and
 // answers how many they are.
@@ -104,17 +89,9 @@ fn pass_short<R: Read>(payload: &mut Payload<R>, unit: u64) -> Result<(), Stop>
     ensures gives { (c : Conversion) → AnyData c unit →
         CellPassed R.remaining (ShortLength c) payload.old payload.new result }
 {
-    let place = payload.place();
-    let mut bytes = [0u8; 2];
-    payload.fill(&mut bytes)?;
-    let length = LittleEndian::read_u16(&bytes);
-    if length == NULL_LENGTH {
+    let Some(n) = read_short_length(payload, RETURN_COLUMN, unit)? else {
         return Ok(());
-    }
-    let n = u64::from(length);
-    if n % unit != 0 {
-        return Err(odd_text(place));
-    }
+    };
     pass_data(payload, n)
 }
 

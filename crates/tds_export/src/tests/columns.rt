@@ -4,7 +4,7 @@ use super::*;
 use tds_packet::RefusedKind;
 
 // The Count of one column, and its UserType and Flags.
-const ONE: &[u8] = &[0x81, 1, 0, 0, 0, 0, 0, 0, 0];
+pub(super) const ONE: &[u8] = &[0x81, 1, 0, 0, 0, 0, 0, 0, 0];
 
 // Two columns of type byte 38, named a and b.
 const TWO: &[u8] = &[
@@ -369,34 +369,40 @@ fn a_row_stops_behind_its_whole_fields(rt: HostRuntime) -> Result<(), Fail> {
     )
 }
 
-// A column of a long kind, of so many bytes, and a row of it.
+// A column of a long kind, of so many bytes, and a row that is NULL.
 fn check_long(
     alloc: Global,
     areas: &mut Areas,
     what: &str,
     type_byte: u8,
     length: [u8; 2],
+    row: &[u8],
 ) -> Result<(), Fail> {
     let [low, high] = length;
     let column = [type_byte, low, high, 9, 4, 0xD0, 0, 0x34, 1, 0x74, 0];
-    let row = [0xD1, 4, 0, 0, 0, 0, 0, 0, 0];
-    let pieces = [ONE, &column, &row];
-    check_stopped(alloc, areas, what, &pieces, Fault::NotYet, 21, b"\"t\"\r\n")?;
+    let wire = response_of(alloc, &[ONE, &column, row])?;
+    let text = b"\"t\"\r\nNULL\r\n";
+    let out = read(areas, &wire, 1000, text);
+    same(what, &out, &Some(came_to(Ok(report(1, 1, 11)), text)))?;
     let (held, peak) = (areas.description_held(), areas.description_peak());
     same(what, &(held, peak), &(19, 19))
 }
 
-// Values of long kinds aren't read yet. Their descriptions of 19 bytes are.
+const SHORT_NULL: &[u8] = &[0xD1, 0xFF, 0xFF];
+
+const LONG_NULL: &[u8] = &[0xD1, 0xFF, 0xFF, 0xFF, 0xFF, 0xFF, 0xFF, 0xFF, 0xFF];
+
+// Descriptions of long kinds have 19 bytes.
 #[test]
-fn long_values_are_not_built(rt: HostRuntime) -> Result<(), Fail> {
+fn long_kinds_are_described(rt: HostRuntime) -> Result<(), Fail> {
     let mut areas = make_usual_areas(rt.alloc())?;
-    for (what, type_byte, length) in [
-        ("nvarchar(max)", 0xE7, [0xFF, 0xFF]),
-        ("varchar(max)", 0xA7, [0xFF, 0xFF]),
-        ("nvarchar(10)", 0xE7, [0x14, 0]),
-        ("varchar(10)", 0xA7, [0x0A, 0]),
+    for (what, type_byte, length, row) in [
+        ("nvarchar(max)", 0xE7, [0xFF, 0xFF], LONG_NULL),
+        ("varchar(max)", 0xA7, [0xFF, 0xFF], LONG_NULL),
+        ("nvarchar(10)", 0xE7, [0x14, 0], SHORT_NULL),
+        ("varchar(10)", 0xA7, [0x0A, 0], SHORT_NULL),
     ] {
-        check_long(rt.alloc(), &mut areas, what, type_byte, length)?;
+        check_long(rt.alloc(), &mut areas, what, type_byte, length, row)?;
     }
     Ok(())
 }

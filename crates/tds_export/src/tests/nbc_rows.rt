@@ -123,7 +123,7 @@ fn a_cut_nbc_row_says_where(rt: HostRuntime) -> Result<(), Fail> {
 }
 
 // A packet with this body.
-fn packet_of(alloc: Global, status: u8, body: &[u8]) -> Result<Vec<u8>, AllocError> {
+pub(super) fn packet_of(alloc: Global, status: u8, body: &[u8]) -> Result<Vec<u8>, AllocError> {
     let length = ((8 + body.len()).min(0xFFFF) as u16).to_be_bytes();
     let mut packet = Vec::new(alloc);
     packet.extend_from_slice(&[0x04, status, length[0], length[1], 0, 0, 1, 0])?;

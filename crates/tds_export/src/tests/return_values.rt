@@ -26,7 +26,7 @@ fn within_a_set(alloc: Global) -> Result<Vec<u8>, AllocError> {
 }
 
 // Pieces of a payload, one after the other.
-fn joined(alloc: Global, pieces: &[&[u8]]) -> Result<Vec<u8>, AllocError> {
+pub(super) fn joined(alloc: Global, pieces: &[&[u8]]) -> Result<Vec<u8>, AllocError> {
     let mut payload = Vec::new(alloc);
     for piece in pieces {
         payload.extend_from_slice(piece)?;

@@ -28,4 +28,4 @@ returns-in-None-clause-gives c =
 
 pub returns-then-has_int4-clause-gives : goal.returns-then-has_int4-clause-gives
 returns-then-has_int4-clause-gives c = λ charset.
-    int4_cell charset c.args.form.now.kind c.args.column c.args.last c.args.bytes.now (take c.write_int4_field-made.result c.write_int4_field-made.new.to) (c.has_int4.ensures c.if-has_int4.true) c.write_int4_field-made.ensures.gives
+    int4_cell charset c.args.form.now.kind c.args.column c.args.last c.args.bytes.now (take c.write_int4_field-made.result c.write_int4_field-made.new.to) (c.has_int4.ensures.so c.if-has_int4.true) c.write_int4_field-made.ensures.gives
