@@ -1,0 +1,99 @@
+#!/usr/bin/env python3
+"""Writes a capture of one TCP connection to standard output (pcap, Ethernet, IPv4), for the recipe of docs/RECIPES.md.
+
+capture.py RESPONSE...
+
+The client greets, logs in and asks once for each RESPONSE, a file of packets; the server answers the greeting, the login
+and each request, on port 1433. The login is encrypted, so each side sends a packet of type 12 (hexadecimal) before it; its
+bytes here are made up. In an answer of three segments or more one is sent twice, and two come in the wrong order."""
+import struct
+import sys
+
+CLIENT, SERVER = (bytes([192, 0, 2, 10]), 50123), (bytes([192, 0, 2, 20]), 1433)
+SEGMENT = 1460
+SYN, PUSH, ACK = 2, 8, 16
+
+
+def packet(kind, payload):
+    return struct.pack(">BBHHBB", kind, 1, 8 + len(payload), 0, 1, 0) + payload
+
+
+def greeting(kind):
+    """One option, the version, and the end of the options."""
+    return packet(kind, bytes([0, 0, 6, 0, 6, 0xFF]) + bytes([16, 0, 0x10, 0, 0, 0]))
+
+
+def tls_record(kind, length):
+    """A record of TLS 1.2: 0x16 of the handshake, 0x17 of encrypted data."""
+    return struct.pack(">BHH", kind, 0x0303, length) + bytes(range(256)) * (length // 256) + bytes(length % 256)
+
+
+def login_answer():
+    name = "Server".encode("utf-16-le")
+    body = b"\x01" + bytes.fromhex("74000004") + bytes([len(name) // 2]) + name + bytes([16, 0, 0x10, 0])
+    return packet(4, b"\xAD" + struct.pack("<H", len(body)) + body + b"\xFD" + bytes(12))
+
+
+def sum_of(data):
+    """The checksum of IPv4 and TCP."""
+    data += bytes(len(data) % 2)
+    total = sum(struct.unpack(f">{len(data) // 2}H", data))
+    while total >> 16:
+        total = (total & 0xFFFF) + (total >> 16)
+    return ~total & 0xFFFF
+
+
+class Capture:
+    """The frames of a connection; `sent` is how many bytes each side has sent."""
+
+    def __init__(self):
+        self.frames, self.sent = [], {CLIENT: 1000, SERVER: 9000}
+
+    def frame(self, source, flags, start, data=b""):
+        target = SERVER if source is CLIENT else CLIENT
+        answered = self.sent[target] if flags & ACK else 0
+        tcp = struct.pack(">HHIIBBHHH", source[1], target[1], start, answered, 5 << 4, flags, 64000, 0, 0) + data
+        ends = source[0] + target[0]
+        tcp = tcp[:16] + struct.pack(">H", sum_of(ends + struct.pack(">HH", 6, len(tcp)) + tcp)) + tcp[18:]
+        ip = struct.pack(">BBHHHBBH", 0x45, 0, 20 + len(tcp), len(self.frames), 0, 64, 6, 0) + ends
+        ip = ip[:10] + struct.pack(">H", sum_of(ip)) + ip[12:]
+        self.frames.append(bytes(12) + b"\x08\x00" + ip + tcp)
+
+    def open(self):
+        for source, flags in (CLIENT, SYN), (SERVER, SYN | ACK), (CLIENT, ACK):
+            self.frame(source, flags, self.sent[source])
+            self.sent[source] += flags & SYN != 0
+
+    def send(self, source, data):
+        """In segments; of three or more the first is sent twice, and the second comes behind the third."""
+        starts = list(range(0, len(data), SEGMENT))
+        if len(starts) > 2:
+            starts[:3] = [starts[0], starts[0], starts[2], starts[1]]
+        for start in starts:
+            self.frame(source, PUSH | ACK, self.sent[source] + start, data[start:start + SEGMENT])
+        self.sent[source] += len(data)
+
+    def write(self, out):
+        out.write(struct.pack("<IHHiIII", 0xA1B2C3D4, 2, 4, 0, 0, 65535, 1))
+        for number, frame in enumerate(self.frames):
+            out.write(struct.pack("<IIII", 1_700_000_000, number * 1000, len(frame), len(frame)) + frame)
+
+
+def main(paths):
+    capture = Capture()
+    capture.open()
+    capture.send(CLIENT, greeting(0x12))
+    capture.send(SERVER, greeting(4))
+    capture.send(CLIENT, packet(0x12, tls_record(0x16, 200)))
+    capture.send(SERVER, packet(0x12, tls_record(0x16, 900)))
+    capture.send(CLIENT, tls_record(0x17, 300))
+    capture.send(SERVER, login_answer())
+    for path in paths:
+        with open(path, "rb") as response:
+            capture.send(CLIENT, packet(1, bytes(22) + "SELECT ..".encode("utf-16-le")))
+            capture.send(SERVER, response.read())
+    capture.write(sys.stdout.buffer)
+
+
+if __name__ == "__main__":
+    main(sys.argv[1:])
