@@ -16,13 +16,14 @@ files_of = $(shell find crates/$(1)/src crates/$(1)/specs crates/$(1)/proofs -ty
 # Where the benchmarks are built: outside of the repository, whose gate refuses files that no crate of crates.txt has.
 BENCH = $(or $(TMPDIR),/tmp)/gavyreto-bench
 
-.PHONY: help build install export recipes refused-memory refused-borrow test check bench-text bench-values bench-export
+.PHONY: help build install export recipes cuttings refused-memory refused-borrow test check bench-text bench-values bench-export
 
 help:
 	@echo "make build             proves and builds the program, bin/tds_replay"
 	@echo "make install PREFIX=P  builds it, and puts it into P/bin and its man page into P/share/man/man1"
 	@echo "make export FILE=F     exports the response in F: text to standard output, report to standard error"
 	@echo "make recipes           runs the commands of docs/RECIPES.md with bin/tds_replay, or with PROGRAM=P"
+	@echo "make cuttings          responses in packets of every size, and of random sizes, have one text"
 	@echo "make test              the whole gate: every proof, test and must-fail edit of every crate"
 	@echo "make check             the proofs alone, with what earlier checks left"
 	@echo "make refused-memory    the program with each of its requests for memory refused in turn"
@@ -56,6 +57,10 @@ export: bin/tds_replay
 # It builds nothing: `make build` does. Where a recipe needs a program that isn't there, it is skipped and named.
 recipes:
 	@tools/recipes $(or $(PROGRAM),bin/tds_replay)
+
+# As the recipes do, it takes the program as it is.
+cuttings:
+	@tools/cuttings $(or $(PROGRAM),bin/tds_replay)
 
 refused-memory refused-borrow:
 	tools/$@

@@ -17,6 +17,7 @@ pub mod PlainText
 pub mod Unquoted
 pub mod Encoding
 pub mod Puttings
+mod QuotedFields
 pub mod Streams
 pub mod Splits
 pub mod Nears

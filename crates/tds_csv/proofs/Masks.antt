@@ -1,14 +1,14 @@
 -- From the mask of one load to the bytes before the first that stops.
-use Rattle.std.proofs.Common.{◌≡◌, ℕ, ◌+◌, ◌%◌, ◌^◌, ◌<◌, ◌≤◌, eqb, Bool, true, not, cond, List, [], ◌∷◌, map, length, drop, get_or, replicate, Fits, w8, refl, sym, ap, ap₂, ◌∙◌, arith}
+use Rattle.std.proofs.Common.{◌≡◌, ℕ, ◌+◌, ◌%◌, ◌^◌, ◌<◌, ◌≤◌, eqb, Bool, true, not, cond, ◌-◌, List, [], ◌∷◌, map, length, take, drop, get_or, replicate, Fits, w8, refl, sym, ap, ap₂, ◌∙◌, arith}
 use Rattle.std.proofs.lemmas.Bool.{agree_below, agree_below_at}
 use Rattle.std.proofs.lemmas.Simd.{map-map, mask_l-mod, length-chunk, chunk-fits, first_set_mask_l, chunk-drop}
-use Rattle.std.proofs.lemmas.List.{length-map}
+use Rattle.std.proofs.lemmas.List.{drop-take, length-map, take-take}
 use Rattle.std.specs.List.{prefix_len}
 use Rattle.std.proofs.lemmas.List.Folds.{prefix_len-append}
 use Rattle.std.proofs.lemmas.List.Sums.{prefix_len-le-length}
 use Rattle.std.proofs.lemmas.Bool.{eq-eqb, ne_eqb}
 use lib.Lanes.{Each1, chunk, zip2, mask_l, top}
-use Rattle.tds_csv.specs.Plain.{first_set}
+use Rattle.tds_csv.specs.Plain.{LiesIn, first_set}
 
 zip2-map : (h : ℕ → ℕ → ℕ) (f g : ℕ → ℕ) (xs : List ℕ) → zip2 h (map f xs) (map g xs) ≡ map (λ x. h (f x) (g x)) xs
 zip2-map h f g [] = refl
@@ -59,3 +59,10 @@ run_stops q d i n room some =
 
 pub run_most : (q : ℕ → Bool) (d : List ℕ) (i n : ℕ) → i + n ≤ length d → prefix_len q (chunk i n d) ≤ n
 run_most q d i n room = omega (arith, prefix_len-le-length q (chunk i n d), length-chunk i n d room)
+
+-- bytes that lie in others are the same as those
+pub alike : (bytes source : List ℕ) (at n : ℕ) → LiesIn bytes source → n ≤ 16 → at + n ≤ length bytes → take n (drop at bytes) ≡ take n (chunk at 16 source)
+alike bytes source at n lies few within =
+    let k : ℕ = length bytes - at in
+    let all : length bytes ≡ at + k = omega (arith, within) in
+    ap (λ l. take n (drop at l)) (sym lies.front) ∙ ap (λ j. take n (drop at (take j source))) all ∙ ap (take n) (drop-take at k source) ∙ take-take n k (drop at source) (omega (arith, within)) ∙ sym (take-take n 16 (drop at source) few)

@@ -1,5 +1,5 @@
 -- Bytes of Windows-1252 that stand for themselves.
-use Rattle.std.proofs.Common.{◌≡◌, ◌∙◌, ◌≢◌, ◌<◌, ◌≤◌, ◌∷◌, [], ℕ, List, true, refl, ap, take, drop, arith, encode_utf8_all}
+use Rattle.std.proofs.Common.{◌≡◌, ◌∙◌, ◌≢◌, ◌<◌, ◌≤◌, ◌∷◌, [], ℕ, List, true, refl, sym, ap, take, drop, arith, encode_utf8_all}
 use Rattle.std.specs.List.{prefix_len}
 use Rattle.std.proofs.lemmas.Bool.Decides.{nat_tests}
 use Rattle.std.proofs.lemmas.List.{append-nil}
@@ -10,7 +10,7 @@ use Rattle.tds_csv.specs.Plain.{is_plain}
 use Rattle.tds_csv.specs.Windows1252 as windows_1252
 use Rattle.tds_csv.proofs.SingleLaws.{windows_1252-append}
 use Rattle.tds_csv.proofs.Characters.{of_one, doubled_character}
-use Rattle.tds_csv.proofs.Singles.{front_itself, lanes_itself}
+use Rattle.tds_csv.proofs.Singles.{front_itself, some_itself}
 
 itself : (b : ℕ) → b < 128 → windows_1252.character b ≡ b
 itself b small = grind (arith, nat_tests)
@@ -30,6 +30,7 @@ plain b h = plain_byte b (grind (arith, nat_tests)) (λ e. grind (arith, nat_tes
 pub plain_front : (xs : List ℕ) → windows_1252.text (take (prefix_len is_plain xs) xs) ≡ take (prefix_len is_plain xs) xs
 plain_front xs = front_itself windows_1252.text windows_1252-append is_plain refl plain xs
 
--- bytes that were found among the next 16
-pub plain_lanes : (bytes : List ℕ) (at n : ℕ) → n ≤ 16 → n ≡ prefix_len is_plain (chunk at 16 bytes) → take n (chunk at 16 bytes) ≡ windows_1252.text (take n (drop at bytes))
-plain_lanes bytes at n few e = lanes_itself windows_1252.text windows_1252-append is_plain refl plain bytes at n few e
+-- some of the bytes that were found among the next 16 of a source
+pub plain_lanes : (source bytes : List ℕ) (at n : ℕ) → n ≤ 16 → n ≤ prefix_len is_plain (chunk at 16 source) → take n (drop at bytes) ≡ take n (chunk at 16 source) → take n (chunk at 16 source) ≡ windows_1252.text (take n (drop at bytes))
+plain_lanes source bytes at n few plains same =
+    sym (some_itself windows_1252.text windows_1252-append is_plain refl plain n (chunk at 16 source) plains) ∙ ap windows_1252.text (sym same)

@@ -1,5 +1,5 @@
 -- Data whose bytes each stand alone, put a run after the other.
-use Rattle.std.proofs.Common.{◌≡◌, ◌∙◌, ◌+◌, ◌<◌, ◌≤◌, ℕ, suc, ◌-◌, Bool, true, false, cond, List, [], ◌∷◌, ◌++◌, length, get_or, take, drop, Option, Result, Ok, Err, refl, sym, ap, subst, arith}
+use Rattle.std.proofs.Common.{◌≡◌, ◌∙◌, ◌+◌, ◌<◌, ◌≤◌, ℕ, zero, suc, ◌-◌, Bool, true, false, cond, List, [], ◌∷◌, ◌++◌, length, get_or, take, drop, Option, Result, Ok, Err, refl, sym, ap, subst, arith}
 use Rattle.std.specs.List.{prefix_len}
 use Rattle.std.specs.Result.{IsErrAnd}
 use Rattle.std.proofs.lemmas.List.{take-append-drop, take-take, take_more}
@@ -54,6 +54,16 @@ module _ (text : List ℕ → List ℕ) (appends : (x y : List ℕ) → text (x 
     pub front_itself : (xs : List ℕ) → text (take (prefix_len q xs) xs) ≡ take (prefix_len q xs) xs
     front_itself [] = empty
     front_itself (b ∷ xs) = one_more (q b) b (prefix_len q xs) xs (itself b) (front_itself xs)
+
+    some_more : (passes : Bool) (b k n : ℕ) (xs : List ℕ) → (passes ≡ true → text (b ∷ []) ≡ b ∷ []) → suc k ≤ cond passes (1 + n) 0 → (k ≤ n → text (take k xs) ≡ take k xs) → text (b ∷ take k xs) ≡ b ∷ take k xs
+    some_more true b k n xs h few e = appends (b ∷ []) (take k xs) ∙ (λ i. h refl i ++ e (omega arith) i)
+    some_more false b k n xs h few e = absurd (omega arith)
+
+    -- the first of them, so many
+    pub some_itself : (k : ℕ) (xs : List ℕ) → k ≤ prefix_len q xs → text (take k xs) ≡ take k xs
+    some_itself zero xs h = empty
+    some_itself (suc k) [] h = absurd (omega arith)
+    some_itself (suc k) (b ∷ xs) h = some_more (q b) b k (prefix_len q xs) xs (itself b) h (some_itself k xs)
 
     -- those that were found among the next 16
     pub lanes_itself : (bytes : List ℕ) (at n : ℕ) → n ≤ 16 → n ≡ prefix_len q (chunk at 16 bytes) → take n (chunk at 16 bytes) ≡ text (take n (drop at bytes))

@@ -3,10 +3,10 @@ use Rattle.std.proofs.Common.{◌≡◌, ◌∙◌, ℕ, ◌+◌, ◌*◌, ◌/�
 use Rattle.std.specs.Prelude.{◌==◌, nat_lt}
 use Rattle.std.proofs.lemmas.Bool.Decides.{nat_tests}
 use Rattle.std.proofs.lemmas.Simd.{map-map, mask_l-mod, first_set_mask_l, zip2_of_maps, splat_is_map}
-use Rattle.std.proofs.lemmas.List.{length-map}
+use Rattle.std.proofs.lemmas.List.{length-map, take-append-drop, take-take}
 use Rattle.std.specs.List.{prefix_len}
 use lib.Lanes.{zip2, mask_l, top}
-use Rattle.std.proofs.Common.{suc, ◌++◌, ◌≢◌, take, drop, subst, unwrap_or}
+use Rattle.std.proofs.Common.{sym, zero, suc, ◌++◌, ◌≢◌, take, drop, subst, unwrap_or}
 use Rattle.std.specs.Char.Utf16.{lone_unit_char}
 use Rattle.tds_csv.specs.Joining.{Leads, emit}
 use Rattle.tds_csv.specs.Utf16.{is_high, rest, text}
@@ -124,3 +124,37 @@ leads_plain [] more = Leads-none rest text more
 leads_plain (low ∷ []) more = Leads-none rest text (low ∷ more)
 leads_plain (low ∷ high ∷ ys) more =
     leads_more (is_plain low && (high == 0)) low high (plain_units ys) (evens ys) (ys ++ more) (leads_one low high (ys ++ more)) (leads_plain ys more)
+
+-- ---- some of the units that were looked at
+
+below : (b : Bool) (k n : ℕ) → suc k ≤ cond b (1 + n) 0 → (b ≡ true) × (k ≤ n)
+below true k n h = (refl, omega arith)
+below false k n h = absurd (omega arith)
+
+-- the first of plain units are plain
+plain_take : (k : ℕ) (ys : List ℕ) → k ≤ plain_units ys → plain_units (take (2 * k) ys) ≡ k
+plain_take zero ys h = refl
+plain_take (suc k) [] h = absurd (omega arith)
+plain_take (suc k) (low ∷ []) h = absurd (omega arith)
+plain_take (suc k) (low ∷ high ∷ ys) h =
+    let two : suc (suc (2 * k)) ≡ 2 * suc k = omega arith in
+    let x = below (is_plain low && (high == 0)) k (plain_units ys) h in
+    subst (λ m. plain_units (take m (low ∷ high ∷ ys)) ≡ suc k) two (ap₂ (λ b n. cond b (1 + n) 0) x.0 (plain_take k ys x.1) ∙ omega arith)
+
+evens_take : (k : ℕ) (ys : List ℕ) → evens (take (2 * k) ys) ≡ take k (evens ys)
+evens_take zero ys = refl
+evens_take (suc k) [] = let two : suc (suc (2 * k)) ≡ 2 * suc k = omega arith in subst (λ m. evens (take m []) ≡ []) two refl
+evens_take (suc k) (low ∷ []) = let two : suc (suc (2 * k)) ≡ 2 * suc k = omega arith in subst (λ m. evens (take m (low ∷ [])) ≡ []) two refl
+evens_take (suc k) (low ∷ high ∷ ys) =
+    let two : suc (suc (2 * k)) ≡ 2 * suc k = omega arith in
+    subst (λ m. evens (take m (low ∷ high ∷ ys)) ≡ low ∷ take k (evens ys)) two (ap (λ l. low ∷ l) (evens_take k ys))
+
+-- so many of them lead on, where the bytes begin alike
+pub leads_some : (k : ℕ) (ys xs : List ℕ) → k ≤ plain_units ys → take (2 * k) xs ≡ take (2 * k) ys → Leads rest text xs (drop (2 * k) xs) (take k (evens ys))
+leads_some k ys xs few alike =
+    let front = take (2 * k) ys in
+    let n : plain_units front ≡ k = plain_take k ys few in
+    let whole : front ++ drop (2 * k) xs ≡ xs = ap (λ l. l ++ drop (2 * k) xs) (sym alike) ∙ take-append-drop (2 * k) xs in
+    let from = subst (λ l. Leads rest text l (drop (2 * plain_units front) l) (take (plain_units front) (evens front))) whole (leads_plain front (drop (2 * k) xs)) in
+    let to = subst (λ m. Leads rest text xs (drop (2 * m) xs) (take m (evens front))) n from in
+    subst (λ l. Leads rest text xs (drop (2 * k) xs) l) (ap (take k) (evens_take k ys) ∙ take-take k k (evens ys) (omega arith)) to

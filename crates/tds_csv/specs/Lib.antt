@@ -1,5 +1,6 @@
 pub mod Binary
 pub mod Conversion
+pub mod Fields
 pub mod Joining
 pub mod Quoting
 pub mod Utf16

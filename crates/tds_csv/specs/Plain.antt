@@ -1,5 +1,5 @@
 -- Bytes that are looked at 16 at a time.
-use Rattle.std.specs.Prelude.{ℕ, ◌+◌, ◌==◌, ◌&&◌, Bool, not, nat_lt, if◌then◌else◌, List, [], ◌∷◌}
+use Rattle.std.specs.Prelude.{◌≡◌, ℕ, ◌+◌, ◌≤◌, ◌==◌, ◌&&◌, Bool, not, nat_lt, if◌then◌else◌, List, [], ◌∷◌, length, take}
 use Rattle.std.specs.Prelude.{slice_index}
 use Rattle.hex.specs.Hex.{lower_digits}
 use Rattle.tds_csv.specs.Quoting.{quote}
@@ -38,3 +38,8 @@ plain_units (low ∷ high ∷ bytes) = if is_plain low && (high == 0) then 1 + p
 -- the hexadecimal digit of a number below 16
 abbrev pub digit : ℕ → ℕ
 digit n = slice_index lower_digits n
+
+-- The bytes lie at the front of these, behind which others may lie.
+pub record LiesIn (bytes source : List ℕ) : Type 0 where
+  pub within : length bytes ≤ length source
+  pub front : take (length bytes) source ≡ bytes

@@ -2,6 +2,7 @@
 #![tactic(auto)]
 
 mod convert;
+mod fields;
 mod framing;
 mod joiners;
 mod laws;
@@ -9,6 +10,7 @@ mod sink;
 #[cfg(test)]
 mod tests;
 
+pub use fields::{Content, field_room, write_field};
 pub use framing::{NULL_ROOM, write_comma, write_line_end, write_null};
 pub use joiners::binary::HexJoiner;
 pub use joiners::cp1252::Cp1252Joiner;

@@ -567,6 +567,103 @@ fn text_written_into_the_room(rt: HostRuntime) -> Result<(), Fail> {
     Ok(())
 }
 
+// A whole value, and its field; none where it isn't whole.
+struct Whole {
+    what: &'static str,
+    content: Content,
+    bytes: &'static [u8],
+    field: Option<&'static [u8]>,
+}
+
+const WHOLE: [Whole; 9] = [
+    Whole {
+        what: "two bytes",
+        content: Content::Binary,
+        bytes: &[0x0A, 0xFF],
+        field: Some(b"0x0aff"),
+    },
+    Whole {
+        what: "no bytes",
+        content: Content::Binary,
+        bytes: &[],
+        field: Some(b"0x"),
+    },
+    Whole {
+        what: "a quote in Windows-1252",
+        content: Content::Windows1252,
+        bytes: &[0x80, 0x22, 0xE9],
+        field: Some(b"\"\xE2\x82\xAC\"\"\xC3\xA9\""),
+    },
+    Whole {
+        what: "no text",
+        content: Content::Windows1252,
+        bytes: &[],
+        field: Some(b"\"\""),
+    },
+    Whole {
+        what: "a pair",
+        content: Content::Utf16,
+        bytes: &[0x3D, 0xD8, 0x00, 0xDE],
+        field: Some(b"\"\xF0\x9F\x98\x80\""),
+    },
+    Whole {
+        what: "half a pair at the end",
+        content: Content::Utf16,
+        bytes: &[0x41, 0x00, 0x3D, 0xD8],
+        field: Some(b"\"A\xEF\xBF\xBD\""),
+    },
+    Whole {
+        what: "an odd number of bytes",
+        content: Content::Utf16,
+        bytes: &[0x41, 0x00, 0x42],
+        field: None,
+    },
+    Whole {
+        what: "a quote in UTF-8",
+        content: Content::Utf8,
+        bytes: &[0xC3, 0xA9, 0x22],
+        field: Some(b"\"\xC3\xA9\"\"\""),
+    },
+    Whole {
+        what: "a cut character",
+        content: Content::Utf8,
+        bytes: &[0xE2, 0x82],
+        field: None,
+    },
+];
+
+// The field of the first bytes of a source, as it is written to a slice.
+fn field_of<'a>(content: Content, source: &[u8], n: usize, to: &'a mut [u8]) -> Option<&'a [u8]> {
+    if n > source.len() || n > 100 || field_room(content, n) > to.len() {
+        return None;
+    }
+    let made = write_field(content, source, n, to)?;
+    to.get(..made)
+}
+
+// The field of a whole value, alone and before so many quotes.
+fn check_whole(alloc: Global, row: &Whole, behind: usize) -> Result<(), Fail> {
+    let mut source = Vec::new(alloc);
+    source.extend_from_slice(row.bytes)?;
+    source.extend_from_slice(&many(alloc, behind, 0x22)?)?;
+    let mut room = [0; 64];
+    let came = field_of(row.content, &source, row.bytes.len(), &mut room);
+    same(
+        format_args!("{}, {behind} behind", row.what),
+        &came,
+        &row.field,
+    )
+}
+
+#[test]
+fn whole_values_are_written(rt: HostRuntime) -> Result<(), Fail> {
+    for row in &WHOLE {
+        check_whole(rt.alloc(), row, 0)?;
+        check_whole(rt.alloc(), row, 16)?;
+    }
+    Ok(())
+}
+
 /// How many bytes the pieces have in which each place is tried.
 const LONG: usize = 150;
 

@@ -11,7 +11,8 @@ use Rattle.tds_packet.proofs.Choices.{choose, eq_false, test_lt, test_le}
 use Rattle.tds_columns.specs.Description.{Column, DescriptionPart, BeforeCount, NoDescription, InColumn, WholeDescription, add_described, description}
 use Rattle.tds_rows.specs.declared.Charset.TheVariants.{Windows1252}
 use Rattle.tds_rows.specs.Rows.{RowPart, WholeRow, marked, row_start, nbc_row_start, row_add, row}
-use Rattle.tds_export.specs.declared.token_bytes.TheConstants.{COLMETADATA, ROW, NBCROW, ORDER, ENVCHANGE, ERROR, INFO, RETURNVALUE, RETURNSTATUS, DONE, DONEPROC, DONEINPROC}
+use Rattle.tds_rows.specs.declared.run.TheConstants.{ROW}
+use Rattle.tds_export.specs.declared.token_bytes.TheConstants.{COLMETADATA, NBCROW, ORDER, ENVCHANGE, ERROR, INFO, RETURNVALUE, RETURNSTATUS, DONE, DONEPROC, DONEINPROC}
 use Rattle.tds_export.specs.ReturnValue.{ReturnPart, ReturnOrdinal, WholeReturn, return_add, return_value}
 use Rattle.tds_export.specs.Tokens.{Token, Metadata, NoMetadata, Row, Order, EnvChange, Error, Info, ReturnStatus, Returned, Done, DoneInProc, described_after}
 use Rattle.tds_export.specs.TokenGrammar.{Bodied, AnOrder, AnEnvChange, AnError, AnInfo, Open, Between, Describing, InRow, InReturn, TokenLength, TokenBody, Status, DoneFields, DoneInProcFields, Part, response_start, with_token, with_described, with_row, with_return, start_of_row, after_byte, holds_notice, notice_of, bodied, is_notice, part_add, response}

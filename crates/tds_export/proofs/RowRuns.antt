@@ -1,5 +1,5 @@
 -- A run over rows, in its response.
-use Rattle.std.proofs.Common.{◌≡◌, ◌∙◌, inl, inr, ℕ, ◌+◌, ◌<◌, Bool, true, false, List, [], ◌∷◌, ◌++◌, length, refl, sym, ap, subst, arith, append_assoc, append-nil, length-append}
+use Rattle.std.proofs.Common.{◌≡◌, ◌∙◌, ℕ, ◌+◌, ◌<◌, Bool, true, false, List, [], ◌∷◌, ◌++◌, length, refl, sym, ap, subst, arith, append_assoc, append-nil, length-append}
 use Rattle.std.specs.Prelude.{Option, Some, None, ◌==◌, map, if◌then◌else◌}
 use Rattle.std.proofs.lemmas.List.{map-append}
 use Rattle.tds_meter.specs.Space.{Space}
@@ -17,8 +17,6 @@ use Rattle.tds_rows.specs.Cells.{Cell, field}
 use Rattle.tds_rows.specs.Rows.{Bitmap, InCell, RowPart, WholeRow, row, row_so_far, row_start}
 use Rattle.tds_rows.specs.RowSteps.{ReadsRows, RowsStop}
 use Rattle.tds_rows.specs.Runs.{RowsPart, lines, rows, rows_so_far, rows_start}
-use Rattle.tds_packet.proofs.Steps.{stops_after}
-use Rattle.tds_csv.proofs.Streams.{breaks_after, puts_both}
 use Rattle.tds_packet.specs.declared.fault.Stop.{Stop}
 use Rattle.tds_export.specs.declared.progress.Progress.{Progress}
 use Rattle.tds_export.specs.Tokens.{Row, Token, described_after, encoded_after, text}
@@ -26,7 +24,7 @@ use Rattle.tds_export.specs.TokenGrammar.{Part, response, row_byte_fault, start_
 use Rattle.tds_export.specs.Steps.{IsDescribed, IsHolding, ReadsTokens, StepStops, Tracks, behind, in_row}
 use Rattle.tds_export.proofs.ResponseLaws.{described_after-append, row_in_response}
 use Rattle.tds_export.proofs.TokenLaws.{text_after-snoc, tracks_row}
-use Rattle.tds_export.proofs.TokenSteps.{holds-snoc, row_stops, row_text}
+use Rattle.tds_export.proofs.TokenSteps.{holds-snoc, row_stops, row_text, stops_further}
 use Rattle.tds_packet.proofs.Lifts.{next_inside, next_some}
 
 -- what one grammar reads, another reads there, where each element does
@@ -122,21 +120,6 @@ rows_hold area tokens (r ∷ rs) h = subst (λ ts. IsHolding area (behind ts)) (
 -- the columns that the area describes are the current ones
 pub columns_known : (tokens : List Token) (described : Bool) (bytes : List ℕ) → described ≡ true → bytes ≡ encoded_after [] tokens → IsDescribed described (encoded_after [] tokens) (described_after None tokens) → described_after None tokens ≡ Some (columns_of bytes)
 columns_known tokens described bytes d is k = subst (λ b. IsDescribed b (encoded_after [] tokens) (described_after None tokens)) d k ∙ ap (λ l. Some (columns_of l)) (sym is)
-
--- a call that reads on, and one that stops behind it
-pub stops_further : (charset : Charset) (room : ℕ) (s t : Part) (a b c : Seen) (place : ℕ) (h i k : Held) (area : Space) (failed : Bool) (stop : Stop) → (x : Streams (response charset room) text_so_far s a b h i t)
-    → StepStops (response charset room) t b c (place + length x.bytes) i k area failed stop → StepStops (response charset room) s a c place h k area failed stop
-stops_further charset room s t a b c place h i k area failed stop x (inl y) = inl (
-  record {
-    at = y.0.at;
-    stops = stops_after (response charset room) s t a b c place y.0.at stop (record { bytes = x.bytes; spelt = x.spelt; takes = x.takes }) y.0.stops;
-    puts = puts_both text_so_far s t y.0.at h i k x.puts y.0.puts;
-    holds = y.0.holds;
-  },
-  y.1,
-)
-stops_further charset room s t a b c place h i k area failed stop x (inr y) =
-    inr (record { at = y.0.at; breaks = breaks_after (response charset room) text_so_far s t a b c h i k y.0.at stop x y.0.breaks; holds = y.0.holds }, y.1)
 
 module _ (charset : Charset) (room : ℕ) (columns : List Column) (area : Space) (before after : Held) (tokens : List Token) (a b : Seen) (place : ℕ) (known : described_after None tokens ≡ Some columns) (holds : IsHolding area (behind tokens)) where
   -- the state in a response before the first element of its rows

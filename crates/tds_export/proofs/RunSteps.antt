@@ -1,5 +1,5 @@
 -- The tokens of a response, one after another.
-use Rattle.std.proofs.Common.{◌≡◌, ◌∙◌, inl, inr, ℕ, ◌+◌, ◌-◌, ◌^◌, ◌≤◌, Bool, true, false, List, [], ◌++◌, length, refl, sym, ap, subst, arith, append-nil, length-append}
+use Rattle.std.proofs.Common.{◌≡◌, ◌∙◌, inl, ℕ, ◌+◌, ◌-◌, ◌^◌, ◌≤◌, Bool, true, false, List, [], ◌++◌, length, refl, sym, ap, subst, arith, append-nil, length-append}
 use Rattle.std.specs.Prelude.{Some, None, if◌then◌else◌}
 use Rattle.tds_meter.specs.Space.{Space, empty}
 use Rattle.tds_packet.specs.declared.fault.Fault.{Fault}
@@ -8,13 +8,13 @@ use Rattle.tds_packet.specs.declared.fault.Place.TheVariants.{Payload}
 use Rattle.tds_packet.specs.declared.fault.Stop.{Stop}
 use Rattle.tds_packet.specs.Elements.{Grammar}
 use Rattle.tds_packet.specs.Seen.{Seen, Takes, Ends, IsOver}
-use Rattle.tds_packet.specs.Reading.{IsCutStop, StopsReading}
+use Rattle.tds_packet.specs.Reading.{IsCutStop}
 use Rattle.tds_packet.proofs.ElementLaws.{Spelt-append, Spelt-none}
 use Rattle.std.proofs.KnownBytes.{Consumes-nil}
 use Rattle.tds_packet.proofs.Futures.{Ends-after, Takes-none, Takes-trans}
 use Rattle.tds_csv.specs.Sinks.{FinishFails, Finishes, Held}
 use Rattle.tds_csv.specs.Streaming.{Streams}
-use Rattle.tds_csv.proofs.Streams.{breaks_after, puts_both}
+use Rattle.tds_csv.proofs.Streams.{puts_both}
 use Rattle.tds_csv.proofs.Sinks.{Puts-none}
 use Rattle.tds_rows.specs.declared.Charset.{Charset}
 use Rattle.tds_export.specs.declared.progress.Progress.{Progress}
@@ -22,8 +22,8 @@ use Rattle.tds_export.specs.declared.report.Report.{Report}
 use Rattle.tds_export.specs.Tokens.{Token}
 use Rattle.tds_export.specs.TokenGrammar.{Part, response, response_start, text_so_far}
 use Rattle.tds_export.specs.Steps.{Completes, StopsAtEnd, StepStops, IsHolding, IsNoted, ReadsTokens, ReadsWhole, Tracks, behind}
-use Rattle.tds_packet.proofs.Steps.{cut_at_once, stops_after as reading_after, takes_both}
-use Rattle.tds_export.proofs.TokenSteps.{same_text}
+use Rattle.tds_packet.proofs.Steps.{cut_at_once, takes_both}
+use Rattle.tds_export.proofs.TokenSteps.{same_text, stops_further}
 
 -- whole tokens were read and their text put
 pub record Runs (g : Grammar Part Fault) (old new : Seen) (place place' : ℕ) (before after : Held) (progress : Progress) (area : Space) : Type 0 where
@@ -75,31 +75,16 @@ runs_same g a b p q q' h k k' s s' area area' notice notice' e1 e2 e3 e4 e5 x =
     (subst (λ (v : Space). (x : Runs g a b p q h k s v) × IsNoted notice' x.tokens) (sym e4)
     (subst (λ (v : Space). (x : Runs g a b p q h k s area) × IsNoted v x.tokens) (sym e5) x))))
 
-stops_after : (charset : Charset) (room : ℕ) (a b c : Seen) (p q : ℕ) (h i k : Held) (s : Progress) (area area' : Space) (failed : Bool) (stop : Stop) → (x : Runs (response charset room) a b p q h i s area)
+-- what stops a step stops the run
+stops_run : (charset : Charset) (room : ℕ) (a b c : Seen) (p q : ℕ) (h i k : Held) (s : Progress) (area area' : Space) (failed : Bool) (stop : Stop) → (x : Runs (response charset room) a b p q h i s area)
     → StepStops (response charset room) (behind x.tokens) b c q i k area' failed stop → StepStops (response charset room) response_start a c p h k area' failed stop
-stops_after charset room a b c p q h i k s area area' failed stop x (inl y) = inl (
-  record {
-    at = y.0.at;
-    stops = reading_after (response charset room) response_start (behind x.tokens) a b c p y.0.at stop (record { bytes = x.streams.bytes; spelt = x.streams.spelt; takes = x.streams.takes })
-        (subst (λ n. StopsReading (response charset room) (behind x.tokens) b c n y.0.at stop) x.place_is y.0.stops);
-    puts = puts_both text_so_far response_start (behind x.tokens) y.0.at h i k x.streams.puts y.0.puts;
-    holds = y.0.holds;
-  },
-  y.1,
-)
-stops_after charset room a b c p q h i k s area area' failed stop x (inr y) = inr (
-  record {
-    at = y.0.at;
-    breaks = breaks_after (response charset room) text_so_far response_start (behind x.tokens) a b c h i k y.0.at stop x.streams y.0.breaks;
-    holds = y.0.holds;
-  },
-  y.1,
-)
+stops_run charset room a b c p q h i k s area area' failed stop x y =
+    stops_further charset room response_start (behind x.tokens) a b c p h i k area' failed stop x.streams (subst (λ n. StepStops (response charset room) (behind x.tokens) b c n i k area' failed stop) x.place_is y)
 
 pub stops_on : (c c' : Charset) (r r' : ℕ) (a b d : Seen) (p q : ℕ) (h i k : Held) (s : Progress) (area area' : Space) (failed : Bool) (stop : Stop) → c' ≡ c → r' ≡ r → (x : Runs (response c r) a b p q h i s area)
     → StepStops (response c' r') (behind x.tokens) b d q i k area' failed stop → StepStops (response c r) response_start a d p h k area' failed stop
 stops_on c c' r r' a b d p q h i k s area area' failed stop e f x y =
-    stops_after c r a b d p q h i k s area area' failed stop x (subst (λ (g : Grammar Part Fault). StepStops g (behind x.tokens) b d q i k area' failed stop) (same_grammar c c' r r' e f) y)
+    stops_run c r a b d p q h i k s area area' failed stop x (subst (λ (g : Grammar Part Fault). StepStops g (behind x.tokens) b d q i k area' failed stop) (same_grammar c c' r r' e f) y)
 
 -- ---- the message's end
 
@@ -114,7 +99,7 @@ module _ (charset : Charset) (room : ℕ) (a b c : Seen) (p q : ℕ) (h k : Held
       let end : (response charset room).end_fault (behind x.tokens) ≡ Some EndWithoutDone = ap (λ v. if v then None else Some EndWithoutDone) (sym x.tracks.final ∙ open_end) in
       let is : IsCutStop q ((response charset room).end_fault (behind x.tokens)) o.0 (record { fault = EndWithoutDone; place = Payload q }) = inl (o.1, (EndWithoutDone, end, refl)) in
       let cut = cut_at_once (response charset room) (behind x.tokens) b c q [] o.0 (record { fault = EndWithoutDone; place = Payload q }) (omega arith) (Ends-after b c c [] [] 1 o.0 t (over_ends c o)) is in
-      stops_after charset room a b c p q h k k s area area failed (record { fault = EndWithoutDone; place = Payload q }) x
+      stops_run charset room a b c p q h k k s area area failed (record { fault = EndWithoutDone; place = Payload q }) x
       (inl (record { at = behind x.tokens; stops = cut; puts = same_text (behind x.tokens) (behind x.tokens) k refl d; holds = x.holds }, going))
 
   abbrev reads_whole : s.is_final ≡ true → ReadsWhole (response charset room) response_start a c h k area

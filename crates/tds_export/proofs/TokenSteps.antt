@@ -11,13 +11,13 @@ use Rattle.tds_packet.specs.Elements.{IsNext, Spelt}
 use Rattle.tds_packet.specs.Seen.{Seen, Takes, Ends, IsBetween, began_at}
 use Rattle.tds_packet.specs.Reading.{StopsReading}
 use Rattle.tds_packet.proofs.ElementLaws.{Spelt-none, Spelt-one, one_state}
-use Rattle.tds_packet.proofs.Steps.{began_is_cut, cut_at_once}
+use Rattle.tds_packet.proofs.Steps.{began_is_cut, cut_at_once, stops_after}
 use Rattle.tds_columns.specs.Description.{BeforeCount, Column, DescriptionPart, InColumn, NoDescription, WholeDescription, described_size, description, description_bytes, span}
 use Rattle.tds_columns.specs.Gather.{Describes, StopsDescribing}
 use Rattle.tds_columns.specs.View.{columns_of}
 use Rattle.tds_csv.specs.Quoting.{joined, line}
 use Rattle.tds_csv.specs.Sinks.{Breaks, Held, Puts}
-use Rattle.tds_csv.specs.Streaming.{PutsText}
+use Rattle.tds_csv.specs.Streaming.{PutsText, Streams}
 use Rattle.tds_csv.proofs.Sinks.{Puts-none}
 use Rattle.tds_rows.specs.declared.Charset.{Charset}
 use Rattle.tds_rows.specs.Cells.{field, shape}
@@ -31,7 +31,7 @@ use Rattle.tds_export.specs.Outcome.{signed}
 use Rattle.tds_export.specs.TokenGrammar.{Open, Part, DoneFields, DoneInProcFields, Status, open_text, part_add, response, text_so_far, with_described, with_row}
 use Rattle.tds_export.specs.Steps.{StepStops, StopsInReading, StopsInWriting, IsHolding, ReadsTokens, Tracks, behind, in_done, in_done_in_proc, in_metadata, in_row, in_status}
 use Rattle.tds_packet.proofs.Lifts.{last_inside, reads_inside, stops_inside}
-use Rattle.tds_csv.proofs.Streams.{breaks_inside, puts_inside, stops_size, streams_inside}
+use Rattle.tds_csv.proofs.Streams.{breaks_after, breaks_inside, puts_both, puts_inside, stops_size, streams_inside}
 use Rattle.tds_rows.proofs.RowSteps.{start_quiet}
 use Rattle.tds_export.proofs.ResponseLaws.{description_in_response, row_in_response}
 use Rattle.tds_export.proofs.TokenLaws.{IsQuiet, begun_after, begun_where_sets, encoded_after-append, greatest_span-append, quiet_done, quiet_done_in_proc, quiet_status, text_after-snoc, tracks_done, tracks_done_in_proc, tracks_metadata, tracks_none, tracks_row, tracks_status}
@@ -40,7 +40,21 @@ use Rattle.tds_export.proofs.TokenLaws.{IsQuiet, begun_after, begun_where_sets, 
 pub same_text : (p q : Part) (h : Held) → text_so_far p ≡ text_so_far q → h.delivered ≤ 2 ^ 64 - 1 → PutsText text_so_far p q h h
 same_text p q h e d = ([], append-nil (text_so_far p) ∙ e, Puts-none h d)
 
--- what a description area holds behind one more token
+-- what stops a call stops one that read on before it
+pub stops_further : (charset : Charset) (room : ℕ) (s t : Part) (a b c : Seen) (place : ℕ) (h i k : Held) (area : Space) (failed : Bool) (stop : Stop) → (x : Streams (response charset room) text_so_far s a b h i t)
+    → StepStops (response charset room) t b c (place + length x.bytes) i k area failed stop → StepStops (response charset room) s a c place h k area failed stop
+stops_further charset room s t a b c place h i k area failed stop x (inl y) = inl (
+  record {
+    at = y.0.at;
+    stops = stops_after (response charset room) s t a b c place y.0.at stop (record { bytes = x.bytes; spelt = x.spelt; takes = x.takes }) y.0.stops;
+    puts = puts_both text_so_far s t y.0.at h i k x.puts y.0.puts;
+    holds = y.0.holds;
+  },
+  y.1,
+)
+stops_further charset room s t a b c place h i k area failed stop x (inr y) =
+    inr (record { at = y.0.at; breaks = breaks_after (response charset room) text_so_far s t a b c h i k y.0.at stop x y.0.breaks; holds = y.0.holds }, y.1)
+
 -- a token that describes nothing leaves the area holding what it held
 pub holds-snoc : (area : Space) (tokens : List Token) (t : Token) → encoded_after (encoded_after [] tokens) (t ∷ []) ≡ encoded_after [] tokens → IsHolding area (behind tokens) → IsHolding area (behind (tokens ++ t ∷ []))
 holds-snoc area tokens t e h = record {

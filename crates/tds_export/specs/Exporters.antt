@@ -1,12 +1,12 @@
 -- The run of an export as the contracts of its steps see it.
 use Rattle.std.specs.Prelude.{◌≡◌, ◌+◌, ◌<◌, ◌≤◌, ℕ, Bool, true, List, [], ◌++◌, Option, Result, MatchBool, MatchResult, OnOk}
+use Rattle.tds_meter.specs.declared.areas.TheConstants.{SMALL_ROOM}
 use Rattle.tds_meter.specs.Space.{Space, empty}
 use Rattle.tds_packet.specs.declared.fault.Stop.{Stop}
 use Rattle.tds_packet.specs.declared.payload.Payload.{Payload}
 use Rattle.tds_packet.specs.Payloads.{IsGoing, LeavesPayload, seen}
 use Rattle.tds_packet.specs.Seen.{Seen, Takes, IsOver}
 use Rattle.tds_columns.specs.View.{IsDescription}
-use Rattle.tds_columns.specs.declared.returned.TheConstants.{TYPE_ROOM}
 use Rattle.tds_csv.specs.declared.sink.Sink.{Sink}
 use Rattle.tds_csv.specs.Sinks.{Held, IsWriting, LeavesSink, held}
 use Rattle.tds_rows.specs.declared.Charset.{Charset}
@@ -41,7 +41,7 @@ view remaining contents payload sink area notice = record {
 abbrev pub view_of : {R W : Type 0} → (R → Option (List ℕ)) → (W → Option (List ℕ)) → Exporter R W → View
 view_of remaining contents e = view remaining contents e.payload.now e.sink.now e.description.now e.notice.now
 
--- A response can be read from here: the payload goes on, the sink takes text, the description area is empty and has room for a column, the token area has room for a body, the notice area is empty, and the small area has room for a type.
+-- A response can be read from here: the payload goes on, the sink takes text, the description area is empty and has room for a column, the token area has room for a body, the notice area is empty, and the small area has its room.
 pub record CanBegin {R W : Type 0} (payload : Payload R) (sink : Sink W) (area token notice small : Space) : Type 0 where
   pub going : IsGoing payload
   pub writing : IsWriting sink
@@ -52,7 +52,7 @@ pub record CanBegin {R W : Type 0} (payload : Payload R) (sink : Sink W) (area t
   pub notice_room : notice.room ≡ 512
   pub notice_peak : notice.peak ≤ notice.room
   pub none_noted : notice.bytes ≡ []
-  pub small_room : TYPE_ROOM ≤ small.room
+  pub small_room : SMALL_ROOM ≤ small.room
   pub small_peak : small.peak ≤ small.room
 
 -- the sets, rows, errors, messages and returned values of a report
@@ -68,7 +68,7 @@ pub record IsRunning {R W : Type 0} (e : Exporter R W) : Type 0 where
   pub token_peak : e.token.now.peak ≤ e.token.now.room
   pub notice : e.notice.now.room ≡ 512
   pub notice_peak : e.notice.now.peak ≤ e.notice.now.room
-  pub small : TYPE_ROOM ≤ e.small.now.room
+  pub small : SMALL_ROOM ≤ e.small.now.room
   pub small_peak : e.small.now.peak ≤ e.small.now.room
   pub counted : counted e.progress.report ≤ e.payload.now.place
   pub described : e.progress.described ≡ true → IsDescription e.description.now.bytes

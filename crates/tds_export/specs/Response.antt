@@ -6,7 +6,8 @@ use Rattle.tds_rows.specs.declared.Charset.{Charset}
 use Rattle.tds_rows.specs.Cells.{Cell}
 use Rattle.tds_rows.specs.Rows.{SpellsRow, SpellsNbcRow}
 use Rattle.tds_packet.specs.Packets.{Packet, Message, payload_of}
-use Rattle.tds_export.specs.declared.token_bytes.TheConstants.{COLMETADATA, ROW, NBCROW, ORDER, ENVCHANGE, ERROR, INFO, RETURNVALUE, RETURNSTATUS, DONE, DONEPROC, DONEINPROC}
+use Rattle.tds_rows.specs.declared.run.TheConstants.{ROW}
+use Rattle.tds_export.specs.declared.token_bytes.TheConstants.{COLMETADATA, NBCROW, ORDER, ENVCHANGE, ERROR, INFO, RETURNVALUE, RETURNSTATUS, DONE, DONEPROC, DONEINPROC}
 use Rattle.tds_export.specs.ReturnValue.{SpellsReturnValue}
 use Rattle.tds_export.specs.Tokens.{Notice, Token, Metadata, NoMetadata, Row, Order, EnvChange, Error, Info, ReturnStatus, Returned, Done, DoneInProc, described_after, is_final}
 

@@ -23,7 +23,7 @@ use tds_packet::{Fault, Payload, Place, Stop};
 use tds_rows::{Charset, nbc_row, read_rows};
 
 /// The run of an export: what it reads and writes, the areas of its description, of a token's body,
-/// of the first error's text and of a returned value's type, and its progress.
+/// of the first error's text and of what is kept for a moment, and its progress.
 #[derive(Drop)]
 pub(crate) struct Exporter<'a, 'p, 's, R, W> {
     payload: &'a mut Payload<'p, R>,
@@ -65,7 +65,7 @@ impl<'a, 'p, 's, R: Read, W: Write> Exporter<'a, 'p, 's, R, W> {
             StepRead R.remaining W.contents (in_row self.old.charset columns) self.old self.new result }
     {
         let columns = Columns::view(self.description.bytes());
-        let count = read_rows(self.payload, columns, self.charset, self.sink)?;
+        let count = read_rows(self.payload, columns, self.charset, self.small, self.sink)?;
         self.progress.report.rows += count;
         self.progress.is_final = false;
         Ok(())
@@ -80,7 +80,14 @@ impl<'a, 'p, 's, R: Read, W: Write> Exporter<'a, 'p, 's, R, W> {
             StepRead R.remaining W.contents (in_nbc_row columns) self.old self.new result }
     {
         let columns = Columns::view(self.description.bytes());
-        nbc_row(self.payload, columns, self.charset, self.token, self.sink)?;
+        nbc_row(
+            self.payload,
+            columns,
+            self.charset,
+            self.token,
+            self.small,
+            self.sink,
+        )?;
         self.progress.report.rows += 1;
         self.progress.is_final = false;
         Ok(())

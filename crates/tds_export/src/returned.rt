@@ -6,7 +6,7 @@ ghost use Rattle.tds_values.specs.Kind as kinds;
 
 use std::io::Read;
 use tds_columns::{TYPE_HEAD, TYPE_ROOM, read_type_info, take_into};
-use tds_meter::Area;
+use tds_meter::{Area, SMALL_ROOM};
 use tds_packet::{Payload, Stop};
 use tds_rows::pass_over;
 use tds_values::Kind;
@@ -44,11 +44,11 @@ fn take_type<R: Read>(payload: &mut Payload<R>, small: &mut Area) -> Result<Kind
     read_type_info(payload, small)
 }
 
-/// Reads a RETURNVALUE behind its token byte, of which nothing is kept but its type information, in the
-/// small area, until the value is passed over.
+/// Reads a RETURNVALUE behind its token byte, of which nothing is kept: its type information stands in the
+/// small area, and then a scalar value, until it is judged.
 pub(crate) fn pass_return<R: Read>(payload: &mut Payload<R>, small: &mut Area) -> Result<(), Stop>
     requires going { IsGoing payload.old }
-    requires room { TYPE_ROOM ≤ small.old.room }
+    requires room { SMALL_ROOM ≤ small.old.room }
     requires peak { small.old.peak ≤ small.old.room }
     ensures leaves { LeavesPayload payload.old payload.new result }
     ensures room { small.new.room ≡ small.old.room }
@@ -58,5 +58,5 @@ pub(crate) fn pass_return<R: Read>(payload: &mut Payload<R>, small: &mut Area) -
 {
     pass_name(payload)?;
     let kind = take_type(payload, small)?;
-    pass_over(payload, &kind)
+    pass_over(payload, &kind, small)
 }

@@ -12,11 +12,14 @@ use tds_packet::{Counted, Fault, Place};
 
 mod columns;
 mod cuts;
+mod every_cut;
 mod kinds;
 mod long_values;
 mod nbc_rows;
 mod notices;
+mod refusals;
 mod return_values;
+mod writers;
 
 // A column of numbers named a, a row of 42, and a DONE, in one packet.
 const WIRE: [u8; 39] = [
@@ -100,6 +103,11 @@ const COLUMN_ROOM: u32 = 1_048_576;
 
 const MAX_WIRE: u64 = 1_099_511_627_776;
 
+// The character sets of single-byte text.
+const SINGLE: Charset = Charset::Windows1252;
+
+const UTF8: Charset = Charset::Utf8;
+
 // What an export came to.
 #[derive(Debug, Clone, Copy, PartialEq, Eq)]
 struct Outcome {
@@ -120,6 +128,20 @@ const fn came_to(answer: Result<Report, Stopped>, text: &[u8]) -> Outcome {
         left: 0,
         read_failures: 0,
         write_failures: 0,
+    }
+}
+
+// What is wanted where the writer fails once it took these bytes, and these wait.
+fn broken_behind(taken: &[u8], waiting: &[u8]) -> Outcome {
+    let answer = Err(Stopped {
+        fault: Fault::WriteFailed,
+        place: Place::Text(taken.len() as u64),
+        written: taken.len() as u64,
+        unwritten: waiting.len() as u64,
+    });
+    Outcome {
+        write_failures: 1,
+        ..came_to(answer, taken)
     }
 }
 
@@ -194,11 +216,54 @@ fn run(
     run_under(areas, from, to, Charset::Windows1252, text)
 }
 
-// What came of a wire, where devices give and take so many bytes a call.
-fn read(areas: &mut Areas, wire: &[u8], most: usize, text: &[u8]) -> Option<Outcome> {
+// What came of a wire that repeats: the answer, how many bytes the writer took, and how many of those it
+// kept, where the text that is expected begins with them.
+#[derive(Debug, Clone, Copy, PartialEq, Eq)]
+struct Repeated {
+    answer: Result<Report, Stopped>,
+    taken: usize,
+    kept: Option<usize>,
+}
+
+// No text, or all of it within what the writer keeps.
+const fn all_of(answer: Result<Report, Stopped>, taken: usize) -> Repeated {
+    Repeated {
+        answer,
+        taken,
+        kept: Some(taken),
+    }
+}
+
+fn run_repeated(areas: &mut Areas, from: RepeatingReader<'_>, text: &[u8]) -> Option<Repeated> {
+    if !areas.intact() {
+        return None;
+    }
+    let mut from = Counted::new(from);
+    let mut to = Counted::new(ScriptedWriter::new(4096, Failing::Never));
+    let answer = export(areas, &mut from, &mut to, SINGLE);
+    Some(Repeated {
+        answer,
+        taken: to.device().taken(),
+        kept: front_of(to.device().kept(), text),
+    })
+}
+
+// What came of a wire under a character set, where devices give and take so many bytes a call.
+fn read_under(
+    areas: &mut Areas,
+    wire: &[u8],
+    most: usize,
+    charset: Charset,
+    text: &[u8],
+) -> Option<Outcome> {
     let from = ScriptedReader::new(wire, most);
     let to = ScriptedWriter::new(most, Failing::Never);
-    run(areas, from, to, text)
+    run_under(areas, from, to, charset, text)
+}
+
+// The same where single-byte text is Windows-1252.
+fn read(areas: &mut Areas, wire: &[u8], most: usize, text: &[u8]) -> Option<Outcome> {
+    read_under(areas, wire, most, SINGLE, text)
 }
 
 // What came of a payload in one packet, where devices give and take so many bytes a call.
@@ -381,36 +446,40 @@ fn the_last_status_is_reported(rt: HostRuntime) -> Result<(), Fail> {
     Ok(())
 }
 
-// What comes of a wire, and then the restarts of the areas, the bytes of their description, and the
-// most that it had.
+// A payload, its report's sets and rows, its text, and then the restarts of the areas, the bytes of their
+// description, and the most that it had.
+const METERED: [(&[u8], u64, &[u8], (u64, u64, u64)); 2] = [
+    (&PAYLOAD, 1, TEXT, (1, 12, 12)),
+    (DONE, 0, NOTHING, (2, 0, 0)),
+];
+
 fn check_meters(
+    alloc: Global,
     areas: &mut Areas,
-    wire: &[u8],
-    want: Outcome,
+    (payload, rows): (&[u8], u64),
     text: &[u8],
     meters: (u64, u64, u64),
 ) -> Result<(), Fail> {
-    let out = read(areas, wire, 1000, text);
+    let out = read_payload(alloc, areas, payload, 1000, text)?;
+    let want = came_to(Ok(report(rows, rows, text.len() as u64)), text);
     same("an answer", &out, &Some(want))?;
     let (held, peak) = (areas.description_held(), areas.description_peak());
-    same("meters", &(areas.restarts(), held, peak), &meters)
+    let is_little = areas.peak_rest() <= 4096 + 65_536 + 4736;
+    same(
+        "meters",
+        &(areas.restarts(), held, peak, is_little),
+        &(meters.0, meters.1, meters.2, true),
+    )
 }
 
 #[test]
 fn areas_are_metered(rt: HostRuntime) -> Result<(), Fail> {
     let mut areas = make_usual_areas(rt.alloc())?;
-    let done = in_one_packet(rt.alloc(), DONE)?;
-    let (one, none) = (Ok(report(1, 1, 9)), Ok(report(0, 0, 0)));
-    assert_eq!(rt; areas.restarts(), 0);
-    check_meters(&mut areas, &WIRE, came_to(one, TEXT), TEXT, (1, 12, 12))?;
-    assert!(rt; areas.peak_rest() <= 4096 + 65_536 + 4736);
-    check_meters(
-        &mut areas,
-        &done,
-        came_to(none, NOTHING),
-        NOTHING,
-        (2, 0, 0),
-    )
+    same("restarts", &areas.restarts(), &0)?;
+    for (payload, rows, text, meters) in &METERED {
+        check_meters(rt.alloc(), &mut areas, (payload, *rows), text, *meters)?;
+    }
+    Ok(())
 }
 
 // The payload in packets of one byte each.
@@ -475,7 +544,7 @@ fn headers_are_judged(rt: HostRuntime) -> Result<(), Fail> {
             left: 31,
             ..came_to(stopped(fault, Place::Wire(0), NOTHING), NOTHING)
         };
-        assert_eq!(rt; out, Some(want), "{what}");
+        same(what, &out, &Some(want))?;
     }
     Ok(())
 }
@@ -511,7 +580,7 @@ fn limits_are_kept(rt: HostRuntime) -> Result<(), Fail> {
         ("too long", COLUMN_ROOM, 38, too_much),
     ] {
         let out = read_within(rt.alloc(), &WIRE, column_room, max_wire, TEXT)?;
-        assert_eq!(rt; out, Some(want), "{what}");
+        same(what, &out, &Some(want))?;
     }
     Ok(())
 }
@@ -634,7 +703,7 @@ fn the_next_packet_is_read_when_needed(rt: HostRuntime) -> Result<(), Fail> {
             left,
             ..came_to(stopped(fault, place, NOTHING), NOTHING)
         };
-        assert_eq!(rt; out, Some(want), "{what}");
+        same(what, &out, &Some(want))?;
     }
     Ok(())
 }
@@ -648,95 +717,14 @@ fn nothing_behind_the_last_packet_is_read(rt: HostRuntime) -> Result<(), Fail> {
         left: 1,
         ..came_to(Ok(report(1, 1, 9)), TEXT)
     };
-    assert_eq!(rt; out, Some(want));
-    Ok(())
+    same("a byte behind it", &out, &Some(want))
 }
 
 #[test]
 fn empty_packets_end_at_the_limit(rt: HostRuntime) -> Result<(), Fail> {
     let mut areas = make_areas(rt.alloc(), PACKET_SIZE, COLUMN_ROOM, 4096)?;
-    let mut from = Counted::new(RepeatingReader::new(&EMPTY, &EMPTY, 1_000_000, &WIRE));
-    let mut to = Counted::new(ScriptedWriter::new(1000, Failing::Never));
-    let answer = export(&mut areas, &mut from, &mut to, Charset::Windows1252);
-    let expected = stopped(Fault::ResponseTooLong, Place::Wire(4096), NOTHING);
-    assert_eq!(rt; (answer, to.device().taken()), (expected, 0));
-    Ok(())
-}
-
-// So many bytes of the payload, a writer that fails, and what stops the export.
-#[derive(Clone, Copy)]
-struct Broken {
-    length: usize,
-    failing: Failing,
-    fault: Fault,
-    place: Place,
-    written: usize,
-}
-
-const fn broken_by(failing: Failing, written: usize) -> Broken {
-    Broken {
-        length: 31,
-        failing,
-        fault: Fault::WriteFailed,
-        place: Place::Text(written as u64),
-        written,
-    }
-}
-
-// The message ends before its last token, and that fault stands.
-const fn ended_before(failing: Failing, written: usize) -> Broken {
-    Broken {
-        length: 18,
-        failing,
-        fault: Fault::EndWithoutDone,
-        place: Place::Payload(18),
-        written,
-    }
-}
-
-// The writer takes at most four bytes a call.
-fn check_broken(alloc: Global, areas: &mut Areas, case: Broken) -> Result<(), Fail> {
-    let wire = in_one_packet(alloc, front(&PAYLOAD, case.length))?;
-    let from = ScriptedReader::new(&wire, 1000);
-    let writer = ScriptedWriter::new(4, case.failing);
-    let (taken, waiting) = TEXT.split_at(TEXT.len().min(case.written));
-    let out = run(areas, from, writer, taken);
-    let answer = Err(Stopped {
-        fault: case.fault,
-        place: case.place,
-        written: taken.len() as u64,
-        unwritten: waiting.len() as u64,
-    });
-    let want = Outcome {
-        write_failures: 1,
-        ..came_to(answer, taken)
-    };
-    same(
-        format_args!("{:?}", case.failing),
-        &(out, areas.waiting()),
-        &(Some(want), waiting),
-    )
-}
-
-#[test]
-fn a_failed_write_says_what_was_taken(rt: HostRuntime) -> Result<(), Fail> {
-    let mut areas = make_usual_areas(rt.alloc())?;
-    for taken in 0..9 {
-        check_broken(
-            rt.alloc(),
-            &mut areas,
-            broken_by(Failing::AfterBytes(taken), taken),
-        )?;
-    }
-    for case in [
-        broken_by(Failing::ZeroAfterBytes(0), 0),
-        broken_by(Failing::AtWrite(0), 0),
-        broken_by(Failing::AtWrite(1), 4),
-        broken_by(Failing::InFlush, 9),
-        ended_before(Failing::AfterBytes(0), 0),
-        ended_before(Failing::InFlush, 9),
-    ] {
-        check_broken(rt.alloc(), &mut areas, case)?;
-    }
-    Ok(())
+    let from = RepeatingReader::new(&EMPTY, &EMPTY, 1_000_000, &WIRE);
+    let came = run_repeated(&mut areas, from, NOTHING);
+    let answer = stopped(Fault::ResponseTooLong, Place::Wire(4096), NOTHING);
+    same("empty packets", &came, &Some(all_of(answer, 0)))
 }

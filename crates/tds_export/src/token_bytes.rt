@@ -4,6 +4,9 @@
 // browse mode; ALTMETADATA and ALTROW, which serve COMPUTE; and FEATUREEXTACK, SESSIONSTATE, SSPI and
 // FEDAUTHINFO, which belong to features that a client negotiates.
 
+// That of ROW stands in `tds_rows`, whose runs go over it.
+pub(crate) use tds_rows::ROW;
+
 /// RETURNSTATUS.
 pub(crate) const RETURNSTATUS: u8 = 0x79;
 /// COLMETADATA.
@@ -16,8 +19,6 @@ pub(crate) const ERROR: u8 = 0xAA;
 pub(crate) const INFO: u8 = 0xAB;
 /// RETURNVALUE.
 pub(crate) const RETURNVALUE: u8 = 0xAC;
-/// ROW.
-pub(crate) const ROW: u8 = 0xD1;
 /// NBCROW, a row with null bits (MS-TDS, NBCROW).
 pub(crate) const NBCROW: u8 = 0xD2;
 /// ENVCHANGE.

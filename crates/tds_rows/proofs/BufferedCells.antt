@@ -1,5 +1,5 @@
 -- Cells whose bytes lie together, and the room that a sink lends for their text.
-use Rattle.std.proofs.Common.{◌≡◌, ◌≢◌, ◌∙◌, ℕ, ◌+◌, ◌-◌, ◌^◌, ◌<◌, ◌≤◌, Bool, true, false, List, [], ◌∷◌, ◌++◌, length, take, drop, Result, Ok, Err, MatchResult, inr, refl, sym, ap, subst, arith, length-take, length-drop}
+use Rattle.std.proofs.Common.{◌≡◌, ◌≢◌, ◌∙◌, ℕ, zero, suc, ◌+◌, ◌-◌, ◌^◌, ◌<◌, ◌≤◌, Bool, true, false, List, [], ◌∷◌, ◌++◌, length, take, drop, Result, Ok, Err, MatchResult, inr, refl, sym, ap, subst, arith, length-take, length-drop}
 use Rattle.std.specs.Prelude.{None, Some, Option, ◌==◌, ◌||◌, is_ok, slice_index, if◌then◌else◌}
 use Rattle.std.proofs.lemmas.Bool.{ne_eqb}
 use Rattle.std.proofs.lemmas.List.{length-take-le}
@@ -25,7 +25,8 @@ use Rattle.tds_rows.proofs.CellSteps.{fixed_some, scalar_shape}
 use Rattle.tds_rows.proofs.RowSteps.{at_once_breaks, at_once_streams}
 use Rattle.tds_rows.specs.declared.Charset.{Charset}
 use Rattle.tds_rows.specs.Cells.{CellPart, Null, ScalarBytes, ScalarCell, ScalarLength, WholeCell, cell, cell_start, shape, shape_of_length, unless, value_part}
-use Rattle.tds_rows.specs.CellSteps.{HasInt4, IsLeft, IsValueText, length_behind, start_behind, value_length, value_start, PutsCell, ReadsCell, StopsCell, WritesCell}
+use Rattle.tds_rows.specs.CellSteps.{HasInt4, IsScalarLeft, IsValueText, length_behind, start_behind, value_length, value_start, PutsCell, ReadsCell, StopsCell}
+use Rattle.tds_rows.specs.WholeCells.{WritesCell}
 use Rattle.tds_csv.specs.Quoting.{in_line}
 
 -- a value that is read has a length that is allowed
@@ -137,10 +138,17 @@ int4_cell charset kind column last bytes text h x =
     (value_cell charset (IntN 4) column last bytes text refl 1 4 refl (sym h.length_is) (λ e. omega (arith, e)) h.whole x)
 
 -- a cell whose value is refused is left
-pub refused_left : (kind : Kind) (bytes : List ℕ) (start n : ℕ) → start ≡ value_start kind → n ≡ value_length kind bytes → n ≢ 0 → is_ok (read_of kind (take ((start + n) - start) (drop start bytes))) ≡ false → IsLeft kind bytes
+pub refused_left : (kind : Kind) (bytes : List ℕ) (start n : ℕ) → start ≡ value_start kind → n ≡ value_length kind bytes → n ≢ 0 → is_ok (read_of kind (take ((start + n) - start) (drop start bytes))) ≡ false → IsScalarLeft kind bytes
 refused_left kind bytes start n at many some bad =
     let behind : (start + n) - start ≡ value_length kind bytes = omega (arith, many) in
-    inr (inr (omega (arith, some, many), subst (λ (m : ℕ). is_ok (read_of kind (take (value_length kind bytes) (drop m bytes))) ≡ false) at (subst (λ (m : ℕ). is_ok (read_of kind (take m (drop start bytes))) ≡ false) behind bad)))
+    inr (omega (arith, some, many), subst (λ (m : ℕ). is_ok (read_of kind (take (value_length kind bytes) (drop m bytes))) ≡ false) at (subst (λ (m : ℕ). is_ok (read_of kind (take m (drop start bytes))) ≡ false) behind bad))
+
+-- the bytes of a whole cell say how many they are, as those with more behind them do
+pub front_size : (fixed : Option ℕ) (n : ℕ) (bytes : List ℕ) → start_behind fixed + length_behind fixed bytes ≤ n → start_behind fixed + length_behind fixed (take n bytes) ≡ start_behind fixed + length_behind fixed bytes
+front_size (Some k) n bytes within = refl
+front_size None zero bytes within = absurd (omega (arith, within))
+front_size None (suc n) [] within = refl
+front_size None (suc n) (x ∷ xs) within = refl
 
 -- bytes that are a cell were read
 pub cell_reads : (from : CellPart) (column : ℕ) (last : Bool) (a b : Seen) (place place' : ℕ) (bytes text : List ℕ) → WritesCell from column last bytes text → Takes a b bytes (length bytes) → IsBetween b → place' ≡ place + length bytes

@@ -1,13 +1,13 @@
 -- The cells of scalar kinds, as they are read.
-use Rattle.std.proofs.Common.{◌≡◌, ◌≢◌, ◌∙◌, inl, inr, ℕ, ◌+◌, ◌<◌, true, false, List, [], ◌∷◌, ◌++◌, length, take, drop, get_or, ◌≤◌, refl, sym, ap, subst, arith, length-take}
-use Rattle.std.specs.Prelude.{Option, Some, None, ◌==◌, ◌||◌, is_ok, slice_index, slice_set, if◌then◌else◌}
+use Rattle.std.proofs.Common.{◌≡◌, ◌≢◌, ◌∙◌, inl, inr, ℕ, ◌+◌, ◌<◌, true, false, List, [], ◌∷◌, ◌++◌, length, take, drop, get_or, refl, sym, ap, subst, arith}
+use Rattle.std.specs.Prelude.{Option, Some, None, Result, Ok, Err, MatchResult, ◌==◌, ◌||◌, is_ok, slice_index, if◌then◌else◌}
 use Rattle.std.proofs.lemmas.Bool.{ne_eqb}
-use Rattle.std.proofs.lemmas.List.{take-append-le, take_all, take_more_set}
-use Rattle.std.proofs.Math.Seq.{take-append-add}
+use Rattle.std.proofs.lemmas.List.{take_all}
 use Rattle.tds_values.specs.declared.kind.Kind.{Kind}
 use Rattle.tds_values.specs.declared.kind.Kind.TheVariants as kinds
 use Rattle.tds_values.specs.Kind.{fixed_length, is_length_allowed, is_scalar}
 use Rattle.tds_values.specs.Scalar.{read_of}
+use Rattle.tds_meter.specs.Space.{Space, appended}
 use Rattle.tds_packet.specs.declared.fault.Fault.TheVariants.{BadValue, BadValueLength, MessageEnded}
 use Rattle.tds_packet.specs.declared.fault.Place.TheVariants.{Payload}
 use Rattle.tds_packet.specs.declared.fault.Stop.{Stop}
@@ -15,9 +15,10 @@ use Rattle.tds_packet.specs.Seen.{Seen, Takes, Ends, IsBetween, began_at}
 use Rattle.tds_packet.specs.Reading.{Reads, StopsReading}
 use Rattle.tds_packet.proofs.Choices.{choose_false}
 use Rattle.tds_packet.proofs.Steps.{began_is_cut, cut_at_once, reads_one, refused_at_once, stops_after, takes_both}
+use Rattle.tds_columns.specs.Elements.{EndsInto, TakesInto}
 use Rattle.tds_rows.specs.declared.Charset.{Charset}
 use Rattle.tds_rows.specs.Cells.{CellPart, Null, ScalarBytes, ScalarLength, WholeCell, cell, cell_end, cell_size, cell_start, shape, shape_of_length, unless}
-use Rattle.tds_rows.specs.CellSteps.{GathersCell, IsLeft, StallsCell, length_behind, start_behind, value_bytes, value_start}
+use Rattle.tds_rows.specs.CellSteps.{GathersCell, IsScalarLeft, StallsCell, length_behind, start_behind, value_bytes, value_start}
 
 -- a scalar kind's shape is that of its length
 pub scalar_shape : (charset : Charset) (kind : Kind) → is_scalar kind ≡ true → shape charset kind ≡ shape_of_length (fixed_length kind)
@@ -58,11 +59,8 @@ fixed_some kinds.DateTime8 n h = grind arith
 fixed_some kind n h = cc
 
 -- the next element of a cell is cut
-pub cell_cut : (column : ℕ) (s : CellPart) (a b : Seen) (place n k : ℕ) (bytes : List ℕ) (own stop : Stop) → cell_size s ≡ n → cell_end s ≡ Some MessageEnded → k < n → length bytes ≡ n
-    → Ends a b (take k bytes) own → stop ≡ began_at place own → StopsReading (cell column) s a b place s stop
-cell_cut column s a b place n k bytes own stop size end less len ends is =
-    cut_at_once (cell column) s a b place (take k bytes) own stop (omega (arith, less, len, size, length-take k bytes)) ends
-    (began_is_cut place ((cell column).end_fault s) own stop end is)
+pub cell_cut : (column : ℕ) (s : CellPart) (a b : Seen) (place n : ℕ) (part : List ℕ) (own stop : Stop) → cell_size s ≡ n → cell_end s ≡ Some MessageEnded → length part < n → Ends a b part own → stop ≡ began_at place own → StopsReading (cell column) s a b place s stop
+cell_cut column s a b place n part own stop size end fewer ends is = cut_at_once (cell column) s a b place part own stop (omega (arith, fewer, size)) ends (began_is_cut place ((cell column).end_fault s) own stop end is)
 
 -- ---- the bytes of a value
 
@@ -97,8 +95,8 @@ fixed_gathers column kind n a b place place' bytes is whole takes between at = r
 
 -- ---- the length before it
 
-pub length_cut : (column : ℕ) (kind : Kind) (a b : Seen) (place k : ℕ) (bytes : List ℕ) (own stop : Stop) → k < length bytes → length bytes ≡ 1 → Ends a b (take k bytes) own → stop ≡ began_at place own → StallsCell (ScalarLength kind) column a b place stop
-length_cut column kind a b place k bytes own stop less len ends is = record { at = ScalarLength kind; stops = cell_cut column (ScalarLength kind) a b place 1 k bytes own stop refl refl (omega (arith, less, len)) len ends is; quiet = refl }
+pub length_cut : (column : ℕ) (kind : Kind) (a b : Seen) (place : ℕ) (part : List ℕ) (own stop : Stop) → length part < 1 → Ends a b part own → stop ≡ began_at place own → StallsCell (ScalarLength kind) column a b place stop
+length_cut column kind a b place part own stop fewer ends is = record { at = ScalarLength kind; stops = cell_cut column (ScalarLength kind) a b place 1 part own stop refl refl fewer ends is; quiet = refl }
 
 pub length_refused : (column : ℕ) (kind : Kind) (a b : Seen) (place n : ℕ) (bytes : List ℕ) → length bytes ≡ 1 → slice_index bytes 0 ≡ n → n ≢ 0 → is_length_allowed kind n ≡ false → Takes a b bytes (length bytes) → IsBetween b
     → StallsCell (ScalarLength kind) column a b place (record { fault = BadValueLength column; place = Payload place })
@@ -106,13 +104,6 @@ length_refused column kind a b place n bytes len is some bad takes between =
     let no : ((n == 0) || is_length_allowed kind n) ≡ false = ap (λ v. v || is_length_allowed kind n) (ne_eqb n 0 some) ∙ bad in
     let first : (cell column).fault (ScalarLength kind) bytes ≡ Some (BadValueLength column) = ap (λ (m : ℕ). unless ((m == 0) || is_length_allowed kind m) (BadValueLength column)) is ∙ ap (λ v. unless v (BadValueLength column)) no in
     record { at = ScalarLength kind; stops = refused_at_once (cell column) (ScalarLength kind) a b place bytes (BadValueLength column) (omega (arith, len)) len first takes between; quiet = refl }
-
--- the first byte of a slice that was written, and what stands behind it
-pub first_set : (n : ℕ) (cell : List ℕ) → 0 < length cell → take 1 (slice_set cell 0 n) ≡ n ∷ []
-first_set n cell some = take_more_set cell 0 n some
-
-pub behind_first : (n k : ℕ) (cell value rest : List ℕ) → 0 < length cell → k ≤ length value → take (1 + k) (take 1 (slice_set cell 0 n) ++ (value ++ rest)) ≡ n ∷ take k value
-behind_first n k cell value rest some within = ap (λ l. take (1 + k) (l ++ (value ++ rest))) (first_set n cell some) ∙ take-append-add (n ∷ []) (value ++ rest) k ∙ ap (λ l. n ∷ l) (take-append-le k value rest within)
 
 -- a list of one number
 pub only_one : (l : List ℕ) → length l ≡ 1 → l ≡ get_or l 0 0 ∷ []
@@ -147,11 +138,11 @@ length_then column kind n a b d place bytes stop len is some good takes x =
     record { at = ScalarBytes kind n; stops = stops_after (cell column) (ScalarLength kind) (ScalarBytes kind n) a b d place (ScalarBytes kind n) stop p x; quiet = refl }
 
 -- the value behind a length is cut
-pub counted_cut : (column : ℕ) (kind : Kind) (n : ℕ) (a b d : Seen) (place middle k : ℕ) (bytes value : List ℕ) (own stop : Stop) → length bytes ≡ 1 → slice_index bytes 0 ≡ n → n ≢ 0 → is_length_allowed kind n ≡ true → Takes a b bytes (length bytes)
-    → middle ≡ place + length bytes → k < length value → length value ≡ n → Ends b d (take k value) own → stop ≡ began_at middle own → StallsCell (ScalarLength kind) column a d place stop
-counted_cut column kind n a b d place middle k bytes value own stop len is some good takes at less whole ends told =
+pub counted_cut : (column : ℕ) (kind : Kind) (n : ℕ) (a b d : Seen) (place middle : ℕ) (bytes part : List ℕ) (own stop : Stop) → length bytes ≡ 1 → slice_index bytes 0 ≡ n → n ≢ 0 → is_length_allowed kind n ≡ true → Takes a b bytes (length bytes)
+    → middle ≡ place + length bytes → length part < n → Ends b d part own → stop ≡ began_at middle own → StallsCell (ScalarLength kind) column a d place stop
+counted_cut column kind n a b d place middle bytes part own stop len is some good takes at fewer ends told =
     length_then column kind n a b d place bytes stop len is some good takes
-    (subst (λ (m : ℕ). StopsReading (cell column) (ScalarBytes kind n) b d m (ScalarBytes kind n) stop) at (cell_cut column (ScalarBytes kind n) b d middle n k value own stop refl refl (omega (arith, less, whole)) whole ends told))
+    (subst (λ (m : ℕ). StopsReading (cell column) (ScalarBytes kind n) b d m (ScalarBytes kind n) stop) at (cell_cut column (ScalarBytes kind n) b d middle n part own stop refl refl fewer ends told))
 
 -- a length and the value behind it were read
 pub counted_gathers : (column : ℕ) (kind : Kind) (n : ℕ) (a b d : Seen) (place middle place' : ℕ) (value : List ℕ) → fixed_length kind ≡ None → n ≢ 0 → is_length_allowed kind n ≡ true → Takes a b (n ∷ []) 1 → middle ≡ place + 1
@@ -169,13 +160,49 @@ counted_gathers column kind n a b d place middle place' value is some good first
       subst (λ (k : ℕ). StallsCell (ScalarLength kind) column a d place (stop k)) (omega (arith, at, here)) (length_then column kind n a b d place (n ∷ []) (stop (place + 1)) refl refl some good first refusal);
 }
 
+-- ---- cells that are read into an area
+
+-- what an empty area gets stands there alone
+stands_alone : (before after : Space) (element : List ℕ) → before.bytes ≡ [] → after ≡ appended before element → after.bytes ≡ element
+stands_alone before after element none is = ap (λ (s : Space). s.bytes) is ∙ ap (λ l. l ++ element) none
+
+-- a cell that has no length before its value was read into an empty area, or it is cut
+pub fixed_taken : {U : Type 0} → (result : Result U Stop) (stopped : Option Stop) (column : ℕ) (kind : Kind) (n : ℕ) (a b : Seen) (place place' : ℕ) (before after : Space) → fixed_length kind ≡ Some n → before.bytes ≡ [] → stopped ≡ None → place' ≡ (if is_ok result then place + n else place)
+    → MatchResult result (λ _. TakesInto a b before after n) (λ stop. stopped ≡ None → EndsInto a b before after place n stop)
+    → MatchResult result (λ _. GathersCell kind (ScalarBytes kind n) column a b place place' after.bytes) (λ stop. StallsCell (ScalarBytes kind n) column a b place stop)
+fixed_taken (Ok u) stopped column kind n a b place place' before after is none going at x =
+    subst (GathersCell kind (ScalarBytes kind n) column a b place place') (sym (stands_alone before after x.element none x.stands))
+    (fixed_gathers column kind n a b place place' x.element is x.whole (subst (Takes a b x.element) (sym x.whole) x.takes) x.between (at ∙ ap (λ m. place + m) (sym x.whole)))
+fixed_taken (Err stop) stopped column kind n a b place place' before after is none going at x =
+    let e = x going in
+    cell_stalls column kind n a b place stop (cell_cut column (ScalarBytes kind n) a b place n e.part e.own stop refl refl e.fewer e.ends e.stop_is)
+
+-- the length that an empty area got
+pub length_taken : (a b : Seen) (before after : Space) (n : ℕ) → before.bytes ≡ [] → slice_index after.bytes 0 ≡ n → TakesInto a b before after 1 → (after.bytes ≡ n ∷ []) × (Takes a b (n ∷ []) 1)
+length_taken a b before after n none is x =
+    let alone = stands_alone before after x.element none x.stands in
+    let bytes : after.bytes ≡ n ∷ [] = only_one after.bytes (ap length alone ∙ x.whole) ∙ ap (λ m. m ∷ []) is in
+    (bytes, subst (λ l. Takes a b l 1) (sym alone ∙ bytes) x.takes)
+
+-- the value behind a length that is allowed was read into the area that has the length, or it is cut
+pub counted_taken : {U : Type 0} → (result : Result U Stop) (stopped : Option Stop) (column : ℕ) (kind : Kind) (n : ℕ) (a b d : Seen) (place middle place' : ℕ) (before after : Space) → fixed_length kind ≡ None → before.bytes ≡ n ∷ [] → n ≢ 0 → is_length_allowed kind n ≡ true
+    → Takes a b (n ∷ []) 1 → middle ≡ place + 1 → stopped ≡ None → place' ≡ (if is_ok result then middle + n else middle)
+    → MatchResult result (λ _. TakesInto b d before after n) (λ stop. stopped ≡ None → EndsInto b d before after middle n stop)
+    → MatchResult result (λ _. GathersCell kind (ScalarLength kind) column a d place place' after.bytes) (λ stop. StallsCell (ScalarLength kind) column a d place stop)
+counted_taken (Ok u) stopped column kind n a b d place middle place' before after is first some good takes at going there x =
+    let bytes : after.bytes ≡ n ∷ x.element = ap (λ (s : Space). s.bytes) x.stands ∙ ap (λ l. l ++ x.element) first in
+    subst (GathersCell kind (ScalarLength kind) column a d place place') (sym bytes)
+    (counted_gathers column kind n a b d place middle place' x.element is some good takes at x.whole (subst (Takes b d x.element) (sym x.whole) x.takes) x.between (there ∙ ap (λ m. middle + m) (sym x.whole)))
+counted_taken (Err stop) stopped column kind n a b d place middle place' before after is first some good takes at going there x =
+    let e = x going in
+    counted_cut column kind n a b d place middle (n ∷ []) e.part e.own stop refl refl some good takes at e.fewer e.ends e.stop_is
+
 -- from the shape of a scalar kind on
 pub scalar_start : (charset : Charset) (kind : Kind) (o : Option ℕ) → is_scalar kind ≡ true → fixed_length kind ≡ o → cell_start kind (shape_of_length o) ≡ cell_start kind (shape charset kind)
 scalar_start charset kind o scalar is = ap (λ l. cell_start kind (shape_of_length l)) (sym is) ∙ ap (cell_start kind) (sym (scalar_shape charset kind scalar))
 
 -- a cell whose bytes were gathered, and that is left, stops at its value
-pub left_stalls : (kind : Kind) (from : CellPart) (column : ℕ) (a b : Seen) (place place' : ℕ) (bytes : List ℕ) → is_scalar kind ≡ true → (x : GathersCell kind from column a b place place' bytes) → IsLeft kind bytes
+pub left_stalls : (kind : Kind) (from : CellPart) (column : ℕ) (a b : Seen) (place place' : ℕ) (bytes : List ℕ) → (x : GathersCell kind from column a b place place' bytes) → IsScalarLeft kind bytes
     → StallsCell from column a b place (record { fault = BadValue column; place = Payload (place + value_start kind) })
-left_stalls kind from column a b place place' bytes scalar x (inl none) = absurd (let no : true ≡ false = sym scalar ∙ none in cc)
-left_stalls kind from column a b place place' bytes scalar x (inr (inl short)) = absurd (omega (arith, short, x.whole))
-left_stalls kind from column a b place place' bytes scalar x (inr (inr bad)) = x.refused bad.0 bad.1
+left_stalls kind from column a b place place' bytes x (inl short) = absurd (omega (arith, short, x.whole))
+left_stalls kind from column a b place place' bytes x (inr bad) = x.refused bad.0 bad.1

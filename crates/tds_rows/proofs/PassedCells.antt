@@ -25,10 +25,10 @@ use Rattle.tds_csv.specs.Conversion.{Conversion, HexDigits, Utf16Text, Windows12
 use Rattle.tds_csv.specs.Quoting.{in_line, null_field}
 use Rattle.tds_rows.specs.declared.Charset.{Charset}
 use Rattle.tds_rows.specs.Cells.{Cell, CellPart, ChunkData, ChunkLength, DataCell, LongShape, ShortData, ShortLength, WholeCell, cell_add, cell_end, cell_fault, cell_size, cell_start, return_charset, shape, unless}
-use Rattle.tds_rows.specs.CellSteps.{GathersCell, StallsCell, WritesCell, scalar_size, value_bytes, value_length, value_start}
+use Rattle.tds_rows.specs.CellSteps.{GathersCell, StallsCell, scalar_size, value_bytes, value_length, value_start}
+use Rattle.tds_rows.specs.WholeCells.{WritesCell}
 use Rattle.tds_rows.specs.PassedCells.{AnyData, CutsData, IsGoodValue, PassesCell, PassesData, StepsOver, StopsPassing, chunk_left, return_cell, return_column, short_left}
 use Rattle.tds_rows.proofs.BufferedCells.{null_cell, value_cell}
-use Rattle.tds_rows.proofs.CellSteps.{cell_cut}
 
 -- ---- elements
 
@@ -49,10 +49,6 @@ step_one s t a b place place' element some whole free to takes between at = reco
 pub step_refused : (s : CellPart) (a b : Seen) (place : ℕ) (element : List ℕ) (fault : Fault) → 0 < length element → length element ≡ cell_size s → cell_fault return_column s element ≡ Some fault → Takes a b element (length element) → IsBetween b
     → StopsPassing s a b place (record { fault = fault; place = Payload place })
 step_refused s a b place element fault some whole first takes between = record { at = s; stops = refused_at_once return_cell s a b place element fault some whole first takes between }
-
--- an element was cut
-pub step_cut : (s : CellPart) (a b : Seen) (place k : ℕ) (bytes : List ℕ) (own stop : Stop) → cell_end s ≡ Some MessageEnded → length bytes ≡ cell_size s → k < length bytes → Ends a b (take k bytes) own → stop ≡ began_at place own → StopsPassing s a b place stop
-step_cut s a b place k bytes own stop end whole less ends is = record { at = s; stops = cell_cut return_column s a b place (length bytes) k bytes own stop (sym whole) end less refl ends is }
 
 pub steps_both : (s t u : CellPart) (a b d : Seen) (place middle place' : ℕ) → StepsOver s t a b place middle → StepsOver t u b d middle place' → StepsOver s u a d place place'
 steps_both s t u a b d place middle place' x y = record {

@@ -10,7 +10,8 @@ use Rattle.std.specs.List.{concat}
 use Rattle.tds_packet.specs.Elements.{Grammar, Inside, Leads, Spelt}
 use Rattle.tds_packet.specs.Seen.{Seen, Takes}
 use Rattle.tds_csv.specs.Quoting.{joined, line}
-use Rattle.tds_csv.specs.Sinks.{Breaks, Held, Puts}
+use Rattle.tds_csv.specs.declared.sink.Sink.{Sink}
+use Rattle.tds_csv.specs.Sinks.{Breaks, Held, IsWriting, Puts, PutsPiece, held}
 use Rattle.tds_csv.specs.Streaming.{PutsText, Streams}
 use Rattle.tds_packet.proofs.ElementLaws.{Inside-Spelt, Spelt-append, Spelt-none, Spelt-one}
 use Rattle.tds_columns.specs.Description.{Column}
@@ -18,15 +19,17 @@ use Rattle.tds_columns.proofs.ViewLaws.{all_behind}
 use Rattle.tds_rows.specs.declared.Charset.{Charset}
 use Rattle.tds_rows.specs.Cells.{Cell, CellPart, CountedShape, FixedShape, LongShape, Shape, WholeCell, cell, cell_start, field, shape}
 use Rattle.tds_rows.specs.Rows.{Bitmap, InCell, RowPart, WholeRow, row_start, next_cell, row, row_so_far, with_cell, with_field}
-use Rattle.tds_rows.specs.CellSteps.{IsLeft, PutsCell, StopsCell, WritesCell, cell_so_far, is_last, length_behind, scalar_size, start_behind}
-use Rattle.tds_values.specs.Kind.{fixed_length}
-use Rattle.std.specs.Prelude.{Option, Some, None}
+use Rattle.tds_rows.specs.CellSteps.{IsLeft, IsScalarLeft, PutsCell, StopsCell, WritesKind, cell_so_far, is_last, length_behind, scalar_size, start_behind, whole_size}
+use Rattle.tds_rows.specs.WholeCells.{WritesCell, WritesWhole}
+use Rattle.tds_values.specs.Kind.{fixed_length, is_scalar}
+use Rattle.tds_rows.specs.ShortCells.{short_size}
+use Rattle.std.specs.Prelude.{Option, Some, None, Result, Ok, Err, MatchResult, true, false, if◌then◌else◌}
 use Rattle.tds_rows.proofs.CellSteps.{fixed_some}
-use Rattle.tds_rows.specs.Runs.{FirstDone, FirstLeft, RowsPart, RunsRows, Writes, WritesCells, WritesRows, WritesWhole, behind_cells, lines, rows, rows_so_far, rows_start}
+use Rattle.tds_rows.specs.Runs.{FirstDone, FirstLeft, RowsPart, RunsRows, Writes, WritesCells, WritesRows, behind_cells, lines, rows, rows_so_far, rows_start}
 use Rattle.tds_values.specs.declared.kind.Kind.{Kind}
 use Rattle.tds_values.specs.declared.kind.Reach.TheVariants.{Chunked, Short}
 use Rattle.tds_rows.proofs.RowLaws.{begins_open, cell_in_row}
-use Rattle.tds_rows.proofs.RowSteps.{cell_stops, coming, lift, next_text, row_text, start_quiet}
+use Rattle.tds_rows.proofs.RowSteps.{cell_stops, coming, lift, next_text, quiet_text, row_text, start_quiet}
 use Rattle.tds_packet.proofs.Futures.{Takes-none}
 use Rattle.tds_csv.proofs.Sinks.{Puts-none}
 use Rattle.tds_csv.proofs.Streams.{streams_both, streams_inside}
@@ -42,12 +45,16 @@ writes_both g text s t u a b p q x y = record { spelt = Spelt-append g s a t b u
 
 -- ---- cells of a row
 
-pub whole_of : (from : CellPart) (column : ℕ) (last : Bool) (bytes made : List ℕ) → WritesCell from column last bytes made → WritesWhole from column last bytes made
+whole_of : (from : CellPart) (column : ℕ) (last : Bool) (bytes made : List ℕ) → WritesCell from column last bytes made → WritesWhole from column last bytes made
 whole_of from column last bytes made x = record {
   value = x.value;
   spelt = subst (λ l. Spelt (cell column) from l (WholeCell x.value)) x.joined (Spelt-append (cell column) from x.front x.at x.element (WholeCell x.value) x.spelt (subst (λ v. Spelt (cell column) x.at x.element v) x.whole (Spelt-one (cell column) x.at x.element x.next)));
   text_is = x.text_is;
 }
+
+-- a scalar cell, in any set
+pub writes_scalar : (set : Charset) (kind : Kind) (column : ℕ) (last : Bool) (bytes made : List ℕ) → ((any : Charset) → WritesCell (cell_start kind (shape any kind)) column last bytes made) → WritesKind set kind column last bytes made
+writes_scalar set kind column last bytes made x = record { whole = whole_of (cell_start kind (shape set kind)) column last bytes made (x set); at_once = λ _ any. x any }
 
 from_text : (charset : Charset) (cells : List Cell) (c : Column) (left : List Column) (n : ℕ) → row_so_far (InCell cells (cell_start c.kind (shape charset c.kind)) (coming left n)) ≡ joined (map field cells)
 from_text charset cells c left n = ap (λ o. joined (with_field cells o)) (start_quiet c.kind (shape charset c.kind))
@@ -93,37 +100,49 @@ made_same made to rest within = take-append-le made (take made to) rest (omega (
 -- ---- the first cell ahead
 
 -- a cell of a scalar kind has some bytes
-pub scalar_some : (kind : Kind) (bytes : List ℕ) → 0 < scalar_size kind bytes
+scalar_some : (kind : Kind) (bytes : List ℕ) → 0 < scalar_size kind bytes
 scalar_some kind bytes = go (fixed_length kind) refl
   where
     go : (o : Option ℕ) → fixed_length kind ≡ o → 0 < scalar_size kind bytes
     go (Some n) e = omega (arith, fixed_some kind n e, ap start_behind e, ap (λ o. length_behind o bytes) e)
     go None e = omega (arith, ap start_behind e, ap (λ o. length_behind o bytes) e)
 
+-- how many bytes it has
+scalar_whole : (kind : Kind) (bytes : List ℕ) → is_scalar kind ≡ true → whole_size kind bytes ≡ scalar_size kind bytes
+scalar_whole kind bytes h = ap (λ b. if b then scalar_size kind bytes else short_size bytes) h
+
+-- a cell has some bytes
+pub whole_some : (kind : Kind) (bytes : List ℕ) → 0 < whole_size kind bytes
+whole_some kind bytes = go (is_scalar kind)
+  where
+    go : (b : Bool) → 0 < (if b then scalar_size kind bytes else short_size bytes)
+    go true = scalar_some kind bytes
+    go false = omega arith
+
 -- the bytes that are left, where none was used
 pub none_used : (used : ℕ) (bytes : List ℕ) → used ≡ 0 → take (length bytes - used) (drop used bytes) ≡ bytes
 none_used used bytes none = all_behind bytes used ∙ ap (λ n. drop n bytes) none
 
 -- it was written
-pub first_step : (at from : ℕ) (columns : List Column) (c : Column) (left : List Column) (kind : Kind) (last : Bool) (used u made m : ℕ) (bytes to new rest : List ℕ) → used ≡ 0 → made ≡ 0 → at ≡ from → made ≤ length to → m ≤ length new
-    → drop at columns ≡ c ∷ left → kind ≡ c.kind → last ≡ is_last left → u ≡ scalar_size kind (take (length bytes - used) (drop used bytes))
-    → ((charset : Charset) → WritesCell (cell_start kind (shape charset kind)) at last (take u (take (length bytes - used) (drop used bytes))) (take m new))
+pub first_step : (set : Charset) (at from : ℕ) (columns : List Column) (c : Column) (left : List Column) (kind : Kind) (last : Bool) (used u made m : ℕ) (bytes to new rest : List ℕ) → used ≡ 0 → made ≡ 0 → at ≡ from → made ≤ length to → m ≤ length new
+    → drop at columns ≡ c ∷ left → kind ≡ c.kind → last ≡ is_last left → u ≡ whole_size kind (take (length bytes - used) (drop used bytes))
+    → WritesKind set kind at last (take u (take (length bytes - used) (drop used bytes))) (take m new)
     → FirstDone from columns bytes (take made to ++ (new ++ rest)) (used + u) (made + m)
-first_step at from columns c left kind last used u made m bytes to new rest no_use no_text first within some step is end size x = λ column tail h.
+first_step set at from columns c left kind last used u made m bytes to new rest no_use no_text first within some step is end size x = λ column tail h.
     let same : c ∷ left ≡ column ∷ tail = sym step ∙ ap (λ n. drop n columns) first ∙ h in
     let kinds_same : kind ≡ column.kind = is ∙ ap (λ (l : List Column). (get_or l 0 c).kind) same in
     let tails_same : left ≡ tail = ap (drop 1) same in
     let whole = none_used used bytes no_use in
     let used_is : take (used + u) bytes ≡ take u (take (length bytes - used) (drop used bytes)) = used_more used u bytes ∙ ap (λ n. take n bytes ++ take u (take (length bytes - used) (drop used bytes))) no_use in
     let made_is : take (made + m) (take made to ++ (new ++ rest)) ≡ take m new = made_more made m to new rest within some ∙ ap (λ n. take n to ++ take m new) no_text in
-    let all : used + u ≡ scalar_size column.kind bytes = omega (arith, no_use, size ∙ ap (scalar_size kind) whole ∙ ap (λ k. scalar_size k bytes) kinds_same) in (
+    let all : used + u ≡ whole_size column.kind bytes = omega (arith, no_use, size ∙ ap (whole_size kind) whole ∙ ap (λ k. whole_size k bytes) kinds_same) in (
       omega (arith, all),
-      λ _ charset.
+      λ _ scalar charset.
           subst (λ l. WritesCell (cell_start column.kind (shape charset column.kind)) from (is_last tail) l (take (made + m) (take made to ++ (new ++ rest)))) (sym used_is)
           (subst (λ l. WritesCell (cell_start column.kind (shape charset column.kind)) from (is_last tail) (take u (take (length bytes - used) (drop used bytes))) l) (sym made_is)
           (subst (λ (n : ℕ). WritesCell (cell_start column.kind (shape charset column.kind)) n (is_last tail) (take u (take (length bytes - used) (drop used bytes))) (take m new)) first
           (subst (λ (v : Bool). WritesCell (cell_start column.kind (shape charset column.kind)) at v (take u (take (length bytes - used) (drop used bytes))) (take m new)) (end ∙ ap is_last tails_same)
-          (subst (λ (k : Kind). WritesCell (cell_start k (shape charset k)) at last (take u (take (length bytes - used) (drop used bytes))) (take m new)) kinds_same (x charset))))),
+          (subst (λ (k : Kind). WritesCell (cell_start k (shape charset k)) at last (take u (take (length bytes - used) (drop used bytes))) (take m new)) kinds_same (x.at_once (ap is_scalar kinds_same ∙ scalar) charset))))),
     )
 
 -- more bytes were used behind it
@@ -135,27 +154,31 @@ pub none_first : (at from : ℕ) (columns : List Column) (bytes text : List ℕ)
 none_first at from columns bytes text used made first none = λ column tail h. absurd (let e : column ∷ tail ≡ [] = sym h ∙ ap (λ n. drop n columns) (sym first) ∙ none in omega (arith, ap length e))
 
 -- it is left
-pub first_left : (at from : ℕ) (columns : List Column) (c : Column) (left : List Column) (kind : Kind) (used : ℕ) (bytes : List ℕ) → used ≡ 0 → at ≡ from → drop at columns ≡ c ∷ left → kind ≡ c.kind
-    → IsLeft kind (take (length bytes - used) (drop used bytes)) → FirstLeft from columns bytes
-first_left at from columns c left kind used bytes no_use first step is x = λ column tail h.
+pub first_left : (set : Charset) (at from : ℕ) (columns : List Column) (c : Column) (left : List Column) (kind : Kind) (used room all : ℕ) (bytes : List ℕ) → used ≡ 0 → at ≡ from → room ≡ all → drop at columns ≡ c ∷ left → kind ≡ c.kind
+    → IsLeft set kind (take (length bytes - used) (drop used bytes)) room → FirstLeft set from columns bytes all
+first_left set at from columns c left kind used room all bytes no_use first lent step is x = λ column tail h.
     let same : c ∷ left ≡ column ∷ tail = sym step ∙ ap (λ n. drop n columns) first ∙ h in
-    subst (λ (k : Kind). IsLeft k bytes) (is ∙ ap (λ (l : List Column). (get_or l 0 c).kind) same) (subst (IsLeft kind) (none_used used bytes no_use) x)
+    subst (λ (k : Kind). IsLeft set k bytes all) (is ∙ ap (λ (l : List Column). (get_or l 0 c).kind) same) (subst (λ (n : ℕ). IsLeft set kind bytes n) lent (subst (λ l. IsLeft set kind l room) (none_used used bytes no_use) x))
 
 -- none is ahead
-pub none_ahead : (at from : ℕ) (columns : List Column) (bytes : List ℕ) → at ≡ from → drop at columns ≡ [] → FirstLeft from columns bytes
-none_ahead at from columns bytes first none = λ column tail h. absurd (let e : column ∷ tail ≡ [] = sym h ∙ ap (λ n. drop n columns) (sym first) ∙ none in omega (arith, ap length e))
+pub none_ahead : (set : Charset) (at from : ℕ) (columns : List Column) (bytes : List ℕ) (room : ℕ) → at ≡ from → drop at columns ≡ [] → FirstLeft set from columns bytes room
+none_ahead set at from columns bytes room first none = λ column tail h. absurd (let e : column ∷ tail ≡ [] = sym h ∙ ap (λ n. drop n columns) (sym first) ∙ none in omega (arith, ap length e))
 
--- ---- a run on the bytes of one cell
+-- ---- a run on the bytes of one scalar cell
 
-module _ {A : Type 0} (at : ℕ) (columns : List Column) (kind : Kind) (c : Column) (rest : List Column) (bytes text : List ℕ) (used made : ℕ) (next : drop at columns ≡ c ∷ rest) (is : kind ≡ c.kind) (whole : length bytes ≡ scalar_size kind bytes)
-    (first : ((used ≡ 0) × A × FirstLeft at columns bytes) ⊎ FirstDone at columns bytes text used made) where
-  same_size : scalar_size kind bytes ≡ scalar_size c.kind bytes
-  same_size = ap (λ k. scalar_size k bytes) is
+module _ {A : Type 0} (set : Charset) (room at : ℕ) (columns : List Column) (kind : Kind) (c : Column) (rest : List Column) (bytes text : List ℕ) (used made : ℕ) (scalar : is_scalar kind ≡ true) (next : drop at columns ≡ c ∷ rest) (is : kind ≡ c.kind) (whole : length bytes ≡ scalar_size kind bytes)
+    (first : ((used ≡ 0) × A × FirstLeft set at columns bytes room) ⊎ FirstDone at columns bytes text used made) where
+  same_size : scalar_size kind bytes ≡ whole_size c.kind bytes
+  same_size = sym (scalar_whole kind bytes scalar) ∙ ap (λ k. whole_size k bytes) is
+
+  scalar_left : IsLeft set kind bytes room → IsScalarLeft kind bytes
+  scalar_left (inl x) = x.1
+  scalar_left (inr x) = absurd (let never : true ≡ false = sym scalar ∙ x.0 in cc)
 
   -- where they weren't used, the cell is left
-  pub one_left : used ≤ length bytes → used ≢ length bytes → IsLeft kind bytes
+  pub one_left : used ≤ length bytes → used ≢ length bytes → IsScalarLeft kind bytes
   one_left within some = elim first [
-    | inl x ↦ subst (λ k. IsLeft k bytes) (sym is) (x.2 c rest next)
+    | inl x ↦ scalar_left (subst (λ k. IsLeft set k bytes room) (sym is) (x.2 c rest next))
     | inr f ↦ absurd (let x = f c rest next in omega (arith, x.0, same_size, whole, within, some))
   ]
 
@@ -166,7 +189,7 @@ module _ {A : Type 0} (at : ℕ) (columns : List Column) (kind : Kind) (c : Colu
     | inr f ↦ (let x = f c rest next in
         subst (λ (v : Bool). WritesCell (cell_start kind (shape charset kind)) at v bytes (take made text)) (sym end)
         (subst (λ (k : Kind). WritesCell (cell_start k (shape charset k)) at (is_last rest) bytes (take made text)) (sym is)
-        (subst (λ l. WritesCell (cell_start c.kind (shape charset c.kind)) at (is_last rest) l (take made text)) (take_all used bytes (omega (arith, all))) (x.1 (omega (arith, all, whole, same_size)) charset))))
+        (subst (λ l. WritesCell (cell_start c.kind (shape charset c.kind)) at (is_last rest) l (take made text)) (take_all used bytes (omega (arith, all))) (x.1 (omega (arith, all, whole, same_size)) (ap is_scalar (sym is) ∙ scalar) charset))))
   ]
 
 -- ---- a run between a payload and a sink
@@ -422,3 +445,22 @@ cell_some charset kind column last b d middle place' i j y =
     let spelt = y.streams.spelt in
     let some : 0 < length (concat spelt.elements) = some_bytes column (cell_start kind (shape charset kind)) y.value spelt.elements (not_whole kind (shape charset kind) y.value) spelt.leads in
     omega (arith, some, y.place_is, ap length spelt.joined)
+
+-- ---- a cell that lies whole, and whose text fills no block
+
+-- its bytes were passed over and its text put, so it was read
+pub whole_puts : (charset : Charset) (kind : Kind) (column : ℕ) (last : Bool) (a b : Seen) (place place' : ℕ) (h j : Held) (bytes text : List ℕ) → WritesWhole (cell_start kind (shape charset kind)) column last bytes text
+    → Takes a b bytes (length bytes) → place' ≡ place + length bytes → Puts h j text → PutsCell charset kind column last a b place place' h j
+whole_puts charset kind column last a b place place' h j bytes text x takes at puts =
+    let from = cell_start kind (shape charset kind) in
+    let writes : Writes (cell column) (cell_so_far column last) from bytes text (WholeCell x.value) = record { spelt = x.spelt; text_is = ap (λ t. t ++ text) (quiet_text column last from (start_quiet kind (shape charset kind))) ∙ x.text_is } in
+    record { value = x.value; streams = writes_streams (cell column) (cell_so_far column last) from (WholeCell x.value) a b h j bytes text writes takes puts; place_is = at }
+
+-- a put of it can't stop
+pub put_whole : {W U : Type 0} (r : Result U Stop) (charset : Charset) (kind : Kind) (column : ℕ) (last : Bool) (a b : Seen) (place place' : ℕ) (contents : W → Option (List ℕ)) (old new : Sink W) (bytes text : List ℕ) → IsWriting old
+    → WritesWhole (cell_start kind (shape charset kind)) column last bytes text → Takes a b bytes (length bytes) → place' ≡ place + length bytes → length old.output.now.bytes + length text < 4096 → PutsPiece contents old new text r
+    → MatchResult r (λ _. PutsCell charset kind column last a b place place' (held contents old) (held contents new)) (λ stop. StopsCell charset kind column last a b place (held contents old) (held contents new) new.failed stop)
+put_whole (Ok u) charset kind column last a b place place' contents old new bytes text going x takes at few puts =
+    whole_puts charset kind column last a b place place' (held contents old) (held contents new) bytes text x takes at puts.gives
+put_whole {U = U} (Err stop) charset kind column last a b place place' contents old new bytes text going x takes at few puts =
+    absurd (fills_no_block (held contents old) (held contents new) text stop few (puts.gives going.writing))

@@ -1,5 +1,5 @@
 -- What reading a cell and putting it into its line does.
-use Rattle.std.specs.Prelude.{◌≡◌, ◌⊎◌, ◌+◌, ◌<◌, ◌≤◌, ℕ, Bool, true, false, List, [], ◌∷◌, ◌++◌, length, take, drop, slice_index, is_ok, Option, Some, None, Result, Ok, MatchOption, MatchResult}
+use Rattle.std.specs.Prelude.{◌≡◌, ◌⊎◌, ◌+◌, ◌<◌, ◌≤◌, ℕ, Bool, true, false, List, [], ◌∷◌, ◌++◌, length, take, drop, slice_index, is_ok, Option, Some, None, Result, Ok, MatchOption, MatchResult, if◌then◌else◌}
 use Rattle.tds_values.specs.declared.kind.Kind.{Kind}
 use Rattle.tds_values.specs.declared.kind.Kind.TheVariants.{IntN}
 use Rattle.tds_values.specs.declared.scalar.ScalarValue.{ScalarValue}
@@ -22,6 +22,8 @@ use Rattle.tds_csv.specs.Streaming.{StopsStreaming, Streams}
 use Rattle.tds_rows.specs.declared.Charset.{Charset}
 use Rattle.tds_rows.specs.declared.buffered.Written.{Written}
 use Rattle.tds_rows.specs.declared.rows.TheConstants.{CELL_ROOM}
+use Rattle.tds_rows.specs.ShortCells.{IsShortLeft, short_conversion, short_size}
+use Rattle.tds_rows.specs.WholeCells.{WritesCell, WritesWhole}
 use Rattle.tds_rows.specs.Cells.{Cell, CellPart, WholeCell, cell, cell_add, cell_start, field, field_so_far, shape}
 
 -- a field that is open, with the comma before it; nothing where it isn't
@@ -58,19 +60,6 @@ pub record ReadsCell (from : CellPart) (column : ℕ) (last : Bool) (old new : S
   pub place_is : place' ≡ place + length (front ++ element)
   pub text_is : text ≡ in_line column last (field value)
 
--- These bytes are a cell, of those whose text comes with the last element alone, and this is its text in its line.
-pub record WritesCell (from : CellPart) (column : ℕ) (last : Bool) (bytes text : List ℕ) : Type 0 where
-  pub value : Cell
-  pub front : List ℕ
-  pub at : CellPart
-  pub element : List ℕ
-  pub joined : front ++ element ≡ bytes
-  pub spelt : Spelt (cell column) from front at
-  pub next : IsNext (cell column) at element
-  pub whole : cell_add at element ≡ WholeCell value
-  pub quiet : field_so_far at ≡ None
-  pub text_is : text ≡ in_line column last (field value)
-
 -- where the value of a scalar cell lies in its bytes: behind a length, unless each value has as many bytes
 abbrev pub start_behind : Option ℕ → ℕ
 start_behind (Some n) = 0
@@ -103,15 +92,33 @@ pub record HasInt4 (kind : Kind) (bytes : List ℕ) : Type 0 where
   pub whole : 5 ≤ length bytes
   pub length_is : slice_index bytes 0 ≡ 4
 
--- The cell at the front of these bytes is left for another way: it is of no scalar kind, it isn't whole, or its value is refused.
-abbrev pub IsLeft : Kind → List ℕ → Type 0
-IsLeft kind bytes =
-    (is_scalar kind ≡ false) ⊎ ((length bytes < scalar_size kind bytes) ⊎ ((0 < value_length kind bytes) × (is_ok (read_of kind (value_bytes kind bytes)) ≡ false)))
+-- how many bytes the cell at the front of these bytes has; of one in chunks nothing is said
+abbrev pub whole_size : Kind → List ℕ → ℕ
+whole_size kind bytes = if is_scalar kind then scalar_size kind bytes else short_size bytes
 
--- The cell at the front of these bytes, so many of them, was written to the front of others; or it is left, or there isn't room for every cell.
-abbrev pub CellWritten : Kind → ℕ → Bool → List ℕ → ℕ → List ℕ → Option Written → Type 0
-CellWritten kind column last bytes room text result = MatchOption result ((room < CELL_ROOM) ⊎ IsLeft kind bytes)
-    (λ written. (charset : Charset) → WritesCell (cell_start kind (shape charset kind)) column last (take written.used bytes) (take written.made text))
+-- The scalar cell at the front of these bytes is left for another way: it isn't whole, or its value is refused.
+abbrev pub IsScalarLeft : Kind → List ℕ → Type 0
+IsScalarLeft kind bytes = (length bytes < scalar_size kind bytes) ⊎ ((0 < value_length kind bytes) × (is_ok (read_of kind (value_bytes kind bytes)) ≡ false))
+
+-- The cell at the front of these bytes is left, with so much room.
+abbrev pub IsLeft : Charset → Kind → List ℕ → ℕ → Type 0
+IsLeft charset kind bytes room =
+    ((is_scalar kind ≡ true) × IsScalarLeft kind bytes) ⊎ ((is_scalar kind ≡ false) × IsShortLeft (short_conversion (shape charset kind)) bytes room)
+
+-- The bytes are a whole cell of a kind, and this is its text in its line; that of a scalar, in any set, comes with the last element alone.
+pub record WritesKind (charset : Charset) (kind : Kind) (column : ℕ) (last : Bool) (bytes text : List ℕ) : Type 0 where
+  pub whole : WritesWhole (cell_start kind (shape charset kind)) column last bytes text
+  pub at_once : is_scalar kind ≡ true → (any : Charset) → WritesCell (cell_start kind (shape any kind)) column last bytes text
+
+-- The cell at the front of these bytes, so many of them, was written to the front of others; or it is left, or there isn't room for every scalar.
+abbrev pub CellWritten : Charset → Kind → ℕ → Bool → List ℕ → ℕ → List ℕ → Option Written → Type 0
+CellWritten charset kind column last bytes room text result = MatchOption result ((room < CELL_ROOM) ⊎ IsLeft charset kind bytes room)
+    (λ written. WritesKind charset kind column last (take written.used bytes) (take written.made text))
+
+-- The scalar cell at the front of these bytes, all of it, was written to the front of others; or it isn't written, and if these are its bytes, it is left.
+abbrev pub NearWritten : Charset → Kind → ℕ → Bool → List ℕ → List ℕ → Option Written → Type 0
+NearWritten charset kind column last bytes text result = MatchOption result (length bytes ≡ scalar_size kind bytes → IsScalarLeft kind bytes)
+    (λ written. WritesCell (cell_start kind (shape charset kind)) column last (take written.used bytes) (take written.made text))
 
 -- Reading a cell stopped before it had any text.
 pub record StallsCell (from : CellPart) (column : ℕ) (old new : Seen) (place : ℕ) (stop : Stop) : Type 0 where
@@ -146,10 +153,10 @@ pub record GathersCell (kind : Kind) (from : CellPart) (column : ℕ) (old new :
   pub refused : 0 < value_length kind bytes → is_ok (read_of kind (value_bytes kind bytes)) ≡ false
       → StallsCell from column old new place (record { fault = BadValue column; place = Payload (place + value_start kind) })
 
--- The bytes of a scalar cell were read from this state on to the front of others, so many; or the reading stopped.
-abbrev pub CellGathered : {R : Type 0} → (R → Option (List ℕ)) → Kind → CellPart → ℕ → payloads.Payload R → payloads.Payload R → List ℕ → Result ℕ Stop → Type 0
+-- These bytes, those of a scalar cell, were read from this state on; or the reading stopped.
+abbrev pub CellGathered : {R U : Type 0} → (R → Option (List ℕ)) → Kind → CellPart → ℕ → payloads.Payload R → payloads.Payload R → List ℕ → Result U Stop → Type 0
 CellGathered remaining kind from column old new cell result = MatchResult result
-    (λ n. GathersCell kind from column (seen remaining old) (seen remaining new) old.place new.place (take n cell))
+    (λ _. GathersCell kind from column (seen remaining old) (seen remaining new) old.place new.place cell)
     (λ stop. StallsCell from column (seen remaining old) (seen remaining new) old.place stop)
 
 -- A cell was read from its first element on and its text put, or the call stopped.

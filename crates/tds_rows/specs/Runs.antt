@@ -1,5 +1,5 @@
 -- What a run of cells does, which lie whole in the packet.
-use Rattle.std.specs.Prelude.{◌≡◌, ◌==◌, ◌⊎◌, ◌+◌, ◌≤◌, ℕ, Bool, false, List, [], ◌∷◌, ◌++◌, length, map, take, drop, Option, Some, None, if◌then◌else◌, slice_index}
+use Rattle.std.specs.Prelude.{◌≡◌, ◌==◌, ◌⊎◌, ◌+◌, ◌≤◌, ℕ, true, false, List, [], ◌∷◌, ◌++◌, length, map, take, drop, Option, Some, None, if◌then◌else◌, slice_index}
 use Rattle.tds_packet.specs.declared.fault.Fault.{Fault}
 use Rattle.tds_packet.specs.declared.fault.Fault.TheVariants.{MessageEnded, RefusedToken}
 use Rattle.tds_packet.specs.Elements.{Grammar, Spelt}
@@ -7,7 +7,7 @@ use Rattle.tds_packet.specs.declared.payload.Payload.{Payload}
 use Rattle.tds_packet.specs.Payloads.{seen}
 use Rattle.tds_packet.specs.Seen.{Seen}
 use Rattle.tds_columns.specs.Description.{Column}
-use Rattle.tds_csv.specs.Quoting.{in_line, line}
+use Rattle.tds_csv.specs.Quoting.{line}
 use Rattle.tds_csv.specs.declared.sink.Sink.{Sink}
 use Rattle.tds_csv.specs.Sinks.{Held, held}
 use Rattle.tds_csv.specs.Streaming.{Streams}
@@ -17,8 +17,10 @@ use Rattle.tds_rows.specs.declared.run.TheConstants.{ROW}
 use Rattle.tds_rows.specs.declared.table.Ahead.{Ahead}
 use Rattle.tds_rows.specs.declared.table.Table.{Table}
 use Rattle.tds_rows.specs.declared.rows.TheConstants.{CELL_ROOM}
-use Rattle.tds_rows.specs.Cells.{Cell, CellPart, WholeCell, cell, cell_start, field, shape}
-use Rattle.tds_rows.specs.CellSteps.{IsLeft, WritesCell, is_last, scalar_size}
+use Rattle.tds_rows.specs.Cells.{Cell, cell_start, field, shape}
+use Rattle.tds_values.specs.Kind.{is_scalar}
+use Rattle.tds_rows.specs.CellSteps.{IsLeft, is_last, whole_size}
+use Rattle.tds_rows.specs.WholeCells.{WritesCell}
 use Rattle.tds_rows.specs.Rows.{RowPart, WholeRow, marked, next_cell, row, row_add, row_fault, row_size, row_so_far, row_start}
 use Rattle.tds_rows.specs.Tables.{IsAhead, Knows}
 
@@ -26,12 +28,6 @@ use Rattle.tds_rows.specs.Tables.{IsAhead, Knows}
 pub record Writes {S : Type 0} (g : Grammar S Fault) (text : S → List ℕ) (from : S) (bytes made : List ℕ) (to : S) : Type 0 where
   pub spelt : Spelt g from bytes to
   pub text_is : text from ++ made ≡ text to
-
--- The bytes are a whole cell, and this is its text in its line.
-pub record WritesWhole (from : CellPart) (column : ℕ) (last : Bool) (bytes made : List ℕ) : Type 0 where
-  pub value : Cell
-  pub spelt : Spelt (cell column) from bytes (WholeCell value)
-  pub text_is : made ≡ in_line column last (field value)
 
 -- a row whose first cells are these, and whose other columns are to come
 abbrev pub behind_cells : Charset → List Cell → List Column → RowPart
@@ -101,28 +97,29 @@ pub record RunsRows (charset : Charset) (all : List Column) (cells : List Cell) 
 
 -- ---- what a run gives, whatever the columns that its table knows, and whatever the cells before it
 
--- All bytes of the cell of this column, the first one ahead, were used; and where no others were, what was made is its text.
+-- All bytes of the cell of this column, the first one ahead, were used; and where no others were, what was made is a scalar's text.
 abbrev pub FirstDone : ℕ → List Column → List ℕ → List ℕ → ℕ → ℕ → Type 0
 FirstDone at columns bytes text used made = (column : Column) (rest : List Column) → drop at columns ≡ column ∷ rest →
-    (scalar_size column.kind bytes ≤ used) × (used ≡ scalar_size column.kind bytes → (charset : Charset) → WritesCell (cell_start column.kind (shape charset column.kind)) at (is_last rest) (take used bytes) (take made text))
+    (whole_size column.kind bytes ≤ used)
+    × (used ≡ whole_size column.kind bytes → is_scalar column.kind ≡ true → (charset : Charset) → WritesCell (cell_start column.kind (shape charset column.kind)) at (is_last rest) (take used bytes) (take made text))
 
--- The first cell ahead is left, and none of its bytes was used.
-abbrev pub FirstLeft : ℕ → List Column → List ℕ → Type 0
-FirstLeft at columns bytes = (column : Column) (rest : List Column) → drop at columns ≡ column ∷ rest → IsLeft column.kind bytes
+-- The first cell ahead is left, with so much room.
+abbrev pub FirstLeft : Charset → ℕ → List Column → List ℕ → ℕ → Type 0
+FirstLeft charset at columns bytes room = (column : Column) (rest : List Column) → drop at columns ≡ column ∷ rest → IsLeft charset column.kind bytes room
 
--- What a run with room for a cell did with the first one ahead: nothing, since that cell is left; or it used its bytes.
+-- What a run with room for every scalar did with the first cell ahead: nothing, since that cell is left; or it used its bytes.
 abbrev pub FirstJudged : Table → Ahead → List ℕ → ℕ → List ℕ → Ahead → ℕ → ℕ → Type 0
 FirstJudged table from bytes room text ahead used made = (columns : List Column) → Knows table columns → IsAhead table columns from → CELL_ROOM ≤ room →
-    ((used ≡ 0) × (ahead ≡ from) × FirstLeft from.column columns bytes) ⊎ FirstDone from.column columns bytes text used made
+    ((used ≡ 0) × (ahead ≡ from) × FirstLeft table.charset from.column columns bytes room) ⊎ FirstDone from.column columns bytes text used made
 
--- A run wrote the text of the bytes that it used, over the ends of rows, and ended at a place of a row.
+-- A run wrote the text of the bytes that it used, over the ends of rows, and ended at a place of a row; single-byte text was read in the table's set.
 abbrev pub RowsWritten : Table → Ahead → List ℕ → List ℕ → Run → Type 0
 RowsWritten table from bytes text run = (columns : List Column) → Knows table columns → IsAhead table columns from →
-    IsAhead table columns run.ahead × ((charset : Charset) (cells : List Cell) → length cells ≡ from.column →
+    IsAhead table columns run.ahead × ((charset : Charset) (cells : List Cell) → table.charset ≡ charset → length cells ≡ from.column →
     WritesRows charset columns cells (drop from.column columns) (drop run.ahead.column columns) run.ahead.column run.rows (take run.used bytes) (take run.made text))
 
 -- The same between a payload and a sink.
 abbrev pub RowsPut : {R W : Type 0} → (R → Option (List ℕ)) → (W → Option (List ℕ)) → Table → Ahead → Payload R → Payload R → Sink W → Sink W → Run → Type 0
 RowsPut remaining contents table from old new before after run = (columns : List Column) → Knows table columns → IsAhead table columns from →
-    IsAhead table columns run.ahead × ((charset : Charset) (cells : List Cell) → length cells ≡ from.column →
+    IsAhead table columns run.ahead × ((charset : Charset) (cells : List Cell) → table.charset ≡ charset → length cells ≡ from.column →
     RunsRows charset columns cells (drop from.column columns) (drop run.ahead.column columns) run.ahead.column run.rows (seen remaining old) (seen remaining new) old.place new.place (held contents before) (held contents after))

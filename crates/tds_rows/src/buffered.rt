@@ -1,10 +1,12 @@
 // A cell of a scalar kind whose bytes lie together.
 ghost use Rattle.std.specs.Prelude.{◌≡◌, ◌≤◌, ◌<◌, ◌⊎◌, false, true, length, IsTrue, IfSome, MatchOption};
-ghost use Rattle.tds_rows.specs.CellSteps.{CellWritten, HasInt4, scalar_size, value_length, value_start};
+ghost use Rattle.tds_rows.specs.CellSteps.{CellWritten, HasInt4, scalar_size, value_length, value_start, whole_size};
 ghost use Rattle.tds_values.specs.Kind as kinds;
 
+use crate::Charset;
 use crate::fields::{write_int4_field, write_value};
 use crate::rows::{CELL_ROOM, INT4_ROOM};
+use crate::short::write_short;
 use crate::table::{Form, Layout};
 use tds_csv::write_null;
 use tds_values::Kind;
@@ -35,7 +37,8 @@ pub(crate) fn length_size(kind: &Kind) -> usize
 fn value_at(form: &Form, bytes: &[u8]) -> Option<(usize, usize)>
     ensures scalar { IfSome result (λ at. IsTrue (kinds.is_scalar form.now.kind)) }
     ensures gives { MatchOption result
-        ((kinds.is_scalar form.now.kind ≡ false) ⊎ (length bytes.now < scalar_size form.now.kind bytes.now))
+        ((kinds.is_scalar form.now.kind ≡ false)
+        ⊎ ((kinds.is_scalar form.now.kind ≡ true) × (length bytes.now < scalar_size form.now.kind bytes.now)))
         (λ at. (at.0 ≡ value_start form.now.kind) × (at.1 ≡ value_length form.now.kind bytes.now)) }
 {
     match form.layout {
@@ -59,11 +62,12 @@ fn has_int4(kind: &Kind, bytes: &[u8]) -> bool
     matches!(*kind, Kind::IntN(4)) && bytes.len() >= 5 && bytes[0] == 4
 }
 
-// Writes the cell at the front of these bytes; none where it isn't whole, is refused or isn't a scalar, or
-// where there isn't the room that its text may need.
+// Writes the cell at the front of these bytes; none where it isn't whole, is refused or in chunks, or where
+// there isn't the room that its text may need.
 #[inline(always)]
 pub(crate) fn write_cell(
     form: &Form,
+    charset: Charset,
     column: u16,
     last: bool,
     bytes: &[u8],
@@ -72,8 +76,8 @@ pub(crate) fn write_cell(
     requires room { INT4_ROOM ≤ length to.old }
     ensures used { IfSome result (λ written. written.used ≤ length bytes.now) }
     ensures most { IfSome result (λ written. written.made ≤ length to.old) }
-    ensures whole { IfSome result (λ written. written.used ≡ scalar_size form.now.kind bytes.now) }
-    ensures gives { CellWritten form.now.kind column last bytes.now (length to.old) to.new result }
+    ensures whole { IfSome result (λ written. written.used ≡ whole_size form.now.kind bytes.now) }
+    ensures gives { CellWritten charset form.now.kind column last bytes.now (length to.old) to.new result }
 {
     if has_int4(&form.kind, bytes) {
         let made = write_int4_field(column, last, &bytes[1..5], to);
@@ -83,7 +87,7 @@ pub(crate) fn write_cell(
         return None;
     }
     let Some((start, n)) = value_at(form, bytes) else {
-        return None;
+        return write_short(form.kind, charset, column, last, bytes, to);
     };
     let used = start + n;
     if bytes.len() < used {

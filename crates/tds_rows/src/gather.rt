@@ -1,18 +1,20 @@
-// The bytes of a cell, gathered from one packet or more.
-ghost use Rattle.std.specs.Prelude.{◌≡◌, ◌≤◌, ℕ, None, Some, length, IsTrue, IfOk};
-ghost use Rattle.tds_csv.specs.Conversion.{Conversion};
-ghost use Rattle.tds_packet.specs.Payloads.{IsGoing, IsOnSame, IsSound, LeavesPayload, seen};
-ghost use Rattle.tds_rows.specs.Cells.{LongShape, ScalarBytes, ScalarLength, cell_size, cell_start, shape};
-ghost use Rattle.tds_rows.specs.CellSteps.{CellGathered, StallsCell};
+// The bytes of a cell, gathered in the small area from one packet or more.
+ghost use Rattle.std.specs.Prelude.{◌≡◌, ◌≤◌, [], None, Some, max, IsTrue};
+ghost use Rattle.tds_packet.specs.Payloads.{IsGoing, LeavesPayload};
+ghost use Rattle.tds_rows.specs.Cells.{ScalarBytes, ScalarLength, cell_start, shape};
+ghost use Rattle.tds_rows.specs.CellSteps.{CellGathered};
 ghost use Rattle.tds_rows.specs.declared.Charset as sets;
 ghost use Rattle.tds_values.specs.Kind as kinds;
 
 use std::io::Read;
+use tds_columns::take_into;
+use tds_meter::Area;
 use tds_packet::{Fault, Payload, Place, Stop};
 use tds_values::Kind;
 
-/// The most bytes that a cell of a scalar kind has: a length and a decimal.
-pub(crate) const LONGEST_CELL: usize = 18;
+/// The most bytes that a cell of a scalar kind has: a length and a decimal. A call that gathers such
+/// cells wants room for them in the small area.
+pub const LONGEST_CELL: usize = 18;
 
 /// The longest value of a scalar kind.
 const LONGEST: usize = 17;
@@ -37,80 +39,80 @@ fn bad_length(column: u16, place: u64) -> Stop
     }
 }
 
-// Reads a cell that has no length before its value to the front of a slice, and answers how many bytes it has.
+// Reads a cell that has no length before its value into an empty area.
 fn gather_fixed<R: Read>(
     payload: &mut Payload<R>,
     kind: &Kind,
     n: u8,
     column: u16,
-    cell: &mut [u8],
-) -> Result<usize, Stop>
+    small: &mut Area,
+) -> Result<(), Stop>
     requires going { IsGoing payload.old }
-    requires room { LONGEST_CELL ≤ length cell.old }
+    requires empty { small.old.bytes ≡ [] }
+    requires room { LONGEST_CELL ≤ small.old.room }
     requires fixed { kinds.fixed_length kind.now ≡ Some n }
     requires longest { n ≤ LONGEST }
     ensures payload { LeavesPayload payload.old payload.new result }
-    ensures most { IfOk result (λ n. n ≤ LONGEST_CELL) }
+    ensures room { small.new.room ≡ small.old.room }
+    ensures bound { small.new.peak ≤ max small.old.peak LONGEST_CELL }
     ensures gives { CellGathered R.remaining kind.now (ScalarBytes kind.now n) column
-        payload.old payload.new cell.new result }
+        payload.old payload.new small.new.bytes result }
 {
-    let size = n as usize;
-    payload.fill(&mut cell[..size])?;
-    Ok(size)
+    take_into(payload, small, n as usize)
 }
 
-// Reads the length of a cell and its value to the front of a slice, and answers how many bytes it has.
+// Reads the length of a cell and its value into an empty area.
 fn gather_counted<R: Read>(
     payload: &mut Payload<R>,
     kind: &Kind,
     column: u16,
-    cell: &mut [u8],
-) -> Result<usize, Stop>
+    small: &mut Area,
+) -> Result<(), Stop>
     requires going { IsGoing payload.old }
     requires valid { IsTrue (kinds.is_valid kind.now) }
     requires scalar { IsTrue (kinds.is_scalar kind.now) }
-    requires room { LONGEST_CELL ≤ length cell.old }
+    requires empty { small.old.bytes ≡ [] }
+    requires room { LONGEST_CELL ≤ small.old.room }
     requires counted { kinds.fixed_length kind.now ≡ None }
     ensures payload { LeavesPayload payload.old payload.new result }
-    ensures most { IfOk result (λ n. n ≤ LONGEST_CELL) }
+    ensures room { small.new.room ≡ small.old.room }
+    ensures bound { small.new.peak ≤ max small.old.peak LONGEST_CELL }
     ensures gives { CellGathered R.remaining kind.now (ScalarLength kind.now) column
-        payload.old payload.new cell.new result }
+        payload.old payload.new small.new.bytes result }
 {
     let place = payload.place();
-    let mut length = [0u8; 1];
-    payload.fill(&mut length)?;
-    let n = length[0];
-    cell[0] = n;
+    take_into(payload, small, 1)?;
+    let n = small.bytes()[0];
     if n == 0 {
-        return Ok(1);
+        return Ok(());
     }
     if !kind.length_allowed(n) {
         return Err(bad_length(column, place));
     }
-    let size = 1 + n as usize;
-    payload.fill(&mut cell[1..size])?;
-    Ok(size)
+    take_into(payload, small, n as usize)
 }
 
-// Reads a cell of a scalar kind to the front of a slice.
+/// Reads a cell of a scalar kind into the small area, which is emptied first.
 pub(crate) fn gather_scalar<R: Read>(
     payload: &mut Payload<R>,
     kind: &Kind,
     column: u16,
-    cell: &mut [u8],
-) -> Result<usize, Stop>
+    small: &mut Area,
+) -> Result<(), Stop>
     requires going { IsGoing payload.old }
     requires valid { IsTrue (kinds.is_valid kind.now) }
     requires scalar { IsTrue (kinds.is_scalar kind.now) }
-    requires room { LONGEST_CELL ≤ length cell.old }
+    requires room { LONGEST_CELL ≤ small.old.room }
     ensures payload { LeavesPayload payload.old payload.new result }
-    ensures most { IfOk result (λ n. n ≤ LONGEST_CELL) }
+    ensures room { small.new.room ≡ small.old.room }
+    ensures bound { small.new.peak ≤ max small.old.peak LONGEST_CELL }
     ensures gives { (charset : sets.Charset) →
         CellGathered R.remaining kind.now (cell_start kind.now (shape charset kind.now)) column
-        payload.old payload.new cell.new result }
+        payload.old payload.new small.new.bytes result }
 {
+    small.clear();
     match kind.fixed_length() {
-        Some(n) => gather_fixed(payload, kind, n, column, cell),
-        None => gather_counted(payload, kind, column, cell),
+        Some(n) => gather_fixed(payload, kind, n, column, small),
+        None => gather_counted(payload, kind, column, small),
     }
 }

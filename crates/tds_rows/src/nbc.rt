@@ -1,5 +1,5 @@
 // A row with a bitmap of the columns that are NULL (MS-TDS, NBCROW).
-ghost use Rattle.std.specs.Prelude.{◌≡◌, ◌+◌, ◌*◌, ◌<◌, ◌≤◌, None, false, length};
+ghost use Rattle.std.specs.Prelude.{◌≡◌, ◌+◌, ◌*◌, ◌<◌, ◌≤◌, None, false, length, max};
 ghost use Rattle.tds_columns.specs.View.{columns_of};
 ghost use Rattle.tds_csv.specs.Sinks.{IsReady, LeavesSink};
 ghost use Rattle.tds_packet.specs.Payloads.{IsSound, LeavesPayload};
@@ -8,6 +8,7 @@ ghost use Rattle.tds_rows.specs.Rows.{bit, bitmap_length, nbc_row_start};
 
 use crate::Charset;
 use crate::fields::put_null;
+use crate::gather::LONGEST_CELL;
 use crate::rows::put_cell;
 use crate::table::Table;
 use std::io::{Read, Write};
@@ -41,22 +42,26 @@ fn is_null(bitmap: &[u8], column: u16) -> bool
 /// before the next cell with data, or at the row's end, count with what is read before them: the
 /// cell, or the bitmap. Faults and places are those of [`row`](crate::row), and `MessageEnded` stands
 /// at the bitmap's first byte where the message ends in it. After a stop of the payload or the sink
-/// the same stop is answered, and neither changes.
+/// the same stop is answered, and neither changes. The small area is used as by [`row`](crate::row).
 pub fn nbc_row<R: Read, W: Write>(
     payload: &mut Payload<R>,
     columns: Columns<'_>,
     charset: Charset,
     bitmap: &mut Area,
+    small: &mut Area,
     sink: &mut Sink<W>,
 ) -> Result<(), Stop>
     requires sound { IsSound payload.old }
     requires ready { IsReady sink.old }
     requires room { LONGEST_BITMAP ≤ bitmap.old.room }
+    requires small_room { LONGEST_CELL ≤ small.old.room }
     requires some { 0 < length (columns_of columns.bytes.now) }
     ensures payload { LeavesPayload payload.old payload.new result }
     ensures sink { LeavesSink sink.old sink.new result }
     ensures room { bitmap.new.room ≡ bitmap.old.room }
     ensures peak { bitmap.new.peak ≤ bitmap.new.room }
+    ensures small_room { small.new.room ≡ small.old.room }
+    ensures small_bound { small.new.peak ≤ max small.old.peak LONGEST_CELL }
     ensures gives { payload.old.stopped ≡ None → sink.old.failed ≡ false →
         RowPut R.remaining W.contents charset (nbc_row_start (columns_of columns.entry.bytes.now))
         payload.old payload.new sink.old sink.new result }
@@ -70,13 +75,13 @@ pub fn nbc_row<R: Read, W: Write>(
         return Err(stop);
     }
     take_into(payload, bitmap, bitmap_size(columns.count()))?;
-    let table = Table::of(columns);
+    let table = Table::of(columns, charset);
     let mut at = table.start();
     while let Some((form, behind)) = table.next(at) {
         if is_null(bitmap.bytes(), at.column) {
             put_null(at.column, table.is_last(at), sink)?;
         } else {
-            put_cell(payload, sink, &table, at, charset, &form.kind)?;
+            put_cell(payload, sink, &table, at, charset, &form.kind, small)?;
         }
         at = behind;
     }

@@ -1,5 +1,5 @@
 // The value of a RETURNVALUE, which is passed over (MS-TDS, RETURNVALUE).
-ghost use Rattle.std.specs.Prelude.{◌≡◌, ◌≤◌, ◌<◌, true, false, length, None, Err, IfOk, IfSome, IsTrue};
+ghost use Rattle.std.specs.Prelude.{◌≡◌, ◌≤◌, ◌<◌, true, false, length, max, None, Err, IfOk, IfSome, IsTrue};
 ghost use Rattle.tds_csv.specs.Conversion.{Conversion};
 ghost use Rattle.tds_packet.specs.Payloads.{IsGoing, IsSound, LeavesPayload};
 ghost use Rattle.tds_rows.specs.Cells.{LongShape, ShortLength, cell_start, return_charset, shape};
@@ -13,6 +13,7 @@ use crate::chunks::pass_chunked;
 use crate::gather::{LONGEST_CELL, bad_value, gather_scalar};
 use crate::lengths::read_short_length;
 use std::io::Read;
+use tds_meter::Area;
 use tds_packet::{Payload, Stop};
 use tds_values::{Kind, Reach, read_scalar};
 
@@ -63,19 +64,21 @@ fn is_refused(kind: &Kind, cell: &[u8]) -> bool
     start < cell.len() && read_scalar(kind, &cell[start..]).is_err()
 }
 
-// Passes over a value of a scalar kind.
-fn pass_scalar<R: Read>(payload: &mut Payload<R>, kind: &Kind) -> Result<(), Stop>
+// Passes over a value of a scalar kind, which is judged in the small area.
+fn pass_scalar<R: Read>(payload: &mut Payload<R>, kind: &Kind, small: &mut Area) -> Result<(), Stop>
     requires going { IsGoing payload.old }
     requires valid { IsTrue (kinds.is_valid kind.now) }
     requires scalar { IsTrue (kinds.is_scalar kind.now) }
+    requires room { LONGEST_CELL ≤ small.old.room }
     ensures payload { LeavesPayload payload.old payload.new result }
+    ensures room { small.new.room ≡ small.old.room }
+    ensures bound { small.new.peak ≤ max small.old.peak LONGEST_CELL }
     ensures gives { CellPassed R.remaining (cell_start kind.now (shape return_charset kind.now))
         payload.old payload.new result }
 {
     let place = payload.place();
-    let mut cell = [0u8; LONGEST_CELL];
-    let size = gather_scalar(payload, kind, RETURN_COLUMN, &mut cell)?;
-    if is_refused(kind, &cell[..size]) {
+    gather_scalar(payload, kind, RETURN_COLUMN, small)?;
+    if is_refused(kind, small.bytes()) {
         return Err(bad_value(RETURN_COLUMN, place + length_size(kind) as u64));
     }
     Ok(())
@@ -117,10 +120,19 @@ fn pass_long<R: Read>(payload: &mut Payload<R>, reach: Reach, unit: u64) -> Resu
 /// Any other stop is the payload's own: where the message ends, it stands at the first byte of the element
 /// that isn't whole, of which each byte of long data is one. After a stop of the payload the same stop is
 /// answered, and nothing changes.
-pub fn pass_over<R: Read>(payload: &mut Payload<R>, kind: &Kind) -> Result<(), Stop>
+///
+/// A scalar value is judged in the small area, which is emptied first and has room for 18 bytes at least.
+pub fn pass_over<R: Read>(
+    payload: &mut Payload<R>,
+    kind: &Kind,
+    small: &mut Area,
+) -> Result<(), Stop>
     requires sound { IsSound payload.old }
     requires valid { IsTrue (kinds.is_valid kind.now) }
+    requires room { LONGEST_CELL ≤ small.old.room }
     ensures payload { LeavesPayload payload.old payload.new result }
+    ensures room { small.new.room ≡ small.old.room }
+    ensures bound { small.new.peak ≤ max small.old.peak LONGEST_CELL }
     ensures gives { payload.old.stopped ≡ None →
         CellPassed R.remaining (cell_start kind.now (shape return_charset kind.now))
         payload.old payload.new result }
@@ -132,6 +144,6 @@ pub fn pass_over<R: Read>(payload: &mut Payload<R>, kind: &Kind) -> Result<(), S
     match *kind {
         Kind::Binary(reach) | Kind::Narrow(reach) => pass_long(payload, reach, 1),
         Kind::Wide(reach) => pass_long(payload, reach, 2),
-        _ => pass_scalar(payload, kind),
+        _ => pass_scalar(payload, kind, small),
     }
 }

@@ -12,7 +12,7 @@ use tds_csv::Sink;
 use tds_packet::Payload;
 
 /// The token byte of a ROW (MS-TDS, ROW).
-const ROW: u8 = 0xD1;
+pub const ROW: u8 = 0xD1;
 
 /// How many bytes a run over rows used, how many it made, how many rows it began, and where it ended.
 #[derive(Clone, Copy)]
@@ -23,8 +23,8 @@ pub(crate) struct Run<'a> {
     pub(crate) ahead: Ahead<'a>,
 }
 
-// Writes cell after cell, as far as they lie whole in these bytes, are scalars and have room, over the ends
-// of rows: behind a whole row it goes on where the byte of the next ROW lies.
+// Writes cell after cell, as far as they lie whole in these bytes, aren't in chunks and have room, over the
+// ends of rows: behind a whole row it goes on where the byte of the next ROW lies.
 #[inline(never)]
 pub(crate) fn run_rows<'a>(
     table: &Table<'a>,
@@ -56,7 +56,14 @@ pub(crate) fn run_rows<'a>(
         };
         let last = table.is_last(ahead);
         let rest = &bytes[used..];
-        let Some(written) = write_cell(&form, ahead.column, last, rest, &mut to[made..]) else {
+        let Some(written) = write_cell(
+            &form,
+            table.charset,
+            ahead.column,
+            last,
+            rest,
+            &mut to[made..],
+        ) else {
             break;
         };
         used += written.used;
@@ -71,8 +78,8 @@ pub(crate) fn run_rows<'a>(
     }
 }
 
-/// Reads the next cells, as many as lie whole in the packet, are scalars and have room, over the ends
-/// of rows, and puts their text where it waits. It reads nothing and delivers nothing.
+/// Reads the next cells, as many as lie whole in the packet, aren't in chunks and have room, over the
+/// ends of rows, and puts their text where it waits. It reads nothing and delivers nothing.
 pub(crate) fn put_run<'a, R: Read, W: Write>(
     payload: &mut Payload<R>,
     sink: &mut Sink<W>,

@@ -4,6 +4,7 @@ ghost use Rattle.tds_rows.specs.Layouts.{layout_of};
 ghost use Rattle.tds_rows.specs.declared.table.TheConstants.{TABLE_LENGTH};
 ghost use Rattle.tds_values.specs.Kind.{is_valid};
 
+use crate::Charset;
 use tds_columns::{Columns, Walk};
 use tds_values::Kind;
 
@@ -30,13 +31,15 @@ pub(crate) struct Form {
     pub(crate) ghost laid: { layout ≡ layout_of kind },
 }
 
-/// The columns of a description: what the cells of the first ones need, and the walk over those behind.
+/// The columns of a description: what the cells of the first ones need, the walk over those behind,
+/// and the set of single-byte text.
 #[derive(Drop)]
 pub(crate) struct Table<'a> {
     forms: [Form; TABLE_LENGTH],
     known: usize,
     count: u16,
     behind: Walk<'a>,
+    pub(crate) charset: Charset,
     ghost most: { known ≤ TABLE_LENGTH },
     ghost fits: { count ≤ 65535 },
 }
@@ -81,9 +84,10 @@ impl<'a> Table<'a> {
     ghost use Rattle.tds_columns.specs.View.{columns_of};
     ghost use Rattle.tds_rows.specs.Tables.{IsAhead, Knows, NextForm, TakesForm};
 
-    /// The table of a description's columns.
-    pub(crate) fn of(columns: Columns<'a>) -> Table<'a>
-        ensures { Knows result (columns_of columns.entry.bytes.now) }
+    /// The table of a description's columns, whose single-byte text is in this set.
+    pub(crate) fn of(columns: Columns<'a>, charset: Charset) -> Table<'a>
+        ensures knows { Knows result (columns_of columns.entry.bytes.now) }
+        ensures charset { result.charset ≡ charset }
     {
         let mut forms = [Form::of(Kind::Int4); TABLE_LENGTH];
         let mut known = 0;
@@ -100,6 +104,7 @@ impl<'a> Table<'a> {
             known,
             count: columns.count(),
             behind,
+            charset,
         }
     }
 

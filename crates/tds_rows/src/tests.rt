@@ -9,13 +9,14 @@ use std::io::Read;
 use std::test::Fail;
 use tds_columns::{Columns, Described, gather};
 use tds_csv::Sink;
-use tds_meter::Area;
+use tds_meter::{Area, SMALL_ROOM};
 use tds_packet::rig::{Failing, ScriptedReader, ScriptedWriter};
 use tds_packet::{Counted, Fault, Payload, Place, Stop};
 
 mod long_values;
 mod nulls;
 mod passed;
+mod small_area;
 mod streamed;
 
 const INT4: &[u8] = &[0x38];
@@ -73,6 +74,7 @@ const FILLER: [u8; 4095] = [b'x'; 4095];
 #[derive(Clone, Copy)]
 enum Token {
     Row,
+    Rows,
     NbcRow,
 }
 
@@ -157,6 +159,7 @@ fn run(
     let mut output = Area::new(alloc, 4096)?;
     let mut description = Area::new(alloc, 4096)?;
     let mut bitmap = Area::new(alloc, 8192)?;
+    let mut small = Area::new(alloc, SMALL_ROOM)?;
     let mut payload = Payload::new(&mut from, &mut packet, 1_000_000);
     let mut sink = Sink::new(&mut to, &mut output);
     if !describe(&mut payload, &mut description) {
@@ -169,8 +172,19 @@ fn run(
     }
     let charset = Charset::Windows1252;
     let answer = match token {
-        Token::Row => row(&mut payload, columns, charset, &mut sink),
-        Token::NbcRow => nbc_row(&mut payload, columns, charset, &mut bitmap, &mut sink),
+        Token::Row => row(&mut payload, columns, charset, &mut small, &mut sink),
+        Token::Rows => match read_rows(&mut payload, columns, charset, &mut small, &mut sink) {
+            Ok(_) => Ok(()),
+            Err(stop) => Err(stop),
+        },
+        Token::NbcRow => nbc_row(
+            &mut payload,
+            columns,
+            charset,
+            &mut bitmap,
+            &mut small,
+            &mut sink,
+        ),
     };
     let place = payload.place().saturating_sub(start);
     let _ = sink.finish();
@@ -312,6 +326,21 @@ fn write_good(alloc: Global, case: &Good, size: usize) -> Result<Outcome, Fail> 
     run(
         alloc,
         Token::Row,
+        case.columns,
+        case.bytes,
+        size,
+        0,
+        to,
+        case.text,
+    )
+}
+
+// The same by runs.
+fn write_rows(alloc: Global, case: &Good, size: usize) -> Result<Outcome, Fail> {
+    let to = usual_writer();
+    run(
+        alloc,
+        Token::Rows,
         case.columns,
         case.bytes,
         size,

@@ -2,6 +2,8 @@
 use Rattle.std.proofs.Common.{◌≡◌, ℕ, zero, suc, ◌+◌, ◌-◌, ◌*◌, ◌/◌, ◌%◌, ◌^◌, ◌<◌, ◌≤◌, List, [], ◌∷◌, ◌++◌, refl, sym, ap, ◌∙◌, arith, take, drop, length}
 use Rattle.std.proofs.Math.Nat.{pow-succ', pow-suc, div-div-eq-div-mul}
 use Rattle.std.specs.Int.{bytes_low_first, byte_at}
+use Rattle.std.specs.Prelude.{All}
+use Rattle.std.proofs.lemmas.List.Elements.{All-head, All-nil, All-push, All-tail}
 use Rattle.std.proofs.lemmas.Slice.{take-put_mid}
 use Rattle.std.proofs.lemmas.List.{append-nil, drop-take}
 use borrow.Rule.Slice.PartMut.{put_mid}
@@ -10,36 +12,33 @@ use Rattle.tds_values.specs.Words.{word_of, bytes_of}
 use Rattle.tds_values.proofs.DigitLemmas.{last_digits-add}
 use Rattle.tds_values.proofs.TextLengths.{length-last_digits}
 
--- each number is a byte
-abbrev pub AreBytes : List ℕ → Type 0
-AreBytes [] = Unit {0}
-AreBytes (b ∷ bytes) = (b < 256) × AreBytes bytes
+-- a number that a byte can be
+abbrev IsByte : ℕ → Type 0
+IsByte n = n < 256
 
-bytes-append : (xs ys : List ℕ) → AreBytes xs → AreBytes ys → AreBytes (xs ++ ys)
-bytes-append [] ys h g = g
-bytes-append (x ∷ xs) ys h g = (h.0, bytes-append xs ys h.1 g)
-
-digits_are_bytes : (k n : ℕ) → AreBytes (last_digits k n)
-digits_are_bytes zero n = tt
-digits_are_bytes (suc k) n = bytes-append (last_digits k (n / 10)) ((48 + n % 10) ∷ []) (digits_are_bytes k (n / 10)) (omega arith, tt)
+digits_are_bytes : (k n : ℕ) → All IsByte (last_digits k n)
+digits_are_bytes zero n = All-nil IsByte
+digits_are_bytes (suc k) n =
+    let digit : 48 + n % 10 < 256 = omega arith in
+    All-push IsByte (last_digits k (n / 10)) (48 + n % 10) (digits_are_bytes k (n / 10)) digit
 
 -- the low bytes of a number give back what it was made of
-bytes_of-word_of : (xs : List ℕ) → AreBytes xs → bytes_of (length xs) (word_of xs) ≡ xs
+bytes_of-word_of : (xs : List ℕ) → All IsByte xs → bytes_of (length xs) (word_of xs) ≡ xs
 bytes_of-word_of [] h = refl
 bytes_of-word_of (x ∷ xs) h =
-    let b = h.0 in
+    let b : x < 256 = All-head IsByte x xs h in
     let low : (x + 256 * word_of xs) % 256 ≡ x = omega arith in
     let high : (x + 256 * word_of xs) / 256 ≡ word_of xs = omega arith in
-    (λ i. low i ∷ bytes_of (length xs) (high i)) ∙ ap (λ t. x ∷ t) (bytes_of-word_of xs h.1)
+    (λ i. low i ∷ bytes_of (length xs) (high i)) ∙ ap (λ t. x ∷ t) (bytes_of-word_of xs (All-tail IsByte x xs h))
 
 -- a shift takes the first bytes away
-word_of-shift : (xs ys : List ℕ) → AreBytes xs → word_of (xs ++ ys) / 256 ^ length xs ≡ word_of ys
+word_of-shift : (xs ys : List ℕ) → All IsByte xs → word_of (xs ++ ys) / 256 ^ length xs ≡ word_of ys
 word_of-shift [] ys h = let e : word_of ys / 1 ≡ word_of ys = omega arith in e
 word_of-shift (x ∷ xs) ys h =
-    let b = h.0 in
+    let b : x < 256 = All-head IsByte x xs h in
     let high : (x + 256 * word_of (xs ++ ys)) / 256 ≡ word_of (xs ++ ys) = omega arith in
     ap (λ p. (x + 256 * word_of (xs ++ ys)) / p) (pow-succ' 256 (length xs)) ∙ sym (div-div-eq-div-mul (x + 256 * word_of (xs ++ ys)) 256 (256 ^ length xs))
-    ∙ ap (λ m. m / 256 ^ length xs) high ∙ word_of-shift xs ys h.1
+    ∙ ap (λ m. m / 256 ^ length xs) high ∙ word_of-shift xs ys (All-tail IsByte x xs h)
 
 -- of a digits in a word, a shift leaves the last k
 pub shifted_digits : (a k n : ℕ) → bytes_of k (word_of (last_digits (a + k) n) / 256 ^ a) ≡ last_digits k n

@@ -1,47 +1,50 @@
-// Text whose quotes are doubled on the way to a run.
-ghost use Rattle.std.specs.Prelude.{◌≡◌, ◌+◌, ◌≤◌, ◌++◌, [], length, take, drop};
+// Text whose quotes are doubled on the way from one slice to another.
+ghost use Rattle.std.specs.Prelude.{◌≡◌, ◌+◌, ◌*◌, ◌≤◌, ◌++◌, length, take, drop};
 ghost use Rattle.tds_csv.specs.Quoting.{doubled};
 
 use crate::convert::CHUNK;
+use crate::convert::encode::{put_bytes, put_doubled};
 use crate::convert::lanes::{LANES, unquoted_run};
-use crate::convert::run::Run;
 use std::simd::prelude::*;
 
 /// How many bytes a chunk with its quotes doubled has at most, and as many as are written at once.
 pub(crate) const TEXT: usize = 2 * CHUNK + LANES;
 
-// Adds the next bytes up to a quote, at most 16, and says how many they are. None where fewer than
-// 16 bytes are left.
+// Writes the next bytes up to a quote, at most 16, to a place, and says how many they are. None where
+// fewer than 16 bytes are left.
 #[inline(always)]
-fn take_unquoted(bytes: &[u8], at: usize, run: &mut Run<TEXT>) -> usize
+fn take_unquoted(bytes: &[u8], at: usize, to: &mut [u8], made: usize) -> usize
     requires from { at ≤ length bytes.now }
-    requires room { at + LANES ≤ length bytes.now → length run.old + LANES ≤ TEXT }
+    requires room { made + LANES ≤ length to.old }
     ensures most { result ≤ LANES }
     ensures within { at + result ≤ length bytes.now }
-    ensures taken { run.new ≡ run.old ++ doubled (take result (drop at bytes.now)) }
-    ensures grown { length run.new ≡ length run.old + result }
+    ensures taken { let run = take result (drop at bytes.now) in
+        take (made + result) to.new ≡ take made to.old ++ doubled run }
 {
     if bytes.len() - at < LANES {
         return 0;
     }
     let n = unquoted_run(bytes, at);
-    run.extend_bytes(u8x16::from_slice(&bytes[at..]), n);
+    put_bytes(to, made, u8x16::from_slice(&bytes[at..]), n);
     n
 }
 
-// Adds bytes with their quotes doubled.
-pub(crate) fn convert(bytes: &[u8], run: &mut Run<TEXT>)
-    requires short { length bytes.now ≤ CHUNK }
-    requires empty { run.old ≡ [] }
-    ensures { run.new ≡ doubled bytes.now }
+// Writes bytes with their quotes doubled, and says how many they are then.
+pub(crate) fn convert(bytes: &[u8], to: &mut [u8]) -> usize
+    requires { 2 * length bytes.now + LANES ≤ length to.old }
+    ensures short { result ≤ 2 * length bytes.now }
+    ensures text { take result to.new ≡ doubled bytes.now }
 {
     let mut at = 0;
+    let mut made = 0;
     while at < bytes.len() {
-        let n = take_unquoted(bytes, at, run);
+        let n = take_unquoted(bytes, at, to, made);
         at += n;
+        made += n;
         if n < LANES && at < bytes.len() {
-            run.push_doubled(bytes[at]);
+            made = put_doubled(to, made, bytes[at]);
             at += 1;
         }
     }
+    made
 }

@@ -109,6 +109,18 @@ pub(crate) fn put_quoted(to: &mut [u8], at: usize, code: u32) -> usize
     end + (code == 0x22) as usize
 }
 
+// A byte, and a quote twice.
+#[inline(always)]
+pub(crate) fn put_doubled(to: &mut [u8], at: usize, byte: u8) -> usize
+    requires { at + 2 ≤ length to.old }
+    ensures most { result ≤ at + 2 }
+    ensures written { take result to.new ≡ take at to.old ++ doubled (byte ∷ []) }
+{
+    let end = put_byte(to, at, byte);
+    to[end] = byte;
+    end + (byte == 0x22) as usize
+}
+
 // The first of eight bytes, so many.
 #[inline(always)]
 pub(crate) fn put_lanes(to: &mut [u8], at: usize, lanes: u8x8, n: usize)

@@ -1,7 +1,7 @@
 // Characters of ASCII in UTF-16, taken eight at a time.
 ghost use Rattle.std.specs.Prelude.{◌≡◌, ◌+◌, ◌*◌, ◌≤◌, ◌++◌, ℕ, List, length, take, drop};
 ghost use Rattle.tds_csv.specs.Joining.{Leads};
-ghost use Rattle.tds_csv.specs.Plain.{evens, odds, plain_units};
+ghost use Rattle.tds_csv.specs.Plain.{LiesIn, evens, odds, plain_units};
 ghost use Rattle.tds_csv.specs.Utf16 as utf16;
 
 use crate::convert::encode::put_lanes;
@@ -43,10 +43,18 @@ fn plain_units(units: u8x16) -> usize
 }
 
 // Writes the next characters of ASCII up to a quote, at most eight, to a place, and says how many they
-// are. None where fewer than 16 bytes are left.
+// are. None where fewer than 16 bytes of the source are left: it begins with the bytes, and what lies behind
+// them may be looked at too.
 #[inline(always)]
-pub(crate) fn take_units(bytes: &[u8], at: usize, to: &mut [u8], made: usize) -> usize
+pub(crate) fn take_units(
+    bytes: &[u8],
+    source: &[u8],
+    at: usize,
+    to: &mut [u8],
+    made: usize,
+) -> usize
     requires from { at ≤ length bytes.now }
+    requires source { LiesIn bytes.now source.now }
     requires room { made + UNITS ≤ length to.old }
     ensures most { result ≤ UNITS }
     ensures within { at + 2 * result ≤ length bytes.now }
@@ -54,11 +62,11 @@ pub(crate) fn take_units(bytes: &[u8], at: usize, to: &mut [u8], made: usize) ->
         × (length out ≡ result)
         × Leads utf16.rest utf16.text (drop at bytes.now) (drop (at + 2 * result) bytes.now) out }
 {
-    if bytes.len() - at < LANES {
+    if source.len() - at < LANES {
         return 0;
     }
-    let units = u8x16::from_slice(&bytes[at..]);
-    let n = plain_units(units);
+    let units = u8x16::from_slice(&source[at..]);
+    let n = plain_units(units).min((bytes.len() - at) / 2);
     put_lanes(to, made, low_bytes(units), n);
     n
 }

@@ -1,12 +1,10 @@
 // A run of text on its way to a sink.
-ghost use Rattle.std.specs.Prelude.{◌≡◌, ◌+◌, ◌<◌, ◌≤◌, [], ◌∷◌, ◌++◌, length, take};
+ghost use Rattle.std.specs.Prelude.{◌≡◌, ◌+◌, ◌<◌, ◌≤◌, [], ◌++◌, length};
 ghost use Rattle.std.specs.Char.{encode_utf8};
 ghost use Rattle.tds_csv.specs.Quoting.{doubled};
 
-use crate::convert::encode::{put_bytes, put_character, put_quoted};
-use crate::convert::lanes::LANES;
+use crate::convert::encode::{put_character, put_quoted};
 use std::marker::Model;
-use std::simd::prelude::*;
 
 // At most `N` bytes of text.
 #[derive(Drop)]
@@ -58,39 +56,6 @@ impl<const N: usize> Run<N> {
         let all = &mut self.bytes[..];
         all[from..end].copy_from_slice(piece);
         self.len = end;
-    }
-
-    // Adds the first of sixteen bytes, so many.
-    #[inline(always)]
-    pub(crate) fn extend_bytes(&mut self, lanes: u8x16, n: usize)
-        requires lanes { length lanes ≡ LANES }
-        requires within { n ≤ LANES }
-        requires room { length self.old + LANES ≤ N }
-        ensures { self.new ≡ self.old ++ take n lanes }
-    {
-        put_bytes(&mut self.bytes[..], self.len, lanes, n);
-        self.len += n;
-    }
-
-    // Adds a byte.
-    fn push(&mut self, byte: u8)
-        requires { length self.old < N }
-        ensures { self.new ≡ self.old ++ byte ∷ [] }
-    {
-        self.bytes[self.len] = byte;
-        self.len += 1;
-    }
-
-    // Adds a byte, and a quote twice.
-    pub(crate) fn push_doubled(&mut self, byte: u8)
-        requires { length self.old + 2 ≤ N }
-        ensures value { self.new ≡ self.old ++ doubled (byte ∷ []) }
-        ensures grown { length self.new ≤ length self.old + 2 }
-    {
-        self.push(byte);
-        if byte == 0x22 {
-            self.push(0x22);
-        }
     }
 
     // Adds a character in UTF-8.

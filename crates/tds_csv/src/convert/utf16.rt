@@ -3,6 +3,7 @@ ghost use Rattle.std.specs.Prelude.{◌≡◌, ◌+◌, ◌-◌, ◌*◌, ◌<�
 ghost use Rattle.std.specs.Char.{IsScalar, encode_utf8};
 ghost use Rattle.std.specs.Char.Utf16.{is_high_surrogate, is_low_surrogate};
 ghost use Rattle.tds_csv.specs.Joining.{emit};
+ghost use Rattle.tds_csv.specs.Plain.{LiesIn};
 ghost use Rattle.tds_csv.specs.Utf16 as utf16;
 ghost use Rattle.tds_csv.specs.Utf16Next.{Converts, IsNext, LeavesRest};
 
@@ -130,8 +131,7 @@ fn single(bytes: &[u8], at: usize) -> Option<u32>
 // Goes on with the text by single units up to a surrogate, at most so many as are taken by hand.
 #[inline(always)]
 fn convert_singles(bytes: &[u8], from: usize, to: &mut [u8], start: usize) -> Converted
-    requires short { length bytes.now ≤ CHUNK }
-    requires long { TEXT ≤ length to.old }
+    requires long { 3 * length bytes.now + 2 * UNITS ≤ 2 * length to.old }
     requires before { Converts bytes.now to.old from start }
     ensures more { from ≤ result.used }
     ensures after { Converts bytes.now to.new result.used result.made }
@@ -151,14 +151,14 @@ fn convert_singles(bytes: &[u8], from: usize, to: &mut [u8], start: usize) -> Co
 
 // Goes on with the text by eight units up to one that needs care, or by single units where the first does.
 #[inline(always)]
-fn convert_some(bytes: &[u8], from: usize, to: &mut [u8], start: usize) -> Converted
-    requires short { length bytes.now ≤ CHUNK }
-    requires long { TEXT ≤ length to.old }
+fn convert_some(bytes: &[u8], source: &[u8], from: usize, to: &mut [u8], start: usize) -> Converted
+    requires source { LiesIn bytes.now source.now }
+    requires long { 3 * length bytes.now + 2 * UNITS ≤ 2 * length to.old }
     requires before { Converts bytes.now to.old from start }
     ensures more { from ≤ result.used }
     ensures after { Converts bytes.now to.new result.used result.made }
 {
-    let n = take_units(bytes, from, to, start);
+    let n = take_units(bytes, source, from, to, start);
     if n == 0 {
         return convert_singles(bytes, from + 2 * n, to, start + n);
     }
@@ -168,18 +168,18 @@ fn convert_some(bytes: &[u8], from: usize, to: &mut [u8], start: usize) -> Conve
     }
 }
 
-// Writes the text of the characters that are fixed.
-pub(crate) fn convert(bytes: &[u8], to: &mut [u8]) -> Converted
-    requires short { length bytes.now ≤ CHUNK }
-    requires room { TEXT ≤ length to.old }
-    ensures fits { result.made ≤ length to.new }
+// Writes the text of the characters that are fixed. What lies behind the bytes in the source may be looked at.
+pub(crate) fn convert(bytes: &[u8], source: &[u8], to: &mut [u8]) -> Converted
+    requires source { LiesIn bytes.now source.now }
+    requires long { 3 * length bytes.now + 2 * UNITS ≤ 2 * length to.old }
+    ensures short { 2 * result.made ≤ 3 * result.used }
     ensures text { take result.made to.new ≡ emit utf16.rest utf16.text bytes.now }
     ensures used { LeavesRest bytes.now 0 result.used }
 {
     let mut at = 0;
     let mut made = 0;
     loop {
-        let done = convert_some(bytes, at, to, made);
+        let done = convert_some(bytes, source, at, to, made);
         made = done.made;
         let from = at;
         at = done.used;
@@ -192,4 +192,19 @@ pub(crate) fn convert(bytes: &[u8], to: &mut [u8]) -> Converted
         made = put_quoted(to, made, next.code);
         at += next.len;
     }
+}
+
+// Writes the text of whole data, and says how long it is. A high surrogate at the end has no partner.
+pub(crate) fn convert_whole(bytes: &[u8], source: &[u8], to: &mut [u8]) -> usize
+    requires source { LiesIn bytes.now source.now }
+    requires whole { length bytes.now % 2 ≡ 0 }
+    requires room { 3 * length bytes.now + 2 * UNITS ≤ 2 * length to.old }
+    ensures short { 2 * result ≤ 3 * length bytes.now }
+    ensures text { take result to.new ≡ utf16.text bytes.now }
+{
+    let done = convert(bytes, source, to);
+    if done.used == bytes.len() {
+        return done.made;
+    }
+    put_quoted(to, done.made, 0xFFFD)
 }

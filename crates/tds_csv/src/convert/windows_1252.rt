@@ -1,5 +1,6 @@
 // Text in Windows-1252, converted from one slice to another.
 ghost use Rattle.std.specs.Prelude.{◌≡◌, ◌+◌, ◌*◌, ◌<◌, ◌≤◌, ◌++◌, length, take, drop};
+ghost use Rattle.tds_csv.specs.Plain.{LiesIn};
 ghost use Rattle.tds_csv.specs.Windows1252 as windows_1252;
 
 use crate::convert::CHUNK;
@@ -15,7 +16,7 @@ const UPPER_CONTROLS: [u16; 32] = [
 ];
 
 /// How many bytes the text of a chunk has at most, and as many as are written at once.
-pub(crate) const TEXT: usize = 4 * CHUNK + LANES;
+pub(crate) const TEXT: usize = 3 * CHUNK + LANES;
 
 // The character of a byte.
 fn character(byte: u8) -> u32
@@ -30,29 +31,30 @@ fn character(byte: u8) -> u32
 }
 
 // Writes the next bytes that stand for themselves, at most 16, to a place, and says how many they are.
-// None where fewer than 16 bytes are left.
+// None where fewer than 16 bytes of the source are left: it begins with the bytes, and what lies behind them
+// may be looked at too.
 #[inline(always)]
-fn take_plain(bytes: &[u8], at: usize, to: &mut [u8], made: usize) -> usize
+fn take_plain(bytes: &[u8], source: &[u8], at: usize, to: &mut [u8], made: usize) -> usize
     requires from { at ≤ length bytes.now }
+    requires source { LiesIn bytes.now source.now }
     requires room { made + LANES ≤ length to.old }
     ensures most { result ≤ LANES }
     ensures within { at + result ≤ length bytes.now }
     ensures taken { let run = take result (drop at bytes.now) in
         take (made + result) to.new ≡ take made to.old ++ windows_1252.text run }
 {
-    if bytes.len() - at < LANES {
+    if source.len() - at < LANES {
         return 0;
     }
-    let n = plain_run(bytes, at);
-    put_bytes(to, made, u8x16::from_slice(&bytes[at..]), n);
+    let n = plain_run(source, at).min(bytes.len() - at);
+    put_bytes(to, made, u8x16::from_slice(&source[at..]), n);
     n
 }
 
 // Where the bytes end that are taken one by one behind so many that were taken together.
 #[inline(always)]
 fn end_by_hand(bytes: &[u8], at: usize, taken: usize) -> usize
-    requires from { at ≤ length bytes.now }
-    requires short { length bytes.now ≤ CHUNK }
+    requires { at ≤ length bytes.now }
     ensures from { at ≤ result }
     ensures within { result ≤ length bytes.now }
     ensures more { at < length bytes.now → at < result }
@@ -69,8 +71,7 @@ fn end_by_hand(bytes: &[u8], at: usize, taken: usize) -> usize
 fn convert_by_hand(bytes: &[u8], from: usize, end: usize, to: &mut [u8], start: usize) -> usize
     requires from { from ≤ end }
     requires end { end ≤ length bytes.now }
-    requires short { length bytes.now ≤ CHUNK }
-    requires long { TEXT ≤ length to.old }
+    requires long { 3 * length bytes.now + LANES ≤ length to.old }
     requires before { windows_1252.Converts bytes.now to.old from start }
     ensures { windows_1252.Converts bytes.now to.new end result }
 {
@@ -83,17 +84,17 @@ fn convert_by_hand(bytes: &[u8], from: usize, end: usize, to: &mut [u8], start: 
     made
 }
 
-// Writes the text of bytes, and says how long it is.
-pub(crate) fn convert(bytes: &[u8], to: &mut [u8]) -> usize
-    requires short { length bytes.now ≤ CHUNK }
-    requires room { TEXT ≤ length to.old }
-    ensures fits { result ≤ length to.new }
+// Writes the text of bytes, and says how long it is. What lies behind them in the source may be looked at.
+pub(crate) fn convert(bytes: &[u8], source: &[u8], to: &mut [u8]) -> usize
+    requires source { LiesIn bytes.now source.now }
+    requires room { 3 * length bytes.now + LANES ≤ length to.old }
+    ensures short { result ≤ 3 * length bytes.now }
     ensures text { take result to.new ≡ windows_1252.text bytes.now }
 {
     let mut at = 0;
     let mut made = 0;
     while at < bytes.len() {
-        let n = take_plain(bytes, at, to, made);
+        let n = take_plain(bytes, source, at, to, made);
         at += n;
         made += n;
         if n < LANES {

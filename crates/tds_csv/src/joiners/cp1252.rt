@@ -23,7 +23,7 @@ impl Bytewise for Cp1252Joiner {
 
     fn put_chunk<W: Write>(bytes: &[u8], sink: &mut Sink<'_, W>) -> Result<(), Stop> {
         let mut to = [0; TEXT];
-        let made = convert(bytes, &mut to[..]);
+        let made = convert(bytes, bytes, &mut to[..]);
         sink.put(&to[..made])
     }
 

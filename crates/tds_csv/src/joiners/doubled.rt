@@ -3,7 +3,6 @@ ghost use Rattle.tds_csv.specs.Quoting.{doubled};
 
 use crate::convert::doubling::{TEXT, convert};
 use crate::convert::lanes::unquoted_end;
-use crate::convert::run::Run;
 use crate::joiners::parts::Bytewise;
 use crate::sink::Sink;
 use std::io::Write;
@@ -20,9 +19,9 @@ impl Bytewise for Doubled {
     }
 
     fn put_chunk<W: Write>(bytes: &[u8], sink: &mut Sink<'_, W>) -> Result<(), Stop> {
-        let mut run: Run<TEXT> = Run::new();
-        convert(bytes, &mut run);
-        sink.put(run.bytes())
+        let mut to = [0; TEXT];
+        let made = convert(bytes, &mut to[..]);
+        sink.put(&to[..made])
     }
 
     fn laws() {}

@@ -28,7 +28,7 @@ fn put_chunk<W: Write>(bytes: &[u8], sink: &mut Sink<'_, W>) -> Result<usize, St
     ensures used { IfOk result (λ used. LeavesRest bytes.now 0 used) }
 {
     let mut to = [0; TEXT];
-    let done = convert(bytes, &mut to[..]);
+    let done = convert(bytes, bytes, &mut to[..]);
     sink.put(&to[..done.made])?;
     Ok(done.used)
 }

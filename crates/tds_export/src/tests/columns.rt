@@ -1,5 +1,4 @@
 // Responses of several columns, and of kinds whose values have a length before them.
-use super::cuts::{CutPayload, check_cut};
 use super::*;
 use tds_packet::RefusedKind;
 
@@ -170,8 +169,11 @@ fn nine_columns_are_written(rt: HostRuntime) -> Result<(), Fail> {
     let text: &[u8] =
         b"\"\",\"\",\"\",\"\",\"\",\"\",\"\",\"\",\"\"\r\nNULL,NULL,NULL,NULL,NULL,NULL,NULL,NULL,NULL\r\n";
     let out = read_within(rt.alloc(), &wire, COLUMN_ROOM, MAX_WIRE, text)?;
-    assert_eq!(rt; out, Some(came_to(Ok(report(1, 1, 74)), text)));
-    Ok(())
+    same(
+        "nine columns",
+        &out,
+        &Some(came_to(Ok(report(1, 1, 74)), text)),
+    )
 }
 
 // Columns that stand in a room, or stop behind so many bytes.
@@ -418,11 +420,8 @@ fn no_metadata_ends_a_set(rt: HostRuntime) -> Result<(), Fail> {
     let wire = response_of(rt.alloc(), &pieces)?;
     let text: &[u8] = b"\"a\",\"b\"\r\n1,2\r\n\r\n\"a\",\"b\"\r\n1,2\r\n";
     let out = read_within(rt.alloc(), &wire, COLUMN_ROOM, MAX_WIRE, text)?;
-    assert_eq!(rt;
-        out,
-        Some(came_to(Ok(report(2, 2, text.len() as u64)), text))
-    );
-    Ok(())
+    let want = came_to(Ok(report(2, 2, text.len() as u64)), text);
+    same("two sets", &out, &Some(want))
 }
 
 // A row stands behind a COLMETADATA without metadata.
@@ -433,93 +432,5 @@ fn no_row_has_no_metadata(rt: HostRuntime) -> Result<(), Fail> {
     let pieces = [TWO, NO_COLUMNS, TWO_VALUES];
     let text: &[u8] = b"\"a\",\"b\"\r\n";
     check_stopped(rt.alloc(), &mut areas, "a row", &pieces, fault, 26, text)?;
-    assert_eq!(rt; areas.description_held(), 0);
-    Ok(())
-}
-
-const NAMES: &[u8] = b"\"a\",\"b\"\r\n";
-
-const CUT_DESCRIPTIONS: [CutPayload; 9] = [
-    CutPayload {
-        what: "before the first token",
-        least: 0,
-        most: 0,
-        fault: Fault::EndWithoutDone,
-        place: 0,
-        text: NOTHING,
-    },
-    CutPayload {
-        what: "in Count",
-        least: 1,
-        most: 2,
-        fault: Fault::MessageEnded,
-        place: 1,
-        text: NOTHING,
-    },
-    CutPayload {
-        what: "in the first head",
-        least: 3,
-        most: 9,
-        fault: Fault::MessageEnded,
-        place: 3,
-        text: NOTHING,
-    },
-    CutPayload {
-        what: "before the first name's length",
-        least: 10,
-        most: 10,
-        fault: Fault::MessageEnded,
-        place: 10,
-        text: NOTHING,
-    },
-    CutPayload {
-        what: "in the first name",
-        least: 11,
-        most: 12,
-        fault: Fault::MessageEnded,
-        place: 11,
-        text: NOTHING,
-    },
-    CutPayload {
-        what: "in the second head",
-        least: 13,
-        most: 19,
-        fault: Fault::MessageEnded,
-        place: 13,
-        text: NOTHING,
-    },
-    CutPayload {
-        what: "before the second name's length",
-        least: 20,
-        most: 20,
-        fault: Fault::MessageEnded,
-        place: 20,
-        text: NOTHING,
-    },
-    CutPayload {
-        what: "in the second name",
-        least: 21,
-        most: 22,
-        fault: Fault::MessageEnded,
-        place: 21,
-        text: NOTHING,
-    },
-    CutPayload {
-        what: "behind the description",
-        least: 23,
-        most: 23,
-        fault: Fault::EndWithoutDone,
-        place: 23,
-        text: NAMES,
-    },
-];
-
-// A description of two columns ends behind each of its bytes.
-#[test]
-fn a_cut_description_says_where(rt: HostRuntime) -> Result<(), Fail> {
-    let mut areas = make_usual_areas(rt.alloc())?;
-    for row in &CUT_DESCRIPTIONS {
-        check_cut(rt.alloc(), &mut areas, TWO, row)?;
-    }
-    Ok(())
+    same("a description", &areas.description_held(), &0)
 }

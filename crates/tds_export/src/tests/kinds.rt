@@ -1,5 +1,4 @@
 // Responses of one column, of each kind that has values of a fixed length.
-use super::cuts::{CutPayload, check_cut};
 use super::*;
 use tds_packet::RefusedKind;
 
@@ -220,7 +219,7 @@ fn check_block(alloc: Global, wire: &[u8], text: &[u8], body: usize) -> Result<(
 fn many_rows_are_written(rt: HostRuntime) -> Result<(), Fail> {
     let payload = rows_of_bigint(rt.alloc(), 370)?;
     let text = text_of_bigint(rt.alloc(), 370)?;
-    assert_eq!(rt; (payload.len(), text.len()), (3356, 8145));
+    same("lengths", &(payload.len(), text.len()), &(3356, 8145))?;
     for body in [504, 505, 3356] {
         let wire = in_packets(rt.alloc(), &payload, body)?;
         check_block(rt.alloc(), &wire, &text, body)?;
@@ -260,26 +259,6 @@ fn runs_of_cells_end_anywhere(rt: HostRuntime) -> Result<(), Fail> {
         check_cells(&mut areas, &wire, body)?;
     }
     Ok(())
-}
-
-const ROW_OF_MONEY: [u8; 22] = [
-    0x81, 1, 0, 0, 0, 0, 0, 0, 0, 0x3C, 1, 0x61, 0, 0xD1, 0, 0, 0, 0x80, 0, 0, 0, 0,
-];
-
-const CUT_MONEY: CutPayload = CutPayload {
-    what: "in the value",
-    least: 14,
-    most: 21,
-    fault: Fault::MessageEnded,
-    place: 14,
-    text: HEADER_LINE,
-};
-
-// The message ends behind each byte of the row of the greatest debt but the last.
-#[test]
-fn a_cut_value_counts_for_nothing(rt: HostRuntime) -> Result<(), Fail> {
-    let mut areas = make_usual_areas(rt.alloc())?;
-    check_cut(rt.alloc(), &mut areas, &ROW_OF_MONEY, &CUT_MONEY)
 }
 
 // A row of a type byte that stops the export at a place of the payload.
@@ -458,7 +437,7 @@ fn type_bytes_are_judged(rt: HostRuntime) -> Result<(), Fail> {
     for row in &BAD_TYPES {
         let (value, stop) = ((row.type_byte, [0u8; 8].as_slice()), (row.fault, 3));
         check_row(rt.alloc(), &mut areas, row.what, value, stop, NOTHING)?;
-        assert_eq!(rt; areas.description_held(), 2, "{}", row.what);
+        same(row.what, &areas.description_held(), &2)?;
     }
     Ok(())
 }

@@ -1,6 +1,5 @@
 // Responses with long values.
 use super::columns::ONE;
-use super::cuts::{CutPayload, check_cut};
 use super::nbc_rows::packet_of;
 use super::return_values::joined;
 use super::*;
@@ -18,15 +17,6 @@ const NVARCHAR_MAX: &[u8] = &[0xE7, 0xFF, 0xFF, 9, 4, 0xD0, 0, 0x34, 1, 0x74, 0]
 
 const VARBINARY_MAX: &[u8] = &[0xA5, 0xFF, 0xFF, 1, 0x62, 0];
 
-// A column of nvarchar(max), a character of two units whose four bytes lie in three chunks, and a DONE.
-const FACE: &[u8] = &[
-    0x81, 1, 0, 0, 0, 0, 0, 0, 0, 0xE7, 0xFF, 0xFF, 9, 4, 0xD0, 0, 0x34, 1, 0x74, 0, 0xD1, 4, 0, 0,
-    0, 0, 0, 0, 0, 1, 0, 0, 0, 0x3D, 2, 0, 0, 0, 0xD8, 0x00, 1, 0, 0, 0, 0xDE, 0, 0, 0, 0, 0xFD, 0,
-    0, 0, 0, 0, 0, 0, 0, 0, 0, 0, 0,
-];
-
-const FACE_TEXT: &[u8] = b"\"t\"\r\n\"\xF0\x9F\x98\x80\"\r\n";
-
 // A row of one value under a character set, the stop that it is refused with, and the text.
 struct Value {
     what: &'static str,
@@ -36,10 +26,6 @@ struct Value {
     stop: Option<(Fault, u64)>,
     text: &'static [u8],
 }
-
-const SINGLE: Charset = Charset::Windows1252;
-
-const UTF8: Charset = Charset::Utf8;
 
 const BAD_TEXT: Fault = Fault::BadText { column: 0 };
 
@@ -146,7 +132,7 @@ const SHORT_VALUES: [Value; 12] = [
     },
 ];
 
-const LONG_VALUES: [Value; 11] = [
+const LONG_VALUES: [Value; 12] = [
     Value {
         what: "a long NULL",
         charset: SINGLE,
@@ -154,6 +140,16 @@ const LONG_VALUES: [Value; 11] = [
         row: &[0xD1, 0xFF, 0xFF, 0xFF, 0xFF, 0xFF, 0xFF, 0xFF, 0xFF],
         stop: None,
         text: b"\"t\"\r\nNULL\r\n",
+    },
+    Value {
+        what: "half a character and no more of the message",
+        charset: SINGLE,
+        column: NVARCHAR_MAX,
+        row: &[
+            0xD1, 4, 0, 0, 0, 0, 0, 0, 0, 1, 0, 0, 0, 0x3D, 2, 0, 0, 0, 0xD8, 0x00,
+        ],
+        stop: Some((Fault::MessageEnded, 40)),
+        text: b"\"t\"\r\n\"",
     },
     Value {
         what: "no chunk",
@@ -262,13 +258,6 @@ fn wanted(value: &Value) -> Outcome {
     }
 }
 
-// What came of a wire under a character set, by devices that give and take few bytes a call.
-fn came(areas: &mut Areas, wire: &[u8], charset: Charset, text: &[u8]) -> Option<Outcome> {
-    let from = ScriptedReader::new(wire, 5);
-    let to = ScriptedWriter::new(5, Failing::Never);
-    run_under(areas, from, to, charset, text)
-}
-
 // A row and a DONE in one packet; and in packets of one byte each, of which those behind a refused byte are
 // left unread.
 fn check_value(alloc: Global, areas: &mut Areas, value: &Value) -> Result<(), Fail> {
@@ -276,10 +265,10 @@ fn check_value(alloc: Global, areas: &mut Areas, value: &Value) -> Result<(), Fa
     let payload = joined(alloc, &[ONE, value.column, value.row, end])?;
     let want = Some(wanted(value));
     let whole = in_one_packet(alloc, &payload)?;
-    let out = came(areas, &whole, value.charset, value.text);
+    let out = read_under(areas, &whole, 5, value.charset, value.text);
     same(value.what, &out, &want)?;
     let pieces = in_single_bytes(alloc, &payload, true)?;
-    let out = came(areas, &pieces, value.charset, value.text);
+    let out = read_under(areas, &pieces, 5, value.charset, value.text);
     let out = out.map(|out| Outcome { left: 0, ..out });
     same(value.what, &out, &want)
 }
@@ -302,98 +291,6 @@ fn chunked_values_are_read(rt: HostRuntime) -> Result<(), Fail> {
     Ok(())
 }
 
-// The payload in two packets, the first of which has n bytes of it.
-fn in_two_packets(alloc: Global, payload: &[u8], n: usize) -> Result<Vec<u8>, AllocError> {
-    let (front, back) = payload.split_at(n.min(payload.len()));
-    let mut wire = packet_of(alloc, 0, front)?;
-    wire.extend_from_slice(&packet_of(alloc, 1, back)?)?;
-    Ok(wire)
-}
-
-// A packet ends behind each byte but the last.
-#[test]
-fn a_character_lies_across_packets(rt: HostRuntime) -> Result<(), Fail> {
-    let mut areas = make_usual_areas(rt.alloc())?;
-    let want = came_to(Ok(report(1, 1, 13)), FACE_TEXT);
-    for n in 1..FACE.len() {
-        let wire = in_two_packets(rt.alloc(), FACE, n)?;
-        let out = came(&mut areas, &wire, SINGLE, FACE_TEXT);
-        assert_eq!(rt; out, Some(want), "cut behind {n}");
-    }
-    Ok(())
-}
-
-// The first bytes of the payload, from as many to as many, the fault and its place, and how many bytes
-// of the text stand.
-const CUTS: [(&str, usize, usize, Fault, u64, usize); 12] = [
-    (
-        "behind the description",
-        20,
-        20,
-        Fault::EndWithoutDone,
-        20,
-        5,
-    ),
-    ("in the total", 21, 28, Fault::MessageEnded, 21, 5),
-    ("in the first length", 29, 32, Fault::MessageEnded, 29, 6),
-    ("in the first chunk", 33, 33, Fault::MessageEnded, 33, 6),
-    ("in the second length", 34, 37, Fault::MessageEnded, 34, 6),
-    ("in the second chunk", 38, 38, Fault::MessageEnded, 38, 6),
-    ("behind its first byte", 39, 39, Fault::MessageEnded, 39, 6),
-    ("in the third length", 40, 43, Fault::MessageEnded, 40, 6),
-    ("in the third chunk", 44, 44, Fault::MessageEnded, 44, 6),
-    ("in the terminator", 45, 48, Fault::MessageEnded, 45, 10),
-    ("behind the row", 49, 49, Fault::EndWithoutDone, 49, 13),
-    ("in the DONE", 50, 61, Fault::MessageEnded, 50, 13),
-];
-
-#[test]
-fn a_cut_character_says_where(rt: HostRuntime) -> Result<(), Fail> {
-    let mut areas = make_usual_areas(rt.alloc())?;
-    for (what, least, most, fault, place, stands) in CUTS {
-        let row = CutPayload {
-            what,
-            least,
-            most,
-            fault,
-            place,
-            text: front(FACE_TEXT, stands),
-        };
-        check_cut(rt.alloc(), &mut areas, FACE, &row)?;
-    }
-    Ok(())
-}
-
-// What is wanted where the writer fails once it took these bytes, and these wait.
-fn broken_behind(taken: &[u8], waiting: &[u8]) -> Outcome {
-    let answer = Err(Stopped {
-        fault: Fault::WriteFailed,
-        place: Place::Text(taken.len() as u64),
-        written: taken.len() as u64,
-        unwritten: waiting.len() as u64,
-    });
-    Outcome {
-        write_failures: 1,
-        ..came_to(answer, taken)
-    }
-}
-
-// The writer fails behind each byte of the text.
-#[test]
-fn a_failed_write_leaves_the_rest_of_a_character(rt: HostRuntime) -> Result<(), Fail> {
-    let mut areas = make_usual_areas(rt.alloc())?;
-    let wire = in_one_packet(rt.alloc(), FACE)?;
-    for n in 0..FACE_TEXT.len() {
-        let (taken, waiting) = FACE_TEXT.split_at(n.min(FACE_TEXT.len()));
-        let from = ScriptedReader::new(&wire, 1000);
-        let to = ScriptedWriter::new(4, Failing::AfterBytes(n));
-        let out = run(&mut areas, from, to, taken);
-        assert_eq!(rt; out, Some(broken_behind(taken, waiting)), "behind {n}");
-        assert_eq!(rt; areas.waiting(), waiting, "behind {n}");
-    }
-    Ok(())
-}
-
 // A column of varchar(max), and a row of a value of 100,000,000 bytes in one chunk, up to its data.
 const VAST: &[u8] = &[
     0x81, 1, 0, 0, 0, 0, 0, 0, 0, 0xA7, 0xFF, 0xFF, 9, 4, 0xD0, 0, 0x34, 1, 0x74, 0, 0xD1, 0x00,
@@ -402,55 +299,84 @@ const VAST: &[u8] = &[
 
 // The header line, and as many quotes as the first two blocks have.
 fn vast_text(alloc: Global) -> Result<Vec<u8>, AllocError> {
-    joined(alloc, &[b"\"t\"\r\n", &[b'"'; 8187]])
+    let mut text = b"\"t\"\r\n".to_vec(alloc)?;
+    text.resize(8192, b'"')?;
+    Ok(text)
 }
 
 // Its first packet, of 512 bytes; 471 of them are quotes.
 fn first_packet(alloc: Global) -> Result<Vec<u8>, AllocError> {
-    let body = joined(alloc, &[VAST, &[b'"'; 471]])?;
+    let mut body = VAST.to_vec(alloc)?;
+    body.resize(504, b'"')?;
     packet_of(alloc, 0, &body)
 }
 
-// Each packet but the first and the last has 504 quotes, and the last 385.
+// A packet of 504 quotes, as each is but the first and the last.
+fn packet_of_quotes(alloc: Global) -> Result<Vec<u8>, AllocError> {
+    let quotes = vec![in alloc; b'"'; 504]?;
+    packet_of(alloc, 0, &quotes)
+}
+
+// The last packet: 385 quotes, the terminator and a DONE.
+fn last_packet(alloc: Global) -> Result<Vec<u8>, AllocError> {
+    let mut body = vec![in alloc; b'"'; 385]?;
+    body.resize(389, 0)?;
+    body.extend_from_slice(DONE)?;
+    packet_of(alloc, 1, &body)
+}
+
+// Its first packet, 198,411 of quotes alone, and the last.
 #[test]
 fn a_vast_value_is_written_in_little_room(rt: HostRuntime) -> Result<(), Fail> {
     let mut areas = make_areas(rt.alloc(), 512, COLUMN_ROOM, MAX_WIRE)?;
-    let text = vast_text(rt.alloc())?;
-    let first = first_packet(rt.alloc())?;
-    let packet = packet_of(rt.alloc(), 0, &[b'"'; 504])?;
-    let end = joined(rt.alloc(), &[&[b'"'; 385], &[0; 4], DONE])?;
-    let last = packet_of(rt.alloc(), 1, &end)?;
-    let mut from = Counted::new(RepeatingReader::new(&first, &packet, 198_411, &last));
-    let mut to = Counted::new(ScriptedWriter::new(4096, Failing::Never));
-    let answer = export(&mut areas, &mut from, &mut to, SINGLE);
-    assert_eq!(rt; answer, Ok(report(1, 1, 200_000_009)));
-    assert_eq!(rt; to.device().taken(), 200_000_009);
-    assert_eq!(rt; to.device().kept(), &text[..]);
-    assert!(rt; areas.peak_rest() <= 70_784);
-    assert_eq!(rt; areas.description_peak(), 19);
-    Ok(())
+    let came = run_vast(rt.alloc(), &mut areas)?;
+    let want = Repeated {
+        answer: Ok(report(1, 1, 200_000_009)),
+        taken: 200_000_009,
+        kept: Some(8192),
+    };
+    same("a vast value", &came, &Some(want))?;
+    let meters = (areas.peak_rest() <= 70_784, areas.description_peak());
+    same("its meters", &meters, &(true, 19))
 }
 
-// The writer fails at its third call: 13 packets of 20 were read.
+fn run_vast(alloc: Global, areas: &mut Areas) -> Result<Option<Repeated>, AllocError> {
+    let text = vast_text(alloc)?;
+    let (first, packet) = (first_packet(alloc)?, packet_of_quotes(alloc)?);
+    let last = last_packet(alloc)?;
+    let from = RepeatingReader::new(&first, &packet, 198_411, &last);
+    Ok(run_repeated(areas, from, &text))
+}
+
+// The first 20 packets.
+fn front_of_vast(alloc: Global) -> Result<Vec<u8>, AllocError> {
+    let mut wire = first_packet(alloc)?;
+    let packet = packet_of_quotes(alloc)?;
+    for _ in 1..20 {
+        wire.extend_from_slice(&packet)?;
+    }
+    Ok(wire)
+}
+
+// The writer fails at its third call: 13 packets of 20 were read, and the second block is waiting.
+fn check_front(alloc: Global, areas: &mut Areas, text: &[u8]) -> Result<(), Fail> {
+    let wire = front_of_vast(alloc)?;
+    let from = ScriptedReader::new(&wire, 1000);
+    let to = ScriptedWriter::new(4096, Failing::AtWrite(2));
+    let out = run(areas, from, to, text);
+    let (_, waiting) = text.split_at(4096.min(text.len()));
+    let want = Outcome {
+        left: 7 * 512,
+        ..broken_behind(text, waiting)
+    };
+    same("a block", &(out, areas.waiting()), &(Some(want), waiting))
+}
+
 #[test]
 fn a_vast_value_is_read_no_further_than_written(rt: HostRuntime) -> Result<(), Fail> {
     let mut areas = make_areas(rt.alloc(), 512, COLUMN_ROOM, MAX_WIRE)?;
     let text = vast_text(rt.alloc())?;
-    let packet = packet_of(rt.alloc(), 0, &[b'"'; 504])?;
-    let mut wire = first_packet(rt.alloc())?;
-    for _ in 1..20 {
-        wire.extend_from_slice(&packet)?;
-    }
-    let from = ScriptedReader::new(&wire, 1000);
-    let to = ScriptedWriter::new(4096, Failing::AtWrite(2));
-    let out = run(&mut areas, from, to, &text);
-    let want = Outcome {
-        left: 7 * 512,
-        ..broken_behind(&text, &[0; 4096])
-    };
-    assert_eq!(rt; out, Some(want));
-    assert_eq!(rt; areas.waiting(), [b'"'; 4096].as_slice());
-    Ok(())
+    check_front(rt.alloc(), &mut areas, &text)
 }
 
 // How many bytes a value has, how the writer fails, and how many bytes are written and wait then.
@@ -483,19 +409,28 @@ fn text_of(alloc: Global, n: usize) -> Result<Vec<u8>, AllocError> {
     Ok(text)
 }
 
+// So many of the n + 9 bytes are written before the writer fails.
+fn check_block(
+    alloc: Global,
+    areas: &mut Areas,
+    (n, failing, written, unwritten): (usize, Failing, usize, usize),
+) -> Result<(), Fail> {
+    let wire = in_one_packet(alloc, &value_of(alloc, n)?)?;
+    let text = text_of(alloc, n)?;
+    let (taken, waiting) = text.split_at(written.min(text.len()));
+    let from = ScriptedReader::new(&wire, 1000);
+    let to = ScriptedWriter::new(4096, failing);
+    let out = run(areas, from, to, taken);
+    let want = broken_behind(taken, waiting);
+    same(n, &(out, waiting.len()), &(Some(want), unwritten))
+}
+
 // The text fills a block all but a byte, exactly, or passes it by a byte.
 #[test]
 fn a_value_ends_near_a_block(rt: HostRuntime) -> Result<(), Fail> {
     let mut areas = make_areas(rt.alloc(), 8192, COLUMN_ROOM, MAX_WIRE)?;
-    for (n, failing, written, unwritten) in BLOCKS {
-        let wire = in_one_packet(rt.alloc(), &value_of(rt.alloc(), n)?)?;
-        let text = text_of(rt.alloc(), n)?;
-        let (taken, waiting) = text.split_at(written.min(text.len()));
-        let from = ScriptedReader::new(&wire, 1000);
-        let to = ScriptedWriter::new(4096, failing);
-        let out = run(&mut areas, from, to, taken);
-        assert_eq!(rt; out, Some(broken_behind(taken, waiting)), "{n} bytes");
-        assert_eq!(rt; waiting.len(), unwritten, "{n} bytes");
+    for row in &BLOCKS {
+        check_block(rt.alloc(), &mut areas, *row)?;
     }
     Ok(())
 }

@@ -100,28 +100,6 @@ fn nbc_rows_are_written(rt: HostRuntime) -> Result<(), Fail> {
     Ok(())
 }
 
-// What follows the columns, where the message ends in it, and the text before that.
-const CUTS: [(&[u8], u64, &[u8]); 3] = [
-    (&[0xD2], 25, b"\"a\",\"b\"\r\n"),
-    (&[0xD2, 0x01], 26, b"\"a\",\"b\"\r\nNULL"),
-    (&[0xD2, 0x00, 0x2A, 0, 0, 0], 30, b"\"a\",\"b\"\r\n42"),
-];
-
-// The message ends in a row.
-#[test]
-fn a_cut_nbc_row_says_where(rt: HostRuntime) -> Result<(), Fail> {
-    let mut areas = make_usual_areas(rt.alloc())?;
-    for (rest, place, text) in &CUTS {
-        let mut payload = Vec::new(rt.alloc());
-        payload.extend_from_slice(TWO)?;
-        payload.extend_from_slice(rest)?;
-        let out = read_payload(rt.alloc(), &mut areas, &payload, 1000, text)?;
-        let want = stopped(Fault::MessageEnded, Place::Payload(*place), text);
-        same(*place, &out, &Some(came_to(want, text)))?;
-    }
-    Ok(())
-}
-
 // A packet with this body.
 pub(super) fn packet_of(alloc: Global, status: u8, body: &[u8]) -> Result<Vec<u8>, AllocError> {
     let length = ((8 + body.len()).min(0xFFFF) as u16).to_be_bytes();
@@ -131,25 +109,47 @@ pub(super) fn packet_of(alloc: Global, status: u8, body: &[u8]) -> Result<Vec<u8
     Ok(packet)
 }
 
-// 65,534 columns with empty names, 434 in a packet, and a row of which each is NULL by its bit.
-#[test]
-fn the_longest_bitmap_is_read(rt: HostRuntime) -> Result<(), Fail> {
-    let mut areas = make_usual_areas(rt.alloc())?;
-    let first = packet_of(rt.alloc(), 0, &[0x81, 0xFE, 0xFF])?;
-    let mut columns = Vec::new(rt.alloc());
+// A packet of the Count of 65,534 columns.
+const COUNT: &[u8] = &[0x04, 0, 0, 0x0B, 0, 0, 1, 0, 0x81, 0xFE, 0xFF];
+
+// 434 columns with empty names.
+fn packet_of_columns(alloc: Global) -> Result<Vec<u8>, AllocError> {
+    let mut columns = Vec::new(alloc);
     for _ in 0..434 {
         columns.extend_from_slice(&COLUMN)?;
     }
-    let again = packet_of(rt.alloc(), 0, &columns)?;
-    let mut last = packet_of(rt.alloc(), 0, &[0xD2])?;
-    let bits = packet_of(rt.alloc(), 0, &[0xFF; 4096 - 8])?;
-    last.extend_from_slice(&bits)?;
-    last.extend_from_slice(&bits)?;
-    last.extend_from_slice(&packet_of(rt.alloc(), 0, &[0xFF; 16])?)?;
-    last.extend_from_slice(&packet_of(rt.alloc(), 1, DONE)?)?;
-    let mut from = Counted::new(RepeatingReader::new(&first, &again, 151, &last));
-    let mut to = Counted::new(ScriptedWriter::new(1000, Failing::Never));
-    let answer = export(&mut areas, &mut from, &mut to, Charset::Windows1252);
-    assert_eq!(rt; answer, Ok(report(1, 1, 196_603 + 327_671)));
-    Ok(())
+    packet_of(alloc, 0, &columns)
+}
+
+// A row of which each column is NULL by its bit, and a DONE: its bitmap of 8,192 bytes fills two packets
+// and begins a third.
+fn packets_of_bits(alloc: Global) -> Result<Vec<u8>, AllocError> {
+    let bits = vec![in alloc; 0xFFu8; 8192]?;
+    let mut wire = packet_of(alloc, 0, &[0xD2])?;
+    for part in bits.chunks(4088) {
+        wire.extend_from_slice(&packet_of(alloc, 0, part)?)?;
+    }
+    wire.extend_from_slice(&packet_of(alloc, 1, DONE)?)?;
+    Ok(wire)
+}
+
+// 65,534 columns with empty names, 434 in a packet.
+fn run_columns(alloc: Global, areas: &mut Areas) -> Result<Option<Repeated>, AllocError> {
+    let again = packet_of_columns(alloc)?;
+    let last = packets_of_bits(alloc)?;
+    let from = RepeatingReader::new(COUNT, &again, 151, &last);
+    Ok(run_repeated(areas, from, NOTHING))
+}
+
+// The text is known by its length alone.
+#[test]
+fn the_longest_bitmap_is_read(rt: HostRuntime) -> Result<(), Fail> {
+    let mut areas = make_usual_areas(rt.alloc())?;
+    let came = run_columns(rt.alloc(), &mut areas)?;
+    let want = Repeated {
+        answer: Ok(report(1, 1, 196_603 + 327_671)),
+        taken: 196_603 + 327_671,
+        kept: None,
+    };
+    same("the longest bitmap", &came, &Some(want))
 }

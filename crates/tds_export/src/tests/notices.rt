@@ -1,5 +1,4 @@
 // Responses with errors and messages of the server.
-use super::cuts::{CutPayload, check_cut};
 use super::*;
 
 // Two sets, of two rows and of one, an INFO in the first and an ERROR behind it.
@@ -21,13 +20,7 @@ const TWO_ERRORS: &[u8] = &[
     0x00, 0x00, 0x00, 0x00, 0x00, 0x00,
 ];
 
-// The ERROR alone.
-const ERROR: &[u8] = &[
-    0xAA, 0x12, 0x00, 0xD0, 0x00, 0x00, 0x00, 0x01, 0x10, 0x02, 0x00, 0x6E, 0x00, 0x6F, 0x00, 0x00,
-    0x00, 0x01, 0x00, 0x00, 0x00,
-];
-
-const NOT_FOUND: ServerError = ServerError {
+pub(super) const NOT_FOUND: ServerError = ServerError {
     number: 208,
     state: 1,
     class: 16,
@@ -51,7 +44,7 @@ const fn noticed(report: Report, errors: u64, infos: u64, first: ServerError) ->
 }
 
 // What comes of a payload in one packet and in packets of one byte each, and the error's text.
-fn check_noticed(
+pub(super) fn check_noticed(
     alloc: Global,
     areas: &mut Areas,
     payload: &[u8],
@@ -135,43 +128,16 @@ const BAD: [(&str, &[u8], u64); 6] = [
 #[test]
 fn notices_are_judged(rt: HostRuntime) -> Result<(), Fail> {
     let mut areas = make_usual_areas(rt.alloc())?;
-    for (what, payload, place) in BAD {
+    for (what, payload, place) in &BAD {
         check_stop(
             rt.alloc(),
             &mut areas,
             what,
             payload,
             Fault::BadNotice,
-            place,
+            *place,
             NOTHING,
         )?;
-    }
-    Ok(())
-}
-
-// The first bytes of the ERROR, from as many to as many, the fault and its place.
-const ERROR_CUTS: [(&str, usize, usize, Fault, u64); 4] = [
-    ("before the ERROR", 0, 0, Fault::EndWithoutDone, 0),
-    ("in its Length", 1, 2, Fault::MessageEnded, 1),
-    ("in its body", 3, 20, Fault::MessageEnded, 3),
-    ("behind it", 21, 21, Fault::EndWithoutDone, 21),
-];
-
-// No text of an error is left after a stop, not even of one that was read whole.
-#[test]
-fn a_cut_notice_says_where(rt: HostRuntime) -> Result<(), Fail> {
-    let mut areas = make_usual_areas(rt.alloc())?;
-    for (what, least, most, fault, place) in ERROR_CUTS {
-        let row = CutPayload {
-            what,
-            least,
-            most,
-            fault,
-            place,
-            text: NOTHING,
-        };
-        check_cut(rt.alloc(), &mut areas, ERROR, &row)?;
-        assert_eq!(rt; areas.error_text().len(), 0, "{what}");
     }
     Ok(())
 }

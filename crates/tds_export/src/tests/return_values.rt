@@ -1,5 +1,4 @@
 // Responses with values that procedures returned.
-use super::cuts::{CutPayload, check_cut};
 use super::*;
 use tds_packet::RefusedKind;
 
@@ -19,12 +18,6 @@ const NULL: &[u8] = &[
     0x02, 0x00,
 ];
 
-// The column a and a row of it, with the value between them.
-fn within_a_set(alloc: Global) -> Result<Vec<u8>, AllocError> {
-    let (description, rest) = PAYLOAD.split_at(13);
-    joined(alloc, &[description, &VALUE, rest])
-}
-
 // Pieces of a payload, one after the other.
 pub(super) fn joined(alloc: Global, pieces: &[&[u8]]) -> Result<Vec<u8>, AllocError> {
     let mut payload = Vec::new(alloc);
@@ -34,38 +27,66 @@ pub(super) fn joined(alloc: Global, pieces: &[&[u8]]) -> Result<Vec<u8>, AllocEr
     Ok(payload)
 }
 
-// What comes of a payload with so many values, in one packet and in packets of one byte each.
-fn check_returned(
-    alloc: Global,
-    areas: &mut Areas,
-    what: &str,
-    payload: &[u8],
+// The column a, and a row of it.
+const INT_A: &[u8] = &[0x81, 1, 0, 0, 0, 0, 0, 0, 0, 0x38, 1, 0x61, 0];
+
+const ROW_OF_42: &[u8] = &[0xD1, 0x2A, 0, 0, 0];
+
+// Pieces of a payload, how many values and rows they have, and the text.
+struct Returned {
+    what: &'static str,
+    pieces: &'static [&'static [u8]],
     return_values: u64,
     rows: u64,
-    text: &[u8],
-) -> Result<(), Fail> {
+    text: &'static [u8],
+}
+
+const RETURNED: [Returned; 3] = [
+    Returned {
+        what: "an int",
+        pieces: &[&VALUE, DONE],
+        return_values: 1,
+        rows: 0,
+        text: NOTHING,
+    },
+    Returned {
+        what: "three values",
+        pieces: &[BIT, NULL, &VALUE, DONEPROC],
+        return_values: 3,
+        rows: 0,
+        text: NOTHING,
+    },
+    Returned {
+        what: "before a row",
+        pieces: &[INT_A, &VALUE, ROW_OF_42, DONE],
+        return_values: 1,
+        rows: 1,
+        text: TEXT,
+    },
+];
+
+// In one packet, and in packets of one byte each with empty ones between them.
+fn check_returned(alloc: Global, areas: &mut Areas, row: &Returned) -> Result<(), Fail> {
+    let payload = joined(alloc, row.pieces)?;
     let answer = Ok(Report {
-        return_values,
-        ..report(rows, rows, text.len() as u64)
+        return_values: row.return_values,
+        ..report(row.rows, row.rows, row.text.len() as u64)
     });
-    let want = Some(came_to(answer, text));
-    let whole = read_payload(alloc, areas, payload, 5, text)?;
-    same(what, &whole, &want)?;
-    let wire = in_single_bytes(alloc, payload, true)?;
-    same(what, &read(areas, &wire, 1000, text), &want)
+    let want = Some(came_to(answer, row.text));
+    let whole = read_payload(alloc, areas, &payload, 5, row.text)?;
+    same(row.what, &whole, &want)?;
+    let wire = in_single_bytes(alloc, &payload, true)?;
+    same(row.what, &read(areas, &wire, 1000, row.text), &want)
 }
 
 // They have no text, and leave the columns that are described.
 #[test]
 fn returned_values_are_counted(rt: HostRuntime) -> Result<(), Fail> {
     let mut areas = make_usual_areas(rt.alloc())?;
-    let areas = &mut areas;
-    let one = joined(rt.alloc(), &[&VALUE, DONE])?;
-    let three = joined(rt.alloc(), &[BIT, NULL, &VALUE, DONEPROC])?;
-    let within = within_a_set(rt.alloc())?;
-    check_returned(rt.alloc(), areas, "an int", &one, 1, 0, NOTHING)?;
-    check_returned(rt.alloc(), areas, "three values", &three, 3, 0, NOTHING)?;
-    check_returned(rt.alloc(), areas, "before a row", &within, 1, 1, TEXT)
+    for row in &RETURNED {
+        check_returned(rt.alloc(), &mut areas, row)?;
+    }
+    Ok(())
 }
 
 const FLT8: Fault = Fault::RefusedColumn {
@@ -100,35 +121,6 @@ fn returned_values_are_judged(rt: HostRuntime) -> Result<(), Fail> {
     Ok(())
 }
 
-// The first bytes of the value, from as many to as many, the fault and its place.
-const CUTS: [(&str, usize, usize, Fault, u64); 8] = [
-    ("in the ordinal", 1, 2, Fault::MessageEnded, 1),
-    ("before the name's length", 3, 3, Fault::MessageEnded, 3),
-    ("in the name", 4, 7, Fault::MessageEnded, 4),
-    ("up to the type byte", 8, 15, Fault::MessageEnded, 8),
-    ("behind the type byte", 16, 16, Fault::MessageEnded, 16),
-    ("before the value's length", 17, 17, Fault::MessageEnded, 17),
-    ("in the value", 18, 21, Fault::MessageEnded, 18),
-    ("behind the value", 22, 22, Fault::EndWithoutDone, 22),
-];
-
-#[test]
-fn a_cut_value_says_where(rt: HostRuntime) -> Result<(), Fail> {
-    let mut areas = make_usual_areas(rt.alloc())?;
-    for (what, least, most, fault, place) in CUTS {
-        let row = CutPayload {
-            what,
-            least,
-            most,
-            fault,
-            place,
-            text: NOTHING,
-        };
-        check_cut(rt.alloc(), &mut areas, &VALUE, &row)?;
-    }
-    Ok(())
-}
-
 // The header of a packet that isn't the last, of 512 bytes.
 const FULL: [u8; 8] = [0x04, 0x00, 0x02, 0x00, 0x00, 0x00, 0x01, 0x00];
 
@@ -138,21 +130,38 @@ const MAX: &[u8] = &[
     0x00, 0x00, 0x00, 0xA5, 0xFF, 0xFF, 0x00, 0xE1, 0xF5, 0x05, 0x00, 0x00, 0x00, 0x00,
 ];
 
+// A packet of one chunk.
+fn packet_of_chunk(alloc: Global) -> Result<Vec<u8>, AllocError> {
+    let mut packet = FULL.to_vec(alloc)?;
+    packet.extend_from_slice(&[0xF4, 0x01, 0, 0])?;
+    packet.resize(512, 0x22)?;
+    Ok(packet)
+}
+
+// The terminator and a DONE.
+fn last_packet(alloc: Global) -> Result<Vec<u8>, AllocError> {
+    in_one_packet(alloc, &joined(alloc, &[&[0, 0, 0, 0], DONE])?)
+}
+
+fn run_chunks(alloc: Global, areas: &mut Areas) -> Result<Option<Repeated>, AllocError> {
+    let packet = packet_of_chunk(alloc)?;
+    let last = last_packet(alloc)?;
+    let from = RepeatingReader::new(MAX, &packet, 200_000, &last);
+    Ok(run_repeated(areas, from, NOTHING))
+}
+
 #[test]
 fn a_value_of_many_chunks_is_passed_over(rt: HostRuntime) -> Result<(), Fail> {
     let mut areas = make_areas(rt.alloc(), 512, COLUMN_ROOM, MAX_WIRE)?;
-    let chunk = [0x22; 500];
-    let packet = joined(rt.alloc(), &[&FULL, &[0xF4, 0x01, 0, 0], &chunk])?;
-    let end = joined(rt.alloc(), &[&[0, 0, 0, 0], DONE])?;
-    let last = in_one_packet(rt.alloc(), &end)?;
-    let mut from = Counted::new(RepeatingReader::new(MAX, &packet, 200_000, &last));
-    let mut to = Counted::new(ScriptedWriter::new(1000, Failing::Never));
-    let answer = export(&mut areas, &mut from, &mut to, Charset::Windows1252);
+    let came = run_chunks(rt.alloc(), &mut areas)?;
     let want = Report {
         return_values: 1,
         ..report(0, 0, 0)
     };
-    assert_eq!(rt; answer, Ok(want));
-    assert!(rt; areas.peak_rest() <= 70_784);
-    Ok(())
+    let is_little = areas.peak_rest() <= 70_784;
+    same(
+        "many chunks",
+        &(came, is_little),
+        &(Some(all_of(Ok(want), 0)), true),
+    )
 }

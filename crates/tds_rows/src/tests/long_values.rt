@@ -1,6 +1,7 @@
 // Rows of long values, and where reading them stops.
 use super::{
     Bad, Good, INT4, Outcome, Token, VARCHAR, described, usual_writer, write_bad, write_good,
+    write_rows,
 };
 use std::alloc::Global;
 use std::test::Fail;
@@ -405,5 +406,49 @@ fn long_values_stand_behind_a_bitmap(rt: HostRuntime) -> Result<(), Fail> {
         text,
     )?;
     assert_eq!(rt; (out.answer, out.text), (Ok(()), Some(text.len())));
+    Ok(())
+}
+
+const ENDS: [Good; 3] = [
+    Good {
+        what: "text in Windows-1252",
+        columns: &[INT4, VARCHAR],
+        bytes: &[42, 0, 0, 0, 3, 0, 0x80, 0x22, 0x41],
+        text: b"42,\"\xE2\x82\xAC\"\"A\"\r\n",
+    },
+    Good {
+        what: "text in UTF-16",
+        columns: &[INT4, NVARCHAR],
+        bytes: &[42, 0, 0, 0, 4, 0, 0x3D, 0xD8, 0x00, 0xDE],
+        text: b"42,\"\xF0\x9F\x98\x80\"\r\n",
+    },
+    Good {
+        what: "binary data",
+        columns: &[INT4, VARBINARY],
+        bytes: &[42, 0, 0, 0, 2, 0, 0x0A, 0xFF],
+        text: b"42,0x0aff\r\n",
+    },
+];
+
+// Reads a row of the first packet, which ends so many bytes before the row does.
+fn write_end(alloc: Global, case: &Good, across: u64) -> Result<Outcome, Fail> {
+    let all = described(case.columns).saturating_add(case.bytes.len() as u64);
+    let size = all.saturating_sub(across).min(4000) as usize;
+    write_rows(alloc, case, size)
+}
+
+#[test]
+fn short_values_end_with_their_packet(rt: HostRuntime) -> Result<(), Fail> {
+    for case in &ENDS {
+        let want = Outcome {
+            answer: Ok(()),
+            text: Some(case.text.len()),
+            place: case.bytes.len() as u64,
+        };
+        for across in [0, 1, 3] {
+            let out = write_end(rt.alloc(), case, across)?;
+            assert_eq!(rt; out, want, "{}, {across} bytes across", case.what);
+        }
+    }
     Ok(())
 }

@@ -3,7 +3,7 @@ use super::in_packets;
 use crate::pass_over;
 use std::alloc::{AllocError, Global};
 use std::test::Fail;
-use tds_meter::Area;
+use tds_meter::{Area, SMALL_ROOM};
 use tds_packet::rig::ScriptedReader;
 use tds_packet::{Counted, Fault, Payload, Place, Stop};
 use tds_values::{Kind, Reach};
@@ -166,8 +166,9 @@ fn came(alloc: Global, value: &Value, size: usize) -> Result<Result<u64, Stop>, 
     let wire = in_packets(alloc, value.bytes, size)?;
     let mut from = Counted::new(ScriptedReader::new(&wire, 5));
     let mut packet = Area::new(alloc, 4096)?;
+    let mut small = Area::new(alloc, SMALL_ROOM)?;
     let mut payload = Payload::new(&mut from, &mut packet, 1_000_000);
-    Ok(match pass_over(&mut payload, &value.kind) {
+    Ok(match pass_over(&mut payload, &value.kind, &mut small) {
         Ok(()) => Ok(payload.place()),
         Err(stop) => Err(stop),
     })

@@ -45,7 +45,9 @@ loop-form-init g c =
       writing = record { ready = c.requires.ready; writing = writing };
       same = search rules;
       same_sink = (refl, refl, refl);
-      ahead = c.start-at.ensures.ahead columns c.of-table.ensures;
+      small_room = refl;
+      small_bound = omega arith;
+      ahead = c.start-at.ensures.ahead columns c.of-table.ensures.knows;
       reads = subst (λ (n : ℕ). NearsCells c.args.charset start (marked (drop n columns) (bit c.take_into.new.area.bytes) n) a b place place' h h n) (sym c.start-at.ensures.first)
           (subst (λ (l : List ℕ). NearsCells c.args.charset start (marked columns (bit l) 0) a b place place' h h 0) (sym bytes)
           (bitmap_nears c.args.charset columns a b place place' h x.element c.requires.some whole (subst (λ (k : ℕ). Takes a b x.element k) (sym x.whole) x.takes) x.between (c.requires.ready.1 writing) c.requires.ready.2 (omega (arith, x.whole, c.in_ok-take_into.ensures.place))));
@@ -54,7 +56,7 @@ loop-form-init g c =
 pub returns-in_err-put_null-clause-gives : goal.returns-in_err-put_null-clause-gives
 returns-in_err-put_null-clause-gives g c = λ _ _.
     let columns = columns_of c.args.columns.bytes.now in
-    let knows = c.of-table.ensures in
+    let knows = c.of-table.ensures.knows in
     let l = c.loop-form in
     let n = l.at.column in
     let a = seen g.R.Read.remaining c.args.payload.now in
@@ -80,7 +82,7 @@ returns-in_err-put_null-clause-gives g c = λ _ _.
 pub returns-in_err-put_cell-clause-gives : goal.returns-in_err-put_cell-clause-gives
 returns-in_err-put_cell-clause-gives g c = λ _ _.
     let columns = columns_of c.args.columns.bytes.now in
-    let knows = c.of-table.ensures in
+    let knows = c.of-table.ensures.knows in
     let l = c.loop-form in
     let n = l.at.column in
     let a = seen g.R.Read.remaining c.args.payload.now in
@@ -108,7 +110,7 @@ returns-in_err-put_cell-clause-gives g c = λ _ _.
 pub loop-form-preserved-in_ok-put_null : goal.loop-form-preserved-in_ok-put_null
 loop-form-preserved-in_ok-put_null g c =
     let columns = columns_of c.args.columns.bytes.now in
-    let knows = c.of-table.ensures in
+    let knows = c.of-table.ensures.knows in
     let l = c.loop-form in
     let n = l.at.column in
     let a = seen g.R.Read.remaining c.args.payload.now in
@@ -134,6 +136,8 @@ loop-form-preserved-in_ok-put_null g c =
       writing = record { ready = done.ready; writing = done.failed };
       same = l.invariant.same;
       same_sink = search rules;
+      small_room = search rules;
+      small_bound = search (arith, rules);
       ahead = taken.ahead;
       reads = subst (λ (m : ℕ). NearsCells c.args.charset start (marked left bits m) a b place middle h j m) (sym taken.further) y;
     }
@@ -141,7 +145,7 @@ loop-form-preserved-in_ok-put_null g c =
 pub loop-form-preserved : goal.loop-form-preserved
 loop-form-preserved g c =
     let columns = columns_of c.args.columns.bytes.now in
-    let knows = c.of-table.ensures in
+    let knows = c.of-table.ensures.knows in
     let l = c.loop-form in
     let n = l.at.column in
     let a = seen g.R.Read.remaining c.args.payload.now in
@@ -171,6 +175,8 @@ loop-form-preserved g c =
       writing = record { ready = done.sink.ready; writing = done.sink.writing };
       same = search rules;
       same_sink = search rules;
+      small_room = search rules;
+      small_bound = search (arith, rules);
       ahead = taken.ahead;
       reads = subst (λ (m : ℕ). NearsCells c.args.charset start (marked left bits m) a d place place' h j m) (sym taken.further) w;
     }
@@ -185,6 +191,6 @@ returns-clause-gives g c = λ _ _.
     let i = held g.W.Write.contents l.sink in
     let start = nbc_row_start columns in
     let bits = bit c.take_into.new.area.bytes in
-    let none = c.in_default-next.ensures.gives columns c.of-table.ensures l.invariant.ahead in
+    let none = c.in_default-next.ensures.gives columns c.of-table.ensures.knows l.invariant.ahead in
     row_ends c.args.charset start a b c.args.payload.now.place l.payload.place h i l.at.column l.invariant.writing.ready.2
     (subst (λ (r : List Column). NearsCells c.args.charset start (marked r bits l.at.column) a b c.args.payload.now.place l.payload.place h i l.at.column) none l.invariant.reads)

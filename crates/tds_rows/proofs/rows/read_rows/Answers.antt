@@ -20,8 +20,10 @@ loop-form-init g c =
       writing = c.requires.writing;
       same = search rules;
       same_sink = search rules;
+      room = refl;
+      bound = omega arith;
       few = omega arith;
-      ahead = c.start-ahead.ensures.ahead columns c.of-table.ensures;
+      ahead = c.start-ahead.ensures.ahead columns c.of-table.ensures.knows;
       reads = rows_begin c.args.charset columns (drop start.column columns) start.column (seen g.R.Read.remaining c.args.payload.now) c.args.payload.now.place (held g.W.Write.contents c.args.sink.now) c.requires.writing.ready.2
           (ap (λ (n : ℕ). drop n columns) c.start-ahead.ensures.first) c.start-ahead.ensures.first;
     }
@@ -29,7 +31,7 @@ loop-form-init g c =
 pub returns-in_default-clause-gives : goal.returns-in_default-clause-gives
 returns-in_default-clause-gives g c =
     let columns = columns_of c.args.columns.bytes.now in
-    let knows = c.of-table.ensures in
+    let knows = c.of-table.ensures.knows in
     let l = c.loop-form in
     let run = c.put_run-run.result in
     let ran = c.put_run-run.ensures.gives columns knows l.invariant.ahead in
@@ -41,13 +43,13 @@ returns-in_default-clause-gives g c =
     let j = held g.W.Write.contents c.put_run-run.new.sink in
     let place = c.args.payload.now.place in
     let middle = c.put_run-run.new.payload.place in
-    let x = rows_further c.args.charset columns a b d place l.payload.place middle h i j (drop l.ahead.column columns) (drop run.ahead.column columns) l.ahead.column run.ahead.column l.ended run.rows l.invariant.reads (ran.1 c.args.charset) in
+    let x = rows_further c.args.charset columns a b d place l.payload.place middle h i j (drop l.ahead.column columns) (drop run.ahead.column columns) l.ahead.column run.ahead.column l.ended run.rows l.invariant.reads (λ cells. ran.1 c.args.charset cells c.of-table.ensures.charset) in
     rows_end c.args.charset columns (drop run.ahead.column columns) run.ahead.column (l.ended + run.rows) a d place middle h j (c.in_default.ensures.gives columns knows ran.0) x
 
 pub returns-in_err-put_cell-clause-gives : goal.returns-in_err-put_cell-clause-gives
 returns-in_err-put_cell-clause-gives g c =
     let columns = columns_of c.args.columns.bytes.now in
-    let knows = c.of-table.ensures in
+    let knows = c.of-table.ensures.knows in
     let l = c.loop-form in
     let run = c.put_run-run.result in
     let ran = c.put_run-run.ensures.gives columns knows l.invariant.ahead in
@@ -59,7 +61,7 @@ returns-in_err-put_cell-clause-gives g c =
     let j = held g.W.Write.contents c.put_run-run.new.sink in
     let place = c.args.payload.now.place in
     let middle = c.put_run-run.new.payload.place in
-    let x = rows_further c.args.charset columns a b d place l.payload.place middle h i j (drop l.ahead.column columns) (drop run.ahead.column columns) l.ahead.column run.ahead.column l.ended run.rows l.invariant.reads (ran.1 c.args.charset) in
+    let x = rows_further c.args.charset columns a b d place l.payload.place middle h i j (drop l.ahead.column columns) (drop run.ahead.column columns) l.ahead.column run.ahead.column l.ended run.rows l.invariant.reads (λ cells. ran.1 c.args.charset cells c.of-table.ensures.charset) in
     let e = seen g.R.Read.remaining c.put_cell.new.payload in
     let k = held g.W.Write.contents c.put_cell.new.sink in
     let behind = c.in-Some.behind in
@@ -76,7 +78,7 @@ returns-in_err-put_cell-clause-gives g c =
 pub loop-form-preserved : goal.loop-form-preserved
 loop-form-preserved g c =
     let columns = columns_of c.args.columns.bytes.now in
-    let knows = c.of-table.ensures in
+    let knows = c.of-table.ensures.knows in
     let l = c.loop-form in
     let run = c.put_run-run.result in
     let ran = c.put_run-run.ensures.gives columns knows l.invariant.ahead in
@@ -88,7 +90,7 @@ loop-form-preserved g c =
     let j = held g.W.Write.contents c.put_run-run.new.sink in
     let place = c.args.payload.now.place in
     let middle = c.put_run-run.new.payload.place in
-    let x = rows_further c.args.charset columns a b d place l.payload.place middle h i j (drop l.ahead.column columns) (drop run.ahead.column columns) l.ahead.column run.ahead.column l.ended run.rows l.invariant.reads (ran.1 c.args.charset) in
+    let x = rows_further c.args.charset columns a b d place l.payload.place middle h i j (drop l.ahead.column columns) (drop run.ahead.column columns) l.ahead.column run.ahead.column l.ended run.rows l.invariant.reads (λ cells. ran.1 c.args.charset cells c.of-table.ensures.charset) in
     let e = seen g.R.Read.remaining c.put_cell.new.payload in
     let k = held g.W.Write.contents c.put_cell.new.sink in
     let behind = c.in-Some.behind in
@@ -106,6 +108,8 @@ loop-form-preserved g c =
       writing = record { ready = done.sink.ready; writing = done.sink.writing };
       same = search rules;
       same_sink = search rules;
+      room = search rules;
+      bound = search (arith, rules);
       few = omega (arith, l.invariant.few, c.put_run-run.ensures.few, some);
       ahead = taken.ahead;
       reads = rows_cell c.args.charset columns a d e place middle place' h j k taken.column left run.ahead.column behind.column (l.ended + run.rows) taken.further y w;
@@ -114,7 +118,7 @@ loop-form-preserved g c =
 pub loop-form-smaller : goal.loop-form-smaller
 loop-form-smaller g c =
     let columns = columns_of c.args.columns.bytes.now in
-    let knows = c.of-table.ensures in
+    let knows = c.of-table.ensures.knows in
     let l = c.loop-form in
     let run = c.put_run-run.result in
     let ran = c.put_run-run.ensures.gives columns knows l.invariant.ahead in
@@ -126,7 +130,7 @@ loop-form-smaller g c =
     let j = held g.W.Write.contents c.put_run-run.new.sink in
     let place = c.args.payload.now.place in
     let middle = c.put_run-run.new.payload.place in
-    let x = rows_further c.args.charset columns a b d place l.payload.place middle h i j (drop l.ahead.column columns) (drop run.ahead.column columns) l.ahead.column run.ahead.column l.ended run.rows l.invariant.reads (ran.1 c.args.charset) in
+    let x = rows_further c.args.charset columns a b d place l.payload.place middle h i j (drop l.ahead.column columns) (drop run.ahead.column columns) l.ahead.column run.ahead.column l.ended run.rows l.invariant.reads (λ cells. ran.1 c.args.charset cells c.of-table.ensures.charset) in
     let e = seen g.R.Read.remaining c.put_cell.new.payload in
     let k = held g.W.Write.contents c.put_cell.new.sink in
     let behind = c.in-Some.behind in

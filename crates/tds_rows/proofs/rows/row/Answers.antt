@@ -1,4 +1,4 @@
-use Rattle.std.proofs.Common.{ℕ, List, drop, refl, sym, subst, rules}
+use Rattle.std.proofs.Common.{ℕ, List, drop, refl, sym, subst, arith, rules}
 use Rattle.tds_values.specs.declared.kind.Kind.{Kind}
 use Rattle.tds_packet.specs.Payloads.{seen}
 use Rattle.tds_packet.proofs.Passing.{passed}
@@ -23,14 +23,16 @@ loop-form-init g c =
       writing = record { ready = c.requires.ready; writing = search rules };
       same = (refl, refl, refl, refl);
       same_sink = (refl, refl, refl);
-      ahead = c.start-at.ensures.ahead columns c.of-table.ensures;
+      room = refl;
+      bound = omega arith;
+      ahead = c.start-at.ensures.ahead columns c.of-table.ensures.knows;
       reads = subst (λ (n : ℕ). ReadsCells c.args.charset (row_start c.args.charset columns) (coming (drop n columns) n) a a place place h h n) (sym c.start-at.ensures.first) (cells_none c.args.charset columns a place h c.requires.ready.2);
     }
 
 pub returns-in_err-put_cell-clause-gives : goal.returns-in_err-put_cell-clause-gives
 returns-in_err-put_cell-clause-gives g c = λ _ _.
     let columns = columns_of c.args.columns.bytes.now in
-    let knows = c.of-table.ensures in
+    let knows = c.of-table.ensures.knows in
     let l = c.loop-form in
     let a = seen g.R.Read.remaining c.args.payload.now in
     let b = seen g.R.Read.remaining l.payload in
@@ -53,7 +55,7 @@ returns-in_err-put_cell-clause-gives g c = λ _ _.
 pub loop-form-preserved : goal.loop-form-preserved
 loop-form-preserved g c =
     let columns = columns_of c.args.columns.bytes.now in
-    let knows = c.of-table.ensures in
+    let knows = c.of-table.ensures.knows in
     let l = c.loop-form in
     let a = seen g.R.Read.remaining c.args.payload.now in
     let b = seen g.R.Read.remaining l.payload in
@@ -76,6 +78,8 @@ loop-form-preserved g c =
       writing = record { ready = done.sink.ready; writing = done.sink.writing };
       same = search rules;
       same_sink = search rules;
+      room = search rules;
+      bound = search (arith, rules);
       ahead = taken.ahead;
       reads = subst (λ (n : ℕ). ReadsCells c.args.charset start (coming left n) a d place place' h j n) (sym taken.further) (cells_more c.args.charset start taken.column left a b d place middle h i j l.at.column place' x y);
     }
@@ -89,6 +93,6 @@ returns-clause-gives g c = λ _ _.
     let h = held g.W.Write.contents c.args.sink.now in
     let i = held g.W.Write.contents l.sink in
     let place = c.args.payload.now.place in
-    let none = c.in_default-next.ensures.gives columns c.of-table.ensures l.invariant.ahead in
+    let none = c.in_default-next.ensures.gives columns c.of-table.ensures.knows l.invariant.ahead in
     cells_all c.args.charset (row_start c.args.charset columns) a b place l.payload.place h i l.at.column
     (subst (λ (r : List Column). ReadsCells c.args.charset (row_start c.args.charset columns) (coming r l.at.column) a b place l.payload.place h i l.at.column) none l.invariant.reads)

@@ -36,7 +36,7 @@ returns-clause-gives g c = λ columns knows ahead.
     let puts = kept_text h j lent written c.waiting-waiting.result whole c.waiting-waiting.ensures (Ok c.in-Ok.field-0) run.made c.in-Ok.ensures.gives in
     let ran = c.run_rows-run.ensures.gives columns knows ahead in (
       ran.0,
-      λ charset cells is.
-          let x = subst (λ (l : List ℕ). WritesRows charset columns cells (drop c.args.from.column columns) (drop run.ahead.column columns) run.ahead.column run.rows (take run.used l) (take run.made written)) c.buffered.ensures (ran.1 charset cells is) in
+      λ charset cells set is.
+          let x = subst (λ (l : List ℕ). WritesRows charset columns cells (drop c.args.from.column columns) (drop run.ahead.column columns) run.ahead.column run.rows (take run.used l) (take run.made written)) c.buffered.ensures (ran.1 charset cells set is) in
           rows_run charset columns cells (drop c.args.from.column columns) (drop run.ahead.column columns) run.ahead.column run.rows a b c.args.payload.now.place c.consume.new.self.place h j bytes (take run.made written) x takes at puts,
     )

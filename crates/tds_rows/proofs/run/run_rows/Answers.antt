@@ -1,10 +1,12 @@
 use Rattle.std.proofs.Common.{inl, inr, rules, arith, refl, sym, ap, subst, ◌≡◌, ◌∙◌, ◌+◌, ◌-◌, ◌<◌, Bool, ℕ, length, take, drop}
 use Rattle.tds_values.specs.declared.kind.Kind.{Kind}
 use Rattle.tds_rows.specs.Cells.{cell_start, shape}
-use Rattle.tds_rows.specs.CellSteps.{WritesCell, is_last}
+use Rattle.tds_rows.specs.CellSteps.{is_last}
+use Rattle.tds_rows.specs.WholeCells.{WritesCell, WritesWhole}
+use Rattle.tds_rows.specs.declared.Charset as sets
 use Rattle.tds_rows.specs.Runs.{WritesRows}
 use Rattle.tds_rows.proofs.TableSteps.{last_one, takes}
-use Rattle.tds_rows.proofs.RunSteps.{first_further, first_left, first_step, made_same, none_ahead, none_first, rows_none, rows_one, rows_onward, scalar_some, whole_of}
+use Rattle.tds_rows.proofs.RunSteps.{first_further, first_left, first_step, made_same, none_ahead, none_first, rows_none, rows_one, rows_onward, whole_some}
 use Rattle.tds_rows.proofs.run.run_rows.Goals.{else-loop-to-test, then-loop-to-test+in-Some+in_default-write_cell, then-loop-to-test+in_default+then-used-bytes}
 use Rattle.tds_rows.proofs.run.run_rows.Goals as goal
 
@@ -14,7 +16,7 @@ loop-to-init c = record {
   made = omega arith;
   few = omega arith;
   begun = inl (refl, refl, refl);
-  writes = λ columns knows ahead. (ahead, λ charset cells is. rows_none charset columns cells (drop c.args.from.column columns) c.args.from.column is);
+  writes = λ columns knows ahead. (ahead, λ charset cells set is. rows_none charset columns cells (drop c.args.from.column columns) c.args.from.column is);
 }
 
 pub loop-to-preserved-in_default : goal.loop-to-preserved-in_default
@@ -36,9 +38,9 @@ loop-to-preserved-in_default c =
           let none = c.in_default.ensures.gives columns knows inv.0 in
           let some : 0 < length columns = omega (arith, c.requires, knows.counted) in (
             c.start-ahead.ensures.ahead columns knows,
-            λ charset cells is.
+            λ charset cells set is.
                 subst (λ (k : ℕ). WritesRows charset columns cells (drop c.args.from.column columns) (drop k columns) k (l.rows + 1) (take (l.used + 1) bytes) (take l.made l.to)) (sym c.start-ahead.ensures.first)
-                (rows_onward charset columns cells (drop c.args.from.column columns) (drop l.ahead.column columns) l.ahead.column l.rows l.used bytes (take l.made l.to) some none within c.if-bytes-used.false (inv.1 charset cells is)),
+                (rows_onward charset columns cells (drop c.args.from.column columns) (drop l.ahead.column columns) l.ahead.column l.rows l.used bytes (take l.made l.to) some none within c.if-bytes-used.false (inv.1 charset cells set is)),
           );
     }
 
@@ -61,9 +63,9 @@ loop-to-preserved c =
             let taken = takes c.args.table.now columns l.ahead behind form (c.in-Some.ensures.gives columns knows here) c.behind-ahead.ensures.further (c.behind-ahead.ensures.gives columns knows here) in
             let left = drop behind.column columns in
             let end : last ≡ is_last left = c.is_last-last.ensures ∙ last_one columns left taken.column l.ahead.column c.args.table.now.count knows.counted taken.next in
-            first_step l.ahead.column c.args.from.column columns taken.column left form.kind last l.used written.used l.made written.made bytes l.to c.write_cell.new.to _ z.0 z.1 (ap (λ a. a.column) z.2) l.invariant.made (search (arith, rules))
+            first_step c.args.table.now.charset l.ahead.column c.args.from.column columns taken.column left form.kind last l.used written.used l.made written.made bytes l.to c.write_cell.new.to _ z.0 z.1 (ap (λ a. a.column) z.2) l.invariant.made (search (arith, rules))
             taken.next taken.kind end c.in-Some-write_cell.ensures.whole c.in-Some-write_cell.ensures.gives)
-        | inr f ↦ inr (λ columns knows ahead. first_further c.args.from.column columns bytes l.to _ l.used written.used l.made (l.made + written.made) (omega (arith, c.in-Some-write_cell.ensures.whole, scalar_some form.kind rest)) (f columns knows ahead))
+        | inr f ↦ inr (λ columns knows ahead. first_further c.args.from.column columns bytes l.to _ l.used written.used l.made (l.made + written.made) (omega (arith, c.in-Some-write_cell.ensures.whole, whole_some form.kind rest)) (f columns knows ahead))
       ];
       writes = λ columns knows ahead.
           let inv = l.invariant.writes columns knows ahead in
@@ -71,12 +73,13 @@ loop-to-preserved c =
           let left = drop behind.column columns in
           let end : last ≡ is_last left = c.is_last-last.ensures ∙ last_one columns left taken.column l.ahead.column c.args.table.now.count knows.counted taken.next in (
             taken.ahead,
-            λ charset cells is.
-                let y = subst (λ (v : Bool). WritesCell (cell_start form.kind (shape charset form.kind)) l.ahead.column v (take written.used rest) (take written.made c.write_cell.new.to)) end (c.in-Some-write_cell.ensures.gives charset) in
-                let z = subst (λ (k : Kind). WritesCell (cell_start k (shape charset k)) l.ahead.column (is_last left) (take written.used rest) (take written.made c.write_cell.new.to)) taken.kind y in
-                let w = whole_of (cell_start taken.column.kind (shape charset taken.column.kind)) l.ahead.column (is_last left) (take written.used rest) (take written.made c.write_cell.new.to) z in
+            λ charset cells set is.
+                let wrote = c.in-Some-write_cell.ensures.gives.whole in
+                let x = subst (λ (k : sets.Charset). WritesWhole (cell_start form.kind (shape k form.kind)) l.ahead.column last (take written.used rest) (take written.made c.write_cell.new.to)) set wrote in
+                let y = subst (λ (v : Bool). WritesWhole (cell_start form.kind (shape charset form.kind)) l.ahead.column v (take written.used rest) (take written.made c.write_cell.new.to)) end x in
+                let w = subst (λ (k : Kind). WritesWhole (cell_start k (shape charset k)) l.ahead.column (is_last left) (take written.used rest) (take written.made c.write_cell.new.to)) taken.kind y in
                 rows_one charset columns cells (drop c.args.from.column columns) (drop l.ahead.column columns) left taken.column l.ahead.column behind.column l.rows l.used written.used l.made written.made bytes l.to c.write_cell.new.to _
-                l.invariant.made (search (arith, rules)) taken.next taken.further (inv.1 charset cells is) w,
+                l.invariant.made (search (arith, rules)) taken.next taken.further (inv.1 charset cells set is) w,
           );
     }
 
@@ -96,13 +99,13 @@ returns-clause-first c =
         z.2,
         elim c.loop-to-test.branch [
           | else-loop-to-test w ↦ absurd (omega (arith, room, z.1, w.loop-to-test.false, c.loop-to.auto.to))
-          | then-loop-to-test+in_default+then-used-bytes w ↦ none_ahead l.ahead.column c.args.from.column columns c.args.bytes.now (ap (λ a. a.column) z.2) (w.in_default.ensures.gives columns knows inv.0)
+          | then-loop-to-test+in_default+then-used-bytes w ↦ none_ahead c.args.table.now.charset l.ahead.column c.args.from.column columns c.args.bytes.now (length c.args.to.now) (ap (λ a. a.column) z.2) (w.in_default.ensures.gives columns knows inv.0)
           | then-loop-to-test+in-Some+in_default-write_cell w ↦ (let next = w.in-Some.ensures.gives columns knows inv.0 in
               elim w.in_default-write_cell.ensures.gives [
                 | inl few ↦ absurd (omega (arith, room, z.1, few, c.loop-to.auto.to))
-                | inr left ↦ first_left l.ahead.column c.args.from.column columns next.column _ w.in-Some.form.kind l.used c.args.bytes.now z.0 (ap (λ a. a.column) z.2) next.next next.kind left
+                | inr left ↦ first_left c.args.table.now.charset l.ahead.column c.args.from.column columns next.column _ w.in-Some.form.kind l.used _ (length c.args.to.now) c.args.bytes.now z.0 (ap (λ a. a.column) z.2) (omega (arith, z.1, c.loop-to.auto.to)) next.next next.kind left
               ])
         ],
       )
-      | inr f ↦ inr (λ column tail h. let x = f columns knows ahead column tail h in (x.0, λ e charset. subst (λ t. WritesCell (cell_start column.kind (shape charset column.kind)) c.args.from.column (is_last tail) (take l.used c.args.bytes.now) t) (sym same) (x.1 e charset)))
+      | inr f ↦ inr (λ column tail h. let x = f columns knows ahead column tail h in (x.0, λ e scalar charset. subst (λ t. WritesCell (cell_start column.kind (shape charset column.kind)) c.args.from.column (is_last tail) (take l.used c.args.bytes.now) t) (sym same) (x.1 e scalar charset)))
     ]

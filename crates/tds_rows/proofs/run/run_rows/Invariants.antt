@@ -13,7 +13,7 @@ invariant-loop-to l = record {
   few : l.rows ≤ l.used;
   begun : ((l.used ≡ 0) × (l.made ≡ 0) × (l.ahead ≡ l.fn.from)) ⊎ ((columns : List Column) → Knows l.fn.table columns → IsAhead l.fn.table columns l.fn.from → FirstDone l.fn.from.column columns l.fn.bytes l.to l.used l.made);
   writes : (columns : List Column) → Knows l.fn.table columns → IsAhead l.fn.table columns l.fn.from → IsAhead l.fn.table columns l.ahead
-      × ((charset : sets.Charset) (cells : List Cell) → length cells ≡ l.fn.from.column → WritesRows charset columns cells (drop l.fn.from.column columns) (drop l.ahead.column columns) l.ahead.column l.rows (take l.used l.fn.bytes) (take l.made l.to));
+      × ((charset : sets.Charset) (cells : List Cell) → l.fn.table.charset ≡ charset → length cells ≡ l.fn.from.column → WritesRows charset columns cells (drop l.fn.from.column columns) (drop l.ahead.column columns) l.ahead.column l.rows (take l.used l.fn.bytes) (take l.made l.to));
 }
 
 abbrev pub decreases-loop-to : goal.decreases-loop-to

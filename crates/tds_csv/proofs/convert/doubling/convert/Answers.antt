@@ -1,4 +1,4 @@
-use Rattle.std.proofs.Common.{◌≡◌, ◌∙◌, ◌+◌, take, arith}
+use Rattle.std.proofs.Common.{◌≡◌, ◌∙◌, ◌+◌, take, arith, rules}
 use Rattle.tds_csv.specs.Quoting.{doubled}
 use Rattle.tds_csv.proofs.JoiningLemmas.{doubled-append}
 use Rattle.tds_csv.proofs.Singles.{text_more, text_next}
@@ -9,17 +9,19 @@ loop-at-preserved-then-at-bytes c =
     let bytes = c.args.bytes.now in
     let n = c.take_unquoted-n.result in
     let at = c.loop-at.at + n in
-    let run = c.take_unquoted-n.new.run in
-    let so_far : run ≡ doubled (take at bytes) = c.take_unquoted-n.ensures.taken ∙ text_more doubled doubled-append c.loop-at.run bytes c.loop-at.at n c.loop-at.invariant.text in
+    let run = take (c.loop-at.made + n) c.take_unquoted-n.new.to in
+    let so_far : run ≡ doubled (take at bytes) = c.take_unquoted-n.ensures.taken ∙ text_more doubled doubled-append (take c.loop-at.made c.loop-at.to) bytes c.loop-at.at n c.loop-at.invariant.text in
     record {
       within = omega arith;
-      room = omega (arith, c.push_doubled.ensures.grown, c.take_unquoted-n.ensures.grown, c.loop-at.invariant.room);
-      text = c.push_doubled.ensures.value ∙ text_next doubled doubled-append run bytes at c.if-at-bytes.true so_far;
+      long = search rules;
+      room = omega (arith, c.put_doubled-made.ensures.most, c.loop-at.invariant.room);
+      text = c.put_doubled-made.ensures.written ∙ text_next doubled doubled-append run bytes at c.if-at-bytes.true so_far;
     }
 
 pub loop-at-preserved : goal.loop-at-preserved
 loop-at-preserved c = record {
   within = c.take_unquoted-n.ensures.within;
-  room = omega (arith, c.take_unquoted-n.ensures.grown, c.loop-at.invariant.room);
-  text = c.take_unquoted-n.ensures.taken ∙ text_more doubled doubled-append c.loop-at.run c.args.bytes.now c.loop-at.at c.take_unquoted-n.result c.loop-at.invariant.text;
+  long = search rules;
+  room = omega (arith, c.loop-at.invariant.room);
+  text = c.take_unquoted-n.ensures.taken ∙ text_more doubled doubled-append (take c.loop-at.made c.loop-at.to) c.args.bytes.now c.loop-at.at c.take_unquoted-n.result c.loop-at.invariant.text;
 }

@@ -1,4 +1,4 @@
-use Rattle.std.proofs.Common.{◌≡◌, ◌*◌, ◌-◌, ◌≤◌, length, take}
+use Rattle.std.proofs.Common.{◌≡◌, ◌*◌, ◌-◌, ◌≤◌, ◌+◌, length, take}
 use Rattle.tds_csv.specs.Quoting.{doubled}
 use Rattle.tds_csv.proofs.convert.doubling.convert.Given as goal
 
@@ -6,8 +6,9 @@ use Rattle.tds_csv.proofs.convert.doubling.convert.Given as goal
 abbrev pub invariant-loop-at : goal.invariant-loop-at
 invariant-loop-at l = record {
   within : l.at ≤ length l.bytes;
-  room : length l.run ≤ 2 * l.at;
-  text : l.run ≡ doubled (take l.at l.bytes);
+  long : 2 * length l.bytes + 16 ≤ length l.to;
+  room : l.made ≤ 2 * l.at;
+  text : take l.made l.to ≡ doubled (take l.at l.bytes);
 }
 
 abbrev pub decreases-loop-at : goal.decreases-loop-at

@@ -1,55 +1,46 @@
-use Rattle.std.proofs.Common.{◌≡◌, ◌∙◌, ◌+◌, ◌*◌, ◌≤◌, ◌++◌, ℕ, List, length, take, drop, ap, sym, subst, arith}
+use Rattle.std.proofs.Common.{◌≡◌, ◌∙◌, ◌+◌, ◌*◌, ◌≤◌, ◌++◌, ℕ, List, length, take, drop, ap, subst, arith, rules}
 use Rattle.std.proofs.lemmas.List.{length-take-le}
-use Rattle.std.proofs.lemmas.Simd.{length-chunk, chunk-drop}
+use Rattle.std.proofs.lemmas.Simd.{length-chunk}
 use lib.Lanes.{chunk}
 use lib.Seq.{drop-drop}
 use Rattle.tds_csv.specs.Joining.{Leads}
-use Rattle.tds_csv.specs.Plain.{evens, plain_units}
+use Rattle.tds_csv.specs.Plain.{LiesIn, evens, plain_units}
 use Rattle.tds_csv.specs.Utf16 as utf16
-use Rattle.tds_csv.proofs.Units.{plain_within, length-evens, leads_plain}
+use Rattle.tds_csv.proofs.Masks.{alike}
+use Rattle.tds_csv.proofs.Units.{plain_within, length-evens, leads_some}
 use Rattle.tds_csv.proofs.convert.lanes_utf16.take_units.Goals as goal
 
--- the units that were looked at are few, and lead on
-few : (bytes : List ℕ) (at : ℕ) → at + 16 ≤ length bytes → (plain_units (chunk at 16 bytes) ≤ 8) × (length (evens (chunk at 16 bytes)) ≡ 8)
-few bytes at room =
-    let v = chunk at 16 bytes in
-    let long = length-chunk at 16 bytes room in
+-- the units that were looked at are few
+few : (source : List ℕ) (at : ℕ) → at + 16 ≤ length source → (plain_units (chunk at 16 source) ≤ 8) × (length (evens (chunk at 16 source)) ≡ 8)
+few source at room =
+    let v = chunk at 16 source in
+    let long = length-chunk at 16 source room in
     let n = length-evens v in
     (omega (arith, plain_within v, n, long), omega (arith, n, long))
 
-leads : (bytes : List ℕ) (at n : ℕ) → at + 16 ≤ length bytes → n ≡ plain_units (chunk at 16 bytes)
-    → Leads utf16.rest utf16.text (drop at bytes) (drop (at + 2 * n) bytes) (take n (evens (chunk at 16 bytes)))
-leads bytes at n room e =
-    let v = chunk at 16 bytes in
-    let more = drop (at + 16) bytes in
-    let whole : v ++ more ≡ drop at bytes = sym (chunk-drop at 16 bytes) in
-    let from = subst (λ l. Leads utf16.rest utf16.text l (drop (2 * plain_units v) l) (take (plain_units v) (evens v))) whole (leads_plain v more) in
-    let to = subst (λ k. Leads utf16.rest utf16.text (drop at bytes) (drop (2 * k) (drop at bytes)) (take k (evens v))) (sym e) from in
-    subst (λ l. Leads utf16.rest utf16.text (drop at bytes) l (take n (evens v))) (drop-drop (2 * n) at bytes) to
+-- so many of them lead on
+leads : (bytes source : List ℕ) (at n : ℕ) → LiesIn bytes source → n ≤ 8 → n ≤ plain_units (chunk at 16 source) → at + 2 * n ≤ length bytes → Leads utf16.rest utf16.text (drop at bytes) (drop (at + 2 * n) bytes) (take n (evens (chunk at 16 source)))
+leads bytes source at n lies eight plain within =
+    let v = chunk at 16 source in
+    subst (λ l. Leads utf16.rest utf16.text (drop at bytes) l (take n (evens v))) (drop-drop (2 * n) at bytes) (leads_some n v (drop at bytes) plain (alike bytes source at (2 * n) lies (omega (arith, eight)) within))
 
--- the first n were written
-taken : (bytes old new low : List ℕ) (at n : ℕ) → at + 16 ≤ length bytes → n ≡ plain_units (chunk at 16 bytes) → low ≡ evens (chunk at 16 bytes) → new ≡ old ++ take n low
+-- they were written
+taken : (bytes source old new low : List ℕ) (at n : ℕ) → LiesIn bytes source → at + 16 ≤ length source → n ≤ plain_units (chunk at 16 source) → at + 2 * n ≤ length bytes → low ≡ evens (chunk at 16 source) → new ≡ old ++ take n low
     → (out : List ℕ) × (new ≡ old ++ out) × (length out ≡ n) × Leads utf16.rest utf16.text (drop at bytes) (drop (at + 2 * n) bytes) out
-taken bytes old new low at n room e lows is =
-    let h = few bytes at room in (
-      take n (evens (chunk at 16 bytes)),
+taken bytes source old new low at n lies room plain within lows is =
+    let h = few source at room in (
+      take n (evens (chunk at 16 source)),
       is ∙ ap (λ l. old ++ take n l) lows,
-      length-take-le n (evens (chunk at 16 bytes)) (omega (arith, h.0, h.1, e)),
-      leads bytes at n room e,
+      length-take-le n (evens (chunk at 16 source)) (omega (arith, h.0, h.1, plain)),
+      leads bytes source at n lies (omega (arith, h.0, plain)) plain within,
     )
 
 pub put_lanes-requires-clause-within : goal.put_lanes-requires-clause-within
-put_lanes-requires-clause-within c =
-    let room : c.args.at + 16 ≤ length c.args.bytes.now = omega arith in
-    let h = few c.args.bytes.now c.args.at room in
-    omega (arith, c.plain_units-n.ensures, h.0)
+put_lanes-requires-clause-within c = omega (arith, (few c.args.source.now c.args.at (search (arith, rules))).0, c.plain_units.ensures)
 
 pub returns-clause-most : goal.returns-clause-most
-returns-clause-most c = omega (arith, (few c.args.bytes.now c.args.at (omega arith)).0, c.plain_units-n.ensures)
-
-pub returns-clause-within : goal.returns-clause-within
-returns-clause-within c = omega (arith, (few c.args.bytes.now c.args.at (omega arith)).0, c.plain_units-n.ensures)
+returns-clause-most c = omega (arith, (few c.args.source.now c.args.at (search (arith, rules))).0, c.plain_units.ensures)
 
 pub returns-clause-taken : goal.returns-clause-taken
 returns-clause-taken c =
-    taken c.args.bytes.now (take c.args.made c.args.to.now) _ c.low_bytes.result c.args.at c.plain_units-n.result (omega arith) c.plain_units-n.ensures c.low_bytes.ensures c.put_lanes.ensures
+    taken c.args.bytes.now c.args.source.now (take c.args.made c.args.to.now) _ c.low_bytes.result c.args.at c.min-n.result c.requires.source (search (arith, rules)) (search (arith, rules)) (search (arith, rules)) c.low_bytes.ensures c.put_lanes.ensures

@@ -1,4 +1,4 @@
-use Rattle.std.proofs.Common.{◌≤◌, ◌*◌, ◌-◌, length, take, drop}
+use Rattle.std.proofs.Common.{◌+◌, ◌≤◌, ◌*◌, ◌-◌, length, take, drop}
 use Rattle.tds_csv.specs.Joining.{Leads}
 use Rattle.tds_csv.specs.Utf16 as utf16
 use Rattle.tds_csv.proofs.convert.utf16.convert_singles.Given as goal
@@ -8,7 +8,7 @@ abbrev pub invariant-loop-at : goal.invariant-loop-at
 invariant-loop-at l = record {
   within : l.at ≤ l.end;
   more : l.from ≤ l.at;
-  long : 200 ≤ length l.to;
+  long : 3 * length l.bytes + 16 ≤ 2 * length l.to;
   room : 2 * l.made ≤ 3 * l.at;
   leads : Leads utf16.rest utf16.text l.bytes (drop l.at l.bytes) (take l.made l.to);
 }

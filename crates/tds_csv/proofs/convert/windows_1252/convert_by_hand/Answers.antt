@@ -14,7 +14,7 @@ loop-at-preserved c =
     let at = c.loop-at.at in
     let run = take c.loop-at.made c.loop-at.to in
     let code = ap (λ k. run ++ doubled (encode_utf8 k)) c.character.ensures.value ∙ ap (λ l. run ++ l) (sym (text_one (get_or bytes at 0))) in
-    let most = (doubled_length c.character.result).0 in
+    let most = (doubled_length c.character.result).1 c.character.ensures.range in
     let more : at < length bytes = omega arith in
     record {
       within = omega arith;

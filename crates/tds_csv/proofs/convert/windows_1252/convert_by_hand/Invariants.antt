@@ -1,4 +1,4 @@
-use Rattle.std.proofs.Common.{◌≡◌, ◌*◌, ◌-◌, ◌≤◌, length, take}
+use Rattle.std.proofs.Common.{◌≡◌, ◌+◌, ◌*◌, ◌-◌, ◌≤◌, length, take}
 use Rattle.tds_csv.specs.Windows1252 as windows_1252
 use Rattle.tds_csv.proofs.convert.windows_1252.convert_by_hand.Given as goal
 
@@ -6,8 +6,8 @@ use Rattle.tds_csv.proofs.convert.windows_1252.convert_by_hand.Given as goal
 abbrev pub invariant-loop-at : goal.invariant-loop-at
 invariant-loop-at l = record {
   within : l.at ≤ l.end;
-  long : 528 ≤ length l.to;
-  room : l.made ≤ 4 * l.at;
+  long : 3 * length l.bytes + 16 ≤ length l.to;
+  room : l.made ≤ 3 * l.at;
   text : take l.made l.to ≡ windows_1252.text (take l.at l.bytes);
 }
 

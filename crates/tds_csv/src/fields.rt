@@ -1,0 +1,129 @@
+// The field of a whole value of a long kind, written to a slice.
+ghost use Rattle.std.specs.Prelude.{◌≡◌, ◌+◌, ◌*◌, ◌%◌, ◌<◌, ◌≤◌, ◌++◌, ◌∷◌, [], length, take, IfSome};
+ghost use Rattle.tds_csv.specs.Conversion.{HexDigits, Utf16Text, Utf8Text, Windows1252Text, long_field};
+ghost use Rattle.tds_csv.specs.Fields.{FieldWritten, conversion_of, field_room};
+ghost use Rattle.tds_csv.specs.Plain.{LiesIn};
+ghost use Rattle.tds_csv.specs.Quoting.{quote};
+
+use crate::convert::lanes_hex::encode;
+use crate::convert::{doubling, utf16, windows_1252};
+use crate::framing::{BINARY_MARK, QUOTE};
+
+// How many bytes of room a field may want beside those of its text.
+const FIELD_SPARE: usize = 20;
+
+/// What the data of a long value is.
+#[derive(Clone, Copy)]
+pub enum Content {
+    /// Bytes, which become hexadecimal digits.
+    Binary,
+    /// Text in UTF-16, low byte first.
+    Utf16,
+    /// Text in the code page Windows-1252.
+    Windows1252,
+    /// Text in UTF-8.
+    Utf8,
+}
+
+/// How many bytes of room the field of so much data may want, a few to spare.
+#[inline(always)]
+pub fn field_room(content: Content, n: usize) -> usize
+    requires { n ≤ 65535 }
+    ensures { result ≡ field_room (conversion_of content) n }
+{
+    match content {
+        Content::Binary => 2 * n + FIELD_SPARE,
+        Content::Utf16 => n + n / 2 + FIELD_SPARE,
+        Content::Windows1252 => 3 * n + FIELD_SPARE,
+        Content::Utf8 => 2 * n + FIELD_SPARE,
+    }
+}
+
+// Writes the quote behind the text of a field, and answers how many bytes the field has.
+#[inline(always)]
+fn close_quoted(to: &mut [u8], made: usize) -> usize
+    requires { made < length to.old }
+    ensures end { result ≡ made + 1 }
+    ensures text { take result to.new ≡ take made to.old ++ quote ∷ [] }
+{
+    to[made] = QUOTE;
+    made + 1
+}
+
+// Writes binary data as a field.
+fn write_binary(bytes: &[u8], to: &mut [u8]) -> usize
+    requires { field_room HexDigits (length bytes.now) ≤ length to.old }
+    ensures most { result + 2 ≤ length to.old }
+    ensures field { take result to.new ≡ long_field HexDigits bytes.now }
+{
+    let end = 2 + 2 * bytes.len();
+    to[0] = BINARY_MARK[0];
+    to[1] = BINARY_MARK[1];
+    encode(bytes, &mut to[2..end]);
+    end
+}
+
+// Writes text in UTF-16 as a field.
+fn write_utf16(bytes: &[u8], source: &[u8], to: &mut [u8]) -> usize
+    requires source { LiesIn bytes.now source.now }
+    requires whole { length bytes.now % 2 ≡ 0 }
+    requires room { field_room Utf16Text (length bytes.now) ≤ length to.old }
+    ensures most { result + 2 ≤ length to.old }
+    ensures field { take result to.new ≡ long_field Utf16Text bytes.now }
+{
+    to[0] = QUOTE;
+    let made = utf16::convert_whole(bytes, source, &mut to[1..]);
+    close_quoted(to, 1 + made)
+}
+
+// Writes text in Windows-1252 as a field.
+fn write_windows_1252(bytes: &[u8], source: &[u8], to: &mut [u8]) -> usize
+    requires source { LiesIn bytes.now source.now }
+    requires room { field_room Windows1252Text (length bytes.now) ≤ length to.old }
+    ensures most { result + 2 ≤ length to.old }
+    ensures field { take result to.new ≡ long_field Windows1252Text bytes.now }
+{
+    to[0] = QUOTE;
+    let made = windows_1252::convert(bytes, source, &mut to[1..]);
+    close_quoted(to, 1 + made)
+}
+
+// Writes text in UTF-8 as a field.
+fn write_utf8(bytes: &[u8], to: &mut [u8]) -> usize
+    requires { field_room Utf8Text (length bytes.now) ≤ length to.old }
+    ensures most { result + 2 ≤ length to.old }
+    ensures field { take result to.new ≡ long_field Utf8Text bytes.now }
+{
+    to[0] = QUOTE;
+    let made = doubling::convert(bytes, &mut to[1..]);
+    close_quoted(to, 1 + made)
+}
+
+/// Writes the field of a whole value, the first `n` of these bytes, to the front of a slice: `0x` and
+/// digits, or the text in quotes. Answers how many bytes it has. None where the data isn't whole: an odd
+/// number of bytes in UTF-16, or bytes that are no UTF-8.
+#[inline(always)]
+pub fn write_field(content: Content, source: &[u8], n: usize, to: &mut [u8]) -> Option<usize>
+    requires within { n ≤ length source.now }
+    requires room { field_room (conversion_of content) n ≤ length to.old }
+    ensures most { IfSome result (λ made. made + 2 ≤ length to.old) }
+    ensures gives { FieldWritten (conversion_of content) (take n source.now) to.new result }
+{
+    let bytes = &source[..n];
+    match content {
+        Content::Binary => Some(write_binary(bytes, to)),
+        Content::Windows1252 => Some(write_windows_1252(bytes, source, to)),
+        Content::Utf16 => {
+            if n % 2 == 1 {
+                return None;
+            }
+            Some(write_utf16(bytes, source, to))
+        }
+        Content::Utf8 => {
+            let Ok(_) = str::from_utf8(bytes) else {
+                return None;
+            };
+            Some(write_utf8(bytes, to))
+        }
+    }
+}

@@ -1,0 +1,39 @@
+-- Cells of short values whose bytes lie together.
+use Rattle.std.proofs.Common.{◌≡◌, ◌≢◌, ◌∙◌, ℕ, ◌+◌, ◌/◌, ◌%◌, ◌<◌, ◌≤◌, Bool, true, List, [], ◌∷◌, ◌++◌, length, take, drop, refl, ap, arith, length-drop}
+use Rattle.std.specs.Prelude.{slice_index}
+use Rattle.std.proofs.lemmas.List.{length-take-le}
+use lib.Seq.{take-add}
+use Rattle.tds_values.specs.declared.kind.Kind.{Kind}
+use Rattle.tds_values.specs.declared.kind.Reach.TheVariants.{Short}
+use Rattle.tds_csv.specs.Conversion.{Conversion, is_fit, long_field}
+use Rattle.tds_csv.specs.Quoting.{in_line, null_field}
+use Rattle.tds_rows.specs.Cells.{DataCell, LongShape, Null, ShortLength, SpellsShort}
+use Rattle.tds_rows.specs.ShortCells.{short_length}
+use Rattle.tds_rows.specs.WholeCells.{WritesWhole}
+use Rattle.tds_rows.proofs.CellLaws.{cell_is_read}
+
+two_of : (bytes : List ℕ) → 2 ≤ length bytes → take 2 bytes ≡ slice_index bytes 0 ∷ slice_index bytes 1 ∷ []
+two_of [] h = absurd (omega arith)
+two_of (a ∷ []) h = absurd (omega arith)
+two_of (a ∷ b ∷ bytes) h = refl
+
+module _ (column : ℕ) (kind : Kind) (c : Conversion) (last : Bool) (bytes text : List ℕ) (within : 2 ≤ length bytes) (low : slice_index bytes 0 < 256) (high : slice_index bytes 1 < 256) where
+  -- NULL
+  pub short_null : short_length bytes ≡ 65535 → text ≡ in_line column last null_field → WritesWhole (ShortLength c) column last (take 2 bytes) text
+  short_null all is =
+      let a : slice_index bytes 0 ≡ 255 = omega (arith, all, low, high) in
+      let b : slice_index bytes 1 ≡ 255 = omega (arith, all, low, high) in
+      let ones : take 2 bytes ≡ 255 ∷ 255 ∷ [] = two_of bytes within ∙ (λ i. a i ∷ b i ∷ []) in
+      record { value = Null; spelt = cell_is_read column kind (LongShape c Short) Null (take 2 bytes) tt ones; text_is = is }
+
+  -- a value
+  pub short_value : (n : ℕ) → n ≡ short_length bytes → n ≢ 65535 → 2 + n ≤ length bytes → is_fit c (take n (drop 2 bytes)) ≡ true → text ≡ in_line column last (long_field c (take n (drop 2 bytes)))
+      → WritesWhole (ShortLength c) column last (take (2 + n) bytes) text
+  short_value n counted some all fit is =
+      let d = take n (drop 2 bytes) in
+      let whole : length d ≡ n = length-take-le n (drop 2 bytes) (omega (arith, all, length-drop 2 bytes)) in
+      let a : slice_index bytes 0 ≡ length d % 256 = omega (arith, counted, whole, low, high) in
+      let b : slice_index bytes 1 ≡ length d / 256 = omega (arith, counted, whole, low, high) in
+      let front : take 2 bytes ≡ length d % 256 ∷ length d / 256 ∷ [] = two_of bytes within ∙ (λ i. a i ∷ b i ∷ []) in
+      let spells : SpellsShort d (take (2 + n) bytes) = record { counted = take-add 2 n bytes ∙ ap (λ l. l ++ d) front; least = omega (arith, counted, whole, low, high, some) } in
+      record { value = DataCell c d; spelt = cell_is_read column kind (LongShape c Short) (DataCell c d) (take (2 + n) bytes) tt (refl, fit, spells); text_is = is }

@@ -1,0 +1,47 @@
+-- Cells of short values whose bytes lie together (MS-TDS, Data Stream Types).
+use Rattle.std.specs.Prelude.{◌≡◌, ◌==◌, ◌⊎◌, ◌+◌, ◌*◌, ◌<◌, ℕ, Bool, false, List, length, take, drop, slice_index, Option, Some, None, MatchOption, if◌then◌else◌}
+use Rattle.tds_values.specs.declared.kind.Kind.{Kind}
+use Rattle.tds_values.specs.declared.kind.Reach.TheVariants.{Short}
+use Rattle.tds_values.specs.Kind.{is_scalar}
+use Rattle.tds_csv.specs.Conversion.{Conversion, is_fit}
+use Rattle.tds_csv.specs.Fields.{field_room}
+use Rattle.tds_rows.specs.declared.Charset.{Charset}
+use Rattle.tds_rows.specs.declared.buffered.Written.{Written}
+use Rattle.tds_rows.specs.declared.short.TheConstants.{NULL_LENGTH}
+use Rattle.tds_rows.specs.Cells.{LongShape, Shape, ShortLength, cell_start, shape}
+use Rattle.tds_rows.specs.WholeCells.{WritesWhole}
+
+-- the conversion of the short values of a shape; none where its values are no short ones
+abbrev pub short_conversion : Shape → Option Conversion
+short_conversion (LongShape c Short) = Some c
+short_conversion _ = None
+
+-- the length of two bytes before a short value
+abbrev pub short_length : List ℕ → ℕ
+short_length bytes = slice_index bytes 0 + 256 * slice_index bytes 1
+
+-- how many bytes of data the short value has at the front of these bytes; NULL has none
+abbrev pub data_length : List ℕ → ℕ
+data_length bytes = if short_length bytes == NULL_LENGTH then 0 else short_length bytes
+
+-- how many bytes its cell has
+abbrev pub short_size : List ℕ → ℕ
+short_size bytes = 2 + data_length bytes
+
+-- its data
+abbrev pub short_data : List ℕ → List ℕ
+short_data bytes = take (data_length bytes) (drop 2 bytes)
+
+-- The short value at the front of these bytes is left for another way: it isn't whole, it may want more room than there is, or its data isn't whole text. Nothing is said of a value in chunks.
+abbrev pub IsShortLeft : Option Conversion → List ℕ → ℕ → Type 0
+IsShortLeft (Some c) bytes room = (length bytes < short_size bytes) ⊎ ((room < 1 + field_room c (data_length bytes)) ⊎ (is_fit c (short_data bytes) ≡ false))
+IsShortLeft None bytes room = Unit {0}
+
+-- The cell of a short value of this conversion at the front of these bytes, so many of them, was written to the front of others; or it is left.
+abbrev pub ContentWritten : Conversion → ℕ → Bool → List ℕ → ℕ → List ℕ → Option Written → Type 0
+ContentWritten c column last bytes room text result = MatchOption result (IsShortLeft (Some c) bytes room) (λ written. WritesWhole (ShortLength c) column last (take written.used bytes) (take written.made text))
+
+-- The cell of a short value of a kind at the front of these bytes, so many of them, was written to the front of others; or it is left.
+abbrev pub ShortWritten : Charset → Kind → ℕ → Bool → List ℕ → ℕ → List ℕ → Option Written → Type 0
+ShortWritten charset kind column last bytes room text result = MatchOption result (IsShortLeft (short_conversion (shape charset kind)) bytes room)
+    (λ written. (is_scalar kind ≡ false) × WritesWhole (cell_start kind (shape charset kind)) column last (take written.used bytes) (take written.made text))
