@@ -222,7 +222,8 @@ pub(crate) fn put_cell<R: Read, W: Write>(
 /// numbered from 0, and single-byte text is read in this set. Any other stop is the payload's or the sink's
 /// own. After a stop of the payload or the sink the same stop is answered, and nothing changes.
 ///
-/// A scalar cell is gathered in the small area, which is emptied first and has room for 18 bytes at least.
+/// A scalar cell that goes on in the next packet is gathered in the small area, which is emptied first and has
+/// room for 18 bytes at least; so is one that the row stops at.
 pub fn row<R: Read, W: Write>(
     payload: &mut Payload<R>,
     columns: Columns<'_>,

@@ -31,13 +31,13 @@ struct Use {
 }
 
 // The description of three kinds has 27 bytes, and the date begins 5 bytes behind it.
-const USES: [Use; 7] = [
+const USES: [Use; 9] = [
     Use {
         what: "each cell of a row by itself",
         call: Call::Row,
         columns: MIXED,
         bytes: MIXED_ROW,
-        size: 4000,
+        size: 3,
         peak: 4,
     },
     Use {
@@ -45,8 +45,16 @@ const USES: [Use; 7] = [
         call: Call::Row,
         columns: &[WIDE_DECIMAL],
         bytes: NINES,
-        size: 4000,
+        size: 3,
         peak: 18,
+    },
+    Use {
+        what: "no cell of a row that lies whole in its packet",
+        call: Call::Row,
+        columns: MIXED,
+        bytes: MIXED_ROW,
+        size: 4000,
+        peak: 0,
     },
     Use {
         what: "no long value",
@@ -57,7 +65,7 @@ const USES: [Use; 7] = [
         peak: 0,
     },
     Use {
-        what: "no cell that lies whole in its packet",
+        what: "no cell of many rows that lies whole in its packet",
         call: Call::Rows,
         columns: MIXED,
         bytes: MIXED_ROW,
@@ -81,11 +89,19 @@ const USES: [Use; 7] = [
         peak: 1,
     },
     Use {
-        what: "a cell behind a bitmap",
+        what: "no cell behind a bitmap that lies whole in its packet",
         call: Call::NbcRow,
         columns: &[INT4, DATE],
         bytes: &[0x01, 3, 0xDA, 0xB9, 0x37],
         size: 4000,
+        peak: 0,
+    },
+    Use {
+        what: "a date behind a bitmap, across the end of a packet",
+        call: Call::NbcRow,
+        columns: &[INT4, DATE],
+        bytes: &[0x01, 3, 0xDA, 0xB9, 0x37],
+        size: 3,
         peak: 4,
     },
 ];
