@@ -131,11 +131,9 @@ module _ (charset : Charset) (kind : Kind) (column : ℕ) (last : Bool) (bytes t
           (subst (λ (k : ℕ). IsValueText kind column last (take n (drop k bytes)) text) one is)))
 
 -- a whole number of four bytes there
-pub int4_cell : (charset : Charset) (kind : Kind) (column : ℕ) (last : Bool) (bytes text : List ℕ) → HasInt4 kind bytes → IsValueText (IntN 4) column last (take 4 (drop 1 bytes)) text
-    → WritesCell (cell_start kind (shape charset kind)) column last (take 5 bytes) text
-int4_cell charset kind column last bytes text h x =
-    subst (λ (k : Kind). WritesCell (cell_start k (shape charset k)) column last (take 5 bytes) text) (sym h.kind_is)
-    (value_cell charset (IntN 4) column last bytes text refl 1 4 refl (sym h.length_is) (λ e. omega (arith, e)) h.whole x)
+pub int4_cell : (charset : Charset) (column : ℕ) (last : Bool) (bytes text : List ℕ) → HasInt4 bytes → IsValueText (IntN 4) column last (take 4 (drop 1 bytes)) text
+    → WritesCell (cell_start (IntN 4) (shape charset (IntN 4))) column last (take 5 bytes) text
+int4_cell charset column last bytes text h x = value_cell charset (IntN 4) column last bytes text refl 1 4 refl (sym h.length_is) (λ e. omega (arith, e)) h.whole x
 
 -- a cell whose value is refused is left
 pub refused_left : (kind : Kind) (bytes : List ℕ) (start n : ℕ) → start ≡ value_start kind → n ≡ value_length kind bytes → n ≢ 0 → is_ok (read_of kind (take ((start + n) - start) (drop start bytes))) ≡ false → IsScalarLeft kind bytes

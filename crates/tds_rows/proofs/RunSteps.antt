@@ -19,7 +19,7 @@ use Rattle.tds_columns.proofs.ViewLaws.{all_behind}
 use Rattle.tds_rows.specs.declared.Charset.{Charset}
 use Rattle.tds_rows.specs.Cells.{Cell, CellPart, CountedShape, FixedShape, LongShape, Shape, WholeCell, cell, cell_start, field, shape}
 use Rattle.tds_rows.specs.Rows.{Bitmap, InCell, RowPart, WholeRow, row_start, next_cell, row, row_so_far, with_cell, with_field}
-use Rattle.tds_rows.specs.CellSteps.{IsLeft, IsScalarLeft, PutsCell, StopsCell, WritesKind, cell_so_far, is_last, length_behind, scalar_size, start_behind, whole_size}
+use Rattle.tds_rows.specs.CellSteps.{HasInt4, IsLeft, IsScalarLeft, IsValueText, PutsCell, StopsCell, WritesKind, cell_so_far, is_last, length_behind, scalar_size, start_behind, whole_size}
 use Rattle.tds_rows.specs.WholeCells.{WritesCell, WritesWhole}
 use Rattle.tds_values.specs.Kind.{fixed_length, is_scalar}
 use Rattle.tds_rows.specs.ShortCells.{short_size}
@@ -27,7 +27,9 @@ use Rattle.std.specs.Prelude.{Option, Some, None, Result, Ok, Err, MatchResult, 
 use Rattle.tds_rows.proofs.CellSteps.{fixed_some}
 use Rattle.tds_rows.specs.Runs.{FirstDone, FirstLeft, RowsPart, RunsRows, Writes, WritesCells, WritesRows, behind_cells, lines, rows, rows_so_far, rows_start}
 use Rattle.tds_values.specs.declared.kind.Kind.{Kind}
+use Rattle.tds_values.specs.declared.kind.Kind.TheVariants.{IntN}
 use Rattle.tds_values.specs.declared.kind.Reach.TheVariants.{Chunked, Short}
+use Rattle.tds_rows.proofs.BufferedCells.{int4_cell}
 use Rattle.tds_rows.proofs.RowLaws.{begins_open, cell_in_row}
 use Rattle.tds_rows.proofs.RowSteps.{cell_stops, coming, lift, next_text, quiet_text, row_text, start_quiet}
 use Rattle.tds_packet.proofs.Futures.{Takes-none}
@@ -55,6 +57,14 @@ whole_of from column last bytes made x = record {
 -- a scalar cell, in any set
 pub writes_scalar : (set : Charset) (kind : Kind) (column : ℕ) (last : Bool) (bytes made : List ℕ) → ((any : Charset) → WritesCell (cell_start kind (shape any kind)) column last bytes made) → WritesKind set kind column last bytes made
 writes_scalar set kind column last bytes made x = record { whole = whole_of (cell_start kind (shape set kind)) column last bytes made (x set); at_once = λ _ any. x any }
+
+-- a whole number of four bytes, in any set
+pub writes_int4 : (set : Charset) (column : ℕ) (last : Bool) (bytes made : List ℕ) → HasInt4 bytes → IsValueText (IntN 4) column last (take 4 (drop 1 bytes)) made → WritesKind set (IntN 4) column last (take 5 bytes) made
+writes_int4 set column last bytes made h x = writes_scalar set (IntN 4) column last (take 5 bytes) made (λ any. int4_cell any column last bytes made h x)
+
+-- how many bytes its cell has
+pub int4_size : (bytes : List ℕ) → HasInt4 bytes → 5 ≡ whole_size (IntN 4) bytes
+int4_size bytes h = omega (arith, h.length_is)
 
 from_text : (charset : Charset) (cells : List Cell) (c : Column) (left : List Column) (n : ℕ) → row_so_far (InCell cells (cell_start c.kind (shape charset c.kind)) (coming left n)) ≡ joined (map field cells)
 from_text charset cells c left n = ap (λ o. joined (with_field cells o)) (start_quiet c.kind (shape charset c.kind))

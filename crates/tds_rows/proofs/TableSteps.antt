@@ -4,6 +4,7 @@ use Rattle.std.specs.Prelude.{map, slice_set, ◌==◌}
 use Rattle.tds_rows.specs.CellSteps.{is_last}
 use Rattle.std.proofs.lemmas.Bool.{eq-eqb, ne_eqb}
 use Rattle.std.proofs.lemmas.List.{drop_all, drop_more, get_or-map, get_or-take, length-drop, length-take, map-append, take_more, take_more_set}
+use Rattle.tds_values.specs.declared.kind.Kind.{Kind}
 use Rattle.tds_columns.specs.Description.{Column}
 use Rattle.std.specs.Prelude.{Option, Some, None}
 use Rattle.std.specs.Iterator.{YieldsFirstBy}
@@ -39,17 +40,17 @@ known_kind forms columns n k f c first known some within =
     ap (λ (f : Form). f.kind) (sym (get_or-take n forms k f known)) ∙ sym (get_or-map (λ f. f.kind) (take n forms) k f f.kind one) ∙ ap (λ l. get_or l k f.kind) first
     ∙ get_or-map (λ c. c.kind) (take n columns) k c f.kind two ∙ ap (λ (c : Column). c.kind) (get_or-take n columns k c known)
 
-module _ (table : Table) (columns : List Column) (at : Ahead) (form : Form) (knows : Knows table columns) (is : IsAhead table columns at) where
+module _ (table : Table) (columns : List Column) (at : Ahead) (kind : Kind) (knows : Knows table columns) (is : IsAhead table columns at) where
   -- a column that the table knows is next
-  pub next_known : (d : Form) → at.column < table.count → at.column < table.known → table.known ≤ length table.forms → form.kind ≡ (get_or table.forms at.column d).kind → NextColumn columns at form
-  next_known d some known fits kind =
+  pub next_known : (d : Form) → at.column < table.count → at.column < table.known → table.known ≤ length table.forms → kind ≡ (get_or table.forms at.column d).kind → NextColumn columns at kind
+  next_known d some known fits is_kind =
       let within : at.column < length columns = omega (arith, knows.counted, some) in
-      let c : Column = record { kind = form.kind; name = [] } in
+      let c : Column = record { kind = kind; name = [] } in
       record {
         column = get_or columns at.column c;
         rest = drop (at.column + 1) columns;
         next = drop_more columns at.column c within;
-        kind = kind ∙ known_kind table.forms columns table.known at.column d c knows.first known fits within;
+        kind = is_kind ∙ known_kind table.forms columns table.known at.column d c knows.first known fits within;
       }
 
 module _ (table : Table) (columns : List Column) (old new : Ahead) (knows : Knows table columns) (is : IsAhead table columns old) (further : new.column ≡ old.column + 1) (some : old.column < table.count) where
@@ -77,8 +78,8 @@ walk_behind walk new None y = y.1 ∙ ap (drop 1) (sym y.0)
 walk_behind walk new (Some c) y = ap (drop 1) (sym y)
 
 -- the next column was taken
-pub takes : (table : Table) (columns : List Column) (old new : Ahead) (form : Form) → NextColumn columns old form → new.column ≡ old.column + 1 → IsAhead table columns new → TakesColumn table columns old new form
-takes table columns old new form x further ahead = record {
+pub takes : (table : Table) (columns : List Column) (old new : Ahead) (kind : Kind) → NextColumn columns old kind → new.column ≡ old.column + 1 → IsAhead table columns new → TakesColumn table columns old new kind
+takes table columns old new kind x further ahead = record {
   column = x.column;
   next = x.next ∙ ap (λ l. x.column ∷ l) (sym (next_column columns old.column x.column x.rest x.next).1.1 ∙ ap (λ (n : ℕ). drop n columns) (sym further));
   kind = x.kind;

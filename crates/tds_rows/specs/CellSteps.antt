@@ -87,8 +87,7 @@ abbrev pub value_bytes : Kind → List ℕ → List ℕ
 value_bytes kind bytes = take (value_length kind bytes) (drop (value_start kind) bytes)
 
 -- A whole number of four bytes, behind its length, is at the front of these bytes.
-pub record HasInt4 (kind : Kind) (bytes : List ℕ) : Type 0 where
-  pub kind_is : kind ≡ IntN 4
+pub record HasInt4 (bytes : List ℕ) : Type 0 where
   pub whole : 5 ≤ length bytes
   pub length_is : slice_index bytes 0 ≡ 4
 
@@ -110,9 +109,9 @@ pub record WritesKind (charset : Charset) (kind : Kind) (column : ℕ) (last : B
   pub whole : WritesWhole (cell_start kind (shape charset kind)) column last bytes text
   pub at_once : is_scalar kind ≡ true → (any : Charset) → WritesCell (cell_start kind (shape any kind)) column last bytes text
 
--- The cell at the front of these bytes, so many of them, was written to the front of others; or it is left, or there isn't room for every scalar.
+-- The cell at the front of these bytes, so many of them, was written to the front of others; or it is left, with so much room.
 abbrev pub CellWritten : Charset → Kind → ℕ → Bool → List ℕ → ℕ → List ℕ → Option Written → Type 0
-CellWritten charset kind column last bytes room text result = MatchOption result ((room < CELL_ROOM) ⊎ IsLeft charset kind bytes room)
+CellWritten charset kind column last bytes room text result = MatchOption result (IsLeft charset kind bytes room)
     (λ written. WritesKind charset kind column last (take written.used bytes) (take written.made text))
 
 -- The scalar cell at the front of these bytes, all of it, was written to the front of others; or it isn't written, and if these are its bytes, it is left.

@@ -25,27 +25,27 @@ pub record IsAhead (table : Table) (columns : List Column) (at : Ahead) : Type 0
   pub beyond : table.known ≤ at.column → columns_left at.walk ≡ drop at.column columns
 
 -- The next column is ahead, and this is its kind.
-pub record NextColumn (columns : List Column) (at : Ahead) (form : Form) : Type 0 where
+pub record NextColumn (columns : List Column) (at : Ahead) (next_kind : Kind) : Type 0 where
   pub column : Column
   pub rest : List Column
   pub next : drop at.column columns ≡ column ∷ rest
-  pub kind : form.kind ≡ column.kind
+  pub kind : next_kind ≡ column.kind
 
 -- This is the kind of the next column, or none is ahead.
 abbrev pub NextForm : List Column → Ahead → Option Form → Type 0
-NextForm columns at result = MatchOption result (drop at.column columns ≡ []) (λ form. NextColumn columns at form)
+NextForm columns at result = MatchOption result (drop at.column columns ≡ []) (λ form. NextColumn columns at form.kind)
 
 -- A column was taken, the next one ahead, and this is its kind.
-pub record TakesColumn (table : Table) (columns : List Column) (old new : Ahead) (form : Form) : Type 0 where
+pub record TakesColumn (table : Table) (columns : List Column) (old new : Ahead) (next_kind : Kind) : Type 0 where
   pub column : Column
   pub next : drop old.column columns ≡ column ∷ drop new.column columns
-  pub kind : form.kind ≡ column.kind
+  pub kind : next_kind ≡ column.kind
   pub further : new.column ≡ old.column + 1
   pub ahead : IsAhead table columns new
 
 -- The next column was taken, or none is ahead.
 abbrev pub TakesForm : Table → List Column → Ahead → Option (Form × Ahead) → Type 0
-TakesForm table columns at result = MatchOption result (drop at.column columns ≡ []) (λ taken. TakesColumn table columns at taken.1 taken.0)
+TakesForm table columns at result = MatchOption result (drop at.column columns ≡ []) (λ taken. TakesColumn table columns at taken.1 taken.0.kind)
 
 -- This is the kind of the next column ahead, of columns that the table knows, and so it stands with the last one.
 pub record IsNextKind (table : Table) (at : Ahead) (next_kind : Kind) (is_end : Bool) : Type 0 where

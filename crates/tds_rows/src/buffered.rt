@@ -4,8 +4,8 @@ ghost use Rattle.tds_rows.specs.CellSteps.{CellWritten, HasInt4, scalar_size, va
 ghost use Rattle.tds_values.specs.Kind as kinds;
 
 use crate::Charset;
-use crate::fields::{write_int4_field, write_value};
-use crate::rows::{CELL_ROOM, INT4_ROOM};
+use crate::fields::write_value;
+use crate::rows::CELL_ROOM;
 use crate::short::write_short;
 use crate::table::{Form, Layout};
 use tds_csv::write_null;
@@ -53,17 +53,20 @@ fn value_at(form: &Form, bytes: &[u8]) -> Option<(usize, usize)>
     }
 }
 
-// Whether a whole number of four bytes lies at the front of these bytes, behind its length.
+/// How many bytes the cell of a whole number of four bytes has, behind its length.
+pub(crate) const INT4_CELL: usize = 5;
+
+/// Whether a whole number of four bytes lies at the front of these bytes, behind its length.
 #[inline(always)]
-fn has_int4(kind: &Kind, bytes: &[u8]) -> bool
-    ensures so { result ≡ true → HasInt4 kind.now bytes.now }
-    ensures only { HasInt4 kind.now bytes.now → result ≡ true }
+pub(crate) fn has_int4(bytes: &[u8]) -> bool
+    ensures so { result ≡ true → HasInt4 bytes.now }
+    ensures only { HasInt4 bytes.now → result ≡ true }
 {
-    matches!(*kind, Kind::IntN(4)) && bytes.len() >= 5 && bytes[0] == 4
+    bytes.len() >= INT4_CELL && bytes[0] == 4
 }
 
 // Writes the cell at the front of these bytes; none where it isn't whole, is refused or in chunks, or where
-// there isn't the room that its text may need.
+// there isn't the room that the text of a short value may need.
 #[inline(always)]
 pub(crate) fn write_cell(
     form: &Form,
@@ -73,19 +76,12 @@ pub(crate) fn write_cell(
     bytes: &[u8],
     to: &mut [u8],
 ) -> Option<Written>
-    requires room { INT4_ROOM ≤ length to.old }
+    requires room { CELL_ROOM ≤ length to.old }
     ensures used { IfSome result (λ written. written.used ≤ length bytes.now) }
     ensures most { IfSome result (λ written. written.made ≤ length to.old) }
     ensures whole { IfSome result (λ written. written.used ≡ whole_size form.now.kind bytes.now) }
     ensures gives { CellWritten charset form.now.kind column last bytes.now (length to.old) to.new result }
 {
-    if has_int4(&form.kind, bytes) {
-        let made = write_int4_field(column, last, &bytes[1..5], to);
-        return Some(Written { used: 5, made });
-    }
-    if to.len() < CELL_ROOM {
-        return None;
-    }
     let Some((start, n)) = value_at(form, bytes) else {
         return write_short(form.kind, charset, column, last, bytes, to);
     };

@@ -4,8 +4,9 @@ ghost use Rattle.tds_csv.specs.Sinks.{IsOnSameSink, IsWriting, held};
 ghost use Rattle.tds_packet.specs.Payloads.{IsGoing, IsOnSame, seen};
 ghost use Rattle.tds_rows.specs.Runs.{FirstJudged, RowsPut, RowsWritten};
 
-use crate::buffered::write_cell;
-use crate::rows::INT4_ROOM;
+use crate::buffered::{INT4_CELL, has_int4, write_cell};
+use crate::fields::write_int4_field;
+use crate::rows::{CELL_ROOM, INT4_ROOM};
 use crate::table::{Ahead, Table};
 use std::io::{Read, Write};
 use tds_csv::Sink;
@@ -45,6 +46,14 @@ pub(crate) fn run_rows<'a>(
     let mut rows = 0;
     let mut ahead = from;
     while to.len() - made >= INT4_ROOM {
+        let rest = &bytes[used..];
+        if table.is_int4(ahead) && has_int4(rest) {
+            let last = table.is_last(ahead);
+            made += write_int4_field(ahead.column, last, &rest[1..INT4_CELL], &mut to[made..]);
+            used += INT4_CELL;
+            ahead = table.behind(ahead);
+            continue;
+        }
         let Some(form) = table.form(ahead) else {
             if used == bytes.len() || bytes[used] != ROW {
                 break;
@@ -54,8 +63,10 @@ pub(crate) fn run_rows<'a>(
             ahead = table.start();
             continue;
         };
+        if to.len() - made < CELL_ROOM {
+            break;
+        }
         let last = table.is_last(ahead);
-        let rest = &bytes[used..];
         let Some(written) = write_cell(
             &form,
             table.charset,

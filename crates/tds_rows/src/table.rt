@@ -1,5 +1,5 @@
 // What the cells of a description's columns need of them, known once for all its rows.
-ghost use Rattle.std.specs.Prelude.{◌≡◌, ◌==◌, ◌+◌, ◌<◌, ◌≤◌, IfSome, IsTrue, List};
+ghost use Rattle.std.specs.Prelude.{◌≡◌, ◌==◌, ◌+◌, ◌<◌, ◌≤◌, true, IfSome, IsTrue, List};
 ghost use Rattle.tds_rows.specs.Layouts.{layout_of};
 ghost use Rattle.tds_rows.specs.declared.table.TheConstants.{TABLE_LENGTH};
 ghost use Rattle.tds_values.specs.Kind.{is_valid};
@@ -41,6 +41,7 @@ pub(crate) struct Table<'a> {
     behind: Walk<'a>,
     pub(crate) charset: Charset,
     ghost most: { known ≤ TABLE_LENGTH },
+    ghost few: { known ≤ count },
     ghost fits: { count ≤ 65535 },
 }
 
@@ -82,7 +83,7 @@ impl Form {
 impl<'a> Table<'a> {
     ghost use Rattle.tds_columns.specs.Description as spec;
     ghost use Rattle.tds_columns.specs.View.{columns_of};
-    ghost use Rattle.tds_rows.specs.Tables.{IsAhead, Knows, NextForm, TakesForm};
+    ghost use Rattle.tds_rows.specs.Tables.{IsAhead, Knows, NextColumn, NextForm, TakesForm};
 
     /// The table of a description's columns, whose single-byte text is in this set.
     pub(crate) fn of(columns: Columns<'a>, charset: Charset) -> Table<'a>
@@ -138,6 +139,20 @@ impl<'a> Table<'a> {
             Some(column) => Some(Form::of(column.kind)),
             None => None,
         }
+    }
+
+    /// Whether the next cell is known to be a whole number of four bytes behind its length, the most frequent kind.
+    #[inline(always)]
+    pub(crate) fn is_int4(&self, at: Ahead<'a>) -> bool
+        ensures some { result ≡ true → at.entry.column < self.now.count }
+        ensures gives { result ≡ true → (columns : List spec.Column) → Knows self.now columns →
+            IsAhead self.now columns at.entry → NextColumn columns at.entry (Kind.IntN 4) }
+    {
+        if (at.column as usize) >= self.known {
+            return false;
+        }
+        let form = self.forms[at.column as usize];
+        matches!(form.kind, Kind::IntN(4))
     }
 
     /// Whether the next cell is a row's last.

@@ -1,8 +1,8 @@
-use Rattle.std.proofs.Common.{inl, inr, ◌≡◌, ◌∙◌, ◌+◌, ◌-◌, ℕ, take, drop, sym, subst, arith, rules}
+use Rattle.std.proofs.Common.{inl, ◌≡◌, ◌∙◌, ◌+◌, ◌-◌, ℕ, take, drop, sym, subst, arith, rules}
 use Rattle.tds_rows.specs.Cells.{cell_start, shape}
 use Rattle.tds_rows.specs.CellSteps.{IsValueText}
 use Rattle.tds_rows.specs.WholeCells.{WritesCell}
-use Rattle.tds_rows.proofs.BufferedCells.{int4_cell, null_cell, refused_left, value_cell}
+use Rattle.tds_rows.proofs.BufferedCells.{null_cell, refused_left, value_cell}
 use Rattle.tds_rows.proofs.RunSteps.{writes_scalar}
 use Rattle.tds_rows.proofs.buffered.write_cell.Goals as goal
 
@@ -28,10 +28,4 @@ returns-in-Some-write_value-clause-gives c =
 pub returns-in-None-clause-gives : goal.returns-in-None-clause-gives
 returns-in-None-clause-gives c =
     let at = c.in-Some.ensures.gives in
-    inr (inl (c.in-Some.ensures.scalar, refused_left c.args.form.now.kind c.args.bytes.now c.in-Some.start c.in-Some.n at.0 at.1 c.if-n-eq0.false c.in-None.ensures.gives))
-
-pub returns-then-has_int4-clause-gives : goal.returns-then-has_int4-clause-gives
-returns-then-has_int4-clause-gives c =
-    let text = take c.write_int4_field-made.result c.write_int4_field-made.new.to in
-    writes_scalar c.args.charset c.args.form.now.kind c.args.column c.args.last (take 5 c.args.bytes.now) text (λ charset.
-    int4_cell charset c.args.form.now.kind c.args.column c.args.last c.args.bytes.now text (c.has_int4.ensures.so c.if-has_int4.true) c.write_int4_field-made.ensures.gives)
+    inl (c.in-Some.ensures.scalar, refused_left c.args.form.now.kind c.args.bytes.now c.in-Some.start c.in-Some.n at.0 at.1 c.if-n-eq0.false c.in-None.ensures.gives)

@@ -1,13 +1,12 @@
-use Rattle.std.proofs.Common.{inl, inr, rules, arith, refl, sym, ap, subst, ◌≡◌, ◌∙◌, ◌+◌, ◌-◌, ◌<◌, Bool, ℕ, length, take, drop}
-use Rattle.tds_values.specs.declared.kind.Kind.{Kind}
+use Rattle.std.proofs.Common.{inl, inr, rules, arith, refl, sym, ap, subst, ◌≡◌, ◌∙◌, ◌+◌, ◌-◌, ◌<◌, ◌≤◌, ℕ, length, take, drop}
+use Rattle.tds_values.specs.declared.kind.Kind.TheVariants.{IntN}
 use Rattle.tds_rows.specs.Cells.{cell_start, shape}
-use Rattle.tds_rows.specs.CellSteps.{is_last}
-use Rattle.tds_rows.specs.WholeCells.{WritesCell, WritesWhole}
-use Rattle.tds_rows.specs.declared.Charset as sets
+use Rattle.tds_rows.specs.CellSteps.{HasInt4, is_last}
+use Rattle.tds_rows.specs.WholeCells.{WritesCell}
 use Rattle.tds_rows.specs.Runs.{WritesRows}
-use Rattle.tds_rows.proofs.TableSteps.{last_one, takes}
-use Rattle.tds_rows.proofs.RunSteps.{first_further, first_left, first_step, made_same, none_ahead, none_first, rows_none, rows_one, rows_onward, whole_some}
-use Rattle.tds_rows.proofs.run.run_rows.Goals.{else-loop-to-test, then-loop-to-test+in-Some+in_default-write_cell, then-loop-to-test+in_default+then-used-bytes}
+use Rattle.tds_rows.proofs.RunSteps.{first_further, first_left, int4_size, made_same, none_ahead, none_first, rows_none, rows_onward, writes_int4}
+use Rattle.tds_rows.proofs.TableRuns.{first_more, rows_more}
+use Rattle.tds_rows.proofs.run.run_rows.Goals.{else-loop-to-test, then-loop-to-test+else-is_int4+in-Some+else-to-made-lt-CELL_ROOM+in_default-write_cell, then-loop-to-test+else-is_int4+in-Some+then-to-made-lt-CELL_ROOM, then-loop-to-test+else-is_int4+in_default+then-used-bytes}
 use Rattle.tds_rows.proofs.run.run_rows.Goals as goal
 
 pub loop-to-init : goal.loop-to-init
@@ -48,39 +47,41 @@ pub loop-to-preserved : goal.loop-to-preserved
 loop-to-preserved c =
     let l = c.loop-to in
     let form = c.in-Some.form in
-    let behind = c.behind-ahead.result in
-    let last = c.is_last-last.result in
     let written = c.in-Some-write_cell.written in
-    let bytes = c.args.bytes.now in
-    let rest = take (length bytes - l.used) (drop l.used bytes) in
+    let behind = c.behind-ahead-in-loop-to.result in
+    let within : written.made ≤ length c.write_cell.new.to = search (arith, rules) in
+    let first = first_more c.args.table.now c.args.from l.ahead behind form.kind c.is_last-last-in-loop-to.result l.rows l.used written.used l.made written.made c.args.bytes.now l.to c.write_cell.new.to _ l.invariant.made within c.in-Some.ensures.gives c.behind-ahead-in-loop-to.ensures.further
+    c.behind-ahead-in-loop-to.ensures.gives c.is_last-last-in-loop-to.ensures c.in-Some-write_cell.ensures.whole c.in-Some-write_cell.ensures.gives in
+    let rows = rows_more c.args.table.now c.args.from l.ahead behind form.kind c.is_last-last-in-loop-to.result l.rows l.used written.used l.made written.made c.args.bytes.now l.to c.write_cell.new.to _ l.invariant.made within c.in-Some.ensures.gives c.behind-ahead-in-loop-to.ensures.further
+    c.behind-ahead-in-loop-to.ensures.gives c.is_last-last-in-loop-to.ensures c.in-Some-write_cell.ensures.whole c.in-Some-write_cell.ensures.gives in
     record {
       used = search (arith, rules);
       made = search (arith, rules);
       few = omega (arith, l.invariant.few);
-      begun = elim l.invariant.begun [
-        | inl z ↦ inr (λ columns knows ahead.
-            let here = (l.invariant.writes columns knows ahead).0 in
-            let taken = takes c.args.table.now columns l.ahead behind form (c.in-Some.ensures.gives columns knows here) c.behind-ahead.ensures.further (c.behind-ahead.ensures.gives columns knows here) in
-            let left = drop behind.column columns in
-            let end : last ≡ is_last left = c.is_last-last.ensures ∙ last_one columns left taken.column l.ahead.column c.args.table.now.count knows.counted taken.next in
-            first_step c.args.table.now.charset l.ahead.column c.args.from.column columns taken.column left form.kind last l.used written.used l.made written.made bytes l.to c.write_cell.new.to _ z.0 z.1 (ap (λ a. a.column) z.2) l.invariant.made (search (arith, rules))
-            taken.next taken.kind end c.in-Some-write_cell.ensures.whole c.in-Some-write_cell.ensures.gives)
-        | inr f ↦ inr (λ columns knows ahead. first_further c.args.from.column columns bytes l.to _ l.used written.used l.made (l.made + written.made) (omega (arith, c.in-Some-write_cell.ensures.whole, whole_some form.kind rest)) (f columns knows ahead))
-      ];
-      writes = λ columns knows ahead.
-          let inv = l.invariant.writes columns knows ahead in
-          let taken = takes c.args.table.now columns l.ahead behind form (c.in-Some.ensures.gives columns knows inv.0) c.behind-ahead.ensures.further (c.behind-ahead.ensures.gives columns knows inv.0) in
-          let left = drop behind.column columns in
-          let end : last ≡ is_last left = c.is_last-last.ensures ∙ last_one columns left taken.column l.ahead.column c.args.table.now.count knows.counted taken.next in (
-            taken.ahead,
-            λ charset cells set is.
-                let wrote = c.in-Some-write_cell.ensures.gives.whole in
-                let x = subst (λ (k : sets.Charset). WritesWhole (cell_start form.kind (shape k form.kind)) l.ahead.column last (take written.used rest) (take written.made c.write_cell.new.to)) set wrote in
-                let y = subst (λ (v : Bool). WritesWhole (cell_start form.kind (shape charset form.kind)) l.ahead.column v (take written.used rest) (take written.made c.write_cell.new.to)) end x in
-                let w = subst (λ (k : Kind). WritesWhole (cell_start k (shape charset k)) l.ahead.column (is_last left) (take written.used rest) (take written.made c.write_cell.new.to)) taken.kind y in
-                rows_one charset columns cells (drop c.args.from.column columns) (drop l.ahead.column columns) left taken.column l.ahead.column behind.column l.rows l.used written.used l.made written.made bytes l.to c.write_cell.new.to _
-                l.invariant.made (search (arith, rules)) taken.next taken.further (inv.1 charset cells set is) w,
-          );
+      begun = inr (first l.invariant.begun (λ columns knows ahead. (l.invariant.writes columns knows ahead).0));
+      writes = λ columns knows ahead. rows columns knows (l.invariant.writes columns knows ahead);
+    }
+
+pub loop-to-preserved-then-has_int4 : goal.loop-to-preserved-then-has_int4
+loop-to-preserved-then-has_int4 c =
+    let l = c.loop-to in
+    let behind = c.behind-ahead.result in
+    let text = c.write_int4_field-made.new.to in
+    let m = c.write_int4_field-made.result in
+    let bytes = c.args.bytes.now in
+    let there = take (length bytes - l.used) (drop l.used bytes) in
+    let has : HasInt4 there = c.has_int4.ensures.so c.if-has_int4.true in
+    let wrote = writes_int4 c.args.table.now.charset l.ahead.column c.is_last-last.result there (take m text) has c.write_int4_field-made.ensures.gives in
+    let within : m ≤ length text = search (arith, rules) in
+    let next = c.is_int4.ensures.gives c.if-is_int4.true in
+    let first = first_more c.args.table.now c.args.from l.ahead behind (IntN 4) c.is_last-last.result l.rows l.used 5 l.made m bytes l.to text _ l.invariant.made within next c.behind-ahead.ensures.further c.behind-ahead.ensures.gives c.is_last-last.ensures (int4_size there has) wrote in
+    let rows = rows_more c.args.table.now c.args.from l.ahead behind (IntN 4) c.is_last-last.result l.rows l.used 5 l.made m bytes l.to text _ l.invariant.made within next c.behind-ahead.ensures.further c.behind-ahead.ensures.gives c.is_last-last.ensures (int4_size there has) wrote in
+    record {
+      used = search (arith, rules);
+      made = search (arith, rules);
+      few = omega (arith, l.invariant.few);
+      begun = inr (first l.invariant.begun (λ columns knows ahead. (l.invariant.writes columns knows ahead).0));
+      writes = λ columns knows ahead. rows columns knows (l.invariant.writes columns knows ahead);
     }
 
 pub returns-clause-first : goal.returns-clause-first
@@ -88,8 +89,9 @@ returns-clause-first c =
     let l = c.loop-to in
     let same : take l.made c.loop-to-test.to ≡ take l.made l.to = elim c.loop-to-test.branch [
       | else-loop-to-test w ↦ ap (take l.made) w.to-is
-      | then-loop-to-test+in_default+then-used-bytes w ↦ ap (take l.made) w.to-is
-      | then-loop-to-test+in-Some+in_default-write_cell w ↦ ap (take l.made) w.to-is ∙ made_same l.made l.to _ l.invariant.made
+      | then-loop-to-test+else-is_int4+in_default+then-used-bytes w ↦ ap (take l.made) w.to-is
+      | then-loop-to-test+else-is_int4+in-Some+then-to-made-lt-CELL_ROOM w ↦ ap (take l.made) w.to-is
+      | then-loop-to-test+else-is_int4+in-Some+else-to-made-lt-CELL_ROOM+in_default-write_cell w ↦ ap (take l.made) w.to-is ∙ made_same l.made l.to _ l.invariant.made
     ] in
     λ columns knows ahead room.
     let inv = l.invariant.writes columns knows ahead in
@@ -99,12 +101,10 @@ returns-clause-first c =
         z.2,
         elim c.loop-to-test.branch [
           | else-loop-to-test w ↦ absurd (omega (arith, room, z.1, w.loop-to-test.false, c.loop-to.auto.to))
-          | then-loop-to-test+in_default+then-used-bytes w ↦ none_ahead c.args.table.now.charset l.ahead.column c.args.from.column columns c.args.bytes.now (length c.args.to.now) (ap (λ a. a.column) z.2) (w.in_default.ensures.gives columns knows inv.0)
-          | then-loop-to-test+in-Some+in_default-write_cell w ↦ (let next = w.in-Some.ensures.gives columns knows inv.0 in
-              elim w.in_default-write_cell.ensures.gives [
-                | inl few ↦ absurd (omega (arith, room, z.1, few, c.loop-to.auto.to))
-                | inr left ↦ first_left c.args.table.now.charset l.ahead.column c.args.from.column columns next.column _ w.in-Some.form.kind l.used _ (length c.args.to.now) c.args.bytes.now z.0 (ap (λ a. a.column) z.2) (omega (arith, z.1, c.loop-to.auto.to)) next.next next.kind left
-              ])
+          | then-loop-to-test+else-is_int4+in_default+then-used-bytes w ↦ none_ahead c.args.table.now.charset l.ahead.column c.args.from.column columns c.args.bytes.now (length c.args.to.now) (ap (λ a. a.column) z.2) (w.in_default.ensures.gives columns knows inv.0)
+          | then-loop-to-test+else-is_int4+in-Some+then-to-made-lt-CELL_ROOM w ↦ absurd (omega (arith, room, z.1, w.if-to-made-lt-CELL_ROOM.true, c.loop-to.auto.to))
+          | then-loop-to-test+else-is_int4+in-Some+else-to-made-lt-CELL_ROOM+in_default-write_cell w ↦ (let next = w.in-Some.ensures.gives columns knows inv.0 in
+              first_left c.args.table.now.charset l.ahead.column c.args.from.column columns next.column _ w.in-Some.form.kind l.used _ (length c.args.to.now) c.args.bytes.now z.0 (ap (λ a. a.column) z.2) (omega (arith, z.1, c.loop-to.auto.to)) next.next next.kind w.in_default-write_cell.ensures.gives)
         ],
       )
       | inr f ↦ inr (λ column tail h. let x = f columns knows ahead column tail h in (x.0, λ e scalar charset. subst (λ t. WritesCell (cell_start column.kind (shape charset column.kind)) c.args.from.column (is_last tail) (take l.used c.args.bytes.now) t) (sym same) (x.1 e scalar charset)))

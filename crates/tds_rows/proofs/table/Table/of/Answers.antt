@@ -12,6 +12,7 @@ loop-known-preserved c =
     let next = next_column columns c.loop-known.known (column_value c.in-Some.column) (columns_left c.next.new.self) step in
     record {
       most = search (arith, rules);
+      few = omega (arith, next.0);
       whole = search (arith, rules);
       first = first_more c.loop-known.forms columns c.loop-known.known c.of.result (column_value c.in-Some.column) (columns_left c.next.new.self) (omega (arith, inv.whole, c.loop-known-test.true)) inv.first step c.of.ensures;
       behind = sym next.1.1;

@@ -8,6 +8,7 @@ use Rattle.tds_rows.proofs.table.Table.of.Given as goal
 abbrev pub invariant-loop-known : goal.invariant-loop-known
 invariant-loop-known l = record {
   most : l.known ≤ 64;
+  few : l.known ≤ length (columns_of l.fn.columns.bytes.now);
   whole : length l.forms ≡ 64;
   first : map (λ f. f.kind) (take l.known l.forms) ≡ kinds (take l.known (columns_of l.fn.columns.bytes.now));
   behind : columns_left l.behind ≡ drop l.known (columns_of l.fn.columns.bytes.now);
