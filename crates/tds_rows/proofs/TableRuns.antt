@@ -10,18 +10,13 @@ use Rattle.tds_rows.specs.Cells.{Cell, cell_start, shape}
 use Rattle.tds_rows.specs.CellSteps.{WritesKind, is_last, whole_size}
 use Rattle.tds_rows.specs.WholeCells.{WritesWhole}
 use Rattle.tds_rows.specs.Runs.{FirstDone, WritesRows}
-use Rattle.tds_rows.specs.Tables.{IsAhead, Knows, NextColumn, TakesColumn}
-use Rattle.tds_rows.proofs.TableSteps.{last_one, takes}
+use Rattle.tds_rows.specs.Tables.{IsAhead, Knows, TakesColumn}
+use Rattle.tds_rows.proofs.TableSteps.{last_one}
 use Rattle.tds_rows.proofs.RunSteps.{first_further, first_step, rows_one, whole_some}
 
 module _ (table : Table) (from old new : Ahead) (kind : Kind) (last : Bool) (count used u made m : ℕ) (bytes to text rest : List ℕ) (within : made ≤ length to) (some : m ≤ length text)
-    (next : (columns : List Column) → Knows table columns → IsAhead table columns old → NextColumn columns old kind)
-    (further : new.column ≡ old.column + 1) (ahead : (columns : List Column) → Knows table columns → IsAhead table columns old → IsAhead table columns new) (end : last ≡ (old.column + 1 == table.count))
+    (taken : (columns : List Column) → Knows table columns → IsAhead table columns old → TakesColumn table columns old new kind) (end : last ≡ (old.column + 1 == table.count))
     (size : u ≡ whole_size kind (take (length bytes - used) (drop used bytes))) (wrote : WritesKind table.charset kind old.column last (take u (take (length bytes - used) (drop used bytes))) (take m text)) where
-  -- the column of the cell was taken
-  abbrev taken : (columns : List Column) → Knows table columns → IsAhead table columns old → TakesColumn table columns old new kind
-  taken columns knows here = takes table columns old new kind (next columns knows here) further (ahead columns knows here)
-
   -- it is the last one where none is left
   ends : (columns : List Column) → (knows : Knows table columns) → (here : IsAhead table columns old) → last ≡ is_last (drop new.column columns)
   ends columns knows here = end ∙ last_one columns (drop new.column columns) (taken columns knows here).column old.column table.count knows.counted (taken columns knows here).next
@@ -48,5 +43,5 @@ module _ (table : Table) (from old new : Ahead) (kind : Kind) (last : Bool) (cou
             let a = subst (λ (k : Charset). WritesWhole (cell_start kind (shape k kind)) old.column last cell (take m text)) set wrote.whole in
             let b = subst (λ (v : Bool). WritesWhole (cell_start kind (shape charset kind)) old.column v cell (take m text)) (ends columns knows x.0) a in
             let c = subst (λ (k : Kind). WritesWhole (cell_start k (shape charset k)) old.column (is_last left) cell (take m text)) t.kind b in
-            rows_one charset columns cells (drop from.column columns) (drop old.column columns) left t.column old.column new.column count used u made m bytes to text rest within some t.next further (x.1 charset cells set is) c,
+            rows_one charset columns cells (drop from.column columns) (drop old.column columns) left t.column old.column new.column count used u made m bytes to text rest within some t.next t.further (x.1 charset cells set is) c,
       )

@@ -83,7 +83,8 @@ pub(crate) fn write_cell(
     ensures gives { CellWritten charset form.now.kind column last bytes.now (length to.old) to.new result }
 {
     let Some((start, n)) = value_at(form, bytes) else {
-        return write_short(form.kind, charset, column, last, bytes, to);
+        let written = write_short(form.kind, charset, column, last, bytes, to)?;
+        return Some(written);
     };
     let used = start + n;
     if bytes.len() < used {

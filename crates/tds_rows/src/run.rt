@@ -47,11 +47,13 @@ pub(crate) fn run_rows<'a>(
     let mut ahead = from;
     while to.len() - made >= INT4_ROOM {
         let rest = &bytes[used..];
-        if table.is_int4(ahead) && has_int4(rest) {
+        if let Some(behind) = table.behind_int4(ahead)
+            && has_int4(rest)
+        {
             let last = table.is_last(ahead);
             made += write_int4_field(ahead.column, last, &rest[1..INT4_CELL], &mut to[made..]);
             used += INT4_CELL;
-            ahead = table.behind(ahead);
+            ahead = behind;
             continue;
         }
         let Some(form) = table.form(ahead) else {
