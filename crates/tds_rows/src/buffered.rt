@@ -83,8 +83,7 @@ pub(crate) fn write_cell(
     ensures gives { CellWritten charset form.now.kind column last bytes.now (length to.old) to.new result }
 {
     let Some((start, n)) = value_at(form, bytes) else {
-        let written = write_short(form.kind, charset, column, last, bytes, to)?;
-        return Some(written);
+        return write_short(form.kind, charset, column, last, bytes, to);
     };
     let used = start + n;
     if bytes.len() < used {

@@ -136,8 +136,7 @@ impl<'a> Table<'a> {
         }
         let mut walk = at.walk;
         let column = walk.next()?;
-        let form = Form::of(column.kind);
-        Some(form)
+        Some(Form::of(column.kind))
     }
 
     /// The place behind the next cell, where the table knows that it is a whole number of four bytes behind its
