@@ -94,13 +94,13 @@ one_cell charset c left column bytes made x cells is =
     record { more = y.value ∷ []; counted = length-append cells (y.value ∷ []) ∙ ap (λ n. n + 1) is; writes = cell_writes charset cells c left bytes made y }
 
 -- what is made behind what was made
-made_more : (made m : ℕ) (to new rest : List ℕ) → made ≤ length to → m ≤ length new → take (made + m) (take made to ++ (new ++ rest)) ≡ take made to ++ take m new
+pub made_more : (made m : ℕ) (to new rest : List ℕ) → made ≤ length to → m ≤ length new → take (made + m) (take made to ++ (new ++ rest)) ≡ take made to ++ take m new
 made_more made m to new rest within some =
     let len : length (take made to) ≡ made = length-take-le made to within in
     ap (λ k. take (k + m) (take made to ++ (new ++ rest))) (sym len) ∙ take-append-add (take made to) (new ++ rest) m ∙ ap (λ l. take made to ++ l) (take-append-le m new rest some)
 
 -- what is used behind what was used
-used_more : (used u : ℕ) (bytes : List ℕ) → take (used + u) bytes ≡ take used bytes ++ take u (take (length bytes - used) (drop used bytes))
+pub used_more : (used u : ℕ) (bytes : List ℕ) → take (used + u) bytes ≡ take used bytes ++ take u (take (length bytes - used) (drop used bytes))
 used_more used u bytes = take-add used u bytes ∙ ap (λ l. take used bytes ++ take u l) (sym (all_behind bytes used))
 
 -- what is written behind what was made leaves it as it was

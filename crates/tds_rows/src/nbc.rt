@@ -9,6 +9,7 @@ ghost use Rattle.tds_rows.specs.Rows.{bit, bitmap_length, nbc_row_start};
 use crate::Charset;
 use crate::fields::put_null;
 use crate::gather::LONGEST_CELL;
+use crate::marked::put_marked;
 use crate::rows::put_cell;
 use crate::table::Table;
 use std::io::{Read, Write};
@@ -29,7 +30,7 @@ fn bitmap_size(columns: u16) -> usize
 }
 
 // Whether the bit of a column is set, the lowest of the first byte being that of column 0.
-fn is_null(bitmap: &[u8], column: u16) -> bool
+pub(crate) fn is_null(bitmap: &[u8], column: u16) -> bool
     requires { column < 8 * length bitmap.now }
     ensures { result ≡ bit bitmap.now column }
 {
@@ -42,7 +43,10 @@ fn is_null(bitmap: &[u8], column: u16) -> bool
 /// before the next cell with data, or at the row's end, count with what is read before them: the
 /// cell, or the bitmap. Faults and places are those of [`row`](crate::row), and `MessageEnded` stands
 /// at the bitmap's first byte where the message ends in it. After a stop of the payload or the sink
-/// the same stop is answered, and neither changes. The small area is used as by [`row`](crate::row).
+/// the same stop is answered, and neither changes.
+///
+/// Cells are taken in runs, as many as are NULL or lie whole in the packet and have room in the block. The
+/// small area is used as by [`row`](crate::row), for the cells that no run takes.
 pub fn nbc_row<R: Read, W: Write>(
     payload: &mut Payload<R>,
     columns: Columns<'_>,
@@ -76,14 +80,17 @@ pub fn nbc_row<R: Read, W: Write>(
     }
     take_into(payload, bitmap, bitmap_size(columns.count()))?;
     let table = Table::of(columns, charset);
-    let mut at = table.start();
-    while let Some((form, behind)) = table.next(at) {
+    let mut ahead = table.start();
+    loop {
+        let at = put_marked(payload, sink, &table, ahead, bitmap.bytes());
+        let Some((form, behind)) = table.next(at) else {
+            return Ok(());
+        };
         if is_null(bitmap.bytes(), at.column) {
             put_null(at.column, table.is_last(at), sink)?;
         } else {
             put_cell(payload, sink, &table, at, charset, &form.kind, small)?;
         }
-        at = behind;
+        ahead = behind;
     }
-    Ok(())
 }

@@ -10,9 +10,11 @@ use Rattle.tds_csv.specs.Quoting.{in_line, null_field}
 use Rattle.tds_csv.specs.Sinks.{Breaks, Puts, held}
 use Rattle.tds_meter.specs.Space.{Space}
 use Rattle.tds_rows.specs.CellSteps.{PutsCell, StopsCell, is_last}
+use Rattle.tds_rows.specs.MarkedRuns.{PutsMarked}
 use Rattle.tds_rows.specs.Rows.{bit, bitmap_length, marked, nbc_row_start}
 use Rattle.tds_rows.specs.RowSteps.{RowStops}
 use Rattle.tds_rows.specs.Tables.{IsNextKind}
+use Rattle.tds_rows.proofs.MarkedSteps.{run_nears}
 use Rattle.tds_rows.proofs.NullSteps.{NearsCells, bitmap_cut, bitmap_nears, cell_nears, cell_stops_row, next_left, null_breaks, null_nears, row_ends}
 use Rattle.tds_rows.proofs.NullTexts.{ends, ends_marked}
 use Rattle.tds_rows.proofs.TableSteps.{last_one}
@@ -47,8 +49,8 @@ loop-form-init g c =
       same_sink = (refl, refl, refl);
       small_room = refl;
       small_bound = omega arith;
-      ahead = c.start-at.ensures.ahead columns c.of-table.ensures.knows;
-      reads = subst (λ (n : ℕ). NearsCells c.args.charset start (marked (drop n columns) (bit c.take_into.new.area.bytes) n) a b place place' h h n) (sym c.start-at.ensures.first)
+      ahead = c.start-ahead.ensures.ahead columns c.of-table.ensures.knows;
+      reads = subst (λ (n : ℕ). NearsCells c.args.charset start (marked (drop n columns) (bit c.take_into.new.area.bytes) n) a b place place' h h n) (sym c.start-ahead.ensures.first)
           (subst (λ (l : List ℕ). NearsCells c.args.charset start (marked columns (bit l) 0) a b place place' h h 0) (sym bytes)
           (bitmap_nears c.args.charset columns a b place place' h x.element c.requires.some whole (subst (λ (k : ℕ). Takes a b x.element k) (sym x.whole) x.takes) x.between (c.requires.ready.1 writing) c.requires.ready.2 (omega (arith, x.whole, c.in_ok-take_into.ensures.place))));
     }
@@ -58,24 +60,30 @@ returns-in_err-put_null-clause-gives g c = λ _ _.
     let columns = columns_of c.args.columns.bytes.now in
     let knows = c.of-table.ensures.knows in
     let l = c.loop-form in
-    let n = l.at.column in
+    let at = c.put_marked-at.result in
+    let put = c.put_marked-at.ensures.gives columns knows l.invariant.ahead in
+    let n = at.column in
     let a = seen g.R.Read.remaining c.args.payload.now in
-    let b = seen g.R.Read.remaining l.payload in
+    let b = seen g.R.Read.remaining c.put_marked-at.new.payload in
     let h = held g.W.Write.contents c.args.sink.now in
-    let i = held g.W.Write.contents l.sink in
+    let i = held g.W.Write.contents c.put_marked-at.new.sink in
     let j = held g.W.Write.contents c.put_null.new.sink in
     let place = c.args.payload.now.place in
-    let middle = l.payload.place in
+    let middle = c.put_marked-at.new.payload.place in
     let start = nbc_row_start columns in
     let bits = bit c.take_into.new.area.bytes in
-    let taken = c.in-Some-next.ensures.gives columns knows l.invariant.ahead in
+    let writing = c.put_marked-at.ensures.writing in
+    let near = run_nears c.of-table.result columns bits l.ahead at c.args.charset start a (seen g.R.Read.remaining l.payload) b place l.payload.place middle h (held g.W.Write.contents l.sink) i c.of-table.ensures.charset
+    (subst (λ (w : List ℕ). PutsMarked c.of-table.result columns (bit w) l.ahead at (seen g.R.Read.remaining l.payload) b l.payload.place middle (held g.W.Write.contents l.sink) i) c.bytes.ensures.value put)
+    (between_of g.R.Read.remaining c.put_marked-at.new.payload c.put_marked-at.ensures.going.going) (writing.ready.1 writing.writing) l.invariant.writing.ready.2 l.invariant.reads in
+    let taken = c.in-Some-next.ensures.gives columns knows put.runs.ahead in
     let left = drop c.in-Some-next.behind.column columns in
     let ks = marked left bits (n + 1) in
-    let is : bits n ≡ true = ap (λ (l : List ℕ). bit l n) (sym c.bytes.ensures.value) ∙ sym c.is_null.ensures ∙ c.if-is_null.true in
+    let is : bits n ≡ true = ap (λ (l : List ℕ). bit l n) (sym c.bytes-in-loop-form.ensures.value) ∙ sym c.is_null.ensures ∙ c.if-is_null.true in
     let last : c.is_last.result ≡ ends ks = c.is_last.ensures ∙ last_one columns left taken.column n c.of-table.result.count knows.counted taken.next ∙ ends_marked left bits (n + 1) in
-    let x = next_left c.args.charset start columns left taken.column bits true a b place middle h i n taken.next is l.invariant.reads in
+    let x = next_left c.args.charset start columns left taken.column bits true a b place middle h i n taken.next is near in
     let stop = c.in_err-put_null.field-0.0 in
-    let breaks = subst (λ (e : Bool). Breaks i j (in_line n e null_field) stop) last (c.in_err-put_null.ensures.gives l.invariant.writing.writing) in
+    let breaks = subst (λ (e : Bool). Breaks i j (in_line n e null_field) stop) last (c.in_err-put_null.ensures.gives writing.writing) in
     let stops = null_breaks c.args.charset start taken.column ks a b place middle h i n j stop x breaks in
     passed _ _ _ _ c.from_residual-in_err-put_null.ensures.1 (subst (λ (e : Bool). RowStops c.args.charset start a b place h j e stop) (sym c.in_err-put_null.ensures.failed) stops)
 
@@ -84,57 +92,69 @@ returns-in_err-put_cell-clause-gives g c = λ _ _.
     let columns = columns_of c.args.columns.bytes.now in
     let knows = c.of-table.ensures.knows in
     let l = c.loop-form in
-    let n = l.at.column in
+    let at = c.put_marked-at.result in
+    let put = c.put_marked-at.ensures.gives columns knows l.invariant.ahead in
+    let n = at.column in
     let a = seen g.R.Read.remaining c.args.payload.now in
-    let b = seen g.R.Read.remaining l.payload in
+    let b = seen g.R.Read.remaining c.put_marked-at.new.payload in
     let d = seen g.R.Read.remaining c.put_cell.new.payload in
     let h = held g.W.Write.contents c.args.sink.now in
-    let i = held g.W.Write.contents l.sink in
+    let i = held g.W.Write.contents c.put_marked-at.new.sink in
     let j = held g.W.Write.contents c.put_cell.new.sink in
     let place = c.args.payload.now.place in
-    let middle = l.payload.place in
+    let middle = c.put_marked-at.new.payload.place in
     let start = nbc_row_start columns in
     let bits = bit c.take_into.new.area.bytes in
-    let taken = c.in-Some-next.ensures.gives columns knows l.invariant.ahead in
+    let writing = c.put_marked-at.ensures.writing in
+    let near = run_nears c.of-table.result columns bits l.ahead at c.args.charset start a (seen g.R.Read.remaining l.payload) b place l.payload.place middle h (held g.W.Write.contents l.sink) i c.of-table.ensures.charset
+    (subst (λ (w : List ℕ). PutsMarked c.of-table.result columns (bit w) l.ahead at (seen g.R.Read.remaining l.payload) b l.payload.place middle (held g.W.Write.contents l.sink) i) c.bytes.ensures.value put)
+    (between_of g.R.Read.remaining c.put_marked-at.new.payload c.put_marked-at.ensures.going.going) (writing.ready.1 writing.writing) l.invariant.writing.ready.2 l.invariant.reads in
+    let taken = c.in-Some-next.ensures.gives columns knows put.runs.ahead in
     let left = drop c.in-Some-next.behind.column columns in
     let ks = marked left bits (n + 1) in
-    let is : bits n ≡ false = ap (λ (l : List ℕ). bit l n) (sym c.bytes.ensures.value) ∙ sym c.is_null.ensures ∙ c.if-is_null.false in
-    let next : IsNextKind c.of-table.result l.at c.in-Some-next.form.kind (is_last left) = record { columns = columns; knows = knows; ahead = l.invariant.ahead; column = taken.column; rest = left; next = taken.next; kind = taken.kind; last = refl } in
-    let x = next_left c.args.charset start columns left taken.column bits false a b place middle h i n taken.next is l.invariant.reads in
+    let is : bits n ≡ false = ap (λ (l : List ℕ). bit l n) (sym c.bytes-in-loop-form.ensures.value) ∙ sym c.is_null.ensures ∙ c.if-is_null.false in
+    let next : IsNextKind c.of-table.result at c.in-Some-next.form.kind (is_last left) = record { columns = columns; knows = knows; ahead = put.runs.ahead; column = taken.column; rest = left; next = taken.next; kind = taken.kind; last = refl } in
+    let x = next_left c.args.charset start columns left taken.column bits false a b place middle h i n taken.next is near in
     let stop = c.in_err-put_cell.field-0.0 in
     let failed = c.put_cell.new.sink.failed in
     let y = subst (λ (k : Kind). StopsCell c.args.charset k n (is_last left) b d middle i j failed stop) taken.kind (c.in_err-put_cell.ensures.gives (is_last left) next) in
     let z = subst (λ (e : Bool). StopsCell c.args.charset taken.column.kind n e b d middle i j failed stop) (ends_marked left bits (n + 1)) y in
-    passed _ _ _ _ c.from_residual-in_err-put_cell.ensures.1 (cell_stops_row c.args.charset start taken.column ks a b d place middle h i j n l.invariant.writing.ready.2 failed stop x z)
+    passed _ _ _ _ c.from_residual-in_err-put_cell.ensures.1 (cell_stops_row c.args.charset start taken.column ks a b d place middle h i j n writing.ready.2 failed stop x z)
 
 pub loop-form-preserved-in_ok-put_null : goal.loop-form-preserved-in_ok-put_null
 loop-form-preserved-in_ok-put_null g c =
     let columns = columns_of c.args.columns.bytes.now in
     let knows = c.of-table.ensures.knows in
     let l = c.loop-form in
-    let n = l.at.column in
+    let at = c.put_marked-at.result in
+    let put = c.put_marked-at.ensures.gives columns knows l.invariant.ahead in
+    let n = at.column in
     let a = seen g.R.Read.remaining c.args.payload.now in
-    let b = seen g.R.Read.remaining l.payload in
+    let b = seen g.R.Read.remaining c.put_marked-at.new.payload in
     let h = held g.W.Write.contents c.args.sink.now in
-    let i = held g.W.Write.contents l.sink in
+    let i = held g.W.Write.contents c.put_marked-at.new.sink in
     let j = held g.W.Write.contents c.put_null.new.sink in
     let place = c.args.payload.now.place in
-    let middle = l.payload.place in
+    let middle = c.put_marked-at.new.payload.place in
     let start = nbc_row_start columns in
     let bits = bit c.take_into.new.area.bytes in
-    let taken = c.in-Some-next.ensures.gives columns knows l.invariant.ahead in
+    let writing = c.put_marked-at.ensures.writing in
+    let near = run_nears c.of-table.result columns bits l.ahead at c.args.charset start a (seen g.R.Read.remaining l.payload) b place l.payload.place middle h (held g.W.Write.contents l.sink) i c.of-table.ensures.charset
+    (subst (λ (w : List ℕ). PutsMarked c.of-table.result columns (bit w) l.ahead at (seen g.R.Read.remaining l.payload) b l.payload.place middle (held g.W.Write.contents l.sink) i) c.bytes.ensures.value put)
+    (between_of g.R.Read.remaining c.put_marked-at.new.payload c.put_marked-at.ensures.going.going) (writing.ready.1 writing.writing) l.invariant.writing.ready.2 l.invariant.reads in
+    let taken = c.in-Some-next.ensures.gives columns knows put.runs.ahead in
     let left = drop c.in-Some-next.behind.column columns in
     let ks = marked left bits (n + 1) in
-    let is : bits n ≡ true = ap (λ (l : List ℕ). bit l n) (sym c.bytes.ensures.value) ∙ sym c.is_null.ensures ∙ c.if-is_null.true in
+    let is : bits n ≡ true = ap (λ (l : List ℕ). bit l n) (sym c.bytes-in-loop-form.ensures.value) ∙ sym c.is_null.ensures ∙ c.if-is_null.true in
     let last : c.is_last.result ≡ ends ks = c.is_last.ensures ∙ last_one columns left taken.column n c.of-table.result.count knows.counted taken.next ∙ ends_marked left bits (n + 1) in
-    let x = next_left c.args.charset start columns left taken.column bits true a b place middle h i n taken.next is l.invariant.reads in
+    let x = next_left c.args.charset start columns left taken.column bits true a b place middle h i n taken.next is near in
     let done = c.in_ok-put_null.ensures in
     let puts = subst (λ (e : Bool). Puts i j (in_line n e null_field)) last done.gives in
     let y = null_nears c.args.charset start taken.column ks a b place middle h i n j x puts in
     record {
-      going = l.invariant.going;
+      going = c.put_marked-at.ensures.going;
       writing = record { ready = done.ready; writing = done.failed };
-      same = l.invariant.same;
+      same = search rules;
       same_sink = search rules;
       small_room = search rules;
       small_bound = search (arith, rules);
@@ -147,29 +167,35 @@ loop-form-preserved g c =
     let columns = columns_of c.args.columns.bytes.now in
     let knows = c.of-table.ensures.knows in
     let l = c.loop-form in
-    let n = l.at.column in
+    let at = c.put_marked-at.result in
+    let put = c.put_marked-at.ensures.gives columns knows l.invariant.ahead in
+    let n = at.column in
     let a = seen g.R.Read.remaining c.args.payload.now in
-    let b = seen g.R.Read.remaining l.payload in
+    let b = seen g.R.Read.remaining c.put_marked-at.new.payload in
     let d = seen g.R.Read.remaining c.put_cell.new.payload in
     let h = held g.W.Write.contents c.args.sink.now in
-    let i = held g.W.Write.contents l.sink in
+    let i = held g.W.Write.contents c.put_marked-at.new.sink in
     let j = held g.W.Write.contents c.put_cell.new.sink in
     let place = c.args.payload.now.place in
-    let middle = l.payload.place in
+    let middle = c.put_marked-at.new.payload.place in
     let start = nbc_row_start columns in
     let bits = bit c.take_into.new.area.bytes in
-    let taken = c.in-Some-next.ensures.gives columns knows l.invariant.ahead in
+    let writing = c.put_marked-at.ensures.writing in
+    let near = run_nears c.of-table.result columns bits l.ahead at c.args.charset start a (seen g.R.Read.remaining l.payload) b place l.payload.place middle h (held g.W.Write.contents l.sink) i c.of-table.ensures.charset
+    (subst (λ (w : List ℕ). PutsMarked c.of-table.result columns (bit w) l.ahead at (seen g.R.Read.remaining l.payload) b l.payload.place middle (held g.W.Write.contents l.sink) i) c.bytes.ensures.value put)
+    (between_of g.R.Read.remaining c.put_marked-at.new.payload c.put_marked-at.ensures.going.going) (writing.ready.1 writing.writing) l.invariant.writing.ready.2 l.invariant.reads in
+    let taken = c.in-Some-next.ensures.gives columns knows put.runs.ahead in
     let left = drop c.in-Some-next.behind.column columns in
     let ks = marked left bits (n + 1) in
-    let is : bits n ≡ false = ap (λ (l : List ℕ). bit l n) (sym c.bytes.ensures.value) ∙ sym c.is_null.ensures ∙ c.if-is_null.false in
-    let next : IsNextKind c.of-table.result l.at c.in-Some-next.form.kind (is_last left) = record { columns = columns; knows = knows; ahead = l.invariant.ahead; column = taken.column; rest = left; next = taken.next; kind = taken.kind; last = refl } in
-    let x = next_left c.args.charset start columns left taken.column bits false a b place middle h i n taken.next is l.invariant.reads in
+    let is : bits n ≡ false = ap (λ (l : List ℕ). bit l n) (sym c.bytes-in-loop-form.ensures.value) ∙ sym c.is_null.ensures ∙ c.if-is_null.false in
+    let next : IsNextKind c.of-table.result at c.in-Some-next.form.kind (is_last left) = record { columns = columns; knows = knows; ahead = put.runs.ahead; column = taken.column; rest = left; next = taken.next; kind = taken.kind; last = refl } in
+    let x = next_left c.args.charset start columns left taken.column bits false a b place middle h i n taken.next is near in
     let done = c.in_ok-put_cell.ensures in
     let place' = c.put_cell.new.payload.place in
     let y = subst (λ (k : Kind). PutsCell c.args.charset k n (is_last left) b d middle place' i j) taken.kind (done.gives (is_last left) next) in
     let z = subst (λ (e : Bool). PutsCell c.args.charset taken.column.kind n e b d middle place' i j) (ends_marked left bits (n + 1)) y in
     let between = between_of g.R.Read.remaining c.put_cell.new.payload done.payload.going in
-    let w = cell_nears c.args.charset start taken.column ks a b d place middle h i j n l.invariant.writing.ready.2 place' between (done.sink.ready.1 done.sink.writing) x z in
+    let w = cell_nears c.args.charset start taken.column ks a b d place middle h i j n writing.ready.2 place' between (done.sink.ready.1 done.sink.writing) x z in
     record {
       going = record { sound = done.payload.sound; going = done.payload.going };
       writing = record { ready = done.sink.ready; writing = done.sink.writing };
@@ -181,16 +207,24 @@ loop-form-preserved g c =
       reads = subst (λ (m : ℕ). NearsCells c.args.charset start (marked left bits m) a d place place' h j m) (sym taken.further) w;
     }
 
-pub returns-clause-gives : goal.returns-clause-gives
-returns-clause-gives g c = λ _ _.
+pub returns-in_default-next-clause-gives : goal.returns-in_default-next-clause-gives
+returns-in_default-next-clause-gives g c = λ _ _.
     let columns = columns_of c.args.columns.bytes.now in
+    let knows = c.of-table.ensures.knows in
     let l = c.loop-form in
+    let at = c.put_marked-at.result in
+    let put = c.put_marked-at.ensures.gives columns knows l.invariant.ahead in
     let a = seen g.R.Read.remaining c.args.payload.now in
-    let b = seen g.R.Read.remaining l.payload in
+    let b = seen g.R.Read.remaining c.put_marked-at.new.payload in
     let h = held g.W.Write.contents c.args.sink.now in
-    let i = held g.W.Write.contents l.sink in
+    let i = held g.W.Write.contents c.put_marked-at.new.sink in
+    let place = c.args.payload.now.place in
+    let middle = c.put_marked-at.new.payload.place in
     let start = nbc_row_start columns in
     let bits = bit c.take_into.new.area.bytes in
-    let none = c.in_default-next.ensures.gives columns c.of-table.ensures.knows l.invariant.ahead in
-    row_ends c.args.charset start a b c.args.payload.now.place l.payload.place h i l.at.column l.invariant.writing.ready.2
-    (subst (λ (r : List Column). NearsCells c.args.charset start (marked r bits l.at.column) a b c.args.payload.now.place l.payload.place h i l.at.column) none l.invariant.reads)
+    let writing = c.put_marked-at.ensures.writing in
+    let near = run_nears c.of-table.result columns bits l.ahead at c.args.charset start a (seen g.R.Read.remaining l.payload) b place l.payload.place middle h (held g.W.Write.contents l.sink) i c.of-table.ensures.charset
+    (subst (λ (w : List ℕ). PutsMarked c.of-table.result columns (bit w) l.ahead at (seen g.R.Read.remaining l.payload) b l.payload.place middle (held g.W.Write.contents l.sink) i) c.bytes.ensures.value put)
+    (between_of g.R.Read.remaining c.put_marked-at.new.payload c.put_marked-at.ensures.going.going) (writing.ready.1 writing.writing) l.invariant.writing.ready.2 l.invariant.reads in
+    let none = c.in_default-next.ensures.gives columns knows put.runs.ahead in
+    row_ends c.args.charset start a b place middle h i at.column writing.ready.2 (subst (λ (r : List Column). NearsCells c.args.charset start (marked r bits at.column) a b place middle h i at.column) none near)

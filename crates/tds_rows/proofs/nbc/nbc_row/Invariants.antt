@@ -16,10 +16,10 @@ invariant-loop-form g l = record {
   same_sink : IsOnSameSink l.fn.sink l.sink;
   small_room : l.small.room ≡ l.fn.small.room;
   small_bound : l.small.peak ≤ max l.fn.small.peak LONGEST_CELL;
-  ahead : IsAhead l.table (columns_of l.fn.columns.bytes.now) l.at;
-  reads : NearsCells l.fn.charset (nbc_row_start (columns_of l.fn.columns.bytes.now)) (marked (drop l.at.column (columns_of l.fn.columns.bytes.now)) (bit l.bitmap.bytes) l.at.column)
-      (seen g.R.Read.remaining l.fn.payload) (seen g.R.Read.remaining l.payload) l.fn.payload.place l.payload.place (held g.W.Write.contents l.fn.sink) (held g.W.Write.contents l.sink) l.at.column;
+  ahead : IsAhead l.table (columns_of l.fn.columns.bytes.now) l.ahead;
+  reads : NearsCells l.fn.charset (nbc_row_start (columns_of l.fn.columns.bytes.now)) (marked (drop l.ahead.column (columns_of l.fn.columns.bytes.now)) (bit l.bitmap.bytes) l.ahead.column)
+      (seen g.R.Read.remaining l.fn.payload) (seen g.R.Read.remaining l.payload) l.fn.payload.place l.payload.place (held g.W.Write.contents l.fn.sink) (held g.W.Write.contents l.sink) l.ahead.column;
 }
 
 abbrev pub decreases-loop-form : goal.decreases-loop-form
-decreases-loop-form g l = l.table.count - l.at.column
+decreases-loop-form g l = l.table.count - l.ahead.column
