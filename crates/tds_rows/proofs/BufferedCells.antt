@@ -1,8 +1,8 @@
 -- Cells whose bytes lie together, and the room that a sink lends for their text.
-use Rattle.std.proofs.Common.{◌≡◌, ◌≢◌, ◌∙◌, ℕ, zero, suc, ◌+◌, ◌-◌, ◌^◌, ◌<◌, ◌≤◌, Bool, true, false, List, [], ◌∷◌, ◌++◌, length, take, drop, Result, Ok, Err, MatchResult, inr, refl, sym, ap, subst, arith, length-take, length-drop}
+use Rattle.std.proofs.Common.{◌≡◌, ◌≢◌, ◌∙◌, ℕ, zero, suc, ◌+◌, ◌-◌, ◌^◌, ◌<◌, ◌≤◌, Bool, true, false, List, [], ◌∷◌, ◌++◌, length, take, drop, Result, Ok, Err, MatchResult, inl, inr, refl, sym, ap, subst, arith, length-take, length-drop}
 use Rattle.std.specs.Prelude.{None, Some, Option, ◌==◌, ◌||◌, is_ok, slice_index, if◌then◌else◌}
 use Rattle.std.proofs.lemmas.Bool.{ne_eqb}
-use Rattle.std.proofs.lemmas.List.{length-take-le}
+use Rattle.std.proofs.lemmas.List.{drop-take, length-take-le, take_all}
 use lib.Seq.{take-add}
 use Rattle.tds_values.specs.declared.kind.Kind.{Kind}
 use Rattle.tds_values.specs.declared.kind.Kind.TheVariants.{IntN}
@@ -25,7 +25,7 @@ use Rattle.tds_rows.proofs.CellSteps.{fixed_some, scalar_shape}
 use Rattle.tds_rows.proofs.RowSteps.{at_once_breaks, at_once_streams}
 use Rattle.tds_rows.specs.declared.Charset.{Charset}
 use Rattle.tds_rows.specs.Cells.{CellPart, Null, ScalarBytes, ScalarCell, ScalarLength, WholeCell, cell, cell_start, shape, shape_of_length, unless, value_part}
-use Rattle.tds_rows.specs.CellSteps.{HasInt4, IsScalarLeft, IsValueText, length_behind, start_behind, value_length, value_start, PutsCell, ReadsCell, StopsCell}
+use Rattle.tds_rows.specs.CellSteps.{HasInt4, IsScalarLeft, IsValueText, length_behind, scalar_size, start_behind, value_bytes, value_length, value_start, PutsCell, ReadsCell, StopsCell}
 use Rattle.tds_rows.specs.WholeCells.{WritesCell}
 use Rattle.tds_csv.specs.Quoting.{in_line}
 
@@ -147,6 +147,19 @@ front_size (Some k) n bytes within = refl
 front_size None zero bytes within = absurd (omega (arith, within))
 front_size None (suc n) [] within = refl
 front_size None (suc n) (x ∷ xs) within = refl
+
+-- a cell that is left by its own bytes is left
+pub front_left : (kind : Kind) (n : ℕ) (bytes : List ℕ) → n ≡ scalar_size kind bytes → length (take n bytes) ≡ n → IsScalarLeft kind (take n bytes) → IsScalarLeft kind bytes
+front_left kind n bytes size taken left =
+    let same : scalar_size kind (take n bytes) ≡ scalar_size kind bytes = front_size (fixed_length kind) n bytes (omega (arith, size)) in
+    let many : value_length kind (take n bytes) ≡ value_length kind bytes = omega (arith, same) in
+    let front : take n bytes ≡ take (value_start kind + value_length kind bytes) bytes = ap (λ k. take k bytes) size in
+    let value : value_bytes kind (take n bytes) ≡ value_bytes kind bytes = ap (λ m. take m (drop (value_start kind) (take n bytes))) many ∙ ap (λ l. take (value_length kind bytes) (drop (value_start kind) l)) front
+    ∙ ap (take (value_length kind bytes)) (drop-take (value_start kind) (value_length kind bytes) bytes) ∙ take_all (value_length kind bytes) (take (value_length kind bytes) (drop (value_start kind) bytes)) (omega (arith, length-take (value_length kind bytes) (drop (value_start kind) bytes))) in
+    elim left [
+      | inl short ↦ absurd (omega (arith, short, same, taken, size))
+      | inr refused ↦ inr (omega (arith, refused.0, many), ap (λ l. is_ok (read_of kind l)) (sym value) ∙ refused.1)
+    ]
 
 -- bytes that are a cell were read
 pub cell_reads : (from : CellPart) (column : ℕ) (last : Bool) (a b : Seen) (place place' : ℕ) (bytes text : List ℕ) → WritesCell from column last bytes text → Takes a b bytes (length bytes) → IsBetween b → place' ≡ place + length bytes

@@ -47,7 +47,8 @@ writes_both g text s t u a b p q x y = record { spelt = Spelt-append g s a t b u
 
 -- ---- cells of a row
 
-whole_of : (from : CellPart) (column : ℕ) (last : Bool) (bytes made : List ℕ) → WritesCell from column last bytes made → WritesWhole from column last bytes made
+-- a cell whose text comes with its last element
+pub whole_of : (from : CellPart) (column : ℕ) (last : Bool) (bytes made : List ℕ) → WritesCell from column last bytes made → WritesWhole from column last bytes made
 whole_of from column last bytes made x = record {
   value = x.value;
   spelt = subst (λ l. Spelt (cell column) from l (WholeCell x.value)) x.joined (Spelt-append (cell column) from x.front x.at x.element (WholeCell x.value) x.spelt (subst (λ v. Spelt (cell column) x.at x.element v) x.whole (Spelt-one (cell column) x.at x.element x.next)));

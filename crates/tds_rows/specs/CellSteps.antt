@@ -114,9 +114,9 @@ abbrev pub CellWritten : Charset → Kind → ℕ → Bool → List ℕ → ℕ 
 CellWritten charset kind column last bytes room text result = MatchOption result (IsLeft charset kind bytes room)
     (λ written. WritesKind charset kind column last (take written.used bytes) (take written.made text))
 
--- The scalar cell at the front of these bytes, all of it, was written to the front of others; or it isn't written, and if these are its bytes, it is left.
+-- The scalar cell at the front of these bytes, all of it, was written to the front of others; or it is left.
 abbrev pub NearWritten : Charset → Kind → ℕ → Bool → List ℕ → List ℕ → Option Written → Type 0
-NearWritten charset kind column last bytes text result = MatchOption result (length bytes ≡ scalar_size kind bytes → IsScalarLeft kind bytes)
+NearWritten charset kind column last bytes text result = MatchOption result (IsScalarLeft kind bytes)
     (λ written. WritesCell (cell_start kind (shape charset kind)) column last (take written.used bytes) (take written.made text))
 
 -- Reading a cell stopped before it had any text.

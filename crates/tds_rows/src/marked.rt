@@ -1,18 +1,22 @@
 // A run over the cells of an NBCROW: as many as are NULL by their bit or lie whole in the packet, and have room.
-ghost use Rattle.std.specs.Prelude.{◌≡◌, ◌+◌, ◌-◌, ◌*◌, ◌≤◌, drop, length, IfSome};
+ghost use Rattle.std.specs.Prelude.{◌≡◌, ◌+◌, ◌-◌, ◌*◌, ◌<◌, ◌≤◌, Bool, drop, length, IfSome, IsTrue};
 ghost use Rattle.tds_csv.specs.Sinks.{IsOnSameSink, IsWriting, held};
 ghost use Rattle.tds_packet.specs.Payloads.{IsGoing, IsOnSame, buffered, seen};
 ghost use Rattle.tds_rows.specs.MarkedRuns.{EndsLeft, MarkedPut, MarkedWritten, NextWritten, room_left};
 ghost use Rattle.tds_rows.specs.Rows.{bit};
+ghost use Rattle.tds_rows.specs.Tables.{IsNextKind};
+ghost use Rattle.tds_values.specs.Kind as kinds;
 
-use crate::Charset;
-use crate::buffered::{Written, write_cell};
+use crate::buffered::Written;
 use crate::nbc::is_null;
+use crate::near::write_near;
 use crate::rows::CELL_ROOM;
-use crate::table::{Ahead, Form, Table};
+use crate::short::write_short;
+use crate::table::{Ahead, Table};
 use std::io::{Read, Write};
 use tds_csv::{Sink, write_null};
 use tds_packet::Payload;
+use tds_values::Kind;
 
 /// How many bytes a run over the cells of an NBCROW used, how many it made, and where it ended.
 #[derive(Clone, Copy)]
@@ -27,24 +31,36 @@ pub(crate) struct MarkedRun<'a> {
 // value may need.
 #[inline(always)]
 fn write_next(
-    form: &Form,
-    charset: Charset,
+    table: &Table,
+    at: Ahead,
+    kind: &Kind,
     null: bool,
-    column: u16,
-    last: bool,
     bytes: &[u8],
     to: &mut [u8],
 ) -> Option<Written>
+    requires within { at.column < table.now.count }
+    requires valid { IsTrue (kinds.is_valid kind.now) }
     requires room { CELL_ROOM ≤ length to.old }
     ensures used { IfSome result (λ written. written.used ≤ length bytes.now) }
     ensures most { IfSome result (λ written. written.made ≤ length to.old) }
-    ensures gives { NextWritten charset null form.now.kind column last bytes.now (length to.old) to.new result }
+    ensures gives { (last : Bool) → IsNextKind table.now at.entry kind.now last →
+        NextWritten table.now.charset null kind.now at.entry.column last bytes.now (length to.old) to.new result }
 {
     if null {
-        let made = write_null(column, last, to);
+        let made = write_null(at.column, table.is_last(at), to);
         return Some(Written { used: 0, made });
     }
-    write_cell(form, charset, column, last, bytes, to)
+    if kind.is_scalar() {
+        return write_near(table, at, kind, bytes, to);
+    }
+    write_short(
+        *kind,
+        table.charset,
+        at.column,
+        table.is_last(at),
+        bytes,
+        to,
+    )
 }
 
 // Writes cell after cell of an NBCROW, as far as they are NULL by their bit or lie whole in these bytes, aren't in
@@ -72,17 +88,8 @@ pub(crate) fn run_marked<'a>(
             break;
         };
         let null = is_null(bitmap, ahead.column);
-        let last = table.is_last(ahead);
         let rest = &bytes[used..];
-        let Some(written) = write_next(
-            &form,
-            table.charset,
-            null,
-            ahead.column,
-            last,
-            rest,
-            &mut to[made..],
-        ) else {
+        let Some(written) = write_next(table, ahead, &form.kind, null, rest, &mut to[made..]) else {
             break;
         };
         used += written.used;

@@ -1,13 +1,12 @@
-use Rattle.std.proofs.Common.{◌≡◌, ◌∙◌, ◌≤◌, length, take, subst, sym, arith, rules, length-take-le}
-use Rattle.std.proofs.lemmas.List.{take_all}
+use Rattle.std.proofs.Common.{◌≡◌, ◌∙◌, ◌≤◌, length, take, sym, arith, rules, length-take-le}
 use Rattle.tds_values.specs.Kind.{fixed_length}
-use Rattle.tds_rows.specs.CellSteps.{IsScalarLeft, scalar_size}
-use Rattle.tds_rows.proofs.BufferedCells.{front_size}
+use Rattle.tds_rows.specs.CellSteps.{scalar_size}
+use Rattle.tds_rows.proofs.BufferedCells.{front_left, front_size}
 use Rattle.tds_rows.proofs.RunSteps.{one_left, one_whole}
 use Rattle.tds_rows.proofs.near.write_near.Goals as goal
 
 pub returns-then-run-size-clause-gives : goal.returns-then-run-size-clause-gives
-returns-then-run-size-clause-gives c = λ charset last next is_all.
+returns-then-run-size-clause-gives c = λ charset last next.
     let kind = c.args.kind.now in
     let all = c.args.bytes.now in
     let size = c.in_ok-size.size in
@@ -19,7 +18,7 @@ returns-then-run-size-clause-gives c = λ charset last next is_all.
     let first = c.run_rows-run.ensures.first next.columns next.knows next.ahead (search (arith, rules)) in
     let used : run.used ≤ length bytes = c.run_rows-run.ensures.used in
     let left = one_left c.args.table.now.charset (length c.args.to.now) c.args.at.column next.columns kind next.column next.rest bytes c.run_rows-run.new.to run.used run.made (search (arith, rules)) next.next next.kind whole first used (λ e. c.if-run-size.true (e ∙ taken)) in
-    subst (IsScalarLeft kind) (take_all size all (omega (arith, cell.size, is_all))) left
+    front_left kind size all cell.size taken left
 
 pub returns-clause-gives : goal.returns-clause-gives
 returns-clause-gives c = λ charset last next.

@@ -27,7 +27,7 @@ returns-in_default-clause-gives g c = λ charset last next.
     let place' = c.gather_scalar.new.payload.place in
     let h = held g.W.Write.contents c.args.sink.now in
     let x = subst (GathersCell kind from c.args.at.column a b place place') (sym c.bytes.ensures.value) (c.in_ok-gather_scalar.ensures.gives charset) in
-    let stops = left_stalls kind from c.args.at.column a b place place' bytes x (c.in_default.ensures.gives charset last next x.whole) in
+    let stops = left_stalls kind from c.args.at.column a b place place' bytes x (c.in_default.ensures.gives charset last next) in
     rw (c.requires.writing.writing, c.bad_value.ensures, c.place-place.ensures, c.length_size.ensures.value) (at_once_stalls kind (shape charset kind) c.args.at.column last a b place h _ c.requires.writing.ready.2 stops)
 
 pub returns-clause-gives : goal.returns-clause-gives
