@@ -94,6 +94,26 @@ one_cell charset c left column bytes made x cells is =
     let y : WritesWhole (cell_start c.kind (shape charset c.kind)) (length cells) (is_last left) bytes made = subst (λ (n : ℕ). WritesWhole (cell_start c.kind (shape charset c.kind)) n (is_last left) bytes made) (sym is) x in
     record { more = y.value ∷ []; counted = length-append cells (y.value ∷ []) ∙ ap (λ n. n + 1) is; writes = cell_writes charset cells c left bytes made y }
 
+pub cells_none : (charset : Charset) (columns : List Column) (column : ℕ) (cells : List Cell) → length cells ≡ column → WritesCells charset cells columns columns column [] []
+cells_none charset columns column cells is =
+    let same : cells ++ [] ≡ cells = append-nil cells in
+    let from = behind_cells charset cells columns in
+    record { more = []; counted = ap length same ∙ is; writes = subst (λ (l : List Cell). Writes (row charset) row_so_far from [] [] (behind_cells charset l columns)) (sym same) (writes_none (row charset) row_so_far from) }
+
+-- more cells of a row behind these
+pub cells_more : (charset : Charset) (columns left left' : List Column) (column column' : ℕ) (a b p q : List ℕ) (cells : List Cell) → WritesCells charset cells columns left column a p
+    → ((cells : List Cell) → length cells ≡ column → WritesCells charset cells left left' column' b q) → WritesCells charset cells columns left' column' (a ++ b) (p ++ q)
+cells_more charset columns left left' column column' a b p q cells x f =
+    let y : WritesCells charset (cells ++ x.more) left left' column' b q = f (cells ++ x.more) x.counted in
+    let same : (cells ++ x.more) ++ y.more ≡ cells ++ (x.more ++ y.more) = append_assoc cells x.more y.more in
+    let from = behind_cells charset cells columns in
+    record {
+      more = x.more ++ y.more;
+      counted = ap length (sym same) ∙ y.counted;
+      writes = subst (λ (l : List Cell). Writes (row charset) row_so_far from (a ++ b) (p ++ q) (behind_cells charset l left')) same
+          (writes_both (row charset) row_so_far from (behind_cells charset (cells ++ x.more) left) (behind_cells charset ((cells ++ x.more) ++ y.more) left') a b p q x.writes y.writes);
+    }
+
 -- what is made behind what was made
 pub made_more : (made m : ℕ) (to new rest : List ℕ) → made ≤ length to → m ≤ length new → take (made + m) (take made to ++ (new ++ rest)) ≡ take made to ++ take m new
 made_more made m to new rest within some =
@@ -103,6 +123,16 @@ made_more made m to new rest within some =
 -- what is used behind what was used
 pub used_more : (used u : ℕ) (bytes : List ℕ) → take (used + u) bytes ≡ take used bytes ++ take u (take (length bytes - used) (drop used bytes))
 used_more used u bytes = take-add used u bytes ∙ ap (λ l. take used bytes ++ take u l) (sym (all_behind bytes used))
+
+-- a run within a row, in the bytes that are left and behind what was made
+pub cells_step : (charset : Charset) (columns left left' : List Column) (column column' used u made m : ℕ) (bytes to new rest : List ℕ) (cells : List Cell) → made ≤ length to → m ≤ length new → WritesCells charset cells columns left column (take used bytes) (take made to)
+    → ((cells : List Cell) → length cells ≡ column → WritesCells charset cells left left' column' (take u (take (length bytes - used) (drop used bytes))) (take m new))
+    → WritesCells charset cells columns left' column' (take (used + u) bytes) (take (made + m) (take made to ++ (new ++ rest)))
+cells_step charset columns left left' column column' used u made m bytes to new rest cells within some x f =
+    let there = take u (take (length bytes - used) (drop used bytes)) in
+    subst (λ l. WritesCells charset cells columns left' column' l (take (made + m) (take made to ++ (new ++ rest)))) (sym (used_more used u bytes))
+    (subst (λ l. WritesCells charset cells columns left' column' (take used bytes ++ there) l) (sym (made_more made m to new rest within some))
+    (cells_more charset columns left left' column column' (take used bytes) there (take made to) (take m new) cells x f))
 
 -- what is written behind what was made leaves it as it was
 pub made_same : (made : ℕ) (to rest : List ℕ) → made ≤ length to → take made (take made to ++ rest) ≡ take made to
@@ -135,30 +165,46 @@ pub none_used : (used : ℕ) (bytes : List ℕ) → used ≡ 0 → take (length 
 none_used used bytes none = all_behind bytes used ∙ ap (λ n. drop n bytes) none
 
 -- it was written
-pub first_step : (set : Charset) (at from : ℕ) (columns : List Column) (c : Column) (left : List Column) (kind : Kind) (last : Bool) (used u made m : ℕ) (bytes to new rest : List ℕ) → used ≡ 0 → made ≡ 0 → at ≡ from → made ≤ length to → m ≤ length new
-    → drop at columns ≡ c ∷ left → kind ≡ c.kind → last ≡ is_last left → u ≡ whole_size kind (take (length bytes - used) (drop used bytes))
-    → WritesKind set kind at last (take u (take (length bytes - used) (drop used bytes))) (take m new)
-    → FirstDone from columns bytes (take made to ++ (new ++ rest)) (used + u) (made + m)
-first_step set at from columns c left kind last used u made m bytes to new rest no_use no_text first within some step is end size x = λ column tail h.
-    let same : c ∷ left ≡ column ∷ tail = sym step ∙ ap (λ n. drop n columns) first ∙ h in
+pub first_one : (set : Charset) (at : ℕ) (columns : List Column) (c : Column) (left : List Column) (kind : Kind) (last : Bool) (u m : ℕ) (bytes text : List ℕ) → drop at columns ≡ c ∷ left → kind ≡ c.kind → last ≡ is_last left → u ≡ whole_size kind bytes
+    → WritesKind set kind at last (take u bytes) (take m text) → FirstDone at columns bytes text u m
+first_one set at columns c left kind last u m bytes text step is end size x = λ column tail h.
+    let same : c ∷ left ≡ column ∷ tail = sym step ∙ h in
     let kinds_same : kind ≡ column.kind = is ∙ ap (λ (l : List Column). (get_or l 0 c).kind) same in
-    let tails_same : left ≡ tail = ap (drop 1) same in
-    let whole = none_used used bytes no_use in
-    let used_is : take (used + u) bytes ≡ take u (take (length bytes - used) (drop used bytes)) = used_more used u bytes ∙ ap (λ n. take n bytes ++ take u (take (length bytes - used) (drop used bytes))) no_use in
-    let made_is : take (made + m) (take made to ++ (new ++ rest)) ≡ take m new = made_more made m to new rest within some ∙ ap (λ n. take n to ++ take m new) no_text in
-    let all : used + u ≡ whole_size column.kind bytes = omega (arith, no_use, size ∙ ap (whole_size kind) whole ∙ ap (λ k. whole_size k bytes) kinds_same) in (
-      omega (arith, all),
+    let tails_same : left ≡ tail = ap (drop 1) same in (
+      omega (arith, size, ap (λ k. whole_size k bytes) kinds_same),
       λ _ scalar charset.
-          subst (λ l. WritesCell (cell_start column.kind (shape charset column.kind)) from (is_last tail) l (take (made + m) (take made to ++ (new ++ rest)))) (sym used_is)
-          (subst (λ l. WritesCell (cell_start column.kind (shape charset column.kind)) from (is_last tail) (take u (take (length bytes - used) (drop used bytes))) l) (sym made_is)
-          (subst (λ (n : ℕ). WritesCell (cell_start column.kind (shape charset column.kind)) n (is_last tail) (take u (take (length bytes - used) (drop used bytes))) (take m new)) first
-          (subst (λ (v : Bool). WritesCell (cell_start column.kind (shape charset column.kind)) at v (take u (take (length bytes - used) (drop used bytes))) (take m new)) (end ∙ ap is_last tails_same)
-          (subst (λ (k : Kind). WritesCell (cell_start k (shape charset k)) at last (take u (take (length bytes - used) (drop used bytes))) (take m new)) kinds_same (x.at_once (ap is_scalar kinds_same ∙ scalar) charset))))),
+          subst (λ (v : Bool). WritesCell (cell_start column.kind (shape charset column.kind)) at v (take u bytes) (take m text)) (end ∙ ap is_last tails_same)
+          (subst (λ (k : Kind). WritesCell (cell_start k (shape charset k)) at last (take u bytes) (take m text)) kinds_same (x.at_once (ap is_scalar kinds_same ∙ scalar) charset)),
     )
+
+-- a run within a row did so
+pub first_cells : (at from : ℕ) (columns : List Column) (used u made m : ℕ) (bytes to new rest : List ℕ) → used ≡ 0 → made ≡ 0 → at ≡ from → made ≤ length to → m ≤ length new → FirstDone at columns (take (length bytes - used) (drop used bytes)) new u m
+    → FirstDone from columns bytes (take made to ++ (new ++ rest)) (used + u) (made + m)
+first_cells at from columns used u made m bytes to new rest no_use no_text first within some f = λ column tail h.
+    let there = take (length bytes - used) (drop used bytes) in
+    let x = f column tail (ap (λ n. drop n columns) first ∙ h) in
+    let size : whole_size column.kind there ≡ whole_size column.kind bytes = ap (whole_size column.kind) (none_used used bytes no_use) in
+    let used_is : take (used + u) bytes ≡ take u there = used_more used u bytes ∙ ap (λ n. take n bytes ++ take u there) no_use in
+    let made_is : take (made + m) (take made to ++ (new ++ rest)) ≡ take m new = made_more made m to new rest within some ∙ ap (λ n. take n to ++ take m new) no_text in (
+      omega (arith, x.0, size),
+      λ e scalar charset.
+          subst (λ l. WritesCell (cell_start column.kind (shape charset column.kind)) from (is_last tail) l (take (made + m) (take made to ++ (new ++ rest)))) (sym used_is)
+          (subst (λ l. WritesCell (cell_start column.kind (shape charset column.kind)) from (is_last tail) (take u there) l) (sym made_is)
+          (subst (λ (n : ℕ). WritesCell (cell_start column.kind (shape charset column.kind)) n (is_last tail) (take u there) (take m new)) first (x.1 (omega (arith, e, size, no_use)) scalar charset))),
+    )
+
+-- the first cell is left by a run within a row
+pub first_there : (set : Charset) (at from : ℕ) (columns : List Column) (used room all : ℕ) (bytes : List ℕ) → used ≡ 0 → at ≡ from → room ≡ all → FirstLeft set at columns (take (length bytes - used) (drop used bytes)) room → FirstLeft set from columns bytes all
+first_there set at from columns used room all bytes no_use first lent f = λ column tail h.
+    subst (λ (n : ℕ). IsLeft set column.kind bytes n) lent (subst (λ l. IsLeft set column.kind l room) (none_used used bytes no_use) (f column tail (ap (λ n. drop n columns) first ∙ h)))
 
 -- more bytes were used behind it
 pub first_further : (from : ℕ) (columns : List Column) (bytes text text' : List ℕ) (used u made made' : ℕ) → 0 < u → FirstDone from columns bytes text used made → FirstDone from columns bytes text' (used + u) made'
 first_further from columns bytes text text' used u made made' some f = λ column tail h. let x = f column tail h in (omega (arith, x.0), λ e. absurd (omega (arith, e, x.0, some)))
+
+-- what was made of it is the same in another text
+pub first_same : (from : ℕ) (columns : List Column) (bytes text text' : List ℕ) (used made : ℕ) → take made text' ≡ take made text → FirstDone from columns bytes text used made → FirstDone from columns bytes text' used made
+first_same from columns bytes text text' used made same f = λ column tail h. let x = f column tail h in (x.0, λ e scalar charset. subst (λ t. WritesCell (cell_start column.kind (shape charset column.kind)) from (is_last tail) (take used bytes) t) (sym same) (x.1 e scalar charset))
 
 -- none is ahead, so whatever was done, it was done with it
 pub none_first : (at from : ℕ) (columns : List Column) (bytes text : List ℕ) (used made : ℕ) → at ≡ from → drop at columns ≡ [] → FirstDone from columns bytes text used made
@@ -289,7 +335,7 @@ rows_next charset all cells columns left column count a p some none x =
           (writes_both (rows charset all) rows_so_far (record { before = []; at = behind_cells charset cells columns }) (record { before = x.before; at = WholeRow x.more }) (record { before = x.before ++ x.more ∷ []; at = row_start charset all }) a (0xD1 ∷ []) p [] y (row_token charset all x.before x.more some));
     }
 
--- a run within a row, in the bytes that are left and behind what was made
+-- and over the ends of rows
 pub rows_step : (charset : Charset) (all : List Column) (cells : List Cell) (columns left left' : List Column) (column column' count used u made m : ℕ) (bytes to new rest : List ℕ) → made ≤ length to → m ≤ length new
     → WritesRows charset all cells columns left column count (take used bytes) (take made to)
     → ((cells : List Cell) → length cells ≡ column → WritesCells charset cells left left' column' (take u (take (length bytes - used) (drop used bytes))) (take m new))

@@ -1,5 +1,5 @@
--- A run of cells over the columns that a table knows: one cell more.
-use Rattle.std.proofs.Common.{◌≡◌, ◌∙◌, ◌⊎◌, inl, inr, ℕ, ◌+◌, ◌-◌, ◌≤◌, Bool, List, ◌++◌, length, take, drop, ap, subst, arith}
+-- Runs of cells over the columns that a table knows: more cells behind those that were written.
+use Rattle.std.proofs.Common.{◌≡◌, ◌∙◌, ◌⊎◌, inl, inr, ℕ, ◌+◌, ◌-◌, ◌<◌, ◌≤◌, Bool, List, ◌∷◌, ◌++◌, length, take, drop, sym, ap, subst, arith}
 use Rattle.std.specs.Prelude.{◌==◌}
 use Rattle.tds_values.specs.declared.kind.Kind.{Kind}
 use Rattle.tds_columns.specs.Description.{Column}
@@ -9,39 +9,72 @@ use Rattle.tds_rows.specs.declared.table.Table.{Table}
 use Rattle.tds_rows.specs.Cells.{Cell, cell_start, shape}
 use Rattle.tds_rows.specs.CellSteps.{WritesKind, is_last, whole_size}
 use Rattle.tds_rows.specs.WholeCells.{WritesWhole}
-use Rattle.tds_rows.specs.Runs.{FirstDone, WritesRows}
+use Rattle.tds_rows.specs.Runs.{FirstDone, WritesCells, WritesRows}
 use Rattle.tds_rows.specs.Tables.{IsAhead, Knows, TakesColumn}
 use Rattle.tds_rows.proofs.TableSteps.{last_one}
-use Rattle.tds_rows.proofs.RunSteps.{first_further, first_step, rows_one, whole_some}
+use Rattle.tds_rows.proofs.RunSteps.{cells_step, first_cells, first_further, first_one, one_cell, rows_step}
 
-module _ (table : Table) (from old new : Ahead) (kind : Kind) (last : Bool) (count used u made m : ℕ) (bytes to text rest : List ℕ) (within : made ≤ length to) (some : m ≤ length text)
-    (taken : (columns : List Column) → Knows table columns → IsAhead table columns old → TakesColumn table columns old new kind) (end : last ≡ (old.column + 1 == table.count))
-    (size : u ≡ whole_size kind (take (length bytes - used) (drop used bytes))) (wrote : WritesKind table.charset kind old.column last (take u (take (length bytes - used) (drop used bytes))) (take m text)) where
+-- Between two places of a row these bytes are its cells, and this is their text.
+abbrev pub CellsBetween : Table → List Column → Ahead → Ahead → List ℕ → List ℕ → Type 0
+CellsBetween table columns old new bytes text = IsAhead table columns new × ((charset : Charset) (cells : List Cell) → table.charset ≡ charset → length cells ≡ old.column → WritesCells charset cells (drop old.column columns) (drop new.column columns) new.column bytes text)
+
+-- So they are over the ends of so many rows.
+abbrev pub RowsBetween : Table → List Column → Ahead → Ahead → ℕ → List ℕ → List ℕ → Type 0
+RowsBetween table columns old new count bytes text = IsAhead table columns new × ((charset : Charset) (cells : List Cell) → table.charset ≡ charset → length cells ≡ old.column → WritesRows charset columns cells (drop old.column columns) (drop new.column columns) new.column count bytes text)
+
+-- Nothing was done, or the first cell ahead was.
+abbrev pub Begun : Table → Ahead → Ahead → List ℕ → List ℕ → ℕ → ℕ → Type 0
+Begun table from at bytes text used made = ((used ≡ 0) × (made ≡ 0) × (at ≡ from)) ⊎ ((0 < used) × ((columns : List Column) → Knows table columns → IsAhead table columns from → FirstDone from.column columns bytes text used made))
+
+module _ (table : Table) (from old new : Ahead) (used u made m : ℕ) (bytes to text rest : List ℕ) (within : made ≤ length to) (some : m ≤ length text) where
+  -- more cells within a row
+  pub more_in_row : (columns : List Column) → CellsBetween table columns from old (take used bytes) (take made to) → CellsBetween table columns old new (take u (take (length bytes - used) (drop used bytes))) (take m text)
+      → CellsBetween table columns from new (take (used + u) bytes) (take (made + m) (take made to ++ (text ++ rest)))
+  more_in_row columns x y = (
+    y.0,
+    λ charset cells set is. cells_step charset (drop from.column columns) (drop old.column columns) (drop new.column columns) old.column new.column used u made m bytes to text rest cells within some (x.1 charset cells set is) (λ cs h. y.1 charset cs set h),
+  )
+
+  -- more cells of the last row
+  pub more_in_rows : (count : ℕ) (columns : List Column) → RowsBetween table columns from old count (take used bytes) (take made to) → CellsBetween table columns old new (take u (take (length bytes - used) (drop used bytes))) (take m text)
+      → RowsBetween table columns from new count (take (used + u) bytes) (take (made + m) (take made to ++ (text ++ rest)))
+  more_in_rows count columns x y = (
+    y.0,
+    λ charset cells set is. rows_step charset columns cells (drop from.column columns) (drop old.column columns) (drop new.column columns) old.column new.column count used u made m bytes to text rest within some (x.1 charset cells set is) (λ cs h. y.1 charset cs set h),
+  )
+
+  -- what was done with the first cell
+  pub more_begun : Begun table from old bytes to used made → 0 < u → ((columns : List Column) → Knows table columns → IsAhead table columns from → FirstDone old.column columns (take (length bytes - used) (drop used bytes)) text u m)
+      → Begun table from new bytes (take made to ++ (text ++ rest)) (used + u) (made + m)
+  more_begun begun further f = inr (
+    omega (arith, further),
+    λ columns knows begins. elim begun [
+      | inl z ↦ first_cells old.column from.column columns used u made m bytes to text rest z.0 z.1 (ap (λ a. a.column) z.2) within some (f columns knows begins)
+      | inr done ↦ first_further from.column columns bytes to (take made to ++ (text ++ rest)) used u made (made + m) further (done.1 columns knows begins)
+    ],
+  )
+
+-- ---- one cell
+
+module _ (table : Table) (columns : List Column) (old new : Ahead) (kind : Kind) (last : Bool) (u m : ℕ) (bytes text : List ℕ) (knows : Knows table columns) (taken : TakesColumn table columns old new kind) (end : last ≡ (old.column + 1 == table.count))
+    (size : u ≡ whole_size kind bytes) (wrote : WritesKind table.charset kind old.column last (take u bytes) (take m text)) where
   -- it is the last one where none is left
-  ends : (columns : List Column) → (knows : Knows table columns) → (here : IsAhead table columns old) → last ≡ is_last (drop new.column columns)
-  ends columns knows here = end ∙ last_one columns (drop new.column columns) (taken columns knows here).column old.column table.count knows.counted (taken columns knows here).next
+  ends : last ≡ is_last (drop new.column columns)
+  ends = end ∙ last_one columns (drop new.column columns) taken.column old.column table.count knows.counted taken.next
 
-  -- what the run did with its first cell
-  pub first_more : ((used ≡ 0) × (made ≡ 0) × (old ≡ from)) ⊎ ((columns : List Column) → Knows table columns → IsAhead table columns from → FirstDone from.column columns bytes to used made) → ((columns : List Column) → Knows table columns → IsAhead table columns from → IsAhead table columns old)
-      → (columns : List Column) → Knows table columns → IsAhead table columns from → FirstDone from.column columns bytes (take made to ++ (text ++ rest)) (used + u) (made + m)
-  first_more (inl z) stands columns knows begins =
-      let here = stands columns knows begins in
-      let t = taken columns knows here in
-      first_step table.charset old.column from.column columns t.column (drop new.column columns) kind last used u made m bytes to text rest z.0 z.1 (ap (λ a. a.column) z.2) within some t.next t.kind (ends columns knows here) size wrote
-  first_more (inr f) stands columns knows begins = first_further from.column columns bytes to (take made to ++ (text ++ rest)) used u made (made + m) (omega (arith, size, whole_some kind (take (length bytes - used) (drop used bytes)))) (f columns knows begins)
+  -- its column was taken, and it was written
+  pub one_between : CellsBetween table columns old new (take u bytes) (take m text)
+  one_between = (
+    taken.ahead,
+    λ charset cells set is.
+        let left = drop new.column columns in
+        let a = subst (λ (k : Charset). WritesWhole (cell_start kind (shape k kind)) old.column last (take u bytes) (take m text)) set wrote.whole in
+        let b = subst (λ (v : Bool). WritesWhole (cell_start kind (shape charset kind)) old.column v (take u bytes) (take m text)) ends a in
+        let c = subst (λ (k : Kind). WritesWhole (cell_start k (shape charset k)) old.column (is_last left) (take u bytes) (take m text)) taken.kind b in
+        subst (λ (l : List Column). WritesCells charset cells l left new.column (take u bytes) (take m text)) (sym taken.next)
+        (subst (λ (n : ℕ). WritesCells charset cells (taken.column ∷ left) left n (take u bytes) (take m text)) (sym taken.further) (one_cell charset taken.column left old.column (take u bytes) (take m text) c cells is)),
+  )
 
-  -- all that it wrote
-  pub rows_more : (columns : List Column) → Knows table columns
-      → IsAhead table columns old × ((charset : Charset) (cells : List Cell) → table.charset ≡ charset → length cells ≡ from.column → WritesRows charset columns cells (drop from.column columns) (drop old.column columns) old.column count (take used bytes) (take made to))
-      → IsAhead table columns new × ((charset : Charset) (cells : List Cell) → table.charset ≡ charset → length cells ≡ from.column → WritesRows charset columns cells (drop from.column columns) (drop new.column columns) new.column count (take (used + u) bytes) (take (made + m) (take made to ++ (text ++ rest))))
-  rows_more columns knows x =
-      let t = taken columns knows x.0 in
-      let left = drop new.column columns in
-      let cell = take u (take (length bytes - used) (drop used bytes)) in (
-        t.ahead,
-        λ charset cells set is.
-            let a = subst (λ (k : Charset). WritesWhole (cell_start kind (shape k kind)) old.column last cell (take m text)) set wrote.whole in
-            let b = subst (λ (v : Bool). WritesWhole (cell_start kind (shape charset kind)) old.column v cell (take m text)) (ends columns knows x.0) a in
-            let c = subst (λ (k : Kind). WritesWhole (cell_start k (shape charset k)) old.column (is_last left) cell (take m text)) t.kind b in
-            rows_one charset columns cells (drop from.column columns) (drop old.column columns) left t.column old.column new.column count used u made m bytes to text rest within some t.next t.further (x.1 charset cells set is) c,
-      )
+  -- so all of its bytes were used
+  pub one_done : FirstDone old.column columns bytes text u m
+  one_done = first_one table.charset old.column columns taken.column (drop new.column columns) kind last u m bytes text taken.next taken.kind ends size wrote

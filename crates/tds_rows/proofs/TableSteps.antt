@@ -1,5 +1,5 @@
 -- A table of columns, column by column.
-use Rattle.std.proofs.Common.{◌≡◌, ◌∙◌, ℕ, ◌+◌, ◌≤◌, ◌<◌, List, [], ◌∷◌, ◌++◌, length, take, drop, get_or, sym, ap, arith}
+use Rattle.std.proofs.Common.{◌≡◌, ◌∙◌, ℕ, true, ◌+◌, ◌≤◌, ◌<◌, List, [], ◌∷◌, ◌++◌, length, take, drop, get_or, sym, ap, arith}
 use Rattle.std.specs.Prelude.{map, slice_set, ◌==◌}
 use Rattle.tds_rows.specs.CellSteps.{is_last}
 use Rattle.std.proofs.lemmas.Bool.{eq-eqb, ne_eqb}
@@ -9,6 +9,7 @@ use Rattle.tds_columns.specs.Description.{Column}
 use Rattle.std.specs.Prelude.{Option, Some, None}
 use Rattle.std.specs.Iterator.{YieldsFirstBy}
 use lib.Seq.{drop-drop}
+use Rattle.tds_packet.proofs.Choices.{eq_true}
 use Rattle.tds_columns.specs.declared.walk.Column as walks
 use Rattle.tds_columns.specs.declared.walk.Walk.{Walk}
 use Rattle.tds_columns.specs.Walking.{column_value, columns_left}
@@ -95,3 +96,7 @@ last_one columns (d ∷ ds) c k n whole next = ne_eqb (k + 1) n (λ e. omega (ar
 -- none is next where as many as there are lie before
 pub none_next : (columns : List Column) (k n : ℕ) → n ≡ length columns → n ≤ k → drop k columns ≡ []
 none_next columns k n whole all = drop_all k columns (omega (arith, whole, all))
+
+-- so it is at the row's end
+pub at_end : (columns : List Column) (k n : ℕ) → n ≡ length columns → (k == n) ≡ true → drop k columns ≡ []
+at_end columns k n whole is = none_next columns k n whole (omega (arith, eq_true k n is))

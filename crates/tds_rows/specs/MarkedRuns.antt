@@ -10,7 +10,7 @@ use Rattle.tds_csv.specs.declared.sink.Sink.{Sink}
 use Rattle.tds_csv.specs.Sinks.{Held, Puts, held}
 use Rattle.tds_rows.specs.declared.Charset.{Charset}
 use Rattle.tds_rows.specs.declared.buffered.Written.{Written}
-use Rattle.tds_rows.specs.declared.marked.MarkedRun.{MarkedRun}
+use Rattle.tds_rows.specs.declared.run.CellRun.{CellRun}
 use Rattle.tds_rows.specs.declared.rows.TheConstants.{CELL_ROOM}
 use Rattle.tds_rows.specs.declared.table.Ahead.{Ahead}
 use Rattle.tds_rows.specs.declared.table.Table.{Table}
@@ -62,7 +62,7 @@ abbrev pub room_left : {W : Type 0} → Sink W → ℕ
 room_left sink = 4095 - length sink.output.now.bytes
 
 -- A run wrote the text of the cells between two places, whose bytes it used.
-abbrev pub MarkedWritten : Table → (ℕ → Bool) → Ahead → List ℕ → List ℕ → MarkedRun → Type 0
+abbrev pub MarkedWritten : Table → (ℕ → Bool) → Ahead → List ℕ → List ℕ → CellRun → Type 0
 MarkedWritten table nulls from bytes text run = (columns : List Column) → Knows table columns → IsAhead table columns from →
     RunsMarked table columns nulls from run.ahead (take run.used bytes) (take run.made text)
 

@@ -1,5 +1,5 @@
 -- What a run of cells does, which lie whole in the packet.
-use Rattle.std.specs.Prelude.{◌≡◌, ◌==◌, ◌⊎◌, ◌+◌, ◌≤◌, ℕ, true, false, List, [], ◌∷◌, ◌++◌, length, map, take, drop, Option, Some, None, if◌then◌else◌, slice_index}
+use Rattle.std.specs.Prelude.{◌≡◌, ◌==◌, ◌⊎◌, ◌+◌, ◌<◌, ◌≤◌, ℕ, true, false, List, [], ◌∷◌, ◌++◌, length, map, take, drop, Option, Some, None, if◌then◌else◌, slice_index}
 use Rattle.tds_packet.specs.declared.fault.Fault.{Fault}
 use Rattle.tds_packet.specs.declared.fault.Fault.TheVariants.{MessageEnded, RefusedToken}
 use Rattle.tds_packet.specs.Elements.{Grammar, Spelt}
@@ -12,6 +12,7 @@ use Rattle.tds_csv.specs.declared.sink.Sink.{Sink}
 use Rattle.tds_csv.specs.Sinks.{Held, held}
 use Rattle.tds_csv.specs.Streaming.{Streams}
 use Rattle.tds_rows.specs.declared.Charset.{Charset}
+use Rattle.tds_rows.specs.declared.run.CellRun.{CellRun}
 use Rattle.tds_rows.specs.declared.run.Run.{Run}
 use Rattle.tds_rows.specs.declared.run.TheConstants.{ROW}
 use Rattle.tds_rows.specs.declared.table.Ahead.{Ahead}
@@ -111,6 +112,17 @@ FirstLeft charset at columns bytes room = (column : Column) (rest : List Column)
 abbrev pub FirstJudged : Table → Ahead → List ℕ → ℕ → List ℕ → Ahead → ℕ → ℕ → Type 0
 FirstJudged table from bytes room text ahead used made = (columns : List Column) → Knows table columns → IsAhead table columns from → CELL_ROOM ≤ room →
     ((used ≡ 0) × (ahead ≡ from) × FirstLeft table.charset from.column columns bytes room) ⊎ FirstDone from.column columns bytes text used made
+
+-- What a run within a row did with the first cell ahead: nothing, and with room for every scalar that cell is left; or it used its bytes.
+abbrev pub FirstOfCells : Table → Ahead → List ℕ → ℕ → List ℕ → CellRun → Type 0
+FirstOfCells table from bytes room text run = (columns : List Column) → Knows table columns → IsAhead table columns from →
+    ((run.used ≡ 0) × (run.ahead ≡ from) × (CELL_ROOM ≤ room → FirstLeft table.charset from.column columns bytes room)) ⊎ ((0 < run.used) × FirstDone from.column columns bytes text run.used run.made)
+
+-- A run wrote the text of the bytes that it used, within a row, and ended at a place of it; single-byte text was read in the table's set.
+abbrev pub CellsWritten : Table → Ahead → List ℕ → List ℕ → CellRun → Type 0
+CellsWritten table from bytes text run = (columns : List Column) → Knows table columns → IsAhead table columns from →
+    IsAhead table columns run.ahead × ((charset : Charset) (cells : List Cell) → table.charset ≡ charset → length cells ≡ from.column →
+    WritesCells charset cells (drop from.column columns) (drop run.ahead.column columns) run.ahead.column (take run.used bytes) (take run.made text))
 
 -- A run wrote the text of the bytes that it used, over the ends of rows, and ended at a place of a row; single-byte text was read in the table's set.
 abbrev pub RowsWritten : Table → Ahead → List ℕ → List ℕ → Run → Type 0

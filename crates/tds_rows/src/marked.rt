@@ -11,20 +11,13 @@ use crate::buffered::Written;
 use crate::nbc::is_null;
 use crate::near::write_near;
 use crate::rows::CELL_ROOM;
+use crate::run::CellRun;
 use crate::short::write_short;
 use crate::table::{Ahead, Table};
 use std::io::{Read, Write};
 use tds_csv::{Sink, write_null};
 use tds_packet::Payload;
 use tds_values::Kind;
-
-/// How many bytes a run over the cells of an NBCROW used, how many it made, and where it ended.
-#[derive(Clone, Copy)]
-pub(crate) struct MarkedRun<'a> {
-    pub(crate) used: usize,
-    pub(crate) made: usize,
-    pub(crate) ahead: Ahead<'a>,
-}
 
 // Writes the next cell of an NBCROW: NULL, if that is its bit, or the cell at the front of these bytes; none
 // where that one isn't whole, is refused or in chunks, or where there isn't the room that the text of a short
@@ -72,7 +65,7 @@ pub(crate) fn run_marked<'a>(
     bitmap: &[u8],
     bytes: &[u8],
     to: &mut [u8],
-) -> MarkedRun<'a>
+) -> CellRun<'a>
     requires bitmap { table.now.count ≤ 8 * length bitmap.now }
     ensures used { result.used ≤ length bytes.now }
     ensures made { result.made ≤ length to.old }
@@ -96,7 +89,7 @@ pub(crate) fn run_marked<'a>(
         made += written.made;
         ahead = table.behind(ahead);
     }
-    MarkedRun { used, made, ahead }
+    CellRun { used, made, ahead }
 }
 
 /// Takes the next cells of an NBCROW, as many as are NULL by their bit or lie whole in the packet, aren't in chunks

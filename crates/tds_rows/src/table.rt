@@ -160,6 +160,14 @@ impl<'a> Table<'a> {
         }
     }
 
+    /// Whether no cell of the row is ahead.
+    #[inline(always)]
+    pub(crate) fn is_end(&self, at: Ahead<'a>) -> bool
+        ensures { result ≡ (at.entry.column == self.now.count) }
+    {
+        at.column == self.count
+    }
+
     /// Whether the next cell is a row's last.
     #[inline(always)]
     pub(crate) fn is_last(&self, at: Ahead<'a>) -> bool
