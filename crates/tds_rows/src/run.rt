@@ -45,7 +45,7 @@ fn run_cells<'a>(table: &Table<'a>, from: Ahead<'a>, bytes: &[u8], to: &mut [u8]
     let mut made = 0;
     let mut ahead = from;
     while to.len() - made >= CELL_ROOM {
-        if used > 0 && table.behind_int4(ahead).is_some() {
+        if used > 0 && table.is_int4(ahead) {
             break;
         }
         let Some(form) = table.form(ahead) else {
@@ -93,13 +93,11 @@ pub(crate) fn run_rows<'a>(
     let mut ahead = from;
     while to.len() - made >= INT4_ROOM {
         let rest = &bytes[used..];
-        if let Some(behind) = table.behind_int4(ahead)
-            && has_int4(rest)
-        {
+        if table.is_int4(ahead) && has_int4(rest) {
             let last = table.is_last(ahead);
             made += write_int4_field(ahead.column, last, &rest[1..INT4_CELL], &mut to[made..]);
             used += INT4_CELL;
-            ahead = behind;
+            ahead.column += 1;
             continue;
         }
         if table.is_end(ahead) {

@@ -1,5 +1,5 @@
 // What the cells of a description's columns need of them, known once for all its rows.
-ghost use Rattle.std.specs.Prelude.{◌≡◌, ◌==◌, ◌+◌, ◌<◌, ◌≤◌, IfSome, IsTrue, List};
+ghost use Rattle.std.specs.Prelude.{◌≡◌, ◌==◌, ◌+◌, ◌<◌, ◌≤◌, true, IfSome, IsTrue, List};
 ghost use Rattle.tds_rows.specs.Layouts.{layout_of};
 ghost use Rattle.tds_rows.specs.declared.table.TheConstants.{TABLE_LENGTH};
 ghost use Rattle.tds_values.specs.Kind.{is_valid};
@@ -83,7 +83,7 @@ impl Form {
 impl<'a> Table<'a> {
     ghost use Rattle.tds_columns.specs.Description as spec;
     ghost use Rattle.tds_columns.specs.View.{columns_of};
-    ghost use Rattle.tds_rows.specs.Tables.{IsAhead, Knows, NextForm, TakesColumn, TakesForm};
+    ghost use Rattle.tds_rows.specs.Tables.{IsAhead, Knows, NextForm, TakesColumn, TakesForm, one_on};
 
     /// The table of a description's columns, whose single-byte text is in this set.
     pub(crate) fn of(columns: Columns<'a>, charset: Charset) -> Table<'a>
@@ -139,25 +139,19 @@ impl<'a> Table<'a> {
         Some(Form::of(column.kind))
     }
 
-    /// The place behind the next cell, where the table knows that it is a whole number of four bytes behind its
-    /// length, the most frequent kind.
+    /// Whether the table knows that the next cell is a whole number of four bytes behind its length, the most
+    /// frequent kind. The place behind it has the same walk.
     #[inline(always)]
-    pub(crate) fn behind_int4(&self, at: Ahead<'a>) -> Option<Ahead<'a>>
-        ensures some { IfSome result (λ behind. at.entry.column < self.now.count) }
-        ensures gives { (columns : List spec.Column) → Knows self.now columns → IsAhead self.now columns at.entry →
-            IfSome result (λ behind. TakesColumn self.now columns at.entry behind (Kind.IntN 4)) }
+    pub(crate) fn is_int4(&self, at: Ahead<'a>) -> bool
+        ensures some { result ≡ true → at.entry.column < self.now.count }
+        ensures gives { result ≡ true → (columns : List spec.Column) → Knows self.now columns →
+            IsAhead self.now columns at.entry → TakesColumn self.now columns at.entry (one_on at.entry) (Kind.IntN 4) }
     {
         if (at.column as usize) >= self.known {
-            return None;
+            return false;
         }
         let form = self.forms[at.column as usize];
-        match form.kind {
-            Kind::IntN(4) => Some(Ahead {
-                column: at.column + 1,
-                walk: at.walk,
-            }),
-            _ => None,
-        }
+        matches!(form.kind, Kind::IntN(4))
     }
 
     /// Whether no cell of the row is ahead.
