@@ -1,5 +1,5 @@
 -- Several numbers in one, each in bits of its own, divided at once.
-use Rattle.std.proofs.Common.{◌≡◌, ℕ, ◌+◌, ◌-◌, ◌*◌, ◌/◌, ◌%◌, ◌^◌, ◌<◌, ◌≤◌, ap, ◌∙◌, arith}
+use Rattle.std.proofs.Common.{◌≡◌, ℕ, ◌+◌, ◌-◌, ◌*◌, ◌/◌, ◌%◌, ◌^◌, ◌<◌, ap, ◌∙◌, arith}
 use Rattle.std.specs.Int.Bits.{bit_and}
 use Rattle.std.proofs.lemmas.Nat.{and_block, and_mask}
 
@@ -30,19 +30,27 @@ tenth b rest mask h =
     ap (λ m. bit_and m (mask * 2 ^ 16 + 15)) apart ∙ kept 16 4 (rest * 103 / 1024) mask low (b / 10) (omega arith) (omega arith) small
 
 -- two numbers of four digits, divided by 100
-pub hundreds_of : (f a b : ℕ) → f ≡ a + b * 2 ^ 32 → a < 10000 → b < 10000 → bit_and (f * 5243 / 524288) (127 * 2 ^ 32 + 127) ≡ b / 100 * 2 ^ 32 + a / 100
-hundreds_of f a b e ha hb =
-    let lanes : f ≡ (0 * 2 ^ 32 + b) * 2 ^ 32 + a = omega arith in
-    ap (λ m. bit_and (m * 5243 / 524288) (127 * 2 ^ 32 + 127)) lanes ∙ hundredth a (0 * 2 ^ 32 + b) 127 ha ∙ ap (λ m. m * 2 ^ 32 + a / 100) (hundredth b 0 0 hb) ∙ omega arith
+pub hundreds_of : (fours : ℕ) → fours % 2 ^ 32 < 10000 → fours / 2 ^ 32 < 10000
+    → bit_and (fours * 5243 / 524288) (127 * 2 ^ 32 + 127) ≡ fours / 2 ^ 32 / 100 * 2 ^ 32 + fours % 2 ^ 32 / 100
+hundreds_of fours first second =
+    let a = fours % 2 ^ 32 in
+    let b = fours / 2 ^ 32 in
+    let lanes : fours ≡ (0 * 2 ^ 32 + b) * 2 ^ 32 + a = omega arith in
+    ap (λ m. bit_and (m * 5243 / 524288) (127 * 2 ^ 32 + 127)) lanes ∙ hundredth a (0 * 2 ^ 32 + b) 127 first
+    ∙ ap (λ m. m * 2 ^ 32 + a / 100) (hundredth b 0 0 second) ∙ omega arith
 
 -- four numbers of two digits, divided by 10
-pub tens_of : (p a b c d : ℕ) → p ≡ a + 2 ^ 16 * b + 2 ^ 32 * c + 2 ^ 48 * d → a < 100 → b < 100 → c < 100 → d < 100
-    → bit_and (p * 103 / 1024) (((15 * 2 ^ 16 + 15) * 2 ^ 16 + 15) * 2 ^ 16 + 15) ≡ ((d / 10 * 2 ^ 16 + c / 10) * 2 ^ 16 + b / 10) * 2 ^ 16 + a / 10
-tens_of p a b c d e ha hb hc hd =
-    let three = 0 * 2 ^ 16 + d in
-    let two = three * 2 ^ 16 + c in
-    let one = two * 2 ^ 16 + b in
-    let lanes : p ≡ one * 2 ^ 16 + a = omega arith in
+pub tens_of : (pairs : ℕ) → pairs % 2 ^ 16 < 100 → pairs / 2 ^ 16 % 2 ^ 16 < 100 → pairs / 2 ^ 32 % 2 ^ 16 < 100 → pairs / 2 ^ 48 < 100
+    → bit_and (pairs * 103 / 1024) (((15 * 2 ^ 16 + 15) * 2 ^ 16 + 15) * 2 ^ 16 + 15)
+    ≡ pairs / 2 ^ 48 / 10 * 2 ^ 48 + pairs / 2 ^ 32 % 2 ^ 16 / 10 * 2 ^ 32 + pairs / 2 ^ 16 % 2 ^ 16 / 10 * 2 ^ 16 + pairs % 2 ^ 16 / 10
+tens_of pairs first second third fourth =
+    let a = pairs % 2 ^ 16 in
+    let b = pairs / 2 ^ 16 % 2 ^ 16 in
+    let c = pairs / 2 ^ 32 % 2 ^ 16 in
+    let d = pairs / 2 ^ 48 in
+    let behind = ((0 * 2 ^ 16 + d) * 2 ^ 16 + c) * 2 ^ 16 + b in
+    let lanes : pairs ≡ behind * 2 ^ 16 + a = omega arith in
     ap (λ m. bit_and (m * 103 / 1024) (((15 * 2 ^ 16 + 15) * 2 ^ 16 + 15) * 2 ^ 16 + 15)) lanes
-    ∙ tenth a one ((15 * 2 ^ 16 + 15) * 2 ^ 16 + 15) ha
-    ∙ ap (λ m. m * 2 ^ 16 + a / 10) (tenth b two (15 * 2 ^ 16 + 15) hb ∙ ap (λ m. m * 2 ^ 16 + b / 10) (tenth c three 15 hc ∙ ap (λ m. m * 2 ^ 16 + c / 10) (tenth d 0 0 hd))) ∙ omega arith
+    ∙ tenth a behind ((15 * 2 ^ 16 + 15) * 2 ^ 16 + 15) first
+    ∙ ap (λ m. m * 2 ^ 16 + a / 10) (tenth b ((0 * 2 ^ 16 + d) * 2 ^ 16 + c) (15 * 2 ^ 16 + 15) second
+    ∙ ap (λ m. m * 2 ^ 16 + b / 10) (tenth c (0 * 2 ^ 16 + d) 15 third ∙ ap (λ m. m * 2 ^ 16 + c / 10) (tenth d 0 0 fourth))) ∙ omega arith

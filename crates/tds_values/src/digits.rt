@@ -68,6 +68,7 @@ pub(crate) fn put_two(to: &mut [u8], at: usize, n: u32) -> usize
 // Eight digits as four numbers of two digits, each in 16 bits, the first the lowest. Both halves are divided by 100
 // at once: a / 100 is a * 5243 / 2^19 for a < 10000.
 #[inline(always)]
+#[tactic(auto, using(crate::proofs::PackedDigits::hundreds_of))]
 fn four_pairs(n: u32) -> u64
     requires { n < 100000000 }
     ensures { result ≡ n / 1000000 + 2 ^ 16 * (n / 10000 % 100) + 2 ^ 32 * (n / 100 % 100) + 2 ^ 48 * (n % 100) }
@@ -80,6 +81,7 @@ fn four_pairs(n: u32) -> u64
 // Eight digits as one number, the first digit in its lowest byte. All four pairs are divided by 10 at once:
 // b / 10 is b * 103 / 2^10 for b < 100.
 #[inline(always)]
+#[tactic(auto, using(crate::proofs::PackedDigits::tens_of))]
 fn word(n: u32) -> u64
     requires { n < 100000000 }
     ensures { result ≡ word_of (last_digits 8 n) }
