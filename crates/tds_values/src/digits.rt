@@ -66,7 +66,8 @@ pub(crate) fn put_two(to: &mut [u8], at: usize, n: u32) -> usize
 }
 
 // Eight digits as four numbers of two digits, each in 16 bits, the first the lowest. Both halves are divided by 100
-// at once: a / 100 is a * 5243 / 2^19 for a < 10000.
+// at once: a / 100 is a * 5243 / 2^19 for a < 10000. The last line is hundreds + (fours - hundreds * 100) * 2^16 in
+// fewer steps.
 #[inline(always)]
 #[tactic(auto, using(crate::proofs::PackedDigits::hundreds_of))]
 fn four_pairs(n: u32) -> u64
@@ -75,11 +76,12 @@ fn four_pairs(n: u32) -> u64
 {
     let fours = (n / 10000) as u64 + (n % 10000) as u64 * 0x1_0000_0000;
     let hundreds = (fours * 5243 / 0x8_0000) & 0x0000_007F_0000_007F;
-    hundreds + (fours - hundreds * 100) * 0x1_0000
+    fours * 0x1_0000 - hundreds * (100 * 0x1_0000 - 1)
 }
 
 // Eight digits as one number, the first digit in its lowest byte. All four pairs are divided by 10 at once:
-// b / 10 is b * 103 / 2^10 for b < 100.
+// b / 10 is b * 103 / 2^10 for b < 100. The last line is tens + (pairs - tens * 10) * 2^8 in fewer steps, and 48 in
+// each byte.
 #[inline(always)]
 #[tactic(auto, using(crate::proofs::PackedDigits::tens_of))]
 fn word(n: u32) -> u64
@@ -88,7 +90,7 @@ fn word(n: u32) -> u64
 {
     let pairs = four_pairs(n);
     let tens = (pairs * 103 / 0x400) & 0x000F_000F_000F_000F;
-    tens + (pairs - tens * 10) * 0x100 + 0x3030_3030_3030_3030
+    pairs * 0x100 - tens * (10 * 0x100 - 1) + 0x3030_3030_3030_3030
 }
 
 // The eight bytes of a number, the lowest first.
