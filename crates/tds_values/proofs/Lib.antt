@@ -4,6 +4,7 @@ pub mod HexLemmas
 pub mod JiffDates
 pub mod Joining
 pub mod LocalLemmas
+pub mod PackedDigits
 pub mod Rows
 pub mod TableLemmas
 pub mod TextLengths

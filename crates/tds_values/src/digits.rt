@@ -1,5 +1,5 @@
 // Digits and other bytes, written to a slice from a place on. Each call answers the place behind what it wrote.
-ghost use Rattle.std.specs.Prelude.{◌≡◌, ◌+◌, ◌-◌, ◌<◌, ◌≤◌, ◌^◌, ◌/◌, ◌*◌, [], ◌∷◌, ◌++◌, ◌⊎◌, if◌then◌else◌, take, length, decimal};
+ghost use Rattle.std.specs.Prelude.{◌≡◌, ◌+◌, ◌-◌, ◌<◌, ◌≤◌, ◌^◌, ◌/◌, ◌*◌, ◌%◌, [], ◌∷◌, ◌++◌, ◌⊎◌, if◌then◌else◌, take, length, decimal};
 ghost use Rattle.tds_values.specs.ScalarText.{last_digits, minus_if};
 ghost use Rattle.tds_values.specs.Words.{word_of, bytes_of};
 
@@ -65,27 +65,32 @@ pub(crate) fn put_two(to: &mut [u8], at: usize, n: u32) -> usize
     at + 2
 }
 
-// Two digits as one number, the first digit in its low byte.
+// Eight digits as four numbers of two digits, each in 16 bits, the first the lowest. Both halves are divided by 100
+// at once: a / 100 is a * 5243 / 2^19 for a < 10000. The last line is hundreds + (fours - hundreds * 100) * 2^16 in
+// fewer steps.
 #[inline(always)]
-fn pair(n: u32) -> u64
-    requires { n < 100 }
-    ensures { result ≡ word_of (last_digits 2 n) }
+#[tactic(auto, using(crate::proofs::PackedDigits::hundreds_of))]
+fn four_pairs(n: u32) -> u64
+    requires { n < 100000000 }
+    ensures { result ≡ n / 1000000 + 2 ^ 16 * (n / 10000 % 100) + 2 ^ 32 * (n / 100 % 100) + 2 ^ 48 * (n % 100) }
 {
-    WORDS[n as usize] as u64
+    let fours = (n / 10000) as u64 + (n % 10000) as u64 * 0x1_0000_0000;
+    let hundreds = (fours * 5243 / 0x8_0000) & 0x0000_007F_0000_007F;
+    fours * 0x1_0000 - hundreds * (100 * 0x1_0000 - 1)
 }
 
-// Eight digits as one number, the first digit in its lowest byte.
+// Eight digits as one number, the first digit in its lowest byte. All four pairs are divided by 10 at once:
+// b / 10 is b * 103 / 2^10 for b < 100. The last line is tens + (pairs - tens * 10) * 2^8 in fewer steps, and 48 in
+// each byte.
 #[inline(always)]
+#[tactic(auto, using(crate::proofs::PackedDigits::tens_of))]
 fn word(n: u32) -> u64
     requires { n < 100000000 }
     ensures { result ≡ word_of (last_digits 8 n) }
 {
-    let high = n / 10000;
-    let low = n % 10000;
-    pair(high / 100)
-        + pair(high % 100) * 0x1_0000
-        + pair(low / 100) * 0x1_0000_0000
-        + pair(low % 100) * 0x1_0000_0000_0000
+    let pairs = four_pairs(n);
+    let tens = (pairs * 103 / 0x400) & 0x000F_000F_000F_000F;
+    pairs * 0x100 - tens * (10 * 0x100 - 1) + 0x3030_3030_3030_3030
 }
 
 // The eight bytes of a number, the lowest first.
