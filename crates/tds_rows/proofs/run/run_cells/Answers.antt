@@ -1,4 +1,4 @@
-use Rattle.std.proofs.Common.{inl, inr, rules, arith, refl, sym, subst, ap, ◌≡◌, ◌∙◌, ◌+◌, ◌-◌, ◌<◌, ◌≤◌, ℕ, List, length, take, drop}
+use Rattle.std.proofs.Common.{inl, inr, rules, arith, refl, sym, subst, ap, ◌≡◌, ◌∙◌, ◌-◌, ◌<◌, ◌≤◌, List, length, take, drop}
 use Rattle.tds_columns.specs.Description.{Column}
 use Rattle.tds_rows.specs.Runs.{WritesCells}
 use Rattle.tds_rows.specs.Tables.{IsAhead, Knows, TakesColumn}

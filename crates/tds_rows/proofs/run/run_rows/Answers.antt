@@ -1,6 +1,5 @@
-use Rattle.std.proofs.Common.{inl, inr, rules, arith, refl, sym, ap, subst, ◌≡◌, ◌∙◌, ◌+◌, ◌-◌, ◌<◌, ◌≤◌, ℕ, List, [], length, take, drop, length-take, length-drop}
+use Rattle.std.proofs.Common.{inl, inr, rules, arith, refl, sym, ap, subst, ◌≡◌, ◌∙◌, ◌+◌, ◌-◌, ◌<◌, ◌≤◌, ℕ, length, take, drop, length-take, length-drop}
 use Rattle.tds_values.specs.declared.kind.Kind.TheVariants.{IntN}
-use Rattle.tds_columns.specs.Description.{Column}
 use Rattle.tds_rows.specs.CellSteps.{HasInt4}
 use Rattle.tds_rows.specs.Runs.{WritesRows}
 use Rattle.tds_rows.specs.Tables.{one_on}
