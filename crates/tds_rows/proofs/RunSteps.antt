@@ -345,17 +345,6 @@ rows_step charset all cells columns left left' column column' count used u made 
     (subst (λ l. WritesRows charset all cells columns left' column' count (take used bytes ++ take u (take (length bytes - used) (drop used bytes))) l) (sym (made_more made m to new rest within some))
     (rows_more charset all cells columns left left' column column' count (take used bytes) (take u (take (length bytes - used) (drop used bytes))) (take made to) (take m new) x f))
 
--- one cell more, in the bytes that are left and behind what was made
-pub rows_one : (charset : Charset) (all : List Column) (cells : List Cell) (columns left left' : List Column) (c : Column) (column next count used u made m : ℕ) (bytes to new rest : List ℕ) → made ≤ length to → m ≤ length new → left ≡ c ∷ left' → next ≡ column + 1
-    → WritesRows charset all cells columns left column count (take used bytes) (take made to)
-    → WritesWhole (cell_start c.kind (shape charset c.kind)) column (is_last left') (take u (take (length bytes - used) (drop used bytes))) (take m new)
-    → WritesRows charset all cells columns left' next count (take (used + u) bytes) (take (made + m) (take made to ++ (new ++ rest)))
-rows_one charset all cells columns left left' c column next count used u made m bytes to new rest within some step further x y =
-    let taken = take u (take (length bytes - used) (drop used bytes)) in
-    subst (λ (n : ℕ). WritesRows charset all cells columns left' n count (take (used + u) bytes) (take (made + m) (take made to ++ (new ++ rest)))) (sym further)
-    (rows_step charset all cells columns left left' column (column + 1) count used u made m bytes to new rest within some x
-    (λ cs h. subst (λ (l : List Column). WritesCells charset cs l left' (column + 1) taken (take m new)) (sym step) (one_cell charset c left' column taken (take m new) y cs h)))
-
 -- and then the token byte of the next row
 pub rows_onward : (charset : Charset) (all : List Column) (cells : List Cell) (columns left : List Column) (column count used : ℕ) (bytes p : List ℕ) → 0 < length all → left ≡ [] → used < length bytes → get_or bytes used 0 ≡ 0xD1
     → WritesRows charset all cells columns left column count (take used bytes) p → WritesRows charset all cells columns all 0 (count + 1) (take (used + 1) bytes) p
