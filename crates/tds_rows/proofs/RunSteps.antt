@@ -17,6 +17,7 @@ use Rattle.tds_packet.proofs.ElementLaws.{Inside-Spelt, Spelt-append, Spelt-none
 use Rattle.tds_columns.specs.Description.{Column}
 use Rattle.tds_columns.proofs.ViewLaws.{all_behind}
 use Rattle.tds_rows.specs.declared.Charset.{Charset}
+use Rattle.tds_rows.specs.declared.rows.TheConstants.{CELL_ROOM}
 use Rattle.tds_rows.specs.Cells.{Cell, CellPart, CountedShape, FixedShape, LongShape, Shape, WholeCell, cell, cell_start, field, shape}
 use Rattle.tds_rows.specs.Rows.{Bitmap, InCell, RowPart, WholeRow, row_start, next_cell, row, row_so_far, with_cell, with_field}
 use Rattle.tds_rows.specs.CellSteps.{HasInt4, IsLeft, IsScalarLeft, IsValueText, PutsCell, StopsCell, WritesKind, cell_so_far, is_last, length_behind, scalar_size, start_behind, whole_size}
@@ -220,6 +221,12 @@ first_left set at from columns c left kind used room all bytes no_use first lent
 -- none is ahead
 pub none_ahead : (set : Charset) (at from : ℕ) (columns : List Column) (bytes : List ℕ) (room : ℕ) → at ≡ from → drop at columns ≡ [] → FirstLeft set from columns bytes room
 none_ahead set at from columns bytes room first none = λ column tail h. absurd (let e : column ∷ tail ≡ [] = sym h ∙ ap (λ n. drop n columns) (sym first) ∙ none in omega (arith, ap length e))
+
+-- with room for every scalar, the first cell is left or done
+pub first_judged : {A : Type 0} (set : Charset) (at : ℕ) (columns : List Column) (bytes text : List ℕ) (room used made : ℕ) → CELL_ROOM ≤ room
+    → ((used ≡ 0) × A × (CELL_ROOM ≤ room → FirstLeft set at columns bytes room)) ⊎ ((0 < used) × FirstDone at columns bytes text used made) → ((used ≡ 0) × A × FirstLeft set at columns bytes room) ⊎ FirstDone at columns bytes text used made
+first_judged set at columns bytes text room used made lent (inl x) = inl (x.0, x.1, x.2 lent)
+first_judged set at columns bytes text room used made lent (inr x) = inr x.1
 
 -- ---- a run on the bytes of one scalar cell
 

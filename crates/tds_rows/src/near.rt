@@ -7,7 +7,7 @@ ghost use Rattle.tds_values.specs.Kind as kinds;
 
 use crate::buffered::Written;
 use crate::rows::CELL_ROOM;
-use crate::run::run_rows;
+use crate::run::run_cells;
 use crate::table::{Ahead, Table};
 use tds_values::Kind;
 
@@ -42,7 +42,6 @@ pub(crate) fn write_near(
     bytes: &[u8],
     to: &mut [u8],
 ) -> Option<Written>
-    requires some { 0 < table.now.count }
     requires valid { IsTrue (kinds.is_valid kind.now) }
     requires scalar { IsTrue (kinds.is_scalar kind.now) }
     requires room { CELL_ROOM ≤ length to.old }
@@ -53,7 +52,7 @@ pub(crate) fn write_near(
         NearWritten charset kind.now at.entry.column last bytes.now to.new result }
 {
     let size = whole_cell(kind, bytes)?;
-    let run = run_rows(table, at, &bytes[..size], to);
+    let run = run_cells(table, at, &bytes[..size], to);
     if run.used != size {
         return None;
     }

@@ -50,7 +50,6 @@ fn put_gathered<R: Read, W: Write>(
 ) -> Result<(), Stop>
     requires going { IsGoing payload.old }
     requires writing { IsWriting sink.old }
-    requires some { 0 < table.now.count }
     requires valid { IsTrue (kinds.is_valid kind.now) }
     requires scalar { IsTrue (kinds.is_scalar kind.now) }
     requires room { LONGEST_CELL ≤ small.old.room }
@@ -82,7 +81,6 @@ fn put_scalar<R: Read, W: Write>(
 ) -> Result<(), Stop>
     requires going { IsGoing payload.old }
     requires writing { IsWriting sink.old }
-    requires some { 0 < table.now.count }
     requires valid { IsTrue (kinds.is_valid kind.now) }
     requires scalar { IsTrue (kinds.is_scalar kind.now) }
     requires room { LONGEST_CELL ≤ small.old.room }

@@ -35,7 +35,12 @@ pub(crate) struct Run<'a> {
 // Writes cell after cell of a row, as far as they lie whole in these bytes, aren't in chunks and have room, up to
 // the next one that may be a whole number of four bytes.
 #[inline(never)]
-fn run_cells<'a>(table: &Table<'a>, from: Ahead<'a>, bytes: &[u8], to: &mut [u8]) -> CellRun<'a>
+pub(crate) fn run_cells<'a>(
+    table: &Table<'a>,
+    from: Ahead<'a>,
+    bytes: &[u8],
+    to: &mut [u8],
+) -> CellRun<'a>
     ensures used { result.used ≤ length bytes.now }
     ensures made { result.made ≤ length to.old }
     ensures first { FirstOfCells table.now from.entry bytes.now (length to.old) to.new result }
