@@ -5,7 +5,7 @@ use Rattle.std.proofs.lemmas.Bool.{ne_eqb}
 use Rattle.std.proofs.lemmas.List.{drop-take, length-take-le, take_all}
 use lib.Seq.{take-add}
 use Rattle.tds_values.specs.declared.kind.Kind.{Kind}
-use Rattle.tds_values.specs.declared.kind.Kind.TheVariants.{IntN}
+use Rattle.tds_values.specs.declared.kind.Kind.TheVariants.{Int4, IntN}
 use Rattle.tds_values.specs.declared.scalar.ScalarValue.{ScalarValue}
 use Rattle.tds_values.specs.declared.scalar.ValueFault.TheVariants as faults
 use Rattle.tds_values.specs.Kind.{fixed_length, is_length_allowed, is_scalar}
@@ -25,7 +25,7 @@ use Rattle.tds_rows.proofs.CellSteps.{fixed_some, scalar_shape}
 use Rattle.tds_rows.proofs.RowSteps.{at_once_breaks, at_once_streams}
 use Rattle.tds_rows.specs.declared.Charset.{Charset}
 use Rattle.tds_rows.specs.Cells.{CellPart, Null, ScalarBytes, ScalarCell, ScalarLength, WholeCell, cell, cell_start, shape, shape_of_length, unless, value_part}
-use Rattle.tds_rows.specs.CellSteps.{HasInt4, IsScalarLeft, IsValueText, length_behind, scalar_size, start_behind, value_bytes, value_length, value_start, PutsCell, ReadsCell, StopsCell}
+use Rattle.tds_rows.specs.CellSteps.{HasInt4, IsScalarLeft, IsValueText, int4_kind, length_behind, scalar_size, start_behind, value_bytes, value_length, value_start, PutsCell, ReadsCell, StopsCell}
 use Rattle.tds_rows.specs.WholeCells.{WritesCell}
 use Rattle.tds_csv.specs.Quoting.{in_line}
 
@@ -131,9 +131,11 @@ module _ (charset : Charset) (kind : Kind) (column : ℕ) (last : Bool) (bytes t
           (subst (λ (k : ℕ). IsValueText kind column last (take n (drop k bytes)) text) one is)))
 
 -- a whole number of four bytes there
-pub int4_cell : (charset : Charset) (column : ℕ) (last : Bool) (bytes text : List ℕ) → HasInt4 bytes → IsValueText (IntN 4) column last (take 4 (drop 1 bytes)) text
-    → WritesCell (cell_start (IntN 4) (shape charset (IntN 4))) column last (take 5 bytes) text
-int4_cell charset column last bytes text h x = value_cell charset (IntN 4) column last bytes text refl 1 4 refl (sym h.length_is) (λ e. omega (arith, e)) h.whole x
+pub int4_cell : (charset : Charset) (start column : ℕ) (last : Bool) (bytes text : List ℕ) → start ≤ 1 → HasInt4 start bytes → IsValueText (IntN 4) column last (take 4 (drop start bytes)) text
+    → WritesCell (cell_start (int4_kind start) (shape charset (int4_kind start))) column last (take (start + 4) bytes) text
+int4_cell charset zero column last bytes text most h x = value_cell charset Int4 column last bytes text refl 0 4 refl refl (λ e. omega (arith, e)) h.whole x
+int4_cell charset (suc zero) column last bytes text most h x = value_cell charset (IntN 4) column last bytes text refl 1 4 refl (sym (h.length_is (omega arith))) (λ e. omega (arith, e)) h.whole x
+int4_cell charset (suc (suc n)) column last bytes text most h x = absurd (omega (arith, most))
 
 -- a cell whose value is refused is left
 pub refused_left : (kind : Kind) (bytes : List ℕ) (start n : ℕ) → start ≡ value_start kind → n ≡ value_length kind bytes → n ≢ 0 → is_ok (read_of kind (take ((start + n) - start) (drop start bytes))) ≡ false → IsScalarLeft kind bytes

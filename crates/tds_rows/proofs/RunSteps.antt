@@ -1,5 +1,5 @@
 -- The cells of a run, as they are written one after another.
-use Rattle.std.proofs.Common.{◌≡◌, ◌≢◌, ◌∙◌, ◌⊎◌, inl, inr, ℕ, ◌+◌, ◌-◌, ◌^◌, ◌≤◌, ◌<◌, Bool, List, [], ◌∷◌, ◌++◌, length, take, drop, get_or, refl, sym, ap, subst, arith, append_assoc, append-nil, length-append, length-take}
+use Rattle.std.proofs.Common.{◌≡◌, ◌≢◌, ◌∙◌, ◌⊎◌, inl, inr, ℕ, zero, suc, ◌+◌, ◌-◌, ◌^◌, ◌≤◌, ◌<◌, Bool, List, [], ◌∷◌, ◌++◌, length, take, drop, get_or, refl, sym, ap, subst, arith, append_assoc, append-nil, length-append, length-take}
 use Rattle.std.proofs.lemmas.List.{length-take-le, take-append-le, take_all, take_more}
 use Rattle.std.proofs.Math.Seq.{take-append-add}
 use lib.Seq.{take-add}
@@ -20,7 +20,7 @@ use Rattle.tds_rows.specs.declared.Charset.{Charset}
 use Rattle.tds_rows.specs.declared.rows.TheConstants.{CELL_ROOM}
 use Rattle.tds_rows.specs.Cells.{Cell, CellPart, CountedShape, FixedShape, LongShape, Shape, WholeCell, cell, cell_start, field, shape}
 use Rattle.tds_rows.specs.Rows.{Bitmap, InCell, RowPart, WholeRow, row_start, next_cell, row, row_so_far, with_cell, with_field}
-use Rattle.tds_rows.specs.CellSteps.{HasInt4, IsLeft, IsScalarLeft, IsValueText, PutsCell, StopsCell, WritesKind, cell_so_far, is_last, length_behind, scalar_size, start_behind, whole_size}
+use Rattle.tds_rows.specs.CellSteps.{HasInt4, int4_kind, IsLeft, IsScalarLeft, IsValueText, PutsCell, StopsCell, WritesKind, cell_so_far, is_last, length_behind, scalar_size, start_behind, whole_size}
 use Rattle.tds_rows.specs.WholeCells.{WritesCell, WritesWhole}
 use Rattle.tds_values.specs.Kind.{fixed_length, is_scalar}
 use Rattle.tds_rows.specs.ShortCells.{short_size}
@@ -61,12 +61,15 @@ pub writes_scalar : (set : Charset) (kind : Kind) (column : ℕ) (last : Bool) (
 writes_scalar set kind column last bytes made x = record { whole = whole_of (cell_start kind (shape set kind)) column last bytes made (x set); at_once = λ _ any. x any }
 
 -- a whole number of four bytes, in any set
-pub writes_int4 : (set : Charset) (column : ℕ) (last : Bool) (bytes made : List ℕ) → HasInt4 bytes → IsValueText (IntN 4) column last (take 4 (drop 1 bytes)) made → WritesKind set (IntN 4) column last (take 5 bytes) made
-writes_int4 set column last bytes made h x = writes_scalar set (IntN 4) column last (take 5 bytes) made (λ any. int4_cell any column last bytes made h x)
+pub writes_int4 : (set : Charset) (start n column : ℕ) (last : Bool) (bytes made : List ℕ) → start ≤ 1 → n ≡ 4 → HasInt4 start bytes → IsValueText (IntN 4) column last (take n (drop start bytes)) made → WritesKind set (int4_kind start) column last (take (start + 4) bytes) made
+writes_int4 set start n column last bytes made most is h x =
+    writes_scalar set (int4_kind start) column last (take (start + 4) bytes) made (λ any. int4_cell any start column last bytes made most h (subst (λ (k : ℕ). IsValueText (IntN 4) column last (take k (drop start bytes)) made) is x))
 
 -- how many bytes its cell has
-pub int4_size : (bytes : List ℕ) → HasInt4 bytes → 5 ≡ whole_size (IntN 4) bytes
-int4_size bytes h = omega (arith, h.length_is)
+pub int4_size : (start : ℕ) (bytes : List ℕ) → start ≤ 1 → HasInt4 start bytes → start + 4 ≡ whole_size (int4_kind start) bytes
+int4_size zero bytes most h = refl
+int4_size (suc zero) bytes most h = omega (arith, h.length_is (omega arith))
+int4_size (suc (suc n)) bytes most h = absurd (omega (arith, most))
 
 from_text : (charset : Charset) (cells : List Cell) (c : Column) (left : List Column) (n : ℕ) → row_so_far (InCell cells (cell_start c.kind (shape charset c.kind)) (coming left n)) ≡ joined (map field cells)
 from_text charset cells c left n = ap (λ o. joined (with_field cells o)) (start_quiet c.kind (shape charset c.kind))

@@ -1,6 +1,7 @@
 -- What reading a cell and putting it into its line does.
-use Rattle.std.specs.Prelude.{◌≡◌, ◌⊎◌, ◌+◌, ◌<◌, ◌≤◌, ℕ, Bool, true, false, List, [], ◌∷◌, ◌++◌, length, take, drop, slice_index, is_ok, Option, Some, None, Result, Ok, MatchOption, MatchResult, if◌then◌else◌}
+use Rattle.std.specs.Prelude.{◌≡◌, ◌⊎◌, ◌+◌, ◌<◌, ◌≤◌, ℕ, zero, suc, Bool, true, false, List, [], ◌∷◌, ◌++◌, length, take, drop, slice_index, is_ok, Option, Some, None, Result, Ok, MatchOption, MatchResult, if◌then◌else◌}
 use Rattle.tds_values.specs.declared.kind.Kind.{Kind}
+use Rattle.tds_values.specs.declared.kind.Kind.TheVariants.{Int4, IntN}
 use Rattle.tds_values.specs.declared.scalar.ScalarValue.{ScalarValue}
 use Rattle.tds_values.specs.Kind.{fixed_length, is_scalar}
 use Rattle.tds_values.specs.Scalar.{read_of}
@@ -84,10 +85,15 @@ scalar_size kind bytes = value_start kind + value_length kind bytes
 abbrev pub value_bytes : Kind → List ℕ → List ℕ
 value_bytes kind bytes = take (value_length kind bytes) (drop (value_start kind) bytes)
 
--- A whole number of four bytes, behind its length, is at the front of these bytes.
-pub record HasInt4 (bytes : List ℕ) : Type 0 where
-  pub whole : 5 ≤ length bytes
-  pub length_is : slice_index bytes 0 ≡ 4
+-- the kind of whole numbers of four bytes that lie so far behind the front of their cells: at once, or behind a length
+abbrev pub int4_kind : ℕ → Kind
+int4_kind zero = Int4
+int4_kind (suc n) = IntN 4
+
+-- A whole number of four bytes, at once or behind its length, is at the front of these bytes.
+pub record HasInt4 (start : ℕ) (bytes : List ℕ) : Type 0 where
+  pub whole : start + 4 ≤ length bytes
+  pub length_is : 0 < start → slice_index bytes 0 ≡ 4
 
 -- how many bytes the cell at the front of these bytes has; of one in chunks nothing is said
 abbrev pub whole_size : Kind → List ℕ → ℕ

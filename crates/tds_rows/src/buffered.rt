@@ -53,16 +53,17 @@ fn value_at(form: &Form, bytes: &[u8]) -> Option<(usize, usize)>
     }
 }
 
-/// How many bytes the cell of a whole number of four bytes has, behind its length.
-pub(crate) const INT4_CELL: usize = 5;
+/// How many bytes a whole number of four bytes has.
+pub(crate) const INT4: usize = 4;
 
-/// Whether a whole number of four bytes lies at the front of these bytes, behind its length.
+/// Whether a whole number of four bytes lies at the front of these bytes: at once, or behind its length.
 #[inline(always)]
-pub(crate) fn has_int4(bytes: &[u8]) -> bool
-    ensures so { result ≡ true → HasInt4 bytes.now }
-    ensures only { HasInt4 bytes.now → result ≡ true }
+pub(crate) fn has_int4(start: usize, bytes: &[u8]) -> bool
+    requires { start ≤ 1 }
+    ensures so { result ≡ true → HasInt4 start bytes.now }
+    ensures only { HasInt4 start bytes.now → result ≡ true }
 {
-    bytes.len() >= INT4_CELL && bytes[0] == 4
+    bytes.len() >= start + INT4 && (start == 0 || bytes[0] == 4)
 }
 
 // Writes the cell at the front of these bytes; none where it isn't whole, is refused or in chunks, or where

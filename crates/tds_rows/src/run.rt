@@ -4,7 +4,7 @@ ghost use Rattle.tds_csv.specs.Sinks.{IsOnSameSink, IsWriting, held};
 ghost use Rattle.tds_packet.specs.Payloads.{IsGoing, IsOnSame, seen};
 ghost use Rattle.tds_rows.specs.Runs.{CellsWritten, FirstJudged, FirstOfCells, RowsPut, RowsWritten};
 
-use crate::buffered::{INT4_CELL, has_int4, write_cell};
+use crate::buffered::{INT4, has_int4, write_cell};
 use crate::fields::write_int4_field;
 use crate::rows::{CELL_ROOM, INT4_ROOM};
 use crate::table::{Ahead, Table};
@@ -50,7 +50,7 @@ pub(crate) fn run_cells<'a>(
     let mut made = 0;
     let mut ahead = from;
     while to.len() - made >= CELL_ROOM {
-        if used > 0 && table.is_int4(ahead) {
+        if used > 0 && table.int4_start(ahead).is_some() {
             break;
         }
         let Some(form) = table.form(ahead) else {
@@ -98,10 +98,13 @@ pub(crate) fn run_rows<'a>(
     let mut ahead = from;
     while to.len() - made >= INT4_ROOM {
         let rest = &bytes[used..];
-        if table.is_int4(ahead) && has_int4(rest) {
+        if let Some(start) = table.int4_start(ahead)
+            && has_int4(start, rest)
+        {
             let last = table.is_last(ahead);
-            made += write_int4_field(ahead.column, last, &rest[1..INT4_CELL], &mut to[made..]);
-            used += INT4_CELL;
+            let value = &rest[start..start + INT4];
+            made += write_int4_field(ahead.column, last, value, &mut to[made..]);
+            used += start + INT4;
             ahead.column += 1;
             continue;
         }

@@ -1,5 +1,5 @@
 // What the cells of a description's columns need of them, known once for all its rows.
-ghost use Rattle.std.specs.Prelude.{◌≡◌, ◌==◌, ◌+◌, ◌<◌, ◌≤◌, true, IfSome, IsTrue, List};
+ghost use Rattle.std.specs.Prelude.{◌≡◌, ◌==◌, ◌+◌, ◌<◌, ◌≤◌, IfSome, IsTrue, List};
 ghost use Rattle.tds_rows.specs.Layouts.{layout_of};
 ghost use Rattle.tds_rows.specs.declared.table.TheConstants.{TABLE_LENGTH};
 ghost use Rattle.tds_values.specs.Kind.{is_valid};
@@ -83,6 +83,7 @@ impl Form {
 impl<'a> Table<'a> {
     ghost use Rattle.tds_columns.specs.Description as spec;
     ghost use Rattle.tds_columns.specs.View.{columns_of};
+    ghost use Rattle.tds_rows.specs.CellSteps.{int4_kind};
     ghost use Rattle.tds_rows.specs.Tables.{IsAhead, Knows, NextForm, TakesColumn, TakesForm, one_on};
 
     /// The table of a description's columns, whose single-byte text is in this set.
@@ -139,19 +140,24 @@ impl<'a> Table<'a> {
         Some(Form::of(column.kind))
     }
 
-    /// Whether the table knows that the next cell is a whole number of four bytes behind its length, the most
-    /// frequent kind. The place behind it has the same walk.
+    /// Where the number lies in the next cell, at once or behind a length of one byte, if the table knows that it is
+    /// a whole number of four bytes, the most frequent kind. The place behind that cell has the same walk.
     #[inline(always)]
-    pub(crate) fn is_int4(&self, at: Ahead<'a>) -> bool
-        ensures some { result ≡ true → at.entry.column < self.now.count }
-        ensures gives { result ≡ true → (columns : List spec.Column) → Knows self.now columns →
-            IsAhead self.now columns at.entry → TakesColumn self.now columns at.entry (one_on at.entry) (Kind.IntN 4) }
+    pub(crate) fn int4_start(&self, at: Ahead<'a>) -> Option<usize>
+        ensures most { IfSome result (λ start. start ≤ 1) }
+        ensures some { IfSome result (λ start. at.entry.column < self.now.count) }
+        ensures gives { (columns : List spec.Column) → Knows self.now columns → IsAhead self.now columns at.entry →
+            IfSome result (λ start. TakesColumn self.now columns at.entry (one_on at.entry) (int4_kind start)) }
     {
         if (at.column as usize) >= self.known {
-            return false;
+            return None;
         }
         let form = self.forms[at.column as usize];
-        matches!(form.kind, Kind::IntN(4))
+        match form.kind {
+            Kind::Int4 => Some(0),
+            Kind::IntN(4) => Some(1),
+            _ => None,
+        }
     }
 
     /// Whether no cell of the row is ahead.

@@ -5,7 +5,7 @@ use Rattle.tds_rows.specs.Tables.{IsAhead, Knows, TakesColumn}
 use Rattle.tds_rows.proofs.RunSteps.{cells_none, first_left, first_same, made_same, none_ahead, whole_some}
 use Rattle.tds_rows.proofs.TableSteps.{takes}
 use Rattle.tds_rows.proofs.TableRuns.{more_in_row, more_begun, one_between, one_done}
-use Rattle.tds_rows.proofs.run.run_cells.Goals.{else-loop-to-test, then-loop-to-test+then-used-gt0+then-is_int4, then-loop-to-test+else-used-gt0+in_default, then-loop-to-test+else-used-gt0+in-Some+in_default-write_cell}
+use Rattle.tds_rows.proofs.run.run_cells.Goals.{else-loop-to-test, then-loop-to-test+then-used-gt0+then-is_some, then-loop-to-test+else-used-gt0+in_default, then-loop-to-test+else-used-gt0+in-Some+in_default-write_cell}
 use Rattle.tds_rows.proofs.run.run_cells.Goals as goal
 
 pub loop-to-init : goal.loop-to-init
@@ -46,7 +46,7 @@ same : (c : goal.Left-loop-to) → take c.loop-to.made c.loop-to-test.to ≡ tak
 same c =
     elim c.loop-to-test.branch [
       | else-loop-to-test w ↦ ap (take c.loop-to.made) w.to-is
-      | then-loop-to-test+then-used-gt0+then-is_int4 w ↦ ap (take c.loop-to.made) w.to-is
+      | then-loop-to-test+then-used-gt0+then-is_some w ↦ ap (take c.loop-to.made) w.to-is
       | then-loop-to-test+else-used-gt0+in_default w ↦ ap (take c.loop-to.made) w.to-is
       | then-loop-to-test+else-used-gt0+in-Some+in_default-write_cell w ↦ ap (take c.loop-to.made) w.to-is ∙ made_same c.loop-to.made c.loop-to.to _ c.loop-to.invariant.made
     ]
@@ -61,7 +61,7 @@ returns-clause-first c = λ columns knows ahead.
         z.2,
         λ room. elim c.loop-to-test.branch [
           | else-loop-to-test w ↦ absurd (omega (arith, room, z.1, w.loop-to-test.false, l.auto.to))
-          | then-loop-to-test+then-used-gt0+then-is_int4 w ↦ absurd (omega (arith, z.0, w.if-used-gt0.true))
+          | then-loop-to-test+then-used-gt0+then-is_some w ↦ absurd (omega (arith, z.0, w.if-used-gt0.true))
           | then-loop-to-test+else-used-gt0+in_default w ↦ none_ahead c.args.table.now.charset l.ahead.column c.args.from.column columns c.args.bytes.now (length c.args.to.now) (ap (λ a. a.column) z.2) (w.in_default.ensures.gives columns knows inv.0)
           | then-loop-to-test+else-used-gt0+in-Some+in_default-write_cell w ↦ (let next = w.in-Some.ensures.gives columns knows inv.0 in
               first_left c.args.table.now.charset l.ahead.column c.args.from.column columns next.column _ w.in-Some.form.kind l.used _ (length c.args.to.now) c.args.bytes.now z.0 (ap (λ a. a.column) z.2) (omega (arith, z.1, l.auto.to)) next.next next.kind w.in_default-write_cell.ensures.gives)

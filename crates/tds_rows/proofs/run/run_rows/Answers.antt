@@ -1,12 +1,11 @@
 use Rattle.std.proofs.Common.{inl, inr, rules, arith, refl, sym, ap, subst, ◌≡◌, ◌∙◌, ◌+◌, ◌-◌, ◌<◌, ◌≤◌, ℕ, length, take, drop, length-take, length-drop}
-use Rattle.tds_values.specs.declared.kind.Kind.TheVariants.{IntN}
-use Rattle.tds_rows.specs.CellSteps.{HasInt4}
+use Rattle.tds_rows.specs.CellSteps.{HasInt4, int4_kind}
 use Rattle.tds_rows.specs.Runs.{WritesRows}
 use Rattle.tds_rows.specs.Tables.{one_on}
 use Rattle.tds_rows.proofs.RunSteps.{first_further, first_same, first_there, int4_size, made_same, none_ahead, none_first, rows_none, rows_onward, writes_int4}
 use Rattle.tds_rows.proofs.TableRuns.{more_begun, more_in_rows, one_between, one_done}
 use Rattle.tds_rows.proofs.TableSteps.{at_end}
-use Rattle.tds_rows.proofs.run.run_rows.Goals.{else-loop-to-test, then-loop-to-test+else-is_int4+then-is_end+then-used-bytes, then-loop-to-test+else-is_int4+else-is_end+then-cells-eq0}
+use Rattle.tds_rows.proofs.run.run_rows.Goals.{else-loop-to-test, then-loop-to-test+in_default+then-is_end+then-used-bytes, then-loop-to-test+in_default+else-is_end+then-cells-eq0}
 use Rattle.tds_rows.proofs.run.run_rows.Goals as goal
 
 pub loop-to-init : goal.loop-to-init
@@ -46,28 +45,31 @@ loop-to-preserved-then-is_end c =
           );
     }
 
-pub loop-to-preserved-then-has_int4 : goal.loop-to-preserved-then-has_int4
-loop-to-preserved-then-has_int4 c =
+pub loop-to-preserved-in-loop-to : goal.loop-to-preserved-in-loop-to
+loop-to-preserved-in-loop-to c =
     let l = c.loop-to in
     let behind = one_on l.ahead in
-    let next = c.is_int4.ensures.gives c.if-is_int4.true in
+    let start = c.in-Some.start in
+    let kind = int4_kind start in
     let last = c.is_last-last in
     let text = c.write_int4_field-made.new.to in
     let m = c.write_int4_field-made.result in
     let there = take (length c.args.bytes.now - l.used) (drop l.used c.args.bytes.now) in
-    let has : HasInt4 there = c.has_int4.ensures.so c.if-has_int4.true in
-    let wrote = writes_int4 c.args.table.now.charset l.ahead.column last.result there (take m text) has c.write_int4_field-made.ensures.gives in
+    let has : HasInt4 start there = c.has_int4.ensures.so c.if-has_int4.true in
+    let most : start ≤ 1 = c.in-Some.ensures.most in
+    let wrote = writes_int4 c.args.table.now.charset start ((start + 4) - start) l.ahead.column last.result there (take m text) most (omega arith) has c.write_int4_field-made.ensures.gives in
     let within : m ≤ length text = search (arith, rules) in
+    let size = int4_size start there most has in
     record {
       used = search (arith, rules);
       made = search (arith, rules);
       few = omega (arith, l.invariant.few);
-      begun = more_begun c.args.table.now c.args.from l.ahead behind l.used 5 l.made m c.args.bytes.now l.to text _ l.invariant.made within l.invariant.begun (omega arith)
-          (λ columns knows ahead. one_done c.args.table.now columns l.ahead behind (IntN 4) last.result 5 m there text knows (next columns knows (l.invariant.writes columns knows ahead).0) last.ensures (int4_size there has) wrote);
+      begun = more_begun c.args.table.now c.args.from l.ahead behind l.used (start + 4) l.made m c.args.bytes.now l.to text _ l.invariant.made within l.invariant.begun (omega arith)
+          (λ columns knows ahead. one_done c.args.table.now columns l.ahead behind kind last.result (start + 4) m there text knows (c.in-Some.ensures.gives columns knows (l.invariant.writes columns knows ahead).0) last.ensures size wrote);
       writes = λ columns knows ahead.
           let x = l.invariant.writes columns knows ahead in
-          more_in_rows c.args.table.now c.args.from l.ahead behind l.used 5 l.made m c.args.bytes.now l.to text _ l.invariant.made within l.rows columns x
-          (one_between c.args.table.now columns l.ahead behind (IntN 4) last.result 5 m there text knows (next columns knows x.0) last.ensures (int4_size there has) wrote);
+          more_in_rows c.args.table.now c.args.from l.ahead behind l.used (start + 4) l.made m c.args.bytes.now l.to text _ l.invariant.made within l.rows columns x
+          (one_between c.args.table.now columns l.ahead behind kind last.result (start + 4) m there text knows (c.in-Some.ensures.gives columns knows x.0) last.ensures size wrote);
     }
 
 pub loop-to-preserved : goal.loop-to-preserved
@@ -97,8 +99,8 @@ same : (c : goal.Left-loop-to) → take c.loop-to.made c.loop-to-test.to ≡ tak
 same c =
     elim c.loop-to-test.branch [
       | else-loop-to-test w ↦ ap (take c.loop-to.made) w.to-is
-      | then-loop-to-test+else-is_int4+then-is_end+then-used-bytes w ↦ ap (take c.loop-to.made) w.to-is
-      | then-loop-to-test+else-is_int4+else-is_end+then-cells-eq0 w ↦ ap (take c.loop-to.made) w.to-is ∙ made_same c.loop-to.made c.loop-to.to _ c.loop-to.invariant.made
+      | then-loop-to-test+in_default+then-is_end+then-used-bytes w ↦ ap (take c.loop-to.made) w.to-is
+      | then-loop-to-test+in_default+else-is_end+then-cells-eq0 w ↦ ap (take c.loop-to.made) w.to-is ∙ made_same c.loop-to.made c.loop-to.to _ c.loop-to.invariant.made
     ]
 
 pub returns-clause-first : goal.returns-clause-first
@@ -111,9 +113,9 @@ returns-clause-first c = λ columns knows ahead room.
         z.2,
         elim c.loop-to-test.branch [
           | else-loop-to-test w ↦ absurd (omega (arith, room, z.1, w.loop-to-test.false, l.auto.to))
-          | then-loop-to-test+else-is_int4+then-is_end+then-used-bytes w ↦ none_ahead c.args.table.now.charset l.ahead.column c.args.from.column columns c.args.bytes.now (length c.args.to.now) (ap (λ a. a.column) z.2)
+          | then-loop-to-test+in_default+then-is_end+then-used-bytes w ↦ none_ahead c.args.table.now.charset l.ahead.column c.args.from.column columns c.args.bytes.now (length c.args.to.now) (ap (λ a. a.column) z.2)
               (at_end columns l.ahead.column c.args.table.now.count knows.counted (sym w.is_end.ensures ∙ w.if-is_end.true))
-          | then-loop-to-test+else-is_int4+else-is_end+then-cells-eq0 w ↦ (let lent : length (take (length l.to - l.made) (drop l.made l.to)) ≡ length c.args.to.now = omega (arith, z.1, l.auto.to, length-take (length l.to - l.made) (drop l.made l.to), length-drop l.made l.to) in
+          | then-loop-to-test+in_default+else-is_end+then-cells-eq0 w ↦ (let lent : length (take (length l.to - l.made) (drop l.made l.to)) ≡ length c.args.to.now = omega (arith, z.1, l.auto.to, length-take (length l.to - l.made) (drop l.made l.to), length-drop l.made l.to) in
               elim (w.run_cells-cells.ensures.first columns knows inv.0) [
                 | inl y ↦ first_there c.args.table.now.charset l.ahead.column c.args.from.column columns l.used _ (length c.args.to.now) c.args.bytes.now z.0 (ap (λ a. a.column) z.2) lent (y.2 (omega (arith, room, lent)))
                 | inr y ↦ absurd (omega (arith, y.0, w.if-cells-eq0.true))
