@@ -1,5 +1,5 @@
 -- What reading a cell and putting it into its line does.
-use Rattle.std.specs.Prelude.{◌≡◌, ◌⊎◌, ◌+◌, ◌<◌, ◌≤◌, ℕ, zero, suc, Bool, true, false, List, [], ◌∷◌, ◌++◌, length, take, drop, slice_index, is_ok, Option, Some, None, Result, Ok, MatchOption, MatchResult, if◌then◌else◌}
+use Rattle.std.specs.Prelude.{◌≡◌, ◌==◌, ◌⊎◌, ◌+◌, ◌<◌, ◌≤◌, ℕ, zero, suc, Bool, true, false, List, [], ◌∷◌, ◌++◌, length, take, drop, slice_index, is_ok, Option, Some, None, Result, Ok, MatchOption, MatchResult, if◌then◌else◌}
 use Rattle.tds_values.specs.declared.kind.Kind.{Kind}
 use Rattle.tds_values.specs.declared.kind.Kind.TheVariants.{Int4, IntN}
 use Rattle.tds_values.specs.declared.scalar.ScalarValue.{ScalarValue}
@@ -89,6 +89,12 @@ value_bytes kind bytes = take (value_length kind bytes) (drop (value_start kind)
 abbrev pub int4_kind : ℕ → Kind
 int4_kind zero = Int4
 int4_kind (suc n) = IntN 4
+
+-- where the number lies in the cells of a kind of whole numbers of four bytes; none of every other kind
+abbrev pub int4_start_of : Kind → Option ℕ
+int4_start_of Int4 = Some 0
+int4_start_of (IntN n) = if n == 4 then Some 1 else None
+int4_start_of kind = None
 
 -- A whole number of four bytes, at once or behind its length, is at the front of these bytes.
 pub record HasInt4 (start : ℕ) (bytes : List ℕ) : Type 0 where

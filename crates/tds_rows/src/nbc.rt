@@ -46,7 +46,7 @@ pub(crate) fn is_null(bitmap: &[u8], column: u16) -> bool
 /// the same stop is answered, and neither changes.
 ///
 /// Cells are taken in runs, as many as are NULL or lie whole in the packet and have room in the block. The
-/// small area is used as by [`row`](crate::row), for the cells that no run takes.
+/// small area is used as by [`row`](crate::row).
 pub fn nbc_row<R: Read, W: Write>(
     payload: &mut Payload<R>,
     columns: Columns<'_>,

@@ -259,8 +259,7 @@ pub fn row<R: Read, W: Write>(
 /// Reads a ROW behind its token byte, and the ROWs behind it as far as their token bytes lie in the packet
 /// that the one before them ends in, and puts their lines. Answers how many they are. The lines of the
 /// whole rows count at a stop, and the text so far of the row that it stops in. Faults and places are those
-/// of [`row`] (MS-TDS, ROW), and so is the use of the small area, for the cells that don't lie whole in a
-/// packet or have no room in the block.
+/// of [`row`] (MS-TDS, ROW), and so is the use of the small area.
 pub fn read_rows<R: Read, W: Write>(
     payload: &mut Payload<R>,
     columns: Columns<'_>,

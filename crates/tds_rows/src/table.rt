@@ -1,5 +1,5 @@
 // What the cells of a description's columns need of them, known once for all its rows.
-ghost use Rattle.std.specs.Prelude.{◌≡◌, ◌==◌, ◌+◌, ◌<◌, ◌≤◌, IfSome, IsTrue, List};
+ghost use Rattle.std.specs.Prelude.{◌≡◌, ◌==◌, ◌+◌, ◌<◌, ◌≤◌, get_or, IfSome, IsTrue, List};
 ghost use Rattle.tds_rows.specs.Layouts.{layout_of};
 ghost use Rattle.tds_rows.specs.declared.table.TheConstants.{TABLE_LENGTH};
 ghost use Rattle.tds_values.specs.Kind.{is_valid};
@@ -83,7 +83,7 @@ impl Form {
 impl<'a> Table<'a> {
     ghost use Rattle.tds_columns.specs.Description as spec;
     ghost use Rattle.tds_columns.specs.View.{columns_of};
-    ghost use Rattle.tds_rows.specs.CellSteps.{int4_kind};
+    ghost use Rattle.tds_rows.specs.CellSteps.{int4_kind, int4_start_of};
     ghost use Rattle.tds_rows.specs.Tables.{IsAhead, Knows, NextForm, TakesColumn, TakesForm, one_on};
 
     /// The table of a description's columns, whose single-byte text is in this set.
@@ -144,6 +144,8 @@ impl<'a> Table<'a> {
     /// a whole number of four bytes, the most frequent kind. The place behind that cell has the same walk.
     #[inline(always)]
     pub(crate) fn int4_start(&self, at: Ahead<'a>) -> Option<usize>
+        ensures known { (form : Form) → at.entry.column < self.now.known →
+            result ≡ int4_start_of (get_or self.now.forms at.entry.column form).kind }
         ensures most { IfSome result (λ start. start ≤ 1) }
         ensures some { IfSome result (λ start. at.entry.column < self.now.count) }
         ensures gives { (columns : List spec.Column) → Knows self.now columns → IsAhead self.now columns at.entry →
