@@ -1,8 +1,10 @@
 #!/usr/bin/env python3
-"""Times bin/tds_replay on made-up responses, beside the native reader where one is given, and prints what a cell costs.
+"""Times bin/tds_replay on made-up responses, beside the native reader where one is given, and prints what a cell costs,
+and what a byte of a long value does.
 
-usage: export.py PROGRAM [NATIVE]. Both texts are compared, and a difference ends the run. Where valgrind is there,
-the instructions a cell are counted too."""
+usage: export.py PROGRAM [NATIVE]. The response is named as a FILE. Both texts are compared, and a difference ends the
+run. Where valgrind is there, the instructions are counted too."""
+import dataclasses
 import hashlib
 import os
 import re
@@ -12,8 +14,10 @@ import struct
 import subprocess
 import sys
 import tempfile
+from collections.abc import Callable
 
 PACKET_SIZE = 4096
+CHUNK = 8000
 RUNS = 5
 DONE = b"\xFD" + bytes(12)
 
@@ -60,11 +64,89 @@ def mixed(rows):
     return bytes(payload + DONE)
 
 
+TEXT = 'a quote " and É, €, 東 in plain text'
+COLLATION = b"\x09\x04\xd0\x00\x34"
+SHORT_KINDS = [
+    b"\x26\x04",
+    b"\x26\x08",
+    b"\x6A\x09\x12\x04",
+    b"\x2A\x07",
+    b"\xE7\x64\x00" + COLLATION,
+    b"\xA7\x32\x00" + COLLATION,
+    b"\x24\x10",
+    b"\xA5\x10\x00",
+]
+
+
+def short_cells(row):
+    """The eight cells of a row of numbers and short values, each behind its length."""
+    narrow = TEXT.encode("cp1252", "replace")
+    start = row % 7
+    wide = TEXT[start:].encode("utf-16-le")
+    day = struct.pack("<I", 730_000 + row % 1000)[:3]
+    return [
+        b"\x04" + struct.pack("<i", row),
+        b"\x08" + struct.pack("<q", row * 1_234_567_891),
+        b"\x09\x01" + struct.pack("<q", row * 987_654_321 % 10**17),
+        b"\x08" + struct.pack("<q", row * 86_399_999 % 864_000_000_000)[:5] + day,
+        struct.pack("<H", len(wide)) + wide,
+        struct.pack("<H", len(narrow) - start) + narrow[start:],
+        b"\x10" + struct.pack("<QQ", row * 0x9E3779B97F4A7C15 % 2**64, row * 0xC2B2AE3D27D4EB4F % 2**64),
+        struct.pack("<HQ", 8, row * 0x9E3779B97F4A7C15 % 2**64),
+    ]
+
+
+def described_short():
+    """The description of those columns."""
+    return description_of([(kind, f"column {i}") for i, kind in enumerate(SHORT_KINDS)])
+
+
+def short_rows(rows):
+    """Rows of numbers and short values without NULL."""
+    payload = bytearray(described_short())
+    for row in range(rows):
+        payload += b"\xD1" + b"".join(short_cells(row))
+    return bytes(payload + DONE)
+
+
+def null_rows(rows):
+    """The same as NBCROW, a quarter of the cells NULL."""
+    payload = bytearray(described_short())
+    for row in range(rows):
+        nulls = [0x11, 0x22, 0x44, 0x88][row % 4]
+        cells = short_cells(row)
+        payload += b"\xD2" + bytes([nulls]) + b"".join(cell for i, cell in enumerate(cells) if not nulls >> i & 1)
+    return bytes(payload + DONE)
+
+
+def chunked(kind, data, chunks):
+    """One row with one value in chunks."""
+    payload = bytearray(description_of([(kind, "value")]) + b"\xD1" + struct.pack("<Q", CHUNK * chunks))
+    chunk = struct.pack("<I", CHUNK) + (data * (CHUNK // len(data) + 1))[:CHUNK]
+    return bytes(payload + chunk * chunks + bytes(4) + DONE)
+
+
+def long_narrow(chunks):
+    """A value of varchar(max): text with each hundredth byte a quote or beyond ASCII."""
+    data = b"".join(b"plain text of ninety-nine bytes".ljust(99, b".") + care for care in [b'"', b"\xe9", b"\x80", b"\xa7"])
+    return chunked(b"\xA7\xff\xff" + COLLATION, data, chunks)
+
+
+def long_wide(chunks):
+    """A value of nvarchar(max): text with each tenth character a quote or beyond ASCII."""
+    data = "".join("ninechars" + care for care in "é東€\"").encode("utf-16-le")
+    return chunked(b"\xE7\xff\xff" + COLLATION, data, chunks)
+
+
+def long_binary(chunks):
+    """A value of varbinary(max)."""
+    return chunked(b"\xA5\xff\xff", bytes(range(250)), chunks)
+
+
 def seconds_of(command, path):
     """The processor time of one run, in the program and in the system."""
     before = resource.getrusage(resource.RUSAGE_CHILDREN)
-    with open(path, "rb") as source:
-        subprocess.run(command, stdin=source, stdout=subprocess.DEVNULL, stderr=subprocess.DEVNULL, check=True)
+    subprocess.run([*command, path], stdout=subprocess.DEVNULL, stderr=subprocess.DEVNULL, check=True)
     after = resource.getrusage(resource.RUSAGE_CHILDREN)
     return after.ru_utime - before.ru_utime + after.ru_stime - before.ru_stime
 
@@ -72,76 +154,96 @@ def seconds_of(command, path):
 def text_of(command, path):
     """A digest of what a program writes."""
     digest = hashlib.sha256()
-    with open(path, "rb") as source:
-        run = subprocess.Popen(command, stdin=source, stdout=subprocess.PIPE, stderr=subprocess.DEVNULL)
-        while piece := run.stdout.read(1 << 20):
-            digest.update(piece)
-        run.wait()
+    run = subprocess.Popen([*command, path], stdout=subprocess.PIPE, stderr=subprocess.DEVNULL)
+    while piece := run.stdout.read(1 << 20):
+        digest.update(piece)
+    run.wait()
     return digest.hexdigest()
 
 
 def instructions_of(command, path):
     """How many instructions a run takes, which is the same on every machine."""
-    with open(path, "rb") as source:
-        said = subprocess.run(
-            ["valgrind", "--tool=callgrind", "--callgrind-out-file=/dev/null", *command],
-            stdin=source, stdout=subprocess.DEVNULL, stderr=subprocess.PIPE, text=True, check=True,
-        ).stderr
+    said = subprocess.run(
+        ["valgrind", "--tool=callgrind", "--callgrind-out-file=/dev/null", *command, path],
+        stdout=subprocess.DEVNULL, stderr=subprocess.PIPE, text=True, check=True,
+    ).stderr
     return int(re.search(r"Collected : (\d+)", said).group(1))
 
 
-def response(folder, payload):
-    """A file with this payload in packets."""
-    path = os.path.join(folder, "response.tds")
-    with open(path, "wb") as file:
-        file.writelines(packets_of(payload))
-    return path
+@dataclasses.dataclass
+class Response:
+    """What is read: rows, or chunks of one value, and how many cells or bytes each has."""
 
+    name: str
+    unit: str
+    units: int
+    count: int
+    made: Callable
 
-def instructions_a_cell(command, folder, made, columns):
-    """What a cell costs, without what the start of the program does: the difference of two responses."""
-    counts = [instructions_of(command, response(folder, made(rows))) for rows in (100, 5_100)]
-    return (counts[1] - counts[0]) / (5_000 * columns)
+    def file(self, folder, count):
+        """A file with so many rows or chunks of it in packets."""
+        path = os.path.join(folder, "response.tds")
+        with open(path, "wb") as file:
+            file.writelines(packets_of(self.made(count)))
+        return path
 
 
 RESPONSES = [
-    ("4 columns of int", 4, 1_500_000, lambda rows: ints(4, rows)),
-    ("50 columns of int", 50, 150_000, lambda rows: ints(50, rows)),
-    ("8 columns of eight kinds", 8, 600_000, mixed),
+    Response("4 columns of int", "cell", 4, 1_500_000, lambda rows: ints(4, rows)),
+    Response("50 columns of int", "cell", 50, 150_000, lambda rows: ints(50, rows)),
+    Response("8 columns of eight kinds", "cell", 8, 600_000, mixed),
+    Response("8 columns of numbers and short values", "cell", 8, 300_000, short_rows),
+    Response("the same as NBCROW, with NULL", "cell", 8, 300_000, null_rows),
+    Response("varchar(max)", "byte", CHUNK, 25_000, long_narrow),
+    Response("nvarchar(max)", "byte", CHUNK, 25_000, long_wide),
+    Response("varbinary(max)", "byte", CHUNK, 25_000, long_binary),
 ]
 
 
-def times(folder, commands):
-    """The least time of each program on each response, run in turn, and whether their texts are equal."""
-    for name, columns, rows, made in RESPONSES:
-        path = response(folder, made(rows))
-        if len({text_of(command, path) for command in commands.values()}) > 1:
-            sys.exit(f"{name}: the texts differ")
-        best = dict.fromkeys(commands, float("inf"))
-        for _ in range(RUNS):
-            for who, command in commands.items():
-                best[who] = min(best[who], seconds_of(command, path))
-        cells = rows * columns
-        size = os.path.getsize(path) / 1e6
-        for who, seconds in best.items():
-            ratio = f"{seconds / best['native']:.2f}" if "native" in best else ""
-            print(f"| {name} | {who} | {cells:,} | {size:.1f} | {seconds:.3f} | {seconds / cells * 1e9:.1f} | {ratio} |")
+def least_seconds(commands, path):
+    """The least time of each program, run in turn."""
+    best = dict.fromkeys(commands, float("inf"))
+    for _ in range(RUNS):
+        for who, command in commands.items():
+            best[who] = min(best[who], seconds_of(command, path))
+    return best
+
+
+def instructions_a_unit(command, folder, response):
+    """What a cell or a byte costs, without what the start of the program does: the difference of two responses."""
+    few, more = (100, 5_100) if response.unit == "cell" else (10, 510)
+    counts = [instructions_of(command, response.file(folder, count)) for count in (few, more)]
+    return (counts[1] - counts[0]) / ((more - few) * response.units)
+
+
+def measure(folder, commands, response, counts):
+    """One line of the table for each program."""
+    path = response.file(folder, response.count)
+    if len({text_of(command, path) for command in commands.values()}) > 1:
+        sys.exit(f"{response.name}: the texts differ")
+    best = least_seconds(commands, path)
+    units = response.count * response.units
+    size = os.path.getsize(path) / 1e6
+    for who, seconds in best.items():
+        ratio = f"{seconds / best['native']:.2f}" if "native" in best else ""
+        cost = instructions_a_unit(commands[who], folder, response) if counts else ""
+        shown = f"{cost:.2f}" if counts and response.unit == "byte" else f"{cost:.0f}" if counts else ""
+        nanoseconds = f"{seconds / units * 1e9:.2f}" if response.unit == "byte" else f"{seconds / units * 1e9:.1f}"
+        print(f"| {response.name} | {who} | {size:.1f} | {seconds:.3f} | {nanoseconds} | {shown} | {ratio} |", flush=True)
 
 
 def main():
     commands = {"gavyreto": [sys.argv[1], "export"]}
     if len(sys.argv) > 2:
         commands["native"] = [sys.argv[2]]
+    counts = shutil.which("valgrind") is not None
     with tempfile.TemporaryDirectory() as folder:
-        print("| response | program | cells | MB | seconds | nanoseconds a cell | to native |")
+        print("| response | program | MB | seconds | nanoseconds a cell or byte | instructions a cell or byte | to native |")
         print("|---|---|---:|---:|---:|---:|---:|")
-        times(folder, commands)
-        if shutil.which("valgrind") is None:
-            print("instructions a cell: valgrind isn't there")
-            return
-        for name, columns, _, made in RESPONSES:
-            for who, command in commands.items():
-                print(f"{name}, {who}: {instructions_a_cell(command, folder, made, columns):.0f} instructions a cell")
+        for response in RESPONSES:
+            measure(folder, commands, response, counts)
+    if not counts:
+        print("instructions: valgrind isn't there")
 
 
 main()

@@ -1,11 +1,12 @@
 #!/usr/bin/env python3
 """Writes a capture of one TCP connection to standard output (pcap, Ethernet, IPv4), for the recipe of docs/RECIPES.md.
 
-capture.py RESPONSE...
+capture.py [--late] RESPONSE...
 
 The client greets, logs in and asks once for each RESPONSE, a file of packets; the server answers the greeting, the login
 and each request, on port 1433. The login is encrypted, so each side sends a packet of type 12 (hexadecimal) before it; its
-bytes here are made up. In an answer of three segments or more one is sent twice, and two come in the wrong order."""
+bytes here are made up. In an answer of three segments or more one is sent twice, and two come in the wrong order. With
+--late the capture begins after the first request."""
 import struct
 import sys
 
@@ -79,7 +80,7 @@ class Capture:
             out.write(struct.pack("<IIII", 1_700_000_000, number * 1000, len(frame), len(frame)) + frame)
 
 
-def main(paths):
+def main(paths, is_late):
     capture = Capture()
     capture.open()
     capture.send(CLIENT, greeting(0x12))
@@ -88,12 +89,15 @@ def main(paths):
     capture.send(SERVER, packet(0x12, tls_record(0x16, 900)))
     capture.send(CLIENT, tls_record(0x17, 300))
     capture.send(SERVER, login_answer())
-    for path in paths:
+    for number, path in enumerate(paths):
         with open(path, "rb") as response:
             capture.send(CLIENT, packet(1, bytes(22) + "SELECT ..".encode("utf-16-le")))
+            if is_late and number == 0:
+                capture.frames.clear()
             capture.send(SERVER, response.read())
     capture.write(sys.stdout.buffer)
 
 
 if __name__ == "__main__":
-    main(sys.argv[1:])
+    late = sys.argv[1:2] == ["--late"]
+    main(sys.argv[2:] if late else sys.argv[1:], late)

@@ -5,6 +5,8 @@ kinds [N]   one set with a column of each kind, and N rows: its three rows again
 expected    the text that the three rows of kinds have
 sets        three sets: one with an empty line inside a value, one of numbers, one without rows
 error       a row, and then an error of the server
+orders [N]  one set that every client can read, and N rows: its three rows again and again (three where N isn't given)
+broken [N]  the rows of orders, an error of the server among them, and no more rows
 float       a column of float, which is refused
 long N      one row with a value of varbinary(max), of N bytes rounded up to chunks of 8,000
 value N     that value alone, without a response
@@ -265,6 +267,37 @@ def error(_):
     yield server_error(208, "Invalid object name 'orders'.", 1) + done(FAILED)
 
 
+ORDER_COLUMNS = [
+    Column("id", "38", fixed, whole(4), int),
+    Column("customer", "E75000", long, wide, str),
+    Column("total", "6A090C02", short, decimal(9), Decimal),
+    Column("ordered", "2A07", short, datetime2, str),
+    Column("note", "E7FFFF", chunked, wide, str),
+]
+ORDER_ROWS = [
+    ["1", 'Ann "A" Lee, Zürich', "12.50", "2024-02-29 12:34:56.1234567", "two\r\nlines"],
+    ["2", "NULL", "-0.05", "2024-03-01 00:00:00.0000000", ""],
+    ["3", "東京", None, "2024-03-02 23:59:59.9999999", None],
+]
+
+
+def order_rows(count):
+    yield description(ORDER_COLUMNS)
+    rows = [row(ORDER_COLUMNS, values) for values in ORDER_ROWS]
+    for number in range(count or 3):
+        yield rows[number % 3]
+
+
+def orders(count):
+    yield from order_rows(count)
+    yield done()
+
+
+def broken(count):
+    yield from order_rows(count)
+    yield server_error(8134, "Divide by zero error encountered.", 1) + done(FAILED)
+
+
 def refused_float(_):
     number = Column("id", "38", fixed, whole(4), int)
     ratio = Column("ratio", "6D08", short, None, float)
@@ -279,7 +312,9 @@ def long_value(count):
     yield bytes(4) + done()
 
 
-RESPONSES = {"kinds": kinds, "sets": sets, "error": error, "float": refused_float, "long": long_value}
+RESPONSES = {
+    "kinds": kinds, "sets": sets, "error": error, "orders": orders, "broken": broken, "float": refused_float, "long": long_value,
+}
 
 
 def main():

@@ -143,7 +143,7 @@ pub info_cut : (room index byte rest count : ℕ) (columns : List Column) (a b :
 info_cut room index byte rest count columns a b before after place stop known e =
     description_cut room (InColumn before.bytes count columns (ColumnInfo byte)) a b before after place rest stop e refl (size_of byte rest known) refl (ap (λ n. length before.bytes + n) (size_of byte rest known))
 
--- the bytes behind what the area had
+-- the bytes after what the area had
 element_is : (before : Space) (element : List ℕ) (after : Space) (bytes : List ℕ) → after ≡ appended before element → bytes ≡ drop (length before.bytes) after.bytes → element ≡ bytes
 element_is before element after bytes is e = sym (e ∙ ap (drop (length before.bytes)) (behind before element after is) ∙ drop-append_seam before.bytes element)
 
@@ -300,7 +300,7 @@ name_cut room index count units columns kind a b c before middle after place pla
 
 -- ---- columns, one after another
 
--- a description behind the last of these columns
+-- a description after the last of these columns
 abbrev pub behind_columns : List ℕ → ℕ → List Column → DescriptionPart
 behind_columns bytes count columns = if length columns == count then WholeDescription bytes columns else InColumn bytes count columns ColumnHead
 

@@ -46,7 +46,7 @@ type_refused o a head byte place fault taken eight is first = record {
   stops = refused_at_once returned_type TypeHead o a place head fault (omega (arith, eight)) eight (ap (λ b. type_fault return_column b (rest_length b)) (sym is) ∙ first) (subst (Takes o a head) (sym eight) taken.0) taken.1;
 }
 
--- a stop behind the eight bytes
+-- a stop after the eight bytes
 behind_head : (o a b : Seen) (head : List ℕ) (byte rest place : ℕ) (at : TypePart) (stop : Stop) → WereTaken o a head → length head ≡ 8 → byte ≡ slice_index head 7 → rest_length byte ≡ Some rest → rest ≢ 0 → 8 ≤ place → StopsReading returned_type (TypeRest byte) a b place at stop
     → StopsType o b (place - 8) stop
 behind_head o a b head byte rest place at stop taken eight is known some far q =

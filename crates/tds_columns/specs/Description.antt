@@ -4,7 +4,6 @@ use Rattle.tds_values.specs.declared.kind.Kind.{Kind}
 use Rattle.tds_values.specs.Numbers.{little}
 use Rattle.tds_values.specs.TypeInfo.{IsTypeInfo, rest_length, kind_of}
 use Rattle.tds_packet.specs.Elements.{Grammar}
-use Rattle.tds_columns.specs.declared.type_info.TheConstants.{FLT4, FLT8, FLT_N, TEXT, NTEXT, IMAGE, SS_VARIANT, UDT, XML}
 use Rattle.tds_packet.specs.declared.fault.RefusedKind.{RefusedKind}
 use Rattle.tds_packet.specs.declared.fault.RefusedKind.TheVariants.{Flt4, Flt8, FltN, Text, NText, Image, SsVariant, Udt, Xml}
 use Rattle.tds_packet.specs.declared.fault.Fault.{Fault}
@@ -40,18 +39,18 @@ pub record SpellsDescription (room : ℕ) (columns : List Column) (bytes : List 
   pub each : SpellsColumns columns rest
   pub within : length bytes ≤ room
 
--- the kinds that are refused by name
+-- the kinds that are refused by name, by their type bytes (MS-TDS, Type Info Rule Definition)
 unfoldable pub refused_kind : ℕ → Option RefusedKind
 refused_kind byte =
-    if byte == FLT4 then Some Flt4
-    else if byte == FLT8 then Some Flt8
-    else if byte == FLT_N then Some FltN
-    else if byte == TEXT then Some Text
-    else if byte == NTEXT then Some NText
-    else if byte == IMAGE then Some Image
-    else if byte == SS_VARIANT then Some SsVariant
-    else if byte == UDT then Some Udt
-    else if byte == XML then Some Xml
+    if byte == 0x3B then Some Flt4
+    else if byte == 0x3E then Some Flt8
+    else if byte == 0x6D then Some FltN
+    else if byte == 0x23 then Some Text
+    else if byte == 0x63 then Some NText
+    else if byte == 0x22 then Some Image
+    else if byte == 0x62 then Some SsVariant
+    else if byte == 0xF0 then Some Udt
+    else if byte == 0xF1 then Some Xml
     else None
 
 -- where a column is read: before its UserType, its further type information, the count of its name, or its name
@@ -142,7 +141,7 @@ abbrev pub first_of_two : {A : Type 0} → Option A → Option A → Option A
 first_of_two (Some x) y = Some x
 first_of_two None y = y
 
--- the first fault of a column's head, which ends so many bytes behind the description's beginning, with this type byte; so many columns follow
+-- the first fault of a column's head, which ends so many bytes after the description's beginning, with this type byte; so many columns follow
 abbrev pub head_fault : (room so_far byte index left : ℕ) → Option Fault
 head_fault room so_far byte index left =
     first_of_two (type_fault index byte (rest_length byte)) (too_long room so_far ((unwrap_or (rest_length byte) 0 + 1) + 8 * left))

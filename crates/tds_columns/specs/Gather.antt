@@ -47,7 +47,7 @@ module _ {R U : Type 0} (remaining : R → Option (List ℕ)) (old new : Payload
   TypeRead count index = (columns : List Column) → length columns ≡ index → PartRead
       (InColumn before.bytes count columns ColumnHead) (λ kind. InColumn after.bytes count columns (NameCount kind))
 
-  -- The name of a column was read behind the rest of it, whatever that and the columns before it are.
+  -- The name of a column was read after the rest of it, whatever that and the columns before it are.
   abbrev pub NameRead : (count index : ℕ) → Type 0
   NameRead count index = (columns : List Column) (kind : Kind) → length columns ≡ index → PartRead
       (InColumn before.bytes count columns (NameCount kind)) (with_column after.bytes count columns)
@@ -57,7 +57,7 @@ module _ {R U : Type 0} (remaining : R → Option (List ℕ)) (old new : Payload
   ColumnRead count index = (columns : List Column) → length columns ≡ index →
       PartRead (InColumn before.bytes count columns ColumnHead) (with_column after.bytes count columns)
 
-  -- So many columns were read behind Count.
+  -- So many columns were read after Count.
   abbrev pub ColumnsRead : ℕ → Type 0
   ColumnsRead count = PartRead (InColumn before.bytes count [] ColumnHead)
       (λ (all : (columns : List Column) × (length columns ≡ count)). WholeDescription after.bytes all.0)

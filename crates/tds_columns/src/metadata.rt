@@ -96,7 +96,7 @@ fn read_count<R: Read>(payload: &mut Payload<R>, area: &mut Area) -> Result<Desc
 }
 
 // How many bytes of type information follow the head of the column with this number, which ends so
-// many bytes behind the description's beginning. So many columns stand behind this one.
+// many bytes after the description's beginning. So many columns stand after this one.
 fn judge_head(room: usize, so_far: usize, byte: u8, index: u16, left: u16) -> Result<usize, Fault>
     requires { so_far ≤ room }
     ensures { MatchResult result
@@ -230,7 +230,7 @@ fn read_column<R: Read>(
     read_name(payload, area, index, count)
 }
 
-// Reads all columns behind Count.
+// Reads all columns after Count.
 fn read_columns<R: Read>(payload: &mut Payload<R>, area: &mut Area, count: u16) -> Result<(), Stop>
     requires going { IsGoing payload.old }
     requires some { 0 < count }
@@ -245,7 +245,7 @@ fn read_columns<R: Read>(payload: &mut Payload<R>, area: &mut Area, count: u16) 
     Ok(())
 }
 
-/// Reads a description behind the token byte into the area, from Count to the last name; the area is
+/// Reads a description after the token byte into the area, from Count to the last name; the area is
 /// emptied first. Where Count says that there is no metadata the area stays empty. It has room for
 /// Count at least.
 ///

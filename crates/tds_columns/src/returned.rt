@@ -23,10 +23,10 @@ pub const TYPE_ROOM: usize = 15;
 
 /// Reads what follows the type byte of a RETURNVALUE, and answers its kind. The area holds the eight
 /// bytes that end with the type byte, just read from the payload, and has room for seven more; what
-/// is read stands behind them then.
+/// is read stands after them then.
 ///
 /// Stops with `RefusedColumn` and `UnknownType` at the place of the eight bytes, with `BadTypeInfo`
-/// at that of the bytes behind them, and with the faults of the payload, `MessageEnded` among them.
+/// at that of the bytes after them, and with the faults of the payload, `MessageEnded` among them.
 /// The number of the column is 65,535. The area has the eight bytes then.
 pub fn read_type_info<R: Read>(payload: &mut Payload<R>, small: &mut Area) -> Result<Kind, Stop>
     requires going { IsGoing payload.old }

@@ -53,7 +53,7 @@ const DECIMAL: u8 = 0x6A;
 
 const NUMERIC: u8 = 0x6C;
 
-// Type bytes with a length of two bytes, and of characters with a collation of five behind it.
+// Type bytes with a length of two bytes, and of characters with a collation of five after it.
 const BIG_VARBINARY: u8 = 0xA5;
 
 const BIG_BINARY: u8 = 0xAD;
@@ -155,7 +155,7 @@ fn reach(rest: &[u8]) -> Reach
     }
 }
 
-/// The kind that a type byte and the bytes behind it name, where they name one, and how many of
+/// The kind that a type byte and the bytes after it name, where they name one, and how many of
 /// these bytes are its own.
 #[tactic(auto, unfolding(tds_values::specs::TypeInfo::rest_length, tds_values::specs::TypeInfo::named_kind))]
 pub(crate) fn kind_at(byte: u8, rest: &[u8]) -> (Kind, usize)
@@ -197,7 +197,7 @@ pub(crate) fn kind_at(byte: u8, rest: &[u8]) -> (Kind, usize)
     }
 }
 
-// Whether a type byte and all the bytes behind it name a kind, whatever the numbers are that its
+// Whether a type byte and all the bytes after it name a kind, whatever the numbers are that its
 // values depend on.
 #[tactic(auto, unfolding(tds_values::specs::TypeInfo::rest_length, tds_values::specs::TypeInfo::named_kind))]
 fn is_named(byte: u8, rest: &[u8]) -> bool
@@ -212,7 +212,7 @@ fn is_named(byte: u8, rest: &[u8]) -> bool
     }
 }
 
-/// The kind that a type byte and all the bytes behind it describe, if they are a TYPE_INFO.
+/// The kind that a type byte and all the bytes after it describe, if they are a TYPE_INFO.
 pub(crate) fn kind_of(byte: u8, rest: &[u8]) -> Option<Kind>
     requires { info.rest_length byte ≡ Some (length rest.now) }
     ensures { result ≡ info.kind_of (byte ∷ rest.now) }

@@ -11,6 +11,8 @@ use byteorder::{ByteOrder, LittleEndian};
 pub struct Columns<'a> {
     bytes: &'a [u8],
     ghost whole: { IsTrue (is_described bytes.now) },
+    ghost some: { 0 < length (columns_of bytes.now) },
+    ghost most: { length (columns_of bytes.now) < 65535 },
 }
 
 impl<'a> Columns<'a> {
@@ -27,6 +29,7 @@ impl<'a> Columns<'a> {
     /// How many columns there are, 1 to 65,534.
     pub fn count(&self) -> u16
         ensures value { result ≡ length (columns_of self.now.bytes.now) }
+        ensures range { (0 < result) × (result < 65535) }
         ensures columns { (room : ℕ) (columns : List spec.Column) →
             spec.SpellsDescription room columns self.now.bytes.now → result ≡ length columns }
     {

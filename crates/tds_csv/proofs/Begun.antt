@@ -56,7 +56,7 @@ utf8_front old piece (Some k) is begins =
     let whole : ℕ = utf8_valid_len (old ++ piece) in
     stopped_front old piece whole _ begins (stops_at (old ++ piece) whole k refl is)
 
--- behind data that begins, the first bytes of any piece begin too and fix all the text that the piece fixes
+-- after data that begins, the first bytes of any piece begin too and fix all the text that the piece fixes
 pub begun_front : (c : Conversion) (old piece : List ℕ) → Begins c old → BegunFront c old piece
 begun_front HexDigits old piece begins = all_begun HexDigits old piece tt
 begun_front Utf16Text old piece begins = all_begun Utf16Text old piece tt
@@ -71,7 +71,7 @@ odd_front (low ∷ high ∷ []) x odd = refl
 odd_front (low ∷ high ∷ more ∷ []) x odd = absurd (odd (omega arith))
 odd_front (low ∷ high ∷ low' ∷ high' ∷ bytes) x odd = ap (λ l. low ∷ high ∷ l) (odd_front (low' ∷ high' ∷ bytes) x (λ e. odd (omega (arith, e))))
 
--- a byte behind which no character ends completes none
+-- a byte after which no character ends completes none
 unfit_front : (d : List ℕ) (x : ℕ) → (IsUtf8 (d ++ x ∷ []) → ⊥) → utf8_laws.front (d ++ x ∷ []) ≡ utf8_laws.front d
 unfolding utf8_laws.front
 unfit_front d x unfit =
@@ -90,7 +90,7 @@ unfit_front d x unfit =
     let same : m ≡ n = omega (arith, up, down) in
     front_m ∙ ap (λ k. take k d) same
 
--- a byte behind which the data isn't whole adds no text
+-- a byte after which the data isn't whole adds no text
 pub unfit_adds_none : (c : Conversion) (d : List ℕ) (x : ℕ) → is_fit c (d ++ x ∷ []) ≡ false → emit (conversion_rest c) (conversion_text c) (d ++ x ∷ []) ≡ emit (conversion_rest c) (conversion_text c) d
 unfit_adds_none HexDigits d x unfit = cc
 unfit_adds_none Utf16Text d x unfit =

@@ -22,7 +22,7 @@ module _ (rest text : List ℕ → List ℕ) where
   pub Leads-chunk : {fit begins : List ℕ → Type 0} (laws : JoinsPieces fit begins rest text) (xs more : List ℕ) → begins (xs ++ more) → Leads rest text (xs ++ more) (rest xs ++ more) (emit rest text xs)
   Leads-chunk laws xs more h = record { emits = laws.emits xs more h; keeps = laws.keeps xs more h }
 
-  -- one more chunk, whose rest begins behind so many bytes
+  -- one more chunk, whose rest begins after so many bytes
   pub Leads-next : {fit begins : List ℕ → Type 0} (laws : JoinsPieces fit begins rest text) (xs : List ℕ) (at end used : ℕ) → begins (drop at xs) → used ≤ length (take (end - at) (drop at xs))
       → drop used (take (end - at) (drop at xs)) ≡ rest (take (end - at) (drop at xs)) → Leads rest text (drop at xs) (drop (at + used) xs) (emit rest text (take (end - at) (drop at xs)))
   Leads-next {fit} {begins} laws xs at end used h le e =

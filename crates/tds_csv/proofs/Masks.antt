@@ -1,12 +1,10 @@
 -- From the mask of one load to the bytes before the first that stops.
-use Rattle.std.proofs.Common.{◌≡◌, ℕ, ◌+◌, ◌%◌, ◌^◌, ◌<◌, ◌≤◌, eqb, Bool, true, not, cond, ◌-◌, List, [], ◌∷◌, map, length, take, drop, get_or, replicate, Fits, w8, refl, sym, ap, ap₂, ◌∙◌, arith}
+use Rattle.std.proofs.Common.{◌≡◌, ℕ, ◌+◌, ◌%◌, ◌^◌, ◌≤◌, Bool, true, not, cond, ◌-◌, List, [], ◌∷◌, map, length, take, drop, get_or, replicate, Fits, w8, refl, sym, ap, ap₂, ◌∙◌, arith}
 use Rattle.std.proofs.lemmas.Bool.{agree_below, agree_below_at}
-use Rattle.std.proofs.lemmas.Simd.{map-map, mask_l-mod, length-chunk, chunk-fits, first_set_mask_l, chunk-drop}
+use Rattle.std.proofs.lemmas.Simd.{map-map, mask_l-mod, length-chunk, chunk-fits, first_set_mask_l}
 use Rattle.std.proofs.lemmas.List.{drop-take, length-map, take-take}
 use Rattle.std.specs.List.{prefix_len}
-use Rattle.std.proofs.lemmas.List.Folds.{prefix_len-append}
 use Rattle.std.proofs.lemmas.List.Sums.{prefix_len-le-length}
-use Rattle.std.proofs.lemmas.Bool.{eq-eqb, ne_eqb}
 use lib.Lanes.{Each1, chunk, zip2, mask_l, top}
 use Rattle.tds_csv.specs.Plain.{LiesIn, first_set}
 
@@ -39,23 +37,6 @@ run_in q d i z room fits f lanes all =
     let long : length v ≡ 16 = length-chunk i 16 d room in
     let mask : mask_l (map (top 7) z) % 2 ^ 64 ≡ mask_l (map stops v) = ap (λ l. mask_l l % 2 ^ 64) (ap (map (top 7)) lanes ∙ map-map (top 7) f v) ∙ mask_l-mod (map stops v) 64 (omega (arith, length-map v stops, long)) in
     ap (λ m. first_set m 16) mask ∙ first_set_mask_l stops v 16 long (omega arith) ∙ same_prefix (λ x. not (stops x)) q all v (chunk-fits w8 i 16 d fits)
-
-split : (q : ℕ → Bool) (d : List ℕ) (i n : ℕ) → prefix_len q (drop i d) ≡ cond (eqb (prefix_len q (chunk i n d)) (length (chunk i n d))) (length (chunk i n d) + prefix_len q (drop (i + n) d)) (prefix_len q (chunk i n d))
-split q d i n = ap (prefix_len q) (chunk-drop i n d) ∙ prefix_len-append q (chunk i n d) (drop (i + n) d)
-
--- all lanes pass
-pub run_through : (q : ℕ → Bool) (d : List ℕ) (i n : ℕ) → i + n ≤ length d → prefix_len q (chunk i n d) ≡ n → prefix_len q (drop i d) ≡ n + prefix_len q (drop (i + n) d)
-run_through q d i n room all =
-    let v = chunk i n d in
-    let long : length v ≡ n = length-chunk i n d room in
-    split q d i n ∙ ap (λ b. cond b (length v + prefix_len q (drop (i + n) d)) (prefix_len q v)) (eq-eqb (prefix_len q v) (length v) (omega (arith, all, long))) ∙ ap (λ k. k + prefix_len q (drop (i + n) d)) long
-
--- one doesn't
-pub run_stops : (q : ℕ → Bool) (d : List ℕ) (i n : ℕ) → i + n ≤ length d → prefix_len q (chunk i n d) < n → prefix_len q (drop i d) ≡ prefix_len q (chunk i n d)
-run_stops q d i n room some =
-    let v = chunk i n d in
-    let long : length v ≡ n = length-chunk i n d room in
-    split q d i n ∙ ap (λ b. cond b (length v + prefix_len q (drop (i + n) d)) (prefix_len q v)) (ne_eqb (prefix_len q v) (length v) (λ (e : prefix_len q v ≡ length v). omega (arith, some, long, e)))
 
 pub run_most : (q : ℕ → Bool) (d : List ℕ) (i n : ℕ) → i + n ≤ length d → prefix_len q (chunk i n d) ≤ n
 run_most q d i n room = omega (arith, prefix_len-le-length q (chunk i n d), length-chunk i n d room)

@@ -4,9 +4,9 @@ use Rattle.std.specs.List.{concat}
 use Rattle.std.proofs.lemmas.List.{append_cancel_left}
 use Rattle.tds_packet.specs.declared.fault.Fault.{Fault}
 use Rattle.tds_packet.specs.declared.fault.Stop.{Stop}
-use Rattle.tds_packet.specs.Elements.{Grammar, Inside, IsNext, Leads, Spelt}
+use Rattle.tds_packet.specs.Elements.{Grammar, IsNext, Leads, Spelt}
 use Rattle.tds_packet.specs.Seen.{Seen, Takes, IsBetween}
-use Rattle.tds_packet.proofs.ElementLaws.{Inside-Spelt, Spelt-append, Spelt-one}
+use Rattle.tds_packet.proofs.ElementLaws.{Inside, Inside-Spelt, Spelt-append, Spelt-one}
 use Rattle.tds_packet.proofs.Lifts.{LastInside, last_inside, next_inside, next_some}
 use Rattle.tds_packet.proofs.Steps.{takes_both}
 use Rattle.tds_csv.specs.Sinks.{Held, Puts, Breaks}
@@ -32,12 +32,12 @@ pub record Nears {S : Type 0} (g : Grammar S Fault) (text : S → List ℕ) (fro
   pub text_is : text at ++ (part ++ tail) ≡ text to
   pub half : Puts middle after part
 
--- The text of each element stands behind that of what was read before it.
+-- The text of each element stands after that of what was read before it.
 abbrev pub Grows : {S : Type 0} → Grammar S Fault → (S → List ℕ) → Type 0
 Grows {S} g text = (s : S) (element : List ℕ) → IsNext g s element → (more : List ℕ) × (text s ++ more ≡ text (g.add s element))
 
 module _ {S : Type 0} (g : Grammar S Fault) (text : S → List ℕ) where
-  -- an element was read behind what was read and put
+  -- an element was read after what was read and put
   abbrev pub nears_from : (s at : S) (a b c : Seen) (h i : Held) (element tail : List ℕ) → Streams g text s a b h i at → IsNext g at element → Takes b c element (length element) → IsBetween c → length i.waiting < 4096 → i.delivered ≤ 2 ^ 64 - 1
       → text at ++ tail ≡ text (g.add at element) → Nears g text s a c h i (g.add at element) tail
   nears_from s at a b c h i element tail x next takes between few delivered text_is = record {
@@ -126,7 +126,7 @@ module _ {S : Type 0} (g : Grammar S Fault) (text : S → List ℕ) where
     half = y.half;
   }
 
-  -- the text of what is read later stands behind that of what is read before
+  -- the text of what is read later stands after that of what is read before
   grown : Grows g text → (s : S) (es : List (List ℕ)) (t : S) → Leads g s es t → (more : List ℕ) × (text s ++ more ≡ text t)
   grown grows s [] t leads = ([], append-nil (text s) ∙ ap text leads)
   grown grows s (e ∷ es) t leads =
@@ -157,18 +157,18 @@ module _ {S : Type 0} (g : Grammar S Fault) where
   pub last_read : (s : S) (bytes : List ℕ) (t : S) → Spelt g s bytes t → 0 < length bytes → LastInside g g (λ u. u) inside_itself s bytes t
   last_read s bytes t spelt some = last_inside g g (λ u. u) inside_itself s bytes t spelt some
 
--- A small grammar inside a big one, whose text is that of the small one behind a text that stands before it, where the small one has a next element.
+-- A small grammar inside a big one, whose text is that of the small one after a text that stands before it, where the small one has a next element.
 module _ {S T : Type 0} (small : Grammar S Fault) (big : Grammar T Fault) (lift : S → T) (is : Inside small big lift) (text : S → List ℕ) (whole : T → List ℕ) (front : List ℕ) (text_is : (s : S) → 0 < small.size s → front ++ text s ≡ whole (lift s)) (grows : Grows small text) where
   -- what is added to the small text between two states with a next element is added to the big one
   pub added_between : (s t : S) (more : List ℕ) → 0 < small.size s → 0 < small.size t → text s ++ more ≡ text t → whole (lift s) ++ more ≡ whole (lift t)
   added_between s t more some more_to_come e = ap (λ l. l ++ more) (sym (text_is s some)) ∙ append_assoc front (text s) more ∙ ap (λ l. front ++ l) e ∙ text_is t more_to_come
 
-  -- behind the small text the big one has a tail
+  -- after the small text the big one has a tail
   pub tail_behind : (s t : S) (more tail : List ℕ) → 0 < small.size s → text s ++ more ≡ text t → (front ++ text t) ++ tail ≡ whole (lift t) → whole (lift s) ++ (more ++ tail) ≡ whole (lift t)
   tail_behind s t more tail some e end =
       ap (λ l. l ++ (more ++ tail)) (sym (text_is s some)) ∙ sym (append_assoc (front ++ text s) more tail) ∙ ap (λ l. l ++ tail) (append_assoc front (text s) more ∙ ap (λ l. front ++ l) e) ∙ end
 
-  -- the small grammar was read to its end, and its text put: of the big one's text only what stands behind it is to be put
+  -- the small grammar was read to its end, and its text put: of the big one's text only what stands after it is to be put
   abbrev pub nears_inside : (from : S) (a b : Seen) (h i : Held) (to : S) (tail : List ℕ) → (x : Streams small text from a b h i to) → 0 < length x.bytes → IsBetween b → length i.waiting < 4096 → (front ++ text to) ++ tail ≡ whole (lift to)
       → Nears big whole (lift from) a b h i (lift to) tail
   nears_inside from a b h i to tail x some between few end =

@@ -10,7 +10,7 @@ use Rattle.tds_csv.specs.Plain.{is_plain}
 use Rattle.tds_csv.specs.Windows1252 as windows_1252
 use Rattle.tds_csv.proofs.SingleLaws.{windows_1252-append}
 use Rattle.tds_csv.proofs.Characters.{of_one, doubled_character}
-use Rattle.tds_csv.proofs.Singles.{front_itself, some_itself}
+use Rattle.tds_csv.proofs.Singles.{some_itself}
 
 itself : (b : ℕ) → b < 128 → windows_1252.character b ≡ b
 itself b small = grind (arith, nat_tests)
@@ -26,9 +26,6 @@ plain_byte b small ne =
 
 plain : (b : ℕ) → is_plain b ≡ true → windows_1252.text (b ∷ []) ≡ b ∷ []
 plain b h = plain_byte b (grind (arith, nat_tests)) (λ e. grind (arith, nat_tests))
-
-pub plain_front : (xs : List ℕ) → windows_1252.text (take (prefix_len is_plain xs) xs) ≡ take (prefix_len is_plain xs) xs
-plain_front xs = front_itself windows_1252.text windows_1252-append is_plain refl plain xs
 
 -- some of the bytes that were found among the next 16 of a source
 pub plain_lanes : (source bytes : List ℕ) (at n : ℕ) → n ≤ 16 → n ≤ prefix_len is_plain (chunk at 16 source) → take n (drop at bytes) ≡ take n (chunk at 16 source) → take n (chunk at 16 source) ≡ windows_1252.text (take n (drop at bytes))

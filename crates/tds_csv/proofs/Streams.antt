@@ -2,9 +2,9 @@
 use Rattle.std.proofs.Common.{◌≡◌, ◌∙◌, inl, inr, ℕ, ◌+◌, ◌<◌, Bool, List, [], ◌++◌, length, sym, ap, subst, arith, append_assoc}
 use Rattle.tds_packet.specs.declared.fault.Fault.{Fault}
 use Rattle.tds_packet.specs.declared.fault.Stop.{Stop}
-use Rattle.tds_packet.specs.Elements.{Grammar, Inside}
+use Rattle.tds_packet.specs.Elements.{Grammar}
 use Rattle.tds_packet.specs.Seen.{Seen, Takes}
-use Rattle.tds_packet.proofs.ElementLaws.{Inside-Spelt, Spelt-append}
+use Rattle.tds_packet.proofs.ElementLaws.{Inside, Inside-Spelt, Spelt-append}
 use Rattle.tds_packet.specs.Reading.{StopsReading}
 use Rattle.tds_packet.proofs.Lifts.{next_inside, next_some, stops_inside}
 use Rattle.tds_packet.proofs.Steps.{stops_after, takes_ahead, takes_both}
@@ -85,7 +85,7 @@ module _ {S : Type 0} (g : Grammar S Fault) (text : S → List ℕ) where
     ];
   }
 
--- A small grammar inside a big one, whose text is that of the small one behind a text that stands before it.
+-- A small grammar inside a big one, whose text is that of the small one after a text that stands before it.
 module _ {S T : Type 0} (small : Grammar S Fault) (big : Grammar T Fault) (lift : S → T) (is : Inside small big lift) (text : S → List ℕ) (whole : T → List ℕ) (front : List ℕ) (text_is : (s : S) → front ++ text s ≡ whole (lift s)) where
   -- what is added to the small text is added to the big one
   pub added_inside : (s t : S) (more : List ℕ) → text s ++ more ≡ text t → whole (lift s) ++ more ≡ whole (lift t)

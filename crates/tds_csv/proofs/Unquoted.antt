@@ -7,13 +7,10 @@ use Rattle.tds_csv.specs.Quoting.{doubled}
 use Rattle.tds_csv.specs.Plain.{is_unquoted}
 use Rattle.tds_csv.proofs.JoiningLemmas.{doubled-append}
 use Rattle.tds_csv.proofs.Characters.{doubled_one}
-use Rattle.tds_csv.proofs.Singles.{front_itself, lanes_itself}
+use Rattle.tds_csv.proofs.Singles.{lanes_itself}
 
 unquoted : (b : ℕ) → is_unquoted b ≡ true → doubled (b ∷ []) ≡ b ∷ []
 unquoted b h = doubled_one b (λ e. grind (arith, nat_tests))
-
-pub unquoted_front : (xs : List ℕ) → doubled (take (prefix_len is_unquoted xs) xs) ≡ take (prefix_len is_unquoted xs) xs
-unquoted_front xs = front_itself doubled doubled-append is_unquoted refl unquoted xs
 
 -- those that were found among the next 16
 pub unquoted_lanes : (bytes : List ℕ) (at n : ℕ) → n ≤ 16 → n ≡ prefix_len is_unquoted (chunk at 16 bytes) → take n (chunk at 16 bytes) ≡ doubled (take n (drop at bytes))

@@ -15,7 +15,7 @@ pub seam_some : (kept piece : List ℕ) → 0 < length kept → seam kept piece 
 seam_some [] piece some = absurd (omega arith)
 seam_some (byte ∷ kept) piece some = refl
 
--- where the text goes on behind that of the seam
+-- where the text goes on after that of the seam
 abbrev pub behind : List ℕ → List ℕ → List ℕ
 behind [] piece = piece
 behind (byte ∷ kept) piece = rest (byte ∷ kept ++ take 3 piece) ++ drop 3 piece

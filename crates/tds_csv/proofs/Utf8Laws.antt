@@ -71,7 +71,7 @@ drop-past (x ∷ w) y k =
     let e : suc (length w) + k ≡ suc (length w + k) = omega arith in
     ap (λ n. drop n (x ∷ w ++ y)) e ∙ drop-past w y k
 
--- the longest text at the front, behind a text
+-- the longest text at the front, after a text
 pub valid_len-past : (w y : List ℕ) → IsUtf8 w → utf8_valid_len (w ++ y) ≡ length w + utf8_valid_len y
 unfolding front
 valid_len-past w y u =

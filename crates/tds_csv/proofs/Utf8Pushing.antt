@@ -43,7 +43,7 @@ scan_short bytes whole good order most same begins stops = elim (cases_lt good (
 begins_part : (xs : List ℕ) (n : ℕ) → Begins xs → Begins (take n xs)
 begins_part xs n h = joins_utf8.front (take n xs) (drop n xs) (subst Begins (sym (take-append-drop n xs)) h)
 
--- the bad byte is behind what is withheld
+-- the bad byte is after what is withheld
 pub behind_kept : (kept piece bytes : List ℕ) (k : ℕ) → bytes ≡ kept ++ piece → Begins kept → (Begins (take (k + 1) bytes) → ⊥) → length kept ≤ k
 behind_kept kept piece bytes k is begun bad = elim (cases_lt k (length kept)) [
   | inl before ↦
@@ -170,7 +170,7 @@ up_to_first kept piece new n a b k long x =
       bad = λ h. x.bad (subst (λ l. Begins (kept ++ l)) (sym next) h);
     }
 
--- a byte was bad behind the first three bytes of a piece
+-- a byte was bad after the first three bytes of a piece
 pub up_to_long : (kept piece mid new held : List ℕ) (a b d : Held) (j : ℕ) → 3 ≤ length piece → held ≡ mid → length held ≤ 3 → Begins mid → TakesPiece Begins rest text kept mid a b (take 3 piece)
     → TakesUpTo Begins rest text [] new b d (mid ++ drop 3 piece) j → TakesUpTo Begins rest text kept new a d piece (3 - length held + j)
 up_to_long kept piece mid new held a b d j long same le begun x y =

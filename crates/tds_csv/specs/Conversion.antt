@@ -55,7 +55,7 @@ is_fit Utf16Text bytes = length bytes % 2 == 0
 is_fit Utf8Text bytes = is_utf8 bytes
 is_fit conversion bytes = true
 
--- the test whether some whole data begins so: in UTF-8 std finds no fault behind the last whole character
+-- the test whether some whole data begins so: in UTF-8 std finds no fault after the last whole character
 abbrev pub is_begun : Conversion → List ℕ → Bool
 is_begun Utf8Text bytes = not (is_some (utf8_error_len (utf8.rest bytes)))
 is_begun conversion bytes = true
@@ -75,7 +75,7 @@ abbrev pub is_quoted : Conversion → Bool
 is_quoted HexDigits = false
 is_quoted conversion = true
 
--- what closes a field behind the text of its data
+-- what closes a field after the text of its data
 abbrev pub closing : Bool → List ℕ
 closing true = quote ∷ []
 closing false = []

@@ -39,7 +39,7 @@ plain_units (low ∷ high ∷ bytes) = if is_plain low && (high == 0) then 1 + p
 abbrev pub digit : ℕ → ℕ
 digit n = slice_index lower_digits n
 
--- The bytes lie at the front of these, behind which others may lie.
+-- The bytes lie at the front of these, after which others may lie.
 pub record LiesIn (bytes source : List ℕ) : Type 0 where
   pub within : length bytes ≤ length source
   pub front : take (length bytes) source ≡ bytes

@@ -9,11 +9,11 @@ use Rattle.tds_csv.specs.contracts.sink.Sink.{the_row}
 use Rattle.tds_packet.specs.declared.fault.Stop.{Stop}
 use Rattle.tds_csv.specs.Sinks.{Breaks, Held, IsOnSameSink, IsReady, Puts, held}
 
--- the bytes that are lent stand behind those that wait, and these are written over them
+-- the bytes that are lent stand after those that wait, and these are written over them
 abbrev pub with_spare : {W : Type 0} → Sink W → List ℕ → List ℕ → Sink W
 with_spare s lent written = record s { output = record s.output { now = with_tail (appended s.output.now lent) (length s.output.now.bytes) written } }
 
--- The sink ends with the lent bytes behind those that wait, as what they end as.
+-- The sink ends with the lent bytes after those that wait, as what they end as.
 abbrev pub LendsSpare : (W : RattleType) → MutBor (Sink W.Denot) → MutBor (List ℕ) → Fml
 LendsSpare W s r = Lends (the_row (record { mir = named 0; lft = [] }) W) (Array u8 0) s r (with_spare s.now r.now)
 
@@ -21,11 +21,11 @@ LendsSpare W s r = Lends (the_row (record { mir = named 0; lft = [] }) W) (Array
 abbrev pub IsLent : {W : Type 0} → Sink W → Type 0
 IsLent s = (4096 ≤ s.output.now.room) × (s.delivered ≤ 2 ^ 64 - 1) × (s.output.now.peak ≤ s.output.now.room) × (s.failed ≡ false)
 
--- the sink without the bytes that stand behind the first ones, so many, that wait
+-- the sink without the bytes that stand after the first ones, so many, that wait
 abbrev pub held_before : {W : Type 0} → (W → Option (List ℕ)) → Sink W → ℕ → Held
 held_before contents s waiting = record (held contents s) { waiting = take waiting s.output.now.bytes }
 
--- Behind the first bytes, so many, that wait, so many of the others were put, and the rest was taken away.
+-- After the first bytes, so many, that wait, so many of the others were put, and the rest was taken away.
 pub record KeepsPiece {W U : Type 0} (contents : W → Option (List ℕ)) (old new : Sink W) (waiting made : ℕ) (result : Result U Stop) : Type 0 where
   pub ready : IsReady new
   pub same : IsOnSameSink old new

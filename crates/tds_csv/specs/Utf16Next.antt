@@ -17,7 +17,7 @@ pub record Converts (bytes to : List ℕ) (used made : ℕ) : Type 0 where
   pub room : 2 * made ≤ 3 * used
   pub leads : Leads rest text bytes (drop used bytes) (take made to)
 
--- What stands behind this place is the rest of the bytes from another place on.
+-- What stands after this place is the rest of the bytes from another place on.
 pub record LeavesRest (bytes : List ℕ) (from at : ℕ) : Type 0 where
   pub within : at ≤ length bytes
   pub rest : drop at bytes ≡ rest (drop from bytes)

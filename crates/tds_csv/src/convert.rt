@@ -9,5 +9,5 @@ pub(crate) mod utf16;
 pub(crate) mod utf8;
 pub(crate) mod windows_1252;
 
-/// How many bytes are converted at a time.
-pub(crate) const CHUNK: usize = 128;
+/// How many bytes are converted at a time where the sink has little room.
+pub(crate) const CHUNK: usize = 32;

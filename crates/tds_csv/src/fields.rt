@@ -39,7 +39,7 @@ pub fn field_room(content: Content, n: usize) -> usize
     }
 }
 
-// Writes the quote behind the text of a field, and answers how many bytes the field has.
+// Writes the quote after the text of a field, and answers how many bytes the field has.
 #[inline(always)]
 fn close_quoted(to: &mut [u8], made: usize) -> usize
     requires { made < length to.old }

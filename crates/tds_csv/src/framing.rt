@@ -8,7 +8,7 @@ pub(crate) const COMMA: u8 = b',';
 /// What ends a line.
 pub(crate) const LINE_END: [u8; 2] = *b"\r\n";
 
-/// What stands before and behind a field of characters.
+/// What stands before and after a field of characters.
 pub(crate) const QUOTE: u8 = b'"';
 
 /// The field of a value that is NULL.
@@ -35,7 +35,7 @@ pub fn write_comma(column: u16, to: &mut [u8]) -> usize
     1
 }
 
-/// Writes the end of the line behind so many bytes of a slice, if the field is the last, and answers
+/// Writes the end of the line after so many bytes of a slice, if the field is the last, and answers
 /// how many bytes there are then.
 #[inline]
 pub fn write_line_end(last: bool, made: usize, to: &mut [u8]) -> usize

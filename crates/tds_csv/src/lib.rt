@@ -7,8 +7,6 @@ mod framing;
 mod joiners;
 mod laws;
 mod sink;
-#[cfg(test)]
-mod tests;
 
 pub use fields::{Content, field_room, write_field};
 pub use framing::{NULL_ROOM, write_comma, write_line_end, write_null};

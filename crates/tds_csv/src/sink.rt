@@ -76,7 +76,7 @@ impl<'a, W: Write> Sink<'a, W> {
         Ok(())
     }
 
-    // The stop of a write or flush that fails behind the bytes that were delivered.
+    // The stop of a write or flush that fails after the bytes that were delivered.
     fn stop(&self) -> Stop
         ensures { result ≡ stop_of (held W.contents self.now) }
     {
@@ -160,7 +160,7 @@ impl<'a, W: Write> Sink<'a, W> {
         self.put(&[QUOTE])
     }
 
-    /// The quote behind a field of characters.
+    /// The quote after a field of characters.
     pub fn close_quoted(&mut self) -> Result<(), Stop>
         requires { IsReady self.old }
         ensures { PutsPiece W.contents self.old self.new (quote ∷ []) result }
@@ -199,7 +199,7 @@ impl<'a, W: Write> Sink<'a, W> {
         BLOCK.saturating_sub(self.output.len())
     }
 
-    /// Lends room behind the bytes that wait, to be written and then kept by [`Sink::keep`]. What
+    /// Lends room after the bytes that wait, to be written and then kept by [`Sink::keep`]. What
     /// stands in it before it is written isn't promised: bytes that stood in the output area before,
     /// or zeros that it was made with.
     pub fn spare(&mut self, n: usize) -> &mut [u8]

@@ -113,7 +113,7 @@ none_stops run fault (Payload place) x tokens packets a reads writes = elim x.fi
       ended_accepted run tokens (payload_of x.packets) place x.part fault (subst (λ v. Response run.given.charset run.given.before.areas.limits.column_room tokens (payload_of v)) (sym same) a.response) x.leads r.2)
 ]
 none_stops run fault (Wire taken) x tokens packets a reads writes = elim x.first [
-  | inl r ↦ reads r.1
+  | inl r ↦ reads r.1.failed
   | inr r ↦ no_wire_fault run.given.before.areas.limits.packet_size run.given.before.areas.limits.max_wire run.input a.wire a.unread packets x.packets fault a.message a.begins r
 ]
 none_stops run fault (Text written) x tokens packets a reads writes = writes x.failed

@@ -20,7 +20,7 @@ use Rattle.tds_export.specs.Completion.{zeros, int_column, int_columns, least_in
 use Rattle.tds_export.proofs.LeastTypes.{least_type}
 use Rattle.tds_export.proofs.CompletedRows.{AreValid}
 
--- what is known of the place in a column behind these bytes, with so many columns to follow: the room is enough for what must still come
+-- what is known of the place in a column after these bytes, with so many columns to follow: the room is enough for what must still come
 abbrev pub PlaceReached : ℕ → List ℕ → ℕ → ColumnPlace → Type 0
 PlaceReached room bytes left ColumnHead = length bytes + (8 + 8 * left) ≤ room
 PlaceReached room bytes left (ColumnInfo byte) = (n : ℕ) × (rest_length byte ≡ Some n) × (0 < n) × (length bytes + ((n + 1) + 8 * left) ≤ room)
@@ -131,7 +131,7 @@ module _ (room : ℕ) where
       let m : length (replicate n int) ≡ n = length-replicate n int in
       (bytes ++ int_columns (suc n), cols ++ int ∷ replicate n int, columns_are_read room bytes count cols int (replicate n int) (int_columns (suc n)) (omega (arith, m)) (omega (arith, l)) (ints_are_spelt (suc n)))
 
-  -- behind a column
+  -- after a column
   column_ends : (bytes : List ℕ) (count : ℕ) (cols : List Column) (c : Column) (n : ℕ) → count ≡ length cols + (1 + n) → length bytes + 8 * n ≤ room → Ends room (with_column bytes count cols c) (int_columns n)
   column_ends bytes count cols c zero e fits =
       let to : with_column bytes count cols c ≡ WholeDescription bytes (cols ++ c ∷ []) = choose_true (length cols + 1 == count) (WholeDescription bytes (cols ++ c ∷ [])) (InColumn bytes count (cols ++ c ∷ []) ColumnHead) (grind (arith, nat_tests)) in

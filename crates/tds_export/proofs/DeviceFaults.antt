@@ -1,14 +1,14 @@
 -- Where an export stops with the fault of a device, the device's count of failures rose.
-use Rattle.std.proofs.Common.{◌≡◌, ◌∙◌, ◌⊎◌, inl, inr, ℕ, zero, suc, ◌+◌, ◌-◌, Bool, true, false, List, [], ◌++◌, length, take, drop, sym, ap, subst}
-use Rattle.std.specs.Prelude.{Option, Some, None, ⊤, ◌==◌, ◌||◌, nat_lt, slice_index, if◌then◌else◌}
+use Rattle.std.proofs.Common.{◌≡◌, ◌∙◌, ◌⊎◌, inl, inr, ℕ, ◌+◌, ◌-◌, true, List, [], ◌++◌, sym, ap, subst}
+use Rattle.std.specs.Prelude.{Option}
 use Rattle.tds_meter.specs.Counts.{Rose, one_more}
 use Rattle.tds_packet.specs.declared.fault.Fault.{Fault}
-use Rattle.tds_packet.specs.declared.fault.Fault.TheVariants.{ReadFailed, WriteFailed, WrongPacketType, BadPacketLength, ResponseTooLong, InputEnded}
+use Rattle.tds_packet.specs.declared.fault.Fault.TheVariants.{ReadFailed, WriteFailed}
 use Rattle.tds_packet.specs.declared.fault.Stop.{Stop}
-use Rattle.tds_packet.specs.Packets.{header_fault, header_length}
-use Rattle.tds_packet.specs.Coming.{Coming, FrontPacket, NoPacket, WholePacket, behind_header, behind_packet, front_packet, message}
+use Rattle.tds_packet.specs.Coming.{Coming}
 use Rattle.tds_packet.specs.Seen.{Seen, Ends, begun}
 use Rattle.tds_packet.specs.Reading.{StopsReading}
+use Rattle.tds_packet.proofs.WireFaults.{IsOfWire, message_of_wire}
 use Rattle.tds_csv.specs.Sinks.{Held}
 use Rattle.tds_rows.specs.declared.Charset.{Charset}
 use Rattle.tds_export.specs.declared.report.Stopped.{Stopped}
@@ -17,57 +17,7 @@ use Rattle.tds_export.specs.Exports.{StopsExport, begun_at, fresh_at}
 use Rattle.tds_export.specs.TokenGrammar.{Part, response, response_start}
 use Rattle.tds_export.specs.Steps.{RunStops}
 use Rattle.tds_export.proofs.PayloadFaults.{IsOfPayload, element_fault, end_fault}
-use Rattle.tds_export.proofs.Endings.{rose}
-
--- a fault that the wire or the end of a message may have
-abbrev IsOfWire : Fault → Type 0
-IsOfWire ReadFailed = ⊥
-IsOfWire WriteFailed = ⊥
-IsOfWire fault = ⊤
-
-abbrev AtMostOfWire : Option Fault → Type 0
-AtMostOfWire None = ⊤
-AtMostOfWire (Some fault) = IsOfWire fault
-
-abbrev FrontOfWire : FrontPacket → Type 0
-FrontOfWire (WholePacket body last n rest) = ⊤
-FrontOfWire (NoPacket fault rest) = IsOfWire fault
-
-judged : (a b c : Bool) (n kind : ℕ) → AtMostOfWire (if a then (if b then Some (BadPacketLength n) else if c then Some ResponseTooLong else None) else Some (WrongPacketType kind))
-judged true true c n kind = tt
-judged true false true n kind = tt
-judged true false false n kind = tt
-judged false b c n kind = tt
-
-header_of_wire : (size limit wire : ℕ) (header : List ℕ) → AtMostOfWire (header_fault size limit wire header)
-header_of_wire size limit wire header = judged (slice_index header 0 == 4) (nat_lt (header_length header) 8 || nat_lt size (header_length header)) (nat_lt limit (wire + header_length header)) (header_length header) (slice_index header 0)
-
-body_of_wire : (short : Bool) (body : List ℕ) (last : Bool) (n : ℕ) (rest : List ℕ) → FrontOfWire (if short then NoPacket InputEnded [] else WholePacket body last n rest)
-body_of_wire true body last n rest = tt
-body_of_wire false body last n rest = tt
-
-behind_of_wire : (header rest : List ℕ) (fault : Option Fault) → AtMostOfWire fault → FrontOfWire (behind_header header rest fault)
-behind_of_wire header rest (Some fault) h = h
-behind_of_wire header rest None h = body_of_wire (nat_lt (length rest) (header_length header - 8)) _ _ _ _
-
-if_front : (short : Bool) (p : FrontPacket) → FrontOfWire p → FrontOfWire (if short then NoPacket InputEnded [] else p)
-if_front true p h = tt
-if_front false p h = h
-
-front_of_wire : (size limit wire : ℕ) (input : List ℕ) → FrontOfWire (front_packet size limit wire input)
-unfolding front_packet
-front_of_wire size limit wire input =
-    if_front (nat_lt (length input) 8) (behind_header (take 8 input) (drop 8 input) (header_fault size limit wire (take 8 input))) (behind_of_wire (take 8 input) (drop 8 input) (header_fault size limit wire (take 8 input)) (header_of_wire size limit wire (take 8 input)))
-
-packet_of_wire : (more : ℕ → ℕ → List ℕ → Coming) (wire place : ℕ) (p : FrontPacket) → FrontOfWire p → ((w q : ℕ) (l : List ℕ) → IsOfWire (more w q l).stop.fault) → IsOfWire (behind_packet more wire place p).stop.fault
-packet_of_wire more wire place (WholePacket body true n rest) h next = tt
-packet_of_wire more wire place (WholePacket body false n rest) h next = next (wire + n) (place + length body) rest
-packet_of_wire more wire place (NoPacket fault rest) h next = h
-
-message_of_wire : (size limit fuel wire place : ℕ) (input : List ℕ) → IsOfWire (message size limit fuel wire place input).stop.fault
-unfolding message
-message_of_wire size limit zero wire place input = tt
-message_of_wire size limit (suc fuel) wire place input = packet_of_wire (message size limit fuel) wire place (front_packet size limit wire input) (front_of_wire size limit wire input) (message_of_wire size limit fuel)
+use Rattle.tds_rows.proofs.Successes.{rose}
 
 -- ---- a payload that has just begun
 
@@ -75,7 +25,7 @@ ends_of_wire : (size limit failures : ℕ) (left : Option (List ℕ)) (b : Seen)
 ends_of_wire size limit failures left b bytes own (inl x) =
     inl (subst IsOfWire (ap (λ (c : Coming). c.stop.fault) (x.0.2 [])) (message_of_wire size limit _ 0 0 (x.0.0 ++ [])))
 ends_of_wire size limit failures left b bytes own (inr (inl x)) = inl (subst IsOfWire (ap (λ (c : Coming). c.stop.fault) x.0.3) (message_of_wire size limit _ 0 0 x.0.0))
-ends_of_wire size limit failures left b bytes own (inr (inr x)) = inr (ap (λ (s : Stop). s.fault) x.0.3, x.1)
+ends_of_wire size limit failures left b bytes own (inr (inr x)) = inr (x.0.2, x.1)
 
 -- what stops the reading of a response
 abbrev ReadingFault : ℕ → ℕ → Fault → Type 0

@@ -1,24 +1,16 @@
 -- How an export ends, from what its calls did.
-use Rattle.std.proofs.Common.{◌≡◌, inl, inr, ℕ, ◌-◌, ◌^◌, ◌<◌, ◌≤◌, Bool, true, false, [], length, refl, sym, subst, arith, nat_lt, Result, Ok, Err, MatchResult}
-use Rattle.std.proofs.lemmas.Bool.Decides.{nat_tests}
-use Rattle.tds_meter.specs.Counts.{Rose, one_more}
+use Rattle.std.proofs.Common.{◌≡◌, inl, inr, ℕ, ◌-◌, Bool, true, false, [], length, sym, subst, Result, Ok, Err, MatchResult}
+use Rattle.tds_meter.specs.Counts.{Rose}
 use Rattle.tds_packet.specs.declared.fault.Stop.{Stop}
 use Rattle.tds_csv.specs.Sinks.{FinishFails, Finishes, Held}
 use Rattle.tds_packet.specs.Seen.{Seen}
+use Rattle.tds_rows.proofs.Successes.{rose}
 use Rattle.tds_export.specs.declared.report.Report.{Report}
 use Rattle.tds_export.specs.declared.report.Stopped.{Stopped}
 use Rattle.tds_export.specs.TokenGrammar.{response, response_start}
 use Rattle.tds_export.specs.Steps.{Completes, IsNoted, RunStops}
 use Rattle.tds_export.specs.Moments.{Given}
 use Rattle.tds_export.specs.Exports.{Reports, IsReader, IsWriter, StopsExport, Tidied, begun_at, fresh_at}
-
-rose_from : (f : ℕ) (b : Bool) → nat_lt f (2 ^ 64 - 1) ≡ b → Rose f (one_more f)
-rose_from f true e = let low : f < 2 ^ 64 - 1 = grind (arith, nat_tests) in inl (omega (arith, low))
-rose_from f false e = let high : 2 ^ 64 - 1 ≤ f = grind (arith, nat_tests) in inr (high, omega (arith, high))
-
--- a call that fails raises the count
-pub rose : (f : ℕ) → Rose f (one_more f)
-rose f = rose_from f (nat_lt f (2 ^ 64 - 1)) refl
 
 -- however the last delivery ended
 pub tidied : {U : Type 0} (h k : Held) (failed : Bool) (r : Result U Stop) → failed ≡ false → MatchResult r (λ _. Finishes h k) (λ stop. failed ≡ false → FinishFails h k stop) → Tidied h k

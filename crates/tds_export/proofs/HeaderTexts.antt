@@ -29,7 +29,7 @@ push_breaks (BadText k) stop old new before after failed units none going fit h 
 rest_fit : (old kept : List ℕ) (before middle : Held) (units : List ℕ) → old ≡ [] → utf16.IsFit units → TakesPiece (λ _. ⊤) utf16.rest utf16.text old kept before middle units → utf16.IsFit kept
 rest_fit old kept before middle units none fit t = subst utf16.IsFit (ap (λ l. utf16.rest (l ++ units)) (sym none) ∙ sym t.withheld) (joins_utf16.fit_rest units fit)
 
--- what an end behind whole units may answer
+-- what an end after whole units may answer
 pub end_stopped : (fault : JoinFault) (old new kept : List ℕ) (before after middle : Held) (failed : Bool) (units : List ℕ) → old ≡ [] → utf16.IsFit units → TakesPiece (λ _. ⊤) utf16.rest utf16.text old kept before middle units
     → EndsBy {U = Unit {0}} 2 utf16.IsFit utf16.text kept new middle after failed (Err fault) → IsStopped fault
 end_stopped (Stopped stop) old new kept before after middle failed units none fit t h = tt

@@ -9,7 +9,7 @@ use Rattle.tds_packet.specs.Elements.{AreBytes}
 use Rattle.tds_packet.proofs.Choices.{eq_true}
 use Rattle.tds_export.specs.Completion.{least_info}
 
--- behind this type byte the least rest is of so many bytes, and describes a kind
+-- after this type byte the least rest is of so many bytes, and describes a kind
 pub record IsLeast (byte n : ℕ) : Type 0 where
   pub kind : Kind
   pub described : kind_of (byte ∷ least_info byte) ≡ Some kind
@@ -139,7 +139,7 @@ other_least byte h0 h1 h2 h3 h4 h5 h6 h7 h8 h9 h10 h11 h12 h13 h14 h15 h16 h17 h
     let never : None ≡ Some n = sym none ∙ h in
     cc
 
--- Behind each type byte that is accepted its least rest describes a kind.
+-- After each type byte that is accepted its least rest describes a kind.
 pub least_type : (byte n : ℕ) → rest_length byte ≡ Some n → IsLeast byte n
 least_type byte =
     or_else byte 0x30 least_30 (λ h0.

@@ -9,12 +9,7 @@ use Rattle.tds_export.specs.TokenGrammar.{holds_notice, line_at, notice_of, proc
 use Rattle.tds_export.specs.Outcome.{server_error, signed}
 use Rattle.tds_export.specs.declared.report.ServerError.{ServerError}
 
--- the first two and the first four bytes as a number
-pub two_first : (xs : List ℕ) → 2 ≤ length xs → little_number 2 xs ≡ little (take 2 xs)
-two_first [] h = absurd (omega (arith, h))
-two_first (a ∷ []) h = absurd (omega (arith, h))
-two_first (a ∷ b ∷ xs) h = refl
-
+-- the first four bytes as a number
 pub four_first : (xs : List ℕ) → 4 ≤ length xs → little_number 4 xs ≡ little (take 4 xs)
 four_first [] h = absurd (omega (arith, h))
 four_first (a ∷ []) h = absurd (omega (arith, h))
@@ -39,26 +34,6 @@ pub parts_within : (body : List ℕ) → holds_notice body ≡ true → (server_
 parts_within body h =
     let p = all_three (nat_lt (server_at body) (length body)) (nat_lt (procedure_at body) (length body)) (nat_le (line_at body + 4) (length body)) h in
     (less_is (server_at body) (length body) p.0, less_is (procedure_at body) (length body) p.1, at_most_is (line_at body + 4) (length body) p.2)
-
-more_is : (m n : ℕ) → n ≤ m → nat_lt m n ≡ false
-more_is m n h = grind (arith, nat_tests, h)
-
-is_less : (m n : ℕ) → m < n → nat_lt m n ≡ true
-is_less m n h = grind (arith, nat_tests, h)
-
--- and where one doesn't, the body doesn't hold
-pub passes_server : (body : List ℕ) → length body ≤ server_at body → holds_notice body ≡ false
-passes_server body h = ap (λ v. v && nat_lt (procedure_at body) (length body) && nat_le (line_at body + 4) (length body)) (more_is (server_at body) (length body) h)
-
-pub passes_procedure : (body : List ℕ) → server_at body < length body → length body ≤ procedure_at body → holds_notice body ≡ false
-passes_procedure body s h =
-    ap (λ v. v && nat_lt (procedure_at body) (length body) && nat_le (line_at body + 4) (length body)) (is_less (server_at body) (length body) s)
-    ∙ ap (λ v. v && nat_le (line_at body + 4) (length body)) (more_is (procedure_at body) (length body) h)
-
-pub holds_by_line : (body : List ℕ) → server_at body < length body → procedure_at body < length body → holds_notice body ≡ nat_le (line_at body + 4) (length body)
-holds_by_line body s p =
-    ap (λ v. v && nat_lt (procedure_at body) (length body) && nat_le (line_at body + 4) (length body)) (is_less (server_at body) (length body) s)
-    ∙ ap (λ v. v && nat_le (line_at body + 4) (length body)) (is_less (procedure_at body) (length body) p)
 
 -- the first four bytes as a number with a sign
 signed_first : (xs : List ℕ) → 4 ≤ length xs → cast_signed w32 (little_number 4 xs) ≡ signed (little (take 4 xs))

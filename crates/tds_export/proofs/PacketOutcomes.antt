@@ -80,7 +80,7 @@ refused_in_payload run q area part bytes fault side spelt x holds text =
       kept = subst (λ a. IsKept a part.tokens part.at (drop (length bytes) (payload_of b.packets))) (sym side.description) (kept_at area part.tokens part.at (drop (length bytes) (payload_of b.packets)) holds.bytes);
     }
 
--- the bytes behind a state, where they hold no whole element
+-- the bytes after a state, where they hold no whole element
 rest_of : (bytes part payload : List ℕ) → payload ≡ bytes ++ part → drop (length bytes) payload ≡ part
 rest_of bytes part payload e = ap (drop (length bytes)) e ∙ drop-append_seam bytes part
 
@@ -103,7 +103,7 @@ ended_in_payload run q area part bytes cut own fault side spelt short m end hold
 
 -- the payload stopped on the wire
 pub stopped_on_wire : (run : Run) (q : Seen) (area : Space) (part : Part) (bytes cut : List ℕ) (stop : Stop) (rose : (f : ℕ) → Rose f (one_more f)) → ReaderSide run q area → Spelt (grammar run) response_start bytes part → length cut < (grammar run).size part
-    → (x : StopsBehind run.given.before.areas.limits.packet_size run.given.before.areas.limits.max_wire run.input (bytes ++ cut) run.given.before.reader.failures q.failures stop) → IsHolding area part
+    → (x : StopsBehind run.given.before.areas.limits.packet_size run.given.before.areas.limits.max_wire run.input run.left (bytes ++ cut) run.given.before.reader.failures q.failures stop) → IsHolding area part
     → run.gained ++ run.given.after.areas.output.bytes ≡ text_so_far part → StopsOnWire run stop.fault (length (wire_of x.packets))
 stopped_on_wire run q area part bytes cut stop rose side spelt short x holds text =
     let g = grammar run in
@@ -118,7 +118,15 @@ stopped_on_wire run q area part bytes cut stop rose side spelt short x holds tex
       within = x.within;
       taken_is = refl;
       first = elim x.cause [
-        | inl c ↦ inl (c.0, subst (Rose run.given.before.reader.failures) (sym c.1 ∙ side.failures) (rose run.given.before.reader.failures))
+        | inl c ↦ inl (
+          c.0,
+          record {
+            read = c.2.read;
+            split = c.2.split;
+            cut = c.2.cut;
+            failed = subst (Rose run.given.before.reader.failures) (sym c.1 ∙ side.failures) (rose run.given.before.reader.failures);
+          },
+        )
         | inr c ↦ inr c.0
       ];
       leads = subst (λ p. Longest g response_start p (length bytes) part) (sym x.payload_is) (longest_cut g response_start bytes cut part spelt short);

@@ -7,8 +7,8 @@ use Rattle.std.proofs.lemmas.Bool.{ne_eqb}
 use Rattle.tds_values.specs.Numbers.{little}
 use Rattle.tds_packet.specs.declared.fault.Fault.{Fault}
 use Rattle.tds_packet.specs.declared.fault.Fault.TheVariants.{BadNotice}
-use Rattle.tds_packet.specs.Elements.{Spelt, IsRefused, Longest, Inside}
-use Rattle.tds_packet.proofs.ElementLaws.{Spelt-step, Spelt-append, Spelt-none, Inside-Spelt, one_state, refused_for_good}
+use Rattle.tds_packet.specs.Elements.{Spelt, IsRefused, Longest}
+use Rattle.tds_packet.proofs.ElementLaws.{Inside, Inside-Spelt, Spelt-append, Spelt-none, Spelt-step, one_state, refused_for_good}
 use Rattle.tds_columns.specs.Description.{Column, DescriptionPart, BeforeCount, NoDescription, InColumn, WholeDescription, description}
 use Rattle.tds_columns.proofs.ColumnLaws.{description_is_read}
 use Rattle.tds_rows.specs.declared.Charset.{Charset}

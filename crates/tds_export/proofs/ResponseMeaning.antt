@@ -22,11 +22,11 @@ use Rattle.std.proofs.lemmas.Bool.{and_parts, or_cases}
 use Rattle.tds_packet.proofs.Choices.{choose, eq_true, lt_true, le_true}
 use Rattle.tds_columns.proofs.ByteLemmas.{one_byte, two_bytes}
 
--- the next k bytes behind the first n
+-- the next k bytes after the first n
 cut : (body : List ℕ) (n k m : ℕ) → n + k ≡ m → drop n body ≡ take k (drop n body) ++ drop m body
 cut body n k m e = sym (take-append-drop k (drop n body)) ∙ ap (λ v. take k (drop n body) ++ v) (drop-drop k n body ∙ ap (λ v. drop v body) e)
 
--- the byte behind the first n
+-- the byte after the first n
 first_of : (body : List ℕ) (n : ℕ) → n < length body → drop n body ≡ slice_index body n ∷ drop (n + 1) body
 first_of body n h = rw (add-one, drop-cons body n 0)
 
@@ -134,7 +134,7 @@ module _ (charset : Charset) (room : ℕ) where
   one_more_token current [] a t e h s = (e, [], ap (λ v. v ++ e) h ∙ sym (append-nil e), s, refl)
   one_more_token current (u ∷ ts) a t e h s = (h.0, h.1 ++ e, ap (λ v. v ++ e) h.2 ∙ append_assoc h.0 h.1 e, h.3, one_more_token (described_after current (u ∷ [])) ts h.1 t e h.4 (subst (λ v. SpellsToken charset room v t e) (described_after-append current (u ∷ []) ts) s))
 
-  -- whole tokens, a token byte, and what is behind it
+  -- whole tokens, a token byte, and what is after it
   pub record Behind (tokens : List Token) (byte : ℕ) (P : List ℕ → Type 0) (b : List ℕ) : Type 0 where
     pub front : List ℕ
     pub rest : List ℕ

@@ -9,8 +9,8 @@ use Rattle.tds_values.specs.TypeInfo.{IsTypeInfo, rest_length, kind_of}
 use Rattle.tds_values.proofs.TypeInfoLemmas.{bare_type}
 use Rattle.tds_packet.specs.declared.fault.RefusedKind.{RefusedKind}
 use Rattle.tds_packet.specs.declared.fault.Fault.TheVariants.{BadTypeInfo}
-use Rattle.tds_packet.specs.Elements.{AreBytes, Spelt, Inside, IsNext}
-use Rattle.tds_packet.proofs.ElementLaws.{Spelt-step, Spelt-append, Spelt-none, Inside-Spelt}
+use Rattle.tds_packet.specs.Elements.{AreBytes, Spelt, IsNext}
+use Rattle.tds_packet.proofs.ElementLaws.{Inside, Inside-Spelt, Spelt-append, Spelt-none, Spelt-step}
 use Rattle.tds_packet.proofs.Choices.{choose, choose_false, choose_true, eq_true, is_some_value}
 use Rattle.tds_columns.specs.Description.{type_fault, refused_type, refused_kind}
 use Rattle.tds_columns.proofs.ByteLemmas.{split_last, one_byte}

@@ -8,7 +8,7 @@ use Rattle.tds_values.proofs.TypeInfoLemmas.{rest_length_of}
 use Rattle.tds_meter.specs.Space.{Space}
 use Rattle.tds_packet.specs.declared.fault.Fault.TheVariants.{MessageEnded}
 use Rattle.tds_packet.specs.declared.fault.Stop.{Stop}
-use Rattle.tds_packet.specs.Elements.{Inside}
+use Rattle.tds_packet.proofs.ElementLaws.{Inside}
 use Rattle.tds_packet.specs.Reading.{Reads, StopsReading}
 use Rattle.tds_packet.specs.Seen.{Seen, Takes, Ends, began_at}
 use Rattle.tds_packet.proofs.Choices.{choose_false}
@@ -94,7 +94,7 @@ name_read units name a b place place' n is len takes at = record {
 
 -- ---- the type
 
--- a type that is read behind a name
+-- a type that is read after a name
 abbrev behind_name : List ℕ → TypePart → ReturnPart
 behind_name name TypeHead = ReturnHead name
 behind_name name (TypeRest byte) = ReturnInfo name byte

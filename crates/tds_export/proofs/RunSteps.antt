@@ -93,7 +93,7 @@ over_ends : (b : Seen) (o : IsOver b) → Ends b b [] o.0
 over_ends b o = inl (([], Consumes-nil b.left, o.2), refl)
 
 module _ (charset : Charset) (room : ℕ) (a b c : Seen) (p q : ℕ) (h k : Held) (s : Progress) (area : Space) (x : Runs (response charset room) a b p q h k s area) (t : Takes b c [] 1) (o : IsOver c) where
-  -- the message ended behind the last token, which wasn't final
+  -- the message ended after the last token, which wasn't final
   pub stops_end : (failed : Bool) → failed ≡ false → k.delivered ≤ 2 ^ 64 - 1 → s.is_final ≡ false → StepStops (response charset room) response_start a c p h k area failed (record { fault = EndWithoutDone; place = Payload q })
   stops_end failed going d open_end =
       let end : (response charset room).end_fault (behind x.tokens) ≡ Some EndWithoutDone = ap (λ v. if v then None else Some EndWithoutDone) (sym x.tracks.final ∙ open_end) in

@@ -20,7 +20,7 @@ little_below (suc n) i xs h =
     let p : 256 ^ (suc n) ≡ 256 ^ n * 256 = pow-suc 256 n in
     omega arith
 
--- the bytes behind some bytes
+-- the bytes after some bytes
 pub AreBytes-drop : (n : ℕ) (xs : List ℕ) → AreBytes xs → AreBytes (drop n xs)
 AreBytes-drop zero xs h = h
 AreBytes-drop (suc n) [] h = h

@@ -82,7 +82,7 @@ module _ (charset : Charset) (room : ℕ) (tokens : List Token) (byte : ℕ) (to
   abbrev first : (a b : Seen) → Takes a b (byte ∷ []) 1 → Reads (response charset room) (behind tokens) a b to
   first a b t = reads_one (response charset room) (behind tokens) a b (byte ∷ []) to begins.next t begins.to_is
 
-  -- a token is read behind its first byte
+  -- a token is read after its first byte
   abbrev pub reads_behind_byte : (a b c : Seen) (place middle place' : ℕ) (h k : Held) (progress : Progress) (area : Space) → Takes a b (byte ∷ []) 1 → middle ≡ place + 1 → ReadsTokens (response charset room) to tokens b c middle place' h k progress area
       → ReadsTokens (response charset room) (behind tokens) tokens a c place place' h k progress area
   reads_behind_byte a b c place middle place' h k progress area t at r = record {

@@ -290,7 +290,7 @@ first_next [] n h = refl
 first_next (Error m ∷ ts) n h = cc
 first_next (u ∷ ts) n h = first_next ts n h
 
--- behind an error none is the first
+-- after an error none is the first
 pub first_stays : (ts us : List Token) → 0 < how_many is_error ts → first_error (ts ++ us) ≡ first_error ts
 first_stays [] us h = absurd (omega (arith, h))
 first_stays (Error n ∷ ts) us h = refl

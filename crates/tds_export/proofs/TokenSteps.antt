@@ -111,7 +111,7 @@ pub quiet_reads : (charset : Charset) (room : ℕ) (area : Space) (sink : Held) 
 quiet_reads charset room area sink tokens t from progress bytes a b place place' none q at d tracks holds spelt takes =
     bare_reads charset room area sink tokens t from progress bytes a b place place' none q.text q.encoded at d tracks holds spelt takes
 
--- the one element behind its first byte was read whole
+-- the one element after its first byte was read whole
 one_reads : (charset : Charset) (room : ℕ) (area : Space) (sink : Held) (tokens : List Token) (t : Token) (from : Open) (progress : Progress) (element : List ℕ) (a b : Seen) (place place' : ℕ) → open_text from ≡ [] → IsQuiet t → place' ≡ place + length element → sink.delivered ≤ 2 ^ 64 - 1
     → Tracks progress (tokens ++ t ∷ []) → IsHolding area (behind tokens) → IsNext (response charset room) (record { tokens = tokens; at = from }) element → part_add charset tokens from element ≡ behind (tokens ++ t ∷ []) → Takes a b element (length element)
     → ReadsTokens (response charset room) (record { tokens = tokens; at = from }) tokens a b place place' sink sink progress area

@@ -42,7 +42,7 @@ use Rattle.tds_export.proofs.Leading.{rest_leads}
 use Rattle.tds_export.proofs.NoFailures.{no_failure}
 use Rattle.tds_export.proofs.Peaks.{bounded, reached_broken, reached_stopped, reached_whole}
 use Rattle.tds_export.proofs.AcceptedSucceeds.{outcome_succeeds}
-use Rattle.tds_export.proofs.Endings.{rose}
+use Rattle.tds_rows.proofs.Successes.{rose}
 
 -- ---- how a run that read stops
 
@@ -64,7 +64,7 @@ cut_stops run q area at bytes stop side spelt c holds text =
       ]
     ]
   where
-    goes_on : (run : Run) (q : Seen) (bytes part : List ℕ) (own : Stop) → (x : StopsBehind run.given.before.areas.limits.packet_size run.given.before.areas.limits.max_wire run.input (bytes ++ part) run.given.before.reader.failures q.failures own) → own.fault ≡ MessageEnded → ⊥
+    goes_on : (run : Run) (q : Seen) (bytes part : List ℕ) (own : Stop) → (x : StopsBehind run.given.before.areas.limits.packet_size run.given.before.areas.limits.max_wire run.input run.left (bytes ++ part) run.given.before.reader.failures q.failures own) → own.fault ≡ MessageEnded → ⊥
     goes_on run q bytes part own x e = elim x.cause [
       | inl y ↦ (let differ : ReadFailed ≡ MessageEnded = sym y.0 ∙ e in cc)
       | inr y ↦ wire_goes_on run.given.before.areas.limits.packet_size run.given.before.areas.limits.max_wire run.input x.packets own.fault y.0 e
@@ -85,21 +85,17 @@ known_left : (old new : Option (List ℕ)) (input read : List ℕ) → old ≡ S
 known_left old None input read e c = absurd (subst (λ o. Consumes o None read) e c)
 known_left old (Some left) input read e c = (left, refl)
 
-known_has : (old new : Option (List ℕ)) (had sent : List ℕ) → old ≡ Some had → Appends old new sent → new ≡ Some (had ++ sent)
-known_has old None had sent e a = absurd (subst (λ o. Appends o None sent) e a)
-known_has old (Some has) had sent e a = ap Some (subst (λ o. Appends o (Some has) sent) e a)
-
 -- the writer gained the first bytes of a text, and the others wait
-record Delivers (given : Given) (had : List ℕ) (l : Held) (text : List ℕ) : Type 0 where
+record Delivers (given : Given) (l : Held) (text : List ℕ) : Type 0 where
   gained : List ℕ
-  has : given.after.writer.bytes ≡ Some (had ++ gained)
+  has : Appends given.before.writer.bytes given.after.writer.bytes gained
   all : gained ++ given.after.areas.output.bytes ≡ text
   delivered : l.delivered ≡ counted 0 (length gained)
 
-delivers : (given : Given) (had : List ℕ) (l : Held) (sent text : List ℕ) → given.before.writer.bytes ≡ Some had → IsWriter given l → Adds (fresh_at given) l sent text → Delivers given had l text
-delivers given had l sent text e writer a = record {
+delivers : (given : Given) (l : Held) (sent text : List ℕ) → IsWriter given l → Adds (fresh_at given) l sent text → Delivers given l text
+delivers given l sent text writer a = record {
   gained = sent;
-  has = sym writer.has ∙ known_has given.before.writer.bytes l.had had sent e a.0;
+  has = subst (λ o. Appends given.before.writer.bytes o sent) writer.has a.0;
   all = ap (λ w. sent ++ w) (sym writer.waiting) ∙ sym a.1;
   delivered = a.2;
 }
@@ -137,20 +133,20 @@ exact run delivered e few = let most = run.given.before.areas.limits.max_wire_in
 ends_read : (p q : Seen) (bytes : List ℕ) (stop : Stop) → Ends p q bytes stop → (read : List ℕ) × Consumes p.left q.left read
 ends_read p q bytes stop (inl x) = (x.0.0, x.0.1)
 ends_read p q bytes stop (inr (inl x)) = (x.0.0, x.0.1)
-ends_read p q bytes stop (inr (inr x)) = (x.0.0 ++ x.0.1, x.0.2)
+ends_read p q bytes stop (inr (inr x)) = (x.0.0, x.0.1)
 
 stopped_read : (g : Grammar Part Fault) (from : Part) (p q : Seen) (place : ℕ) (at : Part) (stop : Stop) → StopsReading g from p q place at stop → (read : List ℕ) × Consumes p.left q.left read
 stopped_read g from p q place at stop s = elim s.cause [ inl r ↦ (r.0.takes.0, r.0.takes.1.0) | inr c ↦ ends_read p q (s.bytes ++ c.part) c.own c.ends ]
 
 -- ---- a run that stopped in reading
 
-stop_reading : (given : Given) (input had left : List ℕ) (q : Seen) (middle l : Held) (stop : Stop) → AreBytes input → given.before.reader.bytes ≡ Some input → given.before.writer.bytes ≡ Some had → q.left ≡ Some left → IsReader given q → IsWriter given l → given.after.areas.notice.bytes ≡ []
+stop_reading : (given : Given) (input left : List ℕ) (q : Seen) (middle l : Held) (stop : Stop) → AreBytes input → given.before.reader.bytes ≡ Some input → q.left ≡ Some left → IsReader given q → IsWriter given l → given.after.areas.notice.bytes ≡ []
     → StopsInReading (grammar_of given) response_start (begun_at given) q 0 (fresh_at given) middle given.after.areas.description stop → Tidied middle l
-    → (gained : List ℕ) × (given.after.writer.bytes ≡ Some (had ++ gained)) × AfterStop (run_of given input left gained) (record { fault = stop.fault; place = stop.place; written = l.delivered; unwritten = length l.waiting })
-stop_reading given input had left q middle l stop are e1 e2 ql reader writer none y t =
+    → (gained : List ℕ) × Appends given.before.writer.bytes given.after.writer.bytes gained × AfterStop (run_of given input left gained) (record { fault = stop.fault; place = stop.place; written = l.delivered; unwritten = length l.waiting })
+stop_reading given input left q middle l stop are e1 ql reader writer none y t =
     let p = subst (Puts (fresh_at given) middle) y.puts.1 y.puts.2 in
     let adds = Adds-trans (fresh_at given) middle l p.0 t.0 (text_so_far y.at) [] p.2 t.1 in
-    let d = delivers given had l (p.0 ++ t.0) (text_so_far y.at ++ []) e2 writer adds in
+    let d = delivers given l (p.0 ++ t.0) (text_so_far y.at ++ []) writer adds in
     let run = run_of given input left d.gained in
     let same = d.all ∙ append-nil (text_so_far y.at) in
     let side : ReaderSide run q given.after.areas.description = record { bytes = are; left = ql; failures = reader.failures; description = refl } in
@@ -201,10 +197,10 @@ earlier_text charset room bytes element p q place h whole less k = elim (dec_le 
 ]
 
 -- the writer broke: the last packet read was needed to fill the block
-broken : (run : Run) (given : Given) (had : List ℕ) (q : Seen) (k : Held) (at : Part) (stop : Stop) → ReaderSide run q given.after.areas.description → given.charset ≡ run.given.charset → (x : BreaksStreaming (grammar run) text_so_far response_start (start run) q (fresh_at given) k at stop)
+broken : (run : Run) (given : Given) (q : Seen) (k : Held) (at : Part) (stop : Stop) → ReaderSide run q given.after.areas.description → given.charset ≡ run.given.charset → (x : BreaksStreaming (grammar run) text_so_far response_start (start run) q (fresh_at given) k at stop)
     → IsHolding given.after.areas.description ((grammar run).add at x.element) → (gained : run.gained ≡ (subst (Puts (fresh_at given) x.middle) x.puts.1 x.puts.2).0 ++ x.breaks.0) → k.waiting ≡ run.given.after.areas.output.bytes → k.failures ≡ run.given.after.writer.failures → run.given.before.writer.failures ≡ given.before.writer.failures
     → k.delivered ≡ counted 0 (length run.gained) → StopsInText run WriteFailed (length run.gained)
-broken run given had q k at stop side charset x holds gained waiting failures before delivered =
+broken run given q k at stop side charset x holds gained waiting failures before delivered =
     let g = grammar run in
     let size = run.given.before.areas.limits.packet_size in
     let limit = run.given.before.areas.limits.max_wire in
@@ -325,24 +321,23 @@ failed_at_end run given q middle k tokens stop are w same rose_so = record {
 
 -- ---- what an export answers
 
-stop_writing : (given : Given) (input had left : List ℕ) (q : Seen) (k l : Held) (stop : Stop) → AreBytes input → given.before.reader.bytes ≡ Some input → given.before.writer.bytes ≡ Some had → q.left ≡ Some left → IsReader given q → IsWriter given l → given.after.areas.notice.bytes ≡ []
+stop_writing : (given : Given) (input left : List ℕ) (q : Seen) (k l : Held) (stop : Stop) → AreBytes input → given.before.reader.bytes ≡ Some input → q.left ≡ Some left → IsReader given q → IsWriter given l → given.after.areas.notice.bytes ≡ []
     → StopsInWriting (grammar_of given) response_start (begun_at given) q (fresh_at given) k given.after.areas.description stop → l ≡ k
-    → (gained : List ℕ) × (given.after.writer.bytes ≡ Some (had ++ gained)) × AfterStop (run_of given input left gained) (record { fault = stop.fault; place = stop.place; written = l.delivered; unwritten = length l.waiting })
-stop_writing given input had left q k l stop are e1 e2 ql reader writer none y same =
+    → (gained : List ℕ) × Appends given.before.writer.bytes given.after.writer.bytes gained × AfterStop (run_of given input left gained) (record { fault = stop.fault; place = stop.place; written = l.delivered; unwritten = length l.waiting })
+stop_writing given input left q k l stop are e1 ql reader writer none y same =
     let first : begun_at given ≡ start (run_of given input left []) = ap (λ i. begun given.before.areas.limits.packet_size given.before.areas.limits.max_wire i given.before.reader.failures) e1 in
     let x = subst (λ (a : Seen). StopsInWriting (grammar_of given) response_start a q (fresh_at given) k given.after.areas.description stop) first y in
     let p = subst (Puts (fresh_at given) x.breaks.middle) x.breaks.puts.1 x.breaks.puts.2 in
     let b = x.breaks.breaks in
-    let adds = subst (λ (v : Held). Adds (fresh_at given) v (p.0 ++ b.0) (text_so_far x.at ++ take b.2 x.breaks.more)) (sym same) (Adds-trans (fresh_at given) x.breaks.middle k p.0 b.0 (text_so_far x.at) (take b.2 x.breaks.more) p.2 b.3) in
-    let d = delivers given had l (p.0 ++ b.0) (text_so_far x.at ++ take b.2 x.breaks.more) e2 writer adds in (
+    let adds = subst (λ (v : Held). Adds (fresh_at given) v (p.0 ++ b.0) (text_so_far x.at ++ take b.2 x.breaks.more)) (sym same) (Adds-trans (fresh_at given) x.breaks.middle k p.0 b.0 (text_so_far x.at) (take b.2 x.breaks.more) p.2 b.3) in (
       p.0 ++ b.0,
-      sym writer.has ∙ known_has given.before.writer.bytes l.had had (p.0 ++ b.0) e2 adds.0,
+      subst (λ o. Appends given.before.writer.bytes o (p.0 ++ b.0)) writer.has adds.0,
       (let run = run_of given input left (p.0 ++ b.0) in
           let side : ReaderSide run q given.after.areas.description = record { bytes = are; left = ql; failures = reader.failures; description = refl } in
           let waits : k.waiting ≡ run.given.after.areas.output.bytes = ap (λ (v : Held). v.waiting) (sym same) ∙ writer.waiting in
           let fails : k.failures ≡ run.given.after.writer.failures = ap (λ (v : Held). v.failures) (sym same) ∙ writer.failures in
           let told : k.delivered ≡ l.delivered = ap (λ (v : Held). v.delivered) (sym same) in
-          let stops = broken run given had q k x.at stop side refl x.breaks x.holds refl waits fails refl (told ∙ adds.2) in
+          let stops = broken run given q k x.at stop side refl x.breaks x.holds refl waits fails refl (told ∙ adds.2) in
           let written = exact run l.delivered adds.2 (fits run WriteFailed (Text (length run.gained)) are stops) in
           let is : stop ≡ record { fault = WriteFailed; place = Text (length run.gained) } = b.8 ∙ ap (λ n. record { fault = WriteFailed; place = Text n }) (told ∙ written) in
           record {
@@ -354,16 +349,16 @@ stop_writing given input had left q k l stop are e1 e2 ql reader writer none y s
           }),
     )
 
-stop_at_end : (given : Given) (input had left : List ℕ) (q : Seen) (k l : Held) (stop : Stop) → AreBytes input → given.before.reader.bytes ≡ Some input → given.before.writer.bytes ≡ Some had → q.left ≡ Some left → IsReader given q → IsWriter given l → given.after.areas.notice.bytes ≡ []
+stop_at_end : (given : Given) (input left : List ℕ) (q : Seen) (k l : Held) (stop : Stop) → AreBytes input → given.before.reader.bytes ≡ Some input → q.left ≡ Some left → IsReader given q → IsWriter given l → given.after.areas.notice.bytes ≡ []
     → StopsAtEnd (grammar_of given) response_start (begun_at given) q (fresh_at given) k given.after.areas.description stop → l ≡ k
-    → (gained : List ℕ) × (given.after.writer.bytes ≡ Some (had ++ gained)) × AfterStop (run_of given input left gained) (record { fault = stop.fault; place = stop.place; written = l.delivered; unwritten = length l.waiting })
-stop_at_end given input had left q k l stop are e1 e2 ql reader writer none y same =
+    → (gained : List ℕ) × Appends given.before.writer.bytes given.after.writer.bytes gained × AfterStop (run_of given input left gained) (record { fault = stop.fault; place = stop.place; written = l.delivered; unwritten = length l.waiting })
+stop_at_end given input left q k l stop are e1 ql reader writer none y same =
     let first : begun_at given ≡ start (run_of given input left []) = ap (λ i. begun given.before.areas.limits.packet_size given.before.areas.limits.max_wire i given.before.reader.failures) e1 in
     let x = subst (λ (a : Seen). StopsAtEnd (grammar_of given) response_start a q (fresh_at given) k given.after.areas.description stop) first y in
     let p = subst (Puts (fresh_at given) x.middle) x.whole.puts.1 x.whole.puts.2 in
     let tokens = x.whole.tokens in
     let adds = subst (λ (v : Held). Adds (fresh_at given) v (p.0 ++ x.fails.0) (text_so_far (behind tokens) ++ [])) (sym same) (Adds-trans (fresh_at given) x.middle k p.0 x.fails.0 (text_so_far (behind tokens)) [] p.2 x.fails.1) in
-    let d = delivers given had l (p.0 ++ x.fails.0) (text_so_far (behind tokens) ++ []) e2 writer adds in (
+    let d = delivers given l (p.0 ++ x.fails.0) (text_so_far (behind tokens) ++ []) writer adds in (
       d.gained,
       d.has,
       (let run = run_of given input left d.gained in
@@ -390,12 +385,12 @@ stops_read given q k failed stop (inl (inl y)) = stopped_read (grammar_of given)
 stops_read given q k failed stop (inl (inr y)) = (y.0.breaks.takes.0, y.0.breaks.takes.1.0)
 stops_read given q k failed stop (inr y) = (y.0.whole.takes.0, y.0.whole.takes.1.0)
 
-stopped_of : (given : Given) (input had left : List ℕ) (q : Seen) (k l : Held) (failed : Bool) (stop : Stop) → AreBytes input → given.before.reader.bytes ≡ Some input → given.before.writer.bytes ≡ Some had → q.left ≡ Some left → IsReader given q → IsWriter given l → given.after.areas.notice.bytes ≡ []
+stopped_of : (given : Given) (input left : List ℕ) (q : Seen) (k l : Held) (failed : Bool) (stop : Stop) → AreBytes input → given.before.reader.bytes ≡ Some input → q.left ≡ Some left → IsReader given q → IsWriter given l → given.after.areas.notice.bytes ≡ []
     → RunStops (grammar_of given) response_start (begun_at given) q 0 (fresh_at given) k given.after.areas.description failed stop → (failed ≡ false → Tidied k l) → (failed ≡ true → l ≡ k)
-    → (gained : List ℕ) × (given.after.writer.bytes ≡ Some (had ++ gained)) × AfterStop (run_of given input left gained) (record { fault = stop.fault; place = stop.place; written = l.delivered; unwritten = length l.waiting })
-stopped_of given input had left q k l failed stop are e1 e2 ql reader writer none (inl (inl y)) tidy same = stop_reading given input had left q k l stop are e1 e2 ql reader writer none y.0 (tidy y.1)
-stopped_of given input had left q k l failed stop are e1 e2 ql reader writer none (inl (inr y)) tidy same = stop_writing given input had left q k l stop are e1 e2 ql reader writer none y.0 (same y.1)
-stopped_of given input had left q k l failed stop are e1 e2 ql reader writer none (inr y) tidy same = stop_at_end given input had left q k l stop are e1 e2 ql reader writer none y.0 (same y.1)
+    → (gained : List ℕ) × Appends given.before.writer.bytes given.after.writer.bytes gained × AfterStop (run_of given input left gained) (record { fault = stop.fault; place = stop.place; written = l.delivered; unwritten = length l.waiting })
+stopped_of given input left q k l failed stop are e1 ql reader writer none (inl (inl y)) tidy same = stop_reading given input left q k l stop are e1 ql reader writer none y.0 (tidy y.1)
+stopped_of given input left q k l failed stop are e1 ql reader writer none (inl (inr y)) tidy same = stop_writing given input left q k l stop are e1 ql reader writer none y.0 (same y.1)
+stopped_of given input left q k l failed stop are e1 ql reader writer none (inr y) tidy same = stop_at_end given input left q k l stop are e1 ql reader writer none y.0 (same y.1)
 
 stop_bounded : (given : Given) (input left gained : List ℕ) (q : Seen) (k : Held) (failed : Bool) (stop : Stop) → AreBytes input → given.before.reader.bytes ≡ Some input → q.left ≡ Some left
     → RunStops (grammar_of given) response_start (begun_at given) q 0 (fresh_at given) k given.after.areas.description failed stop → Bounded (run_of given input left gained)
@@ -417,10 +412,10 @@ stop_bounded given input left gained q k failed stop are e ql (inr y) =
 
 pub stop_tells : (given : Given) (stopped : Stopped) → StopsExport given stopped → Tells given (Err stopped)
 unfolding Tells
-stop_tells given stopped x = λ input had are e1 e2.
+stop_tells given stopped x = λ input are e1.
     let read = stops_read given x.seen x.middle x.failed x.stop x.stops in
     let left = known_left given.before.reader.bytes x.seen.left input read.0 e1 read.1 in
-    let all = stopped_of given input had left.0 x.seen x.middle x.held x.failed x.stop are e1 e2 left.1 x.reader x.writer x.notice x.stops x.tidied x.same in
+    let all = stopped_of given input left.0 x.seen x.middle x.held x.failed x.stop are e1 left.1 x.reader x.writer x.notice x.stops x.tidied x.same in
     let run = run_of given input left.0 all.0 in
     let outcome = subst (λ s. AfterStop run s) (sym x.stopped_is) all.2 in
     let most = stop_bounded given input left.0 all.0 x.seen x.middle x.failed x.stop are e1 left.1 x.stops in
@@ -428,7 +423,7 @@ stop_tells given stopped x = λ input had are e1 e2.
 
 pub report_tells : (given : Given) (report : Report) → Reports given report → Tells given (Ok report)
 unfolding Tells
-report_tells given report x = λ input had are e1 e2.
+report_tells given report x = λ input are e1.
     let first : begun_at given ≡ start (run_of given input [] []) = ap (λ i. begun given.before.areas.limits.packet_size given.before.areas.limits.max_wire i given.before.reader.failures) e1 in
     let z = subst (λ (a : Seen). (c : Completes (grammar_of given) response_start a x.seen (fresh_at given) x.held report given.after.areas.description) × (given.after.areas.notice.bytes ≡ error_text c.whole.tokens)) first (x.completes, x.notice) in
     let y = z.0 in
@@ -437,7 +432,7 @@ report_tells given report x = λ input had are e1 e2.
     let f = y.finishes in
     let tokens = y.whole.tokens in
     let adds = Adds-trans (fresh_at given) y.middle x.held p.0 f.0 (text_so_far (behind tokens)) [] p.2 f.1 in
-    let d = delivers given had x.held (p.0 ++ f.0) (text_so_far (behind tokens) ++ []) e2 x.writer adds in
+    let d = delivers given x.held (p.0 ++ f.0) (text_so_far (behind tokens) ++ []) x.writer adds in
     let run = run_of given input left.0 d.gained in
     let side : ReaderSide run x.seen given.after.areas.description = record { bytes = are; left = left.1; failures = x.reader.failures; description = refl } in
     let whole = whole_message_of run x.seen given.after.areas.description (fresh_at given) y.middle side y.whole in

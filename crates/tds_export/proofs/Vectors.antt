@@ -34,7 +34,7 @@ done_alone : answer Windows1252 1048576 (253 ∷ 0 ∷ 0 ∷ 0 ∷ 0 ∷ 0 ∷ 0
 unfolding digits date_of utf16_chars encode_utf8 utf8_valid_len utf8_error_len is_utf8 chars encode_with rest_length named_kind refused_kind
 done_alone = refl
 
--- a date behind the last one
+-- a date after the last one
 late_date : answer Windows1252 1048576 (129 ∷ 1 ∷ 0 ∷ 0 ∷ 0 ∷ 0 ∷ 0 ∷ 0 ∷ 0 ∷ 40 ∷ 1 ∷ 100 ∷ 0 ∷ 209 ∷ 3 ∷ 219 ∷ 185 ∷ 55 ∷ []) ≡ (15, 34 ∷ 100 ∷ 34 ∷ 13 ∷ 10 ∷ [], Some (BadValue 0))
 unfolding digits date_of utf16_chars encode_utf8 utf8_valid_len utf8_error_len is_utf8 chars encode_with rest_length named_kind refused_kind
 late_date = refl

@@ -1,6 +1,5 @@
 -- The run of an export as the contracts of its steps see it.
 use Rattle.std.specs.Prelude.{◌≡◌, ◌+◌, ◌<◌, ◌≤◌, ℕ, Bool, true, List, [], ◌++◌, Option, Result, MatchBool, MatchResult, OnOk}
-use Rattle.tds_meter.specs.declared.areas.TheConstants.{SMALL_ROOM}
 use Rattle.tds_meter.specs.Space.{Space, empty}
 use Rattle.tds_packet.specs.declared.fault.Stop.{Stop}
 use Rattle.tds_packet.specs.declared.payload.Payload.{Payload}
@@ -52,7 +51,7 @@ pub record CanBegin {R W : Type 0} (payload : Payload R) (sink : Sink W) (area t
   pub notice_room : notice.room ≡ 512
   pub notice_peak : notice.peak ≤ notice.room
   pub none_noted : notice.bytes ≡ []
-  pub small_room : SMALL_ROOM ≤ small.room
+  pub small_room : 128 ≤ small.room
   pub small_peak : small.peak ≤ small.room
 
 -- the sets, rows, errors, messages and returned values of a report
@@ -68,12 +67,12 @@ pub record IsRunning {R W : Type 0} (e : Exporter R W) : Type 0 where
   pub token_peak : e.token.now.peak ≤ e.token.now.room
   pub notice : e.notice.now.room ≡ 512
   pub notice_peak : e.notice.now.peak ≤ e.notice.now.room
-  pub small : SMALL_ROOM ≤ e.small.now.room
+  pub small : 128 ≤ e.small.now.room
   pub small_peak : e.small.now.peak ≤ e.small.now.room
   pub counted : counted e.progress.report ≤ e.payload.now.place
   pub described : e.progress.described ≡ true → IsDescription e.description.now.bytes
 
--- The run goes on behind the first byte of a token that isn't counted yet.
+-- The run goes on after the first byte of a token that isn't counted yet.
 pub record IsInToken {R W : Type 0} (e : Exporter R W) : Type 0 where
   pub running : IsRunning e
   pub uncounted : counted e.progress.report < e.payload.now.place
@@ -104,7 +103,7 @@ pub record LeavesRun {R W U : Type 0} (old new : Exporter R W) (result : Result 
 abbrev pub Advances : {R W : Type 0} → Exporter R W → Exporter R W → Type 0
 Advances old new = old.payload.now.place < new.payload.now.place
 
--- The next token was read from this state on, behind these tokens, and its text put. The notice area has the text of the first error.
+-- The next token was read from this state on, after these tokens, and its text put. The notice area has the text of the first error.
 abbrev pub ReadsNext : Charset → Part → List Token → View → View → Progress → Type 0
 ReadsNext charset from tokens old new progress =
     (x : ReadsTokens (response charset old.area.room) from tokens old.seen new.seen old.place new.place old.held new.held progress new.area) × IsNoted new.notice (tokens ++ x.more)
@@ -123,7 +122,7 @@ pub record FindsEnd {R W : Type 0} (remaining : R → Option (List ℕ)) (old ne
   pub notice : new.notice.now ≡ old.notice.now
   pub progress : new.progress ≡ old.progress
 
--- A token was read behind its first byte, from this state on, and its text put; or that stopped: whatever the tokens before it are.
+-- A token was read after its first byte, from this state on, and its text put; or that stopped: whatever the tokens before it are.
 abbrev pub StepRead : {R W U : Type 0} → (R → Option (List ℕ)) → (W → Option (List ℕ)) → (List Token → Part) → Exporter R W → Exporter R W → Result U Stop → Type 0
 StepRead remaining contents from old new result = (tokens : List Token) → Tracks old.progress tokens → IsHolding old.description.now (behind tokens) → IsNoted old.notice.now tokens →
     MatchResult result

@@ -1,5 +1,6 @@
 -- How an export ended, where reader and writer may not tell their bytes.
-use Rattle.std.specs.Prelude.{◌≡◌, ◌⊎◌, Bool, true, false, List, ℕ, [], ◌++◌, length, Some, Result, IfErr, MatchResult}
+use Rattle.std.specs.Prelude.{◌≡◌, ◌⊎◌, Bool, true, false, List, ℕ, [], length, Some, Result, IfErr, MatchResult}
+use Rattle.std.specs.Io.KnownBytes.{Appends}
 use Rattle.tds_meter.specs.Counts.{Rose}
 use Rattle.tds_packet.specs.declared.fault.Fault.TheVariants.{ReadFailed, WriteFailed}
 use Rattle.tds_packet.specs.declared.fault.Stop.{Stop}
@@ -71,12 +72,11 @@ pub record StopsExport (given : Given) (stopped : Stopped) : Type 0 where
   pub stopped_is : stopped ≡ stopped_with stop held
   pub notice : given.after.areas.notice.bytes ≡ []
 
--- A reader that told its bytes and a writer that told those that it had still do, and the export answers what they make of the response; of an accepted one its report, but for a device that fails.
+-- A reader that told its bytes still does, a writer that tells its own gained some, and the export answers what the input makes of the response; of an accepted one its report, but for a device that fails.
 unfoldable pub Tells : Given → Result Report Stopped → Type 0
-Tells given result = (input had : List ℕ) → AreBytes input →
-    given.before.reader.bytes ≡ Some input → given.before.writer.bytes ≡ Some had →
+Tells given result = (input : List ℕ) → AreBytes input → given.before.reader.bytes ≡ Some input →
     (left : List ℕ) × (gained : List ℕ) × (given.after.reader.bytes ≡ Some left)
-    × (given.after.writer.bytes ≡ Some (had ++ gained))
+    × Appends given.before.writer.bytes given.after.writer.bytes gained
     × Answer (run_of given input left gained) result × SucceedsIfAccepted (run_of given input left gained) result
 
 -- Between two moments an export gave this answer: it says what was read and written, and a device is blamed only where its count of failures rose.

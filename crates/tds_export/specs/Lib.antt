@@ -1,3 +1,4 @@
+pub mod TokenBytes
 pub mod ReturnValue
 pub mod Tokens
 pub mod Response

@@ -1,7 +1,7 @@
 -- What an export answers and leaves.
 use Rattle.std.specs.Prelude.{◌≡◌, ◌+◌, ◌*◌, ◌-◌, ◌/◌, ◌^◌, ◌<◌, ◌≤◌, ◌⊎◌, ℕ, ℤ, pos, negsuc, List, [], ◌∷◌, ◌++◌, length, take, drop, Some, Result, Ok, Err, if◌then◌else◌, nat_lt, option_map}
 use Rattle.tds_packet.specs.declared.fault.Fault.{Fault}
-use Rattle.tds_packet.specs.declared.fault.Fault.TheVariants.{ReadFailed, WriteFailed}
+use Rattle.tds_packet.specs.declared.fault.Fault.TheVariants.{InputEnded, ReadFailed, WriteFailed}
 use Rattle.tds_packet.specs.declared.fault.Place.{Place}
 use Rattle.tds_packet.specs.declared.fault.Place.TheVariants.{Wire, Payload, Text}
 use Rattle.tds_packet.specs.Elements.{Grammar, Spelt, Longest, IsRefused, IsCut}
@@ -108,7 +108,14 @@ pub record StopsInPayload (run : Run) (fault : Fault) (place : ℕ) : Type 0 whe
   pub written : text_put run ≡ text_so_far part
   pub kept : Keeps run packets place part
 
--- A run stopped on the wire, behind whole packets: as if the input had these packets alone.
+-- A read failed: these are all the whole packets of what the reader gave, and no header after them is refused.
+pub record FailsOnWire (run : Run) (packets : List Packet) : Type 0 where
+  pub read : List ℕ
+  pub split : read ++ run.left ≡ run.input
+  pub cut : WireFault (limits run).packet_size (limits run).max_wire read packets InputEnded
+  pub failed : FailsToRead run.given
+
+-- A run stopped on the wire, after whole packets: as if the input had these packets alone.
 pub record StopsOnWire (run : Run) (fault : Fault) (taken : ℕ) : Type 0 where
   pub packets : List Packet
   pub rest : List ℕ
@@ -118,7 +125,7 @@ pub record StopsOnWire (run : Run) (fault : Fault) (taken : ℕ) : Type 0 where
   pub before : AreBefore (limits run).packet_size packets
   pub within : length (wire_of packets) ≤ (limits run).max_wire
   pub taken_is : taken ≡ length (wire_of packets)
-  pub first : ((fault ≡ ReadFailed) × FailsToRead run.given)
+  pub first : ((fault ≡ ReadFailed) × FailsOnWire run packets)
       ⊎ WireFault (limits run).packet_size (limits run).max_wire run.input packets fault
   pub leads : Reads run packets place part
   pub none_refused : (f : Fault) → Refuses run packets place part f → ⊥

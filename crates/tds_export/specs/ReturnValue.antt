@@ -41,7 +41,7 @@ pub data ReturnPart : Type 0 where
   ReturnOrdinal : ReturnPart
   ReturnNameCount : ReturnPart
   ReturnName : ℕ → ReturnPart
-  -- before the eight bytes that end with the type byte, behind this name
+  -- before the eight bytes that end with the type byte, after this name
   ReturnHead : List ℕ → ReturnPart
   -- before the bytes that follow this type byte
   ReturnInfo : List ℕ → ℕ → ReturnPart
@@ -60,7 +60,7 @@ abbrev pub with_return_kind : List ℕ → Option Kind → ReturnPart
 with_return_kind name (Some kind) = with_value name kind (cell_start kind (shape return_charset kind))
 with_return_kind name None = ReturnOrdinal
 
--- a return value behind its type byte, with so many bytes of type information to follow
+-- a return value after its type byte, with so many bytes of type information to follow
 abbrev pub with_return_type : List ℕ → ℕ → ℕ → ReturnPart
 with_return_type name byte rest = if rest == 0 then with_return_kind name (kind_of (byte ∷ [])) else ReturnInfo name byte
 
@@ -100,6 +100,6 @@ abbrev pub return_end : ReturnPart → Option Fault
 return_end (WholeReturn r) = None
 return_end part = Some MessageEnded
 
--- How a return value is read, behind its token byte.
+-- How a return value is read, after its token byte.
 abbrev pub return_value : Grammar ReturnPart Fault
 return_value = record { size = return_size; fault = return_fault; add = return_add; end_fault = return_end }

@@ -14,9 +14,8 @@ use Rattle.tds_columns.specs.View.{columns_of}
 use Rattle.tds_csv.specs.Sinks.{Held, Finishes, FinishFails}
 use Rattle.tds_csv.specs.Streaming.{PutsText, Streams, BreaksStreaming}
 use Rattle.tds_rows.specs.declared.Charset.{Charset}
-use Rattle.tds_rows.specs.Rows.{nbc_row_start, row_start}
-use Rattle.tds_rows.specs.declared.run.TheConstants.{ROW}
-use Rattle.tds_export.specs.declared.token_bytes.TheConstants.{COLMETADATA, NBCROW, ORDER, ENVCHANGE, ERROR, INFO, RETURNSTATUS, RETURNVALUE, DONE, DONEPROC, DONEINPROC}
+use Rattle.tds_rows.specs.Rows.{nbc_row_start, row_start, row_byte}
+use Rattle.tds_export.specs.TokenBytes.{colmetadata_byte, done_byte, done_in_proc_byte, done_proc_byte, env_change_byte, error_byte, info_byte, nbc_row_byte, order_byte, return_status_byte, return_value_byte}
 use Rattle.tds_export.specs.declared.progress.Progress.{Progress}
 use Rattle.tds_export.specs.declared.report.Report.{Report}
 use Rattle.tds_export.specs.declared.tokens.TokenKind.{TokenKind}
@@ -65,53 +64,53 @@ pub record ReadsTokens (g : Grammar Part Fault) (from : Part) (tokens : List Tok
 
 -- The byte begins a token of this kind, where columns are described or not.
 abbrev pub IsOfKind : Bool → ℕ → TokenKind → Type 0
-IsOfKind described byte kinds.Metadata = byte ≡ COLMETADATA
-IsOfKind described byte kinds.Row = (byte ≡ ROW) × (described ≡ true)
-IsOfKind described byte kinds.NbcRow = (byte ≡ NBCROW) × (described ≡ true)
-IsOfKind described byte kinds.Done = (byte ≡ DONE) ⊎ (byte ≡ DONEPROC)
-IsOfKind described byte kinds.DoneInProc = byte ≡ DONEINPROC
-IsOfKind described byte kinds.ReturnStatus = byte ≡ RETURNSTATUS
-IsOfKind described byte kinds.Order = byte ≡ ORDER
-IsOfKind described byte kinds.EnvChange = byte ≡ ENVCHANGE
-IsOfKind described byte kinds.Error = byte ≡ ERROR
-IsOfKind described byte kinds.Info = byte ≡ INFO
-IsOfKind described byte kinds.ReturnValue = byte ≡ RETURNVALUE
+IsOfKind described byte kinds.Metadata = byte ≡ colmetadata_byte
+IsOfKind described byte kinds.Row = (byte ≡ row_byte) × (described ≡ true)
+IsOfKind described byte kinds.NbcRow = (byte ≡ nbc_row_byte) × (described ≡ true)
+IsOfKind described byte kinds.Done = (byte ≡ done_byte) ⊎ (byte ≡ done_proc_byte)
+IsOfKind described byte kinds.DoneInProc = byte ≡ done_in_proc_byte
+IsOfKind described byte kinds.ReturnStatus = byte ≡ return_status_byte
+IsOfKind described byte kinds.Order = byte ≡ order_byte
+IsOfKind described byte kinds.EnvChange = byte ≡ env_change_byte
+IsOfKind described byte kinds.Error = byte ≡ error_byte
+IsOfKind described byte kinds.Info = byte ≡ info_byte
+IsOfKind described byte kinds.ReturnValue = byte ≡ return_value_byte
 
 -- The byte is refused with this fault.
 abbrev pub IsRefusal : Bool → ℕ → Fault → Type 0
 IsRefusal described byte fault =
     ((fault ≡ RefusedToken byte) × (is_token_byte byte ≡ false))
-    ⊎ ((fault ≡ RowWithoutColumns) × (described ≡ false) × ((byte ≡ ROW) ⊎ (byte ≡ NBCROW)))
+    ⊎ ((fault ≡ RowWithoutColumns) × (described ≡ false) × ((byte ≡ row_byte) ⊎ (byte ≡ nbc_row_byte)))
 
--- behind the token byte of a COLMETADATA
+-- after the token byte of a COLMETADATA
 abbrev pub in_metadata : List Token → Part
 in_metadata tokens = record { tokens = tokens; at = Describing BeforeCount }
 
--- behind the token byte of a ROW under these columns
+-- after the token byte of a ROW under these columns
 abbrev pub in_row : Charset → List Column → List Token → Part
 in_row charset columns tokens = with_row tokens (row_start charset columns)
 
--- behind the token byte of an NBCROW under these columns
+-- after the token byte of an NBCROW under these columns
 abbrev pub in_nbc_row : List Column → List Token → Part
 in_nbc_row columns tokens = with_row tokens (nbc_row_start columns)
 
--- behind the token byte of a DONE or DONEPROC
+-- after the token byte of a DONE or DONEPROC
 abbrev pub in_done : List Token → Part
 in_done tokens = record { tokens = tokens; at = DoneFields }
 
--- behind the token byte of a DONEINPROC
+-- after the token byte of a DONEINPROC
 abbrev pub in_done_in_proc : List Token → Part
 in_done_in_proc tokens = record { tokens = tokens; at = DoneInProcFields }
 
--- behind the token byte of a RETURNSTATUS
+-- after the token byte of a RETURNSTATUS
 abbrev pub in_status : List Token → Part
 in_status tokens = record { tokens = tokens; at = Status }
 
--- behind the token byte of a RETURNVALUE
+-- after the token byte of a RETURNVALUE
 abbrev pub in_return : List Token → Part
 in_return tokens = record { tokens = tokens; at = InReturn ReturnOrdinal }
 
--- behind the token byte of a token with a body
+-- after the token byte of a token with a body
 abbrev pub in_length : Bodied → List Token → Part
 in_length which tokens = record { tokens = tokens; at = TokenLength which }
 
@@ -121,7 +120,7 @@ IsRow kinds.Row = ⊤
 IsRow kinds.NbcRow = ⊤
 IsRow kind = ⊥
 
--- behind the first byte of a token of this kind, under these columns
+-- after the first byte of a token of this kind, under these columns
 abbrev pub in_kind : Charset → List Column → TokenKind → List Token → Part
 in_kind charset columns kinds.Metadata = in_metadata
 in_kind charset columns kinds.Row = in_row charset columns
@@ -183,7 +182,7 @@ abbrev pub RunStops : Grammar Part Fault → Part → Seen → Seen → ℕ → 
 RunStops g from old new place before after area failed stop =
     StepStops g from old new place before after area failed stop ⊎ (StopsAtEnd g from old new before after area stop × (failed ≡ true))
 
--- The next byte was read, and no packet is cut behind it.
+-- The next byte was read, and no packet is cut after it.
 pub record ReadsByte (old new : Seen) (place place' byte : ℕ) : Type 0 where
   pub takes : Takes old new (byte ∷ []) 1
   pub place_is : place' ≡ place + 1

@@ -1,14 +1,13 @@
--- The element grammar of a response: how many bytes the next element has, its fault, and what stands behind it.
+-- The element grammar of a response: how many bytes the next element has, its fault, and what stands after it.
 use Rattle.std.specs.Prelude.{◌==◌, ◌&&◌, ◌||◌, ◌+◌, ◌*◌, ℕ, Bool, true, false, not, List, [], ◌∷◌, ◌++◌, length, take, drop, max, Option, Some, None, if◌then◌else◌, nat_lt, nat_le, slice_index}
 use Rattle.tds_values.specs.Numbers.{little}
 use Rattle.tds_columns.specs.Description.{Column, DescriptionPart, BeforeCount, NoDescription, WholeDescription, described_size, described_fault, add_described, span}
 use Rattle.tds_rows.specs.declared.Charset.{Charset}
-use Rattle.tds_rows.specs.Rows.{RowPart, WholeRow, row_start, nbc_row_start, row_size, row_fault, row_add, row_so_far}
+use Rattle.tds_rows.specs.Rows.{RowPart, WholeRow, row_start, nbc_row_start, row_size, row_fault, row_add, row_so_far, row_byte}
 use Rattle.tds_packet.specs.Elements.{Grammar}
 use Rattle.tds_packet.specs.declared.fault.Fault.{Fault}
 use Rattle.tds_packet.specs.declared.fault.Fault.TheVariants.{MessageEnded, EndWithoutDone, RefusedToken, RowWithoutColumns, BadNotice}
-use Rattle.tds_rows.specs.declared.run.TheConstants.{ROW}
-use Rattle.tds_export.specs.declared.token_bytes.TheConstants.{COLMETADATA, NBCROW, ORDER, ENVCHANGE, ERROR, INFO, RETURNVALUE, RETURNSTATUS, DONE, DONEPROC, DONEINPROC}
+use Rattle.tds_export.specs.TokenBytes.{colmetadata_byte, done_byte, done_in_proc_byte, done_proc_byte, env_change_byte, error_byte, info_byte, nbc_row_byte, order_byte, return_status_byte, return_value_byte}
 use Rattle.tds_export.specs.ReturnValue.{ReturnPart, ReturnOrdinal, WholeReturn, return_size, return_fault, return_add}
 use Rattle.tds_export.specs.Tokens.{Notice, Token, Metadata, NoMetadata, Row, Order, EnvChange, Error, Info, ReturnStatus, Returned, Done, DoneInProc, described_after, is_final, text, greatest_span}
 use Rattle.tds_export.specs.Response.{more}
@@ -48,7 +47,7 @@ pub record Part : Type 0 where
 abbrev pub response_start : Part
 response_start = record { tokens = []; at = Between }
 
--- a response behind one more whole token
+-- a response after one more whole token
 abbrev pub with_token : List Token → Token → Part
 with_token tokens t = record { tokens = tokens ++ t ∷ []; at = Between }
 
@@ -73,36 +72,36 @@ abbrev pub start_of_row : List Token → (List Column → RowPart) → Option (L
 start_of_row tokens start None = record { tokens = tokens; at = Between }
 start_of_row tokens start (Some columns) = with_row tokens (start columns)
 
--- what stands behind a token byte
+-- what stands after a token byte
 abbrev pub after_byte : Charset → List Token → ℕ → Part
 after_byte charset tokens byte =
-    if byte == COLMETADATA then record { tokens = tokens; at = Describing BeforeCount }
-    else if byte == ROW then start_of_row tokens (row_start charset) (described_after None tokens)
-    else if byte == NBCROW then start_of_row tokens nbc_row_start (described_after None tokens)
-    else if byte == ORDER then record { tokens = tokens; at = TokenLength AnOrder }
-    else if byte == ENVCHANGE then record { tokens = tokens; at = TokenLength AnEnvChange }
-    else if byte == ERROR then record { tokens = tokens; at = TokenLength AnError }
-    else if byte == INFO then record { tokens = tokens; at = TokenLength AnInfo }
-    else if byte == RETURNSTATUS then record { tokens = tokens; at = Status }
-    else if (byte == DONE) || (byte == DONEPROC) then record { tokens = tokens; at = DoneFields }
-    else if byte == DONEINPROC then record { tokens = tokens; at = DoneInProcFields }
-    else if byte == RETURNVALUE then record { tokens = tokens; at = InReturn ReturnOrdinal }
+    if byte == colmetadata_byte then record { tokens = tokens; at = Describing BeforeCount }
+    else if byte == row_byte then start_of_row tokens (row_start charset) (described_after None tokens)
+    else if byte == nbc_row_byte then start_of_row tokens nbc_row_start (described_after None tokens)
+    else if byte == order_byte then record { tokens = tokens; at = TokenLength AnOrder }
+    else if byte == env_change_byte then record { tokens = tokens; at = TokenLength AnEnvChange }
+    else if byte == error_byte then record { tokens = tokens; at = TokenLength AnError }
+    else if byte == info_byte then record { tokens = tokens; at = TokenLength AnInfo }
+    else if byte == return_status_byte then record { tokens = tokens; at = Status }
+    else if (byte == done_byte) || (byte == done_proc_byte) then record { tokens = tokens; at = DoneFields }
+    else if byte == done_in_proc_byte then record { tokens = tokens; at = DoneInProcFields }
+    else if byte == return_value_byte then record { tokens = tokens; at = InReturn ReturnOrdinal }
     else record { tokens = tokens; at = Between }
 
 -- whether the byte begins a token that is accepted
 abbrev pub is_token_byte : ℕ → Bool
-is_token_byte byte = (byte == COLMETADATA) || (byte == ROW) || (byte == NBCROW) || (byte == ORDER) || (byte == ENVCHANGE) || (byte == ERROR) || (byte == INFO) || (byte == RETURNSTATUS) || (byte == DONE) || (byte == DONEPROC) || (byte == DONEINPROC) || (byte == RETURNVALUE)
+is_token_byte byte = (byte == colmetadata_byte) || (byte == row_byte) || (byte == nbc_row_byte) || (byte == order_byte) || (byte == env_change_byte) || (byte == error_byte) || (byte == info_byte) || (byte == return_status_byte) || (byte == done_byte) || (byte == done_proc_byte) || (byte == done_in_proc_byte) || (byte == return_value_byte)
 
 -- whether the byte begins a row
 abbrev pub is_row_byte : ℕ → Bool
-is_row_byte byte = (byte == ROW) || (byte == NBCROW)
+is_row_byte byte = (byte == row_byte) || (byte == nbc_row_byte)
 
 -- the fault of a row's byte where no columns are described
 abbrev pub row_byte_fault : Bool → Option (List Column) → Option Fault
 row_byte_fault true None = Some RowWithoutColumns
 row_byte_fault row columns = None
 
--- the fault of a token byte behind these tokens: no such token, or a row without columns
+-- the fault of a token byte after these tokens: no such token, or a row without columns
 abbrev pub token_fault : List Token → ℕ → Option Fault
 token_fault tokens byte = if is_token_byte byte then row_byte_fault (is_row_byte byte) (described_after None tokens) else Some (RefusedToken byte)
 

@@ -132,13 +132,13 @@ encoded_after before (Metadata bytes columns ∷ ts) = encoded_after bytes ts
 encoded_after before (NoMetadata ∷ ts) = encoded_after [] ts
 encoded_after before (t ∷ ts) = encoded_after before ts
 
--- how many bytes a COLMETADATA has behind its token byte
+-- how many bytes a COLMETADATA has after its token byte
 abbrev pub span_of : Token → ℕ
 span_of (Metadata bytes columns) = length bytes
 span_of NoMetadata = 2
 span_of t = 0
 
--- the most bytes that a COLMETADATA has behind its token byte
+-- the most bytes that a COLMETADATA has after its token byte
 abbrev pub greatest_span : List Token → ℕ
 greatest_span [] = 0
 greatest_span (t ∷ ts) = max (span_of t) (greatest_span ts)

@@ -37,7 +37,7 @@ pub(crate) struct Exporter<'a, 'p, 's, R, W> {
 }
 
 impl<'a, 'p, 's, R: Read, W: Write> Exporter<'a, 'p, 's, R, W> {
-    // Reads a COLMETADATA behind its token byte, and puts the header line of its set.
+    // Reads a COLMETADATA after its token byte, and puts the header line of its set.
     fn metadata(&mut self) -> Result<(), Stop>
         requires { IsInToken self.old }
         ensures leaves { LeavesRun self.old self.new result }
@@ -56,7 +56,7 @@ impl<'a, 'p, 's, R: Read, W: Write> Exporter<'a, 'p, 's, R, W> {
         Ok(())
     }
 
-    // Reads a ROW behind its token byte and the ROWs that follow it in its packet, and puts their lines.
+    // Reads a ROW after its token byte and the ROWs that follow it in its packet, and puts their lines.
     fn rows(&mut self) -> Result<(), Stop>
         requires begun { IsInToken self.old }
         requires described { self.old.progress.described ≡ true }
@@ -71,7 +71,7 @@ impl<'a, 'p, 's, R: Read, W: Write> Exporter<'a, 'p, 's, R, W> {
         Ok(())
     }
 
-    // Reads an NBCROW behind its token byte, and puts its line. Its bitmap stands in the token area.
+    // Reads an NBCROW after its token byte, and puts its line. Its bitmap stands in the token area.
     fn nbc_row(&mut self) -> Result<(), Stop>
         requires begun { IsInToken self.old }
         requires described { self.old.progress.described ≡ true }
@@ -93,7 +93,7 @@ impl<'a, 'p, 's, R: Read, W: Write> Exporter<'a, 'p, 's, R, W> {
         Ok(())
     }
 
-    // Reads a DONE or DONEPROC behind its token byte (MS-TDS, DONE).
+    // Reads a DONE or DONEPROC after its token byte (MS-TDS, DONE).
     fn done(&mut self) -> Result<(), Stop>
         requires { IsInToken self.old }
         ensures leaves { LeavesRun self.old self.new result }
@@ -105,7 +105,7 @@ impl<'a, 'p, 's, R: Read, W: Write> Exporter<'a, 'p, 's, R, W> {
         Ok(())
     }
 
-    // Reads a DONEINPROC behind its token byte, of which nothing is kept (MS-TDS, DONEINPROC).
+    // Reads a DONEINPROC after its token byte, of which nothing is kept (MS-TDS, DONEINPROC).
     fn done_in_proc(&mut self) -> Result<(), Stop>
         requires { IsInToken self.old }
         ensures leaves { LeavesRun self.old self.new result }
@@ -116,7 +116,7 @@ impl<'a, 'p, 's, R: Read, W: Write> Exporter<'a, 'p, 's, R, W> {
         Ok(())
     }
 
-    // Reads a RETURNSTATUS behind its token byte (MS-TDS, RETURNSTATUS).
+    // Reads a RETURNSTATUS after its token byte (MS-TDS, RETURNSTATUS).
     fn return_status(&mut self) -> Result<(), Stop>
         requires { IsInToken self.old }
         ensures leaves { LeavesRun self.old self.new result }
@@ -130,7 +130,7 @@ impl<'a, 'p, 's, R: Read, W: Write> Exporter<'a, 'p, 's, R, W> {
         Ok(())
     }
 
-    // Passes over an ORDER or ENVCHANGE behind its token byte: a Length, and a body of so many bytes
+    // Passes over an ORDER or ENVCHANGE after its token byte: a Length, and a body of so many bytes
     // (MS-TDS, ORDER and ENVCHANGE).
     fn skip(&mut self) -> Result<(), Stop>
         requires { IsInToken self.old }
@@ -146,7 +146,7 @@ impl<'a, 'p, 's, R: Read, W: Write> Exporter<'a, 'p, 's, R, W> {
         Ok(())
     }
 
-    // Reads an ERROR behind its token byte. The first one is kept, and its message put into the notice
+    // Reads an ERROR after its token byte. The first one is kept, and its message put into the notice
     // area (MS-TDS, ERROR).
     fn error(&mut self) -> Result<(), Stop>
         requires { IsInToken self.old }
@@ -166,7 +166,7 @@ impl<'a, 'p, 's, R: Read, W: Write> Exporter<'a, 'p, 's, R, W> {
         Ok(())
     }
 
-    // Reads an INFO behind its token byte (MS-TDS, INFO).
+    // Reads an INFO after its token byte (MS-TDS, INFO).
     fn info(&mut self) -> Result<(), Stop>
         requires { IsInToken self.old }
         ensures leaves { LeavesRun self.old self.new result }
@@ -178,7 +178,7 @@ impl<'a, 'p, 's, R: Read, W: Write> Exporter<'a, 'p, 's, R, W> {
         Ok(())
     }
 
-    // Reads a RETURNVALUE behind its token byte, which is counted and else passed over (MS-TDS,
+    // Reads a RETURNVALUE after its token byte, which is counted and else passed over (MS-TDS,
     // RETURNVALUE).
     fn return_value(&mut self) -> Result<(), Stop>
         requires { IsInToken self.old }
@@ -191,7 +191,7 @@ impl<'a, 'p, 's, R: Read, W: Write> Exporter<'a, 'p, 's, R, W> {
         Ok(())
     }
 
-    // Reads a token of this kind behind its first byte.
+    // Reads a token of this kind after its first byte.
     fn body(&mut self, kind: TokenKind) -> Result<(), Stop>
         requires begun { IsInToken self.old }
         requires described { IsRow kind → self.old.progress.described ≡ true }

@@ -18,7 +18,7 @@
 //!
 //! The crate `example` is a whole program that does this. The areas are made once and serve any number
 //! of exports, one after another, whatever the answers were: `export` begins by restarting them. Each
-//! call wants a counted reader that stands at the first byte of a packet; behind a whole message the
+//! call needs a counted reader that stands at the first byte of a packet; after a whole message the
 //! reader stands at the first byte of what follows it, so the next response can be exported from it.
 //!
 //! A set begins with a line of its column names, each row is a line, and an empty line stands between
@@ -33,8 +33,8 @@
 //!   response, so `report.errors` is to be looked at: the answer is `Ok` all the same.
 //! - After a fault of the input ([`Stopped`], at a place of the payload or of the wire) the text of all
 //!   that was read before the fault was still delivered. Nothing is taken back: the last line may be open, and a
-//!   caller who wants whole responses alone has to drop it. Where the fault names a refused element, no
-//!   bytes behind it would make a response of what was read, so asking again for the rest is no use.
+//!   caller who needs whole responses alone has to drop it. Where the fault names a refused element, no
+//!   bytes after it would make a response of what was read, so asking again for the rest is no use.
 //! - After a failed write (`WriteFailed`, at a place of the text) the writer took the first `written`
 //!   bytes of the text, the next `unwritten` stand in `areas.waiting()`, and the input isn't read further.
 //! - After a failed read the text of what came before it was delivered, as after a fault of the input.
@@ -67,8 +67,6 @@ mod report;
 mod returned;
 mod run;
 mod set;
-#[cfg(test)]
-mod tests;
 mod token_bytes;
 mod tokens;
 

@@ -84,7 +84,7 @@ pub(crate) fn message_of(body: &[u8]) -> &[u8]
     &body[8..server(body)]
 }
 
-/// Reads the Length and the body of an ERROR or INFO behind its token byte. The body stands in the
+/// Reads the Length and the body of an ERROR or INFO after its token byte. The body stands in the
 /// token area, and its inner lengths stay within it.
 pub(crate) fn take_notice<R: Read>(payload: &mut Payload<R>, token: &mut Area) -> Result<(), Stop>
     requires going { IsGoing payload.old }

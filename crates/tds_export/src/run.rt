@@ -10,7 +10,7 @@ use crate::exporter::read_response;
 use crate::report::{Report, Stopped};
 use std::io::{Read, Write};
 use tds_csv::Sink;
-use tds_meter::{Areas, FIXED_ROOM};
+use tds_meter::Areas;
 use tds_packet::{Counted, Payload, Stop};
 
 // Delivers what waits, if the writer has not failed, and says what it took.
@@ -47,7 +47,7 @@ pub fn export<R: Read, W: Write>(
     ensures intact { IsTrue (is_intact areas.new) }
     ensures limits { areas.new.limits ≡ areas.old.limits }
     ensures restarts { areas.new.restarts ≡ one_more areas.old.restarts }
-    ensures bound { peak_rest areas.new ≤ areas.old.limits.packet_size + FIXED_ROOM }
+    ensures bound { peak_rest areas.new ≤ areas.old.limits.packet_size + 65536 + 4736 }
     ensures no_failure { OnOk result (¬ Rose from.old.failures from.new.failures
         × ¬ Rose to.old.failures to.new.failures) }
     ensures no_notice { OnErr result (areas.new.notice.bytes ≡ []) }

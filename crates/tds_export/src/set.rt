@@ -80,7 +80,7 @@ fn put_names<W: Write>(sink: &mut Sink<W>, columns: Columns) -> Result<(), Stop>
     Ok(())
 }
 
-/// Puts the header line of a set, behind an empty line unless the set is the first.
+/// Puts the header line of a set, after an empty line unless the set is the first.
 pub(crate) fn put_header<W: Write>(
     sink: &mut Sink<W>,
     begun: bool,

@@ -50,7 +50,7 @@ same_space : (s t : Space) → s.bytes ≡ t.bytes → s.room ≡ t.room → s.p
 same_space s t bytes room peak =
     ap (λ l. record { bytes = l; room = s.room; peak = s.peak }) bytes ∙ ap (λ m. record { bytes = t.bytes; room = m; peak = s.peak }) room ∙ ap (λ m. record { bytes = t.bytes; room = t.room; peak = m }) peak
 
--- a front that grows by n items of the list behind it, which are written over
+-- a front that grows by n items of the list after it, which are written over
 front_grows : (len n : ℕ) (w xs : List ℕ) → len + n ≤ length xs
     → take (len + n) (refill (length xs) xs (take len xs ++ (w ++ drop (length w) (drop len xs)))) ≡ overwritten (length (take len xs)) w (take len xs ++ take n (drop len xs))
 front_grows len n w xs fits =

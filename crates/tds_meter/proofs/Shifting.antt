@@ -5,7 +5,7 @@ use Rattle.std.proofs.lemmas.List.{drop-take}
 use Rattle.std.proofs.lemmas.List.Edits.{take-paste}
 use Rattle.tds_meter.specs.Space.{Space, holding}
 
--- what stood behind the first n of a front stands at the start
+-- what stood after the first n of a front stands at the start
 shifted : (n len : ℕ) (old new : List ℕ) → n ≤ len → len ≤ length old → new ≡ copy_within old n len 0 → take (len - n) new ≡ drop n (take len old)
 shifted n len old new le within moved =
     let kept = len - n in

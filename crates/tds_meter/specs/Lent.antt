@@ -16,6 +16,6 @@ with_tail s from written = holding s (overwritten from written s.bytes)
 abbrev pub LendsTail : MutBor Space → ℕ → MutBor (List ℕ) → Fml
 LendsTail s from r = Lends the_row (Array u8 0) s r (with_tail s.now from)
 
--- The area ends as its own bytes and what the lent ones behind them end as.
+-- The area ends as its own bytes and what the lent ones after them end as.
 abbrev pub LendsNew : MutBor Space → MutBor (List ℕ) → Fml
 LendsNew s r = Lends the_row (Array u8 0) s r (with_tail (appended s.now r.now) (length s.now.bytes))

@@ -2,13 +2,12 @@
 use Rattle.std.specs.Prelude.{◌≡◌, ℕ, ◌==◌, ◌&&◌, ◌+◌, Bool, length}
 use Rattle.tds_meter.specs.Space.{empty}
 use Rattle.tds_meter.specs.declared.areas.Areas.{Areas}
-use Rattle.tds_meter.specs.declared.areas.TheConstants.{TOKEN_ROOM, OUTPUT_ROOM, NOTICE_ROOM, SMALL_ROOM}
 
 -- the rooms are those of the limits
 abbrev pub is_intact : Areas → Bool
 is_intact a =
-    a.packet.room == a.limits.packet_size && a.description.room == a.limits.column_room && a.token.room == TOKEN_ROOM
-    && a.output.room == OUTPUT_ROOM && a.notice.room == NOTICE_ROOM && a.small.room == SMALL_ROOM
+    a.packet.room == a.limits.packet_size && a.description.room == a.limits.column_room && a.token.room == 65536
+    && a.output.room == 4096 && a.notice.room == 512 && a.small.room == 128
 
 -- how many bytes stand in the six
 abbrev pub held : Areas → ℕ

@@ -15,6 +15,6 @@ empty room = record { bytes = []; room = room; peak = 0 }
 abbrev pub holding : Space → List ℕ → Space
 holding s bytes = record { bytes = bytes; room = s.room; peak = s.peak }
 
--- a piece behind its bytes, and the peak raised to their length
+-- a piece after its bytes, and the peak raised to their length
 abbrev pub appended : Space → List ℕ → Space
 appended s piece = record { bytes = s.bytes ++ piece; room = s.room; peak = max s.peak (length (s.bytes ++ piece)) }

@@ -17,9 +17,6 @@ pub const NOTICE_ROOM: usize = 512;
 /// The room for what is kept for a moment, in bytes.
 pub const SMALL_ROOM: usize = 128;
 
-/// The rooms together that no limit changes, in bytes: all but those of packet and description.
-pub const FIXED_ROOM: usize = TOKEN_ROOM + OUTPUT_ROOM + NOTICE_ROOM + SMALL_ROOM;
-
 /// All that a run keeps. The areas may be borrowed one by one.
 #[derive(Drop)]
 pub struct Areas {

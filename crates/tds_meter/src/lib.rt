@@ -4,11 +4,9 @@
 mod area;
 mod areas;
 mod limits;
-#[cfg(test)]
-mod tests;
 
 pub use area::{Area, Full, OutOfMemory};
-pub use areas::{Areas, FIXED_ROOM, NOTICE_ROOM, OUTPUT_ROOM, SMALL_ROOM, TOKEN_ROOM};
+pub use areas::{Areas, NOTICE_ROOM, OUTPUT_ROOM, SMALL_ROOM, TOKEN_ROOM};
 pub use limits::{
     GREATEST_COLUMN_ROOM, GREATEST_MAX_WIRE, GREATEST_PACKET_SIZE, LEAST_COLUMN_ROOM,
     LEAST_MAX_WIRE, LEAST_PACKET_SIZE, LimitFault, Limits,

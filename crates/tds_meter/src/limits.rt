@@ -1,6 +1,6 @@
 // The limits of a run.
-ghost use Rattle.std.specs.Prelude.{◌≡◌, ◌≤◌, None, Some, MatchResult};
-ghost use Rattle.tds_meter.specs.declared.limits.TheConstants.{GREATEST_COLUMN_ROOM, GREATEST_MAX_WIRE, GREATEST_PACKET_SIZE, LEAST_COLUMN_ROOM, LEAST_MAX_WIRE, LEAST_PACKET_SIZE};
+ghost use Rattle.std.specs.Prelude.{◌≡◌, None, Some, MatchResult};
+ghost use Rattle.tds_meter.specs.LimitFaults.{IsColumnRoom, IsMaxWire, IsPacketSize};
 
 use crate::area::GREATEST_ROOM;
 use thiserror::Error;
@@ -29,9 +29,9 @@ pub struct Limits {
     packet_size: u16,
     column_room: u32,
     max_wire: u64,
-    ghost packet_size_in_range: { (LEAST_PACKET_SIZE ≤ packet_size) × (packet_size ≤ GREATEST_PACKET_SIZE) },
-    ghost column_room_in_range: { (LEAST_COLUMN_ROOM ≤ column_room) × (column_room ≤ GREATEST_COLUMN_ROOM) },
-    ghost max_wire_in_range: { (LEAST_MAX_WIRE ≤ max_wire) × (max_wire ≤ GREATEST_MAX_WIRE) },
+    ghost packet_size_in_range: { IsPacketSize packet_size },
+    ghost column_room_in_range: { IsColumnRoom column_room },
+    ghost max_wire_in_range: { IsMaxWire max_wire },
 }
 
 /// Why numbers are no limits.

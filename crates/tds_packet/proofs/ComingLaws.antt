@@ -17,12 +17,12 @@ use Rattle.tds_packet.proofs.ElementLaws.{feed_all-append, feed_all-Refused, fee
 use Rattle.tds_packet.proofs.PacketLaws.{WireMeans, wire_is_spelt, read_front}
 use Rattle.tds_packet.proofs.Choices.{choose, choose_false, eq_true, eq_false, lt_true}
 
--- the stop behind these packets
+-- the stop after these packets
 abbrev pub stop_after : List Packet → Option Fault → Stop
 stop_after packets None = record { fault = MessageEnded; place = Payload (length (payload_of packets)) }
 stop_after packets (Some fault) = record { fault = fault; place = Wire (length (wire_of packets)) }
 
--- what is left of the bytes that a reading has: all behind the last packet, all behind a refused header, none of a packet that is cut
+-- what is left of the bytes that a reading has: all after the last packet, all after a refused header, none of a packet that is cut
 abbrev pub left_behind : WirePlace → List ℕ → List ℕ
 left_behind BehindLast begun = begun
 left_behind place begun = []
@@ -31,7 +31,7 @@ abbrev pub left_of : Progress WirePart Fault → List ℕ
 left_of (Reading w begun) = left_behind w.place begun
 left_of (Refused w rest fault) = drop 8 rest
 
--- a reading behind these packets and what comes agree
+-- a reading after these packets and what comes agree
 pub record Agrees (size limit : ℕ) (packets : List Packet) (p : Progress WirePart Fault) (c : Coming) : Type 0 where
   pub bytes : payload_of ((state_of p).packets) ≡ payload_of packets ++ c.bytes
   pub stop : c.stop ≡ stop_after ((state_of p).packets) (fault_of (wire size limit) p)
@@ -83,7 +83,7 @@ module _ (size limit : ℕ) where
             rest = all.rest;
           }
 
-  -- behind a header that has no fault
+  -- after a header that has no fault
   body_agrees : (n : ℕ) (packets : List Packet) (header rest : List ℕ) → length header ≡ 8 → 8 ≤ header_length header
       → ((ps : List Packet) (more : List ℕ) → length more ≤ length rest → Agrees size limit ps (feed_all (wire size limit) (Reading (at ps BeforeHeader) []) more) (message size limit n (length (wire_of ps)) (length (payload_of ps)) more))
       → Agrees size limit packets (feed_all (wire size limit) (Reading (wire_add packets BeforeHeader header) []) rest) (behind_packet (message size limit n) (length (wire_of packets)) (length (payload_of packets)) (behind_header header rest None))
@@ -120,7 +120,7 @@ module _ (size limit : ℕ) where
       some : (header_length header == 8) ≡ false → Agrees size limit packets (feed_all (wire size limit) (Reading (at packets (BeforeBody header)) []) rest) (behind_packet (message size limit n) (length (wire_of packets)) (length (payload_of packets)) (behind_header header rest None))
       some e = choose (λ v. Agrees size limit packets (feed_all (wire size limit) (Reading (at packets (BeforeBody header)) []) rest) (behind_packet (message size limit n) (length (wire_of packets)) (length (payload_of packets)) v)) (nat_lt (length rest) (header_length header - 8)) (NoPacket InputEnded []) (WholePacket (take (header_length header - 8) rest) (is_last_status (slice_index header 1)) (header_length header) (drop (header_length header - 8) rest)) cut (whole e)
 
-  -- what comes behind whole packets
+  -- what comes after whole packets
   pub message_agrees : (n : ℕ) (packets : List Packet) (input : List ℕ) → length input < n → Agrees size limit packets (feed_all (wire size limit) (Reading (at packets BeforeHeader) []) input) (message size limit n (length (wire_of packets)) (length (payload_of packets)) input)
   unfolding message front_packet
   message_agrees zero packets input less = absurd (omega arith)

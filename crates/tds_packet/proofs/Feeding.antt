@@ -4,9 +4,9 @@ use Rattle.tds_packet.specs.Elements.{Grammar}
 
 -- How far a reading has come, byte by byte.
 pub data Progress (S F : Type 0) : Type 0 where
-  -- what has been read, and the bytes behind it: the beginning of the next element
+  -- what has been read, and the bytes after it: the beginning of the next element
   Reading : S → List ℕ → Progress S F
-  -- what has been read, and the bytes behind it: they begin with an element that has this fault
+  -- what has been read, and the bytes after it: they begin with an element that has this fault
   Refused : S → List ℕ → F → Progress S F
 
 -- the element is judged
@@ -38,7 +38,7 @@ abbrev pub state_of : {S F : Type 0} → Progress S F → S
 state_of (Reading s rest) = s
 state_of (Refused s rest fault) = s
 
--- the bytes behind it
+-- the bytes after it
 abbrev pub rest_of : {S F : Type 0} → Progress S F → List ℕ
 rest_of (Reading s rest) = rest
 rest_of (Refused s rest fault) = rest

@@ -19,7 +19,7 @@ use Rattle.tds_packet.proofs.ElementLaws.{AreBytes-front, feed-Spelt}
 use Rattle.tds_packet.proofs.PacketLaws.{before_packet, before_are_read}
 use Rattle.tds_packet.proofs.ComingLaws.{message_agrees, front_message}
 
--- whole packets at the front of an input, with the rest of it behind them; none but the last is marked as the last
+-- whole packets at the front of an input, with the rest of it after them; none but the last is marked as the last
 pub record Begins (size limit : ℕ) (input rest payload : List ℕ) : Type 0 where
   pub packets : List Packet
   pub begin : wire_of packets ++ rest ≡ input
@@ -88,8 +88,14 @@ takes_begins size limit f input rest q bytes n are left t b =
 
 -- ---- how a payload stops
 
--- the payload stopped on the wire, behind whole packets
-pub record StopsBehind (size limit : ℕ) (input payload : List ℕ) (failures failures' : ℕ) (stop : Stop) : Type 0 where
+-- a read failed after these packets, all that what was read has whole, and the header after them wasn't refused
+pub record FailsBehind (size limit : ℕ) (input rest : List ℕ) (packets : List Packet) : Type 0 where
+  pub read : List ℕ
+  pub split : read ++ rest ≡ input
+  pub cut : WireFault size limit read packets InputEnded
+
+-- the payload stopped on the wire, after whole packets
+pub record StopsBehind (size limit : ℕ) (input rest payload : List ℕ) (failures failures' : ℕ) (stop : Stop) : Type 0 where
   pub packets : List Packet
   pub more : List ℕ
   pub begin : wire_of packets ++ more ≡ input
@@ -97,7 +103,7 @@ pub record StopsBehind (size limit : ℕ) (input payload : List ℕ) (failures f
   pub within : length (wire_of packets) ≤ limit
   pub payload_is : payload_of packets ≡ payload
   pub place : stop.place ≡ Wire (length (wire_of packets))
-  pub cause : ((stop.fault ≡ ReadFailed) × (failures' ≡ one_more failures)) ⊎ (WireFault size limit input packets stop.fault × (failures' ≡ failures))
+  pub cause : ((stop.fault ≡ ReadFailed) × (failures' ≡ one_more failures) × FailsBehind size limit input rest packets) ⊎ (WireFault size limit input packets stop.fault × (failures' ≡ failures))
 
 -- the message ended
 pub record EndsMessage (size limit : ℕ) (input rest payload : List ℕ) (failures failures' : ℕ) (stop : Stop) : Type 0 where
@@ -110,7 +116,7 @@ pub record EndsMessage (size limit : ℕ) (input rest payload : List ℕ) (failu
   pub same : failures' ≡ failures
 
 whole_stop : (size limit f g : ℕ) (input rest payload : List ℕ) (stop : Stop) → AreBytes input → g ≡ f → whole_message size limit input ≡ record { bytes = payload; stop = stop; rest = rest }
-    → EndsMessage size limit input rest payload f g stop ⊎ StopsBehind size limit input payload f g stop
+    → EndsMessage size limit input rest payload f g stop ⊎ StopsBehind size limit input rest payload f g stop
 whole_stop size limit f g input rest payload stop are same e = go m.stop
   where
     m : IsFrontMessage size limit input (whole_message size limit input)
@@ -124,7 +130,7 @@ whole_stop size limit f g input rest payload stop are same e = go m.stop
 
     go : ((AreMessage size m.packets × ((whole_message size limit input).stop ≡ record { fault = MessageEnded; place = Payload (length (payload_of m.packets)) }) × (wire_of m.packets ++ (whole_message size limit input).rest ≡ input))
         ⊎ (AreBefore size m.packets × WireFault size limit input m.packets (whole_message size limit input).stop.fault × ((whole_message size limit input).stop.place ≡ Wire (length (wire_of m.packets)))))
-        → EndsMessage size limit input rest payload f g stop ⊎ StopsBehind size limit input payload f g stop
+        → EndsMessage size limit input rest payload f g stop ⊎ StopsBehind size limit input rest payload f g stop
     go (inl x) = inl (record {
       packets = m.packets;
       begin = ap (λ l. wire_of m.packets ++ l) (sym (ap (λ (c : Coming). c.rest) e)) ∙ x.2;
@@ -147,7 +153,7 @@ whole_stop size limit f g input rest payload stop are same e = go m.stop
 
 -- a payload's stop, where its reader tells its bytes
 pub ends_front : (size limit f : ℕ) (input rest : List ℕ) (q : Seen) (payload : List ℕ) (stop : Stop) → AreBytes input → q.left ≡ Some rest → Ends (begun size limit (Some input) f) q payload stop
-    → EndsMessage size limit input rest payload f q.failures stop ⊎ StopsBehind size limit input payload f q.failures stop
+    → EndsMessage size limit input rest payload f q.failures stop ⊎ StopsBehind size limit input rest payload f q.failures stop
 ends_front size limit f input rest q payload stop are left (inl x) =
     let split : input ≡ x.0.0 ++ rest = subst (λ l. Consumes (Some input) l x.0.0) left x.0.1 in
     whole_stop size limit f q.failures input rest payload stop are x.1 (ap (whole_message size limit) split ∙ x.0.2 rest)
@@ -157,33 +163,31 @@ ends_front size limit f input rest q payload stop are left (inr (inl x)) =
     let same : input ≡ x.0.0 = split ∙ ap (λ l. x.0.0 ++ l) none ∙ append-nil x.0.0 in
     whole_stop size limit f q.failures input rest payload stop are x.1 (ap (whole_message size limit) same ∙ x.0.3 ∙ ap (λ l. record { bytes = payload; stop = stop; rest = l }) (sym none))
 ends_front size limit f input rest q payload stop are left (inr (inr x)) =
-    let whole = x.0.0 in
-    let split : input ≡ (whole ++ x.0.1) ++ rest = subst (λ l. Consumes (Some input) l (whole ++ x.0.1)) left x.0.2 in
-    let all : input ≡ whole ++ (x.0.1 ++ rest) = split ∙ append_assoc whole x.0.1 rest in
-    inr (failed whole (x.0.1 ++ rest) (front_message size limit whole (AreBytes-front whole (x.0.1 ++ rest) (subst AreBytes all are))) all x.0.3 x.0.4 x.1)
+    let read = x.0.0 in
+    let split : input ≡ read ++ rest = subst (λ l. Consumes (Some input) l read) left x.0.1 in
+    inr (failed read (front_message size limit read (AreBytes-front read rest (subst AreBytes split are))) split x.0.2 x.0.3 x.1)
   where
-    failed : (whole more : List ℕ) → IsFrontMessage size limit whole (whole_message size limit whole) → input ≡ whole ++ more → stop ≡ record { fault = ReadFailed; place = Wire (0 + length whole) }
-        → whole_message size limit whole ≡ record { bytes = payload; stop = record { fault = InputEnded; place = Wire (0 + length whole) }; rest = [] } → q.failures ≡ one_more f → StopsBehind size limit input payload f q.failures stop
-    failed whole more m split named e count = go m.stop
+    failed : (read : List ℕ) → IsFrontMessage size limit read (whole_message size limit read) → input ≡ read ++ rest → stop.fault ≡ ReadFailed
+        → whole_message size limit read ≡ record { bytes = payload; stop = record { fault = InputEnded; place = stop.place }; rest = [] } → q.failures ≡ one_more f → StopsBehind size limit input rest payload f q.failures stop
+    failed read m split named e count = go m.stop
       where
-        go : ((AreMessage size m.packets × ((whole_message size limit whole).stop ≡ record { fault = MessageEnded; place = Payload (length (payload_of m.packets)) }) × (wire_of m.packets ++ (whole_message size limit whole).rest ≡ whole))
-            ⊎ (AreBefore size m.packets × WireFault size limit whole m.packets (whole_message size limit whole).stop.fault × ((whole_message size limit whole).stop.place ≡ Wire (length (wire_of m.packets)))))
-            → StopsBehind size limit input payload f q.failures stop
-        go (inl x) = absurd (let differ : MessageEnded ≡ InputEnded = sym (ap (λ (t : Stop). t.fault) x.1) ∙ ap (λ (c : Coming). c.stop.fault) e in cc)
-        go (inr x) =
-            let places : Wire (length (wire_of m.packets)) ≡ Wire (0 + length whole) = sym x.2 ∙ ap (λ (c : Coming). c.stop.place) e in
-            let lengths : length (wire_of m.packets) ≡ 0 + length whole = cc in
-            let same : wire_of m.packets ≡ whole = (no_more (wire_of m.packets) m.front.rest whole m.front.spelt (omega (arith, lengths))).1 in
-            record {
-              packets = m.packets;
-              more = more;
-              begin = ap (λ l. l ++ more) same ∙ sym split;
-              each = x.0;
-              within = m.front.within;
-              payload_is = sym m.bytes ∙ ap (λ (c : Coming). c.bytes) e;
-              place = ap (λ (t : Stop). t.place) named ∙ sym places;
-              cause = inl (ap (λ (t : Stop). t.fault) named, count);
-            }
+        ended : (whole_message size limit read).stop.fault ≡ InputEnded
+        ended = ap (λ (c : Coming). c.stop.fault) e
+
+        go : ((AreMessage size m.packets × ((whole_message size limit read).stop ≡ record { fault = MessageEnded; place = Payload (length (payload_of m.packets)) }) × (wire_of m.packets ++ (whole_message size limit read).rest ≡ read))
+            ⊎ (AreBefore size m.packets × WireFault size limit read m.packets (whole_message size limit read).stop.fault × ((whole_message size limit read).stop.place ≡ Wire (length (wire_of m.packets)))))
+            → StopsBehind size limit input rest payload f q.failures stop
+        go (inl x) = absurd (let differ : MessageEnded ≡ InputEnded = sym (ap (λ (t : Stop). t.fault) x.1) ∙ ended in cc)
+        go (inr x) = record {
+          packets = m.packets;
+          more = m.front.rest ++ rest;
+          begin = sym (append_assoc (wire_of m.packets) m.front.rest rest) ∙ ap (λ l. l ++ rest) m.front.spelt ∙ sym split;
+          each = x.0;
+          within = m.front.within;
+          payload_is = sym m.bytes ∙ ap (λ (c : Coming). c.bytes) e;
+          place = sym (ap (λ (c : Coming). c.stop.place) e) ∙ x.2;
+          cause = inl (named, count, record { read = read; split = sym split; cut = subst (WireFault size limit read m.packets) ended x.1 });
+        }
 
 -- a message of which all was handed out
 pub over_front : (size limit f : ℕ) (input rest : List ℕ) (q : Seen) (bytes : List ℕ) (n : ℕ) → AreBytes input → q.left ≡ Some rest → Takes (begun size limit (Some input) f) q bytes n → (o : IsOver q)

@@ -5,11 +5,10 @@ use Rattle.std.proofs.lemmas.List.{take-append-drop, drop-drop}
 use Rattle.std.proofs.KnownBytes.{Consumes-nil, Consumes-trans}
 use Rattle.std.proofs.Math.Seq.{take-append-add}
 use Rattle.std.specs.Prelude.{nat_lt, slice_index}
-use Rattle.std.specs.Io.KnownBytes.{Consumes}
 use lib.Seq.{take-append-le}
 use Rattle.tds_meter.specs.Counts.{one_more}
 use Rattle.tds_packet.specs.declared.fault.Fault.{Fault}
-use Rattle.tds_packet.specs.declared.fault.Fault.TheVariants.{ReadFailed, InputEnded, MessageEnded}
+use Rattle.tds_packet.specs.declared.fault.Fault.TheVariants.{InputEnded, MessageEnded}
 use Rattle.tds_packet.specs.declared.fault.Place.TheVariants.{Wire, Payload}
 use Rattle.tds_packet.specs.declared.fault.Stop.{Stop}
 use Rattle.tds_packet.specs.declared.packet.Header.{Header}
@@ -107,10 +106,6 @@ advance_ok room room' max wire place n last stopped bs body old new f g h er el 
     omega (arith, ap (λ (c : Coming). length c.bytes) none) in
     (read, (p.1, follows), omega (arith, en, p.2.2), needs, p.3)
 
-nothing_read : (room max wire : ℕ) → front_packet room max wire [] ≡ NoPacket InputEnded []
-unfolding front_packet
-nothing_read room max wire = refl
-
 pub advance_err : (room max wire place : ℕ) (last : Bool) (stopped : Option Stop) (bs body : List ℕ) (old new : Option (List ℕ)) (f g : ℕ) (e : Fault)
     → last ≡ false → stopped ≡ None → bs ≡ [] → ReadsPacket room max wire (device_of old f) (device_of new g) body (Err e)
     → Ends (at room max wire place last stopped bs old f) (at room max wire place last stopped bs new g) [] (record { fault = e; place = Wire wire })
@@ -123,10 +118,9 @@ advance_err room max wire place last stopped bs body old new f g e el es eb (inr
     let same = ap (λ x. stopped_at x (Wire wire) []) (sym p.0.0) in
     inr (inl ((read, p.0.1.1, p.0.1.2, from ∙ step_broken room max wire place InputEnded [] read p.0.1.3 ∙ same), p.1))
 advance_err room max wire place last stopped bs body old new f g e el es eb (inr (inr p)) =
-    let from : coming_of room max wire place last stopped bs [] ≡ coming_of room max wire place false None [] [] = rw (el, es, eb) refl in
-    let here : Wire wire ≡ Wire (wire + 0) = ap Wire (sym (add-zero wire)) in
-    let named : (record { fault = e; place = Wire wire }) ≡ (record { fault = ReadFailed; place = Wire (wire + 0) }) = ap (λ x. record { fault = x; place = Wire wire }) p.0.0 ∙ ap (λ x. record { fault = ReadFailed; place = x }) here in
-    inr (inr (([], p.0.1.0, p.0.1.1, named, from ∙ step_broken room max wire place InputEnded [] [] (nothing_read room max wire) ∙ ap (λ x. stopped_at InputEnded x []) here), p.1))
+    let read = p.0.1.0 in
+    let from : coming_of room max wire place last stopped bs read ≡ coming_of room max wire place false None [] read = rw (el, es, eb) refl in
+    inr (inr ((read, p.0.1.1, p.0.0, from ∙ step_broken room max wire place InputEnded [] read p.0.1.2), p.1))
 
 -- ---- bytes are handed out
 
@@ -193,18 +187,7 @@ Ends-after a b c hs bs n e p (inr (inl q)) =
 Ends-after a b c hs bs n e p (inr (inr q)) =
     let r = p.0 in
     let s = q.0.0 in
-    let t = q.0.1 in
-    let wire : b.wire + length s ≡ a.wire + length (r ++ s) = omega (arith, p.2, length-append r s) in
-    inr (inr (
-      (
-        r ++ s,
-        t,
-        subst (Consumes a.left c.left) (sym (append_assoc r s t)) (Consumes-trans a.left b.left c.left r (s ++ t) p.1.0 q.0.2),
-        q.0.3 ∙ ap (λ w. record { fault = ReadFailed; place = Wire w }) wire,
-        p.1.1 s ∙ ap (before hs) q.0.4 ∙ ap (λ w. record { bytes = hs ++ bs; stop = record { fault = InputEnded; place = Wire w }; rest = [] }) wire,
-      ),
-      q.1 ∙ ap one_more p.4.0,
-    ))
+    inr (inr ((r ++ s, Consumes-trans a.left b.left c.left r s p.1.0 q.0.1, q.0.2, p.1.1 s ∙ ap (before hs) q.0.3), q.1 ∙ ap one_more p.4.0))
 
 -- ---- the ends of `ready`
 

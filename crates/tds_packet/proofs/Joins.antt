@@ -108,7 +108,7 @@ device_of bytes failures = record { bytes = bytes; failures = failures }
 
 pub fill_err : (size limit wire : ℕ) (old new : Option (List ℕ)) (f g : ℕ) (hdr body : List ℕ) (e : Fault) → length hdr ≡ 8 → Faulted (device_of old f) (device_of new g) (length hdr) e → ReadsPacket size limit wire (device_of old f) (device_of new g) body (Err e)
 fill_err size limit wire old new f g hdr body InputEnded len h = inr (inl ((refl, (h.0.0.0, h.0.0.2, h.0.1, short_input size limit wire h.0.0.0 (omega (arith, h.0.0.1)))), h.1))
-fill_err size limit wire old new f g hdr body ReadFailed len h = inr (inr ((refl, (h.0.0, h.0.2)), h.1))
+fill_err size limit wire old new f g hdr body ReadFailed len h = inr (inr ((refl, (h.0.0, h.0.2, short_input size limit wire h.0.0 (omega (arith, h.0.1)))), h.1))
 fill_err size limit wire old new f g hdr body e len h = absurd h
 
 pub header_err : (size limit wire : ℕ) (old new : Option (List ℕ)) (f g : ℕ) (hdr body : List ℕ) (e : Fault) → length hdr ≡ 8 → Consumes old new hdr → g ≡ f
@@ -122,7 +122,8 @@ body_err size limit wire old mid new f k g hdr body h InputEnded len fits p same
     let bs = r.0.0.0 in
     inr (inl ((refl, (hdr ++ bs, Consumes-trans old mid new hdr bs p r.0.0.2, r.0.1, ended_body size limit wire hdr bs h len (omega (arith, r.0.0.1, fits)) good)), r.1 ∙ same))
 body_err size limit wire old mid new f k g hdr body h ReadFailed len fits p same good r =
-    inr (inr ((refl, (hdr ++ r.0.0, Consumes-trans old mid new hdr r.0.0 p r.0.2)), r.1 ∙ ap one_more same))
+    let bs = r.0.0 in
+    inr (inr ((refl, (hdr ++ bs, Consumes-trans old mid new hdr bs p r.0.2, ended_body size limit wire hdr bs h len (omega (arith, r.0.1, fits)) good)), r.1 ∙ ap one_more same))
 body_err size limit wire old mid new f k g hdr body h e len fits p same good r = absurd r
 
 pub body_ok : (size limit wire : ℕ) (old mid new : Option (List ℕ)) (f k g : ℕ) (hdr body : List ℕ) (h : Header) → length hdr ≡ 8 → length body + 8 ≡ h.length → Consumes old mid hdr → Stays f k hdr

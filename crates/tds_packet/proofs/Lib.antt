@@ -15,3 +15,4 @@ pub mod Passing
 pub mod Lifts
 pub mod Recuts
 pub mod Places
+pub mod WireFaults

@@ -3,10 +3,10 @@ use Rattle.std.proofs.Common.{◌≡◌, ◌∙◌, inl, inr, ℕ, ◌+◌, ◌<
 use Rattle.std.specs.List.{concat}
 use Rattle.tds_packet.specs.declared.fault.Fault.{Fault}
 use Rattle.tds_packet.specs.declared.fault.Stop.{Stop}
-use Rattle.tds_packet.specs.Elements.{Grammar, Inside, IsNext, Leads, Spelt}
+use Rattle.tds_packet.specs.Elements.{Grammar, IsNext, Leads, Spelt}
 use Rattle.tds_packet.specs.Seen.{Seen}
 use Rattle.tds_packet.specs.Reading.{CutsNext, Reads, RefusesNext, StopsReading, IsCutStop}
-use Rattle.tds_packet.proofs.ElementLaws.{Inside-Spelt, Spelt-append, Spelt-none, Spelt-one}
+use Rattle.tds_packet.proofs.ElementLaws.{Inside, Inside-Spelt, Spelt-append, Spelt-none, Spelt-one}
 
 -- a state with a next element has some bytes to come
 pub next_some : {S : Type 0} (g : Grammar S Fault) (s : S) (element : List ℕ) → IsNext g s element → 0 < g.size s

@@ -30,7 +30,7 @@ module _ (size limit : ℕ) where
       let more : Spelt (wire size limit) (before_packet size limit (done ++ p ∷ [])) (wire_of (q ∷ packets)) (behind ((done ++ p ∷ []) ++ q ∷ packets)) = message_is_read (done ++ p ∷ []) (q ∷ packets) h.2 (rw same f) in
       Spelt-append (wire size limit) (before_packet size limit done) (packet_bytes p) (before_packet size limit (done ++ p ∷ [])) (wire_of (q ∷ packets)) (behind (done ++ p ∷ q ∷ packets)) one (subst (λ v. Spelt (wire size limit) (before_packet size limit (done ++ p ∷ [])) (wire_of (q ∷ packets)) (behind v)) same more)
 
-  -- and nothing behind it
+  -- and nothing after it
   pub read_to_end : (packets : List Packet) (w more : List ℕ) → Message size limit packets w → feed_all (wire size limit) (Reading no_wire []) (w ++ more) ≡ Reading (behind packets) more
   read_to_end packets w more m =
       let s : Spelt (wire size limit) no_wire w (behind packets) = subst (λ v. Spelt (wire size limit) no_wire v (behind packets)) m.spelt (message_is_read [] packets m.each (subst (λ v. length v ≤ limit) (sym m.spelt) m.within)) in

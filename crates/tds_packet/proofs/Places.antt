@@ -1,9 +1,9 @@
 -- Where a payload stops that hands out nothing.
-use Rattle.std.proofs.Common.{◌≡◌, ◌∙◌, ◌⊎◌, ℕ, zero, suc, ◌+◌, ◌-◌, Bool, true, false, List, [], ◌++◌, length, take, drop, Option, Some, None, inl, inr, refl, sym, ap, subst, arith, append-nil, length-append, add-zero}
+use Rattle.std.proofs.Common.{◌≡◌, ◌∙◌, ℕ, zero, suc, ◌+◌, ◌-◌, Bool, true, false, List, [], ◌++◌, length, take, drop, Option, Some, None, inl, inr, refl, sym, ap, subst, arith, length-append, add-zero}
 use Rattle.std.specs.Prelude.{nat_lt, slice_index, ◌==◌, ◌||◌}
 use Rattle.tds_packet.specs.declared.fault.Fault.{Fault}
 use Rattle.tds_packet.specs.declared.fault.Fault.TheVariants.{InputEnded, MessageEnded, ReadFailed}
-use Rattle.tds_packet.specs.declared.fault.Place.TheVariants.{Wire, Payload}
+use Rattle.tds_packet.specs.declared.fault.Place.TheVariants.{Payload}
 use Rattle.tds_packet.specs.declared.fault.Stop.{Stop}
 use Rattle.tds_packet.specs.declared.payload.Payload as payloads
 use Rattle.tds_packet.specs.Payloads.{buffered, seen}
@@ -13,7 +13,7 @@ use Rattle.tds_packet.specs.Seen.{Ends, Seen, began_at, place_at}
 use Rattle.tds_packet.proofs.Choices.{choose}
 use Rattle.tds_packet.proofs.Fronts.{not_header}
 
--- Where the message ends, the stop stands behind its bytes.
+-- Where the message ends, the stop stands after its bytes.
 pub record EndsBehind (place : ℕ) (c : Coming) : Type 0 where
   pub stands : c.stop.fault ≡ MessageEnded → c.stop.place ≡ Payload (place + length c.bytes)
 
@@ -71,7 +71,7 @@ pub stops_here : {R : Type 0} (remaining : R → Option (List ℕ)) (p : payload
 stops_here remaining p new stop going ends = began_there p.place stop (elim ends [
   | inl x ↦ stands (x.0.0 ++ []) [] (x.0.2 [])
   | inr (inl x) ↦ stands x.0.0 [] x.0.3
-  | inr (inr x) ↦ λ e. (let f : ReadFailed ≡ MessageEnded = sym (ap (λ (s : Stop). s.fault) x.0.3) ∙ e in cc)
+  | inr (inr x) ↦ λ e. (let f : ReadFailed ≡ MessageEnded = sym x.0.2 ∙ e in cc)
 ])
   where
     stands : (input rest : List ℕ) → (seen remaining p).future input ≡ record { bytes = []; stop = stop; rest = rest } → stop.fault ≡ MessageEnded → stop.place ≡ Payload p.place

@@ -21,7 +21,7 @@ use Rattle.tds_packet.specs.declared.recutting.Written.{Written}
 use Rattle.tds_packet.specs.Coming.{Coming, before, coming_of, message}
 use Rattle.tds_packet.specs.Packets.{Packet, packet_bytes, wire_of}
 use Rattle.tds_packet.specs.Payloads.{buffered, seen}
-use Rattle.tds_packet.specs.Recutting.{Cuts, Flushes, Gains, StopsInput, StopsOutput, header_bytes, write_stop, cut_packet, cut_packets, first_packets, before_last, last_packet, packets_before}
+use Rattle.tds_packet.specs.Recutting.{Cuts, Flushes, Gains, StopsInput, StopsOutput, write_stop, cut_packet, cut_packets, first_packets, before_last, last_packet, packets_before}
 use Rattle.tds_packet.specs.Seen.{Ends, IsBetween, IsNotOver, IsOver, Seen, Takes}
 use Rattle.tds_packet.proofs.Futures.{Ends-after, Takes-more, Takes-none, Takes-trans}
 
@@ -69,14 +69,14 @@ some_over remaining p b bytes n e takes over =
 pub some_ends : {R : Type 0} (remaining : R → Option (List ℕ)) (p : Payload R) (b : Seen) (bytes : List ℕ) (stop : Stop) → p.stopped ≡ None → Ends (seen remaining p) b bytes stop → length (buffered p) ≤ length bytes
 some_ends remaining p b bytes stop e (inl x) = starts_in remaining p (x.0.0 ++ []) bytes e (ap (λ (c : Coming). c.bytes) (x.0.2 []))
 some_ends remaining p b bytes stop e (inr (inl x)) = starts_in remaining p x.0.0 bytes e (ap (λ (c : Coming). c.bytes) x.0.3)
-some_ends remaining p b bytes stop e (inr (inr x)) = starts_in remaining p x.0.0 bytes e (ap (λ (c : Coming). c.bytes) x.0.4)
+some_ends remaining p b bytes stop e (inr (inr x)) = starts_in remaining p x.0.0 bytes e (ap (λ (c : Coming). c.bytes) x.0.3)
 
 -- ---- the packets of a payload
 
 mul_suc : (k m : ℕ) → suc k * m ≡ k * m + m
 mul_suc k m = suc-mul k m
 
--- more bytes behind full packets change none of them
+-- more bytes after full packets change none of them
 first-more : (m k : ℕ) (xs ys : List ℕ) → k * m ≤ length xs → first_packets m k (xs ++ ys) ≡ first_packets m k xs
 unfolding first_packets
 first-more m zero xs ys h = refl
@@ -138,15 +138,14 @@ first_is m k payload body whole full =
 
 -- ---- a header over the first bytes
 
-pub header_put : (s : Space) (number n : ℕ) (last : Bool) (w hs : List ℕ) → 8 ≤ length s.bytes → n ≡ length s.bytes → hs ≡ header_bytes n number last → w ≡ hs ++ drop (length hs) s.bytes
+pub header_put : (s : Space) (number n : ℕ) (last : Bool) (w hs : List ℕ) → 8 ≤ length s.bytes → n ≡ length s.bytes → length hs ≡ 8 → ((body : List ℕ) → 8 + length body ≡ n → hs ++ body ≡ packet_bytes (cut_packet number last body)) → w ≡ hs ++ drop (length hs) s.bytes
     → holding s (take (length s.bytes) (take 0 s.bytes ++ (w ++ drop (length w) (drop 0 s.bytes)))) ≡ holding s (packet_bytes (cut_packet number last (drop 8 s.bytes)))
-header_put s number n last w hs h en eh ew =
-    let eight : length hs ≡ 8 = ap length eh in
+header_put s number n last w hs h en eight eh ew =
     let len : length w ≡ length s.bytes = omega (arith, ap length ew, length-append hs (drop (length hs) s.bytes), length-drop (length hs) s.bytes, eight, h) in
     let rest : drop (length w) s.bytes ≡ [] = drop_of_length-le s.bytes (omega (arith, len)) in
-    let size : n ≡ 8 + length (drop 8 s.bytes) = omega (arith, en, h, length-drop 8 s.bytes) in
+    let size : 8 + length (drop 8 s.bytes) ≡ n = omega (arith, en, h, length-drop 8 s.bytes) in
     let all : w ≡ packet_bytes (cut_packet number last (drop 8 s.bytes)) =
-    ew ∙ ap (λ l. hs ++ drop l s.bytes) eight ∙ ap (λ l. l ++ drop 8 s.bytes) eh ∙ ap (λ l. header_bytes l number last ++ drop 8 s.bytes) size in
+    ew ∙ ap (λ l. hs ++ drop l s.bytes) eight ∙ eh (drop 8 s.bytes) size in
     ap (holding s) (ap (λ r. take (length s.bytes) (w ++ r)) rest ∙ ap (take (length s.bytes)) (append-nil w) ∙ take_all (length s.bytes) w (omega (arith, len)) ∙ all)
 
 -- ---- the loop's steps and exits
@@ -185,7 +184,7 @@ module _ {W : Type 0} (contents : W → Option (List ℕ)) (m : ℕ) (a b c : Se
       }
 
   module _ (fits : length body ≤ m) (room : 0 < m) (some : 0 < done.packets → 0 < length body) where
-    -- a packet, or the flush behind the last one, failed
+    -- a packet, or the flush after the last one, failed
     pub cut_broken : (last : Bool) (part rest : List ℕ) (stop : RecutStop) → IsBetween c → (last ≡ true → IsOver c) → (last ≡ false → (length body ≡ m) × IsNotOver c)
         → part ++ rest ≡ packet_bytes (cut_packet done.packets last body) → Gains contents mid new part → stop ≡ write_stop (done.bytes + length part) (length rest) → new.failures ≡ one_more mid.failures
         → StopsOutput contents m a c old new stop

@@ -22,7 +22,7 @@ one_packet : given (whole_message 4096 1099511627776 (4 ∷ 1 ∷ 0 ∷ 39 ∷ 0
 unfolding message front_packet
 one_packet = refl
 
--- a byte behind the last packet is left
+-- a byte after the last packet is left
 one_byte_behind : given (whole_message 4096 1099511627776 (4 ∷ 1 ∷ 0 ∷ 39 ∷ 0 ∷ 0 ∷ 1 ∷ 0 ∷ 129 ∷ 1 ∷ 0 ∷ 0 ∷ 0 ∷ 0 ∷ 0 ∷ 0 ∷ 0 ∷ 56 ∷ 1 ∷ 97 ∷ 0 ∷ 209 ∷ 42 ∷ 0 ∷ 0 ∷ 0 ∷ 253 ∷ 16 ∷ 0 ∷ 193 ∷ 0 ∷ 1 ∷ 0 ∷ 0 ∷ 0 ∷ 0 ∷ 0 ∷ 0 ∷ 0 ∷ 255 ∷ [])) ≡ supply (129 ∷ 1 ∷ 0 ∷ 0 ∷ 0 ∷ 0 ∷ 0 ∷ 0 ∷ 0 ∷ 56 ∷ 1 ∷ 97 ∷ 0 ∷ 209 ∷ 42 ∷ 0 ∷ 0 ∷ 0 ∷ 253 ∷ 16 ∷ 0 ∷ 193 ∷ 0 ∷ 1 ∷ 0 ∷ 0 ∷ 0 ∷ 0 ∷ 0 ∷ 0 ∷ 0 ∷ []) 39 (None)
 unfolding message front_packet
 one_byte_behind = refl

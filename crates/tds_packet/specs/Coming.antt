@@ -7,7 +7,7 @@ use Rattle.tds_packet.specs.declared.fault.Place.TheVariants.{Wire, Payload}
 use Rattle.tds_packet.specs.declared.fault.Stop.{Stop}
 use Rattle.tds_packet.specs.Packets.{Packet, wire_of, payload_of, AreBefore, AreMessage, Front, WireFault, header_length, header_fault, is_last_status}
 
--- the bytes to come, the stop behind them, and what the reader has left then
+-- the bytes to come, the stop after them, and what the reader has left then
 pub record Coming : Type 0 where
   pub bytes : List ℕ
   pub stop : Stop
@@ -33,19 +33,19 @@ behind_header header rest None =
     if nat_lt (length rest) (header_length header - 8) then NoPacket InputEnded []
     else WholePacket (take (header_length header - 8) rest) (is_last_status (slice_index header 1)) (header_length header) (drop (header_length header - 8) rest)
 
--- the first packet of an input, behind so many bytes of the wire
+-- the first packet of an input, after so many bytes of the wire
 unfoldable pub front_packet : ℕ → ℕ → ℕ → List ℕ → FrontPacket
 front_packet size limit wire input =
     if nat_lt (length input) 8 then NoPacket InputEnded []
     else behind_header (take 8 input) (drop 8 input) (header_fault size limit wire (take 8 input))
 
--- what comes of a packet, and of more behind it unless it is the last
+-- what comes of a packet, and of more after it unless it is the last
 abbrev pub behind_packet : (ℕ → ℕ → List ℕ → Coming) → ℕ → ℕ → FrontPacket → Coming
 behind_packet more wire place (WholePacket body true n rest) = before body (stopped_at MessageEnded (Payload (place + length body)) rest)
 behind_packet more wire place (WholePacket body false n rest) = before body (more (wire + n) (place + length body) rest)
 behind_packet more wire place (NoPacket fault rest) = stopped_at fault (Wire wire) rest
 
--- what comes of an input, behind so many bytes of the wire and of the payload; the first number is more than the input's length
+-- what comes of an input, after so many bytes of the wire and of the payload; the first number is more than the input's length
 unfoldable pub message : ℕ → ℕ → ℕ → ℕ → ℕ → List ℕ → Coming
 message size limit zero wire place input = stopped_at InputEnded (Wire wire) input
 message size limit (suc fuel) wire place input = behind_packet (message size limit fuel) wire place (front_packet size limit wire input)
@@ -54,13 +54,13 @@ message size limit (suc fuel) wire place input = behind_packet (message size lim
 abbrev pub whole_message : ℕ → ℕ → List ℕ → Coming
 whole_message size limit input = message size limit (suc (length input)) 0 0 input
 
--- what comes of a payload: its limits, the bytes of the wire and of the payload behind it, whether its packet is the last, the stop that it stands at, and the bytes of its packet that are left
+-- what comes of a payload: its limits, the bytes of the wire and of the payload after it, whether its packet is the last, the stop that it stands at, and the bytes of its packet that are left
 unfoldable pub coming_of : ℕ → ℕ → ℕ → ℕ → Bool → Option Stop → List ℕ → List ℕ → Coming
 coming_of size limit wire place last (Some stop) left input = record { bytes = []; stop = stop; rest = input }
 coming_of size limit wire place true None left input = before left (stopped_at MessageEnded (Payload (place + length left)) input)
 coming_of size limit wire place false None left input = before left (message size limit (suc (length input)) wire (place + length left) input)
 
--- What comes is the payload of the packets at the front of the input. It stops at the message's end, or with the fault of the wire behind them.
+-- What comes is the payload of the packets at the front of the input. It stops at the message's end, or with the fault of the wire after them.
 pub record IsFrontMessage (size limit : ℕ) (input : List ℕ) (c : Coming) : Type 0 where
   pub packets : List Packet
   pub front : Front size limit input packets

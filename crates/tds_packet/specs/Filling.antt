@@ -18,9 +18,12 @@ ReadsFewer old new n = (bytes : List ℕ) × (length bytes < n) × Consumes old 
 abbrev pub RunsOut : Option (List ℕ) → Option (List ℕ) → ℕ → Type 0
 RunsOut old new n = ReadsFewer old new n × IsAtEnd new
 
--- All was read; or the input ended; or a read failed, which was counted.
+-- The input ended before n bytes were read; or a read failed, which was counted.
+abbrev pub FallsShort : (old new : Device) → ℕ → Short → Type 0
+FallsShort old new n Ended = RunsOut old.bytes new.bytes n × (new.failures ≡ old.failures)
+FallsShort old new n Failed = ReadsFewer old.bytes new.bytes n × (new.failures ≡ one_more old.failures)
+
+-- All was read, or the call fell short.
 abbrev pub FillsSlice : {U : Type 0} → (old new : Device) → List ℕ → Result U Short → Type 0
 FillsSlice old new bytes (Ok _) = Consumes old.bytes new.bytes bytes × Stays old.failures new.failures bytes
-FillsSlice old new bytes (Err Ended) = RunsOut old.bytes new.bytes (length bytes) × (new.failures ≡ old.failures)
-FillsSlice old new bytes (Err Failed) =
-    ReadsFewer old.bytes new.bytes (length bytes) × (new.failures ≡ one_more old.failures)
+FillsSlice old new bytes (Err short) = FallsShort old new (length bytes) short

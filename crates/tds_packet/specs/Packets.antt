@@ -70,7 +70,7 @@ pub record Front (size limit : ℕ) (input : List ℕ) (packets : List Packet) :
   pub within : length (wire_of packets) ≤ limit
   pub stops : AreMessage size packets ⊎ (AreBefore size packets × ((next : Packet) → IsNextPacket size limit input packets next → ⊥))
 
--- where a wire is read: before a header, after one, or behind the last packet
+-- where a wire is read: before a header, after one, or after the last packet
 pub data WirePlace : Type 0 where
   BeforeHeader : WirePlace
   BeforeBody : List ℕ → WirePlace
@@ -97,7 +97,7 @@ packet_of header body = record { status = slice_index header 1; id = drop 4 head
 abbrev pub with_packet : List Packet → Packet → WirePart
 with_packet packets p = record { packets = packets ++ p ∷ []; place = if is_last p then BehindLast else BeforeHeader }
 
--- a header behind so many bytes of the wire is judged by its Type, its Length and the limit of the wire, in this order
+-- a header after so many bytes of the wire is judged by its Type, its Length and the limit of the wire, in this order
 abbrev pub header_fault : ℕ → ℕ → ℕ → List ℕ → Option Fault
 header_fault size limit before header =
     if slice_index header 0 == 4
@@ -137,7 +137,7 @@ wire size limit = record {
   end_fault = λ w. wire_end w.place;
 }
 
--- The input's whole packets are these, and its end or the bytes behind them give this fault.
+-- The input's whole packets are these, and its end or the bytes after them give this fault.
 pub record WireFault (size limit : ℕ) (input : List ℕ) (packets : List Packet) (fault : Fault) : Type 0 where
   pub taken : ℕ
   pub read : WirePart

@@ -3,7 +3,8 @@ use Rattle.std.specs.Prelude.{◌≡◌, ◌⊎◌, ℕ, ◌<◌, List, [], ◌+
 use Rattle.std.specs.Io.KnownBytes.{Consumes, IsAtEnd}
 use Rattle.tds_meter.specs.Counts.{one_more}
 use Rattle.tds_packet.specs.Devices.{Device}
-use Rattle.tds_packet.specs.Filling.{RunsOut, ReadsFewer, Stays}
+use Rattle.tds_packet.specs.Filling.{FallsShort, FillsSlice, Stays}
+use Rattle.tds_packet.specs.declared.counted.Short.TheVariants.{Ended, Failed}
 use Rattle.tds_packet.specs.declared.fault.Fault.{Fault}
 use Rattle.tds_packet.specs.declared.fault.Fault.TheVariants.{ReadFailed, InputEnded, WrongPacketType, BadPacketLength, ResponseTooLong}
 use Rattle.tds_packet.specs.declared.packet.Header.{Header}
@@ -15,22 +16,22 @@ abbrev pub judged_header : List ℕ → Option Fault → Result Header Fault
 judged_header header (Some fault) = Err fault
 judged_header header None = Ok (record { length = header_length header; last = is_last_status (slice_index header 1) })
 
--- a header behind so many bytes of the wire
+-- a header after so many bytes of the wire
 abbrev pub header_of : ℕ → ℕ → ℕ → List ℕ → Result Header Fault
 header_of size limit wire header = judged_header header (header_fault size limit wire header)
 
--- The input ended before n bytes were read, or a read failed, which was counted.
+-- Fewer than n bytes were read, for the reason that the fault names.
 abbrev pub Faulted : (old new : Device) → ℕ → Fault → Type 0
-Faulted old new n InputEnded = RunsOut old.bytes new.bytes n × (new.failures ≡ old.failures)
-Faulted old new n ReadFailed = ReadsFewer old.bytes new.bytes n × (new.failures ≡ one_more old.failures)
+Faulted old new n InputEnded = FallsShort old new n Ended
+Faulted old new n ReadFailed = FallsShort old new n Failed
 Faulted old new n fault = ⊥
 
 -- All was read, or there is such a fault.
 abbrev pub FillsFrom : {U : Type 0} → (old new : Device) → List ℕ → Result U Fault → Type 0
-FillsFrom old new bytes (Ok _) = Consumes old.bytes new.bytes bytes × Stays old.failures new.failures bytes
+FillsFrom old new bytes (Ok x) = FillsSlice old new bytes (Ok x)
 FillsFrom old new bytes (Err fault) = Faulted old new (length bytes) fault
 
--- These bytes are a packet behind so many bytes of the wire, whatever follows them, and no beginning of them is one.
+-- These bytes are a packet after so many bytes of the wire, whatever follows them, and no beginning of them is one.
 abbrev pub IsFrontPacket : ℕ → ℕ → ℕ → List ℕ → List ℕ → Bool → ℕ → Type 0
 IsFrontPacket size limit wire read body last n = ((zs : List ℕ) → front_packet size limit wire (read ++ zs) ≡ WholePacket body last n zs)
     × ((j : ℕ) → j < length read → front_packet size limit wire (take j read) ≡ NoPacket InputEnded []) × (length read ≡ n)
@@ -45,17 +46,17 @@ abbrev pub GivesOut : (size limit wire : ℕ) → (old new : Device) → Fault �
 GivesOut size limit wire old new fault = ((fault ≡ InputEnded) × ((read : List ℕ) × Consumes old.bytes new.bytes read
     × IsAtEnd new.bytes × (front_packet size limit wire read ≡ NoPacket InputEnded []))) × (new.failures ≡ old.failures)
 
--- A read failed, which was counted.
-abbrev pub FailsInPacket : (old new : Device) → Fault → Type 0
-FailsInPacket old new fault =
-    ((fault ≡ ReadFailed) × ((read : List ℕ) × Consumes old.bytes new.bytes read)) × (new.failures ≡ one_more old.failures)
+-- A read failed, which was counted, before a packet was whole or its header refused.
+abbrev pub FailsInPacket : (size limit wire : ℕ) → (old new : Device) → Fault → Type 0
+FailsInPacket size limit wire old new fault = ((fault ≡ ReadFailed) × ((read : List ℕ) × Consumes old.bytes new.bytes read
+    × (front_packet size limit wire read ≡ NoPacket InputEnded []))) × (new.failures ≡ one_more old.failures)
 
 -- The first packet was read, or it has a fault, or a read failed.
 abbrev pub ReadsPacket : (size limit wire : ℕ) → (old new : Device) → List ℕ → Result Header Fault → Type 0
 ReadsPacket size limit wire old new body (Ok h) = (read : List ℕ) × Consumes old.bytes new.bytes read
     × IsFrontPacket size limit wire read body h.last h.length × Stays old.failures new.failures read
 ReadsPacket size limit wire old new body (Err fault) = RefusesHeader size limit wire old new fault
-    ⊎ (GivesOut size limit wire old new fault ⊎ FailsInPacket old new fault)
+    ⊎ (GivesOut size limit wire old new fault ⊎ FailsInPacket size limit wire old new fault)
 
 -- A fault of packets.
 abbrev pub IsOfPackets : Fault → Type 0

@@ -14,13 +14,9 @@ use Rattle.tds_packet.specs.Packets.{Packet, packet_bytes, wire_of}
 use Rattle.tds_packet.specs.Payloads.{buffered, seen}
 use Rattle.tds_packet.specs.Seen.{Ends, IsBetween, IsNotOver, IsOver, Seen, Takes, begun}
 
--- the packet behind so many others: SPID 0, a PacketID that is 1 for the first and 0 behind 255, Window 0 (MS-TDS, Packet Header)
+-- the packet after so many others: SPID 0, a PacketID that is 1 for the first and 0 after 255, Window 0 (MS-TDS, Packet Header)
 abbrev pub cut_packet : ℕ → Bool → List ℕ → Packet
 cut_packet number last body = record { status = if last then 1 else 0; id = 0 ∷ 0 ∷ (number + 1) % 256 ∷ 0 ∷ []; body = body }
-
--- the header of such a packet of n bytes
-abbrev pub header_bytes : ℕ → ℕ → Bool → List ℕ
-header_bytes n number last = 4 ∷ (if last then 1 else 0) ∷ n / 256 ∷ n % 256 ∷ 0 ∷ 0 ∷ (number + 1) % 256 ∷ 0 ∷ []
 
 -- the first packets of a payload, so many, with bodies of m bytes, where more follow them
 unfoldable pub first_packets : ℕ → ℕ → List ℕ → List Packet
@@ -61,7 +57,7 @@ pub record CutsAll {W : Type 0} (contents : W → Option (List ℕ)) (m : ℕ) (
   pub failures : new.failures ≡ old.failures
   pub asked : old.failures < 2 ^ 64 - 1
 
--- The input stopped behind these bytes of the payload. Their packets before the last one were written and the writer flushed, which may have failed.
+-- The input stopped after these bytes of the payload. Their packets before the last one were written and the writer flushed, which may have failed.
 pub record StopsInput {W : Type 0} (contents : W → Option (List ℕ)) (m : ℕ) (a b : Seen) (old new : Counted W) (stop : RecutStop) : Type 0 where
   pub payload : List ℕ
   pub ends : Ends a b payload stop.stop
@@ -71,7 +67,7 @@ pub record StopsInput {W : Type 0} (contents : W → Option (List ℕ)) (m : ℕ
   pub unwritten : stop.unwritten ≡ 0
   pub flushed : (new.failures ≡ old.failures) ⊎ (new.failures ≡ one_more old.failures)
 
--- A write or the flush failed behind a part of a packet, which is the message's last, or full with more bytes to come. The packets before it were written.
+-- A write or the flush failed after a part of a packet, which is the message's last, or full with more bytes to come. The packets before it were written.
 pub record StopsOutput {W : Type 0} (contents : W → Option (List ℕ)) (m : ℕ) (a b : Seen) (old new : Counted W) (stop : RecutStop) : Type 0 where
   pub payload : List ℕ
   pub last : Bool
@@ -98,7 +94,7 @@ pub record Recuts {R W : Type 0} (remaining : R → Option (List ℕ)) (contents
   pub failures : now.failures ≡ from'.failures
   pub cuts : Cuts contents m (begun size limit (remaining from.device) from.failures) now to to' result
 
--- The bytes behind 8 of a header were taken of the payload: as many as the room holds where more follow, or all that are left; or the payload stopped.
+-- The bytes after 8 of a header were taken of the payload: as many as the room holds where more follow, or all that are left; or the payload stopped.
 pub record Gathers {R : Type 0} (remaining : R → Option (List ℕ)) (old new : Payload R) (room : ℕ) (packet : List ℕ) (result : Result Bool Stop) : Type 0 where
   pub header : 8 ≤ length packet
   pub fits : length packet ≤ room
@@ -111,14 +107,14 @@ pub record Gathers {R : Type 0} (remaining : R → Option (List ℕ)) (old new :
   pub place : OnOk result (new.place ≡ old.place + length (drop 8 packet))
   pub goes_on : IfErr result (λ stop. stop.fault ≡ MessageEnded → ⊥)
 
--- A packet's bytes were written behind others, or a part of them.
+-- A packet's bytes were written after others, or a part of them.
 abbrev pub WritesPacket : {W : Type 0} → (W → Option (List ℕ)) → Counted W → Counted W → Written → List ℕ → Result Written RecutStop → Type 0
 WritesPacket contents old new done bytes result = MatchResult result
     (λ more. Gains contents old new bytes × (more ≡ record { packets = done.packets + 1; bytes = done.bytes + length bytes }) × (new.failures ≡ old.failures))
     (λ stop. (part : List ℕ) × (rest : List ℕ) × (part ++ rest ≡ bytes) × Gains contents old new part
     × (stop ≡ write_stop (done.bytes + length part) (length rest)) × (new.failures ≡ one_more old.failures))
 
--- The writer was flushed behind all packets, or that failed.
+-- The writer was flushed after all packets, or that failed.
 abbrev pub Flushes : {W : Type 0} → (W → Option (List ℕ)) → Counted W → Counted W → Written → ℕ → Result Recut RecutStop → Type 0
 Flushes contents old new all payload result = Keeps (contents old.device) (contents new.device) × MatchResult result
     (λ done. (done ≡ record { packets = all.packets; payload = payload }) × (new.failures ≡ old.failures) × (old.failures < 2 ^ 64 - 1))

@@ -41,10 +41,10 @@ StopsAfter old new bytes stop = ((read : List ℕ) × Consumes old.left new.left
 abbrev pub RunsOutAfter : Seen → Seen → List ℕ → Stop → Type 0
 RunsOutAfter old new bytes stop = ((read : List ℕ) × Consumes old.left new.left read × IsAtEnd new.left × (old.future read ≡ record { bytes = bytes; stop = stop; rest = [] })) × (new.failures ≡ old.failures)
 
--- A read failed, which was counted. The stop stands where that of the whole packets alone would.
+-- A read failed, which was counted. These bytes were handed out, and the stop stands, where they would if the input had ended after what was read.
 abbrev pub FailsAfter : Seen → Seen → List ℕ → Stop → Type 0
-FailsAfter old new bytes stop = ((whole : List ℕ) × (part : List ℕ) × Consumes old.left new.left (whole ++ part) × (stop ≡ record { fault = ReadFailed; place = Wire (old.wire + length whole) })
-    × (old.future whole ≡ record { bytes = bytes; stop = record { fault = InputEnded; place = Wire (old.wire + length whole) }; rest = [] })) × (new.failures ≡ one_more old.failures)
+FailsAfter old new bytes stop = ((read : List ℕ) × Consumes old.left new.left read × (stop.fault ≡ ReadFailed)
+    × (old.future read ≡ record { bytes = bytes; stop = record { fault = InputEnded; place = stop.place }; rest = [] })) × (new.failures ≡ one_more old.failures)
 
 -- These bytes were handed out, and then the payload stopped.
 abbrev pub Ends : Seen → Seen → List ℕ → Stop → Type 0

@@ -9,8 +9,6 @@ mod packet;
 mod payload;
 mod recutting;
 pub mod rig;
-#[cfg(test)]
-mod tests;
 
 pub use answer::{Recut, RecutStop};
 pub use counted::Counted;

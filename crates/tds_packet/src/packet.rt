@@ -19,7 +19,7 @@ pub(crate) struct Header {
     pub(crate) last: bool,
 }
 
-// Judges a header behind so many bytes of the wire: its Type, its Length, the limit of the wire.
+// Judges a header after so many bytes of the wire: its Type, its Length, the limit of the wire.
 fn judge(header: &[u8], room: usize, max_wire: u64, wire: u64) -> Result<Header, Fault>
     requires whole { length header.now ≡ 8 }
     requires within { wire ≤ 2 ^ 56 }

@@ -1,6 +1,7 @@
 // The bytes that the packets of one message carry.
 ghost use Rattle.std.specs.Borrow.{sem};
 ghost use Rattle.std.specs.Prelude.{◌≡◌, ℕ, ◌+◌, ◌^◌, ◌<◌, ◌≤◌, [], ◌∷◌, true, false, None, Some, Err, length, take, IfErr, IfOk, IfSome, IsTrue, MatchResult, OnOk, is_ok, if◌then◌else◌};
+ghost use Rattle.tds_meter.specs.LimitFaults.{IsPacketSize};
 ghost use Rattle.tds_packet.specs.Payloads.{AnswersAgain, CutsFill, CutsPass, IsBegun, IsGoing, IsOnSame, IsSound, LeavesPayload, LendsPiece, PassesOver, RestsPayload, TakesOrEnds, buffered, further, seen};
 ghost use Rattle.tds_packet.specs.Reads.{IsOfPackets};
 ghost use Rattle.tds_packet.specs.Seen.{IsBetween, IsNotOver, IsOver, Takes, began_at};
@@ -9,11 +10,11 @@ use crate::counted::Counted;
 use crate::fault::{Fault, Place, Stop};
 use crate::packet::read_packet;
 use std::io::Read;
-use tds_meter::{Area, GREATEST_MAX_WIRE, GREATEST_PACKET_SIZE, LEAST_PACKET_SIZE};
+use tds_meter::Area;
 
 /// The payload of one message: the bodies of its packets, joined. A packet is read only when a byte
 /// is asked for, or the end, and the packets before it are used up and none of them was the last;
-/// its bytes are handed out only when the whole packet has been read. Not one byte behind the last
+/// its bytes are handed out only when the whole packet has been read. Not one byte after the last
 /// packet is read. After a stop each later call answers the same stop and reads nothing.
 #[derive(Drop)]
 pub struct Payload<'a, R> {
@@ -34,8 +35,8 @@ impl<'a, R: Read> Payload<'a, R> {
     /// The message that comes next. The area's room is the greatest packet size, in bytes; the area
     /// is emptied. The limit counts the bytes of the wire, headers included.
     pub fn new(from: &'a mut Counted<R>, packet: &'a mut Area, max_wire: u64) -> Payload<'a, R>
-        requires room { (LEAST_PACKET_SIZE ≤ packet.old.room) × (packet.old.room ≤ GREATEST_PACKET_SIZE) }
-        requires limit { max_wire ≤ GREATEST_MAX_WIRE }
+        requires room { IsPacketSize packet.old.room }
+        requires limit { max_wire ≤ 2 ^ 56 }
         ensures from { result.from.ghost_name ≡ from.entry.ghost_name }
         ensures packet { result.packet.ghost_name ≡ packet.entry.ghost_name }
         ensures begun { IsBegun R.remaining result from.old packet.old.room max_wire }

@@ -1,9 +1,10 @@
 // A payload written anew, in packets of another size.
-ghost use Rattle.std.specs.Prelude.{◌≡◌, ◌+◌, ◌-◌, ◌*◌, ◌^◌, ◌<◌, ◌≤◌, ◌++◌, drop, length};
+ghost use Rattle.std.specs.Prelude.{◌≡◌, ℕ, List, ◌+◌, ◌-◌, ◌*◌, ◌^◌, ◌<◌, ◌≤◌, ◌++◌, drop, length};
+ghost use Rattle.tds_meter.specs.LimitFaults.{IsPacketSize};
 ghost use Rattle.tds_meter.specs.Space.{holding};
 ghost use Rattle.tds_packet.specs.Packets.{packet_bytes};
 ghost use Rattle.tds_packet.specs.Payloads.{IsGoing, IsOnSame, LeavesPayload, seen};
-ghost use Rattle.tds_packet.specs.Recutting.{Cuts, Flushes, Gathers, Recuts, WritesPacket, cut_packet, header_bytes, write_stop};
+ghost use Rattle.tds_packet.specs.Recutting.{Cuts, Flushes, Gathers, Recuts, WritesPacket, cut_packet, write_stop};
 
 use crate::answer::{Recut, RecutStop};
 use crate::counted::Counted;
@@ -11,7 +12,7 @@ use crate::fault::{Fault, Place, Stop};
 use crate::packet::TABULAR_RESULT;
 use crate::payload::Payload;
 use std::io::{Read, Write};
-use tds_meter::{Area, GREATEST_MAX_WIRE, GREATEST_PACKET_SIZE, LEAST_PACKET_SIZE};
+use tds_meter::Area;
 
 /// How many bytes the header of a packet has (MS-TDS, Packet Header).
 const HEADER: usize = 8;
@@ -27,7 +28,7 @@ struct Written {
 }
 
 /// Reads a message and writes its payload in packets of another size, that of the output's room:
-/// full ones but for the last. A packet is written once a byte behind it was read, or the message's
+/// full ones but for the last. A packet is written once a byte after it was read, or the message's
 /// end. The input's room is the greatest packet size that is read, and the limit counts the bytes
 /// read, headers included. At the end the writer is flushed, also after a stop of the input: a
 /// failure then changes nothing.
@@ -41,10 +42,10 @@ pub fn recut<R: Read, W: Write>(
     output: &mut Area,
     max_wire: u64,
 ) -> Result<Recut, RecutStop>
-    requires input { (LEAST_PACKET_SIZE ≤ input.old.room) × (input.old.room ≤ GREATEST_PACKET_SIZE) }
-    requires output { (LEAST_PACKET_SIZE ≤ output.old.room) × (output.old.room ≤ GREATEST_PACKET_SIZE) }
-    requires limit { max_wire ≤ GREATEST_MAX_WIRE }
-    ensures recuts { let m = output.old.room - HEADER in
+    requires input { IsPacketSize input.old.room }
+    requires output { IsPacketSize output.old.room }
+    requires limit { max_wire ≤ 2 ^ 56 }
+    ensures recuts { let m = output.old.room - 8 in
         Recuts R.remaining W.contents input.old.room max_wire m from.old from.new to.old to.new result }
     ensures rooms { (input.new.room ≡ input.old.room) × (output.new.room ≡ output.old.room) }
 {
@@ -60,10 +61,10 @@ fn cut<R: Read, W: Write>(
 ) -> Result<Recut, RecutStop>
     requires going { IsGoing payload.old }
     requires place { payload.old.place ≡ 0 }
-    requires room { (LEAST_PACKET_SIZE ≤ output.old.room) × (output.old.room ≤ GREATEST_PACKET_SIZE) }
+    requires room { IsPacketSize output.old.room }
     ensures payload { IsOnSame payload.old payload.new }
     ensures room { output.new.room ≡ output.old.room }
-    ensures cuts { let m = output.old.room - HEADER in
+    ensures cuts { let m = output.old.room - 8 in
         Cuts W.contents m (seen R.remaining payload.old) (seen R.remaining payload.new) to.old to.new result }
 {
     let mut done = Written {
@@ -89,7 +90,7 @@ fn cut<R: Read, W: Write>(
     }
 }
 
-// Gathers a packet's body behind room for its header, and says whether no byte follows it.
+// Gathers a packet's body after room for its header, and says whether no byte follows it.
 fn gather<R: Read>(payload: &mut Payload<'_, R>, output: &mut Area) -> Result<bool, Stop>
     requires going { IsGoing payload.old }
     requires room { HEADER < output.old.room }
@@ -114,7 +115,7 @@ fn gather<R: Read>(payload: &mut Payload<'_, R>, output: &mut Area) -> Result<bo
     Ok(true)
 }
 
-// Writes the packet that stands in the area behind room for its header.
+// Writes the packet that stands in the area after room for its header.
 fn write_packet<W: Write>(
     to: &mut Counted<W>,
     output: &mut Area,
@@ -122,7 +123,7 @@ fn write_packet<W: Write>(
     last: bool,
 ) -> Result<Written, RecutStop>
     requires header { HEADER ≤ length output.old.bytes }
-    requires fits { length output.old.bytes ≤ GREATEST_PACKET_SIZE }
+    requires fits { length output.old.bytes ≤ 32767 }
     requires count { (done.packets ≤ 2 ^ 56) × (done.bytes ≤ 2 ^ 57) }
     ensures room { output.new.room ≡ output.old.room }
     ensures writes { let packet = cut_packet done.packets last (drop HEADER output.old.bytes) in
@@ -142,10 +143,10 @@ fn write_packet<W: Write>(
     }
 }
 
-// Writes the header of the packet behind so many others over the first bytes.
+// Writes the header of the packet after so many others over the first bytes.
 fn put_header(output: &mut Area, number: u64, last: bool)
     requires header { HEADER ≤ length output.old.bytes }
-    requires fits { length output.old.bytes ≤ GREATEST_PACKET_SIZE }
+    requires fits { length output.old.bytes ≤ 32767 }
     requires number { number ≤ 2 ^ 56 }
     ensures { output.new ≡ holding output.old (packet_bytes (cut_packet number last (drop HEADER output.old.bytes))) }
 {
@@ -153,15 +154,15 @@ fn put_header(output: &mut Area, number: u64, last: bool)
     put_front(output.tail(0), &header);
 }
 
-// The header of the packet of so many bytes behind so many others (MS-TDS, Packet Header).
-fn header(length: usize, number: u64, last: bool) -> [u8; 8]
-    requires length { length ≤ GREATEST_PACKET_SIZE }
+// The header of the packet of so many bytes after so many others (MS-TDS, Packet Header).
+fn header(size: usize, number: u64, last: bool) -> [u8; 8]
+    requires size { size ≤ 32767 }
     requires number { number ≤ 2 ^ 56 }
-    ensures { result ≡ header_bytes length number last }
+    ensures { (body : List ℕ) → 8 + length body ≡ size → result ++ body ≡ packet_bytes (cut_packet number last body) }
 {
     let status = if last { END_OF_MESSAGE } else { 0x00 };
-    let high = (length / 256) as u8;
-    let low = (length % 256) as u8;
+    let high = (size / 256) as u8;
+    let low = (size % 256) as u8;
     let id = ((number + 1) % 256) as u8;
     [TABULAR_RESULT, status, high, low, 0, 0, id, 0]
 }
@@ -174,7 +175,7 @@ fn put_front(to: &mut [u8], front: &[u8])
     to[..front.len()].copy_from_slice(front);
 }
 
-// Flushes the writer behind all packets, which carry so many payload bytes.
+// Flushes the writer after all packets, which carry so many payload bytes.
 fn finish<W: Write>(to: &mut Counted<W>, all: Written, payload: u64) -> Result<Recut, RecutStop>
     ensures { Flushes W.contents to.old to.new all payload result }
 {

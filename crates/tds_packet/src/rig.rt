@@ -1,4 +1,4 @@
-//! Devices for tests, in memory: they give or take few bytes a call, and fail where a test wants it.
+//! Devices for tests, in memory: they give or take few bytes a call, and fail where a test needs it.
 
 ghost use Rattle.std.specs.Prelude.{◌≡◌, ◌++◌, None, Some, drop, length, min, take, IsSomeAnd};
 
@@ -28,7 +28,7 @@ pub struct ScriptedReader<'a> {
 }
 
 impl<'a> ScriptedReader<'a> {
-    /// A reader that ends behind the bytes.
+    /// A reader that ends after the bytes.
     pub fn new(bytes: &'a [u8], most: usize) -> ScriptedReader<'a>
         ensures bytes { result.left.now ≡ bytes.now }
         ensures most { result.most ≡ most }
@@ -202,7 +202,7 @@ pub struct RepeatingReader<'a> {
 }
 
 impl<'a> RepeatingReader<'a> {
-    /// A reader that ends behind the third.
+    /// A reader that ends after the third.
     pub fn new(first: &'a [u8], again: &'a [u8], times: u64, last: &'a [u8]) -> RepeatingReader<'a>
         ensures first { result.left.now ≡ first.now }
         ensures again { result.again.now ≡ again.now }

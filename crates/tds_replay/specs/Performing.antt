@@ -3,7 +3,6 @@ use Rattle.std.specs.Prelude.{◌≡◌, ◌⊎◌, ◌-◌, ℕ, List, Option, 
 use Rattle.std.specs.declared.io.Sink.{Sink}
 use Rattle.tds_meter.specs.declared.areas.Areas.{Areas}
 use Rattle.tds_meter.specs.declared.limits.Limits.{Limits}
-use Rattle.tds_meter.specs.declared.limits.TheConstants.{GREATEST_PACKET_SIZE}
 use Rattle.tds_packet.specs.declared.answer.Recut.{Recut as Recutting}
 use Rattle.tds_packet.specs.declared.answer.RecutStop.{RecutStop}
 use Rattle.tds_packet.specs.declared.counted.Counted.{Counted}
@@ -84,7 +83,7 @@ PerformsCheck tell charset limits before after status = Checks tell.remaining te
 -- A recut answered, and the status and the line are those of its answer.
 pub record Rewrites {R W N : Type 0} (tell : Telling R W N) (packet_size max_wire : ℕ) (before after : Devices R W N) (status : Status) : Type 0 where
   pub answer : Result Recutting RecutStop
-  pub recuts : Recuts tell.remaining tell.contents GREATEST_PACKET_SIZE max_wire (packet_size - 8) before.from after.from before.to after.to answer
+  pub recuts : Recuts tell.remaining tell.contents 32767 max_wire (packet_size - 8) before.from after.from before.to after.to answer
   pub status_is : status ≡ status_of_recut answer
   pub lines : SaysOrFails tell.said before.notes after.notes (recut_lines answer)
 

@@ -1,15 +1,20 @@
-// What the help of the command says beside its options.
+// What the help of the command says beside its options. Lines fit a terminal of 80 columns: those of an
+// option's long help stand ten columns in.
+
+/// The version of the program, for `--version`, the man page and the package.
+pub(crate) const VERSION: &str = "1.0.0";
 
 /// What the program does.
 pub(crate) const PROGRAM: &str =
-    "Reads the raw packets of one response of SQL Server (TDS 7.4) and writes its rows as quoted CSV,
-in memory that is taken before the first byte is read. Standard input is read where no file is
-named. Text goes to standard output, and what is reported to standard error.";
+    "Reads the raw packets of one response of SQL Server (TDS 7.4) and writes its
+rows as quoted CSV, in memory that is taken before the first byte is read.
+Standard input is read where no file is named. Text goes to standard output,
+and what is reported to standard error.";
 
 /// How the program ends, and two lines that call it.
 pub(crate) const PROGRAM_END: &str = "Exit statuses:
   0  done, or help was asked for
-  2  the words were refused
+  2  the arguments were refused
   3  done, and the server reported an error
   4  the input is refused: a fault, named with its place on standard error
   5  a read or a write failed, or the file can't be opened
@@ -17,22 +22,26 @@ pub(crate) const PROGRAM_END: &str = "Exit statuses:
 
 Examples:
   tds_replay export response.tds > rows.csv
-  tds_replay check --packet-size 8000 response.tds";
+  tds_replay check --packet-size 8000 response.tds
+
+The man page and docs/COMMAND.md list what you may see and what to do.";
 
 /// What `export` does.
 pub(crate) const EXPORT: &str = "Writes the rows of a response as CSV";
 
 /// What `export` reads and writes.
 pub(crate) const EXPORT_LONG: &str =
-    "Reads the packets of one response and writes the rows of its result sets to standard output, as
-quoted CSV in UTF-8: a line of column names, then a line for each row, and an empty line between
-two sets. Lines end with CR LF. Nothing behind the last packet is read. On standard error stand the
-counts of what was read, or the first fault with its place.";
+    "Reads the packets of one response and writes the rows of its result sets to
+standard output, as quoted CSV in UTF-8: a line of column names, then a line for
+each row, and an empty line between two sets. Lines end with CR LF. Nothing
+after the last packet is read. On standard error stand the counts of what was
+read, or the first fault with its place.";
 
 /// How `export` ends, and two lines that call it.
 pub(crate) const EXPORT_END: &str =
-    "Exit statuses: 0 done, 2 refused words, 3 done and the server reported an error, 4 a fault of the
-input, 5 a failed read or write or a file that can't be opened, 6 want of memory.
+    "Exit statuses: 0 done, 2 refused arguments, 3 done and the server reported an
+error, 4 a fault of the input, 5 a failed read or write or a file that can't be
+opened, 6 want of memory.
 
 Examples:
   tds_replay export response.tds > rows.csv
@@ -43,14 +52,15 @@ pub(crate) const CHECK: &str = "Reads a response as export does, and writes no r
 
 /// What `check` reads and writes.
 pub(crate) const CHECK_LONG: &str =
-    "Reads the packets of one response as export does, and counts its text in place of writing it:
-standard output stays empty. On standard error stand the lines of export, and the exit status is
-that of export.";
+    "Reads the packets of one response as export does, and counts its text in place
+of writing it: standard output stays empty. On standard error stand the lines of
+export, and the exit status is that of export.";
 
 /// How `check` ends, and two lines that call it.
 pub(crate) const CHECK_END: &str =
-    "Exit statuses: 0 done, 2 refused words, 3 done and the server reported an error, 4 a fault of the
-input, 5 a failed read or a file that can't be opened, 6 want of memory.
+    "Exit statuses: 0 done, 2 refused arguments, 3 done and the server reported an
+error, 4 a fault of the input, 5 a failed read or a file that can't be opened,
+6 want of memory.
 
 Examples:
   tds_replay check response.tds
@@ -61,38 +71,56 @@ pub(crate) const RECUT: &str = "Writes the packets of a message in another size"
 
 /// What `recut` reads and writes.
 pub(crate) const RECUT_LONG: &str =
-    "Reads the packets of one message, of up to 32767 bytes each, and writes its payload to standard
-output in packets of the new size, the last of which may be shorter. The payload isn't looked at.
-Nothing behind the last packet is read. On standard error stand the numbers of packets and of payload
-bytes, or the first fault with its place.";
+    "Reads the packets of one message, of up to 32767 bytes each, and writes its
+payload to standard output in packets of the new size, the last of which may be
+shorter. The payload isn't looked at. Nothing after the last packet is read. On
+standard error stand the numbers of packets and of payload bytes, or the first
+fault with its place.";
 
 /// How `recut` ends, and two lines that call it.
 pub(crate) const RECUT_END: &str =
-    "Exit statuses: 0 done, 2 refused words, 4 a fault of the input, 5 a failed read or write or a file
-that can't be opened, 6 want of memory.
+    "Exit statuses: 0 done, 2 refused arguments, 4 a fault of the input, 5 a failed
+read or write or a file that can't be opened, 6 want of memory.
 
 Examples:
   tds_replay recut --packet-size 512 response.tds > small.tds
-  tds_replay recut --packet-size 32767 < response.tds | tds_replay check --packet-size 32767";
+  tds_replay recut --packet-size 32767 response.tds > large.tds";
 
-/// The size of packets that are read.
-pub(crate) const PACKET_SIZE: &str =
-    "The greatest packet that is read, in bytes, from 512 to 32767";
+/// The heading of the options that are numbers.
+pub(crate) const LIMITS: &str = "Limits";
+
+/// The size of packets that are read: a line of short help, and long help.
+pub(crate) const PACKET_SIZE: (&str, &str) = (
+    "Greatest packet read, in bytes",
+    "The greatest packet that is read, in bytes, from 512 to 32767",
+);
 
 /// The size of packets that are written.
-pub(crate) const NEW_PACKET_SIZE: &str =
-    "The size of the packets that are written, in bytes, from 512 to 32767";
+pub(crate) const NEW_PACKET_SIZE: (&str, &str) = (
+    "Size of packets written, in bytes, from 512 to 32767",
+    "The size of the packets that are written, in bytes, from 512 to 32767",
+);
 
 /// The room for a description.
-pub(crate) const COLUMN_ROOM: &str =
-    "The room for the encoded description of columns, in bytes, from 10 to 67108864";
+pub(crate) const COLUMN_ROOM: (&str, &str) = (
+    "Room for a set's columns, in bytes",
+    "The room for a set's encoded columns, from 10 to 67108864 bytes",
+);
 
 /// The limit of the wire.
-pub(crate) const MAX_WIRE: &str =
-    "The most bytes of packets that are read, headers included, from 8 to 72057594037927936";
+pub(crate) const MAX_WIRE: (&str, &str) = (
+    "Most bytes of packets read",
+    "The most bytes read, headers included, from 8 to 72057594037927936",
+);
 
 /// The character set.
-pub(crate) const CHARSET: &str = "How text of one byte a character is read";
+pub(crate) const CHARSET: (&str, &str) = (
+    "windows-1252 or utf-8",
+    "How text of one byte a character is read: windows-1252 or utf-8",
+);
 
 /// The file.
-pub(crate) const FILE: &str = "The file that the packets stand in; standard input without it";
+pub(crate) const FILE: (&str, &str) = (
+    "The file of the packets; standard input without it",
+    "The file that the packets stand in; standard input without it",
+);

@@ -259,7 +259,7 @@ fn say_report<W: Write>(
 }
 
 /// Writes the lines of an export's answer, with the message of the first error.
-pub(crate) fn say_answer<W: Write>(
+pub fn say_answer<W: Write>(
     notes: &mut Counted<W>,
     answer: &Result<Report, Stopped>,
     message: &[u8],
@@ -311,7 +311,7 @@ pub(crate) fn say_recut_answer<W: Write>(
 }
 
 /// Writes the line of a file that can't be opened.
-pub(crate) fn say_unreadable<W: Write>(notes: &mut Counted<W>, path: &str) -> Result<(), Unsaid>
+pub fn say_unreadable<W: Write>(notes: &mut Counted<W>, path: &str) -> Result<(), Unsaid>
     ensures { Says W.contents notes.old notes.new (unreadable_line path.now) result }
 {
     say(
@@ -325,7 +325,7 @@ pub(crate) fn say_unreadable<W: Write>(notes: &mut Counted<W>, path: &str) -> Re
 }
 
 /// Writes the line of want of memory.
-pub(crate) fn say_want_of_memory<W: Write>(notes: &mut Counted<W>) -> Result<(), Unsaid>
+pub fn say_want_of_memory<W: Write>(notes: &mut Counted<W>) -> Result<(), Unsaid>
     ensures { Says W.contents notes.old notes.new memory_line result }
 {
     say(notes, &[Piece::Text(b"want of memory\n")])

@@ -33,22 +33,29 @@ pub(crate) const CHARSET: &str = "charset";
 /// The file.
 pub(crate) const FILE: &str = "FILE";
 
-/// The word of UTF-8.
+/// The value for UTF-8.
 pub(crate) const UTF_8: &str = "utf-8";
 
-/// The word of Windows-1252.
+/// The value for Windows-1252.
 const WINDOWS_1252: &str = "windows-1252";
 
-/// The words of character sets.
+/// The values for character sets.
 static CHARSETS: [&str; 2] = [WINDOWS_1252, UTF_8];
 
-// An option whose value is a number.
-fn number<'a>(alloc: Global, name: &'a str, parser: ValueParser<'a>, help: &'a str) -> Arg<'a> {
+// An option whose value is a number. The help is a line of short help, and the lines of long help.
+fn number<'a>(
+    alloc: Global,
+    name: &'a str,
+    parser: ValueParser<'a>,
+    help: (&'a str, &'a str),
+) -> Arg<'a> {
     Arg::new(alloc, name)
         .long(name)
         .value_name("N")
         .value_parser(parser)
-        .help(help)
+        .help(help.0)
+        .long_help(help.1)
+        .help_heading(help::LIMITS)
 }
 
 // The parser of packet sizes.
@@ -82,12 +89,16 @@ fn charset<'a>(alloc: Global) -> Arg<'a> {
         .value_name("NAME")
         .value_parser(CHARSETS.as_slice())
         .default_value(WINDOWS_1252)
-        .help(help::CHARSET)
+        .help(help::CHARSET.0)
+        .long_help(help::CHARSET.1)
+        .hide_possible_values(true)
 }
 
 // The file, which may be left out.
 fn file<'a>(alloc: Global) -> Arg<'a> {
-    Arg::new(alloc, FILE).help(help::FILE)
+    Arg::new(alloc, FILE)
+        .help(help::FILE.0)
+        .long_help(help::FILE.1)
 }
 
 // A command with the limits of a response.
@@ -140,6 +151,7 @@ pub(crate) fn recut<'a>(alloc: Global) -> Result<Command<'a>, AllocError> {
 // The program without its commands.
 fn without_commands<'a>(alloc: Global) -> Result<Command<'a>, AllocError> {
     Command::new(alloc, "tds_replay")
+        .version(help::VERSION)
         .no_binary_name(true)
         .subcommand_required(true)
         .about(help::PROGRAM)
@@ -154,7 +166,7 @@ fn with_reading<'a>(alloc: Global) -> Result<Command<'a>, AllocError> {
         .subcommand(check(alloc)?)
 }
 
-/// The whole command line, behind the program's name.
+/// The whole command line, after the program's name.
 pub(crate) fn program<'a>(alloc: Global) -> Result<Command<'a>, AllocError> {
     with_reading(alloc)?.subcommand(recut(alloc)?)
 }

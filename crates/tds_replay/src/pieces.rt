@@ -7,7 +7,7 @@ use std::io::Write;
 use tds_packet::Counted;
 
 /// A piece of a line.
-#[derive(Debug, Clone, Copy)]
+#[derive(Clone, Copy)]
 pub(crate) enum Piece<'a> {
     /// Text as it stands.
     Text(&'a [u8]),
@@ -21,7 +21,7 @@ pub(crate) enum Piece<'a> {
 
 /// A write failed, which its device counted.
 #[derive(Debug, Clone, Copy)]
-pub(crate) struct Unsaid;
+pub struct Unsaid;
 
 /// Writes bytes.
 pub(crate) fn put<W: Write>(notes: &mut Counted<W>, bytes: &[u8]) -> Result<(), Unsaid>

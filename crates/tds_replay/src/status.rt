@@ -6,7 +6,7 @@ use tds_export::{Report, Stopped};
 use tds_packet::{Fault, Recut, RecutStop};
 
 /// How the command ends, as its exit status tells it.
-#[derive(Debug, Clone, Copy, PartialEq, Eq)]
+#[derive(Debug, Clone, Copy)]
 pub enum Status {
     /// Done, and the server reported no error.
     Done,

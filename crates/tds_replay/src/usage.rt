@@ -1,4 +1,4 @@
-// Why words are no job.
+// Why arguments are no job.
 ghost use Rattle.tds_replay.specs.Usages.{SaysUsage};
 
 use crate::lines::say_want_of_memory;
@@ -8,12 +8,12 @@ use std::alloc::AllocError;
 use std::io::Write;
 use tds_packet::Counted;
 
-/// Why words are no job.
+/// Why arguments are no job.
 #[derive(Debug, Drop)]
 pub enum Usage {
     /// There is no memory to read them.
     OutOfMemory,
-    /// They ask for help, which is this text.
+    /// They ask for help or for the version, which is this text.
     Help(String),
     /// They are refused. The text says what is wrong, and how the line would go.
     Refused(String),
@@ -22,11 +22,7 @@ pub enum Usage {
 impl Usage {
     /// Writes help to standard output and everything else to the notes, and says how the command
     /// ends.
-    pub(crate) fn say<W: Write, N: Write>(
-        &self,
-        to: &mut Counted<W>,
-        notes: &mut Counted<N>,
-    ) -> Status
+    pub fn say<W: Write, N: Write>(&self, to: &mut Counted<W>, notes: &mut Counted<N>) -> Status
         ensures { SaysUsage W.contents N.contents self.now to.old to.new notes.old notes.new result }
     {
         match self {

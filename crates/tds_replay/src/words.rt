@@ -1,4 +1,4 @@
-// The words of a command line.
+// The arguments of a command line.
 ghost use Rattle.std.specs.Prelude.{IfOk};
 ghost use Rattle.tds_replay.specs.Jobs.{IsInRange};
 
@@ -15,7 +15,7 @@ use std::str::FromStr;
 use tds_export::Charset;
 use tds_meter::{LEAST_COLUMN_ROOM, LimitFault, Limits};
 
-// What clap says of words that are no job.
+// What clap says of arguments that are no job: why they are refused, help, or the version.
 fn usage_of(alloc: Global, error: &Error) -> Usage {
     if error.kind() == ErrorKind::OutOfMemory {
         return Usage::OutOfMemory;
@@ -27,7 +27,7 @@ fn usage_of(alloc: Global, error: &Error) -> Usage {
     }
 }
 
-// Words that are refused, with the usage of a command.
+// Arguments that are refused, with the usage of a command.
 fn refused(alloc: Global, command: &mut Command<'_>, kind: ErrorKind, message: &str) -> Usage {
     match command.error(kind, message) {
         Ok(error) => usage_of(alloc, &error),
@@ -35,7 +35,7 @@ fn refused(alloc: Global, command: &mut Command<'_>, kind: ErrorKind, message: &
     }
 }
 
-// The words behind a command's name.
+// The arguments after a command's name.
 #[derive(Drop)]
 struct Given<'m, 'a> {
     alloc: Global,
@@ -70,7 +70,7 @@ impl<'m, 'a> Given<'m, 'a> {
         ))
     }
 
-    // Words that are refused for a number.
+    // Arguments that are refused for a number.
     fn refuse(&self, option: &str) -> Usage {
         match self.refused_number(option) {
             Ok(usage) => usage,
@@ -166,7 +166,7 @@ impl<'m, 'a> Given<'m, 'a> {
     }
 }
 
-// Words without a command.
+// Arguments without a command.
 fn without_command(alloc: Global) -> Usage {
     match program(alloc) {
         Ok(mut program) => refused(
@@ -179,7 +179,7 @@ fn without_command(alloc: Global) -> Usage {
     }
 }
 
-/// Reads the words behind the program's name as a job. Each of its numbers lies in its range.
+/// Reads the arguments after the program's name as a job. Each of its numbers lies in its range.
 pub fn parse(alloc: Global, words: &[String]) -> Result<Job, Usage>
     ensures { IfOk result IsInRange }
 {

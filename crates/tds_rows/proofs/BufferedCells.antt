@@ -22,10 +22,10 @@ use Rattle.tds_csv.specs.declared.sink.Sink.{Sink}
 use Rattle.tds_csv.specs.Sinks.{Breaks, Held, IsWriting, Puts, PutsPiece, held}
 use Rattle.tds_csv.proofs.Spares.{spare_before, spare_written}
 use Rattle.tds_rows.proofs.CellSteps.{fixed_some, scalar_shape}
-use Rattle.tds_rows.proofs.RowSteps.{at_once_breaks, at_once_streams}
+use Rattle.tds_rows.proofs.RowSteps.{ReadsCell, at_once_breaks, at_once_streams}
 use Rattle.tds_rows.specs.declared.Charset.{Charset}
 use Rattle.tds_rows.specs.Cells.{CellPart, Null, ScalarBytes, ScalarCell, ScalarLength, WholeCell, cell, cell_start, shape, shape_of_length, unless, value_part}
-use Rattle.tds_rows.specs.CellSteps.{HasInt4, IsScalarLeft, IsValueText, int4_kind, length_behind, scalar_size, start_behind, value_bytes, value_length, value_start, PutsCell, ReadsCell, StopsCell}
+use Rattle.tds_rows.specs.CellSteps.{HasInt4, IsScalarLeft, IsValueText, int4_kind, length_behind, scalar_size, start_behind, value_bytes, value_length, value_start, PutsCell, StopsCell}
 use Rattle.tds_rows.specs.WholeCells.{WritesCell}
 use Rattle.tds_csv.specs.Quoting.{in_line}
 
@@ -143,7 +143,7 @@ refused_left kind bytes start n at many some bad =
     let behind : (start + n) - start ≡ value_length kind bytes = omega (arith, many) in
     inr (omega (arith, some, many), subst (λ (m : ℕ). is_ok (read_of kind (take (value_length kind bytes) (drop m bytes))) ≡ false) at (subst (λ (m : ℕ). is_ok (read_of kind (take m (drop start bytes))) ≡ false) behind bad))
 
--- the bytes of a whole cell say how many they are, as those with more behind them do
+-- the bytes of a whole cell say how many they are, as those with more after them do
 pub front_size : (fixed : Option ℕ) (n : ℕ) (bytes : List ℕ) → start_behind fixed + length_behind fixed bytes ≤ n → start_behind fixed + length_behind fixed (take n bytes) ≡ start_behind fixed + length_behind fixed bytes
 front_size (Some k) n bytes within = refl
 front_size None zero bytes within = absurd (omega (arith, within))

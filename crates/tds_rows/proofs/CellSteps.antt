@@ -130,21 +130,21 @@ length_leads column kind n a b bytes len is some good takes =
     let to : (cell column).add (ScalarLength kind) bytes ≡ ScalarBytes kind n = ap (λ (m : ℕ). if m == 0 then WholeCell Null else ScalarBytes kind m) is ∙ choose_false (n == 0) (WholeCell Null) (ScalarBytes kind n) (ne_eqb n 0 some) in
     reads_one (cell column) (ScalarLength kind) a b bytes (ScalarBytes kind n) (record { some = omega (arith, len); whole = len; free = free }) takes to
 
--- where the value stops behind its length, the cell does
+-- where the value stops after its length, the cell does
 length_then : (column : ℕ) (kind : Kind) (n : ℕ) (a b d : Seen) (place : ℕ) (bytes : List ℕ) (stop : Stop) → length bytes ≡ 1 → slice_index bytes 0 ≡ n → n ≢ 0 → is_length_allowed kind n ≡ true → Takes a b bytes (length bytes)
     → StopsReading (cell column) (ScalarBytes kind n) b d (place + length bytes) (ScalarBytes kind n) stop → StallsCell (ScalarLength kind) column a d place stop
 length_then column kind n a b d place bytes stop len is some good takes x =
     let p = length_leads column kind n a b bytes len is some good takes in
     record { at = ScalarBytes kind n; stops = stops_after (cell column) (ScalarLength kind) (ScalarBytes kind n) a b d place (ScalarBytes kind n) stop p x; quiet = refl }
 
--- the value behind a length is cut
+-- the value after a length is cut
 pub counted_cut : (column : ℕ) (kind : Kind) (n : ℕ) (a b d : Seen) (place middle : ℕ) (bytes part : List ℕ) (own stop : Stop) → length bytes ≡ 1 → slice_index bytes 0 ≡ n → n ≢ 0 → is_length_allowed kind n ≡ true → Takes a b bytes (length bytes)
     → middle ≡ place + length bytes → length part < n → Ends b d part own → stop ≡ began_at middle own → StallsCell (ScalarLength kind) column a d place stop
 counted_cut column kind n a b d place middle bytes part own stop len is some good takes at fewer ends told =
     length_then column kind n a b d place bytes stop len is some good takes
     (subst (λ (m : ℕ). StopsReading (cell column) (ScalarBytes kind n) b d m (ScalarBytes kind n) stop) at (cell_cut column (ScalarBytes kind n) b d middle n part own stop refl refl fewer ends told))
 
--- a length and the value behind it were read
+-- a length and the value after it were read
 pub counted_gathers : (column : ℕ) (kind : Kind) (n : ℕ) (a b d : Seen) (place middle place' : ℕ) (value : List ℕ) → fixed_length kind ≡ None → n ≢ 0 → is_length_allowed kind n ≡ true → Takes a b (n ∷ []) 1 → middle ≡ place + 1
     → length value ≡ n → Takes b d value (length value) → IsBetween d → place' ≡ middle + length value → GathersCell kind (ScalarLength kind) column a d place place' (n ∷ value)
 counted_gathers column kind n a b d place middle place' value is some good first at whole then_takes between there = record {
@@ -184,7 +184,7 @@ length_taken a b before after n none is x =
     let bytes : after.bytes ≡ n ∷ [] = only_one after.bytes (ap length alone ∙ x.whole) ∙ ap (λ m. m ∷ []) is in
     (bytes, subst (λ l. Takes a b l 1) (sym alone ∙ bytes) x.takes)
 
--- the value behind a length that is allowed was read into the area that has the length, or it is cut
+-- the value after a length that is allowed was read into the area that has the length, or it is cut
 pub counted_taken : {U : Type 0} → (result : Result U Stop) (stopped : Option Stop) (column : ℕ) (kind : Kind) (n : ℕ) (a b d : Seen) (place middle place' : ℕ) (before after : Space) → fixed_length kind ≡ None → before.bytes ≡ n ∷ [] → n ≢ 0 → is_length_allowed kind n ≡ true
     → Takes a b (n ∷ []) 1 → middle ≡ place + 1 → stopped ≡ None → place' ≡ (if is_ok result then middle + n else middle)
     → MatchResult result (λ _. TakesInto b d before after n) (λ stop. stopped ≡ None → EndsInto b d before after middle n stop)

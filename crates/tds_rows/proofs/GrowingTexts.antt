@@ -43,7 +43,7 @@ grows_under x a b h = (h.0, append_assoc x a h.0 ∙ ap (λ v. x ++ v) h.1)
 pub grows_by : (a b : List ℕ) → Grows a (a ++ b)
 grows_by a b = (b, refl)
 
--- a comma and more behind a field
+-- a comma and more after a field
 comma : (f rest : List ℕ) → Grows f ((f ++ codes ",") ++ rest)
 comma f rest = (codes "," ++ rest, sym (append_assoc f (codes ",") rest))
 

@@ -140,12 +140,6 @@ good_within begins rest text old new h i failed piece (Stopped stop) x = omega a
 good_within begins rest text old new h i failed piece Odd x = absurd x
 good_within begins rest text old new h i failed piece (join_faults.BadText k) x = let within : k < length piece = x.within in omega (arith, within)
 
--- and no end says that any are
-pub good_at_end : (unit : ℕ) (fit : List ℕ → Type 0) (text : List ℕ → List ℕ) (old new : List ℕ) (h i : Held) (failed : Bool) (fault : JoinFault) → EndsBy {U = Unit {0}} unit fit text old new h i failed (Err fault) → good_of fault ≡ 0
-good_at_end unit fit text old new h i failed (Stopped stop) x = refl
-good_at_end unit fit text old new h i failed Odd x = refl
-good_at_end unit fit text old new h i failed (join_faults.BadText k) x = x.2
-
 -- ---- piece after piece
 
 module _ (c : Conversion) (content : List ℕ) (begun : Begins c content) where

@@ -8,7 +8,7 @@ use Rattle.tds_packet.proofs.Choices.{choose_false}
 use Rattle.tds_csv.specs.Quoting.{joined}
 use Rattle.tds_csv.specs.Quoting.{behind_comma, end_behind, in_line}
 
--- a field behind a comma
+-- a field after a comma
 pub behind_some : (column : ℕ) (text : List ℕ) → column ≢ 0 → 44 ∷ text ≡ behind_comma column text
 behind_some column text h = sym (choose_false (column == 0) text (44 ∷ text) (ne_eqb column 0 h))
 
@@ -21,7 +21,7 @@ joined_snoc (g ∷ h ∷ gs) f =
     ap (λ l. (front ++ joined (h ∷ gs)) ++ l) (sym (behind_some (length (g ∷ h ∷ gs)) f (λ e. omega (arith, e)))) ∙ append_assoc front (joined (h ∷ gs)) (44 ∷ f)
     ∙ ap (λ l. front ++ (joined (h ∷ gs) ++ l)) (behind_some (length (h ∷ gs)) f (λ e. omega (arith, e))) ∙ ap (λ l. front ++ l) (joined_snoc (h ∷ gs) f)
 
--- a field is written behind its comma, and then the end of the line
+-- a field is written after its comma, and then the end of the line
 pub value_text : (start made n column : ℕ) (last : Bool) (front value rest to field : List ℕ) → start ≤ length front → made ≤ length value → take made value ≡ field → take start front ++ field ≡ behind_comma column field
     → take n to ≡ take (start + made) (take start front ++ (value ++ rest)) ++ end_behind last → take n to ≡ in_line column last field
 value_text start made n column last front value rest to field within some is comma whole =

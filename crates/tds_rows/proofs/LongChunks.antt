@@ -229,7 +229,7 @@ module _ (column : ℕ) (last : Bool) (c : Conversion) (size : ℕ) (unit_is : s
           number_breaks column last (Total c) 8 a b place place' n (omega arith) refl x total_free (ChunkLength c t []) (total_to t some known) h j (behind_comma column (opening (is_quoted c))) [] failed stop few delivered broken
           (append-nil (behind_comma column (opening (is_quoted c))) ∙ total_text) breaks
 
-      -- the chunks behind it were read and put, or stopped
+      -- the chunks after it were read and put, or stopped
       pub total_then : {U : Type 0} (d : Seen) (place'' : ℕ) (h i j : Held) (failed : Bool) (r : Result U Stop) → Puts h i (behind_comma column (opening (is_quoted c)))
           → MatchResult r (λ _. PutsField (ChunkLength c t []) column last b d place' place'' i j) (λ stop. StopsField (ChunkLength c t []) column last b d place' i j failed stop)
           → MatchResult r (λ _. PutsField (Total c) column last a d place place'' h j) (λ stop. StopsField (Total c) column last a d place h j failed stop)

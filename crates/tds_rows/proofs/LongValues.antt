@@ -56,7 +56,7 @@ open_none Utf8Text = ap (λ l. quote ∷ l) (sym (emit_none Utf8Text))
 pub none_begins : (c : Conversion) → Begins c []
 none_begins c = (begun_by_test c []).0 (fit_begins c [] [] (no_data_is_fit c))
 
--- ---- parts of a field, one behind the other
+-- ---- parts of a field, one after the other
 
 module _ (column : ℕ) (last : Bool) where
   -- what was read and put, and then the rest of the field
@@ -129,7 +129,7 @@ module _ (column : ℕ) (last : Bool) where
     pub number_then_stops : (d : Seen) (h i j : Held) (added : List ℕ) (failed : Bool) (stop : Stop) → cell_so_far column last s ++ added ≡ cell_so_far column last t → Puts h i added → StopsField t column last b d place' i j failed stop → StopsField s column last a d place h j failed stop
     number_then_stops d h i j added failed stop text_is puts y = field_stops s t a b d place place' h i j failed stop (number_streams h i added text_is puts) number_at y
 
-  -- a whole value behind its length or total alone
+  -- a whole value after its length or total alone
   pub number_whole : (s : CellPart) (size : ℕ) (a b : Seen) (place place' n : ℕ) (some : 0 < size) (is : cell_size s ≡ size) (x : ReadsNumber size a b place place' n) (free : cell_fault column s x.element ≡ None) (value : Cell) (to : cell_add s x.element ≡ WholeCell value)
       → (h i : Held) (added : List ℕ) → cell_so_far column last s ++ added ≡ cell_so_far column last (WholeCell value) → Puts h i added → PutsField s column last a b place place' h i
   number_whole s size a b place place' n some is x free value to h i added text_is puts = record {
@@ -206,7 +206,7 @@ module _ (column : ℕ) (last : Bool) (c : Conversion) (size : ℕ) (unit_is : s
   short_text zero = (ending c (is_quoted c) last [], empty_open)
   short_text (suc n) = ([], append-nil (behind_comma column (opening (is_quoted c))) ∙ short_open (suc n) (omega arith))
 
-  -- the length was read, and more of the value stands behind it
+  -- the length was read, and more of the value stands after it
   module _ (a b : Seen) (place place' n : ℕ) (x : ReadsNumber 2 a b place place' n) (free : short_fault column size n ≡ None) (some : n ≢ 0xFFFF) where
     fault_free : cell_fault column (ShortLength c) x.element ≡ None
     fault_free = short_same x.element n x.number ∙ free

@@ -49,7 +49,7 @@ module _ (table : Table) (columns : List Column) (nulls : ℕ → Bool) (from : 
   pub runs_none : IsAhead table columns from → RunsMarked table columns nulls from from [] []
   runs_none ahead = record { count = 0; ahead = ahead; further = sym (add-zero from.column); writes = (refl, refl) }
 
-  -- one cell more, in the bytes that are left and behind what was made
+  -- one cell more, in the bytes that are left and after what was made
   pub runs_one : (at behind : Ahead) (kind : Kind) (last : Bool) (used u made m : ℕ) (bytes to new rest : List ℕ) → made ≤ length to → m ≤ length new → TakesColumn table columns at behind kind → last ≡ is_last (drop behind.column columns)
       → WritesNext table.charset (nulls at.column) kind at.column last (take u (take (length bytes - used) (drop used bytes))) (take m new) → RunsMarked table columns nulls from at (take used bytes) (take made to)
       → RunsMarked table columns nulls from behind (take (used + u) bytes) (take (made + m) (take made to ++ (new ++ rest)))

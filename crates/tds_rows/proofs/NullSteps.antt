@@ -27,7 +27,7 @@ use Rattle.tds_rows.proofs.RowLaws.{begins_open, cell_in_row, shape-HasBytes}
 use Rattle.tds_rows.proofs.RowSteps.{same_end}
 use Rattle.tds_rows.proofs.RunSteps.{cell_some}
 
--- ---- a cell in its row, with the NULLs behind it
+-- ---- a cell in its row, with the NULLs after it
 
 module _ (charset : Charset) (cells : List Cell) (ks : List (Column × Bool)) where
   abbrev small : Grammar CellPart Fault
@@ -196,6 +196,6 @@ module _ (charset : Charset) (start : RowPart) (c : Column) (ks : List (Column �
       streaming_after (row charset) row_so_far start begin a b d h i j place failed stop begun
       (subst (λ (n : ℕ). RowStops charset begin b d n i j failed stop) x.place_is (marked_stops charset x.cells ks c b d middle i j failed stop z))
 
--- behind the last column
+-- after the last column
 pub row_ends : (charset : Charset) (start : RowPart) (a b : Seen) (place place' : ℕ) (h i : Held) (column : ℕ) → i.delivered ≤ 2 ^ 64 - 1 → NearsCells charset start [] a b place place' h i column → ReadsRow charset start a b place place' h i
 row_ends charset start a b place place' h i column d x = record { cells = x.cells; streams = all_put charset start [] a b place place' h i column refl d x; place_is = x.place_is }

@@ -1,4 +1,4 @@
--- Columns that are NULL by their bit: their text stands behind that of the element that is read before them.
+-- Columns that are NULL by their bit: their text stands after that of the element that is read before them.
 use Rattle.std.proofs.Common.{◌≡◌, ◌∙◌, ℕ, ◌+◌, ◌<◌, Bool, true, false, List, [], ◌∷◌, ◌++◌, length, refl, sym, ap, subst, arith, append_assoc, append-nil, length-append}
 use Rattle.std.specs.Prelude.{◌==◌, Option, Some, None, if◌then◌else◌, map}
 use Rattle.tds_values.specs.declared.kind.Kind.{Kind}
@@ -32,7 +32,7 @@ nulls_ahead n [] = []
 nulls_ahead n ((k, true) ∷ ks) = in_line n (ends ks) null_field ++ nulls_ahead (n + 1) ks
 nulls_ahead n ((k, false) ∷ ks) = []
 
--- one more whole cell, and what is known of the text behind it
+-- one more whole cell, and what is known of the text after it
 one_more : (cells : List Cell) (v : Cell) (ks : List (Column × Bool)) (text : List ℕ) → (joined (map field (cells ++ v ∷ [])) ++ end_behind (ends ks)) ++ nulls_ahead (length (cells ++ v ∷ [])) ks ≡ text
     → (joined (map field cells) ++ in_line (length cells) (ends ks) (field v)) ++ nulls_ahead (length cells + 1) ks ≡ text
 one_more cells v ks text is =
@@ -61,7 +61,7 @@ start_size kind (LongShape c Short) h = omega arith
 start_size kind (LongShape c Chunked) h = omega arith
 
 module _ (column : ℕ) (last : Bool) where
-  -- a field behind its comma grows as it does
+  -- a field after its comma grows as it does
   comma_grows : (first : Bool) (a b : List ℕ) → Grows a b → Grows (if first then a else 44 ∷ a) (if first then b else 44 ∷ b)
   comma_grows true a b h = h
   comma_grows false a b h = grows_under (44 ∷ []) a b h
@@ -100,14 +100,14 @@ module _ (column : ℕ) (last : Bool) where
       subst (λ l. Grows l there) (opened_text p (next_some (cell column) p e n))
       (grows_trans here (opened column (field_so_far (cell_add p e))) there (opened_grows (field_so_far p) (field_so_far (cell_add p e)) (cell_grows column p e n)) (opened_to (cell_add p e)))
 
--- ---- a cell in its row, with the NULLs behind it
+-- ---- a cell in its row, with the NULLs after it
 
 module _ (charset : Charset) (cells : List Cell) (ks : List (Column × Bool)) where
   -- a cell's states in its row
   abbrev up : CellPart → RowPart
   up = with_cell charset cells ks
 
-  -- the text of the NULLs behind it, once it is whole
+  -- the text of the NULLs after it, once it is whole
   abbrev pub rest_of : CellPart → List ℕ
   rest_of (WholeCell v) = nulls_ahead (length cells + 1) ks
   rest_of part = []
@@ -128,7 +128,7 @@ module _ (charset : Charset) (cells : List Cell) (ks : List (Column × Bool)) wh
   open_part : (f : List ℕ) → (joined (map field cells) ++ behind_comma (length cells) f) ++ [] ≡ joined (map field cells ++ f ∷ [])
   open_part f = append-nil (joined (map field cells) ++ behind_comma (length cells) f) ∙ fields_more cells f
 
-  -- the text so far of the row is that of the whole cells, that of the next one, and that of the NULLs behind it
+  -- the text so far of the row is that of the whole cells, that of the next one, and that of the NULLs after it
   pub part_text : (at : CellPart) → (joined (map field cells) ++ cell_so_far (length cells) (ends ks) at) ++ rest_of at ≡ row_so_far (up at)
   part_text (ScalarBytes kind n) = quiet_part
   part_text (ScalarLength kind) = quiet_part
@@ -139,7 +139,7 @@ module _ (charset : Charset) (cells : List Cell) (ks : List (Column × Bool)) wh
   part_text (ChunkData c t n d) = open_part (open_field c d)
   part_text (WholeCell v) = one_more cells v ks (row_so_far (next_cell charset (cells ++ v ∷ []) ks)) (nulls_text charset (cells ++ v ∷ []) ks)
 
-  -- there are none behind it while it is open
+  -- there are none after it while it is open
   pub begun_text : (at : CellPart) → 0 < cell_size at → joined (map field cells) ++ cell_so_far (length cells) (ends ks) at ≡ row_so_far (up at)
   begun_text at some =
       let front = joined (map field cells) ++ cell_so_far (length cells) (ends ks) at in

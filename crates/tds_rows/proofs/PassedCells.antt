@@ -27,7 +27,8 @@ use Rattle.tds_rows.specs.declared.Charset.{Charset}
 use Rattle.tds_rows.specs.Cells.{Cell, CellPart, ChunkData, ChunkLength, DataCell, LongShape, ShortData, ShortLength, WholeCell, cell_add, cell_end, cell_fault, cell_size, cell_start, return_charset, shape, unless}
 use Rattle.tds_rows.specs.CellSteps.{GathersCell, StallsCell, scalar_size, value_bytes, value_length, value_start}
 use Rattle.tds_rows.specs.WholeCells.{WritesCell}
-use Rattle.tds_rows.specs.PassedCells.{AnyData, CutsData, IsGoodValue, PassesCell, PassesData, StepsOver, StopsPassing, chunk_left, return_cell, return_column, short_left}
+use Rattle.tds_columns.specs.ReturnedType.{return_column}
+use Rattle.tds_rows.specs.PassedCells.{AnyData, CutsPassing, IsGoodValue, PassesCell, PassesData, StepsOver, StopsPassing, chunk_left, return_cell, short_left}
 use Rattle.tds_rows.proofs.BufferedCells.{null_cell, value_cell}
 
 -- ---- elements
@@ -98,7 +99,7 @@ module _ (state : ℕ → List ℕ → CellPart) (n : ℕ) (runs : RunsData stat
   }
 
   -- the payload stopped in it
-  pub data_stops : (d : List ℕ) (m : ℕ) (a b : Seen) (place : ℕ) (stop : Stop) → length d + m ≡ n → CutsData m a b place stop → StopsPassing (state m d) a b place stop
+  pub data_stops : (d : List ℕ) (m : ℕ) (a b : Seen) (place : ℕ) (stop : Stop) → length d + m ≡ n → CutsPassing m a b place stop → StopsPassing (state m d) a b place stop
   data_stops d m a b place stop all x =
       let r : ℕ = m - length x.bytes - 1 in
       let left : m ≡ length x.bytes + suc r = omega (arith, x.fewer) in
@@ -203,8 +204,8 @@ passes_more m n k a b d place middle place' sum x y = record {
   place_is = omega (arith, x.place_is, y.place_is, sum);
 }
 
--- the payload stopped behind what was passed over
-pub cuts_more : (m n k : ℕ) (a b d : Seen) (place middle : ℕ) (stop : Stop) → m + n ≤ k → PassesData m a b place middle → CutsData n b d middle stop → CutsData k a d place stop
+-- the payload stopped after what was passed over
+pub cuts_more : (m n k : ℕ) (a b d : Seen) (place middle : ℕ) (stop : Stop) → m + n ≤ k → PassesData m a b place middle → CutsPassing n b d middle stop → CutsPassing k a d place stop
 cuts_more m n k a b d place middle stop sum x y = record {
   bytes = x.bytes ++ y.bytes;
   own = y.own;
@@ -222,16 +223,16 @@ scalar_passes charset kind a b place place' bytes scalar x good =
 
 -- ---- short values
 
--- a value behind what was read of it
+-- a value after what was read of it
 pub cell_behind : (s t : CellPart) (a b d : Seen) (place middle place' : ℕ) → StepsOver s t a b place middle → PassesCell t b d middle place' → PassesCell s a d place place'
 cell_behind s t a b d place middle place' x y = record { value = y.value; steps = steps_both s t (WholeCell y.value) a b d place middle place' x y.steps }
 
--- the data of a short value behind its length
+-- the data of a short value after its length
 pub short_passes : (c : Conversion) (size n : ℕ) (a b d : Seen) (place middle place' : ℕ) → AnyData c size → n % size ≡ 0 → StepsOver (ShortLength c) (short_left c n []) a b place middle → PassesData n b d middle place' → PassesCell (ShortLength c) a d place place'
 short_passes c size n a b d place middle place' any even x y =
     cell_behind (ShortLength c) (short_left c n []) a b d place middle place' x (record { value = DataCell c y.bytes; steps = data_steps (short_left c) n (short_runs c size n any even) [] n b d middle place' (omega arith) y })
 
-pub short_cuts : (c : Conversion) (size n : ℕ) (a b d : Seen) (place middle : ℕ) (stop : Stop) → AnyData c size → n % size ≡ 0 → StepsOver (ShortLength c) (short_left c n []) a b place middle → CutsData n b d middle stop → StopsPassing (ShortLength c) a d place stop
+pub short_cuts : (c : Conversion) (size n : ℕ) (a b d : Seen) (place middle : ℕ) (stop : Stop) → AnyData c size → n % size ≡ 0 → StepsOver (ShortLength c) (short_left c n []) a b place middle → CutsPassing n b d middle stop → StopsPassing (ShortLength c) a d place stop
 short_cuts c size n a b d place middle stop any even x y =
     stops_behind (ShortLength c) (short_left c n []) a b d place middle stop x (data_stops (short_left c) n (short_runs c size n any even) [] n b d middle stop (omega arith) y)
 
@@ -269,7 +270,7 @@ module _ (c : Conversion) (total : Option ℕ) (sum n : ℕ) (a b d : Seen) (pla
   }
 
   -- the data of a chunk is cut
-  pub chunks_cut : (size : ℕ) (e : Seen) (stop : Stop) → AnyData c size → StepsOver (ChunkLength c total x.content) (chunk_left c total n x.content) b d middle there → CutsData n d e there stop → StopsPassing (ChunkLength c total []) a e place stop
+  pub chunks_cut : (size : ℕ) (e : Seen) (stop : Stop) → AnyData c size → StepsOver (ChunkLength c total x.content) (chunk_left c total n x.content) b d middle there → CutsPassing n d e there stop → StopsPassing (ChunkLength c total []) a e place stop
   chunks_cut size e stop any y z =
       stops_behind (ChunkLength c total []) (chunk_left c total n x.content) a d e place there stop
       (steps_both (ChunkLength c total []) (ChunkLength c total x.content) (chunk_left c total n x.content) a b d place middle there x.steps y)

@@ -5,8 +5,8 @@ use Rattle.std.proofs.lemmas.List.{length-map, map-append}
 use Rattle.tds_values.specs.declared.kind.Kind.{Kind}
 use Rattle.tds_values.specs.declared.kind.Reach.TheVariants.{Short, Chunked}
 use Rattle.tds_packet.specs.declared.fault.Stop.{Stop}
-use Rattle.tds_packet.specs.Elements.{Spelt}
-use Rattle.tds_packet.specs.Seen.{Seen, Takes}
+use Rattle.tds_packet.specs.Elements.{IsNext, Spelt}
+use Rattle.tds_packet.specs.Seen.{IsBetween, Seen, Takes}
 use Rattle.tds_packet.proofs.ElementLaws.{Spelt-append, Spelt-none, Spelt-one}
 use Rattle.tds_packet.proofs.Futures.{Takes-none}
 use Rattle.tds_columns.specs.Description.{Column}
@@ -16,14 +16,36 @@ use Rattle.tds_csv.specs.Streaming.{BreaksStreaming, PutsText, StopsStreaming, S
 use Rattle.tds_csv.proofs.Sinks.{Puts-none}
 use Rattle.tds_csv.proofs.Streams.{streaming_after, streaming_inside, streams_both, streams_inside}
 use Rattle.tds_rows.specs.declared.Charset.{Charset}
-use Rattle.tds_rows.specs.Cells.{Cell, CellPart, ChunkData, ChunkLength, CountedShape, FixedShape, LongShape, ScalarBytes, ScalarLength, Shape, ShortData, ShortLength, Total, WholeCell, cell, cell_end, cell_size, cell_start, field, field_so_far, shape}
+use Rattle.tds_rows.specs.Cells.{Cell, CellPart, ChunkData, ChunkLength, CountedShape, FixedShape, LongShape, ScalarBytes, ScalarLength, Shape, ShortData, ShortLength, Total, WholeCell, cell, cell_add, cell_end, cell_size, cell_start, field, field_so_far, shape}
 use Rattle.tds_csv.specs.Conversion.{open_field}
 use Rattle.tds_rows.specs.Rows.{InCell, RowPart, marked, next_cell, row, row_so_far, row_start, with_cell, with_field}
-use Rattle.tds_rows.specs.CellSteps.{PutsCell, ReadsCell, StallsCell, StopsCell, cell_so_far, is_last}
+use Rattle.tds_rows.specs.CellSteps.{PutsCell, StallsCell, StopsCell, cell_so_far, is_last}
 use Rattle.tds_csv.specs.Quoting.{behind_comma, in_line}
-use Rattle.tds_rows.specs.RowSteps.{ReadsCells, ReadsRow, RowStops}
+use Rattle.tds_rows.specs.RowSteps.{ReadsRow, RowStops}
 use Rattle.tds_rows.proofs.LineTexts.{joined_snoc}
 use Rattle.tds_rows.proofs.RowLaws.{begins_open, cell_in_row}
+
+-- A cell was read, of those whose text comes with the last element alone, and this is its text in its line.
+pub record ReadsCell (from : CellPart) (column : ℕ) (last : Bool) (old new : Seen) (place place' : ℕ) (text : List ℕ) : Type 0 where
+  pub value : Cell
+  pub front : List ℕ
+  pub at : CellPart
+  pub element : List ℕ
+  pub spelt : Spelt (cell column) from front at
+  pub next : IsNext (cell column) at element
+  pub whole : cell_add at element ≡ WholeCell value
+  pub quiet : field_so_far at ≡ None
+  pub takes : Takes old new (front ++ element) (length (front ++ element))
+  pub between : IsBetween new
+  pub place_is : place' ≡ place + length (front ++ element)
+  pub text_is : text ≡ in_line column last (field value)
+
+-- The first cells of a row were read and their text put, and these columns are still to come, each with whether it is NULL by its bit.
+pub record ReadsCells (charset : Charset) (start : RowPart) (left : List (Column × Bool)) (old new : Seen) (place place' : ℕ) (before after : Held) (column : ℕ) : Type 0 where
+  pub cells : List Cell
+  pub counted : length cells ≡ column
+  pub streams : Streams (row charset) row_so_far start old new before after (next_cell charset cells left)
+  pub place_is : place' ≡ place + length streams.bytes
 
 -- no column is NULL by its bit
 abbrev pub coming : List Column → ℕ → List (Column × Bool)
@@ -94,7 +116,7 @@ fields_more cells v = ap (λ n. joined (map field cells) ++ behind_comma n v) (s
 pub cell_more : (cells : List Cell) (v : Cell) → joined (map field cells) ++ behind_comma (length cells) (field v) ≡ joined (map field (cells ++ v ∷ []))
 cell_more cells v = fields_more cells (field v) ∙ ap joined (sym (map-append field cells (v ∷ [])))
 
--- the text of a row behind one more whole cell
+-- the text of a row after one more whole cell
 pub next_text : (charset : Charset) (cells : List Cell) (v : Cell) (left : List Column) (n : ℕ) → joined (map field cells) ++ in_line (length cells) (is_last left) (field v) ≡ row_so_far (next_cell charset (cells ++ v ∷ []) (coming left n))
 next_text charset cells v [] n = sym (append_assoc (joined (map field cells)) (behind_comma (length cells) (field v)) line_end) ∙ ap (λ l. l ++ line_end) (cell_more cells v)
 next_text charset cells v (c ∷ cs) n =
@@ -176,6 +198,6 @@ module _ (charset : Charset) (start : RowPart) (c : Column) (left : List Column)
       subst (λ (n : ℕ). StopsStreaming (row charset) row_so_far from b d n i j failed stop) x.place_is (cell_stops charset x.cells c left (column + 1) b d middle i j failed stop z) in
       streaming_after (row charset) row_so_far start from a b d h i j place failed stop x.streams stops
 
--- behind the last cell
+-- after the last cell
 pub cells_all : (charset : Charset) (start : RowPart) (a b : Seen) (place place' : ℕ) (h i : Held) (column : ℕ) → ReadsCells charset start [] a b place place' h i column → ReadsRow charset start a b place place' h i
 cells_all charset start a b place place' h i column x = record { cells = x.cells; streams = x.streams; place_is = x.place_is }

@@ -7,13 +7,13 @@ use Rattle.tds_packet.specs.declared.fault.Fault.{Fault}
 use Rattle.tds_packet.specs.declared.fault.Stop.{Stop}
 use Rattle.std.specs.Prelude.{map}
 use Rattle.std.specs.List.{concat}
-use Rattle.tds_packet.specs.Elements.{Grammar, Inside, Leads, Spelt}
+use Rattle.tds_packet.specs.Elements.{Grammar, Leads, Spelt}
 use Rattle.tds_packet.specs.Seen.{Seen, Takes}
 use Rattle.tds_csv.specs.Quoting.{joined, line}
 use Rattle.tds_csv.specs.declared.sink.Sink.{Sink}
 use Rattle.tds_csv.specs.Sinks.{Breaks, Held, IsWriting, Puts, PutsPiece, held}
 use Rattle.tds_csv.specs.Streaming.{PutsText, Streams}
-use Rattle.tds_packet.proofs.ElementLaws.{Inside-Spelt, Spelt-append, Spelt-none, Spelt-one}
+use Rattle.tds_packet.proofs.ElementLaws.{Inside, Inside-Spelt, Spelt-append, Spelt-none, Spelt-one}
 use Rattle.tds_columns.specs.Description.{Column}
 use Rattle.tds_columns.proofs.ViewLaws.{all_behind}
 use Rattle.tds_rows.specs.declared.Charset.{Charset}
@@ -104,7 +104,7 @@ cells_none charset columns column cells is =
     let from = behind_cells charset cells columns in
     record { more = []; counted = ap length same ∙ is; writes = subst (λ (l : List Cell). Writes (row charset) row_so_far from [] [] (behind_cells charset l columns)) (sym same) (writes_none (row charset) row_so_far from) }
 
--- more cells of a row behind these
+-- more cells of a row after these
 pub cells_more : (charset : Charset) (columns left left' : List Column) (column column' : ℕ) (a b p q : List ℕ) (cells : List Cell) → WritesCells charset cells columns left column a p
     → ((cells : List Cell) → length cells ≡ column → WritesCells charset cells left left' column' b q) → WritesCells charset cells columns left' column' (a ++ b) (p ++ q)
 cells_more charset columns left left' column column' a b p q cells x f =
@@ -118,17 +118,17 @@ cells_more charset columns left left' column column' a b p q cells x f =
           (writes_both (row charset) row_so_far from (behind_cells charset (cells ++ x.more) left) (behind_cells charset ((cells ++ x.more) ++ y.more) left') a b p q x.writes y.writes);
     }
 
--- what is made behind what was made
+-- what is made after what was made
 pub made_more : (made m : ℕ) (to new rest : List ℕ) → made ≤ length to → m ≤ length new → take (made + m) (take made to ++ (new ++ rest)) ≡ take made to ++ take m new
 made_more made m to new rest within some =
     let len : length (take made to) ≡ made = length-take-le made to within in
     ap (λ k. take (k + m) (take made to ++ (new ++ rest))) (sym len) ∙ take-append-add (take made to) (new ++ rest) m ∙ ap (λ l. take made to ++ l) (take-append-le m new rest some)
 
--- what is used behind what was used
+-- what is used after what was used
 pub used_more : (used u : ℕ) (bytes : List ℕ) → take (used + u) bytes ≡ take used bytes ++ take u (take (length bytes - used) (drop used bytes))
 used_more used u bytes = take-add used u bytes ∙ ap (λ l. take used bytes ++ take u l) (sym (all_behind bytes used))
 
--- a run within a row, in the bytes that are left and behind what was made
+-- a run within a row, in the bytes that are left and after what was made
 pub cells_step : (charset : Charset) (columns left left' : List Column) (column column' used u made m : ℕ) (bytes to new rest : List ℕ) (cells : List Cell) → made ≤ length to → m ≤ length new → WritesCells charset cells columns left column (take used bytes) (take made to)
     → ((cells : List Cell) → length cells ≡ column → WritesCells charset cells left left' column' (take u (take (length bytes - used) (drop used bytes))) (take m new))
     → WritesCells charset cells columns left' column' (take (used + u) bytes) (take (made + m) (take made to ++ (new ++ rest)))
@@ -138,7 +138,7 @@ cells_step charset columns left left' column column' used u made m bytes to new 
     (subst (λ l. WritesCells charset cells columns left' column' (take used bytes ++ there) l) (sym (made_more made m to new rest within some))
     (cells_more charset columns left left' column column' (take used bytes) there (take made to) (take m new) cells x f))
 
--- what is written behind what was made leaves it as it was
+-- what is written after what was made leaves it as it was
 pub made_same : (made : ℕ) (to rest : List ℕ) → made ≤ length to → take made (take made to ++ rest) ≡ take made to
 made_same made to rest within = take-append-le made (take made to) rest (omega (arith, within, length-take-le made to within)) ∙ take_all made (take made to) (omega (arith, within, length-take-le made to within))
 
@@ -202,7 +202,7 @@ pub first_there : (set : Charset) (at from : ℕ) (columns : List Column) (used 
 first_there set at from columns used room all bytes no_use first lent f = λ column tail h.
     subst (λ (n : ℕ). IsLeft set column.kind bytes n) lent (subst (λ l. IsLeft set column.kind l room) (none_used used bytes no_use) (f column tail (ap (λ n. drop n columns) first ∙ h)))
 
--- more bytes were used behind it
+-- more bytes were used after it
 pub first_further : (from : ℕ) (columns : List Column) (bytes text text' : List ℕ) (used u made made' : ℕ) → 0 < u → FirstDone from columns bytes text used made → FirstDone from columns bytes text' (used + u) made'
 first_further from columns bytes text text' used u made made' some f = λ column tail h. let x = f column tail h in (omega (arith, x.0), λ e. absurd (omega (arith, e, x.0, some)))
 
@@ -273,7 +273,7 @@ fills_no_block h j piece stop few (sent, blocks, n, adds, most, least, less, who
 
 -- ---- over the ends of rows
 
-row_among_rows : (charset : Charset) (all : List Column) (before : List (List Cell)) → Inside (row charset) (rows charset all) (λ p. record { before = before; at = p })
+pub row_among_rows : (charset : Charset) (all : List Column) (before : List (List Cell)) → Inside (row charset) (rows charset all) (λ p. record { before = before; at = p })
 row_among_rows charset all before = record { size = size; fault = fault; add = add }
   where
     size : (p : RowPart) → 0 < (row charset).size p → (rows charset all).size (record { before = before; at = p }) ≡ (row charset).size p
@@ -381,7 +381,7 @@ lines-append [] qs = refl
 lines-append (r ∷ rs) qs = ap (λ l. line (map field r) ++ l) (lines-append rs qs) ∙ sym (append_assoc (line (map field r)) (lines rs) (lines qs))
 
 module _ (charset : Charset) (all : List Column) (before : List (List Cell)) where
-  -- rows behind these
+  -- rows after these
   abbrev behind_rows : RowsPart → RowsPart
   behind_rows p = record { before = before ++ p.before; at = p.at }
 
@@ -397,7 +397,7 @@ module _ (charset : Charset) (all : List Column) (before : List (List Cell)) whe
   rows_behind_text p = sym (append_assoc (lines before) (lines p.before) (row_so_far p.at)) ∙ ap (λ l. l ++ row_so_far p.at) (sym (lines-append before p.before))
 
 module _ (charset : Charset) (all : List Column) (a b d : Seen) (place middle place' : ℕ) (h i j : Held) where
-  -- a run behind what was read
+  -- a run after what was read
   pub rows_further : (left left' : List Column) (column column' count count' : ℕ) → RunsRows charset all [] all left column count a b place middle h i
       → ((cells : List Cell) → length cells ≡ column → RunsRows charset all cells left left' column' count' b d middle place' i j) → RunsRows charset all [] all left' column' (count + count') a d place place' h j
   rows_further left left' column column' count count' x f =
@@ -421,7 +421,7 @@ module _ (charset : Charset) (all : List Column) (a b d : Seen) (place middle pl
         place_is = omega (arith, x.place_is, y.place_is, length-append x.streams.bytes y.streams.bytes);
       }
 
-  -- a cell behind what was read
+  -- a cell after what was read
   pub rows_cell : (c : Column) (left : List Column) (column next count : ℕ) → next ≡ column + 1 → RunsRows charset all [] all (c ∷ left) column count a b place middle h i → PutsCell charset c.kind column (is_last left) b d middle place' i j
       → RunsRows charset all [] all left next count a d place place' h j
   rows_cell c left column next count further x y =
@@ -452,7 +452,7 @@ module _ (charset : Charset) (all : List Column) (a b d : Seen) (place middle pl
         place_is = omega (arith, x.place_is, z.place_is, length-append x.streams.bytes z.streams.bytes);
       }
 
-  -- a cell that stops behind what was read
+  -- a cell that stops after what was read
   pub rows_stop : (c : Column) (left : List Column) (column count : ℕ) (failed : Bool) (stop : Stop) → RunsRows charset all [] all (c ∷ left) column count a b place middle h i → StopsCell charset c.kind column (is_last left) b d middle i j failed stop
       → RowsStop charset all a d place h j failed stop
   rows_stop c left column count failed stop x y =
@@ -478,7 +478,7 @@ rows_begin charset all left column a place h d same first = record {
   place_is = subst (λ (l : List Column). place ≡ place + 0) same (omega arith);
 }
 
--- behind the last cell of the last row
+-- after the last cell of the last row
 pub rows_end : (charset : Charset) (all left : List Column) (column count : ℕ) (a b : Seen) (place place' : ℕ) (h i : Held) → left ≡ [] → RunsRows charset all [] all left column count a b place place' h i → ReadsRows charset all (count + 1) a b place place' h i
 rows_end charset all left column count a b place place' h i none x =
     let y = subst (λ (l : List Column). RunsRows charset all [] all l column count a b place place' h i) none x in

@@ -8,7 +8,7 @@ use Rattle.tds_values.specs.declared.kind.Reach.TheVariants.{Short}
 use Rattle.tds_csv.specs.Conversion.{Conversion, is_fit, long_field}
 use Rattle.tds_csv.specs.Quoting.{in_line, null_field}
 use Rattle.tds_rows.specs.Cells.{DataCell, LongShape, Null, ShortLength, SpellsShort}
-use Rattle.tds_rows.specs.ShortCells.{short_length}
+use Rattle.tds_rows.specs.ShortCells.{stated_length}
 use Rattle.tds_rows.specs.WholeCells.{WritesWhole}
 use Rattle.tds_rows.proofs.CellLaws.{cell_is_read}
 
@@ -19,7 +19,7 @@ two_of (a ∷ b ∷ bytes) h = refl
 
 module _ (column : ℕ) (kind : Kind) (c : Conversion) (last : Bool) (bytes text : List ℕ) (within : 2 ≤ length bytes) (low : slice_index bytes 0 < 256) (high : slice_index bytes 1 < 256) where
   -- NULL
-  pub short_null : short_length bytes ≡ 65535 → text ≡ in_line column last null_field → WritesWhole (ShortLength c) column last (take 2 bytes) text
+  pub short_null : stated_length bytes ≡ 65535 → text ≡ in_line column last null_field → WritesWhole (ShortLength c) column last (take 2 bytes) text
   short_null all is =
       let a : slice_index bytes 0 ≡ 255 = omega (arith, all, low, high) in
       let b : slice_index bytes 1 ≡ 255 = omega (arith, all, low, high) in
@@ -27,7 +27,7 @@ module _ (column : ℕ) (kind : Kind) (c : Conversion) (last : Bool) (bytes text
       record { value = Null; spelt = cell_is_read column kind (LongShape c Short) Null (take 2 bytes) tt ones; text_is = is }
 
   -- a value
-  pub short_value : (n : ℕ) → n ≡ short_length bytes → n ≢ 65535 → 2 + n ≤ length bytes → is_fit c (take n (drop 2 bytes)) ≡ true → text ≡ in_line column last (long_field c (take n (drop 2 bytes)))
+  pub short_value : (n : ℕ) → n ≡ stated_length bytes → n ≢ 65535 → 2 + n ≤ length bytes → is_fit c (take n (drop 2 bytes)) ≡ true → text ≡ in_line column last (long_field c (take n (drop 2 bytes)))
       → WritesWhole (ShortLength c) column last (take (2 + n) bytes) text
   short_value n counted some all fit is =
       let d = take n (drop 2 bytes) in

@@ -1,4 +1,4 @@
--- Runs of cells over the columns that a table knows: more cells behind those that were written.
+-- Runs of cells over the columns that a table knows: more cells after those that were written.
 use Rattle.std.proofs.Common.{◌≡◌, ◌∙◌, ◌⊎◌, inl, inr, ℕ, ◌+◌, ◌-◌, ◌<◌, ◌≤◌, Bool, List, ◌∷◌, ◌++◌, length, take, drop, sym, ap, subst, arith}
 use Rattle.std.specs.Prelude.{◌==◌}
 use Rattle.tds_values.specs.declared.kind.Kind.{Kind}

@@ -55,7 +55,7 @@ module _ (table : Table) (columns : List Column) (at : Ahead) (kind : Kind) (kno
       }
 
 module _ (table : Table) (columns : List Column) (old new : Ahead) (knows : Knows table columns) (is : IsAhead table columns old) (further : new.column ≡ old.column + 1) (some : old.column < table.count) where
-  -- the place behind a column that the table knows
+  -- the place after a column that the table knows
   pub behind_known : old.column < table.known → columns_left new.walk ≡ columns_left old.walk → IsAhead table columns new
   behind_known known same =
       record {
@@ -64,7 +64,7 @@ module _ (table : Table) (columns : List Column) (old new : Ahead) (knows : Know
         beyond = λ most. same ∙ is.within (omega (arith, known)) ∙ ap (λ (n : ℕ). drop n columns) (omega (arith, most, known, further));
       }
 
-  -- the place behind a column that the walk gives
+  -- the place after a column that the walk gives
   pub behind_walked : table.known ≤ old.column → columns_left new.walk ≡ drop 1 (columns_left old.walk) → IsAhead table columns new
   behind_walked beyond steps =
       record {
@@ -73,7 +73,7 @@ module _ (table : Table) (columns : List Column) (old new : Ahead) (knows : Know
         beyond = λ _. steps ∙ ap (drop 1) (is.beyond beyond) ∙ drop-drop 1 old.column columns ∙ ap (λ (n : ℕ). drop n columns) (omega (arith, further));
       }
 
--- what a walk leaves behind its next column
+-- what a walk leaves after its next column
 pub walk_behind : (walk new : Walk) (column : Option walks.Column) → YieldsFirstBy column_value columns_left walk column new → columns_left new ≡ drop 1 (columns_left walk)
 walk_behind walk new None y = y.1 ∙ ap (drop 1) (sym y.0)
 walk_behind walk new (Some c) y = ap (drop 1) (sym y)
@@ -88,7 +88,7 @@ takes table columns old new kind x further ahead = record {
   ahead = ahead;
 }
 
--- a column is the last one where as many as there are lie before what is behind it
+-- a column is the last one where as many as there are lie before what is after it
 pub last_one : (columns rest : List Column) (c : Column) (k n : ℕ) → n ≡ length columns → drop k columns ≡ c ∷ rest → (k + 1 == n) ≡ is_last rest
 last_one columns [] c k n whole next = eq-eqb (k + 1) n (omega (arith, whole, length-drop k columns, ap length next))
 last_one columns (d ∷ ds) c k n whole next = ne_eqb (k + 1) n (λ e. omega (arith, e, whole, length-drop k columns, ap length next))

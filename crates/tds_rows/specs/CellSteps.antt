@@ -1,5 +1,5 @@
 -- What reading a cell and putting it into its line does.
-use Rattle.std.specs.Prelude.{◌≡◌, ◌==◌, ◌⊎◌, ◌+◌, ◌<◌, ◌≤◌, ℕ, zero, suc, Bool, true, false, List, [], ◌∷◌, ◌++◌, length, take, drop, slice_index, is_ok, Option, Some, None, Result, Ok, MatchOption, MatchResult, if◌then◌else◌}
+use Rattle.std.specs.Prelude.{◌≡◌, ◌==◌, ◌⊎◌, ◌+◌, ◌<◌, ◌≤◌, ℕ, zero, suc, Bool, true, false, List, [], ◌∷◌, length, take, drop, slice_index, is_ok, Option, Some, None, Result, Ok, MatchOption, MatchResult, if◌then◌else◌}
 use Rattle.tds_values.specs.declared.kind.Kind.{Kind}
 use Rattle.tds_values.specs.declared.kind.Kind.TheVariants.{Int4, IntN}
 use Rattle.tds_values.specs.declared.scalar.ScalarValue.{ScalarValue}
@@ -9,7 +9,6 @@ use Rattle.tds_values.specs.ScalarText.{text_of}
 use Rattle.tds_packet.specs.declared.fault.Fault.TheVariants.{BadValue}
 use Rattle.tds_packet.specs.declared.fault.Place.TheVariants.{Payload}
 use Rattle.tds_packet.specs.declared.fault.Stop.{Stop}
-use Rattle.tds_packet.specs.Elements.{IsNext, Spelt}
 use Rattle.tds_packet.specs.declared.payload.Payload as payloads
 use Rattle.tds_packet.specs.Payloads.{seen}
 use Rattle.tds_packet.specs.Reading.{StopsReading}
@@ -23,7 +22,7 @@ use Rattle.tds_rows.specs.declared.Charset.{Charset}
 use Rattle.tds_rows.specs.declared.buffered.Written.{Written}
 use Rattle.tds_rows.specs.ShortCells.{IsShortLeft, short_conversion, short_size}
 use Rattle.tds_rows.specs.WholeCells.{WritesCell, WritesWhole}
-use Rattle.tds_rows.specs.Cells.{Cell, CellPart, WholeCell, cell, cell_add, cell_start, field, field_so_far, shape}
+use Rattle.tds_rows.specs.Cells.{Cell, CellPart, WholeCell, cell, cell_start, field, field_so_far, shape}
 
 -- a field that is open, with the comma before it; nothing where it isn't
 abbrev pub opened : ℕ → Option (List ℕ) → List ℕ
@@ -39,27 +38,12 @@ is_last (c ∷ cs) = false
 abbrev pub IsValueText : Kind → ℕ → Bool → List ℕ → List ℕ → Type 0
 IsValueText kind column last bytes text = (value : ScalarValue) × (read_of kind bytes ≡ Ok value) × (text ≡ in_line column last (text_of value))
 
--- the text so far of a cell in its line: nothing before its length is accepted, then a comma unless it is the first, and its field so far; and the end of the line behind it if it is the last
+-- the text so far of a cell in its line: nothing before its length is accepted, then a comma unless it is the first, and its field so far; and the end of the line after it if it is the last
 abbrev pub cell_so_far : ℕ → Bool → CellPart → List ℕ
 cell_so_far column last (WholeCell cell) = in_line column last (field cell)
 cell_so_far column last part = opened column (field_so_far part)
 
--- A cell was read, of those whose text comes with the last element alone, and this is its text in its line.
-pub record ReadsCell (from : CellPart) (column : ℕ) (last : Bool) (old new : Seen) (place place' : ℕ) (text : List ℕ) : Type 0 where
-  pub value : Cell
-  pub front : List ℕ
-  pub at : CellPart
-  pub element : List ℕ
-  pub spelt : Spelt (cell column) from front at
-  pub next : IsNext (cell column) at element
-  pub whole : cell_add at element ≡ WholeCell value
-  pub quiet : field_so_far at ≡ None
-  pub takes : Takes old new (front ++ element) (length (front ++ element))
-  pub between : IsBetween new
-  pub place_is : place' ≡ place + length (front ++ element)
-  pub text_is : text ≡ in_line column last (field value)
-
--- where the value of a scalar cell lies in its bytes: behind a length, unless each value has as many bytes
+-- where the value of a scalar cell lies in its bytes: after a length, unless each value has as many bytes
 abbrev pub start_behind : Option ℕ → ℕ
 start_behind (Some n) = 0
 start_behind None = 1
@@ -85,7 +69,7 @@ scalar_size kind bytes = value_start kind + value_length kind bytes
 abbrev pub value_bytes : Kind → List ℕ → List ℕ
 value_bytes kind bytes = take (value_length kind bytes) (drop (value_start kind) bytes)
 
--- the kind of whole numbers of four bytes that lie so far behind the front of their cells: at once, or behind a length
+-- the kind of whole numbers of four bytes that lie so far after the front of their cells: at once, or after a length
 abbrev pub int4_kind : ℕ → Kind
 int4_kind zero = Int4
 int4_kind (suc n) = IntN 4
@@ -96,7 +80,7 @@ int4_start_of Int4 = Some 0
 int4_start_of (IntN n) = if n == 4 then Some 1 else None
 int4_start_of kind = None
 
--- A whole number of four bytes, at once or behind its length, is at the front of these bytes.
+-- A whole number of four bytes, at once or after its length, is at the front of these bytes.
 pub record HasInt4 (start : ℕ) (bytes : List ℕ) : Type 0 where
   pub whole : start + 4 ≤ length bytes
   pub length_is : 0 < start → slice_index bytes 0 ≡ 4

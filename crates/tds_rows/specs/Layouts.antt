@@ -5,7 +5,7 @@ use Rattle.tds_values.specs.Kind.{fixed_length, is_scalar}
 use Rattle.tds_rows.specs.declared.table.Layout.{Layout}
 use Rattle.tds_rows.specs.declared.table.Layout.TheVariants.{Counted, Fixed, Long}
 
--- how the values of a scalar kind lie: always as many bytes, or behind a length
+-- how the values of a scalar kind lie: always as many bytes, or after a length
 abbrev pub layout_behind : Option ℕ → Layout
 layout_behind (Some n) = Fixed n
 layout_behind None = Counted

@@ -70,11 +70,11 @@ short_fault column size n = unless ((n == 0xFFFF) || (n % size == 0)) (OddText c
 abbrev pub total_fault : ℕ → ℕ → ℕ → Option Fault
 total_fault column size n = unless (nat_le unknown_total n || (n % size == 0)) (OddText column)
 
--- the fault of a terminator behind so many bytes of content, but for what the content itself has
+-- the fault of a terminator after so many bytes of content, but for what the content itself has
 abbrev pub end_fault : ℕ → ℕ → Option ℕ → ℕ → Option Fault
 end_fault column size total sum = if is_total total sum then unless (sum % size == 0) (OddText column) else Some (PlpLength column)
 
--- the fault of the length of a chunk behind so many bytes of content, 0 being the terminator
+-- the fault of the length of a chunk after so many bytes of content, 0 being the terminator
 abbrev pub chunk_length_fault : ℕ → ℕ → Option ℕ → ℕ → ℕ → Option Fault
 chunk_length_fault column size total sum n = if n == 0 then end_fault column size total sum else unless (within_total total (sum + n)) (PlpLength column)
 
@@ -88,11 +88,11 @@ total_of n = if n == null_total then None else Some (known_total n)
 
 -- ---- content
 
--- the text that some content adds behind other content
+-- the text that some content adds after other content
 abbrev pub added_text : Conversion → List ℕ → List ℕ → List ℕ
 added_text c content more = emit (conversion_rest c) (conversion_text c) (conversion_rest c content ++ more)
 
--- So many bytes behind this content were read in a piece, and their text put; what is withheld then is the rest of all of it.
+-- So many bytes after this content were read in a piece, and their text put; what is withheld then is the rest of all of it.
 pub record TakesData (c : Conversion) (content kept : List ℕ) (old new : Seen) (place place' : ℕ) (before after : Held) (n : ℕ) : Type 0 where
   pub piece : List ℕ
   pub counted : length piece ≡ n
@@ -147,7 +147,7 @@ PieceTaken remaining contents c content kept column most old new before after re
     (λ n. TakesData c content kept (seen remaining old) (seen remaining new) old.place new.place (held contents before) (held contents after) n)
     (λ stop. StopsData c content column most (seen remaining old) (seen remaining new) old.place (held contents before) (held contents after) after.failed stop)
 
--- Bytes behind this content were read piece by piece, and their text put.
+-- Bytes after this content were read piece by piece, and their text put.
 pub record FillsData (c : Conversion) (content : List ℕ) (old new : Seen) (place place' : ℕ) (before after : Held) (more : List ℕ) : Type 0 where
   pub takes : Takes old new more (length more)
   pub between : IsBetween new
@@ -189,7 +189,7 @@ abbrev pub good_of : JoinFault → ℕ
 good_of (join_faults.BadText k) = k
 good_of fault = 0
 
--- the stop of a fault of a joiner whose piece, or whose end, stands behind so many bytes
+-- the stop of a fault of a joiner whose piece, or whose end, stands after so many bytes
 abbrev pub join_stop : ℕ → ℕ → JoinFault → Stop
 join_stop column place (Stopped stop) = stop
 join_stop column place fault = record { fault = BadText column; place = Payload (place + good_of fault) }

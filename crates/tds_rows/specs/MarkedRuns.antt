@@ -30,7 +30,7 @@ NextWritten charset null kind column last bytes room text result = MatchOption r
     ((null ≡ false) × IsLeft charset kind bytes room)
     (λ written. WritesNext charset null kind column last (take written.used bytes) (take written.made text))
 
--- The bytes are the cell of the column behind so many, none where it is NULL by its bit, and this is its text in its line.
+-- The bytes are the cell of the column after so many, none where it is NULL by its bit, and this is its text in its line.
 pub record WritesColumn (charset : Charset) (columns : List Column) (nulls : ℕ → Bool) (at : ℕ) (bytes text : List ℕ) : Type 0 where
   pub column : Column
   pub left : List Column

@@ -7,15 +7,12 @@ use Rattle.tds_packet.specs.declared.payload.Payload as payloads
 use Rattle.tds_packet.specs.Payloads.{seen}
 use Rattle.tds_packet.specs.Reading.{Reads, StopsReading}
 use Rattle.tds_packet.specs.Seen.{Seen, Takes, Ends, IsBetween, began_at}
+use Rattle.tds_columns.specs.ReturnedType.{return_column}
 use Rattle.tds_csv.specs.Conversion.{Conversion, is_begun, is_fit, unit}
 use Rattle.tds_values.specs.declared.kind.Kind.{Kind}
 use Rattle.tds_values.specs.Scalar.{read_of}
 use Rattle.tds_rows.specs.CellSteps.{value_bytes, value_length}
 use Rattle.tds_rows.specs.Cells.{Cell, CellPart, ChunkData, ChunkLength, DataCell, ShortData, WholeCell, cell}
-
--- the column that stands for the value of a RETURNVALUE
-abbrev pub return_column : ℕ
-return_column = 65535
 
 -- how such a value is read
 abbrev pub return_cell : Grammar CellPart Fault
@@ -44,7 +41,7 @@ pub record PassesData (n : ℕ) (old new : Seen) (place place' : ℕ) : Type 0 w
   pub place_is : place' ≡ place + n
 
 -- The payload stopped before so many bytes; where the message ended, the stop stands at the byte that is missing.
-pub record CutsData (n : ℕ) (old new : Seen) (place : ℕ) (stop : Stop) : Type 0 where
+pub record CutsPassing (n : ℕ) (old new : Seen) (place : ℕ) (stop : Stop) : Type 0 where
   pub bytes : List ℕ
   pub own : Stop
   pub fewer : length bytes < n
@@ -55,13 +52,13 @@ pub record CutsData (n : ℕ) (old new : Seen) (place : ℕ) (stop : Stop) : Typ
 abbrev pub DataPassed : {R U : Type 0} → (R → Option (List ℕ)) → ℕ → payloads.Payload R → payloads.Payload R → Result U Stop → Type 0
 DataPassed remaining n old new result = MatchResult result
     (λ _. PassesData n (seen remaining old) (seen remaining new) old.place new.place)
-    (λ stop. CutsData n (seen remaining old) (seen remaining new) old.place stop)
+    (λ stop. CutsPassing n (seen remaining old) (seen remaining new) old.place stop)
 
 -- As many bytes as the answer says were handed out, or the payload stopped before the first.
 abbrev pub PiecePassed : {R : Type 0} → (R → Option (List ℕ)) → payloads.Payload R → payloads.Payload R → Result ℕ Stop → Type 0
 PiecePassed remaining old new result = MatchResult result
     (λ n. PassesData n (seen remaining old) (seen remaining new) old.place new.place)
-    (λ stop. CutsData 1 (seen remaining old) (seen remaining new) old.place stop)
+    (λ stop. CutsPassing 1 (seen remaining old) (seen remaining new) old.place stop)
 
 -- Whole elements of a value were read without a fault, which lead from one state to another.
 pub record StepsOver (from to : CellPart) (old new : Seen) (place place' : ℕ) : Type 0 where
@@ -74,7 +71,7 @@ pub record StopsPassing (from : CellPart) (old new : Seen) (place : ℕ) (stop :
   pub at : CellPart
   pub stops : StopsReading return_cell from old new place at stop
 
--- A whole value was read, and no byte behind it.
+-- A whole value was read, and no byte after it.
 pub record PassesCell (from : CellPart) (old new : Seen) (place place' : ℕ) : Type 0 where
   pub value : Cell
   pub steps : StepsOver from (WholeCell value) old new place place'

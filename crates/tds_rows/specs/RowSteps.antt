@@ -10,15 +10,8 @@ use Rattle.tds_csv.specs.Sinks.{Held, held, stop_of}
 use Rattle.tds_csv.specs.Streaming.{StopsStreaming, Streams}
 use Rattle.tds_rows.specs.declared.Charset.{Charset}
 use Rattle.tds_rows.specs.Cells.{Cell}
-use Rattle.tds_rows.specs.Rows.{RowPart, WholeRow, next_cell, row, row_so_far}
+use Rattle.tds_rows.specs.Rows.{RowPart, WholeRow, row, row_so_far}
 use Rattle.tds_rows.specs.Runs.{rows, rows_so_far, rows_start}
-
--- The first cells of a row were read and their text put, and these columns are still to come, each with whether it is NULL by its bit.
-pub record ReadsCells (charset : Charset) (start : RowPart) (left : List (Column × Bool)) (old new : Seen) (place place' : ℕ) (before after : Held) (column : ℕ) : Type 0 where
-  pub cells : List Cell
-  pub counted : length cells ≡ column
-  pub streams : Streams (row charset) row_so_far start old new before after (next_cell charset cells left)
-  pub place_is : place' ≡ place + length streams.bytes
 
 -- A row was read, and its line put.
 pub record ReadsRow (charset : Charset) (start : RowPart) (old new : Seen) (place place' : ℕ) (before after : Held) : Type 0 where

@@ -8,6 +8,10 @@ use Rattle.tds_csv.specs.Quoting.{joined, line}
 use Rattle.tds_rows.specs.declared.Charset.{Charset}
 use Rattle.tds_rows.specs.Cells.{Cell, Null, field, shape, SpellsCell, CellPart, WholeCell, cell_start, cell_size, cell_fault, cell_add, field_so_far}
 
+-- the first byte of a ROW (MS-TDS, ROW)
+abbrev pub row_byte : ℕ
+row_byte = 0xD1
+
 -- whether the bit k of a bitmap is set, the lowest of the first byte being bit 0
 abbrev pub bit : List ℕ → ℕ → Bool
 bit bitmap k = (slice_index bitmap (k / 8) / 2 ^ (k % 8)) % 2 == 1
@@ -29,11 +33,11 @@ SpellsMarked charset ((k, false) ∷ ks) (c ∷ cs) bytes = (front : List ℕ) �
 SpellsMarked charset [] (c ∷ cs) bytes = ⊥
 SpellsMarked charset ((k, null) ∷ ks) [] bytes = ⊥
 
--- The bytes behind the token byte of a ROW spell its cells.
+-- The bytes after the token byte of a ROW spell its cells.
 abbrev pub SpellsRow : Charset → List Column → List Cell → List ℕ → Type 0
 SpellsRow charset columns cells bytes = SpellsMarked charset (marked columns (λ k. false) 0) cells bytes
 
--- The bytes behind the token byte of an NBCROW spell its cells: a bitmap, then the cells whose bit is clear.
+-- The bytes after the token byte of an NBCROW spell its cells: a bitmap, then the cells whose bit is clear.
 pub record SpellsNbcRow (charset : Charset) (columns : List Column) (cells : List Cell) (bytes : List ℕ) : Type 0 where
   pub bitmap : List ℕ
   pub rest : List ℕ
@@ -91,7 +95,7 @@ abbrev pub row_end : RowPart → Option Fault
 row_end (WholeRow cells) = None
 row_end part = Some MessageEnded
 
--- How a row is read, behind its token byte.
+-- How a row is read, after its token byte.
 abbrev pub row : Charset → Grammar RowPart Fault
 row charset = record { size = row_size; fault = row_fault; add = row_add charset; end_fault = row_end }
 

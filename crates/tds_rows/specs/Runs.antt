@@ -14,7 +14,6 @@ use Rattle.tds_csv.specs.Streaming.{Streams}
 use Rattle.tds_rows.specs.declared.Charset.{Charset}
 use Rattle.tds_rows.specs.declared.run.CellRun.{CellRun}
 use Rattle.tds_rows.specs.declared.run.Run.{Run}
-use Rattle.tds_rows.specs.declared.run.TheConstants.{ROW}
 use Rattle.tds_rows.specs.declared.table.Ahead.{Ahead}
 use Rattle.tds_rows.specs.declared.table.Table.{Table}
 use Rattle.tds_rows.specs.declared.rows.TheConstants.{CELL_ROOM}
@@ -22,7 +21,7 @@ use Rattle.tds_rows.specs.Cells.{Cell, cell_start, field, shape}
 use Rattle.tds_values.specs.Kind.{is_scalar}
 use Rattle.tds_rows.specs.CellSteps.{IsLeft, is_last, whole_size}
 use Rattle.tds_rows.specs.WholeCells.{WritesCell}
-use Rattle.tds_rows.specs.Rows.{RowPart, WholeRow, marked, next_cell, row, row_add, row_fault, row_size, row_so_far, row_start}
+use Rattle.tds_rows.specs.Rows.{RowPart, WholeRow, marked, next_cell, row, row_add, row_byte, row_fault, row_size, row_so_far, row_start}
 use Rattle.tds_rows.specs.Tables.{IsAhead, Knows}
 
 -- The bytes are whole elements, which lead from one state to another, and this is what the text of the second has more than that of the first.
@@ -34,7 +33,7 @@ pub record Writes {S : Type 0} (g : Grammar S Fault) (text : S → List ℕ) (fr
 abbrev pub behind_cells : Charset → List Cell → List Column → RowPart
 behind_cells charset cells left = next_cell charset cells (marked left (λ k. false) (length cells))
 
--- The bytes are more cells of a row behind these, of the columns to come but those left, and this is their text in their line.
+-- The bytes are more cells of a row after these, of the columns to come but those left, and this is their text in their line.
 pub record WritesCells (charset : Charset) (cells : List Cell) (columns left : List Column) (column : ℕ) (bytes made : List ℕ) : Type 0 where
   pub more : List Cell
   pub counted : length (cells ++ more) ≡ column
@@ -42,7 +41,7 @@ pub record WritesCells (charset : Charset) (cells : List Cell) (columns left : L
 
 -- ---- over the ends of rows
 
--- rows as far as they are read, each but the first behind its token byte: those before, and the one that is read
+-- rows as far as they are read, each but the first after its token byte: those before, and the one that is read
 pub record RowsPart : Type 0 where
   pub before : List (List Cell)
   pub at : RowPart
@@ -51,14 +50,14 @@ pub record RowsPart : Type 0 where
 abbrev pub rows_start : Charset → List Column → RowsPart
 rows_start charset columns = record { before = []; at = row_start charset columns }
 
--- how many bytes the next element of rows has: a token byte behind a whole row
+-- how many bytes the next element of rows has: a token byte after a whole row
 abbrev pub rows_size : RowPart → ℕ
 rows_size (WholeRow cells) = 1
 rows_size part = row_size part
 
 -- the first fault of an element of rows: a token byte that is no ROW's
 abbrev pub rows_fault : RowPart → List ℕ → Option Fault
-rows_fault (WholeRow cells) element = if slice_index element 0 == ROW then None else Some (RefusedToken (slice_index element 0))
+rows_fault (WholeRow cells) element = if slice_index element 0 == row_byte then None else Some (RefusedToken (slice_index element 0))
 rows_fault part element = row_fault part element
 
 -- what stands after an element of rows
@@ -79,7 +78,7 @@ lines (r ∷ rs) = line (map field r) ++ lines rs
 abbrev pub rows_so_far : RowsPart → List ℕ
 rows_so_far p = lines p.before ++ row_so_far p.at
 
--- The bytes are more cells behind these, over the ends of so many rows, and this is their text; the columns left come behind.
+-- The bytes are more cells after these, over the ends of so many rows, and this is their text; the columns left come after.
 pub record WritesRows (charset : Charset) (all : List Column) (cells : List Cell) (columns left : List Column) (column count : ℕ) (bytes made : List ℕ) : Type 0 where
   pub before : List (List Cell)
   pub more : List Cell
@@ -87,7 +86,7 @@ pub record WritesRows (charset : Charset) (all : List Column) (cells : List Cell
   pub counted : length more ≡ column
   pub writes : Writes (rows charset all) rows_so_far (record { before = []; at = behind_cells charset cells columns }) bytes made (record { before = before; at = behind_cells charset more left })
 
--- More cells behind these were read, over the ends of so many rows, and their text put.
+-- More cells after these were read, over the ends of so many rows, and their text put.
 pub record RunsRows (charset : Charset) (all : List Column) (cells : List Cell) (columns left : List Column) (column count : ℕ) (old new : Seen) (place place' : ℕ) (earlier after : Held) : Type 0 where
   pub before : List (List Cell)
   pub more : List Cell

@@ -7,7 +7,6 @@ use Rattle.tds_csv.specs.Conversion.{Conversion, is_fit}
 use Rattle.tds_csv.specs.Fields.{field_room}
 use Rattle.tds_rows.specs.declared.Charset.{Charset}
 use Rattle.tds_rows.specs.declared.buffered.Written.{Written}
-use Rattle.tds_rows.specs.declared.short.TheConstants.{NULL_LENGTH}
 use Rattle.tds_rows.specs.Cells.{LongShape, Shape, ShortLength, cell_start, shape}
 use Rattle.tds_rows.specs.WholeCells.{WritesWhole}
 
@@ -17,12 +16,12 @@ short_conversion (LongShape c Short) = Some c
 short_conversion _ = None
 
 -- the length of two bytes before a short value
-abbrev pub short_length : List ℕ → ℕ
-short_length bytes = slice_index bytes 0 + 256 * slice_index bytes 1
+abbrev pub stated_length : List ℕ → ℕ
+stated_length bytes = slice_index bytes 0 + 256 * slice_index bytes 1
 
 -- how many bytes of data the short value has at the front of these bytes; NULL has none
 abbrev pub data_length : List ℕ → ℕ
-data_length bytes = if short_length bytes == NULL_LENGTH then 0 else short_length bytes
+data_length bytes = if stated_length bytes == 0xFFFF then 0 else stated_length bytes
 
 -- how many bytes its cell has
 abbrev pub short_size : List ℕ → ℕ

@@ -12,7 +12,7 @@ use Rattle.tds_rows.specs.declared.table.Table.{Table}
 abbrev pub kinds : List Column → List Kind
 kinds columns = map (λ c. c.kind) columns
 
--- The table knows these columns: the kinds of the first ones, how many there are, and the walk over those behind.
+-- The table knows these columns: the kinds of the first ones, how many there are, and the walk over those after them.
 pub record Knows (table : Table) (columns : List Column) : Type 0 where
   pub first : map (λ f. f.kind) (take table.known table.forms) ≡ kinds (take table.known columns)
   pub counted : table.count ≡ length columns

@@ -31,7 +31,7 @@ pub(crate) fn length_size(kind: &Kind) -> usize
     }
 }
 
-// Where the value of a cell lies in these bytes, and how many it has: behind its length, unless each value of
+// Where the value of a cell lies in these bytes, and how many it has: after its length, unless each value of
 // its kind has as many. None where its kind is a long one, or no length is there.
 #[inline(always)]
 fn value_at(form: &Form, bytes: &[u8]) -> Option<(usize, usize)>
@@ -56,7 +56,7 @@ fn value_at(form: &Form, bytes: &[u8]) -> Option<(usize, usize)>
 /// How many bytes a whole number of four bytes has.
 pub(crate) const INT4: usize = 4;
 
-/// Whether a whole number of four bytes lies at the front of these bytes: at once, or behind its length.
+/// Whether a whole number of four bytes lies at the front of these bytes: at once, or after its length.
 #[inline(always)]
 pub(crate) fn has_int4(start: usize, bytes: &[u8]) -> bool
     requires { start ≤ 1 }

@@ -4,6 +4,7 @@ ghost use Rattle.tds_csv.specs.Conversion.{Begins, Conversion, Suits, closing, c
 ghost use Rattle.tds_csv.specs.Quoting.{behind_comma, end_behind};
 ghost use Rattle.tds_csv.specs.Sinks.{IsReady, IsWriting, LeavesSink, PutsPiece};
 ghost use Rattle.tds_packet.specs.Payloads.{IsGoing, LeavesPayload};
+ghost use Rattle.tds_rows.specs.Blames.{Blames, failures_of, failures_with};
 ghost use Rattle.tds_rows.specs.LongCells.{DataTaken, EndPut, PieceTaken, good_of, join_stop, opening};
 
 use std::io::{Read, Write};
@@ -13,7 +14,7 @@ use tds_packet::{Fault, Payload, Place, Stop};
 // The most bytes that a piece is asked for.
 const LONGEST_PIECE: u64 = 65_536;
 
-// The stop of a joiner whose piece, or whose end, stands behind so many bytes of the payload: the sink's own, or
+// The stop of a joiner whose piece, or whose end, stands after so many bytes of the payload: the sink's own, or
 // that of the bad byte.
 fn join_stop(fault: JoinFault, column: u16, place: u64) -> Stop
     requires { place + good_of fault < 2 ^ 64 }
@@ -48,7 +49,7 @@ pub(crate) fn put_opening<W: Write>(
     sink.open_binary()
 }
 
-/// Puts what stands behind the text of a long value, and the end of the line if it is the last.
+/// Puts what stands after the text of a long value, and the end of the line if it is the last.
 pub(crate) fn put_closing<W: Write>(
     quoted: bool,
     last: bool,
@@ -85,6 +86,7 @@ fn push_piece<J: Joiner, R: Read, W: Write>(
     ensures some { IfOk result (λ n. 0 < n) }
     ensures most { IfOk result (λ n. n ≤ most) }
     ensures place { IfOk result (λ n. payload.new.place ≡ payload.old.place + n) }
+    ensures blames { Blames (failures_of payload.old sink.old) (failures_of payload.new sink.new) result }
     ensures gives { (c : Conversion) (content : List ℕ) → Suits J.fit J.begins J.rest J.text J.UNIT J.QUOTED c →
         J.withheld joiner.old ≡ conversion_rest c content → Begins c content →
         PieceTaken R.remaining W.contents c content (J.withheld joiner.new) column most
@@ -114,6 +116,7 @@ pub(crate) fn push_data<J: Joiner, R: Read, W: Write>(
     ensures sink { LeavesSink sink.old sink.new result }
     ensures begun { J.begins (J.withheld joiner.new) }
     ensures place { IfOk result (λ _. payload.new.place ≡ payload.old.place + n) }
+    ensures blames { Blames (failures_of payload.old sink.old) (failures_of payload.new sink.new) result }
     ensures gives { (c : Conversion) (content : List ℕ) → Suits J.fit J.begins J.rest J.text J.UNIT J.QUOTED c →
         J.withheld joiner.old ≡ conversion_rest c content → Begins c content →
         DataTaken R.remaining W.contents c content (J.withheld joiner.new) column n
@@ -139,6 +142,7 @@ pub(crate) fn put_end<J: Joiner, W: Write>(
 ) -> Result<(), Stop>
     requires { IsWriting sink.old }
     ensures sink { LeavesSink sink.old sink.new result }
+    ensures blames { (reads : ℕ) → Blames (failures_with reads sink.old) (failures_with reads sink.new) result }
     ensures gives { (c : Conversion) (content : List ℕ) → Suits J.fit J.begins J.rest J.text J.UNIT J.QUOTED c →
         J.withheld joiner.old ≡ conversion_rest c content → Begins c content →
         EndPut W.contents c J.QUOTED last content column place sink.old sink.new result }

@@ -13,13 +13,13 @@ use tds_packet::{Fault, Payload, Place, Stop};
 use tds_values::Kind;
 
 /// The most bytes that a cell of a scalar kind has: a length and a decimal. A call that gathers such
-/// cells wants room for them in the small area.
+/// cells needs room for them in the small area.
 pub const LONGEST_CELL: usize = 18;
 
 /// The longest value of a scalar kind.
 const LONGEST: usize = 17;
 
-// The stop of a value out of range, which began behind so many bytes of the payload.
+// The stop of a value out of range, which began after so many bytes of the payload.
 pub(crate) fn bad_value(column: u16, place: u64) -> Stop
     ensures { result ≡ record { fault = Fault.BadValue column; place = Place.Payload place } }
 {

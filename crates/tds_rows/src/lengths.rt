@@ -29,7 +29,7 @@ fn read_number<R: Read>(payload: &mut Payload<R>, size: usize) -> Result<u64, St
     Ok(LittleEndian::read_uint(&bytes[..size], size))
 }
 
-// The stop of a length, a total or a terminator that began behind so many bytes of the payload.
+// The stop of a length, a total or a terminator that began after so many bytes of the payload.
 fn stop_at(fault: Fault, place: u64) -> Stop
     ensures { result ≡ record { fault = fault; place = Place.Payload place } }
 {
@@ -87,7 +87,7 @@ pub(crate) fn read_total<R: Read>(
     Ok(Some(Some(n)))
 }
 
-// The fault of a terminator behind so many bytes of data, but for what the data itself has.
+// The fault of a terminator after so many bytes of data, but for what the data itself has.
 fn end_fault(column: u16, unit: u64, total: Option<u64>, sum: u64) -> Option<Fault>
     requires { 0 < unit }
     ensures { result ≡ end_fault column unit total sum }
@@ -99,7 +99,7 @@ fn end_fault(column: u16, unit: u64, total: Option<u64>, sum: u64) -> Option<Fau
     }
 }
 
-// The fault of the length of a chunk behind so many bytes of data; 0 is the terminator.
+// The fault of the length of a chunk after so many bytes of data; 0 is the terminator.
 fn chunk_length_fault(column: u16, unit: u64, total: Option<u64>, sum: u64, n: u64) -> Option<Fault>
     requires { 0 < unit }
     ensures { result ≡ chunk_length_fault column unit total sum n }
@@ -113,7 +113,7 @@ fn chunk_length_fault(column: u16, unit: u64, total: Option<u64>, sum: u64, n: u
     }
 }
 
-/// Reads the length of a chunk behind so many bytes of data; 0 is the terminator.
+/// Reads the length of a chunk after so many bytes of data; 0 is the terminator.
 pub(crate) fn read_chunk_length<R: Read>(
     payload: &mut Payload<R>,
     column: u16,

@@ -1,18 +1,22 @@
 // Long values (MS-TDS, Data Stream Types).
-ghost use Rattle.std.specs.Prelude.{◌≡◌, ◌<◌, [], false, None};
+ghost use Rattle.std.specs.Prelude.{◌≡◌, ℕ, ◌<◌, List, [], ◌++◌, false, IfErr, None};
 ghost use Rattle.tds_csv.specs.Conversion.{Conversion, Suits};
 ghost use Rattle.tds_csv.specs.Sinks.{IsReady, IsWriting, LeavesSink};
 ghost use Rattle.tds_packet.specs.Payloads.{IsGoing, IsSound, LeavesPayload};
-ghost use Rattle.tds_rows.specs.Cells.{ChunkLength, ShortLength, Total, long_start};
+ghost use Rattle.tds_meter.specs.Counts.{one_more};
+ghost use Rattle.tds_rows.specs.Blames.{Blames, failures_of};
+ghost use Rattle.tds_rows.specs.Cells.{Cell, ChunkLength, LongShape, ShortLength, SpellsCell, Total, long_start};
 ghost use Rattle.tds_rows.specs.CellSteps.{FieldPut};
 ghost use Rattle.tds_rows.specs.RowSteps.{StopsAgain};
+ghost use Rattle.tds_rows.specs.Successes.{SucceedsOn};
+ghost use Rattle.tds_values.specs.declared.kind.Kind.{Kind};
 
 use crate::data::{push_data, put_end, put_opening};
 use crate::fields::put_null;
 use crate::lengths::{read_chunk_length, read_short_length, read_total};
 use std::io::{Read, Write};
 use tds_csv::{Joiner, Sink};
-use tds_packet::{Payload, Stop};
+use tds_packet::{Fault, Payload, Stop};
 use tds_values::Reach;
 
 // Reads a short value from its length on, and puts its field, and the end of the line if it is the last.
@@ -30,6 +34,7 @@ fn stream_short<J: Joiner, R: Read, W: Write>(
     requires begun { J.begins (J.withheld joiner.old) }
     ensures payload { LeavesPayload payload.old payload.new result }
     ensures sink { LeavesSink sink.old sink.new result }
+    ensures blames { Blames (failures_of payload.old sink.old) (failures_of payload.new sink.new) result }
     ensures gives { (c : Conversion) → Suits J.fit J.begins J.rest J.text J.UNIT J.QUOTED c →
         FieldPut R.remaining W.contents (ShortLength c) column last payload.old payload.new sink.old sink.new result }
 {
@@ -44,7 +49,7 @@ fn stream_short<J: Joiner, R: Read, W: Write>(
     put_end(joiner, column, last, payload.place() - 1, sink)
 }
 
-// Reads the chunks and the terminator behind a total, and puts the text of the data and its end.
+// Reads the chunks and the terminator after a total, and puts the text of the data and its end.
 fn stream_chunks<J: Joiner, R: Read, W: Write>(
     payload: &mut Payload<R>,
     total: Option<u64>,
@@ -60,6 +65,7 @@ fn stream_chunks<J: Joiner, R: Read, W: Write>(
     requires begun { J.begins (J.withheld joiner.old) }
     ensures payload { LeavesPayload payload.old payload.new result }
     ensures sink { LeavesSink sink.old sink.new result }
+    ensures blames { Blames (failures_of payload.old sink.old) (failures_of payload.new sink.new) result }
     ensures gives { (c : Conversion) → Suits J.fit J.begins J.rest J.text J.UNIT J.QUOTED c →
         FieldPut R.remaining W.contents (ChunkLength c total []) column last payload.old payload.new sink.old sink.new result }
 {
@@ -90,6 +96,7 @@ fn stream_chunked<J: Joiner, R: Read, W: Write>(
     requires begun { J.begins (J.withheld joiner.old) }
     ensures payload { LeavesPayload payload.old payload.new result }
     ensures sink { LeavesSink sink.old sink.new result }
+    ensures blames { Blames (failures_of payload.old sink.old) (failures_of payload.new sink.new) result }
     ensures gives { (c : Conversion) → Suits J.fit J.begins J.rest J.text J.UNIT J.QUOTED c →
         FieldPut R.remaining W.contents (Total c) column last payload.old payload.new sink.old sink.new result }
 {
@@ -116,6 +123,7 @@ pub(crate) fn stream_long<J: Joiner, R: Read, W: Write>(
     requires begun { J.begins (J.withheld joiner.old) }
     ensures payload { LeavesPayload payload.old payload.new result }
     ensures sink { LeavesSink sink.old sink.new result }
+    ensures blames { Blames (failures_of payload.old sink.old) (failures_of payload.new sink.new) result }
     ensures gives { (c : Conversion) → Suits J.fit J.begins J.rest J.text J.UNIT J.QUOTED c →
         FieldPut R.remaining W.contents (long_start c reach) column last payload.old payload.new sink.old sink.new result }
 {
@@ -125,7 +133,7 @@ pub(crate) fn stream_long<J: Joiner, R: Read, W: Write>(
     }
 }
 
-/// Reads a long value from its length or total on, and puts its field, behind a comma unless it is that of
+/// Reads a long value from its length or total on, and puts its field, after a comma unless it is that of
 /// column 0. The joiner withholds nothing, and gets the data in pieces that lie in the packet: nothing is
 /// copied into an area (MS-TDS, Data Stream Types).
 ///
@@ -152,6 +160,14 @@ pub fn stream_value<J: Joiner + Drop, R: Read, W: Write>(
         Suits J.fit J.begins J.rest J.text J.UNIT J.QUOTED c →
         FieldPut R.remaining W.contents (long_start c reach) column false
         payload.old payload.new sink.old sink.new result }
+    ensures failed_reads { payload.old.stopped ≡ None → sink.old.failed ≡ false → IfErr result (λ stop.
+        stop.fault ≡ Fault.ReadFailed → payload.new.from.now.failures ≡ one_more payload.old.from.now.failures) }
+    ensures failed_writes { payload.old.stopped ≡ None → sink.old.failed ≡ false → IfErr result (λ stop.
+        stop.fault ≡ Fault.WriteFailed → sink.new.to.now.failures ≡ one_more sink.old.to.now.failures) }
+    ensures succeeds { payload.old.stopped ≡ None → sink.old.failed ≡ false → (c : Conversion) →
+        Suits J.fit J.begins J.rest J.text J.UNIT J.QUOTED c → (kind : Kind) (value : Cell) (bytes more : List ℕ) →
+        SpellsCell kind (LongShape c reach) value bytes →
+        SucceedsOn R.remaining payload.old payload.new sink.old sink.new result (bytes ++ more) }
     ensures again { StopsAgain W.contents payload.old payload.new sink.old sink.new result }
 {
     if let Some(stop) = payload.stopped() {

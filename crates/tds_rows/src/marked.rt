@@ -93,7 +93,7 @@ pub(crate) fn run_marked<'a>(
 }
 
 /// Takes the next cells of an NBCROW, as many as are NULL by their bit or lie whole in the packet, aren't in chunks
-/// and have room, puts their text where it waits, and answers the place behind them. It reads nothing and
+/// and have room, puts their text where it waits, and answers the place after them. It reads nothing and
 /// delivers nothing.
 pub(crate) fn put_marked<'a, R: Read, W: Write>(
     payload: &mut Payload<R>,

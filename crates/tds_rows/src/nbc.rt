@@ -1,10 +1,12 @@
 // A row with a bitmap of the columns that are NULL (MS-TDS, NBCROW).
-ghost use Rattle.std.specs.Prelude.{◌≡◌, ◌+◌, ◌*◌, ◌<◌, ◌≤◌, None, false, length, max};
+ghost use Rattle.std.specs.Prelude.{◌≡◌, ℕ, ◌+◌, ◌*◌, ◌<◌, ◌≤◌, ◌++◌, List, None, false, length, max};
 ghost use Rattle.tds_columns.specs.View.{columns_of};
 ghost use Rattle.tds_csv.specs.Sinks.{IsReady, LeavesSink};
 ghost use Rattle.tds_packet.specs.Payloads.{IsSound, LeavesPayload};
 ghost use Rattle.tds_rows.specs.RowSteps.{RowPut, StopsAgain};
-ghost use Rattle.tds_rows.specs.Rows.{bit, bitmap_length, nbc_row_start};
+ghost use Rattle.tds_rows.specs.Cells.{Cell};
+ghost use Rattle.tds_rows.specs.Rows.{SpellsNbcRow, bit, bitmap_length, nbc_row_start};
+ghost use Rattle.tds_rows.specs.Successes.{SucceedsOn};
 
 use crate::Charset;
 use crate::fields::put_null;
@@ -37,9 +39,9 @@ pub(crate) fn is_null(bitmap: &[u8], column: u16) -> bool
     (bitmap[column as usize / 8] >> (column % 8) as u32) & 1 == 1
 }
 
-/// Reads an NBCROW behind its token byte, and puts its line (MS-TDS, NBCROW). The bitmap is read into
+/// Reads an NBCROW after its token byte, and puts its line (MS-TDS, NBCROW). The bitmap is read into
 /// the area, which is emptied first and has room for 8,192 bytes at least; a column whose bit is set
-/// is NULL and has no data, and the bits behind the last column's say nothing. The NULLs that stand
+/// is NULL and has no data, and the bits after the last column's say nothing. The NULLs that stand
 /// before the next cell with data, or at the row's end, count with what is read before them: the
 /// cell, or the bitmap. Faults and places are those of [`row`](crate::row), and `MessageEnded` stands
 /// at the bitmap's first byte where the message ends in it. After a stop of the payload or the sink
@@ -59,7 +61,6 @@ pub fn nbc_row<R: Read, W: Write>(
     requires ready { IsReady sink.old }
     requires room { LONGEST_BITMAP ≤ bitmap.old.room }
     requires small_room { LONGEST_CELL ≤ small.old.room }
-    requires some { 0 < length (columns_of columns.bytes.now) }
     ensures payload { LeavesPayload payload.old payload.new result }
     ensures sink { LeavesSink sink.old sink.new result }
     ensures room { bitmap.new.room ≡ bitmap.old.room }
@@ -69,6 +70,9 @@ pub fn nbc_row<R: Read, W: Write>(
     ensures gives { payload.old.stopped ≡ None → sink.old.failed ≡ false →
         RowPut R.remaining W.contents charset (nbc_row_start (columns_of columns.entry.bytes.now))
         payload.old payload.new sink.old sink.new result }
+    ensures succeeds { payload.old.stopped ≡ None → sink.old.failed ≡ false → (cells : List Cell) (bytes more : List ℕ) →
+        SpellsNbcRow charset (columns_of columns.entry.bytes.now) cells bytes →
+        SucceedsOn R.remaining payload.old payload.new sink.old sink.new result (bytes ++ more) }
     ensures again { StopsAgain W.contents payload.old payload.new sink.old sink.new result }
 {
     bitmap.clear();

@@ -1,12 +1,13 @@
 // A row, cell after cell (MS-TDS, ROW).
-ghost use Rattle.std.specs.Prelude.{◌≡◌, ◌+◌, ◌<◌, ◌≤◌, Bool, None, false, length, max, IsTrue, IfOk};
+ghost use Rattle.std.specs.Prelude.{◌≡◌, ℕ, ◌+◌, ◌<◌, ◌≤◌, ◌++◌, Bool, List, None, false, max, IsTrue, IfOk};
 ghost use Rattle.tds_columns.specs.View.{columns_of};
 ghost use Rattle.tds_csv.specs.Sinks.{IsReady, IsWriting, LeavesSink};
 ghost use Rattle.tds_packet.specs.Payloads.{IsGoing, IsSound, LeavesPayload};
-ghost use Rattle.tds_rows.specs.Cells.{long_start, narrow};
+ghost use Rattle.tds_rows.specs.Cells.{Cell, long_start, narrow};
 ghost use Rattle.tds_rows.specs.CellSteps.{CellPut, FieldPut};
 ghost use Rattle.tds_rows.specs.RowSteps.{RowPut, RowsRead, StopsAgain};
-ghost use Rattle.tds_rows.specs.Rows.{row_start};
+ghost use Rattle.tds_rows.specs.Rows.{SpellsRow, row_start};
+ghost use Rattle.tds_rows.specs.Successes.{BeginNoRow, SpellsRows, SucceedsOn};
 ghost use Rattle.tds_rows.specs.Tables.{IsNextKind};
 ghost use Rattle.tds_rows.specs.declared.Charset as sets;
 ghost use Rattle.tds_values.specs.Kind as kinds;
@@ -213,7 +214,7 @@ pub(crate) fn put_cell<R: Read, W: Write>(
     put_long(payload, sink, at.column, table.is_last(at), charset, kind)
 }
 
-/// Reads a ROW behind its token byte, and puts its line (MS-TDS, ROW). The cells before a stop count,
+/// Reads a ROW after its token byte, and puts its line (MS-TDS, ROW). The cells before a stop count,
 /// with their text, and so does the text so far of a long value. [`Fault::BadValueLength`] stands at the
 /// length byte that isn't allowed, and [`Fault::BadValue`] at the first byte of the value out of range; the
 /// faults of long values and their places are those of [`stream_value`](crate::stream_value). Columns are
@@ -239,6 +240,9 @@ pub fn row<R: Read, W: Write>(
     ensures gives { payload.old.stopped ≡ None → sink.old.failed ≡ false →
         RowPut R.remaining W.contents charset (row_start charset (columns_of columns.entry.bytes.now))
         payload.old payload.new sink.old sink.new result }
+    ensures succeeds { payload.old.stopped ≡ None → sink.old.failed ≡ false → (cells : List Cell) (bytes more : List ℕ) →
+        SpellsRow charset (columns_of columns.entry.bytes.now) cells bytes →
+        SucceedsOn R.remaining payload.old payload.new sink.old sink.new result (bytes ++ more) }
     ensures again { StopsAgain W.contents payload.old payload.new sink.old sink.new result }
 {
     if let Some(stop) = payload.stopped() {
@@ -256,7 +260,7 @@ pub fn row<R: Read, W: Write>(
     Ok(())
 }
 
-/// Reads a ROW behind its token byte, and the ROWs behind it as far as their token bytes lie in the packet
+/// Reads a ROW after its token byte, and the ROWs after it as far as their token bytes lie in the packet
 /// that the one before them ends in, and puts their lines. Answers how many they are. The lines of the
 /// whole rows count at a stop, and the text so far of the row that it stops in. Faults and places are those
 /// of [`row`] (MS-TDS, ROW), and so is the use of the small area.
@@ -269,7 +273,6 @@ pub fn read_rows<R: Read, W: Write>(
 ) -> Result<u64, Stop>
     requires going { IsGoing payload.old }
     requires writing { IsWriting sink.old }
-    requires some { 0 < length (columns_of columns.bytes.now) }
     requires room { LONGEST_CELL ≤ small.old.room }
     ensures payload { LeavesPayload payload.old payload.new result }
     ensures sink { LeavesSink sink.old sink.new result }
@@ -278,6 +281,9 @@ pub fn read_rows<R: Read, W: Write>(
     ensures few { IfOk result (λ count. payload.old.place + count ≤ payload.new.place + 1) }
     ensures gives { RowsRead R.remaining W.contents charset (columns_of columns.entry.bytes.now)
         payload.old payload.new sink.old sink.new result }
+    ensures succeeds { (first : List Cell) (later : List (List Cell)) (bytes more : List ℕ) →
+        SpellsRows charset (columns_of columns.entry.bytes.now) first later bytes → BeginNoRow more →
+        SucceedsOn R.remaining payload.old payload.new sink.old sink.new result (bytes ++ more) }
 {
     let table = Table::of(columns, charset);
     let mut ahead = table.start();

@@ -75,7 +75,7 @@ pub(crate) fn run_cells<'a>(
 }
 
 // Writes cell after cell, as far as they lie whole in these bytes, aren't in chunks and have room, over the
-// ends of rows: behind a whole row it goes on where the byte of the next ROW lies. Whole numbers of four bytes,
+// ends of rows: after a whole row it goes on where the byte of the next ROW lies. Whole numbers of four bytes,
 // the most frequent cells, are written here.
 #[inline(never)]
 pub(crate) fn run_rows<'a>(

@@ -16,9 +16,9 @@ const TABLE_LENGTH: usize = 64;
 pub(crate) enum Layout {
     /// Alone, and each value has so many bytes.
     Fixed(u8),
-    /// Behind a length of one byte, which is 0 for NULL.
+    /// After a length of one byte, which is 0 for NULL.
     Counted,
-    /// Behind the length or total of a long value.
+    /// After the length or total of a long value.
     Long,
 }
 
@@ -31,7 +31,7 @@ pub(crate) struct Form {
     pub(crate) ghost laid: { layout ≡ layout_of kind },
 }
 
-/// The columns of a description: what the cells of the first ones need, the walk over those behind,
+/// The columns of a description: what the cells of the first ones need, the walk over those after,
 /// and the set of single-byte text.
 #[derive(Drop)]
 pub(crate) struct Table<'a> {
@@ -140,8 +140,8 @@ impl<'a> Table<'a> {
         Some(Form::of(column.kind))
     }
 
-    /// Where the number lies in the next cell, at once or behind a length of one byte, if the table knows that it is
-    /// a whole number of four bytes, the most frequent kind. The place behind that cell has the same walk.
+    /// Where the number lies in the next cell, at once or after a length of one byte, if the table knows that it is
+    /// a whole number of four bytes, the most frequent kind. The place after that cell has the same walk.
     #[inline(always)]
     pub(crate) fn int4_start(&self, at: Ahead<'a>) -> Option<usize>
         ensures known { (form : Form) → at.entry.column < self.now.known →
@@ -179,7 +179,7 @@ impl<'a> Table<'a> {
         at.column + 1 == self.count
     }
 
-    /// The place behind the next cell.
+    /// The place after the next cell.
     #[inline(always)]
     pub(crate) fn behind(&self, at: Ahead<'a>) -> Ahead<'a>
         requires { at.column < self.now.count }
@@ -197,7 +197,7 @@ impl<'a> Table<'a> {
         }
     }
 
-    /// What the next cell needs, and the place behind it; none at the row's end.
+    /// What the next cell needs, and the place after it; none at the row's end.
     pub(crate) fn next(&self, at: Ahead<'a>) -> Option<(Form, Ahead<'a>)>
         ensures further { IfSome result (λ taken. at.entry.column < taken.1.column) }
         ensures within { IfSome result (λ taken. taken.1.column ≤ self.now.count) }

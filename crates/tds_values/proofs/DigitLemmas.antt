@@ -55,7 +55,7 @@ tenth k n h = let e = pow-succ' 10 k in le-div (10 ^ k) n 10 (omega arith) (omeg
 at_least_ten : (k n : ℕ) → 10 ^ suc k ≤ n → 10 ≤ n
 at_least_ten k n h = let e = pow-succ' 10 k in let p : 1 ≤ 10 ^ k = one-le-pow k 10 (omega arith) in omega arith
 
--- a number that is large enough has its last k digits behind the text of the rest
+-- a number that is large enough has its last k digits after the text of the rest
 pub decimal_split : (k n : ℕ) → 10 ^ k ≤ n → n < 10 ^ 64 → decimal n ≡ decimal (n / 10 ^ k) ++ last_digits k n
 decimal_split zero n h small = ap decimal (sym (div-one n)) ∙ sym (append-none (decimal (n / 1)))
 decimal_split (suc k) n h small =
@@ -78,11 +78,11 @@ decimal_last (suc (suc k)) n h low high small =
     decimal_step_wide n (at_least_ten k n large) small
     ∙ ap (λ t. t ++ (48 + n % 10) ∷ []) (decimal_last (suc k) (n / 10) (omega arith) (inr (subst (λ m. 10 ^ m ≤ n / 10) (sym back) (tenth k n large))) less (omega arith))
 
--- eight digits behind the text of the rest
+-- eight digits after the text of the rest
 pub decimal_eight : (n : ℕ) → 100000000 ≤ n → n < 10 ^ 64 → decimal n ≡ decimal (n / 100000000) ++ last_digits 8 (n % 100000000)
 decimal_eight n h small = decimal_split 8 n h small ∙ ap (λ t. decimal (n / 100000000) ++ t) (sym (last_digits-mod 8 n))
 
--- sixteen digits behind the text of the rest
+-- sixteen digits after the text of the rest
 pub decimal_sixteen : (n : ℕ) → 10000000000000000 ≤ n → n < 10 ^ 64
     → decimal n ≡ (decimal (n / 10000000000000000) ++ last_digits 8 (n / 100000000 % 100000000)) ++ last_digits 8 (n % 100000000)
 decimal_sixteen n h small =

@@ -12,8 +12,7 @@ use Rattle.uuid.specs.Text.{hyphenated_text, lower}
 use Rattle.uuid.proofs.TextLemmas.{by_index_length}
 use Rattle.tds_values.specs.declared.scalar.ScalarValue.{ScalarValue}
 use Rattle.tds_values.specs.declared.scalar.ScalarValue.TheVariants as values
-use Rattle.tds_values.specs.ScalarRange.{is_in_range, day_since_1900}
-use Rattle.tds_values.specs.declared.ranges.TheConstants.{DAY_OF_1900}
+use Rattle.tds_values.specs.ScalarRange.{day_of_1900, is_in_range, day_since_1900}
 use Rattle.tds_values.specs.LocalTime.{local_units}
 use Rattle.tds_values.specs.TimeOfDay.{units_per_second, units_per_day, is_time}
 use Rattle.tds_values.specs.ScalarText.{last_digits, fraction_text, minus_if, decimal_text, date_text, minutes_text, seconds_text, time_text, date_and_time, offset_text, local_text, ticks_text, milliseconds_of, text_of, FitsWidths}
@@ -117,6 +116,6 @@ length-text_of (values.DateTime2 scale units day) h fits =
 length-text_of (values.DateTimeOffset scale units day offset) h fits =
     length-local scale (local_units scale units day offset) offset (and_parts _ _ (and_parts _ _ (and_parts _ _ (and_parts _ _ h).0).0).0).0
 length-text_of (values.SmallDateTime days minutes) h fits =
-    omega (arith, length-date_and_time (DAY_OF_1900 + days) (seconds_text (60 * minutes)), length-seconds (60 * minutes))
+    omega (arith, length-date_and_time (day_of_1900 + days) (seconds_text (60 * minutes)), length-seconds (60 * minutes))
 length-text_of (values.DateTime days ticks) h fits =
     omega (arith, length-date_and_time (unsigned_abs (day_since_1900 days)) (ticks_text ticks), length-ticks ticks)

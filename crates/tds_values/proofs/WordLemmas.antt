@@ -67,7 +67,7 @@ low_bytes i (suc k) n =
     first zero n = omega arith
     first (suc i) n = refl
 
--- the m bytes of a word, stored behind `at`
+-- the m bytes of a word, stored after `at`
 pub stored : (old part rest : List ℕ) (m at k w : ℕ) → at ≤ length old → part ≡ bytes_low_first 0 m w ++ rest → rest ≡ []
     → take (at + m) (put_mid at k old part) ≡ take at old ++ bytes_of m w
 stored old part rest m at k w h e none =
@@ -80,7 +80,7 @@ stored old part rest m at k w h e none =
     length-bytes_of zero w = refl
     length-bytes_of (suc m) w = ap suc (length-bytes_of m (w / 256))
 
--- and nothing stands behind them
+-- and nothing stands after them
 pub nothing_behind : (xs : List ℕ) (m at : ℕ) → drop m (take (at + m - at) xs) ≡ []
 nothing_behind xs m at =
     let e : at + m - at ≡ m + 0 = omega arith in

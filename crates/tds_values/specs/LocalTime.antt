@@ -1,7 +1,10 @@
 -- Local times. An offset is the minutes by which local time is ahead of UTC.
 use Rattle.std.specs.Prelude.{ℕ, ◌+◌, ◌-◌, ◌*◌, Bool, nat_lt, nat_le, ℤ, pos, int_lt, unsigned_abs, Option, Some, None, if◌then◌else◌}
-use Rattle.tds_values.specs.declared.ranges.TheConstants.{LAST_DAY}
 use Rattle.tds_values.specs.TimeOfDay.{units_per_second, units_per_day}
+
+-- the day number of 9999-12-31, where that of 0001-01-01 is 0
+abbrev pub last_day : ℕ
+last_day = 3652058
 
 -- a UTC time and day, in units since 0001-01-01 00:00:00
 abbrev pub utc_units : ℕ → ℕ → ℕ → ℕ
@@ -21,7 +24,7 @@ local_units scale units day offset =
 abbrev pub is_local : ℕ → ℕ → ℕ → ℤ → Bool
 is_local scale units day offset =
     if int_lt offset (pos 0) then nat_le (offset_units scale offset) (utc_units scale units day)
-    else nat_lt (utc_units scale units day + offset_units scale offset) ((LAST_DAY + 1) * units_per_day scale)
+    else nat_lt (utc_units scale units day + offset_units scale offset) ((last_day + 1) * units_per_day scale)
 
 -- the local time of a UTC time and day in whole seconds, where it lies in the years 1 to 9999
 abbrev pub local_seconds : ℕ → ℕ → ℤ → Option ℕ

@@ -29,11 +29,11 @@ datetime_of n bytes =
 abbrev pub time_of : ℕ → List ℕ → ℕ
 time_of scale bytes = little_number (time_length scale) bytes
 
--- the day number, in the three bytes behind the time
+-- the day number, in the three bytes after the time
 abbrev pub day_of : ℕ → List ℕ → ℕ
 day_of scale bytes = little_number 3 (drop (time_length scale) bytes)
 
--- the offset, in the two bytes behind the day
+-- the offset, in the two bytes after the day
 abbrev pub offset_of : ℕ → List ℕ → ℤ
 offset_of scale bytes = cast_signed w16 (little_number 2 (drop (time_length scale + 3) bytes))
 

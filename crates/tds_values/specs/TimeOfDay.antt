@@ -1,6 +1,5 @@
 -- Times of day, in units of a scale: 10 ^ -scale seconds since midnight (MS-TDS, Date/Times).
 use Rattle.std.specs.Prelude.{ℕ, ◌*◌, ◌^◌, nat_lt, nat_le, ◌&&◌, Bool, if◌then◌else◌}
-use Rattle.tds_values.specs.declared.ranges.TheConstants.{SECONDS_A_DAY}
 
 -- how many bytes a time of day takes at a scale (MS-TDS, Date/Times)
 abbrev pub time_length : ℕ → ℕ
@@ -12,7 +11,7 @@ units_per_second scale = 10 ^ scale
 
 -- how many units of a scale a day has
 abbrev pub units_per_day : ℕ → ℕ
-units_per_day scale = SECONDS_A_DAY * units_per_second scale
+units_per_day scale = 86400 * units_per_second scale
 
 -- a number of units since midnight is a time of day
 abbrev pub is_time : ℕ → ℕ → Bool

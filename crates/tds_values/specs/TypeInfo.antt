@@ -78,7 +78,7 @@ named_kind b rest =
 abbrev pub valid_kind : Kind → Option Kind
 valid_kind kind = if is_valid kind then Some kind else None
 
--- the same bytes, where they are all that the type byte wants
+-- the same bytes, where they are all that the type byte needs
 abbrev pub kind_after : ℕ → List ℕ → Option ℕ → Option Kind
 kind_after b rest None = None
 kind_after b rest (Some n) = if length rest == n then option_and_then valid_kind (named_kind b rest) else None

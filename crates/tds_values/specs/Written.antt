@@ -2,12 +2,11 @@
 use Rattle.std.specs.Prelude.{◌≡◌, ℕ, ◌≤◌, List, take, Result, Ok, Err}
 use Rattle.tds_values.specs.declared.scalar.ScalarValue.{ScalarValue}
 use Rattle.tds_values.specs.declared.scalar.ValueFault.{ValueFault}
-use Rattle.tds_values.specs.declared.text.TheConstants.{LONGEST_TEXT}
 use Rattle.tds_values.specs.ScalarText.{text_of}
 
--- the first n bytes are the text of the value, and no more than the longest text has
+-- the first n bytes are the text of the value, at most 41
 abbrev pub IsText : ScalarValue → ℕ → List ℕ → Type 0
-IsText value n bytes = (take n bytes ≡ text_of value) × (n ≤ LONGEST_TEXT)
+IsText value n bytes = (take n bytes ≡ text_of value) × (n ≤ 41)
 
 -- the first n bytes are the text of what was read
 abbrev pub IsTextOf : Result ScalarValue ValueFault → ℕ → List ℕ → Type 0

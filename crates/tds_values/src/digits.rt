@@ -1,4 +1,4 @@
-// Digits and other bytes, written to a slice from a place on. Each call answers the place behind what it wrote.
+// Digits and other bytes, written to a slice from a place on. Each call answers the place after what it wrote.
 ghost use Rattle.std.specs.Prelude.{◌≡◌, ◌+◌, ◌-◌, ◌<◌, ◌≤◌, ◌^◌, ◌/◌, ◌*◌, ◌%◌, [], ◌∷◌, ◌++◌, ◌⊎◌, if◌then◌else◌, take, length, decimal};
 ghost use Rattle.tds_values.specs.ScalarText.{last_digits, minus_if};
 ghost use Rattle.tds_values.specs.Words.{word_of, bytes_of};
@@ -104,7 +104,7 @@ fn put_word(to: &mut [u8], at: usize, word: u64) -> usize
     at + 8
 }
 
-// The digits of eight that come behind some zeros, or behind digits that aren't wanted.
+// The digits of eight that come after some zeros, or after digits that aren't wanted.
 #[inline(always)]
 fn put_behind(to: &mut [u8], at: usize, skipped: usize, n: u32) -> usize
     requires room { at + 8 ≤ length to.old }

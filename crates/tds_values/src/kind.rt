@@ -32,28 +32,28 @@ pub enum Kind {
     DateTime4,
     /// Days since 1900-01-01 and 1/300 seconds, 4 bytes each.
     DateTime8,
-    /// A whole number in this many bytes, 1, 2, 4 or 8, behind its length.
+    /// A whole number in this many bytes, 1, 2, 4 or 8, after its length.
     IntN(u8),
-    /// A bit behind its length.
+    /// A bit after its length.
     BitN,
-    /// An amount of money in this many bytes, 4 or 8, behind its length.
+    /// An amount of money in this many bytes, 4 or 8, after its length.
     MoneyN(u8),
-    /// A date and a time in this many bytes, 4 or 8, behind its length.
+    /// A date and a time in this many bytes, 4 or 8, after its length.
     DateTimeN(u8),
-    /// A GUID behind its length.
+    /// A GUID after its length.
     Guid,
-    /// A sign byte and a magnitude of up to `length` - 1 bytes, in units of 10 to the power of minus `scale`, behind
+    /// A sign byte and a magnitude of up to `length` - 1 bytes, in units of 10 to the power of minus `scale`, after
     /// their length. `length` is 5, 9, 13 or 17, `precision` 1 to 38 and `scale` at most `precision`.
     Decimal {
         length: u8,
         precision: u8,
         scale: u8,
     },
-    /// A date behind its length: 3 bytes of days since 0001-01-01.
+    /// A date after its length: 3 bytes of days since 0001-01-01.
     Date,
-    /// A time of this scale, 0 to 7, behind its length.
+    /// A time of this scale, 0 to 7, after its length.
     Time(u8),
-    /// A time of this scale, 0 to 7, and a date, behind their length.
+    /// A time of this scale, 0 to 7, and a date, after their length.
     DateTime2(u8),
     /// The same in UTC, and the minutes by which local time is ahead.
     DateTimeOffset(u8),

@@ -9,8 +9,6 @@ mod moments;
 mod numbers;
 mod ranges;
 mod scalar;
-#[cfg(test)]
-mod tests;
 mod text;
 mod write;
 

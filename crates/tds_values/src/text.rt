@@ -20,7 +20,7 @@ use arrayvec::ArrayVec;
 /// How many bytes the text of a scalar value has at most.
 pub const LONGEST_TEXT: usize = 41;
 
-/// How many bytes the text of a scalar value wants to be written: some are written behind its end.
+/// How many bytes the text of a scalar value needs to be written: some are written after its end.
 pub const TEXT_ROOM: usize = 64;
 
 /// Room for the text of any scalar value.
@@ -172,7 +172,7 @@ fn put_value(to: &mut [u8], value: &ScalarValue) -> usize
 /// The text of a value: at most 41 bytes of ASCII.
 pub fn scalar_text(value: &Scalar) -> ScalarText
     ensures text { result.items ≡ text_of value.now }
-    ensures short { array_vec_len result ≤ LONGEST_TEXT }
+    ensures short { array_vec_len result ≤ 41 }
 {
     let mut bytes = [0; TEXT_ROOM];
     let n = put_value(&mut bytes, &value.value());

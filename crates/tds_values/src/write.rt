@@ -319,7 +319,7 @@ fn write_any(kind: &Kind, bytes: &[u8], to: &mut [u8]) -> Result<usize, ValueFau
 
 /// Writes the text of the value that `bytes` of a scalar kind spell, without their length, to the front of
 /// `to`, and answers how many bytes it has, at most 41; or the fault, where they spell none. What `to` holds
-/// behind the text, and after a fault, isn't fixed.
+/// after the text, and after a fault, isn't fixed.
 #[inline(always)]
 pub fn write_scalar(kind: &Kind, bytes: &[u8], to: &mut [u8]) -> Result<usize, ValueFault>
     requires valid { IsTrue (kinds.is_valid kind.now) }
@@ -331,7 +331,7 @@ pub fn write_scalar(kind: &Kind, bytes: &[u8], to: &mut [u8]) -> Result<usize, V
     write_any(kind, bytes, to)
 }
 
-/// How much room [`write_int4`] needs for a text, in bytes: it writes some bytes behind the text too.
+/// How much room [`write_int4`] needs for a text, in bytes: it writes some bytes after the text too.
 pub const INTEGER_ROOM: usize = 25;
 
 /// Writes the text of a whole number in four bytes, as [`write_scalar`] does of [`Kind::IntN`] with 4.

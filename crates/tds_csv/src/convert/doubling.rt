@@ -2,13 +2,9 @@
 ghost use Rattle.std.specs.Prelude.{◌≡◌, ◌+◌, ◌*◌, ◌≤◌, ◌++◌, length, take, drop};
 ghost use Rattle.tds_csv.specs.Quoting.{doubled};
 
-use crate::convert::CHUNK;
 use crate::convert::encode::{put_bytes, put_doubled};
 use crate::convert::lanes::{LANES, unquoted_run};
 use std::simd::prelude::*;
-
-/// How many bytes a chunk with its quotes doubled has at most, and as many as are written at once.
-pub(crate) const TEXT: usize = 2 * CHUNK + LANES;
 
 // Writes the next bytes up to a quote, at most 16, to a place, and says how many they are. None where
 // fewer than 16 bytes are left.
@@ -39,9 +35,14 @@ pub(crate) fn convert(bytes: &[u8], to: &mut [u8]) -> usize
     let mut made = 0;
     while at < bytes.len() {
         let n = take_unquoted(bytes, at, to, made);
+        if n == LANES {
+            at += n;
+            made += n;
+            continue;
+        }
         at += n;
         made += n;
-        if n < LANES && at < bytes.len() {
+        if at < bytes.len() {
             made = put_doubled(to, made, bytes[at]);
             at += 1;
         }

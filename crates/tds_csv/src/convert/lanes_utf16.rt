@@ -43,7 +43,7 @@ fn plain_units(units: u8x16) -> usize
 }
 
 // Writes the next characters of ASCII up to a quote, at most eight, to a place, and says how many they
-// are. None where fewer than 16 bytes of the source are left: it begins with the bytes, and what lies behind
+// are. None where fewer than 16 bytes of the source are left: it begins with the bytes, and what lies after
 // them may be looked at too.
 #[inline(always)]
 pub(crate) fn take_units(

@@ -7,13 +7,8 @@ ghost use Rattle.tds_csv.specs.Plain.{LiesIn};
 ghost use Rattle.tds_csv.specs.Utf16 as utf16;
 ghost use Rattle.tds_csv.specs.Utf16Next.{Converts, IsNext, LeavesRest};
 
-use crate::convert::CHUNK;
 use crate::convert::encode::put_quoted;
-use crate::convert::lanes::BY_HAND;
 use crate::convert::lanes_utf16::{UNITS, take_units};
-
-/// How many bytes the text of a chunk has at most, and as many as are written at once.
-pub(crate) const TEXT: usize = 3 * CHUNK / 2 + UNITS;
 
 // A character, and how many bytes it takes.
 #[derive(Clone, Copy)]
@@ -111,7 +106,8 @@ pub(crate) struct Converted {
     pub(crate) made: usize,
 }
 
-// The character at a place, where it is a single unit and no surrogate.
+// The character at a place, where it is a single unit that isn't taken with others: no character of ASCII
+// but a quote, and no surrogate.
 #[inline(always)]
 fn single(bytes: &[u8], at: usize) -> Option<u32>
     requires { at + 2 ≤ length bytes.now }
@@ -119,6 +115,9 @@ fn single(bytes: &[u8], at: usize) -> Option<u32>
     ensures range { IfSome result (λ code. code < 65536) }
 {
     let first = unit(bytes, at);
+    if first < 0x80 && first != 0x22 {
+        return None;
+    }
     if is_high(first) {
         return None;
     }
@@ -128,7 +127,7 @@ fn single(bytes: &[u8], at: usize) -> Option<u32>
     Some(first)
 }
 
-// Goes on with the text by single units up to a surrogate, at most so many as are taken by hand.
+// Goes on with the text by single units, up to the first that is taken with others, or a surrogate.
 #[inline(always)]
 fn convert_singles(bytes: &[u8], from: usize, to: &mut [u8], start: usize) -> Converted
     requires long { 3 * length bytes.now + 2 * UNITS ≤ 2 * length to.old }
@@ -136,10 +135,9 @@ fn convert_singles(bytes: &[u8], from: usize, to: &mut [u8], start: usize) -> Co
     ensures more { from ≤ result.used }
     ensures after { Converts bytes.now to.new result.used result.made }
 {
-    let end = bytes.len().min(from + 2 * BY_HAND);
     let mut at = from;
     let mut made = start;
-    while end - at >= 2 {
+    while bytes.len() - at >= 2 {
         let Some(code) = single(bytes, at) else {
             return Converted { used: at, made };
         };
@@ -149,7 +147,7 @@ fn convert_singles(bytes: &[u8], from: usize, to: &mut [u8], start: usize) -> Co
     Converted { used: at, made }
 }
 
-// Goes on with the text by eight units up to one that needs care, or by single units where the first does.
+// Goes on with the text by eight units, and where one of them needs care, by single units from there on.
 #[inline(always)]
 fn convert_some(bytes: &[u8], source: &[u8], from: usize, to: &mut [u8], start: usize) -> Converted
     requires source { LiesIn bytes.now source.now }
@@ -159,16 +157,16 @@ fn convert_some(bytes: &[u8], source: &[u8], from: usize, to: &mut [u8], start: 
     ensures after { Converts bytes.now to.new result.used result.made }
 {
     let n = take_units(bytes, source, from, to, start);
-    if n == 0 {
-        return convert_singles(bytes, from + 2 * n, to, start + n);
+    if n == UNITS {
+        return Converted {
+            used: from + 2 * n,
+            made: start + n,
+        };
     }
-    Converted {
-        used: from + 2 * n,
-        made: start + n,
-    }
+    convert_singles(bytes, from + 2 * n, to, start + n)
 }
 
-// Writes the text of the characters that are fixed. What lies behind the bytes in the source may be looked at.
+// Writes the text of the characters that are fixed. What lies after the bytes in the source may be looked at.
 pub(crate) fn convert(bytes: &[u8], source: &[u8], to: &mut [u8]) -> Converted
     requires source { LiesIn bytes.now source.now }
     requires long { 3 * length bytes.now + 2 * UNITS ≤ 2 * length to.old }
@@ -183,7 +181,7 @@ pub(crate) fn convert(bytes: &[u8], source: &[u8], to: &mut [u8]) -> Converted
         made = done.made;
         let from = at;
         at = done.used;
-        if at == from + 2 * UNITS {
+        if at != from {
             continue;
         }
         let Some(next) = next_character(bytes, at) else {

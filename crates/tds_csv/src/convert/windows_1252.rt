@@ -3,7 +3,6 @@ ghost use Rattle.std.specs.Prelude.{◌≡◌, ◌+◌, ◌*◌, ◌<◌, ◌≤
 ghost use Rattle.tds_csv.specs.Plain.{LiesIn};
 ghost use Rattle.tds_csv.specs.Windows1252 as windows_1252;
 
-use crate::convert::CHUNK;
 use crate::convert::encode::{put_bytes, put_quoted};
 use crate::convert::lanes::{BY_HAND, LANES, plain_run};
 use std::simd::prelude::*;
@@ -14,9 +13,6 @@ const UPPER_CONTROLS: [u16; 32] = [
     0x0152, 0x008D, 0x017D, 0x008F, 0x0090, 0x2018, 0x2019, 0x201C, 0x201D, 0x2022, 0x2013, 0x2014,
     0x02DC, 0x2122, 0x0161, 0x203A, 0x0153, 0x009D, 0x017E, 0x0178,
 ];
-
-/// How many bytes the text of a chunk has at most, and as many as are written at once.
-pub(crate) const TEXT: usize = 3 * CHUNK + LANES;
 
 // The character of a byte.
 fn character(byte: u8) -> u32
@@ -31,7 +27,7 @@ fn character(byte: u8) -> u32
 }
 
 // Writes the next bytes that stand for themselves, at most 16, to a place, and says how many they are.
-// None where fewer than 16 bytes of the source are left: it begins with the bytes, and what lies behind them
+// None where fewer than 16 bytes of the source are left: it begins with the bytes, and what lies after them
 // may be looked at too.
 #[inline(always)]
 fn take_plain(bytes: &[u8], source: &[u8], at: usize, to: &mut [u8], made: usize) -> usize
@@ -51,7 +47,7 @@ fn take_plain(bytes: &[u8], source: &[u8], at: usize, to: &mut [u8], made: usize
     n
 }
 
-// Where the bytes end that are taken one by one behind so many that were taken together.
+// Where the bytes end that are taken one by one after so many that were taken together.
 #[inline(always)]
 fn end_by_hand(bytes: &[u8], at: usize, taken: usize) -> usize
     requires { at ≤ length bytes.now }
@@ -84,7 +80,7 @@ fn convert_by_hand(bytes: &[u8], from: usize, end: usize, to: &mut [u8], start: 
     made
 }
 
-// Writes the text of bytes, and says how long it is. What lies behind them in the source may be looked at.
+// Writes the text of bytes, and says how long it is. What lies after them in the source may be looked at.
 pub(crate) fn convert(bytes: &[u8], source: &[u8], to: &mut [u8]) -> usize
     requires source { LiesIn bytes.now source.now }
     requires room { 3 * length bytes.now + LANES ≤ length to.old }
@@ -95,13 +91,14 @@ pub(crate) fn convert(bytes: &[u8], source: &[u8], to: &mut [u8]) -> usize
     let mut made = 0;
     while at < bytes.len() {
         let n = take_plain(bytes, source, at, to, made);
-        at += n;
-        made += n;
-        if n < LANES {
-            let end = end_by_hand(bytes, at, n);
-            made = convert_by_hand(bytes, at, end, to, made);
-            at = end;
+        if n == LANES {
+            at += n;
+            made += n;
+            continue;
         }
+        let end = end_by_hand(bytes, at + n, n);
+        made = convert_by_hand(bytes, at + n, end, to, made + n);
+        at = end;
     }
     made
 }

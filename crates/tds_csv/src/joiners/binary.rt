@@ -2,13 +2,11 @@
 ghost use Rattle.std.specs.Prelude.{[], false};
 ghost use Rattle.tds_csv.specs.Binary as binary;
 
-use crate::convert::CHUNK;
 use crate::convert::lanes_hex::encode;
 use crate::joiners::parts::{Bytewise, put_text};
 use crate::joiners::{JoinFault, Joiner};
 use crate::sink::Sink;
 use std::io::Write;
-use tds_packet::Stop;
 
 /// Bytes as hexadecimal digits.
 #[derive(Drop)]
@@ -17,16 +15,10 @@ pub struct HexJoiner;
 impl Bytewise for HexJoiner {
     ghost text = { binary.text };
 
-    // No byte stands for itself.
-    fn plain_end(_bytes: &[u8], from: usize) -> usize {
-        from
-    }
-
-    fn put_chunk<W: Write>(bytes: &[u8], sink: &mut Sink<'_, W>) -> Result<(), Stop> {
-        let mut digits = [0; 2 * CHUNK];
-        let n = 2 * bytes.len();
-        encode(bytes, &mut digits[..n]);
-        sink.put(&digits[..n])
+    fn convert(bytes: &[u8], _source: &[u8], to: &mut [u8]) -> usize {
+        let made = 2 * bytes.len();
+        encode(bytes, &mut to[..made]);
+        made
     }
 
     fn laws() {}

@@ -2,13 +2,11 @@
 ghost use Rattle.std.specs.Prelude.{[], true};
 ghost use Rattle.tds_csv.specs.Windows1252 as windows_1252;
 
-use crate::convert::lanes::plain_end;
-use crate::convert::windows_1252::{TEXT, convert};
+use crate::convert::windows_1252::convert;
 use crate::joiners::parts::{Bytewise, put_text};
 use crate::joiners::{JoinFault, Joiner};
 use crate::sink::Sink;
 use std::io::Write;
-use tds_packet::Stop;
 
 /// Text in Windows-1252.
 #[derive(Drop)]
@@ -17,14 +15,8 @@ pub struct Cp1252Joiner;
 impl Bytewise for Cp1252Joiner {
     ghost text = { windows_1252.text };
 
-    fn plain_end(bytes: &[u8], from: usize) -> usize {
-        plain_end(bytes, from)
-    }
-
-    fn put_chunk<W: Write>(bytes: &[u8], sink: &mut Sink<'_, W>) -> Result<(), Stop> {
-        let mut to = [0; TEXT];
-        let made = convert(bytes, bytes, &mut to[..]);
-        sink.put(&to[..made])
+    fn convert(bytes: &[u8], source: &[u8], to: &mut [u8]) -> usize {
+        convert(bytes, source, to)
     }
 
     fn laws() {}

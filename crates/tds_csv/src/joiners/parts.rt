@@ -1,32 +1,28 @@
 // Conversions in which each byte has its text alone, put a part after the other.
-ghost use Rattle.std.specs.Prelude.{◌≡◌, ◌-◌, ◌≤◌, ◌++◌, [], ℕ, List, length, take, drop};
+ghost use Rattle.std.specs.Prelude.{◌≡◌, ◌+◌, ◌-◌, ◌*◌, ◌<◌, ◌≤◌, ◌++◌, [], ℕ, List, length, take};
+ghost use Rattle.tds_csv.specs.Plain.{LiesIn};
 ghost use Rattle.tds_csv.specs.Sinks.{IsWriting, PutsPiece};
 
 use crate::convert::CHUNK;
+use crate::convert::lanes::LANES;
 use crate::sink::Sink;
 use std::io::Write;
 use tds_packet::Stop;
 
-/// How many bytes that stand for themselves are put without a conversion.
-const PLAIN: usize = 32;
+/// How many bytes the text of a chunk has at most, and as many as are written at once.
+const TEXT: usize = 3 * CHUNK + LANES;
 
 /// A conversion in which each byte has its text alone.
 pub(crate) trait Bytewise {
     /// The text of bytes.
     ghost text: { List ℕ → List ℕ };
 
-    /// Where the run of bytes that stand for themselves ends that begins at a place.
-    fn plain_end(bytes: &[u8], from: usize) -> usize
-        requires { from ≤ length bytes.now }
-        ensures after { from ≤ result }
-        ensures within { result ≤ length bytes.now }
-        ensures plain { let run = take (result - from) (drop from bytes.now) in text run ≡ run };
-
-    /// Puts the text of a chunk.
-    fn put_chunk<W: Write>(bytes: &[u8], sink: &mut Sink<'_, W>) -> Result<(), Stop>
-        requires writing { IsWriting sink.old }
-        requires short { length bytes.now ≤ CHUNK }
-        ensures { PutsPiece W.contents sink.old sink.new (text bytes.now) result };
+    /// Writes the text of bytes, and says how long it is. What lies after them in the source may be looked at.
+    fn convert(bytes: &[u8], source: &[u8], to: &mut [u8]) -> usize
+        requires source { LiesIn bytes.now source.now }
+        requires room { 3 * length bytes.now + LANES ≤ length to.old }
+        ensures short { result ≤ 3 * length bytes.now }
+        ensures text { take result to.new ≡ text bytes.now };
 
     /// Does nothing: its clauses are the laws of the text.
     fn laws()
@@ -34,7 +30,39 @@ pub(crate) trait Bytewise {
         ensures empty { text [] ≡ [] };
 }
 
-// Puts the text of bytes: a long run that stands for itself, or a chunk, at a time.
+// How many bytes are converted at a time where there is so much room: as many vectors as their text surely
+// fits it, or a chunk.
+fn chunk_within(room: usize) -> usize
+    ensures some { 0 < result }
+    ensures fits { CHUNK < result → 3 * result + LANES ≤ room }
+{
+    (room.saturating_sub(LANES) / (3 * LANES) * LANES).max(CHUNK)
+}
+
+// Puts the text of a chunk, or of as many bytes as the sink has room for.
+fn put_chunk<C: Bytewise, W: Write>(
+    bytes: &[u8],
+    source: &[u8],
+    sink: &mut Sink<'_, W>,
+) -> Result<(), Stop>
+    requires writing { IsWriting sink.old }
+    requires source { LiesIn bytes.now source.now }
+    requires short { CHUNK < length bytes.now →
+        3 * length bytes.now + LANES ≤ 4096 - length sink.old.output.now.bytes }
+    ensures { PutsPiece W.contents sink.old sink.new (C.text bytes.now) result }
+{
+    let most = 3 * bytes.len() + LANES;
+    if sink.room() >= most {
+        let waiting = sink.waiting() as usize;
+        let made = C::convert(bytes, source, sink.spare(most));
+        return sink.keep(waiting, made);
+    }
+    let mut to = [0; TEXT];
+    let made = C::convert(bytes, source, &mut to[..]);
+    sink.put(&to[..made])
+}
+
+// Puts the text of bytes.
 pub(crate) fn put_text<C: Bytewise, W: Write>(
     bytes: &[u8],
     sink: &mut Sink<'_, W>,
@@ -45,15 +73,9 @@ pub(crate) fn put_text<C: Bytewise, W: Write>(
     C::laws();
     let mut taken = 0;
     while taken < bytes.len() {
-        let plain = C::plain_end(bytes, taken);
-        if plain == bytes.len() || plain - taken >= PLAIN {
-            sink.put(&bytes[taken..plain])?;
-            taken = plain;
-        } else {
-            let end = bytes.len().min(taken + CHUNK);
-            C::put_chunk(&bytes[taken..end], sink)?;
-            taken = end;
-        }
+        let end = bytes.len().min(taken + chunk_within(sink.room()));
+        put_chunk::<C, W>(&bytes[taken..end], &bytes[taken..], sink)?;
+        taken = end;
     }
     Ok(())
 }

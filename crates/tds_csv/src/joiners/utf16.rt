@@ -1,18 +1,23 @@
 // Text in UTF-16 that comes in pieces.
-ghost use Rattle.std.specs.Prelude.{◌≡◌, ◌+◌, ◌%◌, ◌≤◌, ◌++◌, true, length, drop, IfOk, ⊤};
+ghost use Rattle.std.specs.Prelude.{◌≡◌, ◌+◌, ◌-◌, ◌*◌, ◌%◌, ◌<◌, ◌≤◌, ◌++◌, true, length, drop, IfOk, ⊤};
 ghost use Rattle.tds_csv.specs.Joining.{Leads, emit};
+ghost use Rattle.tds_csv.specs.Plain.{LiesIn};
 ghost use Rattle.tds_csv.specs.Pushing.{PushesPiece};
 ghost use Rattle.tds_csv.specs.Sinks.{IsWriting, PutsPiece};
 ghost use Rattle.tds_csv.specs.Utf16 as utf16;
 ghost use Rattle.tds_csv.specs.Utf16Next.{LeavesRest, seam};
 
 use crate::convert::CHUNK;
+use crate::convert::lanes_utf16::UNITS;
 use crate::convert::run::Run;
-use crate::convert::utf16::{TEXT, character_at, convert};
+use crate::convert::utf16::{character_at, convert};
 use crate::joiners::{JoinFault, Joiner};
 use crate::sink::Sink;
 use std::io::Write;
 use tds_packet::Stop;
+
+/// How many bytes the text of a chunk has at most, and as many as are written at once.
+const TEXT: usize = 3 * CHUNK / 2 + UNITS;
 
 /// Text in UTF-16, low byte first.
 #[derive(Drop)]
@@ -20,15 +25,36 @@ pub struct Utf16Joiner {
     kept: Run<3>,
 }
 
-// Puts the text of the characters that are fixed, and says how many bytes they are.
-fn put_chunk<W: Write>(bytes: &[u8], sink: &mut Sink<'_, W>) -> Result<usize, Stop>
+// How many bytes are converted at a time where there is so much room: as many as their text surely fits
+// it, or a chunk.
+fn chunk_within(room: usize) -> usize
+    ensures some { CHUNK ≤ result }
+    ensures fits { CHUNK < result → 3 * result + 2 * UNITS ≤ 2 * room }
+{
+    (room.saturating_sub(UNITS) / 3 * 2).max(CHUNK)
+}
+
+// Puts the text of the characters that are fixed, of a chunk or of as many bytes as the sink has room for,
+// and says how many bytes they are.
+fn put_chunk<W: Write>(bytes: &[u8], source: &[u8], sink: &mut Sink<'_, W>) -> Result<usize, Stop>
     requires writing { IsWriting sink.old }
-    requires short { length bytes.now ≤ CHUNK }
+    requires source { LiesIn bytes.now source.now }
+    requires short { CHUNK < length bytes.now →
+        3 * length bytes.now + 2 * UNITS ≤ 2 * (4096 - length sink.old.output.now.bytes) }
     ensures puts { PutsPiece W.contents sink.old sink.new (emit utf16.rest utf16.text bytes.now) result }
     ensures used { IfOk result (λ used. LeavesRest bytes.now 0 used) }
 {
+    let most = bytes.len() + bytes.len().div_ceil(2) + UNITS;
+    if sink.room() >= most {
+        let waiting = sink.waiting() as usize;
+        let done = convert(bytes, source, sink.spare(most));
+        return match sink.keep(waiting, done.made) {
+            Ok(()) => Ok(done.used),
+            Err(stop) => Err(stop),
+        };
+    }
     let mut to = [0; TEXT];
-    let done = convert(bytes, bytes, &mut to[..]);
+    let done = convert(bytes, source, &mut to[..]);
     sink.put(&to[..done.made])?;
     Ok(done.used)
 }
@@ -41,11 +67,13 @@ fn put_from<W: Write>(bytes: &[u8], from: usize, sink: &mut Sink<'_, W>) -> Resu
     ensures used { IfOk result (λ at. LeavesRest bytes.now from at) }
 {
     let mut at = from;
-    while bytes.len() - at > CHUNK {
-        at += put_chunk(&bytes[at..at + CHUNK], sink)?;
+    loop {
+        let end = bytes.len().min(at + chunk_within(sink.room()));
+        at += put_chunk(&bytes[at..end], &bytes[at..], sink)?;
+        if end == bytes.len() {
+            return Ok(at);
+        }
     }
-    let used = put_chunk(&bytes[at..], sink)?;
-    Ok(at + used)
 }
 
 // The text of the withheld bytes, which are whole.
@@ -80,7 +108,7 @@ impl Utf16Joiner {
         let mut seam: Run<6> = Run::new();
         seam.extend(kept);
         seam.extend(&piece[..3]);
-        let used = put_chunk(seam.bytes(), sink)?;
+        let used = put_chunk(seam.bytes(), seam.bytes(), sink)?;
         Ok(used - kept.len())
     }
 
@@ -112,7 +140,7 @@ impl Utf16Joiner {
         let mut seam: Run<6> = Run::new();
         seam.extend(self.kept.bytes());
         seam.extend(piece);
-        let used = put_chunk(seam.bytes(), sink)?;
+        let used = put_chunk(seam.bytes(), seam.bytes(), sink)?;
         self.kept.clear();
         self.kept.extend(&seam.bytes()[used..]);
         Ok(())

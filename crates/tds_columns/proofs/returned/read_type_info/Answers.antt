@@ -16,7 +16,7 @@ returns-in_err-take_into-clause-gives g c = λ before taken.
     passed _ _ _ _ c.from_residual.ensures.1 (type_cut before (seen g.R.Read.remaining c.args.payload.now) (seen g.R.Read.remaining c.take_into.new.payload) c.args.small.now c.take_into.new.area (get_or c.bytes.result.now 7 0) c.in-Ok.rest c.args.payload.now.place c.in_err-take_into.field-0.0
     taken c.requires.head (ap (λ l. get_or l 7 0) c.bytes.ensures.value) c.in-Ok.ensures.gives c.requires.place (c.in_err-take_into.ensures.gives c.requires.going.going))
 
--- all bytes behind the eight
+-- all bytes after the eight
 behind : (byte : ℕ) (bytes : List ℕ) → kind_of (byte ∷ drop 8 bytes) ≡ kind_of (byte ∷ take (length bytes - 8) (drop 8 bytes))
 behind byte bytes = ap (λ l. kind_of (byte ∷ l)) (sym (all_behind bytes 8))
 

@@ -10,7 +10,7 @@ marked [] h = absurd (omega arith)
 marked (a ∷ []) h = absurd (omega arith)
 marked (a ∷ b ∷ to) h = refl
 
--- the digits stand behind the mark
+-- the digits stand after the mark
 behind_mark : (to digits : List ℕ) (n m : ℕ) → 2 ≤ length to → length digits ≡ n → take (2 + n) (put_mid 2 m (slice_set (slice_set to 0 48) 1 120) digits) ≡ 48 ∷ 120 ∷ digits
 behind_mark to digits n m some whole =
     let rest = post_of 2 m (slice_set (slice_set to 0 48) 1 120) in

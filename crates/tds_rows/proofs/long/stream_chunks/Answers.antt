@@ -1,4 +1,4 @@
-use Rattle.std.proofs.Common.{◌≡◌, ◌∙◌, ℕ, arith, rules, sym, subst}
+use Rattle.std.proofs.Common.{◌≡◌, ◌∙◌, ℕ, arith, refl, rules, sym, subst}
 use Rattle.std.specs.Prelude.{◌⊎◌, None}
 use Rattle.std.proofs.lemmas.Result.{MatchResult-weaker}
 use Rattle.tds_packet.specs.Payloads.{seen}
@@ -8,6 +8,8 @@ use Rattle.tds_csv.specs.Sinks.{held}
 use Rattle.tds_rows.specs.LongCells.{CutsNumber, EndPut, ReadsNumber, RefusesNumber, chunk_length_fault}
 use Rattle.tds_rows.proofs.LongChunks.{chunk_data_stops, chunk_stops, chunks_end_stops, chunks_whole, streamed_more, streamed_none}
 use Rattle.tds_rows.proofs.LongValues.{rest_none}
+use Rattle.tds_rows.specs.Blames.{failures_of}
+use Rattle.tds_rows.proofs.Blames.{blames_after, chunk_none, length_blames, read_stops, same_failures, stops_after}
 use Rattle.tds_rows.proofs.long.stream_chunks.Goals as goal
 
 pub loop-n-init : goal.loop-n-init
@@ -18,6 +20,7 @@ loop-n-init g c = record {
   same_sink = search rules;
   begun = c.requires.begun;
   few = omega arith;
+  calm = refl;
   streamed = λ conversion suits.
       streamed_none c.args.column c.args.last conversion g.J.Joiner.UNIT suits.unit_is c.args.total (g.J.Joiner.withheld c.args.joiner.now) (seen g.R.Read.remaining c.args.payload.now) c.args.payload.now.place (held g.W.Write.contents c.args.sink.now)
       (c.requires.withheld ∙ sym (rest_none conversion)) c.requires.writing.ready.2;
@@ -84,6 +87,7 @@ loop-n-preserved g c =
       same = search rules;
       same_sink = search rules;
       begun = done.begun;
+      calm = done.blames ∙ same_failures _ _ _ _ c.in_ok-n.ensures.gives.1.takes.4.0 refl ∙ l.invariant.calm;
       few = omega (arith, l.invariant.few, done.place, (c.in_ok-n.ensures.gives).1.place_is);
       streamed = λ conversion suits.
           let a = seen g.R.Read.remaining c.args.payload.now in
@@ -100,3 +104,24 @@ loop-n-preserved g c =
           (held g.W.Write.contents c.args.sink.now) (held g.W.Write.contents l.sink) x n reads free c.if-n-eq0.false l.invariant.writing.ready.2 (g.J.Joiner.withheld c.push_data.new.joiner) e c.push_data.new.payload.place (held g.W.Write.contents c.push_data.new.sink)
           done.sink.ready.2 (done.gives conversion x.content suits x.kept_is x.begun);
     }
+
+pub returns-in_err-n-clause-blames : goal.returns-in_err-n-clause-blames
+returns-in_err-n-clause-blames g c =
+    let l = c.loop-n in
+    let stop = c.in_err-n.field-0.0 in
+    let there = failures_of l.payload l.sink in
+    let after = failures_of c.read_chunk_length.new.payload l.sink in
+    passed _ _ _ _ c.from_residual.ensures.1 (stops_after (failures_of c.args.payload.now c.args.sink.now) there after stop l.invariant.calm (read_stops there after stop
+    (length_blames g.R.Read.remaining 4 (λ n. chunk_length_fault c.args.column c.UNIT.result c.args.total l.sum n) l.payload (seen g.R.Read.remaining c.read_chunk_length.new.payload) stop l.invariant.going.going (chunk_none c.args.column c.UNIT.result c.args.total l.sum) c.in_err-n.ensures.gives)))
+
+pub returns-then-n-eq0-clause-blames : goal.returns-then-n-eq0-clause-blames
+returns-then-n-eq0-clause-blames g c =
+    let l = c.loop-n in
+    let p = c.read_chunk_length.new.payload in
+    blames_after (failures_of c.args.payload.now c.args.sink.now) (failures_of p l.sink) (failures_of p c.put_end.new.sink) c.put_end.result (same_failures _ _ _ _ c.in_ok-n.ensures.gives.1.takes.4.0 refl ∙ l.invariant.calm) (c.put_end.ensures.blames p.from.now.failures)
+
+pub returns-in_err-push_data-clause-blames : goal.returns-in_err-push_data-clause-blames
+returns-in_err-push_data-clause-blames g c =
+    let l = c.loop-n in
+    passed _ _ _ _ c.from_residual-in_err-push_data.ensures.1 (stops_after (failures_of c.args.payload.now c.args.sink.now) (failures_of c.read_chunk_length.new.payload l.sink) (failures_of c.push_data.new.payload c.push_data.new.sink)
+    c.in_err-push_data.field-0.0 (same_failures _ _ _ _ c.in_ok-n.ensures.gives.1.takes.4.0 refl ∙ l.invariant.calm) c.in_err-push_data.ensures.blames)

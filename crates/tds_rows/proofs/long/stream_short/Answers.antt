@@ -1,4 +1,4 @@
-use Rattle.std.proofs.Common.{◌∙◌, ◌-◌, ◌<◌, ◌++◌, ℕ, [], List, arith, rules, sym, subst}
+use Rattle.std.proofs.Common.{◌∙◌, ◌-◌, ◌<◌, ◌++◌, ℕ, [], List, arith, refl, rules, sym, subst}
 use Rattle.std.proofs.lemmas.Result.{MatchResult-weaker}
 use Rattle.tds_packet.specs.Payloads.{seen}
 use Rattle.tds_packet.proofs.Passing.{passed}
@@ -6,6 +6,9 @@ use Rattle.tds_csv.specs.Quoting.{behind_comma}
 use Rattle.tds_csv.specs.Sinks.{Breaks, Puts, held}
 use Rattle.tds_rows.specs.LongCells.{EndPut, opening}
 use Rattle.tds_rows.proofs.LongValues.{empty_puts, empty_stops, none_begins, rest_none, short_data_stops, short_end_stops, short_length_stops, short_null_puts, short_opening_breaks, short_read, short_whole}
+use Rattle.tds_rows.specs.Blames.{failures_of, failures_with}
+use Rattle.tds_rows.specs.LongCells.{short_fault}
+use Rattle.tds_rows.proofs.Blames.{blames_after, length_blames, piece_blames, read_stops, same_failures, short_none, stops_after, write_stops}
 use Rattle.tds_rows.proofs.long.stream_short.Goals as goal
 
 pub returns-in_err-n-clause-gives : goal.returns-in_err-n-clause-gives
@@ -91,3 +94,37 @@ returns-clause-gives g c = λ conversion suits.
     MatchResult-weaker c.put_end-2.result ended
     (λ _ z. short_whole c.args.column c.args.last conversion c.UNIT.result unit_is a b place middle c.in-Some.n x.reads x.free x.some d h i j opened some kept k there y z.0 z.1)
     (λ stop z. short_end_stops c.args.column c.args.last conversion c.UNIT.result unit_is a b place middle c.in-Some.n x.reads x.free x.some d h i j opened some kept k there y c.put_end-2.new.sink.failed stop z)
+
+pub returns-in_err-n-clause-blames : goal.returns-in_err-n-clause-blames
+returns-in_err-n-clause-blames g c =
+    let stop = c.in_err-n.field-0.0 in
+    passed _ _ _ _ c.from_residual.ensures.1 (read_stops (failures_of c.args.payload.now c.args.sink.now) (failures_of c.read_short_length.new.payload c.args.sink.now) stop
+    (length_blames g.R.Read.remaining 2 (short_fault c.args.column c.UNIT.result) c.args.payload.now (seen g.R.Read.remaining c.read_short_length.new.payload) stop c.requires.going.going (short_none c.args.column c.UNIT.result) c.in_err-n.ensures.gives))
+
+pub returns-in_default-clause-blames : goal.returns-in_default-clause-blames
+returns-in_default-clause-blames g c =
+    let p = c.read_short_length.new.payload in
+    blames_after (failures_of c.args.payload.now c.args.sink.now) (failures_of p c.args.sink.now) (failures_of p c.put_null.new.sink) c.put_null.result (same_failures _ _ _ _ c.in_ok-n.ensures.gives.1.takes.4.0 refl)
+    (piece_blames g.W.Write.contents p.from.now.failures c.args.sink.now c.put_null.new.sink _ c.put_null.result c.requires.writing.writing c.put_null.ensures)
+
+pub returns-in_err-put_opening-clause-blames : goal.returns-in_err-put_opening-clause-blames
+returns-in_err-put_opening-clause-blames g c =
+    passed _ _ _ _ c.from_residual-in_err-put_opening.ensures.1 (write_stops (failures_of c.args.payload.now c.args.sink.now) (failures_of c.read_short_length.new.payload c.put_opening.new.sink) (held g.W.Write.contents c.args.sink.now) (held g.W.Write.contents c.put_opening.new.sink) _
+    c.in_err-put_opening.field-0.0 refl refl (c.in_err-put_opening.ensures.gives c.requires.writing.writing))
+
+pub returns-then-n-eq0-clause-blames : goal.returns-then-n-eq0-clause-blames
+returns-then-n-eq0-clause-blames g c =
+    let p = c.read_short_length.new.payload in
+    blames_after (failures_of c.args.payload.now c.args.sink.now) (failures_of p c.put_opening.new.sink) (failures_of p c.put_end.new.sink) c.put_end.result (same_failures _ _ _ _ c.in_ok-n.ensures.gives.1.takes.4.0 c.in_ok-put_opening.ensures.gives.4)
+    (c.put_end.ensures.blames p.from.now.failures)
+
+pub returns-in_err-push_data-clause-blames : goal.returns-in_err-push_data-clause-blames
+returns-in_err-push_data-clause-blames g c =
+    passed _ _ _ _ c.from_residual-in_err-push_data.ensures.1 (stops_after (failures_of c.args.payload.now c.args.sink.now) (failures_of c.read_short_length.new.payload c.put_opening.new.sink) (failures_of c.push_data.new.payload c.push_data.new.sink)
+    c.in_err-push_data.field-0.0 (same_failures _ _ _ _ c.in_ok-n.ensures.gives.1.takes.4.0 c.in_ok-put_opening.ensures.gives.4) c.in_err-push_data.ensures.blames)
+
+pub returns-clause-blames : goal.returns-clause-blames
+returns-clause-blames g c =
+    let p = c.push_data.new.payload in
+    blames_after (failures_of c.args.payload.now c.args.sink.now) (failures_of p c.push_data.new.sink) (failures_of p c.put_end-2.new.sink) c.put_end-2.result
+    (c.in_ok-push_data.ensures.blames ∙ same_failures _ _ _ _ c.in_ok-n.ensures.gives.1.takes.4.0 c.in_ok-put_opening.ensures.gives.4) (c.put_end-2.ensures.blames p.from.now.failures)

@@ -18,6 +18,8 @@ use Rattle.tds_rows.proofs.MarkedSteps.{run_nears}
 use Rattle.tds_rows.proofs.NullSteps.{NearsCells, bitmap_cut, bitmap_nears, cell_nears, cell_stops_row, next_left, null_breaks, null_nears, row_ends}
 use Rattle.tds_rows.proofs.NullTexts.{ends, ends_marked}
 use Rattle.tds_rows.proofs.TableSteps.{last_one}
+use Rattle.tds_rows.proofs.RowLaws.{nbc_row_is_read, some_bitmap}
+use Rattle.tds_rows.proofs.Successes.{row_succeeds}
 use Rattle.tds_rows.proofs.nbc.nbc_row.Goals as goal
 
 pub returns-in_err-take_into-clause-gives : goal.returns-in_err-take_into-clause-gives
@@ -52,7 +54,7 @@ loop-form-init g c =
       ahead = c.start-ahead.ensures.ahead columns c.of-table.ensures.knows;
       reads = subst (λ (n : ℕ). NearsCells c.args.charset start (marked (drop n columns) (bit c.take_into.new.area.bytes) n) a b place place' h h n) (sym c.start-ahead.ensures.first)
           (subst (λ (l : List ℕ). NearsCells c.args.charset start (marked columns (bit l) 0) a b place place' h h 0) (sym bytes)
-          (bitmap_nears c.args.charset columns a b place place' h x.element c.requires.some whole (subst (λ (k : ℕ). Takes a b x.element k) (sym x.whole) x.takes) x.between (c.requires.ready.1 writing) c.requires.ready.2 (omega (arith, x.whole, c.in_ok-take_into.ensures.place))));
+          (bitmap_nears c.args.charset columns a b place place' h x.element c.args.columns.some whole (subst (λ (k : ℕ). Takes a b x.element k) (sym x.whole) x.takes) x.between (c.requires.ready.1 writing) c.requires.ready.2 (omega (arith, x.whole, c.in_ok-take_into.ensures.place))));
     }
 
 pub returns-in_err-put_null-clause-gives : goal.returns-in_err-put_null-clause-gives
@@ -228,3 +230,21 @@ returns-in_default-next-clause-gives g c = λ _ _.
     (between_of g.R.Read.remaining c.put_marked-at.new.payload c.put_marked-at.ensures.going.going) (writing.ready.1 writing.writing) l.invariant.writing.ready.2 l.invariant.reads in
     let none = c.in_default-next.ensures.gives columns knows put.runs.ahead in
     row_ends c.args.charset start a b place middle h i at.column writing.ready.2 (subst (λ (r : List Column). NearsCells c.args.charset start (marked r bits at.column) a b place middle h i at.column) none near)
+
+pub returns-in_err-take_into-clause-succeeds : goal.returns-in_err-take_into-clause-succeeds
+returns-in_err-take_into-clause-succeeds g c = λ going writing cells bytes more spelt.
+    let columns = columns_of c.args.columns.bytes.now in
+    row_succeeds g.R.Read.remaining g.W.Write.contents c.args.charset (nbc_row_start columns) c.args.payload.now c.take_into.new.payload c.args.sink.now c.args.sink.now _ cells bytes more
+    (returns-in_err-take_into-clause-gives g c going writing) (nbc_row_is_read c.args.charset columns cells bytes (some_bitmap columns c.args.columns.some) spelt)
+
+pub returns-in_err-put_null-clause-succeeds : goal.returns-in_err-put_null-clause-succeeds
+returns-in_err-put_null-clause-succeeds g c = λ going writing cells bytes more spelt.
+    let columns = columns_of c.args.columns.bytes.now in
+    row_succeeds g.R.Read.remaining g.W.Write.contents c.args.charset (nbc_row_start columns) c.args.payload.now c.put_marked-at.new.payload c.args.sink.now c.put_null.new.sink _ cells bytes more
+    (returns-in_err-put_null-clause-gives g c going writing) (nbc_row_is_read c.args.charset columns cells bytes (some_bitmap columns c.args.columns.some) spelt)
+
+pub returns-in_err-put_cell-clause-succeeds : goal.returns-in_err-put_cell-clause-succeeds
+returns-in_err-put_cell-clause-succeeds g c = λ going writing cells bytes more spelt.
+    let columns = columns_of c.args.columns.bytes.now in
+    row_succeeds g.R.Read.remaining g.W.Write.contents c.args.charset (nbc_row_start columns) c.args.payload.now c.put_cell.new.payload c.args.sink.now c.put_cell.new.sink _ cells bytes more
+    (returns-in_err-put_cell-clause-gives g c going writing) (nbc_row_is_read c.args.charset columns cells bytes (some_bitmap columns c.args.columns.some) spelt)

@@ -9,6 +9,7 @@ use Rattle.tds_rows.specs.CellSteps.{PutsCell, StopsCell, is_last}
 use Rattle.tds_rows.specs.Runs.{RunsRows}
 use Rattle.tds_rows.specs.Tables.{IsNextKind}
 use Rattle.tds_rows.proofs.RunSteps.{cell_some, rows_begin, rows_cell, rows_end, rows_further, rows_stop}
+use Rattle.tds_rows.proofs.Successes.{rows_succeed}
 use Rattle.tds_rows.proofs.rows.read_rows.Goals as goal
 
 pub loop-form-init : goal.loop-form-init
@@ -144,3 +145,8 @@ loop-form-smaller g c =
     let w = subst (λ (m : Kind). PutsCell c.args.charset m run.ahead.column (is_last left) d e middle place' j k) taken.kind z in
     let some = cell_some c.args.charset taken.column.kind run.ahead.column (is_last left) d e middle place' j k w in
     omega (arith, some, c.put_run-run.ensures.few, done.payload.sound.place, done.payload.sound.wire, done.payload.same.3, c.put_run-run.ensures.same.3)
+
+pub returns-in_err-put_cell-clause-succeeds : goal.returns-in_err-put_cell-clause-succeeds
+returns-in_err-put_cell-clause-succeeds g c = λ first later bytes more spelt none.
+    rows_succeed c.args.charset (columns_of c.args.columns.bytes.now) g.R.Read.remaining g.W.Write.contents c.args.payload.now c.put_cell.new.payload c.args.sink.now c.put_cell.new.sink _ first later bytes more
+    (returns-in_err-put_cell-clause-gives g c) spelt none

@@ -6,10 +6,11 @@ use Rattle.tds_columns.specs.Description.{Column}
 use Rattle.tds_columns.specs.View.{columns_of}
 use Rattle.tds_csv.specs.Sinks.{held}
 use Rattle.tds_rows.specs.CellSteps.{PutsCell, StopsCell, is_last}
-use Rattle.tds_rows.specs.RowSteps.{ReadsCells}
 use Rattle.tds_rows.specs.Rows.{row_start}
 use Rattle.tds_rows.specs.Tables.{IsNextKind}
-use Rattle.tds_rows.proofs.RowSteps.{cells_all, cells_more, cells_none, cells_stop, coming}
+use Rattle.tds_rows.proofs.RowSteps.{ReadsCells, cells_all, cells_more, cells_none, cells_stop, coming}
+use Rattle.tds_rows.proofs.RowLaws.{row_is_read}
+use Rattle.tds_rows.proofs.Successes.{row_succeeds}
 use Rattle.tds_rows.proofs.rows.row.Goals as goal
 
 pub loop-form-init : goal.loop-form-init
@@ -96,3 +97,8 @@ returns-clause-gives g c = λ _ _.
     let none = c.in_default-next.ensures.gives columns c.of-table.ensures.knows l.invariant.ahead in
     cells_all c.args.charset (row_start c.args.charset columns) a b place l.payload.place h i l.at.column
     (subst (λ (r : List Column). ReadsCells c.args.charset (row_start c.args.charset columns) (coming r l.at.column) a b place l.payload.place h i l.at.column) none l.invariant.reads)
+
+pub returns-in_err-put_cell-clause-succeeds : goal.returns-in_err-put_cell-clause-succeeds
+returns-in_err-put_cell-clause-succeeds g c = λ going writing cells bytes more spelt.
+    row_succeeds g.R.Read.remaining g.W.Write.contents c.args.charset (row_start c.args.charset (columns_of c.args.columns.bytes.now)) c.args.payload.now c.put_cell.new.payload c.args.sink.now c.put_cell.new.sink _ cells bytes more
+    (returns-in_err-put_cell-clause-gives g c going writing) (row_is_read c.args.charset (columns_of c.args.columns.bytes.now) cells bytes spelt)

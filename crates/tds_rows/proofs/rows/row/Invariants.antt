@@ -3,10 +3,9 @@ use Rattle.tds_columns.specs.View.{columns_of}
 use Rattle.tds_csv.specs.Sinks.{IsOnSameSink, IsWriting, held}
 use Rattle.tds_packet.specs.Payloads.{IsGoing, IsOnSame, seen}
 use Rattle.tds_rows.specs.Rows.{row_start}
-use Rattle.tds_rows.specs.RowSteps.{ReadsCells}
 use Rattle.tds_rows.specs.Tables.{IsAhead}
 use Rattle.tds_rows.specs.declared.gather.TheConstants.{LONGEST_CELL}
-use Rattle.tds_rows.proofs.RowSteps.{coming}
+use Rattle.tds_rows.proofs.RowSteps.{ReadsCells, coming}
 use Rattle.tds_rows.proofs.rows.row.Given as goal
 
 abbrev pub invariant-loop-form : goal.invariant-loop-form

@@ -17,7 +17,7 @@ eighth_power (suc k) =
 shift : (w k : ℕ) → w / 2 ^ (8 * k) ≡ w / 256 ^ k
 shift w k = ap (λ p. w / p) (eighth_power k)
 
--- of eight bytes behind `at`, the first k
+-- of eight bytes after `at`, the first k
 first_of : (old new : List ℕ) (at k w : ℕ) → at ≤ length old → k ≤ 8 → take (at + 8) new ≡ take at old ++ bytes_of 8 w → take (at + k) new ≡ take at old ++ bytes_of k w
 first_of old new at k w room few e =
     let long = length-take-le at old room in

@@ -6,7 +6,7 @@ use Rattle.tds_columns.specs.View.{are_columns, columns_in, columns_of}
 use Rattle.tds_columns.proofs.ViewLaws.{all_behind, description_shows, length_columns}
 use Rattle.tds_columns.proofs.view.Columns.walk.Goals as goal
 
--- the columns behind Count
+-- the columns after Count
 behind_count : (bytes : List ℕ) (n : ℕ) → n ≡ length (columns_of bytes) → (n ≡ little_number 2 bytes) × (take (length bytes - 2) (drop 2 bytes) ≡ drop 2 bytes)
 behind_count bytes n is = (is ∙ length_columns (little_number 2 bytes) (drop 2 bytes), all_behind bytes 2)
 

@@ -7,7 +7,7 @@ use Rattle.tds_columns.proofs.walk.WalkIterator.next.Goals as goal
 pub column_at-size-requires : goal.column_at-size-requires
 column_at-size-requires c = (steps c.args.self.now.left c.args.self.now.rest.now c.if-self-eq0.false c.args.self.now.whole).first
 
--- the bytes behind the column at the front
+-- the bytes after the column at the front
 behind : (bytes : List ℕ) (size : ℕ) → size ≡ column_size bytes → take (length bytes - size) (drop size bytes) ≡ drop (column_size bytes) bytes
 behind bytes size is = all_behind bytes size ∙ ap (λ n. drop n bytes) is
 

@@ -25,3 +25,11 @@ loop-at-preserved c = record {
   room = omega (arith, c.loop-at.invariant.room);
   text = c.take_unquoted-n.ensures.taken ∙ text_more doubled doubled-append (take c.loop-at.made c.loop-at.to) c.args.bytes.now c.loop-at.at c.take_unquoted-n.result c.loop-at.invariant.text;
 }
+
+pub loop-at-preserved-then-n-eq-LANES : goal.loop-at-preserved-then-n-eq-LANES
+loop-at-preserved-then-n-eq-LANES c = record {
+  within = c.take_unquoted-n.ensures.within;
+  long = search rules;
+  room = omega (arith, c.loop-at.invariant.room);
+  text = c.take_unquoted-n.ensures.taken ∙ text_more doubled doubled-append (take c.loop-at.made c.loop-at.to) c.args.bytes.now c.loop-at.at c.take_unquoted-n.result c.loop-at.invariant.text;
+}

@@ -43,7 +43,7 @@ loop-at-preserved c =
           ∙ ap encode_lower (sym (take-add at 16 bytes));
     }
 
--- the digits of the other bytes were written behind them
+-- the digits of the other bytes were written after them
 ended : (bytes to new : List ℕ) (at : ℕ) → at ≤ length bytes → length to ≡ 2 * length bytes → take (2 * at) to ≡ encode_lower (take at bytes) → new ≡ encode_lower (drop at bytes)
     → put_mid (2 * at) (length to - 2 * at) to new ≡ encode_lower bytes
 ended bytes to new at within room front back =

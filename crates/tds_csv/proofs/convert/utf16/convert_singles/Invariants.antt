@@ -6,7 +6,7 @@ use Rattle.tds_csv.proofs.convert.utf16.convert_singles.Given as goal
 -- the text so far is that of the bytes so far
 abbrev pub invariant-loop-at : goal.invariant-loop-at
 invariant-loop-at l = record {
-  within : l.at ≤ l.end;
+  within : l.at ≤ length l.bytes;
   more : l.from ≤ l.at;
   long : 3 * length l.bytes + 16 ≤ 2 * length l.to;
   room : 2 * l.made ≤ 3 * l.at;
@@ -14,4 +14,4 @@ invariant-loop-at l = record {
 }
 
 abbrev pub decreases-loop-at : goal.decreases-loop-at
-decreases-loop-at l = l.end - l.at
+decreases-loop-at l = length l.bytes - l.at

@@ -19,5 +19,5 @@ after_units bytes old new at made n before within taken = record {
 pub convert_singles-requires-clause-before : goal.convert_singles-requires-clause-before
 convert_singles-requires-clause-before c = after_units c.args.bytes.now c.args.to.now _ c.args.from c.args.start c.take_units-n.result c.requires.before c.take_units-n.ensures.within c.take_units-n.ensures.taken
 
-pub returns-clause-after : goal.returns-clause-after
-returns-clause-after c = after_units c.args.bytes.now c.args.to.now _ c.args.from c.args.start c.take_units-n.result c.requires.before c.take_units-n.ensures.within c.take_units-n.ensures.taken
+pub returns-then-n-eq-UNITS-clause-after : goal.returns-then-n-eq-UNITS-clause-after
+returns-then-n-eq-UNITS-clause-after c = after_units c.args.bytes.now c.args.to.now _ c.args.from c.args.start c.take_units-n.result c.requires.before c.take_units-n.ensures.within c.take_units-n.ensures.taken

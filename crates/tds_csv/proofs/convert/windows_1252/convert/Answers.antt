@@ -10,8 +10,8 @@ convert_by_hand-made-requires-clause-before c = record {
   text = c.take_plain-n.ensures.taken ∙ text_more windows_1252.text windows_1252-append (take c.loop-at.made c.loop-at.to) c.args.bytes.now c.loop-at.at c.take_plain-n.result c.loop-at.invariant.text;
 }
 
-pub loop-at-preserved : goal.loop-at-preserved
-loop-at-preserved c = record {
+pub loop-at-preserved-then-n-eq-LANES : goal.loop-at-preserved-then-n-eq-LANES
+loop-at-preserved-then-n-eq-LANES c = record {
   within = c.take_plain-n.ensures.within;
   long = search rules;
   room = omega (arith, c.loop-at.invariant.room);

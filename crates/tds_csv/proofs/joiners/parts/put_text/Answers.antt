@@ -10,22 +10,10 @@ loop-taken-init g c = let sink = c.args.sink.now in record {
   puts = subst (λ l. PutsPiece g.W.Write.contents sink sink l (Ok (tt {0}))) (sym c.laws.ensures.empty) (PutsPiece-none g.W.Write.contents sink tt c.requires);
 }
 
-pub returns-in_err-put : goal.returns-in_err-put
-returns-in_err-put g c =
-    puts_break g.C.Bytewise.text c.laws.ensures.appends g.W.Write.contents c.args.sink.now c.loop-taken.sink c.put.new.self c.loop-taken.taken c.plain_end-plain.result c.args.bytes.now _ tt
-    c.in_err-put.field-0.0 c.from_residual.result c.plain_end-plain.ensures.after c.plain_end-plain.ensures.plain c.loop-taken.invariant.puts c.in_err-put.ensures c.from_residual.ensures.1
-
-pub loop-taken-preserved-then-plain-taken-ge-PLAIN : goal.loop-taken-preserved-then-plain-taken-ge-PLAIN
-loop-taken-preserved-then-plain-taken-ge-PLAIN g c = record {
-  within = c.plain_end-plain.ensures.within;
-  puts = puts_more g.C.Bytewise.text c.laws.ensures.appends g.W.Write.contents c.args.sink.now c.loop-taken.sink c.put.new.self c.loop-taken.taken c.plain_end-plain.result c.args.bytes.now _ tt tt
-      c.plain_end-plain.ensures.after c.plain_end-plain.ensures.plain c.loop-taken.invariant.puts c.in_ok-put.ensures;
-}
-
 pub returns-in_err-put_chunk : goal.returns-in_err-put_chunk
 returns-in_err-put_chunk g c =
     puts_break g.C.Bytewise.text c.laws.ensures.appends g.W.Write.contents c.args.sink.now c.loop-taken.sink c.put_chunk.new.sink c.loop-taken.taken c.min-end.result c.args.bytes.now _ tt
-    c.in_err-put_chunk.field-0.0 c.from_residual-in_err-put_chunk.result (omega arith) refl c.loop-taken.invariant.puts c.in_err-put_chunk.ensures c.from_residual-in_err-put_chunk.ensures.1
+    c.in_err-put_chunk.field-0.0 c.from_residual.result (omega arith) refl c.loop-taken.invariant.puts c.in_err-put_chunk.ensures c.from_residual.ensures.1
 
 pub loop-taken-preserved : goal.loop-taken-preserved
 loop-taken-preserved g c = record {

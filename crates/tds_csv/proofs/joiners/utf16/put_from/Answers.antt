@@ -8,8 +8,8 @@ use Rattle.tds_csv.proofs.Leading.{Leads-front, Leads-next, Leads-none, Leads-tr
 use Rattle.tds_csv.proofs.joiners.utf16.put_from.Goals as goal
 
 -- the last chunk
-last_chunk : (xs : List ℕ) (at : ℕ) → take (length xs - at) (drop at xs) ≡ drop at xs
-last_chunk xs at = take_all (length xs - at) (drop at xs) (omega (arith, length-drop at xs))
+last_chunk : (xs : List ℕ) (at end : ℕ) → end ≡ length xs → take (end - at) (drop at xs) ≡ drop at xs
+last_chunk xs at end all = take_all (end - at) (drop at xs) (omega (arith, length-drop at xs))
 
 pub loop-at-init : goal.loop-at-init
 loop-at-init g c = record {
@@ -26,7 +26,7 @@ returns-in_err-at-clause-puts g c =
     let d = c.put_chunk.new.sink in
     let xs = drop c.args.from c.args.bytes.now in
     let ys = drop c.loop-at.at c.args.bytes.now in
-    let n = (c.loop-at.at + 128) - c.loop-at.at in
+    let n = c.min-end.result - c.loop-at.at in
     let e = c.in_err-at.field-0.0 in
     let before = c.loop-at.invariant.puts in
     let chunk = puts_part rest text contents b d ys _ (emit rest text (take n ys)) e (Leads-front rest text joins_utf16 ys n tt) c.in_err-at.ensures.puts in
@@ -36,12 +36,13 @@ pub loop-at-preserved : goal.loop-at-preserved
 loop-at-preserved g c =
     let xs = c.args.bytes.now in
     let at = c.loop-at.at in
+    let end = c.min-end.result in
     let used = c.in_ok-at.field-0 in
-    let chunk = take ((at + 128) - at) (drop at xs) in
+    let chunk = take (end - at) (drop at xs) in
     let before = c.loop-at.invariant.puts in
     let left = c.in_ok-at.ensures.used in
-    let next = Leads-next rest text joins_utf16 xs at (at + 128) used tt left.within left.rest in
-    let size : length chunk ≤ length xs - at = omega (arith, length-take ((at + 128) - at) (drop at xs), length-drop at xs) in
+    let next = Leads-next rest text joins_utf16 xs at end used tt left.within left.rest in
+    let size : length chunk ≤ length xs - at = omega (arith, length-take (end - at) (drop at xs), length-drop at xs) in
     let within : used ≤ length chunk = left.within in
     let put = PutsPiece-trans g.W.Write.contents c.args.sink.now c.loop-at.sink c.put_chunk.new.sink tt before.0 (emit rest text chunk) (Ok used) before.1 c.in_ok-at.ensures.puts in
     record {
@@ -54,28 +55,16 @@ loop-at-preserved g c =
       );
     }
 
-pub returns-in_err-used-clause-puts : goal.returns-in_err-used-clause-puts
-returns-in_err-used-clause-puts g c =
+pub returns-then-end-bytes-clause-puts : goal.returns-then-end-bytes-clause-puts
+returns-then-end-bytes-clause-puts g c =
     let contents = g.W.Write.contents in
     let a = c.args.sink.now in
     let b = c.loop-at.sink in
-    let d = c.put_chunk-2.new.sink in
+    let d = c.put_chunk.new.sink in
+    let at = c.loop-at.at in
     let xs = drop c.args.from c.args.bytes.now in
-    let ys = drop c.loop-at.at c.args.bytes.now in
-    let e = c.in_err-used.field-0.0 in
+    let ys = drop at c.args.bytes.now in
+    let used = c.in_ok-at.field-0 in
     let before = c.loop-at.invariant.puts in
-    let last = subst (λ l. PutsPiece {U = ℕ} contents b d (emit rest text l) (Err e)) (last_chunk c.args.bytes.now c.loop-at.at) c.in_err-used.ensures.puts in
-    PutsPiece-error contents a d (emit rest text xs) e c.from_residual-in_err-used.result c.from_residual-in_err-used.ensures.1 (puts_whole rest text contents a b d xs ys before.0 tt (Err e) before.2 before.1 last)
-
-pub returns-clause-puts : goal.returns-clause-puts
-returns-clause-puts g c =
-    let contents = g.W.Write.contents in
-    let a = c.args.sink.now in
-    let b = c.loop-at.sink in
-    let d = c.put_chunk-2.new.sink in
-    let xs = drop c.args.from c.args.bytes.now in
-    let ys = drop c.loop-at.at c.args.bytes.now in
-    let used = c.in_ok-used.used in
-    let before = c.loop-at.invariant.puts in
-    let last = subst (λ l. PutsPiece contents b d (emit rest text l) (Ok used)) (last_chunk c.args.bytes.now c.loop-at.at) c.in_ok-used.ensures.puts in
-    PutsPiece-ok contents a d (emit rest text xs) used (c.loop-at.at + used) (puts_whole rest text contents a b d xs ys before.0 tt (Ok used) before.2 before.1 last)
+    let last = subst (λ l. PutsPiece contents b d (emit rest text l) (Ok used)) (last_chunk c.args.bytes.now at c.min-end.result (omega arith)) c.in_ok-at.ensures.puts in
+    PutsPiece-ok contents a d (emit rest text xs) used (at + used) (puts_whole rest text contents a b d xs ys before.0 tt (Ok used) before.2 before.1 last)

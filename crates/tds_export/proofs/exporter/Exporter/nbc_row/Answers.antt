@@ -1,4 +1,4 @@
-use Rattle.std.proofs.Common.{◌∙◌, ◌≤◌, ◌<◌, length, ap, subst, sym, refl, arith, rules}
+use Rattle.std.proofs.Common.{◌∙◌, ◌≤◌, ap, subst, refl, arith, rules}
 use Rattle.tds_packet.specs.Payloads.{seen}
 use Rattle.tds_packet.proofs.Passing.{passed}
 use Rattle.tds_columns.specs.View.{columns_of}
@@ -6,15 +6,8 @@ use Rattle.tds_csv.specs.Sinks.{held}
 use Rattle.tds_rows.specs.Rows.{nbc_row_start}
 use Rattle.tds_rows.specs.RowSteps.{ReadsRow, RowStops}
 use Rattle.tds_export.proofs.NoticeSteps.{quietly}
-use Rattle.tds_export.proofs.TokenBytes.{some_columns}
 use Rattle.tds_export.proofs.TokenSteps.{row_reads, row_stops}
 use Rattle.tds_export.proofs.exporter.Exporter.nbc_row.Goals as goal
-
-pub nbc_row-requires-clause-some : goal.nbc_row-requires-clause-some
-nbc_row-requires-clause-some g c =
-    let run = c.args.self.now in
-    let is = ap columns_of (c.view-columns.ensures ∙ c.bytes.ensures.value) in
-    subst (λ cs. 0 < length cs) (sym is) (some_columns run.description.now.bytes (c.requires.begun.running.described c.requires.described))
 
 pub returns-in_err-nbc_row-clause-gives : goal.returns-in_err-nbc_row-clause-gives
 returns-in_err-nbc_row-clause-gives g c = λ tokens tracks holds noted.

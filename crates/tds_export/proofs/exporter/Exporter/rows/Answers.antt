@@ -1,4 +1,4 @@
-use Rattle.std.proofs.Common.{◌∙◌, ◌<◌, length, ap, subst, sym, refl}
+use Rattle.std.proofs.Common.{◌∙◌, ap, subst, refl}
 use Rattle.tds_columns.specs.View.{columns_of}
 use Rattle.tds_packet.specs.Payloads.{seen}
 use Rattle.tds_export.proofs.NoticeSteps.{quietly}
@@ -6,7 +6,6 @@ use Rattle.tds_packet.proofs.Passing.{passed}
 use Rattle.tds_csv.specs.Sinks.{held}
 use Rattle.tds_rows.specs.RowSteps.{ReadsRows, RowsStop}
 use Rattle.tds_export.proofs.RowRuns.{columns_known, rows_read, rows_stop}
-use Rattle.tds_export.proofs.TokenBytes.{some_columns}
 use Rattle.tds_export.proofs.exporter.Exporter.rows.Goals as goal
 
 pub returns-in_err-count-clause-gives : goal.returns-in_err-count-clause-gives
@@ -38,9 +37,3 @@ returns-clause-gives g c = λ tokens tracks holds noted.
     quietly _ _ _ _ _ _ _ _ _ _ _ _ run.notice.now tracks noted refl
     (rows_read run.charset run.description.now.room columns run.description.now h k tokens a b place (columns_known tokens run.progress.described run.description.now.bytes c.requires.described holds.bytes tracks.described) holds run.progress place' count tracks
     (subst (λ cs. ReadsRows run.charset cs count a b place place' h k) is c.in_ok-count.ensures.gives))
-
-pub read_rows-requires-clause-some : goal.read_rows-requires-clause-some
-read_rows-requires-clause-some g c =
-    let run = c.args.self.now in
-    let is = ap columns_of (c.view-columns.ensures ∙ c.bytes.ensures.value) in
-    subst (λ cs. 0 < length cs) (sym is) (some_columns run.description.now.bytes (c.requires.begun.running.described c.requires.described))

@@ -3,7 +3,7 @@ use Rattle.tds_meter.specs.Space.{Space}
 use Rattle.tds_meter.proofs.Shifting.{front-dropped}
 use Rattle.tds_meter.proofs.area.Area.drop_front.Goals as goal
 
--- the bytes behind the first n stand at the front of the store
+-- the bytes after the first n stand at the front of the store
 pub returns : goal.returns
 returns c =
     let n = c.args.n in

@@ -4,7 +4,7 @@ use Rattle.tds_meter.specs.Lent.{with_tail}
 use Rattle.tds_meter.proofs.Overwriting.{grows}
 use Rattle.tds_meter.proofs.area.Area.grow_within.Goals as goal
 
--- what is lent lies in the store behind the front
+-- what is lent lies in the store after the front
 pub returns : goal.returns
 returns c =
     let len = c.self.inside.len in

@@ -1,0 +1,10 @@
+//! Tests of `tds_rows` and `tds_export`, by their public calls: a module for each crate. They stand apart from the
+//! code that they test, since a crate with tests is proved once with them and once without.
+#![tactic(auto)]
+
+#[cfg(test)]
+mod checks;
+#[cfg(test)]
+mod export;
+#[cfg(test)]
+mod rows;

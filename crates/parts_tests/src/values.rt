@@ -1,0 +1,316 @@
+// Values of each kind with the texts that they have.
+use crate::checks::{expect, expect_at};
+use std::process::Abort;
+use tds_values::{Kind, Reach, TEXT_ROOM, ValueFault, read_scalar, scalar_text, write_scalar};
+
+mod dates;
+mod decimals;
+mod numbers;
+
+// The byte that two hexadecimal digits spell.
+fn byte_of(high: u8, low: u8) -> Option<u8> {
+    let high = (high as char).to_digit(16)?;
+    let low = (low as char).to_digit(16)?;
+    u8::try_from(16 * high + low).ok()
+}
+
+// The bytes that a text of hexadecimal digits spells, and how many there are.
+fn bytes_of(rt: &impl Abort, hex: &str) -> ([u8; 32], usize) {
+    let mut bytes = [0; 32];
+    let mut n = 0;
+    for pair in hex.as_bytes().chunks(2) {
+        assert!(rt; n < 32 && pair.len() == 2);
+        bytes[n] = byte_of(pair[0], pair[1]).expect(rt, hex);
+        n += 1;
+    }
+    (bytes, n)
+}
+
+// Bytes as a red run is to show them.
+fn shown(bytes: &[u8]) -> &str {
+    str::from_utf8(bytes).unwrap_or("no UTF-8")
+}
+
+// The same of a row of one kind.
+fn expect_of(rt: &impl Abort, kind: &Kind, what: &str, holds: bool) {
+    assert!(rt; holds, "{kind:?} {what}");
+}
+
+fn name_of(fault: ValueFault) -> &'static str {
+    match fault {
+        ValueFault::Value => "Value",
+        ValueFault::Length => "Length",
+    }
+}
+
+// Checks the text that a value has, and the text that is written into a slice.
+fn check(rt: &impl Abort, kind: &Kind, hex: &str, want: &str) {
+    assert!(rt; kind.is_valid());
+    assert!(rt; kind.is_scalar());
+    let (bytes, n) = bytes_of(rt, hex);
+    assert!(rt; n <= 32);
+    let bytes = &bytes[..n];
+    match read_scalar(kind, bytes) {
+        Ok(value) => expect_of(rt, kind, hex, shown(scalar_text(&value).as_slice()) == want),
+        Err(fault) => expect_of(rt, kind, hex, name_of(fault) == want),
+    }
+    let mut room = [0xEE; TEXT_ROOM];
+    match write_scalar(kind, bytes, &mut room) {
+        Ok(length) => expect_of(rt, kind, hex, shown(&room[..length]) == want),
+        Err(fault) => expect_of(rt, kind, hex, name_of(fault) == want),
+    }
+}
+
+// Checks each line: the bytes in hexadecimal digits, a space, and the text.
+fn check_lines(rt: &impl Abort, kind: &Kind, lines: &str) {
+    for line in lines.lines() {
+        let (hex, want) = line.split_once(' ').expect(rt, line);
+        check(rt, kind, hex, want);
+    }
+}
+
+fn check_all(rt: &impl Abort, table: &[(Kind, &str)]) {
+    for (kind, lines) in table {
+        check_lines(rt, kind, lines);
+    }
+}
+
+fn check_decimals(rt: &impl Abort, table: &[(u8, u8, &str)]) {
+    for (length, scale, lines) in table {
+        let kind = Kind::Decimal {
+            length: *length,
+            precision: 38,
+            scale: *scale,
+        };
+        check_lines(rt, &kind, lines);
+    }
+}
+
+#[test]
+fn worked_values(rt: HostRuntime) {
+    check_all(&rt, &numbers::WORKED);
+}
+
+#[test]
+fn integers(rt: HostRuntime) {
+    check_all(&rt, &numbers::INTEGERS);
+}
+
+#[test]
+fn money(rt: HostRuntime) {
+    check_all(&rt, &numbers::MONEY);
+}
+
+#[test]
+fn magnitudes(rt: HostRuntime) {
+    check_decimals(&rt, &decimals::LENGTHS);
+}
+
+#[test]
+fn scales(rt: HostRuntime) {
+    check_decimals(&rt, &decimals::SCALES);
+}
+
+#[test]
+fn guids(rt: HostRuntime) {
+    check_all(&rt, &numbers::GUIDS);
+}
+
+#[test]
+fn calendar(rt: HostRuntime) {
+    check_all(&rt, &dates::DATES);
+}
+
+#[test]
+fn times(rt: HostRuntime) {
+    check_all(&rt, &dates::TIMES);
+}
+
+#[test]
+fn date_times(rt: HostRuntime) {
+    check_all(&rt, &dates::DATE_TIMES);
+}
+
+#[test]
+fn offset_times(rt: HostRuntime) {
+    check_all(&rt, &dates::OFFSET_TIMES);
+}
+
+#[test]
+fn offsets(rt: HostRuntime) {
+    check_all(&rt, &dates::OFFSETS);
+}
+
+#[test]
+fn old_date_times(rt: HostRuntime) {
+    check_all(&rt, &dates::OLD_DATE_TIMES);
+}
+
+// The last three digits of the text of `ticks` 1/300 seconds after 1900-01-01.
+fn check_third(rt: &impl Abort, ticks: u32, want: &[u8]) {
+    let mut bytes = [0; 8];
+    for (to, from) in bytes[4..].iter_mut().zip(ticks.to_le_bytes()) {
+        *to = from;
+    }
+    match read_scalar(&Kind::DateTime8, &bytes) {
+        Ok(value) => {
+            let text = scalar_text(&value);
+            assert!(rt; text.len() == 23);
+            expect_at(
+                rt,
+                "the end of ticks",
+                ticks,
+                shown(&text.as_slice()[20..]) == shown(want),
+            );
+        }
+        Err(_) => expect_at(rt, "ticks are refused", ticks, false),
+    }
+}
+
+#[test]
+fn thirds(rt: HostRuntime) {
+    let mut n = 0;
+    for want in dates::THIRDS.as_bytes().chunks(3) {
+        assert!(rt; n < 300);
+        check_third(&rt, n, want);
+        check_third(&rt, 25919700 + n, want);
+        n += 1;
+    }
+    expect(&rt, "the number of rows", n == 300);
+}
+
+// Whether a list of numbers with spaces between them has `n`.
+fn lists(numbers: &str, n: u8) -> bool {
+    numbers.split(' ').any(|word| word.parse() == Ok(n))
+}
+
+#[test]
+fn lengths(rt: HostRuntime) {
+    let bytes = [0; 40];
+    for (kind, allowed) in &numbers::LENGTHS {
+        assert!(rt; kind.is_valid());
+        assert!(rt; kind.is_scalar());
+        for n in 0..40 {
+            let fits = lists(allowed, n);
+            expect_of(&rt, kind, "its lengths", kind.length_allowed(n) == fits);
+            let fault = matches!(
+                read_scalar(kind, &bytes[..n as usize]),
+                Err(ValueFault::Length)
+            );
+            expect_of(&rt, kind, "its fault", fault != fits);
+        }
+    }
+}
+
+// A length past one byte is a fault too.
+#[test]
+fn long_values(rt: HostRuntime) {
+    let bytes = [0; 300];
+    for n in [255, 256, 257, 260, 264, 272] {
+        for kind in [Kind::Int1, Kind::Int4, Kind::Date, Kind::Guid] {
+            assert!(rt; kind.is_valid());
+            assert!(rt; kind.is_scalar());
+            assert!(rt; n <= 300);
+            expect_of(
+                &rt,
+                &kind,
+                "its lengths",
+                matches!(read_scalar(&kind, &bytes[..n]), Err(ValueFault::Length)),
+            );
+        }
+    }
+}
+
+#[test]
+fn kinds(rt: HostRuntime) {
+    for n in 0..=255 {
+        let whole = n == 4 || n == 8;
+        expect_at(
+            &rt,
+            "IntN",
+            n,
+            Kind::IntN(n).is_valid() == (whole || n == 1 || n == 2),
+        );
+        expect_at(&rt, "MoneyN", n, Kind::MoneyN(n).is_valid() == whole);
+        expect_at(&rt, "DateTimeN", n, Kind::DateTimeN(n).is_valid() == whole);
+        expect_at(&rt, "Time", n, Kind::Time(n).is_valid() == (n < 8));
+        expect_at(
+            &rt,
+            "DateTime2",
+            n,
+            Kind::DateTime2(n).is_valid() == (n < 8),
+        );
+        expect_at(
+            &rt,
+            "DateTimeOffset",
+            n,
+            Kind::DateTimeOffset(n).is_valid() == (n < 8),
+        );
+    }
+    for (length, precision, scale, valid) in [
+        (5, 1, 0, true),
+        (5, 38, 38, true),
+        (17, 38, 37, true),
+        (9, 5, 6, false),
+        (13, 39, 0, false),
+        (13, 0, 0, false),
+        (4, 5, 0, false),
+        (16, 38, 0, false),
+        (21, 38, 0, false),
+    ] {
+        let kind = Kind::Decimal {
+            length,
+            precision,
+            scale,
+        };
+        expect_of(&rt, &kind, "", kind.is_valid() == valid);
+    }
+}
+
+#[test]
+fn fixed_lengths(rt: HostRuntime) {
+    for (kind, length) in [
+        (Kind::Int1, Some(1)),
+        (Kind::Bit, Some(1)),
+        (Kind::Int2, Some(2)),
+        (Kind::Int4, Some(4)),
+        (Kind::Int8, Some(8)),
+        (Kind::DateTime4, Some(4)),
+        (Kind::DateTime8, Some(8)),
+        (Kind::Money4, Some(4)),
+        (Kind::Money8, Some(8)),
+        (Kind::IntN(4), None),
+        (Kind::BitN, None),
+        (Kind::Guid, None),
+        (Kind::Date, None),
+        (Kind::Time(0), None),
+        (Kind::Binary(Reach::Short), None),
+        (Kind::Wide(Reach::Chunked), None),
+    ] {
+        assert!(rt; kind.is_valid());
+        expect_of(&rt, &kind, "", kind.fixed_length() == length);
+    }
+}
+
+// The long kinds are no scalars; their data may have any length, but for odd ones of UTF-16.
+#[test]
+fn long_kinds(rt: HostRuntime) {
+    for reach in [Reach::Short, Reach::Chunked] {
+        for kind in [Kind::Binary(reach), Kind::Narrow(reach), Kind::Wide(reach)] {
+            assert!(rt; kind.is_valid());
+            expect_of(&rt, &kind, "", !kind.is_scalar());
+            expect_of(
+                &rt,
+                &kind,
+                "",
+                kind.length_allowed(0) && kind.length_allowed(254),
+            );
+            expect_of(
+                &rt,
+                &kind,
+                "",
+                kind.length_allowed(7) == (kind != Kind::Wide(reach)),
+            );
+        }
+    }
+}

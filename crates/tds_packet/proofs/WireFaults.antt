@@ -1,0 +1,87 @@
+-- Which faults the payload itself may have.
+use Rattle.std.proofs.Common.{◌≡◌, ◌∙◌, inl, inr, ℕ, zero, suc, ◌+◌, ◌-◌, Bool, true, false, List, [], ◌++◌, length, take, drop, sym, ap, subst}
+use Rattle.std.specs.Prelude.{Option, Some, None, ⊤, ◌==◌, ◌||◌, nat_lt, slice_index, if◌then◌else◌}
+use Rattle.tds_meter.specs.Counts.{one_more}
+use Rattle.tds_packet.specs.declared.fault.Fault.{Fault}
+use Rattle.tds_packet.specs.declared.fault.Fault.TheVariants.{ReadFailed, WriteFailed, WrongPacketType, BadPacketLength, ResponseTooLong, InputEnded}
+use Rattle.tds_packet.specs.declared.fault.Stop.{Stop}
+use Rattle.tds_packet.specs.declared.payload.Payload as payloads
+use Rattle.tds_packet.specs.Coming.{Coming, FrontPacket, NoPacket, WholePacket, behind_header, behind_packet, coming_of, front_packet, message}
+use Rattle.tds_packet.specs.Packets.{header_fault, header_length}
+use Rattle.tds_packet.specs.Payloads.{buffered, seen}
+use Rattle.tds_packet.specs.Seen.{Ends, Seen}
+
+-- a fault that the wire or the end of a message may have
+abbrev pub IsOfWire : Fault → Type 0
+IsOfWire ReadFailed = ⊥
+IsOfWire WriteFailed = ⊥
+IsOfWire fault = ⊤
+
+abbrev AtMostOfWire : Option Fault → Type 0
+AtMostOfWire None = ⊤
+AtMostOfWire (Some fault) = IsOfWire fault
+
+abbrev FrontOfWire : FrontPacket → Type 0
+FrontOfWire (WholePacket body last n rest) = ⊤
+FrontOfWire (NoPacket fault rest) = IsOfWire fault
+
+judged : (a b c : Bool) (n kind : ℕ) → AtMostOfWire (if a then (if b then Some (BadPacketLength n) else if c then Some ResponseTooLong else None) else Some (WrongPacketType kind))
+judged true true c n kind = tt
+judged true false true n kind = tt
+judged true false false n kind = tt
+judged false b c n kind = tt
+
+header_of_wire : (size limit wire : ℕ) (header : List ℕ) → AtMostOfWire (header_fault size limit wire header)
+header_of_wire size limit wire header = judged (slice_index header 0 == 4) (nat_lt (header_length header) 8 || nat_lt size (header_length header)) (nat_lt limit (wire + header_length header)) (header_length header) (slice_index header 0)
+
+body_of_wire : (short : Bool) (body : List ℕ) (last : Bool) (n : ℕ) (rest : List ℕ) → FrontOfWire (if short then NoPacket InputEnded [] else WholePacket body last n rest)
+body_of_wire true body last n rest = tt
+body_of_wire false body last n rest = tt
+
+behind_of_wire : (header rest : List ℕ) (fault : Option Fault) → AtMostOfWire fault → FrontOfWire (behind_header header rest fault)
+behind_of_wire header rest (Some fault) h = h
+behind_of_wire header rest None h = body_of_wire (nat_lt (length rest) (header_length header - 8)) _ _ _ _
+
+if_front : (short : Bool) (p : FrontPacket) → FrontOfWire p → FrontOfWire (if short then NoPacket InputEnded [] else p)
+if_front true p h = tt
+if_front false p h = h
+
+front_of_wire : (size limit wire : ℕ) (input : List ℕ) → FrontOfWire (front_packet size limit wire input)
+unfolding front_packet
+front_of_wire size limit wire input =
+    if_front (nat_lt (length input) 8) (behind_header (take 8 input) (drop 8 input) (header_fault size limit wire (take 8 input))) (behind_of_wire (take 8 input) (drop 8 input) (header_fault size limit wire (take 8 input)) (header_of_wire size limit wire (take 8 input)))
+
+packet_of_wire : (more : ℕ → ℕ → List ℕ → Coming) (wire place : ℕ) (p : FrontPacket) → FrontOfWire p → ((w q : ℕ) (l : List ℕ) → IsOfWire (more w q l).stop.fault) → IsOfWire (behind_packet more wire place p).stop.fault
+packet_of_wire more wire place (WholePacket body true n rest) h next = tt
+packet_of_wire more wire place (WholePacket body false n rest) h next = next (wire + n) (place + length body) rest
+packet_of_wire more wire place (NoPacket fault rest) h next = h
+
+-- what comes of an input stops with such a fault
+pub message_of_wire : (size limit fuel wire place : ℕ) (input : List ℕ) → IsOfWire (message size limit fuel wire place input).stop.fault
+unfolding message
+message_of_wire size limit zero wire place input = tt
+message_of_wire size limit (suc fuel) wire place input = packet_of_wire (message size limit fuel) wire place (front_packet size limit wire input) (front_of_wire size limit wire input) (message_of_wire size limit fuel)
+
+coming_of_wire : (size limit wire place : ℕ) (last : Bool) (left input : List ℕ) → IsOfWire (coming_of size limit wire place last None left input).stop.fault
+unfolding coming_of
+coming_of_wire size limit wire place true left input = tt
+coming_of_wire size limit wire place false left input = message_of_wire size limit (suc (length input)) wire (place + length left) input
+
+-- a payload that stops blames a device only where a read failed
+pub ends_blame : {R : Type 0} (remaining : R → Option (List ℕ)) (p : payloads.Payload R) (b : Seen) (bytes : List ℕ) (own : Stop) → p.stopped ≡ None → Ends (seen remaining p) b bytes own
+    → (own.fault ≡ WriteFailed → ⊥) × (own.fault ≡ ReadFailed → b.failures ≡ one_more p.from.now.failures)
+ends_blame remaining p b bytes own going ends = go ends
+  where
+    stands : (input rest : List ℕ) → (seen remaining p).future input ≡ record { bytes = bytes; stop = own; rest = rest } → IsOfWire own.fault
+    stands input rest e =
+        let same : coming_of p.packet.now.room p.max_wire p.wire p.place p.last None (buffered p) input ≡ record { bytes = bytes; stop = own; rest = rest } =
+        ap (λ o. coming_of p.packet.now.room p.max_wire p.wire p.place p.last o (buffered p) input) (sym going) ∙ e in
+        subst IsOfWire (ap (λ (c : Coming). c.stop.fault) same) (coming_of_wire p.packet.now.room p.max_wire p.wire p.place p.last (buffered p) input)
+
+    of_wire : IsOfWire own.fault → (own.fault ≡ WriteFailed → ⊥) × (own.fault ≡ ReadFailed → b.failures ≡ one_more p.from.now.failures)
+    of_wire h = (λ e. subst IsOfWire e h, λ e. absurd (subst IsOfWire e h))
+
+    go : Ends (seen remaining p) b bytes own → (own.fault ≡ WriteFailed → ⊥) × (own.fault ≡ ReadFailed → b.failures ≡ one_more p.from.now.failures)
+    go (inl x) = of_wire (stands (x.0.0 ++ []) [] (x.0.2 []))
+    go (inr (inl x)) = of_wire (stands x.0.0 [] x.0.3)
+    go (inr (inr x)) = (λ e. (let no : ReadFailed ≡ WriteFailed = sym x.0.2 ∙ e in cc), λ e. x.1)

@@ -1,5 +1,0 @@
-use Rattle.tds_packet.specs.Payloads.{IsSound}
-use Rattle.tds_packet.proofs.tests.drain.Given as goal
-
-abbrev pub invariant-loop : goal.invariant-loop
-invariant-loop g l = IsSound l.payload

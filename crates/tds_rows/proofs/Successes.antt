@@ -1,0 +1,191 @@
+-- A call that reads what comes whole stops only where a device fails.
+use Rattle.std.proofs.Common.{◌≡◌, ◌∙◌, inl, inr, ℕ, ◌+◌, ◌-◌, ◌^◌, ◌<◌, ◌≤◌, Bool, true, false, List, [], ◌∷◌, ◌++◌, length, take, refl, sym, ap, subst, arith, append_assoc, append-nil, length-append, length-take-le}
+use Rattle.std.specs.Prelude.{nat_lt, Option, Some, None, Result, Ok, Err, if◌then◌else◌}
+use Rattle.std.proofs.Math.Seq.{take-append_seam}
+use Rattle.std.proofs.lemmas.Bool.Decides.{nat_tests}
+use Rattle.std.specs.Io.KnownBytes.{Consumes, IsAtEnd}
+use Rattle.tds_meter.specs.Counts.{Rose, one_more}
+use Rattle.tds_packet.specs.declared.fault.Fault.{Fault}
+use Rattle.tds_packet.specs.declared.fault.Fault.TheVariants.{RefusedToken}
+use Rattle.tds_packet.specs.declared.fault.Stop.{Stop}
+use Rattle.tds_packet.specs.declared.payload.Payload.{Payload}
+use Rattle.tds_packet.specs.Coming.{Coming, before}
+use Rattle.tds_packet.specs.Elements.{Grammar, IsRefused, Longest, Spelt}
+use Rattle.tds_packet.specs.Reading.{CutsNext, RefusesNext, StopsReading}
+use Rattle.tds_packet.specs.Payloads.{seen}
+use Rattle.tds_packet.specs.Seen.{Ends, Seen}
+use Rattle.tds_packet.proofs.ElementLaws.{Inside-Spelt, Spelt-append, Spelt-one, longest_at, longest_cut, longest_refused, no_further, one_longest}
+use Rattle.tds_packet.proofs.Lifts.{stops_inside}
+use Rattle.tds_packet.proofs.Steps.{stops_after}
+use Rattle.tds_columns.specs.Description.{Column}
+use Rattle.tds_csv.specs.declared.sink.Sink.{Sink}
+use Rattle.tds_csv.specs.Conversion.{Conversion}
+use Rattle.tds_csv.specs.Sinks.{Held, held}
+use Rattle.tds_csv.specs.Streaming.{StopsStreaming}
+use Rattle.tds_csv.proofs.Streams.{stops_size}
+use Rattle.tds_values.specs.declared.kind.Kind.{Kind}
+use Rattle.tds_values.specs.declared.kind.Reach.{Reach}
+use Rattle.tds_values.specs.declared.kind.Reach.TheVariants.{Short, Chunked}
+use Rattle.tds_rows.specs.declared.Charset.{Charset}
+use Rattle.tds_rows.specs.Cells.{Cell, CellPart, LongShape, SpellsCell, WholeCell, cell, long_start}
+use Rattle.tds_rows.specs.CellSteps.{FieldPut, cell_so_far}
+use Rattle.tds_rows.specs.RowSteps.{RowPut, RowsRead, RowsStop}
+use Rattle.tds_rows.specs.Rows.{RowPart, SpellsRow, WholeRow, row, row_byte, row_so_far, row_start}
+use Rattle.tds_rows.specs.Runs.{RowsPart, rows, rows_start}
+use Rattle.tds_rows.specs.Successes.{BeginNoRow, Brings, SpellsRows, SucceedsOn}
+use Rattle.tds_rows.proofs.CellLaws.{cell_is_read}
+use Rattle.tds_rows.proofs.RowLaws.{row_is_read}
+use Rattle.tds_rows.proofs.RunSteps.{row_among_rows}
+
+rose_from : (f : ℕ) (b : Bool) → nat_lt f (2 ^ 64 - 1) ≡ b → Rose f (one_more f)
+rose_from f true e = let low : f < 2 ^ 64 - 1 = grind (arith, nat_tests) in inl (omega (arith, low))
+rose_from f false e = let high : 2 ^ 64 - 1 ≤ f = grind (arith, nat_tests) in inr (high, omega (arith, high))
+
+-- a call that fails raises the count
+pub rose : (f : ℕ) → Rose f (one_more f)
+rose f = rose_from f (nat_lt f (2 ^ 64 - 1)) refl
+
+-- ---- the reading of what comes whole
+
+-- what is left, where it is told
+left_of : (input read : List ℕ) (new : Option (List ℕ)) → Consumes (Some input) new read → (left : List ℕ) × (new ≡ Some left) × (input ≡ read ++ left)
+left_of input read (Some left) h = (left, refl, h)
+left_of input read None h = absurd h
+
+module _ {S : Type 0} (g : Grammar S Fault) (from to : S) (a b : Seen) (front more : List ℕ) (brings : Brings a (front ++ more)) (last : Longest g from (front ++ more) (length front) to) (calm : Rose a.failures b.failures → ⊥) where
+  -- what was read is the beginning of what comes
+  came : (read : List ℕ) (bytes : List ℕ) → Consumes a.left b.left read → ((zs : List ℕ) → (a.future (read ++ zs)).bytes ≡ bytes ++ (b.future zs).bytes) → (rest : List ℕ) × (front ++ more ≡ bytes ++ rest)
+  came read bytes taken gives =
+      let l = left_of brings.input read b.left (subst (λ o. Consumes o b.left read) brings.left taken) in
+      ((b.future l.0).bytes, sym brings.comes ∙ ap (λ i. (a.future i).bytes) l.2 ∙ gives l.0)
+
+  refused_there : (at : S) (bytes : List ℕ) (fault : Fault) → Spelt g from bytes at → RefusesNext g a b bytes at fault → at ≡ to
+  refused_there at bytes fault spelt x =
+      let e = x.element in
+      let some : 0 < length e = x.some in
+      let whole : length e ≡ g.size at = x.whole in
+      let c = came x.takes.0 ((bytes ++ e) ++ x.ahead) x.takes.1.0 (λ zs. ap (λ (c : Coming). c.bytes) (x.takes.1.1 zs)) in
+      let rest = e ++ (x.ahead ++ c.0) in
+      let all : front ++ more ≡ bytes ++ rest = c.1 ∙ append_assoc (bytes ++ e) x.ahead c.0 ∙ append_assoc bytes e (x.ahead ++ c.0) in
+      let refused : IsRefused g at rest fault = record {
+        some = omega (arith, some, whole);
+        whole = omega (arith, whole, length-append e (x.ahead ++ c.0));
+        first = ap (λ k. g.fault at (take k rest)) (sym whole) ∙ ap (g.fault at) (take-append_seam e (x.ahead ++ c.0)) ∙ x.first;
+      } in
+      (one_longest g from (front ++ more) (length bytes) (length front) at to (subst (λ v. Longest g from v (length bytes) at) (sym all) (longest_refused g from bytes rest at fault spelt refused)) last).1
+
+  cut_there : (at : S) (bytes : List ℕ) (place : ℕ) (stop : Stop) → Spelt g from bytes at → CutsNext g a b bytes place at stop → at ≡ to
+  cut_there at bytes place stop spelt x = (one_longest g from (front ++ more) (length bytes) (length front) at to (subst (λ v. Longest g from v (length bytes) at) (sym (ends x.ends)) (longest_cut g from bytes x.part at spelt x.cut)) last).1
+    where
+      ends : Ends a b (bytes ++ x.part) x.own → front ++ more ≡ bytes ++ x.part
+      ends (inl y) =
+          let l = left_of brings.input y.0.0 b.left (subst (λ o. Consumes o b.left y.0.0) brings.left y.0.1) in
+          sym brings.comes ∙ ap (λ i. (a.future i).bytes) l.2 ∙ ap (λ (c : Coming). c.bytes) (y.0.2 l.0)
+      ends (inr (inl y)) =
+          let read = y.0.0 in
+          let l = left_of brings.input read b.left (subst (λ o. Consumes o b.left read) brings.left y.0.1) in
+          let none : l.0 ≡ [] = subst IsAtEnd l.1 y.0.2 in
+          let all : brings.input ≡ read = l.2 ∙ ap (λ v. read ++ v) none ∙ append-nil read in
+          sym brings.comes ∙ ap (λ i. (a.future i).bytes) all ∙ ap (λ (c : Coming). c.bytes) y.0.3
+      ends (inr (inr y)) = absurd (calm (subst (Rose a.failures) (sym y.1) (rose a.failures)))
+
+  -- a reading that stops does so at the end of what comes
+  pub stopped_there : (place : ℕ) (at : S) (stop : Stop) → StopsReading g from a b place at stop → at ≡ to
+  stopped_there place at stop x = elim x.cause [ inl y ↦ refused_there at x.bytes stop.fault x.spelt y.0 | inr y ↦ cut_there at x.bytes place stop x.spelt y ]
+
+-- a state at which nothing follows is the end of what comes
+pub longest_end : {S : Type 0} (g : Grammar S Fault) (from to : S) (front more : List ℕ) → Spelt g from front to → g.size to ≡ 0 → Longest g from (front ++ more) (length front) to
+longest_end g from to front more spelt none = longest_at g from front more to spelt (λ d other some within k.
+    let e : take d more ≡ [] = no_further g from front to (take d more) other spelt (λ i a b. omega (arith, none)) k in
+    some_taken d more some within e)
+  where
+    some_taken : (d : ℕ) (more : List ℕ) → 0 < d → d ≤ length more → take d more ≡ [] → ⊥
+    some_taken d more some within e = omega (arith, ap length e, length-take-le d more within)
+
+-- a call that reads whole elements to a state at which nothing follows, and puts their text, doesn't stop
+pub none_stops : {S : Type 0} (g : Grammar S Fault) (text : S → List ℕ) (from to : S) (a b : Seen) (place : ℕ) (h i : Held) (failed : Bool) (stop : Stop) (front more : List ℕ) → Brings a (front ++ more) → Spelt g from front to → g.size to ≡ 0
+    → (Rose a.failures b.failures → ⊥) → (Rose h.failures i.failures → ⊥) → StopsStreaming g text from a b place h i failed stop → ⊥
+none_stops g text from to a b place h i failed stop front more brings spelt none reads writes x = elim x.cause [
+  | inl y ↦
+      (let there : x.at ≡ to = stopped_there g from to a b front more brings (longest_end g from to front more spelt none) reads place x.at stop y.0 in
+      let some : 0 < g.size x.at = stops_size g from a b place x.at stop y.0 in
+      omega (arith, some, none, ap g.size there))
+  | inr y ↦
+      (let z = y.0 in
+      let same : z.middle.failures ≡ h.failures = z.puts.2.4 in
+      writes (subst (Rose h.failures) (sym (z.breaks.9 ∙ ap one_more same)) (rose h.failures)))
+]
+
+-- ---- the calls
+
+pub row_succeeds : {R W U : Type 0} (remaining : R → Option (List ℕ)) (contents : W → Option (List ℕ)) (charset : Charset) (start : RowPart) (old new : Payload R) (before after : Sink W) (result : Result U Stop) (cells : List Cell) (bytes more : List ℕ)
+    → RowPut remaining contents charset start old new before after result → Spelt (row charset) start bytes (WholeRow cells) → SucceedsOn remaining old new before after result (bytes ++ more)
+row_succeeds remaining contents charset start old new before after (Ok x) cells bytes more put spelt = λ brings reads writes. refl
+row_succeeds remaining contents charset start old new before after (Err stop) cells bytes more put spelt = λ brings reads writes. absurd (none_stops (row charset) row_so_far start (WholeRow cells) (seen remaining old) (seen remaining new) old.place (held contents before) (held contents after) after.failed stop bytes more brings spelt refl reads writes put)
+
+pub field_succeeds : {R W U : Type 0} (remaining : R → Option (List ℕ)) (contents : W → Option (List ℕ)) (from : CellPart) (column : ℕ) (last : Bool) (old new : Payload R) (before after : Sink W) (result : Result U Stop) (value : Cell) (bytes more : List ℕ)
+    → FieldPut remaining contents from column last old new before after result → Spelt (cell column) from bytes (WholeCell value) → SucceedsOn remaining old new before after result (bytes ++ more)
+field_succeeds remaining contents from column last old new before after (Ok x) value bytes more put spelt = λ brings reads writes. refl
+field_succeeds remaining contents from column last old new before after (Err stop) value bytes more put spelt = λ brings reads writes. absurd (none_stops (cell column) (cell_so_far column last) from (WholeCell value) (seen remaining old) (seen remaining new) old.place (held contents before) (held contents after) after.failed stop bytes more brings spelt refl reads writes put)
+
+pub long_is_read : (column : ℕ) (kind : Kind) (c : Conversion) (reach : Reach) (value : Cell) (bytes : List ℕ) → SpellsCell kind (LongShape c reach) value bytes → Spelt (cell column) (long_start c reach) bytes (WholeCell value)
+long_is_read column kind c Short value bytes h = cell_is_read column kind (LongShape c Short) value bytes tt h
+long_is_read column kind c Chunked value bytes h = cell_is_read column kind (LongShape c Chunked) value bytes tt h
+
+-- ---- rows, one after another
+
+module _ (charset : Charset) (columns : List Column) where
+  abbrev among : List (List Cell) → RowPart → RowsPart
+  among before part = record { before = before; at = part }
+
+  row_of_rows : (before : List (List Cell)) (cells : List Cell) (bytes : List ℕ) → SpellsRow charset columns cells bytes → Spelt (rows charset columns) (among before (row_start charset columns)) bytes (among before (WholeRow cells))
+  row_of_rows before cells bytes h = Inside-Spelt (row charset) (rows charset columns) (among before) (row_among_rows charset columns before) (row_start charset columns) bytes (WholeRow cells) (row_is_read charset columns cells bytes h)
+
+  -- rows that are spelt are read as rows
+  pub rows_are_read : (before : List (List Cell)) (first : List Cell) (later : List (List Cell)) (bytes : List ℕ) → SpellsRows charset columns first later bytes
+      → (earlier : List (List Cell)) × (last : List Cell) × Spelt (rows charset columns) (among before (row_start charset columns)) bytes (among earlier (WholeRow last))
+  rows_are_read before first [] bytes h = (before, first, row_of_rows before first bytes h)
+  rows_are_read before first (next ∷ later) bytes h =
+      let g = rows charset columns in
+      let from = among before (row_start charset columns) in
+      let whole = among before (WholeRow first) in
+      let there = among (before ++ first ∷ []) (row_start charset columns) in
+      let t = rows_are_read (before ++ first ∷ []) next later h.1 h.4 in
+      let one = Spelt-append g from h.0 whole (row_byte ∷ []) there (row_of_rows before first h.0 h.3) (Spelt-one g whole (row_byte ∷ []) (record { some = omega arith; whole = refl; free = refl })) in
+      let two = Spelt-append g from (h.0 ++ row_byte ∷ []) there h.1 (among t.0 (WholeRow t.1)) one t.2 in
+      (t.0, t.1, subst (λ v. Spelt g from v (among t.0 (WholeRow t.1))) (append_assoc h.0 (row_byte ∷ []) h.1 ∙ sym h.2) two)
+
+  -- where no row follows, the last one is the end
+  pub longest_rows : (from : RowsPart) (earlier : List (List Cell)) (last : List Cell) (front more : List ℕ) → Spelt (rows charset columns) from front (among earlier (WholeRow last)) → BeginNoRow more
+      → Longest (rows charset columns) from (front ++ more) (length front) (among earlier (WholeRow last))
+  longest_rows from earlier last front [] spelt none = longest_cut (rows charset columns) from front [] (among earlier (WholeRow last)) spelt (omega arith)
+  longest_rows from earlier last front (byte ∷ more) spelt none = longest_refused (rows charset columns) from front (byte ∷ more) (among earlier (WholeRow last)) (RefusedToken byte) spelt
+      (record { some = omega arith; whole = omega arith; first = ap (λ b. if b then None else Some (RefusedToken byte)) none })
+
+  end_same : (before : List (List Cell)) (at : RowPart) → 0 < (row charset).size at → (rows charset columns).end_fault (among before at) ≡ (row charset).end_fault at
+  end_same before (WholeRow cells) some = absurd (omega (arith, some))
+  end_same before part some = refl
+
+  rows_stop_not : (a b : Seen) (place : ℕ) (h i : Held) (failed : Bool) (stop : Stop) (first : List Cell) (later : List (List Cell)) (front more : List ℕ) → Brings a (front ++ more) → SpellsRows charset columns first later front → BeginNoRow more
+      → (Rose a.failures b.failures → ⊥) → (Rose h.failures i.failures → ⊥) → RowsStop charset columns a b place h i failed stop → ⊥
+  rows_stop_not a b place h i failed stop first later front more brings spelt none reads writes x = elim x.stops.cause [
+    | inl y ↦
+        (let t = rows_are_read [] first later front spelt in
+        let there = longest_rows (rows_start charset columns) t.0 t.1 front more t.2 none in
+        let at = x.stops.at in
+        let some : 0 < (row charset).size at = stops_size (row charset) x.part x.middle b (place + length x.streams.bytes) at stop y.0 in
+        let among_rows = stops_inside (row charset) (rows charset columns) (among x.earlier) (row_among_rows charset columns x.earlier) x.part x.middle b (place + length x.streams.bytes) at stop (end_same x.earlier at some) y.0 in
+        let all = stops_after (rows charset columns) (rows_start charset columns) (among x.earlier x.part) a x.middle b place (among x.earlier at) stop (record { bytes = x.streams.bytes; spelt = x.streams.spelt; takes = x.streams.takes }) among_rows in
+        let same : among x.earlier at ≡ among t.0 (WholeRow t.1) = stopped_there (rows charset columns) (rows_start charset columns) (among t.0 (WholeRow t.1)) a b front more brings there reads place (among x.earlier at) stop all in
+        let last : at ≡ WholeRow t.1 = ap (λ (p : RowsPart). p.at) same in
+        omega (arith, some, ap (row charset).size last))
+    | inr y ↦
+        (let z = y.0 in
+        let same : z.middle.failures ≡ h.failures = z.puts.2.4 ∙ x.streams.puts.2.4 in
+        writes (subst (Rose h.failures) (sym (z.breaks.9 ∙ ap one_more same)) (rose h.failures)))
+  ]
+
+  pub rows_succeed : {R W : Type 0} (remaining : R → Option (List ℕ)) (contents : W → Option (List ℕ)) (old new : Payload R) (before after : Sink W) (result : Result ℕ Stop) (first : List Cell) (later : List (List Cell)) (bytes more : List ℕ)
+      → RowsRead remaining contents charset columns old new before after result → SpellsRows charset columns first later bytes → BeginNoRow more → SucceedsOn remaining old new before after result (bytes ++ more)
+  rows_succeed remaining contents old new before after (Ok n) first later bytes more read spelt none = λ brings reads writes. refl
+  rows_succeed remaining contents old new before after (Err stop) first later bytes more read spelt none = λ brings reads writes. absurd (rows_stop_not (seen remaining old) (seen remaining new) old.place (held contents before) (held contents after) after.failed stop first later bytes more brings spelt none reads writes read)

@@ -1,0 +1,28 @@
+-- Which failures of its devices a call counts, and which it names.
+use Rattle.std.specs.Prelude.{◌≡◌, ℕ, Result, MatchResult}
+use Rattle.tds_meter.specs.Counts.{one_more}
+use Rattle.tds_packet.specs.declared.fault.Fault.TheVariants.{ReadFailed, WriteFailed}
+use Rattle.tds_packet.specs.declared.fault.Stop.{Stop}
+use Rattle.tds_packet.specs.declared.payload.Payload.{Payload}
+use Rattle.tds_csv.specs.declared.sink.Sink.{Sink}
+
+-- the counts of failures of a reader and a writer
+pub record Failures : Type 0 where
+  pub reads : ℕ
+  pub writes : ℕ
+
+-- a reader's count, and that of a sink's writer
+abbrev pub failures_with : {W : Type 0} → ℕ → Sink W → Failures
+failures_with reads sink = record { reads = reads; writes = sink.to.now.failures }
+
+-- those of a payload's reader and a sink's writer
+abbrev pub failures_of : {R W : Type 0} → Payload R → Sink W → Failures
+failures_of payload sink = failures_with payload.from.now.failures sink
+
+-- A stop that names a device's fault stands after one more failure of that device.
+abbrev pub StopBlames : Failures → Failures → Stop → Type 0
+StopBlames old new stop = (stop.fault ≡ ReadFailed → new.reads ≡ one_more old.reads) × (stop.fault ≡ WriteFailed → new.writes ≡ one_more old.writes)
+
+-- A success has no failure; a stop that names a device's fault stands after one.
+abbrev pub Blames : {U : Type 0} → Failures → Failures → Result U Stop → Type 0
+Blames old new result = MatchResult result (λ _. new ≡ old) (λ stop. StopBlames old new stop)

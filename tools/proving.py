@@ -1,0 +1,101 @@
+"""Proves crates in their rooms, several at once, and shows how far it is."""
+import os
+import re
+import sys
+import threading
+import time
+from concurrent.futures import FIRST_COMPLETED, Future, ThreadPoolExecutor, wait
+
+import repository as repo
+
+ERROR = re.compile(r"error(\[\w+\])?:|\S+: error|note: .*it is not proved that|.*: not proved$|error ")
+
+# What one proof may take, in bytes.
+ROOM = 3_500_000_000
+
+
+class Progress:
+    """What is shown while crates are proved: a line for each that has ended and, on a terminal, one of those under way."""
+
+    def __init__(self, names: list[str]) -> None:
+        self.names, self.under_way, self.lock, self.shows = names, [], threading.Lock(), sys.stderr.isatty()
+
+    def show(self, line: str = "") -> None:
+        if line:
+            print(f"\r\033[K{line}" if self.shows else line, file=sys.stderr, flush=True)
+        if self.shows:
+            print(f"\r\033[Kproving {', '.join(self.under_way)}" if self.under_way else "", end="", file=sys.stderr, flush=True)
+
+    def begin(self, name: str) -> None:
+        with self.lock:
+            self.under_way.append(name)
+            self.show()
+
+    def end(self, name: str, text: str) -> None:
+        with self.lock:
+            self.under_way.remove(name)
+            self.show(f"crate {self.names.index(name) + 1} of {len(self.names)}, {name}: {text}")
+
+
+def at_once() -> int:
+    """How many proofs run at once, by processors and memory; a proof takes two processors where there are."""
+    with open("/proc/meminfo", encoding="utf-8") as lines:
+        free = next(1024 * int(line.split()[1]) for line in lines if line.startswith("MemAvailable:"))
+    return max(1, min(len(os.sched_getaffinity(0)), free // ROOM))
+
+
+def first_error(log: str) -> str:
+    """The first line of a log that tells an error."""
+    with open(log, encoding="utf-8", errors="replace") as lines:
+        return next((line.rstrip() for line in lines if ERROR.match(line)), "no line of the log tells an error")
+
+
+def command_for(name: str) -> list[str]:
+    if not repo.is_program(name):
+        return ["rt", "lib"]
+    args = repo.path_of("crates", name, "args")
+    words = open(args, encoding="utf-8").read().splitlines() if os.path.exists(args) else []
+    return ["rt", "run", "--", *words]
+
+
+def prove(name: str, progress: Progress) -> bool:
+    """Proves one crate over what is proved below it, and returns whether it is."""
+    began, found = time.monotonic(), repo.sum_of(name)
+    log = repo.path_of("bin", "logs", name + ".log")
+    os.makedirs(os.path.dirname(log), exist_ok=True)
+
+    progress.begin(name)
+    with open(log, "w", encoding="utf-8") as out:
+        status = repo.in_room(name, command_for(name), out.write)
+    if status:
+        progress.end(name, f"not proved\n{first_error(log)}\nThe whole log: {os.path.relpath(log)}")
+        return False
+    progress.end(name, f"proved in {time.monotonic() - began:.0f} seconds")
+    repo.set_done("proved", name, found)
+    return True
+
+
+def prove_all(asked: list[str]) -> bool:
+    """Proves the crates asked for and those below them, each once those below it are proved."""
+    names = [it for it in repo.CRATES if it in asked or any(it in repo.below(one) for one in asked)]
+    left = [it for it in names if not repo.is_done("proved", it)]
+    # a library is built anew where a crate above it needs it and it isn't there
+    left = [it for it in names if it in left or not repo.is_built(it) and any(it in repo.below(one) for one in left)]
+    proved = {*names} - {*left}
+    if not left:
+        return True
+    repo.need_rt()
+    progress, running = Progress(names), {}
+    with ThreadPoolExecutor(at_once()) as pool:
+        while left or running:
+            for name in [it for it in left if proved.issuperset(repo.below(it))]:
+                left.remove(name)
+                running[pool.submit(prove, name, progress)] = name
+            done: set[Future[bool]] = wait(running, return_when=FIRST_COMPLETED).done
+            for it in done:
+                name = running.pop(it)
+                if it.result():
+                    proved.add(name)
+                else:
+                    left = [one for one in left if name not in repo.below(one)]
+    return proved.issuperset(names)

@@ -1,0 +1,157 @@
+"""The crates of the repository, as the scripts beside this file see them: what each stands on, what is proved of it, and a
+room in which it is proved beside others.
+
+`rt` works in one crate at a time and in those below it. A room is a folder with copies of a crate and of those below,
+so crates that don't stand on one another are proved at once. What `rt` keeps of a crate, its `out/`, is moved into its room
+and back."""
+import functools
+import hashlib
+import os
+import shutil
+import subprocess
+import sys
+from collections.abc import Callable, Iterator
+
+ROOT = os.path.dirname(os.path.dirname(os.path.abspath(__file__)))
+BIN = os.path.join(ROOT, "bin")
+PARTS = ("src", "specs", "proofs")
+STORED = ("stdin", "stdout", "args", "status", "data")
+
+
+def path_of(*names: str) -> str:
+    """A path below the repository's top."""
+    return os.path.join(ROOT, *names)
+
+
+def listed() -> dict[str, list[str]]:
+    """Each crate of crates.txt with all that it names, in the order of the file."""
+    with open(path_of("crates.txt"), encoding="utf-8") as lines:
+        pairs = [line.split(":") for line in lines if ":" in line and not line.startswith("#")]
+    return {name.strip(): named.split() for name, named in pairs}
+
+
+CRATES = listed()
+
+
+@functools.cache
+def below(name: str) -> list[str]:
+    """The crates of the repository that a crate stands on, lowest first."""
+    named = [it for it in CRATES[name] if it in CRATES]
+    return [it for it in CRATES if any(it == one or it in below(one) for one in named)]
+
+
+def is_program(name: str) -> bool:
+    return os.path.exists(path_of("crates", name, "src", "main.rt"))
+
+
+def sources(name: str) -> Iterator[str]:
+    """The files that a crate's proof depends on, by their paths in the repository."""
+    for part in PARTS:
+        for at, folders, files in os.walk(path_of("crates", name, part)):
+            folders.sort()
+            yield from (os.path.join(at, file) for file in sorted(files))
+
+
+def has_tests(name: str) -> bool:
+    return any("#[test]" in open(file, encoding="utf-8").read() for file in sources(name) if file.endswith(".rt"))
+
+
+@functools.cache
+def kit() -> bytes:
+    """The kit's one-line identity."""
+    return subprocess.run(["rt", "version"], capture_output=True, check=True).stdout
+
+
+def sum_of(name: str) -> str:
+    """A sum of the kit, of crates.txt's line, and of all sources of a crate and of those below it."""
+    found = hashlib.sha256(kit())
+    for crate in [*below(name), name]:
+        found.update(repr((crate, CRATES[crate])).encode())
+        for file in sources(crate):
+            with open(file, "rb") as it:
+                found.update(repr((os.path.relpath(file, ROOT), it.read())).encode())
+    return found.hexdigest()
+
+
+def is_done(what: str, name: str) -> bool:
+    """Whether bin/ says that this was done to the crate as it is now."""
+    try:
+        with open(os.path.join(BIN, what, name), encoding="utf-8") as it:
+            return it.read() == sum_of(name)
+    except OSError:
+        return False
+
+
+def set_done(what: str, name: str, found: str) -> None:
+    os.makedirs(os.path.join(BIN, what), exist_ok=True)
+    with open(os.path.join(BIN, what, name), "w", encoding="utf-8") as it:
+        it.write(found)
+
+
+def is_built(name: str) -> bool:
+    """Whether a library lies ready for the crates above it."""
+    return os.path.isfile(path_of("crates", name, "out", "rlib", "stamp"))
+
+
+def put_back(name: str) -> None:
+    """Gives a crate back what a room of it holds, and removes the room."""
+    kept, out = path_of("bin", "rooms", name, "crates", name, "out"), path_of("crates", name, "out")
+    if os.path.isdir(kept):
+        shutil.rmtree(out, ignore_errors=True)
+        os.rename(kept, out)
+    shutil.rmtree(path_of("bin", "rooms", name), ignore_errors=True)
+
+
+def make_room(name: str) -> str:
+    """Makes a room for a crate, and returns the crate's folder in it."""
+    put_back(name)
+    room = path_of("bin", "rooms", name)
+    for crate in [*below(name), name]:
+        folder = os.path.join(room, "crates", crate)
+        for part in PARTS:
+            if os.path.isdir(path_of("crates", crate, part)):
+                shutil.copytree(path_of("crates", crate, part), os.path.join(folder, part))
+    for crate in below(name):
+        kept = path_of("crates", crate, "out", "rlib")
+        if os.path.isdir(kept):
+            shutil.copytree(kept, os.path.join(room, "crates", crate, "out", "rlib"), copy_function=os.link)
+    folder = os.path.join(room, "crates", name)
+    for stored in STORED:
+        if os.path.isfile(path_of("crates", name, stored)):
+            shutil.copy(path_of("crates", name, stored), folder)
+    if os.path.isdir(path_of("crates", name, "out")):
+        os.rename(path_of("crates", name, "out"), os.path.join(folder, "out"))
+    os.mkdir(os.path.join(room, ".git"))
+    with open(os.path.join(room, "crates.txt"), "w", encoding="utf-8") as lines:
+        lines.writelines(f"{it}: {' '.join(CRATES[it])}\n" for it in [*below(name), name])
+    return folder
+
+
+def in_room(name: str, command: list[str], each_line: Callable[[str], None]) -> int:
+    """Runs a command in a crate's room, hands each line that it prints to `each_line`, and returns its status."""
+    folder = make_room(name)
+    try:
+        stored = os.path.join(folder, "stdin")
+        with open(stored if os.path.isfile(stored) else os.devnull, "rb") as source:
+            run = subprocess.Popen(
+                command, cwd=folder, stdin=source, stdout=subprocess.PIPE, stderr=subprocess.STDOUT, text=True, errors="replace"
+            )
+        for line in run.stdout:
+            each_line(line)
+        return run.wait()
+    finally:
+        put_back(name)
+
+
+def put_program() -> None:
+    """Puts the program that was built last into bin/, under the name that users call it by."""
+    made, program = path_of("crates", "replay", "out", "replay"), os.path.join(BIN, "tds_replay")
+    os.makedirs(BIN, exist_ok=True)
+    if not os.path.exists(program) or os.path.getmtime(made) > os.path.getmtime(program):
+        shutil.copy2(made, program)
+
+
+def need_rt() -> None:
+    """Ends with one line where the toolchain isn't there."""
+    if shutil.which("rt") is None:
+        sys.exit("rt isn't there: proving and building need the Rattle kit (README, \"What a machine needs\")")
