@@ -63,7 +63,7 @@ const fn at_payload<T>(fault: Fault, place: u64) -> Result<T, Stop> {
     })
 }
 
-// The payload in packets of so many bytes.
+// The payload in packets of `size` bytes.
 fn in_packets(alloc: Global, payload: &[u8], size: usize) -> Result<Vec<u8>, AllocError> {
     let mut wire = Vec::new(alloc);
     let mut left = payload;
@@ -127,7 +127,7 @@ fn gather_columns<R: Read>(
     Ok(answer)
 }
 
-// Reads the description after the token byte, in packets of so many bytes and so many a read.
+// Reads the description after the token byte, in packets of `reads.0` bytes, and `reads.1` a read.
 fn describe(
     alloc: Global,
     what: &str,
@@ -162,7 +162,7 @@ fn new_area(alloc: Global, room: usize) -> Result<Area, Fail>
     Ok(area)
 }
 
-// A description of so many columns of this type information, with the same name.
+// A description of `count` columns of this type information, with the same name.
 fn description_of(
     alloc: Global,
     count: u16,
@@ -562,7 +562,7 @@ fn no_metadata_leaves_nothing(rt: HostRuntime) -> Result<(), Fail> {
     Ok(())
 }
 
-// The message ends after so many bytes of a description of two columns.
+// The message ends after `n` bytes of a description of two columns.
 fn check_cut(alloc: Global, n: usize) -> Result<(), Fail> {
     let place = match n {
         1..=2 => 1,
@@ -658,7 +658,7 @@ fn gather_again<R: Read>(payload: &mut Payload<R>, area: &mut Area) -> Again
     }
 }
 
-// The stop came after so many bytes, and then again.
+// The stop came after `kept` bytes, and then again.
 const fn stopped_twice(stop: Stop, kept: usize) -> Again {
     Again {
         token: Ok(0x81),

@@ -234,7 +234,7 @@ fn utf8_in_every_cutting(rt: HostRuntime) -> Result<(), Fail> {
     Ok(())
 }
 
-// Two pieces of text in UTF-8, the second of which is bad after so many bytes.
+// Two pieces of text in UTF-8, the second of which is bad after some bytes.
 struct BadPiece {
     name: &'static str,
     first: &'static [u8],
@@ -370,7 +370,7 @@ fn many(alloc: Global, n: usize, byte: u8) -> Result<Vec<u8>, AllocError> {
     Ok(bytes)
 }
 
-// What came of putting so many bytes: how many were delivered at once, if they were taken; how the
+// What came of putting some bytes: how many were delivered at once, if they were taken; how the
 // sink finished; what waits; and the writer's failures.
 #[derive(Clone, Copy, PartialEq, Eq)]
 struct Delivered {
@@ -629,7 +629,7 @@ fn field_of<'a>(content: Content, source: &[u8], n: usize, to: &'a mut [u8]) -> 
     to.get(..made)
 }
 
-// The field of a whole value, alone and before so many quotes.
+// The field of a whole value, alone and before `behind` quotes.
 fn check_whole(alloc: Global, row: &Whole, behind: usize) -> Result<(), Fail> {
     let mut source = Vec::new(alloc);
     source.extend_from_slice(row.bytes)?;

@@ -231,7 +231,7 @@ fn deliver(most: usize, failing: Failing) -> Delivery {
     }
 }
 
-// A delivery of so many writes that takes all, or so many bytes, before a flush that doesn't fail.
+// A delivery of `writes` writes that takes all, or the bytes of the error, before a flush that doesn't fail.
 const fn delivered_in(answer: Result<(), usize>, writes: usize) -> Delivery {
     let (taken, failures) = match answer {
         Ok(()) => (9, 0),
@@ -461,7 +461,7 @@ fn nothing_behind_the_last_packet_is_read(rt: HostRuntime) -> Result<(), Fail> {
     Ok(())
 }
 
-// Passes over so many bytes, and gives the byte after them, or what stopped it, and the place then.
+// Passes over `n` bytes, and gives the byte after them, or what stopped it, and the place then.
 fn byte_behind<R: Read>(payload: &mut Payload<'_, R>, n: usize) -> (Result<u8, Stop>, u64)
     requires { IsSound payload.old }
 {
@@ -472,7 +472,7 @@ fn byte_behind<R: Read>(payload: &mut Payload<'_, R>, n: usize) -> (Result<u8, S
     (came, payload.place())
 }
 
-// Passes over so many bytes of the packet's body in packets of one byte each.
+// Passes over `n` bytes of the packet's body in packets of one byte each.
 fn pass_single_bytes(
     alloc: Global,
     empty: bool,
@@ -560,7 +560,7 @@ fn a_failed_read_stops_behind_whole_packets(rt: HostRuntime) -> Result<(), Fail>
     Ok(())
 }
 
-// What came of so many packets with no body and then the packet.
+// What came of `times` packets with no body and then the packet.
 fn read_behind_empty_ones(alloc: Global, times: u64) -> Result<Outcome, Fail> {
     let reader = RepeatingReader::new(&EMPTY, &EMPTY, times, &PACKET);
     read(alloc, By::Next, &mut Counted::new(reader), 4096)

@@ -6,6 +6,7 @@ use tds_values::{Kind, Reach, TEXT_ROOM, ValueFault, read_scalar, scalar_text, w
 mod dates;
 mod decimals;
 mod numbers;
+mod seeded;
 
 // The byte that two hexadecimal digits spell.
 fn byte_of(high: u8, low: u8) -> Option<u8> {

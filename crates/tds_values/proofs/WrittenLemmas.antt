@@ -120,13 +120,12 @@ local_refused scale units day seconds offset new es none =
 offset_in : (o : ℕ) → o ≤ 840 → nat_le o 840 ≡ true
 offset_in o h = grind (arith, nat_tests)
 
--- a local time in the calendar by its seconds
-pub local_spelt : (scale units day seconds l n : ℕ) (offset : ℤ) (new : List ℕ) → seconds ≡ units / 10 ^ scale → local_seconds seconds day offset ≡ Some l
-    → take n new ≡ date_and_time (l / 86400) (seconds_text (l % 86400) ++ fraction_text scale units) ++ codes " " ++ offset_text offset
-    → take n new ≡ text_of (values.DateTimeOffset scale units day offset)
-local_spelt scale units day seconds l n offset new es some text =
+-- the text of a local time by its seconds
+pub local_spelt : (scale units day seconds l : ℕ) (offset : ℤ) → seconds ≡ units / 10 ^ scale → local_seconds seconds day offset ≡ Some l
+    → date_and_time (l / 86400) (seconds_text (l % 86400) ++ fraction_text scale units) ++ codes " " ++ offset_text offset ≡ text_of (values.DateTimeOffset scale units day offset)
+local_spelt scale units day seconds l offset es some =
     let same : local_seconds (units / 10 ^ scale) day offset ≡ Some l = ap (λ k. local_seconds k day offset) (sym es) ∙ some in
-    text ∙ ap (λ t. t ++ codes " " ++ offset_text offset) (sym (text_of_seconds scale l units) ∙ ap (local_text scale) (sym (units_of_seconds scale units day l offset same)))
+    ap (λ t. t ++ codes " " ++ offset_text offset) (sym (text_of_seconds scale l units) ∙ ap (local_text scale) (sym (units_of_seconds scale units day l offset same)))
 
 -- and such a value is written
 pub local_written : (scale units day seconds l n : ℕ) (offset : ℤ) (new : List ℕ) → scale ≤ 7 → seconds ≡ units / 10 ^ scale → seconds < 86400 → day ≤ 3652058
@@ -139,7 +138,7 @@ local_written scale units day seconds l n offset new s es less last small some t
     let inside : is_local scale units day offset ≡ true = local_by_seconds scale units day offset ∙ ap is_some same in
     let range : is_in_range value ≡ true =
     and_from _ _ (and_from _ _ (and_from _ _ (time_in scale units s (omega arith)) (day_in day last)) (offset_in (unsigned_abs offset) small)) inside in
-    let whole = local_spelt scale units day seconds l n offset new es some text in
+    let whole = text ∙ local_spelt scale units day seconds l offset es some in
     subst (λ b. IsWritten (cond b (Ok value) (Err faults.Value)) (Ok n) new) (sym range) (whole, short)
 
 -- the local time of a value in its range is one of the calendar

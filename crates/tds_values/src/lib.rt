@@ -7,6 +7,7 @@ mod kind;
 mod laws;
 mod moments;
 mod numbers;
+mod plain;
 mod ranges;
 mod scalar;
 mod text;
@@ -14,6 +15,7 @@ mod write;
 
 pub use kind::{Kind, Reach};
 pub use laws::{one_date, one_type_info, short_texts};
+pub use plain::{ScalarText, scalar_text};
 pub use scalar::{Scalar, ScalarValue, ValueFault, read_scalar};
-pub use text::{LONGEST_TEXT, ScalarText, TEXT_ROOM, scalar_text};
+pub use text::{LONGEST_TEXT, TEXT_ROOM};
 pub use write::{INTEGER_ROOM, write_int4, write_scalar};

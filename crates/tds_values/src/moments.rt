@@ -7,7 +7,7 @@ use crate::ranges::{LARGEST_OFFSET, LAST_DAY, MINUTES_A_DAY, SECONDS_A_DAY, TICK
 use jiff_core::civil::Date;
 
 // How many days the first day of `jiff`, -9999-01-01, lies before day 0.
-const DAYS_BEFORE_DAY_0: u32 = 3652425;
+pub(crate) const DAYS_BEFORE_DAY_0: u32 = 3652425;
 
 // YYYY-MM-DD.
 #[inline(always)]

@@ -14,13 +14,13 @@ fn some_bytes(alloc: Global, n: usize) -> Result<Vec<u8>, AllocError> {
     Ok(bytes)
 }
 
-// The header of a packet with a body of so many bytes.
+// The header of a packet with a body of `body` bytes.
 fn header(last: bool, id: u8, body: usize) -> [u8; 8] {
     let [high, low] = ((8 + body.min(1000)) as u16).to_be_bytes();
     [0x04, u8::from(last), high, low, 0x00, 0x00, id, 0x00]
 }
 
-// A payload in packets with bodies of so many bytes, numbered from 1 on.
+// A payload in packets with bodies of at most `most` bytes, numbered from 1 on.
 fn in_packets(alloc: Global, payload: &[u8], most: usize) -> Result<Vec<u8>, AllocError> {
     let mut wire = Vec::new(alloc);
     let mut left = payload;
@@ -46,7 +46,7 @@ struct RecutOutcome {
     flushes: usize,
 }
 
-// Recuts to packets of so many bytes.
+// Recuts to packets of `size` bytes.
 fn recut_to<R: Read, W: Write>(
     alloc: Global,
     size: usize,
@@ -80,7 +80,7 @@ fn recut_wire(
     Ok((out, from.device().left().len()))
 }
 
-// All was written, so many bytes.
+// All was written, `written` bytes.
 const fn all_of(packets: usize, payload: usize, written: usize) -> RecutOutcome {
     RecutOutcome {
         answer: Ok(Recut {
@@ -177,7 +177,7 @@ const CUTS: [Cut; 6] = [
     },
 ];
 
-// A payload after headers, so many bytes after each but the last.
+// A payload after headers, `most` bytes after each but the last.
 fn behind_headers(
     alloc: Global,
     payload: &[u8],
@@ -248,7 +248,7 @@ fn packet_ids_go_on_with_0_behind_255(rt: HostRuntime) -> Result<(), Fail> {
     Ok(())
 }
 
-// The input is over, or its reader fails, after so many bytes of the wire.
+// The input is over, or its reader fails, after `cut` bytes of the wire.
 fn cut_at(wire: &[u8], cut: usize, fault: Fault) -> ScriptedReader<'_> {
     match fault {
         Fault::ReadFailed => ScriptedReader::failing(wire, 1000, cut),
@@ -296,7 +296,7 @@ fn whole_packets_stand_where_the_input_stops(rt: HostRuntime) -> Result<(), Fail
     Ok(())
 }
 
-// What came of 505 bytes in packets of 101, to a writer that takes so many bytes a call.
+// What came of 505 bytes in packets of 101, to a writer that takes at most `most` bytes a call.
 fn recut_505(alloc: Global, most: usize, failing: Failing) -> Result<RecutOutcome, Fail> {
     let payload = some_bytes(alloc, 505)?;
     let wire = in_packets(alloc, &payload, 101)?;
@@ -307,7 +307,7 @@ fn recut_505(alloc: Global, most: usize, failing: Failing) -> Result<RecutOutcom
     Ok(out)
 }
 
-// A writer that failed after so many bytes, of packets that end after 512 and 521.
+// A writer that failed after `taken` bytes, of packets that end after 512 and 521.
 fn write_failed(taken: usize, flushes: usize) -> RecutOutcome {
     let end: usize = if taken < 512 { 512 } else { 521 };
     let answer = Err(RecutStop {
