@@ -1,1 +1,5 @@
 mod Sayings
+pub mod Found
+pub mod Commands
+mod WorkedLines
+pub mod Numbers

@@ -1,3 +1,4 @@
+pub mod CommandLine
 pub mod Jobs
 pub mod Lines
 pub mod Performing

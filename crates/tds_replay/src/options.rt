@@ -1,4 +1,10 @@
 // The commands with their options.
+ghost use Rattle.std.specs.Prelude.{◌≡◌, IfOk, codes};
+ghost use Rattle.clap.specs.Words.{app_of};
+ghost use Rattle.tds_replay.specs.CommandLine.{HasReading, IsArgument, IsCharset, IsCommand};
+ghost use Rattle.tds_replay.specs.CommandLine.{IsProgram, IsReading, bare_app, column_room_rule};
+ghost use Rattle.tds_replay.specs.CommandLine.{file_rule, limited_app, max_wire_rule, option_rule};
+ghost use Rattle.tds_replay.specs.CommandLine.{packet_size_rule, packet_sizes, recut_app};
 
 use crate::help;
 use clap::builder::ValueParser;
@@ -48,7 +54,9 @@ fn number<'a>(
     name: &'a str,
     parser: ValueParser<'a>,
     help: (&'a str, &'a str),
-) -> Arg<'a> {
+) -> Arg<'a>
+    ensures { IsArgument (option_rule name.entry.now parser.entry) result }
+{
     Arg::new(alloc, name)
         .long(name)
         .value_name("N")
@@ -59,17 +67,23 @@ fn number<'a>(
 }
 
 // The parser of packet sizes.
-fn packet_sizes<'a>() -> ValueParser<'a> {
+fn packet_sizes<'a>() -> ValueParser<'a>
+    ensures { result ≡ packet_sizes }
+{
     value_parser!(u16).range(i64::from(LEAST_PACKET_SIZE)..=i64::from(GREATEST_PACKET_SIZE))
 }
 
 // The option of the greatest packet that is read.
-fn packet_size<'a>(alloc: Global) -> Arg<'a> {
+fn packet_size<'a>(alloc: Global) -> Arg<'a>
+    ensures { IsArgument packet_size_rule result }
+{
     number(alloc, PACKET_SIZE, packet_sizes(), help::PACKET_SIZE).default_value("4096")
 }
 
 // The option of the room for a description.
-fn column_room<'a>(alloc: Global) -> Arg<'a> {
+fn column_room<'a>(alloc: Global) -> Arg<'a>
+    ensures { IsArgument column_room_rule result }
+{
     let rooms = value_parser!(u32).range(
         i64::from(LEAST_COLUMN_ROOM)..=i64::from(GREATEST_COLUMN_ROOM),
     );
@@ -77,13 +91,17 @@ fn column_room<'a>(alloc: Global) -> Arg<'a> {
 }
 
 // The option of the limit of the wire.
-fn max_wire<'a>(alloc: Global) -> Arg<'a> {
+fn max_wire<'a>(alloc: Global) -> Arg<'a>
+    ensures { IsArgument max_wire_rule result }
+{
     let limits = value_parser!(u64).range(LEAST_MAX_WIRE as i64..=GREATEST_MAX_WIRE as i64);
     number(alloc, MAX_WIRE, limits, help::MAX_WIRE).default_value("1099511627776")
 }
 
 // The option of the character set.
-fn charset<'a>(alloc: Global) -> Arg<'a> {
+fn charset<'a>(alloc: Global) -> Arg<'a>
+    ensures { IsCharset result }
+{
     Arg::new(alloc, CHARSET)
         .long(CHARSET)
         .value_name("NAME")
@@ -95,14 +113,18 @@ fn charset<'a>(alloc: Global) -> Arg<'a> {
 }
 
 // The file, which may be left out.
-fn file<'a>(alloc: Global) -> Arg<'a> {
+fn file<'a>(alloc: Global) -> Arg<'a>
+    ensures { IsArgument file_rule result }
+{
     Arg::new(alloc, FILE)
         .help(help::FILE.0)
         .long_help(help::FILE.1)
 }
 
 // A command with the limits of a response.
-fn limited<'a>(alloc: Global, name: &'a str) -> Result<Command<'a>, AllocError> {
+fn limited<'a>(alloc: Global, name: &'a str) -> Result<Command<'a>, AllocError>
+    ensures { IfOk result (IsCommand (limited_app name.entry.now)) }
+{
     Command::new(alloc, name)
         .arg(packet_size(alloc))?
         .arg(column_room(alloc))?
@@ -110,12 +132,16 @@ fn limited<'a>(alloc: Global, name: &'a str) -> Result<Command<'a>, AllocError> 
 }
 
 // A command that reads a response, with its options.
-fn reading<'a>(alloc: Global, name: &'a str) -> Result<Command<'a>, AllocError> {
+fn reading<'a>(alloc: Global, name: &'a str) -> Result<Command<'a>, AllocError>
+    ensures { IfOk result (IsReading name.entry.now) }
+{
     limited(alloc, name)?.arg(charset(alloc))?.arg(file(alloc))
 }
 
 /// The command `export`.
-pub(crate) fn export<'a>(alloc: Global) -> Result<Command<'a>, AllocError> {
+pub(crate) fn export<'a>(alloc: Global) -> Result<Command<'a>, AllocError>
+    ensures { IfOk result (IsReading (codes "export")) }
+{
     Ok(
         reading(alloc, EXPORT)?
             .about(help::EXPORT)
@@ -125,7 +151,9 @@ pub(crate) fn export<'a>(alloc: Global) -> Result<Command<'a>, AllocError> {
 }
 
 /// The command `check`.
-pub(crate) fn check<'a>(alloc: Global) -> Result<Command<'a>, AllocError> {
+pub(crate) fn check<'a>(alloc: Global) -> Result<Command<'a>, AllocError>
+    ensures { IfOk result (IsReading (codes "check")) }
+{
     Ok(
         reading(alloc, CHECK)?
             .about(help::CHECK)
@@ -135,7 +163,9 @@ pub(crate) fn check<'a>(alloc: Global) -> Result<Command<'a>, AllocError> {
 }
 
 /// The command `recut`.
-pub(crate) fn recut<'a>(alloc: Global) -> Result<Command<'a>, AllocError> {
+pub(crate) fn recut<'a>(alloc: Global) -> Result<Command<'a>, AllocError>
+    ensures { IfOk result (IsCommand recut_app) }
+{
     let packet_size = number(alloc, PACKET_SIZE, packet_sizes(), help::NEW_PACKET_SIZE);
     Ok(
         Command::new(alloc, RECUT)
@@ -149,7 +179,9 @@ pub(crate) fn recut<'a>(alloc: Global) -> Result<Command<'a>, AllocError> {
 }
 
 // The program without its commands.
-fn without_commands<'a>(alloc: Global) -> Result<Command<'a>, AllocError> {
+fn without_commands<'a>(alloc: Global) -> Result<Command<'a>, AllocError>
+    ensures { IfOk result (IsCommand bare_app) }
+{
     Command::new(alloc, "tds_replay")
         .version(help::VERSION)
         .no_binary_name(true)
@@ -160,13 +192,17 @@ fn without_commands<'a>(alloc: Global) -> Result<Command<'a>, AllocError> {
 }
 
 // The program with the commands that read a response.
-fn with_reading<'a>(alloc: Global) -> Result<Command<'a>, AllocError> {
+fn with_reading<'a>(alloc: Global) -> Result<Command<'a>, AllocError>
+    ensures { IfOk result HasReading }
+{
     without_commands(alloc)?
         .subcommand(export(alloc)?)?
         .subcommand(check(alloc)?)
 }
 
 /// The whole command line, after the program's name.
-pub(crate) fn program<'a>(alloc: Global) -> Result<Command<'a>, AllocError> {
+pub(crate) fn program<'a>(alloc: Global) -> Result<Command<'a>, AllocError>
+    ensures { IfOk result (λ command. IsProgram (app_of command)) }
+{
     with_reading(alloc)?.subcommand(recut(alloc)?)
 }

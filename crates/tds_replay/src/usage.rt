@@ -1,5 +1,7 @@
 // Why arguments are no job.
+ghost use Rattle.std.specs.Prelude.{◌≡◌};
 ghost use Rattle.tds_replay.specs.Usages.{SaysUsage};
+ghost use Rattle.tds_replay.specs.declared.usage.Usage.TheVariants.{OutOfMemory};
 
 use crate::lines::say_want_of_memory;
 use crate::pieces::put;
@@ -43,6 +45,8 @@ impl Usage {
 }
 
 impl From<AllocError> for Usage {
+    ghost from_gives = { λ _ usage. usage ≡ OutOfMemory };
+
     fn from(_error: AllocError) -> Usage {
         Usage::OutOfMemory
     }
