@@ -17,7 +17,7 @@ use Rattle.tds_rows.specs.declared.table.Ahead.{Ahead}
 use Rattle.tds_rows.specs.declared.table.Table.{Table}
 use Rattle.std.specs.Prelude.{Option, None, Some}
 use Rattle.tds_values.specs.Kind.{is_scalar}
-use Rattle.tds_rows.specs.declared.buffered.Written.{Written}
+use Rattle.tds_rows.specs.declared.run.buffered.Written.{Written}
 use Rattle.tds_rows.specs.Cells.{cell_start, shape}
 use Rattle.tds_rows.specs.ShortCells.{ShortWritten}
 use Rattle.tds_rows.specs.CellSteps.{NearWritten, PutsCell, is_last}

@@ -17,7 +17,7 @@ use Rattle.tds_packet.proofs.ElementLaws.{Inside, Inside-Spelt, Spelt-append, Sp
 use Rattle.tds_columns.specs.Description.{Column}
 use Rattle.tds_columns.proofs.ViewLaws.{all_behind}
 use Rattle.tds_rows.specs.declared.Charset.{Charset}
-use Rattle.tds_rows.specs.declared.rows.TheConstants.{CELL_ROOM}
+use Rattle.tds_rows.specs.declared.run.fields.TheConstants.{CELL_ROOM}
 use Rattle.tds_rows.specs.Cells.{Cell, CellPart, CountedShape, FixedShape, LongShape, Shape, WholeCell, cell, cell_start, field, shape}
 use Rattle.tds_rows.specs.Rows.{Bitmap, InCell, RowPart, WholeRow, row_start, next_cell, row, row_so_far, with_cell, with_field}
 use Rattle.tds_rows.specs.CellSteps.{HasInt4, int4_kind, IsLeft, IsScalarLeft, IsValueText, PutsCell, StopsCell, WritesKind, cell_so_far, is_last, length_behind, scalar_size, start_behind, whole_size}

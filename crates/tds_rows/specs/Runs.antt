@@ -16,7 +16,7 @@ use Rattle.tds_rows.specs.declared.run.CellRun.{CellRun}
 use Rattle.tds_rows.specs.declared.run.Run.{Run}
 use Rattle.tds_rows.specs.declared.table.Ahead.{Ahead}
 use Rattle.tds_rows.specs.declared.table.Table.{Table}
-use Rattle.tds_rows.specs.declared.rows.TheConstants.{CELL_ROOM}
+use Rattle.tds_rows.specs.declared.run.fields.TheConstants.{CELL_ROOM}
 use Rattle.tds_rows.specs.Cells.{Cell, cell_start, field, shape}
 use Rattle.tds_values.specs.Kind.{is_scalar}
 use Rattle.tds_rows.specs.CellSteps.{IsLeft, is_last, whole_size}

@@ -6,7 +6,7 @@ use Rattle.tds_values.specs.Kind.{is_scalar}
 use Rattle.tds_csv.specs.Conversion.{Conversion, is_fit}
 use Rattle.tds_csv.specs.Fields.{field_room}
 use Rattle.tds_rows.specs.declared.Charset.{Charset}
-use Rattle.tds_rows.specs.declared.buffered.Written.{Written}
+use Rattle.tds_rows.specs.declared.run.buffered.Written.{Written}
 use Rattle.tds_rows.specs.Cells.{LongShape, Shape, ShortLength, cell_start, shape}
 use Rattle.tds_rows.specs.WholeCells.{WritesWhole}
 

@@ -18,6 +18,10 @@ pub record Knows (table : Table) (columns : List Column) : Type 0 where
   pub counted : table.count ≡ length columns
   pub behind : columns_left table.behind ≡ drop table.known columns
 
+-- The table knows some columns.
+abbrev pub KnowsSome : Table → Type 0
+KnowsSome table = (columns : List Column) × Knows table columns
+
 -- The place is one in a row of these columns: its walk is over those ahead that the table doesn't know.
 pub record IsAhead (table : Table) (columns : List Column) (at : Ahead) : Type 0 where
   pub counted : at.column ≤ length columns

@@ -11,13 +11,17 @@ ghost use Rattle.tds_rows.specs.RowSteps.{StopsAgain};
 ghost use Rattle.tds_rows.specs.Successes.{SucceedsOn};
 ghost use Rattle.tds_values.specs.declared.kind.Kind.{Kind};
 
-use crate::data::{push_data, put_end, put_opening};
-use crate::fields::put_null;
-use crate::lengths::{read_chunk_length, read_short_length, read_total};
+use crate::long::data::{push_data, put_end, put_opening};
+use crate::long::lengths::{read_chunk_length, read_short_length, read_total};
+use crate::run::fields::put_null;
 use std::io::{Read, Write};
 use tds_csv::{Joiner, Sink};
 use tds_packet::{Fault, Payload, Stop};
 use tds_values::Reach;
+
+pub(crate) mod chunks;
+pub(crate) mod data;
+pub(crate) mod lengths;
 
 // Reads a short value from its length on, and puts its field, and the end of the line if it is the last.
 fn stream_short<J: Joiner, R: Read, W: Write>(

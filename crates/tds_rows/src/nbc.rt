@@ -1,29 +1,34 @@
 // A row with a bitmap of the columns that are NULL (MS-TDS, NBCROW).
-ghost use Rattle.std.specs.Prelude.{◌≡◌, ℕ, ◌+◌, ◌*◌, ◌<◌, ◌≤◌, ◌++◌, List, None, false, length, max};
+ghost use Rattle.std.specs.Prelude.{◌≡◌, ℕ, ◌+◌, ◌*◌, ◌<◌, ◌≤◌, ◌++◌, List, [], None, false, length, max, IsTrue};
+ghost use Rattle.tds_columns.specs.Description.{Column};
 ghost use Rattle.tds_columns.specs.View.{columns_of};
 ghost use Rattle.tds_csv.specs.Sinks.{IsReady, LeavesSink};
 ghost use Rattle.tds_packet.specs.Payloads.{IsSound, LeavesPayload};
+ghost use Rattle.tds_rows.specs.RowReading.{IsInRow, LeavesRows, NextRead, RowRead};
 ghost use Rattle.tds_rows.specs.RowSteps.{RowPut, StopsAgain};
 ghost use Rattle.tds_rows.specs.Cells.{Cell};
 ghost use Rattle.tds_rows.specs.Rows.{SpellsNbcRow, bit, bitmap_length, nbc_row_start};
 ghost use Rattle.tds_rows.specs.Successes.{SucceedsOn};
+ghost use Rattle.tds_rows.specs.Tables.{Knows, KnowsSome};
+ghost use Rattle.tds_values.specs.Kind as kinds;
 
 use crate::Charset;
-use crate::fields::put_null;
 use crate::gather::LONGEST_CELL;
-use crate::marked::put_marked;
-use crate::rows::put_cell;
-use crate::table::Table;
+use crate::reading::Rows;
+use crate::run::fields::put_null;
+use crate::run::nulls::is_null;
+use crate::table::{Ahead, Table};
 use std::io::{Read, Write};
 use tds_columns::{Columns, take_into};
 use tds_csv::Sink;
 use tds_meter::Area;
 use tds_packet::{Payload, Stop};
+use tds_values::Kind;
 
 /// The most bytes that a bitmap has.
 const LONGEST_BITMAP: usize = 8192;
 
-// How many bytes the bitmap of so many columns has.
+// How many bytes the bitmap of `columns` columns has.
 fn bitmap_size(columns: u16) -> usize
     ensures value { result ≡ bitmap_length columns }
     ensures most { result ≤ LONGEST_BITMAP }
@@ -31,12 +36,47 @@ fn bitmap_size(columns: u16) -> usize
     (columns as usize + 7) / 8
 }
 
-// Whether the bit of a column is set, the lowest of the first byte being that of column 0.
-pub(crate) fn is_null(bitmap: &[u8], column: u16) -> bool
-    requires { column < 8 * length bitmap.now }
-    ensures { result ≡ bit bitmap.now column }
-{
-    (bitmap[column as usize / 8] >> (column % 8) as u32) & 1 == 1
+impl<'r, 't, 'p, 's, 'c, R: Read, W: Write> Rows<'r, 't, 'p, 's, 'c, R, W> {
+    // Puts the next cell: NULL, or the one that is read.
+    fn put_next(&mut self, at: Ahead<'c>, kind: &Kind, null: bool) -> Result<(), Stop>
+        requires in_row { IsInRow self.old }
+        requires within { at.column < self.old.table.now.count }
+        requires valid { IsTrue (kinds.is_valid kind.now) }
+        ensures leaves { LeavesRows self.old self.new result }
+        ensures gives { NextRead R.remaining W.contents at.entry kind.now null self.old self.new result }
+    {
+        if null {
+            return put_null(at.column, self.table.is_last(at), self.sink);
+        }
+        self.put_cell(at, kind)
+    }
+
+    // Reads an NBCROW after its token byte, its bitmap into an empty area, and puts its line.
+    fn nbc_row(&mut self, bitmap: &mut Area) -> Result<(), Stop>
+        requires in_row { IsInRow self.old }
+        requires some { 0 < self.old.table.now.count }
+        requires knows { KnowsSome self.old.table.now }
+        requires empty { bitmap.old.bytes ≡ [] }
+        requires room { LONGEST_BITMAP ≤ bitmap.old.room }
+        requires peak { bitmap.old.peak ≤ bitmap.old.room }
+        ensures leaves { LeavesRows self.old self.new result }
+        ensures room { bitmap.new.room ≡ bitmap.old.room }
+        ensures peak { bitmap.new.peak ≤ bitmap.new.room }
+        ensures gives { (columns : List Column) → Knows self.old.table.now columns →
+            RowRead R.remaining W.contents (nbc_row_start columns) self.old self.new result }
+    {
+        take_into(self.payload, bitmap, bitmap_size(self.table.count()))?;
+        let mut ahead = self.table.start();
+        loop {
+            let at = self.put_nulls(ahead, bitmap.bytes());
+            let Some((form, after)) = self.table.next(at) else {
+                return Ok(());
+            };
+            let null = is_null(bitmap.bytes(), at.column);
+            self.put_next(at, &form.kind, null)?;
+            ahead = after;
+        }
+    }
 }
 
 /// Reads an NBCROW after its token byte, and puts its line (MS-TDS, NBCROW). The bitmap is read into
@@ -82,19 +122,12 @@ pub fn nbc_row<R: Read, W: Write>(
     if let Some(stop) = sink.failure() {
         return Err(stop);
     }
-    take_into(payload, bitmap, bitmap_size(columns.count()))?;
     let table = Table::of(columns, charset);
-    let mut ahead = table.start();
-    loop {
-        let at = put_marked(payload, sink, &table, ahead, bitmap.bytes());
-        let Some((form, behind)) = table.next(at) else {
-            return Ok(());
-        };
-        if is_null(bitmap.bytes(), at.column) {
-            put_null(at.column, table.is_last(at), sink)?;
-        } else {
-            put_cell(payload, sink, &table, at, charset, &form.kind, small)?;
-        }
-        ahead = behind;
-    }
+    let mut rows = Rows {
+        payload,
+        sink,
+        small,
+        table: &table,
+    };
+    rows.nbc_row(bitmap)
 }

@@ -8,10 +8,10 @@ ghost use Rattle.tds_rows.specs.PassedCells.{AnyData, CellPassed, DataPassed, Is
 ghost use Rattle.tds_values.specs.Kind as kinds;
 ghost use Rattle.tds_values.specs.declared.kind.Kind.{Kind};
 
-use crate::buffered::length_size;
-use crate::chunks::pass_chunked;
 use crate::gather::{LONGEST_CELL, bad_value, gather_scalar};
-use crate::lengths::read_short_length;
+use crate::long::chunks::pass_chunked;
+use crate::long::lengths::read_short_length;
+use crate::run::buffered::length_size;
 use std::io::Read;
 use tds_meter::Area;
 use tds_packet::{Payload, Stop};
@@ -39,7 +39,7 @@ fn pass_piece<R: Read>(payload: &mut Payload<R>, most: u64) -> Result<u64, Stop>
     Ok(n)
 }
 
-// Passes over so many bytes, and stops at the first that is missing.
+// Passes over `n` bytes, and stops at the first that is missing.
 pub(crate) fn pass_data<R: Read>(payload: &mut Payload<R>, n: u64) -> Result<(), Stop>
     requires going { IsGoing payload.old }
     ensures payload { LeavesPayload payload.old payload.new result }
@@ -84,7 +84,7 @@ fn pass_scalar<R: Read>(payload: &mut Payload<R>, kind: &Kind, small: &mut Area)
     Ok(())
 }
 
-// Passes over a short value, whose data has units of so many bytes.
+// Passes over a short value, whose data has units of `unit` bytes.
 fn pass_short<R: Read>(payload: &mut Payload<R>, unit: u64) -> Result<(), Stop>
     requires going { IsGoing payload.old }
     requires unit { 0 < unit }
@@ -98,7 +98,7 @@ fn pass_short<R: Read>(payload: &mut Payload<R>, unit: u64) -> Result<(), Stop>
     pass_data(payload, n)
 }
 
-// Passes over a long value, whose data has units of so many bytes.
+// Passes over a long value, whose data has units of `unit` bytes.
 fn pass_long<R: Read>(payload: &mut Payload<R>, reach: Reach, unit: u64) -> Result<(), Stop>
     requires going { IsGoing payload.old }
     requires unit { 0 < unit }

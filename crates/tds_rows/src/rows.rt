@@ -1,217 +1,65 @@
-// A row, cell after cell (MS-TDS, ROW).
-ghost use Rattle.std.specs.Prelude.{◌≡◌, ℕ, ◌+◌, ◌<◌, ◌≤◌, ◌++◌, Bool, List, None, false, max, IsTrue, IfOk};
+// A row, cell after cell, and rows after one another (MS-TDS, ROW).
+ghost use Rattle.std.specs.Prelude.{◌≡◌, ℕ, ◌+◌, ◌<◌, ◌≤◌, ◌++◌, List, None, false, max, IfOk};
+ghost use Rattle.tds_columns.specs.Description.{Column};
 ghost use Rattle.tds_columns.specs.View.{columns_of};
 ghost use Rattle.tds_csv.specs.Sinks.{IsReady, IsWriting, LeavesSink};
 ghost use Rattle.tds_packet.specs.Payloads.{IsGoing, IsSound, LeavesPayload};
-ghost use Rattle.tds_rows.specs.Cells.{Cell, long_start, narrow};
-ghost use Rattle.tds_rows.specs.CellSteps.{CellPut, FieldPut};
+ghost use Rattle.tds_rows.specs.Cells.{Cell};
+ghost use Rattle.tds_rows.specs.RowReading.{IsInRow, LeavesRows, RowRead};
 ghost use Rattle.tds_rows.specs.RowSteps.{RowPut, RowsRead, StopsAgain};
 ghost use Rattle.tds_rows.specs.Rows.{SpellsRow, row_start};
 ghost use Rattle.tds_rows.specs.Successes.{BeginNoRow, SpellsRows, SucceedsOn};
-ghost use Rattle.tds_rows.specs.Tables.{IsNextKind};
-ghost use Rattle.tds_rows.specs.declared.Charset as sets;
-ghost use Rattle.tds_values.specs.Kind as kinds;
+ghost use Rattle.tds_rows.specs.Tables.{Knows, KnowsSome};
 
 use crate::Charset;
-use crate::buffered::length_size;
-use crate::gather::{LONGEST_CELL, bad_value, gather_scalar};
-use crate::long::stream_long;
-use crate::near::write_near;
-use crate::run::put_run;
-use crate::short::write_short;
-use crate::table::{Ahead, Table};
+use crate::gather::LONGEST_CELL;
+use crate::reading::Rows;
+use crate::table::Table;
 use std::io::{Read, Write};
 use tds_columns::Columns;
-use tds_csv::{Cp1252Joiner, HexJoiner, Joiner, Sink, Utf8Joiner, Utf16Joiner, joiners_suit};
+use tds_csv::Sink;
 use tds_meter::Area;
 use tds_packet::{Payload, Stop};
-use tds_values::{Kind, Reach};
 
-/// How many bytes the text of a scalar in its line may want, and a few to spare.
-pub(crate) const CELL_ROOM: usize = 66;
-
-/// How many bytes the text of a whole number of four bytes in its line may want, and a few to spare.
-pub(crate) const INT4_ROOM: usize = 28;
-
-/// The room for the text of a short value that no run took.
-const SHORT_TEXT: usize = 256;
-
-/// The most bytes that the text of a scalar in its line has.
-pub(crate) const TEXT_ROOM: usize = 44;
-
-// Reads the next cell of a scalar kind, and puts its text: one across the end of a packet, or one
-// that stops the row. Its bytes are gathered in the small area, and a run on them alone judges it.
-fn put_gathered<R: Read, W: Write>(
-    payload: &mut Payload<R>,
-    sink: &mut Sink<W>,
-    table: &Table,
-    at: Ahead,
-    kind: &Kind,
-    small: &mut Area,
-) -> Result<(), Stop>
-    requires going { IsGoing payload.old }
-    requires writing { IsWriting sink.old }
-    requires valid { IsTrue (kinds.is_valid kind.now) }
-    requires scalar { IsTrue (kinds.is_scalar kind.now) }
-    requires room { LONGEST_CELL ≤ small.old.room }
-    ensures payload { LeavesPayload payload.old payload.new result }
-    ensures sink { LeavesSink sink.old sink.new result }
-    ensures room { small.new.room ≡ small.old.room }
-    ensures bound { small.new.peak ≤ max small.old.peak LONGEST_CELL }
-    ensures gives { (charset : sets.Charset) (last : Bool) → IsNextKind table.now at.entry kind.now last →
-        CellPut R.remaining W.contents charset kind.now at.entry.column last
-        payload.old payload.new sink.old sink.new result }
-{
-    let place = payload.place();
-    gather_scalar(payload, kind, at.column, small)?;
-    let mut text = [0u8; CELL_ROOM];
-    let Some(cell) = write_near(table, at, kind, small.bytes(), &mut text) else {
-        return Err(bad_value(at.column, place + length_size(kind) as u64));
-    };
-    sink.put(&text[..cell.made])
-}
-
-// Reads the next cell of a scalar kind, and puts its text: from where it lies, if it lies whole in the packet.
-fn put_scalar<R: Read, W: Write>(
-    payload: &mut Payload<R>,
-    sink: &mut Sink<W>,
-    table: &Table,
-    at: Ahead,
-    kind: &Kind,
-    small: &mut Area,
-) -> Result<(), Stop>
-    requires going { IsGoing payload.old }
-    requires writing { IsWriting sink.old }
-    requires valid { IsTrue (kinds.is_valid kind.now) }
-    requires scalar { IsTrue (kinds.is_scalar kind.now) }
-    requires room { LONGEST_CELL ≤ small.old.room }
-    ensures payload { LeavesPayload payload.old payload.new result }
-    ensures sink { LeavesSink sink.old sink.new result }
-    ensures room { small.new.room ≡ small.old.room }
-    ensures bound { small.new.peak ≤ max small.old.peak LONGEST_CELL }
-    ensures gives { (charset : sets.Charset) (last : Bool) → IsNextKind table.now at.entry kind.now last →
-        CellPut R.remaining W.contents charset kind.now at.entry.column last
-        payload.old payload.new sink.old sink.new result }
-{
-    let mut text = [0u8; CELL_ROOM];
-    if let Some(near) = write_near(table, at, kind, payload.buffered(), &mut text) {
-        payload.consume(near.used);
-        return sink.put(&text[..near.made]);
-    }
-    put_gathered(payload, sink, table, at, kind, small)
-}
-
-// Reads the next cell, of single-byte text in this set, and puts its field.
-fn put_narrow<R: Read, W: Write>(
-    payload: &mut Payload<R>,
-    sink: &mut Sink<W>,
-    reach: Reach,
-    column: u16,
-    last: bool,
-    charset: Charset,
-) -> Result<(), Stop>
-    requires going { IsGoing payload.old }
-    requires writing { IsWriting sink.old }
-    ensures payload { LeavesPayload payload.old payload.new result }
-    ensures sink { LeavesSink sink.old sink.new result }
-    ensures gives { FieldPut R.remaining W.contents (long_start (narrow charset) reach) column last
-        payload.old payload.new sink.old sink.new result }
-{
-    joiners_suit();
-    match charset {
-        Charset::Windows1252 => {
-            stream_long(payload, reach, column, last, &mut Cp1252Joiner::new(), sink)
-        }
-        Charset::Utf8 => stream_long(payload, reach, column, last, &mut Utf8Joiner::new(), sink),
-    }
-}
-
-// Reads the next cell of a long kind by a joiner, and puts its field.
-fn put_joined<R: Read, W: Write>(
-    payload: &mut Payload<R>,
-    sink: &mut Sink<W>,
-    column: u16,
-    last: bool,
-    charset: Charset,
-    kind: &Kind,
-) -> Result<(), Stop>
-    requires going { IsGoing payload.old }
-    requires writing { IsWriting sink.old }
-    requires long { kinds.is_scalar kind.now ≡ false }
-    ensures payload { LeavesPayload payload.old payload.new result }
-    ensures sink { LeavesSink sink.old sink.new result }
-    ensures gives { CellPut R.remaining W.contents charset kind.now column last
-        payload.old payload.new sink.old sink.new result }
-{
-    joiners_suit();
-    match *kind {
-        Kind::Binary(reach) => {
-            stream_long(payload, reach, column, last, &mut HexJoiner::new(), sink)
-        }
-        Kind::Narrow(reach) => put_narrow(payload, sink, reach, column, last, charset),
-        Kind::Wide(reach) => {
-            stream_long(payload, reach, column, last, &mut Utf16Joiner::new(), sink)
-        }
-        _ => unreachable!(),
-    }
-}
-
-// Reads the next cell of a long kind, and puts its text: at once, where it is a short value that lies whole in
-// the packet and whose text doesn't fill the block.
-fn put_long<R: Read, W: Write>(
-    payload: &mut Payload<R>,
-    sink: &mut Sink<W>,
-    column: u16,
-    last: bool,
-    charset: Charset,
-    kind: &Kind,
-) -> Result<(), Stop>
-    requires going { IsGoing payload.old }
-    requires writing { IsWriting sink.old }
-    requires long { kinds.is_scalar kind.now ≡ false }
-    ensures payload { LeavesPayload payload.old payload.new result }
-    ensures sink { LeavesSink sink.old sink.new result }
-    ensures gives { CellPut R.remaining W.contents charset kind.now column last
-        payload.old payload.new sink.old sink.new result }
-{
-    let mut text = [0u8; SHORT_TEXT];
-    if let Some(near) = write_short(*kind, charset, column, last, payload.buffered(), &mut text)
-        && near.made < sink.room()
+impl<'r, 't, 'p, 's, 'c, R: Read, W: Write> Rows<'r, 't, 'p, 's, 'c, R, W> {
+    // Reads a row cell after cell, and puts its line.
+    fn row(&mut self) -> Result<(), Stop>
+        requires { IsInRow self.old }
+        ensures leaves { LeavesRows self.old self.new result }
+        ensures gives { (columns : List Column) → Knows self.old.table.now columns →
+            RowRead R.remaining W.contents (row_start self.old.table.now.charset columns) self.old self.new result }
     {
-        payload.consume(near.used);
-        return sink.put(&text[..near.made]);
+        let mut at = self.table.start();
+        while let Some((form, after)) = self.table.next(at) {
+            self.put_cell(at, &form.kind)?;
+            at = after;
+        }
+        Ok(())
     }
-    put_joined(payload, sink, column, last, charset, kind)
-}
 
-/// Reads the next cell, whatever its kind, and puts its text.
-#[inline(never)]
-pub(crate) fn put_cell<R: Read, W: Write>(
-    payload: &mut Payload<R>,
-    sink: &mut Sink<W>,
-    table: &Table,
-    at: Ahead,
-    charset: Charset,
-    kind: &Kind,
-    small: &mut Area,
-) -> Result<(), Stop>
-    requires going { IsGoing payload.old }
-    requires writing { IsWriting sink.old }
-    requires within { at.column < table.now.count }
-    requires valid { IsTrue (kinds.is_valid kind.now) }
-    requires room { LONGEST_CELL ≤ small.old.room }
-    ensures payload { LeavesPayload payload.old payload.new result }
-    ensures sink { LeavesSink sink.old sink.new result }
-    ensures room { small.new.room ≡ small.old.room }
-    ensures bound { small.new.peak ≤ max small.old.peak LONGEST_CELL }
-    ensures gives { (last : Bool) → IsNextKind table.now at.entry kind.now last →
-        CellPut R.remaining W.contents charset kind.now at.entry.column last
-        payload.old payload.new sink.old sink.new result }
-{
-    if kind.is_scalar() {
-        return put_scalar(payload, sink, table, at, kind, small);
+    // Reads a row and those that follow it in its packet, and puts their lines. Answers how many they are.
+    fn rows(&mut self) -> Result<u64, Stop>
+        requires in_row { IsInRow self.old }
+        requires some { 0 < self.old.table.now.count }
+        requires knows { KnowsSome self.old.table.now }
+        ensures leaves { LeavesRows self.old self.new result }
+        ensures few { IfOk result (λ count. self.old.payload.now.place + count ≤ self.new.payload.now.place + 1) }
+        ensures gives { (columns : List Column) → Knows self.old.table.now columns →
+            RowsRead R.remaining W.contents self.old.table.now.charset columns self.old.payload.now self.new.payload.now
+            self.old.sink.now self.new.sink.now result }
+    {
+        let mut ahead = self.table.start();
+        let mut ended: u64 = 0;
+        loop {
+            let run = self.put_run(ahead);
+            ended += run.rows as u64;
+            let Some((form, after)) = self.table.next(run.ahead) else {
+                return Ok(ended + 1);
+            };
+            self.put_cell(run.ahead, &form.kind)?;
+            ahead = after;
+        }
     }
-    put_long(payload, sink, at.column, table.is_last(at), charset, kind)
 }
 
 /// Reads a ROW after its token byte, and puts its line (MS-TDS, ROW). The cells before a stop count,
@@ -252,12 +100,13 @@ pub fn row<R: Read, W: Write>(
         return Err(stop);
     }
     let table = Table::of(columns, charset);
-    let mut at = table.start();
-    while let Some((form, behind)) = table.next(at) {
-        put_cell(payload, sink, &table, at, charset, &form.kind, small)?;
-        at = behind;
-    }
-    Ok(())
+    let mut rows = Rows {
+        payload,
+        sink,
+        small,
+        table: &table,
+    };
+    rows.row()
 }
 
 /// Reads a ROW after its token byte, and the ROWs after it as far as their token bytes lie in the packet
@@ -286,15 +135,11 @@ pub fn read_rows<R: Read, W: Write>(
         SucceedsOn R.remaining payload.old payload.new sink.old sink.new result (bytes ++ more) }
 {
     let table = Table::of(columns, charset);
-    let mut ahead = table.start();
-    let mut ended: u64 = 0;
-    loop {
-        let run = put_run(payload, sink, &table, ahead);
-        ended += run.rows as u64;
-        let Some((form, behind)) = table.next(run.ahead) else {
-            return Ok(ended + 1);
-        };
-        put_cell(payload, sink, &table, run.ahead, charset, &form.kind, small)?;
-        ahead = behind;
-    }
+    let mut rows = Rows {
+        payload,
+        sink,
+        small,
+        table: &table,
+    };
+    rows.rows()
 }

@@ -1,16 +1,19 @@
 // A run of cells: as many as lie whole in the packet and have room, over the ends of rows.
 ghost use Rattle.std.specs.Prelude.{◌≡◌, ◌+◌, ◌<◌, ◌≤◌, length};
-ghost use Rattle.tds_csv.specs.Sinks.{IsOnSameSink, IsWriting, held};
-ghost use Rattle.tds_packet.specs.Payloads.{IsGoing, IsOnSame, seen};
+ghost use Rattle.tds_rows.specs.RowReading.{IsInRow, StaysInRow};
 ghost use Rattle.tds_rows.specs.Runs.{CellsWritten, FirstJudged, FirstOfCells, RowsPut, RowsWritten};
 
-use crate::buffered::{INT4, has_int4, write_cell};
-use crate::fields::write_int4_field;
-use crate::rows::{CELL_ROOM, INT4_ROOM};
+use crate::reading::Rows;
+use crate::run::buffered::{INT4, has_int4, write_cell};
+use crate::run::fields::{CELL_ROOM, INT4_ROOM, write_int4_field};
 use crate::table::{Ahead, Table};
 use std::io::{Read, Write};
-use tds_csv::Sink;
-use tds_packet::Payload;
+
+pub(crate) mod alone;
+pub(crate) mod buffered;
+pub(crate) mod fields;
+pub(crate) mod nulls;
+pub(crate) mod short;
 
 /// The token byte of a ROW (MS-TDS, ROW).
 pub const ROW: u8 = 0xD1;
@@ -133,31 +136,29 @@ pub(crate) fn run_rows<'a>(
     }
 }
 
-/// Reads the next cells, as many as lie whole in the packet, aren't in chunks and have room, over the
-/// ends of rows, and puts their text where it waits. It reads nothing and delivers nothing.
-pub(crate) fn put_run<'a, R: Read, W: Write>(
-    payload: &mut Payload<R>,
-    sink: &mut Sink<W>,
-    table: &Table<'a>,
-    from: Ahead<'a>,
-) -> Run<'a>
-    requires going { IsGoing payload.old }
-    requires writing { IsWriting sink.old }
-    requires some { 0 < table.now.count }
-    ensures going { IsGoing payload.new }
-    ensures writing { IsWriting sink.new }
-    ensures same { IsOnSame payload.old payload.new }
-    ensures same_sink { IsOnSameSink sink.old sink.new }
-    ensures few { payload.old.place + result.rows ≤ payload.new.place }
-    ensures gives { RowsPut R.remaining W.contents table.now from.entry payload.old payload.new
-        sink.old sink.new result }
-{
-    let waiting = sink.waiting() as usize;
-    let room = sink.room() - 1;
-    let run = run_rows(table, from, payload.buffered(), sink.spare(room));
-    payload.consume(run.used);
-    match sink.keep(waiting, run.made) {
-        Ok(()) => run,
-        Err(_) => unreachable!(),
+impl<'r, 't, 'p, 's, 'c, R: Read, W: Write> Rows<'r, 't, 'p, 's, 'c, R, W> {
+    /// Reads the next cells, as many as lie whole in the packet, aren't in chunks and have room, over the
+    /// ends of rows, and puts their text where it waits. It reads nothing and delivers nothing.
+    pub(crate) fn put_run(&mut self, from: Ahead<'c>) -> Run<'c>
+        requires in_row { IsInRow self.old }
+        requires some { 0 < self.old.table.now.count }
+        ensures stays { StaysInRow self.old self.new }
+        ensures few { self.old.payload.now.place + result.rows ≤ self.new.payload.now.place }
+        ensures gives { RowsPut R.remaining W.contents self.old.table.now from.entry
+            self.old.payload.now self.new.payload.now self.old.sink.now self.new.sink.now result }
+    {
+        let waiting = self.sink.waiting() as usize;
+        let room = self.sink.room() - 1;
+        let run = run_rows(
+            self.table,
+            from,
+            self.payload.buffered(),
+            self.sink.spare(room),
+        );
+        self.payload.consume(run.used);
+        match self.sink.keep(waiting, run.made) {
+            Ok(()) => run,
+            Err(_) => unreachable!(),
+        }
     }
 }

@@ -14,7 +14,7 @@ const TABLE_LENGTH: usize = 64;
 /// How the value of a cell lies in it.
 #[derive(Clone, Copy)]
 pub(crate) enum Layout {
-    /// Alone, and each value has so many bytes.
+    /// Alone, and each value has this number of bytes.
     Fixed(u8),
     /// After a length of one byte, which is 0 for NULL.
     Counted,
@@ -108,6 +108,13 @@ impl<'a> Table<'a> {
             behind,
             charset,
         }
+    }
+
+    /// How many columns there are.
+    pub(crate) fn count(&self) -> u16
+        ensures { result ≡ self.now.count }
+    {
+        self.count
     }
 
     /// The place before the first cell of a row.

@@ -6,7 +6,7 @@ use Rattle.tds_csv.specs.Quoting.{behind_comma}
 use Rattle.tds_csv.specs.Sinks.{Breaks, Puts, held}
 use Rattle.tds_rows.specs.LongCells.{EndPut, opening}
 use Rattle.tds_rows.proofs.LongValues.{empty_puts, empty_stops, none_begins, rest_none, short_data_stops, short_end_stops, short_length_stops, short_null_puts, short_opening_breaks, short_read, short_whole}
-use Rattle.tds_rows.specs.Blames.{failures_of, failures_with}
+use Rattle.tds_rows.specs.Blames.{failures_of}
 use Rattle.tds_rows.specs.LongCells.{short_fault}
 use Rattle.tds_rows.proofs.Blames.{blames_after, length_blames, piece_blames, read_stops, same_failures, short_none, stops_after, write_stops}
 use Rattle.tds_rows.proofs.long.stream_short.Goals as goal

@@ -1,0 +1,60 @@
+-- The reading of rows as the contracts of its steps see it.
+use Rattle.std.specs.Prelude.{◌≡◌, ◌==◌, ◌+◌, ◌≤◌, ℕ, Bool, true, false, List, max, Option, Result}
+use Rattle.tds_values.specs.declared.kind.Kind.{Kind}
+use Rattle.tds_packet.specs.declared.fault.Stop.{Stop}
+use Rattle.tds_packet.specs.Payloads.{IsGoing, IsOnSame, LeavesPayload}
+use Rattle.tds_csv.specs.Quoting.{in_line, null_field}
+use Rattle.tds_csv.specs.Sinks.{IsOnSameSink, IsWriting, LeavesSink, PutsPiece}
+use Rattle.tds_rows.specs.declared.gather.TheConstants.{LONGEST_CELL}
+use Rattle.tds_rows.specs.declared.reading.Rows.{Rows}
+use Rattle.tds_rows.specs.declared.table.Ahead.{Ahead}
+use Rattle.tds_rows.specs.CellSteps.{CellPut}
+use Rattle.tds_rows.specs.Rows.{RowPart}
+use Rattle.tds_rows.specs.RowSteps.{RowPut}
+use Rattle.tds_rows.specs.Tables.{IsNextKind}
+
+-- A row is being read: payload and sink go on, and the small area has room for a cell.
+pub record IsInRow {R W : Type 0} (rows : Rows R W) : Type 0 where
+  pub payload : IsGoing rows.payload.now
+  pub sink : IsWriting rows.sink.now
+  pub room : LONGEST_CELL ≤ rows.small.now.room
+
+-- Two readings are on the same payload, sink and area, by the same table.
+abbrev pub IsOnSameRows : {R W : Type 0} → Rows R W → Rows R W → Type 0
+IsOnSameRows old new = (new.payload.ghost_name ≡ old.payload.ghost_name) × (new.sink.ghost_name ≡ old.sink.ghost_name) × (new.small.ghost_name ≡ old.small.ghost_name) × (new.table ≡ old.table)
+
+-- A call left the reading on the same devices and area, by the same table, with no more than a cell gathered, and where it answered no error, going on.
+pub record LeavesRows {R W U : Type 0} (old new : Rows R W) (result : Result U Stop) : Type 0 where
+  pub same : IsOnSameRows old new
+  pub payload : LeavesPayload old.payload.now new.payload.now result
+  pub sink : LeavesSink old.sink.now new.sink.now result
+  pub room : new.small.now.room ≡ old.small.now.room
+  pub bound : new.small.now.peak ≤ max old.small.now.peak LONGEST_CELL
+
+-- A row is still being read, on the same devices and area, by the same table, with no more than a cell gathered.
+pub record StaysInRow {R W : Type 0} (old new : Rows R W) : Type 0 where
+  pub in_row : IsInRow new
+  pub same : IsOnSameRows old new
+  pub payload : IsOnSame old.payload.now new.payload.now
+  pub sink : IsOnSameSink old.sink.now new.sink.now
+  pub room : new.small.now.room ≡ old.small.now.room
+  pub bound : new.small.now.peak ≤ max old.small.now.peak LONGEST_CELL
+
+-- The cell of a long kind after so many columns, the row's last or not, was read and its text put, or the call stopped.
+abbrev pub LongRead : {R W U : Type 0} → (R → Option (List ℕ)) → (W → Option (List ℕ)) → ℕ → Bool → Kind → Rows R W → Rows R W → Result U Stop → Type 0
+LongRead remaining contents column last kind old new result =
+    CellPut remaining contents old.table.now.charset kind column last old.payload.now new.payload.now old.sink.now new.sink.now result
+
+-- The next cell, of this kind, was read and its text put, or the call stopped.
+abbrev pub CellRead : {R W U : Type 0} → (R → Option (List ℕ)) → (W → Option (List ℕ)) → Ahead → Kind → Rows R W → Rows R W → Result U Stop → Type 0
+CellRead remaining contents at kind old new result = (last : Bool) → IsNextKind old.table.now at kind last → LongRead remaining contents at.column last kind old new result
+
+-- The next cell was put, NULL or, of this kind, as it was read, or the call stopped.
+abbrev pub NextRead : {R W U : Type 0} → (R → Option (List ℕ)) → (W → Option (List ℕ)) → Ahead → Kind → Bool → Rows R W → Rows R W → Result U Stop → Type 0
+NextRead remaining contents at kind true old new result =
+    (new.payload.now ≡ old.payload.now) × PutsPiece contents old.sink.now new.sink.now (in_line at.column (at.column + 1 == old.table.now.count) null_field) result
+NextRead remaining contents at kind false old new result = CellRead remaining contents at kind old new result
+
+-- A row was read from this state on and its line put, or the call stopped.
+abbrev pub RowRead : {R W U : Type 0} → (R → Option (List ℕ)) → (W → Option (List ℕ)) → RowPart → Rows R W → Rows R W → Result U Stop → Type 0
+RowRead remaining contents start old new result = RowPut remaining contents old.table.now.charset start old.payload.now new.payload.now old.sink.now new.sink.now result

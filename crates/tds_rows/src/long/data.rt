@@ -1,0 +1,154 @@
+// The data of long values, by pieces that lie in the packet.
+ghost use Rattle.std.specs.Prelude.{◌≡◌, ◌≤◌, ◌<◌, ◌+◌, ◌^◌, ◌++◌, ℕ, List, IfOk};
+ghost use Rattle.tds_csv.specs.Conversion.{Begins, Conversion, Suits, closing, conversion_rest};
+ghost use Rattle.tds_csv.specs.Quoting.{behind_comma, end_behind};
+ghost use Rattle.tds_csv.specs.Sinks.{IsReady, IsWriting, LeavesSink, PutsPiece};
+ghost use Rattle.tds_packet.specs.Payloads.{IsGoing, LeavesPayload};
+ghost use Rattle.tds_rows.specs.Blames.{Blames, failures_of, failures_with};
+ghost use Rattle.tds_rows.specs.LongCells.{DataTaken, EndPut, PieceTaken, good_of, join_stop, opening};
+
+use std::io::{Read, Write};
+use tds_csv::{JoinFault, Joiner, Sink, write_comma, write_line_end};
+use tds_packet::{Fault, Payload, Place, Stop};
+
+// The most bytes that a piece is asked for.
+const LONGEST_PIECE: u64 = 65_536;
+
+// The stop of a joiner whose piece, or whose end, stands after `place` bytes of the payload: the sink's own, or
+// that of the bad byte.
+fn join_stop(fault: JoinFault, column: u16, place: u64) -> Stop
+    requires { place + good_of fault < 2 ^ 64 }
+    ensures { result ≡ join_stop column place fault }
+{
+    let good = match fault {
+        JoinFault::Stopped(stop) => return stop,
+        JoinFault::BadText(good) => good as u64,
+        JoinFault::Odd => 0,
+    };
+    Stop {
+        fault: Fault::BadText { column },
+        place: Place::Payload(place + good),
+    }
+}
+
+/// Puts the comma before a long value, and what stands before its text.
+pub(crate) fn put_opening<W: Write>(
+    column: u16,
+    quoted: bool,
+    sink: &mut Sink<W>,
+) -> Result<(), Stop>
+    requires { IsWriting sink.old }
+    ensures { PutsPiece W.contents sink.old sink.new (behind_comma column (opening quoted)) result }
+{
+    let mut comma = [0u8; 1];
+    let made = write_comma(column, &mut comma);
+    sink.put(&comma[..made])?;
+    if quoted {
+        return sink.open_quoted();
+    }
+    sink.open_binary()
+}
+
+/// Puts what stands after the text of a long value, and the end of the line if it is the last.
+pub(crate) fn put_closing<W: Write>(
+    quoted: bool,
+    last: bool,
+    sink: &mut Sink<W>,
+) -> Result<(), Stop>
+    requires { IsWriting sink.old }
+    ensures { PutsPiece W.contents sink.old sink.new (closing quoted ++ end_behind last) result }
+{
+    let mut end = [0u8; 2];
+    let made = write_line_end(last, 0, &mut end);
+    if !quoted {
+        return sink.put(&end[..made]);
+    }
+    sink.close_quoted()?;
+    sink.put(&end[..made])
+}
+
+// Hands the next piece of the data, at most `most` bytes, to the joiner where it lies, and answers how many
+// it has.
+fn push_piece<J: Joiner, R: Read, W: Write>(
+    payload: &mut Payload<R>,
+    most: u64,
+    column: u16,
+    joiner: &mut J,
+    sink: &mut Sink<W>,
+) -> Result<u64, Stop>
+    requires going { IsGoing payload.old }
+    requires writing { IsWriting sink.old }
+    requires some { 0 < most }
+    requires begun { J.begins (J.withheld joiner.old) }
+    ensures payload { LeavesPayload payload.old payload.new result }
+    ensures sink { LeavesSink sink.old sink.new result }
+    ensures begun { J.begins (J.withheld joiner.new) }
+    ensures some { IfOk result (λ n. 0 < n) }
+    ensures most { IfOk result (λ n. n ≤ most) }
+    ensures place { IfOk result (λ n. payload.new.place ≡ payload.old.place + n) }
+    ensures blames { Blames (failures_of payload.old sink.old) (failures_of payload.new sink.new) result }
+    ensures gives { (c : Conversion) (content : List ℕ) → Suits J.fit J.begins J.rest J.text J.UNIT J.QUOTED c →
+        J.withheld joiner.old ≡ conversion_rest c content → Begins c content →
+        PieceTaken R.remaining W.contents c content (J.withheld joiner.new) column most
+        payload.old payload.new sink.old sink.new result }
+{
+    let place = payload.place();
+    let piece = payload.piece(most.min(LONGEST_PIECE) as usize)?;
+    match joiner.push(piece, sink) {
+        Ok(()) => Ok(piece.len() as u64),
+        Err(fault) => Err(join_stop(fault, column, place)),
+    }
+}
+
+/// Hands `n` bytes of data to the joiner, piece by piece.
+pub(crate) fn push_data<J: Joiner, R: Read, W: Write>(
+    payload: &mut Payload<R>,
+    n: u64,
+    column: u16,
+    joiner: &mut J,
+    sink: &mut Sink<W>,
+) -> Result<(), Stop>
+    requires going { IsGoing payload.old }
+    requires writing { IsWriting sink.old }
+    requires some { 0 < n }
+    requires begun { J.begins (J.withheld joiner.old) }
+    ensures payload { LeavesPayload payload.old payload.new result }
+    ensures sink { LeavesSink sink.old sink.new result }
+    ensures begun { J.begins (J.withheld joiner.new) }
+    ensures place { IfOk result (λ _. payload.new.place ≡ payload.old.place + n) }
+    ensures blames { Blames (failures_of payload.old sink.old) (failures_of payload.new sink.new) result }
+    ensures gives { (c : Conversion) (content : List ℕ) → Suits J.fit J.begins J.rest J.text J.UNIT J.QUOTED c →
+        J.withheld joiner.old ≡ conversion_rest c content → Begins c content →
+        DataTaken R.remaining W.contents c content (J.withheld joiner.new) column n
+        payload.old payload.new sink.old sink.new result }
+{
+    let mut left = n;
+    loop {
+        left -= push_piece(payload, left, column, joiner, sink)?;
+        if left == 0 {
+            return Ok(());
+        }
+    }
+}
+
+/// Puts the end of a value whose data was handed to the joiner. Where the data isn't whole text it stops at
+/// this place.
+pub(crate) fn put_end<J: Joiner, W: Write>(
+    joiner: &mut J,
+    column: u16,
+    last: bool,
+    place: u64,
+    sink: &mut Sink<W>,
+) -> Result<(), Stop>
+    requires { IsWriting sink.old }
+    ensures sink { LeavesSink sink.old sink.new result }
+    ensures blames { (reads : ℕ) → Blames (failures_with reads sink.old) (failures_with reads sink.new) result }
+    ensures gives { (c : Conversion) (content : List ℕ) → Suits J.fit J.begins J.rest J.text J.UNIT J.QUOTED c →
+        J.withheld joiner.old ≡ conversion_rest c content → Begins c content →
+        EndPut W.contents c J.QUOTED last content column place sink.old sink.new result }
+{
+    match joiner.end(sink) {
+        Ok(()) => put_closing(J::QUOTED, last, sink),
+        Err(fault) => Err(join_stop(fault, column, place)),
+    }
+}

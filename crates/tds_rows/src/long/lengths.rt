@@ -1,0 +1,136 @@
+// The lengths and totals of long values (MS-TDS, Partially Length-prefixed Bytes).
+ghost use Rattle.std.specs.Prelude.{◌≡◌, ◌≤◌, ◌<◌};
+ghost use Rattle.tds_packet.specs.Payloads.{IsGoing, LeavesPayload};
+ghost use Rattle.tds_rows.specs.LongCells.{LengthRead, NumberRead, chunk_length_fault, end_fault, short_fault, short_length, total_fault, total_of};
+
+use byteorder::{ByteOrder, LittleEndian};
+use std::io::Read;
+use tds_packet::{Fault, Payload, Place, Stop};
+
+// The length that stands for NULL in a short value.
+const NULL_LENGTH: u64 = 0xFFFF;
+
+// The total that stands for NULL.
+const NULL_TOTAL: u64 = 0xFFFF_FFFF_FFFF_FFFF;
+
+// The total that stands for an unknown one.
+const UNKNOWN_TOTAL: u64 = 0xFFFF_FFFF_FFFF_FFFE;
+
+// Reads a number of `size` bytes, the lowest first.
+fn read_number<R: Read>(payload: &mut Payload<R>, size: usize) -> Result<u64, Stop>
+    requires going { IsGoing payload.old }
+    requires some { 0 < size }
+    requires most { size ≤ 8 }
+    ensures payload { LeavesPayload payload.old payload.new result }
+    ensures gives { NumberRead R.remaining size payload.old payload.new result }
+{
+    let mut bytes = [0u8; 8];
+    payload.fill(&mut bytes[..size])?;
+    Ok(LittleEndian::read_uint(&bytes[..size], size))
+}
+
+// The stop of a length, a total or a terminator that began after `place` bytes of the payload.
+fn stop_at(fault: Fault, place: u64) -> Stop
+    ensures { result ≡ record { fault = fault; place = Place.Payload place } }
+{
+    Stop {
+        fault,
+        place: Place::Payload(place),
+    }
+}
+
+/// Reads the length of a short value, whose data has units of `unit` bytes; none where it is NULL.
+pub(crate) fn read_short_length<R: Read>(
+    payload: &mut Payload<R>,
+    column: u16,
+    unit: u64,
+) -> Result<Option<u64>, Stop>
+    requires going { IsGoing payload.old }
+    requires unit { 0 < unit }
+    ensures payload { LeavesPayload payload.old payload.new result }
+    ensures gives { LengthRead R.remaining 2 (short_fault column unit) short_length payload.old payload.new result }
+{
+    let place = payload.place();
+    let n = read_number(payload, 2)?;
+    if n == NULL_LENGTH {
+        return Ok(None);
+    }
+    if n % unit != 0 {
+        return Err(stop_at(Fault::OddText { column }, place));
+    }
+    Ok(Some(n))
+}
+
+/// Reads the total of a value in chunks, whose data has units of `unit` bytes: the number of its bytes, if
+/// that is known; none where it is NULL.
+pub(crate) fn read_total<R: Read>(
+    payload: &mut Payload<R>,
+    column: u16,
+    unit: u64,
+) -> Result<Option<Option<u64>>, Stop>
+    requires going { IsGoing payload.old }
+    requires unit { 0 < unit }
+    ensures payload { LeavesPayload payload.old payload.new result }
+    ensures gives { LengthRead R.remaining 8 (total_fault column unit) total_of payload.old payload.new result }
+{
+    let place = payload.place();
+    let n = read_number(payload, 8)?;
+    if n == NULL_TOTAL {
+        return Ok(None);
+    }
+    if n == UNKNOWN_TOTAL {
+        return Ok(Some(None));
+    }
+    if n % unit != 0 {
+        return Err(stop_at(Fault::OddText { column }, place));
+    }
+    Ok(Some(Some(n)))
+}
+
+// The fault of a terminator after `sum` bytes of data, but for what the data itself has.
+fn end_fault(column: u16, unit: u64, total: Option<u64>, sum: u64) -> Option<Fault>
+    requires { 0 < unit }
+    ensures { result ≡ end_fault column unit total sum }
+{
+    match total {
+        Some(total) if sum != total => Some(Fault::PlpLength { column }),
+        _ if sum % unit != 0 => Some(Fault::OddText { column }),
+        _ => None,
+    }
+}
+
+// The fault of the length of a chunk after `sum` bytes of data; 0 is the terminator.
+fn chunk_length_fault(column: u16, unit: u64, total: Option<u64>, sum: u64, n: u64) -> Option<Fault>
+    requires { 0 < unit }
+    ensures { result ≡ chunk_length_fault column unit total sum n }
+{
+    if n == 0 {
+        return end_fault(column, unit, total, sum);
+    }
+    match total {
+        Some(total) if total.saturating_sub(sum) < n => Some(Fault::PlpLength { column }),
+        _ => None,
+    }
+}
+
+/// Reads the length of a chunk after `sum` bytes of data; 0 is the terminator.
+pub(crate) fn read_chunk_length<R: Read>(
+    payload: &mut Payload<R>,
+    column: u16,
+    unit: u64,
+    total: Option<u64>,
+    sum: u64,
+) -> Result<u64, Stop>
+    requires going { IsGoing payload.old }
+    requires unit { 0 < unit }
+    ensures payload { LeavesPayload payload.old payload.new result }
+    ensures gives { LengthRead R.remaining 4 (λ n. chunk_length_fault column unit total sum n) (λ n. n)
+        payload.old payload.new result }
+{
+    let place = payload.place();
+    let n = read_number(payload, 4)?;
+    match chunk_length_fault(column, unit, total, sum, n) {
+        Some(fault) => Err(stop_at(fault, place)),
+        None => Ok(n),
+    }
+}

@@ -1,0 +1,128 @@
+// The reading of a row's cells (MS-TDS, ROW).
+ghost use Rattle.std.specs.Prelude.{◌≡◌, ◌<◌, false, IsTrue};
+ghost use Rattle.tds_rows.specs.RowReading.{CellRead, IsInRow, LeavesRows, LongRead};
+ghost use Rattle.tds_values.specs.Kind as kinds;
+
+use crate::Charset;
+use crate::gather::{bad_value, gather_scalar};
+use crate::long::stream_long;
+use crate::run::alone::write_alone;
+use crate::run::buffered::length_size;
+use crate::run::fields::CELL_ROOM;
+use crate::run::short::write_short;
+use crate::table::{Ahead, Table};
+use std::io::{Read, Write};
+use tds_csv::{Cp1252Joiner, HexJoiner, Joiner, Sink, Utf8Joiner, Utf16Joiner, joiners_suit};
+use tds_meter::Area;
+use tds_packet::{Payload, Stop};
+use tds_values::Kind;
+
+/// The room for the text of a short value that no run took.
+const SHORT_TEXT: usize = 256;
+
+/// The reading of rows: the payload, the sink, the area in which a cell is gathered, and the table of the columns.
+#[derive(Drop)]
+pub(crate) struct Rows<'r, 't, 'p, 's, 'c, R, W> {
+    pub(crate) payload: &'r mut Payload<'p, R>,
+    pub(crate) sink: &'r mut Sink<'s, W>,
+    pub(crate) small: &'r mut Area,
+    pub(crate) table: &'t Table<'c>,
+}
+
+impl<'r, 't, 'p, 's, 'c, R: Read, W: Write> Rows<'r, 't, 'p, 's, 'c, R, W> {
+    // Reads the next cell of a scalar kind, and puts its text: one across the end of a packet, or one
+    // that stops the row. Its bytes are gathered in the small area, and a run on them alone judges it.
+    fn put_gathered(&mut self, at: Ahead<'c>, kind: &Kind) -> Result<(), Stop>
+        requires in_row { IsInRow self.old }
+        requires valid { IsTrue (kinds.is_valid kind.now) }
+        requires scalar { IsTrue (kinds.is_scalar kind.now) }
+        ensures leaves { LeavesRows self.old self.new result }
+        ensures gives { CellRead R.remaining W.contents at.entry kind.now self.old self.new result }
+    {
+        let place = self.payload.place();
+        gather_scalar(self.payload, kind, at.column, self.small)?;
+        let mut text = [0u8; CELL_ROOM];
+        let Some(cell) = write_alone(self.table, at, kind, self.small.bytes(), &mut text) else {
+            return Err(bad_value(at.column, place + length_size(kind) as u64));
+        };
+        self.sink.put(&text[..cell.made])
+    }
+
+    // Reads the next cell of a scalar kind, and puts its text: from where it lies, if it lies whole in the packet.
+    fn put_scalar(&mut self, at: Ahead<'c>, kind: &Kind) -> Result<(), Stop>
+        requires in_row { IsInRow self.old }
+        requires valid { IsTrue (kinds.is_valid kind.now) }
+        requires scalar { IsTrue (kinds.is_scalar kind.now) }
+        ensures leaves { LeavesRows self.old self.new result }
+        ensures gives { CellRead R.remaining W.contents at.entry kind.now self.old self.new result }
+    {
+        let mut text = [0u8; CELL_ROOM];
+        if let Some(near) = write_alone(self.table, at, kind, self.payload.buffered(), &mut text) {
+            self.payload.consume(near.used);
+            return self.sink.put(&text[..near.made]);
+        }
+        self.put_gathered(at, kind)
+    }
+
+    // Reads the next cell of a long kind by a joiner, and puts its field.
+    fn put_joined(&mut self, column: u16, last: bool, kind: &Kind) -> Result<(), Stop>
+        requires in_row { IsInRow self.old }
+        requires long { kinds.is_scalar kind.now ≡ false }
+        ensures leaves { LeavesRows self.old self.new result }
+        ensures gives { LongRead R.remaining W.contents column last kind.now self.old self.new result }
+    {
+        joiners_suit();
+        let (payload, sink) = (&mut *self.payload, &mut *self.sink);
+        match *kind {
+            Kind::Binary(reach) => {
+                stream_long(payload, reach, column, last, &mut HexJoiner::new(), sink)
+            }
+            Kind::Wide(reach) => {
+                stream_long(payload, reach, column, last, &mut Utf16Joiner::new(), sink)
+            }
+            Kind::Narrow(reach) => match self.table.charset {
+                Charset::Windows1252 => {
+                    stream_long(payload, reach, column, last, &mut Cp1252Joiner::new(), sink)
+                }
+                Charset::Utf8 => {
+                    stream_long(payload, reach, column, last, &mut Utf8Joiner::new(), sink)
+                }
+            },
+            _ => unreachable!(),
+        }
+    }
+
+    // Reads the next cell of a long kind, and puts its text: at once, where it is a short value that lies whole in
+    // the packet and whose text doesn't fill the block.
+    fn put_long(&mut self, column: u16, last: bool, kind: &Kind) -> Result<(), Stop>
+        requires in_row { IsInRow self.old }
+        requires long { kinds.is_scalar kind.now ≡ false }
+        ensures leaves { LeavesRows self.old self.new result }
+        ensures gives { LongRead R.remaining W.contents column last kind.now self.old self.new result }
+    {
+        let mut text = [0u8; SHORT_TEXT];
+        let bytes = self.payload.buffered();
+        if let Some(near) = write_short(*kind, self.table.charset, column, last, bytes, &mut text)
+            && near.made < self.sink.room()
+        {
+            self.payload.consume(near.used);
+            return self.sink.put(&text[..near.made]);
+        }
+        self.put_joined(column, last, kind)
+    }
+
+    /// Reads the next cell, whatever its kind, and puts its text.
+    #[inline(never)]
+    pub(crate) fn put_cell(&mut self, at: Ahead<'c>, kind: &Kind) -> Result<(), Stop>
+        requires in_row { IsInRow self.old }
+        requires within { at.column < self.old.table.now.count }
+        requires valid { IsTrue (kinds.is_valid kind.now) }
+        ensures leaves { LeavesRows self.old self.new result }
+        ensures gives { CellRead R.remaining W.contents at.entry kind.now self.old self.new result }
+    {
+        if kind.is_scalar() {
+            return self.put_scalar(at, kind);
+        }
+        self.put_long(at.column, self.table.is_last(at), kind)
+    }
+}

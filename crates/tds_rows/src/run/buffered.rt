@@ -1,0 +1,100 @@
+// A cell of a scalar kind whose bytes lie together.
+ghost use Rattle.std.specs.Prelude.{◌≡◌, ◌≤◌, ◌<◌, ◌⊎◌, false, true, length, IsTrue, IfSome, MatchOption};
+ghost use Rattle.tds_rows.specs.CellSteps.{CellWritten, HasInt4, scalar_size, value_length, value_start, whole_size};
+ghost use Rattle.tds_values.specs.Kind as kinds;
+
+use crate::Charset;
+use crate::run::fields::{CELL_ROOM, write_value};
+use crate::run::short::write_short;
+use crate::table::{Form, Layout};
+use tds_csv::write_null;
+use tds_values::Kind;
+
+// How many bytes a cell has, and how many its text in its line.
+#[derive(Clone, Copy)]
+pub(crate) struct Written {
+    pub(crate) used: usize,
+    pub(crate) made: usize,
+}
+
+// How many bytes the length before a value of a scalar kind has: none, or one.
+#[inline(always)]
+pub(crate) fn length_size(kind: &Kind) -> usize
+    requires valid { IsTrue (kinds.is_valid kind.now) }
+    ensures value { result ≡ value_start kind.now }
+    ensures most { result ≤ 1 }
+{
+    match kind.fixed_length() {
+        Some(_) => 0,
+        None => 1,
+    }
+}
+
+// Where the value of a cell lies in these bytes, and how many it has: after its length, unless each value of
+// its kind has as many. None where its kind is a long one, or no length is there.
+#[inline(always)]
+fn value_at(form: &Form, bytes: &[u8]) -> Option<(usize, usize)>
+    ensures scalar { IfSome result (λ at. IsTrue (kinds.is_scalar form.now.kind)) }
+    ensures gives { MatchOption result
+        ((kinds.is_scalar form.now.kind ≡ false)
+        ⊎ ((kinds.is_scalar form.now.kind ≡ true) × (length bytes.now < scalar_size form.now.kind bytes.now)))
+        (λ at. (at.0 ≡ value_start form.now.kind) × (at.1 ≡ value_length form.now.kind bytes.now)) }
+{
+    match form.layout {
+        Layout::Fixed(n) => Some((0, n as usize)),
+        Layout::Counted => {
+            if bytes.is_empty() {
+                return None;
+            }
+            Some((1, bytes[0] as usize))
+        }
+        Layout::Long => None,
+    }
+}
+
+/// How many bytes a whole number of four bytes has.
+pub(crate) const INT4: usize = 4;
+
+/// Whether a whole number of four bytes lies at the front of these bytes: at once, or after its length.
+#[inline(always)]
+pub(crate) fn has_int4(start: usize, bytes: &[u8]) -> bool
+    requires { start ≤ 1 }
+    ensures so { result ≡ true → HasInt4 start bytes.now }
+    ensures only { HasInt4 start bytes.now → result ≡ true }
+{
+    bytes.len() >= start + INT4 && (start == 0 || bytes[0] == 4)
+}
+
+// Writes the cell at the front of these bytes; none where it isn't whole, is refused or in chunks, or where
+// there isn't the room that the text of a short value may need.
+#[inline(always)]
+pub(crate) fn write_cell(
+    form: &Form,
+    charset: Charset,
+    column: u16,
+    last: bool,
+    bytes: &[u8],
+    to: &mut [u8],
+) -> Option<Written>
+    requires room { CELL_ROOM ≤ length to.old }
+    ensures used { IfSome result (λ written. written.used ≤ length bytes.now) }
+    ensures most { IfSome result (λ written. written.made ≤ length to.old) }
+    ensures whole { IfSome result (λ written. written.used ≡ whole_size form.now.kind bytes.now) }
+    ensures gives { CellWritten charset form.now.kind column last bytes.now (length to.old) to.new result }
+{
+    let Some((start, n)) = value_at(form, bytes) else {
+        return write_short(form.kind, charset, column, last, bytes, to);
+    };
+    let used = start + n;
+    if bytes.len() < used {
+        return None;
+    }
+    if n == 0 {
+        let made = write_null(column, last, to);
+        return Some(Written { used, made });
+    }
+    match write_value(&form.kind, column, last, &bytes[start..used], to) {
+        Some(made) => Some(Written { used, made }),
+        None => None,
+    }
+}
