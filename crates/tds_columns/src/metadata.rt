@@ -39,7 +39,7 @@ fn are_bytes(bytes: &[u8])
     ensures { AreBytes bytes.now }
 {}
 
-// The fault of a description that has so many bytes so far, and of which so many follow at least.
+// The fault of a description that has `so_far` bytes, of which at least `least` follow.
 fn too_long(room: usize, so_far: usize, least: usize) -> Option<Fault>
     requires { so_far ≤ room }
     ensures { result ≡ spec.too_long room so_far least }

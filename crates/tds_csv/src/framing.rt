@@ -35,7 +35,7 @@ pub fn write_comma(column: u16, to: &mut [u8]) -> usize
     1
 }
 
-/// Writes the end of the line after so many bytes of a slice, if the field is the last, and answers
+/// Writes the end of the line after `made` bytes of a slice, if the field is the last, and answers
 /// how many bytes there are then.
 #[inline]
 pub fn write_line_end(last: bool, made: usize, to: &mut [u8]) -> usize

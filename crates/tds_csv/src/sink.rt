@@ -211,8 +211,8 @@ impl<'a, W: Write> Sink<'a, W> {
         self.output.grow_within(n)
     }
 
-    /// Puts the first bytes, so many, that were written into the room lent by [`Sink::spare`] where
-    /// so many bytes waited, and takes the others away.
+    /// Puts the first `made` bytes that were written into the room lent by [`Sink::spare`] where
+    /// `waiting` bytes waited, and takes the others away.
     pub fn keep(&mut self, waiting: usize, made: usize) -> Result<(), Stop>
         requires lent { IsLent self.old }
         requires room { waiting + made ≤ BLOCK }

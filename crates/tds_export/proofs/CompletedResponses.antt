@@ -10,9 +10,8 @@ use Rattle.tds_packet.proofs.ElementLaws.{Spelt-step, Spelt-append, Spelt-none, 
 use Rattle.tds_packet.proofs.Choices.{choose, eq_false, test_lt, test_le}
 use Rattle.tds_columns.specs.Description.{Column, DescriptionPart, BeforeCount, NoDescription, InColumn, WholeDescription, add_described, description}
 use Rattle.tds_rows.specs.declared.Charset.TheVariants.{Windows1252}
-use Rattle.tds_rows.specs.Rows.{RowPart, WholeRow, marked, row_start, nbc_row_start, row_add, row}
-use Rattle.tds_rows.specs.declared.run.TheConstants.{ROW}
-use Rattle.tds_export.specs.declared.token_bytes.TheConstants.{COLMETADATA, NBCROW, ORDER, ENVCHANGE, ERROR, INFO, RETURNVALUE, RETURNSTATUS, DONE, DONEPROC, DONEINPROC}
+use Rattle.tds_rows.specs.Rows.{RowPart, WholeRow, marked, row_start, nbc_row_start, row_add, row, row_byte}
+use Rattle.tds_export.specs.TokenBytes.{colmetadata_byte, done_byte, done_in_proc_byte, done_proc_byte, env_change_byte, error_byte, info_byte, nbc_row_byte, order_byte, return_status_byte, return_value_byte}
 use Rattle.tds_export.specs.ReturnValue.{ReturnPart, ReturnOrdinal, WholeReturn, return_add, return_value}
 use Rattle.tds_export.specs.Tokens.{Token, Metadata, NoMetadata, Row, Order, EnvChange, Error, Info, ReturnStatus, Returned, Done, DoneInProc, described_after}
 use Rattle.tds_export.specs.TokenGrammar.{Bodied, AnOrder, AnEnvChange, AnError, AnInfo, Open, Between, Describing, InRow, InReturn, TokenLength, TokenBody, Status, DoneFields, DoneInProcFields, Part, response_start, with_token, with_described, with_row, with_return, start_of_row, after_byte, holds_notice, notice_of, bodied, is_notice, part_add, response}
@@ -82,17 +81,17 @@ module _ (room : ℕ) where
 
   byte_reached : (tokens : List Token) (x : ℕ) → CurrentReached (described_after None tokens) → PartReached room (after_byte Windows1252 tokens x)
   byte_reached tokens x h =
-      choose (PartReached room) (x == COLMETADATA) (record { tokens = tokens; at = Describing BeforeCount }) _ (λ z. (h, (tt, tt))) (λ z.
-      choose (PartReached room) (x == ROW) (start_of_row tokens (row_start Windows1252) (described_after None tokens)) _ (λ z. row_starts tokens (row_start Windows1252) (λ columns v. next_reached [] (marked columns (λ k. false) 0) (marked_valid columns (λ k. false) 0 v.1)) (described_after None tokens) refl h) (λ z.
-      choose (PartReached room) (x == NBCROW) (start_of_row tokens nbc_row_start (described_after None tokens)) _ (λ z. row_starts tokens nbc_row_start (λ columns v. v) (described_after None tokens) refl h) (λ z.
-      choose (PartReached room) (x == ORDER) (record { tokens = tokens; at = TokenLength AnOrder }) _ (λ z. (h, tt)) (λ z.
-      choose (PartReached room) (x == ENVCHANGE) (record { tokens = tokens; at = TokenLength AnEnvChange }) _ (λ z. (h, tt)) (λ z.
-      choose (PartReached room) (x == ERROR) (record { tokens = tokens; at = TokenLength AnError }) _ (λ z. (h, tt)) (λ z.
-      choose (PartReached room) (x == INFO) (record { tokens = tokens; at = TokenLength AnInfo }) _ (λ z. (h, tt)) (λ z.
-      choose (PartReached room) (x == RETURNSTATUS) (record { tokens = tokens; at = Status }) _ (λ z. (h, tt)) (λ z.
-      choose (PartReached room) ((x == DONE) || (x == DONEPROC)) (record { tokens = tokens; at = DoneFields }) _ (λ z. (h, tt)) (λ z.
-      choose (PartReached room) (x == DONEINPROC) (record { tokens = tokens; at = DoneInProcFields }) _ (λ z. (h, tt)) (λ z.
-      choose (PartReached room) (x == RETURNVALUE) (record { tokens = tokens; at = InReturn ReturnOrdinal }) _ (λ z. (h, (tt, tt))) (λ z. (h, tt))))))))))))
+      choose (PartReached room) (x == colmetadata_byte) (record { tokens = tokens; at = Describing BeforeCount }) _ (λ z. (h, (tt, tt))) (λ z.
+      choose (PartReached room) (x == row_byte) (start_of_row tokens (row_start Windows1252) (described_after None tokens)) _ (λ z. row_starts tokens (row_start Windows1252) (λ columns v. next_reached [] (marked columns (λ k. false) 0) (marked_valid columns (λ k. false) 0 v.1)) (described_after None tokens) refl h) (λ z.
+      choose (PartReached room) (x == nbc_row_byte) (start_of_row tokens nbc_row_start (described_after None tokens)) _ (λ z. row_starts tokens nbc_row_start (λ columns v. v) (described_after None tokens) refl h) (λ z.
+      choose (PartReached room) (x == order_byte) (record { tokens = tokens; at = TokenLength AnOrder }) _ (λ z. (h, tt)) (λ z.
+      choose (PartReached room) (x == env_change_byte) (record { tokens = tokens; at = TokenLength AnEnvChange }) _ (λ z. (h, tt)) (λ z.
+      choose (PartReached room) (x == error_byte) (record { tokens = tokens; at = TokenLength AnError }) _ (λ z. (h, tt)) (λ z.
+      choose (PartReached room) (x == info_byte) (record { tokens = tokens; at = TokenLength AnInfo }) _ (λ z. (h, tt)) (λ z.
+      choose (PartReached room) (x == return_status_byte) (record { tokens = tokens; at = Status }) _ (λ z. (h, tt)) (λ z.
+      choose (PartReached room) ((x == done_byte) || (x == done_proc_byte)) (record { tokens = tokens; at = DoneFields }) _ (λ z. (h, tt)) (λ z.
+      choose (PartReached room) (x == done_in_proc_byte) (record { tokens = tokens; at = DoneInProcFields }) _ (λ z. (h, tt)) (λ z.
+      choose (PartReached room) (x == return_value_byte) (record { tokens = tokens; at = InReturn ReturnOrdinal }) _ (λ z. (h, (tt, tt))) (λ z. (h, tt))))))))))))
 
   length_reached : (b : Bodied) (n : ℕ) → ((if is_notice b && nat_lt n 14 then Some BadNotice else None) ≡ None) → is_notice b ≡ true → 14 ≤ n
   length_reached AnOrder n f h = cc
@@ -187,8 +186,8 @@ module _ (room : ℕ) where
 
   done_ends : (tokens : List Token) → Spelt (response Windows1252 room) (record { tokens = tokens; at = Between }) done (with_token tokens (Done false))
   done_ends tokens =
-      Spelt-append (response Windows1252 room) (record { tokens = tokens; at = Between }) (DONE ∷ []) (record { tokens = tokens; at = DoneFields }) (zeros 12) (with_token tokens (Done false))
-      (Spelt-step (response Windows1252 room) (record { tokens = tokens; at = Between }) (DONE ∷ []) (record { tokens = tokens; at = DoneFields }) (omega arith) refl refl refl)
+      Spelt-append (response Windows1252 room) (record { tokens = tokens; at = Between }) (done_byte ∷ []) (record { tokens = tokens; at = DoneFields }) (zeros 12) (with_token tokens (Done false))
+      (Spelt-step (response Windows1252 room) (record { tokens = tokens; at = Between }) (done_byte ∷ []) (record { tokens = tokens; at = DoneFields }) (omega arith) refl refl refl)
       (Spelt-step (response Windows1252 room) (record { tokens = tokens; at = DoneFields }) (zeros 12) (with_token tokens (Done false)) (omega arith) refl refl refl)
 
 -- Whatever has been read can be completed.

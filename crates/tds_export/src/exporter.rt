@@ -22,6 +22,9 @@ use tds_meter::Area;
 use tds_packet::{Fault, Payload, Place, Stop};
 use tds_rows::{Charset, nbc_row, read_rows};
 
+/// How many bytes follow the token byte of a DONE, DONEPROC or DONEINPROC: Status, CurCmd and DoneRowCount.
+const DONE_FIELDS: usize = 12;
+
 /// The run of an export: what it reads and writes, the areas of its description, of a token's body,
 /// of the first error's text and of what is kept for a moment, and its progress.
 #[derive(Drop)]
@@ -99,8 +102,9 @@ impl<'a, 'p, 's, R: Read, W: Write> Exporter<'a, 'p, 's, R, W> {
         ensures leaves { LeavesRun self.old self.new result }
         ensures gives { StepRead R.remaining W.contents in_done self.old self.new result }
     {
-        let mut fields = [0u8; 12];
+        let mut fields = [0u8; DONE_FIELDS];
         self.payload.fill(&mut fields)?;
+        // The lowest bit of Status, DONE_MORE, says that more results follow.
         self.progress.is_final = fields[0] % 2 == 0;
         Ok(())
     }
@@ -111,7 +115,7 @@ impl<'a, 'p, 's, R: Read, W: Write> Exporter<'a, 'p, 's, R, W> {
         ensures leaves { LeavesRun self.old self.new result }
         ensures gives { StepRead R.remaining W.contents in_done_in_proc self.old self.new result }
     {
-        self.payload.pass(12)?;
+        self.payload.pass(DONE_FIELDS)?;
         self.progress.is_final = false;
         Ok(())
     }
@@ -130,7 +134,7 @@ impl<'a, 'p, 's, R: Read, W: Write> Exporter<'a, 'p, 's, R, W> {
         Ok(())
     }
 
-    // Passes over an ORDER or ENVCHANGE after its token byte: a Length, and a body of so many bytes
+    // Passes over an ORDER or ENVCHANGE after its token byte: a Length, and a body of that many bytes
     // (MS-TDS, ORDER and ENVCHANGE).
     fn skip(&mut self) -> Result<(), Stop>
         requires { IsInToken self.old }

@@ -16,7 +16,7 @@ use tds_packet::{Fault, Payload, Place, Stop};
 pub(crate) const LEAST_NOTICE: u16 = 14;
 
 // Where the message ends, and the server's name begins with the byte that counts its units.
-fn server(body: &[u8]) -> usize
+fn server_start(body: &[u8]) -> usize
     requires { 8 ≤ length body.now }
     ensures { result ≡ server_at body.now }
 {
@@ -24,38 +24,38 @@ fn server(body: &[u8]) -> usize
 }
 
 // Where the procedure's name begins with the byte that counts its units.
-fn procedure(body: &[u8]) -> usize
+fn procedure_start(body: &[u8]) -> usize
     requires long { 8 ≤ length body.now }
     requires within { server_at body.now < length body.now }
     ensures { result ≡ procedure_at body.now }
 {
-    let at = server(body);
+    let at = server_start(body);
     at + 1 + 2 * usize::from(body[at])
 }
 
 // Where the line number begins.
-fn line(body: &[u8]) -> usize
+fn line_start(body: &[u8]) -> usize
     requires long { 8 ≤ length body.now }
     requires server { server_at body.now < length body.now }
     requires procedure { procedure_at body.now < length body.now }
     ensures { result ≡ line_at body.now }
 {
-    let at = procedure(body);
+    let at = procedure_start(body);
     at + 1 + 2 * usize::from(body[at])
 }
 
 /// Whether the inner lengths of a body stay within it.
-pub(crate) fn holds(body: &[u8]) -> bool
+pub(crate) fn lengths_fit(body: &[u8]) -> bool
     requires { LEAST_NOTICE ≤ length body.now }
     ensures { result ≡ holds_notice body.now }
 {
-    if server(body) >= body.len() {
+    if server_start(body) >= body.len() {
         return false;
     }
-    if procedure(body) >= body.len() {
+    if procedure_start(body) >= body.len() {
         return false;
     }
-    line(body) + 4 <= body.len()
+    line_start(body) + 4 <= body.len()
 }
 
 /// What a body says of an error, but for its message.
@@ -65,7 +65,7 @@ pub(crate) fn error_of(body: &[u8]) -> ServerError
     ensures { result ≡ server_error (notice_of body.now) }
 {
     let number = LittleEndian::read_i32(body);
-    let line = LittleEndian::read_i32(&body[line(body)..]);
+    let line = LittleEndian::read_i32(&body[line_start(body)..]);
     ServerError {
         number,
         state: body[4],
@@ -81,7 +81,7 @@ pub(crate) fn message_of(body: &[u8]) -> &[u8]
     ensures value { result.now ≡ (notice_of body.now).message }
     ensures even { length result.now % 2 ≡ 0 }
 {
-    &body[8..server(body)]
+    &body[8..server_start(body)]
 }
 
 /// Reads the Length and the body of an ERROR or INFO after its token byte. The body stands in the
@@ -110,7 +110,7 @@ pub(crate) fn take_notice<R: Read>(payload: &mut Payload<R>, token: &mut Area) -
     }
     let place = payload.place();
     take_into(payload, token, usize::from(length))?;
-    if !holds(token.bytes()) {
+    if !lengths_fit(token.bytes()) {
         return Err(Stop {
             fault: Fault::BadNotice,
             place: Place::Payload(place),

@@ -19,7 +19,7 @@ pub(crate) struct Header {
     pub(crate) last: bool,
 }
 
-// Judges a header after so many bytes of the wire: its Type, its Length, the limit of the wire.
+// Judges a header after `wire` bytes of the wire: its Type, its Length, the limit of the wire.
 fn judge(header: &[u8], room: usize, max_wire: u64, wire: u64) -> Result<Header, Fault>
     requires whole { length header.now ≡ 8 }
     requires within { wire ≤ 2 ^ 56 }
@@ -68,7 +68,7 @@ fn read_body<R: Read>(from: &mut Counted<R>, packet: &mut Area, n: usize) -> Res
     fill(from, body)
 }
 
-/// Reads the next packet of a message, of whose wire so many bytes were read: its header, and then
+/// Reads the next packet of a message, of whose wire `wire` bytes were read: its header, and then
 /// its body into the area, whose room is the greatest packet size. After a fault what stands in the
 /// area isn't fixed.
 pub(crate) fn read_packet<R: Read>(

@@ -143,7 +143,7 @@ fn write_packet<W: Write>(
     }
 }
 
-// Writes the header of the packet after so many others over the first bytes.
+// Writes the header of the packet after `number` others over the first bytes.
 fn put_header(output: &mut Area, number: u64, last: bool)
     requires header { HEADER ≤ length output.old.bytes }
     requires fits { length output.old.bytes ≤ 32767 }
@@ -154,7 +154,7 @@ fn put_header(output: &mut Area, number: u64, last: bool)
     put_front(output.tail(0), &header);
 }
 
-// The header of the packet of so many bytes after so many others (MS-TDS, Packet Header).
+// The header of the packet of `size` bytes after `number` others (MS-TDS, Packet Header).
 fn header(size: usize, number: u64, last: bool) -> [u8; 8]
     requires size { size ≤ 32767 }
     requires number { number ≤ 2 ^ 56 }
@@ -175,7 +175,7 @@ fn put_front(to: &mut [u8], front: &[u8])
     to[..front.len()].copy_from_slice(front);
 }
 
-// Flushes the writer after all packets, which carry so many payload bytes.
+// Flushes the writer after all packets, which carry `payload` bytes.
 fn finish<W: Write>(to: &mut Counted<W>, all: Written, payload: u64) -> Result<Recut, RecutStop>
     ensures { Flushes W.contents to.old to.new all payload result }
 {
@@ -188,7 +188,7 @@ fn finish<W: Write>(to: &mut Counted<W>, all: Written, payload: u64) -> Result<R
     })
 }
 
-// The stop of a writer that took so many bytes, and so many of a packet not.
+// The stop of a writer that took `written` bytes, and `unwritten` of a packet not.
 fn write_failed(written: u64, unwritten: u64) -> RecutStop
     ensures { result ≡ write_stop written unwritten }
 {

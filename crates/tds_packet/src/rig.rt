@@ -18,8 +18,8 @@ fn copy_front(from: &[u8], to: &mut [u8]) -> usize
     n
 }
 
-/// A reader of a slice. It gives at most so many bytes a call, one at least; where it is to fail, it
-/// first gives so many bytes, and then each read answers an error.
+/// A reader of a slice. It gives at most `most` bytes a call, one at least; where it is to fail, it
+/// first gives some bytes, and then each read answers an error.
 #[derive(Drop)]
 pub struct ScriptedReader<'a> {
     left: &'a [u8],
@@ -86,9 +86,9 @@ impl Read for ScriptedReader<'_> {
 pub enum Failing {
     /// Not at all.
     Never,
-    /// It takes so many bytes, and then each write answers an error.
+    /// It takes this number of bytes, and then each write answers an error.
     AfterBytes(usize),
-    /// It takes so many bytes, and then each write answers 0.
+    /// It takes this number of bytes, and then each write answers 0.
     ZeroAfterBytes(usize),
     /// The write of this number answers an error, and no other. The first is number 0.
     AtWrite(usize),
@@ -96,7 +96,7 @@ pub enum Failing {
     InFlush,
 }
 
-/// A writer that takes at most so many bytes a call, one at least. It keeps the first [`KEPT`] bytes
+/// A writer that takes at most `most` bytes a call, one at least. It keeps the first [`KEPT`] bytes
 /// that it takes, and counts its calls and all bytes.
 #[derive(Drop)]
 pub struct ScriptedWriter {
@@ -192,7 +192,7 @@ impl Write for ScriptedWriter {
     }
 }
 
-/// A reader of one slice, then of a second one so many times, then of a third.
+/// A reader of one slice, then of a second one `times` times, then of a third.
 #[derive(Drop)]
 pub struct RepeatingReader<'a> {
     left: &'a [u8],

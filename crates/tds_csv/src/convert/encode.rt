@@ -121,7 +121,7 @@ pub(crate) fn put_doubled(to: &mut [u8], at: usize, byte: u8) -> usize
     end + (byte == 0x22) as usize
 }
 
-// The first of eight bytes, so many.
+// The first `n` of eight bytes.
 #[inline(always)]
 pub(crate) fn put_lanes(to: &mut [u8], at: usize, lanes: u8x8, n: usize)
     requires lanes { length lanes ≡ UNITS }
@@ -132,7 +132,7 @@ pub(crate) fn put_lanes(to: &mut [u8], at: usize, lanes: u8x8, n: usize)
     lanes.copy_to_slice(&mut to[at..]);
 }
 
-// The first of sixteen bytes, so many.
+// The first `n` of sixteen bytes.
 #[inline(always)]
 pub(crate) fn put_bytes(to: &mut [u8], at: usize, lanes: u8x16, n: usize)
     requires lanes { length lanes ≡ LANES }

@@ -6,7 +6,7 @@ ghost use Rattle.tds_csv.specs.Quoting.{doubled};
 ghost use Rattle.tds_csv.specs.Utf8 as utf8;
 ghost use Rattle.tds_csv.specs.Utf8Scan.{StopsAt};
 
-// What is found in bytes: so many of the first are whole characters, and so many begin a text.
+// What is found in bytes: how many of the first are whole characters, and how many begin a text.
 #[derive(Clone, Copy)]
 pub(crate) struct Scan {
     pub(crate) whole: usize,

@@ -33,8 +33,8 @@ returns-in_err-take_into-clause-gives g c = λ charset room tokens which notice.
     passed _ _ _ _ c.from_residual-in_err-take_into.ensures.1 (body_cut charset room tokens which notice c.fill.new.to cut.part c.from.result a b d c.args.payload.now.place c.fill.new.self.place cut.own c.in_err-take_into.field-0.0 two (c.from.ensures ∙ c.read_u16-length.ensures)
     (omega (arith, c.if-length-lt-LEAST_NOTICE.false, c.from.ensures)) c.in_ok-fill.ensures.place c.in_ok-fill.ensures.all cut.fewer cut.ends cut.stop_is)
 
-pub returns-then-not-holds-clause-gives : goal.returns-then-not-holds-clause-gives
-returns-then-not-holds-clause-gives g c = λ charset room tokens which notice.
+pub returns-then-not-lengths_fit-clause-gives : goal.returns-then-not-lengths_fit-clause-gives
+returns-then-not-lengths_fit-clause-gives g c = λ charset room tokens which notice.
     let a = seen g.R.Read.remaining c.args.payload.now in
     let b = seen g.R.Read.remaining c.fill.new.self in
     let d = seen g.R.Read.remaining c.take_into.new.payload in
