@@ -22,7 +22,7 @@ help:
 	@echo "make python-tests      tests the Python module, and examples/query.py on a stand-in server, with bin/tds_replay or PROGRAM=P"
 	@echo "make cuttings          responses in packets of every size, and of random sizes, have one text"
 	@echo "make generated         a thousand generated responses agree with a plain reading of them"
-	@echo "make refused-memory    the program with each of its requests for memory refused in turn"
+	@echo "make refused-memory    the program, and tests that ask again, with each request for memory refused in turn"
 	@echo "make refused-borrow    code that keeps a column while its area is emptied"
 	@echo "make docs              checks links, names, counts and ranges in the pages against the sources"
 	@echo "make changing          holds the tables of docs/CHANGING.md to the sources"

@@ -15,6 +15,7 @@ mod cuts;
 mod every_cut;
 mod kinds;
 mod long_values;
+mod memory;
 mod nbc_rows;
 mod notices;
 mod refusals;
@@ -239,7 +240,7 @@ fn run_repeated(areas: &mut Areas, from: RepeatingReader<'_>, text: &[u8]) -> Op
     })
 }
 
-// What came of a wire under a character set, where devices give and take so many bytes a call.
+// What came of a wire under a character set, where devices give and take at most `most` bytes a call.
 fn read_under(
     areas: &mut Areas,
     wire: &[u8],
@@ -257,7 +258,7 @@ fn read(areas: &mut Areas, wire: &[u8], most: usize, text: &[u8]) -> Option<Outc
     read_under(areas, wire, most, SINGLE, text)
 }
 
-// What came of a payload in one packet, where devices give and take so many bytes a call.
+// What came of a payload in one packet, where devices give and take at most `most` bytes a call.
 fn read_payload(
     alloc: Global,
     areas: &mut Areas,
@@ -379,7 +380,7 @@ const ACCEPTED: [Accepted; 6] = [
     },
 ];
 
-// The devices give and take so many bytes a call.
+// The devices give and take at most `most` bytes a call.
 fn check_accepted(
     alloc: Global,
     areas: &mut Areas,

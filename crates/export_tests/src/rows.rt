@@ -102,7 +102,7 @@ fn payload_of(alloc: Global, columns: &[&[u8]], row: &[u8]) -> Result<Vec<u8>, A
     Ok(payload)
 }
 
-// The payload in packets of so many bytes of it, and an empty last one.
+// The payload in packets of `size` bytes of it, and an empty last one.
 fn in_packets(alloc: Global, payload: &[u8], size: usize) -> Result<Vec<u8>, AllocError> {
     let mut wire = Vec::new(alloc);
     for body in payload.chunks(size.max(1)) {
@@ -140,7 +140,7 @@ fn length_behind(bytes: &[u8], end: &[u8]) -> Option<usize> {
     }
 }
 
-// Reads a row in packets of so many bytes of the payload, into a sink where so many bytes wait.
+// Reads a row in packets of `size` bytes of the payload, into a sink where `waiting` bytes wait.
 fn run(
     alloc: Global,
     token: Token,
@@ -499,7 +499,7 @@ fn rows_are_refused(rt: HostRuntime) -> Result<(), Fail> {
     Ok(())
 }
 
-// Three kinds after so many bytes that wait.
+// Three kinds after `waiting` bytes that wait.
 fn write_behind(
     alloc: Global,
     waiting: usize,

@@ -9,7 +9,10 @@ mod words;
 use crate::checks::expect;
 use csv::{ByteRecord, ReaderBuilder};
 use std::alloc::{AllocError, Global};
+use std::process::Abort;
 use std::test::Fail;
+use tds_export::Charset;
+use tds_meter::Limits;
 use tds_packet::Counted;
 use tds_packet::rig::{Failing, ScriptedReader, ScriptedWriter};
 use tds_replay::{Job, Usage, parse, perform};
@@ -277,7 +280,7 @@ fn a_failed_read_ends_with_5(rt: HostRuntime) -> Result<(), Fail> {
     Ok(())
 }
 
-// A writer that takes so many bytes and then fails, as a pipe that is closed after its first line.
+// A writer that takes some bytes and then fails, as a pipe that is closed after its first line.
 #[test]
 fn a_failed_write_ends_with_5(rt: HostRuntime) -> Result<(), Fail> {
     for taken in 0..9usize {
@@ -335,5 +338,57 @@ fn limits_are_kept(rt: HostRuntime) -> Result<(), Fail> {
         assert!(rt; run(&rt, line, &mut reader(&WIRE), &mut to, &mut notes) == status);
         assert!(rt; notes.device().kept() == said);
     }
+    Ok(())
+}
+
+// Performs a job over the response of one row. Where memory is refused nothing is read or written, the line says
+// so, and the job is performed again.
+fn perform_again(
+    rt: &impl Abort,
+    alloc: Global,
+    what: &str,
+    job: &Job,
+    to: &mut Counted<ScriptedWriter>,
+) -> u8
+    requires { IsInRange job.now }
+{
+    let (mut from, mut notes) = (reader(&WIRE), writer(Failing::Never));
+    let status = perform(alloc, job, &mut from, to, &mut notes);
+    if status != 6 {
+        return status;
+    }
+    expect(rt, what, from.device().left() == WIRE.as_slice());
+    expect(rt, what, to.device().writes() == 0);
+    expect(
+        rt,
+        what,
+        notes.device().kept() == b"want of memory\n".as_slice(),
+    );
+    perform(alloc, job, &mut from, to, &mut notes)
+}
+
+// The jobs are made without memory, so a request that is refused is one of theirs. `make refused-memory` refuses
+// each of them in turn.
+#[test]
+fn want_of_memory_leaves_the_input(rt: HostRuntime) -> Result<(), Fail> {
+    let limits = Limits::new(4096, 1024, 4096)?;
+    let (charset, file) = (Charset::Windows1252, None);
+    let exports = Job::Export {
+        limits,
+        charset,
+        file,
+    };
+    let recuts = Job::Recut {
+        packet_size: 512,
+        max_wire: 4096,
+        file: None,
+    };
+    let (mut text, mut wire) = (writer(Failing::Never), writer(Failing::Never));
+    let status = perform_again(&rt, rt.alloc(), "an export", &exports, &mut text);
+    expect(&rt, "an export", status == 0);
+    let status = perform_again(&rt, rt.alloc(), "a recut", &recuts, &mut wire);
+    expect(&rt, "a recut", status == 0);
+    expect(&rt, "its text", text.device().kept() == TEXT);
+    expect(&rt, "its wire", wire.device().taken() == 39);
     Ok(())
 }

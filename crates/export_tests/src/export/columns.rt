@@ -150,7 +150,7 @@ fn sets_are_written(rt: HostRuntime) -> Result<(), Fail> {
     Ok(())
 }
 
-// Nine columns of a type that has so many bytes, with empty names.
+// Nine columns of this type information, with empty names.
 fn nine_columns(alloc: Global, described: &[u8]) -> Result<Vec<u8>, AllocError> {
     let mut payload = Vec::new(alloc);
     payload.extend_from_slice(&[0x81, 9, 0])?;
@@ -177,7 +177,7 @@ fn nine_columns_are_written(rt: HostRuntime) -> Result<(), Fail> {
     )
 }
 
-// Columns that stand in a room, or stop after so many bytes.
+// Columns that fit into a room, or stop there after `stop` bytes.
 fn check_room(
     alloc: Global,
     what: &str,
@@ -372,7 +372,7 @@ fn a_row_stops_behind_its_whole_fields(rt: HostRuntime) -> Result<(), Fail> {
     )
 }
 
-// A column of a long kind, of so many bytes, and a row that is NULL.
+// A column of a long kind, of at most `length` bytes, and a row that is NULL.
 fn check_long(
     alloc: Global,
     areas: &mut Areas,

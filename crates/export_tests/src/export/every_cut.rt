@@ -272,7 +272,7 @@ struct Reached {
     next: Begins,
 }
 
-// The first element that isn't whole within so many bytes.
+// The first element that isn't whole within `length` bytes.
 fn reached_within(elements: &[Element], length: usize) -> Reached {
     let (mut place, mut written) = (0usize, 0usize);
     for Element(next, bytes, text) in elements {
@@ -338,7 +338,7 @@ fn a_message_ends_behind_each_byte(rt: HostRuntime) -> Result<(), Fail> {
     Ok(())
 }
 
-// The wire of packets of one byte is over after so many bytes, or its reader fails there.
+// The wire of packets of one byte is over after `length` bytes, or its reader fails there.
 fn check_wire(
     areas: &mut Areas,
     charset: Charset,
@@ -381,7 +381,7 @@ fn a_wire_ends_or_fails_behind_each_byte(rt: HostRuntime) -> Result<(), Fail> {
     Ok(())
 }
 
-// The writer fails once it took so many bytes of the text.
+// The writer fails once it took `n` bytes of the text.
 fn check_writer(
     areas: &mut Areas,
     charset: Charset,

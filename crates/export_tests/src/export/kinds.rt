@@ -12,7 +12,7 @@ fn a_row_of(alloc: Global, type_byte: u8, value: &[u8]) -> Result<Vec<u8>, Alloc
     in_one_packet(alloc, &payload)
 }
 
-// A payload in packets of so many bytes, but for the last.
+// A payload in packets of `body` bytes, but for the last.
 fn in_packets(alloc: Global, payload: &[u8], body: usize) -> Result<Vec<u8>, AllocError> {
     let mut wire = Vec::new(alloc);
     let body = body.max(1);
@@ -167,7 +167,7 @@ fn values_of_fixed_length_are_written(rt: HostRuntime) -> Result<(), Fail> {
     Ok(())
 }
 
-// A column of bigint, so many rows of the least one, and a DONE.
+// A column of bigint, `rows` rows of the least one, and a DONE.
 fn rows_of_bigint(alloc: Global, rows: usize) -> Result<Vec<u8>, AllocError> {
     let mut payload = Vec::new(alloc);
     payload.extend_from_slice(&[0x81, 1, 0, 0, 0, 0, 0, 0, 0, 0x7F, 1, 0x61, 0])?;

@@ -1,6 +1,7 @@
 // Rows with a bitmap of the columns that are NULL.
 use super::*;
 use crate::checks::same;
+use std::io::{self, Write};
 
 // A column of numbers named a, and one named b whose values have a length.
 const TWO: &[u8] = &[
@@ -122,35 +123,140 @@ fn packet_of_columns(alloc: Global) -> Result<Vec<u8>, AllocError> {
     packet_of(alloc, 0, &columns)
 }
 
-// A row of which each column is NULL by its bit, and a DONE: its bitmap of 8,192 bytes fills two packets
-// and begins a third.
-fn packets_of_bits(alloc: Global) -> Result<Vec<u8>, AllocError> {
-    let bits = vec![in alloc; 0xFFu8; 8192]?;
+// Whether a column of the longest row has a value: each 769th, so that clear bits stand at each place of a byte.
+fn has_value(column: u32) -> bool {
+    column % 769 == 0
+}
+
+// The byte of its bitmap with this number.
+fn bits_of(number: u32) -> u8 {
+    let mut byte = 0xFFu8;
+    for bit in 0..8u32 {
+        if has_value(number.saturating_mul(8).saturating_add(bit)) {
+            byte ^= 1 << bit;
+        }
+    }
+    byte
+}
+
+// Its bitmap, of 8,192 bytes.
+fn longest_bitmap(alloc: Global) -> Result<Vec<u8>, AllocError> {
+    let mut bits = Vec::new(alloc);
+    for number in 0..8192u32 {
+        bits.push(bits_of(number))?;
+    }
+    Ok(bits)
+}
+
+// Its values, each the number of its column, and a DONE.
+fn values_and_done(alloc: Global) -> Result<Vec<u8>, AllocError> {
+    let mut body = Vec::new(alloc);
+    for column in 0..65_534u32 {
+        if has_value(column) {
+            body.extend_from_slice(&column.to_le_bytes())?;
+        }
+    }
+    body.extend_from_slice(DONE)?;
+    Ok(body)
+}
+
+// The longest row and a DONE: its bitmap fills two packets and begins a third.
+fn packets_of_row(alloc: Global) -> Result<Vec<u8>, AllocError> {
+    let bits = longest_bitmap(alloc)?;
     let mut wire = packet_of(alloc, 0, &[0xD2])?;
     for part in bits.chunks(4088) {
         wire.extend_from_slice(&packet_of(alloc, 0, part)?)?;
     }
-    wire.extend_from_slice(&packet_of(alloc, 1, DONE)?)?;
+    let last = values_and_done(alloc)?;
+    wire.extend_from_slice(&packet_of(alloc, 1, &last)?)?;
     Ok(wire)
 }
 
-// 65,534 columns with empty names, 434 in a packet.
-fn run_columns(alloc: Global, areas: &mut Areas) -> Result<Option<Repeated>, AllocError> {
-    let again = packet_of_columns(alloc)?;
-    let last = packets_of_bits(alloc)?;
-    let from = RepeatingReader::new(COUNT, &again, 151, &last);
-    Ok(run_repeated(areas, from, NOTHING))
+// The header line of 65,534 empty names.
+fn put_longest_header(text: &mut Vec<u8>) -> Result<(), AllocError> {
+    for column in 0..65_534u32 {
+        if column > 0 {
+            text.push(b',')?;
+        }
+        text.extend_from_slice(b"\"\"")?;
+    }
+    text.extend_from_slice(b"\r\n")
 }
 
-// The text is known by its length alone.
+// A field of the longest row: the number of its column, or NULL.
+fn put_field(alloc: Global, text: &mut Vec<u8>, column: u32) -> Result<(), AllocError> {
+    if !has_value(column) {
+        return text.extend_from_slice(b"NULL");
+    }
+    let digits = format!(in alloc; "{column}")?;
+    text.extend_from_slice(digits.as_bytes())
+}
+
+// The text of 65,534 columns with empty names and of the longest row.
+fn longest_text(alloc: Global) -> Result<Vec<u8>, AllocError> {
+    let mut text = Vec::new(alloc);
+    put_longest_header(&mut text)?;
+    for column in 0..65_534u32 {
+        if column > 0 {
+            text.push(b',')?;
+        }
+        put_field(alloc, &mut text, column)?;
+    }
+    text.extend_from_slice(b"\r\n")?;
+    Ok(text)
+}
+
+// A writer that holds what it takes to a text: what is left of that, and whether all that came was its front.
+#[derive(Drop)]
+struct Comparing<'a> {
+    left: &'a [u8],
+    same: bool,
+}
+
+impl Write for Comparing<'_> {
+    fn write(&mut self, bytes: &[u8]) -> io::Result<usize> {
+        match self.left.strip_prefix(bytes) {
+            Some(left) => self.left = left,
+            None => self.same = false,
+        }
+        Ok(bytes.len())
+    }
+
+    fn flush(&mut self) -> io::Result<()> {
+        Ok(())
+    }
+}
+
+// What 65,534 columns with empty names, 434 in a packet, and the longest row are answered with, and whether
+// the text is this one to its end.
+fn export_longest(
+    alloc: Global,
+    areas: &mut Areas,
+    text: &[u8],
+) -> Result<Option<(Result<Report, Stopped>, bool)>, AllocError> {
+    if !areas.intact() {
+        return Ok(None);
+    }
+    let again = packet_of_columns(alloc)?;
+    let last = packets_of_row(alloc)?;
+    let mut from = Counted::new(RepeatingReader::new(COUNT, &again, 151, &last));
+    let mut to = Counted::new(Comparing {
+        left: text,
+        same: true,
+    });
+    let answer = export(areas, &mut from, &mut to, SINGLE);
+    let to = to.into_device();
+    Ok(Some((answer, to.same && to.left.is_empty())))
+}
+
+// The text is compared with one that is made here, field by field.
 #[test]
 fn the_longest_bitmap_is_read(rt: HostRuntime) -> Result<(), Fail> {
     let mut areas = make_usual_areas(rt.alloc())?;
-    let came = run_columns(rt.alloc(), &mut areas)?;
-    let want = Repeated {
-        answer: Ok(report(1, 1, 196_603 + 327_671)),
-        taken: 196_603 + 327_671,
-        kept: None,
-    };
-    same("the longest bitmap", &came, &Some(want))
+    let text = longest_text(rt.alloc())?;
+    let came = export_longest(rt.alloc(), &mut areas, &text)?;
+    let want = Ok(report(1, 1, 524_342));
+    same("the longest bitmap", &came, &Some((want, true)))?;
+    let held = (areas.description_held(), areas.description_peak());
+    same("its description", &held, &(524_274, 524_274))
 }

@@ -322,7 +322,7 @@ const CUTS: [Cut; 7] = [
     },
 ];
 
-// Reads the first n bytes of the row, in packets of so many bytes of the payload.
+// Reads the first `n` bytes of the row, in packets of `size` bytes of the payload.
 fn write_cut(
     alloc: Global,
     cut: &Cut,
@@ -336,7 +336,7 @@ fn write_cut(
     Ok((out.answer, out.text))
 }
 
-// What is wanted of a message that ends in the element that begins after so many bytes of the row.
+// What is wanted of a message that ends in the element that begins after `at` bytes of the row.
 fn cut_at(cut: &Cut, at: usize, text: &[u8]) -> (Result<(), Stop>, Option<usize>) {
     let place = described(cut.columns).saturating_add(at as u64);
     let stop = Stop {
@@ -436,7 +436,7 @@ const ENDS: [Good; 3] = [
     },
 ];
 
-// Reads a row of the first packet, which ends so many bytes before the row does.
+// Reads a row of the first packet, which ends `across` bytes before the row does.
 fn write_end(alloc: Global, case: &Good, across: u64) -> Result<Outcome, Fail> {
     let all = described(case.columns).saturating_add(case.bytes.len() as u64);
     let size = all.saturating_sub(across).min(4000) as usize;

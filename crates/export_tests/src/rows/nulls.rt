@@ -90,7 +90,7 @@ fn nbc_rows_are_written(rt: HostRuntime) -> Result<(), Fail> {
     Ok(())
 }
 
-// Where the element begins that is cut after so many bytes of the row, and the text before it.
+// For a row that is cut after 0, 1, 2 and more bytes: where the cut element begins, and the text before it.
 const CUTS: [(u64, &[u8]); 10] = [
     (0, b""),
     (1, b"NULL"),

@@ -159,7 +159,7 @@ const VALUES: [Value; 21] = [
     },
 ];
 
-// Passes over a value in packets of so many bytes of the payload.
+// Passes over a value in packets of `size` bytes of the payload.
 fn came(alloc: Global, value: &Value, size: usize) -> Result<Result<u64, Stop>, Fail> {
     if !value.kind.is_valid() {
         return Err(Fail::from(AllocError));

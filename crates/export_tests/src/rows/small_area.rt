@@ -21,7 +21,7 @@ enum Call {
     NbcRow,
 }
 
-// What a call reads, in packets of so many bytes of the payload, and the peak of the small area after it.
+// What a call reads, in packets of some bytes of the payload, and the peak of the small area after it.
 struct Use {
     what: &'static str,
     call: Call,

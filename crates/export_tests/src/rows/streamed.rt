@@ -83,7 +83,7 @@ const VALUES: [Value; 7] = [
     },
 ];
 
-// Reads a value of a column in packets of so many bytes of it, with a new joiner.
+// Reads a value of a column in packets of `size` bytes of it, with a new joiner.
 fn stream<J: Joiner + Drop>(
     alloc: Global,
     bytes: &[u8],

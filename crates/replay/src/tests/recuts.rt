@@ -5,7 +5,7 @@ use std::alloc::{AllocError, Global};
 use std::test::Fail;
 use tds_packet::rig::Failing;
 
-// The header of a packet with so many bytes after it.
+// The header of a packet with `body` bytes after it.
 fn header(body: u16, last: bool, id: u8) -> [u8; 8] {
     let [high, low] = body.saturating_add(8).to_be_bytes();
     [0x04, u8::from(last), high, low, 0x00, 0x00, id, 0x00]
@@ -21,7 +21,7 @@ fn single_bytes(alloc: Global, payload: &[u8]) -> Result<Vec<u8>, AllocError> {
     Ok(wire)
 }
 
-// A message in one packet, whose payload has so many bytes.
+// A message in one packet, whose payload has `length` bytes.
 fn one_packet(alloc: Global, length: u16) -> Result<Vec<u8>, AllocError> {
     let mut wire = Vec::new(alloc);
     wire.extend_from_slice(&header(length, true, 1))?;
@@ -53,7 +53,7 @@ fn small_packets_become_one(rt: HostRuntime) -> Result<(), Fail> {
     Ok(())
 }
 
-// A payload of so many bytes, the headers of the first and the last of the packets of 512 bytes that
+// A payload of some length, the headers of the first and the last of the packets of 512 bytes that
 // it becomes, where the last one stands, and the line.
 #[derive(Clone, Copy)]
 struct Cut {
@@ -358,7 +358,7 @@ fn examples_are_cut_and_joined(rt: HostRuntime) -> Result<(), Fail> {
     Ok(())
 }
 
-// A message that is cut after so many bytes: no packet stands, since none is full.
+// A message that is cut: no packet stands, since none is full.
 #[test]
 fn a_cut_message_ends_with_4(rt: HostRuntime) -> Result<(), Fail> {
     let wire = single_bytes(rt.alloc(), &WIRE[8..])?;
@@ -381,7 +381,7 @@ fn a_cut_message_ends_with_4(rt: HostRuntime) -> Result<(), Fail> {
     Ok(())
 }
 
-// A writer that fails after so many bytes, and one that fails in its flush.
+// A writer that fails after some bytes, and one that fails in its flush.
 #[test]
 fn a_failed_write_ends_with_5(rt: HostRuntime) -> Result<(), Fail> {
     let rows: [(Failing, &[u8]); 4] = [
