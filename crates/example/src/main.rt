@@ -1,4 +1,4 @@
-//! An example of a caller of the library: it exports two responses that lie in memory, one after the
+//! An example of a caller of the library: it exports two responses in memory, one after the
 //! other in the same areas, and prints what came of each.
 //!
 //! A caller lists `tds_export`, `tds_meter` and `tds_packet` in its line of crates.txt (`tds_rows` too, if its
@@ -31,7 +31,7 @@ const CUT: [u8; 26] = [
     0xD1, 0x2A, 0x00, 0x00, 0x00, // ROW
 ];
 
-// Exports a response that lies in memory. The clause says what a report is worth, of a writer that tells its
+// Exports a response in memory. The clause says what a report is worth, of a writer that tells its
 // bytes: the response was whole, and the writer has all of its text.
 fn export_slice<W: Write>(
     areas: &mut Areas,

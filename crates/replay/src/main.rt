@@ -1,5 +1,5 @@
 //! The command: reads the raw packets of one response, from a file or standard input, and writes its
-//! rows as CSV, counts them, or writes the packets in another size. What it reports stands on standard
+//! rows as CSV, counts them, or writes the packets in another size. What it reports goes to standard
 //! error.
 #![tactic(auto)]
 

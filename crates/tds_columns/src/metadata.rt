@@ -95,8 +95,8 @@ fn read_count<R: Read>(payload: &mut Payload<R>, area: &mut Area) -> Result<Desc
     }
 }
 
-// How many bytes of type information follow the head of the column with this number, which ends so
-// many bytes after the description's beginning. So many columns stand after this one.
+// How many bytes of type information follow the head of the column with this number, which ends `so_far`
+// bytes after the description's beginning; `left` columns follow this one.
 fn judge_head(room: usize, so_far: usize, byte: u8, index: u16, left: u16) -> Result<usize, Fault>
     requires { so_far ≤ room }
     ensures { MatchResult result

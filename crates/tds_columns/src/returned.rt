@@ -12,7 +12,7 @@ use tds_meter::Area;
 use tds_packet::{Fault, Payload, Place, Stop};
 use tds_values::Kind;
 
-// What stands in faults for the number of a column.
+// What faults have for the number of a column.
 const RETURN_VALUE: u16 = 0xFFFF;
 
 /// The bytes of status, UserType, Flags and the type byte of a RETURNVALUE.

@@ -1,4 +1,4 @@
-// The columns of a description, as they lie in its bytes (MS-TDS, COLMETADATA).
+// The columns of a description, in its bytes (MS-TDS, COLMETADATA).
 ghost use Rattle.std.specs.Prelude.{◌≡◌, ◌<◌, ℕ, List, IsTrue, length};
 ghost use Rattle.tds_columns.specs.Description as spec;
 ghost use Rattle.tds_columns.specs.View.{IsDescription, columns_of, is_described};
@@ -6,7 +6,7 @@ ghost use Rattle.tds_columns.specs.View.{IsDescription, columns_of, is_described
 use crate::walk::Walk;
 use byteorder::{ByteOrder, LittleEndian};
 
-/// The columns of a whole description. Nothing is copied: it looks at the bytes where they lie.
+/// The columns of a whole description. Nothing is copied: it looks at the bytes in place.
 #[derive(Clone, Copy, Debug)]
 pub struct Columns<'a> {
     bytes: &'a [u8],

@@ -6,7 +6,7 @@ ghost use Rattle.tds_values.specs.Kind.{is_valid};
 use crate::type_info::kind_at;
 use tds_values::Kind;
 
-/// A column: the kind of its values, and its name in UTF-16 units as they stand in the description.
+/// A column: the kind of its values, and its name in UTF-16 units as the description has them.
 #[derive(Clone, Copy, Debug)]
 pub struct Column<'a> {
     pub kind: Kind,

@@ -1,4 +1,4 @@
-// Conversions of bytes that lie in a slice.
+// Conversions of the bytes of a slice.
 pub(crate) mod doubling;
 pub(crate) mod encode;
 pub(crate) mod lanes;

@@ -1,20 +1,20 @@
-// What stands around the fields of a line (RFC 4180, section 2), and NULL.
+// What is around the fields of a line (RFC 4180, section 2), and NULL.
 ghost use Rattle.std.specs.Prelude.{◌≡◌, ◌+◌, ◌≤◌, ◌++◌, ℕ, List, length, take};
 ghost use Rattle.tds_csv.specs.Quoting.{behind_comma, end_behind, in_line, null_field};
 
-/// What stands between two fields.
+/// What separates two fields.
 pub(crate) const COMMA: u8 = b',';
 
 /// What ends a line.
 pub(crate) const LINE_END: [u8; 2] = *b"\r\n";
 
-/// What stands before and after a field of characters.
+/// What comes before and after a field of characters.
 pub(crate) const QUOTE: u8 = b'"';
 
 /// The field of a value that is NULL.
 pub(crate) const NULL: [u8; 4] = *b"NULL";
 
-/// What stands before the digits of a binary field.
+/// What comes before the digits of a binary field.
 pub(crate) const BINARY_MARK: [u8; 2] = *b"0x";
 
 /// How many bytes NULL has in its line at most: a comma, the word and the end of the line.

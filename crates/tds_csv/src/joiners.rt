@@ -44,7 +44,7 @@ pub trait Joiner: Sized {
 
     ghost UNIT: { ℕ };
 
-    /// The field stands in quotes.
+    /// The field is in quotes.
     const QUOTED: bool;
 
     ghost QUOTED: { Bool };

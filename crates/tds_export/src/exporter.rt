@@ -74,7 +74,7 @@ impl<'a, 'p, 's, R: Read, W: Write> Exporter<'a, 'p, 's, R, W> {
         Ok(())
     }
 
-    // Reads an NBCROW after its token byte, and puts its line. Its bitmap stands in the token area.
+    // Reads an NBCROW after its token byte, and puts its line. Its bitmap is in the token area.
     fn nbc_row(&mut self) -> Result<(), Stop>
         requires begun { IsInToken self.old }
         requires described { self.old.progress.described ≡ true }

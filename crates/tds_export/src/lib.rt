@@ -18,10 +18,10 @@
 //!
 //! The crate `example` is a whole program that does this. The areas are made once and serve any number
 //! of exports, one after another, whatever the answers were: `export` begins by restarting them. Each
-//! call needs a counted reader that stands at the first byte of a packet; after a whole message the
-//! reader stands at the first byte of what follows it, so the next response can be exported from it.
+//! call needs a counted reader that is at the first byte of a packet; after a whole message the
+//! reader is at the first byte of what follows it, so the next response can be exported from it.
 //!
-//! A set begins with a line of its column names, each row is a line, and an empty line stands between
+//! A set begins with a line of its column names, each row is a line, and an empty line separates
 //! two sets. What the server said beside the rows is in the [`Report`]: how many sets, rows, errors and
 //! messages there were, the first error, the last return status.
 //!
@@ -36,7 +36,7 @@
 //!   caller who needs whole responses alone has to drop it. Where the fault names a refused element, no
 //!   bytes after it would make a response of what was read, so asking again for the rest is no use.
 //! - After a failed write (`WriteFailed`, at a place of the text) the writer took the first `written`
-//!   bytes of the text, the next `unwritten` stand in `areas.waiting()`, and the input isn't read further.
+//!   bytes of the text, the next `unwritten` are in `areas.waiting()`, and the input isn't read further.
 //! - After a failed read the text of what came before it was delivered, as after a fault of the input.
 //!
 //! No answer panics or waits for more than the reader and the writer do, and none takes memory.
@@ -54,8 +54,8 @@
 //!   stop (`specs/Steps`). A stop names the first fault of the element that is read, never a later one, and
 //!   leaves the text of what stood before it.
 //! - An area is borrowed by itself, so that columns can be looked at in the description area while the payload
-//!   moves on. What stays from one read to the next stands in an area: no method keeps bytes of its own.
-//! - Rows are the hot path. What lies in the packet goes to the output area once, by runs of cells in `tds_rows`;
+//!   moves on. What stays from one read to the next is in an area: no method keeps bytes of its own.
+//! - Rows are the hot path. What is in the packet goes to the output area once, by runs of cells in `tds_rows`;
 //!   nothing is done here for each cell, and nothing but a count for each row.
 #![tactic(auto)]
 

@@ -74,7 +74,7 @@ pub(crate) fn error_of(body: &[u8]) -> ServerError
     }
 }
 
-/// The units of a body's message, where they lie.
+/// The units of a body's message, in place.
 pub(crate) fn message_of(body: &[u8]) -> &[u8]
     requires long { LEAST_NOTICE ≤ length body.now }
     requires holds { holds_notice body.now ≡ true }
@@ -84,7 +84,7 @@ pub(crate) fn message_of(body: &[u8]) -> &[u8]
     &body[8..server_start(body)]
 }
 
-/// Reads the Length and the body of an ERROR or INFO after its token byte. The body stands in the
+/// Reads the Length and the body of an ERROR or INFO after its token byte. The body is in the
 /// token area, and its inner lengths stay within it.
 pub(crate) fn take_notice<R: Read>(payload: &mut Payload<R>, token: &mut Area) -> Result<(), Stop>
     requires going { IsGoing payload.old }

@@ -44,7 +44,7 @@ fn take_type<R: Read>(payload: &mut Payload<R>, small: &mut Area) -> Result<Kind
     read_type_info(payload, small)
 }
 
-/// Reads a RETURNVALUE after its token byte, of which nothing is kept: its type information stands in the
+/// Reads a RETURNVALUE after its token byte, of which nothing is kept: its type information is in the
 /// small area, and then a scalar value, until it is judged.
 pub(crate) fn pass_return<R: Read>(payload: &mut Payload<R>, small: &mut Area) -> Result<(), Stop>
     requires going { IsGoing payload.old }

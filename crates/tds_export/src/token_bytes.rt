@@ -4,7 +4,7 @@
 // browse mode; ALTMETADATA and ALTROW, which serve COMPUTE; and FEATUREEXTACK, SESSIONSTATE, SSPI and
 // FEDAUTHINFO, which belong to features that a client negotiates.
 
-// That of ROW stands in `tds_rows`, whose runs go over it.
+// That of ROW is in `tds_rows`, whose runs go over it.
 pub(crate) use tds_rows::ROW;
 
 /// RETURNSTATUS.

@@ -18,7 +18,7 @@ pub struct OutOfMemory;
 #[derive(Debug, Clone, Copy, PartialEq, Eq)]
 pub struct Full;
 
-/// A list of bytes with a room, the most bytes that may stand in it, and a peak, the most that did
+/// A list of bytes with a room, the most bytes that it may hold, and a peak, the most that it held
 /// since it was made or last restarted. Its memory is taken once, when it is made.
 #[derive(Drop)]
 pub struct Area {
@@ -57,7 +57,7 @@ impl Area {
         }
     }
 
-    /// The bytes that stand in it.
+    /// The bytes that it holds.
     pub fn bytes(&self) -> &[u8]
         ensures value { result.now ≡ self.now.bytes }
         ensures fits { length self.now.bytes ≤ self.now.room }
@@ -65,7 +65,7 @@ impl Area {
         &self.store[..self.len]
     }
 
-    /// How many bytes stand in it.
+    /// How many bytes it holds.
     pub fn len(&self) -> usize
         ensures value { result ≡ length self.now.bytes }
         ensures bound { result ≤ GREATEST_ROOM }
@@ -73,21 +73,21 @@ impl Area {
         self.len
     }
 
-    /// Whether no byte stands in it.
+    /// Whether it holds no byte.
     pub fn is_empty(&self) -> bool
         ensures { result ≡ (length self.now.bytes == 0) }
     {
         self.len == 0
     }
 
-    /// The most bytes that may stand in it.
+    /// The most bytes that it may hold.
     pub fn room(&self) -> usize
         ensures { result ≡ self.now.room }
     {
         self.store.len()
     }
 
-    /// How many more bytes may stand in it.
+    /// How many more bytes it may hold.
     pub fn free(&self) -> usize
         ensures value { result ≡ self.now.room - length self.now.bytes }
         ensures fits { length self.now.bytes + result ≡ self.now.room }

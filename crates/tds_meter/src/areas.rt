@@ -79,7 +79,7 @@ impl Areas {
             && self.small.room() == SMALL_ROOM
     }
 
-    /// How many bytes stand in the six areas.
+    /// How many bytes the six areas hold.
     pub fn held(&self) -> u64
         ensures { result ≡ held self.now }
     {
@@ -88,7 +88,7 @@ impl Areas {
         (front + back) as u64
     }
 
-    /// How many bytes stand in the description area.
+    /// How many bytes the description area holds.
     pub fn description_held(&self) -> u64
         ensures { result ≡ length self.now.description.bytes }
     {

@@ -23,7 +23,7 @@ pub const LEAST_MAX_WIRE: u64 = 8;
 /// The greatest limit of the wire, in bytes: 2 to the power of 56. With it all counts of a run are exact.
 pub const GREATEST_MAX_WIRE: u64 = 72_057_594_037_927_936;
 
-/// The limits of a run. Each lies in its range.
+/// The limits of a run. Each is in its range.
 #[derive(Debug, Clone, Copy)]
 pub struct Limits {
     packet_size: u16,

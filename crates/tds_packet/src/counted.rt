@@ -9,7 +9,7 @@ use std::io::{Read, Write};
 
 /// A reader or writer whose failed calls are counted: a read or write that answers an error, a
 /// write of a nonempty slice that answers 0, a failed flush. The count stops at
-/// 18,446,744,073,709,551,615; a device whose count stands there is no longer asked, and each of
+/// 18,446,744,073,709,551,615; a device whose count is there isn't asked any more, and each of
 /// its calls counts as failed.
 #[derive(Drop)]
 pub struct Counted<T> {

@@ -100,7 +100,7 @@ impl<'a, R: Read> Payload<'a, R> {
         }
     }
 
-    // Sees to it that a byte stands ready.
+    // Sees to it that a byte is ready.
     fn ready(&mut self) -> Result<(), Stop>
         requires { IsSound self.old }
         ensures payload { AnswersAgain self.old self.new result }
@@ -143,7 +143,7 @@ impl<'a, R: Read> Payload<'a, R> {
         Ok(self.take())
     }
 
-    // Hands out a byte that stands ready.
+    // Hands out a byte that is ready.
     fn take(&mut self) -> u8
         requires going { IsGoing self.old }
         requires stands { self.old.at < length self.old.packet.now.bytes }
@@ -185,7 +185,7 @@ impl<'a, R: Read> Payload<'a, R> {
         Ok(())
     }
 
-    /// Hands out the next `n` bytes and passes over them where they lie: nothing is kept. A message
+    /// Hands out the next `n` bytes and passes over them in place: nothing is kept. A message
     /// that ends before the last of them stops the call at the place where it began, and none of them
     /// counts as handed out.
     pub fn pass(&mut self, n: usize) -> Result<(), Stop>
@@ -260,7 +260,7 @@ impl<'a, R: Read> Payload<'a, R> {
         }
     }
 
-    /// Between 1 and `max` next bytes, where they lie in the packet area.
+    /// Between 1 and `max` next bytes, in place in the packet area.
     pub fn piece(&mut self, max: usize) -> Result<&[u8], Stop>
         requires sound { IsSound self.old }
         requires some { 0 < max }
@@ -277,7 +277,7 @@ impl<'a, R: Read> Payload<'a, R> {
         Ok(&bytes[start..start + n])
     }
 
-    /// The bytes that come next, as far as they lie in the packet area already. It reads nothing.
+    /// The bytes that come next, as far as they are in the packet area already. It reads nothing.
     pub fn buffered(&self) -> &[u8]
         requires { IsSound self.now }
         ensures { result.now ≡ buffered self.now }
@@ -285,7 +285,7 @@ impl<'a, R: Read> Payload<'a, R> {
         &self.packet.bytes()[self.at..]
     }
 
-    /// Hands out the first `n` of the bytes that lie in the packet area. It reads nothing.
+    /// Hands out the first `n` of the bytes in the packet area. It reads nothing.
     pub fn consume(&mut self, n: usize)
         requires sound { IsSound self.old }
         requires within { n ≤ length (buffered self.old) }

@@ -33,7 +33,7 @@ struct Written {
 /// read, headers included. At the end the writer is flushed, also after a stop of the input: a
 /// failure then changes nothing.
 ///
-/// Stops with the faults of a payload at their places, after which whole packets stand written, and
+/// Stops with the faults of a payload at their places, after which whole packets are written, and
 /// with `WriteFailed` at the bytes that the writer took (MS-TDS, Packet Header).
 pub fn recut<R: Read, W: Write>(
     from: &mut Counted<R>,
@@ -115,7 +115,7 @@ fn gather<R: Read>(payload: &mut Payload<'_, R>, output: &mut Area) -> Result<bo
     Ok(true)
 }
 
-// Writes the packet that stands in the area after room for its header.
+// Writes the packet that is in the area after room for its header.
 fn write_packet<W: Write>(
     to: &mut Counted<W>,
     output: &mut Area,

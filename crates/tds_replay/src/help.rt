@@ -1,5 +1,5 @@
 // What the help of the command says beside its options. Lines fit a terminal of 80 columns: those of an
-// option's long help stand ten columns in.
+// option's long help begin after ten columns.
 
 /// The version of the program, for `--version`, the man page and the package.
 pub(crate) const VERSION: &str = "1.0.0";

@@ -5,7 +5,7 @@ ghost use Rattle.tds_replay.specs.Jobs.{file_of};
 use tds_export::Charset;
 use tds_meter::Limits;
 
-/// What the command is to do. The file is the one that the packets stand in, or none for standard
+/// What the command is to do. The file is the one that has the packets, or none for standard
 /// input. Nothing here opens it: the caller passes the reader.
 #[derive(Drop)]
 pub enum Job {
@@ -30,7 +30,7 @@ pub enum Job {
 }
 
 impl Job {
-    /// The file that the packets stand in, or none for standard input.
+    /// The file that has the packets, or none for standard input.
     pub fn file(&self) -> Option<&str>
         ensures { option_map (λ path. path.now) result ≡ file_of self.now }
     {

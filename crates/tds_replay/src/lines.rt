@@ -97,7 +97,7 @@ fn say_fields<W: Write>(notes: &mut Counted<W>, fault: &Fault) -> Result<(), Uns
     }
 }
 
-// What a place counts, and how many of them lie before it.
+// What a place counts, and how many of them come before it.
 fn place_parts(place: &Place) -> (&'static [u8], u64)
     ensures unit { result.0.now ≡ place_unit place.now }
     ensures number { result.1 ≡ place_number place.now }

@@ -9,7 +9,7 @@ use tds_packet::Counted;
 /// A piece of a line.
 #[derive(Clone, Copy)]
 pub(crate) enum Piece<'a> {
-    /// Text as it stands.
+    /// Text as it is.
     Text(&'a [u8]),
     /// A number in decimal.
     Number(u64),

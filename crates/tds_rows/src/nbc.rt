@@ -81,13 +81,13 @@ impl<'r, 't, 'p, 's, 'c, R: Read, W: Write> Rows<'r, 't, 'p, 's, 'c, R, W> {
 
 /// Reads an NBCROW after its token byte, and puts its line (MS-TDS, NBCROW). The bitmap is read into
 /// the area, which is emptied first and has room for 8,192 bytes at least; a column whose bit is set
-/// is NULL and has no data, and the bits after the last column's say nothing. The NULLs that stand
+/// is NULL and has no data, and the bits after the last column's say nothing. The NULLs
 /// before the next cell with data, or at the row's end, count with what is read before them: the
-/// cell, or the bitmap. Faults and places are those of [`row`](crate::row), and `MessageEnded` stands
+/// cell, or the bitmap. Faults and places are those of [`row`](crate::row), and `MessageEnded` is
 /// at the bitmap's first byte where the message ends in it. After a stop of the payload or the sink
 /// the same stop is answered, and neither changes.
 ///
-/// Cells are taken in runs, as many as are NULL or lie whole in the packet and have room in the block. The
+/// Cells are taken in runs, as many as are NULL or whole in the packet and have room in the block. The
 /// small area is used as by [`row`](crate::row).
 pub fn nbc_row<R: Read, W: Write>(
     payload: &mut Payload<R>,

@@ -20,7 +20,7 @@ use tds_values::{Kind, Reach, read_scalar};
 /// The column of the stops in the value of a RETURNVALUE.
 pub(crate) const RETURN_COLUMN: u16 = 65535;
 
-// Passes over those of the next bytes that lie in the packet, or over the first of another packet, and
+// Passes over those of the next bytes that are in the packet, or over the first of another packet, and
 // answers how many they are.
 fn pass_piece<R: Read>(payload: &mut Payload<R>, most: u64) -> Result<u64, Stop>
     requires going { IsGoing payload.old }
@@ -117,7 +117,7 @@ fn pass_long<R: Read>(payload: &mut Payload<R>, reach: Reach, unit: u64) -> Resu
 /// which may be any bytes: [`Fault::BadValueLength`] and [`Fault::BadValue`] as in a row,
 /// [`Fault::OddText`] at the length, the total or the terminator of an odd Wide value, and
 /// [`Fault::PlpLength`] at the length of the chunk that passes the total or at the terminator before it.
-/// Any other stop is the payload's own: where the message ends, it stands at the first byte of the element
+/// Any other stop is the payload's own: where the message ends, it is at the first byte of the element
 /// that isn't whole, of which each byte of long data is one. After a stop of the payload the same stop is
 /// answered, and nothing changes.
 ///

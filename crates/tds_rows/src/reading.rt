@@ -48,7 +48,7 @@ impl<'r, 't, 'p, 's, 'c, R: Read, W: Write> Rows<'r, 't, 'p, 's, 'c, R, W> {
         self.sink.put(&text[..cell.made])
     }
 
-    // Reads the next cell of a scalar kind, and puts its text: from where it lies, if it lies whole in the packet.
+    // Reads the next cell of a scalar kind, and puts its text: in place, if it is whole in the packet.
     fn put_scalar(&mut self, at: Ahead<'c>, kind: &Kind) -> Result<(), Stop>
         requires in_row { IsInRow self.old }
         requires valid { IsTrue (kinds.is_valid kind.now) }
@@ -92,7 +92,7 @@ impl<'r, 't, 'p, 's, 'c, R: Read, W: Write> Rows<'r, 't, 'p, 's, 'c, R, W> {
         }
     }
 
-    // Reads the next cell of a long kind, and puts its text: at once, where it is a short value that lies whole in
+    // Reads the next cell of a long kind, and puts its text: at once, where it is a short value that is whole in
     // the packet and whose text doesn't fill the block.
     fn put_long(&mut self, column: u16, last: bool, kind: &Kind) -> Result<(), Stop>
         requires in_row { IsInRow self.old }

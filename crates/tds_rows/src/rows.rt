@@ -63,7 +63,7 @@ impl<'r, 't, 'p, 's, 'c, R: Read, W: Write> Rows<'r, 't, 'p, 's, 'c, R, W> {
 }
 
 /// Reads a ROW after its token byte, and puts its line (MS-TDS, ROW). The cells before a stop count,
-/// with their text, and so does the text so far of a long value. [`Fault::BadValueLength`] stands at the
+/// with their text, and so does the text so far of a long value. [`Fault::BadValueLength`] is at the
 /// length byte that isn't allowed, and [`Fault::BadValue`] at the first byte of the value out of range; the
 /// faults of long values and their places are those of [`stream_value`](crate::stream_value). Columns are
 /// numbered from 0, and single-byte text is read in this set. Any other stop is the payload's or the sink's
@@ -109,7 +109,7 @@ pub fn row<R: Read, W: Write>(
     rows.row()
 }
 
-/// Reads a ROW after its token byte, and the ROWs after it as far as their token bytes lie in the packet
+/// Reads a ROW after its token byte, and the ROWs after it as far as their token bytes are in the packet
 /// that the one before them ends in, and puts their lines. Answers how many they are. The lines of the
 /// whole rows count at a stop, and the text so far of the row that it stops in. Faults and places are those
 /// of [`row`] (MS-TDS, ROW), and so is the use of the small area.

@@ -1,4 +1,4 @@
-// A run of cells: as many as lie whole in the packet and have room, over the ends of rows.
+// A run of cells: as many as are whole in the packet and have room, over the ends of rows.
 ghost use Rattle.std.specs.Prelude.{◌≡◌, ◌+◌, ◌<◌, ◌≤◌, length};
 ghost use Rattle.tds_rows.specs.RowReading.{IsInRow, StaysInRow};
 ghost use Rattle.tds_rows.specs.Runs.{CellsWritten, FirstJudged, FirstOfCells, RowsPut, RowsWritten};
@@ -35,7 +35,7 @@ pub(crate) struct Run<'a> {
     pub(crate) ahead: Ahead<'a>,
 }
 
-// Writes cell after cell of a row, as far as they lie whole in these bytes, aren't in chunks and have room, up to
+// Writes cell after cell of a row, as far as they are whole in these bytes, aren't in chunks and have room, up to
 // the next one that may be a whole number of four bytes.
 #[inline(never)]
 pub(crate) fn run_cells<'a>(
@@ -77,8 +77,8 @@ pub(crate) fn run_cells<'a>(
     CellRun { used, made, ahead }
 }
 
-// Writes cell after cell, as far as they lie whole in these bytes, aren't in chunks and have room, over the
-// ends of rows: after a whole row it goes on where the byte of the next ROW lies. Whole numbers of four bytes,
+// Writes cell after cell, as far as they are whole in these bytes, aren't in chunks and have room, over the
+// ends of rows: after a whole row it goes on where the byte of the next ROW follows. Whole numbers of four bytes,
 // the most frequent cells, are written here.
 #[inline(never)]
 pub(crate) fn run_rows<'a>(
@@ -137,7 +137,7 @@ pub(crate) fn run_rows<'a>(
 }
 
 impl<'r, 't, 'p, 's, 'c, R: Read, W: Write> Rows<'r, 't, 'p, 's, 'c, R, W> {
-    /// Reads the next cells, as many as lie whole in the packet, aren't in chunks and have room, over the
+    /// Reads the next cells, as many as are whole in the packet, aren't in chunks and have room, over the
     /// ends of rows, and puts their text where it waits. It reads nothing and delivers nothing.
     pub(crate) fn put_run(&mut self, from: Ahead<'c>) -> Run<'c>
         requires in_row { IsInRow self.old }

@@ -11,7 +11,7 @@ use tds_values::Kind;
 /// How many columns a table knows by itself. It takes 6 bytes for each, in a local variable.
 const TABLE_LENGTH: usize = 64;
 
-/// How the value of a cell lies in it.
+/// How the value of a cell is laid out in it.
 #[derive(Clone, Copy)]
 pub(crate) enum Layout {
     /// Alone, and each value has this number of bytes.
@@ -22,7 +22,7 @@ pub(crate) enum Layout {
     Long,
 }
 
-/// What a cell needs of its column: the kind of its values, and how they lie.
+/// What a cell needs of its column: the kind of its values, and how they are laid out.
 #[derive(Clone, Copy)]
 pub(crate) struct Form {
     pub(crate) kind: Kind,
@@ -45,7 +45,7 @@ pub(crate) struct Table<'a> {
     ghost fits: { count ≤ 65535 },
 }
 
-/// A place between the cells of a row: how many columns lie before it, and the walk over those ahead that
+/// A place between the cells of a row: how many columns come before it, and the walk over those ahead that
 /// the table doesn't know.
 #[derive(Clone, Copy)]
 pub(crate) struct Ahead<'a> {
@@ -53,7 +53,7 @@ pub(crate) struct Ahead<'a> {
     walk: Walk<'a>,
 }
 
-// How the values of a kind lie in their cells.
+// How the values of a kind are laid out in their cells.
 fn lay_out(kind: &Kind) -> Layout
     requires { IsTrue (is_valid kind.now) }
     ensures { result ≡ layout_of kind.now }
@@ -147,7 +147,7 @@ impl<'a> Table<'a> {
         Some(Form::of(column.kind))
     }
 
-    /// Where the number lies in the next cell, at once or after a length of one byte, if the table knows that it is
+    /// Where the number is in the next cell, at once or after a length of one byte, if the table knows that it is
     /// a whole number of four bytes, the most frequent kind. The place after that cell has the same walk.
     #[inline(always)]
     pub(crate) fn int4_start(&self, at: Ahead<'a>) -> Option<usize>

@@ -32,7 +32,7 @@ pub(crate) fn put_byte(to: &mut [u8], at: usize, byte: u8) -> usize
     at + 1
 }
 
-// One byte where it is kept: it is written in any case, and what comes next lies over it where it isn't.
+// One byte where it is kept: it is written in any case, and what comes next is written over it where it isn't.
 #[inline(always)]
 fn put_kept(to: &mut [u8], at: usize, byte: u8, kept: bool) -> usize
     requires { at < length to.old }

@@ -109,7 +109,7 @@ impl Kind {
         !matches!(self, Kind::Binary(_) | Kind::Narrow(_) | Kind::Wide(_))
     }
 
-    /// How many bytes each value has, where no length stands before it.
+    /// How many bytes each value has, where no length precedes it.
     pub fn fixed_length(&self) -> Option<u8>
         requires { IsTrue (spec.is_valid self.now) }
         ensures { result ≡ spec.fixed_length self.now }

@@ -6,7 +6,7 @@ use crate::digits::{put_byte, put_tail, put_two};
 use crate::ranges::{LARGEST_OFFSET, LAST_DAY, MINUTES_A_DAY, SECONDS_A_DAY, TICKS_A_DAY};
 use jiff_core::civil::Date;
 
-// How many days the first day of `jiff`, -9999-01-01, lies before day 0.
+// How many days the first day of `jiff`, -9999-01-01, is before day 0.
 pub(crate) const DAYS_BEFORE_DAY_0: u32 = 3652425;
 
 // YYYY-MM-DD.

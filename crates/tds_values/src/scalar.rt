@@ -120,7 +120,7 @@ pub(crate) fn integer_of(n: u8, bytes: &[u8]) -> i64
     }
 }
 
-// The amount of money in n bytes: of 8 the high half stands first.
+// The amount of money in n bytes: of 8 the high half comes first.
 pub(crate) fn money_of(n: u8, bytes: &[u8]) -> i64
     requires size { (n ≡ 4) ⊎ (n ≡ 8) }
     requires length { length bytes.now ≡ n }
@@ -134,7 +134,7 @@ pub(crate) fn money_of(n: u8, bytes: &[u8]) -> i64
     ((high as u64) * (1 << 32) + low as u64).cast_signed()
 }
 
-// The local time lies in the years 1 to 9999.
+// The local time is in the years 1 to 9999.
 fn is_local(scale: u8, units: u64, day: u32, offset: i16) -> bool
     requires time { IsTrue (is_time_of scale units) }
     requires day { day ≤ LAST_DAY }
@@ -182,7 +182,7 @@ fn decimal_of(scale: u8, bytes: &[u8]) -> ScalarValue
     }
 }
 
-// A value lies in its range.
+// A value is in its range.
 fn is_in_range(value: &ScalarValue) -> bool
     ensures { result ≡ bounds.is_in_range value.now }
 {

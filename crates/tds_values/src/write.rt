@@ -1,4 +1,4 @@
-// The text of a value, written where it is to lie, from the bytes that spell it.
+// The text of a value, written where it belongs, from the bytes that spell it.
 ghost use Rattle.std.specs.Prelude.{◌≡◌, ℕ, ◌+◌, ◌≤◌, ◌⊎◌, IsTrue, IfOk, IfErr, Some, Ok, Err, drop, length};
 ghost use Rattle.byteorder.specs.Endian.{little_number};
 ghost use Rattle.std.specs.Int.{cast_signed, w16};

@@ -24,7 +24,7 @@ pub(crate) fn first_set(mask: u64, lanes: usize) -> usize
     }
 }
 
-// How many of the next 16 bytes stand before the first quote among them.
+// How many of the next 16 bytes come before the first quote among them.
 #[inline(always)]
 pub(crate) fn unquoted_run(bytes: &[u8], at: usize) -> usize
     requires { at + LANES ≤ length bytes.now }
@@ -34,7 +34,7 @@ pub(crate) fn unquoted_run(bytes: &[u8], at: usize) -> usize
     first_set(quotes.to_bitmask(), LANES)
 }
 
-// How many of the next 16 bytes stand before the first among them that is a quote or isn't of ASCII.
+// How many of the next 16 bytes come before the first among them that is a quote or isn't of ASCII.
 #[inline(always)]
 pub(crate) fn plain_run(bytes: &[u8], at: usize) -> usize
     requires { at + LANES ≤ length bytes.now }

@@ -166,7 +166,7 @@ fn convert_some(bytes: &[u8], source: &[u8], from: usize, to: &mut [u8], start: 
     convert_singles(bytes, from + 2 * n, to, start + n)
 }
 
-// Writes the text of the characters that are fixed. What lies after the bytes in the source may be looked at.
+// Writes the text of the characters that are fixed. What follows the bytes in the source may be looked at.
 pub(crate) fn convert(bytes: &[u8], source: &[u8], to: &mut [u8]) -> Converted
     requires source { LiesIn bytes.now source.now }
     requires long { 3 * length bytes.now + 2 * UNITS ≤ 2 * length to.old }

@@ -27,7 +27,7 @@ fn character(byte: u8) -> u32
 }
 
 // Writes the next bytes that stand for themselves, at most 16, to a place, and says how many they are.
-// None where fewer than 16 bytes of the source are left: it begins with the bytes, and what lies after them
+// None where fewer than 16 bytes of the source are left: it begins with the bytes, and what follows them
 // may be looked at too.
 #[inline(always)]
 fn take_plain(bytes: &[u8], source: &[u8], at: usize, to: &mut [u8], made: usize) -> usize
@@ -80,7 +80,7 @@ fn convert_by_hand(bytes: &[u8], from: usize, end: usize, to: &mut [u8], start: 
     made
 }
 
-// Writes the text of bytes, and says how long it is. What lies after them in the source may be looked at.
+// Writes the text of bytes, and says how long it is. What follows them in the source may be looked at.
 pub(crate) fn convert(bytes: &[u8], source: &[u8], to: &mut [u8]) -> usize
     requires source { LiesIn bytes.now source.now }
     requires room { 3 * length bytes.now + LANES ≤ length to.old }

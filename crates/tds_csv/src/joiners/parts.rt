@@ -17,7 +17,7 @@ pub(crate) trait Bytewise {
     /// The text of bytes.
     ghost text: { List ℕ → List ℕ };
 
-    /// Writes the text of bytes, and says how long it is. What lies after them in the source may be looked at.
+    /// Writes the text of bytes, and says how long it is. What follows them in the source may be looked at.
     fn convert(bytes: &[u8], source: &[u8], to: &mut [u8]) -> usize
         requires source { LiesIn bytes.now source.now }
         requires room { 3 * length bytes.now + LANES ≤ length to.old }

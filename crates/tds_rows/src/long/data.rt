@@ -1,4 +1,4 @@
-// The data of long values, by pieces that lie in the packet.
+// The data of long values, by pieces in the packet.
 ghost use Rattle.std.specs.Prelude.{◌≡◌, ◌≤◌, ◌<◌, ◌+◌, ◌^◌, ◌++◌, ℕ, List, IfOk};
 ghost use Rattle.tds_csv.specs.Conversion.{Begins, Conversion, Suits, closing, conversion_rest};
 ghost use Rattle.tds_csv.specs.Quoting.{behind_comma, end_behind};
@@ -14,7 +14,7 @@ use tds_packet::{Fault, Payload, Place, Stop};
 // The most bytes that a piece is asked for.
 const LONGEST_PIECE: u64 = 65_536;
 
-// The stop of a joiner whose piece, or whose end, stands after `place` bytes of the payload: the sink's own, or
+// The stop of a joiner whose piece, or whose end, comes after `place` bytes of the payload: the sink's own, or
 // that of the bad byte.
 fn join_stop(fault: JoinFault, column: u16, place: u64) -> Stop
     requires { place + good_of fault < 2 ^ 64 }
@@ -31,7 +31,7 @@ fn join_stop(fault: JoinFault, column: u16, place: u64) -> Stop
     }
 }
 
-/// Puts the comma before a long value, and what stands before its text.
+/// Puts the comma before a long value, and what comes before its text.
 pub(crate) fn put_opening<W: Write>(
     column: u16,
     quoted: bool,
@@ -49,7 +49,7 @@ pub(crate) fn put_opening<W: Write>(
     sink.open_binary()
 }
 
-/// Puts what stands after the text of a long value, and the end of the line if it is the last.
+/// Puts what comes after the text of a long value, and the end of the line if it is the last.
 pub(crate) fn put_closing<W: Write>(
     quoted: bool,
     last: bool,
@@ -67,7 +67,7 @@ pub(crate) fn put_closing<W: Write>(
     sink.put(&end[..made])
 }
 
-// Hands the next piece of the data, at most `most` bytes, to the joiner where it lies, and answers how many
+// Hands the next piece of the data, at most `most` bytes, to the joiner in place, and answers how many
 // it has.
 fn push_piece<J: Joiner, R: Read, W: Write>(
     payload: &mut Payload<R>,

@@ -1,4 +1,4 @@
-// A cell of a scalar kind that lies whole in the packet, but in no run.
+// A cell of a scalar kind that is whole in the packet, but in no run.
 ghost use Rattle.std.specs.Prelude.{◌≡◌, ◌<◌, ◌≤◌, Bool, None, length, IfSome, IsTrue};
 ghost use Rattle.tds_rows.specs.CellSteps.{NearWritten, scalar_size};
 ghost use Rattle.tds_rows.specs.declared.Charset as sets;

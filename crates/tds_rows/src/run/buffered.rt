@@ -1,4 +1,4 @@
-// A cell of a scalar kind whose bytes lie together.
+// A cell of a scalar kind whose bytes are together.
 ghost use Rattle.std.specs.Prelude.{◌≡◌, ◌≤◌, ◌<◌, ◌⊎◌, false, true, length, IsTrue, IfSome, MatchOption};
 ghost use Rattle.tds_rows.specs.CellSteps.{CellWritten, HasInt4, scalar_size, value_length, value_start, whole_size};
 ghost use Rattle.tds_values.specs.Kind as kinds;
@@ -30,7 +30,7 @@ pub(crate) fn length_size(kind: &Kind) -> usize
     }
 }
 
-// Where the value of a cell lies in these bytes, and how many it has: after its length, unless each value of
+// Where the value of a cell is in these bytes, and how many it has: after its length, unless each value of
 // its kind has as many. None where its kind is a long one, or no length is there.
 #[inline(always)]
 fn value_at(form: &Form, bytes: &[u8]) -> Option<(usize, usize)>
@@ -55,7 +55,7 @@ fn value_at(form: &Form, bytes: &[u8]) -> Option<(usize, usize)>
 /// How many bytes a whole number of four bytes has.
 pub(crate) const INT4: usize = 4;
 
-/// Whether a whole number of four bytes lies at the front of these bytes: at once, or after its length.
+/// Whether a whole number of four bytes is at the front of these bytes: at once, or after its length.
 #[inline(always)]
 pub(crate) fn has_int4(start: usize, bytes: &[u8]) -> bool
     requires { start ≤ 1 }

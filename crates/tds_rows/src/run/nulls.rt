@@ -1,4 +1,4 @@
-// A run over the cells of an NBCROW: as many as are NULL by their bit or lie whole in the packet, and have room.
+// A run over the cells of an NBCROW: as many as are NULL by their bit or whole in the packet, and have room.
 ghost use Rattle.std.specs.Prelude.{◌≡◌, ◌+◌, ◌-◌, ◌*◌, ◌<◌, ◌≤◌, Bool, drop, length, IfSome, IsTrue};
 ghost use Rattle.tds_packet.specs.Payloads.{buffered};
 ghost use Rattle.tds_rows.specs.MarkedRuns.{EndsLeft, MarkedPut, MarkedWritten, NextWritten, room_left};
@@ -63,7 +63,7 @@ fn write_next(
     )
 }
 
-// Writes cell after cell of an NBCROW, as far as they are NULL by their bit or lie whole in these bytes, aren't in
+// Writes cell after cell of an NBCROW, as far as they are NULL by their bit or whole in these bytes, aren't in
 // chunks, and have room.
 #[inline(never)]
 pub(crate) fn run_nulls<'a>(
@@ -100,7 +100,7 @@ pub(crate) fn run_nulls<'a>(
 }
 
 impl<'r, 't, 'p, 's, 'c, R: Read, W: Write> Rows<'r, 't, 'p, 's, 'c, R, W> {
-    /// Takes the next cells of an NBCROW, as many as are NULL by their bit or lie whole in the packet, aren't in
+    /// Takes the next cells of an NBCROW, as many as are NULL by their bit or whole in the packet, aren't in
     /// chunks and have room, puts their text where it waits, and answers the place after them. It reads nothing and
     /// delivers nothing.
     pub(crate) fn put_nulls(&mut self, from: Ahead<'c>, bitmap: &[u8]) -> Ahead<'c>

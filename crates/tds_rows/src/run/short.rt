@@ -1,4 +1,4 @@
-// A cell of a short value whose bytes lie together (MS-TDS, Data Stream Types).
+// A cell of a short value whose bytes are together (MS-TDS, Data Stream Types).
 ghost use Rattle.std.specs.Prelude.{◌≡◌, ◌≤◌, length, IfSome};
 ghost use Rattle.tds_rows.specs.ShortCells.{ContentWritten, ShortWritten, short_size};
 ghost use Rattle.tds_csv.specs.Fields.{conversion_of};
