@@ -86,12 +86,12 @@ with_kind bytes count columns None = BeforeCount
 abbrev pub with_count : List ℕ → ℕ → DescriptionPart
 with_count bytes count = if count == 0xFFFF then NoDescription else InColumn bytes count [] ColumnHead
 
--- its type byte is read, and so many bytes of type information follow
+-- its type byte is read, and this many bytes of type information follow
 abbrev pub with_type : List ℕ → ℕ → List Column → ℕ → ℕ → DescriptionPart
 with_type bytes count columns byte rest =
     if rest == 0 then with_kind bytes count columns (kind_of (byte ∷ [])) else InColumn bytes count columns (ColumnInfo byte)
 
--- its name has so many units
+-- its name has this many units
 abbrev pub with_units : List ℕ → ℕ → List Column → Kind → ℕ → DescriptionPart
 with_units bytes count columns kind units =
     if units == 0 then with_column bytes count columns (record { kind = kind; name = [] }) else InColumn bytes count columns (NameUnits kind (2 * units))
@@ -141,7 +141,7 @@ abbrev pub first_of_two : {A : Type 0} → Option A → Option A → Option A
 first_of_two (Some x) y = Some x
 first_of_two None y = y
 
--- the first fault of a column's head, which ends so many bytes after the description's beginning, with this type byte; so many columns follow
+-- the first fault of a column's head, which ends this many bytes after the description's beginning, with this type byte; this many columns follow
 abbrev pub head_fault : (room so_far byte index left : ℕ) → Option Fault
 head_fault room so_far byte index left =
     first_of_two (type_fault index byte (rest_length byte)) (too_long room so_far ((unwrap_or (rest_length byte) 0 + 1) + 8 * left))

@@ -32,7 +32,7 @@ abbrev pub with_known : Option Kind → TypePart
 with_known (Some kind) = KnownType kind
 with_known None = NoType
 
--- its type byte is read, and so many bytes follow
+-- its type byte is read, and this many bytes follow
 abbrev pub with_type_byte : ℕ → ℕ → TypePart
 with_type_byte byte rest = if rest == 0 then with_known (kind_of (byte ∷ [])) else TypeRest byte
 

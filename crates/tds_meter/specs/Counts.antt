@@ -5,7 +5,7 @@ use Rattle.std.specs.Prelude.{◌≡◌, ◌⊎◌, ℕ, ◌+◌, ◌-◌, ◌^�
 abbrev pub last_count : ℕ
 last_count = 2 ^ 64 - 1
 
--- so many more, unless that passes the greatest count
+-- this many more, unless that passes the greatest count
 abbrev pub counted : ℕ → ℕ → ℕ
 counted n more = min (n + more) last_count
 

@@ -33,7 +33,7 @@ behind_header header rest None =
     if nat_lt (length rest) (header_length header - 8) then NoPacket InputEnded []
     else WholePacket (take (header_length header - 8) rest) (is_last_status (slice_index header 1)) (header_length header) (drop (header_length header - 8) rest)
 
--- the first packet of an input, after so many bytes of the wire
+-- the first packet of an input, after this many bytes of the wire
 unfoldable pub front_packet : ℕ → ℕ → ℕ → List ℕ → FrontPacket
 front_packet size limit wire input =
     if nat_lt (length input) 8 then NoPacket InputEnded []
@@ -45,7 +45,7 @@ behind_packet more wire place (WholePacket body true n rest) = before body (stop
 behind_packet more wire place (WholePacket body false n rest) = before body (more (wire + n) (place + length body) rest)
 behind_packet more wire place (NoPacket fault rest) = stopped_at fault (Wire wire) rest
 
--- what comes of an input, after so many bytes of the wire and of the payload; the first number is more than the input's length
+-- what comes of an input, after this many bytes of the wire and of the payload; the first number is more than the input's length
 unfoldable pub message : ℕ → ℕ → ℕ → ℕ → ℕ → List ℕ → Coming
 message size limit zero wire place input = stopped_at InputEnded (Wire wire) input
 message size limit (suc fuel) wire place input = behind_packet (message size limit fuel) wire place (front_packet size limit wire input)

@@ -97,7 +97,7 @@ packet_of header body = record { status = slice_index header 1; id = drop 4 head
 abbrev pub with_packet : List Packet → Packet → WirePart
 with_packet packets p = record { packets = packets ++ p ∷ []; place = if is_last p then BehindLast else BeforeHeader }
 
--- a header after so many bytes of the wire is judged by its Type, its Length and the limit of the wire, in this order
+-- a header after this many bytes of the wire is judged by its Type, its Length and the limit of the wire, in this order
 abbrev pub header_fault : ℕ → ℕ → ℕ → List ℕ → Option Fault
 header_fault size limit before header =
     if slice_index header 0 == 4

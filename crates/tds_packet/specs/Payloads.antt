@@ -70,7 +70,7 @@ pub record IsBegun {R : Type 0} (remaining : R → Option (List ℕ)) (p : Paylo
   pub begins : seen remaining p ≡ begun size most (remaining from.device) from.failures
   pub between : IsBetween (seen remaining p)
 
--- so many bytes further on in its packet
+-- this many bytes further on in its packet
 abbrev pub further : {R : Type 0} → Payload R → ℕ → Payload R
 further p n = record p { at = p.at + n; place = p.place + n }
 
@@ -91,7 +91,7 @@ pub record PassesOver {R : Type 0} (remaining : R → Option (List ℕ)) (old ne
   pub counted : length bytes ≡ n
   pub takes : Takes (seen remaining old) (seen remaining new) bytes n
 
--- The payload stopped before so many bytes; where the message ended, the stop stands where the call began.
+-- The payload stopped before this many bytes; where the message ended, the stop stands where the call began.
 pub record CutsPass {R : Type 0} (remaining : R → Option (List ℕ)) (old new : Payload R) (n : ℕ) (stop : Stop) : Type 0 where
   pub part : List ℕ
   pub own : Stop

@@ -37,7 +37,7 @@ pub record CutsNext {S : Type 0} (g : Grammar S Fault) (old new : Seen) (before 
   pub ends : Ends old new (before ++ part) own
   pub stop_is : IsCutStop (place + length before) (g.end_fault at) own stop
 
--- Whole elements were read, which lead to a state, and there the reading stopped. It began after so many bytes of the payload.
+-- Whole elements were read, which lead to a state, and there the reading stopped. It began after this many bytes of the payload.
 pub record StopsReading {S : Type 0} (g : Grammar S Fault) (from : S) (old new : Seen) (place : ℕ) (at : S) (stop : Stop) : Type 0 where
   pub bytes : List ℕ
   pub spelt : Spelt g from bytes at

@@ -16,7 +16,7 @@ abbrev pub judged_header : List ℕ → Option Fault → Result Header Fault
 judged_header header (Some fault) = Err fault
 judged_header header None = Ok (record { length = header_length header; last = is_last_status (slice_index header 1) })
 
--- a header after so many bytes of the wire
+-- a header after this many bytes of the wire
 abbrev pub header_of : ℕ → ℕ → ℕ → List ℕ → Result Header Fault
 header_of size limit wire header = judged_header header (header_fault size limit wire header)
 
@@ -31,7 +31,7 @@ abbrev pub FillsFrom : {U : Type 0} → (old new : Device) → List ℕ → Resu
 FillsFrom old new bytes (Ok x) = FillsSlice old new bytes (Ok x)
 FillsFrom old new bytes (Err fault) = Faulted old new (length bytes) fault
 
--- These bytes are a packet after so many bytes of the wire, whatever follows them, and no beginning of them is one.
+-- These bytes are a packet after this many bytes of the wire, whatever follows them, and no beginning of them is one.
 abbrev pub IsFrontPacket : ℕ → ℕ → ℕ → List ℕ → List ℕ → Bool → ℕ → Type 0
 IsFrontPacket size limit wire read body last n = ((zs : List ℕ) → front_packet size limit wire (read ++ zs) ≡ WholePacket body last n zs)
     × ((j : ℕ) → j < length read → front_packet size limit wire (take j read) ≡ NoPacket InputEnded []) × (length read ≡ n)

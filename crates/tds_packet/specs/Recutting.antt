@@ -14,11 +14,11 @@ use Rattle.tds_packet.specs.Packets.{Packet, packet_bytes, wire_of}
 use Rattle.tds_packet.specs.Payloads.{buffered, seen}
 use Rattle.tds_packet.specs.Seen.{Ends, IsBetween, IsNotOver, IsOver, Seen, Takes, begun}
 
--- the packet after so many others: SPID 0, a PacketID that is 1 for the first and 0 after 255, Window 0 (MS-TDS, Packet Header)
+-- the packet after this many others: SPID 0, a PacketID that is 1 for the first and 0 after 255, Window 0 (MS-TDS, Packet Header)
 abbrev pub cut_packet : ℕ → Bool → List ℕ → Packet
 cut_packet number last body = record { status = if last then 1 else 0; id = 0 ∷ 0 ∷ (number + 1) % 256 ∷ 0 ∷ []; body = body }
 
--- the first packets of a payload, so many, with bodies of m bytes, where more follow them
+-- the first packets of a payload, this many of them, with bodies of m bytes, where more follow them
 unfoldable pub first_packets : ℕ → ℕ → List ℕ → List Packet
 first_packets m zero payload = []
 first_packets m (suc number) payload = first_packets m number payload ++ cut_packet number false (take m (drop (number * m) payload)) ∷ []
@@ -39,7 +39,7 @@ last_packet m last payload = let number = before_last m (length payload) in cut_
 abbrev pub cut_packets : ℕ → List ℕ → List Packet
 cut_packets m payload = packets_before m payload ++ last_packet m true payload ∷ []
 
--- the stop of a writer that took so many bytes, and so many of a packet not
+-- the stop of a writer that took a number of bytes, and left a number of a packet's
 abbrev pub write_stop : ℕ → ℕ → RecutStop
 write_stop written unwritten = record { stop = record { fault = WriteFailed; place = Text written }; written = written; unwritten = unwritten }
 

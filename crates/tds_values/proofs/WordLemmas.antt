@@ -8,9 +8,23 @@ use Rattle.std.proofs.lemmas.Slice.{take-put_mid}
 use Rattle.std.proofs.lemmas.List.{append-nil, drop-take}
 use borrow.Rule.Slice.PartMut.{put_mid}
 use Rattle.tds_values.specs.ScalarText.{last_digits}
-use Rattle.tds_values.specs.Words.{word_of, bytes_of}
+use Rattle.byteorder.specs.Endian.{little_number}
 use Rattle.tds_values.proofs.DigitLemmas.{last_digits-add}
 use Rattle.tds_values.proofs.TextLengths.{length-last_digits}
+
+-- the number whose bytes these are, the first the lowest
+abbrev pub word_of : List ℕ → ℕ
+word_of [] = 0
+word_of (b ∷ bytes) = b + 256 * word_of bytes
+
+-- the lowest k bytes of a number, the lowest first
+abbrev pub bytes_of : ℕ → ℕ → List ℕ
+bytes_of zero n = []
+bytes_of (suc k) n = n % 256 ∷ bytes_of k (n / 256)
+
+-- eight digits as one number
+pub eight_digits : (n : ℕ) → little_number 8 (last_digits 8 n) ≡ word_of (last_digits 8 n)
+eight_digits n = refl
 
 -- a number that a byte can be
 abbrev IsByte : ℕ → Type 0
@@ -67,12 +81,15 @@ low_bytes i (suc k) n =
     first zero n = omega arith
     first (suc i) n = refl
 
+-- the bytes of a whole number
+pub whole_word : (m w : ℕ) → bytes_low_first 0 m w ≡ bytes_of m w
+whole_word m w = low_bytes 0 m w ∙ (let one : w / 256 ^ 0 ≡ w = omega arith in ap (bytes_of m) one)
+
 -- the m bytes of a word, stored after `at`
 pub stored : (old part rest : List ℕ) (m at k w : ℕ) → at ≤ length old → part ≡ bytes_low_first 0 m w ++ rest → rest ≡ []
     → take (at + m) (put_mid at k old part) ≡ take at old ++ bytes_of m w
 stored old part rest m at k w h e none =
-    let one : w / 256 ^ 0 ≡ w = omega arith in
-    let bytes : part ≡ bytes_of m w = e ∙ ap (λ r. bytes_low_first 0 m w ++ r) none ∙ append-nil _ ∙ low_bytes 0 m w ∙ ap (bytes_of m) one in
+    let bytes : part ≡ bytes_of m w = e ∙ ap (λ r. bytes_low_first 0 m w ++ r) none ∙ append-nil _ ∙ whole_word m w in
     let long : at + m ≡ at + length (bytes_of m w) = ap (λ j. at + j) (sym (length-bytes_of m w)) in
     ap (λ p. take (at + m) (put_mid at k old p)) bytes ∙ take-put_mid at k old (bytes_of m w) (at + m) long h
   where

@@ -5,7 +5,7 @@ use Rattle.std.proofs.lemmas.Nat.{div_below, le-div}
 use Rattle.std.proofs.lemmas.Bool.{cases_lt}
 use lib.Count.{count_trailing_zeros, under}
 use Rattle.tds_values.specs.ScalarText.{last_digits}
-use Rattle.tds_values.specs.Words.{word_of}
+use Rattle.tds_values.proofs.WordLemmas.{word_of}
 use Rattle.tds_values.proofs.DigitLemmas.{last_digits-add}
 
 -- the values of the last k + 1 digits as the bytes of a number, the first the lowest, and a bit more in the last

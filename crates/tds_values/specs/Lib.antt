@@ -8,5 +8,4 @@ pub mod ScalarRange
 pub mod ScalarText
 pub mod TimeOfDay
 pub mod TypeInfo
-pub mod Words
 pub mod Written

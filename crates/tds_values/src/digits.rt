@@ -1,7 +1,7 @@
 // Digits and other bytes, written to a slice from a place on. Each call answers the place after what it wrote.
 ghost use Rattle.std.specs.Prelude.{◌≡◌, ◌+◌, ◌-◌, ◌<◌, ◌≤◌, ◌^◌, ◌/◌, ◌*◌, ◌%◌, [], ◌∷◌, ◌++◌, ◌⊎◌, if◌then◌else◌, take, length, decimal};
 ghost use Rattle.tds_values.specs.ScalarText.{last_digits, minus_if};
-ghost use Rattle.tds_values.specs.Words.{word_of, bytes_of};
+ghost use Rattle.byteorder.specs.Endian.{little_bytes, little_number};
 
 use byteorder::{ByteOrder, LittleEndian};
 
@@ -74,7 +74,7 @@ fn four_pairs(n: u32) -> u64
     requires { n < 100000000 }
     ensures { result ≡ n / 1000000 + 2 ^ 16 * (n / 10000 % 100) + 2 ^ 32 * (n / 100 % 100) + 2 ^ 48 * (n % 100) }
 {
-    let fours = (n / 10000) as u64 + (n % 10000) as u64 * 0x1_0000_0000;
+    let fours = (n / 10_000) as u64 + (n % 10_000) as u64 * 0x1_0000_0000;
     let hundreds = (fours * 5243 / 0x8_0000) & 0x0000_007F_0000_007F;
     fours * 0x1_0000 - hundreds * (100 * 0x1_0000 - 1)
 }
@@ -86,7 +86,7 @@ fn four_pairs(n: u32) -> u64
 #[tactic(auto, using(crate::proofs::PackedDigits::tens_of))]
 fn word(n: u32) -> u64
     requires { n < 100000000 }
-    ensures { result ≡ word_of (last_digits 8 n) }
+    ensures { result ≡ little_number 8 (last_digits 8 n) }
 {
     let pairs = four_pairs(n);
     let tens = (pairs * 103 / 0x400) & 0x000F_000F_000F_000F;
@@ -98,7 +98,7 @@ fn word(n: u32) -> u64
 fn put_word(to: &mut [u8], at: usize, word: u64) -> usize
     requires { at + 8 ≤ length to.old }
     ensures end { result ≡ at + 8 }
-    ensures written { take result to.new ≡ take at to.old ++ bytes_of 8 word }
+    ensures written { take result to.new ≡ take at to.old ++ little_bytes 8 word }
 {
     LittleEndian::write_u64(&mut to[at..at + 8], word);
     at + 8
@@ -175,8 +175,8 @@ fn put_long(to: &mut [u8], at: usize, n: u32) -> usize
     ensures end { result ≤ at + 10 }
     ensures written { take result to.new ≡ take at to.old ++ decimal n }
 {
-    let at = put_head(to, at, n / 100000000);
-    put_tail(to, at, 8, n % 100000000)
+    let at = put_head(to, at, n / 100_000_000);
+    put_tail(to, at, 8, n % 100_000_000)
 }
 
 // A number without needless zeros.
@@ -186,19 +186,19 @@ pub(crate) fn put_number(to: &mut [u8], at: usize, n: u64) -> usize
     ensures end { result ≤ at + 24 }
     ensures written { take result to.new ≡ take at to.old ++ decimal n }
 {
-    if n < 100000000 {
+    if n < 100_000_000 {
         return put_short(to, at, n as u32);
     }
     if n <= u32::MAX as u64 {
         return put_long(to, at, n as u32);
     }
-    let low = (n % 100000000) as u32;
-    if n < 10000000000000000 {
-        let at = put_short(to, at, (n / 100000000) as u32);
+    let low = (n % 100_000_000) as u32;
+    if n < 10_000_000_000_000_000 {
+        let at = put_short(to, at, (n / 100_000_000) as u32);
         return put_tail(to, at, 8, low);
     }
-    let middle = (n / 100000000 % 100000000) as u32;
-    let at = put_short(to, at, (n / 10000000000000000) as u32);
+    let middle = (n / 100_000_000 % 100_000_000) as u32;
+    let at = put_short(to, at, (n / 10_000_000_000_000_000) as u32);
     let at = put_tail(to, at, 8, middle);
     put_tail(to, at, 8, low)
 }

@@ -1,5 +1,6 @@
 // The kinds of column.
 ghost use Rattle.std.specs.Prelude.{◌≡◌, IsTrue};
+ghost use Rattle.tds_values.specs.Kind as spec;
 ghost use Rattle.tds_values.specs.TimeOfDay.{time_length as time_length_of};
 
 /// How the length of a long value is spelled.
@@ -76,9 +77,14 @@ pub(crate) fn time_length(scale: u8) -> u8
     }
 }
 
-impl Kind {
-    ghost use Rattle.tds_values.specs.Kind as spec;
+// Whether a decimal that isn't NULL may have `n` bytes: its sign, and 4, 8, 12 or 16 bytes of magnitude.
+pub(crate) fn is_decimal_length(n: usize) -> bool
+    ensures { result ≡ spec.is_decimal_length n }
+{
+    n == 5 || n == 9 || n == 13 || n == 17
+}
 
+impl Kind {
     /// Whether TYPE_INFO may have these numbers.
     pub fn is_valid(&self) -> bool
         ensures { result ≡ spec.is_valid self.now }
@@ -91,7 +97,7 @@ impl Kind {
                 precision,
                 scale,
             } => {
-                (n == 5 || n == 9 || n == 13 || n == 17)
+                is_decimal_length(usize::from(n))
                     && 1 <= precision
                     && precision <= 38
                     && scale <= precision
@@ -138,9 +144,7 @@ impl Kind {
                 n == described
             }
             Kind::Guid => n == 16,
-            Kind::Decimal { length, .. } => {
-                (n == 5 || n == 9 || n == 13 || n == 17) && n <= length
-            }
+            Kind::Decimal { length, .. } => is_decimal_length(usize::from(n)) && n <= length,
             Kind::Date => n == 3,
             Kind::Time(scale) => n == time_length(scale),
             Kind::DateTime2(scale) => n == time_length(scale) + 3,

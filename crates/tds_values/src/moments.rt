@@ -7,7 +7,7 @@ use crate::ranges::{LARGEST_OFFSET, LAST_DAY, MINUTES_A_DAY, SECONDS_A_DAY, TICK
 use jiff_core::civil::Date;
 
 // How many days the first day of `jiff`, -9999-01-01, is before day 0.
-pub(crate) const DAYS_BEFORE_DAY_0: u32 = 3652425;
+pub(crate) const DAYS_BEFORE_DAY_0: u32 = 3_652_425;
 
 // YYYY-MM-DD.
 #[inline(always)]
@@ -65,7 +65,7 @@ fn put_part(to: &mut [u8], at: usize, scale: u8, units: u64) -> usize
         return at;
     }
     let at = put_byte(to, at, b'.');
-    put_tail(to, at, scale as usize, (units % 100000000) as u32)
+    put_tail(to, at, scale as usize, (units % 100_000_000) as u32)
 }
 
 // The seconds since midnight and a fraction of one.

@@ -15,16 +15,16 @@ pub(crate) fn put_last(to: &mut [u8], at: usize, k: usize, n: u64) -> usize
     ensures end { result ≡ at + k }
     ensures written { take result to.new ≡ take at to.old ++ last_digits k n }
 {
-    let low = (n % 100000000) as u32;
+    let low = (n % 100_000_000) as u32;
     if k <= 8 {
         return put_tail(to, at, k, low);
     }
-    let middle = (n / 100000000 % 100000000) as u32;
+    let middle = (n / 100_000_000 % 100_000_000) as u32;
     if k <= 16 {
         let at = put_tail(to, at, k - 8, middle);
         return put_tail(to, at, 8, low);
     }
-    let at = put_tail(to, at, k - 16, (n / 10000000000000000) as u32);
+    let at = put_tail(to, at, k - 16, (n / 10_000_000_000_000_000) as u32);
     let at = put_tail(to, at, 8, middle);
     put_tail(to, at, 8, low)
 }
@@ -33,12 +33,12 @@ pub(crate) fn put_last(to: &mut [u8], at: usize, k: usize, n: u64) -> usize
 #[inline]
 fn put_sixteen(to: &mut [u8], at: usize, n: u64) -> usize
     requires room { at + 16 ≤ length to.old }
-    requires small { n < 10000000000000000 }
+    requires small { n < 10 ^ 16 }
     ensures end { result ≡ at + 16 }
     ensures written { take result to.new ≡ take at to.old ++ last_digits 16 n }
 {
-    let at = put_tail(to, at, 8, (n / 100000000) as u32);
-    put_tail(to, at, 8, (n % 100000000) as u32)
+    let at = put_tail(to, at, 8, (n / 100_000_000) as u32);
+    put_tail(to, at, 8, (n % 100_000_000) as u32)
 }
 
 // The last k digits of a wide number.
@@ -49,8 +49,8 @@ fn put_last_wide(to: &mut [u8], at: usize, k: usize, n: u128) -> usize
     ensures end { result ≡ at + k }
     ensures written { take result to.new ≡ take at to.old ++ last_digits k n }
 {
-    let rest = n / 10000000000000000;
-    let low = (n - rest * 10000000000000000) as u64;
+    let rest = n / 10_000_000_000_000_000;
+    let low = (n - rest * 10_000_000_000_000_000) as u64;
     if k <= 16 {
         return put_last(to, at, k, low);
     }
@@ -64,12 +64,12 @@ fn put_wide(to: &mut [u8], at: usize, n: u128) -> usize
     ensures end { result ≡ at + length (decimal n) }
     ensures written { take result to.new ≡ take at to.old ++ decimal n }
 {
-    if n < 10000000000000000 {
+    if n < 10_000_000_000_000_000 {
         return put_number(to, at, n as u64);
     }
-    let rest = n / 10000000000000000;
+    let rest = n / 10_000_000_000_000_000;
     let at = put_wide(to, at, rest);
-    put_sixteen(to, at, (n - rest * 10000000000000000) as u64)
+    put_sixteen(to, at, (n - rest * 10_000_000_000_000_000) as u64)
 }
 
 // A whole number with its sign.
@@ -94,22 +94,22 @@ fn whole(scale: u8, n: u64) -> u64
         1 => n / 10,
         2 => n / 100,
         3 => n / 1000,
-        4 => n / 10000,
-        5 => n / 100000,
-        6 => n / 1000000,
-        7 => n / 10000000,
-        8 => n / 100000000,
-        9 => n / 1000000000,
-        10 => n / 10000000000,
-        11 => n / 100000000000,
-        12 => n / 1000000000000,
-        13 => n / 10000000000000,
-        14 => n / 100000000000000,
-        15 => n / 1000000000000000,
-        16 => n / 10000000000000000,
-        17 => n / 100000000000000000,
-        18 => n / 1000000000000000000,
-        19 => n / 10000000000000000000,
+        4 => n / 10_000,
+        5 => n / 100_000,
+        6 => n / 1_000_000,
+        7 => n / 10_000_000,
+        8 => n / 100_000_000,
+        9 => n / 1_000_000_000,
+        10 => n / 10_000_000_000,
+        11 => n / 100_000_000_000,
+        12 => n / 1_000_000_000_000,
+        13 => n / 10_000_000_000_000,
+        14 => n / 100_000_000_000_000,
+        15 => n / 1_000_000_000_000_000,
+        16 => n / 10_000_000_000_000_000,
+        17 => n / 100_000_000_000_000_000,
+        18 => n / 1_000_000_000_000_000_000,
+        19 => n / 10_000_000_000_000_000_000,
         _ => 0,
     }
 }

@@ -5,19 +5,19 @@ ghost use Rattle.tds_values.specs.LocalTime.{local_seconds as local_seconds_of};
 ghost use Rattle.tds_values.specs.ScalarRange.{is_day_since_1900 as is_day_since_1900_of};
 
 /// The day number of 9999-12-31.
-pub(crate) const LAST_DAY: u32 = 3652058;
+pub(crate) const LAST_DAY: u32 = 3_652_058;
 
 /// The day number of 1900-01-01, from which smalldatetime and datetime count.
-pub(crate) const DAY_OF_1900: u32 = 693595;
+pub(crate) const DAY_OF_1900: u32 = 693_595;
 
 /// How many seconds a day has.
-pub(crate) const SECONDS_A_DAY: u64 = 86400;
+pub(crate) const SECONDS_A_DAY: u64 = 86_400;
 
 /// How many minutes a day has.
 pub(crate) const MINUTES_A_DAY: u16 = 1440;
 
 /// How many 1/300 seconds a day has.
-pub(crate) const TICKS_A_DAY: u32 = 25920000;
+pub(crate) const TICKS_A_DAY: u32 = 25_920_000;
 
 /// By how many minutes local time may be ahead of UTC or behind it.
 pub(crate) const LARGEST_OFFSET: u16 = 840;
@@ -36,10 +36,10 @@ pub(crate) fn seconds_in(scale: u8, units: u64) -> u64
         1 => units / 10,
         2 => units / 100,
         3 => units / 1000,
-        4 => units / 10000,
-        5 => units / 100000,
-        6 => units / 1000000,
-        _ => units / 10000000,
+        4 => units / 10_000,
+        5 => units / 100_000,
+        6 => units / 1_000_000,
+        _ => units / 10_000_000,
     }
 }
 

@@ -10,7 +10,7 @@ ghost use Rattle.tds_values.specs.Written.{IsText, IsTextOf, IsWritten};
 ghost use Rattle.tds_values.specs.declared.scalar.ScalarValue.{ScalarValue};
 
 use crate::guid::put_guid;
-use crate::kind::{Kind, time_length};
+use crate::kind::{Kind, is_decimal_length, time_length};
 use crate::moments::{put_date, put_moment, put_time};
 use crate::numbers::put_integer;
 use crate::ranges::{
@@ -280,7 +280,7 @@ fn write_decimal(most: u8, scale: u8, bytes: &[u8], to: &mut [u8]) -> Result<usi
     ensures { (precision : ℕ) → IsWritten (read_of (Kind.Decimal most precision scale) bytes.now) result to.new }
 {
     let n = bytes.len();
-    if (n != 5 && n != 9 && n != 13 && n != 17) || n > most as usize {
+    if !is_decimal_length(n) || n > usize::from(most) {
         return Err(ValueFault::Length);
     }
     Ok(write_spelt(scale, bytes, to))

@@ -4,8 +4,7 @@ use Rattle.std.proofs.lemmas.Nat.{pow-add}
 use Rattle.std.proofs.Math.Seq.{take-append-add}
 use Rattle.std.proofs.lemmas.List.{take-take, length-take-le}
 use Rattle.tds_values.specs.ScalarText.{last_digits}
-use Rattle.tds_values.specs.Words.{word_of, bytes_of}
-use Rattle.tds_values.proofs.WordLemmas.{shifted_digits, take-bytes_of}
+use Rattle.tds_values.proofs.WordLemmas.{bytes_of, eight_digits, shifted_digits, take-bytes_of, whole_word, word_of}
 use Rattle.tds_values.proofs.digits.put_behind.Goals as goal
 
 eighth_power : (k : ℕ) → 2 ^ (8 * k) ≡ 256 ^ k
@@ -36,4 +35,4 @@ behind_of old new at s n w r room few ew er e =
 
 pub returns-clause-written : goal.returns-clause-written
 returns-clause-written c =
-    behind_of c.args.to.now c.put_word.new.to c.args.at c.args.skipped c.args.n c.word.result c.put_word.result (omega arith) c.requires.few c.word.ensures c.put_word.ensures.end c.put_word.ensures.written
+    behind_of c.args.to.now c.put_word.new.to c.args.at c.args.skipped c.args.n c.word.result c.put_word.result (omega arith) c.requires.few (c.word.ensures ∙ eight_digits c.args.n) c.put_word.ensures.end (c.put_word.ensures.written ∙ ap (λ t. take c.args.at c.args.to.now ++ t) (whole_word 8 _))
