@@ -34,7 +34,7 @@ stop_of h = record { fault = WriteFailed; place = Text h.delivered }
 abbrev pub Puts : Held → Held → List ℕ → Type 0
 Puts old new piece = (sent : List ℕ) × (blocks : ℕ) × Adds old new sent piece × (length sent ≡ 4096 * blocks) × (new.failures ≡ old.failures)
 
--- A write failed in the block after so many, and what the writer didn't take of it waits: a beginning of the piece was added.
+-- A write failed in the block after this many, and what the writer didn't take of it waits: a beginning of the piece was added.
 abbrev pub Breaks : Held → Held → List ℕ → Stop → Type 0
 Breaks old new piece stop = (sent : List ℕ) × (blocks : ℕ) × (n : ℕ) × Adds old new sent (take n piece) × (n ≤ length piece) × (4096 * blocks ≤ length sent) × (length sent < 4096 * (blocks + 1))
     × (length sent + length new.waiting ≡ 4096 * (blocks + 1)) × (stop ≡ stop_of new) × (new.failures ≡ one_more old.failures)

@@ -1,5 +1,5 @@
 -- A sink whose room is lent for writing.
-use Rattle.std.specs.Prelude.{◌≡◌, ◌^◌, ◌-◌, ◌≤◌, ℕ, true, false, if◌then◌else◌, List, [], Option, Result, MatchResult, is_ok, length, drop, take}
+use Rattle.std.specs.Prelude.{◌≡◌, ◌^◌, ◌-◌, ◌≤◌, ℕ, true, false, if◌then◌else◌, List, [], Option, Result, Ok, MatchResult, is_ok, length, drop, take}
 use Rattle.std.specs.Borrow.{Lends, Fml, RattleType, MutBor, Array, u8}
 use mir.Syntax.{named}
 use Rattle.tds_meter.specs.Lent.{with_tail}
@@ -21,11 +21,11 @@ LendsSpare W s r = Lends (the_row (record { mir = named 0; lft = [] }) W) (Array
 abbrev pub IsLent : {W : Type 0} → Sink W → Type 0
 IsLent s = (4096 ≤ s.output.now.room) × (s.delivered ≤ 2 ^ 64 - 1) × (s.output.now.peak ≤ s.output.now.room) × (s.failed ≡ false)
 
--- the sink without the bytes that stand after the first ones, so many, that wait
+-- the sink without the bytes after the first `waiting` ones that wait
 abbrev pub held_before : {W : Type 0} → (W → Option (List ℕ)) → Sink W → ℕ → Held
 held_before contents s waiting = record (held contents s) { waiting = take waiting s.output.now.bytes }
 
--- After the first bytes, so many, that wait, so many of the others were put, and the rest was taken away.
+-- After the first `waiting` bytes that wait, `made` of the others were put, and the rest was taken away.
 pub record KeepsPiece {W U : Type 0} (contents : W → Option (List ℕ)) (old new : Sink W) (waiting made : ℕ) (result : Result U Stop) : Type 0 where
   pub ready : IsReady new
   pub same : IsOnSameSink old new
@@ -33,3 +33,7 @@ pub record KeepsPiece {W U : Type 0} (contents : W → Option (List ℕ)) (old n
   pub gives : let piece = take made (drop waiting old.output.now.bytes) in MatchResult result
       (λ _. Puts (held_before contents old waiting) (held contents new) piece)
       (λ stop. Breaks (held_before contents old waiting) (held contents new) piece stop)
+
+-- So it was, and nothing was delivered that could fail.
+abbrev pub CommitsPiece : {W : Type 0} → (W → Option (List ℕ)) → Sink W → Sink W → ℕ → ℕ → Type 0
+CommitsPiece contents old new waiting made = KeepsPiece {U = Unit {0}} contents old new waiting made (Ok tt)

@@ -34,7 +34,7 @@ pub record BreaksStreaming {S : Type 0} (g : Grammar S Fault) (text : S → List
   pub text_is : text at ++ more ≡ text (g.add at element)
   pub breaks : Breaks middle after more stop
 
--- A call that reads by a grammar and puts the text of what it reads stopped: in reading, with the text of the state that it reached; or in writing. It began after so many bytes of the payload.
+-- A call that reads by a grammar and puts the text of what it reads stopped: in reading, with the text of the state that it reached; or in writing. It began after this many bytes of the payload.
 pub record StopsStreaming {S : Type 0} (g : Grammar S Fault) (text : S → List ℕ) (from : S) (old new : Seen) (place : ℕ) (before after : Held) (failed : Bool) (stop : Stop) : Type 0 where
   pub at : S
   pub cause :

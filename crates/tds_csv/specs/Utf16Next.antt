@@ -5,7 +5,7 @@ use Rattle.tds_csv.specs.Joining.{Leads, emit}
 use Rattle.tds_csv.specs.Quoting.{doubled}
 use Rattle.tds_csv.specs.Utf16.{characters, rest, text}
 
--- the first bytes, so many, are this character, whatever follows
+-- a number of the first bytes are this character, whatever follows
 pub record IsNext (bytes : List ℕ) (code len : ℕ) : Type 0 where
   pub emits : emit rest text bytes ≡ doubled (encode_utf8 code) ++ emit rest text (drop len bytes)
   pub keeps : rest bytes ≡ rest (drop len bytes)

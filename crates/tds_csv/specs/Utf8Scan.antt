@@ -3,7 +3,7 @@ use Rattle.std.specs.Prelude.{◌≡◌, ℕ, ◌+◌, ◌-◌, ◌<◌, ◌≤�
 use Rattle.tds_csv.specs.Joining.{emit}
 use Rattle.tds_csv.specs.Utf8.{Begins, rest, text}
 
--- the first bytes, so many, begin a text, and the next one is bad; the first ones, so many, are whole characters
+-- the first bytes, this many of them, begin a text, and the next one is bad; a number of the first ones are whole characters
 pub record StopsAt (bytes : List ℕ) (whole good : ℕ) : Type 0 where
   pub within : good < length bytes
   pub begun : Begins (take good bytes)
@@ -11,7 +11,7 @@ pub record StopsAt (bytes : List ℕ) (whole good : ℕ) : Type 0 where
   pub same : emit rest text (take good bytes) ≡ emit rest text bytes
   pub keeps : rest (take good bytes) ≡ take (good - whole) (drop whole bytes)
 
--- The first bytes, so many, are whole characters, and the first ones, so many, begin a text.
+-- A number of the first bytes are whole characters, and a number of them begin a text.
 pub record IsScan (bytes : List ℕ) (whole good : ℕ) : Type 0 where
   pub order : whole ≤ good
   pub most : good ≤ length bytes

@@ -1,17 +1,14 @@
 // Text on its way to a writer.
 ghost use Rattle.std.specs.Borrow.{sem};
-ghost use Rattle.std.specs.Prelude.{◌≡◌, ◌+◌, ◌-◌, ◌≤◌, [], ◌∷◌, codes, if◌then◌else◌, length, Err, None, Ok, Some};
+ghost use Rattle.std.specs.Prelude.{◌≡◌, ◌+◌, ◌-◌, ◌<◌, ◌≤◌, [], ◌∷◌, codes, if◌then◌else◌, length, Err, None, Ok, Some};
 ghost use Rattle.tds_csv.specs.Quoting.{binary_mark, line_end, null_field, quote};
 ghost use Rattle.tds_csv.specs.Sinks.{Delivers, FinishesSink, IsReady, IsWriting, PutsPiece, fresh, held, stop_of};
-ghost use Rattle.tds_csv.specs.Spare.{IsLent, KeepsPiece, LendsSpare};
+ghost use Rattle.tds_csv.specs.Spare.{CommitsPiece, IsLent, KeepsPiece, LendsSpare};
 
 use crate::framing::{BINARY_MARK, COMMA, LINE_END, NULL, QUOTE};
 use std::io::Write;
-use tds_meter::Area;
+use tds_meter::{Area, OUTPUT_ROOM};
 use tds_packet::{Counted, Fault, Place, Stop};
-
-/// How many bytes are delivered at a time.
-const BLOCK: usize = 4096;
 
 /// Text on its way to a writer. What is put waits in the output area, all of which is delivered each
 /// time that it holds 4,096 bytes. After [`Fault::WriteFailed`] each call answers the same stop.
@@ -26,7 +23,7 @@ pub struct Sink<'a, W> {
 impl<'a, W: Write> Sink<'a, W> {
     /// A sink on a writer. The area has room for 4,096 bytes or more, and is emptied.
     pub fn new(to: &'a mut Counted<W>, output: &'a mut Area) -> Sink<'a, W>
-        requires { BLOCK ≤ output.old.room }
+        requires { OUTPUT_ROOM ≤ output.old.room }
         ensures writing { IsWriting result }
         ensures to { result.to.ghost_name ≡ to.entry.ghost_name }
         ensures output { result.output.ghost_name ≡ output.entry.ghost_name }
@@ -109,13 +106,13 @@ impl<'a, W: Write> Sink<'a, W> {
     // Adds a piece for which there is room, and delivers a full chunk.
     fn push(&mut self, piece: &[u8]) -> Result<(), Stop>
         requires writing { IsWriting self.old }
-        requires fits { length self.old.output.now.bytes + length piece.now ≤ BLOCK }
+        requires fits { length self.old.output.now.bytes + length piece.now ≤ OUTPUT_ROOM }
         ensures { PutsPiece W.contents self.old self.new piece.now result }
     {
         let Ok(()) = self.output.append(piece) else {
             unreachable!()
         };
-        if self.output.len() == BLOCK {
+        if self.output.len() == OUTPUT_ROOM {
             return self.deliver();
         }
         Ok(())
@@ -129,7 +126,7 @@ impl<'a, W: Write> Sink<'a, W> {
         self.check()?;
         let mut taken = 0;
         while taken < piece.len() {
-            let n = (piece.len() - taken).min(BLOCK - self.output.len());
+            let n = (piece.len() - taken).min(OUTPUT_ROOM - self.output.len());
             self.push(&piece[taken..taken + n])?;
             taken += n;
         }
@@ -194,9 +191,9 @@ impl<'a, W: Write> Sink<'a, W> {
 
     /// How many bytes may be put before the next delivery is due.
     pub fn room(&self) -> usize
-        ensures { result ≡ BLOCK - length self.now.output.now.bytes }
+        ensures { result ≡ OUTPUT_ROOM - length self.now.output.now.bytes }
     {
-        BLOCK.saturating_sub(self.output.len())
+        OUTPUT_ROOM.saturating_sub(self.output.len())
     }
 
     /// Lends room after the bytes that wait, to be written and then kept by [`Sink::keep`]. What
@@ -204,7 +201,7 @@ impl<'a, W: Write> Sink<'a, W> {
     /// or zeros that it was made with.
     pub fn spare(&mut self, n: usize) -> &mut [u8]
         requires writing { IsWriting self.old }
-        requires fits { length self.old.output.now.bytes + n ≤ BLOCK }
+        requires fits { length self.old.output.now.bytes + n ≤ OUTPUT_ROOM }
         ensures* lends { sem 𝓛 (LendsSpare W.row self.entry result) }
         ensures value { length result.now ≡ n }
     {
@@ -212,18 +209,29 @@ impl<'a, W: Write> Sink<'a, W> {
     }
 
     /// Puts the first `made` bytes that were written into the room lent by [`Sink::spare`] where
-    /// `waiting` bytes waited, and takes the others away.
+    /// `waiting` bytes waited, and takes the others away. They fill no block, so nothing is delivered.
+    pub fn commit(&mut self, waiting: usize, made: usize)
+        requires lent { IsLent self.old }
+        requires room { waiting + made < OUTPUT_ROOM }
+        requires within { waiting + made ≤ length self.old.output.now.bytes }
+        ensures { CommitsPiece W.contents self.old self.new waiting made }
+    {
+        self.output.truncate(waiting + made);
+    }
+
+    /// Puts those bytes as [`Sink::commit`] does, also where they fill a block, which is delivered.
     pub fn keep(&mut self, waiting: usize, made: usize) -> Result<(), Stop>
         requires lent { IsLent self.old }
-        requires room { waiting + made ≤ BLOCK }
+        requires room { waiting + made ≤ OUTPUT_ROOM }
         requires within { waiting + made ≤ length self.old.output.now.bytes }
         ensures { KeepsPiece W.contents self.old self.new waiting made result }
     {
-        self.output.truncate(waiting + made);
-        if self.output.len() == BLOCK {
-            return self.deliver();
+        if waiting + made < OUTPUT_ROOM {
+            self.commit(waiting, made);
+            return Ok(());
         }
-        Ok(())
+        self.output.truncate(OUTPUT_ROOM);
+        self.deliver()
     }
 
     /// Delivers what waits and flushes the writer.

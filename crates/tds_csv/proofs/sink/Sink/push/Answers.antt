@@ -5,8 +5,8 @@ use Rattle.std.proofs.KnownBytes.{Appends-nil}
 use Rattle.tds_csv.proofs.Sinks.{block_going, counted-none}
 use Rattle.tds_csv.proofs.sink.Sink.push.Goals as goal
 
-pub returns-then-len-eq-BLOCK : goal.returns-then-len-eq-BLOCK
-returns-then-len-eq-BLOCK g c =
+pub returns-then-len-eq-OUTPUT_ROOM : goal.returns-then-len-eq-OUTPUT_ROOM
+returns-then-len-eq-OUTPUT_ROOM g c =
     let a = held g.W.Write.contents c.args.self.now in
     let m = record a { waiting = c.append.new.self.bytes } in
     let b = held g.W.Write.contents c.deliver.new.self in
