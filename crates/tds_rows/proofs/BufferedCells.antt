@@ -143,26 +143,6 @@ refused_left kind bytes start n at many some bad =
     let behind : (start + n) - start ≡ value_length kind bytes = omega (arith, many) in
     inr (omega (arith, some, many), subst (λ (m : ℕ). is_ok (read_of kind (take (value_length kind bytes) (drop m bytes))) ≡ false) at (subst (λ (m : ℕ). is_ok (read_of kind (take m (drop start bytes))) ≡ false) behind bad))
 
--- the bytes of a whole cell say how many they are, as those with more after them do
-pub front_size : (fixed : Option ℕ) (n : ℕ) (bytes : List ℕ) → start_behind fixed + length_behind fixed bytes ≤ n → start_behind fixed + length_behind fixed (take n bytes) ≡ start_behind fixed + length_behind fixed bytes
-front_size (Some k) n bytes within = refl
-front_size None zero bytes within = absurd (omega (arith, within))
-front_size None (suc n) [] within = refl
-front_size None (suc n) (x ∷ xs) within = refl
-
--- a cell that is left by its own bytes is left
-pub front_left : (kind : Kind) (n : ℕ) (bytes : List ℕ) → n ≡ scalar_size kind bytes → length (take n bytes) ≡ n → IsScalarLeft kind (take n bytes) → IsScalarLeft kind bytes
-front_left kind n bytes size taken left =
-    let same : scalar_size kind (take n bytes) ≡ scalar_size kind bytes = front_size (fixed_length kind) n bytes (omega (arith, size)) in
-    let many : value_length kind (take n bytes) ≡ value_length kind bytes = omega (arith, same) in
-    let front : take n bytes ≡ take (value_start kind + value_length kind bytes) bytes = ap (λ k. take k bytes) size in
-    let value : value_bytes kind (take n bytes) ≡ value_bytes kind bytes = ap (λ m. take m (drop (value_start kind) (take n bytes))) many ∙ ap (λ l. take (value_length kind bytes) (drop (value_start kind) l)) front
-    ∙ ap (take (value_length kind bytes)) (drop-take (value_start kind) (value_length kind bytes) bytes) ∙ take_all (value_length kind bytes) (take (value_length kind bytes) (drop (value_start kind) bytes)) (omega (arith, length-take (value_length kind bytes) (drop (value_start kind) bytes))) in
-    elim left [
-      | inl short ↦ absurd (omega (arith, short, same, taken, size))
-      | inr refused ↦ inr (omega (arith, refused.0, many), ap (λ l. is_ok (read_of kind l)) (sym value) ∙ refused.1)
-    ]
-
 -- bytes that are a cell were read
 pub cell_reads : (from : CellPart) (column : ℕ) (last : Bool) (a b : Seen) (place place' : ℕ) (bytes text : List ℕ) → WritesCell from column last bytes text → Takes a b bytes (length bytes) → IsBetween b → place' ≡ place + length bytes
     → ReadsCell from column last a b place place' text

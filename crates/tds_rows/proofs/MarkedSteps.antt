@@ -16,31 +16,21 @@ use Rattle.tds_rows.specs.declared.Charset.{Charset}
 use Rattle.tds_rows.specs.declared.table.Ahead.{Ahead}
 use Rattle.tds_rows.specs.declared.table.Table.{Table}
 use Rattle.std.specs.Prelude.{Option, None, Some}
-use Rattle.tds_values.specs.Kind.{is_scalar}
 use Rattle.tds_rows.specs.declared.run.buffered.Written.{Written}
-use Rattle.tds_rows.specs.Cells.{cell_start, shape}
-use Rattle.tds_rows.specs.ShortCells.{ShortWritten}
-use Rattle.tds_rows.specs.CellSteps.{NearWritten, PutsCell, is_last}
+use Rattle.tds_rows.specs.CellSteps.{CellWritten, PutsCell, is_last}
 use Rattle.tds_rows.specs.MarkedRuns.{NextWritten, PutsMarked, RunsMarked, WritesColumn, WritesMarked, WritesNext}
 use Rattle.tds_rows.specs.Rows.{RowPart, marked, next_cell, row, row_so_far}
 use Rattle.tds_rows.specs.Tables.{IsAhead, TakesColumn}
 use Rattle.tds_rows.proofs.NullSteps.{NearsCells, cell_nears, next_left, null_nears}
 use Rattle.tds_rows.proofs.NullTexts.{ends_marked, nulls_ahead}
-use Rattle.tds_rows.proofs.RunSteps.{made_more, used_more, whole_of, whole_puts}
+use Rattle.tds_rows.proofs.RunSteps.{made_more, used_more, whole_puts}
 use Rattle.tds_rows.proofs.TableSteps.{next_column}
 
 -- ---- the next cell
 
--- one of a scalar kind
-pub next_scalar : (charset : Charset) (null : Bool) (kind : Kind) (column : ℕ) (last : Bool) (bytes text : List ℕ) (room : ℕ) (r : Option Written) → null ≡ false → is_scalar kind ≡ true → NearWritten charset kind column last bytes text r → NextWritten charset null kind column last bytes room text r
-next_scalar charset null kind column last bytes text room None is scalar x = (is, inl (scalar, x))
-next_scalar charset null kind column last bytes text room (Some w) is scalar x =
-    subst (λ (n : Bool). WritesNext charset n kind column last (take w.used bytes) (take w.made text)) (sym is) (whole_of (cell_start kind (shape charset kind)) column last (take w.used bytes) (take w.made text) x)
-
--- one of a long kind
-pub next_short : (charset : Charset) (null : Bool) (kind : Kind) (column : ℕ) (last : Bool) (bytes text : List ℕ) (room : ℕ) (r : Option Written) → null ≡ false → is_scalar kind ≡ false → ShortWritten charset kind column last bytes room text r → NextWritten charset null kind column last bytes room text r
-next_short charset null kind column last bytes text room None is long x = (is, inr (long, x))
-next_short charset null kind column last bytes text room (Some w) is long x = subst (λ (n : Bool). WritesNext charset n kind column last (take w.used bytes) (take w.made text)) (sym is) x.1
+pub next_cell_written : (charset : Charset) (null : Bool) (kind : Kind) (column : ℕ) (last : Bool) (bytes text : List ℕ) (room : ℕ) (r : Option Written) → null ≡ false → CellWritten charset kind column last bytes room text r → NextWritten charset null kind column last bytes room text r
+next_cell_written charset null kind column last bytes text room None is x = (is, x)
+next_cell_written charset null kind column last bytes text room (Some w) is x = subst (λ (n : Bool). WritesNext charset n kind column last (take w.used bytes) (take w.made text)) (sym is) x.whole
 
 -- ---- a run, cell after cell
 

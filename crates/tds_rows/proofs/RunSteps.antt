@@ -17,7 +17,6 @@ use Rattle.tds_packet.proofs.ElementLaws.{Inside, Inside-Spelt, Spelt-append, Sp
 use Rattle.tds_columns.specs.Description.{Column}
 use Rattle.tds_columns.proofs.ViewLaws.{all_behind}
 use Rattle.tds_rows.specs.declared.Charset.{Charset}
-use Rattle.tds_rows.specs.declared.run.fields.TheConstants.{CELL_ROOM}
 use Rattle.tds_rows.specs.Cells.{Cell, CellPart, CountedShape, FixedShape, LongShape, Shape, WholeCell, cell, cell_start, field, shape}
 use Rattle.tds_rows.specs.Rows.{Bitmap, InCell, RowPart, WholeRow, row_start, next_cell, row, row_so_far, with_cell, with_field}
 use Rattle.tds_rows.specs.CellSteps.{HasInt4, int4_kind, IsLeft, IsScalarLeft, IsValueText, PutsCell, StopsCell, WritesKind, cell_so_far, is_last, length_behind, scalar_size, start_behind, whole_size}
@@ -26,7 +25,7 @@ use Rattle.tds_values.specs.Kind.{fixed_length, is_scalar}
 use Rattle.tds_rows.specs.ShortCells.{short_size}
 use Rattle.std.specs.Prelude.{Option, Some, None, Result, Ok, Err, MatchResult, true, false, if◌then◌else◌}
 use Rattle.tds_rows.proofs.CellSteps.{fixed_some}
-use Rattle.tds_rows.specs.Runs.{FirstDone, FirstLeft, RowsPart, RunsRows, Writes, WritesCells, WritesRows, behind_cells, lines, rows, rows_so_far, rows_start}
+use Rattle.tds_rows.specs.Runs.{RowsPart, RunsRows, Writes, WritesCells, WritesRows, behind_cells, lines, rows, rows_so_far, rows_start}
 use Rattle.tds_values.specs.declared.kind.Kind.{Kind}
 use Rattle.tds_values.specs.declared.kind.Kind.TheVariants.{IntN}
 use Rattle.tds_values.specs.declared.kind.Reach.TheVariants.{Chunked, Short}
@@ -142,7 +141,7 @@ cells_step charset columns left left' column column' used u made m bytes to new 
 pub made_same : (made : ℕ) (to rest : List ℕ) → made ≤ length to → take made (take made to ++ rest) ≡ take made to
 made_same made to rest within = take-append-le made (take made to) rest (omega (arith, within, length-take-le made to within)) ∙ take_all made (take made to) (omega (arith, within, length-take-le made to within))
 
--- ---- the first cell ahead
+-- ---- the size of a cell
 
 -- a cell of a scalar kind has some bytes
 scalar_some : (kind : Kind) (bytes : List ℕ) → 0 < scalar_size kind bytes
@@ -153,8 +152,13 @@ scalar_some kind bytes = go (fixed_length kind) refl
     go None e = omega (arith, ap start_behind e, ap (λ o. length_behind o bytes) e)
 
 -- how many bytes it has
-scalar_whole : (kind : Kind) (bytes : List ℕ) → is_scalar kind ≡ true → whole_size kind bytes ≡ scalar_size kind bytes
+pub scalar_whole : (kind : Kind) (bytes : List ℕ) → is_scalar kind ≡ true → whole_size kind bytes ≡ scalar_size kind bytes
 scalar_whole kind bytes h = ap (λ b. if b then scalar_size kind bytes else short_size bytes) h
+
+-- it is left as a scalar cell is
+pub scalar_left : (set : Charset) (kind : Kind) (bytes : List ℕ) (room : ℕ) → is_scalar kind ≡ true → IsLeft set kind bytes room → IsScalarLeft kind bytes
+scalar_left set kind bytes room scalar (inl x) = x.1
+scalar_left set kind bytes room scalar (inr x) = absurd (let never : true ≡ false = sym scalar ∙ x.0 in cc)
 
 -- a cell has some bytes
 pub whole_some : (kind : Kind) (bytes : List ℕ) → 0 < whole_size kind bytes
@@ -163,101 +167,6 @@ whole_some kind bytes = go (is_scalar kind)
     go : (b : Bool) → 0 < (if b then scalar_size kind bytes else short_size bytes)
     go true = scalar_some kind bytes
     go false = omega arith
-
--- the bytes that are left, where none was used
-pub none_used : (used : ℕ) (bytes : List ℕ) → used ≡ 0 → take (length bytes - used) (drop used bytes) ≡ bytes
-none_used used bytes none = all_behind bytes used ∙ ap (λ n. drop n bytes) none
-
--- it was written
-pub first_one : (set : Charset) (at : ℕ) (columns : List Column) (c : Column) (left : List Column) (kind : Kind) (last : Bool) (u m : ℕ) (bytes text : List ℕ) → drop at columns ≡ c ∷ left → kind ≡ c.kind → last ≡ is_last left → u ≡ whole_size kind bytes
-    → WritesKind set kind at last (take u bytes) (take m text) → FirstDone at columns bytes text u m
-first_one set at columns c left kind last u m bytes text step is end size x = λ column tail h.
-    let same : c ∷ left ≡ column ∷ tail = sym step ∙ h in
-    let kinds_same : kind ≡ column.kind = is ∙ ap (λ (l : List Column). (get_or l 0 c).kind) same in
-    let tails_same : left ≡ tail = ap (drop 1) same in (
-      omega (arith, size, ap (λ k. whole_size k bytes) kinds_same),
-      λ _ scalar charset.
-          subst (λ (v : Bool). WritesCell (cell_start column.kind (shape charset column.kind)) at v (take u bytes) (take m text)) (end ∙ ap is_last tails_same)
-          (subst (λ (k : Kind). WritesCell (cell_start k (shape charset k)) at last (take u bytes) (take m text)) kinds_same (x.at_once (ap is_scalar kinds_same ∙ scalar) charset)),
-    )
-
--- a run within a row did so
-pub first_cells : (at from : ℕ) (columns : List Column) (used u made m : ℕ) (bytes to new rest : List ℕ) → used ≡ 0 → made ≡ 0 → at ≡ from → made ≤ length to → m ≤ length new → FirstDone at columns (take (length bytes - used) (drop used bytes)) new u m
-    → FirstDone from columns bytes (take made to ++ (new ++ rest)) (used + u) (made + m)
-first_cells at from columns used u made m bytes to new rest no_use no_text first within some f = λ column tail h.
-    let there = take (length bytes - used) (drop used bytes) in
-    let x = f column tail (ap (λ n. drop n columns) first ∙ h) in
-    let size : whole_size column.kind there ≡ whole_size column.kind bytes = ap (whole_size column.kind) (none_used used bytes no_use) in
-    let used_is : take (used + u) bytes ≡ take u there = used_more used u bytes ∙ ap (λ n. take n bytes ++ take u there) no_use in
-    let made_is : take (made + m) (take made to ++ (new ++ rest)) ≡ take m new = made_more made m to new rest within some ∙ ap (λ n. take n to ++ take m new) no_text in (
-      omega (arith, x.0, size),
-      λ e scalar charset.
-          subst (λ l. WritesCell (cell_start column.kind (shape charset column.kind)) from (is_last tail) l (take (made + m) (take made to ++ (new ++ rest)))) (sym used_is)
-          (subst (λ l. WritesCell (cell_start column.kind (shape charset column.kind)) from (is_last tail) (take u there) l) (sym made_is)
-          (subst (λ (n : ℕ). WritesCell (cell_start column.kind (shape charset column.kind)) n (is_last tail) (take u there) (take m new)) first (x.1 (omega (arith, e, size, no_use)) scalar charset))),
-    )
-
--- the first cell is left by a run within a row
-pub first_there : (set : Charset) (at from : ℕ) (columns : List Column) (used room all : ℕ) (bytes : List ℕ) → used ≡ 0 → at ≡ from → room ≡ all → FirstLeft set at columns (take (length bytes - used) (drop used bytes)) room → FirstLeft set from columns bytes all
-first_there set at from columns used room all bytes no_use first lent f = λ column tail h.
-    subst (λ (n : ℕ). IsLeft set column.kind bytes n) lent (subst (λ l. IsLeft set column.kind l room) (none_used used bytes no_use) (f column tail (ap (λ n. drop n columns) first ∙ h)))
-
--- more bytes were used after it
-pub first_further : (from : ℕ) (columns : List Column) (bytes text text' : List ℕ) (used u made made' : ℕ) → 0 < u → FirstDone from columns bytes text used made → FirstDone from columns bytes text' (used + u) made'
-first_further from columns bytes text text' used u made made' some f = λ column tail h. let x = f column tail h in (omega (arith, x.0), λ e. absurd (omega (arith, e, x.0, some)))
-
--- what was made of it is the same in another text
-pub first_same : (from : ℕ) (columns : List Column) (bytes text text' : List ℕ) (used made : ℕ) → take made text' ≡ take made text → FirstDone from columns bytes text used made → FirstDone from columns bytes text' used made
-first_same from columns bytes text text' used made same f = λ column tail h. let x = f column tail h in (x.0, λ e scalar charset. subst (λ t. WritesCell (cell_start column.kind (shape charset column.kind)) from (is_last tail) (take used bytes) t) (sym same) (x.1 e scalar charset))
-
--- none is ahead, so whatever was done, it was done with it
-pub none_first : (at from : ℕ) (columns : List Column) (bytes text : List ℕ) (used made : ℕ) → at ≡ from → drop at columns ≡ [] → FirstDone from columns bytes text used made
-none_first at from columns bytes text used made first none = λ column tail h. absurd (let e : column ∷ tail ≡ [] = sym h ∙ ap (λ n. drop n columns) (sym first) ∙ none in omega (arith, ap length e))
-
--- it is left
-pub first_left : (set : Charset) (at from : ℕ) (columns : List Column) (c : Column) (left : List Column) (kind : Kind) (used room all : ℕ) (bytes : List ℕ) → used ≡ 0 → at ≡ from → room ≡ all → drop at columns ≡ c ∷ left → kind ≡ c.kind
-    → IsLeft set kind (take (length bytes - used) (drop used bytes)) room → FirstLeft set from columns bytes all
-first_left set at from columns c left kind used room all bytes no_use first lent step is x = λ column tail h.
-    let same : c ∷ left ≡ column ∷ tail = sym step ∙ ap (λ n. drop n columns) first ∙ h in
-    subst (λ (k : Kind). IsLeft set k bytes all) (is ∙ ap (λ (l : List Column). (get_or l 0 c).kind) same) (subst (λ (n : ℕ). IsLeft set kind bytes n) lent (subst (λ l. IsLeft set kind l room) (none_used used bytes no_use) x))
-
--- none is ahead
-pub none_ahead : (set : Charset) (at from : ℕ) (columns : List Column) (bytes : List ℕ) (room : ℕ) → at ≡ from → drop at columns ≡ [] → FirstLeft set from columns bytes room
-none_ahead set at from columns bytes room first none = λ column tail h. absurd (let e : column ∷ tail ≡ [] = sym h ∙ ap (λ n. drop n columns) (sym first) ∙ none in omega (arith, ap length e))
-
--- with room for every scalar, the first cell is left or done
-pub first_judged : {A : Type 0} (set : Charset) (at : ℕ) (columns : List Column) (bytes text : List ℕ) (room used made : ℕ) → CELL_ROOM ≤ room
-    → ((used ≡ 0) × A × (CELL_ROOM ≤ room → FirstLeft set at columns bytes room)) ⊎ ((0 < used) × FirstDone at columns bytes text used made) → ((used ≡ 0) × A × FirstLeft set at columns bytes room) ⊎ FirstDone at columns bytes text used made
-first_judged set at columns bytes text room used made lent (inl x) = inl (x.0, x.1, x.2 lent)
-first_judged set at columns bytes text room used made lent (inr x) = inr x.1
-
--- ---- a run on the bytes of one scalar cell
-
-module _ {A : Type 0} (set : Charset) (room at : ℕ) (columns : List Column) (kind : Kind) (c : Column) (rest : List Column) (bytes text : List ℕ) (used made : ℕ) (scalar : is_scalar kind ≡ true) (next : drop at columns ≡ c ∷ rest) (is : kind ≡ c.kind) (whole : length bytes ≡ scalar_size kind bytes)
-    (first : ((used ≡ 0) × A × FirstLeft set at columns bytes room) ⊎ FirstDone at columns bytes text used made) where
-  same_size : scalar_size kind bytes ≡ whole_size c.kind bytes
-  same_size = sym (scalar_whole kind bytes scalar) ∙ ap (λ k. whole_size k bytes) is
-
-  scalar_left : IsLeft set kind bytes room → IsScalarLeft kind bytes
-  scalar_left (inl x) = x.1
-  scalar_left (inr x) = absurd (let never : true ≡ false = sym scalar ∙ x.0 in cc)
-
-  -- where they weren't used, the cell is left
-  pub one_left : used ≤ length bytes → used ≢ length bytes → IsScalarLeft kind bytes
-  one_left within some = elim first [
-    | inl x ↦ scalar_left (subst (λ k. IsLeft set k bytes room) (sym is) (x.2 c rest next))
-    | inr f ↦ absurd (let x = f c rest next in omega (arith, x.0, same_size, whole, within, some))
-  ]
-
-  -- where they were, what was made is its text
-  pub one_whole : (last : Bool) → last ≡ is_last rest → used ≡ length bytes → (charset : Charset) → WritesCell (cell_start kind (shape charset kind)) at last bytes (take made text)
-  one_whole last end all charset = elim first [
-    | inl x ↦ absurd (omega (arith, x.0, all, whole, scalar_some kind bytes))
-    | inr f ↦ (let x = f c rest next in
-        subst (λ (v : Bool). WritesCell (cell_start kind (shape charset kind)) at v bytes (take made text)) (sym end)
-        (subst (λ (k : Kind). WritesCell (cell_start k (shape charset k)) at (is_last rest) bytes (take made text)) (sym is)
-        (subst (λ l. WritesCell (cell_start c.kind (shape charset c.kind)) at (is_last rest) l (take made text)) (take_all used bytes (omega (arith, all))) (x.1 (omega (arith, all, whole, same_size)) (ap is_scalar (sym is) ∙ scalar) charset))))
-  ]
 
 -- ---- a run between a payload and a sink
 

@@ -1,5 +1,5 @@
 -- Runs of cells over the columns that a table knows: more cells after those that were written.
-use Rattle.std.proofs.Common.{◌≡◌, ◌∙◌, ◌⊎◌, inl, inr, ℕ, ◌+◌, ◌-◌, ◌<◌, ◌≤◌, Bool, List, ◌∷◌, ◌++◌, length, take, drop, sym, ap, subst, arith}
+use Rattle.std.proofs.Common.{◌≡◌, ◌∙◌, ℕ, ◌+◌, ◌-◌, ◌≤◌, Bool, List, ◌∷◌, ◌++◌, length, take, drop, sym, ap, subst}
 use Rattle.std.specs.Prelude.{◌==◌}
 use Rattle.tds_values.specs.declared.kind.Kind.{Kind}
 use Rattle.tds_columns.specs.Description.{Column}
@@ -7,12 +7,12 @@ use Rattle.tds_rows.specs.declared.Charset.{Charset}
 use Rattle.tds_rows.specs.declared.table.Ahead.{Ahead}
 use Rattle.tds_rows.specs.declared.table.Table.{Table}
 use Rattle.tds_rows.specs.Cells.{Cell, cell_start, shape}
-use Rattle.tds_rows.specs.CellSteps.{WritesKind, is_last, whole_size}
+use Rattle.tds_rows.specs.CellSteps.{WritesKind, is_last}
 use Rattle.tds_rows.specs.WholeCells.{WritesWhole}
-use Rattle.tds_rows.specs.Runs.{FirstDone, WritesCells, WritesRows}
+use Rattle.tds_rows.specs.Runs.{WritesCells, WritesRows}
 use Rattle.tds_rows.specs.Tables.{IsAhead, Knows, TakesColumn}
 use Rattle.tds_rows.proofs.TableSteps.{last_one}
-use Rattle.tds_rows.proofs.RunSteps.{cells_step, first_cells, first_further, first_one, one_cell, rows_step}
+use Rattle.tds_rows.proofs.RunSteps.{cells_step, one_cell, rows_step}
 
 -- Between two places of a row these bytes are its cells, and this is their text.
 abbrev pub CellsBetween : Table → List Column → Ahead → Ahead → List ℕ → List ℕ → Type 0
@@ -21,10 +21,6 @@ CellsBetween table columns old new bytes text = IsAhead table columns new × ((c
 -- So they are over the ends of so many rows.
 abbrev pub RowsBetween : Table → List Column → Ahead → Ahead → ℕ → List ℕ → List ℕ → Type 0
 RowsBetween table columns old new count bytes text = IsAhead table columns new × ((charset : Charset) (cells : List Cell) → table.charset ≡ charset → length cells ≡ old.column → WritesRows charset columns cells (drop old.column columns) (drop new.column columns) new.column count bytes text)
-
--- Nothing was done, or the first cell ahead was.
-abbrev pub Begun : Table → Ahead → Ahead → List ℕ → List ℕ → ℕ → ℕ → Type 0
-Begun table from at bytes text used made = ((used ≡ 0) × (made ≡ 0) × (at ≡ from)) ⊎ ((0 < used) × ((columns : List Column) → Knows table columns → IsAhead table columns from → FirstDone from.column columns bytes text used made))
 
 module _ (table : Table) (from old new : Ahead) (used u made m : ℕ) (bytes to text rest : List ℕ) (within : made ≤ length to) (some : m ≤ length text) where
   -- more cells within a row
@@ -43,21 +39,10 @@ module _ (table : Table) (from old new : Ahead) (used u made m : ℕ) (bytes to 
     λ charset cells set is. rows_step charset columns cells (drop from.column columns) (drop old.column columns) (drop new.column columns) old.column new.column count used u made m bytes to text rest within some (x.1 charset cells set is) (λ cs h. y.1 charset cs set h),
   )
 
-  -- what was done with the first cell
-  pub more_begun : Begun table from old bytes to used made → 0 < u → ((columns : List Column) → Knows table columns → IsAhead table columns from → FirstDone old.column columns (take (length bytes - used) (drop used bytes)) text u m)
-      → Begun table from new bytes (take made to ++ (text ++ rest)) (used + u) (made + m)
-  more_begun begun further f = inr (
-    omega (arith, further),
-    λ columns knows begins. elim begun [
-      | inl z ↦ first_cells old.column from.column columns used u made m bytes to text rest z.0 z.1 (ap (λ a. a.column) z.2) within some (f columns knows begins)
-      | inr done ↦ first_further from.column columns bytes to (take made to ++ (text ++ rest)) used u made (made + m) further (done.1 columns knows begins)
-    ],
-  )
-
 -- ---- one cell
 
 module _ (table : Table) (columns : List Column) (old new : Ahead) (kind : Kind) (last : Bool) (u m : ℕ) (bytes text : List ℕ) (knows : Knows table columns) (taken : TakesColumn table columns old new kind) (end : last ≡ (old.column + 1 == table.count))
-    (size : u ≡ whole_size kind bytes) (wrote : WritesKind table.charset kind old.column last (take u bytes) (take m text)) where
+    (wrote : WritesKind table.charset kind old.column last (take u bytes) (take m text)) where
   -- it is the last one where none is left
   ends : last ≡ is_last (drop new.column columns)
   ends = end ∙ last_one columns (drop new.column columns) taken.column old.column table.count knows.counted taken.next
@@ -74,7 +59,3 @@ module _ (table : Table) (columns : List Column) (old new : Ahead) (kind : Kind)
         subst (λ (l : List Column). WritesCells charset cells l left new.column (take u bytes) (take m text)) (sym taken.next)
         (subst (λ (n : ℕ). WritesCells charset cells (taken.column ∷ left) left n (take u bytes) (take m text)) (sym taken.further) (one_cell charset taken.column left old.column (take u bytes) (take m text) c cells is)),
   )
-
-  -- so all of its bytes were used
-  pub one_done : FirstDone old.column columns bytes text u m
-  one_done = first_one table.charset old.column columns taken.column (drop new.column columns) kind last u m bytes text taken.next taken.kind ends size wrote

@@ -43,7 +43,7 @@ abbrev pub cell_so_far : ℕ → Bool → CellPart → List ℕ
 cell_so_far column last (WholeCell cell) = in_line column last (field cell)
 cell_so_far column last part = opened column (field_so_far part)
 
--- where the value of a scalar cell lies in its bytes: after a length, unless each value has as many bytes
+-- where the value of a scalar cell is in its bytes: after a length, unless each value has as many bytes
 abbrev pub start_behind : Option ℕ → ℕ
 start_behind (Some n) = 0
 start_behind None = 1
@@ -93,7 +93,7 @@ whole_size kind bytes = if is_scalar kind then scalar_size kind bytes else short
 abbrev pub IsScalarLeft : Kind → List ℕ → Type 0
 IsScalarLeft kind bytes = (length bytes < scalar_size kind bytes) ⊎ ((0 < value_length kind bytes) × (is_ok (read_of kind (value_bytes kind bytes)) ≡ false))
 
--- The cell at the front of these bytes is left, with so much room.
+-- The cell at the front of these bytes is left, with this much room.
 abbrev pub IsLeft : Charset → Kind → List ℕ → ℕ → Type 0
 IsLeft charset kind bytes room =
     ((is_scalar kind ≡ true) × IsScalarLeft kind bytes) ⊎ ((is_scalar kind ≡ false) × IsShortLeft (short_conversion (shape charset kind)) bytes room)
@@ -103,15 +103,10 @@ pub record WritesKind (charset : Charset) (kind : Kind) (column : ℕ) (last : B
   pub whole : WritesWhole (cell_start kind (shape charset kind)) column last bytes text
   pub at_once : is_scalar kind ≡ true → (any : Charset) → WritesCell (cell_start kind (shape any kind)) column last bytes text
 
--- The cell at the front of these bytes, so many of them, was written to the front of others; or it is left, with so much room.
+-- The cell at the front of these bytes, this many of them, was written to the front of others; or it is left, with this much room.
 abbrev pub CellWritten : Charset → Kind → ℕ → Bool → List ℕ → ℕ → List ℕ → Option Written → Type 0
 CellWritten charset kind column last bytes room text result = MatchOption result (IsLeft charset kind bytes room)
     (λ written. WritesKind charset kind column last (take written.used bytes) (take written.made text))
-
--- The scalar cell at the front of these bytes, all of it, was written to the front of others; or it is left.
-abbrev pub NearWritten : Charset → Kind → ℕ → Bool → List ℕ → List ℕ → Option Written → Type 0
-NearWritten charset kind column last bytes text result = MatchOption result (IsScalarLeft kind bytes)
-    (λ written. WritesCell (cell_start kind (shape charset kind)) column last (take written.used bytes) (take written.made text))
 
 -- Reading a cell stopped before it had any text.
 pub record StallsCell (from : CellPart) (column : ℕ) (old new : Seen) (place : ℕ) (stop : Stop) : Type 0 where

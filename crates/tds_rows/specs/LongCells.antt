@@ -25,7 +25,7 @@ opening false = binary_mark
 
 -- ---- lengths
 
--- A length or total of so many bytes was read, and this is its number.
+-- A length or total of this many bytes was read, and this is its number.
 pub record ReadsNumber (size : ℕ) (old new : Seen) (place place' n : ℕ) : Type 0 where
   pub element : List ℕ
   pub whole : length element ≡ size
@@ -70,11 +70,11 @@ short_fault column size n = unless ((n == 0xFFFF) || (n % size == 0)) (OddText c
 abbrev pub total_fault : ℕ → ℕ → ℕ → Option Fault
 total_fault column size n = unless (nat_le unknown_total n || (n % size == 0)) (OddText column)
 
--- the fault of a terminator after so many bytes of content, but for what the content itself has
+-- the fault of a terminator after this many bytes of content, but for what the content itself has
 abbrev pub end_fault : ℕ → ℕ → Option ℕ → ℕ → Option Fault
 end_fault column size total sum = if is_total total sum then unless (sum % size == 0) (OddText column) else Some (PlpLength column)
 
--- the fault of the length of a chunk after so many bytes of content, 0 being the terminator
+-- the fault of the length of a chunk after this many bytes of content, 0 being the terminator
 abbrev pub chunk_length_fault : ℕ → ℕ → Option ℕ → ℕ → ℕ → Option Fault
 chunk_length_fault column size total sum n = if n == 0 then end_fault column size total sum else unless (within_total total (sum + n)) (PlpLength column)
 
@@ -134,7 +134,7 @@ pub record BreaksData (c : Conversion) (content : List ℕ) (most : ℕ) (old ne
   pub begun : Begins c (content ++ good)
   pub breaks : Breaks before after (added_text c content good) stop
 
--- The next piece of the content stopped, of at most so many bytes.
+-- The next piece of the content stopped, of at most this many bytes.
 abbrev pub StopsData : Conversion → List ℕ → ℕ → ℕ → Seen → Seen → ℕ → Held → Held → Bool → Stop → Type 0
 StopsData c content column most old new place before after failed stop =
     (CutsData old new place before after stop × (failed ≡ false))
@@ -178,7 +178,7 @@ pub record StopsFilling (c : Conversion) (content : List ℕ) (column n : ℕ) (
   pub fills : FillsData c content old middle place there before between front
   pub stops : StopsData c (content ++ front) column (n - length front) middle new there between after failed stop
 
--- The content of so many bytes, one at least, was read and its text put, or that stopped.
+-- The content of this many bytes, one at least, was read and its text put, or that stopped.
 abbrev pub DataTaken : {R W U : Type 0} → (R → Option (List ℕ)) → (W → Option (List ℕ)) → Conversion → List ℕ → List ℕ → ℕ → ℕ → payloads.Payload R → payloads.Payload R → Sink W → Sink W → Result U Stop → Type 0
 DataTaken remaining contents c content kept column n old new before after result = MatchResult result
     (λ _. EndsData c content kept (seen remaining old) (seen remaining new) old.place new.place (held contents before) (held contents after) n)
@@ -189,7 +189,7 @@ abbrev pub good_of : JoinFault → ℕ
 good_of (join_faults.BadText k) = k
 good_of fault = 0
 
--- the stop of a fault of a joiner whose piece, or whose end, stands after so many bytes
+-- the stop of a fault of a joiner whose piece, or whose end, stands after this many bytes
 abbrev pub join_stop : ℕ → ℕ → JoinFault → Stop
 join_stop column place (Stopped stop) = stop
 join_stop column place fault = record { fault = BadText column; place = Payload (place + good_of fault) }

@@ -24,20 +24,20 @@ abbrev pub WritesNext : Charset → Bool → Kind → ℕ → Bool → List ℕ 
 WritesNext charset true kind column last bytes text = (bytes ≡ []) × (text ≡ in_line column last null_field)
 WritesNext charset false kind column last bytes text = WritesWhole (cell_start kind (shape charset kind)) column last bytes text
 
--- The next cell was written, with these bytes at its front, so many of them; or it isn't NULL by its bit and is left, with so much room.
+-- The next cell was written, with these bytes at its front, this many of them; or it isn't NULL by its bit and is left, with this much room.
 abbrev pub NextWritten : Charset → Bool → Kind → ℕ → Bool → List ℕ → ℕ → List ℕ → Option Written → Type 0
 NextWritten charset null kind column last bytes room text result = MatchOption result
     ((null ≡ false) × IsLeft charset kind bytes room)
     (λ written. WritesNext charset null kind column last (take written.used bytes) (take written.made text))
 
--- The bytes are the cell of the column after so many, none where it is NULL by its bit, and this is its text in its line.
+-- The bytes are the cell of the column after this many, none where it is NULL by its bit, and this is its text in its line.
 pub record WritesColumn (charset : Charset) (columns : List Column) (nulls : ℕ → Bool) (at : ℕ) (bytes text : List ℕ) : Type 0 where
   pub column : Column
   pub left : List Column
   pub next : drop at columns ≡ column ∷ left
   pub writes : WritesNext charset (nulls at) column.kind at (is_last left) bytes text
 
--- The bytes are the cells of so many columns from one on, each but those that are NULL by their bit, and this is their text in their line.
+-- The bytes are the cells of this many columns from one on, each but those that are NULL by their bit, and this is their text in their line.
 abbrev pub WritesMarked : Charset → List Column → (ℕ → Bool) → ℕ → ℕ → List ℕ → List ℕ → Type 0
 WritesMarked charset columns nulls from zero bytes text = (bytes ≡ []) × (text ≡ [])
 WritesMarked charset columns nulls from (suc n) bytes text = (front : List ℕ) × (rest : List ℕ) × (before : List ℕ) × (more : List ℕ)
@@ -52,7 +52,7 @@ pub record RunsMarked (table : Table) (columns : List Column) (nulls : ℕ → B
 
 -- ---- what a run gives, whatever the columns that its table knows
 
--- The next cell isn't NULL by its bit and is left, with so much room; or there isn't room for every scalar, or none is ahead.
+-- The next cell isn't NULL by its bit and is left, with this much room; or there isn't room for every scalar, or none is ahead.
 abbrev pub EndsLeft : Table → (ℕ → Bool) → Ahead → List ℕ → ℕ → Type 0
 EndsLeft table nulls at bytes room = (columns : List Column) (column : Column) (left : List Column) → Knows table columns → IsAhead table columns at → drop at.column columns ≡ column ∷ left →
     (room < CELL_ROOM) ⊎ ((nulls at.column ≡ false) × IsLeft table.charset column.kind bytes room)

@@ -18,7 +18,7 @@ use Rattle.tds_rows.specs.Cells.{Cell, CellPart, ChunkData, ChunkLength, DataCel
 abbrev pub return_cell : Grammar CellPart Fault
 return_cell = cell return_column
 
--- Any bytes may be such data, in units of so many.
+-- Any bytes may be such data, in units of this many.
 pub record AnyData (c : Conversion) (size : ℕ) : Type 0 where
   pub begun : (bytes : List ℕ) → is_begun c bytes ≡ true
   pub fit : (bytes : List ℕ) → length bytes % size ≡ 0 → is_fit c bytes ≡ true
@@ -40,7 +40,7 @@ pub record PassesData (n : ℕ) (old new : Seen) (place place' : ℕ) : Type 0 w
   pub between : IsBetween new
   pub place_is : place' ≡ place + n
 
--- The payload stopped before so many bytes; where the message ended, the stop stands at the byte that is missing.
+-- The payload stopped before this many bytes; where the message ended, the stop stands at the byte that is missing.
 pub record CutsPassing (n : ℕ) (old new : Seen) (place : ℕ) (stop : Stop) : Type 0 where
   pub bytes : List ℕ
   pub own : Stop
@@ -82,10 +82,10 @@ CellPassed remaining from old new result = MatchResult result
     (λ _. PassesCell from (seen remaining old) (seen remaining new) old.place new.place)
     (λ stop. StopsPassing from (seen remaining old) (seen remaining new) old.place stop)
 
--- within a short value: so many bytes follow its data so far
+-- within a short value: this many bytes follow its data so far
 abbrev pub short_left : Conversion → ℕ → List ℕ → CellPart
 short_left c left content = if left == 0 then WholeCell (DataCell c content) else ShortData c (left - 1) content
 
--- within a chunk: so many bytes follow the data so far
+-- within a chunk: this many bytes follow the data so far
 abbrev pub chunk_left : Conversion → Option ℕ → ℕ → List ℕ → CellPart
 chunk_left c total left content = if left == 0 then ChunkLength c total content else ChunkData c total (left - 1) content

@@ -40,7 +40,7 @@ pub record StaysInRow {R W : Type 0} (old new : Rows R W) : Type 0 where
   pub room : new.small.now.room ≡ old.small.now.room
   pub bound : new.small.now.peak ≤ max old.small.now.peak LONGEST_CELL
 
--- The cell of a long kind after so many columns, the row's last or not, was read and its text put, or the call stopped.
+-- The cell of a long kind after this many columns, the row's last or not, was read and its text put, or the call stopped.
 abbrev pub LongRead : {R W U : Type 0} → (R → Option (List ℕ)) → (W → Option (List ℕ)) → ℕ → Bool → Kind → Rows R W → Rows R W → Result U Stop → Type 0
 LongRead remaining contents column last kind old new result =
     CellPut remaining contents old.table.now.charset kind column last old.payload.now new.payload.now old.sink.now new.sink.now result

@@ -29,7 +29,7 @@ RowPut remaining contents charset start old new before after result = MatchResul
     (λ _. ReadsRow charset start (seen remaining old) (seen remaining new) old.place new.place (held contents before) (held contents after))
     (λ stop. RowStops charset start (seen remaining old) (seen remaining new) old.place (held contents before) (held contents after) after.failed stop)
 
--- Rows were read, so many, and their lines put.
+-- Rows were read, this many, and their lines put.
 pub record ReadsRows (charset : Charset) (columns : List Column) (count : ℕ) (old new : Seen) (place place' : ℕ) (before after : Held) : Type 0 where
   pub earlier : List (List Cell)
   pub last : List Cell

@@ -16,7 +16,7 @@ row_byte = 0xD1
 abbrev pub bit : List ℕ → ℕ → Bool
 bit bitmap k = (slice_index bitmap (k / 8) / 2 ^ (k % 8)) % 2 == 1
 
--- the bytes of a bitmap for so many columns
+-- the bytes of a bitmap for this many columns
 abbrev pub bitmap_length : ℕ → ℕ
 bitmap_length columns = (columns + 7) / 8
 

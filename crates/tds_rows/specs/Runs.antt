@@ -1,5 +1,5 @@
 -- What a run of cells does, which lie whole in the packet.
-use Rattle.std.specs.Prelude.{◌≡◌, ◌==◌, ◌⊎◌, ◌+◌, ◌<◌, ◌≤◌, ℕ, true, false, List, [], ◌∷◌, ◌++◌, length, map, take, drop, Option, Some, None, if◌then◌else◌, slice_index}
+use Rattle.std.specs.Prelude.{◌≡◌, ◌==◌, ◌+◌, ℕ, false, List, [], ◌∷◌, ◌++◌, length, map, take, drop, Option, Some, None, if◌then◌else◌, slice_index}
 use Rattle.tds_packet.specs.declared.fault.Fault.{Fault}
 use Rattle.tds_packet.specs.declared.fault.Fault.TheVariants.{MessageEnded, RefusedToken}
 use Rattle.tds_packet.specs.Elements.{Grammar, Spelt}
@@ -13,15 +13,12 @@ use Rattle.tds_csv.specs.Sinks.{Held, held}
 use Rattle.tds_csv.specs.Streaming.{Streams}
 use Rattle.tds_rows.specs.declared.Charset.{Charset}
 use Rattle.tds_rows.specs.declared.run.CellRun.{CellRun}
-use Rattle.tds_rows.specs.declared.run.Run.{Run}
+use Rattle.tds_rows.specs.declared.run.RowsRun.{RowsRun}
 use Rattle.tds_rows.specs.declared.table.Ahead.{Ahead}
 use Rattle.tds_rows.specs.declared.table.Table.{Table}
-use Rattle.tds_rows.specs.declared.run.fields.TheConstants.{CELL_ROOM}
-use Rattle.tds_rows.specs.Cells.{Cell, cell_start, field, shape}
-use Rattle.tds_values.specs.Kind.{is_scalar}
-use Rattle.tds_rows.specs.CellSteps.{IsLeft, is_last, whole_size}
-use Rattle.tds_rows.specs.WholeCells.{WritesCell}
+use Rattle.tds_rows.specs.Cells.{Cell, field}
 use Rattle.tds_rows.specs.Rows.{RowPart, WholeRow, marked, next_cell, row, row_add, row_byte, row_fault, row_size, row_so_far, row_start}
+use Rattle.tds_rows.specs.MarkedRuns.{EndsLeft}
 use Rattle.tds_rows.specs.Tables.{IsAhead, Knows}
 
 -- The bytes are whole elements, which lead from one state to another, and this is what the text of the second has more than that of the first.
@@ -78,7 +75,7 @@ lines (r ∷ rs) = line (map field r) ++ lines rs
 abbrev pub rows_so_far : RowsPart → List ℕ
 rows_so_far p = lines p.before ++ row_so_far p.at
 
--- The bytes are more cells after these, over the ends of so many rows, and this is their text; the columns left come after.
+-- The bytes are more cells after these, over the ends of this many rows, and this is their text; the columns left come after.
 pub record WritesRows (charset : Charset) (all : List Column) (cells : List Cell) (columns left : List Column) (column count : ℕ) (bytes made : List ℕ) : Type 0 where
   pub before : List (List Cell)
   pub more : List Cell
@@ -86,7 +83,7 @@ pub record WritesRows (charset : Charset) (all : List Column) (cells : List Cell
   pub counted : length more ≡ column
   pub writes : Writes (rows charset all) rows_so_far (record { before = []; at = behind_cells charset cells columns }) bytes made (record { before = before; at = behind_cells charset more left })
 
--- More cells after these were read, over the ends of so many rows, and their text put.
+-- More cells after these were read, over the ends of this many rows, and their text put.
 pub record RunsRows (charset : Charset) (all : List Column) (cells : List Cell) (columns left : List Column) (column count : ℕ) (old new : Seen) (place place' : ℕ) (earlier after : Held) : Type 0 where
   pub before : List (List Cell)
   pub more : List Cell
@@ -97,25 +94,9 @@ pub record RunsRows (charset : Charset) (all : List Column) (cells : List Cell) 
 
 -- ---- what a run gives, whatever the columns that its table knows, and whatever the cells before it
 
--- All bytes of the cell of this column, the first one ahead, were used; and where no others were, what was made is a scalar's text.
-abbrev pub FirstDone : ℕ → List Column → List ℕ → List ℕ → ℕ → ℕ → Type 0
-FirstDone at columns bytes text used made = (column : Column) (rest : List Column) → drop at columns ≡ column ∷ rest →
-    (whole_size column.kind bytes ≤ used)
-    × (used ≡ whole_size column.kind bytes → is_scalar column.kind ≡ true → (charset : Charset) → WritesCell (cell_start column.kind (shape charset column.kind)) at (is_last rest) (take used bytes) (take made text))
-
--- The first cell ahead is left, with so much room.
-abbrev pub FirstLeft : Charset → ℕ → List Column → List ℕ → ℕ → Type 0
-FirstLeft charset at columns bytes room = (column : Column) (rest : List Column) → drop at columns ≡ column ∷ rest → IsLeft charset column.kind bytes room
-
--- What a run with room for every scalar did with the first cell ahead: nothing, since that cell is left; or it used its bytes.
-abbrev pub FirstJudged : Table → Ahead → List ℕ → ℕ → List ℕ → Ahead → ℕ → ℕ → Type 0
-FirstJudged table from bytes room text ahead used made = (columns : List Column) → Knows table columns → IsAhead table columns from → CELL_ROOM ≤ room →
-    ((used ≡ 0) × (ahead ≡ from) × FirstLeft table.charset from.column columns bytes room) ⊎ FirstDone from.column columns bytes text used made
-
--- What a run within a row did with the first cell ahead: nothing, and with room for every scalar that cell is left; or it used its bytes.
-abbrev pub FirstOfCells : Table → Ahead → List ℕ → ℕ → List ℕ → CellRun → Type 0
-FirstOfCells table from bytes room text run = (columns : List Column) → Knows table columns → IsAhead table columns from →
-    ((run.used ≡ 0) × (run.ahead ≡ from) × (CELL_ROOM ≤ room → FirstLeft table.charset from.column columns bytes room)) ⊎ ((0 < run.used) × FirstDone from.column columns bytes text run.used run.made)
+-- A run ended at the row's end, where there isn't room for every scalar, or before a cell that is left.
+abbrev pub RunEnds : Table → Ahead → List ℕ → ℕ → Type 0
+RunEnds table at bytes room = EndsLeft table (λ k. false) at bytes room
 
 -- A run wrote the text of the bytes that it used, within a row, and ended at a place of it; single-byte text was read in the table's set.
 abbrev pub CellsWritten : Table → Ahead → List ℕ → List ℕ → CellRun → Type 0
@@ -124,13 +105,13 @@ CellsWritten table from bytes text run = (columns : List Column) → Knows table
     WritesCells charset cells (drop from.column columns) (drop run.ahead.column columns) run.ahead.column (take run.used bytes) (take run.made text))
 
 -- A run wrote the text of the bytes that it used, over the ends of rows, and ended at a place of a row; single-byte text was read in the table's set.
-abbrev pub RowsWritten : Table → Ahead → List ℕ → List ℕ → Run → Type 0
+abbrev pub RowsWritten : Table → Ahead → List ℕ → List ℕ → RowsRun → Type 0
 RowsWritten table from bytes text run = (columns : List Column) → Knows table columns → IsAhead table columns from →
     IsAhead table columns run.ahead × ((charset : Charset) (cells : List Cell) → table.charset ≡ charset → length cells ≡ from.column →
     WritesRows charset columns cells (drop from.column columns) (drop run.ahead.column columns) run.ahead.column run.rows (take run.used bytes) (take run.made text))
 
 -- The same between a payload and a sink.
-abbrev pub RowsPut : {R W : Type 0} → (R → Option (List ℕ)) → (W → Option (List ℕ)) → Table → Ahead → Payload R → Payload R → Sink W → Sink W → Run → Type 0
+abbrev pub RowsPut : {R W : Type 0} → (R → Option (List ℕ)) → (W → Option (List ℕ)) → Table → Ahead → Payload R → Payload R → Sink W → Sink W → RowsRun → Type 0
 RowsPut remaining contents table from old new before after run = (columns : List Column) → Knows table columns → IsAhead table columns from →
     IsAhead table columns run.ahead × ((charset : Charset) (cells : List Cell) → table.charset ≡ charset → length cells ≡ from.column →
     RunsRows charset columns cells (drop from.column columns) (drop run.ahead.column columns) run.ahead.column run.rows (seen remaining old) (seen remaining new) old.place new.place (held contents before) (held contents after))

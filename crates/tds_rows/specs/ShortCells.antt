@@ -36,11 +36,11 @@ abbrev pub IsShortLeft : Option Conversion → List ℕ → ℕ → Type 0
 IsShortLeft (Some c) bytes room = (length bytes < short_size bytes) ⊎ ((room < 1 + field_room c (data_length bytes)) ⊎ (is_fit c (short_data bytes) ≡ false))
 IsShortLeft None bytes room = Unit {0}
 
--- The cell of a short value of this conversion at the front of these bytes, so many of them, was written to the front of others; or it is left.
+-- The cell of a short value of this conversion at the front of these bytes, this many of them, was written to the front of others; or it is left.
 abbrev pub ContentWritten : Conversion → ℕ → Bool → List ℕ → ℕ → List ℕ → Option Written → Type 0
 ContentWritten c column last bytes room text result = MatchOption result (IsShortLeft (Some c) bytes room) (λ written. WritesWhole (ShortLength c) column last (take written.used bytes) (take written.made text))
 
--- The cell of a short value of a kind at the front of these bytes, so many of them, was written to the front of others; or it is left.
+-- The cell of a short value of a kind at the front of these bytes, this many of them, was written to the front of others; or it is left.
 abbrev pub ShortWritten : Charset → Kind → ℕ → Bool → List ℕ → ℕ → List ℕ → Option Written → Type 0
 ShortWritten charset kind column last bytes room text result = MatchOption result (IsShortLeft (short_conversion (shape charset kind)) bytes room)
     (λ written. (is_scalar kind ≡ false) × WritesWhole (cell_start kind (shape charset kind)) column last (take written.used bytes) (take written.made text))

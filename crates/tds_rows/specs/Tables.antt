@@ -16,7 +16,7 @@ kinds columns = map (λ c. c.kind) columns
 pub record Knows (table : Table) (columns : List Column) : Type 0 where
   pub first : map (λ f. f.kind) (take table.known table.forms) ≡ kinds (take table.known columns)
   pub counted : table.count ≡ length columns
-  pub behind : columns_left table.behind ≡ drop table.known columns
+  pub rest : columns_left table.rest ≡ drop table.known columns
 
 -- The table knows some columns.
 abbrev pub KnowsSome : Table → Type 0

@@ -16,8 +16,8 @@ use tds_values::Kind;
 /// cells needs room for them in the small area.
 pub const LONGEST_CELL: usize = 18;
 
-/// The longest value of a scalar kind.
-const LONGEST: usize = 17;
+/// The most bytes that a value of a scalar kind has.
+const LONGEST_VALUE: usize = 17;
 
 // The stop of a value out of range, which began after `place` bytes of the payload.
 pub(crate) fn bad_value(column: u16, place: u64) -> Stop
@@ -51,7 +51,7 @@ fn gather_fixed<R: Read>(
     requires empty { small.old.bytes ≡ [] }
     requires room { LONGEST_CELL ≤ small.old.room }
     requires fixed { kinds.fixed_length kind.now ≡ Some n }
-    requires longest { n ≤ LONGEST }
+    requires longest { n ≤ LONGEST_VALUE }
     ensures payload { LeavesPayload payload.old payload.new result }
     ensures room { small.new.room ≡ small.old.room }
     ensures bound { small.new.peak ≤ max small.old.peak LONGEST_CELL }

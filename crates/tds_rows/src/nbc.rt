@@ -1,5 +1,5 @@
 // A row with a bitmap of the columns that are NULL (MS-TDS, NBCROW).
-ghost use Rattle.std.specs.Prelude.{◌≡◌, ℕ, ◌+◌, ◌*◌, ◌<◌, ◌≤◌, ◌++◌, List, [], None, false, length, max, IsTrue};
+ghost use Rattle.std.specs.Prelude.{◌≡◌, ℕ, ◌+◌, ◌*◌, ◌<◌, ◌≤◌, ◌++◌, List, [], None, false, length, max};
 ghost use Rattle.tds_columns.specs.Description.{Column};
 ghost use Rattle.tds_columns.specs.View.{columns_of};
 ghost use Rattle.tds_csv.specs.Sinks.{IsReady, LeavesSink};
@@ -10,20 +10,18 @@ ghost use Rattle.tds_rows.specs.Cells.{Cell};
 ghost use Rattle.tds_rows.specs.Rows.{SpellsNbcRow, bit, bitmap_length, nbc_row_start};
 ghost use Rattle.tds_rows.specs.Successes.{SucceedsOn};
 ghost use Rattle.tds_rows.specs.Tables.{Knows, KnowsSome};
-ghost use Rattle.tds_values.specs.Kind as kinds;
 
 use crate::Charset;
 use crate::gather::LONGEST_CELL;
 use crate::reading::Rows;
 use crate::run::fields::put_null;
 use crate::run::nulls::is_null;
-use crate::table::{Ahead, Table};
+use crate::table::{Ahead, Form, Table};
 use std::io::{Read, Write};
 use tds_columns::{Columns, take_into};
 use tds_csv::Sink;
 use tds_meter::Area;
 use tds_packet::{Payload, Stop};
-use tds_values::Kind;
 
 /// The most bytes that a bitmap has.
 const LONGEST_BITMAP: usize = 8192;
@@ -38,17 +36,16 @@ fn bitmap_size(columns: u16) -> usize
 
 impl<'r, 't, 'p, 's, 'c, R: Read, W: Write> Rows<'r, 't, 'p, 's, 'c, R, W> {
     // Puts the next cell: NULL, or the one that is read.
-    fn put_next(&mut self, at: Ahead<'c>, kind: &Kind, null: bool) -> Result<(), Stop>
+    fn put_next(&mut self, at: Ahead<'c>, form: &Form, null: bool) -> Result<(), Stop>
         requires in_row { IsInRow self.old }
         requires within { at.column < self.old.table.now.count }
-        requires valid { IsTrue (kinds.is_valid kind.now) }
         ensures leaves { LeavesRows self.old self.new result }
-        ensures gives { NextRead R.remaining W.contents at.entry kind.now null self.old self.new result }
+        ensures gives { NextRead R.remaining W.contents at.entry form.now.kind null self.old self.new result }
     {
         if null {
             return put_null(at.column, self.table.is_last(at), self.sink);
         }
-        self.put_cell(at, kind)
+        self.put_cell(at, form)
     }
 
     // Reads an NBCROW after its token byte, its bitmap into an empty area, and puts its line.
@@ -73,7 +70,7 @@ impl<'r, 't, 'p, 's, 'c, R: Read, W: Write> Rows<'r, 't, 'p, 's, 'c, R, W> {
                 return Ok(());
             };
             let null = is_null(bitmap.bytes(), at.column);
-            self.put_next(at, &form.kind, null)?;
+            self.put_next(at, &form, null)?;
             ahead = after;
         }
     }

@@ -6,18 +6,16 @@ ghost use Rattle.tds_values.specs.Kind as kinds;
 use crate::Charset;
 use crate::gather::{bad_value, gather_scalar};
 use crate::long::stream_long;
-use crate::run::alone::write_alone;
-use crate::run::buffered::length_size;
+use crate::run::buffered::{length_size, write_alone};
 use crate::run::fields::CELL_ROOM;
-use crate::run::short::write_short;
-use crate::table::{Ahead, Table};
+use crate::table::{Ahead, Form, Table};
 use std::io::{Read, Write};
 use tds_csv::{Cp1252Joiner, HexJoiner, Joiner, Sink, Utf8Joiner, Utf16Joiner, joiners_suit};
 use tds_meter::Area;
 use tds_packet::{Payload, Stop};
 use tds_values::Kind;
 
-/// The room for the text of a short value that no run took.
+/// The room for the text of a cell that no run took.
 const SHORT_TEXT: usize = 256;
 
 /// The reading of rows: the payload, the sink, the area in which a cell is gathered, and the table of the columns.
@@ -30,38 +28,22 @@ pub(crate) struct Rows<'r, 't, 'p, 's, 'c, R, W> {
 }
 
 impl<'r, 't, 'p, 's, 'c, R: Read, W: Write> Rows<'r, 't, 'p, 's, 'c, R, W> {
-    // Reads the next cell of a scalar kind, and puts its text: one across the end of a packet, or one
-    // that stops the row. Its bytes are gathered in the small area, and a run on them alone judges it.
-    fn put_gathered(&mut self, at: Ahead<'c>, kind: &Kind) -> Result<(), Stop>
+    // Reads the next cell of a scalar kind, and puts its text: one across the end of a packet or of a block of
+    // text, or one that stops the row. Its bytes are gathered in the small area, where it is judged.
+    fn put_gathered(&mut self, column: u16, last: bool, form: &Form) -> Result<(), Stop>
         requires in_row { IsInRow self.old }
-        requires valid { IsTrue (kinds.is_valid kind.now) }
-        requires scalar { IsTrue (kinds.is_scalar kind.now) }
+        requires scalar { IsTrue (kinds.is_scalar form.now.kind) }
         ensures leaves { LeavesRows self.old self.new result }
-        ensures gives { CellRead R.remaining W.contents at.entry kind.now self.old self.new result }
+        ensures gives { LongRead R.remaining W.contents column last form.now.kind self.old self.new result }
     {
         let place = self.payload.place();
-        gather_scalar(self.payload, kind, at.column, self.small)?;
+        gather_scalar(self.payload, &form.kind, column, self.small)?;
+        let (charset, bytes) = (self.table.charset, self.small.bytes());
         let mut text = [0u8; CELL_ROOM];
-        let Some(cell) = write_alone(self.table, at, kind, self.small.bytes(), &mut text) else {
-            return Err(bad_value(at.column, place + length_size(kind) as u64));
+        let Some(cell) = write_alone(form, charset, column, last, bytes, &mut text) else {
+            return Err(bad_value(column, place + length_size(&form.kind) as u64));
         };
         self.sink.put(&text[..cell.made])
-    }
-
-    // Reads the next cell of a scalar kind, and puts its text: in place, if it is whole in the packet.
-    fn put_scalar(&mut self, at: Ahead<'c>, kind: &Kind) -> Result<(), Stop>
-        requires in_row { IsInRow self.old }
-        requires valid { IsTrue (kinds.is_valid kind.now) }
-        requires scalar { IsTrue (kinds.is_scalar kind.now) }
-        ensures leaves { LeavesRows self.old self.new result }
-        ensures gives { CellRead R.remaining W.contents at.entry kind.now self.old self.new result }
-    {
-        let mut text = [0u8; CELL_ROOM];
-        if let Some(near) = write_alone(self.table, at, kind, self.payload.buffered(), &mut text) {
-            self.payload.consume(near.used);
-            return self.sink.put(&text[..near.made]);
-        }
-        self.put_gathered(at, kind)
     }
 
     // Reads the next cell of a long kind by a joiner, and puts its field.
@@ -92,37 +74,27 @@ impl<'r, 't, 'p, 's, 'c, R: Read, W: Write> Rows<'r, 't, 'p, 's, 'c, R, W> {
         }
     }
 
-    // Reads the next cell of a long kind, and puts its text: at once, where it is a short value that is whole in
-    // the packet and whose text doesn't fill the block.
-    fn put_long(&mut self, column: u16, last: bool, kind: &Kind) -> Result<(), Stop>
-        requires in_row { IsInRow self.old }
-        requires long { kinds.is_scalar kind.now ≡ false }
-        ensures leaves { LeavesRows self.old self.new result }
-        ensures gives { LongRead R.remaining W.contents column last kind.now self.old self.new result }
-    {
-        let mut text = [0u8; SHORT_TEXT];
-        let bytes = self.payload.buffered();
-        if let Some(near) = write_short(*kind, self.table.charset, column, last, bytes, &mut text)
-            && near.made < self.sink.room()
-        {
-            self.payload.consume(near.used);
-            return self.sink.put(&text[..near.made]);
-        }
-        self.put_joined(column, last, kind)
-    }
-
-    /// Reads the next cell, whatever its kind, and puts its text.
+    /// Reads the next cell, whatever its kind, and puts its text: at once, where it is whole in the packet, isn't
+    /// in chunks, and its text doesn't fill the block.
     #[inline(never)]
-    pub(crate) fn put_cell(&mut self, at: Ahead<'c>, kind: &Kind) -> Result<(), Stop>
+    pub(crate) fn put_cell(&mut self, at: Ahead<'c>, form: &Form) -> Result<(), Stop>
         requires in_row { IsInRow self.old }
         requires within { at.column < self.old.table.now.count }
-        requires valid { IsTrue (kinds.is_valid kind.now) }
         ensures leaves { LeavesRows self.old self.new result }
-        ensures gives { CellRead R.remaining W.contents at.entry kind.now self.old self.new result }
+        ensures gives { CellRead R.remaining W.contents at.entry form.now.kind self.old self.new result }
     {
-        if kind.is_scalar() {
-            return self.put_scalar(at, kind);
+        let (column, last) = (at.column, self.table.is_last(at));
+        let (charset, bytes) = (self.table.charset, self.payload.buffered());
+        let mut text = [0u8; SHORT_TEXT];
+        if let Some(cell) = write_alone(form, charset, column, last, bytes, &mut text)
+            && cell.made < self.sink.room()
+        {
+            self.payload.consume(cell.used);
+            return self.sink.put(&text[..cell.made]);
         }
-        self.put_long(at.column, self.table.is_last(at), kind)
+        if form.kind.is_scalar() {
+            return self.put_gathered(column, last, form);
+        }
+        self.put_joined(column, last, &form.kind)
     }
 }

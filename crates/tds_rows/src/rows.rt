@@ -31,7 +31,7 @@ impl<'r, 't, 'p, 's, 'c, R: Read, W: Write> Rows<'r, 't, 'p, 's, 'c, R, W> {
     {
         let mut at = self.table.start();
         while let Some((form, after)) = self.table.next(at) {
-            self.put_cell(at, &form.kind)?;
+            self.put_cell(at, &form)?;
             at = after;
         }
         Ok(())
@@ -56,7 +56,7 @@ impl<'r, 't, 'p, 's, 'c, R: Read, W: Write> Rows<'r, 't, 'p, 's, 'c, R, W> {
             let Some((form, after)) = self.table.next(run.ahead) else {
                 return Ok(ended + 1);
             };
-            self.put_cell(run.ahead, &form.kind)?;
+            self.put_cell(run.ahead, &form)?;
             ahead = after;
         }
     }

@@ -1,15 +1,14 @@
 // A run of cells: as many as are whole in the packet and have room, over the ends of rows.
-ghost use Rattle.std.specs.Prelude.{◌≡◌, ◌+◌, ◌<◌, ◌≤◌, length};
+ghost use Rattle.std.specs.Prelude.{◌≡◌, ◌+◌, ◌-◌, ◌<◌, ◌≤◌, drop, length};
 ghost use Rattle.tds_rows.specs.RowReading.{IsInRow, StaysInRow};
-ghost use Rattle.tds_rows.specs.Runs.{CellsWritten, FirstJudged, FirstOfCells, RowsPut, RowsWritten};
+ghost use Rattle.tds_rows.specs.Runs.{CellsWritten, RowsPut, RowsWritten, RunEnds};
 
 use crate::reading::Rows;
-use crate::run::buffered::{INT4, has_int4, write_cell};
+use crate::run::buffered::{INT4_SIZE, has_int4, write_cell};
 use crate::run::fields::{CELL_ROOM, INT4_ROOM, write_int4_field};
 use crate::table::{Ahead, Table};
 use std::io::{Read, Write};
 
-pub(crate) mod alone;
 pub(crate) mod buffered;
 pub(crate) mod fields;
 pub(crate) mod nulls;
@@ -28,7 +27,7 @@ pub(crate) struct CellRun<'a> {
 
 /// How many bytes a run over rows used, how many it made, how many rows it began, and where it ended.
 #[derive(Clone, Copy)]
-pub(crate) struct Run<'a> {
+pub(crate) struct RowsRun<'a> {
     pub(crate) used: usize,
     pub(crate) made: usize,
     pub(crate) rows: usize,
@@ -46,7 +45,7 @@ pub(crate) fn run_cells<'a>(
 ) -> CellRun<'a>
     ensures used { result.used ≤ length bytes.now }
     ensures made { result.made ≤ length to.old }
-    ensures first { FirstOfCells table.now from.entry bytes.now (length to.old) to.new result }
+    ensures ends { result.used ≡ 0 → RunEnds table.now from.entry bytes.now (length to.old) }
     ensures gives { CellsWritten table.now from.entry bytes.now to.new result }
 {
     let mut used = 0;
@@ -72,7 +71,7 @@ pub(crate) fn run_cells<'a>(
         };
         used += written.used;
         made += written.made;
-        ahead = table.behind(ahead);
+        ahead = table.after(ahead);
     }
     CellRun { used, made, ahead }
 }
@@ -86,13 +85,12 @@ pub(crate) fn run_rows<'a>(
     from: Ahead<'a>,
     bytes: &[u8],
     to: &mut [u8],
-) -> Run<'a>
+) -> RowsRun<'a>
     requires { 0 < table.now.count }
     ensures used { result.used ≤ length bytes.now }
     ensures made { result.made ≤ length to.old }
     ensures few { result.rows ≤ result.used }
-    ensures first { FirstJudged table.now from.entry bytes.now (length to.old) to.new
-        result.ahead result.used result.made }
+    ensures ends { RunEnds table.now result.ahead (drop result.used bytes.now) (length to.old - result.made) }
     ensures gives { RowsWritten table.now from.entry bytes.now to.new result }
 {
     let mut used = 0;
@@ -105,9 +103,9 @@ pub(crate) fn run_rows<'a>(
             && has_int4(start, rest)
         {
             let last = table.is_last(ahead);
-            let value = &rest[start..start + INT4];
+            let value = &rest[start..start + INT4_SIZE];
             made += write_int4_field(ahead.column, last, value, &mut to[made..]);
-            used += start + INT4;
+            used += start + INT4_SIZE;
             ahead.column += 1;
             continue;
         }
@@ -128,7 +126,7 @@ pub(crate) fn run_rows<'a>(
         made += cells.made;
         ahead = cells.ahead;
     }
-    Run {
+    RowsRun {
         used,
         made,
         rows,
@@ -139,7 +137,7 @@ pub(crate) fn run_rows<'a>(
 impl<'r, 't, 'p, 's, 'c, R: Read, W: Write> Rows<'r, 't, 'p, 's, 'c, R, W> {
     /// Reads the next cells, as many as are whole in the packet, aren't in chunks and have room, over the
     /// ends of rows, and puts their text where it waits. It reads nothing and delivers nothing.
-    pub(crate) fn put_run(&mut self, from: Ahead<'c>) -> Run<'c>
+    pub(crate) fn put_run(&mut self, from: Ahead<'c>) -> RowsRun<'c>
         requires in_row { IsInRow self.old }
         requires some { 0 < self.old.table.now.count }
         ensures stays { StaysInRow self.old self.new }
@@ -156,9 +154,7 @@ impl<'r, 't, 'p, 's, 'c, R: Read, W: Write> Rows<'r, 't, 'p, 's, 'c, R, W> {
             self.sink.spare(room),
         );
         self.payload.consume(run.used);
-        match self.sink.keep(waiting, run.made) {
-            Ok(()) => run,
-            Err(_) => unreachable!(),
-        }
+        self.sink.commit(waiting, run.made);
+        run
     }
 }

@@ -38,7 +38,7 @@ pub(crate) struct Table<'a> {
     forms: [Form; TABLE_LENGTH],
     known: usize,
     count: u16,
-    behind: Walk<'a>,
+    rest: Walk<'a>,
     pub(crate) charset: Charset,
     ghost most: { known ≤ TABLE_LENGTH },
     ghost few: { known ≤ count },
@@ -93,9 +93,9 @@ impl<'a> Table<'a> {
     {
         let mut forms = [Form::of(Kind::Int4); TABLE_LENGTH];
         let mut known = 0;
-        let mut behind = columns.walk();
+        let mut rest = columns.walk();
         while known < TABLE_LENGTH {
-            let Some(column) = behind.next() else {
+            let Some(column) = rest.next() else {
                 break;
             };
             forms[known] = Form::of(column.kind);
@@ -105,7 +105,7 @@ impl<'a> Table<'a> {
             forms,
             known,
             count: columns.count(),
-            behind,
+            rest,
             charset,
         }
     }
@@ -125,7 +125,7 @@ impl<'a> Table<'a> {
     {
         Ahead {
             column: 0,
-            walk: self.behind,
+            walk: self.rest,
         }
     }
 
@@ -188,7 +188,7 @@ impl<'a> Table<'a> {
 
     /// The place after the next cell.
     #[inline(always)]
-    pub(crate) fn behind(&self, at: Ahead<'a>) -> Ahead<'a>
+    pub(crate) fn after(&self, at: Ahead<'a>) -> Ahead<'a>
         requires { at.column < self.now.count }
         ensures further { result.column ≡ at.entry.column + 1 }
         ensures gives { (columns : List spec.Column) → Knows self.now columns → IsAhead self.now columns at.entry →
@@ -212,6 +212,6 @@ impl<'a> Table<'a> {
             TakesForm self.now columns at.entry result }
     {
         let form = self.form(at)?;
-        Some((form, self.behind(at)))
+        Some((form, self.after(at)))
     }
 }

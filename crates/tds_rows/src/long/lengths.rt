@@ -7,8 +7,8 @@ use byteorder::{ByteOrder, LittleEndian};
 use std::io::Read;
 use tds_packet::{Fault, Payload, Place, Stop};
 
-// The length that stands for NULL in a short value.
-const NULL_LENGTH: u64 = 0xFFFF;
+/// The length that stands for NULL in a short value.
+pub(crate) const NULL_LENGTH: u64 = 0xFFFF;
 
 // The total that stands for NULL.
 const NULL_TOTAL: u64 = 0xFFFF_FFFF_FFFF_FFFF;

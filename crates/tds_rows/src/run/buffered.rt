@@ -53,7 +53,7 @@ fn value_at(form: &Form, bytes: &[u8]) -> Option<(usize, usize)>
 }
 
 /// How many bytes a whole number of four bytes has.
-pub(crate) const INT4: usize = 4;
+pub(crate) const INT4_SIZE: usize = 4;
 
 /// Whether a whole number of four bytes is at the front of these bytes: at once, or after its length.
 #[inline(always)]
@@ -62,7 +62,7 @@ pub(crate) fn has_int4(start: usize, bytes: &[u8]) -> bool
     ensures so { result ≡ true → HasInt4 start bytes.now }
     ensures only { HasInt4 start bytes.now → result ≡ true }
 {
-    bytes.len() >= start + INT4 && (start == 0 || bytes[0] == 4)
+    bytes.len() >= start + INT4_SIZE && (start == 0 || bytes[0] == 4)
 }
 
 // Writes the cell at the front of these bytes; none where it isn't whole, is refused or in chunks, or where
@@ -97,4 +97,23 @@ pub(crate) fn write_cell(
         Some(made) => Some(Written { used, made }),
         None => None,
     }
+}
+
+// Writes that cell in a call of its own, for a cell that no run took.
+#[inline(never)]
+pub(crate) fn write_alone(
+    form: &Form,
+    charset: Charset,
+    column: u16,
+    last: bool,
+    bytes: &[u8],
+    to: &mut [u8],
+) -> Option<Written>
+    requires room { CELL_ROOM ≤ length to.old }
+    ensures used { IfSome result (λ written. written.used ≤ length bytes.now) }
+    ensures most { IfSome result (λ written. written.made ≤ length to.old) }
+    ensures whole { IfSome result (λ written. written.used ≡ whole_size form.now.kind bytes.now) }
+    ensures gives { CellWritten charset form.now.kind column last bytes.now (length to.old) to.new result }
+{
+    write_cell(form, charset, column, last, bytes, to)
 }

@@ -1,22 +1,18 @@
 // A run over the cells of an NBCROW: as many as are NULL by their bit or whole in the packet, and have room.
-ghost use Rattle.std.specs.Prelude.{◌≡◌, ◌+◌, ◌-◌, ◌*◌, ◌<◌, ◌≤◌, Bool, drop, length, IfSome, IsTrue};
+ghost use Rattle.std.specs.Prelude.{◌≡◌, ◌+◌, ◌-◌, ◌*◌, ◌<◌, ◌≤◌, Bool, drop, length, IfSome};
 ghost use Rattle.tds_packet.specs.Payloads.{buffered};
 ghost use Rattle.tds_rows.specs.MarkedRuns.{EndsLeft, MarkedPut, MarkedWritten, NextWritten, room_left};
 ghost use Rattle.tds_rows.specs.RowReading.{IsInRow, StaysInRow};
 ghost use Rattle.tds_rows.specs.Rows.{bit};
 ghost use Rattle.tds_rows.specs.Tables.{IsNextKind};
-ghost use Rattle.tds_values.specs.Kind as kinds;
 
 use crate::reading::Rows;
 use crate::run::CellRun;
-use crate::run::alone::write_alone;
-use crate::run::buffered::Written;
+use crate::run::buffered::{Written, write_cell};
 use crate::run::fields::CELL_ROOM;
-use crate::run::short::write_short;
-use crate::table::{Ahead, Table};
+use crate::table::{Ahead, Form, Table};
 use std::io::{Read, Write};
 use tds_csv::write_null;
-use tds_values::Kind;
 
 // Whether the bit of a column is set, the lowest of the first byte being that of column 0.
 pub(crate) fn is_null(bitmap: &[u8], column: u16) -> bool
@@ -33,34 +29,24 @@ pub(crate) fn is_null(bitmap: &[u8], column: u16) -> bool
 fn write_next(
     table: &Table,
     at: Ahead,
-    kind: &Kind,
+    form: &Form,
     null: bool,
     bytes: &[u8],
     to: &mut [u8],
 ) -> Option<Written>
     requires within { at.column < table.now.count }
-    requires valid { IsTrue (kinds.is_valid kind.now) }
     requires room { CELL_ROOM ≤ length to.old }
     ensures used { IfSome result (λ written. written.used ≤ length bytes.now) }
     ensures most { IfSome result (λ written. written.made ≤ length to.old) }
-    ensures gives { (last : Bool) → IsNextKind table.now at.entry kind.now last →
-        NextWritten table.now.charset null kind.now at.entry.column last bytes.now (length to.old) to.new result }
+    ensures gives { (last : Bool) → IsNextKind table.now at.entry form.now.kind last →
+        NextWritten table.now.charset null form.now.kind at.entry.column last bytes.now (length to.old) to.new result }
 {
+    let last = table.is_last(at);
     if null {
-        let made = write_null(at.column, table.is_last(at), to);
+        let made = write_null(at.column, last, to);
         return Some(Written { used: 0, made });
     }
-    if kind.is_scalar() {
-        return write_alone(table, at, kind, bytes, to);
-    }
-    write_short(
-        *kind,
-        table.charset,
-        at.column,
-        table.is_last(at),
-        bytes,
-        to,
-    )
+    write_cell(form, table.charset, at.column, last, bytes, to)
 }
 
 // Writes cell after cell of an NBCROW, as far as they are NULL by their bit or whole in these bytes, aren't in
@@ -89,12 +75,12 @@ pub(crate) fn run_nulls<'a>(
         };
         let null = is_null(bitmap, ahead.column);
         let rest = &bytes[used..];
-        let Some(written) = write_next(table, ahead, &form.kind, null, rest, &mut to[made..]) else {
+        let Some(written) = write_next(table, ahead, &form, null, rest, &mut to[made..]) else {
             break;
         };
         used += written.used;
         made += written.made;
-        ahead = table.behind(ahead);
+        ahead = table.after(ahead);
     }
     CellRun { used, made, ahead }
 }
@@ -122,9 +108,7 @@ impl<'r, 't, 'p, 's, 'c, R: Read, W: Write> Rows<'r, 't, 'p, 's, 'c, R, W> {
             self.sink.spare(room),
         );
         self.payload.consume(run.used);
-        match self.sink.keep(waiting, run.made) {
-            Ok(()) => run.ahead,
-            Err(_) => unreachable!(),
-        }
+        self.sink.commit(waiting, run.made);
+        run.ahead
     }
 }

@@ -4,14 +4,12 @@ ghost use Rattle.tds_rows.specs.ShortCells.{ContentWritten, ShortWritten, short_
 ghost use Rattle.tds_csv.specs.Fields.{conversion_of};
 
 use crate::Charset;
+use crate::long::lengths::NULL_LENGTH;
 use crate::run::buffered::Written;
 use tds_csv::{
     Content, NULL_ROOM, field_room, write_comma, write_field, write_line_end, write_null,
 };
 use tds_values::{Kind, Reach};
-
-/// The length that stands for NULL.
-const NULL_LENGTH: usize = 0xFFFF;
 
 // Writes the cell of a short value of this content at the front of these bytes; none where it isn't whole, or
 // is no text, or where there isn't the room that its text may need.
@@ -33,7 +31,7 @@ fn write_content(
         return None;
     }
     let n = bytes[0] as usize + 256 * bytes[1] as usize;
-    if n == NULL_LENGTH {
+    if n == NULL_LENGTH as usize {
         let made = write_null(column, last, to);
         return Some(Written { used: 2, made });
     }

@@ -1,9 +1,10 @@
-use Rattle.std.proofs.Common.{inl, inr, rules, arith, refl, sym, ap, subst, ◌≡◌, ◌∙◌, ◌+◌, ◌-◌, ◌<◌, ◌≤◌, ℕ, length, take, drop, length-take, length-drop}
+use Rattle.std.proofs.Common.{inl, List, [], ◌∷◌, rules, arith, refl, sym, ap, subst, ◌≡◌, ◌∙◌, ◌+◌, ◌-◌, ◌<◌, ◌≤◌, ℕ, length, take, drop, length-take, length-drop}
 use Rattle.tds_rows.specs.CellSteps.{HasInt4, int4_kind}
-use Rattle.tds_rows.specs.Runs.{WritesRows}
+use Rattle.tds_columns.proofs.ViewLaws.{all_behind}
+use Rattle.tds_rows.specs.Runs.{RunEnds, WritesRows}
 use Rattle.tds_rows.specs.Tables.{one_on}
-use Rattle.tds_rows.proofs.RunSteps.{first_further, first_same, first_there, int4_size, made_same, none_ahead, none_first, rows_none, rows_onward, writes_int4}
-use Rattle.tds_rows.proofs.TableRuns.{more_begun, more_in_rows, one_between, one_done}
+use Rattle.tds_rows.proofs.RunSteps.{made_same, rows_none, rows_onward, writes_int4}
+use Rattle.tds_rows.proofs.TableRuns.{more_in_rows, one_between}
 use Rattle.tds_rows.proofs.TableSteps.{at_end}
 use Rattle.tds_rows.proofs.run.run_rows.Goals.{else-loop-to-test, then-loop-to-test+in_default+then-is_end+then-used-bytes, then-loop-to-test+in_default+else-is_end+then-cells-eq0}
 use Rattle.tds_rows.proofs.run.run_rows.Goals as goal
@@ -13,7 +14,6 @@ loop-to-init c = record {
   used = omega arith;
   made = omega arith;
   few = omega arith;
-  begun = inl (refl, refl, refl);
   writes = λ columns knows ahead. (ahead, λ charset cells set is. rows_none charset columns cells (drop c.args.from.column columns) c.args.from.column is);
 }
 
@@ -27,13 +27,6 @@ loop-to-preserved-then-is_end c =
       used = omega (arith, within);
       made = l.invariant.made;
       few = omega (arith, l.invariant.few);
-      begun = inr (
-        omega arith,
-        λ columns knows ahead. elim l.invariant.begun [
-          | inl z ↦ none_first l.ahead.column c.args.from.column columns bytes l.to (l.used + 1) l.made (ap (λ a. a.column) z.2) (at_end columns l.ahead.column c.args.table.now.count knows.counted (sym c.is_end.ensures ∙ c.if-is_end.true))
-          | inr f ↦ first_further c.args.from.column columns bytes l.to l.to l.used 1 l.made l.made (omega arith) (f.1 columns knows ahead)
-        ],
-      );
       writes = λ columns knows ahead.
           let inv = l.invariant.writes columns knows ahead in
           let none = at_end columns l.ahead.column c.args.table.now.count knows.counted (sym c.is_end.ensures ∙ c.if-is_end.true) in
@@ -59,17 +52,14 @@ loop-to-preserved-in-loop-to c =
     let most : start ≤ 1 = c.in-Some.ensures.most in
     let wrote = writes_int4 c.args.table.now.charset start ((start + 4) - start) l.ahead.column last.result there (take m text) most (omega arith) has c.write_int4_field-made.ensures.gives in
     let within : m ≤ length text = search (arith, rules) in
-    let size = int4_size start there most has in
     record {
       used = search (arith, rules);
       made = search (arith, rules);
       few = omega (arith, l.invariant.few);
-      begun = more_begun c.args.table.now c.args.from l.ahead behind l.used (start + 4) l.made m c.args.bytes.now l.to text _ l.invariant.made within l.invariant.begun (omega arith)
-          (λ columns knows ahead. one_done c.args.table.now columns l.ahead behind kind last.result (start + 4) m there text knows (c.in-Some.ensures.gives columns knows (l.invariant.writes columns knows ahead).0) last.ensures size wrote);
       writes = λ columns knows ahead.
           let x = l.invariant.writes columns knows ahead in
           more_in_rows c.args.table.now c.args.from l.ahead behind l.used (start + 4) l.made m c.args.bytes.now l.to text _ l.invariant.made within l.rows columns x
-          (one_between c.args.table.now columns l.ahead behind kind last.result (start + 4) m there text knows (c.in-Some.ensures.gives columns knows x.0) last.ensures size wrote);
+          (one_between c.args.table.now columns l.ahead behind kind last.result (start + 4) m there text knows (c.in-Some.ensures.gives columns knows x.0) last.ensures wrote);
     }
 
 pub loop-to-preserved : goal.loop-to-preserved
@@ -84,11 +74,6 @@ loop-to-preserved c =
       used = search (arith, rules);
       made = search (arith, rules);
       few = omega (arith, l.invariant.few);
-      begun = more_begun c.args.table.now c.args.from l.ahead ran.ahead l.used ran.used l.made ran.made c.args.bytes.now l.to text _ l.invariant.made within l.invariant.begun further
-          (λ columns knows ahead. elim (cells.ensures.first columns knows (l.invariant.writes columns knows ahead).0) [
-            | inl none ↦ absurd (omega (arith, none.0, further))
-            | inr done ↦ done.1
-          ]);
       writes = λ columns knows ahead.
           let x = l.invariant.writes columns knows ahead in
           more_in_rows c.args.table.now c.args.from l.ahead ran.ahead l.used ran.used l.made ran.made c.args.bytes.now l.to text _ l.invariant.made within l.rows columns x (cells.ensures.gives columns knows x.0);
@@ -103,26 +88,18 @@ same c =
       | then-loop-to-test+in_default+else-is_end+then-cells-eq0 w ↦ ap (take c.loop-to.made) w.to-is ∙ made_same c.loop-to.made c.loop-to.to _ c.loop-to.invariant.made
     ]
 
-pub returns-clause-first : goal.returns-clause-first
-returns-clause-first c = λ columns knows ahead room.
+pub returns-clause-ends : goal.returns-clause-ends
+returns-clause-ends c = λ columns column left knows ahead step.
     let l = c.loop-to in
-    let inv = l.invariant.writes columns knows ahead in
-    elim l.invariant.begun [
-      | inl z ↦ inl (
-        z.0,
-        z.2,
-        elim c.loop-to-test.branch [
-          | else-loop-to-test w ↦ absurd (omega (arith, room, z.1, w.loop-to-test.false, l.auto.to))
-          | then-loop-to-test+in_default+then-is_end+then-used-bytes w ↦ none_ahead c.args.table.now.charset l.ahead.column c.args.from.column columns c.args.bytes.now (length c.args.to.now) (ap (λ a. a.column) z.2)
-              (at_end columns l.ahead.column c.args.table.now.count knows.counted (sym w.is_end.ensures ∙ w.if-is_end.true))
-          | then-loop-to-test+in_default+else-is_end+then-cells-eq0 w ↦ (let lent : length (take (length l.to - l.made) (drop l.made l.to)) ≡ length c.args.to.now = omega (arith, z.1, l.auto.to, length-take (length l.to - l.made) (drop l.made l.to), length-drop l.made l.to) in
-              elim (w.run_cells-cells.ensures.first columns knows inv.0) [
-                | inl y ↦ first_there c.args.table.now.charset l.ahead.column c.args.from.column columns l.used _ (length c.args.to.now) c.args.bytes.now z.0 (ap (λ a. a.column) z.2) lent (y.2 (omega (arith, room, lent)))
-                | inr y ↦ absurd (omega (arith, y.0, w.if-cells-eq0.true))
-              ])
-        ],
-      )
-      | inr f ↦ inr (first_same c.args.from.column columns c.args.bytes.now l.to c.loop-to-test.to l.used l.made (same c) (f.1 columns knows ahead))
+    let bytes = c.args.bytes.now in
+    elim c.loop-to-test.branch [
+      | else-loop-to-test w ↦ inl (omega (arith, w.loop-to-test.false, l.auto.to))
+      | then-loop-to-test+in_default+then-is_end+then-used-bytes w ↦ absurd (let e : column ∷ left ≡ [] = sym step ∙ at_end columns l.ahead.column c.args.table.now.count knows.counted (sym w.is_end.ensures ∙ w.if-is_end.true) in omega (arith, ap length e))
+      | then-loop-to-test+in_default+else-is_end+then-cells-eq0 w ↦ (let lent = take (length l.to - l.made) (drop l.made l.to) in
+          let room : length lent ≡ length c.args.to.now - l.made = omega (arith, l.auto.to, length-take (length l.to - l.made) (drop l.made l.to), length-drop l.made l.to) in
+          subst (λ (n : ℕ). RunEnds c.args.table.now l.ahead (drop l.used bytes) n) room
+          (subst (λ (b : List ℕ). RunEnds c.args.table.now l.ahead b (length lent)) (all_behind bytes l.used) (w.run_cells-cells.ensures.ends w.if-cells-eq0.true))
+          columns column left knows ahead step)
     ]
 
 pub returns-clause-gives : goal.returns-clause-gives

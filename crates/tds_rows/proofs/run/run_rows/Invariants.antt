@@ -1,7 +1,7 @@
 use Rattle.std.proofs.Common.{◌-◌, ◌≤◌, List, length, take}
 use Rattle.tds_columns.specs.Description.{Column}
 use Rattle.tds_rows.specs.Tables.{IsAhead, Knows}
-use Rattle.tds_rows.proofs.TableRuns.{Begun, RowsBetween}
+use Rattle.tds_rows.proofs.TableRuns.{RowsBetween}
 use Rattle.tds_rows.proofs.run.run_rows.Given as goal
 
 abbrev pub invariant-loop-to : goal.invariant-loop-to
@@ -9,7 +9,6 @@ invariant-loop-to l = record {
   used : l.used ≤ length l.fn.bytes;
   made : l.made ≤ length l.to;
   few : l.rows ≤ l.used;
-  begun : Begun l.fn.table l.fn.from l.ahead l.fn.bytes l.to l.used l.made;
   writes : (columns : List Column) → Knows l.fn.table columns → IsAhead l.fn.table columns l.fn.from → RowsBetween l.fn.table columns l.fn.from l.ahead l.rows (take l.used l.fn.bytes) (take l.made l.to);
 }
 

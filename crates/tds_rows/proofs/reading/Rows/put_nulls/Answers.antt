@@ -1,35 +1,23 @@
-use Rattle.std.proofs.Common.{◌≡◌, ◌∙◌, ap, sym, drop, ◌-◌, ◌+◌, ◌≤◌, ◌<◌, ℕ, List, Ok, Err, length, take, subst, arith, rules, length-take}
+use Rattle.std.proofs.Common.{◌≡◌, ◌∙◌, ap, sym, drop, ◌-◌, ◌+◌, ◌≤◌, ◌<◌, ℕ, List, Ok, length, take, subst, arith, rules, length-take}
 use Rattle.std.proofs.lemmas.List.{drop-drop}
 use Rattle.tds_packet.specs.Payloads.{buffered}
 use Rattle.tds_csv.specs.Sinks.{held}
 use Rattle.tds_rows.specs.MarkedRuns.{EndsLeft, RunsMarked}
 use Rattle.tds_rows.specs.Rows.{bit}
 use Rattle.tds_rows.proofs.BufferedCells.{kept_text}
-use Rattle.tds_rows.proofs.RunSteps.{fills_no_block}
 use Rattle.tds_rows.proofs.MarkedSteps.{all_waits}
 use Rattle.tds_rows.proofs.reading.Rows.put_nulls.Goals as goal
-
-pub unreachable-requires : goal.unreachable-requires
-unreachable-requires g c =
-    let h = held g.W.Write.contents c.args.self.now.sink.now in
-    let j = held g.W.Write.contents c.keep.new.self in
-    let written = c.run_nulls-run.new.to in
-    let lent = c.spare.result.now in
-    let whole : length written ≡ length lent = c.run_nulls-run.auto.to in
-    let breaks = kept_text h j lent written c.waiting-waiting.result whole c.waiting-waiting.ensures {U = Unit {0}} (Err c.in-Err.field-0) c.run_nulls-run.result.made c.in-Err.ensures.gives in
-    let few : length h.waiting + length (take c.run_nulls-run.result.made written) < 4096 = omega (arith, whole, c.spare.ensures.value, c.room-room.ensures, c.requires.in_row.sink.ready.1 c.requires.in_row.sink.writing, length-take c.run_nulls-run.result.made written) in
-    fills_no_block h j (take c.run_nulls-run.result.made written) c.in-Err.field-0 few breaks
 
 pub returns-clause-ends : goal.returns-clause-ends
 returns-clause-ends g c =
     let old = c.args.self.now.payload.now in
     let h = held g.W.Write.contents c.args.self.now.sink.now in
-    let j = held g.W.Write.contents c.keep.new.self in
+    let j = held g.W.Write.contents c.commit.new.self in
     let run = c.run_nulls-run.result in
     let written = c.run_nulls-run.new.to in
     let lent = c.spare.result.now in
     let whole : length written ≡ length lent = c.run_nulls-run.auto.to in
-    let puts = kept_text h j lent written c.waiting-waiting.result whole c.waiting-waiting.ensures (Ok c.in-Ok.field-0) run.made c.in-Ok.ensures.gives in
+    let puts = kept_text h j lent written c.waiting-waiting.result whole c.waiting-waiting.ensures {U = Unit {0}} (Ok tt) run.made c.commit.ensures.gives in
     let block : length lent + length h.waiting ≡ 4095 = omega (arith, c.spare.ensures.value, c.room-room.ensures, c.requires.in_row.sink.ready.1 c.requires.in_row.sink.writing) in
     let text : length (take run.made written) ≡ run.made = omega (arith, whole, c.run_nulls-run.ensures.made, length-take run.made written) in
     let waits = all_waits h j (take run.made written) puts (omega (arith, block, text, c.run_nulls-run.ensures.made)) in
@@ -41,7 +29,7 @@ returns-clause-ends g c =
 pub returns-clause-gives : goal.returns-clause-gives
 returns-clause-gives g c = λ columns knows ahead.
     let h = held g.W.Write.contents c.args.self.now.sink.now in
-    let j = held g.W.Write.contents c.keep.new.self in
+    let j = held g.W.Write.contents c.commit.new.self in
     let run = c.run_nulls-run.result in
     let written = c.run_nulls-run.new.to in
     let lies : run.used ≤ length (buffered c.args.self.now.payload.now) = search (arith, rules) in
@@ -51,6 +39,6 @@ returns-clause-gives g c = λ columns knows ahead.
       text = take run.made written;
       runs = subst (λ (l : List ℕ). RunsMarked c.args.self.now.table.now columns (bit c.args.bitmap.now) c.args.from run.ahead (take run.used l) (take run.made written)) c.buffered.ensures (c.run_nulls-run.ensures.gives columns knows ahead);
       takes = c.consume.ensures.gives;
-      puts = kept_text h j c.spare.result.now written c.waiting-waiting.result whole c.waiting-waiting.ensures (Ok c.in-Ok.field-0) run.made c.in-Ok.ensures.gives;
+      puts = kept_text h j c.spare.result.now written c.waiting-waiting.result whole c.waiting-waiting.ensures {U = Unit {0}} (Ok tt) run.made c.commit.ensures.gives;
       place_is = omega (arith, lies, ap (λ p. p.place) c.consume.ensures.rest, length-take run.used (buffered c.args.self.now.payload.now));
     }

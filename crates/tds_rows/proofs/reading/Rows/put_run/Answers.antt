@@ -1,30 +1,19 @@
-use Rattle.std.proofs.Common.{◌≡◌, ap, ◌+◌, ◌≤◌, ◌<◌, ℕ, List, Ok, Err, length, take, drop, subst, arith, rules, length-take}
+use Rattle.std.proofs.Common.{◌≡◌, ap, ◌+◌, ◌≤◌, ◌<◌, ℕ, List, Ok, length, take, drop, subst, arith, rules, length-take}
 use Rattle.tds_packet.specs.Payloads.{buffered, seen}
 use Rattle.tds_packet.specs.Seen.{Takes}
 use Rattle.tds_packet.proofs.Futures.{Takes-more}
 use Rattle.tds_csv.specs.Sinks.{held}
 use Rattle.tds_rows.specs.Runs.{WritesRows}
 use Rattle.tds_rows.proofs.BufferedCells.{kept_text}
-use Rattle.tds_rows.proofs.RunSteps.{rows_run, fills_no_block}
+use Rattle.tds_rows.proofs.RunSteps.{rows_run}
 use Rattle.tds_rows.proofs.reading.Rows.put_run.Goals as goal
-
-pub unreachable-requires : goal.unreachable-requires
-unreachable-requires g c =
-    let h = held g.W.Write.contents c.args.self.now.sink.now in
-    let j = held g.W.Write.contents c.keep.new.self in
-    let written = c.run_rows-run.new.to in
-    let lent = c.spare.result.now in
-    let whole : length written ≡ length lent = c.run_rows-run.auto.to in
-    let breaks = kept_text h j lent written c.waiting-waiting.result whole c.waiting-waiting.ensures {U = Unit {0}} (Err c.in-Err.field-0) c.run_rows-run.result.made c.in-Err.ensures.gives in
-    let few : length h.waiting + length (take c.run_rows-run.result.made written) < 4096 = omega (arith, whole, c.spare.ensures.value, c.room-room.ensures, c.requires.in_row.sink.ready.1 c.requires.in_row.sink.writing, length-take c.run_rows-run.result.made written) in
-    fills_no_block h j (take c.run_rows-run.result.made written) c.in-Err.field-0 few breaks
 
 pub returns-clause-gives : goal.returns-clause-gives
 returns-clause-gives g c = λ columns knows ahead.
     let a = seen g.R.Read.remaining c.args.self.now.payload.now in
     let b = seen g.R.Read.remaining c.consume.new.self in
     let h = held g.W.Write.contents c.args.self.now.sink.now in
-    let j = held g.W.Write.contents c.keep.new.self in
+    let j = held g.W.Write.contents c.commit.new.self in
     let run = c.run_rows-run.result in
     let written = c.run_rows-run.new.to in
     let bytes = take run.used (buffered c.args.self.now.payload.now) in
@@ -33,7 +22,7 @@ returns-clause-gives g c = λ columns knows ahead.
     let at : c.consume.new.self.place ≡ c.args.self.now.payload.now.place + length bytes = omega (arith, lies, ap (λ p. p.place) c.consume.ensures.rest, length-take run.used (buffered c.args.self.now.payload.now)) in
     let lent = c.spare.result.now in
     let whole : length written ≡ length lent = c.run_rows-run.auto.to in
-    let puts = kept_text h j lent written c.waiting-waiting.result whole c.waiting-waiting.ensures (Ok c.in-Ok.field-0) run.made c.in-Ok.ensures.gives in
+    let puts = kept_text h j lent written c.waiting-waiting.result whole c.waiting-waiting.ensures {U = Unit {0}} (Ok tt) run.made c.commit.ensures.gives in
     let ran = c.run_rows-run.ensures.gives columns knows ahead in (
       ran.0,
       λ charset cells set is.

@@ -22,7 +22,7 @@ pub loop-to-preserved : goal.loop-to-preserved
 loop-to-preserved c =
     let l = c.loop-to in
     let form = c.in-Some.form in
-    let behind = c.behind-ahead.result in
+    let after = c.after-ahead.result in
     let written = c.in-Some-write_next.written in
     let bytes = c.args.bytes.now in
     let rest = take (length bytes - l.used) (drop l.used bytes) in
@@ -31,11 +31,11 @@ loop-to-preserved c =
       made = search (arith, rules);
       writes = λ columns knows ahead.
           let ran = l.invariant.writes columns knows ahead in
-          let taken = takes c.args.table.now columns l.ahead behind form.kind (c.in-Some.ensures.gives columns knows ran.ahead) c.behind-ahead.ensures.further (c.behind-ahead.ensures.gives columns knows ran.ahead) in
-          let left = drop behind.column columns in
+          let taken = takes c.args.table.now columns l.ahead after form.kind (c.in-Some.ensures.gives columns knows ran.ahead) c.after-ahead.ensures.further (c.after-ahead.ensures.gives columns knows ran.ahead) in
+          let left = drop after.column columns in
           let next : IsNextKind c.args.table.now l.ahead form.kind (is_last left) = record { columns = columns; knows = knows; ahead = ran.ahead; column = taken.column; rest = left; next = taken.next; kind = taken.kind; last = refl } in
           let wrote = subst (λ (e : Bool). WritesNext c.args.table.now.charset e form.kind l.ahead.column (is_last left) (take written.used rest) (take written.made c.write_next.new.to)) c.is_null-null.ensures (c.in-Some-write_next.ensures.gives (is_last left) next) in
-          runs_one c.args.table.now columns (bit c.args.bitmap.now) c.args.from l.ahead behind form.kind (is_last left) l.used written.used l.made written.made bytes l.to c.write_next.new.to _ l.invariant.made (search (arith, rules)) taken refl wrote ran;
+          runs_one c.args.table.now columns (bit c.args.bitmap.now) c.args.from l.ahead after form.kind (is_last left) l.used written.used l.made written.made bytes l.to c.write_next.new.to _ l.invariant.made (search (arith, rules)) taken refl wrote ran;
     }
 
 pub returns-clause-ends : goal.returns-clause-ends

@@ -9,10 +9,10 @@ use Rattle.tds_rows.proofs.LineTexts.{value_text}
 use Rattle.tds_rows.proofs.ShortCells.{short_null, short_value}
 use Rattle.tds_rows.proofs.run.short.write_content.Goals as goal
 
-pub returns-then-n-eq-NULL_LENGTH-clause-gives : goal.returns-then-n-eq-NULL_LENGTH-clause-gives
-returns-then-n-eq-NULL_LENGTH-clause-gives c =
+pub returns-then-n-clause-gives : goal.returns-then-n-clause-gives
+returns-then-n-clause-gives c =
     short_null c.args.column (Wide Short) (conversion_of c.args.content) c.args.last c.args.bytes.now (take c.write_null-made.result c.write_null-made.new.to) (omega (arith, c.if-bytes-lt2.false)) (c.type_inv.bytes 0).fits (c.type_inv.bytes 1).fits
-    c.if-n-eq-NULL_LENGTH.true c.write_null-made.ensures.text
+    c.if-n.true c.write_null-made.ensures.text
 
 pub returns-clause-gives : goal.returns-clause-gives
 returns-clause-gives c =
@@ -30,4 +30,4 @@ returns-clause-gives c =
     let some : made ≤ length c.write_field.new.to = search (arith, rules) in
     let line = value_text c.write_comma-start.result made c.write_line_end-made.result c.args.column c.args.last c.write_comma-start.new.to c.write_field.new.to _ c.write_line_end-made.new.to (long_field conversion value) within some field
     (c.write_comma-start.ensures.text (long_field conversion value)) c.write_line_end-made.ensures.text in
-    short_value c.args.column (Wide Short) conversion c.args.last bytes text (omega (arith, c.if-bytes-lt2.false)) (c.type_inv.bytes 0).fits (c.type_inv.bytes 1).fits n refl c.if-n-eq-NULL_LENGTH.false (search (arith, rules)) fit line
+    short_value c.args.column (Wide Short) conversion c.args.last bytes text (omega (arith, c.if-bytes-lt2.false)) (c.type_inv.bytes 0).fits (c.type_inv.bytes 1).fits n refl c.if-n.false (search (arith, rules)) fit line

@@ -11,7 +11,7 @@ invariant-loop-known l = record {
   few : l.known ≤ length (columns_of l.fn.columns.bytes.now);
   whole : length l.forms ≡ 64;
   first : map (λ f. f.kind) (take l.known l.forms) ≡ kinds (take l.known (columns_of l.fn.columns.bytes.now));
-  behind : columns_left l.behind ≡ drop l.known (columns_of l.fn.columns.bytes.now);
+  rest : columns_left l.rest ≡ drop l.known (columns_of l.fn.columns.bytes.now);
 }
 
 abbrev pub decreases-loop-known : goal.decreases-loop-known

@@ -1,8 +1,8 @@
 use Rattle.std.proofs.Common.{◌∙◌, ap, refl, arith}
 use Rattle.tds_columns.specs.Walking.{columns_left}
 use Rattle.tds_rows.proofs.TableSteps.{behind_known, behind_walked, walk_behind}
-use Rattle.tds_rows.proofs.table.Table.behind.Goals.{else-at-self, then-at-self}
-use Rattle.tds_rows.proofs.table.Table.behind.Goals as goal
+use Rattle.tds_rows.proofs.table.Table.after.Goals.{else-at-self, then-at-self}
+use Rattle.tds_rows.proofs.table.Table.after.Goals as goal
 
 pub returns-clause-gives : goal.returns-clause-gives
 returns-clause-gives c = λ columns knows ahead. elim c.if-at-self.branch [
