@@ -1,6 +1,6 @@
 -- What completes a response is read as its rest.
 use Rattle.std.proofs.Common.{◌≡◌, ◌≢◌, ℕ, ◌+◌, ◌-◌, ◌<◌, ◌≤◌, Bool, true, false, List, [], ◌∷◌, ◌++◌, length, refl, sym, ◌∙◌, ap, subst, arith}
-use Rattle.std.specs.Prelude.{Option, Some, None, ◌==◌, ◌&&◌, ◌||◌, nat_lt, nat_le, not, slice_index, if◌then◌else◌}
+use Rattle.std.specs.Prelude.{Option, Some, None, ◌==◌, ◌&&◌, nat_lt, nat_le, not, slice_index, if◌then◌else◌}
 use Rattle.std.proofs.lemmas.Bool.Decides.{nat_tests}
 use Rattle.std.proofs.lemmas.List.{length-replicate, replicate-append-replicate}
 use Rattle.tds_values.specs.Numbers.{little}
@@ -10,15 +10,16 @@ use Rattle.tds_packet.proofs.ElementLaws.{Spelt-step, Spelt-append, Spelt-none, 
 use Rattle.tds_packet.proofs.Choices.{choose, eq_false, test_lt, test_le}
 use Rattle.tds_columns.specs.Description.{Column, DescriptionPart, BeforeCount, NoDescription, InColumn, WholeDescription, add_described, description}
 use Rattle.tds_rows.specs.declared.Charset.TheVariants.{Windows1252}
-use Rattle.tds_rows.specs.Rows.{RowPart, WholeRow, marked, row_start, nbc_row_start, row_add, row, row_byte}
-use Rattle.tds_export.specs.TokenBytes.{colmetadata_byte, done_byte, done_in_proc_byte, done_proc_byte, env_change_byte, error_byte, info_byte, nbc_row_byte, order_byte, return_status_byte, return_value_byte}
-use Rattle.tds_export.specs.ReturnValue.{ReturnPart, ReturnOrdinal, WholeReturn, return_add, return_value}
-use Rattle.tds_export.specs.Tokens.{Token, Metadata, NoMetadata, Row, Order, EnvChange, Error, Info, ReturnStatus, Returned, Done, DoneInProc, described_after}
-use Rattle.tds_export.specs.TokenGrammar.{Bodied, AnOrder, AnEnvChange, AnError, AnInfo, Open, Between, Describing, InRow, InReturn, TokenLength, TokenBody, Status, DoneFields, DoneInProcFields, Part, response_start, with_token, with_described, with_row, with_return, start_of_row, after_byte, holds_notice, notice_of, bodied, is_notice, part_add, response}
+use Rattle.tds_rows.specs.Rows.{RowPart, WholeRow, marked, row_start, nbc_row_start, row_add, row}
+use Rattle.tds_export.specs.TokenBytes.{APassed, AnError, AnInfo, Bodied, ADone, Lead, AMetadata, ARow, AnNbcRow, WithBody, WithFields, AReturn, done_byte, lead_of}
+use Rattle.tds_export.specs.ReturnValue.{ReturnPart, WholeReturn, return_add, return_value}
+use Rattle.tds_export.specs.Tokens.{Token, Metadata, NoMetadata, Row, Returned, Done, described_after}
+use Rattle.tds_export.specs.TokenGrammar.{Open, Between, Describing, Fields, InRow, InReturn, TokenLength, TokenBody, Part, response_start, with_token, with_described, with_row, with_return, start_of_row, after_first, holds_notice, bodied, is_notice, part_add, response}
+use Rattle.tds_export.specs.Response.{fields_length, fixed}
 use Rattle.tds_export.specs.Completion.{zeros, rest_of_token, done, completion, CanBeCompleted}
-use Rattle.tds_export.proofs.ResponseLaws.{described_after-append, description_in_response, row_in_response, return_in_response}
+use Rattle.tds_export.proofs.ResponseLaws.{described_after-append, description_in_response, row_in_response, return_in_response, some_fields}
 use Rattle.tds_export.proofs.ResponseMeaning.{response_is_spelt}
-use Rattle.tds_export.proofs.TokenLaws.{is_final-snoc}
+use Rattle.tds_export.proofs.TokenLaws.{bare, bare_body, bare_fixed, is_bare, is_final-snoc}
 use Rattle.tds_export.proofs.CompletedRows.{AreValid, RowReached, row_keeps, row_ends, next_reached, marked_valid}
 use Rattle.tds_export.proofs.CompletedDescriptions.{DescribedReached, IsOpenDescription, described_keeps, described_ends}
 use Rattle.tds_export.proofs.CompletedReturns.{ReturnReached, return_keeps, return_ends}
@@ -55,11 +56,8 @@ module _ (room : ℕ) where
   token_reached : (tokens : List Token) (t : Token) → ((c : Option (List Column)) → described_after c (t ∷ []) ≡ c) → CurrentReached (described_after None tokens) → PartReached room (with_token tokens t)
   token_reached tokens t same h = (subst CurrentReached (sym (described_after-append None tokens (t ∷ []) ∙ same (described_after None tokens))) h, tt)
 
-  body_reached : (tokens : List Token) (b : Bodied) (body : List ℕ) → CurrentReached (described_after None tokens) → PartReached room (with_token tokens (bodied b body))
-  body_reached tokens AnOrder body h = token_reached tokens (Order body) (λ c. refl) h
-  body_reached tokens AnEnvChange body h = token_reached tokens (EnvChange body) (λ c. refl) h
-  body_reached tokens AnError body h = token_reached tokens (Error (notice_of body)) (λ c. refl) h
-  body_reached tokens AnInfo body h = token_reached tokens (Info (notice_of body)) (λ c. refl) h
+  bare_reached : (tokens : List Token) (t : Token) → is_bare t ≡ true → CurrentReached (described_after None tokens) → PartReached room (with_token tokens t)
+  bare_reached tokens t is h = token_reached tokens t (bare t is).columns h
 
   described_reached : (tokens : List Token) (d : DescriptionPart) → CurrentReached (described_after None tokens) → DescribedReached room d → PartReached room (with_described tokens d)
   described_reached tokens BeforeCount h r = (h, (tt, r))
@@ -72,46 +70,38 @@ module _ (room : ℕ) where
   row_reached tokens part h r = (h, (tt, r))
 
   return_reached : (tokens : List Token) (part : ReturnPart) → CurrentReached (described_after None tokens) → ReturnReached part → PartReached room (with_return tokens part)
-  return_reached tokens (WholeReturn v) h r = token_reached tokens (Returned v) (λ c. refl) h
+  return_reached tokens (WholeReturn v) h r = bare_reached tokens (Returned v) refl h
   return_reached tokens part h r = (h, (tt, r))
 
   row_starts : (tokens : List Token) (start : List Column → RowPart) → ((columns : List Column) → (0 < length columns) × AreValid columns → RowReached (start columns)) → (current : Option (List Column)) → described_after None tokens ≡ current → CurrentReached current → PartReached room (start_of_row tokens start current)
   row_starts tokens start begins None is h = (subst CurrentReached (sym is) h, tt)
   row_starts tokens start begins (Some columns) is h = row_reached tokens (start columns) (subst CurrentReached (sym is) h) (begins columns h)
 
-  byte_reached : (tokens : List Token) (x : ℕ) → CurrentReached (described_after None tokens) → PartReached room (after_byte Windows1252 tokens x)
-  byte_reached tokens x h =
-      choose (PartReached room) (x == colmetadata_byte) (record { tokens = tokens; at = Describing BeforeCount }) _ (λ z. (h, (tt, tt))) (λ z.
-      choose (PartReached room) (x == row_byte) (start_of_row tokens (row_start Windows1252) (described_after None tokens)) _ (λ z. row_starts tokens (row_start Windows1252) (λ columns v. next_reached [] (marked columns (λ k. false) 0) (marked_valid columns (λ k. false) 0 v.1)) (described_after None tokens) refl h) (λ z.
-      choose (PartReached room) (x == nbc_row_byte) (start_of_row tokens nbc_row_start (described_after None tokens)) _ (λ z. row_starts tokens nbc_row_start (λ columns v. v) (described_after None tokens) refl h) (λ z.
-      choose (PartReached room) (x == order_byte) (record { tokens = tokens; at = TokenLength AnOrder }) _ (λ z. (h, tt)) (λ z.
-      choose (PartReached room) (x == env_change_byte) (record { tokens = tokens; at = TokenLength AnEnvChange }) _ (λ z. (h, tt)) (λ z.
-      choose (PartReached room) (x == error_byte) (record { tokens = tokens; at = TokenLength AnError }) _ (λ z. (h, tt)) (λ z.
-      choose (PartReached room) (x == info_byte) (record { tokens = tokens; at = TokenLength AnInfo }) _ (λ z. (h, tt)) (λ z.
-      choose (PartReached room) (x == return_status_byte) (record { tokens = tokens; at = Status }) _ (λ z. (h, tt)) (λ z.
-      choose (PartReached room) ((x == done_byte) || (x == done_proc_byte)) (record { tokens = tokens; at = DoneFields }) _ (λ z. (h, tt)) (λ z.
-      choose (PartReached room) (x == done_in_proc_byte) (record { tokens = tokens; at = DoneInProcFields }) _ (λ z. (h, tt)) (λ z.
-      choose (PartReached room) (x == return_value_byte) (record { tokens = tokens; at = InReturn ReturnOrdinal }) _ (λ z. (h, (tt, tt))) (λ z. (h, tt))))))))))))
+  lead_reached : (tokens : List Token) (begun : Option Lead) → CurrentReached (described_after None tokens) → PartReached room (after_first Windows1252 tokens begun)
+  lead_reached tokens None h = (h, tt)
+  lead_reached tokens (Some AMetadata) h = (h, (tt, tt))
+  lead_reached tokens (Some ARow) h = row_starts tokens (row_start Windows1252) (λ columns v. next_reached [] (marked columns (λ k. false) 0) (marked_valid columns (λ k. false) 0 v.1)) (described_after None tokens) refl h
+  lead_reached tokens (Some AnNbcRow) h = row_starts tokens nbc_row_start (λ columns v. v) (described_after None tokens) refl h
+  lead_reached tokens (Some (WithBody b)) h = (h, tt)
+  lead_reached tokens (Some (WithFields f)) h = (h, tt)
+  lead_reached tokens (Some AReturn) h = (h, (tt, tt))
 
   length_reached : (b : Bodied) (n : ℕ) → ((if is_notice b && nat_lt n 14 then Some BadNotice else None) ≡ None) → is_notice b ≡ true → 14 ≤ n
-  length_reached AnOrder n f h = cc
-  length_reached AnEnvChange n f h = cc
+  length_reached (APassed passed) n f h = cc
   length_reached AnError n f h = not_short n (nat_lt n 14) refl f
   length_reached AnInfo n f h = not_short n (nat_lt n 14) refl f
 
   -- Each element keeps what is known.
   open_keeps : (tokens : List Token) (at : Open) (e : List ℕ) → AreBytes e → CurrentReached (described_after None tokens) → OpenReached room at → IsNext (response Windows1252 room) (record { tokens = tokens; at = at }) e → PartReached room (part_add Windows1252 tokens at e)
-  open_keeps tokens Between e are h o n = byte_reached tokens (slice_index e 0) h
+  open_keeps tokens Between e are h o n = lead_reached tokens (lead_of (slice_index e 0)) h
   open_keeps tokens (Describing d) e are h (begun, r) n = described_reached tokens (add_described d e) h (described_keeps room d e are r (record { some = n.some; whole = n.whole; free = n.free }))
   open_keeps tokens (InRow part) e are h (begun, r) n = row_reached tokens (row_add Windows1252 part e) h (row_keeps part e are r (record { some = n.some; whole = n.whole; free = n.free }))
   open_keeps tokens (InReturn part) e are h (begun, r) n = return_reached tokens (return_add part e) h (return_keeps part e are r (record { some = n.some; whole = n.whole; free = n.free }))
   open_keeps tokens (TokenLength b) e are h o n =
-      choose (PartReached room) (little e == 0) (with_token tokens (bodied b [])) (record { tokens = tokens; at = TokenBody b (little e) }) (λ z. body_reached tokens b [] h)
+      choose (PartReached room) (little e == 0) (with_token tokens (bodied b [])) (record { tokens = tokens; at = TokenBody b (little e) }) (λ z. bare_reached tokens (bodied b []) (bare_body b []) h)
       (λ z. let some : little e ≢ 0 = eq_false (little e) 0 z in (h, (omega arith, length_reached b (little e) n.free)))
-  open_keeps tokens (TokenBody b m) e are h o n = body_reached tokens b e h
-  open_keeps tokens Status e are h o n = token_reached tokens _ (λ c. refl) h
-  open_keeps tokens DoneFields e are h o n = token_reached tokens _ (λ c. refl) h
-  open_keeps tokens DoneInProcFields e are h o n = token_reached tokens _ (λ c. refl) h
+  open_keeps tokens (TokenBody b m) e are h o n = bare_reached tokens (bodied b e) (bare_body b e) h
+  open_keeps tokens (Fields f) e are h o n = bare_reached tokens (fixed f e) (bare_fixed f e) h
 
   part_reached : (bytes : List ℕ) (p : Part) → AreBytes bytes → Spelt (response Windows1252 room) response_start bytes p → PartReached room p
   part_reached bytes p are h =
@@ -141,8 +131,7 @@ module _ (room : ℕ) where
       (tokens ++ bodied b (zeros n) ∷ [], Spelt-step (response Windows1252 room) (record { tokens = tokens; at = TokenBody b n }) (zeros n) (with_token tokens (bodied b (zeros n))) (omega (arith, l)) l (free b long) refl)
     where
       free : (b : Bodied) → (is_notice b ≡ true → 14 ≤ n) → ((if is_notice b && not (holds_notice (zeros n)) then Some BadNotice else None) ≡ None)
-      free AnOrder long = refl
-      free AnEnvChange long = refl
+      free (APassed passed) long = refl
       free AnError long = ap (λ t. (if not t then Some BadNotice else None)) (zeros_hold n (long refl))
       free AnInfo long = ap (λ t. (if not t then Some BadNotice else None)) (zeros_hold n (long refl))
 
@@ -175,20 +164,20 @@ module _ (room : ℕ) where
       one_ends tokens (InReturn part) (rest_of_token (InReturn part)) (Returned all.0)
       (subst (λ p. Spelt (response Windows1252 room) p (rest_of_token (InReturn part)) (with_token tokens (Returned all.0))) (return_opens tokens part begun)
       (Inside-Spelt return_value (response Windows1252 room) (with_return tokens) (return_in_response Windows1252 room tokens) part (rest_of_token (InReturn part)) (WholeReturn all.0) all.1))
-  token_ends ten tokens (TokenLength AnOrder) o = one_ends tokens (TokenLength AnOrder) (zeros 2) (Order []) (Spelt-step (response Windows1252 room) (record { tokens = tokens; at = TokenLength AnOrder }) (zeros 2) (with_token tokens (Order [])) (omega arith) refl refl refl)
-  token_ends ten tokens (TokenLength AnEnvChange) o = one_ends tokens (TokenLength AnEnvChange) (zeros 2) (EnvChange []) (Spelt-step (response Windows1252 room) (record { tokens = tokens; at = TokenLength AnEnvChange }) (zeros 2) (with_token tokens (EnvChange [])) (omega arith) refl refl refl)
+  token_ends ten tokens (TokenLength (APassed passed)) o =
+      one_ends tokens (TokenLength (APassed passed)) (zeros 2) (bodied (APassed passed) []) (Spelt-step (response Windows1252 room) (record { tokens = tokens; at = TokenLength (APassed passed) }) (zeros 2) (with_token tokens (bodied (APassed passed) [])) (omega arith) refl refl refl)
   token_ends ten tokens (TokenLength AnError) o = notice_ends tokens AnError refl
   token_ends ten tokens (TokenLength AnInfo) o = notice_ends tokens AnInfo refl
   token_ends ten tokens (TokenBody b n) o = body_ends tokens b n o
-  token_ends ten tokens Status o = one_ends tokens Status (zeros 4) (ReturnStatus 0) (Spelt-step (response Windows1252 room) (record { tokens = tokens; at = Status }) (zeros 4) (with_token tokens (ReturnStatus 0)) (omega arith) refl refl refl)
-  token_ends ten tokens DoneFields o = one_ends tokens DoneFields (zeros 12) (Done false) (Spelt-step (response Windows1252 room) (record { tokens = tokens; at = DoneFields }) (zeros 12) (with_token tokens (Done false)) (omega arith) refl refl refl)
-  token_ends ten tokens DoneInProcFields o = one_ends tokens DoneInProcFields (zeros 12) (DoneInProc false) (Spelt-step (response Windows1252 room) (record { tokens = tokens; at = DoneInProcFields }) (zeros 12) (with_token tokens (DoneInProc false)) (omega arith) refl refl refl)
+  token_ends ten tokens (Fields f) o =
+      let l : length (zeros (fields_length f)) ≡ fields_length f = length-replicate (fields_length f) 0 in
+      one_ends tokens (Fields f) (zeros (fields_length f)) (fixed f (zeros (fields_length f))) (Spelt-step (response Windows1252 room) (record { tokens = tokens; at = Fields f }) (zeros (fields_length f)) (with_token tokens (fixed f (zeros (fields_length f)))) (subst (λ n. 0 < n) (sym l) (some_fields f)) l refl refl)
 
   done_ends : (tokens : List Token) → Spelt (response Windows1252 room) (record { tokens = tokens; at = Between }) done (with_token tokens (Done false))
   done_ends tokens =
-      Spelt-append (response Windows1252 room) (record { tokens = tokens; at = Between }) (done_byte ∷ []) (record { tokens = tokens; at = DoneFields }) (zeros 12) (with_token tokens (Done false))
-      (Spelt-step (response Windows1252 room) (record { tokens = tokens; at = Between }) (done_byte ∷ []) (record { tokens = tokens; at = DoneFields }) (omega arith) refl refl refl)
-      (Spelt-step (response Windows1252 room) (record { tokens = tokens; at = DoneFields }) (zeros 12) (with_token tokens (Done false)) (omega arith) refl refl refl)
+      Spelt-append (response Windows1252 room) (record { tokens = tokens; at = Between }) (done_byte ∷ []) (record { tokens = tokens; at = Fields ADone }) (zeros 12) (with_token tokens (Done false))
+      (Spelt-step (response Windows1252 room) (record { tokens = tokens; at = Between }) (done_byte ∷ []) (record { tokens = tokens; at = Fields ADone }) (omega arith) refl refl refl)
+      (Spelt-step (response Windows1252 room) (record { tokens = tokens; at = Fields ADone }) (zeros 12) (with_token tokens (Done false)) (omega arith) refl refl refl)
 
 -- Whatever has been read can be completed.
 pub can_be_completed : CanBeCompleted

@@ -10,7 +10,9 @@ use Rattle.tds_rows.specs.declared.Charset.TheVariants.{Windows1252}
 use Rattle.tds_rows.specs.Cells.{CellPart, ScalarBytes, ScalarLength, ShortLength, ShortData, Total, ChunkLength, ChunkData, WholeCell, cell_start, shape, return_charset}
 use Rattle.tds_rows.specs.Rows.{RowPart, Bitmap, InCell, WholeRow, bitmap_length}
 use Rattle.tds_export.specs.ReturnValue.{ReturnPart, ReturnOrdinal, ReturnNameCount, ReturnName, ReturnHead, ReturnInfo, InReturnCell, WholeReturn}
-use Rattle.tds_export.specs.TokenGrammar.{Bodied, AnOrder, AnEnvChange, AnError, AnInfo, Open, Between, Describing, InRow, InReturn, TokenLength, TokenBody, Status, DoneFields, DoneInProcFields, Part, is_notice}
+use Rattle.tds_export.specs.TokenBytes.{APassed, AnError, AnInfo, Bodied}
+use Rattle.tds_export.specs.Response.{fields_length}
+use Rattle.tds_export.specs.TokenGrammar.{Open, Between, Describing, Fields, InRow, InReturn, TokenLength, TokenBody, Part, is_notice}
 use Rattle.tds_export.specs.Completion.{zeros, int_column, int_columns, least_info, rest_of_column, rest_of_description, zero_chunks, terminator, rest_of_chunks, rest_of_cell, rest_of_cells, all_clear, rest_of_row, rest_of_return_head, rest_of_value, rest_of_return, least_body, rest_of_token, done, completion}
 use Rattle.tds_export.proofs.SomeBytes.{AreBytes-append, AreBytes-replicate}
 use Rattle.tds_export.proofs.LeastTypes.{least_type}
@@ -102,8 +104,7 @@ AreBytes-return (InReturnCell name kind part) h = AreBytes-cell part
 AreBytes-return (WholeReturn r) h = tt
 
 AreBytes-body : (b : Bodied) → AreBytes (least_body b)
-AreBytes-body AnOrder = AreBytes-zeros 2
-AreBytes-body AnEnvChange = AreBytes-zeros 2
+AreBytes-body (APassed passed) = AreBytes-zeros 2
 AreBytes-body AnError = (omega arith, AreBytes-zeros 15)
 AreBytes-body AnInfo = (omega arith, AreBytes-zeros 15)
 
@@ -114,9 +115,7 @@ AreBytes-token room (InRow part) h = AreBytes-row part
 AreBytes-token room (InReturn part) (begun, h) = AreBytes-return part h
 AreBytes-token room (TokenLength b) h = AreBytes-body b
 AreBytes-token room (TokenBody b n) h = AreBytes-zeros n
-AreBytes-token room Status h = AreBytes-zeros 4
-AreBytes-token room DoneFields h = AreBytes-zeros 12
-AreBytes-token room DoneInProcFields h = AreBytes-zeros 12
+AreBytes-token room (Fields f) h = AreBytes-zeros (fields_length f)
 
 -- What completes a part that bytes led to are bytes.
 pub AreBytes-completion : (room : ℕ) (p : Part) → OpenReached room p.at → AreBytes (completion p)

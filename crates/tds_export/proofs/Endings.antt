@@ -1,5 +1,5 @@
 -- How an export ends, from what its calls did.
-use Rattle.std.proofs.Common.{◌≡◌, inl, inr, ℕ, ◌-◌, Bool, true, false, [], length, sym, subst, Result, Ok, Err, MatchResult}
+use Rattle.std.proofs.Common.{◌≡◌, inl, inr, ℕ, Bool, true, false, [], length, sym, subst, Result, Ok, Err, MatchResult}
 use Rattle.tds_meter.specs.Counts.{Rose}
 use Rattle.tds_packet.specs.declared.fault.Stop.{Stop}
 use Rattle.tds_csv.specs.Sinks.{FinishFails, Finishes, Held}

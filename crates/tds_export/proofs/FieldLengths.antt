@@ -225,13 +225,7 @@ values_fit kinds.DateTime8 e h k = datetime_fits 8 e
 values_fit (kinds.DateTimeN n) e h k = datetime_fits n e
 values_fit kinds.Guid e h k = tt
 values_fit (kinds.Decimal n precision scale) e h k = magnitude_fits (length e) (drop 1 e) (AreBytes-drop 1 e h) (and_parts (is_decimal_length (length e)) (nat_le (length e) n) k).0
-values_fit kinds.Date e h k = tt
-values_fit (kinds.Time scale) e h k = tt
-values_fit (kinds.DateTime2 scale) e h k = tt
-values_fit (kinds.DateTimeOffset scale) e h k = tt
-values_fit (kinds.Binary reach) e h k = tt
-values_fit (kinds.Narrow reach) e h k = tt
-values_fit (kinds.Wide reach) e h k = tt
+values_fit kind e h k = tt
 
 -- the text of a value that is read
 abbrev pub ReadShort : Result ScalarValue ValueFault → Type 0

@@ -18,7 +18,8 @@ use Rattle.tds_export.specs.declared.report.ServerError.{ServerError}
 use Rattle.tds_export.specs.Noticing.{IsInBody, ReadsNotice, StopsInNotice}
 use Rattle.tds_export.specs.Outcome.{server_error}
 use Rattle.tds_export.specs.Tokens.{Error, Info, Token, first_error, how_many, is_error, message_text}
-use Rattle.tds_export.specs.TokenGrammar.{AnError, AnInfo, Bodied, Part, TokenLength, notice_of, response, text_so_far}
+use Rattle.tds_export.specs.TokenBytes.{AnError, AnInfo, Bodied}
+use Rattle.tds_export.specs.TokenGrammar.{Part, TokenLength, notice_of, response, text_so_far}
 use Rattle.tds_export.specs.Steps.{IsHolding, IsNoted, ReadsTokens, StepStops, Tracks, behind, in_length}
 use Rattle.tds_export.proofs.TokenLaws.{first_next, first_stays, no_errors, same_first, tracks_error, tracks_info}
 use Rattle.tds_export.proofs.TokenSteps.{bare_reads, same_text}
@@ -66,7 +67,7 @@ module _ (charset : Charset) (room : ℕ) (tokens : List Token) (area : Space) (
         let n = notice_of body in
         let t : Progress = record s { report = record s.report { infos = s.report.infos + 1 }; is_final = false } in
         quietly (response charset room) (in_length AnInfo tokens) tokens a b place place' sink sink s t area notice tracks noted refl
-        (bare_reads charset room area sink tokens (Info n) (TokenLength AnInfo) t x.reads.bytes a b place place' refl (λ _. refl) (λ _. refl) x.place_is d (tracks_info s tokens n tracks) holds x.reads.spelt x.reads.takes)
+        (bare_reads charset room area sink tokens (Info n) (TokenLength AnInfo) t x.reads.bytes a b place place' refl refl x.place_is d (tracks_info s tokens n tracks) holds x.reads.spelt x.reads.takes)
 
     errors_are : s.report.errors ≡ how_many is_error tokens
     errors_are = ap (λ (r : Report). r.errors) tracks.report
@@ -76,7 +77,7 @@ module _ (charset : Charset) (room : ℕ) (tokens : List Token) (area : Space) (
     error_reads first is x =
         let n = notice_of body in
         let t : Progress = record s { report = record s.report { errors = s.report.errors + 1; first_error = first }; is_final = false } in
-        bare_reads charset room area sink tokens (Error n) (TokenLength AnError) t x.reads.bytes a b place place' refl (λ _. refl) (λ _. refl) x.place_is d (tracks_error s tokens n first is tracks) holds x.reads.spelt x.reads.takes
+        bare_reads charset room area sink tokens (Error n) (TokenLength AnError) t x.reads.bytes a b place place' refl refl x.place_is d (tracks_error s tokens n first is tracks) holds x.reads.spelt x.reads.takes
 
     -- the first ERROR was read, and its message noted
     pub first_error_reads : (cleared after : Space) → s.report.errors ≡ 0 → cleared.bytes ≡ [] → cleared.room ≡ 512 → after ≡ appended cleared (whole_within (cleared.room - length cleared.bytes) (characters (notice_of body).message)) → ReadsNotice charset room tokens AnError a b place place' body

@@ -17,7 +17,8 @@ use Rattle.tds_packet.proofs.Steps.{refused_at_once, stops_after, takes_both}
 use Rattle.tds_rows.specs.declared.Charset.{Charset}
 use Rattle.tds_export.specs.Noticing.{ReadsNotice, StopsInNotice}
 use Rattle.tds_export.specs.Tokens.{Token}
-use Rattle.tds_export.specs.TokenGrammar.{Bodied, Part, TokenBody, TokenLength, bodied, holds_notice, is_notice, part_fault, response, with_token}
+use Rattle.tds_export.specs.TokenBytes.{Bodied}
+use Rattle.tds_export.specs.TokenGrammar.{Part, TokenBody, TokenLength, bodied, holds_notice, is_notice, part_fault, response, with_token}
 use Rattle.tds_export.specs.Steps.{in_length}
 use Rattle.tds_export.proofs.TokenSteps.{part_cut, token_cut}
 

@@ -7,7 +7,7 @@ use Rattle.tds_values.specs.Scalar.{read_of}
 use Rattle.tds_values.specs.TypeInfo.{rest_length, kind_of}
 use Rattle.tds_packet.specs.declared.fault.RefusedKind.{RefusedKind}
 use Rattle.tds_packet.specs.declared.fault.Fault.{Fault}
-use Rattle.tds_packet.specs.declared.fault.Fault.TheVariants.{ReadFailed, WriteFailed, EndWithoutDone, RefusedToken, BadNotice, NoColumns, BadTypeInfo, DescriptionTooLong, BadValueLength, BadValue, OddText, PlpLength, BadText}
+use Rattle.tds_packet.specs.declared.fault.Fault.TheVariants.{ReadFailed, WriteFailed, EndWithoutDone, BadNotice, NoColumns, BadTypeInfo, DescriptionTooLong, BadValueLength, BadValue, OddText, PlpLength, BadText}
 use Rattle.tds_csv.specs.Conversion.{Conversion, unit, is_fit, is_begun}
 use Rattle.tds_columns.specs.Description.{Column, ColumnPlace, ColumnHead, ColumnInfo, NameCount, NameUnits, DescriptionPart, BeforeCount, NoDescription, InColumn, WholeDescription, described_fault, column_fault, count_fault, too_long, type_fault, refused_type, refused_kind, first_of_two}
 use Rattle.tds_rows.specs.declared.Charset.{Charset}
@@ -16,7 +16,8 @@ use Rattle.tds_rows.specs.Rows.{RowPart, Bitmap, InCell, WholeRow, row_fault}
 use Rattle.tds_export.specs.ReturnValue.{ReturnPart, ReturnOrdinal, ReturnNameCount, ReturnName, ReturnHead, ReturnInfo, InReturnCell, WholeReturn, return_fault}
 use Rattle.tds_columns.specs.ReturnedType.{return_column}
 use Rattle.tds_export.specs.Tokens.{Token, described_after, is_final}
-use Rattle.tds_export.specs.TokenGrammar.{Part, Open, Between, Describing, InRow, InReturn, TokenLength, TokenBody, Status, DoneFields, DoneInProcFields, response, part_fault, part_end, token_fault, row_byte_fault, is_token_byte, is_row_byte, is_notice, holds_notice}
+use Rattle.tds_export.specs.TokenBytes.{Lead, is_row_lead, lead_of}
+use Rattle.tds_export.specs.TokenGrammar.{Part, Open, Between, Describing, Fields, InRow, InReturn, TokenLength, TokenBody, response, part_fault, part_end, lead_fault, row_byte_fault, is_notice, holds_notice}
 
 -- a fault that elements may have, or the end of a message
 abbrev pub IsOfPayload : Fault → Type 0
@@ -106,34 +107,26 @@ row_byte_payload true (Some columns) = tt
 row_byte_payload false None = tt
 row_byte_payload false (Some columns) = tt
 
-token_payload : (tokens : List Token) (byte : ℕ) → AtMostOfPayload (token_fault tokens byte)
-token_payload tokens byte = if_payload (is_token_byte byte) (row_byte_fault (is_row_byte byte) (described_after None tokens)) (Some (RefusedToken byte)) (row_byte_payload (is_row_byte byte) (described_after None tokens)) tt
+lead_payload : (columns : Option (List Column)) (byte : ℕ) (begun : Option Lead) → AtMostOfPayload (lead_fault columns byte begun)
+lead_payload columns byte (Some lead) = row_byte_payload (is_row_lead lead) columns
+lead_payload columns byte None = tt
 
 notice_payload : (b : Bool) → AtMostOfPayload (if b then Some BadNotice else None)
 notice_payload true = tt
 notice_payload false = tt
 
 part_payload : (room : ℕ) (tokens : List Token) (at : Open) (e : List ℕ) → AtMostOfPayload (part_fault room tokens at e)
-part_payload room tokens Between e = token_payload tokens (slice_index e 0)
+part_payload room tokens Between e = lead_payload (described_after None tokens) (slice_index e 0) (lead_of (slice_index e 0))
 part_payload room tokens (Describing d) e = described_payload room d e
 part_payload room tokens (InRow part) e = row_payload part e
 part_payload room tokens (InReturn part) e = return_payload part e
 part_payload room tokens (TokenLength b) e = notice_payload (is_notice b && nat_lt (little e) 14)
 part_payload room tokens (TokenBody b n) e = notice_payload (is_notice b && not (holds_notice e))
-part_payload room tokens Status e = tt
-part_payload room tokens DoneFields e = tt
-part_payload room tokens DoneInProcFields e = tt
+part_payload room tokens (Fields f) e = tt
 
 end_payload : (tokens : List Token) (at : Open) → AtMostOfPayload (part_end tokens at)
 end_payload tokens Between = if_payload (is_final tokens) None (Some EndWithoutDone) tt tt
-end_payload tokens (Describing d) = tt
-end_payload tokens (InRow part) = tt
-end_payload tokens (InReturn part) = tt
-end_payload tokens (TokenLength b) = tt
-end_payload tokens (TokenBody b n) = tt
-end_payload tokens Status = tt
-end_payload tokens DoneFields = tt
-end_payload tokens DoneInProcFields = tt
+end_payload tokens at = tt
 
 module _ (charset : Charset) (room : ℕ) where
   pub element_fault : (p : Part) (e : List ℕ) (fault : Fault) → (response charset room).fault p e ≡ Some fault → IsOfPayload fault

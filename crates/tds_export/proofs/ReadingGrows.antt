@@ -1,6 +1,6 @@
 -- What is read grows by each element: the text so far, and the greatest span.
 use Rattle.std.proofs.Common.{◌≡◌, ◌∙◌, ℕ, ◌+◌, ◌-◌, ◌*◌, ◌≤◌, false, List, [], ◌∷◌, ◌++◌, length, max, refl, sym, ap, subst, append-nil, arith, length-append}
-use Rattle.std.specs.Prelude.{Option, Some, None, ◌==◌, ◌||◌, map, slice_index, unwrap_or}
+use Rattle.std.specs.Prelude.{Option, Some, None, ◌==◌, map, slice_index, unwrap_or}
 use Rattle.tds_values.specs.Numbers.{little}
 use Rattle.tds_values.specs.TypeInfo.{rest_length, kind_of}
 use Rattle.tds_values.proofs.TypeInfoLemmas.{bare_type}
@@ -12,10 +12,11 @@ use Rattle.tds_columns.proofs.ColumnMeaning.{known_type, some_kind}
 use Rattle.tds_rows.specs.declared.Charset.{Charset}
 use Rattle.tds_rows.specs.Cells.{field}
 use Rattle.tds_rows.specs.Rows.{RowPart, Bitmap, InCell, WholeRow, row_start, nbc_row_start, row_add, row_so_far}
-use Rattle.tds_export.specs.ReturnValue.{ReturnPart, ReturnOrdinal, ReturnNameCount, ReturnName, ReturnHead, ReturnInfo, InReturnCell, WholeReturn, return_add}
-use Rattle.tds_export.specs.Response.{more}
-use Rattle.tds_export.specs.Tokens.{Token, Metadata, NoMetadata, Row, ReturnStatus, Returned, Done, DoneInProc, described_after, greatest_span, span_of, text, text_after}
-use Rattle.tds_export.specs.TokenGrammar.{AnOrder, AnEnvChange, AnError, AnInfo, Open, Between, Describing, InRow, InReturn, TokenLength, TokenBody, Status, DoneFields, DoneInProcFields, Part, response, bodied, after_byte, open_span, open_text, part_add, span_so_far, start_of_row, text_so_far, with_described, with_return, with_row, with_token}
+use Rattle.tds_export.specs.ReturnValue.{ReturnPart, ReturnOrdinal, WholeReturn, return_add}
+use Rattle.tds_export.specs.Response.{fixed}
+use Rattle.tds_export.specs.Tokens.{Token, Metadata, NoMetadata, Row, Returned, described_after, greatest_span, span_of, text, text_after}
+use Rattle.tds_export.specs.TokenBytes.{Lead, AMetadata, ARow, AnNbcRow, WithBody, WithFields, AReturn, lead_of}
+use Rattle.tds_export.specs.TokenGrammar.{Open, Between, Describing, Fields, InRow, InReturn, TokenLength, TokenBody, Part, response, bodied, after_first, open_span, open_text, part_add, span_so_far, start_of_row, text_so_far, with_described, with_return, with_row, with_token}
 use Rattle.tds_rows.proofs.GrowingTexts.{Grows, grows_all, grows_same, grows_trans, grows_under, row_grows}
 use Rattle.tds_export.proofs.TokenLaws.{begun_after, greatest_span-append, text_after-snoc}
 
@@ -29,20 +30,15 @@ IsFresh (Describing d) = d ≡ BeforeCount
 IsFresh (InRow part) = ⊥
 IsFresh at = Unit {0}
 
--- the cases of a token byte
-pub byte_cases : (charset : Charset) (P : Part → Type 0) (tokens : List Token) (x : ℕ) → ((at : Open) → IsFresh at → P (part_at tokens at)) → P (start_of_row tokens (row_start charset) (described_after None tokens)) → P (start_of_row tokens nbc_row_start (described_after None tokens)) → P (after_byte charset tokens x)
-byte_cases charset P tokens x same row nbc =
-    choose P (x == 0x81) (record { tokens = tokens; at = Describing BeforeCount }) _ (λ z. same (Describing BeforeCount) refl) (λ z1.
-    choose P (x == 0xD1) (start_of_row tokens (row_start charset) (described_after None tokens)) _ (λ z. row) (λ z2.
-    choose P (x == 0xD2) (start_of_row tokens nbc_row_start (described_after None tokens)) _ (λ z. nbc) (λ z3.
-    choose P (x == 0xA9) (record { tokens = tokens; at = TokenLength AnOrder }) _ (λ z. same (TokenLength AnOrder) tt) (λ z4.
-    choose P (x == 0xE3) (record { tokens = tokens; at = TokenLength AnEnvChange }) _ (λ z. same (TokenLength AnEnvChange) tt) (λ z5.
-    choose P (x == 0xAA) (record { tokens = tokens; at = TokenLength AnError }) _ (λ z. same (TokenLength AnError) tt) (λ z6.
-    choose P (x == 0xAB) (record { tokens = tokens; at = TokenLength AnInfo }) _ (λ z. same (TokenLength AnInfo) tt) (λ z7.
-    choose P (x == 0x79) (record { tokens = tokens; at = Status }) _ (λ z. same Status tt) (λ z8.
-    choose P ((x == 0xFD) || (x == 0xFE)) (record { tokens = tokens; at = DoneFields }) _ (λ z. same DoneFields tt) (λ z9.
-    choose P (x == 0xFF) (record { tokens = tokens; at = DoneInProcFields }) _ (λ z. same DoneInProcFields tt) (λ z10.
-    choose P (x == 0xAC) (record { tokens = tokens; at = InReturn ReturnOrdinal }) _ (λ z. same (InReturn ReturnOrdinal) tt) (λ z11. same Between tt)))))))))))
+-- the cases of what a byte begins
+pub lead_cases : (charset : Charset) (P : Part → Type 0) (tokens : List Token) (begun : Option Lead) → ((at : Open) → IsFresh at → P (part_at tokens at)) → P (start_of_row tokens (row_start charset) (described_after None tokens)) → P (start_of_row tokens nbc_row_start (described_after None tokens)) → P (after_first charset tokens begun)
+lead_cases charset P tokens None same row nbc = same Between tt
+lead_cases charset P tokens (Some AMetadata) same row nbc = same (Describing BeforeCount) refl
+lead_cases charset P tokens (Some ARow) same row nbc = row
+lead_cases charset P tokens (Some AnNbcRow) same row nbc = nbc
+lead_cases charset P tokens (Some (WithBody b)) same row nbc = same (TokenLength b) tt
+lead_cases charset P tokens (Some (WithFields f)) same row nbc = same (Fields f) tt
+lead_cases charset P tokens (Some AReturn) same row nbc = same (InReturn ReturnOrdinal) tt
 
 -- ---- the text
 
@@ -81,13 +77,8 @@ with_described_grows tokens (WholeDescription bytes columns) = token_grows token
 
 -- a return value in its response
 with_return_grows : (tokens : List Token) (part : ReturnPart) → Grows (text tokens ++ []) (text_so_far (with_return tokens part))
-with_return_grows tokens ReturnOrdinal = grows_same (text tokens ++ [])
-with_return_grows tokens ReturnNameCount = grows_same (text tokens ++ [])
-with_return_grows tokens (ReturnName n) = grows_same (text tokens ++ [])
-with_return_grows tokens (ReturnHead name) = grows_same (text tokens ++ [])
-with_return_grows tokens (ReturnInfo name byte) = grows_same (text tokens ++ [])
-with_return_grows tokens (InReturnCell name kind part) = grows_same (text tokens ++ [])
 with_return_grows tokens (WholeReturn r) = token_grows tokens (Returned r)
+with_return_grows tokens part = grows_same (text tokens ++ [])
 
 -- ---- the span
 
@@ -115,13 +106,8 @@ with_described_span tokens (WholeDescription bytes columns) = token_span tokens 
 
 -- a return value in its response
 with_return_span : (tokens : List Token) (part : ReturnPart) → max (greatest_span tokens) 0 ≤ span_so_far (with_return tokens part)
-with_return_span tokens ReturnOrdinal = omega arith
-with_return_span tokens ReturnNameCount = omega arith
-with_return_span tokens (ReturnName n) = omega arith
-with_return_span tokens (ReturnHead name) = omega arith
-with_return_span tokens (ReturnInfo name byte) = omega arith
-with_return_span tokens (InReturnCell name kind part) = omega arith
 with_return_span tokens (WholeReturn r) = token_span tokens (Returned r) 0 (omega arith)
+with_return_span tokens part = omega arith
 
 -- a column that is whole
 with_column_span : (bytes : List ℕ) (count : ℕ) (columns : List Column) (c : Column) → length bytes ≤ span (with_column bytes count columns c)
@@ -166,7 +152,7 @@ module _ (room : ℕ) where
 module _ (charset : Charset) (room : ℕ) where
   -- each element adds to the text, by where it is read
   part_grows : (tokens : List Token) (at : Open) (e : List ℕ) → IsNext (response charset room) (part_at tokens at) e → Grows (text tokens ++ open_text at) (text_so_far (part_add charset tokens at e))
-  part_grows tokens Between e n = byte_cases charset (λ p. Grows (text tokens ++ []) (text_so_far p)) tokens (slice_index e 0) (same_grows tokens) (start_grows tokens (row_start charset) (described_after None tokens)) (start_grows tokens nbc_row_start (described_after None tokens))
+  part_grows tokens Between e n = lead_cases charset (λ p. Grows (text tokens ++ []) (text_so_far p)) tokens (lead_of (slice_index e 0)) (same_grows tokens) (start_grows tokens (row_start charset) (described_after None tokens)) (start_grows tokens nbc_row_start (described_after None tokens))
   part_grows tokens (Describing d) e n = with_described_grows tokens (add_described d e)
   part_grows tokens (InRow part) e n =
       grows_trans (text tokens ++ row_so_far part) (text tokens ++ row_so_far (row_add charset part e)) (text_so_far (with_row tokens (row_add charset part e)))
@@ -175,13 +161,11 @@ module _ (charset : Charset) (room : ℕ) where
   part_grows tokens (InReturn part) e n = with_return_grows tokens (return_add part e)
   part_grows tokens (TokenLength b) e n = choose (λ p. Grows (text tokens ++ []) (text_so_far p)) (little e == 0) (with_token tokens (bodied b [])) (part_at tokens (TokenBody b (little e))) (λ z. token_grows tokens (bodied b [])) (λ z. grows_same (text tokens ++ []))
   part_grows tokens (TokenBody b m) e n = token_grows tokens (bodied b e)
-  part_grows tokens Status e n = token_grows tokens (ReturnStatus (little e))
-  part_grows tokens DoneFields e n = token_grows tokens (Done (more e))
-  part_grows tokens DoneInProcFields e n = token_grows tokens (DoneInProc (more e))
+  part_grows tokens (Fields f) e n = token_grows tokens (fixed f e)
 
   -- each element adds to the span, by where it is read
   part_span : (tokens : List Token) (at : Open) (e : List ℕ) → IsNext (response charset room) (part_at tokens at) e → max (greatest_span tokens) (open_span at) ≤ span_so_far (part_add charset tokens at e)
-  part_span tokens Between e n = byte_cases charset (λ p. max (greatest_span tokens) 0 ≤ span_so_far p) tokens (slice_index e 0) (λ at q. omega arith) (start_span tokens (row_start charset) (described_after None tokens)) (start_span tokens nbc_row_start (described_after None tokens))
+  part_span tokens Between e n = lead_cases charset (λ p. max (greatest_span tokens) 0 ≤ span_so_far p) tokens (lead_of (slice_index e 0)) (λ at q. omega arith) (start_span tokens (row_start charset) (described_after None tokens)) (start_span tokens nbc_row_start (described_after None tokens))
   part_span tokens (Describing d) e n =
       let one : span d ≤ span (add_described d e) = description_span room d e (record { some = n.some; whole = n.whole; free = n.free }) in
       let two : max (greatest_span tokens) (span (add_described d e)) ≤ span_so_far (with_described tokens (add_described d e)) = with_described_span tokens (add_described d e) in
@@ -193,9 +177,7 @@ module _ (charset : Charset) (room : ℕ) where
   part_span tokens (InReturn part) e n = with_return_span tokens (return_add part e)
   part_span tokens (TokenLength b) e n = choose (λ p. max (greatest_span tokens) 0 ≤ span_so_far p) (little e == 0) (with_token tokens (bodied b [])) (part_at tokens (TokenBody b (little e))) (λ z. token_span tokens (bodied b []) 0 (omega arith)) (λ z. omega arith)
   part_span tokens (TokenBody b m) e n = token_span tokens (bodied b e) 0 (omega arith)
-  part_span tokens Status e n = token_span tokens (ReturnStatus (little e)) 0 (omega arith)
-  part_span tokens DoneFields e n = token_span tokens (Done (more e)) 0 (omega arith)
-  part_span tokens DoneInProcFields e n = token_span tokens (DoneInProc (more e)) 0 (omega arith)
+  part_span tokens (Fields f) e n = token_span tokens (fixed f e) 0 (omega arith)
 
   -- each element adds to the text so far
   text_grows : (p : Part) (e : List ℕ) → IsNext (response charset room) p e → (more : List ℕ) × (text_so_far p ++ more ≡ text_so_far ((response charset room).add p e))

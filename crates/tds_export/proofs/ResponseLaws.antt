@@ -13,14 +13,15 @@ use Rattle.tds_columns.specs.Description.{Column, DescriptionPart, BeforeCount, 
 use Rattle.tds_columns.proofs.ColumnLaws.{description_is_read}
 use Rattle.tds_rows.specs.declared.Charset.{Charset}
 use Rattle.tds_rows.specs.Cells.{Cell}
-use Rattle.tds_rows.specs.Rows.{RowPart, Bitmap, InCell, WholeRow, row_start, nbc_row_start, row}
+use Rattle.tds_rows.specs.Rows.{RowPart, WholeRow, row_start, nbc_row_start, row}
 use Rattle.tds_rows.proofs.RowLaws.{row_is_read, nbc_row_is_read}
 use Rattle.std.proofs.lemmas.Bool.{and_right}
-use Rattle.tds_export.specs.ReturnValue.{ReturnPart, ReturnOrdinal, ReturnNameCount, ReturnName, ReturnHead, ReturnInfo, InReturnCell, WholeReturn, return_value}
+use Rattle.tds_export.specs.ReturnValue.{ReturnPart, ReturnOrdinal, WholeReturn, return_value}
 use Rattle.tds_export.proofs.ReturnLaws.{return_is_read}
-use Rattle.tds_export.specs.Tokens.{Notice, Token, Metadata, NoMetadata, Row, Order, EnvChange, Error, Info, ReturnStatus, Returned, Done, DoneInProc, described_after}
-use Rattle.tds_export.specs.Response.{SpellsBody, SpellsNotice, SpellsRowToken, SpellsToken, SpellsTokens, Response, Accepted}
-use Rattle.tds_export.specs.TokenGrammar.{Bodied, AnOrder, AnEnvChange, AnError, AnInfo, Open, Between, Describing, InReturn, TokenLength, TokenBody, Status, DoneFields, DoneInProcFields, Part, response_start, with_token, with_described, with_row, with_return, start_of_row, row_byte_fault, holds_notice, bodied, is_notice, response}
+use Rattle.tds_export.specs.TokenBytes.{APassed, AnError, AnInfo, Bodied, Fixed, AStatus, ADone, ADoneInProc, Lead, AMetadata, ARow, AnNbcRow, WithBody, WithFields, AReturn, Begins, is_row_lead}
+use Rattle.tds_export.specs.Tokens.{Notice, Token, Metadata, NoMetadata, Row, PassedOver, Error, Info, ReturnStatus, Returned, Done, DoneInProc, described_after}
+use Rattle.tds_export.specs.Response.{fields_length, fixed, SpellsBody, SpellsNotice, SpellsRowToken, SpellsToken, SpellsTokens, Response, Accepted}
+use Rattle.tds_export.specs.TokenGrammar.{Open, Between, Describing, Fields, TokenLength, TokenBody, Part, after_first, after_lead, lead_fault, response_start, with_token, with_described, with_row, with_return, start_of_row, row_byte_fault, holds_notice, bodied, is_notice, response}
 use Rattle.tds_packet.proofs.Choices.{choose_false}
 use Rattle.tds_packet.specs.Packets.{Packet, payload_of}
 use Rattle.tds_packet.proofs.MessageLaws.{one_message}
@@ -30,20 +31,23 @@ pub described_after-append : (before : Option (List Column)) (a b : List Token) 
 described_after-append before [] b = refl
 described_after-append before (Metadata bytes columns ∷ a) b = described_after-append (Some columns) a b
 described_after-append before (NoMetadata ∷ a) b = described_after-append None a b
-described_after-append before (Row c ∷ a) b = described_after-append before a b
-described_after-append before (Order c ∷ a) b = described_after-append before a b
-described_after-append before (EnvChange c ∷ a) b = described_after-append before a b
-described_after-append before (Error c ∷ a) b = described_after-append before a b
-described_after-append before (Info c ∷ a) b = described_after-append before a b
-described_after-append before (ReturnStatus c ∷ a) b = described_after-append before a b
-described_after-append before (Returned c ∷ a) b = described_after-append before a b
-described_after-append before (Done c ∷ a) b = described_after-append before a b
-described_after-append before (DoneInProc c ∷ a) b = described_after-append before a b
+described_after-append before (t ∷ a) b = described_after-append before a b
 
 -- what is described has columns
 abbrev HasColumns : Option (List Column) → Type 0
 HasColumns None = Unit {0}
 HasColumns (Some columns) = 0 < length columns
+
+-- there are fields
+pub some_fields : (f : Fixed) → 0 < fields_length f
+some_fields AStatus = omega arith
+some_fields ADone = omega arith
+some_fields ADoneInProc = omega arith
+
+-- a byte that begins no row is free
+pub no_row : (current : Option (List Column)) → row_byte_fault false current ≡ None
+no_row None = refl
+no_row (Some columns) = refl
 
 module _ (charset : Charset) (room : ℕ) where
   -- a description is read in its response as by itself
@@ -73,50 +77,32 @@ module _ (charset : Charset) (room : ℕ) where
   row_in_response tokens = record { size = size; fault = fault; add = add }
     where
       size : (p : RowPart) → 0 < (row charset).size p → (response charset room).size (with_row tokens p) ≡ (row charset).size p
-      size (Bitmap columns) h = refl
-      size (InCell cells part ks) h = refl
       size (WholeRow cells) h = absurd (omega arith)
+      size p h = refl
 
       fault : (p : RowPart) (e : List ℕ) → 0 < (row charset).size p → (response charset room).fault (with_row tokens p) e ≡ (row charset).fault p e
-      fault (Bitmap columns) e h = refl
-      fault (InCell cells part ks) e h = refl
       fault (WholeRow cells) e h = absurd (omega arith)
+      fault p e h = refl
 
       add : (p : RowPart) (e : List ℕ) → 0 < (row charset).size p → (response charset room).add (with_row tokens p) e ≡ with_row tokens ((row charset).add p e)
-      add (Bitmap columns) e h = refl
-      add (InCell cells part ks) e h = refl
       add (WholeRow cells) e h = absurd (omega arith)
+      add p e h = refl
 
   -- a return value is read in its response as by itself
   pub return_in_response : (tokens : List Token) → Inside return_value (response charset room) (with_return tokens)
   return_in_response tokens = record { size = size; fault = fault; add = add }
     where
       size : (p : ReturnPart) → 0 < return_value.size p → (response charset room).size (with_return tokens p) ≡ return_value.size p
-      size ReturnOrdinal h = refl
-      size ReturnNameCount h = refl
-      size (ReturnName n) h = refl
-      size (ReturnHead name) h = refl
-      size (ReturnInfo name byte) h = refl
-      size (InReturnCell name kind part) h = refl
       size (WholeReturn r) h = absurd (omega arith)
+      size p h = refl
 
       fault : (p : ReturnPart) (e : List ℕ) → 0 < return_value.size p → (response charset room).fault (with_return tokens p) e ≡ return_value.fault p e
-      fault ReturnOrdinal e h = refl
-      fault ReturnNameCount e h = refl
-      fault (ReturnName n) e h = refl
-      fault (ReturnHead name) e h = refl
-      fault (ReturnInfo name byte) e h = refl
-      fault (InReturnCell name kind part) e h = refl
       fault (WholeReturn r) e h = absurd (omega arith)
+      fault p e h = refl
 
       add : (p : ReturnPart) (e : List ℕ) → 0 < return_value.size p → (response charset room).add (with_return tokens p) e ≡ with_return tokens (return_value.add p e)
-      add ReturnOrdinal e h = refl
-      add ReturnNameCount e h = refl
-      add (ReturnName n) e h = refl
-      add (ReturnHead name) e h = refl
-      add (ReturnInfo name byte) e h = refl
-      add (InReturnCell name kind part) e h = refl
       add (WholeReturn r) e h = absurd (omega arith)
+      add p e h = refl
 
   abbrev between_tokens : List Token → Part
   between_tokens tokens = record { tokens = tokens; at = Between }
@@ -124,9 +110,12 @@ module _ (charset : Charset) (room : ℕ) where
   abbrev at_part : List Token → Open → Part
   at_part tokens at = record { tokens = tokens; at = at }
 
-  -- a token of one byte and fields
-  byte_then : (tokens : List Token) (byte : ℕ) (at : Part) (rest : List ℕ) (to : Part) → Spelt (response charset room) (between_tokens tokens) (byte ∷ []) at → Spelt (response charset room) at rest to → Spelt (response charset room) (between_tokens tokens) (byte ∷ rest) to
-  byte_then tokens byte at rest to a b = Spelt-append (response charset room) (between_tokens tokens) (byte ∷ []) at rest to a b
+  -- the first byte of a token, and what follows it
+  lead_then : (tokens : List Token) (lead : Lead) (rest bytes : List ℕ) (to : Part) → Begins lead rest bytes → row_byte_fault (is_row_lead lead) (described_after None tokens) ≡ None → Spelt (response charset room) (after_lead charset tokens lead) rest to → Spelt (response charset room) (between_tokens tokens) bytes to
+  lead_then tokens lead rest bytes to (first, is, begun) free h =
+      subst (λ v. Spelt (response charset room) (between_tokens tokens) v to) (sym is)
+      (Spelt-append (response charset room) (between_tokens tokens) (first ∷ []) (after_lead charset tokens lead) rest to
+      (Spelt-step (response charset room) (between_tokens tokens) (first ∷ []) (after_lead charset tokens lead) (omega arith) refl (ap (λ v. lead_fault (described_after None tokens) first v) begun ∙ free) (ap (λ v. after_first charset tokens v) begun)) h)
 
   body_is_read : (tokens : List Token) (b : Bodied) (body bytes : List ℕ) → ((if is_notice b && nat_lt (length body) 14 then Some BadNotice else None) ≡ None) → ((if is_notice b && not (holds_notice body) then Some BadNotice else None) ≡ None) → SpellsBody body bytes → Spelt (response charset room) (at_part tokens (TokenLength b)) bytes (with_token tokens (bodied b body))
   body_is_read tokens b [] bytes f g h = subst (λ v. Spelt (response charset room) (at_part tokens (TokenLength b)) v (with_token tokens (bodied b []))) (sym h.0) (Spelt-step (response charset room) (at_part tokens (TokenLength b)) (0 ∷ 0 ∷ []) (with_token tokens (bodied b [])) (omega arith) refl f refl)
@@ -150,88 +139,54 @@ module _ (charset : Charset) (room : ℕ) where
       (choose_false (is_notice b && nat_lt (length body) 14) (Some BadNotice) None (and_right (is_notice b) (nat_lt (length body) 14) long))
       (choose_false (is_notice b && not (holds_notice body)) (Some BadNotice) None (and_right (is_notice b) (not (holds_notice body)) held)) s
 
+  -- so is a notice
+  notice_token_is_read : (tokens : List Token) (b : Bodied) (n : Notice) (t : Token) (body rest bytes : List ℕ) → Begins (WithBody b) rest bytes → SpellsBody body rest → SpellsNotice n body → bodied b body ≡ t → Spelt (response charset room) (between_tokens tokens) bytes (with_token tokens t)
+  notice_token_is_read tokens b n t body rest bytes begins s h is =
+      lead_then tokens (WithBody b) rest bytes (with_token tokens t) begins (no_row (described_after None tokens)) (subst (λ v. Spelt (response charset room) (at_part tokens (TokenLength b)) rest (with_token tokens v)) is (notice_body tokens b n body rest h s))
+
+  -- a token with fields of a fixed length
+  fixed_is_read : (tokens : List Token) (f : Fixed) (t : Token) (fields bytes : List ℕ) → Begins (WithFields f) fields bytes → length fields ≡ fields_length f → fixed f fields ≡ t → Spelt (response charset room) (between_tokens tokens) bytes (with_token tokens t)
+  fixed_is_read tokens f t fields bytes begins long is =
+      lead_then tokens (WithFields f) fields bytes (with_token tokens t) begins (no_row (described_after None tokens)) (Spelt-step (response charset room) (at_part tokens (Fields f)) fields (with_token tokens t) (subst (λ n. 0 < n) (sym long) (some_fields f)) long refl (ap (λ v. with_token tokens v) is))
+
+  -- which its fields spell
+  pub fixed_spelt : (current : Option (List Column)) (f : Fixed) (fields bytes : List ℕ) → Begins (WithFields f) fields bytes → length fields ≡ fields_length f → SpellsToken charset room current (fixed f fields) bytes
+  fixed_spelt current AStatus fields bytes begins long = (fields, begins, long, refl)
+  fixed_spelt current ADone fields bytes begins long = (fields, begins, long, refl)
+  fixed_spelt current ADoneInProc fields bytes begins long = (fields, begins, long, refl)
+
   row_token_is_read : (tokens : List Token) (current : Option (List Column)) (cells : List Cell) (bytes : List ℕ) → described_after None tokens ≡ current → HasColumns current → SpellsRowToken charset current cells bytes → Spelt (response charset room) (between_tokens tokens) bytes (with_token tokens (Row cells))
   row_token_is_read tokens None cells bytes is some h = absurd h
   row_token_is_read tokens (Some columns) cells bytes is some (rest, inl h) =
-      let one : Spelt (response charset room) (between_tokens tokens) (0xD1 ∷ []) (with_row tokens (row_start charset columns)) = Spelt-step (response charset room) (between_tokens tokens) (0xD1 ∷ []) (with_row tokens (row_start charset columns)) (omega arith) refl (ap (λ v. row_byte_fault true v) is) (ap (λ v. start_of_row tokens (row_start charset) v) is) in
-      let row_part : Spelt (response charset room) (with_row tokens (row_start charset columns)) rest (with_token tokens (Row cells)) = Inside-Spelt (row charset) (response charset room) (with_row tokens) (row_in_response tokens) (row_start charset columns) rest (WholeRow cells) (row_is_read charset columns cells rest h.1) in
-      subst (λ v. Spelt (response charset room) (between_tokens tokens) v (with_token tokens (Row cells))) (sym h.0) (byte_then tokens 0xD1 (with_row tokens (row_start charset columns)) rest (with_token tokens (Row cells)) one row_part)
+      let read : Spelt (response charset room) (with_row tokens (row_start charset columns)) rest (with_token tokens (Row cells)) = Inside-Spelt (row charset) (response charset room) (with_row tokens) (row_in_response tokens) (row_start charset columns) rest (WholeRow cells) (row_is_read charset columns cells rest h.1) in
+      lead_then tokens ARow rest bytes (with_token tokens (Row cells)) h.0 (ap (λ v. row_byte_fault true v) is) (subst (λ v. Spelt (response charset room) (start_of_row tokens (row_start charset) v) rest (with_token tokens (Row cells))) (sym is) read)
   row_token_is_read tokens (Some columns) cells bytes is some (rest, inr h) =
-      let one : Spelt (response charset room) (between_tokens tokens) (0xD2 ∷ []) (with_row tokens (nbc_row_start columns)) = Spelt-step (response charset room) (between_tokens tokens) (0xD2 ∷ []) (with_row tokens (nbc_row_start columns)) (omega arith) refl (ap (λ v. row_byte_fault true v) is) (ap (λ v. start_of_row tokens nbc_row_start v) is) in
-      let row_part : Spelt (response charset room) (with_row tokens (nbc_row_start columns)) rest (with_token tokens (Row cells)) = Inside-Spelt (row charset) (response charset room) (with_row tokens) (row_in_response tokens) (nbc_row_start columns) rest (WholeRow cells) (nbc_row_is_read charset columns cells rest (omega arith) h.1) in
-      subst (λ v. Spelt (response charset room) (between_tokens tokens) v (with_token tokens (Row cells))) (sym h.0) (byte_then tokens 0xD2 (with_row tokens (nbc_row_start columns)) rest (with_token tokens (Row cells)) one row_part)
+      let read : Spelt (response charset room) (with_row tokens (nbc_row_start columns)) rest (with_token tokens (Row cells)) = Inside-Spelt (row charset) (response charset room) (with_row tokens) (row_in_response tokens) (nbc_row_start columns) rest (WholeRow cells) (nbc_row_is_read charset columns cells rest (omega arith) h.1) in
+      lead_then tokens AnNbcRow rest bytes (with_token tokens (Row cells)) h.0 (ap (λ v. row_byte_fault true v) is) (subst (λ v. Spelt (response charset room) (start_of_row tokens nbc_row_start v) rest (with_token tokens (Row cells))) (sym is) read)
 
   -- what spells a token is read as it
   token_is_read : (tokens : List Token) (t : Token) (bytes : List ℕ) → HasColumns (described_after None tokens) → SpellsToken charset room (described_after None tokens) t bytes → Spelt (response charset room) (between_tokens tokens) bytes (with_token tokens t)
   token_is_read tokens (Metadata encoded columns) bytes some h =
-      subst (λ v. Spelt (response charset room) (between_tokens tokens) v (with_token tokens (Metadata encoded columns))) (sym h.0)
-      (byte_then tokens 0x81 (at_part tokens (Describing BeforeCount)) encoded (with_token tokens (Metadata encoded columns))
-      (Spelt-step (response charset room) (between_tokens tokens) (0x81 ∷ []) (at_part tokens (Describing BeforeCount)) (omega arith) refl refl refl)
-      (Inside-Spelt (description room) (response charset room) (with_described tokens) (description_in_response tokens) BeforeCount encoded (WholeDescription encoded columns) (description_is_read room columns encoded h.1)))
+      lead_then tokens AMetadata encoded bytes (with_token tokens (Metadata encoded columns)) h.0 (no_row (described_after None tokens))
+      (Inside-Spelt (description room) (response charset room) (with_described tokens) (description_in_response tokens) BeforeCount encoded (WholeDescription encoded columns) (description_is_read room columns encoded h.1))
   token_is_read tokens NoMetadata bytes some h =
-      subst (λ v. Spelt (response charset room) (between_tokens tokens) v (with_token tokens NoMetadata)) (sym h)
-      (byte_then tokens 0x81 (at_part tokens (Describing BeforeCount)) (255 ∷ 255 ∷ []) (with_token tokens NoMetadata)
-      (Spelt-step (response charset room) (between_tokens tokens) (0x81 ∷ []) (at_part tokens (Describing BeforeCount)) (omega arith) refl refl refl)
-      (Spelt-step (response charset room) (at_part tokens (Describing BeforeCount)) (255 ∷ 255 ∷ []) (with_token tokens NoMetadata) (omega arith) refl refl refl))
+      lead_then tokens AMetadata (255 ∷ 255 ∷ []) bytes (with_token tokens NoMetadata) h (no_row (described_after None tokens))
+      (Spelt-step (response charset room) (at_part tokens (Describing BeforeCount)) (255 ∷ 255 ∷ []) (with_token tokens NoMetadata) (omega arith) refl refl refl)
   token_is_read tokens (Row cells) bytes some h = row_token_is_read tokens (described_after None tokens) cells bytes refl some h
-  token_is_read tokens (Order body) bytes some h =
-      subst (λ v. Spelt (response charset room) (between_tokens tokens) v (with_token tokens (Order body))) (sym h.1)
-      (byte_then tokens 0xA9 (at_part tokens (TokenLength AnOrder)) h.0 (with_token tokens (Order body))
-      (Spelt-step (response charset room) (between_tokens tokens) (0xA9 ∷ []) (at_part tokens (TokenLength AnOrder)) (omega arith) refl refl refl)
-      (body_is_read tokens AnOrder body h.0 refl refl h.2))
-  token_is_read tokens (EnvChange body) bytes some h =
-      subst (λ v. Spelt (response charset room) (between_tokens tokens) v (with_token tokens (EnvChange body))) (sym h.1)
-      (byte_then tokens 0xE3 (at_part tokens (TokenLength AnEnvChange)) h.0 (with_token tokens (EnvChange body))
-      (Spelt-step (response charset room) (between_tokens tokens) (0xE3 ∷ []) (at_part tokens (TokenLength AnEnvChange)) (omega arith) refl refl refl)
-      (body_is_read tokens AnEnvChange body h.0 refl refl h.2))
-  token_is_read tokens (Error n) bytes some h =
-      subst (λ v. Spelt (response charset room) (between_tokens tokens) v (with_token tokens (Error n))) (sym h.2)
-      (byte_then tokens 0xAA (at_part tokens (TokenLength AnError)) h.0 (with_token tokens (Error n))
-      (Spelt-step (response charset room) (between_tokens tokens) (0xAA ∷ []) (at_part tokens (TokenLength AnError)) (omega arith) refl refl refl)
-      (subst (λ v. Spelt (response charset room) (at_part tokens (TokenLength AnError)) h.0 (with_token tokens (Error v))) (notice_is_read n h.1 h.4).2 (notice_body tokens AnError n h.1 h.0 h.4 h.3)))
-  token_is_read tokens (Info n) bytes some h =
-      subst (λ v. Spelt (response charset room) (between_tokens tokens) v (with_token tokens (Info n))) (sym h.2)
-      (byte_then tokens 0xAB (at_part tokens (TokenLength AnInfo)) h.0 (with_token tokens (Info n))
-      (Spelt-step (response charset room) (between_tokens tokens) (0xAB ∷ []) (at_part tokens (TokenLength AnInfo)) (omega arith) refl refl refl)
-      (subst (λ v. Spelt (response charset room) (at_part tokens (TokenLength AnInfo)) h.0 (with_token tokens (Info v))) (notice_is_read n h.1 h.4).2 (notice_body tokens AnInfo n h.1 h.0 h.4 h.3)))
-  token_is_read tokens (ReturnStatus n) bytes some h =
-      subst (λ v. Spelt (response charset room) (between_tokens tokens) v (with_token tokens (ReturnStatus n))) (sym h.1)
-      (byte_then tokens 0x79 (at_part tokens Status) h.0 (with_token tokens (ReturnStatus n))
-      (Spelt-step (response charset room) (between_tokens tokens) (0x79 ∷ []) (at_part tokens Status) (omega arith) refl refl refl)
-      (Spelt-step (response charset room) (at_part tokens Status) h.0 (with_token tokens (ReturnStatus n)) (let l : length h.0 ≡ 4 = h.2 in omega arith) h.2 refl (ap (λ v. with_token tokens (ReturnStatus v)) h.3)))
-  token_is_read tokens (Returned r) bytes some h =
-      subst (λ v. Spelt (response charset room) (between_tokens tokens) v (with_token tokens (Returned r))) (sym h.1)
-      (byte_then tokens 0xAC (at_part tokens (InReturn ReturnOrdinal)) h.0 (with_token tokens (Returned r))
-      (Spelt-step (response charset room) (between_tokens tokens) (0xAC ∷ []) (at_part tokens (InReturn ReturnOrdinal)) (omega arith) refl refl refl)
-      (Inside-Spelt return_value (response charset room) (with_return tokens) (return_in_response tokens) ReturnOrdinal h.0 (WholeReturn r) (return_is_read r h.0 h.2)))
-  token_is_read tokens (Done m) bytes some (fields, inl h, l, e) =
-      subst (λ v. Spelt (response charset room) (between_tokens tokens) v (with_token tokens (Done m))) (sym h)
-      (byte_then tokens 0xFD (at_part tokens DoneFields) fields (with_token tokens (Done m))
-      (Spelt-step (response charset room) (between_tokens tokens) (0xFD ∷ []) (at_part tokens DoneFields) (omega arith) refl refl refl)
-      (Spelt-step (response charset room) (at_part tokens DoneFields) fields (with_token tokens (Done m)) (omega arith) l refl (ap (λ v. with_token tokens (Done v)) e)))
-  token_is_read tokens (Done m) bytes some (fields, inr h, l, e) =
-      subst (λ v. Spelt (response charset room) (between_tokens tokens) v (with_token tokens (Done m))) (sym h)
-      (byte_then tokens 0xFE (at_part tokens DoneFields) fields (with_token tokens (Done m))
-      (Spelt-step (response charset room) (between_tokens tokens) (0xFE ∷ []) (at_part tokens DoneFields) (omega arith) refl refl refl)
-      (Spelt-step (response charset room) (at_part tokens DoneFields) fields (with_token tokens (Done m)) (omega arith) l refl (ap (λ v. with_token tokens (Done v)) e)))
-  token_is_read tokens (DoneInProc m) bytes some h =
-      subst (λ v. Spelt (response charset room) (between_tokens tokens) v (with_token tokens (DoneInProc m))) (sym h.1)
-      (byte_then tokens 0xFF (at_part tokens DoneInProcFields) h.0 (with_token tokens (DoneInProc m))
-      (Spelt-step (response charset room) (between_tokens tokens) (0xFF ∷ []) (at_part tokens DoneInProcFields) (omega arith) refl refl refl)
-      (Spelt-step (response charset room) (at_part tokens DoneInProcFields) h.0 (with_token tokens (DoneInProc m)) (let l : length h.0 ≡ 12 = h.2 in omega arith) h.2 refl (ap (λ v. with_token tokens (DoneInProc v)) h.3)))
+  token_is_read tokens (PassedOver passed body) bytes some (rest, begins, s) = lead_then tokens (WithBody (APassed passed)) rest bytes (with_token tokens (PassedOver passed body)) begins (no_row (described_after None tokens)) (body_is_read tokens (APassed passed) body rest refl refl s)
+  token_is_read tokens (Error n) bytes some (rest, body, begins, s, h) = notice_token_is_read tokens AnError n (Error n) body rest bytes begins s h (ap Error (notice_is_read n body h).2)
+  token_is_read tokens (Info n) bytes some (rest, body, begins, s, h) = notice_token_is_read tokens AnInfo n (Info n) body rest bytes begins s h (ap Info (notice_is_read n body h).2)
+  token_is_read tokens (ReturnStatus n) bytes some (rest, begins, long, is) = fixed_is_read tokens AStatus (ReturnStatus n) rest bytes begins long (ap ReturnStatus is)
+  token_is_read tokens (Returned r) bytes some (rest, begins, h) =
+      lead_then tokens AReturn rest bytes (with_token tokens (Returned r)) begins (no_row (described_after None tokens))
+      (Inside-Spelt return_value (response charset room) (with_return tokens) (return_in_response tokens) ReturnOrdinal rest (WholeReturn r) (return_is_read r rest h))
+  token_is_read tokens (Done m) bytes some (fields, begins, long, is) = fixed_is_read tokens ADone (Done m) fields bytes begins long (ap Done is)
+  token_is_read tokens (DoneInProc m) bytes some (fields, begins, long, is) = fixed_is_read tokens ADoneInProc (DoneInProc m) fields bytes begins long (ap DoneInProc is)
 
   next_HasColumns : (current : Option (List Column)) (t : Token) (bytes : List ℕ) → HasColumns current → SpellsToken charset room current t bytes → HasColumns (described_after current (t ∷ []))
   next_HasColumns current (Metadata encoded columns) bytes some h = h.1.some
   next_HasColumns current NoMetadata bytes some h = tt
-  next_HasColumns current (Row c) bytes some h = some
-  next_HasColumns current (Order c) bytes some h = some
-  next_HasColumns current (EnvChange c) bytes some h = some
-  next_HasColumns current (Error c) bytes some h = some
-  next_HasColumns current (Info c) bytes some h = some
-  next_HasColumns current (ReturnStatus c) bytes some h = some
-  next_HasColumns current (Returned c) bytes some h = some
-  next_HasColumns current (Done c) bytes some h = some
-  next_HasColumns current (DoneInProc c) bytes some h = some
+  next_HasColumns current t bytes some h = some
 
   tokens_are_read : (before : List Token) (current : Option (List Column)) (ts : List Token) (bytes : List ℕ) → described_after None before ≡ current → HasColumns current → SpellsTokens charset room current ts bytes → Spelt (response charset room) (between_tokens before) bytes (between_tokens (before ++ ts))
   tokens_are_read before current [] bytes is some h =

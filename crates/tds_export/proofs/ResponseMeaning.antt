@@ -1,24 +1,25 @@
 -- What the bytes that lead to a part of a response spell.
-use Rattle.std.proofs.Common.{◌≡◌, ◌⊎◌, ℕ, ◌+◌, ◌-◌, ◌*◌, ◌/◌, ◌%◌, ◌<◌, ◌≤◌, Bool, true, false, List, [], ◌∷◌, ◌++◌, length, take, drop, refl, sym, ◌∙◌, ap, subst, inl, inr, append_assoc, append-nil, arith, length-drop, drop-cons, add-one}
+use Rattle.std.proofs.Common.{◌≡◌, ℕ, ◌+◌, ◌-◌, ◌*◌, ◌/◌, ◌%◌, ◌<◌, ◌≤◌, Bool, true, false, List, [], ◌∷◌, ◌++◌, length, take, drop, refl, sym, ◌∙◌, ap, subst, inl, inr, append_assoc, append-nil, arith, length-drop, drop-cons, add-one}
 use Rattle.std.proofs.lemmas.List.{take-append-drop, length-take-le, drop-drop}
-use Rattle.std.specs.Prelude.{Option, Some, None, ◌==◌, ◌&&◌, ◌||◌, nat_lt, nat_le, not, slice_index, if◌then◌else◌}
+use Rattle.std.specs.Prelude.{Option, Some, None, ◌==◌, ◌&&◌, nat_lt, nat_le, not, slice_index, if◌then◌else◌}
 use Rattle.tds_values.specs.Numbers.{little}
-use Rattle.tds_packet.specs.declared.fault.Fault.TheVariants.{BadNotice, RefusedToken}
+use Rattle.tds_packet.specs.declared.fault.Fault.TheVariants.{BadNotice}
 use Rattle.tds_packet.specs.Elements.{AreBytes, Spelt, IsNext}
 use Rattle.tds_packet.proofs.ElementLaws.{Spelt-induct, AreBytes-front, AreBytes-back}
 use Rattle.tds_columns.specs.Description.{Column, SpellsDescription, DescriptionPart, BeforeCount, NoDescription, InColumn, WholeDescription, add_described}
 use Rattle.tds_columns.proofs.ColumnMeaning.{DescribedMeans, described_step}
 use Rattle.tds_rows.specs.declared.Charset.{Charset}
 use Rattle.tds_rows.specs.Cells.{Cell}
-use Rattle.tds_rows.specs.Rows.{RowPart, Bitmap, InCell, WholeRow, row_start, nbc_row_start, row_add}
+use Rattle.tds_rows.specs.Rows.{RowPart, WholeRow, row_start, nbc_row_start, row_add}
 use Rattle.tds_rows.proofs.RowMeaning.{RowMeans, row_step, row_start_means}
-use Rattle.tds_export.specs.ReturnValue.{ReturnPart, ReturnOrdinal, ReturnNameCount, ReturnName, ReturnHead, ReturnInfo, InReturnCell, WholeReturn, return_add}
+use Rattle.tds_export.specs.ReturnValue.{ReturnPart, WholeReturn, return_add}
 use Rattle.tds_export.proofs.ReturnLaws.{ReturnMeans, return_step}
-use Rattle.tds_export.specs.Tokens.{Token, Metadata, NoMetadata, Row, Order, EnvChange, Error, Info, ReturnStatus, Returned, Done, DoneInProc, described_after, is_final}
-use Rattle.tds_export.specs.Response.{SpellsBody, SpellsNotice, SpellsRowToken, SpellsToken, SpellsTokens, Response, more}
-use Rattle.tds_export.specs.TokenGrammar.{Bodied, AnOrder, AnEnvChange, AnError, AnInfo, Open, Between, Describing, InRow, InReturn, TokenLength, TokenBody, Status, DoneFields, DoneInProcFields, Part, response_start, with_token, with_described, with_row, with_return, start_of_row, after_byte, is_token_byte, is_row_byte, row_byte_fault, token_fault, server_at, procedure_at, line_at, holds_notice, notice_of, bodied, is_notice, part_add, response}
-use Rattle.tds_export.proofs.ResponseLaws.{described_after-append}
-use Rattle.std.proofs.lemmas.Bool.{and_parts, or_cases}
+use Rattle.tds_export.specs.TokenBytes.{APassed, AnError, AnInfo, Bodied, Lead, AMetadata, ARow, AnNbcRow, WithBody, WithFields, AReturn, lead_of}
+use Rattle.tds_export.specs.Tokens.{Token, Metadata, NoMetadata, Row, Returned, described_after, is_final}
+use Rattle.tds_export.specs.Response.{SpellsBody, SpellsNotice, SpellsRowToken, SpellsToken, SpellsTokens, Response, fixed}
+use Rattle.tds_export.specs.TokenGrammar.{Open, Between, Describing, Fields, InRow, InReturn, TokenLength, TokenBody, Part, response_start, with_token, with_described, with_row, with_return, start_of_row, after_first, lead_fault, row_byte_fault, server_at, procedure_at, line_at, holds_notice, notice_of, bodied, is_notice, part_add, response}
+use Rattle.tds_export.proofs.ResponseLaws.{described_after-append, fixed_spelt}
+use Rattle.std.proofs.lemmas.Bool.{and_parts}
 use Rattle.tds_packet.proofs.Choices.{choose, eq_true, lt_true, le_true}
 use Rattle.tds_columns.proofs.ByteLemmas.{one_byte, two_bytes}
 
@@ -96,34 +97,10 @@ notice_spelt body h =
       line = (long body la 4 (omega arith), refl);
     }
 
-abbrev body_byte : Bodied → ℕ
-body_byte AnOrder = 0xA9
-body_byte AnEnvChange = 0xE3
-body_byte AnError = 0xAA
-body_byte AnInfo = 0xAB
-
-or_false : (a b : Bool) → (a || b) ≡ false → (a ≡ false) × (b ≡ false)
-or_false true b h = cc
-or_false false b h = (refl, h)
-
-both_false : (a b : Bool) → a ≡ false → b ≡ false → (a || b) ≡ false
-both_false true b h k = cc
-both_false false b h k = k
-
-none_of : (a b c d e f g h i j k l : Bool) → a ≡ false → b ≡ false → c ≡ false → d ≡ false → e ≡ false → f ≡ false → g ≡ false → h ≡ false → (i || j) ≡ false → k ≡ false → l ≡ false → (a || b || c || d || e || f || g || h || i || j || k || l) ≡ false
-none_of a b c d e f g h i j k l pa pb pc pd pe pf pg ph pij pk pl =
-    let pi = or_false i j pij in
-    both_false (a || b || c || d || e || f || g || h || i || j || k) l (both_false (a || b || c || d || e || f || g || h || i || j) k (both_false (a || b || c || d || e || f || g || h || i) j (both_false (a || b || c || d || e || f || g || h) i (both_false (a || b || c || d || e || f || g) h (both_false (a || b || c || d || e || f) g (both_false (a || b || c || d || e) f (both_false (a || b || c || d) e (both_false (a || b || c) d (both_false (a || b) c (both_false a b pa pb) pc) pd) pe) pf) pg) ph) pi.0) pi.1) pk) pl
-
 empty_body : (k : Bodied) → ((if is_notice k && nat_lt 0 14 then Some BadNotice else None) ≡ None) → ((if is_notice k && not (holds_notice []) then Some BadNotice else None) ≡ None)
-empty_body AnOrder h = refl
-empty_body AnEnvChange h = refl
+empty_body (APassed passed) h = refl
 empty_body AnError h = cc
 empty_body AnInfo h = cc
-
-not_refused : (tokens : List Token) (x : ℕ) (t : Bool) → t ≡ false → (if t then row_byte_fault (is_row_byte x) (described_after None tokens) else Some (RefusedToken x)) ≡ None → ⊥
-not_refused tokens x true q f = cc
-not_refused tokens x false q f = cc
 
 held : (b : Bool) → ((if not b then Some BadNotice else None) ≡ None) → b ≡ true
 held true h = refl
@@ -134,146 +111,118 @@ module _ (charset : Charset) (room : ℕ) where
   one_more_token current [] a t e h s = (e, [], ap (λ v. v ++ e) h ∙ sym (append-nil e), s, refl)
   one_more_token current (u ∷ ts) a t e h s = (h.0, h.1 ++ e, ap (λ v. v ++ e) h.2 ∙ append_assoc h.0 h.1 e, h.3, one_more_token (described_after current (u ∷ [])) ts h.1 t e h.4 (subst (λ v. SpellsToken charset room v t e) (described_after-append current (u ∷ []) ts) s))
 
-  -- whole tokens, a token byte, and what is after it
-  pub record Behind (tokens : List Token) (byte : ℕ) (P : List ℕ → Type 0) (b : List ℕ) : Type 0 where
+  -- whole tokens, the first byte of such a token, and what is after it
+  pub record Behind (tokens : List Token) (lead : Lead) (P : List ℕ → Type 0) (b : List ℕ) : Type 0 where
     pub front : List ℕ
+    pub first : ℕ
     pub rest : List ℕ
-    pub spelt : b ≡ front ++ byte ∷ rest
+    pub spelt : b ≡ front ++ first ∷ rest
     pub before : SpellsTokens charset room None tokens front
+    pub begins : lead_of first ≡ Some lead
     pub behind : P rest
 
-  abbrev row_byte : Bool → ℕ
-  row_byte false = 0xD1
-  row_byte true = 0xD2
+  abbrev row_lead : Bool → Lead
+  row_lead false = ARow
+  row_lead true = AnNbcRow
 
   abbrev OpenMeans : List Token → Open → List ℕ → Type 0
   OpenMeans tokens Between b = SpellsTokens charset room None tokens b
-  OpenMeans tokens (Describing d) b = Behind tokens 0x81 (λ rest. DescribedMeans room d rest) b
-  OpenMeans tokens (InRow part) b = (columns : List Column) × (nbc : Bool) × (described_after None tokens ≡ Some columns) × Behind tokens (row_byte nbc) (λ rest. RowMeans charset columns nbc part rest) b
-  OpenMeans tokens (InReturn part) b = Behind tokens 0xAC (λ rest. ReturnMeans part rest) b
-  OpenMeans tokens (TokenLength k) b = Behind tokens (body_byte k) (λ rest. rest ≡ []) b
-  OpenMeans tokens (TokenBody k n) b = Behind tokens (body_byte k) (λ rest. (rest ≡ n % 256 ∷ n / 256 ∷ []) × (n < 65536)) b
-  OpenMeans tokens Status b = Behind tokens 0x79 (λ rest. rest ≡ []) b
-  OpenMeans tokens DoneFields b = (byte : ℕ) × ((byte ≡ 0xFD) ⊎ (byte ≡ 0xFE)) × Behind tokens byte (λ rest. rest ≡ []) b
-  OpenMeans tokens DoneInProcFields b = Behind tokens 0xFF (λ rest. rest ≡ []) b
+  OpenMeans tokens (Describing d) b = Behind tokens AMetadata (λ rest. DescribedMeans room d rest) b
+  OpenMeans tokens (InRow part) b = (columns : List Column) × (nbc : Bool) × (described_after None tokens ≡ Some columns) × Behind tokens (row_lead nbc) (λ rest. RowMeans charset columns nbc part rest) b
+  OpenMeans tokens (InReturn part) b = Behind tokens AReturn (λ rest. ReturnMeans part rest) b
+  OpenMeans tokens (TokenLength k) b = Behind tokens (WithBody k) (λ rest. rest ≡ []) b
+  OpenMeans tokens (TokenBody k n) b = Behind tokens (WithBody k) (λ rest. (rest ≡ n % 256 ∷ n / 256 ∷ []) × (n < 65536)) b
+  OpenMeans tokens (Fields f) b = Behind tokens (WithFields f) (λ rest. rest ≡ []) b
 
   abbrev PartMeans : Part → List ℕ → Type 0
   PartMeans p b = OpenMeans p.tokens p.at b
 
-  token_means : (tokens : List Token) (t : Token) (front : List ℕ) (byte : ℕ) (rest b : List ℕ) → b ≡ front ++ byte ∷ rest → SpellsTokens charset room None tokens front → SpellsToken charset room (described_after None tokens) t (byte ∷ rest) → PartMeans (with_token tokens t) b
-  token_means tokens t front byte rest b e h s = subst (λ v. SpellsTokens charset room None (tokens ++ t ∷ []) v) (sym e) (one_more_token None tokens front t (byte ∷ rest) h s)
+  -- more bytes of the token that is read
+  further : (tokens : List Token) (lead : Lead) (P Q : List ℕ → Type 0) (b e : List ℕ) → (h : Behind tokens lead P b) → Q (h.rest ++ e) → Behind tokens lead Q (b ++ e)
+  further tokens lead P Q b e h q = record {
+    front = h.front;
+    first = h.first;
+    rest = h.rest ++ e;
+    spelt = ap (λ v. v ++ e) h.spelt ∙ append_assoc h.front (h.first ∷ h.rest) e;
+    before = h.before;
+    begins = h.begins;
+    behind = q;
+  }
 
-  with_described_means : (tokens : List Token) (d : DescriptionPart) (b : List ℕ) → Behind tokens 0x81 (λ rest. DescribedMeans room d rest) b → PartMeans (with_described tokens d) b
+  token_means : (tokens : List Token) (t : Token) (lead : Lead) (P : List ℕ → Type 0) (b : List ℕ) → (h : Behind tokens lead P b) → SpellsToken charset room (described_after None tokens) t (h.first ∷ h.rest) → PartMeans (with_token tokens t) b
+  token_means tokens t lead P b h s = subst (λ v. SpellsTokens charset room None (tokens ++ t ∷ []) v) (sym h.spelt) (one_more_token None tokens h.front t (h.first ∷ h.rest) h.before s)
+
+  with_described_means : (tokens : List Token) (d : DescriptionPart) (b : List ℕ) → Behind tokens AMetadata (λ rest. DescribedMeans room d rest) b → PartMeans (with_described tokens d) b
   with_described_means tokens BeforeCount b h = h
-  with_described_means tokens NoDescription b h = token_means tokens NoMetadata h.front 0x81 h.rest b h.spelt h.before (ap (λ v. 0x81 ∷ v) h.behind)
+  with_described_means tokens NoDescription b h = token_means tokens NoMetadata AMetadata (λ rest. DescribedMeans room NoDescription rest) b h (h.first, ap (λ v. h.first ∷ v) h.behind, h.begins)
   with_described_means tokens (InColumn x n cs p) b h = h
-  with_described_means tokens (WholeDescription x cs) b h = token_means tokens (Metadata x cs) h.front 0x81 h.rest b h.spelt h.before (ap (λ v. 0x81 ∷ v) (sym h.behind.0), subst (λ v. SpellsDescription room cs v) (sym h.behind.0) h.behind.1)
+  with_described_means tokens (WholeDescription x cs) b h = token_means tokens (Metadata x cs) AMetadata (λ rest. DescribedMeans room (WholeDescription x cs) rest) b h ((h.first, ap (λ v. h.first ∷ v) (sym h.behind.0), h.begins), subst (λ v. SpellsDescription room cs v) (sym h.behind.0) h.behind.1)
 
-  row_token : (current : Option (List Column)) (columns : List Column) (nbc : Bool) (cells : List Cell) (rest : List ℕ) → current ≡ Some columns → RowMeans charset columns nbc (WholeRow cells) rest → SpellsRowToken charset current cells (row_byte nbc ∷ rest)
-  row_token current columns false cells rest e h = subst (λ v. SpellsRowToken charset v cells (0xD1 ∷ rest)) (sym e) (rest, inl (refl, h))
-  row_token current columns true cells rest e h = subst (λ v. SpellsRowToken charset v cells (0xD2 ∷ rest)) (sym e) (rest, inr (refl, record { bitmap = h.0; rest = h.1; spelt = h.2; whole = h.3; each = h.4 }))
+  row_token : (current : Option (List Column)) (columns : List Column) (nbc : Bool) (cells : List Cell) (first : ℕ) (rest : List ℕ) → current ≡ Some columns → lead_of first ≡ Some (row_lead nbc) → RowMeans charset columns nbc (WholeRow cells) rest → SpellsRowToken charset current cells (first ∷ rest)
+  row_token current columns false cells first rest e begins h = subst (λ v. SpellsRowToken charset v cells (first ∷ rest)) (sym e) (rest, inl ((first, refl, begins), h))
+  row_token current columns true cells first rest e begins h = subst (λ v. SpellsRowToken charset v cells (first ∷ rest)) (sym e) (rest, inr ((first, refl, begins), record { bitmap = h.0; rest = h.1; spelt = h.2; whole = h.3; each = h.4 }))
 
-  with_row_means : (tokens : List Token) (part : RowPart) (b : List ℕ) (columns : List Column) (nbc : Bool) → described_after None tokens ≡ Some columns → Behind tokens (row_byte nbc) (λ rest. RowMeans charset columns nbc part rest) b → PartMeans (with_row tokens part) b
-  with_row_means tokens (Bitmap cs) b columns nbc e h = (columns, nbc, e, h)
-  with_row_means tokens (InCell cells part ks) b columns nbc e h = (columns, nbc, e, h)
-  with_row_means tokens (WholeRow cells) b columns nbc e h = token_means tokens (Row cells) h.front (row_byte nbc) h.rest b h.spelt h.before (row_token (described_after None tokens) columns nbc cells h.rest e h.behind)
+  with_row_means : (tokens : List Token) (part : RowPart) (b : List ℕ) (columns : List Column) (nbc : Bool) → described_after None tokens ≡ Some columns → Behind tokens (row_lead nbc) (λ rest. RowMeans charset columns nbc part rest) b → PartMeans (with_row tokens part) b
+  with_row_means tokens (WholeRow cells) b columns nbc e h = token_means tokens (Row cells) (row_lead nbc) (λ rest. RowMeans charset columns nbc (WholeRow cells) rest) b h (row_token (described_after None tokens) columns nbc cells h.first h.rest e h.begins h.behind)
+  with_row_means tokens part b columns nbc e h = (columns, nbc, e, h)
 
-  with_return_means : (tokens : List Token) (part : ReturnPart) (b : List ℕ) → Behind tokens 0xAC (λ rest. ReturnMeans part rest) b → PartMeans (with_return tokens part) b
-  with_return_means tokens ReturnOrdinal b h = h
-  with_return_means tokens ReturnNameCount b h = h
-  with_return_means tokens (ReturnName n) b h = h
-  with_return_means tokens (ReturnHead name) b h = h
-  with_return_means tokens (ReturnInfo name byte) b h = h
-  with_return_means tokens (InReturnCell name kind part) b h = h
-  with_return_means tokens (WholeReturn r) b h = token_means tokens (Returned r) h.front 0xAC h.rest b h.spelt h.before (h.rest, refl, h.behind)
+  with_return_means : (tokens : List Token) (part : ReturnPart) (b : List ℕ) → Behind tokens AReturn (λ rest. ReturnMeans part rest) b → PartMeans (with_return tokens part) b
+  with_return_means tokens (WholeReturn r) b h = token_means tokens (Returned r) AReturn (λ rest. ReturnMeans (WholeReturn r) rest) b h (h.rest, (h.first, refl, h.begins), h.behind)
+  with_return_means tokens part b h = h
 
-  row_begins : (tokens : List Token) (b : List ℕ) (current : Option (List Column)) → described_after None tokens ≡ current → row_byte_fault true current ≡ None → SpellsTokens charset room None tokens b → PartMeans (start_of_row tokens (row_start charset) current) (b ++ 0xD1 ∷ [])
-  row_begins tokens b None e f h = cc
-  row_begins tokens b (Some columns) e f h = with_row_means tokens (row_start charset columns) (b ++ 0xD1 ∷ []) columns false e (record { front = b; rest = []; spelt = refl; before = h; behind = row_start_means charset columns })
+  row_begins : (tokens : List Token) (b : List ℕ) (x : ℕ) (current : Option (List Column)) → described_after None tokens ≡ current → row_byte_fault true current ≡ None → SpellsTokens charset room None tokens b → lead_of x ≡ Some ARow → PartMeans (start_of_row tokens (row_start charset) current) (b ++ x ∷ [])
+  row_begins tokens b x None e f h begins = cc
+  row_begins tokens b x (Some columns) e f h begins = with_row_means tokens (row_start charset columns) (b ++ x ∷ []) columns false e (record { front = b; first = x; rest = []; spelt = refl; before = h; begins = begins; behind = row_start_means charset columns })
 
-  nbc_row_begins : (tokens : List Token) (b : List ℕ) (current : Option (List Column)) → described_after None tokens ≡ current → row_byte_fault true current ≡ None → SpellsTokens charset room None tokens b → PartMeans (start_of_row tokens nbc_row_start current) (b ++ 0xD2 ∷ [])
-  nbc_row_begins tokens b None e f h = cc
-  nbc_row_begins tokens b (Some columns) e f h = (columns, true, e, record { front = b; rest = []; spelt = refl; before = h; behind = (refl, refl, refl) })
+  nbc_row_begins : (tokens : List Token) (b : List ℕ) (x : ℕ) (current : Option (List Column)) → described_after None tokens ≡ current → row_byte_fault true current ≡ None → SpellsTokens charset room None tokens b → lead_of x ≡ Some AnNbcRow → PartMeans (start_of_row tokens nbc_row_start current) (b ++ x ∷ [])
+  nbc_row_begins tokens b x None e f h begins = cc
+  nbc_row_begins tokens b x (Some columns) e f h begins = (columns, true, e, record { front = b; first = x; rest = []; spelt = refl; before = h; begins = begins; behind = (refl, refl, refl) })
 
-  behind_byte : (tokens : List Token) (byte x : ℕ) (P : List ℕ → Type 0) (b : List ℕ) → x ≡ byte → SpellsTokens charset room None tokens b → P [] → Behind tokens byte P (b ++ x ∷ [])
-  behind_byte tokens byte x P b e h p = record { front = b; rest = []; spelt = ap (λ v. b ++ v ∷ []) e; before = h; behind = p }
+  -- the byte begins what it begins
+  byte_step : (tokens : List Token) (b : List ℕ) (x : ℕ) (begun : Option Lead) → lead_of x ≡ begun → SpellsTokens charset room None tokens b → lead_fault (described_after None tokens) x begun ≡ None → PartMeans (after_first charset tokens begun) (b ++ x ∷ [])
+  byte_step tokens b x None is h free = cc
+  byte_step tokens b x (Some AMetadata) is h free = record { front = b; first = x; rest = []; spelt = refl; before = h; begins = is; behind = refl }
+  byte_step tokens b x (Some ARow) is h free = row_begins tokens b x (described_after None tokens) refl free h is
+  byte_step tokens b x (Some AnNbcRow) is h free = nbc_row_begins tokens b x (described_after None tokens) refl free h is
+  byte_step tokens b x (Some (WithBody k)) is h free = record { front = b; first = x; rest = []; spelt = refl; before = h; begins = is; behind = refl }
+  byte_step tokens b x (Some (WithFields f)) is h free = record { front = b; first = x; rest = []; spelt = refl; before = h; begins = is; behind = refl }
+  byte_step tokens b x (Some AReturn) is h free = record { front = b; first = x; rest = []; spelt = refl; before = h; begins = is; behind = refl }
 
-  byte_step : (tokens : List Token) (b : List ℕ) (x : ℕ) → SpellsTokens charset room None tokens b → token_fault tokens x ≡ None → PartMeans (after_byte charset tokens x) (b ++ x ∷ [])
-  byte_step tokens b x h free =
-      choose (λ p. PartMeans p (b ++ x ∷ [])) (x == 0x81) (record { tokens = tokens; at = Describing BeforeCount }) _ (λ z. behind_byte tokens 0x81 x (λ rest. DescribedMeans room BeforeCount rest) b (eq_true x 0x81 z) h refl) (λ z1.
-      choose (λ p. PartMeans p (b ++ x ∷ [])) (x == 0xD1) (start_of_row tokens (row_start charset) (described_after None tokens)) _ (λ z. let e : x ≡ 0xD1 = eq_true x 0xD1 z in subst (λ v. PartMeans (start_of_row tokens (row_start charset) (described_after None tokens)) (b ++ v ∷ [])) (sym e) (row_begins tokens b (described_after None tokens) refl (subst (λ v. token_fault tokens v ≡ None) e free) h)) (λ z2.
-      choose (λ p. PartMeans p (b ++ x ∷ [])) (x == 0xD2) (start_of_row tokens nbc_row_start (described_after None tokens)) _ (λ z. let e : x ≡ 0xD2 = eq_true x 0xD2 z in subst (λ v. PartMeans (start_of_row tokens nbc_row_start (described_after None tokens)) (b ++ v ∷ [])) (sym e) (nbc_row_begins tokens b (described_after None tokens) refl (subst (λ v. token_fault tokens v ≡ None) e free) h)) (λ z3.
-      choose (λ p. PartMeans p (b ++ x ∷ [])) (x == 0xA9) (record { tokens = tokens; at = TokenLength AnOrder }) _ (λ z. behind_byte tokens 0xA9 x (λ rest. rest ≡ []) b (eq_true x 0xA9 z) h refl) (λ z4.
-      choose (λ p. PartMeans p (b ++ x ∷ [])) (x == 0xE3) (record { tokens = tokens; at = TokenLength AnEnvChange }) _ (λ z. behind_byte tokens 0xE3 x (λ rest. rest ≡ []) b (eq_true x 0xE3 z) h refl) (λ z5.
-      choose (λ p. PartMeans p (b ++ x ∷ [])) (x == 0xAA) (record { tokens = tokens; at = TokenLength AnError }) _ (λ z. behind_byte tokens 0xAA x (λ rest. rest ≡ []) b (eq_true x 0xAA z) h refl) (λ z6.
-      choose (λ p. PartMeans p (b ++ x ∷ [])) (x == 0xAB) (record { tokens = tokens; at = TokenLength AnInfo }) _ (λ z. behind_byte tokens 0xAB x (λ rest. rest ≡ []) b (eq_true x 0xAB z) h refl) (λ z7.
-      choose (λ p. PartMeans p (b ++ x ∷ [])) (x == 0x79) (record { tokens = tokens; at = Status }) _ (λ z. behind_byte tokens 0x79 x (λ rest. rest ≡ []) b (eq_true x 0x79 z) h refl) (λ z8.
-      choose (λ p. PartMeans p (b ++ x ∷ [])) ((x == 0xFD) || (x == 0xFE)) (record { tokens = tokens; at = DoneFields }) _ (λ z. done_begins (or_cases (x == 0xFD) (x == 0xFE) z)) (λ z9.
-      choose (λ p. PartMeans p (b ++ x ∷ [])) (x == 0xFF) (record { tokens = tokens; at = DoneInProcFields }) _ (λ z. behind_byte tokens 0xFF x (λ rest. rest ≡ []) b (eq_true x 0xFF z) h refl) (λ z10.
-      choose (λ p. PartMeans p (b ++ x ∷ [])) (x == 0xAC) (record { tokens = tokens; at = InReturn ReturnOrdinal }) _ (λ z. behind_byte tokens 0xAC x (λ rest. ReturnMeans ReturnOrdinal rest) b (eq_true x 0xAC z) h refl) (λ z11. absurd (no_other z1 z2 z3 z4 z5 z6 z7 z8 z9 z10 z11))))))))))))
+  body_means : (tokens : List Token) (k : Bodied) (body b : List ℕ) → (h : Behind tokens (WithBody k) (λ rest. SpellsBody body rest) b) → ((if is_notice k && not (holds_notice body) then Some BadNotice else None) ≡ None) → PartMeans (with_token tokens (bodied k body)) b
+  body_means tokens k body b h f = token_means tokens (bodied k body) (WithBody k) (λ rest. SpellsBody body rest) b h (spelt k h.begins f)
     where
-      no_other : (x == 0x81) ≡ false → (x == 0xD1) ≡ false → (x == 0xD2) ≡ false → (x == 0xA9) ≡ false → (x == 0xE3) ≡ false → (x == 0xAA) ≡ false → (x == 0xAB) ≡ false → (x == 0x79) ≡ false → ((x == 0xFD) || (x == 0xFE)) ≡ false → (x == 0xFF) ≡ false → (x == 0xAC) ≡ false → ⊥
-      no_other a1 a2 a3 a4 a5 a6 a7 a8 a9 a10 a11 = not_refused tokens x (is_token_byte x) (none_of (x == 0x81) (x == 0xD1) (x == 0xD2) (x == 0xA9) (x == 0xE3) (x == 0xAA) (x == 0xAB) (x == 0x79) (x == 0xFD) (x == 0xFE) (x == 0xFF) (x == 0xAC) a1 a2 a3 a4 a5 a6 a7 a8 a9 a10 a11) free
-
-      done_begins : ((x == 0xFD) ≡ true) ⊎ ((x == 0xFE) ≡ true) → (byte : ℕ) × ((byte ≡ 0xFD) ⊎ (byte ≡ 0xFE)) × Behind tokens byte (λ rest. rest ≡ []) (b ++ x ∷ [])
-      done_begins (inl z) = (x, inl (eq_true x 0xFD z), behind_byte tokens x x (λ rest. rest ≡ []) b refl h refl)
-      done_begins (inr z) = (x, inr (eq_true x 0xFE z), behind_byte tokens x x (λ rest. rest ≡ []) b refl h refl)
-
-  body_means : (tokens : List Token) (k : Bodied) (body : List ℕ) (rest b : List ℕ) (front : List ℕ) → b ≡ front ++ body_byte k ∷ rest → SpellsTokens charset room None tokens front → SpellsBody body rest → ((if is_notice k && not (holds_notice body) then Some BadNotice else None) ≡ None) → PartMeans (with_token tokens (bodied k body)) b
-  body_means tokens AnOrder body rest b front e h s f = token_means tokens (Order body) front 0xA9 rest b e h (rest, refl, s)
-  body_means tokens AnEnvChange body rest b front e h s f = token_means tokens (EnvChange body) front 0xE3 rest b e h (rest, refl, s)
-  body_means tokens AnError body rest b front e h s f = token_means tokens (Error (notice_of body)) front 0xAA rest b e h (rest, body, refl, s, notice_spelt body (held (holds_notice body) f))
-  body_means tokens AnInfo body rest b front e h s f = token_means tokens (Info (notice_of body)) front 0xAB rest b e h (rest, body, refl, s, notice_spelt body (held (holds_notice body) f))
+      spelt : (k : Bodied) → lead_of h.first ≡ Some (WithBody k) → ((if is_notice k && not (holds_notice body) then Some BadNotice else None) ≡ None) → SpellsToken charset room (described_after None tokens) (bodied k body) (h.first ∷ h.rest)
+      spelt (APassed passed) begins f = (h.rest, (h.first, refl, begins), h.behind)
+      spelt AnError begins f = (h.rest, body, (h.first, refl, begins), h.behind, notice_spelt body (held (holds_notice body) f))
+      spelt AnInfo begins f = (h.rest, body, (h.first, refl, begins), h.behind, notice_spelt body (held (holds_notice body) f))
 
   -- each element keeps the meaning
   part_step : (tokens : List Token) (at : Open) (b e : List ℕ) → AreBytes e → OpenMeans tokens at b → IsNext (response charset room) (record { tokens = tokens; at = at }) e → PartMeans (part_add charset tokens at e) (b ++ e)
   part_step tokens Between b e bytes h n =
       let x = one_byte e n.whole in
       let at : slice_index e 0 ≡ x.0 = ap (λ v. slice_index v 0) x.1 in
-      subst (λ v. PartMeans (after_byte charset tokens (slice_index v 0)) (b ++ v)) (sym x.1) (byte_step tokens b x.0 h (subst (λ v. token_fault tokens v ≡ None) at n.free))
+      subst (λ v. PartMeans (after_first charset tokens (lead_of (slice_index v 0))) (b ++ v)) (sym x.1) (byte_step tokens b x.0 (lead_of x.0) refl h (subst (λ v. lead_fault (described_after None tokens) v (lead_of v) ≡ None) at n.free))
   part_step tokens (Describing d) b e bytes h n =
-      with_described_means tokens (add_described d e) (b ++ e) (record {
-        front = h.front;
-        rest = h.rest ++ e;
-        spelt = ap (λ v. v ++ e) h.spelt ∙ append_assoc h.front (0x81 ∷ h.rest) e;
-        before = h.before;
-        behind = described_step room d h.rest e bytes h.behind (record { some = n.some; whole = n.whole; free = n.free });
-      })
+      with_described_means tokens (add_described d e) (b ++ e)
+      (further tokens AMetadata (λ rest. DescribedMeans room d rest) (λ rest. DescribedMeans room (add_described d e) rest) b e h (described_step room d h.rest e bytes h.behind (record { some = n.some; whole = n.whole; free = n.free })))
   part_step tokens (InRow part) b e bytes (columns, nbc, is, h) n =
-      with_row_means tokens (row_add charset part e) (b ++ e) columns nbc is (record {
-        front = h.front;
-        rest = h.rest ++ e;
-        spelt = ap (λ v. v ++ e) h.spelt ∙ append_assoc h.front (row_byte nbc ∷ h.rest) e;
-        before = h.before;
-        behind = row_step charset columns nbc part h.rest e bytes h.behind (record { some = n.some; whole = n.whole; free = n.free });
-      })
+      with_row_means tokens (row_add charset part e) (b ++ e) columns nbc is
+      (further tokens (row_lead nbc) (λ rest. RowMeans charset columns nbc part rest) (λ rest. RowMeans charset columns nbc (row_add charset part e) rest) b e h (row_step charset columns nbc part h.rest e bytes h.behind (record { some = n.some; whole = n.whole; free = n.free })))
   part_step tokens (InReturn part) b e bytes h n =
-      with_return_means tokens (return_add part e) (b ++ e) (record {
-        front = h.front;
-        rest = h.rest ++ e;
-        spelt = ap (λ v. v ++ e) h.spelt ∙ append_assoc h.front (0xAC ∷ h.rest) e;
-        before = h.before;
-        behind = return_step part h.rest e bytes h.behind (record { some = n.some; whole = n.whole; free = n.free });
-      })
+      with_return_means tokens (return_add part e) (b ++ e)
+      (further tokens AReturn (λ rest. ReturnMeans part rest) (λ rest. ReturnMeans (return_add part e) rest) b e h (return_step part h.rest e bytes h.behind (record { some = n.some; whole = n.whole; free = n.free })))
   part_step tokens (TokenLength k) b e bytes h n =
       let t = two_bytes e n.whole bytes in
-      let spelt : b ++ e ≡ h.front ++ body_byte k ∷ e = ap (λ v. v ++ e) h.spelt ∙ append_assoc h.front (body_byte k ∷ h.rest) e ∙ ap (λ v. h.front ++ body_byte k ∷ (v ++ e)) h.behind in
+      let read : h.rest ++ e ≡ little e % 256 ∷ little e / 256 ∷ [] = ap (λ v. v ++ e) h.behind ∙ t.0 in
       choose (λ p. PartMeans p (b ++ e)) (little e == 0) (with_token tokens (bodied k [])) (record { tokens = tokens; at = TokenBody k (little e) })
-      (λ z. body_means tokens k [] e (b ++ e) h.front spelt h.before (t.0 ∙ ap (λ v. v % 256 ∷ v / 256 ∷ []) (eq_true (little e) 0 z), omega arith) (empty_body k (subst (λ v. (if is_notice k && nat_lt v 14 then Some BadNotice else None) ≡ None) (eq_true (little e) 0 z) n.free)))
-      (λ z. record { front = h.front; rest = e; spelt = spelt; before = h.before; behind = t })
+      (λ z. body_means tokens k [] (b ++ e) (further tokens (WithBody k) (λ rest. rest ≡ []) (λ rest. SpellsBody [] rest) b e h (read ∙ ap (λ v. v % 256 ∷ v / 256 ∷ []) (eq_true (little e) 0 z), omega arith)) (empty_body k (subst (λ v. (if is_notice k && nat_lt v 14 then Some BadNotice else None) ≡ None) (eq_true (little e) 0 z) n.free)))
+      (λ z. further tokens (WithBody k) (λ rest. rest ≡ []) (λ rest. (rest ≡ little e % 256 ∷ little e / 256 ∷ []) × (little e < 65536)) b e h (read, t.1))
   part_step tokens (TokenBody k m) b e bytes h n =
       let l : length e ≡ m = n.whole in
-      body_means tokens k e (h.rest ++ e) (b ++ e) h.front (ap (λ v. v ++ e) h.spelt ∙ append_assoc h.front (body_byte k ∷ h.rest) e) h.before (ap (λ v. v ++ e) h.behind.0 ∙ ap (λ v. (v % 256 ∷ v / 256 ∷ []) ++ e) (sym l), (let w : m < 65536 = h.behind.1 in omega arith)) n.free
-  part_step tokens Status b e bytes h n =
-      token_means tokens (ReturnStatus (little e)) h.front 0x79 e (b ++ e) (ap (λ v. v ++ e) h.spelt ∙ append_assoc h.front (0x79 ∷ h.rest) e ∙ ap (λ v. h.front ++ 0x79 ∷ (v ++ e)) h.behind) h.before (e, refl, n.whole, refl)
-  part_step tokens DoneFields b e bytes (byte, which, h) n =
-      token_means tokens (Done (more e)) h.front byte e (b ++ e) (ap (λ v. v ++ e) h.spelt ∙ append_assoc h.front (byte ∷ h.rest) e ∙ ap (λ v. h.front ++ byte ∷ (v ++ e)) h.behind) h.before (e, done_byte byte which e, n.whole, refl)
-    where
-      done_byte : (byte : ℕ) → ((byte ≡ 0xFD) ⊎ (byte ≡ 0xFE)) → (e : List ℕ) → (byte ∷ e ≡ 0xFD ∷ e) ⊎ (byte ∷ e ≡ 0xFE ∷ e)
-      done_byte byte (inl q) e = inl (ap (λ v. v ∷ e) q)
-      done_byte byte (inr q) e = inr (ap (λ v. v ∷ e) q)
-  part_step tokens DoneInProcFields b e bytes h n =
-      token_means tokens (DoneInProc (more e)) h.front 0xFF e (b ++ e) (ap (λ v. v ++ e) h.spelt ∙ append_assoc h.front (0xFF ∷ h.rest) e ∙ ap (λ v. h.front ++ 0xFF ∷ (v ++ e)) h.behind) h.before (e, refl, n.whole, refl)
+      body_means tokens k e (b ++ e) (further tokens (WithBody k) (λ rest. (rest ≡ m % 256 ∷ m / 256 ∷ []) × (m < 65536)) (λ rest. SpellsBody e rest) b e h (ap (λ v. v ++ e) h.behind.0 ∙ ap (λ v. (v % 256 ∷ v / 256 ∷ []) ++ e) (sym l), (let w : m < 65536 = h.behind.1 in omega arith))) n.free
+  part_step tokens (Fields f) b e bytes h n =
+      let to = further tokens (WithFields f) (λ rest. rest ≡ []) (λ rest. rest ≡ e) b e h (ap (λ v. v ++ e) h.behind) in
+      token_means tokens (fixed f e) (WithFields f) (λ rest. rest ≡ e) (b ++ e) to (fixed_spelt charset room (described_after None tokens) f e (to.first ∷ to.rest) (to.first, ap (λ v. to.first ∷ v) to.behind, to.begins) n.whole)
 
   -- What is read as a part of a response is spelt so.
   part_keeps : (p : Part) (b e : List ℕ) → (AreBytes b → PartMeans p b) → IsNext (response charset room) p e → AreBytes (b ++ e) → PartMeans (part_add charset p.tokens p.at e) (b ++ e)

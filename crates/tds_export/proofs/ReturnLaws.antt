@@ -15,7 +15,7 @@ use Rattle.tds_packet.proofs.Choices.{choose, choose_false, choose_true, eq_true
 use Rattle.tds_columns.specs.Description.{type_fault, refused_type, refused_kind}
 use Rattle.tds_columns.proofs.ByteLemmas.{split_last, one_byte}
 use Rattle.tds_columns.proofs.ColumnLaws.{byte_and_rest}
-use Rattle.tds_rows.specs.Cells.{shape, CellPart, ScalarBytes, ScalarLength, ShortLength, ShortData, Total, ChunkLength, ChunkData, WholeCell, cell_start, cell, cell_add, return_charset}
+use Rattle.tds_rows.specs.Cells.{shape, CellPart, WholeCell, cell_start, cell, cell_add, return_charset}
 use Rattle.tds_rows.proofs.CellLaws.{cell_is_read}
 use Rattle.tds_rows.proofs.CellMeaning.{CellMeans, cell_step, start_means}
 use Rattle.tds_rows.proofs.RowLaws.{shape-HasBytes}
@@ -27,34 +27,16 @@ pub value_in_return : (name : List ℕ) (kind : Kind) → Inside (cell return_co
 value_in_return name kind = record { size = size; fault = fault; add = add }
   where
     size : (p : CellPart) → 0 < (cell return_column).size p → return_value.size (with_value name kind p) ≡ (cell return_column).size p
-    size (ScalarBytes k n) h = refl
-    size (ScalarLength k) h = refl
-    size (ShortLength c) h = refl
-    size (ShortData c n d) h = refl
-    size (Total c) h = refl
-    size (ChunkLength c t d) h = refl
-    size (ChunkData c t n d) h = refl
     size (WholeCell x) h = absurd (omega arith)
+    size p h = refl
 
     fault : (p : CellPart) (e : List ℕ) → 0 < (cell return_column).size p → return_value.fault (with_value name kind p) e ≡ (cell return_column).fault p e
-    fault (ScalarBytes k n) e h = refl
-    fault (ScalarLength k) e h = refl
-    fault (ShortLength c) e h = refl
-    fault (ShortData c n d) e h = refl
-    fault (Total c) e h = refl
-    fault (ChunkLength c t d) e h = refl
-    fault (ChunkData c t n d) e h = refl
     fault (WholeCell x) e h = absurd (omega arith)
+    fault p e h = refl
 
     add : (p : CellPart) (e : List ℕ) → 0 < (cell return_column).size p → return_value.add (with_value name kind p) e ≡ with_value name kind ((cell return_column).add p e)
-    add (ScalarBytes k n) e h = refl
-    add (ScalarLength k) e h = refl
-    add (ShortLength c) e h = refl
-    add (ShortData c n d) e h = refl
-    add (Total c) e h = refl
-    add (ChunkLength c t d) e h = refl
-    add (ChunkData c t n d) e h = refl
     add (WholeCell x) e h = absurd (omega arith)
+    add p e h = refl
 
 pub return_name_is_read : (units : ℕ) (name : List ℕ) → length name ≡ 2 * units → Spelt return_value (with_return_units units) name (ReturnHead name)
 return_name_is_read units [] l =

@@ -19,10 +19,10 @@ use Rattle.tds_columns.specs.ReturnedType.{KnownType, NoType, ReadsType, StopsTy
 use Rattle.tds_csv.specs.Sinks.{Held}
 use Rattle.tds_csv.proofs.Streams.{stops_size}
 use Rattle.tds_rows.specs.declared.Charset.{Charset}
-use Rattle.tds_rows.specs.Cells.{CellPart, ChunkData, ChunkLength, ScalarBytes, ScalarLength, ShortData, ShortLength, Total, WholeCell, cell, cell_start, return_charset, shape}
+use Rattle.tds_rows.specs.Cells.{CellPart, WholeCell, cell, cell_start, return_charset, shape}
 use Rattle.tds_rows.specs.PassedCells.{PassesCell, StopsPassing}
 use Rattle.tds_export.specs.declared.progress.Progress.{Progress}
-use Rattle.tds_export.specs.ReturnValue.{InReturnCell, ReturnHead, ReturnInfo, ReturnName, ReturnNameCount, ReturnOrdinal, ReturnPart, WholeReturn, return_end, return_size, return_value, with_return_kind, with_return_type, with_return_units, with_value}
+use Rattle.tds_export.specs.ReturnValue.{ReturnHead, ReturnInfo, ReturnName, ReturnNameCount, ReturnOrdinal, ReturnPart, WholeReturn, return_end, return_size, return_value, with_return_kind, with_return_type, with_return_units, with_value}
 use Rattle.tds_export.specs.Returning.{ReadsReturn, ReadsValue, StopsReturn, before_value}
 use Rattle.tds_export.specs.Tokens.{Returned, Token}
 use Rattle.tds_export.specs.TokenGrammar.{InReturn, response, text_so_far, with_return}
@@ -167,14 +167,8 @@ type_taken (Err stop) name head a b c place middle place' eight takes at x y = t
 -- ---- the value
 
 value_end_is : (name : List ℕ) (kind : Kind) (p : CellPart) → 0 < (cell return_column).size p → return_value.end_fault (with_value name kind p) ≡ (cell return_column).end_fault p
-value_end_is name kind (ScalarBytes k n) h = refl
-value_end_is name kind (ScalarLength k) h = refl
-value_end_is name kind (ShortLength c) h = refl
-value_end_is name kind (ShortData c n d) h = refl
-value_end_is name kind (Total c) h = refl
-value_end_is name kind (ChunkLength c t d) h = refl
-value_end_is name kind (ChunkData c t n d) h = refl
 value_end_is name kind (WholeCell x) h = absurd (omega arith)
+value_end_is name kind p h = refl
 
 -- the value was passed over, or that stopped
 pub value_passed : {U : Type 0} (r : Result U Stop) (name : List ℕ) (kind : Kind) (a b c : Seen) (place middle place' : ℕ) → ReadsReturn ReturnOrdinal (before_value name kind) a b place middle
@@ -197,31 +191,16 @@ value_passed (Err stop) name kind a b c place middle place' x y =
 
 module _ (charset : Charset) (room : ℕ) (tokens : List Token) (area : Space) (sink : Held) (d : sink.delivered ≤ 2 ^ 64 - 1) (holds : IsHolding area (behind tokens)) where
   no_text : (p : ReturnPart) → 0 < return_size p → text_so_far (in_return tokens) ≡ text_so_far (with_return tokens p)
-  no_text ReturnOrdinal h = refl
-  no_text ReturnNameCount h = refl
-  no_text (ReturnName n) h = refl
-  no_text (ReturnHead name) h = refl
-  no_text (ReturnInfo name byte) h = refl
-  no_text (InReturnCell name kind part) h = refl
   no_text (WholeReturn r) h = absurd (omega arith)
+  no_text p h = refl
 
   held_on : (p : ReturnPart) → 0 < return_size p → IsHolding area (with_return tokens p)
-  held_on ReturnOrdinal h = record { bytes = holds.bytes; peak = holds.peak }
-  held_on ReturnNameCount h = record { bytes = holds.bytes; peak = holds.peak }
-  held_on (ReturnName n) h = record { bytes = holds.bytes; peak = holds.peak }
-  held_on (ReturnHead name) h = record { bytes = holds.bytes; peak = holds.peak }
-  held_on (ReturnInfo name byte) h = record { bytes = holds.bytes; peak = holds.peak }
-  held_on (InReturnCell name kind part) h = record { bytes = holds.bytes; peak = holds.peak }
   held_on (WholeReturn r) h = absurd (omega arith)
+  held_on p h = record { bytes = holds.bytes; peak = holds.peak }
 
   return_end_is : (p : ReturnPart) → 0 < return_size p → (response charset room).end_fault (with_return tokens p) ≡ return_end p
-  return_end_is ReturnOrdinal h = refl
-  return_end_is ReturnNameCount h = refl
-  return_end_is (ReturnName n) h = refl
-  return_end_is (ReturnHead name) h = refl
-  return_end_is (ReturnInfo name byte) h = refl
-  return_end_is (InReturnCell name kind part) h = refl
   return_end_is (WholeReturn r) h = absurd (omega arith)
+  return_end_is p h = refl
 
   -- a return value stopped the call
   pub return_stops : (a b : Seen) (place : ℕ) (failed : Bool) (stop : Stop) → failed ≡ false → StopsReturn ReturnOrdinal a b place stop → StepStops (response charset room) (in_return tokens) a b place sink sink area failed stop
@@ -244,4 +223,4 @@ module _ (charset : Charset) (room : ℕ) (tokens : List Token) (area : Space) (
       let t : Progress = record s { report = record s.report { return_values = s.report.return_values + 1 }; is_final = false } in
       let r = reads_inside return_value (response charset room) (with_return tokens) (return_in_response charset room tokens) ReturnOrdinal a b (WholeReturn x.value) x.steps.reads in
       quietly (response charset room) (in_return tokens) tokens a b place place' sink sink s t area notice tracks noted refl
-      (bare_reads charset room area sink tokens (Returned x.value) (InReturn ReturnOrdinal) t r.bytes a b place place' refl (λ _. refl) (λ _. refl) x.steps.place_is d (tracks_returned s tokens x.value tracks) holds r.spelt r.takes)
+      (bare_reads charset room area sink tokens (Returned x.value) (InReturn ReturnOrdinal) t r.bytes a b place place' refl refl x.steps.place_is d (tracks_returned s tokens x.value tracks) holds r.spelt r.takes)

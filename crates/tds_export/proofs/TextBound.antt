@@ -20,16 +20,17 @@ use Rattle.tds_columns.specs.Description.{Column, ColumnHead, ColumnInfo, NameCo
 use Rattle.tds_rows.specs.declared.Charset.{Charset}
 use Rattle.tds_rows.specs.Cells.{Cell, Null, DataCell, field, shape, CellPart, ScalarBytes, ScalarLength, ShortLength, ShortData, Total, ChunkLength, ChunkData, WholeCell, cell_add, cell, field_so_far, value_part, known_total, null_total}
 use Rattle.tds_rows.specs.Rows.{RowPart, Bitmap, InCell, WholeRow, bit, marked, next_cell, with_cell, row_start, nbc_row_start, row_add, row, with_field, row_so_far}
-use Rattle.tds_export.specs.ReturnValue.{ReturnPart, ReturnOrdinal, ReturnNameCount, ReturnName, ReturnHead, ReturnInfo, InReturnCell, WholeReturn, return_add}
-use Rattle.tds_export.specs.Response.{more}
-use Rattle.tds_export.specs.Tokens.{Token, Metadata, NoMetadata, Row, ReturnStatus, Returned, Done, DoneInProc, described_after, header_line, text, text_after}
-use Rattle.tds_export.specs.TokenGrammar.{Bodied, AnOrder, AnEnvChange, AnError, AnInfo, Open, Between, Describing, InRow, InReturn, TokenLength, TokenBody, Status, DoneFields, DoneInProcFields, Part, response, response_start, bodied, open_text, part_add, start_of_row, text_so_far, with_described, with_return, with_row, with_token}
+use Rattle.tds_export.specs.ReturnValue.{ReturnPart, WholeReturn, return_add}
+use Rattle.tds_export.specs.Response.{fixed}
+use Rattle.tds_export.specs.Tokens.{Token, Metadata, NoMetadata, Row, Returned, described_after, header_line, text, text_after}
+use Rattle.tds_export.specs.TokenBytes.{lead_of}
+use Rattle.tds_export.specs.TokenGrammar.{Open, Between, Describing, Fields, InRow, InReturn, TokenLength, TokenBody, Part, response, response_start, bodied, open_text, part_add, start_of_row, text_so_far, with_described, with_return, with_row, with_token}
 use Rattle.tds_rows.proofs.CellMeaning.{unless_none}
 use Rattle.tds_rows.proofs.RowSteps.{start_quiet}
 use Rattle.tds_rows.proofs.GrowingTexts.{last_fit, end_fit}
 use Rattle.tds_export.proofs.FieldLengths.{open_length, long_length, open_more, long_more, ReadShort, read_short}
-use Rattle.tds_export.proofs.TokenLaws.{begun_after, text_after-snoc}
-use Rattle.tds_export.proofs.ReadingGrows.{IsFresh, part_at, byte_cases}
+use Rattle.tds_export.proofs.TokenLaws.{bare, bare_body, bare_fixed, begun_after, is_bare, text_after-snoc}
+use Rattle.tds_export.proofs.ReadingGrows.{IsFresh, part_at, lead_cases}
 
 -- ---- fields
 
@@ -152,13 +153,7 @@ module _ (charset : Charset) where
   -- a cell in its row
   with_cell_length : (cells : List Cell) (ks : List (Column × Bool)) (p : CellPart) → row_length (with_cell charset cells ks p) ≤ length (joined (with_field cells (field_so_far p))) + 5 * how_many_null ks + 2
   with_cell_length cells ks (WholeCell c) = subst (λ v. row_length (next_cell charset (cells ++ c ∷ []) ks) ≤ length (joined v) + 5 * how_many_null ks + 2) (map-append field cells (c ∷ [])) (next_length (cells ++ c ∷ []) ks)
-  with_cell_length cells ks (ScalarBytes k i) = omega arith
-  with_cell_length cells ks (ScalarLength k) = omega arith
-  with_cell_length cells ks (ShortLength c) = omega arith
-  with_cell_length cells ks (Total c) = omega arith
-  with_cell_length cells ks (ShortData c left content) = omega arith
-  with_cell_length cells ks (ChunkLength c total content) = omega arith
-  with_cell_length cells ks (ChunkData c total left content) = omega arith
+  with_cell_length cells ks p = omega arith
 
   -- each element of a row pays for what it adds
   row_more : (p : RowPart) (e : List ℕ) → AreBytes e → IsNext (row charset) p e → row_length (row_add charset p e) ≤ row_length p + 64 * length e
@@ -256,12 +251,9 @@ token_length tokens t =
 silent_grown : (tokens : List Token) (t : Token) → text_after (begun_after false tokens) (t ∷ []) ≡ [] → grown (with_token tokens t) ≤ length (text tokens)
 silent_grown tokens t e = let l : length (text_after (begun_after false tokens) (t ∷ [])) ≡ 0 = ap length e in omega (arith, token_length tokens t)
 
--- a token with a body
-bodied_grown : (tokens : List Token) (b : Bodied) (body : List ℕ) → grown (with_token tokens (bodied b body)) ≤ length (text tokens)
-bodied_grown tokens AnOrder body = silent_grown tokens (bodied AnOrder body) refl
-bodied_grown tokens AnEnvChange body = silent_grown tokens (bodied AnEnvChange body) refl
-bodied_grown tokens AnError body = silent_grown tokens (bodied AnError body) refl
-bodied_grown tokens AnInfo body = silent_grown tokens (bodied AnInfo body) refl
+-- a token that has no text and describes nothing
+bare_grown : (tokens : List Token) (t : Token) → is_bare t ≡ true → grown (with_token tokens t) ≤ length (text tokens)
+bare_grown tokens t is = silent_grown tokens t ((bare t is).text (begun_after false tokens))
 
 -- the header and the line before it
 metadata_length : (begun : Bool) (bytes : List ℕ) (columns : List Column) → length (text_after begun (Metadata bytes columns ∷ [])) ≤ 2 + length (header_line columns)
@@ -283,13 +275,8 @@ with_row_grown tokens (WholeRow cells) = omega (arith, token_length tokens (Row 
 
 -- a return value in its response
 with_return_grown : (tokens : List Token) (part : ReturnPart) → grown (with_return tokens part) ≤ length (text tokens)
-with_return_grown tokens ReturnOrdinal = omega (arith, length-append (text tokens) [])
-with_return_grown tokens ReturnNameCount = omega (arith, length-append (text tokens) [])
-with_return_grown tokens (ReturnName n) = omega (arith, length-append (text tokens) [])
-with_return_grown tokens (ReturnHead name) = omega (arith, length-append (text tokens) [])
-with_return_grown tokens (ReturnInfo name byte) = omega (arith, length-append (text tokens) [])
-with_return_grown tokens (InReturnCell name kind part) = omega (arith, length-append (text tokens) [])
-with_return_grown tokens (WholeReturn r) = silent_grown tokens (Returned r) refl
+with_return_grown tokens (WholeReturn r) = bare_grown tokens (Returned r) refl
+with_return_grown tokens part = omega (arith, length-append (text tokens) [])
 
 -- a row that begins
 start_grown : (tokens : List Token) (start : List Column → RowPart) (current : Option (List Column)) → ((columns : List Column) → row_length (start columns) ≤ 2) → grown (start_of_row tokens start current) ≤ length (text tokens) + 2
@@ -312,7 +299,7 @@ module _ (charset : Charset) (room : ℕ) where
   part_grown tokens Between e bytes n =
       let some : 0 < length e = n.some in
       let one : (start : List Column → RowPart) → ((columns : List Column) → row_length (start columns) ≤ 2) → grown (start_of_row tokens start (described_after None tokens)) ≤ length (text tokens) + 64 * length e = λ start h. below (grown (start_of_row tokens start (described_after None tokens))) (length (text tokens)) (length e) (start_grown tokens start (described_after None tokens) h) some in
-      let all = byte_cases charset (λ p. grown p ≤ length (text tokens) + 64 * length e) tokens (slice_index e 0) (fresh_grown tokens (length e)) (one (row_start charset) row_starts) (one nbc_row_start (λ columns. omega arith)) in
+      let all = lead_cases charset (λ p. grown p ≤ length (text tokens) + 64 * length e) tokens (lead_of (slice_index e 0)) (fresh_grown tokens (length e)) (one (row_start charset) row_starts) (one nbc_row_start (λ columns. omega arith)) in
       none (grown (part_add charset tokens Between e)) (length (text tokens)) (64 * length e) all
     where
       below : (x y n : ℕ) → x ≤ y + 2 → 0 < n → x ≤ y + 64 * n
@@ -337,11 +324,9 @@ module _ (charset : Charset) (room : ℕ) where
   part_grown tokens (InReturn part) e bytes n = omega (arith, with_return_grown tokens (return_add part e))
   part_grown tokens (TokenLength b) e bytes n =
       choose (λ p. grown p ≤ length (text tokens) + 0 + 0 + 64 * length e) (little e == 0) (with_token tokens (bodied b [])) (part_at tokens (TokenBody b (little e)))
-      (λ z. omega (arith, bodied_grown tokens b [])) (λ z. omega (arith, length-append (text tokens) []))
-  part_grown tokens (TokenBody b m) e bytes n = omega (arith, bodied_grown tokens b e)
-  part_grown tokens Status e bytes n = omega (arith, silent_grown tokens (ReturnStatus (little e)) refl)
-  part_grown tokens DoneFields e bytes n = omega (arith, silent_grown tokens (Done (more e)) refl)
-  part_grown tokens DoneInProcFields e bytes n = omega (arith, silent_grown tokens (DoneInProc (more e)) refl)
+      (λ z. omega (arith, bare_grown tokens (bodied b []) (bare_body b []))) (λ z. omega (arith, length-append (text tokens) []))
+  part_grown tokens (TokenBody b m) e bytes n = omega (arith, bare_grown tokens (bodied b e) (bare_body b e))
+  part_grown tokens (Fields f) e bytes n = omega (arith, bare_grown tokens (fixed f e) (bare_fixed f e))
 
   -- each element pays for what it adds
   grown_more : (p : Part) (e : List ℕ) → AreBytes e → IsNext (response charset room) p e → grown ((response charset room).add p e) ≤ grown p + 64 * length e

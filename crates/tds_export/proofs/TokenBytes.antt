@@ -1,9 +1,9 @@
 -- Tokens by their first bytes.
 use Rattle.std.proofs.Common.{◌≡◌, ◌∙◌, inl, inr, ℕ, ◌+◌, ◌<◌, ◌≤◌, ◌^◌, ◌-◌, Bool, true, false, List, [], ◌∷◌, ◌++◌, length, refl, sym, ap, subst, arith, length-append}
-use Rattle.std.specs.Prelude.{Some, None, if◌then◌else◌}
+use Rattle.std.specs.Prelude.{Some, None}
 use Rattle.tds_meter.specs.Space.{Space}
 use Rattle.tds_packet.specs.declared.fault.Fault.{Fault}
-use Rattle.tds_packet.specs.declared.fault.Fault.TheVariants.{MessageEnded, RefusedToken}
+use Rattle.tds_packet.specs.declared.fault.Fault.TheVariants.{MessageEnded}
 use Rattle.tds_packet.specs.declared.fault.Place.TheVariants.{Payload}
 use Rattle.tds_packet.specs.declared.fault.Stop.{Stop}
 use Rattle.tds_packet.specs.Elements.{IsNext}
@@ -18,11 +18,12 @@ use Rattle.tds_rows.specs.declared.Charset.{Charset}
 use Rattle.tds_rows.specs.Rows.{nbc_row_start, row_start}
 use Rattle.tds_export.specs.declared.progress.Progress.{Progress}
 use Rattle.tds_export.specs.declared.tokens.TokenKind.{TokenKind}
-use Rattle.tds_export.specs.declared.tokens.TokenKind.TheVariants as kinds
 use Rattle.tds_export.specs.Tokens.{Token, described_after, encoded_after}
-use Rattle.tds_export.specs.TokenGrammar.{AnEnvChange, AnError, AnInfo, AnOrder, Part, is_row_byte, response, row_byte_fault, start_of_row, text_so_far}
-use Rattle.tds_export.specs.Steps.{StepStops, IsDescribed, IsHolding, IsOfKind, IsRefusal, ReadsTokens, behind, in_done, in_done_in_proc, in_kind, in_length, in_metadata, in_nbc_row, in_return, in_row, in_status}
+use Rattle.tds_export.specs.TokenBytes.{Lead, ARow, AnNbcRow, lead_of}
+use Rattle.tds_export.specs.TokenGrammar.{Part, after_first, lead_fault, response, row_byte_fault, start_of_row, text_so_far}
+use Rattle.tds_export.specs.Steps.{StepStops, IsDescribed, IsHolding, IsOfKind, IsRefusal, IsUnder, ReadsTokens, behind, in_kind, in_lead, lead}
 use Rattle.tds_packet.proofs.Steps.{cut_at_once, reads_one, refused_at_once, stops_after, takes_both, takes_ahead}
+use Rattle.tds_export.proofs.ResponseLaws.{no_row}
 use Rattle.tds_export.proofs.RowRuns.{columns_known}
 use Rattle.tds_export.proofs.TokenSteps.{same_text, start_text}
 
@@ -36,44 +37,34 @@ pub record BeginsToken (charset : Charset) (room : ℕ) (tokens : List Token) (b
 pub some_columns : (bytes : List ℕ) → IsDescription bytes → 0 < length (columns_of bytes)
 some_columns bytes d = subst (λ cs. 0 < length cs) (sym (description_shows d.0 d.1 bytes d.2).0) d.2.some
 
-pub begins_row : (charset : Charset) (room : ℕ) (tokens : List Token) (byte : ℕ) (described : Bool) (bytes : List ℕ) → byte ≡ 0xD1 → described ≡ true → bytes ≡ encoded_after [] tokens → 0 < length (columns_of bytes)
-    → IsDescribed described (encoded_after [] tokens) (described_after None tokens) → BeginsToken charset room tokens byte (in_row charset (columns_of bytes) tokens)
-begins_row charset room tokens byte described bytes e d is some k =
-    let known : described_after None tokens ≡ Some (columns_of bytes) = columns_known tokens described bytes d is k in
-    subst (λ b. BeginsToken charset room tokens b (in_row charset (columns_of bytes) tokens)) (sym e) (record {
-      next = record { some = omega arith; whole = refl; free = ap (row_byte_fault true) known };
-      to_is = ap (start_of_row tokens (row_start charset)) known;
-      text_is = sym (start_text charset (columns_of bytes) tokens some);
-    })
+begins_lead : (charset : Charset) (room : ℕ) (tokens : List Token) (byte : ℕ) (described : Bool) (bytes : List ℕ) (begun : Lead) → lead_of byte ≡ Some begun → IsUnder described begun → bytes ≡ encoded_after [] tokens → (described ≡ true → IsDescription bytes)
+    → IsDescribed described (encoded_after [] tokens) (described_after None tokens) → BeginsToken charset room tokens byte (in_lead charset (columns_of bytes) begun tokens)
+begins_lead charset room tokens byte described bytes begun e under is d k = record {
+  next = record { some = omega arith; whole = refl; free = ap (λ v. lead_fault (described_after None tokens) byte v) e ∙ free begun under };
+  to_is = ap (λ v. after_first charset tokens v) e ∙ to begun under;
+  text_is = text begun under;
+}
+  where
+    known : described ≡ true → described_after None tokens ≡ Some (columns_of bytes)
+    known so = columns_known tokens described bytes so is k
 
-pub begins_nbc_row : (charset : Charset) (room : ℕ) (tokens : List Token) (byte : ℕ) (described : Bool) (bytes : List ℕ) → byte ≡ 0xD2 → described ≡ true → bytes ≡ encoded_after [] tokens
-    → IsDescribed described (encoded_after [] tokens) (described_after None tokens) → BeginsToken charset room tokens byte (in_nbc_row (columns_of bytes) tokens)
-begins_nbc_row charset room tokens byte described bytes e d is k =
-    let known : described_after None tokens ≡ Some (columns_of bytes) = columns_known tokens described bytes d is k in
-    subst (λ b. BeginsToken charset room tokens b (in_nbc_row (columns_of bytes) tokens)) (sym e) (record {
-      next = record { some = omega arith; whole = refl; free = ap (row_byte_fault true) known };
-      to_is = ap (start_of_row tokens nbc_row_start) known;
-      text_is = refl;
-    })
+    free : (begun : Lead) → IsUnder described begun → lead_fault (described_after None tokens) byte (Some begun) ≡ None
+    free ARow under = ap (row_byte_fault true) (known under)
+    free AnNbcRow under = ap (row_byte_fault true) (known under)
+    free begun under = no_row (described_after None tokens)
 
--- a token by its first byte, of which the columns aren't asked
-pub begins_by : (charset : Charset) (room : ℕ) (tokens : List Token) (byte known : ℕ) (to : Part) → byte ≡ known → BeginsToken charset room tokens known to → BeginsToken charset room tokens byte to
-begins_by charset room tokens byte known to e begins = subst (λ b. BeginsToken charset room tokens b to) (sym e) begins
+    to : (begun : Lead) → IsUnder described begun → after_first charset tokens (Some begun) ≡ in_lead charset (columns_of bytes) begun tokens
+    to ARow under = ap (start_of_row tokens (row_start charset)) (known under)
+    to AnNbcRow under = ap (start_of_row tokens nbc_row_start) (known under)
+    to begun under = refl
+
+    text : (begun : Lead) → IsUnder described begun → text_so_far (behind tokens) ≡ text_so_far (in_lead charset (columns_of bytes) begun tokens)
+    text ARow under = sym (start_text charset (columns_of bytes) tokens (some_columns bytes (d under)))
+    text begun under = refl
 
 pub begins_kind : (charset : Charset) (room : ℕ) (tokens : List Token) (byte : ℕ) (described : Bool) (bytes : List ℕ) (kind : TokenKind) → IsOfKind described byte kind → bytes ≡ encoded_after [] tokens → (described ≡ true → IsDescription bytes)
     → IsDescribed described (encoded_after [] tokens) (described_after None tokens) → BeginsToken charset room tokens byte (in_kind charset (columns_of bytes) kind tokens)
-begins_kind charset room tokens byte described bytes kinds.Metadata e is d k = begins_by charset room tokens byte 0x81 (in_metadata tokens) e (record { next = record { some = omega arith; whole = refl; free = refl }; to_is = refl; text_is = refl })
-begins_kind charset room tokens byte described bytes kinds.Row e is d k = begins_row charset room tokens byte described bytes e.0 e.1 is (some_columns bytes (d e.1)) k
-begins_kind charset room tokens byte described bytes kinds.NbcRow e is d k = begins_nbc_row charset room tokens byte described bytes e.0 e.1 is k
-begins_kind charset room tokens byte described bytes kinds.Done (inl e) is d k = begins_by charset room tokens byte 0xFD (in_done tokens) e (record { next = record { some = omega arith; whole = refl; free = refl }; to_is = refl; text_is = refl })
-begins_kind charset room tokens byte described bytes kinds.Done (inr e) is d k = begins_by charset room tokens byte 0xFE (in_done tokens) e (record { next = record { some = omega arith; whole = refl; free = refl }; to_is = refl; text_is = refl })
-begins_kind charset room tokens byte described bytes kinds.DoneInProc e is d k = begins_by charset room tokens byte 0xFF (in_done_in_proc tokens) e (record { next = record { some = omega arith; whole = refl; free = refl }; to_is = refl; text_is = refl })
-begins_kind charset room tokens byte described bytes kinds.Order e is d k = begins_by charset room tokens byte 0xA9 (in_length AnOrder tokens) e (record { next = record { some = omega arith; whole = refl; free = refl }; to_is = refl; text_is = refl })
-begins_kind charset room tokens byte described bytes kinds.EnvChange e is d k = begins_by charset room tokens byte 0xE3 (in_length AnEnvChange tokens) e (record { next = record { some = omega arith; whole = refl; free = refl }; to_is = refl; text_is = refl })
-begins_kind charset room tokens byte described bytes kinds.Error e is d k = begins_by charset room tokens byte 0xAA (in_length AnError tokens) e (record { next = record { some = omega arith; whole = refl; free = refl }; to_is = refl; text_is = refl })
-begins_kind charset room tokens byte described bytes kinds.Info e is d k = begins_by charset room tokens byte 0xAB (in_length AnInfo tokens) e (record { next = record { some = omega arith; whole = refl; free = refl }; to_is = refl; text_is = refl })
-begins_kind charset room tokens byte described bytes kinds.ReturnValue e is d k = begins_by charset room tokens byte 0xAC (in_return tokens) e (record { next = record { some = omega arith; whole = refl; free = refl }; to_is = refl; text_is = refl })
-begins_kind charset room tokens byte described bytes kinds.ReturnStatus e is d k = begins_by charset room tokens byte 0x79 (in_status tokens) e (record { next = record { some = omega arith; whole = refl; free = refl }; to_is = refl; text_is = refl })
+begins_kind charset room tokens byte described bytes kind h is d k = begins_lead charset room tokens byte described bytes (lead kind) h.0 h.1 is d k
 
 module _ (charset : Charset) (room : ℕ) (tokens : List Token) (byte : ℕ) (to : Part) (begins : BeginsToken charset room tokens byte to) where
   abbrev pub puts_before : (q : Part) (h k : Held) → PutsText text_so_far to q h k → PutsText text_so_far (behind tokens) q h k
@@ -138,7 +129,7 @@ module _ (charset : Charset) (room : ℕ) (tokens : List Token) (byte : ℕ) (to
 refused : (charset : Charset) (room : ℕ) (tokens : List Token) (a b : Seen) (place byte : ℕ) (described : Bool) (fault : Fault) → IsDescribed described (encoded_after [] tokens) (described_after None tokens) → IsRefusal described byte fault → Takes a b (byte ∷ []) 1 → IsBetween b
     → StopsReading (response charset room) (behind tokens) a b place (behind tokens) (record { fault = fault; place = Payload place })
 refused charset room tokens a b place byte described fault k (inl x) t between =
-    let first : (response charset room).fault (behind tokens) (byte ∷ []) ≡ Some fault = ap (λ v. if v then row_byte_fault (is_row_byte byte) (described_after None tokens) else Some (RefusedToken byte)) x.1 ∙ ap Some (sym x.0) in
+    let first : (response charset room).fault (behind tokens) (byte ∷ []) ≡ Some fault = ap (λ v. lead_fault (described_after None tokens) byte v) x.1 ∙ ap Some (sym x.0) in
     refused_at_once (response charset room) (behind tokens) a b place (byte ∷ []) fault (omega arith) refl first t between
 refused charset room tokens a b place byte described fault k (inr x) t between =
     let none : described_after None tokens ≡ None = subst (λ d. IsDescribed d (encoded_after [] tokens) (described_after None tokens)) x.1 k in

@@ -10,9 +10,11 @@ use Rattle.tds_export.specs.declared.report.Report.{Report}
 use Rattle.tds_export.specs.declared.report.ServerError.{ServerError}
 use Rattle.tds_export.specs.declared.progress.Progress.{Progress}
 use Rattle.tds_export.specs.ReturnValue.{ReturnValue}
-use Rattle.tds_export.specs.Tokens.{Notice, Token, described_after, Metadata, NoMetadata, Row, Order, EnvChange, Error, Info, ReturnStatus, Returned, Done, DoneInProc, between, encoded_after, first_error, greatest_span, header_line, how_many, is_error, is_final, is_info, is_return, is_row, is_set, return_status_after, text, text_after}
+use Rattle.tds_export.specs.Tokens.{Notice, Token, described_after, Metadata, NoMetadata, Row, PassedOver, Error, Info, ReturnStatus, Returned, between, encoded_after, first_error, greatest_span, header_line, how_many, is_error, is_final, is_info, is_return, is_row, is_set, return_status_after, text, text_after}
+use Rattle.tds_export.specs.Response.{fixed}
 use Rattle.tds_export.specs.Outcome.{report_of, server_error, signed}
-use Rattle.tds_export.specs.TokenGrammar.{Bodied, AnOrder, AnEnvChange, AnError, AnInfo, bodied, is_notice}
+use Rattle.tds_export.specs.TokenBytes.{APassed, AnError, AnInfo, Bodied, Fixed, AStatus, ADone, ADoneInProc}
+use Rattle.tds_export.specs.TokenGrammar.{bodied, is_notice}
 use Rattle.tds_export.specs.Steps.{IsDescribed, Tracks}
 use Rattle.tds_export.proofs.ResponseLaws.{described_after-append}
 
@@ -40,16 +42,7 @@ some_sets n = grind (arith, nat_tests)
 pub begun_where_sets : (ts : List Token) → begun_after false ts ≡ nat_lt 0 (how_many is_set ts)
 begun_where_sets [] = refl
 begun_where_sets (Metadata bytes columns ∷ ts) = begun_true ts ∙ sym (some_sets (how_many is_set ts))
-begun_where_sets (NoMetadata ∷ ts) = begun_where_sets ts
-begun_where_sets (Row cells ∷ ts) = begun_where_sets ts
-begun_where_sets (Order body ∷ ts) = begun_where_sets ts
-begun_where_sets (EnvChange body ∷ ts) = begun_where_sets ts
-begun_where_sets (Error n ∷ ts) = begun_where_sets ts
-begun_where_sets (Info n ∷ ts) = begun_where_sets ts
-begun_where_sets (ReturnStatus n ∷ ts) = begun_where_sets ts
-begun_where_sets (Returned r ∷ ts) = begun_where_sets ts
-begun_where_sets (Done m ∷ ts) = begun_where_sets ts
-begun_where_sets (DoneInProc m ∷ ts) = begun_where_sets ts
+begun_where_sets (t ∷ ts) = begun_where_sets ts
 
 count_if : (b : Bool) (n m : ℕ) → (if b then 1 + (n + m) else n + m) ≡ (if b then 1 + n else n) + m
 count_if true n m = omega arith
@@ -149,62 +142,85 @@ same_columns described ts t bytes columns k =
     subst (λ b. IsDescribed described b (described_after None (ts ++ t ∷ []))) (sym (encoded_after-append [] ts (t ∷ []) ∙ bytes))
     (subst (IsDescribed described (encoded_after [] ts)) (sym (described_after-append None ts (t ∷ []) ∙ columns)) k)
 
--- A token that has no text, describes nothing and is counted nowhere.
-pub record IsQuiet (t : Token) : Type 0 where
+-- whether a token has no text and describes nothing
+abbrev pub is_bare : Token → Bool
+is_bare (Metadata bytes columns) = false
+is_bare NoMetadata = false
+is_bare (Row cells) = false
+is_bare t = true
+
+-- A token that has no text and describes nothing.
+pub record IsBare (t : Token) : Type 0 where
   pub text : (begun : Bool) → text_after begun (t ∷ []) ≡ []
   pub encoded : (before : List ℕ) → encoded_after before (t ∷ []) ≡ before
   pub columns : (before : Option (List Column)) → described_after before (t ∷ []) ≡ before
-  pub sets : how_many is_set (t ∷ []) ≡ 0
-  pub rows : how_many is_row (t ∷ []) ≡ 0
-  pub errors : how_many is_error (t ∷ []) ≡ 0
-  pub infos : how_many is_info (t ∷ []) ≡ 0
-  pub returns : how_many is_return (t ∷ []) ≡ 0
 
-pub quiet_done : (m : Bool) → IsQuiet (Done m)
-quiet_done m = record { text = λ _. refl; encoded = λ _. refl; columns = λ _. refl; sets = refl; rows = refl; errors = refl; infos = refl; returns = refl }
+pub bare : (t : Token) → is_bare t ≡ true → IsBare t
+bare (Metadata bytes columns) h = cc
+bare NoMetadata h = cc
+bare (Row cells) h = cc
+bare t h = record { text = λ _. refl; encoded = λ _. refl; columns = λ _. refl }
 
-pub quiet_done_in_proc : (m : Bool) → IsQuiet (DoneInProc m)
-quiet_done_in_proc m = record { text = λ _. refl; encoded = λ _. refl; columns = λ _. refl; sets = refl; rows = refl; errors = refl; infos = refl; returns = refl }
+-- tokens with a body are so
+pub bare_body : (which : Bodied) (body : List ℕ) → is_bare (bodied which body) ≡ true
+bare_body (APassed passed) body = refl
+bare_body AnError body = refl
+bare_body AnInfo body = refl
 
-pub quiet_status : (n : ℕ) → IsQuiet (ReturnStatus n)
-quiet_status n = record { text = λ _. refl; encoded = λ _. refl; columns = λ _. refl; sets = refl; rows = refl; errors = refl; infos = refl; returns = refl }
+-- and those with fields of a fixed length
+pub bare_fixed : (which : Fixed) (fields : List ℕ) → is_bare (fixed which fields) ≡ true
+bare_fixed AStatus fields = refl
+bare_fixed ADone fields = refl
+bare_fixed ADoneInProc fields = refl
 
-pub quiet_body : (which : Bodied) (body : List ℕ) → is_notice which ≡ false → IsQuiet (bodied which body)
-quiet_body AnOrder body h = record { text = λ _. refl; encoded = λ _. refl; columns = λ _. refl; sets = refl; rows = refl; errors = refl; infos = refl; returns = refl }
-quiet_body AnEnvChange body h = record { text = λ _. refl; encoded = λ _. refl; columns = λ _. refl; sets = refl; rows = refl; errors = refl; infos = refl; returns = refl }
-quiet_body AnError body h = cc
-quiet_body AnInfo body h = cc
+-- whether a token is counted nowhere too
+abbrev is_quiet : Token → Bool
+is_quiet (Error n) = false
+is_quiet (Info n) = false
+is_quiet (Returned r) = false
+is_quiet t = is_bare t
+
+-- A token that is counted nowhere.
+record IsQuiet (t : Token) : Type 0 where
+  bare : is_bare t ≡ true
+  sets : how_many is_set (t ∷ []) ≡ 0
+  rows : how_many is_row (t ∷ []) ≡ 0
+  errors : how_many is_error (t ∷ []) ≡ 0
+  infos : how_many is_info (t ∷ []) ≡ 0
+  returns : how_many is_return (t ∷ []) ≡ 0
+
+quiet : (t : Token) → is_quiet t ≡ true → IsQuiet t
+quiet (Metadata bytes columns) h = cc
+quiet NoMetadata h = cc
+quiet (Row cells) h = cc
+quiet (Error n) h = cc
+quiet (Info n) h = cc
+quiet (Returned r) h = cc
+quiet t h = record { bare = refl; sets = refl; rows = refl; errors = refl; infos = refl; returns = refl }
 
 uncounted : (p : Token → Bool) (ts : List Token) (t : Token) → how_many p (t ∷ []) ≡ 0 → how_many p ts + how_many p (t ∷ []) ≡ how_many p ts
 uncounted p ts t e = ap (λ n. how_many p ts + n) e ∙ none (how_many p ts)
 
-pub tracks_quiet : (s : Progress) (ts : List Token) (t : Token) (final : Bool) → IsQuiet t → is_silent t ≡ true → final ≡ is_final (t ∷ []) → Tracks s ts → Tracks (record s { is_final = final }) (ts ++ t ∷ [])
-tracks_quiet s ts t final q h e k = record {
-  report = ap (λ (r : Report). record r { written = length (text (ts ++ t ∷ [])) }) k.report ∙ sym (report-snoc ts t h ∙ rw (uncounted is_set ts t q.sets, uncounted is_row ts t q.rows, uncounted is_error ts t q.errors, uncounted is_info ts t q.infos, uncounted is_return ts t q.returns) refl);
-  described = same_columns s.described ts t (q.encoded (encoded_after [] ts)) (q.columns (described_after None ts)) k.described;
-  final = e ∙ sym (is_final-snoc ts t);
-}
+-- a token that has no text and describes nothing, by its report
+tracks_bare : (s : Progress) (ts : List Token) (t : Token) (report : Report) (final : Bool) → is_bare t ≡ true → record report { written = length (text (ts ++ t ∷ [])) } ≡ report_of (ts ++ t ∷ []) → final ≡ is_final (t ∷ []) → Tracks s ts → Tracks (record s { report = report; is_final = final }) (ts ++ t ∷ [])
+tracks_bare s ts t report final is e f k =
+    let b = bare t is in
+    record { report = e; described = same_columns s.described ts t (b.encoded (encoded_after [] ts)) (b.columns (described_after None ts)) k.described; final = f ∙ sym (is_final-snoc ts t) }
 
-pub tracks_done : (s : Progress) (ts : List Token) (m final : Bool) → Tracks s ts → final ≡ (if m then false else true) → Tracks (record s { is_final = final }) (ts ++ Done m ∷ [])
-tracks_done s ts m final k e = tracks_quiet s ts (Done m) final (quiet_done m) refl e k
-
-pub tracks_done_in_proc : (s : Progress) (ts : List Token) (m : Bool) → Tracks s ts → Tracks (record s { is_final = false }) (ts ++ DoneInProc m ∷ [])
-tracks_done_in_proc s ts m k = tracks_quiet s ts (DoneInProc m) false (quiet_done_in_proc m) refl refl k
+pub tracks_quiet : (s : Progress) (ts : List Token) (t : Token) (final : Bool) → is_quiet t ≡ true → is_silent t ≡ true → final ≡ is_final (t ∷ []) → Tracks s ts → Tracks (record s { is_final = final }) (ts ++ t ∷ [])
+tracks_quiet s ts t final is h e k =
+    let q = quiet t is in
+    tracks_bare s ts t s.report final q.bare (ap (λ (r : Report). record r { written = length (text (ts ++ t ∷ [])) }) k.report ∙ sym (report-snoc ts t h ∙ rw (uncounted is_set ts t q.sets, uncounted is_row ts t q.rows, uncounted is_error ts t q.errors, uncounted is_info ts t q.infos, uncounted is_return ts t q.returns) refl)) e k
 
 pub tracks_body : (s : Progress) (ts : List Token) (which : Bodied) (body : List ℕ) → is_notice which ≡ false → Tracks s ts → Tracks (record s { is_final = false }) (ts ++ bodied which body ∷ [])
-tracks_body s ts AnOrder body h k = tracks_quiet s ts (Order body) false (quiet_body AnOrder body refl) refl refl k
-tracks_body s ts AnEnvChange body h k = tracks_quiet s ts (EnvChange body) false (quiet_body AnEnvChange body refl) refl refl k
+tracks_body s ts (APassed passed) body h k = tracks_quiet s ts (PassedOver passed body) false refl refl refl k
 tracks_body s ts AnError body h k = cc
 tracks_body s ts AnInfo body h k = cc
 
 pub tracks_status : (s : Progress) (ts : List Token) (n : ℕ) (status : ℤ) → status ≡ signed n → Tracks s ts → Tracks (record s { report = record s.report { return_status = Some status }; is_final = false }) (ts ++ ReturnStatus n ∷ [])
 tracks_status s ts n status e k =
     let t = ReturnStatus n in
-    record {
-      report = ap (λ (r : Report). record r { return_status = Some status; written = length (text (ts ++ t ∷ [])) }) k.report ∙ ap (λ z. record (report_of ts) { return_status = Some z; written = length (text (ts ++ t ∷ [])) }) e ∙ sym (status_report ts n);
-      described = same_columns s.described ts t refl refl k.described;
-      final = sym (is_final-snoc ts t);
-    }
+    tracks_bare s ts t (record s.report { return_status = Some status }) false refl (ap (λ (r : Report). record r { return_status = Some status; written = length (text (ts ++ t ∷ [])) }) k.report ∙ ap (λ z. record (report_of ts) { return_status = Some z; written = length (text (ts ++ t ∷ [])) }) e ∙ sym (status_report ts n)) refl k
 
 pub tracks_none : (s : Progress) (ts : List Token) → Tracks s ts → Tracks (record s { described = false; is_final = false }) (ts ++ NoMetadata ∷ [])
 tracks_none s ts k = record {
@@ -254,27 +270,17 @@ pub tracks_error : (s : Progress) (ts : List Token) (n : Notice) (first : Option
     → Tracks (record s { report = record s.report { errors = s.report.errors + 1; first_error = first }; is_final = false }) (ts ++ Error n ∷ [])
 tracks_error s ts n first e k =
     let t = Error n in
-    record {
-      report = ap (λ (r : Report). record r { errors = r.errors + 1; first_error = first; written = length (text (ts ++ t ∷ [])) }) k.report ∙ ap (λ f. record (report_of ts) { errors = how_many is_error ts + 1; first_error = f; written = length (text (ts ++ t ∷ [])) }) e ∙ sym (error_report ts n);
-      described = same_columns s.described ts t refl refl k.described;
-      final = sym (is_final-snoc ts t);
-    }
+    tracks_bare s ts t (record s.report { errors = s.report.errors + 1; first_error = first }) false refl (ap (λ (r : Report). record r { errors = r.errors + 1; first_error = first; written = length (text (ts ++ t ∷ [])) }) k.report ∙ ap (λ f. record (report_of ts) { errors = how_many is_error ts + 1; first_error = f; written = length (text (ts ++ t ∷ [])) }) e ∙ sym (error_report ts n)) refl k
 
 pub tracks_info : (s : Progress) (ts : List Token) (n : Notice) → Tracks s ts → Tracks (record s { report = record s.report { infos = s.report.infos + 1 }; is_final = false }) (ts ++ Info n ∷ [])
-tracks_info s ts n k = record {
-  report = ap (λ (r : Report). record r { infos = r.infos + 1; written = length (text (ts ++ Info n ∷ [])) }) k.report ∙ sym (report-snoc ts (Info n) refl ∙ rw (none (how_many is_set ts), none (how_many is_row ts), none (how_many is_error ts), none (how_many is_return ts)) refl);
-  described = same_columns s.described ts (Info n) refl refl k.described;
-  final = sym (is_final-snoc ts (Info n));
-}
+tracks_info s ts n k =
+    tracks_bare s ts (Info n) (record s.report { infos = s.report.infos + 1 }) false refl (ap (λ (r : Report). record r { infos = r.infos + 1; written = length (text (ts ++ Info n ∷ [])) }) k.report ∙ sym (report-snoc ts (Info n) refl ∙ rw (none (how_many is_set ts), none (how_many is_row ts), none (how_many is_error ts), none (how_many is_return ts)) refl)) refl k
 
 -- ---- RETURNVALUE
 
 pub tracks_returned : (s : Progress) (ts : List Token) (v : ReturnValue) → Tracks s ts → Tracks (record s { report = record s.report { return_values = s.report.return_values + 1 }; is_final = false }) (ts ++ Returned v ∷ [])
-tracks_returned s ts v k = record {
-  report = ap (λ (r : Report). record r { return_values = r.return_values + 1; written = length (text (ts ++ Returned v ∷ [])) }) k.report ∙ sym (report-snoc ts (Returned v) refl ∙ rw (none (how_many is_set ts), none (how_many is_row ts), none (how_many is_error ts), none (how_many is_info ts)) refl);
-  described = same_columns s.described ts (Returned v) refl refl k.described;
-  final = sym (is_final-snoc ts (Returned v));
-}
+tracks_returned s ts v k =
+    tracks_bare s ts (Returned v) (record s.report { return_values = s.report.return_values + 1 }) false refl (ap (λ (r : Report). record r { return_values = r.return_values + 1; written = length (text (ts ++ Returned v ∷ [])) }) k.report ∙ sym (report-snoc ts (Returned v) refl ∙ rw (none (how_many is_set ts), none (how_many is_row ts), none (how_many is_error ts), none (how_many is_info ts)) refl)) refl k
 
 -- ---- the first ERROR
 

@@ -25,16 +25,17 @@ use Rattle.tds_rows.specs.Rows.{RowPart, Bitmap, InCell, WholeRow, row, row_size
 use Rattle.tds_rows.specs.RowSteps.{ReadsRow, RowStops}
 use Rattle.tds_export.specs.declared.progress.Progress.{Progress}
 use Rattle.tds_export.specs.declared.report.Report.{Report}
-use Rattle.tds_export.specs.Tokens.{Token, Metadata, NoMetadata, Row, ReturnStatus, Done, DoneInProc, between, encoded_after, greatest_span, header_line, how_many, is_set, text, text_after}
-use Rattle.tds_export.specs.Response.{more}
+use Rattle.tds_export.specs.Tokens.{Token, Metadata, NoMetadata, Row, Done, DoneInProc, between, encoded_after, greatest_span, header_line, how_many, is_set, text, text_after}
+use Rattle.tds_export.specs.Response.{fields_length, fixed, more}
 use Rattle.tds_export.specs.Outcome.{signed}
-use Rattle.tds_export.specs.TokenGrammar.{Open, Part, DoneFields, DoneInProcFields, Status, open_text, part_add, response, text_so_far, with_described, with_row}
-use Rattle.tds_export.specs.Steps.{StepStops, StopsInReading, StopsInWriting, IsHolding, ReadsTokens, Tracks, behind, in_done, in_done_in_proc, in_metadata, in_row, in_status}
+use Rattle.tds_export.specs.TokenBytes.{Fixed, AStatus, ADone, ADoneInProc}
+use Rattle.tds_export.specs.TokenGrammar.{Open, Part, Fields, open_text, response, text_so_far, with_described, with_row}
+use Rattle.tds_export.specs.Steps.{StepStops, StopsInReading, StopsInWriting, IsHolding, ReadsTokens, Tracks, behind, in_done, in_done_in_proc, in_fields, in_metadata, in_row, in_status}
 use Rattle.tds_packet.proofs.Lifts.{last_inside, reads_inside, stops_inside}
 use Rattle.tds_csv.proofs.Streams.{breaks_after, breaks_inside, puts_both, puts_inside, stops_size, streams_inside}
 use Rattle.tds_rows.proofs.RowSteps.{start_quiet}
-use Rattle.tds_export.proofs.ResponseLaws.{description_in_response, row_in_response}
-use Rattle.tds_export.proofs.TokenLaws.{IsQuiet, begun_after, begun_where_sets, encoded_after-append, greatest_span-append, quiet_done, quiet_done_in_proc, quiet_status, text_after-snoc, tracks_done, tracks_done_in_proc, tracks_metadata, tracks_none, tracks_row, tracks_status}
+use Rattle.tds_export.proofs.ResponseLaws.{description_in_response, row_in_response, some_fields}
+use Rattle.tds_export.proofs.TokenLaws.{bare, bare_fixed, begun_after, begun_where_sets, encoded_after-append, greatest_span-append, is_bare, text_after-snoc, tracks_metadata, tracks_none, tracks_quiet, tracks_row, tracks_status}
 
 -- nothing more is put for the same text
 pub same_text : (p q : Part) (h : Held) → text_so_far p ≡ text_so_far q → h.delivered ≤ 2 ^ 64 - 1 → PutsText text_so_far p q h h
@@ -86,11 +87,12 @@ final_or_more n = go (n % 2) (omega arith)
     go (suc (suc m)) h = absurd (omega arith)
 
 -- a token that has no text and describes nothing was read
-abbrev pub bare_reads : (charset : Charset) (room : ℕ) (area : Space) (sink : Held) (tokens : List Token) (t : Token) (from : Open) (progress : Progress) (bytes : List ℕ) (a b : Seen) (place place' : ℕ) → open_text from ≡ [] → ((begun : Bool) → text_after begun (t ∷ []) ≡ []) → ((before : List ℕ) → encoded_after before (t ∷ []) ≡ before) → place' ≡ place + length bytes → sink.delivered ≤ 2 ^ 64 - 1
+abbrev pub bare_reads : (charset : Charset) (room : ℕ) (area : Space) (sink : Held) (tokens : List Token) (t : Token) (from : Open) (progress : Progress) (bytes : List ℕ) (a b : Seen) (place place' : ℕ) → open_text from ≡ [] → is_bare t ≡ true → place' ≡ place + length bytes → sink.delivered ≤ 2 ^ 64 - 1
     → Tracks progress (tokens ++ t ∷ []) → IsHolding area (behind tokens) → Spelt (response charset room) (record { tokens = tokens; at = from }) bytes (behind (tokens ++ t ∷ [])) → Takes a b bytes (length bytes)
     → ReadsTokens (response charset room) (record { tokens = tokens; at = from }) tokens a b place place' sink sink progress area
-bare_reads charset room area sink tokens t from progress bytes a b place place' none textless encoded at d tracks holds spelt takes =
-    let same : text_after false (tokens ++ t ∷ []) ≡ text tokens = text_after-snoc false tokens t ∙ ap (λ l. text tokens ++ l) (textless (begun_after false tokens)) ∙ append-nil (text tokens) in
+bare_reads charset room area sink tokens t from progress bytes a b place place' none is at d tracks holds spelt takes =
+    let so = bare t is in
+    let same : text_after false (tokens ++ t ∷ []) ≡ text tokens = text_after-snoc false tokens t ∙ ap (λ l. text tokens ++ l) (so.text (begun_after false tokens)) ∙ append-nil (text tokens) in
     record {
       more = t ∷ [];
       streams = record {
@@ -101,32 +103,24 @@ bare_reads charset room area sink tokens t from progress bytes a b place place' 
       };
       place_is = at;
       tracks = tracks;
-      holds = holds-snoc area tokens t (encoded (encoded_after [] tokens)) holds;
+      holds = holds-snoc area tokens t (so.encoded (encoded_after [] tokens)) holds;
     }
 
--- and one that is counted nowhere
-pub quiet_reads : (charset : Charset) (room : ℕ) (area : Space) (sink : Held) (tokens : List Token) (t : Token) (from : Open) (progress : Progress) (bytes : List ℕ) (a b : Seen) (place place' : ℕ) → open_text from ≡ [] → IsQuiet t → place' ≡ place + length bytes → sink.delivered ≤ 2 ^ 64 - 1
-    → Tracks progress (tokens ++ t ∷ []) → IsHolding area (behind tokens) → Spelt (response charset room) (record { tokens = tokens; at = from }) bytes (behind (tokens ++ t ∷ [])) → Takes a b bytes (length bytes)
-    → ReadsTokens (response charset room) (record { tokens = tokens; at = from }) tokens a b place place' sink sink progress area
-quiet_reads charset room area sink tokens t from progress bytes a b place place' none q at d tracks holds spelt takes =
-    bare_reads charset room area sink tokens t from progress bytes a b place place' none q.text q.encoded at d tracks holds spelt takes
-
--- the one element after its first byte was read whole
-one_reads : (charset : Charset) (room : ℕ) (area : Space) (sink : Held) (tokens : List Token) (t : Token) (from : Open) (progress : Progress) (element : List ℕ) (a b : Seen) (place place' : ℕ) → open_text from ≡ [] → IsQuiet t → place' ≡ place + length element → sink.delivered ≤ 2 ^ 64 - 1
-    → Tracks progress (tokens ++ t ∷ []) → IsHolding area (behind tokens) → IsNext (response charset room) (record { tokens = tokens; at = from }) element → part_add charset tokens from element ≡ behind (tokens ++ t ∷ []) → Takes a b element (length element)
-    → ReadsTokens (response charset room) (record { tokens = tokens; at = from }) tokens a b place place' sink sink progress area
-one_reads charset room area sink tokens t from progress element a b place place' none q at d tracks holds next to takes =
-    let s : Part = record { tokens = tokens; at = from } in
-    quiet_reads charset room area sink tokens t from progress element a b place place' none q at d tracks holds
-    (subst (λ v. Spelt (response charset room) s element v) to (Spelt-one (response charset room) s element next)) takes
+-- so was one with fields of a fixed length
+fixed_reads : (charset : Charset) (room : ℕ) (area : Space) (sink : Held) (tokens : List Token) (which : Fixed) (progress : Progress) (fields : List ℕ) (a b : Seen) (place place' : ℕ) → place' ≡ place + length fields → sink.delivered ≤ 2 ^ 64 - 1
+    → Tracks progress (tokens ++ fixed which fields ∷ []) → IsHolding area (behind tokens) → length fields ≡ fields_length which → Takes a b fields (length fields)
+    → ReadsTokens (response charset room) (in_fields which tokens) tokens a b place place' sink sink progress area
+fixed_reads charset room area sink tokens which progress fields a b place place' at d tracks holds len takes =
+    bare_reads charset room area sink tokens (fixed which fields) (Fields which) progress fields a b place place' refl (bare_fixed which fields) at d tracks holds
+    (Spelt-one (response charset room) (in_fields which tokens) fields (record { some = subst (λ n. 0 < n) (sym len) (some_fields which); whole = len; free = refl })) takes
 
 pub done_reads : (charset : Charset) (room : ℕ) (area : Space) (sink : Held) (tokens : List Token) (progress : Progress) (fields : List ℕ) (a b : Seen) (place place' : ℕ) → place' ≡ place + length fields → sink.delivered ≤ 2 ^ 64 - 1 → Tracks progress tokens → IsHolding area (behind tokens)
     → length fields ≡ 12 → Takes a b fields (length fields)
     → ReadsTokens (response charset room) (in_done tokens) tokens a b place place' sink sink (record progress { is_final = slice_index fields 0 % 2 == 0 }) area
 done_reads charset room area sink tokens progress fields a b place place' at d tracks holds len takes =
     let final = slice_index fields 0 % 2 == 0 in
-    one_reads charset room area sink tokens (Done (more fields)) DoneFields (record progress { is_final = final }) fields a b place place' refl (quiet_done (more fields)) at d
-    (tracks_done progress tokens (more fields) final tracks (final_or_more (slice_index fields 0))) holds (record { some = omega (arith, len); whole = len; free = refl }) refl takes
+    fixed_reads charset room area sink tokens ADone (record progress { is_final = final }) fields a b place place' at d
+    (tracks_quiet progress tokens (Done (more fields)) final refl refl (final_or_more (slice_index fields 0)) tracks) holds len takes
 
 -- ---- DONEINPROC
 
@@ -134,8 +128,8 @@ pub done_in_proc_reads : (charset : Charset) (room : ℕ) (area : Space) (sink :
     → length fields ≡ 12 → Takes a b fields 12
     → ReadsTokens (response charset room) (in_done_in_proc tokens) tokens a b place place' sink sink (record progress { is_final = false }) area
 done_in_proc_reads charset room area sink tokens progress fields a b place place' at d tracks holds len takes =
-    one_reads charset room area sink tokens (DoneInProc (more fields)) DoneInProcFields (record progress { is_final = false }) fields a b place place' refl (quiet_done_in_proc (more fields)) (omega (arith, at, len)) d
-    (tracks_done_in_proc progress tokens (more fields) tracks) holds (record { some = omega (arith, len); whole = len; free = refl }) refl (subst (Takes a b fields) (sym len) takes)
+    fixed_reads charset room area sink tokens ADoneInProc (record progress { is_final = false }) fields a b place place' (omega (arith, at, len)) d
+    (tracks_quiet progress tokens (DoneInProc (more fields)) false refl refl refl tracks) holds len (subst (Takes a b fields) (sym len) takes)
 
 -- ---- RETURNSTATUS
 
@@ -152,9 +146,8 @@ pub status_reads : (charset : Charset) (room : ℕ) (area : Space) (sink : Held)
     → length element ≡ 4 → status ≡ cast_signed w32 (little_number 4 element) → Takes a b element (length element)
     → ReadsTokens (response charset room) (in_status tokens) tokens a b place place' sink sink (record progress { report = record progress.report { return_status = Some status }; is_final = false }) area
 status_reads charset room area sink tokens progress status element a b place place' at d tracks holds len is takes =
-    let n = little element in
-    one_reads charset room area sink tokens (ReturnStatus n) Status (record progress { report = record progress.report { return_status = Some status }; is_final = false }) element a b place place' refl (quiet_status n) at d
-    (tracks_status progress tokens n status (is ∙ signed_four element len) tracks) holds (record { some = omega (arith, len); whole = len; free = refl }) refl takes
+    fixed_reads charset room area sink tokens AStatus (record progress { report = record progress.report { return_status = Some status }; is_final = false }) element a b place place' at d
+    (tracks_status progress tokens (little element) status (is ∙ signed_four element len) tracks) holds len takes
 
 -- ---- ROW
 

@@ -7,7 +7,8 @@ use Rattle.tds_packet.specs.Reading.{Reads, StopsReading}
 use Rattle.tds_packet.specs.Seen.{Seen}
 use Rattle.tds_rows.specs.declared.Charset.{Charset}
 use Rattle.tds_export.specs.Steps.{in_length}
-use Rattle.tds_export.specs.TokenGrammar.{Bodied, Part, TokenBody, bodied, is_notice, response, with_token}
+use Rattle.tds_export.specs.TokenBytes.{Bodied}
+use Rattle.tds_export.specs.TokenGrammar.{Part, TokenBody, bodied, is_notice, response, with_token}
 use Rattle.tds_export.specs.Tokens.{Token}
 
 -- Before the body of a token, or before its Length.

@@ -4,11 +4,11 @@ use Rattle.tds_values.specs.Numbers.{little}
 use Rattle.tds_columns.specs.Description.{Column, SpellsDescription}
 use Rattle.tds_rows.specs.declared.Charset.{Charset}
 use Rattle.tds_rows.specs.Cells.{Cell}
-use Rattle.tds_rows.specs.Rows.{SpellsRow, SpellsNbcRow, row_byte}
+use Rattle.tds_rows.specs.Rows.{SpellsRow, SpellsNbcRow}
 use Rattle.tds_packet.specs.Packets.{Packet, Message, payload_of}
-use Rattle.tds_export.specs.TokenBytes.{colmetadata_byte, done_byte, done_in_proc_byte, done_proc_byte, env_change_byte, error_byte, info_byte, nbc_row_byte, order_byte, return_status_byte, return_value_byte}
+use Rattle.tds_export.specs.TokenBytes.{APassed, AnError, AnInfo, Fixed, AStatus, ADone, ADoneInProc, AMetadata, ARow, AnNbcRow, AReturn, Begins, WithBody, WithFields}
 use Rattle.tds_export.specs.ReturnValue.{SpellsReturnValue}
-use Rattle.tds_export.specs.Tokens.{Notice, Token, Metadata, NoMetadata, Row, Order, EnvChange, Error, Info, ReturnStatus, Returned, Done, DoneInProc, described_after, is_final}
+use Rattle.tds_export.specs.Tokens.{Notice, Token, Metadata, NoMetadata, Row, PassedOver, Error, Info, ReturnStatus, Returned, Done, DoneInProc, described_after, is_final}
 
 -- The bytes are a body with its length before it.
 abbrev pub SpellsBody : List ℕ → List ℕ → Type 0
@@ -33,24 +33,35 @@ pub record SpellsNotice (n : Notice) (body : List ℕ) : Type 0 where
 abbrev pub more : List ℕ → Bool
 more fields = slice_index fields 0 % 2 == 1
 
+-- how many bytes the fields of a token have
+abbrev pub fields_length : Fixed → ℕ
+fields_length AStatus = 4
+fields_length ADone = 12
+fields_length ADoneInProc = 12
+
+-- the token of these fields
+abbrev pub fixed : Fixed → List ℕ → Token
+fixed AStatus fields = ReturnStatus (little fields)
+fixed ADone fields = Done (more fields)
+fixed ADoneInProc fields = DoneInProc (more fields)
+
 -- The bytes spell a row of the columns.
 abbrev pub SpellsRowToken : Charset → Option (List Column) → List Cell → List ℕ → Type 0
 SpellsRowToken charset None cells bytes = ⊥
-SpellsRowToken charset (Some columns) cells bytes = (rest : List ℕ) × (((bytes ≡ row_byte ∷ rest) × SpellsRow charset columns cells rest) ⊎ ((bytes ≡ nbc_row_byte ∷ rest) × SpellsNbcRow charset columns cells rest))
+SpellsRowToken charset (Some columns) cells bytes = (rest : List ℕ) × ((Begins ARow rest bytes × SpellsRow charset columns cells rest) ⊎ (Begins AnNbcRow rest bytes × SpellsNbcRow charset columns cells rest))
 
 -- The bytes spell the token, where these columns are described.
 abbrev pub SpellsToken : Charset → ℕ → Option (List Column) → Token → List ℕ → Type 0
-SpellsToken charset room current (Metadata encoded columns) bytes = (bytes ≡ colmetadata_byte ∷ encoded) × SpellsDescription room columns encoded
-SpellsToken charset room current NoMetadata bytes = bytes ≡ colmetadata_byte ∷ 255 ∷ 255 ∷ []
+SpellsToken charset room current (Metadata encoded columns) bytes = Begins AMetadata encoded bytes × SpellsDescription room columns encoded
+SpellsToken charset room current NoMetadata bytes = Begins AMetadata (255 ∷ 255 ∷ []) bytes
 SpellsToken charset room current (Row cells) bytes = SpellsRowToken charset current cells bytes
-SpellsToken charset room current (Order body) bytes = (rest : List ℕ) × (bytes ≡ order_byte ∷ rest) × SpellsBody body rest
-SpellsToken charset room current (EnvChange body) bytes = (rest : List ℕ) × (bytes ≡ env_change_byte ∷ rest) × SpellsBody body rest
-SpellsToken charset room current (Error n) bytes = (rest : List ℕ) × (body : List ℕ) × (bytes ≡ error_byte ∷ rest) × SpellsBody body rest × SpellsNotice n body
-SpellsToken charset room current (Info n) bytes = (rest : List ℕ) × (body : List ℕ) × (bytes ≡ info_byte ∷ rest) × SpellsBody body rest × SpellsNotice n body
-SpellsToken charset room current (ReturnStatus n) bytes = (rest : List ℕ) × (bytes ≡ return_status_byte ∷ rest) × (length rest ≡ 4) × (little rest ≡ n)
-SpellsToken charset room current (Returned r) bytes = (rest : List ℕ) × (bytes ≡ return_value_byte ∷ rest) × SpellsReturnValue r rest
-SpellsToken charset room current (Done m) bytes = (fields : List ℕ) × ((bytes ≡ done_byte ∷ fields) ⊎ (bytes ≡ done_proc_byte ∷ fields)) × (length fields ≡ 12) × (more fields ≡ m)
-SpellsToken charset room current (DoneInProc m) bytes = (fields : List ℕ) × (bytes ≡ done_in_proc_byte ∷ fields) × (length fields ≡ 12) × (more fields ≡ m)
+SpellsToken charset room current (PassedOver passed body) bytes = (rest : List ℕ) × Begins (WithBody (APassed passed)) rest bytes × SpellsBody body rest
+SpellsToken charset room current (Error n) bytes = (rest : List ℕ) × (body : List ℕ) × Begins (WithBody AnError) rest bytes × SpellsBody body rest × SpellsNotice n body
+SpellsToken charset room current (Info n) bytes = (rest : List ℕ) × (body : List ℕ) × Begins (WithBody AnInfo) rest bytes × SpellsBody body rest × SpellsNotice n body
+SpellsToken charset room current (ReturnStatus n) bytes = (rest : List ℕ) × Begins (WithFields AStatus) rest bytes × (length rest ≡ 4) × (little rest ≡ n)
+SpellsToken charset room current (Returned r) bytes = (rest : List ℕ) × Begins AReturn rest bytes × SpellsReturnValue r rest
+SpellsToken charset room current (Done m) bytes = (fields : List ℕ) × Begins (WithFields ADone) fields bytes × (length fields ≡ 12) × (more fields ≡ m)
+SpellsToken charset room current (DoneInProc m) bytes = (fields : List ℕ) × Begins (WithFields ADoneInProc) fields bytes × (length fields ≡ 12) × (more fields ≡ m)
 
 -- The bytes spell the tokens one after the other, each row under the nearest description before it.
 abbrev pub SpellsTokens : Charset → ℕ → Option (List Column) → List Token → List ℕ → Type 0

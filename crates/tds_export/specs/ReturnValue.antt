@@ -60,11 +60,11 @@ abbrev pub with_return_kind : List ℕ → Option Kind → ReturnPart
 with_return_kind name (Some kind) = with_value name kind (cell_start kind (shape return_charset kind))
 with_return_kind name None = ReturnOrdinal
 
--- a return value after its type byte, with so many bytes of type information to follow
+-- a return value after its type byte, with this many bytes of type information to follow
 abbrev pub with_return_type : List ℕ → ℕ → ℕ → ReturnPart
 with_return_type name byte rest = if rest == 0 then with_return_kind name (kind_of (byte ∷ [])) else ReturnInfo name byte
 
--- a return value whose name has so many units
+-- a return value whose name has this many units
 abbrev pub with_return_units : ℕ → ReturnPart
 with_return_units units = if units == 0 then ReturnHead [] else ReturnName (2 * units)
 

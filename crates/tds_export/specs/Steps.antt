@@ -15,14 +15,14 @@ use Rattle.tds_csv.specs.Sinks.{Held, Finishes, FinishFails}
 use Rattle.tds_csv.specs.Streaming.{PutsText, Streams, BreaksStreaming}
 use Rattle.tds_rows.specs.declared.Charset.{Charset}
 use Rattle.tds_rows.specs.Rows.{nbc_row_start, row_start, row_byte}
-use Rattle.tds_export.specs.TokenBytes.{colmetadata_byte, done_byte, done_in_proc_byte, done_proc_byte, env_change_byte, error_byte, info_byte, nbc_row_byte, order_byte, return_status_byte, return_value_byte}
+use Rattle.tds_export.specs.TokenBytes.{APassed, AnEnvChange, AnError, AnInfo, AnOrder, Bodied, Fixed, AStatus, ADone, ADoneInProc, Lead, AMetadata, ARow, AnNbcRow, WithBody, WithFields, AReturn, lead_of, nbc_row_byte}
 use Rattle.tds_export.specs.declared.progress.Progress.{Progress}
 use Rattle.tds_export.specs.declared.report.Report.{Report}
 use Rattle.tds_export.specs.declared.tokens.TokenKind.{TokenKind}
 use Rattle.tds_export.specs.declared.tokens.TokenKind.TheVariants as kinds
 use Rattle.tds_export.specs.Outcome.{report_of}
 use Rattle.tds_export.specs.ReturnValue.{ReturnOrdinal}
-use Rattle.tds_export.specs.TokenGrammar.{AnEnvChange, AnError, AnInfo, AnOrder, Between, Bodied, Describing, DoneFields, DoneInProcFields, InReturn, Open, Part, Status, TokenLength, is_token_byte, text_so_far, span_so_far, with_row}
+use Rattle.tds_export.specs.TokenGrammar.{Between, Describing, Fields, InReturn, Open, Part, TokenLength, text_so_far, span_so_far, with_row}
 use Rattle.tds_export.specs.Tokens.{Token, described_after, encoded_after, error_text, is_final, text}
 
 -- Columns are described, and they are those in these bytes; or none are.
@@ -62,24 +62,34 @@ pub record ReadsTokens (g : Grammar Part Fault) (from : Part) (tokens : List Tok
   pub tracks : Tracks progress (tokens ++ more)
   pub holds : IsHolding area (behind (tokens ++ more))
 
+-- what the first byte of a token of this kind begins
+abbrev pub lead : TokenKind → Lead
+lead kinds.Metadata = AMetadata
+lead kinds.Row = ARow
+lead kinds.NbcRow = AnNbcRow
+lead kinds.Done = WithFields ADone
+lead kinds.DoneInProc = WithFields ADoneInProc
+lead kinds.ReturnStatus = WithFields AStatus
+lead kinds.Order = WithBody (APassed AnOrder)
+lead kinds.EnvChange = WithBody (APassed AnEnvChange)
+lead kinds.Error = WithBody AnError
+lead kinds.Info = WithBody AnInfo
+lead kinds.ReturnValue = AReturn
+
+-- Columns are described, where a row begins.
+abbrev pub IsUnder : Bool → Lead → Type 0
+IsUnder described ARow = described ≡ true
+IsUnder described AnNbcRow = described ≡ true
+IsUnder described begun = ⊤
+
 -- The byte begins a token of this kind, where columns are described or not.
 abbrev pub IsOfKind : Bool → ℕ → TokenKind → Type 0
-IsOfKind described byte kinds.Metadata = byte ≡ colmetadata_byte
-IsOfKind described byte kinds.Row = (byte ≡ row_byte) × (described ≡ true)
-IsOfKind described byte kinds.NbcRow = (byte ≡ nbc_row_byte) × (described ≡ true)
-IsOfKind described byte kinds.Done = (byte ≡ done_byte) ⊎ (byte ≡ done_proc_byte)
-IsOfKind described byte kinds.DoneInProc = byte ≡ done_in_proc_byte
-IsOfKind described byte kinds.ReturnStatus = byte ≡ return_status_byte
-IsOfKind described byte kinds.Order = byte ≡ order_byte
-IsOfKind described byte kinds.EnvChange = byte ≡ env_change_byte
-IsOfKind described byte kinds.Error = byte ≡ error_byte
-IsOfKind described byte kinds.Info = byte ≡ info_byte
-IsOfKind described byte kinds.ReturnValue = byte ≡ return_value_byte
+IsOfKind described byte kind = (lead_of byte ≡ Some (lead kind)) × IsUnder described (lead kind)
 
 -- The byte is refused with this fault.
 abbrev pub IsRefusal : Bool → ℕ → Fault → Type 0
 IsRefusal described byte fault =
-    ((fault ≡ RefusedToken byte) × (is_token_byte byte ≡ false))
+    ((fault ≡ RefusedToken byte) × (lead_of byte ≡ None))
     ⊎ ((fault ≡ RowWithoutColumns) × (described ≡ false) × ((byte ≡ row_byte) ⊎ (byte ≡ nbc_row_byte)))
 
 -- after the token byte of a COLMETADATA
@@ -94,17 +104,21 @@ in_row charset columns tokens = with_row tokens (row_start charset columns)
 abbrev pub in_nbc_row : List Column → List Token → Part
 in_nbc_row columns tokens = with_row tokens (nbc_row_start columns)
 
+-- after the token byte of a token with fields of a fixed length
+abbrev pub in_fields : Fixed → List Token → Part
+in_fields which tokens = record { tokens = tokens; at = Fields which }
+
 -- after the token byte of a DONE or DONEPROC
 abbrev pub in_done : List Token → Part
-in_done tokens = record { tokens = tokens; at = DoneFields }
+in_done = in_fields ADone
 
 -- after the token byte of a DONEINPROC
 abbrev pub in_done_in_proc : List Token → Part
-in_done_in_proc tokens = record { tokens = tokens; at = DoneInProcFields }
+in_done_in_proc = in_fields ADoneInProc
 
 -- after the token byte of a RETURNSTATUS
 abbrev pub in_status : List Token → Part
-in_status tokens = record { tokens = tokens; at = Status }
+in_status = in_fields AStatus
 
 -- after the token byte of a RETURNVALUE
 abbrev pub in_return : List Token → Part
@@ -120,19 +134,18 @@ IsRow kinds.Row = ⊤
 IsRow kinds.NbcRow = ⊤
 IsRow kind = ⊥
 
+-- after the first byte of a token, under these columns
+abbrev pub in_lead : Charset → List Column → Lead → List Token → Part
+in_lead charset columns AMetadata = in_metadata
+in_lead charset columns ARow = in_row charset columns
+in_lead charset columns AnNbcRow = in_nbc_row columns
+in_lead charset columns (WithBody b) = in_length b
+in_lead charset columns (WithFields f) = in_fields f
+in_lead charset columns AReturn = in_return
+
 -- after the first byte of a token of this kind, under these columns
 abbrev pub in_kind : Charset → List Column → TokenKind → List Token → Part
-in_kind charset columns kinds.Metadata = in_metadata
-in_kind charset columns kinds.Row = in_row charset columns
-in_kind charset columns kinds.NbcRow = in_nbc_row columns
-in_kind charset columns kinds.Done = in_done
-in_kind charset columns kinds.DoneInProc = in_done_in_proc
-in_kind charset columns kinds.ReturnStatus = in_status
-in_kind charset columns kinds.Order = in_length AnOrder
-in_kind charset columns kinds.EnvChange = in_length AnEnvChange
-in_kind charset columns kinds.Error = in_length AnError
-in_kind charset columns kinds.Info = in_length AnInfo
-in_kind charset columns kinds.ReturnValue = in_return
+in_kind charset columns kind = in_lead charset columns (lead kind)
 
 -- A call inside an export stopped in reading: the text of the state that it reached was put.
 pub record StopsInReading (g : Grammar Part Fault) (from : Part) (old new : Seen) (place : ℕ) (before after : Held) (area : Space) (stop : Stop) : Type 0 where

@@ -1,5 +1,6 @@
--- The first bytes of tokens (MS-TDS, Packet Data Token Stream Definition). That of a ROW stands with its cells.
-use Rattle.std.specs.Prelude.{ℕ}
+-- The first bytes of tokens, and what they begin (MS-TDS, Packet Data Token Stream Definition). That of a ROW stands with its cells.
+use Rattle.std.specs.Prelude.{◌≡◌, ◌==◌, ℕ, Bool, true, false, List, ◌∷◌, Option, Some, None, if◌then◌else◌}
+use Rattle.tds_rows.specs.Rows.{row_byte}
 
 -- of a COLMETADATA
 abbrev pub colmetadata_byte : ℕ
@@ -44,3 +45,57 @@ done_proc_byte = 0xFE
 -- of a DONEINPROC
 abbrev pub done_in_proc_byte : ℕ
 done_in_proc_byte = 0xFF
+
+-- a token whose body is passed over
+pub data Passed : Type 0 where
+  AnOrder : Passed
+  AnEnvChange : Passed
+
+-- a token with a Length, and a body of that many bytes
+pub data Bodied : Type 0 where
+  APassed : Passed → Bodied
+  AnError : Bodied
+  AnInfo : Bodied
+
+-- a token with fields of a fixed length
+pub data Fixed : Type 0 where
+  AStatus : Fixed
+  -- a DONE or DONEPROC
+  ADone : Fixed
+  ADoneInProc : Fixed
+
+-- what the first byte of a token begins
+pub data Lead : Type 0 where
+  AMetadata : Lead
+  ARow : Lead
+  AnNbcRow : Lead
+  WithBody : Bodied → Lead
+  WithFields : Fixed → Lead
+  AReturn : Lead
+
+-- what a byte begins, if it is the first of a token
+abbrev pub lead_of : ℕ → Option Lead
+lead_of byte =
+    if byte == colmetadata_byte then Some AMetadata
+    else if byte == row_byte then Some ARow
+    else if byte == nbc_row_byte then Some AnNbcRow
+    else if byte == order_byte then Some (WithBody (APassed AnOrder))
+    else if byte == env_change_byte then Some (WithBody (APassed AnEnvChange))
+    else if byte == error_byte then Some (WithBody AnError)
+    else if byte == info_byte then Some (WithBody AnInfo)
+    else if byte == return_status_byte then Some (WithFields AStatus)
+    else if byte == done_byte then Some (WithFields ADone)
+    else if byte == done_proc_byte then Some (WithFields ADone)
+    else if byte == done_in_proc_byte then Some (WithFields ADoneInProc)
+    else if byte == return_value_byte then Some AReturn
+    else None
+
+-- whether it begins a row
+abbrev pub is_row_lead : Lead → Bool
+is_row_lead ARow = true
+is_row_lead AnNbcRow = true
+is_row_lead lead = false
+
+-- The bytes are one that begins such a token, and the rest.
+abbrev pub Begins : Lead → List ℕ → List ℕ → Type 0
+Begins lead rest bytes = (first : ℕ) × (bytes ≡ first ∷ rest) × (lead_of first ≡ Some lead)

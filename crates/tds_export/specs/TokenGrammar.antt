@@ -1,23 +1,17 @@
 -- The element grammar of a response: how many bytes the next element has, its fault, and what stands after it.
-use Rattle.std.specs.Prelude.{◌==◌, ◌&&◌, ◌||◌, ◌+◌, ◌*◌, ℕ, Bool, true, false, not, List, [], ◌∷◌, ◌++◌, length, take, drop, max, Option, Some, None, if◌then◌else◌, nat_lt, nat_le, slice_index}
+use Rattle.std.specs.Prelude.{◌==◌, ◌&&◌, ◌+◌, ◌*◌, ℕ, Bool, true, false, not, List, [], ◌∷◌, ◌++◌, length, take, drop, max, Option, Some, None, if◌then◌else◌, nat_lt, nat_le, slice_index}
 use Rattle.tds_values.specs.Numbers.{little}
 use Rattle.tds_columns.specs.Description.{Column, DescriptionPart, BeforeCount, NoDescription, WholeDescription, described_size, described_fault, add_described, span}
 use Rattle.tds_rows.specs.declared.Charset.{Charset}
-use Rattle.tds_rows.specs.Rows.{RowPart, WholeRow, row_start, nbc_row_start, row_size, row_fault, row_add, row_so_far, row_byte}
+use Rattle.tds_rows.specs.Rows.{RowPart, WholeRow, row_start, nbc_row_start, row_size, row_fault, row_add, row_so_far}
 use Rattle.tds_packet.specs.Elements.{Grammar}
 use Rattle.tds_packet.specs.declared.fault.Fault.{Fault}
 use Rattle.tds_packet.specs.declared.fault.Fault.TheVariants.{MessageEnded, EndWithoutDone, RefusedToken, RowWithoutColumns, BadNotice}
-use Rattle.tds_export.specs.TokenBytes.{colmetadata_byte, done_byte, done_in_proc_byte, done_proc_byte, env_change_byte, error_byte, info_byte, nbc_row_byte, order_byte, return_status_byte, return_value_byte}
+pub use Rattle.tds_export.specs.TokenBytes.{AnError, AnInfo, Bodied}
+use Rattle.tds_export.specs.TokenBytes.{APassed, Fixed, Lead, AMetadata, ARow, AnNbcRow, WithBody, WithFields, AReturn, lead_of, is_row_lead}
 use Rattle.tds_export.specs.ReturnValue.{ReturnPart, ReturnOrdinal, WholeReturn, return_size, return_fault, return_add}
-use Rattle.tds_export.specs.Tokens.{Notice, Token, Metadata, NoMetadata, Row, Order, EnvChange, Error, Info, ReturnStatus, Returned, Done, DoneInProc, described_after, is_final, text, greatest_span}
-use Rattle.tds_export.specs.Response.{more}
-
--- a token whose body is read whole
-pub data Bodied : Type 0 where
-  AnOrder : Bodied
-  AnEnvChange : Bodied
-  AnError : Bodied
-  AnInfo : Bodied
+use Rattle.tds_export.specs.Tokens.{Notice, Token, Metadata, NoMetadata, Row, PassedOver, Error, Info, Returned, described_after, is_final, text, greatest_span}
+use Rattle.tds_export.specs.Response.{fields_length, fixed}
 
 -- where a response is read
 pub data Open : Type 0 where
@@ -32,11 +26,8 @@ pub data Open : Type 0 where
   -- before the Length of a token with a body, and before its body
   TokenLength : Bodied → Open
   TokenBody : Bodied → ℕ → Open
-  -- before the four bytes of a RETURNSTATUS
-  Status : Open
-  -- before the twelve bytes of a DONE or DONEPROC, and of a DONEINPROC
-  DoneFields : Open
-  DoneInProcFields : Open
+  -- before the fields of a token with a fixed length
+  Fields : Fixed → Open
 
 -- a response as far as it is read: its whole tokens, and what is read of the next one
 pub record Part : Type 0 where
@@ -72,38 +63,29 @@ abbrev pub start_of_row : List Token → (List Column → RowPart) → Option (L
 start_of_row tokens start None = record { tokens = tokens; at = Between }
 start_of_row tokens start (Some columns) = with_row tokens (start columns)
 
--- what stands after a token byte
-abbrev pub after_byte : Charset → List Token → ℕ → Part
-after_byte charset tokens byte =
-    if byte == colmetadata_byte then record { tokens = tokens; at = Describing BeforeCount }
-    else if byte == row_byte then start_of_row tokens (row_start charset) (described_after None tokens)
-    else if byte == nbc_row_byte then start_of_row tokens nbc_row_start (described_after None tokens)
-    else if byte == order_byte then record { tokens = tokens; at = TokenLength AnOrder }
-    else if byte == env_change_byte then record { tokens = tokens; at = TokenLength AnEnvChange }
-    else if byte == error_byte then record { tokens = tokens; at = TokenLength AnError }
-    else if byte == info_byte then record { tokens = tokens; at = TokenLength AnInfo }
-    else if byte == return_status_byte then record { tokens = tokens; at = Status }
-    else if (byte == done_byte) || (byte == done_proc_byte) then record { tokens = tokens; at = DoneFields }
-    else if byte == done_in_proc_byte then record { tokens = tokens; at = DoneInProcFields }
-    else if byte == return_value_byte then record { tokens = tokens; at = InReturn ReturnOrdinal }
-    else record { tokens = tokens; at = Between }
+-- what stands after the first byte of a token
+abbrev pub after_lead : Charset → List Token → Lead → Part
+after_lead charset tokens AMetadata = record { tokens = tokens; at = Describing BeforeCount }
+after_lead charset tokens ARow = start_of_row tokens (row_start charset) (described_after None tokens)
+after_lead charset tokens AnNbcRow = start_of_row tokens nbc_row_start (described_after None tokens)
+after_lead charset tokens (WithBody b) = record { tokens = tokens; at = TokenLength b }
+after_lead charset tokens (WithFields f) = record { tokens = tokens; at = Fields f }
+after_lead charset tokens AReturn = record { tokens = tokens; at = InReturn ReturnOrdinal }
 
--- whether the byte begins a token that is accepted
-abbrev pub is_token_byte : ℕ → Bool
-is_token_byte byte = (byte == colmetadata_byte) || (byte == row_byte) || (byte == nbc_row_byte) || (byte == order_byte) || (byte == env_change_byte) || (byte == error_byte) || (byte == info_byte) || (byte == return_status_byte) || (byte == done_byte) || (byte == done_proc_byte) || (byte == done_in_proc_byte) || (byte == return_value_byte)
-
--- whether the byte begins a row
-abbrev pub is_row_byte : ℕ → Bool
-is_row_byte byte = (byte == row_byte) || (byte == nbc_row_byte)
+-- the same, where there may be none
+abbrev pub after_first : Charset → List Token → Option Lead → Part
+after_first charset tokens (Some lead) = after_lead charset tokens lead
+after_first charset tokens None = record { tokens = tokens; at = Between }
 
 -- the fault of a row's byte where no columns are described
 abbrev pub row_byte_fault : Bool → Option (List Column) → Option Fault
 row_byte_fault true None = Some RowWithoutColumns
 row_byte_fault row columns = None
 
--- the fault of a token byte after these tokens: no such token, or a row without columns
-abbrev pub token_fault : List Token → ℕ → Option Fault
-token_fault tokens byte = if is_token_byte byte then row_byte_fault (is_row_byte byte) (described_after None tokens) else Some (RefusedToken byte)
+-- the fault of a byte between tokens: no such token, or a row without columns
+abbrev pub lead_fault : Option (List Column) → ℕ → Option Lead → Option Fault
+lead_fault current byte (Some lead) = row_byte_fault (is_row_lead lead) current
+lead_fault current byte None = Some (RefusedToken byte)
 
 -- where the server's name of a notice begins, with the byte that counts its units
 abbrev pub server_at : List ℕ → ℕ
@@ -133,8 +115,7 @@ notice_of body = record {
 
 -- the token of a body that is read whole
 abbrev pub bodied : Bodied → List ℕ → Token
-bodied AnOrder body = Order body
-bodied AnEnvChange body = EnvChange body
+bodied (APassed passed) body = PassedOver passed body
 bodied AnError body = Error (notice_of body)
 bodied AnInfo body = Info (notice_of body)
 
@@ -152,13 +133,11 @@ part_size (InRow part) = row_size part
 part_size (InReturn part) = return_size part
 part_size (TokenLength b) = 2
 part_size (TokenBody b n) = n
-part_size Status = 4
-part_size DoneFields = 12
-part_size DoneInProcFields = 12
+part_size (Fields f) = fields_length f
 
 -- the fault of the next element of a response, if it has one
 abbrev pub part_fault : ℕ → List Token → Open → List ℕ → Option Fault
-part_fault room tokens Between element = token_fault tokens (slice_index element 0)
+part_fault room tokens Between element = lead_fault (described_after None tokens) (slice_index element 0) (lead_of (slice_index element 0))
 part_fault room tokens (Describing d) element = described_fault room d element
 part_fault room tokens (InRow part) element = row_fault part element
 part_fault room tokens (InReturn part) element = return_fault part element
@@ -168,15 +147,13 @@ part_fault room tokens at element = None
 
 -- a response with its next element
 abbrev pub part_add : Charset → List Token → Open → List ℕ → Part
-part_add charset tokens Between element = after_byte charset tokens (slice_index element 0)
+part_add charset tokens Between element = after_first charset tokens (lead_of (slice_index element 0))
 part_add charset tokens (Describing d) element = with_described tokens (add_described d element)
 part_add charset tokens (InRow part) element = with_row tokens (row_add charset part element)
 part_add charset tokens (InReturn part) element = with_return tokens (return_add part element)
 part_add charset tokens (TokenLength b) element = if little element == 0 then with_token tokens (bodied b []) else record { tokens = tokens; at = TokenBody b (little element) }
 part_add charset tokens (TokenBody b n) element = with_token tokens (bodied b element)
-part_add charset tokens Status element = with_token tokens (ReturnStatus (little element))
-part_add charset tokens DoneFields element = with_token tokens (Done (more element))
-part_add charset tokens DoneInProcFields element = with_token tokens (DoneInProc (more element))
+part_add charset tokens (Fields f) element = with_token tokens (fixed f element)
 
 -- the fault of a message that ends here, if it may not
 abbrev pub part_end : List Token → Open → Option Fault

@@ -8,6 +8,7 @@ use Rattle.tds_columns.specs.Description.{Column}
 use Rattle.tds_columns.specs.View.{columns_of}
 use Rattle.tds_rows.specs.Cells.{Cell, field}
 use Rattle.tds_export.specs.ReturnValue.{ReturnValue}
+use Rattle.tds_export.specs.TokenBytes.{Passed}
 
 -- the body of an ERROR or INFO
 pub record Notice : Type 0 where
@@ -23,8 +24,8 @@ pub data Token : Type 0 where
   Metadata : List ℕ → List Column → Token
   NoMetadata : Token
   Row : List Cell → Token
-  Order : List ℕ → Token
-  EnvChange : List ℕ → Token
+  -- a token that is passed over, and its body
+  PassedOver : Passed → List ℕ → Token
   Error : Notice → Token
   Info : Notice → Token
   ReturnStatus : ℕ → Token

@@ -6,7 +6,8 @@ use Rattle.tds_csv.specs.Utf16.{characters}
 use Rattle.tds_export.specs.Outcome.{server_error}
 use Rattle.tds_packet.specs.Payloads.{seen}
 use Rattle.tds_csv.specs.Sinks.{held}
-use Rattle.tds_export.specs.TokenGrammar.{AnError, notice_of}
+use Rattle.tds_export.specs.TokenBytes.{AnError}
+use Rattle.tds_export.specs.TokenGrammar.{notice_of}
 use Rattle.tds_export.proofs.NoticeSteps.{first_error_reads, later_error_reads, notice_stops, within_room}
 use Rattle.tds_packet.proofs.Passing.{passed}
 use Rattle.tds_export.proofs.exporter.Exporter.error.Goals as goal

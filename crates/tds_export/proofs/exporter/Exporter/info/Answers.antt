@@ -1,7 +1,7 @@
 use Rattle.std.proofs.Common.{refl}
 use Rattle.tds_packet.specs.Payloads.{seen}
 use Rattle.tds_csv.specs.Sinks.{held}
-use Rattle.tds_export.specs.TokenGrammar.{AnInfo}
+use Rattle.tds_export.specs.TokenBytes.{AnInfo}
 use Rattle.tds_export.proofs.NoticeSteps.{info_reads, notice_stops}
 use Rattle.tds_packet.proofs.Passing.{passed}
 use Rattle.tds_export.proofs.exporter.Exporter.info.Goals as goal
