@@ -1,7 +1,7 @@
 -- The command line as its parser reads it: the commands, their options, and which arguments mean a job.
-use Rattle.std.specs.Prelude.{◌≡◌, ◌∷◌, ◌⊎◌, List, [], Option, Some, None, Result, MatchResult, codes, map, pos, true, false}
+use Rattle.std.specs.Prelude.{◌≡◌, ◌∷◌, ◌⊎◌, List, [], Option, Some, None, Result, Ok, MatchResult, codes, map, pos, true, false}
 use Rattle.std.specs.Borrow.{Bor}
-use Rattle.clap.specs.Words.{App, Row, Rule, Text, app_of, fault_of, new_app, new_rule, rule_of, subcommand_of, with_rule, with_subcommand}
+use Rattle.clap.specs.Words.{AddsArg, AddsSubcommand, App, Row, Rule, Text, app_of, fault_of, new_app, new_rule, rule_of, subcommand_of, with_rule, with_subcommand}
 use Rattle.clap.specs.Simple.{new_shape}
 use Rattle.clap.specs.declared.builder.arg.Arg.{Arg}
 use Rattle.clap.specs.declared.builder.command.Command.{Command}
@@ -91,6 +91,14 @@ program_app of_export of_check = with_subcommand (two_app of_export of_check) re
 -- The command is read so, and none of its arguments is for the commands below it too.
 abbrev pub IsCommand : App → Command → Type 0
 IsCommand app command = (app_of command ≡ app) × ((out-Command command).has_globals ≡ false)
+
+-- The command is the one that was made, with this argument added.
+abbrev pub GainsArgument : {E : Type 0} → Result Command E → Arg → Command → Type 0
+GainsArgument made argument new = (old : Command) × (made ≡ Ok old) × AddsArg old argument new
+
+-- The command is the one that was made, with the other one that was made below it.
+abbrev pub GainsCommand : {E : Type 0} → Result Command E → Result Command E → Command → Type 0
+GainsCommand made below new = (old sub : Command) × (made ≡ Ok old) × (below ≡ Ok sub) × AddsSubcommand old sub new
 
 -- The command reads a response.
 abbrev pub IsReading : Text → Command → Type 0

@@ -1,6 +1,17 @@
 // What the help of the command says beside its options. Lines fit a terminal of 80 columns: those of an
 // option's long help begin after ten columns.
 
+/// What the help of a command says.
+#[derive(Clone, Copy)]
+pub(crate) struct Help {
+    /// What it does, in a line.
+    pub(crate) about: &'static str,
+    /// What it reads and writes.
+    pub(crate) long_about: &'static str,
+    /// How it ends, and two lines that call it.
+    pub(crate) after_help: &'static str,
+}
+
 /// The version of the program, for `--version`, the man page and the package.
 pub(crate) const VERSION: &str = "1.0.0";
 
@@ -26,65 +37,53 @@ Examples:
 
 The man page and docs/COMMAND.md list what you may see and what to do.";
 
-/// What `export` does.
-pub(crate) const EXPORT: &str = "Writes the rows of a response as CSV";
-
-/// What `export` reads and writes.
-pub(crate) const EXPORT_LONG: &str =
-    "Reads the packets of one response and writes the rows of its result sets to
+/// The command `export`.
+pub(crate) const EXPORT: Help = Help {
+    about: "Writes the rows of a response as CSV",
+    long_about: "Reads the packets of one response and writes the rows of its result sets to
 standard output, as quoted CSV in UTF-8: a line of column names, then a line for
 each row, and an empty line between two sets. Lines end with CR LF. Nothing
 after the last packet is read. On standard error stand the counts of what was
-read, or the first fault with its place.";
-
-/// How `export` ends, and two lines that call it.
-pub(crate) const EXPORT_END: &str =
-    "Exit statuses: 0 done, 2 refused arguments, 3 done and the server reported an
+read, or the first fault with its place.",
+    after_help: "Exit statuses: 0 done, 2 refused arguments, 3 done and the server reported an
 error, 4 a fault of the input, 5 a failed read or write or a file that can't be
 opened, 6 want of memory.
 
 Examples:
   tds_replay export response.tds > rows.csv
-  tds_replay export --packet-size 8000 --charset utf-8 < response.tds";
+  tds_replay export --packet-size 8000 --charset utf-8 < response.tds",
+};
 
-/// What `check` does.
-pub(crate) const CHECK: &str = "Reads a response as export does, and writes no rows";
-
-/// What `check` reads and writes.
-pub(crate) const CHECK_LONG: &str =
-    "Reads the packets of one response as export does, and counts its text in place
+/// The command `check`.
+pub(crate) const CHECK: Help = Help {
+    about: "Reads a response as export does, and writes no rows",
+    long_about: "Reads the packets of one response as export does, and counts its text in place
 of writing it: standard output stays empty. On standard error stand the lines of
-export, and the exit status is that of export.";
-
-/// How `check` ends, and two lines that call it.
-pub(crate) const CHECK_END: &str =
-    "Exit statuses: 0 done, 2 refused arguments, 3 done and the server reported an
+export, and the exit status is that of export.",
+    after_help: "Exit statuses: 0 done, 2 refused arguments, 3 done and the server reported an
 error, 4 a fault of the input, 5 a failed read or a file that can't be opened,
 6 want of memory.
 
 Examples:
   tds_replay check response.tds
-  tds_replay check --max-wire 1000000 < response.tds";
+  tds_replay check --max-wire 1000000 < response.tds",
+};
 
-/// What `recut` does.
-pub(crate) const RECUT: &str = "Writes the packets of a message in another size";
-
-/// What `recut` reads and writes.
-pub(crate) const RECUT_LONG: &str =
-    "Reads the packets of one message, of up to 32767 bytes each, and writes its
+/// The command `recut`.
+pub(crate) const RECUT: Help = Help {
+    about: "Writes the packets of a message in another size",
+    long_about: "Reads the packets of one message, of up to 32767 bytes each, and writes its
 payload to standard output in packets of the new size, the last of which may be
 shorter. The payload isn't looked at. Nothing after the last packet is read. On
 standard error stand the numbers of packets and of payload bytes, or the first
-fault with its place.";
-
-/// How `recut` ends, and two lines that call it.
-pub(crate) const RECUT_END: &str =
-    "Exit statuses: 0 done, 2 refused arguments, 4 a fault of the input, 5 a failed
+fault with its place.",
+    after_help: "Exit statuses: 0 done, 2 refused arguments, 4 a fault of the input, 5 a failed
 read or write or a file that can't be opened, 6 want of memory.
 
 Examples:
   tds_replay recut --packet-size 512 response.tds > small.tds
-  tds_replay recut --packet-size 32767 response.tds > large.tds";
+  tds_replay recut --packet-size 32767 response.tds > large.tds",
+};
 
 /// The heading of the options that are numbers.
 pub(crate) const LIMITS: &str = "Limits";

@@ -7,10 +7,8 @@ use crate::pieces::{Piece, Unsaid, say};
 use arrayvec::ArrayVec;
 use std::io::Write;
 use tds_export::{Report, ServerError, Stopped};
+use tds_meter::NOTICE_ROOM;
 use tds_packet::{Counted, Fault, Place, Recut, RecutStop, RefusedKind};
-
-/// The most bytes of a message that is kept.
-const MESSAGE_ROOM: usize = 512;
 
 // The name of a fault.
 fn fault_name(fault: &Fault) -> &'static [u8]
@@ -197,8 +195,8 @@ fn say_status<W: Write>(notes: &mut Counted<W>, status: Option<i32>) -> Result<(
 }
 
 // A message as it is printed: control characters are spaces.
-fn shown(message: &[u8]) -> ArrayVec<u8, MESSAGE_ROOM>
-    requires { length message.now ≤ 512 }
+fn shown(message: &[u8]) -> ArrayVec<u8, NOTICE_ROOM>
+    requires { length message.now ≤ NOTICE_ROOM }
     ensures { result.items ≡ map shown_byte message.now }
 {
     let mut text = ArrayVec::new();
@@ -218,7 +216,7 @@ fn say_error<W: Write>(
     error: &Option<ServerError>,
     message: &[u8],
 ) -> Result<(), Unsaid>
-    requires { length message.now ≤ 512 }
+    requires { length message.now ≤ NOTICE_ROOM }
     ensures { Says W.contents notes.old notes.new (error_line error.now message.now) result }
 {
     let Some(error) = error else {
@@ -249,7 +247,7 @@ fn say_report<W: Write>(
     report: &Report,
     message: &[u8],
 ) -> Result<(), Unsaid>
-    requires { length message.now ≤ 512 }
+    requires { length message.now ≤ NOTICE_ROOM }
     ensures { Says W.contents notes.old notes.new (answer_lines (Ok report.now) message.now) result }
 {
     say_counts(notes, report)?;
@@ -264,7 +262,7 @@ pub fn say_answer<W: Write>(
     answer: &Result<Report, Stopped>,
     message: &[u8],
 ) -> Result<(), Unsaid>
-    requires { length message.now ≤ 512 }
+    requires { length message.now ≤ NOTICE_ROOM }
     ensures { Says W.contents notes.old notes.new (answer_lines answer.now message.now) result }
 {
     match answer {

@@ -1,12 +1,14 @@
 // The commands with their options.
 ghost use Rattle.std.specs.Prelude.{◌≡◌, IfOk, codes};
-ghost use Rattle.clap.specs.Words.{app_of};
-ghost use Rattle.tds_replay.specs.CommandLine.{HasReading, IsArgument, IsCharset, IsCommand};
+ghost use Rattle.clap.specs.Words.{app_of, new_app};
+ghost use Rattle.tds_replay.specs.CommandLine.{GainsArgument, GainsCommand, HasReading, IsArgument};
+ghost use Rattle.tds_replay.specs.CommandLine.{IsCharset, IsCommand};
 ghost use Rattle.tds_replay.specs.CommandLine.{IsProgram, IsReading, bare_app, column_room_rule};
 ghost use Rattle.tds_replay.specs.CommandLine.{file_rule, limited_app, max_wire_rule, option_rule};
 ghost use Rattle.tds_replay.specs.CommandLine.{packet_size_rule, packet_sizes, recut_app};
 
 use crate::help;
+use crate::help::Help;
 use clap::builder::ValueParser;
 use clap::{Arg, Command, value_parser};
 use std::alloc::{AllocError, Global};
@@ -121,45 +123,65 @@ fn file<'a>(alloc: Global) -> Arg<'a>
         .long_help(help::FILE.1)
 }
 
-// A command with the limits of a response.
-fn limited<'a>(alloc: Global, name: &'a str) -> Result<Command<'a>, AllocError>
-    ensures { IfOk result (IsCommand (limited_app name.entry.now)) }
+// The command with one more argument, where there is memory.
+fn with_argument<'a>(
+    command: Result<Command<'a>, AllocError>,
+    argument: Arg<'a>,
+) -> Result<Command<'a>, AllocError>
+    ensures { IfOk result (GainsArgument command.entry argument.entry) }
+{
+    command?.arg(argument)
+}
+
+// The command with one more command below it, where there is memory.
+fn with_command<'a>(
+    command: Result<Command<'a>, AllocError>,
+    below: Result<Command<'a>, AllocError>,
+) -> Result<Command<'a>, AllocError>
+    ensures { IfOk result (GainsCommand command.entry below.entry) }
+{
+    command?.subcommand(below?)
+}
+
+// A command with its help.
+fn described<'a>(alloc: Global, name: &'a str, help: Help) -> Command<'a>
+    ensures { IsCommand (new_app name.entry.now) result }
 {
     Command::new(alloc, name)
-        .arg(packet_size(alloc))?
-        .arg(column_room(alloc))?
-        .arg(max_wire(alloc))
+        .about(help.about)
+        .long_about(help.long_about)
+        .after_help(help.after_help)
+}
+
+// A command with the limits of a response.
+fn limited<'a>(alloc: Global, name: &'a str, help: Help) -> Result<Command<'a>, AllocError>
+    ensures { IfOk result (IsCommand (limited_app name.entry.now)) }
+{
+    let command = described(alloc, name, help).arg(packet_size(alloc));
+    let command = with_argument(command, column_room(alloc));
+    with_argument(command, max_wire(alloc))
 }
 
 // A command that reads a response, with its options.
-fn reading<'a>(alloc: Global, name: &'a str) -> Result<Command<'a>, AllocError>
+fn reading<'a>(alloc: Global, name: &'a str, help: Help) -> Result<Command<'a>, AllocError>
     ensures { IfOk result (IsReading name.entry.now) }
 {
-    limited(alloc, name)?.arg(charset(alloc))?.arg(file(alloc))
+    let command = with_argument(limited(alloc, name, help), charset(alloc));
+    with_argument(command, file(alloc))
 }
 
 /// The command `export`.
 pub(crate) fn export<'a>(alloc: Global) -> Result<Command<'a>, AllocError>
     ensures { IfOk result (IsReading (codes "export")) }
 {
-    Ok(
-        reading(alloc, EXPORT)?
-            .about(help::EXPORT)
-            .long_about(help::EXPORT_LONG)
-            .after_help(help::EXPORT_END),
-    )
+    reading(alloc, EXPORT, help::EXPORT)
 }
 
 /// The command `check`.
 pub(crate) fn check<'a>(alloc: Global) -> Result<Command<'a>, AllocError>
     ensures { IfOk result (IsReading (codes "check")) }
 {
-    Ok(
-        reading(alloc, CHECK)?
-            .about(help::CHECK)
-            .long_about(help::CHECK_LONG)
-            .after_help(help::CHECK_END),
-    )
+    reading(alloc, CHECK, help::CHECK)
 }
 
 /// The command `recut`.
@@ -167,15 +189,9 @@ pub(crate) fn recut<'a>(alloc: Global) -> Result<Command<'a>, AllocError>
     ensures { IfOk result (IsCommand recut_app) }
 {
     let packet_size = number(alloc, PACKET_SIZE, packet_sizes(), help::NEW_PACKET_SIZE);
-    Ok(
-        Command::new(alloc, RECUT)
-            .arg(packet_size.required(true))?
-            .arg(max_wire(alloc))?
-            .arg(file(alloc))?
-            .about(help::RECUT)
-            .long_about(help::RECUT_LONG)
-            .after_help(help::RECUT_END),
-    )
+    let command = described(alloc, RECUT, help::RECUT).arg(packet_size.required(true));
+    let command = with_argument(command, max_wire(alloc));
+    with_argument(command, file(alloc))
 }
 
 // The program without its commands.
@@ -195,14 +211,13 @@ fn without_commands<'a>(alloc: Global) -> Result<Command<'a>, AllocError>
 fn with_reading<'a>(alloc: Global) -> Result<Command<'a>, AllocError>
     ensures { IfOk result HasReading }
 {
-    without_commands(alloc)?
-        .subcommand(export(alloc)?)?
-        .subcommand(check(alloc)?)
+    let program = with_command(without_commands(alloc), export(alloc));
+    with_command(program, check(alloc))
 }
 
 /// The whole command line, after the program's name.
 pub(crate) fn program<'a>(alloc: Global) -> Result<Command<'a>, AllocError>
     ensures { IfOk result (λ command. IsProgram (app_of command)) }
 {
-    with_reading(alloc)?.subcommand(recut(alloc)?)
+    with_command(with_reading(alloc), recut(alloc))
 }

@@ -36,9 +36,17 @@ fn usage_of(alloc: Global, error: &Error) -> Usage
 }
 
 // Arguments that are refused, with the usage of a command.
-fn refused(alloc: Global, command: &mut Command<'_>, kind: ErrorKind, message: &str) -> Usage
+fn refused(
+    alloc: Global,
+    command: Result<Command<'_>, AllocError>,
+    kind: ErrorKind,
+    message: &str,
+) -> Usage
     ensures { IsUsageOf kind result }
 {
+    let Ok(mut command) = command else {
+        return Usage::OutOfMemory;
+    };
     match command.error(kind, message) {
         Ok(error) => usage_of(alloc, &error),
         Err(_) => Usage::OutOfMemory,
@@ -55,14 +63,20 @@ struct Given<'m, 'a> {
 
 impl<'m, 'a> Given<'m, 'a> {
     // The command with its options.
-    fn command<'c>(&self) -> Result<Command<'c>, AllocError> {
+    fn options<'c>(&self) -> Result<Command<'c>, AllocError> {
         if self.command == RECUT {
-            recut(self.alloc)?.bin_name("tds_replay recut")
+            recut(self.alloc)
         } else if self.command == CHECK {
-            check(self.alloc)?.bin_name("tds_replay check")
+            check(self.alloc)
         } else {
-            export(self.alloc)?.bin_name("tds_replay export")
+            export(self.alloc)
         }
+    }
+
+    // The command as its usage shows it, after the program's name.
+    fn command<'c>(&self) -> Result<Command<'c>, AllocError> {
+        let name = format!(in self.alloc; "tds_replay {}", self.command)?;
+        self.options()?.bin_name(name.as_str())
     }
 
     // A number that is refused.
@@ -73,10 +87,9 @@ impl<'m, 'a> Given<'m, 'a> {
         let message = format!(in self.alloc;
             "invalid value '{value}' for '--{option} <N>': a number has digits alone"
         )?;
-        let mut command = self.command()?;
         Ok(refused(
             self.alloc,
-            &mut command,
+            self.command(),
             ErrorKind::ValueValidation,
             message.as_str(),
         ))
@@ -237,15 +250,12 @@ impl<'m, 'a> Given<'m, 'a> {
 fn without_command(alloc: Global) -> Usage
     ensures { IsRefusal result }
 {
-    match program(alloc) {
-        Ok(mut program) => refused(
-            alloc,
-            &mut program,
-            ErrorKind::MissingSubcommand,
-            "a command is required",
-        ),
-        Err(_) => Usage::OutOfMemory,
-    }
+    refused(
+        alloc,
+        program(alloc),
+        ErrorKind::MissingSubcommand,
+        "a command is required",
+    )
 }
 
 // The job of the command that was found.

@@ -1,14 +1,17 @@
-use Rattle.std.proofs.Common.{refl, rules}
-use Rattle.tds_replay.specs.CommandLine.{IsArgument, new_packet_size_rule}
-use Rattle.tds_replay.proofs.Commands.{told, with_argument}
+use Rattle.std.proofs.Common.{codes, subst}
+use Rattle.std.proofs.lemmas.Result.{IfOk-weaker}
+use Rattle.clap.specs.Words.{App, new_app, with_rule}
+use Rattle.tds_replay.specs.CommandLine.{IsArgument, file_rule, max_wire_rule, new_packet_size_rule, option_rule, packet_sizes}
+use Rattle.tds_replay.proofs.Commands.{argument_then, required, with_argument}
 use Rattle.tds_replay.proofs.options.recut.Goals as goal
 
 pub returns : goal.returns
 returns c =
-    let size : IsArgument new_packet_size_rule c.required.result = search rules in
-    let one = with_argument c.new.result c.in_ok-arg.field-0 c.required.result _ new_packet_size_rule (c.new.ensures.app, c.new.ensures.local) size c.in_ok-arg.ensures in
-    let two = with_argument c.in_ok-arg.field-0 c.in_ok-arg-2.field-0 c.max_wire.result _ _ one c.max_wire.ensures c.in_ok-arg-2.ensures in
-    let three = with_argument c.in_ok-arg-2.field-0 c.in_ok-arg-3.field-0 c.file.result _ _ two c.file.ensures c.in_ok-arg-3.ensures in
-    let about = told c.in_ok-arg-3.field-0 c.about.result _ _ c.about.ensures refl refl three in
-    let long_about = told c.about.result c.long_about.result _ _ c.long_about.ensures refl refl about in
-    told c.long_about.result c.after_help.result _ _ c.after_help.ensures refl refl long_about
+    let option : IsArgument (option_rule (codes "packet-size") packet_sizes) c.number-packet_size.result =
+    subst (λ parser. IsArgument (option_rule (codes "packet-size") parser) c.number-packet_size.result) c.packet_sizes.ensures c.number-packet_size.ensures in
+    let size : IsArgument new_packet_size_rule c.required.result = required c.number-packet_size.result c.required.result (option_rule (codes "packet-size") packet_sizes) c.required.ensures option in
+    let bare : App = new_app (codes "recut") in
+    let sized : App = with_rule bare new_packet_size_rule in
+    let one = IfOk-weaker c.arg-command.result _ _ (λ m h. with_argument c.described.result m c.required.result bare new_packet_size_rule c.described.ensures size h) c.arg-command.ensures in
+    let two = argument_then c.arg-command.result c.with_argument-command.result c.max_wire.result sized max_wire_rule one c.max_wire.ensures c.with_argument-command.ensures in
+    argument_then c.with_argument-command.result c.with_argument.result c.file.result (with_rule sized max_wire_rule) file_rule two c.file.ensures c.with_argument.ensures
