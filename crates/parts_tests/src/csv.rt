@@ -555,6 +555,21 @@ fn text_written_into_the_room(rt: HostRuntime) -> Result<(), Fail> {
     Ok(())
 }
 
+#[test]
+fn text_that_fills_no_block(rt: HostRuntime) -> Result<(), Fail> {
+    let mut area = Area::new(rt.alloc(), 4096)?;
+    let mut to = make_writer(rt.alloc(), 0, false);
+    let mut sink = Sink::new(&mut to, &mut area);
+    let spare = sink.spare(8);
+    spare[0] = b'4';
+    spare[1] = b'2';
+    sink.commit(0, 2);
+    assert!(rt; sink.waiting() == 2);
+    sink.finish()?;
+    assert!(rt; to.device().got.as_slice() == b"42".as_slice());
+    Ok(())
+}
+
 // A whole value, and its field; none where it isn't whole.
 struct Whole {
     what: &'static str,
