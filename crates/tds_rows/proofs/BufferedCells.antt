@@ -1,8 +1,8 @@
 -- Cells whose bytes lie together, and the room that a sink lends for their text.
-use Rattle.std.proofs.Common.{◌≡◌, ◌≢◌, ◌∙◌, ℕ, zero, suc, ◌+◌, ◌-◌, ◌^◌, ◌<◌, ◌≤◌, Bool, true, false, List, [], ◌∷◌, ◌++◌, length, take, drop, Result, Ok, Err, MatchResult, inl, inr, refl, sym, ap, subst, arith, length-take, length-drop}
+use Rattle.std.proofs.Common.{◌≡◌, ◌≢◌, ◌∙◌, ℕ, zero, suc, ◌+◌, ◌-◌, ◌^◌, ◌<◌, ◌≤◌, Bool, true, false, List, [], ◌∷◌, ◌++◌, length, take, drop, Result, Ok, Err, MatchResult, inr, refl, sym, ap, subst, arith, length-take, length-drop}
 use Rattle.std.specs.Prelude.{None, Some, Option, ◌==◌, ◌||◌, is_ok, slice_index, if◌then◌else◌}
 use Rattle.std.proofs.lemmas.Bool.{ne_eqb}
-use Rattle.std.proofs.lemmas.List.{drop-take, length-take-le, take_all}
+use Rattle.std.proofs.lemmas.List.{length-take-le}
 use lib.Seq.{take-add}
 use Rattle.tds_values.specs.declared.kind.Kind.{Kind}
 use Rattle.tds_values.specs.declared.kind.Kind.TheVariants.{Int4, IntN}
@@ -25,7 +25,7 @@ use Rattle.tds_rows.proofs.CellSteps.{fixed_some, scalar_shape}
 use Rattle.tds_rows.proofs.RowSteps.{ReadsCell, at_once_breaks, at_once_streams}
 use Rattle.tds_rows.specs.declared.Charset.{Charset}
 use Rattle.tds_rows.specs.Cells.{CellPart, Null, ScalarBytes, ScalarCell, ScalarLength, WholeCell, cell, cell_start, shape, shape_of_length, unless, value_part}
-use Rattle.tds_rows.specs.CellSteps.{HasInt4, IsScalarLeft, IsValueText, int4_kind, length_behind, scalar_size, start_behind, value_bytes, value_length, value_start, PutsCell, StopsCell}
+use Rattle.tds_rows.specs.CellSteps.{HasInt4, IsScalarLeft, IsValueText, int4_kind, length_behind, start_behind, value_length, value_start, PutsCell, StopsCell}
 use Rattle.tds_rows.specs.WholeCells.{WritesCell}
 use Rattle.tds_csv.specs.Quoting.{in_line}
 

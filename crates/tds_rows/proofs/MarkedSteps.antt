@@ -1,5 +1,5 @@
 -- Runs over the cells of an NBCROW: how they are written, and how the row is read and its text put by them.
-use Rattle.std.proofs.Common.{◌≡◌, ◌∙◌, inl, inr, ℕ, zero, suc, ◌+◌, ◌-◌, ◌^◌, ◌≤◌, ◌<◌, Bool, true, false, List, [], ◌++◌, length, take, drop, refl, sym, ap, subst, arith, append_assoc, append-nil, add-zero, length-append}
+use Rattle.std.proofs.Common.{◌≡◌, ◌∙◌, ℕ, zero, suc, ◌+◌, ◌-◌, ◌^◌, ◌≤◌, ◌<◌, Bool, true, false, List, [], ◌++◌, length, take, drop, refl, sym, ap, subst, arith, append_assoc, append-nil, add-zero, length-append}
 use Rattle.std.proofs.KnownBytes.{Consumes-nil}
 use Rattle.tds_values.specs.declared.kind.Kind.{Kind}
 use Rattle.tds_packet.specs.Coming.{Coming, before}
@@ -17,9 +17,10 @@ use Rattle.tds_rows.specs.declared.table.Ahead.{Ahead}
 use Rattle.tds_rows.specs.declared.table.Table.{Table}
 use Rattle.std.specs.Prelude.{Option, None, Some}
 use Rattle.tds_rows.specs.declared.run.buffered.Written.{Written}
-use Rattle.tds_rows.specs.CellSteps.{CellWritten, PutsCell, is_last}
+use Rattle.tds_rows.specs.CellSteps.{PutsCell, is_last}
 use Rattle.tds_rows.specs.MarkedRuns.{NextWritten, PutsMarked, RunsMarked, WritesColumn, WritesMarked, WritesNext}
 use Rattle.tds_rows.specs.Rows.{RowPart, marked, next_cell, row, row_so_far}
+use Rattle.tds_rows.specs.Runs.{AloneWritten}
 use Rattle.tds_rows.specs.Tables.{IsAhead, TakesColumn}
 use Rattle.tds_rows.proofs.NullSteps.{NearsCells, cell_nears, next_left, null_nears}
 use Rattle.tds_rows.proofs.NullTexts.{ends_marked, nulls_ahead}
@@ -28,9 +29,9 @@ use Rattle.tds_rows.proofs.TableSteps.{next_column}
 
 -- ---- the next cell
 
-pub next_cell_written : (charset : Charset) (null : Bool) (kind : Kind) (column : ℕ) (last : Bool) (bytes text : List ℕ) (room : ℕ) (r : Option Written) → null ≡ false → CellWritten charset kind column last bytes room text r → NextWritten charset null kind column last bytes room text r
-next_cell_written charset null kind column last bytes text room None is x = (is, x)
-next_cell_written charset null kind column last bytes text room (Some w) is x = subst (λ (n : Bool). WritesNext charset n kind column last (take w.used bytes) (take w.made text)) (sym is) x.whole
+pub next_alone : (table : Table) (at : Ahead) (null : Bool) (kind : Kind) (last : Bool) (bytes text : List ℕ) (room : ℕ) (r : Option Written) → null ≡ false → AloneWritten table at kind last bytes room text r → NextWritten table.charset null kind at.column last bytes room text r
+next_alone table at null kind last bytes text room None is x = (is, x)
+next_alone table at null kind last bytes text room (Some w) is x = subst (λ (n : Bool). WritesNext table.charset n kind at.column last (take w.used bytes) (take w.made text)) (sym is) x.writes.whole
 
 -- ---- a run, cell after cell
 

@@ -1,5 +1,5 @@
 -- The cells of a run, as they are written one after another.
-use Rattle.std.proofs.Common.{◌≡◌, ◌≢◌, ◌∙◌, ◌⊎◌, inl, inr, ℕ, zero, suc, ◌+◌, ◌-◌, ◌^◌, ◌≤◌, ◌<◌, Bool, List, [], ◌∷◌, ◌++◌, length, take, drop, get_or, refl, sym, ap, subst, arith, append_assoc, append-nil, length-append, length-take}
+use Rattle.std.proofs.Common.{◌≡◌, ◌∙◌, inl, inr, ℕ, zero, suc, ◌+◌, ◌-◌, ◌^◌, ◌≤◌, ◌<◌, Bool, List, [], ◌∷◌, ◌++◌, length, take, drop, get_or, refl, sym, ap, subst, arith, append_assoc, append-nil, length-append, length-take}
 use Rattle.std.proofs.lemmas.List.{length-take-le, take-append-le, take_all, take_more}
 use Rattle.std.proofs.Math.Seq.{take-append-add}
 use lib.Seq.{take-add}
@@ -36,6 +36,18 @@ use Rattle.tds_packet.proofs.Futures.{Takes-none}
 use Rattle.tds_csv.proofs.Sinks.{Puts-none}
 use Rattle.tds_csv.proofs.Streams.{streams_both, streams_inside}
 use Rattle.tds_rows.specs.RowSteps.{ReadsRows, RowStops, RowsStop}
+
+-- ---- the place in a run
+
+-- a step goes further than where the run began
+pub further_on : (used from at next : ℕ) → (used ≡ 0 → at ≡ from) → (0 < used → from < at) → next ≡ at + 1 → from < next
+further_on zero from at next first further is = omega (arith, first refl, is)
+further_on (suc n) from at next first further is = omega (arith, further (omega arith), is)
+
+-- a run over one column ends after its first step
+pub none_used : (used from at end : ℕ) → (0 < used → from < at) → at < end → end ≡ from + 1 → used ≡ 0
+none_used zero from at end further within is = refl
+none_used (suc n) from at end further within is = absurd (omega (arith, further (omega arith), within, is))
 
 -- ---- over any grammar
 

@@ -1,18 +1,19 @@
 -- Runs of cells over the columns that a table knows: more cells after those that were written.
-use Rattle.std.proofs.Common.{◌≡◌, ◌∙◌, ℕ, ◌+◌, ◌-◌, ◌≤◌, Bool, List, ◌∷◌, ◌++◌, length, take, drop, sym, ap, subst}
+use Rattle.std.proofs.Common.{◌≡◌, ◌∙◌, ℕ, ◌+◌, ◌-◌, ◌≤◌, Bool, List, ◌∷◌, ◌++◌, length, take, drop, get_or, sym, ap, subst, arith}
 use Rattle.std.specs.Prelude.{◌==◌}
 use Rattle.tds_values.specs.declared.kind.Kind.{Kind}
 use Rattle.tds_columns.specs.Description.{Column}
+use Rattle.tds_columns.proofs.ViewLaws.{all_behind}
 use Rattle.tds_rows.specs.declared.Charset.{Charset}
 use Rattle.tds_rows.specs.declared.table.Ahead.{Ahead}
 use Rattle.tds_rows.specs.declared.table.Table.{Table}
 use Rattle.tds_rows.specs.Cells.{Cell, cell_start, shape}
-use Rattle.tds_rows.specs.CellSteps.{WritesKind, is_last}
+use Rattle.tds_rows.specs.CellSteps.{WritesKind, is_last, whole_size}
 use Rattle.tds_rows.specs.WholeCells.{WritesWhole}
-use Rattle.tds_rows.specs.Runs.{WritesCells, WritesRows}
-use Rattle.tds_rows.specs.Tables.{IsAhead, Knows, TakesColumn}
+use Rattle.tds_rows.specs.Runs.{OneWritten, WritesCells, WritesOne, WritesRows}
+use Rattle.tds_rows.specs.Tables.{IsAhead, Knows, NextColumn, TakesColumn}
 use Rattle.tds_rows.proofs.TableSteps.{last_one}
-use Rattle.tds_rows.proofs.RunSteps.{cells_step, one_cell, rows_step}
+use Rattle.tds_rows.proofs.RunSteps.{cells_step, made_more, one_cell, rows_step}
 
 -- Between two places of a row these bytes are its cells, and this is their text.
 abbrev pub CellsBetween : Table → List Column → Ahead → Ahead → List ℕ → List ℕ → Type 0
@@ -59,3 +60,28 @@ module _ (table : Table) (columns : List Column) (old new : Ahead) (kind : Kind)
         subst (λ (l : List Column). WritesCells charset cells l left new.column (take u bytes) (take m text)) (sym taken.next)
         (subst (λ (n : ℕ). WritesCells charset cells (taken.column ∷ left) left n (take u bytes) (take m text)) (sym taken.further) (one_cell charset taken.column left old.column (take u bytes) (take m text) c cells is)),
   )
+
+-- ---- the first cell alone
+
+module _ (table : Table) (from : Ahead) (kind : Kind) (last : Bool) (end : last ≡ (from.column + 1 == table.count)) (next : (columns : List Column) → Knows table columns → IsAhead table columns from → NextColumn columns from kind) where
+  -- it was written, however its kind and its place at the row's end are known
+  pub one_next : (bytes text : List ℕ) (used made : ℕ) → used ≡ whole_size kind bytes → WritesKind table.charset kind from.column last (take used bytes) (take made text) → OneWritten table from bytes text used made
+  one_next bytes text used made size writes = λ asked is_end is.
+      let x = next is.columns is.knows is.ahead in
+      let kind_is : kind ≡ asked = x.kind ∙ ap (λ (r : List Column). (get_or r 0 is.column).kind) (sym x.next ∙ is.next) ∙ sym is.kind in
+      let last_is : last ≡ is_end = end ∙ last_one is.columns is.rest is.column from.column table.count is.knows.counted is.next ∙ sym is.last in
+      let there = subst (λ (e : Bool). WritesOne table.charset kind from.column e bytes text used made) last_is (record { size = size; writes = writes }) in
+      subst (λ (k : Kind). WritesOne table.charset k from.column is_end bytes text used made) kind_is there
+
+  -- so it was as the first step of a run
+  pub one_first : (first : Ahead) (used u made m : ℕ) (bytes to text rest : List ℕ) → from ≡ first → used ≡ 0 → made ≡ 0 → made ≤ length to → m ≤ length text → u ≡ whole_size kind (take (length bytes - used) (drop used bytes))
+      → WritesKind table.charset kind from.column last (take u (take (length bytes - used) (drop used bytes))) (take m text) → OneWritten table first bytes (take made to ++ (text ++ rest)) (used + u) (made + m)
+  one_first first used u made m bytes to text rest begun none nothing within some size writes =
+      let there : take (length bytes - used) (drop used bytes) ≡ bytes = all_behind bytes used ∙ ap (λ n. drop n bytes) none in
+      let whole : used + u ≡ u = omega (arith, none) in
+      let text_is : take (made + m) (take made to ++ (text ++ rest)) ≡ take m text = made_more made m to text rest within some ∙ ap (λ n. take n to ++ take m text) nothing in
+      subst (λ (a : Ahead). OneWritten table a bytes (take made to ++ (text ++ rest)) (used + u) (made + m)) begun
+      (one_next bytes (take made to ++ (text ++ rest)) (used + u) (made + m) (whole ∙ size ∙ ap (whole_size kind) there)
+      (subst (λ (n : ℕ). WritesKind table.charset kind from.column last (take n bytes) (take (made + m) (take made to ++ (text ++ rest)))) (sym whole)
+      (subst (λ l. WritesKind table.charset kind from.column last (take u bytes) l) (sym text_is)
+      (subst (λ l. WritesKind table.charset kind from.column last (take u l) (take m text)) there writes))))

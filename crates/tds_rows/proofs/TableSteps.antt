@@ -1,15 +1,16 @@
 -- A table of columns, column by column.
-use Rattle.std.proofs.Common.{◌≡◌, ◌∙◌, ℕ, true, ◌+◌, ◌≤◌, ◌<◌, List, [], ◌∷◌, ◌++◌, length, take, drop, get_or, sym, ap, arith}
+use Rattle.std.proofs.Common.{◌≡◌, ◌≢◌, ◌∙◌, ℕ, true, false, ◌+◌, ◌≤◌, ◌<◌, List, [], ◌∷◌, ◌++◌, length, take, drop, get_or, refl, sym, ap, arith}
 use Rattle.std.specs.Prelude.{map, slice_set, ◌==◌}
 use Rattle.tds_rows.specs.CellSteps.{is_last}
 use Rattle.std.proofs.lemmas.Bool.{eq-eqb, ne_eqb}
 use Rattle.std.proofs.lemmas.List.{drop_all, drop_more, get_or-map, get_or-take, length-drop, length-take, map-append, take_more, take_more_set}
 use Rattle.tds_values.specs.declared.kind.Kind.{Kind}
+use Rattle.tds_values.specs.declared.kind.Kind.TheVariants.{Int4}
 use Rattle.tds_columns.specs.Description.{Column}
 use Rattle.std.specs.Prelude.{Option, Some, None}
 use Rattle.std.specs.Iterator.{YieldsFirstBy}
 use lib.Seq.{drop-drop}
-use Rattle.tds_packet.proofs.Choices.{eq_true}
+use Rattle.tds_packet.proofs.Choices.{eq_false, eq_true}
 use Rattle.tds_columns.specs.declared.walk.Column as walks
 use Rattle.tds_columns.specs.declared.walk.Walk.{Walk}
 use Rattle.tds_columns.specs.Walking.{column_value, columns_left}
@@ -88,6 +89,13 @@ takes table columns old new kind x further ahead = record {
   ahead = ahead;
 }
 
+-- a place in a row that isn't at its end is before it
+pub not_end : (columns : List Column) (k n : ℕ) → n ≡ length columns → k ≤ length columns → (k == n) ≡ false → k < n
+not_end columns k n whole within isnt = below k n (omega (arith, whole, within)) (eq_false k n isnt)
+  where
+    below : (a b : ℕ) → a ≤ b → a ≢ b → a < b
+    below a b h k = omega (arith, h, k)
+
 -- a column is the last one where as many as there are lie before what is after it
 pub last_one : (columns rest : List Column) (c : Column) (k n : ℕ) → n ≡ length columns → drop k columns ≡ c ∷ rest → (k + 1 == n) ≡ is_last rest
 last_one columns [] c k n whole next = eq-eqb (k + 1) n (omega (arith, whole, length-drop k columns, ap length next))
@@ -96,6 +104,14 @@ last_one columns (d ∷ ds) c k n whole next = ne_eqb (k + 1) n (λ e. omega (ar
 -- none is next where as many as there are lie before
 pub none_next : (columns : List Column) (k n : ℕ) → n ≡ length columns → n ≤ k → drop k columns ≡ []
 none_next columns k n whole all = drop_all k columns (omega (arith, whole, all))
+
+-- before the row's end the next column is ahead, of some kind
+pub next_any : (columns : List Column) (at : Ahead) (n : ℕ) → n ≡ length columns → at.column < n → (kind : Kind) × NextColumn columns at kind
+next_any columns at n whole some =
+    let within : at.column < length columns = omega (arith, whole, some) in
+    let c : Column = record { kind = Int4; name = [] } in
+    let column = get_or columns at.column c in
+    (column.kind, record { column = column; rest = drop (at.column + 1) columns; next = drop_more columns at.column c within; kind = refl })
 
 -- so it is at the row's end
 pub at_end : (columns : List Column) (k n : ℕ) → n ≡ length columns → (k == n) ≡ true → drop k columns ≡ []

@@ -1,5 +1,6 @@
 -- What a run of cells does, which lie whole in the packet.
-use Rattle.std.specs.Prelude.{◌≡◌, ◌==◌, ◌+◌, ℕ, false, List, [], ◌∷◌, ◌++◌, length, map, take, drop, Option, Some, None, if◌then◌else◌, slice_index}
+use Rattle.std.specs.Prelude.{◌≡◌, ◌==◌, ◌+◌, ℕ, Bool, false, List, [], ◌∷◌, ◌++◌, length, map, take, drop, Option, Some, None, MatchOption, if◌then◌else◌, slice_index}
+use Rattle.tds_values.specs.declared.kind.Kind.{Kind}
 use Rattle.tds_packet.specs.declared.fault.Fault.{Fault}
 use Rattle.tds_packet.specs.declared.fault.Fault.TheVariants.{MessageEnded, RefusedToken}
 use Rattle.tds_packet.specs.Elements.{Grammar, Spelt}
@@ -12,6 +13,7 @@ use Rattle.tds_csv.specs.declared.sink.Sink.{Sink}
 use Rattle.tds_csv.specs.Sinks.{Held, held}
 use Rattle.tds_csv.specs.Streaming.{Streams}
 use Rattle.tds_rows.specs.declared.Charset.{Charset}
+use Rattle.tds_rows.specs.declared.run.buffered.Written.{Written}
 use Rattle.tds_rows.specs.declared.run.CellRun.{CellRun}
 use Rattle.tds_rows.specs.declared.run.RowsRun.{RowsRun}
 use Rattle.tds_rows.specs.declared.table.Ahead.{Ahead}
@@ -19,7 +21,8 @@ use Rattle.tds_rows.specs.declared.table.Table.{Table}
 use Rattle.tds_rows.specs.Cells.{Cell, field}
 use Rattle.tds_rows.specs.Rows.{RowPart, WholeRow, marked, next_cell, row, row_add, row_byte, row_fault, row_size, row_so_far, row_start}
 use Rattle.tds_rows.specs.MarkedRuns.{EndsLeft}
-use Rattle.tds_rows.specs.Tables.{IsAhead, Knows}
+use Rattle.tds_rows.specs.CellSteps.{IsLeft, WritesKind, whole_size}
+use Rattle.tds_rows.specs.Tables.{IsAhead, IsNextKind, Knows}
 
 -- The bytes are whole elements, which lead from one state to another, and this is what the text of the second has more than that of the first.
 pub record Writes {S : Type 0} (g : Grammar S Fault) (text : S → List ℕ) (from : S) (bytes made : List ℕ) (to : S) : Type 0 where
@@ -97,6 +100,20 @@ pub record RunsRows (charset : Charset) (all : List Column) (cells : List Cell) 
 -- A run ended at the row's end, where there isn't room for every scalar, or before a cell that is left.
 abbrev pub RunEnds : Table → Ahead → List ℕ → ℕ → Type 0
 RunEnds table at bytes room = EndsLeft table (λ k. false) at bytes room
+
+-- The first bytes, this many, are a whole cell of a kind, and this much of the text is its text in its line.
+pub record WritesOne (charset : Charset) (kind : Kind) (column : ℕ) (last : Bool) (bytes text : List ℕ) (used made : ℕ) : Type 0 where
+  pub size : used ≡ whole_size kind bytes
+  pub writes : WritesKind charset kind column last (take used bytes) (take made text)
+
+-- The next cell, of whatever kind, was written so.
+abbrev pub OneWritten : Table → Ahead → List ℕ → List ℕ → ℕ → ℕ → Type 0
+OneWritten table at bytes text used made = (kind : Kind) (last : Bool) → IsNextKind table at kind last → WritesOne table.charset kind at.column last bytes text used made
+
+-- The next cell, of this kind, was written so, or it is left, with this much room.
+abbrev pub AloneWritten : Table → Ahead → Kind → Bool → List ℕ → ℕ → List ℕ → Option Written → Type 0
+AloneWritten table at kind last bytes room text result = MatchOption result (IsLeft table.charset kind bytes room)
+    (λ written. WritesOne table.charset kind at.column last bytes text written.used written.made)
 
 -- A run wrote the text of the bytes that it used, within a row, and ended at a place of it; single-byte text was read in the table's set.
 abbrev pub CellsWritten : Table → Ahead → List ℕ → List ℕ → CellRun → Type 0

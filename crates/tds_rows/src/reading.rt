@@ -6,8 +6,9 @@ ghost use Rattle.tds_values.specs.Kind as kinds;
 use crate::Charset;
 use crate::gather::{bad_value, gather_scalar};
 use crate::long::stream_long;
-use crate::run::buffered::{length_size, write_alone};
+use crate::run::buffered::length_size;
 use crate::run::fields::CELL_ROOM;
+use crate::run::write_alone;
 use crate::table::{Ahead, Form, Table};
 use std::io::{Read, Write};
 use tds_csv::{Cp1252Joiner, HexJoiner, Joiner, Sink, Utf8Joiner, Utf16Joiner, joiners_suit};
@@ -30,18 +31,18 @@ pub(crate) struct Rows<'r, 't, 'p, 's, 'c, R, W> {
 impl<'r, 't, 'p, 's, 'c, R: Read, W: Write> Rows<'r, 't, 'p, 's, 'c, R, W> {
     // Reads the next cell of a scalar kind, and puts its text: one across the end of a packet or of a block of
     // text, or one that stops the row. Its bytes are gathered in the small area, where it is judged.
-    fn put_gathered(&mut self, column: u16, last: bool, form: &Form) -> Result<(), Stop>
+    fn put_gathered(&mut self, at: Ahead<'c>, form: &Form) -> Result<(), Stop>
         requires in_row { IsInRow self.old }
+        requires within { at.column < self.old.table.now.count }
         requires scalar { IsTrue (kinds.is_scalar form.now.kind) }
         ensures leaves { LeavesRows self.old self.new result }
-        ensures gives { LongRead R.remaining W.contents column last form.now.kind self.old self.new result }
+        ensures gives { CellRead R.remaining W.contents at.entry form.now.kind self.old self.new result }
     {
         let place = self.payload.place();
-        gather_scalar(self.payload, &form.kind, column, self.small)?;
-        let (charset, bytes) = (self.table.charset, self.small.bytes());
+        gather_scalar(self.payload, &form.kind, at.column, self.small)?;
         let mut text = [0u8; CELL_ROOM];
-        let Some(cell) = write_alone(form, charset, column, last, bytes, &mut text) else {
-            return Err(bad_value(column, place + length_size(&form.kind) as u64));
+        let Some(cell) = write_alone(self.table, at, self.small.bytes(), &mut text) else {
+            return Err(bad_value(at.column, place + length_size(&form.kind) as u64));
         };
         self.sink.put(&text[..cell.made])
     }
@@ -83,18 +84,16 @@ impl<'r, 't, 'p, 's, 'c, R: Read, W: Write> Rows<'r, 't, 'p, 's, 'c, R, W> {
         ensures leaves { LeavesRows self.old self.new result }
         ensures gives { CellRead R.remaining W.contents at.entry form.now.kind self.old self.new result }
     {
-        let (column, last) = (at.column, self.table.is_last(at));
-        let (charset, bytes) = (self.table.charset, self.payload.buffered());
         let mut text = [0u8; SHORT_TEXT];
-        if let Some(cell) = write_alone(form, charset, column, last, bytes, &mut text)
+        if let Some(cell) = write_alone(self.table, at, self.payload.buffered(), &mut text)
             && cell.made < self.sink.room()
         {
             self.payload.consume(cell.used);
             return self.sink.put(&text[..cell.made]);
         }
         if form.kind.is_scalar() {
-            return self.put_gathered(column, last, form);
+            return self.put_gathered(at, form);
         }
-        self.put_joined(column, last, &form.kind)
+        self.put_joined(at.column, self.table.is_last(at), &form.kind)
     }
 }

@@ -1,10 +1,12 @@
 // A run of cells: as many as are whole in the packet and have room, over the ends of rows.
-ghost use Rattle.std.specs.Prelude.{◌≡◌, ◌+◌, ◌-◌, ◌<◌, ◌≤◌, drop, length};
+ghost use Rattle.std.specs.Prelude.{◌≡◌, ◌+◌, ◌-◌, ◌<◌, ◌≤◌, Bool, drop, length, IfSome};
 ghost use Rattle.tds_rows.specs.RowReading.{IsInRow, StaysInRow};
-ghost use Rattle.tds_rows.specs.Runs.{CellsWritten, RowsPut, RowsWritten, RunEnds};
+ghost use Rattle.tds_rows.specs.Runs.{AloneWritten, CellsWritten, OneWritten, RowsPut, RowsWritten, RunEnds};
+ghost use Rattle.tds_rows.specs.Tables.{IsNextKind};
+ghost use Rattle.tds_values.specs.declared.kind.Kind.{Kind};
 
 use crate::reading::Rows;
-use crate::run::buffered::{INT4_SIZE, has_int4, write_cell};
+use crate::run::buffered::{INT4_SIZE, Written, has_int4, write_cell};
 use crate::run::fields::{CELL_ROOM, INT4_ROOM, write_int4_field};
 use crate::table::{Ahead, Table};
 use std::io::{Read, Write};
@@ -35,23 +37,28 @@ pub(crate) struct RowsRun<'a> {
 }
 
 // Writes cell after cell of a row, as far as they are whole in these bytes, aren't in chunks and have room, up to
-// the next one that may be a whole number of four bytes.
+// the next one that may be a whole number of four bytes, or the column at which it ends.
 #[inline(never)]
 pub(crate) fn run_cells<'a>(
     table: &Table<'a>,
     from: Ahead<'a>,
+    end: u16,
     bytes: &[u8],
     to: &mut [u8],
 ) -> CellRun<'a>
+    requires { end ≤ table.now.count }
     ensures used { result.used ≤ length bytes.now }
     ensures made { result.made ≤ length to.old }
-    ensures ends { result.used ≡ 0 → RunEnds table.now from.entry bytes.now (length to.old) }
+    ensures ends { result.used ≡ 0 → from.entry.column < end →
+        RunEnds table.now from.entry bytes.now (length to.old) }
+    ensures one { 0 < result.used → end ≡ from.entry.column + 1 →
+        OneWritten table.now from.entry bytes.now to.new result.used result.made }
     ensures gives { CellsWritten table.now from.entry bytes.now to.new result }
 {
     let mut used = 0;
     let mut made = 0;
     let mut ahead = from;
-    while to.len() - made >= CELL_ROOM {
+    while to.len() - made >= CELL_ROOM && ahead.column < end {
         if used > 0 && table.int4_start(ahead).is_some() {
             break;
         }
@@ -74,6 +81,26 @@ pub(crate) fn run_cells<'a>(
         ahead = table.after(ahead);
     }
     CellRun { used, made, ahead }
+}
+
+/// Writes the next cell alone; none where it isn't whole in these bytes, is refused or in chunks, or where there
+/// isn't the room that the text of a short value may need.
+pub(crate) fn write_alone(table: &Table, at: Ahead, bytes: &[u8], to: &mut [u8]) -> Option<Written>
+    requires within { at.column < table.now.count }
+    requires room { CELL_ROOM ≤ length to.old }
+    ensures used { IfSome result (λ written. written.used ≤ length bytes.now) }
+    ensures most { IfSome result (λ written. written.made ≤ length to.old) }
+    ensures gives { (kind : Kind) (last : Bool) → IsNextKind table.now at.entry kind last →
+        AloneWritten table.now at.entry kind last bytes.now (length to.old) to.new result }
+{
+    let run = run_cells(table, at, at.column + 1, bytes, to);
+    if run.used == 0 {
+        return None;
+    }
+    Some(Written {
+        used: run.used,
+        made: run.made,
+    })
 }
 
 // Writes cell after cell, as far as they are whole in these bytes, aren't in chunks and have room, over the
@@ -118,7 +145,7 @@ pub(crate) fn run_rows<'a>(
             ahead = table.start();
             continue;
         }
-        let cells = run_cells(table, ahead, rest, &mut to[made..]);
+        let cells = run_cells(table, ahead, table.count(), rest, &mut to[made..]);
         if cells.used == 0 {
             break;
         }

@@ -132,13 +132,9 @@ impl<'a> Table<'a> {
     /// What the next cell needs; none at the row's end.
     #[inline(always)]
     pub(crate) fn form(&self, at: Ahead<'a>) -> Option<Form>
-        ensures some { IfSome result (λ form. at.entry.column < self.now.count) }
         ensures gives { (columns : List spec.Column) → Knows self.now columns → IsAhead self.now columns at.entry →
             NextForm columns at.entry result }
     {
-        if at.column >= self.count {
-            return None;
-        }
         if (at.column as usize) < self.known {
             return Some(self.forms[at.column as usize]);
         }
@@ -211,6 +207,9 @@ impl<'a> Table<'a> {
         ensures gives { (columns : List spec.Column) → Knows self.now columns → IsAhead self.now columns at.entry →
             TakesForm self.now columns at.entry result }
     {
+        if at.column >= self.count {
+            return None;
+        }
         let form = self.form(at)?;
         Some((form, self.after(at)))
     }

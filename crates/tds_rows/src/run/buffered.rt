@@ -98,22 +98,3 @@ pub(crate) fn write_cell(
         None => None,
     }
 }
-
-// Writes that cell in a call of its own, for a cell that no run took.
-#[inline(never)]
-pub(crate) fn write_alone(
-    form: &Form,
-    charset: Charset,
-    column: u16,
-    last: bool,
-    bytes: &[u8],
-    to: &mut [u8],
-) -> Option<Written>
-    requires room { CELL_ROOM ≤ length to.old }
-    ensures used { IfSome result (λ written. written.used ≤ length bytes.now) }
-    ensures most { IfSome result (λ written. written.made ≤ length to.old) }
-    ensures whole { IfSome result (λ written. written.used ≡ whole_size form.now.kind bytes.now) }
-    ensures gives { CellWritten charset form.now.kind column last bytes.now (length to.old) to.new result }
-{
-    write_cell(form, charset, column, last, bytes, to)
-}

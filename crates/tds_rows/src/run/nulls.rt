@@ -5,12 +5,13 @@ ghost use Rattle.tds_rows.specs.MarkedRuns.{EndsLeft, MarkedPut, MarkedWritten, 
 ghost use Rattle.tds_rows.specs.RowReading.{IsInRow, StaysInRow};
 ghost use Rattle.tds_rows.specs.Rows.{bit};
 ghost use Rattle.tds_rows.specs.Tables.{IsNextKind};
+ghost use Rattle.tds_values.specs.declared.kind.Kind.{Kind};
 
 use crate::reading::Rows;
-use crate::run::CellRun;
-use crate::run::buffered::{Written, write_cell};
+use crate::run::buffered::Written;
 use crate::run::fields::CELL_ROOM;
-use crate::table::{Ahead, Form, Table};
+use crate::run::{CellRun, write_alone};
+use crate::table::{Ahead, Table};
 use std::io::{Read, Write};
 use tds_csv::write_null;
 
@@ -26,27 +27,19 @@ pub(crate) fn is_null(bitmap: &[u8], column: u16) -> bool
 // where that one isn't whole, is refused or in chunks, or where there isn't the room that the text of a short
 // value may need.
 #[inline(always)]
-fn write_next(
-    table: &Table,
-    at: Ahead,
-    form: &Form,
-    null: bool,
-    bytes: &[u8],
-    to: &mut [u8],
-) -> Option<Written>
+fn write_next(table: &Table, at: Ahead, null: bool, bytes: &[u8], to: &mut [u8]) -> Option<Written>
     requires within { at.column < table.now.count }
     requires room { CELL_ROOM ≤ length to.old }
     ensures used { IfSome result (λ written. written.used ≤ length bytes.now) }
     ensures most { IfSome result (λ written. written.made ≤ length to.old) }
-    ensures gives { (last : Bool) → IsNextKind table.now at.entry form.now.kind last →
-        NextWritten table.now.charset null form.now.kind at.entry.column last bytes.now (length to.old) to.new result }
+    ensures gives { (kind : Kind) (last : Bool) → IsNextKind table.now at.entry kind last →
+        NextWritten table.now.charset null kind at.entry.column last bytes.now (length to.old) to.new result }
 {
-    let last = table.is_last(at);
     if null {
-        let made = write_null(at.column, last, to);
+        let made = write_null(at.column, table.is_last(at), to);
         return Some(Written { used: 0, made });
     }
-    write_cell(form, table.charset, at.column, last, bytes, to)
+    write_alone(table, at, bytes, to)
 }
 
 // Writes cell after cell of an NBCROW, as far as they are NULL by their bit or whole in these bytes, aren't in
@@ -69,13 +62,10 @@ pub(crate) fn run_nulls<'a>(
     let mut used = 0;
     let mut made = 0;
     let mut ahead = from;
-    while to.len() - made >= CELL_ROOM {
-        let Some(form) = table.form(ahead) else {
-            break;
-        };
+    while to.len() - made >= CELL_ROOM && ahead.column < table.count() {
         let null = is_null(bitmap, ahead.column);
         let rest = &bytes[used..];
-        let Some(written) = write_next(table, ahead, &form, null, rest, &mut to[made..]) else {
+        let Some(written) = write_next(table, ahead, null, rest, &mut to[made..]) else {
             break;
         };
         used += written.used;

@@ -3,20 +3,22 @@ use Rattle.tds_values.specs.declared.kind.Kind.{Kind}
 use Rattle.tds_columns.specs.Description.{Column}
 use Rattle.tds_columns.proofs.ViewLaws.{all_behind}
 use Rattle.tds_rows.specs.declared.table.Ahead.{Ahead}
-use Rattle.tds_rows.specs.CellSteps.{IsLeft}
+use Rattle.tds_rows.specs.CellSteps.{IsLeft, WritesKind}
 use Rattle.tds_rows.specs.Runs.{WritesCells}
 use Rattle.tds_rows.specs.Tables.{IsAhead, Knows, TakesColumn}
-use Rattle.tds_rows.proofs.RunSteps.{cells_none, made_same, whole_some}
+use Rattle.tds_rows.proofs.RunSteps.{cells_none, further_on, made_same, none_used, whole_some}
 use Rattle.tds_rows.proofs.TableSteps.{takes}
-use Rattle.tds_rows.proofs.TableRuns.{more_in_row, one_between}
-use Rattle.tds_rows.proofs.run.run_cells.Goals.{else-loop-to-test, then-loop-to-test+then-used-gt0+then-is_some, then-loop-to-test+else-used-gt0+in_default, then-loop-to-test+else-used-gt0+in-Some+in_default-write_cell}
+use Rattle.tds_rows.proofs.TableRuns.{more_in_row, one_between, one_first}
+use Rattle.tds_rows.proofs.run.run_cells.Goals.{else-loop-to-test, then-loop-to-test+else-ahead-end, then-loop-to-test+then-ahead-end+then-used-gt0+then-is_some, then-loop-to-test+then-ahead-end+else-used-gt0+in_default, then-loop-to-test+then-ahead-end+else-used-gt0+in-Some+in_default-write_cell}
 use Rattle.tds_rows.proofs.run.run_cells.Goals as goal
 
 pub loop-to-init : goal.loop-to-init
 loop-to-init c = record {
   used = omega arith;
   made = omega arith;
+  further = λ some. absurd (omega (arith, some));
   first = λ _. (refl, refl);
+  one = λ some. absurd (omega (arith, some));
   writes = λ columns knows ahead. (ahead, λ charset cells set is. cells_none charset (drop c.args.from.column columns) c.args.from.column cells is);
 }
 
@@ -35,7 +37,12 @@ loop-to-preserved c =
     record {
       used = search (arith, rules);
       made = search (arith, rules);
+      further = λ _. further_on l.used c.args.from.column l.ahead.column after.result.column (λ none. ap (λ (a : Ahead). a.column) (l.invariant.first none).1) l.invariant.further after.ensures.further;
       first = λ none. absurd (omega (arith, none, c.in-Some-write_cell.ensures.whole, whole_some kind rest));
+      one = λ _ alone.
+          let none = none_used l.used c.args.from.column l.ahead.column c.args.end l.invariant.further c.if-ahead-end.true alone in
+          let begun = l.invariant.first none in
+          one_first c.args.table.now l.ahead kind last.result last.ensures c.in-Some.ensures.gives c.args.from l.used written.used l.made written.made c.args.bytes.now l.to text _ begun.1 none begun.0 l.invariant.made within c.in-Some-write_cell.ensures.whole c.in-Some-write_cell.ensures.gives;
       writes = λ columns knows ahead.
           let x = l.invariant.writes columns knows ahead in
           more_in_row c.args.table.now c.args.from l.ahead after.result l.used written.used l.made written.made c.args.bytes.now l.to text _ l.invariant.made within columns x
@@ -47,13 +54,14 @@ same : (c : goal.Left-loop-to) → take c.loop-to.made c.loop-to-test.to ≡ tak
 same c =
     elim c.loop-to-test.branch [
       | else-loop-to-test w ↦ ap (take c.loop-to.made) w.to-is
-      | then-loop-to-test+then-used-gt0+then-is_some w ↦ ap (take c.loop-to.made) w.to-is
-      | then-loop-to-test+else-used-gt0+in_default w ↦ ap (take c.loop-to.made) w.to-is
-      | then-loop-to-test+else-used-gt0+in-Some+in_default-write_cell w ↦ ap (take c.loop-to.made) w.to-is ∙ made_same c.loop-to.made c.loop-to.to _ c.loop-to.invariant.made
+      | then-loop-to-test+else-ahead-end w ↦ ap (take c.loop-to.made) w.to-is
+      | then-loop-to-test+then-ahead-end+then-used-gt0+then-is_some w ↦ ap (take c.loop-to.made) w.to-is
+      | then-loop-to-test+then-ahead-end+else-used-gt0+in_default w ↦ ap (take c.loop-to.made) w.to-is
+      | then-loop-to-test+then-ahead-end+else-used-gt0+in-Some+in_default-write_cell w ↦ ap (take c.loop-to.made) w.to-is ∙ made_same c.loop-to.made c.loop-to.to _ c.loop-to.invariant.made
     ]
 
 pub returns-clause-ends : goal.returns-clause-ends
-returns-clause-ends c = λ none columns column left knows ahead step.
+returns-clause-ends c = λ none within columns column left knows ahead step.
     let l = c.loop-to in
     let bytes = c.args.bytes.now in
     let at = (l.invariant.first none).1 in
@@ -62,9 +70,10 @@ returns-clause-ends c = λ none columns column left knows ahead step.
     let inv = l.invariant.writes columns knows ahead in
     elim c.loop-to-test.branch [
       | else-loop-to-test w ↦ inl (omega (arith, text, w.loop-to-test.false, l.auto.to))
-      | then-loop-to-test+then-used-gt0+then-is_some w ↦ absurd (omega (arith, none, w.if-used-gt0.true))
-      | then-loop-to-test+else-used-gt0+in_default w ↦ absurd (let e : column ∷ left ≡ [] = sym here ∙ w.in_default.ensures.gives columns knows inv.0 in omega (arith, ap length e))
-      | then-loop-to-test+else-used-gt0+in-Some+in_default-write_cell w ↦ (let x = w.in-Some.ensures.gives columns knows inv.0 in
+      | then-loop-to-test+else-ahead-end w ↦ absurd (omega (arith, within, ap (λ (a : Ahead). a.column) at, w.if-ahead-end.false))
+      | then-loop-to-test+then-ahead-end+then-used-gt0+then-is_some w ↦ absurd (omega (arith, none, w.if-used-gt0.true))
+      | then-loop-to-test+then-ahead-end+else-used-gt0+in_default w ↦ absurd (let e : column ∷ left ≡ [] = sym here ∙ w.in_default.ensures.gives columns knows inv.0 in omega (arith, ap length e))
+      | then-loop-to-test+then-ahead-end+else-used-gt0+in-Some+in_default-write_cell w ↦ (let x = w.in-Some.ensures.gives columns knows inv.0 in
           let kind = w.in-Some.form.kind in
           let same : kind ≡ column.kind = x.kind ∙ ap (λ (r : List Column). (get_or r 0 column).kind) (sym x.next ∙ here) in
           let lent = take (length l.to - l.made) (drop l.made l.to) in
@@ -76,6 +85,15 @@ returns-clause-ends c = λ none columns column left knows ahead step.
                 (subst (λ (b : List ℕ). IsLeft c.args.table.now.charset kind b (length lent)) (all_behind bytes l.used ∙ ap (λ n. drop n bytes) none) w.in_default-write_cell.ensures.gives)),
           ))
     ]
+
+pub returns-clause-one : goal.returns-clause-one
+returns-clause-one c = λ some alone kind last next.
+    let l = c.loop-to in
+    let x = l.invariant.one some alone kind last next in
+    record {
+      size = x.size;
+      writes = subst (λ t. WritesKind c.args.table.now.charset kind c.args.from.column last (take l.used c.args.bytes.now) t) (sym (same c)) x.writes;
+    }
 
 pub returns-clause-gives : goal.returns-clause-gives
 returns-clause-gives c = λ columns knows ahead.

@@ -1,11 +1,11 @@
-use Rattle.std.proofs.Common.{inl, List, [], ◌∷◌, rules, arith, refl, sym, ap, subst, ◌≡◌, ◌∙◌, ◌+◌, ◌-◌, ◌<◌, ◌≤◌, ℕ, length, take, drop, length-take, length-drop}
+use Rattle.std.proofs.Common.{inl, List, [], ◌∷◌, rules, arith, sym, ap, subst, ◌≡◌, ◌∙◌, ◌+◌, ◌-◌, ◌<◌, ◌≤◌, ℕ, length, take, drop, length-take, length-drop}
 use Rattle.tds_rows.specs.CellSteps.{HasInt4, int4_kind}
 use Rattle.tds_columns.proofs.ViewLaws.{all_behind}
 use Rattle.tds_rows.specs.Runs.{RunEnds, WritesRows}
 use Rattle.tds_rows.specs.Tables.{one_on}
 use Rattle.tds_rows.proofs.RunSteps.{made_same, rows_none, rows_onward, writes_int4}
 use Rattle.tds_rows.proofs.TableRuns.{more_in_rows, one_between}
-use Rattle.tds_rows.proofs.TableSteps.{at_end}
+use Rattle.tds_rows.proofs.TableSteps.{at_end, not_end}
 use Rattle.tds_rows.proofs.run.run_rows.Goals.{else-loop-to-test, then-loop-to-test+in_default+then-is_end+then-used-bytes, then-loop-to-test+in_default+else-is_end+then-cells-eq0}
 use Rattle.tds_rows.proofs.run.run_rows.Goals as goal
 
@@ -98,7 +98,7 @@ returns-clause-ends c = λ columns column left knows ahead step.
       | then-loop-to-test+in_default+else-is_end+then-cells-eq0 w ↦ (let lent = take (length l.to - l.made) (drop l.made l.to) in
           let room : length lent ≡ length c.args.to.now - l.made = omega (arith, l.auto.to, length-take (length l.to - l.made) (drop l.made l.to), length-drop l.made l.to) in
           subst (λ (n : ℕ). RunEnds c.args.table.now l.ahead (drop l.used bytes) n) room
-          (subst (λ (b : List ℕ). RunEnds c.args.table.now l.ahead b (length lent)) (all_behind bytes l.used) (w.run_cells-cells.ensures.ends w.if-cells-eq0.true))
+          (subst (λ (b : List ℕ). RunEnds c.args.table.now l.ahead b (length lent)) (all_behind bytes l.used) (w.run_cells-cells.ensures.ends w.if-cells-eq0.true (omega (arith, w.count.ensures, not_end columns l.ahead.column c.args.table.now.count knows.counted ahead.counted (sym w.is_end.ensures ∙ w.if-is_end.false)))))
           columns column left knows ahead step)
     ]
 

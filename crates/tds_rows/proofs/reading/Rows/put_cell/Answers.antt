@@ -23,23 +23,16 @@ returns-clause-gives g c = λ last next.
     let n = c.in-Some.cell.used in
     let bytes = take n (buffered old.payload.now) in
     let text = take c.in-Some.cell.made c.write_alone.new.to in
-    let end : c.is_last-last.result ≡ last = c.is_last-last.ensures ∙ last_one next.columns next.rest next.column column old.table.now.count next.knows.counted next.next ∙ sym next.last in
+    let alone = c.in-Some.ensures.gives kind last next in
     let lies : n ≤ length (buffered old.payload.now) = search (arith, rules) in
     let takes : Takes a b bytes (length bytes) = Takes-more a b bytes 0 (length bytes) (omega arith) c.consume.ensures.gives in
     let at : place' ≡ place + length bytes = omega (arith, lies, ap (λ p. p.place) c.consume.ensures.rest, length-take n (buffered old.payload.now)) in
     let few : length old.sink.now.output.now.bytes + length text < 4096 = omega (arith, c.if-cell-room.true, c.room.ensures, length-take c.in-Some.cell.made c.write_alone.new.to) in
-    let wrote = subst (λ l. WritesWhole from column c.is_last-last.result (take n l) text) c.buffered-bytes.ensures c.in-Some.ensures.gives.whole in
-    let writes = subst (λ (e : Bool). WritesWhole from column e bytes text) end wrote in
+    let writes = subst (λ l. WritesWhole from column last (take n l) text) c.buffered.ensures alone.writes.whole in
     put_whole c.put.result charset kind column last a b place place' g.W.Write.contents old.sink.now c.put.new.self bytes text c.requires.in_row.sink writes takes at few c.put.ensures
-
-pub returns-then-is_scalar-clause-gives : goal.returns-then-is_scalar-clause-gives
-returns-then-is_scalar-clause-gives g c = λ last next.
-    let old = c.args.self.now in
-    let end = c.is_last-last.ensures ∙ last_one next.columns next.rest next.column c.args.at.column old.table.now.count next.knows.counted next.next ∙ sym next.last in
-    subst (λ (e : Bool). LongRead g.R.Read.remaining g.W.Write.contents c.args.at.column e c.args.form.now.kind old c.put_gathered.new.self c.put_gathered.result) end c.put_gathered.ensures.gives
 
 pub returns-2-clause-gives : goal.returns-2-clause-gives
 returns-2-clause-gives g c = λ last next.
     let old = c.args.self.now in
-    let end = c.is_last-last.ensures ∙ last_one next.columns next.rest next.column c.args.at.column old.table.now.count next.knows.counted next.next ∙ sym next.last in
+    let end = c.is_last.ensures ∙ last_one next.columns next.rest next.column c.args.at.column old.table.now.count next.knows.counted next.next ∙ sym next.last in
     subst (λ (e : Bool). LongRead g.R.Read.remaining g.W.Write.contents c.args.at.column e c.args.form.now.kind old c.put_joined.new.self c.put_joined.result) end c.put_joined.ensures.gives

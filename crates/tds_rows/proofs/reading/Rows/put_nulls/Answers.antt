@@ -1,4 +1,4 @@
-use Rattle.std.proofs.Common.{◌≡◌, ◌∙◌, ap, sym, drop, ◌-◌, ◌+◌, ◌≤◌, ◌<◌, ℕ, List, Ok, length, take, subst, arith, rules, length-take}
+use Rattle.std.proofs.Common.{◌≡◌, ◌∙◌, ap, sym, drop, ◌-◌, ◌+◌, ◌≤◌, ℕ, List, Ok, length, take, subst, arith, rules, length-take}
 use Rattle.std.proofs.lemmas.List.{drop-drop}
 use Rattle.tds_packet.specs.Payloads.{buffered}
 use Rattle.tds_csv.specs.Sinks.{held}

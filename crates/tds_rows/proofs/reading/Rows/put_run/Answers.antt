@@ -1,4 +1,4 @@
-use Rattle.std.proofs.Common.{◌≡◌, ap, ◌+◌, ◌≤◌, ◌<◌, ℕ, List, Ok, length, take, drop, subst, arith, rules, length-take}
+use Rattle.std.proofs.Common.{◌≡◌, ap, ◌+◌, ◌≤◌, ℕ, List, Ok, length, take, drop, subst, arith, rules, length-take}
 use Rattle.tds_packet.specs.Payloads.{buffered, seen}
 use Rattle.tds_packet.specs.Seen.{Takes}
 use Rattle.tds_packet.proofs.Futures.{Takes-more}
