@@ -4,7 +4,7 @@
 #![tactic(auto)]
 
 ghost use Rattle.std.specs.Prelude.{IfOk};
-ghost use Rattle.tds_replay.specs.Jobs.{IsInRange};
+ghost use Rattle.tds_arguments.specs.Jobs.{IsInRange};
 
 #[cfg(test)]
 mod checks;
@@ -18,7 +18,9 @@ use std::fs::File;
 use std::io::{BufReader, ErrorKind, Write};
 use std::process::ExitCode;
 use tds_packet::Counted;
-use tds_replay::{Job, Status, Usage, parse, perform, say_unreadable, say_want_of_memory};
+use tds_replay::{
+    Job, Status, Usage, parse, perform, say_unreadable, say_usage, say_want_of_memory,
+};
 
 /// How many bytes of a FILE are read ahead at most. Standard input isn't read ahead, since another program
 /// may read on from it.
@@ -79,9 +81,9 @@ fn main(rt: HostRuntime) -> ExitCode {
     let mut notes = Counted::new(rt.stderr());
     let status = match read_job(&rt) {
         Ok(job) => run(&rt, &job, &mut notes),
-        Err(usage) => usage
-            .say(&mut Counted::new(rt.stdout()), &mut notes)
-            .number(),
+        Err(usage) => {
+            say_usage(&usage, &mut Counted::new(rt.stdout()), &mut notes).number()
+        }
     };
     ExitCode::from(status)
 }

@@ -1,6 +1,6 @@
 // The command's statuses and lines.
 ghost use Rattle.std.specs.Prelude.{IfOk};
-ghost use Rattle.tds_replay.specs.Jobs.{IsInRange};
+ghost use Rattle.tds_arguments.specs.Jobs.{IsInRange};
 
 mod lines;
 mod recuts;
@@ -15,7 +15,7 @@ use tds_export::Charset;
 use tds_meter::Limits;
 use tds_packet::Counted;
 use tds_packet::rig::{Failing, ScriptedReader, ScriptedWriter};
-use tds_replay::{Job, Usage, parse, perform};
+use tds_replay::{Job, Usage, parse, perform, say_usage};
 
 // A column of numbers named a, a row of 42, and a DONE, in one packet.
 const WIRE: [u8; 39] = [
@@ -180,7 +180,7 @@ fn run(
 ) -> u8 {
     match job(rt, line) {
         Ok(job) => perform(rt.alloc(), &job, from, to, notes),
-        Err(usage) => usage.say(to, notes).number(),
+        Err(usage) => say_usage(&usage, to, notes).number(),
     }
 }
 

@@ -1,5 +1,1 @@
 mod Sayings
-pub mod Found
-pub mod Commands
-mod WorkedLines
-pub mod Numbers

@@ -1,5 +1,3 @@
-pub mod CommandLine
-pub mod Jobs
 pub mod Lines
 pub mod Performing
 pub mod Saying

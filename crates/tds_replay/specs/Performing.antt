@@ -12,8 +12,8 @@ use Rattle.tds_export.specs.declared.report.Report.{Report}
 use Rattle.tds_export.specs.declared.report.Stopped.{Stopped}
 use Rattle.tds_export.specs.Exports.{Exports}
 use Rattle.tds_export.specs.Moments.{Moment, moment}
-use Rattle.tds_replay.specs.declared.job.Job.{Job}
-use Rattle.tds_replay.specs.declared.job.Job.TheVariants.{Export, Check, Recut}
+use Rattle.tds_arguments.specs.declared.job.Job.{Job}
+use Rattle.tds_arguments.specs.declared.job.Job.TheVariants.{Export, Check, Recut}
 use Rattle.tds_replay.specs.declared.status.Status.{Status}
 use Rattle.tds_replay.specs.declared.status.Status.TheVariants.{WantOfMemory}
 use Rattle.tds_replay.specs.Lines.{answer_lines, memory_line, recut_lines}

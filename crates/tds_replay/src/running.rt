@@ -1,14 +1,14 @@
 // Runs a job.
+ghost use Rattle.tds_arguments.specs.Jobs.{IsInRange};
 ghost use Rattle.tds_meter.specs.LimitFaults.{IsMaxWire, IsPacketSize};
-ghost use Rattle.tds_replay.specs.Jobs.{IsInRange};
 ghost use Rattle.tds_replay.specs.Performing.{Checks, PerformsExport, PerformsJob, PerformsRecut, devices, telling};
 
-use crate::job::Job;
 use crate::lines::{say_answer, say_recut_answer, say_want_of_memory};
 use crate::status::{Status, status_of, status_of_recut};
 use std::alloc::Global;
 use std::io;
 use std::io::{Read, Write};
+use tds_arguments::Job;
 use tds_export::{Charset, export};
 use tds_meter::{Area, Areas, GREATEST_PACKET_SIZE, Limits};
 use tds_packet::{Counted, recut};

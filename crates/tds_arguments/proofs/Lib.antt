@@ -1,0 +1,4 @@
+pub mod Found
+pub mod Commands
+mod WorkedLines
+pub mod Numbers

@@ -1,0 +1,43 @@
+// What the command is to do.
+ghost use Rattle.std.specs.Prelude.{◌≡◌, option_map};
+ghost use Rattle.tds_arguments.specs.Jobs.{file_of};
+
+use tds_meter::Limits;
+use tds_rows::Charset;
+
+/// What the command is to do. The file is the one that has the packets, or none for standard
+/// input. Nothing here opens it: the caller passes the reader.
+#[derive(Drop)]
+pub enum Job {
+    /// Writes the rows of a response as CSV.
+    Export {
+        limits: Limits,
+        charset: Charset,
+        file: Option<String>,
+    },
+    /// Reads a response as an export does, and counts its text in place of writing it.
+    Check {
+        limits: Limits,
+        charset: Charset,
+        file: Option<String>,
+    },
+    /// Writes the packets of a message in another size. The limit counts the bytes read.
+    Recut {
+        packet_size: u16,
+        max_wire: u64,
+        file: Option<String>,
+    },
+}
+
+impl Job {
+    /// The file that has the packets, or none for standard input.
+    pub fn file(&self) -> Option<&str>
+        ensures { option_map (λ path. path.now) result ≡ file_of self.now }
+    {
+        match self {
+            Job::Export { file, .. } | Job::Check { file, .. } | Job::Recut { file, .. } => {
+                file.as_deref()
+            }
+        }
+    }
+}

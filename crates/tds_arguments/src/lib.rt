@@ -1,0 +1,13 @@
+//! The arguments of the command: the command line as it is parsed, and the job that arguments mean, or why they
+//! mean none.
+#![tactic(auto)]
+
+mod help;
+mod job;
+mod options;
+mod usage;
+mod words;
+
+pub use job::Job;
+pub use usage::Usage;
+pub use words::parse;
