@@ -1,10 +1,11 @@
 -- The cells of scalar kinds, as they are read.
-use Rattle.std.proofs.Common.{◌≡◌, ◌≢◌, ◌∙◌, inl, inr, ℕ, ◌+◌, ◌<◌, true, false, List, [], ◌∷◌, ◌++◌, length, take, drop, get_or, refl, sym, ap, subst, arith}
+use Rattle.std.proofs.Common.{◌≡◌, ◌≢◌, ◌∙◌, ◌⊎◌, inl, inr, ℕ, ◌+◌, ◌<◌, true, false, List, [], ◌∷◌, ◌++◌, length, take, drop, get_or, refl, sym, ap, subst, arith}
 use Rattle.std.specs.Prelude.{Option, Some, None, Result, Ok, Err, MatchResult, ◌==◌, ◌||◌, is_ok, slice_index, if◌then◌else◌}
 use Rattle.std.proofs.lemmas.Bool.{ne_eqb}
 use Rattle.std.proofs.lemmas.List.{take_all}
 use Rattle.tds_values.specs.declared.kind.Kind.{Kind}
 use Rattle.tds_values.specs.declared.kind.Kind.TheVariants as kinds
+use Rattle.tds_values.specs.declared.kind.Reach.{Reach}
 use Rattle.tds_values.specs.Kind.{fixed_length, is_length_allowed, is_scalar}
 use Rattle.tds_values.specs.Scalar.{read_of}
 use Rattle.tds_meter.specs.Space.{Space, appended}
@@ -16,34 +17,45 @@ use Rattle.tds_packet.specs.Reading.{Reads, StopsReading}
 use Rattle.tds_packet.proofs.Choices.{choose_false}
 use Rattle.tds_packet.proofs.Steps.{began_is_cut, cut_at_once, reads_one, refused_at_once, stops_after, takes_both}
 use Rattle.tds_columns.specs.Elements.{EndsInto, TakesInto}
+use Rattle.tds_csv.specs.Conversion.{Conversion, HexDigits, Utf16Text}
 use Rattle.tds_rows.specs.declared.Charset.{Charset}
-use Rattle.tds_rows.specs.Cells.{CellPart, Null, ScalarBytes, ScalarLength, WholeCell, cell, cell_end, cell_size, cell_start, shape, shape_of_length, unless}
+use Rattle.tds_rows.specs.Cells.{CellPart, LongShape, Null, ScalarBytes, ScalarLength, WholeCell, cell, cell_end, cell_size, cell_start, narrow, shape, shape_of_length, unless}
 use Rattle.tds_rows.specs.CellSteps.{GathersCell, IsScalarLeft, StallsCell, length_behind, start_behind, value_bytes, value_start}
 
--- a scalar kind's shape is that of its length
+-- a kind's shape is that of its length, or that of a long one
+abbrev pub ShapeCases : Charset → Kind → Type 0
+ShapeCases charset kind = ((is_scalar kind ≡ true) × (shape charset kind ≡ shape_of_length (fixed_length kind))) ⊎ ((is_scalar kind ≡ false) × (c : Conversion) × (r : Reach) × (shape charset kind ≡ LongShape c r))
+
+pub shape_cases : (charset : Charset) (kind : Kind) → ShapeCases charset kind
+shape_cases charset kinds.Int1 = inl (refl, refl)
+shape_cases charset kinds.Int2 = inl (refl, refl)
+shape_cases charset kinds.Int4 = inl (refl, refl)
+shape_cases charset kinds.Int8 = inl (refl, refl)
+shape_cases charset kinds.Bit = inl (refl, refl)
+shape_cases charset kinds.Money4 = inl (refl, refl)
+shape_cases charset kinds.Money8 = inl (refl, refl)
+shape_cases charset kinds.DateTime4 = inl (refl, refl)
+shape_cases charset kinds.DateTime8 = inl (refl, refl)
+shape_cases charset (kinds.IntN n) = inl (refl, refl)
+shape_cases charset kinds.BitN = inl (refl, refl)
+shape_cases charset (kinds.MoneyN n) = inl (refl, refl)
+shape_cases charset (kinds.DateTimeN n) = inl (refl, refl)
+shape_cases charset kinds.Guid = inl (refl, refl)
+shape_cases charset (kinds.Decimal n p s) = inl (refl, refl)
+shape_cases charset kinds.Date = inl (refl, refl)
+shape_cases charset (kinds.Time s) = inl (refl, refl)
+shape_cases charset (kinds.DateTime2 s) = inl (refl, refl)
+shape_cases charset (kinds.DateTimeOffset s) = inl (refl, refl)
+shape_cases charset (kinds.Binary r) = inr (refl, HexDigits, r, refl)
+shape_cases charset (kinds.Narrow r) = inr (refl, narrow charset, r, refl)
+shape_cases charset (kinds.Wide r) = inr (refl, Utf16Text, r, refl)
+
 pub scalar_shape : (charset : Charset) (kind : Kind) → is_scalar kind ≡ true → shape charset kind ≡ shape_of_length (fixed_length kind)
-scalar_shape charset kinds.Int1 h = refl
-scalar_shape charset kinds.Int2 h = refl
-scalar_shape charset kinds.Int4 h = refl
-scalar_shape charset kinds.Int8 h = refl
-scalar_shape charset kinds.Bit h = refl
-scalar_shape charset kinds.Money4 h = refl
-scalar_shape charset kinds.Money8 h = refl
-scalar_shape charset kinds.DateTime4 h = refl
-scalar_shape charset kinds.DateTime8 h = refl
-scalar_shape charset (kinds.IntN n) h = refl
-scalar_shape charset kinds.BitN h = refl
-scalar_shape charset (kinds.MoneyN n) h = refl
-scalar_shape charset (kinds.DateTimeN n) h = refl
-scalar_shape charset kinds.Guid h = refl
-scalar_shape charset (kinds.Decimal n p s) h = refl
-scalar_shape charset kinds.Date h = refl
-scalar_shape charset (kinds.Time s) h = refl
-scalar_shape charset (kinds.DateTime2 s) h = refl
-scalar_shape charset (kinds.DateTimeOffset s) h = refl
-scalar_shape charset (kinds.Binary r) h = cc
-scalar_shape charset (kinds.Narrow r) h = cc
-scalar_shape charset (kinds.Wide r) h = cc
+scalar_shape charset kind h = go (shape_cases charset kind)
+  where
+    go : ShapeCases charset kind → shape charset kind ≡ shape_of_length (fixed_length kind)
+    go (inl x) = x.1
+    go (inr x) = absurd (let never : true ≡ false = sym h ∙ x.0 in cc)
 
 -- the values of a kind of fixed length have some bytes
 pub fixed_some : (kind : Kind) (n : ℕ) → fixed_length kind ≡ Some n → 0 < n

@@ -15,7 +15,7 @@ use Rattle.tds_columns.specs.declared.walk.Column as walks
 use Rattle.tds_columns.specs.declared.walk.Walk.{Walk}
 use Rattle.tds_columns.specs.Walking.{column_value, columns_left}
 use Rattle.tds_rows.specs.declared.table.Ahead.{Ahead}
-use Rattle.tds_rows.specs.declared.table.Form.{Form}
+use Rattle.tds_rows.specs.declared.form.Form.{Form}
 use Rattle.tds_rows.specs.declared.table.Table.{Table}
 use Rattle.tds_rows.specs.Tables.{IsAhead, Knows, NextColumn, TakesColumn, kinds}
 

@@ -1,15 +1,32 @@
--- How the values of a kind lie in their cells.
-use Rattle.std.specs.Prelude.{ℕ, Option, Some, None, if◌then◌else◌}
+-- How the values of a kind are laid out in their cells.
+use Rattle.std.specs.Prelude.{◌≡◌, ℕ, ⊤, List, [], slice_index}
 use Rattle.tds_values.specs.declared.kind.Kind.{Kind}
-use Rattle.tds_values.specs.Kind.{fixed_length, is_scalar}
-use Rattle.tds_rows.specs.declared.table.Layout.{Layout}
-use Rattle.tds_rows.specs.declared.table.Layout.TheVariants.{Counted, Fixed, Long}
+use Rattle.tds_values.specs.declared.kind.Reach.TheVariants as reach
+use Rattle.tds_csv.specs.Fields.{conversion_of}
+use Rattle.tds_rows.specs.declared.Charset.{Charset}
+use Rattle.tds_rows.specs.declared.form.Layout.{Layout}
+use Rattle.tds_rows.specs.declared.form.Layout.TheVariants.{Fixed, Counted, Short, Chunked}
+use Rattle.tds_rows.specs.Cells.{Shape, FixedShape, CountedShape, LongShape, shape}
 
--- how the values of a scalar kind lie: always as many bytes, or after a length
-abbrev pub layout_behind : Option ℕ → Layout
-layout_behind (Some n) = Fixed n
-layout_behind None = Counted
+-- the shape of values that are laid out so
+abbrev pub shape_of_layout : Layout → Shape
+shape_of_layout (Fixed n) = FixedShape n
+shape_of_layout Counted = CountedShape
+shape_of_layout (Short content) = LongShape (conversion_of content) reach.Short
+shape_of_layout (Chunked content) = LongShape (conversion_of content) reach.Chunked
 
--- how the values of a kind lie in their cells
-abbrev pub layout_of : Kind → Layout
-layout_of kind = if is_scalar kind then layout_behind (fixed_length kind) else Long
+-- The values of this kind are laid out so, where single-byte text is in this set.
+abbrev pub IsLaidOut : Charset → Kind → Layout → Type 0
+IsLaidOut charset kind layout = shape charset kind ≡ shape_of_layout layout
+
+-- The value of a cell that is laid out so is there in these bytes, and has this many: at once, or after a length of one byte.
+abbrev pub HasValueAt : Layout → List ℕ → ℕ → ℕ → Type 0
+HasValueAt (Fixed k) bytes start n = (start ≡ 0) × (n ≡ k)
+HasValueAt Counted bytes start n = (start ≡ 1) × (n ≡ slice_index bytes 0)
+HasValueAt layout bytes start n = ⊥
+
+-- It isn't there: no length is, or it is a long value.
+abbrev pub HasNoValue : Layout → List ℕ → Type 0
+HasNoValue (Fixed k) bytes = ⊥
+HasNoValue Counted bytes = bytes ≡ []
+HasNoValue layout bytes = ⊤

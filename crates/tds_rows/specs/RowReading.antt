@@ -8,7 +8,8 @@ use Rattle.tds_csv.specs.Sinks.{IsOnSameSink, IsWriting, LeavesSink, PutsPiece}
 use Rattle.tds_rows.specs.declared.gather.TheConstants.{LONGEST_CELL}
 use Rattle.tds_rows.specs.declared.reading.Rows.{Rows}
 use Rattle.tds_rows.specs.declared.table.Ahead.{Ahead}
-use Rattle.tds_rows.specs.CellSteps.{CellPut}
+use Rattle.tds_rows.specs.Cells.{CellPart}
+use Rattle.tds_rows.specs.CellSteps.{CellPut, FieldPut}
 use Rattle.tds_rows.specs.Rows.{RowPart}
 use Rattle.tds_rows.specs.RowSteps.{RowPut}
 use Rattle.tds_rows.specs.Tables.{IsNextKind}
@@ -40,14 +41,19 @@ pub record StaysInRow {R W : Type 0} (old new : Rows R W) : Type 0 where
   pub room : new.small.now.room ≡ old.small.now.room
   pub bound : new.small.now.peak ≤ max old.small.now.peak LONGEST_CELL
 
--- The cell of a long kind after this many columns, the row's last or not, was read and its text put, or the call stopped.
-abbrev pub LongRead : {R W U : Type 0} → (R → Option (List ℕ)) → (W → Option (List ℕ)) → ℕ → Bool → Kind → Rows R W → Rows R W → Result U Stop → Type 0
-LongRead remaining contents column last kind old new result =
+-- The cell after this many columns, the row's last or not, was read from this state on and its text put, or the call stopped.
+abbrev pub ContentRead : {R W U : Type 0} → (R → Option (List ℕ)) → (W → Option (List ℕ)) → CellPart → ℕ → Bool → Rows R W → Rows R W → Result U Stop → Type 0
+ContentRead remaining contents start column last old new result =
+    FieldPut remaining contents start column last old.payload.now new.payload.now old.sink.now new.sink.now result
+
+-- The cell of this kind after this many columns, the row's last or not, was read and its text put, or the call stopped.
+abbrev pub KindRead : {R W U : Type 0} → (R → Option (List ℕ)) → (W → Option (List ℕ)) → ℕ → Bool → Kind → Rows R W → Rows R W → Result U Stop → Type 0
+KindRead remaining contents column last kind old new result =
     CellPut remaining contents old.table.now.charset kind column last old.payload.now new.payload.now old.sink.now new.sink.now result
 
 -- The next cell, of this kind, was read and its text put, or the call stopped.
 abbrev pub CellRead : {R W U : Type 0} → (R → Option (List ℕ)) → (W → Option (List ℕ)) → Ahead → Kind → Rows R W → Rows R W → Result U Stop → Type 0
-CellRead remaining contents at kind old new result = (last : Bool) → IsNextKind old.table.now at kind last → LongRead remaining contents at.column last kind old new result
+CellRead remaining contents at kind old new result = (last : Bool) → IsNextKind old.table.now at kind last → KindRead remaining contents at.column last kind old new result
 
 -- The next cell was put, NULL or, of this kind, as it was read, or the call stopped.
 abbrev pub NextRead : {R W U : Type 0} → (R → Option (List ℕ)) → (W → Option (List ℕ)) → Ahead → Kind → Bool → Rows R W → Rows R W → Result U Stop → Type 0

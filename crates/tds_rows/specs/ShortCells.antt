@@ -1,13 +1,10 @@
 -- Cells of short values whose bytes lie together (MS-TDS, Data Stream Types).
 use Rattle.std.specs.Prelude.{◌≡◌, ◌==◌, ◌⊎◌, ◌+◌, ◌*◌, ◌<◌, ℕ, Bool, false, List, length, take, drop, slice_index, Option, Some, None, MatchOption, if◌then◌else◌}
-use Rattle.tds_values.specs.declared.kind.Kind.{Kind}
 use Rattle.tds_values.specs.declared.kind.Reach.TheVariants.{Short}
-use Rattle.tds_values.specs.Kind.{is_scalar}
 use Rattle.tds_csv.specs.Conversion.{Conversion, is_fit}
 use Rattle.tds_csv.specs.Fields.{field_room}
-use Rattle.tds_rows.specs.declared.Charset.{Charset}
 use Rattle.tds_rows.specs.declared.run.buffered.Written.{Written}
-use Rattle.tds_rows.specs.Cells.{LongShape, Shape, ShortLength, cell_start, shape}
+use Rattle.tds_rows.specs.Cells.{LongShape, Shape, ShortLength}
 use Rattle.tds_rows.specs.WholeCells.{WritesWhole}
 
 -- the conversion of the short values of a shape; none where its values are no short ones
@@ -37,10 +34,5 @@ IsShortLeft (Some c) bytes room = (length bytes < short_size bytes) ⊎ ((room <
 IsShortLeft None bytes room = Unit {0}
 
 -- The cell of a short value of this conversion at the front of these bytes, this many of them, was written to the front of others; or it is left.
-abbrev pub ContentWritten : Conversion → ℕ → Bool → List ℕ → ℕ → List ℕ → Option Written → Type 0
-ContentWritten c column last bytes room text result = MatchOption result (IsShortLeft (Some c) bytes room) (λ written. WritesWhole (ShortLength c) column last (take written.used bytes) (take written.made text))
-
--- The cell of a short value of a kind at the front of these bytes, this many of them, was written to the front of others; or it is left.
-abbrev pub ShortWritten : Charset → Kind → ℕ → Bool → List ℕ → ℕ → List ℕ → Option Written → Type 0
-ShortWritten charset kind column last bytes room text result = MatchOption result (IsShortLeft (short_conversion (shape charset kind)) bytes room)
-    (λ written. (is_scalar kind ≡ false) × WritesWhole (cell_start kind (shape charset kind)) column last (take written.used bytes) (take written.made text))
+abbrev pub ShortWritten : Conversion → ℕ → Bool → List ℕ → ℕ → List ℕ → Option Written → Type 0
+ShortWritten c column last bytes room text result = MatchOption result (IsShortLeft (Some c) bytes room) (λ written. WritesWhole (ShortLength c) column last (take written.used bytes) (take written.made text))

@@ -5,7 +5,7 @@ use Rattle.tds_columns.specs.Description.{Column}
 use Rattle.tds_columns.specs.Walking.{columns_left}
 use Rattle.tds_rows.specs.CellSteps.{is_last}
 use Rattle.tds_rows.specs.declared.table.Ahead.{Ahead}
-use Rattle.tds_rows.specs.declared.table.Form.{Form}
+use Rattle.tds_rows.specs.declared.form.Form.{Form}
 use Rattle.tds_rows.specs.declared.table.Table.{Table}
 
 -- the kinds of columns

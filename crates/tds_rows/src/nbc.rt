@@ -7,16 +7,18 @@ ghost use Rattle.tds_packet.specs.Payloads.{IsSound, LeavesPayload};
 ghost use Rattle.tds_rows.specs.RowReading.{IsInRow, LeavesRows, NextRead, RowRead};
 ghost use Rattle.tds_rows.specs.RowSteps.{RowPut, StopsAgain};
 ghost use Rattle.tds_rows.specs.Cells.{Cell};
+ghost use Rattle.tds_rows.specs.Layouts.{IsLaidOut};
 ghost use Rattle.tds_rows.specs.Rows.{SpellsNbcRow, bit, bitmap_length, nbc_row_start};
 ghost use Rattle.tds_rows.specs.Successes.{SucceedsOn};
 ghost use Rattle.tds_rows.specs.Tables.{Knows, KnowsSome};
 
 use crate::Charset;
+use crate::form::Form;
 use crate::gather::LONGEST_CELL;
 use crate::reading::Rows;
 use crate::run::fields::put_null;
 use crate::run::nulls::is_null;
-use crate::table::{Ahead, Form, Table};
+use crate::table::{Ahead, Table};
 use std::io::{Read, Write};
 use tds_columns::{Columns, take_into};
 use tds_csv::Sink;
@@ -39,6 +41,7 @@ impl<'r, 't, 'p, 's, 'c, R: Read, W: Write> Rows<'r, 't, 'p, 's, 'c, R, W> {
     fn put_next(&mut self, at: Ahead<'c>, form: &Form, null: bool) -> Result<(), Stop>
         requires in_row { IsInRow self.old }
         requires within { at.column < self.old.table.now.count }
+        requires laid { IsLaidOut self.old.table.now.charset form.now.kind form.now.layout }
         ensures leaves { LeavesRows self.old self.new result }
         ensures gives { NextRead R.remaining W.contents at.entry form.now.kind null self.old self.new result }
     {

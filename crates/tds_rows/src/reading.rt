@@ -1,20 +1,25 @@
 // The reading of a row's cells (MS-TDS, ROW).
-ghost use Rattle.std.specs.Prelude.{◌≡◌, ◌<◌, false, IsTrue};
-ghost use Rattle.tds_rows.specs.RowReading.{CellRead, IsInRow, LeavesRows, LongRead};
+ghost use Rattle.std.specs.Prelude.{◌<◌, IsTrue};
+ghost use Rattle.tds_csv.specs.Fields.{conversion_of};
+ghost use Rattle.tds_rows.specs.Cells.{long_start};
+ghost use Rattle.tds_rows.specs.Layouts.{IsLaidOut};
+ghost use Rattle.tds_rows.specs.RowReading.{CellRead, ContentRead, IsInRow, LeavesRows};
 ghost use Rattle.tds_values.specs.Kind as kinds;
 
-use crate::Charset;
+use crate::form::{Form, Layout};
 use crate::gather::{bad_value, gather_scalar};
 use crate::long::stream_long;
 use crate::run::buffered::length_size;
 use crate::run::fields::CELL_ROOM;
 use crate::run::write_alone;
-use crate::table::{Ahead, Form, Table};
+use crate::table::{Ahead, Table};
 use std::io::{Read, Write};
-use tds_csv::{Cp1252Joiner, HexJoiner, Joiner, Sink, Utf8Joiner, Utf16Joiner, joiners_suit};
+use tds_csv::{
+    Content, Cp1252Joiner, HexJoiner, Joiner, Sink, Utf8Joiner, Utf16Joiner, joiners_suit,
+};
 use tds_meter::Area;
 use tds_packet::{Payload, Stop};
-use tds_values::Kind;
+use tds_values::Reach;
 
 /// The room for the text of a cell that no run took.
 const SHORT_TEXT: usize = 256;
@@ -47,31 +52,34 @@ impl<'r, 't, 'p, 's, 'c, R: Read, W: Write> Rows<'r, 't, 'p, 's, 'c, R, W> {
         self.sink.put(&text[..cell.made])
     }
 
-    // Reads the next cell of a long kind by a joiner, and puts its field.
-    fn put_joined(&mut self, column: u16, last: bool, kind: &Kind) -> Result<(), Stop>
-        requires in_row { IsInRow self.old }
-        requires long { kinds.is_scalar kind.now ≡ false }
+    // Reads the next cell, a long value of this content, by a joiner, and puts its field.
+    fn put_joined(
+        &mut self,
+        content: Content,
+        reach: Reach,
+        column: u16,
+        last: bool,
+    ) -> Result<(), Stop>
+        requires { IsInRow self.old }
         ensures leaves { LeavesRows self.old self.new result }
-        ensures gives { LongRead R.remaining W.contents column last kind.now self.old self.new result }
+        ensures gives { ContentRead R.remaining W.contents (long_start (conversion_of content) reach) column last
+            self.old self.new result }
     {
         joiners_suit();
         let (payload, sink) = (&mut *self.payload, &mut *self.sink);
-        match *kind {
-            Kind::Binary(reach) => {
+        match content {
+            Content::Binary => {
                 stream_long(payload, reach, column, last, &mut HexJoiner::new(), sink)
             }
-            Kind::Wide(reach) => {
+            Content::Utf16 => {
                 stream_long(payload, reach, column, last, &mut Utf16Joiner::new(), sink)
             }
-            Kind::Narrow(reach) => match self.table.charset {
-                Charset::Windows1252 => {
-                    stream_long(payload, reach, column, last, &mut Cp1252Joiner::new(), sink)
-                }
-                Charset::Utf8 => {
-                    stream_long(payload, reach, column, last, &mut Utf8Joiner::new(), sink)
-                }
-            },
-            _ => unreachable!(),
+            Content::Windows1252 => {
+                stream_long(payload, reach, column, last, &mut Cp1252Joiner::new(), sink)
+            }
+            Content::Utf8 => {
+                stream_long(payload, reach, column, last, &mut Utf8Joiner::new(), sink)
+            }
         }
     }
 
@@ -81,6 +89,7 @@ impl<'r, 't, 'p, 's, 'c, R: Read, W: Write> Rows<'r, 't, 'p, 's, 'c, R, W> {
     pub(crate) fn put_cell(&mut self, at: Ahead<'c>, form: &Form) -> Result<(), Stop>
         requires in_row { IsInRow self.old }
         requires within { at.column < self.old.table.now.count }
+        requires laid { IsLaidOut self.old.table.now.charset form.now.kind form.now.layout }
         ensures leaves { LeavesRows self.old self.new result }
         ensures gives { CellRead R.remaining W.contents at.entry form.now.kind self.old self.new result }
     {
@@ -91,9 +100,11 @@ impl<'r, 't, 'p, 's, 'c, R: Read, W: Write> Rows<'r, 't, 'p, 's, 'c, R, W> {
             self.payload.consume(cell.used);
             return self.sink.put(&text[..cell.made]);
         }
-        if form.kind.is_scalar() {
-            return self.put_gathered(at, form);
+        let (column, last) = (at.column, self.table.is_last(at));
+        match form.layout {
+            Layout::Fixed(_) | Layout::Counted => self.put_gathered(at, form),
+            Layout::Short(content) => self.put_joined(content, Reach::Short, column, last),
+            Layout::Chunked(content) => self.put_joined(content, Reach::Chunked, column, last),
         }
-        self.put_joined(at.column, self.table.is_last(at), &form.kind)
     }
 }

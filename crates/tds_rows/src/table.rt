@@ -1,35 +1,16 @@
 // What the cells of a description's columns need of them, known once for all its rows.
-ghost use Rattle.std.specs.Prelude.{◌≡◌, ◌==◌, ◌+◌, ◌<◌, ◌≤◌, get_or, IfSome, IsTrue, List};
-ghost use Rattle.tds_rows.specs.Layouts.{layout_of};
+ghost use Rattle.std.specs.Prelude.{◌≡◌, ◌==◌, ◌+◌, ◌<◌, ◌≤◌, get_or, IfSome, List};
+ghost use Rattle.tds_rows.specs.Forms.{AreLaidOut};
+ghost use Rattle.tds_rows.specs.Layouts.{IsLaidOut};
 ghost use Rattle.tds_rows.specs.declared.table.TheConstants.{TABLE_LENGTH};
-ghost use Rattle.tds_values.specs.Kind.{is_valid};
 
 use crate::Charset;
+use crate::form::Form;
 use tds_columns::{Columns, Walk};
 use tds_values::Kind;
 
 /// How many columns a table knows by itself. It takes 6 bytes for each, in a local variable.
 const TABLE_LENGTH: usize = 64;
-
-/// How the value of a cell is laid out in it.
-#[derive(Clone, Copy)]
-pub(crate) enum Layout {
-    /// Alone, and each value has this number of bytes.
-    Fixed(u8),
-    /// After a length of one byte, which is 0 for NULL.
-    Counted,
-    /// After the length or total of a long value.
-    Long,
-}
-
-/// What a cell needs of its column: the kind of its values, and how they are laid out.
-#[derive(Clone, Copy)]
-pub(crate) struct Form {
-    pub(crate) kind: Kind,
-    pub(crate) layout: Layout,
-    pub(crate) ghost valid: { IsTrue (is_valid kind) },
-    pub(crate) ghost laid: { layout ≡ layout_of kind },
-}
 
 /// The columns of a description: what the cells of the first ones need, the walk over those after,
 /// and the set of single-byte text.
@@ -43,6 +24,7 @@ pub(crate) struct Table<'a> {
     ghost most: { known ≤ TABLE_LENGTH },
     ghost few: { known ≤ count },
     ghost fits: { count ≤ 65535 },
+    ghost laid: { AreLaidOut charset forms },
 }
 
 /// A place between the cells of a row: how many columns come before it, and the walk over those ahead that
@@ -51,33 +33,6 @@ pub(crate) struct Table<'a> {
 pub(crate) struct Ahead<'a> {
     pub(crate) column: u16,
     walk: Walk<'a>,
-}
-
-// How the values of a kind are laid out in their cells.
-fn lay_out(kind: &Kind) -> Layout
-    requires { IsTrue (is_valid kind.now) }
-    ensures { result ≡ layout_of kind.now }
-{
-    if !kind.is_scalar() {
-        return Layout::Long;
-    }
-    match kind.fixed_length() {
-        Some(n) => Layout::Fixed(n),
-        None => Layout::Counted,
-    }
-}
-
-impl Form {
-    // What a cell of a kind needs.
-    fn of(kind: Kind) -> Form
-        requires { IsTrue (is_valid kind) }
-        ensures { result.kind ≡ kind }
-    {
-        Form {
-            kind,
-            layout: lay_out(&kind),
-        }
-    }
 }
 
 impl<'a> Table<'a> {
@@ -91,14 +46,14 @@ impl<'a> Table<'a> {
         ensures knows { Knows result (columns_of columns.entry.bytes.now) }
         ensures charset { result.charset ≡ charset }
     {
-        let mut forms = [Form::of(Kind::Int4); TABLE_LENGTH];
+        let mut forms = [Form::of(Kind::Int4, charset); TABLE_LENGTH];
         let mut known = 0;
         let mut rest = columns.walk();
         while known < TABLE_LENGTH {
             let Some(column) = rest.next() else {
                 break;
             };
-            forms[known] = Form::of(column.kind);
+            forms[known] = Form::of(column.kind, charset);
             known += 1;
         }
         Table {
@@ -132,6 +87,7 @@ impl<'a> Table<'a> {
     /// What the next cell needs; none at the row's end.
     #[inline(always)]
     pub(crate) fn form(&self, at: Ahead<'a>) -> Option<Form>
+        ensures laid { IfSome result (λ form. IsLaidOut self.now.charset form.kind form.layout) }
         ensures gives { (columns : List spec.Column) → Knows self.now columns → IsAhead self.now columns at.entry →
             NextForm columns at.entry result }
     {
@@ -140,7 +96,7 @@ impl<'a> Table<'a> {
         }
         let mut walk = at.walk;
         let column = walk.next()?;
-        Some(Form::of(column.kind))
+        Some(Form::of(column.kind, self.charset))
     }
 
     /// Where the number is in the next cell, at once or after a length of one byte, if the table knows that it is
@@ -204,6 +160,7 @@ impl<'a> Table<'a> {
     pub(crate) fn next(&self, at: Ahead<'a>) -> Option<(Form, Ahead<'a>)>
         ensures further { IfSome result (λ taken. at.entry.column < taken.1.column) }
         ensures within { IfSome result (λ taken. taken.1.column ≤ self.now.count) }
+        ensures laid { IfSome result (λ taken. IsLaidOut self.now.charset taken.0.kind taken.0.layout) }
         ensures gives { (columns : List spec.Column) → Knows self.now columns → IsAhead self.now columns at.entry →
             TakesForm self.now columns at.entry result }
     {

@@ -1,12 +1,13 @@
 // A cell of a scalar kind whose bytes are together.
 ghost use Rattle.std.specs.Prelude.{◌≡◌, ◌≤◌, ◌<◌, ◌⊎◌, false, true, length, IsTrue, IfSome, MatchOption};
-ghost use Rattle.tds_rows.specs.CellSteps.{CellWritten, HasInt4, scalar_size, value_length, value_start, whole_size};
+ghost use Rattle.tds_rows.specs.CellSteps.{CellWritten, HasInt4, value_start, whole_size};
+ghost use Rattle.tds_rows.specs.Layouts.{HasNoValue, HasValueAt, IsLaidOut};
 ghost use Rattle.tds_values.specs.Kind as kinds;
 
 use crate::Charset;
+use crate::form::{Form, Layout};
 use crate::run::fields::{CELL_ROOM, write_value};
 use crate::run::short::write_short;
-use crate::table::{Form, Layout};
 use tds_csv::write_null;
 use tds_values::Kind;
 
@@ -30,17 +31,13 @@ pub(crate) fn length_size(kind: &Kind) -> usize
     }
 }
 
-// Where the value of a cell is in these bytes, and how many it has: after its length, unless each value of
-// its kind has as many. None where its kind is a long one, or no length is there.
+// Where the value of a scalar cell is in these bytes, and how many it has: after its length, unless each value of
+// its kind has as many. None where no length is there, or the value is a long one.
 #[inline(always)]
-fn value_at(form: &Form, bytes: &[u8]) -> Option<(usize, usize)>
-    ensures scalar { IfSome result (λ at. IsTrue (kinds.is_scalar form.now.kind)) }
-    ensures gives { MatchOption result
-        ((kinds.is_scalar form.now.kind ≡ false)
-        ⊎ ((kinds.is_scalar form.now.kind ≡ true) × (length bytes.now < scalar_size form.now.kind bytes.now)))
-        (λ at. (at.0 ≡ value_start form.now.kind) × (at.1 ≡ value_length form.now.kind bytes.now)) }
+fn value_at(layout: Layout, bytes: &[u8]) -> Option<(usize, usize)>
+    ensures { MatchOption result (HasNoValue layout bytes.now) (λ at. HasValueAt layout bytes.now at.0 at.1) }
 {
-    match form.layout {
+    match layout {
         Layout::Fixed(n) => Some((0, n as usize)),
         Layout::Counted => {
             if bytes.is_empty() {
@@ -48,7 +45,7 @@ fn value_at(form: &Form, bytes: &[u8]) -> Option<(usize, usize)>
             }
             Some((1, bytes[0] as usize))
         }
-        Layout::Long => None,
+        Layout::Short(_) | Layout::Chunked(_) => None,
     }
 }
 
@@ -76,14 +73,18 @@ pub(crate) fn write_cell(
     bytes: &[u8],
     to: &mut [u8],
 ) -> Option<Written>
+    requires laid { IsLaidOut charset form.now.kind form.now.layout }
     requires room { CELL_ROOM ≤ length to.old }
     ensures used { IfSome result (λ written. written.used ≤ length bytes.now) }
     ensures most { IfSome result (λ written. written.made ≤ length to.old) }
     ensures whole { IfSome result (λ written. written.used ≡ whole_size form.now.kind bytes.now) }
     ensures gives { CellWritten charset form.now.kind column last bytes.now (length to.old) to.new result }
 {
-    let Some((start, n)) = value_at(form, bytes) else {
-        return write_short(form.kind, charset, column, last, bytes, to);
+    let Some((start, n)) = value_at(form.layout, bytes) else {
+        return match form.layout {
+            Layout::Short(content) => write_short(content, column, last, bytes, to),
+            _ => None,
+        };
     };
     let used = start + n;
     if bytes.len() < used {

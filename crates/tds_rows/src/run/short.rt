@@ -1,20 +1,18 @@
 // A cell of a short value whose bytes are together (MS-TDS, Data Stream Types).
 ghost use Rattle.std.specs.Prelude.{◌≡◌, ◌≤◌, length, IfSome};
-ghost use Rattle.tds_rows.specs.ShortCells.{ContentWritten, ShortWritten, short_size};
+ghost use Rattle.tds_rows.specs.ShortCells.{ShortWritten, short_size};
 ghost use Rattle.tds_csv.specs.Fields.{conversion_of};
 
-use crate::Charset;
 use crate::long::lengths::NULL_LENGTH;
 use crate::run::buffered::Written;
 use tds_csv::{
     Content, NULL_ROOM, field_room, write_comma, write_field, write_line_end, write_null,
 };
-use tds_values::{Kind, Reach};
 
-// Writes the cell of a short value of this content at the front of these bytes; none where it isn't whole, or
-// is no text, or where there isn't the room that its text may need.
-#[inline(always)]
-fn write_content(
+/// Writes the cell of a short value of this content at the front of these bytes; none where it isn't whole, or
+/// is no text, or where there isn't the room that its text may need.
+#[inline(never)]
+pub(crate) fn write_short(
     content: Content,
     column: u16,
     last: bool,
@@ -25,7 +23,7 @@ fn write_content(
     ensures used { IfSome result (λ written. written.used ≤ length bytes.now) }
     ensures most { IfSome result (λ written. written.made ≤ length to.old) }
     ensures whole { IfSome result (λ written. written.used ≡ short_size bytes.now) }
-    ensures gives { ContentWritten (conversion_of content) column last bytes.now (length to.old) to.new result }
+    ensures gives { ShortWritten (conversion_of content) column last bytes.now (length to.old) to.new result }
 {
     if bytes.len() < 2 {
         return None;
@@ -45,32 +43,4 @@ fn write_content(
     };
     let made = write_line_end(last, start + made, to);
     Some(Written { used, made })
-}
-
-// Writes the cell of a short value at the front of these bytes; none where it isn't whole, is no text or of
-// another kind, or where there isn't the room that its text may need.
-#[inline(never)]
-pub(crate) fn write_short(
-    kind: Kind,
-    charset: Charset,
-    column: u16,
-    last: bool,
-    bytes: &[u8],
-    to: &mut [u8],
-) -> Option<Written>
-    requires room { NULL_ROOM ≤ length to.old }
-    ensures used { IfSome result (λ written. written.used ≤ length bytes.now) }
-    ensures most { IfSome result (λ written. written.made ≤ length to.old) }
-    ensures whole { IfSome result (λ written. written.used ≡ short_size bytes.now) }
-    ensures gives { ShortWritten charset kind column last bytes.now (length to.old) to.new result }
-{
-    match kind {
-        Kind::Binary(Reach::Short) => write_content(Content::Binary, column, last, bytes, to),
-        Kind::Wide(Reach::Short) => write_content(Content::Utf16, column, last, bytes, to),
-        Kind::Narrow(Reach::Short) => match charset {
-            Charset::Windows1252 => write_content(Content::Windows1252, column, last, bytes, to),
-            Charset::Utf8 => write_content(Content::Utf8, column, last, bytes, to),
-        },
-        _ => None,
-    }
 }

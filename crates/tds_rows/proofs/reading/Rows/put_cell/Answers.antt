@@ -1,9 +1,19 @@
-use Rattle.std.proofs.Common.{◌≡◌, ◌∙◌, ◌+◌, ◌<◌, ◌≤◌, Bool, ap, length, subst, sym, take, arith, rules, length-take}
+use Rattle.std.proofs.Common.{◌≡◌, ◌∙◌, ◌+◌, ◌<◌, ◌≤◌, ℕ, refl, Bool, ap, length, subst, sym, take, arith, rules, length-take}
 use Rattle.tds_packet.specs.Payloads.{buffered, seen}
 use Rattle.tds_packet.specs.Seen.{Takes}
 use Rattle.tds_packet.proofs.Futures.{Takes-more}
-use Rattle.tds_rows.specs.Cells.{cell_start, shape}
-use Rattle.tds_rows.specs.RowReading.{LongRead}
+use Rattle.tds_rows.specs.Cells.{CellPart, ShortLength, Total, cell_start, shape}
+use Rattle.tds_rows.specs.CellSteps.{CellPut, FieldPut}
+use Rattle.tds_rows.specs.declared.Charset.{Charset}
+use Rattle.tds_rows.specs.declared.form.Layout.{Layout}
+use Rattle.tds_rows.specs.declared.form.Layout.TheVariants.{Short, Chunked}
+use Rattle.tds_rows.specs.Layouts.{IsLaidOut, shape_of_layout}
+use Rattle.tds_values.specs.declared.kind.Kind.{Kind}
+use Rattle.tds_packet.specs.declared.fault.Stop.{Stop}
+use Rattle.tds_packet.specs.declared.payload.Payload.{Payload}
+use Rattle.tds_csv.specs.declared.sink.Sink.{Sink}
+use Rattle.tds_csv.specs.Fields.{conversion_of}
+use Rattle.std.specs.Prelude.{List, Option, Result}
 use Rattle.tds_rows.specs.WholeCells.{WritesWhole}
 use Rattle.tds_rows.proofs.RunSteps.{put_whole}
 use Rattle.tds_rows.proofs.TableSteps.{last_one}
@@ -31,8 +41,23 @@ returns-clause-gives g c = λ last next.
     let writes = subst (λ l. WritesWhole from column last (take n l) text) c.buffered.ensures alone.writes.whole in
     put_whole c.put.result charset kind column last a b place place' g.W.Write.contents old.sink.now c.put.new.self bytes text c.requires.in_row.sink writes takes at few c.put.ensures
 
-pub returns-2-clause-gives : goal.returns-2-clause-gives
-returns-2-clause-gives g c = λ last next.
+-- a long value is that of its kind
+long_read : {R W U : Type 0} (remaining : R → Option (List ℕ)) (contents : W → Option (List ℕ)) (charset : Charset) (kind : Kind) (layout is : Layout) (start : CellPart) (column : ℕ) (end last : Bool) (old new : Payload R) (before after : Sink W) (r : Result U Stop)
+    → IsLaidOut charset kind layout → layout ≡ is → cell_start kind (shape_of_layout is) ≡ start → end ≡ last → FieldPut remaining contents start column end old new before after r → CellPut remaining contents charset kind column last old new before after r
+long_read remaining contents charset kind layout is start column end last old new before after r laid same begins e x =
+    subst (λ (p : CellPart). FieldPut remaining contents p column last old new before after r) (sym (ap (cell_start kind) (laid ∙ ap shape_of_layout same) ∙ begins))
+    (subst (λ (b : Bool). FieldPut remaining contents start column b old new before after r) e x)
+
+pub returns-in-Short-clause-gives : goal.returns-in-Short-clause-gives
+returns-in-Short-clause-gives g c = λ last next.
     let old = c.args.self.now in
-    let end = c.is_last.ensures ∙ last_one next.columns next.rest next.column c.args.at.column old.table.now.count next.knows.counted next.next ∙ sym next.last in
-    subst (λ (e : Bool). LongRead g.R.Read.remaining g.W.Write.contents c.args.at.column e c.args.form.now.kind old c.put_joined.new.self c.put_joined.result) end c.put_joined.ensures.gives
+    let end = c.is_last-last.ensures ∙ last_one next.columns next.rest next.column c.args.at.column old.table.now.count next.knows.counted next.next ∙ sym next.last in
+    long_read g.R.Read.remaining g.W.Write.contents old.table.now.charset c.args.form.now.kind c.args.form.now.layout (Short c.in-Short.content) (ShortLength (conversion_of c.in-Short.content)) c.args.at.column c.is_last-last.result last
+    old.payload.now c.put_joined.new.self.payload.now old.sink.now c.put_joined.new.self.sink.now c.put_joined.result c.requires.laid c.in-Short.is refl end c.put_joined.ensures.gives
+
+pub returns-in-Chunked-clause-gives : goal.returns-in-Chunked-clause-gives
+returns-in-Chunked-clause-gives g c = λ last next.
+    let old = c.args.self.now in
+    let end = c.is_last-last.ensures ∙ last_one next.columns next.rest next.column c.args.at.column old.table.now.count next.knows.counted next.next ∙ sym next.last in
+    long_read g.R.Read.remaining g.W.Write.contents old.table.now.charset c.args.form.now.kind c.args.form.now.layout (Chunked c.in-Chunked.content) (Total (conversion_of c.in-Chunked.content)) c.args.at.column c.is_last-last.result last
+    old.payload.now c.put_joined-in-Chunked.new.self.payload.now old.sink.now c.put_joined-in-Chunked.new.self.sink.now c.put_joined-in-Chunked.result c.requires.laid c.in-Chunked.is refl end c.put_joined-in-Chunked.ensures.gives

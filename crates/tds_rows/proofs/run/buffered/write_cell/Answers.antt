@@ -3,6 +3,7 @@ use Rattle.tds_rows.specs.Cells.{cell_start, shape}
 use Rattle.tds_rows.specs.CellSteps.{IsValueText}
 use Rattle.tds_rows.specs.WholeCells.{WritesCell}
 use Rattle.tds_rows.proofs.BufferedCells.{null_cell, refused_left, value_cell}
+use Rattle.tds_rows.proofs.LaidOut.{value_there}
 use Rattle.tds_rows.proofs.RunSteps.{writes_scalar}
 use Rattle.tds_rows.proofs.run.buffered.write_cell.Goals as goal
 
@@ -10,22 +11,22 @@ pub returns-then-n-eq0-clause-gives : goal.returns-then-n-eq0-clause-gives
 returns-then-n-eq0-clause-gives c =
     let kind = c.args.form.now.kind in
     let text = take c.write_null-made.result c.write_null-made.new.to in
-    let at = c.in-Some.ensures.gives in
+    let at = value_there c.args.charset kind c.args.form.now.layout c.args.bytes.now c.in-Some.start c.in-Some.n c.requires.laid c.in-Some.ensures in
     writes_scalar c.args.charset kind c.args.column c.args.last (take (c.in-Some.start + c.in-Some.n) c.args.bytes.now) text (λ charset.
     subst (λ (n : ℕ). WritesCell (cell_start kind (shape charset kind)) c.args.column c.args.last (take (c.in-Some.start + n) c.args.bytes.now) text) (sym c.if-n-eq0.true)
-    (null_cell charset kind c.args.column c.args.last c.args.bytes.now text (search (arith, rules)) c.in-Some.start at.0 (sym at.1 ∙ c.if-n-eq0.true) (search (arith, rules)) c.write_null-made.ensures.text))
+    (null_cell charset kind c.args.column c.args.last c.args.bytes.now text at.0 c.in-Some.start at.1.0 (sym at.1.1 ∙ c.if-n-eq0.true) (search (arith, rules)) c.write_null-made.ensures.text))
 
 pub returns-in-Some-write_value-clause-gives : goal.returns-in-Some-write_value-clause-gives
 returns-in-Some-write_value-clause-gives c =
-    let at = c.in-Some.ensures.gives in
+    let at = value_there c.args.charset c.args.form.now.kind c.args.form.now.layout c.args.bytes.now c.in-Some.start c.in-Some.n c.requires.laid c.in-Some.ensures in
     let start = c.in-Some.start in
     let text = take c.in-Some-write_value.made c.write_value.new.to in
     let behind : (start + c.in-Some.n) - start ≡ c.in-Some.n = omega arith in
     writes_scalar c.args.charset c.args.form.now.kind c.args.column c.args.last (take (start + c.in-Some.n) c.args.bytes.now) text (λ charset.
-    value_cell charset c.args.form.now.kind c.args.column c.args.last c.args.bytes.now text (search (arith, rules)) start c.in-Some.n at.0 at.1 c.if-n-eq0.false (search (arith, rules))
+    value_cell charset c.args.form.now.kind c.args.column c.args.last c.args.bytes.now text at.0 start c.in-Some.n at.1.0 at.1.1 c.if-n-eq0.false (search (arith, rules))
     (subst (λ (m : ℕ). IsValueText c.args.form.now.kind c.args.column c.args.last (take m (drop start c.args.bytes.now)) text) behind c.in-Some-write_value.ensures.gives))
 
 pub returns-in-None-clause-gives : goal.returns-in-None-clause-gives
 returns-in-None-clause-gives c =
-    let at = c.in-Some.ensures.gives in
-    inl (c.in-Some.ensures.scalar, refused_left c.args.form.now.kind c.args.bytes.now c.in-Some.start c.in-Some.n at.0 at.1 c.if-n-eq0.false c.in-None.ensures.gives)
+    let at = value_there c.args.charset c.args.form.now.kind c.args.form.now.layout c.args.bytes.now c.in-Some.start c.in-Some.n c.requires.laid c.in-Some.ensures in
+    inl (at.0, refused_left c.args.form.now.kind c.args.bytes.now c.in-Some.start c.in-Some.n at.1.0 at.1.1 c.if-n-eq0.false c.in-None.ensures.gives)

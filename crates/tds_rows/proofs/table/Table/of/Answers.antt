@@ -1,8 +1,19 @@
 use Rattle.std.proofs.Common.{◌∙◌, sym, arith, rules}
 use Rattle.tds_columns.specs.Walking.{column_value, columns_left}
 use Rattle.tds_columns.specs.View.{columns_of}
+use Rattle.tds_rows.proofs.LaidOut.{laid_all, laid_set}
 use Rattle.tds_rows.proofs.TableSteps.{first_more, next_column}
 use Rattle.tds_rows.proofs.table.Table.of.Goals as goal
+
+pub loop-known-init : goal.loop-known-init
+loop-known-init c = record {
+  most = search (arith, rules);
+  few = search (arith, rules);
+  whole = search (arith, rules);
+  first = search (arith, rules);
+  laid = laid_all c.args.charset 64 c.of-forms.result c.of-forms.ensures.laid;
+  rest = search (arith, rules);
+}
 
 pub loop-known-preserved : goal.loop-known-preserved
 loop-known-preserved c =
@@ -14,6 +25,7 @@ loop-known-preserved c =
       most = search (arith, rules);
       few = omega (arith, next.0);
       whole = search (arith, rules);
-      first = first_more c.loop-known.forms columns c.loop-known.known c.of.result (column_value c.in-Some.column) (columns_left c.next.new.self) (omega (arith, inv.whole, c.loop-known-test.true)) inv.first step c.of.ensures;
+      first = first_more c.loop-known.forms columns c.loop-known.known c.of.result (column_value c.in-Some.column) (columns_left c.next.new.self) (omega (arith, inv.whole, c.loop-known-test.true)) inv.first step c.of.ensures.kind;
+      laid = laid_set c.args.charset c.loop-known.forms c.loop-known.known c.of.result inv.laid (omega (arith, inv.whole, c.loop-known-test.true)) c.of.ensures.laid;
       rest = sym next.1.1;
     }

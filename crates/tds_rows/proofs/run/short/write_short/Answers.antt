@@ -7,7 +7,7 @@ use Rattle.tds_csv.specs.Conversion.{is_fit, long_field}
 use Rattle.tds_csv.specs.Fields.{conversion_of}
 use Rattle.tds_rows.proofs.LineTexts.{value_text}
 use Rattle.tds_rows.proofs.ShortCells.{short_null, short_value}
-use Rattle.tds_rows.proofs.run.short.write_content.Goals as goal
+use Rattle.tds_rows.proofs.run.short.write_short.Goals as goal
 
 pub returns-then-n-clause-gives : goal.returns-then-n-clause-gives
 returns-then-n-clause-gives c =

@@ -1,0 +1,9 @@
+-- The forms that a table knows.
+use Rattle.std.specs.Prelude.{◌<◌, ℕ, List, length, get_or}
+use Rattle.tds_rows.specs.declared.Charset.{Charset}
+use Rattle.tds_rows.specs.declared.form.Form.{Form}
+use Rattle.tds_rows.specs.Layouts.{IsLaidOut}
+
+-- The values of each of these forms' kinds are laid out as it says, where single-byte text is in this set.
+abbrev pub AreLaidOut : Charset → List Form → Type 0
+AreLaidOut charset forms = (k : ℕ) (form : Form) → k < length forms → IsLaidOut charset (get_or forms k form).kind (get_or forms k form).layout
