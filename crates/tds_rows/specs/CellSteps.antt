@@ -1,5 +1,6 @@
 -- What reading a cell and putting it into its line does.
-use Rattle.std.specs.Prelude.{◌≡◌, ◌==◌, ◌⊎◌, ◌+◌, ◌<◌, ◌≤◌, ℕ, zero, suc, Bool, true, false, List, [], ◌∷◌, length, take, drop, slice_index, is_ok, Option, Some, None, Result, Ok, MatchOption, MatchResult, if◌then◌else◌}
+use Rattle.std.specs.Prelude.{◌≡◌, ◌==◌, ◌⊎◌, ◌+◌, ◌<◌, ◌≤◌, ℕ, zero, suc, Bool, true, false, List, [], ◌∷◌, length, max, take, drop, slice_index, is_ok, Option, Some, None, Result, Ok, MatchOption, MatchResult, if◌then◌else◌}
+use Rattle.tds_meter.specs.Space.{Space}
 use Rattle.tds_values.specs.declared.kind.Kind.{Kind}
 use Rattle.tds_values.specs.declared.kind.Kind.TheVariants.{Int4, IntN}
 use Rattle.tds_values.specs.declared.scalar.ScalarValue.{ScalarValue}
@@ -10,7 +11,7 @@ use Rattle.tds_packet.specs.declared.fault.Fault.TheVariants.{BadValue}
 use Rattle.tds_packet.specs.declared.fault.Place.TheVariants.{Payload}
 use Rattle.tds_packet.specs.declared.fault.Stop.{Stop}
 use Rattle.tds_packet.specs.declared.payload.Payload as payloads
-use Rattle.tds_packet.specs.Payloads.{seen}
+use Rattle.tds_packet.specs.Payloads.{IsGoing, LeavesPayload, seen}
 use Rattle.tds_packet.specs.Reading.{StopsReading}
 use Rattle.tds_packet.specs.Seen.{Seen, Takes, IsBetween}
 use Rattle.tds_columns.specs.Description.{Column}
@@ -19,6 +20,7 @@ use Rattle.tds_csv.specs.declared.sink.Sink.{Sink}
 use Rattle.tds_csv.specs.Sinks.{Held, held}
 use Rattle.tds_csv.specs.Streaming.{StopsStreaming, Streams}
 use Rattle.tds_rows.specs.declared.Charset.{Charset}
+use Rattle.tds_rows.specs.declared.gather.TheConstants.{LONGEST_CELL}
 use Rattle.tds_rows.specs.declared.run.buffered.Written.{Written}
 use Rattle.tds_rows.specs.ShortCells.{IsShortLeft, short_conversion, short_size}
 use Rattle.tds_rows.specs.WholeCells.{WritesCell, WritesWhole}
@@ -140,6 +142,18 @@ pub record GathersCell (kind : Kind) (from : CellPart) (column : ℕ) (old new :
   pub place_is : place' ≡ place + length bytes
   pub refused : 0 < value_length kind bytes → is_ok (read_of kind (value_bytes kind bytes)) ≡ false
       → StallsCell from column old new place (record { fault = BadValue column; place = Payload (place + value_start kind) })
+
+-- A cell is to be gathered: the payload hands out bytes, and this area is empty and has room for the longest.
+pub record IsGathering {R : Type 0} (p : payloads.Payload R) (small : Space) : Type 0 where
+  pub payload : IsGoing p
+  pub empty : small.bytes ≡ []
+  pub room : LONGEST_CELL ≤ small.room
+
+-- A call left the payload sound, on the same reader and area, and going where it answered no error, with no more than a cell gathered in this area.
+pub record LeavesGathering {R U : Type 0} (old new : payloads.Payload R) (before after : Space) (result : Result U Stop) : Type 0 where
+  pub payload : LeavesPayload old new result
+  pub room : after.room ≡ before.room
+  pub bound : after.peak ≤ max before.peak LONGEST_CELL
 
 -- These bytes, those of a scalar cell, were read from this state on; or the reading stopped.
 abbrev pub CellGathered : {R U : Type 0} → (R → Option (List ℕ)) → Kind → CellPart → ℕ → payloads.Payload R → payloads.Payload R → List ℕ → Result U Stop → Type 0

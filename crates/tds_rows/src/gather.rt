@@ -1,8 +1,8 @@
 // The bytes of a cell, gathered in the small area from one packet or more.
-ghost use Rattle.std.specs.Prelude.{◌≡◌, ◌≤◌, [], None, Some, max, IsTrue};
-ghost use Rattle.tds_packet.specs.Payloads.{IsGoing, LeavesPayload};
+ghost use Rattle.std.specs.Prelude.{◌≡◌, ◌≤◌, None, Some, IsTrue};
+ghost use Rattle.tds_packet.specs.Payloads.{IsGoing};
 ghost use Rattle.tds_rows.specs.Cells.{ScalarBytes, ScalarLength, cell_start, shape};
-ghost use Rattle.tds_rows.specs.CellSteps.{CellGathered};
+ghost use Rattle.tds_rows.specs.CellSteps.{CellGathered, IsGathering, LeavesGathering};
 ghost use Rattle.tds_rows.specs.declared.Charset as sets;
 ghost use Rattle.tds_values.specs.Kind as kinds;
 
@@ -47,14 +47,10 @@ fn gather_fixed<R: Read>(
     column: u16,
     small: &mut Area,
 ) -> Result<(), Stop>
-    requires going { IsGoing payload.old }
-    requires empty { small.old.bytes ≡ [] }
-    requires room { LONGEST_CELL ≤ small.old.room }
+    requires gathering { IsGathering payload.old small.old }
     requires fixed { kinds.fixed_length kind.now ≡ Some n }
     requires longest { n ≤ LONGEST_VALUE }
-    ensures payload { LeavesPayload payload.old payload.new result }
-    ensures room { small.new.room ≡ small.old.room }
-    ensures bound { small.new.peak ≤ max small.old.peak LONGEST_CELL }
+    ensures leaves { LeavesGathering payload.old payload.new small.old small.new result }
     ensures gives { CellGathered R.remaining kind.now (ScalarBytes kind.now n) column
         payload.old payload.new small.new.bytes result }
 {
@@ -68,15 +64,11 @@ fn gather_counted<R: Read>(
     column: u16,
     small: &mut Area,
 ) -> Result<(), Stop>
-    requires going { IsGoing payload.old }
+    requires gathering { IsGathering payload.old small.old }
     requires valid { IsTrue (kinds.is_valid kind.now) }
     requires scalar { IsTrue (kinds.is_scalar kind.now) }
-    requires empty { small.old.bytes ≡ [] }
-    requires room { LONGEST_CELL ≤ small.old.room }
     requires counted { kinds.fixed_length kind.now ≡ None }
-    ensures payload { LeavesPayload payload.old payload.new result }
-    ensures room { small.new.room ≡ small.old.room }
-    ensures bound { small.new.peak ≤ max small.old.peak LONGEST_CELL }
+    ensures leaves { LeavesGathering payload.old payload.new small.old small.new result }
     ensures gives { CellGathered R.remaining kind.now (ScalarLength kind.now) column
         payload.old payload.new small.new.bytes result }
 {
@@ -103,9 +95,7 @@ pub(crate) fn gather_scalar<R: Read>(
     requires valid { IsTrue (kinds.is_valid kind.now) }
     requires scalar { IsTrue (kinds.is_scalar kind.now) }
     requires room { LONGEST_CELL ≤ small.old.room }
-    ensures payload { LeavesPayload payload.old payload.new result }
-    ensures room { small.new.room ≡ small.old.room }
-    ensures bound { small.new.peak ≤ max small.old.peak LONGEST_CELL }
+    ensures leaves { LeavesGathering payload.old payload.new small.old small.new result }
     ensures gives { (charset : sets.Charset) →
         CellGathered R.remaining kind.now (cell_start kind.now (shape charset kind.now)) column
         payload.old payload.new small.new.bytes result }

@@ -1,12 +1,13 @@
 // Long values (MS-TDS, Data Stream Types).
 ghost use Rattle.std.specs.Prelude.{◌≡◌, ℕ, ◌<◌, List, [], ◌++◌, false, IfErr, None};
 ghost use Rattle.tds_csv.specs.Conversion.{Conversion, Suits};
-ghost use Rattle.tds_csv.specs.Sinks.{IsReady, IsWriting, LeavesSink};
-ghost use Rattle.tds_packet.specs.Payloads.{IsGoing, IsSound, LeavesPayload};
+ghost use Rattle.tds_csv.specs.Sinks.{IsReady, LeavesSink};
+ghost use Rattle.tds_packet.specs.Payloads.{IsSound, LeavesPayload};
 ghost use Rattle.tds_meter.specs.Counts.{one_more};
 ghost use Rattle.tds_rows.specs.Blames.{Blames, failures_of};
 ghost use Rattle.tds_rows.specs.Cells.{Cell, ChunkLength, LongShape, ShortLength, SpellsCell, Total, long_start};
 ghost use Rattle.tds_rows.specs.CellSteps.{FieldPut};
+ghost use Rattle.tds_rows.specs.LongReading.{IsJoining, LeavesBoth};
 ghost use Rattle.tds_rows.specs.RowSteps.{StopsAgain};
 ghost use Rattle.tds_rows.specs.Successes.{SucceedsOn};
 ghost use Rattle.tds_values.specs.declared.kind.Kind.{Kind};
@@ -31,13 +32,10 @@ fn stream_short<J: Joiner, R: Read, W: Write>(
     joiner: &mut J,
     sink: &mut Sink<W>,
 ) -> Result<(), Stop>
-    requires going { IsGoing payload.old }
-    requires writing { IsWriting sink.old }
+    requires joining { IsJoining J.begins (J.withheld joiner.old) payload.old sink.old }
     requires unit { 0 < J.UNIT }
     requires withheld { J.withheld joiner.old ≡ [] }
-    requires begun { J.begins (J.withheld joiner.old) }
-    ensures payload { LeavesPayload payload.old payload.new result }
-    ensures sink { LeavesSink sink.old sink.new result }
+    ensures leaves { LeavesBoth payload.old payload.new sink.old sink.new result }
     ensures blames { Blames (failures_of payload.old sink.old) (failures_of payload.new sink.new) result }
     ensures gives { (c : Conversion) → Suits J.fit J.begins J.rest J.text J.UNIT J.QUOTED c →
         FieldPut R.remaining W.contents (ShortLength c) column last payload.old payload.new sink.old sink.new result }
@@ -62,13 +60,10 @@ fn stream_chunks<J: Joiner, R: Read, W: Write>(
     joiner: &mut J,
     sink: &mut Sink<W>,
 ) -> Result<(), Stop>
-    requires going { IsGoing payload.old }
-    requires writing { IsWriting sink.old }
+    requires joining { IsJoining J.begins (J.withheld joiner.old) payload.old sink.old }
     requires unit { 0 < J.UNIT }
     requires withheld { J.withheld joiner.old ≡ [] }
-    requires begun { J.begins (J.withheld joiner.old) }
-    ensures payload { LeavesPayload payload.old payload.new result }
-    ensures sink { LeavesSink sink.old sink.new result }
+    ensures leaves { LeavesBoth payload.old payload.new sink.old sink.new result }
     ensures blames { Blames (failures_of payload.old sink.old) (failures_of payload.new sink.new) result }
     ensures gives { (c : Conversion) → Suits J.fit J.begins J.rest J.text J.UNIT J.QUOTED c →
         FieldPut R.remaining W.contents (ChunkLength c total []) column last payload.old payload.new sink.old sink.new result }
@@ -93,13 +88,10 @@ fn stream_chunked<J: Joiner, R: Read, W: Write>(
     joiner: &mut J,
     sink: &mut Sink<W>,
 ) -> Result<(), Stop>
-    requires going { IsGoing payload.old }
-    requires writing { IsWriting sink.old }
+    requires joining { IsJoining J.begins (J.withheld joiner.old) payload.old sink.old }
     requires unit { 0 < J.UNIT }
     requires withheld { J.withheld joiner.old ≡ [] }
-    requires begun { J.begins (J.withheld joiner.old) }
-    ensures payload { LeavesPayload payload.old payload.new result }
-    ensures sink { LeavesSink sink.old sink.new result }
+    ensures leaves { LeavesBoth payload.old payload.new sink.old sink.new result }
     ensures blames { Blames (failures_of payload.old sink.old) (failures_of payload.new sink.new) result }
     ensures gives { (c : Conversion) → Suits J.fit J.begins J.rest J.text J.UNIT J.QUOTED c →
         FieldPut R.remaining W.contents (Total c) column last payload.old payload.new sink.old sink.new result }
@@ -120,13 +112,10 @@ pub(crate) fn stream_long<J: Joiner, R: Read, W: Write>(
     joiner: &mut J,
     sink: &mut Sink<W>,
 ) -> Result<(), Stop>
-    requires going { IsGoing payload.old }
-    requires writing { IsWriting sink.old }
+    requires joining { IsJoining J.begins (J.withheld joiner.old) payload.old sink.old }
     requires unit { 0 < J.UNIT }
     requires withheld { J.withheld joiner.old ≡ [] }
-    requires begun { J.begins (J.withheld joiner.old) }
-    ensures payload { LeavesPayload payload.old payload.new result }
-    ensures sink { LeavesSink sink.old sink.new result }
+    ensures leaves { LeavesBoth payload.old payload.new sink.old sink.new result }
     ensures blames { Blames (failures_of payload.old sink.old) (failures_of payload.new sink.new) result }
     ensures gives { (c : Conversion) → Suits J.fit J.begins J.rest J.text J.UNIT J.QUOTED c →
         FieldPut R.remaining W.contents (long_start c reach) column last payload.old payload.new sink.old sink.new result }

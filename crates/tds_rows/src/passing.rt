@@ -3,7 +3,7 @@ ghost use Rattle.std.specs.Prelude.{◌≡◌, ◌≤◌, ◌<◌, true, false, 
 ghost use Rattle.tds_csv.specs.Conversion.{Conversion};
 ghost use Rattle.tds_packet.specs.Payloads.{IsGoing, IsSound, LeavesPayload};
 ghost use Rattle.tds_rows.specs.Cells.{LongShape, ShortLength, cell_start, return_charset, shape};
-ghost use Rattle.tds_rows.specs.CellSteps.{scalar_size};
+ghost use Rattle.tds_rows.specs.CellSteps.{LeavesGathering, scalar_size};
 ghost use Rattle.tds_rows.specs.PassedCells.{AnyData, CellPassed, DataPassed, IsGoodValue, IsRefusedValue, PiecePassed};
 ghost use Rattle.tds_values.specs.Kind as kinds;
 ghost use Rattle.tds_values.specs.declared.kind.Kind.{Kind};
@@ -70,9 +70,7 @@ fn pass_scalar<R: Read>(payload: &mut Payload<R>, kind: &Kind, small: &mut Area)
     requires valid { IsTrue (kinds.is_valid kind.now) }
     requires scalar { IsTrue (kinds.is_scalar kind.now) }
     requires room { LONGEST_CELL ≤ small.old.room }
-    ensures payload { LeavesPayload payload.old payload.new result }
-    ensures room { small.new.room ≡ small.old.room }
-    ensures bound { small.new.peak ≤ max small.old.peak LONGEST_CELL }
+    ensures leaves { LeavesGathering payload.old payload.new small.old small.new result }
     ensures gives { CellPassed R.remaining (cell_start kind.now (shape return_charset kind.now))
         payload.old payload.new result }
 {

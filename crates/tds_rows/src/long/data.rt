@@ -1,11 +1,11 @@
 // The data of long values, by pieces in the packet.
-ghost use Rattle.std.specs.Prelude.{◌≡◌, ◌≤◌, ◌<◌, ◌+◌, ◌^◌, ◌++◌, ℕ, List, IfOk};
+ghost use Rattle.std.specs.Prelude.{◌≡◌, ◌<◌, ◌+◌, ◌^◌, ◌++◌, ℕ, List, IfOk};
 ghost use Rattle.tds_csv.specs.Conversion.{Begins, Conversion, Suits, closing, conversion_rest};
 ghost use Rattle.tds_csv.specs.Quoting.{behind_comma, end_behind};
-ghost use Rattle.tds_csv.specs.Sinks.{IsReady, IsWriting, LeavesSink, PutsPiece};
-ghost use Rattle.tds_packet.specs.Payloads.{IsGoing, LeavesPayload};
+ghost use Rattle.tds_csv.specs.Sinks.{IsWriting, LeavesSink, PutsPiece};
 ghost use Rattle.tds_rows.specs.Blames.{Blames, failures_of, failures_with};
 ghost use Rattle.tds_rows.specs.LongCells.{DataTaken, EndPut, PieceTaken, good_of, join_stop, opening};
+ghost use Rattle.tds_rows.specs.LongReading.{IsJoining, LeavesJoining, StandsFurther};
 
 use std::io::{Read, Write};
 use tds_csv::{JoinFault, Joiner, Sink, write_comma, write_line_end};
@@ -76,16 +76,11 @@ fn push_piece<J: Joiner, R: Read, W: Write>(
     joiner: &mut J,
     sink: &mut Sink<W>,
 ) -> Result<u64, Stop>
-    requires going { IsGoing payload.old }
-    requires writing { IsWriting sink.old }
+    requires joining { IsJoining J.begins (J.withheld joiner.old) payload.old sink.old }
     requires some { 0 < most }
-    requires begun { J.begins (J.withheld joiner.old) }
-    ensures payload { LeavesPayload payload.old payload.new result }
-    ensures sink { LeavesSink sink.old sink.new result }
-    ensures begun { J.begins (J.withheld joiner.new) }
-    ensures some { IfOk result (λ n. 0 < n) }
-    ensures most { IfOk result (λ n. n ≤ most) }
-    ensures place { IfOk result (λ n. payload.new.place ≡ payload.old.place + n) }
+    ensures leaves { LeavesJoining J.begins (J.withheld joiner.new)
+        payload.old payload.new sink.old sink.new result }
+    ensures further { IfOk result (λ n. StandsFurther most payload.old payload.new n) }
     ensures blames { Blames (failures_of payload.old sink.old) (failures_of payload.new sink.new) result }
     ensures gives { (c : Conversion) (content : List ℕ) → Suits J.fit J.begins J.rest J.text J.UNIT J.QUOTED c →
         J.withheld joiner.old ≡ conversion_rest c content → Begins c content →
@@ -108,13 +103,10 @@ pub(crate) fn push_data<J: Joiner, R: Read, W: Write>(
     joiner: &mut J,
     sink: &mut Sink<W>,
 ) -> Result<(), Stop>
-    requires going { IsGoing payload.old }
-    requires writing { IsWriting sink.old }
+    requires joining { IsJoining J.begins (J.withheld joiner.old) payload.old sink.old }
     requires some { 0 < n }
-    requires begun { J.begins (J.withheld joiner.old) }
-    ensures payload { LeavesPayload payload.old payload.new result }
-    ensures sink { LeavesSink sink.old sink.new result }
-    ensures begun { J.begins (J.withheld joiner.new) }
+    ensures leaves { LeavesJoining J.begins (J.withheld joiner.new)
+        payload.old payload.new sink.old sink.new result }
     ensures place { IfOk result (λ _. payload.new.place ≡ payload.old.place + n) }
     ensures blames { Blames (failures_of payload.old sink.old) (failures_of payload.new sink.new) result }
     ensures gives { (c : Conversion) (content : List ℕ) → Suits J.fit J.begins J.rest J.text J.UNIT J.QUOTED c →

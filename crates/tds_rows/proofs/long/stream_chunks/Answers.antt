@@ -14,16 +14,16 @@ use Rattle.tds_rows.proofs.long.stream_chunks.Goals as goal
 
 pub loop-n-init : goal.loop-n-init
 loop-n-init g c = record {
-  going = c.requires.going;
-  writing = c.requires.writing;
+  going = c.requires.joining.payload;
+  writing = c.requires.joining.sink;
   same = search rules;
   same_sink = search rules;
-  begun = c.requires.begun;
+  begun = c.requires.joining.begun;
   few = omega arith;
   calm = refl;
   streamed = λ conversion suits.
       streamed_none c.args.column c.args.last conversion g.J.Joiner.UNIT suits.unit_is c.args.total (g.J.Joiner.withheld c.args.joiner.now) (seen g.R.Read.remaining c.args.payload.now) c.args.payload.now.place (held g.W.Write.contents c.args.sink.now)
-      (c.requires.withheld ∙ sym (rest_none conversion)) c.requires.writing.ready.2;
+      (c.requires.withheld ∙ sym (rest_none conversion)) c.requires.joining.sink.ready.2;
 }
 
 pub returns-in_err-n-clause-gives : goal.returns-in_err-n-clause-gives
@@ -82,11 +82,11 @@ loop-n-preserved g c =
     let l = c.loop-n in
     let done = c.in_ok-push_data.ensures in
     record {
-      going = record { sound = done.payload.sound; going = done.payload.going };
-      writing = record { ready = done.sink.ready; writing = done.sink.writing };
+      going = record { sound = done.leaves.payload.sound; going = done.leaves.payload.going };
+      writing = record { ready = done.leaves.sink.ready; writing = done.leaves.sink.writing };
       same = search rules;
       same_sink = search rules;
-      begun = done.begun;
+      begun = done.leaves.begun;
       calm = done.blames ∙ same_failures _ _ _ _ c.in_ok-n.ensures.gives.1.takes.4.0 refl ∙ l.invariant.calm;
       few = omega (arith, l.invariant.few, done.place, (c.in_ok-n.ensures.gives).1.place_is);
       streamed = λ conversion suits.
@@ -102,7 +102,7 @@ loop-n-preserved g c =
           let free = subst (λ (m : ℕ). chunk_length_fault c.args.column g.J.Joiner.UNIT c.args.total l.sum m ≡ None) (sym r.3) (subst (λ (u : ℕ). chunk_length_fault c.args.column u c.args.total l.sum r.0 ≡ None) c.UNIT.ensures r.2) in
           streamed_more c.args.column c.args.last conversion g.J.Joiner.UNIT suits.unit_is c.args.total (g.J.Joiner.withheld l.joiner) l.sum a b d c.args.payload.now.place l.payload.place there
           (held g.W.Write.contents c.args.sink.now) (held g.W.Write.contents l.sink) x n reads free c.if-n-eq0.false l.invariant.writing.ready.2 (g.J.Joiner.withheld c.push_data.new.joiner) e c.push_data.new.payload.place (held g.W.Write.contents c.push_data.new.sink)
-          done.sink.ready.2 (done.gives conversion x.content suits x.kept_is x.begun);
+          done.leaves.sink.ready.2 (done.gives conversion x.content suits x.kept_is x.begun);
     }
 
 pub returns-in_err-n-clause-blames : goal.returns-in_err-n-clause-blames

@@ -14,12 +14,12 @@ use Rattle.tds_rows.proofs.long.stream_short.Goals as goal
 pub returns-in_err-n-clause-gives : goal.returns-in_err-n-clause-gives
 returns-in_err-n-clause-gives g c = λ conversion suits.
     passed _ _ _ _ c.from_residual.ensures.1 (short_length_stops c.args.column c.args.last conversion c.UNIT.result (c.UNIT.ensures ∙ suits.unit_is) (seen g.R.Read.remaining c.args.payload.now) (seen g.R.Read.remaining c.read_short_length.new.payload) c.args.payload.now.place
-    (held g.W.Write.contents c.args.sink.now) c.args.sink.now.failed c.in_err-n.field-0.0 c.requires.writing.ready.2 c.requires.writing.writing c.in_err-n.ensures.gives)
+    (held g.W.Write.contents c.args.sink.now) c.args.sink.now.failed c.in_err-n.field-0.0 c.requires.joining.sink.ready.2 c.requires.joining.sink.writing c.in_err-n.ensures.gives)
 
 pub returns-in_default-clause-gives : goal.returns-in_default-clause-gives
 returns-in_default-clause-gives g c = λ conversion suits.
     short_null_puts g.W.Write.contents c.args.column c.args.last conversion c.UNIT.result (c.UNIT.ensures ∙ suits.unit_is) (seen g.R.Read.remaining c.args.payload.now) (seen g.R.Read.remaining c.read_short_length.new.payload) c.args.payload.now.place c.read_short_length.new.payload.place
-    c.in_ok-n.field-0 c.in_ok-n.ensures.gives c.in_default.is c.args.sink.now c.put_null.new.sink c.put_null.result (c.requires.writing.ready.1 c.requires.writing.writing) c.requires.writing.ready.2 c.requires.writing.writing c.put_null.ensures
+    c.in_ok-n.field-0 c.in_ok-n.ensures.gives c.in_default.is c.args.sink.now c.put_null.new.sink c.put_null.result (c.requires.joining.sink.ready.1 c.requires.joining.sink.writing) c.requires.joining.sink.ready.2 c.requires.joining.sink.writing c.put_null.ensures
 
 pub returns-in_err-put_opening-clause-gives : goal.returns-in_err-put_opening-clause-gives
 returns-in_err-put_opening-clause-gives g c = λ conversion suits.
@@ -31,9 +31,9 @@ returns-in_err-put_opening-clause-gives g c = λ conversion suits.
     let middle = c.read_short_length.new.payload.place in
     let x = short_read c.args.column c.UNIT.result a b place middle c.in-Some.n c.in_ok-n.field-0 c.in_ok-n.ensures.gives c.in-Some.is in
     let stop = c.in_err-put_opening.field-0.0 in
-    let breaks = subst (λ q. Breaks h i (behind_comma c.args.column (opening q)) stop) (c.QUOTED.ensures ∙ suits.quoted_is) (c.in_err-put_opening.ensures.gives c.requires.writing.writing) in
+    let breaks = subst (λ q. Breaks h i (behind_comma c.args.column (opening q)) stop) (c.QUOTED.ensures ∙ suits.quoted_is) (c.in_err-put_opening.ensures.gives c.requires.joining.sink.writing) in
     passed _ _ _ _ c.from_residual-in_err-put_opening.ensures.1 (short_opening_breaks c.args.column c.args.last conversion c.UNIT.result (c.UNIT.ensures ∙ suits.unit_is) a b place middle c.in-Some.n x.reads x.free x.some h i c.put_opening.new.sink.failed stop
-    (c.requires.writing.ready.1 c.requires.writing.writing) c.requires.writing.ready.2 c.in_err-put_opening.ensures.failed breaks)
+    (c.requires.joining.sink.ready.1 c.requires.joining.sink.writing) c.requires.joining.sink.ready.2 c.in_err-put_opening.ensures.failed breaks)
 
 pub returns-then-n-eq0-clause-gives : goal.returns-then-n-eq0-clause-gives
 returns-then-n-eq0-clause-gives g c = λ conversion suits.
@@ -52,7 +52,7 @@ returns-then-n-eq0-clause-gives g c = λ conversion suits.
     MatchResult-weaker c.put_end.result ended
     (λ _ y. empty_puts c.args.column c.args.last conversion c.UNIT.result unit_is a b place middle c.in-Some.n x.reads x.free x.some h i j c.if-n-eq0.true opened y.1)
     (λ stop y. empty_stops c.args.column c.args.last conversion c.UNIT.result unit_is a b place middle c.in-Some.n x.reads x.free x.some h i j c.put_end.new.sink.failed stop c.place.result
-    (c.requires.writing.ready.1 c.requires.writing.writing) c.requires.writing.ready.2 c.if-n-eq0.true opened y)
+    (c.requires.joining.sink.ready.1 c.requires.joining.sink.writing) c.requires.joining.sink.ready.2 c.if-n-eq0.true opened y)
 
 pub returns-in_err-push_data-clause-gives : goal.returns-in_err-push_data-clause-gives
 returns-in_err-push_data-clause-gives g c = λ conversion suits.
@@ -99,18 +99,18 @@ pub returns-in_err-n-clause-blames : goal.returns-in_err-n-clause-blames
 returns-in_err-n-clause-blames g c =
     let stop = c.in_err-n.field-0.0 in
     passed _ _ _ _ c.from_residual.ensures.1 (read_stops (failures_of c.args.payload.now c.args.sink.now) (failures_of c.read_short_length.new.payload c.args.sink.now) stop
-    (length_blames g.R.Read.remaining 2 (short_fault c.args.column c.UNIT.result) c.args.payload.now (seen g.R.Read.remaining c.read_short_length.new.payload) stop c.requires.going.going (short_none c.args.column c.UNIT.result) c.in_err-n.ensures.gives))
+    (length_blames g.R.Read.remaining 2 (short_fault c.args.column c.UNIT.result) c.args.payload.now (seen g.R.Read.remaining c.read_short_length.new.payload) stop c.requires.joining.payload.going (short_none c.args.column c.UNIT.result) c.in_err-n.ensures.gives))
 
 pub returns-in_default-clause-blames : goal.returns-in_default-clause-blames
 returns-in_default-clause-blames g c =
     let p = c.read_short_length.new.payload in
     blames_after (failures_of c.args.payload.now c.args.sink.now) (failures_of p c.args.sink.now) (failures_of p c.put_null.new.sink) c.put_null.result (same_failures _ _ _ _ c.in_ok-n.ensures.gives.1.takes.4.0 refl)
-    (piece_blames g.W.Write.contents p.from.now.failures c.args.sink.now c.put_null.new.sink _ c.put_null.result c.requires.writing.writing c.put_null.ensures)
+    (piece_blames g.W.Write.contents p.from.now.failures c.args.sink.now c.put_null.new.sink _ c.put_null.result c.requires.joining.sink.writing c.put_null.ensures)
 
 pub returns-in_err-put_opening-clause-blames : goal.returns-in_err-put_opening-clause-blames
 returns-in_err-put_opening-clause-blames g c =
     passed _ _ _ _ c.from_residual-in_err-put_opening.ensures.1 (write_stops (failures_of c.args.payload.now c.args.sink.now) (failures_of c.read_short_length.new.payload c.put_opening.new.sink) (held g.W.Write.contents c.args.sink.now) (held g.W.Write.contents c.put_opening.new.sink) _
-    c.in_err-put_opening.field-0.0 refl refl (c.in_err-put_opening.ensures.gives c.requires.writing.writing))
+    c.in_err-put_opening.field-0.0 refl refl (c.in_err-put_opening.ensures.gives c.requires.joining.sink.writing))
 
 pub returns-then-n-eq0-clause-blames : goal.returns-then-n-eq0-clause-blames
 returns-then-n-eq0-clause-blames g c =

@@ -10,17 +10,17 @@ use Rattle.tds_rows.proofs.long.data.push_data.Goals as goal
 
 pub loop-left-init : goal.loop-left-init
 loop-left-init g c = record {
-  going = c.requires.going;
-  writing = c.requires.writing;
+  going = c.requires.joining.payload;
+  writing = c.requires.joining.sink;
   same = search rules;
   same_sink = search rules;
-  begun = c.requires.begun;
+  begun = c.requires.joining.begun;
   some = c.requires.some;
   place = search rules;
   calm = refl;
   filled = λ conversion content suits is begun.
       filled_none conversion content begun c.args.n (g.J.Joiner.withheld c.args.joiner.now) (seen g.R.Read.remaining c.args.payload.now) c.args.payload.now.place (held g.W.Write.contents c.args.sink.now) is
-      (between_of g.R.Read.remaining c.args.payload.now c.requires.going.going) (c.requires.writing.ready.1 c.requires.writing.writing) c.requires.writing.ready.2;
+      (between_of g.R.Read.remaining c.args.payload.now c.requires.joining.payload.going) (c.requires.joining.sink.ready.1 c.requires.joining.sink.writing) c.requires.joining.sink.ready.2;
 }
 
 pub returns-in_err-left-clause-gives : goal.returns-in_err-left-clause-gives
@@ -41,7 +41,7 @@ returns-then-left-eq0-clause-gives g c = λ conversion content suits is begun.
     let k = c.in_ok-left.field-0 in
     let x = c.in_ok-left.ensures.gives conversion _ suits p.kept_is p.fills.begun in
     filled_ends conversion content begun c.args.n (w l.joiner) (w c.push_piece.new.joiner) l.left (seen g.R.Read.remaining c.args.payload.now) (seen g.R.Read.remaining l.payload) (seen g.R.Read.remaining c.push_piece.new.payload)
-    c.args.payload.now.place l.payload.place c.push_piece.new.payload.place (held g.W.Write.contents c.args.sink.now) (held g.W.Write.contents l.sink) (held g.W.Write.contents c.push_piece.new.sink) p k (omega (arith, c.in_ok-left.ensures.most, c.if-left-eq0.true)) x
+    c.args.payload.now.place l.payload.place c.push_piece.new.payload.place (held g.W.Write.contents c.args.sink.now) (held g.W.Write.contents l.sink) (held g.W.Write.contents c.push_piece.new.sink) p k (omega (arith, c.in_ok-left.ensures.further.within, c.if-left-eq0.true)) x
 
 pub loop-left-preserved : goal.loop-left-preserved
 loop-left-preserved g c =
@@ -49,21 +49,21 @@ loop-left-preserved g c =
     let w = g.J.Joiner.withheld in
     let done = c.in_ok-left.ensures in
     record {
-      going = record { sound = done.payload.sound; going = done.payload.going };
-      writing = record { ready = done.sink.ready; writing = done.sink.writing };
+      going = record { sound = done.leaves.payload.sound; going = done.leaves.payload.going };
+      writing = record { ready = done.leaves.sink.ready; writing = done.leaves.sink.writing };
       same = search rules;
       same_sink = search rules;
-      begun = done.begun;
+      begun = done.leaves.begun;
       some = omega (arith, c.if-left-eq0.false);
       calm = done.blames ∙ l.invariant.calm;
-      place = omega (arith, done.place, done.most, l.invariant.place);
+      place = omega (arith, done.further.place, done.further.within, l.invariant.place);
       filled = λ conversion content suits is begun.
           let p = l.invariant.filled conversion content suits is begun in
           let k = c.in_ok-left.field-0 in
           let x = done.gives conversion _ suits p.kept_is p.fills.begun in
           filled_more conversion content begun c.args.n (w l.joiner) (w c.push_piece.new.joiner) l.left (seen g.R.Read.remaining c.args.payload.now) (seen g.R.Read.remaining l.payload) (seen g.R.Read.remaining c.push_piece.new.payload)
-          c.args.payload.now.place l.payload.place c.push_piece.new.payload.place (held g.W.Write.contents c.args.sink.now) (held g.W.Write.contents l.sink) (held g.W.Write.contents c.push_piece.new.sink) p k done.most
-          (done.sink.ready.1 done.sink.writing) done.sink.ready.2 x;
+          c.args.payload.now.place l.payload.place c.push_piece.new.payload.place (held g.W.Write.contents c.args.sink.now) (held g.W.Write.contents l.sink) (held g.W.Write.contents c.push_piece.new.sink) p k done.further.within
+          (done.leaves.sink.ready.1 done.leaves.sink.writing) done.leaves.sink.ready.2 x;
     }
 
 pub returns-in_err-left-clause-blames : goal.returns-in_err-left-clause-blames

@@ -15,8 +15,8 @@ returns-in_err-piece-clause-gives g c = λ conversion content suits is begun.
     let h = c.piece.follows.holds-at-none in
     let stop = c.in_err-piece.field-0.0 in
     let k = at_err _ _ _ _ c.in_err-piece.was h.2 in
-    let there = stops_here g.R.Read.remaining c.args.payload.now (seen g.R.Read.remaining c.piece.follows.lender-at-none) stop c.requires.going.going k.0 in
-    passed _ _ _ _ c.from_residual.ensures.1 (inl (record { own = stop; ends = k.0; stop_is = there; same = refl }, c.requires.writing.writing))
+    let there = stops_here g.R.Read.remaining c.args.payload.now (seen g.R.Read.remaining c.piece.follows.lender-at-none) stop c.requires.joining.payload.going k.0 in
+    passed _ _ _ _ c.from_residual.ensures.1 (inl (record { own = stop; ends = k.0; stop_is = there; same = refl }, c.requires.joining.sink.writing))
 
 pub returns-in-Ok-clause-gives : goal.returns-in-Ok-clause-gives
 returns-in-Ok-clause-gives g c = λ conversion content suits is begun.
@@ -25,13 +25,17 @@ returns-in-Ok-clause-gives g c = λ conversion content suits is begun.
     piece_taken j.fit j.begins j.rest j.text j.UNIT j.QUOTED conversion suits content (j.withheld c.args.joiner.now) is begun (j.withheld c.push.new.self) c.in_ok-piece.piece.now (seen g.R.Read.remaining c.args.payload.now)
     (seen g.R.Read.remaining c.piece.follows.lender-at-none) c.args.payload.now.place c.piece.follows.lender-at-none.place (held g.W.Write.contents c.args.sink.now) (held g.W.Write.contents c.push.new.sink) c.in_ok-piece.ensures.len.0 k.0 k.1 k.2 c.in-Ok.ensures.gives
 
-pub returns-in-Ok-clause-place : goal.returns-in-Ok-clause-place
-returns-in-Ok-clause-place g c = (at_ok _ _ _ _ c.in_ok-piece.was c.piece.follows.holds-at-none.2).2
+pub returns-in-Ok-clause-further : goal.returns-in-Ok-clause-further
+returns-in-Ok-clause-further g c = record {
+  some = c.in_ok-piece.ensures.len.0;
+  within = omega (arith, c.in_ok-piece.ensures.len.1, c.min.ensures);
+  place = (at_ok _ _ _ _ c.in_ok-piece.was c.piece.follows.holds-at-none.2).2;
+}
 
 pub join_stop-requires : goal.join_stop-requires
 join_stop-requires g c =
     let j = g.J.Joiner in
-    let sound = c.requires.going.sound in
+    let sound = c.requires.joining.payload.sound in
     let few = good_within j.begins j.rest j.text (j.withheld c.args.joiner.now) (j.withheld c.push.new.self) (held g.W.Write.contents c.args.sink.now) (held g.W.Write.contents c.push.new.sink) c.args.sink.now.failed c.in_ok-piece.piece.now c.in-Err.fault c.in-Err.ensures.gives in
     omega (arith, few, c.in_ok-piece.ensures.len.1, c.min.ensures, c.place-place.ensures, sound.place, sound.wire, sound.limit)
 
@@ -41,7 +45,7 @@ returns-in-Err-clause-gives g c = λ conversion content suits is begun.
     let k = at_ok _ _ _ _ c.in_ok-piece.was c.piece.follows.holds-at-none.2 in
     rw (c.join_stop.ensures, c.place-place.ensures) (push_stops j.fit j.begins j.rest j.text j.UNIT j.QUOTED conversion suits content (j.withheld c.args.joiner.now) is begun (j.withheld c.push.new.self) c.in_ok-piece.piece.now c.args.column c.args.most
     (seen g.R.Read.remaining c.args.payload.now) (seen g.R.Read.remaining c.piece.follows.lender-at-none) c.args.payload.now.place (held g.W.Write.contents c.args.sink.now) (held g.W.Write.contents c.push.new.sink) c.args.sink.now.failed c.push.new.sink.failed c.in-Err.fault
-    (omega (arith, c.in_ok-piece.ensures.len.1, c.min.ensures)) k.0 k.1 c.requires.begun c.requires.writing.writing c.in-Err.ensures.failed c.in-Err.ensures.gives)
+    (omega (arith, c.in_ok-piece.ensures.len.1, c.min.ensures)) k.0 k.1 c.requires.joining.begun c.requires.joining.sink.writing c.in-Err.ensures.failed c.in-Err.ensures.gives)
 
 pub returns-in_err-piece-clause-blames : goal.returns-in_err-piece-clause-blames
 returns-in_err-piece-clause-blames g c =
@@ -49,7 +53,7 @@ returns-in_err-piece-clause-blames g c =
     let p = c.piece.follows.lender-at-none in
     let k = at_err _ _ _ _ c.in_err-piece.was c.piece.follows.holds-at-none.2 in
     passed _ _ _ _ c.from_residual.ensures.1 (read_stops (failures_of c.args.payload.now c.args.sink.now) (failures_of p c.args.sink.now) stop
-    (ends_blame g.R.Read.remaining c.args.payload.now (seen g.R.Read.remaining p) [] stop c.requires.going.going k.0))
+    (ends_blame g.R.Read.remaining c.args.payload.now (seen g.R.Read.remaining p) [] stop c.requires.joining.payload.going k.0))
 
 pub returns-in-Ok-clause-blames : goal.returns-in-Ok-clause-blames
 returns-in-Ok-clause-blames g c =
@@ -60,4 +64,4 @@ pub returns-in-Err-clause-blames : goal.returns-in-Err-clause-blames
 returns-in-Err-clause-blames g c =
     let j = g.J.Joiner in
     rw (c.join_stop.ensures) (push_blames j.begins j.rest j.text (j.withheld c.args.joiner.now) (j.withheld c.push.new.self) (held g.W.Write.contents c.args.sink.now) (held g.W.Write.contents c.push.new.sink) c.args.sink.now.failed c.in_ok-piece.piece.now c.args.column c.place-place.result
-    c.args.payload.now.from.now.failures c.piece.follows.lender-at-none.from.now.failures c.in-Err.fault c.requires.writing.writing c.in-Err.ensures.gives)
+    c.args.payload.now.from.now.failures c.piece.follows.lender-at-none.from.now.failures c.in-Err.fault c.requires.joining.sink.writing c.in-Err.ensures.gives)
