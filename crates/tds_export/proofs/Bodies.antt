@@ -19,7 +19,7 @@ use Rattle.tds_export.specs.declared.progress.Progress.{Progress}
 use Rattle.tds_export.specs.Tokens.{Token}
 use Rattle.tds_export.specs.TokenBytes.{Bodied}
 use Rattle.tds_export.specs.TokenGrammar.{Part, TokenBody, TokenLength, bodied, holds_notice, is_notice, part_fault, response, with_token}
-use Rattle.tds_export.specs.Steps.{IsHolding, ReadsTokens, StepStops, Tracks, behind, in_length}
+use Rattle.tds_export.specs.Steps.{IsHolding, ReadsTokens, StepStops, TracksBefore, behind, in_length}
 use Rattle.tds_export.proofs.TokenLaws.{bare_body, tracks_body}
 use Rattle.tds_export.proofs.TokenSteps.{bare_reads, part_cut, same_text}
 
@@ -51,11 +51,11 @@ module _ (charset : Charset) (room : ℕ) (tokens : List Token) (which : Bodied)
       (Spelt-step (response charset room) (in_body n) (x ∷ xs) to (omega arith) refl free refl)
 
   pub body_reads : (area : Space) (sink : Held) (progress : Progress) (element body : List ℕ) (n : ℕ) (a b c : Seen) (place middle place' : ℕ) → length element ≡ 2 → n ≡ little_number 2 element → length body ≡ n → middle ≡ place + length element → place' ≡ middle + n
-      → sink.delivered ≤ 2 ^ 64 - 1 → Tracks progress tokens → IsHolding area (behind tokens) → Takes a b element (length element) → Takes b c body n
-      → ReadsTokens (response charset room) (in_length which tokens) tokens a c place place' sink sink (record progress { is_final = false }) area
+      → sink.delivered ≤ 2 ^ 64 - 1 → TracksBefore progress tokens → IsHolding area (behind tokens) → Takes a b element (length element) → Takes b c body n
+      → ReadsTokens (response charset room) (in_length which tokens) tokens a c place place' sink sink progress area
   body_reads area sink progress element body n a b c place middle place' two is len at at' d tracks holds first second =
       let number : n ≡ little element = is ∙ ap (λ k. little_number k element) (sym two) in
-      bare_reads charset room area sink tokens (bodied which body) (TokenLength which) (record progress { is_final = false }) (element ++ body) a c place place' refl (bare_body which body) (omega (arith, at, at', len, length-append element body)) d
+      bare_reads charset room area sink tokens (bodied which body) (TokenLength which) progress (element ++ body) a c place place' refl (bare_body which body) (omega (arith, at, at', len, length-append element body)) d
       (tracks_body progress tokens which body quiet tracks) holds (body_spelt element body two (len ∙ number)) (takes_both a b c element body first (subst (Takes b c body) (sym len) second))
 
   pub body_stops : (area : Space) (sink : Held) (element part : List ℕ) (n : ℕ) (a b c : Seen) (place middle : ℕ) (failed : Bool) (own stop : Stop) → length element ≡ 2 → n ≡ little_number 2 element → middle ≡ place + length element

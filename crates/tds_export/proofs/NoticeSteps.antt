@@ -20,12 +20,12 @@ use Rattle.tds_export.specs.Outcome.{server_error}
 use Rattle.tds_export.specs.Tokens.{Error, Info, Token, first_error, how_many, is_error, message_text}
 use Rattle.tds_export.specs.TokenBytes.{AnError, AnInfo, Bodied}
 use Rattle.tds_export.specs.TokenGrammar.{Part, TokenLength, notice_of, response, text_so_far}
-use Rattle.tds_export.specs.Steps.{IsHolding, IsNoted, ReadsTokens, StepStops, Tracks, behind, in_length}
+use Rattle.tds_export.specs.Steps.{IsHolding, IsNoted, ReadsTokens, StepStops, TracksBefore, behind, in_length}
 use Rattle.tds_export.proofs.TokenLaws.{first_next, first_stays, no_errors, same_first, tracks_error, tracks_info}
 use Rattle.tds_export.proofs.TokenSteps.{bare_reads, same_text}
 
 -- what was read added no error, and the notice is the same
-pub quietly : (g : Grammar Part Fault) (from : Part) (tokens : List Token) (a b : Seen) (place place' : ℕ) (h k : Held) (s t : Progress) (area notice : Space) → Tracks s tokens → IsNoted notice tokens → t.report.errors ≡ s.report.errors → ReadsTokens g from tokens a b place place' h k t area
+pub quietly : (g : Grammar Part Fault) (from : Part) (tokens : List Token) (a b : Seen) (place place' : ℕ) (h k : Held) (s t : Progress) (area notice : Space) → TracksBefore s tokens → IsNoted notice tokens → t.report.errors ≡ s.report.errors → ReadsTokens g from tokens a b place place' h k t area
     → (x : ReadsTokens g from tokens a b place place' h k t area) × IsNoted notice (tokens ++ x.more)
 quietly g from tokens a b place place' h k s t area notice tracks noted same x =
     let added : how_many is_error (tokens ++ x.more) ≡ how_many is_error tokens = sym (ap (λ (r : Report). r.errors) x.tracks.report) ∙ same ∙ ap (λ (r : Report). r.errors) tracks.report in
@@ -59,29 +59,27 @@ module _ (charset : Charset) (room : ℕ) (tokens : List Token) (area : Space) (
       held_on at (inl e) = subst (IsHolding area) (sym e) (record { bytes = holds.bytes; peak = holds.peak })
       held_on at (inr e) = subst (IsHolding area) (sym e.1) (record { bytes = holds.bytes; peak = holds.peak })
 
-  module _ (s : Progress) (body : List ℕ) (a b : Seen) (place place' : ℕ) (notice : Space) (tracks : Tracks s tokens) (noted : IsNoted notice tokens) where
+  module _ (s : Progress) (body : List ℕ) (a b : Seen) (place place' : ℕ) (notice : Space) (tracks : TracksBefore s tokens) (noted : IsNoted notice tokens) where
     -- an INFO was read
     pub info_reads : ReadsNotice charset room tokens AnInfo a b place place' body
-        → (x : ReadsTokens (response charset room) (in_length AnInfo tokens) tokens a b place place' sink sink (record s { report = record s.report { infos = s.report.infos + 1 }; is_final = false }) area) × IsNoted notice (tokens ++ x.more)
+        → (x : ReadsTokens (response charset room) (in_length AnInfo tokens) tokens a b place place' sink sink (record s { report = record s.report { infos = s.report.infos + 1 } }) area) × IsNoted notice (tokens ++ x.more)
     info_reads x =
         let n = notice_of body in
-        let t : Progress = record s { report = record s.report { infos = s.report.infos + 1 }; is_final = false } in
-        quietly (response charset room) (in_length AnInfo tokens) tokens a b place place' sink sink s t area notice tracks noted refl
-        (bare_reads charset room area sink tokens (Info n) (TokenLength AnInfo) t x.reads.bytes a b place place' refl refl x.place_is d (tracks_info s tokens n tracks) holds x.reads.spelt x.reads.takes)
+        quietly (response charset room) (in_length AnInfo tokens) tokens a b place place' sink sink s _ area notice tracks noted refl
+        (bare_reads charset room area sink tokens (Info n) (TokenLength AnInfo) _ x.reads.bytes a b place place' refl refl x.place_is d (tracks_info s tokens n tracks) holds x.reads.spelt x.reads.takes)
 
     errors_are : s.report.errors ≡ how_many is_error tokens
     errors_are = ap (λ (r : Report). r.errors) tracks.report
 
     abbrev error_reads : (first : Option ServerError) → first ≡ option_map server_error (first_error (tokens ++ Error (notice_of body) ∷ [])) → ReadsNotice charset room tokens AnError a b place place' body
-        → ReadsTokens (response charset room) (in_length AnError tokens) tokens a b place place' sink sink (record s { report = record s.report { errors = s.report.errors + 1; first_error = first }; is_final = false }) area
+        → ReadsTokens (response charset room) (in_length AnError tokens) tokens a b place place' sink sink (record s { report = record s.report { errors = s.report.errors + 1; first_error = first } }) area
     error_reads first is x =
         let n = notice_of body in
-        let t : Progress = record s { report = record s.report { errors = s.report.errors + 1; first_error = first }; is_final = false } in
-        bare_reads charset room area sink tokens (Error n) (TokenLength AnError) t x.reads.bytes a b place place' refl refl x.place_is d (tracks_error s tokens n first is tracks) holds x.reads.spelt x.reads.takes
+        bare_reads charset room area sink tokens (Error n) (TokenLength AnError) _ x.reads.bytes a b place place' refl refl x.place_is d (tracks_error s tokens n first is tracks) holds x.reads.spelt x.reads.takes
 
     -- the first ERROR was read, and its message noted
     pub first_error_reads : (cleared after : Space) → s.report.errors ≡ 0 → cleared.bytes ≡ [] → cleared.room ≡ 512 → after ≡ appended cleared (whole_within (cleared.room - length cleared.bytes) (characters (notice_of body).message)) → ReadsNotice charset room tokens AnError a b place place' body
-        → (x : ReadsTokens (response charset room) (in_length AnError tokens) tokens a b place place' sink sink (record s { report = record s.report { errors = s.report.errors + 1; first_error = Some (server_error (notice_of body)) }; is_final = false }) area) × IsNoted after (tokens ++ x.more)
+        → (x : ReadsTokens (response charset room) (in_length AnError tokens) tokens a b place place' sink sink (record s { report = record s.report { errors = s.report.errors + 1; first_error = Some (server_error (notice_of body)) } }) area) × IsNoted after (tokens ++ x.more)
     first_error_reads cleared after none empty room_is put x =
         let n = notice_of body in
         let before : first_error tokens ≡ None = no_errors tokens (sym errors_are ∙ none) in
@@ -93,7 +91,7 @@ module _ (charset : Charset) (room : ℕ) (tokens : List Token) (area : Space) (
 
     -- a later ERROR was read
     pub later_error_reads : 0 < s.report.errors → ReadsNotice charset room tokens AnError a b place place' body
-        → (x : ReadsTokens (response charset room) (in_length AnError tokens) tokens a b place place' sink sink (record s { report = record s.report { errors = s.report.errors + 1 }; is_final = false }) area) × IsNoted notice (tokens ++ x.more)
+        → (x : ReadsTokens (response charset room) (in_length AnError tokens) tokens a b place place' sink sink (record s { report = record s.report { errors = s.report.errors + 1 } }) area) × IsNoted notice (tokens ++ x.more)
     later_error_reads some x =
         let n = notice_of body in
         let stays : first_error (tokens ++ Error n ∷ []) ≡ first_error tokens = first_stays tokens (Error n ∷ []) (subst (λ m. 0 < m) errors_are some) in (

@@ -26,7 +26,7 @@ use Rattle.tds_export.specs.ReturnValue.{ReturnHead, ReturnInfo, ReturnName, Ret
 use Rattle.tds_export.specs.Returning.{ReadsReturn, ReadsValue, StopsReturn, before_value}
 use Rattle.tds_export.specs.Tokens.{Returned, Token}
 use Rattle.tds_export.specs.TokenGrammar.{InReturn, response, text_so_far, with_return}
-use Rattle.tds_export.specs.Steps.{IsHolding, IsNoted, ReadsTokens, StepStops, Tracks, behind, in_return}
+use Rattle.tds_export.specs.Steps.{IsHolding, IsNoted, ReadsTokens, StepStops, TracksBefore, behind, in_return}
 use Rattle.tds_export.proofs.ReturnLaws.{info_is_read, return_name_is_read, value_in_return}
 use Rattle.tds_export.proofs.ResponseLaws.{return_in_response}
 use Rattle.tds_export.proofs.TokenLaws.{tracks_returned}
@@ -217,10 +217,9 @@ module _ (charset : Charset) (room : ℕ) (tokens : List Token) (area : Space) (
       )
 
   -- a return value was read
-  pub return_reads : (s : Progress) (a b : Seen) (place place' : ℕ) (notice : Space) → Tracks s tokens → IsNoted notice tokens → ReadsValue a b place place'
-      → (x : ReadsTokens (response charset room) (in_return tokens) tokens a b place place' sink sink (record s { report = record s.report { return_values = s.report.return_values + 1 }; is_final = false }) area) × IsNoted notice (tokens ++ x.more)
+  pub return_reads : (s : Progress) (a b : Seen) (place place' : ℕ) (notice : Space) → TracksBefore s tokens → IsNoted notice tokens → ReadsValue a b place place'
+      → (x : ReadsTokens (response charset room) (in_return tokens) tokens a b place place' sink sink (record s { report = record s.report { return_values = s.report.return_values + 1 } }) area) × IsNoted notice (tokens ++ x.more)
   return_reads s a b place place' notice tracks noted x =
-      let t : Progress = record s { report = record s.report { return_values = s.report.return_values + 1 }; is_final = false } in
       let r = reads_inside return_value (response charset room) (with_return tokens) (return_in_response charset room tokens) ReturnOrdinal a b (WholeReturn x.value) x.steps.reads in
-      quietly (response charset room) (in_return tokens) tokens a b place place' sink sink s t area notice tracks noted refl
-      (bare_reads charset room area sink tokens (Returned x.value) (InReturn ReturnOrdinal) t r.bytes a b place place' refl refl x.steps.place_is d (tracks_returned s tokens x.value tracks) holds r.spelt r.takes)
+      quietly (response charset room) (in_return tokens) tokens a b place place' sink sink s _ area notice tracks noted refl
+      (bare_reads charset room area sink tokens (Returned x.value) (InReturn ReturnOrdinal) _ r.bytes a b place place' refl refl x.steps.place_is d (tracks_returned s tokens x.value tracks) holds r.spelt r.takes)

@@ -21,7 +21,7 @@ use Rattle.tds_packet.specs.declared.fault.Stop.{Stop}
 use Rattle.tds_export.specs.declared.progress.Progress.{Progress}
 use Rattle.tds_export.specs.Tokens.{Row, Token, described_after, encoded_after, text}
 use Rattle.tds_export.specs.TokenGrammar.{Part, response, row_byte_fault, start_of_row, text_so_far, with_row}
-use Rattle.tds_export.specs.Steps.{IsDescribed, IsHolding, ReadsTokens, StepStops, Tracks, behind, in_row}
+use Rattle.tds_export.specs.Steps.{IsDescribed, IsHolding, ReadsTokens, StepStops, Tracks, TracksBefore, behind, in_row}
 use Rattle.tds_export.proofs.ResponseLaws.{described_after-append, row_in_response}
 use Rattle.tds_export.proofs.TokenLaws.{text_after-snoc, tracks_row}
 use Rattle.tds_export.proofs.TokenSteps.{holds-snoc, row_stops, row_text, stops_further}
@@ -93,20 +93,20 @@ module _ (charset : Charset) (room : ℕ) (all : List Column) (tokens : List Tok
     }
 
 -- so many rows more are counted
-tracks_rows : (s : Progress) (tokens : List Token) (r : List Cell) (rs : List (List Cell)) → Tracks s tokens → Tracks (record s { report = record s.report { rows = s.report.rows + length (r ∷ rs) }; is_final = false }) (tokens ++ map Row (r ∷ rs))
+tracks_rows : (s : Progress) (tokens : List Token) (r : List Cell) (rs : List (List Cell)) → TracksBefore s tokens → Tracks (record s { report = record s.report { rows = s.report.rows + length (r ∷ rs) } }) (tokens ++ map Row (r ∷ rs))
 tracks_rows s tokens r [] k = tracks_row s tokens r k
 tracks_rows s tokens r (q ∷ qs) k =
-    let t = record s { report = record s.report { rows = s.report.rows + 1 }; is_final = false } in
+    let first = tracks_row s tokens r k in
     let n : (s.report.rows + 1) + length (q ∷ qs) ≡ s.report.rows + length (r ∷ q ∷ qs) = omega arith in
-    subst (λ ts. Tracks (record s { report = record s.report { rows = s.report.rows + length (r ∷ q ∷ qs) }; is_final = false }) ts) (append_assoc tokens (Row r ∷ []) (map Row (q ∷ qs)))
-    (subst (λ (n : ℕ). Tracks (record s { report = record s.report { rows = n }; is_final = false }) ((tokens ++ Row r ∷ []) ++ map Row (q ∷ qs))) n (tracks_rows t (tokens ++ Row r ∷ []) q qs (tracks_row s tokens r k)))
+    subst (λ ts. Tracks (record s { report = record s.report { rows = s.report.rows + length (r ∷ q ∷ qs) } }) ts) (append_assoc tokens (Row r ∷ []) (map Row (q ∷ qs)))
+    (subst (λ (n : ℕ). Tracks (record s { report = record s.report { rows = n } }) ((tokens ++ Row r ∷ []) ++ map Row (q ∷ qs))) n (tracks_rows (record s { report = record s.report { rows = s.report.rows + 1 } }) (tokens ++ Row r ∷ []) q qs (record { report = first.report; described = first.described; final = k.final })))
 
 -- the same, the last row named
-tracks_all : (s : Progress) (tokens : List Token) (earlier : List (List Cell)) (last : List Cell) (count : ℕ) → count ≡ length earlier + 1 → Tracks s tokens → Tracks (record s { report = record s.report { rows = s.report.rows + count }; is_final = false }) (tokens ++ map Row (earlier ++ last ∷ []))
+tracks_all : (s : Progress) (tokens : List Token) (earlier : List (List Cell)) (last : List Cell) (count : ℕ) → count ≡ length earlier + 1 → TracksBefore s tokens → Tracks (record s { report = record s.report { rows = s.report.rows + count } }) (tokens ++ map Row (earlier ++ last ∷ []))
 tracks_all s tokens earlier last count counted k =
-    subst (λ (n : ℕ). Tracks (record s { report = record s.report { rows = s.report.rows + n }; is_final = false }) (tokens ++ map Row (earlier ++ last ∷ []))) (length-append earlier (last ∷ []) ∙ sym counted) (go earlier)
+    subst (λ (n : ℕ). Tracks (record s { report = record s.report { rows = s.report.rows + n } }) (tokens ++ map Row (earlier ++ last ∷ []))) (length-append earlier (last ∷ []) ∙ sym counted) (go earlier)
   where
-    go : (earlier : List (List Cell)) → Tracks (record s { report = record s.report { rows = s.report.rows + length (earlier ++ last ∷ []) }; is_final = false }) (tokens ++ map Row (earlier ++ last ∷ []))
+    go : (earlier : List (List Cell)) → Tracks (record s { report = record s.report { rows = s.report.rows + length (earlier ++ last ∷ []) } }) (tokens ++ map Row (earlier ++ last ∷ []))
     go [] = tracks_rows s tokens last [] k
     go (r ∷ rs) = tracks_rows s tokens r (rs ++ last ∷ []) k
 
@@ -127,8 +127,8 @@ module _ (charset : Charset) (room : ℕ) (columns : List Column) (area : Space)
   begins = ap (λ (ts : List Token). with_row ts (row_start charset columns)) (append-nil tokens)
 
   -- rows were read, and their lines put
-  pub rows_read : (progress : Progress) (place' count : ℕ) → Tracks progress tokens → ReadsRows charset columns count a b place place' before after
-      → ReadsTokens (response charset room) (in_row charset columns tokens) tokens a b place place' before after (record progress { report = record progress.report { rows = progress.report.rows + count }; is_final = false }) area
+  pub rows_read : (progress : Progress) (place' count : ℕ) → TracksBefore progress tokens → ReadsRows charset columns count a b place place' before after
+      → ReadsTokens (response charset room) (in_row charset columns tokens) tokens a b place place' before after (record progress { report = record progress.report { rows = progress.report.rows + count } }) area
   rows_read progress place' count tracks x =
       let from = in_rows charset room columns tokens (rows_start charset columns) in
       let to : Part = in_rows charset room columns tokens (record { before = x.earlier; at = WholeRow x.last }) in

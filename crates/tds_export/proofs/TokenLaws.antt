@@ -15,7 +15,7 @@ use Rattle.tds_export.specs.Response.{fixed}
 use Rattle.tds_export.specs.Outcome.{report_of, server_error, signed}
 use Rattle.tds_export.specs.TokenBytes.{APassed, AnError, AnInfo, Bodied, Fixed, AStatus, ADone, ADoneInProc}
 use Rattle.tds_export.specs.TokenGrammar.{bodied, is_notice}
-use Rattle.tds_export.specs.Steps.{IsDescribed, Tracks}
+use Rattle.tds_export.specs.Steps.{IsDescribed, Tracks, TracksBefore}
 use Rattle.tds_export.proofs.ResponseLaws.{described_after-append}
 
 -- whether a set has begun after these tokens
@@ -201,49 +201,53 @@ quiet t h = record { bare = refl; sets = refl; rows = refl; errors = refl; infos
 uncounted : (p : Token → Bool) (ts : List Token) (t : Token) → how_many p (t ∷ []) ≡ 0 → how_many p ts + how_many p (t ∷ []) ≡ how_many p ts
 uncounted p ts t e = ap (λ n. how_many p ts + n) e ∙ none (how_many p ts)
 
+-- where a token begins, the tokens before it are known
+pub tracks_begun : (s : Progress) (ts : List Token) → Tracks s ts → TracksBefore (record s { is_final = false }) ts
+tracks_begun s ts k = record { report = k.report; described = k.described; final = refl }
+
 -- a token that has no text and describes nothing, by its report
-tracks_bare : (s : Progress) (ts : List Token) (t : Token) (report : Report) (final : Bool) → is_bare t ≡ true → record report { written = length (text (ts ++ t ∷ [])) } ≡ report_of (ts ++ t ∷ []) → final ≡ is_final (t ∷ []) → Tracks s ts → Tracks (record s { report = report; is_final = final }) (ts ++ t ∷ [])
+tracks_bare : (s : Progress) (ts : List Token) (t : Token) (report : Report) (final : Bool) → is_bare t ≡ true → record report { written = length (text (ts ++ t ∷ [])) } ≡ report_of (ts ++ t ∷ []) → final ≡ is_final (t ∷ []) → TracksBefore s ts → Tracks (record s { report = report; is_final = final }) (ts ++ t ∷ [])
 tracks_bare s ts t report final is e f k =
     let b = bare t is in
     record { report = e; described = same_columns s.described ts t (b.encoded (encoded_after [] ts)) (b.columns (described_after None ts)) k.described; final = f ∙ sym (is_final-snoc ts t) }
 
-pub tracks_quiet : (s : Progress) (ts : List Token) (t : Token) (final : Bool) → is_quiet t ≡ true → is_silent t ≡ true → final ≡ is_final (t ∷ []) → Tracks s ts → Tracks (record s { is_final = final }) (ts ++ t ∷ [])
+pub tracks_quiet : (s : Progress) (ts : List Token) (t : Token) (final : Bool) → is_quiet t ≡ true → is_silent t ≡ true → final ≡ is_final (t ∷ []) → TracksBefore s ts → Tracks (record s { is_final = final }) (ts ++ t ∷ [])
 tracks_quiet s ts t final is h e k =
     let q = quiet t is in
     tracks_bare s ts t s.report final q.bare (ap (λ (r : Report). record r { written = length (text (ts ++ t ∷ [])) }) k.report ∙ sym (report-snoc ts t h ∙ rw (uncounted is_set ts t q.sets, uncounted is_row ts t q.rows, uncounted is_error ts t q.errors, uncounted is_info ts t q.infos, uncounted is_return ts t q.returns) refl)) e k
 
-pub tracks_body : (s : Progress) (ts : List Token) (which : Bodied) (body : List ℕ) → is_notice which ≡ false → Tracks s ts → Tracks (record s { is_final = false }) (ts ++ bodied which body ∷ [])
-tracks_body s ts (APassed passed) body h k = tracks_quiet s ts (PassedOver passed body) false refl refl refl k
+pub tracks_body : (s : Progress) (ts : List Token) (which : Bodied) (body : List ℕ) → is_notice which ≡ false → TracksBefore s ts → Tracks s (ts ++ bodied which body ∷ [])
+tracks_body s ts (APassed passed) body h k = tracks_quiet s ts (PassedOver passed body) s.is_final refl refl k.final k
 tracks_body s ts AnError body h k = cc
 tracks_body s ts AnInfo body h k = cc
 
-pub tracks_status : (s : Progress) (ts : List Token) (n : ℕ) (status : ℤ) → status ≡ signed n → Tracks s ts → Tracks (record s { report = record s.report { return_status = Some status }; is_final = false }) (ts ++ ReturnStatus n ∷ [])
+pub tracks_status : (s : Progress) (ts : List Token) (n : ℕ) (status : ℤ) → status ≡ signed n → TracksBefore s ts → Tracks (record s { report = record s.report { return_status = Some status } }) (ts ++ ReturnStatus n ∷ [])
 tracks_status s ts n status e k =
     let t = ReturnStatus n in
-    tracks_bare s ts t (record s.report { return_status = Some status }) false refl (ap (λ (r : Report). record r { return_status = Some status; written = length (text (ts ++ t ∷ [])) }) k.report ∙ ap (λ z. record (report_of ts) { return_status = Some z; written = length (text (ts ++ t ∷ [])) }) e ∙ sym (status_report ts n)) refl k
+    tracks_bare s ts t (record s.report { return_status = Some status }) s.is_final refl (ap (λ (r : Report). record r { return_status = Some status; written = length (text (ts ++ t ∷ [])) }) k.report ∙ ap (λ z. record (report_of ts) { return_status = Some z; written = length (text (ts ++ t ∷ [])) }) e ∙ sym (status_report ts n)) k.final k
 
-pub tracks_none : (s : Progress) (ts : List Token) → Tracks s ts → Tracks (record s { described = false; is_final = false }) (ts ++ NoMetadata ∷ [])
+pub tracks_none : (s : Progress) (ts : List Token) → TracksBefore s ts → Tracks (record s { described = false }) (ts ++ NoMetadata ∷ [])
 tracks_none s ts k = record {
   report = ap (λ (r : Report). record r { written = length (text (ts ++ NoMetadata ∷ [])) }) k.report ∙ sym (report-snoc ts NoMetadata refl ∙ rw (none (how_many is_set ts), none (how_many is_row ts), none (how_many is_error ts), none (how_many is_info ts), none (how_many is_return ts)) refl);
   described = described_after-append None ts (NoMetadata ∷ []);
-  final = sym (is_final-snoc ts NoMetadata);
+  final = k.final ∙ sym (is_final-snoc ts NoMetadata);
 }
 
-pub tracks_metadata : (s : Progress) (ts : List Token) (bytes : List ℕ) (columns : List Column) → columns_of bytes ≡ columns → Tracks s ts
-    → Tracks (record s { report = record s.report { sets = s.report.sets + 1 }; described = true; is_final = false }) (ts ++ Metadata bytes columns ∷ [])
+pub tracks_metadata : (s : Progress) (ts : List Token) (bytes : List ℕ) (columns : List Column) → columns_of bytes ≡ columns → TracksBefore s ts
+    → Tracks (record s { report = record s.report { sets = s.report.sets + 1 }; described = true }) (ts ++ Metadata bytes columns ∷ [])
 tracks_metadata s ts bytes columns shown k =
     let t = Metadata bytes columns in
     record {
       report = ap (λ (r : Report). record r { sets = r.sets + 1; written = length (text (ts ++ t ∷ [])) }) k.report ∙ sym (report-snoc ts t refl ∙ rw (none (how_many is_row ts), none (how_many is_error ts), none (how_many is_info ts), none (how_many is_return ts)) refl);
       described = described_after-append None ts (t ∷ []) ∙ ap Some (sym shown ∙ ap columns_of (sym (encoded_after-append [] ts (t ∷ []))));
-      final = sym (is_final-snoc ts t);
+      final = k.final ∙ sym (is_final-snoc ts t);
     }
 
-pub tracks_row : (s : Progress) (ts : List Token) (cells : List Cell) → Tracks s ts → Tracks (record s { report = record s.report { rows = s.report.rows + 1 }; is_final = false }) (ts ++ Row cells ∷ [])
+pub tracks_row : (s : Progress) (ts : List Token) (cells : List Cell) → TracksBefore s ts → Tracks (record s { report = record s.report { rows = s.report.rows + 1 } }) (ts ++ Row cells ∷ [])
 tracks_row s ts cells k = record {
   report = ap (λ (r : Report). record r { rows = r.rows + 1; written = length (text (ts ++ Row cells ∷ [])) }) k.report ∙ sym (report-snoc ts (Row cells) refl ∙ rw (none (how_many is_set ts), none (how_many is_error ts), none (how_many is_info ts), none (how_many is_return ts)) refl);
   described = same_columns s.described ts (Row cells) refl refl k.described;
-  final = sym (is_final-snoc ts (Row cells));
+  final = k.final ∙ sym (is_final-snoc ts (Row cells));
 }
 
 -- ---- ERROR and INFO
@@ -266,21 +270,21 @@ error_report ts n =
       error_is_no_status None ts n,
     ) refl
 
-pub tracks_error : (s : Progress) (ts : List Token) (n : Notice) (first : Option ServerError) → first ≡ option_map server_error (first_error (ts ++ Error n ∷ [])) → Tracks s ts
-    → Tracks (record s { report = record s.report { errors = s.report.errors + 1; first_error = first }; is_final = false }) (ts ++ Error n ∷ [])
+pub tracks_error : (s : Progress) (ts : List Token) (n : Notice) (first : Option ServerError) → first ≡ option_map server_error (first_error (ts ++ Error n ∷ [])) → TracksBefore s ts
+    → Tracks (record s { report = record s.report { errors = s.report.errors + 1; first_error = first } }) (ts ++ Error n ∷ [])
 tracks_error s ts n first e k =
     let t = Error n in
-    tracks_bare s ts t (record s.report { errors = s.report.errors + 1; first_error = first }) false refl (ap (λ (r : Report). record r { errors = r.errors + 1; first_error = first; written = length (text (ts ++ t ∷ [])) }) k.report ∙ ap (λ f. record (report_of ts) { errors = how_many is_error ts + 1; first_error = f; written = length (text (ts ++ t ∷ [])) }) e ∙ sym (error_report ts n)) refl k
+    tracks_bare s ts t (record s.report { errors = s.report.errors + 1; first_error = first }) s.is_final refl (ap (λ (r : Report). record r { errors = r.errors + 1; first_error = first; written = length (text (ts ++ t ∷ [])) }) k.report ∙ ap (λ f. record (report_of ts) { errors = how_many is_error ts + 1; first_error = f; written = length (text (ts ++ t ∷ [])) }) e ∙ sym (error_report ts n)) k.final k
 
-pub tracks_info : (s : Progress) (ts : List Token) (n : Notice) → Tracks s ts → Tracks (record s { report = record s.report { infos = s.report.infos + 1 }; is_final = false }) (ts ++ Info n ∷ [])
+pub tracks_info : (s : Progress) (ts : List Token) (n : Notice) → TracksBefore s ts → Tracks (record s { report = record s.report { infos = s.report.infos + 1 } }) (ts ++ Info n ∷ [])
 tracks_info s ts n k =
-    tracks_bare s ts (Info n) (record s.report { infos = s.report.infos + 1 }) false refl (ap (λ (r : Report). record r { infos = r.infos + 1; written = length (text (ts ++ Info n ∷ [])) }) k.report ∙ sym (report-snoc ts (Info n) refl ∙ rw (none (how_many is_set ts), none (how_many is_row ts), none (how_many is_error ts), none (how_many is_return ts)) refl)) refl k
+    tracks_bare s ts (Info n) (record s.report { infos = s.report.infos + 1 }) s.is_final refl (ap (λ (r : Report). record r { infos = r.infos + 1; written = length (text (ts ++ Info n ∷ [])) }) k.report ∙ sym (report-snoc ts (Info n) refl ∙ rw (none (how_many is_set ts), none (how_many is_row ts), none (how_many is_error ts), none (how_many is_return ts)) refl)) k.final k
 
 -- ---- RETURNVALUE
 
-pub tracks_returned : (s : Progress) (ts : List Token) (v : ReturnValue) → Tracks s ts → Tracks (record s { report = record s.report { return_values = s.report.return_values + 1 }; is_final = false }) (ts ++ Returned v ∷ [])
+pub tracks_returned : (s : Progress) (ts : List Token) (v : ReturnValue) → TracksBefore s ts → Tracks (record s { report = record s.report { return_values = s.report.return_values + 1 } }) (ts ++ Returned v ∷ [])
 tracks_returned s ts v k =
-    tracks_bare s ts (Returned v) (record s.report { return_values = s.report.return_values + 1 }) false refl (ap (λ (r : Report). record r { return_values = r.return_values + 1; written = length (text (ts ++ Returned v ∷ [])) }) k.report ∙ sym (report-snoc ts (Returned v) refl ∙ rw (none (how_many is_set ts), none (how_many is_row ts), none (how_many is_error ts), none (how_many is_info ts)) refl)) refl k
+    tracks_bare s ts (Returned v) (record s.report { return_values = s.report.return_values + 1 }) s.is_final refl (ap (λ (r : Report). record r { return_values = r.return_values + 1; written = length (text (ts ++ Returned v ∷ [])) }) k.report ∙ sym (report-snoc ts (Returned v) refl ∙ rw (none (how_many is_set ts), none (how_many is_row ts), none (how_many is_error ts), none (how_many is_info ts)) refl)) k.final k
 
 -- ---- the first ERROR
 

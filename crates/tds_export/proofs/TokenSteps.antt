@@ -25,12 +25,12 @@ use Rattle.tds_rows.specs.Rows.{RowPart, Bitmap, InCell, WholeRow, row, row_size
 use Rattle.tds_rows.specs.RowSteps.{ReadsRow, RowStops}
 use Rattle.tds_export.specs.declared.progress.Progress.{Progress}
 use Rattle.tds_export.specs.declared.report.Report.{Report}
-use Rattle.tds_export.specs.Tokens.{Token, Metadata, NoMetadata, Row, Done, DoneInProc, between, encoded_after, greatest_span, header_line, how_many, is_set, text, text_after}
+use Rattle.tds_export.specs.Tokens.{Token, Metadata, NoMetadata, Row, Done, DoneInProc, between, encoded_after, greatest_span, header_line, text, text_after}
 use Rattle.tds_export.specs.Response.{fields_length, fixed, more}
 use Rattle.tds_export.specs.Outcome.{signed}
 use Rattle.tds_export.specs.TokenBytes.{Fixed, AStatus, ADone, ADoneInProc}
 use Rattle.tds_export.specs.TokenGrammar.{Open, Part, Fields, open_text, response, text_so_far, with_described, with_row}
-use Rattle.tds_export.specs.Steps.{StepStops, StopsInReading, StopsInWriting, IsHolding, ReadsTokens, Tracks, behind, in_done, in_done_in_proc, in_fields, in_metadata, in_row, in_status}
+use Rattle.tds_export.specs.Steps.{StepStops, StopsInReading, StopsInWriting, IsHolding, ReadsTokens, Tracks, TracksBefore, behind, in_done, in_done_in_proc, in_fields, in_metadata, in_row, in_status}
 use Rattle.tds_packet.proofs.Lifts.{last_inside, reads_inside, stops_inside}
 use Rattle.tds_csv.proofs.Streams.{breaks_after, breaks_inside, puts_both, puts_inside, stops_size, streams_inside}
 use Rattle.tds_rows.proofs.RowSteps.{start_quiet}
@@ -114,7 +114,7 @@ fixed_reads charset room area sink tokens which progress fields a b place place'
     bare_reads charset room area sink tokens (fixed which fields) (Fields which) progress fields a b place place' refl (bare_fixed which fields) at d tracks holds
     (Spelt-one (response charset room) (in_fields which tokens) fields (record { some = subst (λ n. 0 < n) (sym len) (some_fields which); whole = len; free = refl })) takes
 
-pub done_reads : (charset : Charset) (room : ℕ) (area : Space) (sink : Held) (tokens : List Token) (progress : Progress) (fields : List ℕ) (a b : Seen) (place place' : ℕ) → place' ≡ place + length fields → sink.delivered ≤ 2 ^ 64 - 1 → Tracks progress tokens → IsHolding area (behind tokens)
+pub done_reads : (charset : Charset) (room : ℕ) (area : Space) (sink : Held) (tokens : List Token) (progress : Progress) (fields : List ℕ) (a b : Seen) (place place' : ℕ) → place' ≡ place + length fields → sink.delivered ≤ 2 ^ 64 - 1 → TracksBefore progress tokens → IsHolding area (behind tokens)
     → length fields ≡ 12 → Takes a b fields (length fields)
     → ReadsTokens (response charset room) (in_done tokens) tokens a b place place' sink sink (record progress { is_final = slice_index fields 0 % 2 == 0 }) area
 done_reads charset room area sink tokens progress fields a b place place' at d tracks holds len takes =
@@ -124,12 +124,12 @@ done_reads charset room area sink tokens progress fields a b place place' at d t
 
 -- ---- DONEINPROC
 
-pub done_in_proc_reads : (charset : Charset) (room : ℕ) (area : Space) (sink : Held) (tokens : List Token) (progress : Progress) (fields : List ℕ) (a b : Seen) (place place' : ℕ) → place' ≡ place + 12 → sink.delivered ≤ 2 ^ 64 - 1 → Tracks progress tokens → IsHolding area (behind tokens)
+pub done_in_proc_reads : (charset : Charset) (room : ℕ) (area : Space) (sink : Held) (tokens : List Token) (progress : Progress) (fields : List ℕ) (a b : Seen) (place place' : ℕ) → place' ≡ place + 12 → sink.delivered ≤ 2 ^ 64 - 1 → TracksBefore progress tokens → IsHolding area (behind tokens)
     → length fields ≡ 12 → Takes a b fields 12
-    → ReadsTokens (response charset room) (in_done_in_proc tokens) tokens a b place place' sink sink (record progress { is_final = false }) area
+    → ReadsTokens (response charset room) (in_done_in_proc tokens) tokens a b place place' sink sink progress area
 done_in_proc_reads charset room area sink tokens progress fields a b place place' at d tracks holds len takes =
-    fixed_reads charset room area sink tokens ADoneInProc (record progress { is_final = false }) fields a b place place' (omega (arith, at, len)) d
-    (tracks_quiet progress tokens (DoneInProc (more fields)) false refl refl refl tracks) holds len (subst (Takes a b fields) (sym len) takes)
+    fixed_reads charset room area sink tokens ADoneInProc progress fields a b place place' (omega (arith, at, len)) d
+    (tracks_quiet progress tokens (DoneInProc (more fields)) progress.is_final refl refl tracks.final tracks) holds len (subst (Takes a b fields) (sym len) takes)
 
 -- ---- RETURNSTATUS
 
@@ -142,11 +142,11 @@ signed_four bytes len = signed_is (little_number 4 bytes) ∙ ap (λ n. signed (
         let same : 2 ^ 32 - suc n ≡ 2 ^ 32 - n - 1 = omega arith in
         ap (λ m. if nat_lt n (2 ^ 31) then pos n else negsuc m) same
 
-pub status_reads : (charset : Charset) (room : ℕ) (area : Space) (sink : Held) (tokens : List Token) (progress : Progress) (status : ℤ) (element : List ℕ) (a b : Seen) (place place' : ℕ) → place' ≡ place + length element → sink.delivered ≤ 2 ^ 64 - 1 → Tracks progress tokens → IsHolding area (behind tokens)
+pub status_reads : (charset : Charset) (room : ℕ) (area : Space) (sink : Held) (tokens : List Token) (progress : Progress) (status : ℤ) (element : List ℕ) (a b : Seen) (place place' : ℕ) → place' ≡ place + length element → sink.delivered ≤ 2 ^ 64 - 1 → TracksBefore progress tokens → IsHolding area (behind tokens)
     → length element ≡ 4 → status ≡ cast_signed w32 (little_number 4 element) → Takes a b element (length element)
-    → ReadsTokens (response charset room) (in_status tokens) tokens a b place place' sink sink (record progress { report = record progress.report { return_status = Some status }; is_final = false }) area
+    → ReadsTokens (response charset room) (in_status tokens) tokens a b place place' sink sink (record progress { report = record progress.report { return_status = Some status } }) area
 status_reads charset room area sink tokens progress status element a b place place' at d tracks holds len is takes =
-    fixed_reads charset room area sink tokens AStatus (record progress { report = record progress.report { return_status = Some status }; is_final = false }) element a b place place' at d
+    fixed_reads charset room area sink tokens AStatus (record progress { report = record progress.report { return_status = Some status } }) element a b place place' at d
     (tracks_status progress tokens (little element) status (is ∙ signed_four element len) tracks) holds len takes
 
 -- ---- ROW
@@ -206,8 +206,8 @@ row_stops charset room start area before after tokens a b place failed stop hold
     row_some charset at element n = omega (arith, n.some, n.whole)
 
 -- a row was read, and its line put
-pub row_reads : (charset : Charset) (room : ℕ) (start : RowPart) (area : Space) (before after : Held) (tokens : List Token) (progress : Progress) (a b : Seen) (place place' : ℕ) → Tracks progress tokens → IsHolding area (behind tokens)
-    → ReadsRow charset start a b place place' before after → ReadsTokens (response charset room) (with_row tokens start) tokens a b place place' before after (record progress { report = record progress.report { rows = progress.report.rows + 1 }; is_final = false }) area
+pub row_reads : (charset : Charset) (room : ℕ) (start : RowPart) (area : Space) (before after : Held) (tokens : List Token) (progress : Progress) (a b : Seen) (place place' : ℕ) → TracksBefore progress tokens → IsHolding area (behind tokens)
+    → ReadsRow charset start a b place place' before after → ReadsTokens (response charset room) (with_row tokens start) tokens a b place place' before after (record progress { report = record progress.report { rows = progress.report.rows + 1 } }) area
 row_reads charset room start area before after tokens progress a b place place' tracks holds x = record {
   more = Row x.cells ∷ [];
   streams = streams_inside (row charset) (response charset room) (with_row tokens) (row_in_response charset room tokens) row_so_far text_so_far (text tokens) (row_front tokens) start a b before after (WholeRow x.cells) x.streams;
@@ -222,20 +222,17 @@ stops_reading charset room s a b place h area failed stop d going holds stops = 
 
 -- ---- COLMETADATA
 
-sets_are : (progress : Progress) (tokens : List Token) → Tracks progress tokens → progress.report.sets ≡ how_many is_set tokens
-sets_are progress tokens tracks = ap (λ (r : Report). r.sets) tracks.report
-
-header_text : (progress : Progress) (tokens : List Token) (bytes : List ℕ) (columns : List Column) → Tracks progress tokens
+header_text : (progress : Progress) (tokens : List Token) (bytes : List ℕ) (columns : List Column) → TracksBefore progress tokens
     → text_so_far (in_metadata tokens) ++ (between (nat_lt 0 progress.report.sets) ++ header_line columns) ≡ text_so_far (behind (tokens ++ Metadata bytes columns ∷ []))
 header_text progress tokens bytes columns tracks =
-    let begun : nat_lt 0 progress.report.sets ≡ begun_after false tokens = ap (nat_lt 0) (sets_are progress tokens tracks) ∙ sym (begun_where_sets tokens) in
+    let begun : nat_lt 0 progress.report.sets ≡ begun_after false tokens = ap (λ (r : Report). nat_lt 0 r.sets) tracks.report ∙ sym (begun_where_sets tokens) in
     let header = between (begun_after false tokens) ++ header_line columns in
     ap (λ b. (text tokens ++ []) ++ (between b ++ header_line columns)) begun ∙ ap (λ l. l ++ header) (append-nil (text tokens)) ∙ ap (λ l. text tokens ++ l) (sym (append-nil header))
     ∙ sym (append-nil (text tokens ++ (header ++ []))) ∙ ap (λ l. l ++ []) (sym (text_after-snoc false tokens (Metadata bytes columns)))
 
-pub none_reads : (charset : Charset) (room : ℕ) (area old_area : Space) (sink : Held) (tokens : List Token) (progress : Progress) (a b : Seen) (place place' : ℕ) → sink.delivered ≤ 2 ^ 64 - 1 → Tracks progress tokens → IsHolding old_area (behind tokens)
+pub none_reads : (charset : Charset) (room : ℕ) (area old_area : Space) (sink : Held) (tokens : List Token) (progress : Progress) (a b : Seen) (place place' : ℕ) → sink.delivered ≤ 2 ^ 64 - 1 → TracksBefore progress tokens → IsHolding old_area (behind tokens)
     → Describes room BeforeCount a b place place' old_area.peak area NoDescription
-    → ReadsTokens (response charset room) (in_metadata tokens) tokens a b place place' sink sink (record progress { described = false; is_final = false }) area
+    → ReadsTokens (response charset room) (in_metadata tokens) tokens a b place place' sink sink (record progress { described = false }) area
 none_reads charset room area old_area sink tokens progress a b place place' d tracks holds x =
     let r = reads_inside (description room) (response charset room) (with_described tokens) (description_in_response charset room tokens) BeforeCount a b NoDescription x.reads in
     record {
@@ -260,9 +257,9 @@ metadata_holds area old_area tokens columns peak holds = record {
   peak = omega (arith, peak, holds.peak, greatest_span-append tokens (Metadata area.bytes columns ∷ []));
 }
 
-pub metadata_reads : (charset : Charset) (room : ℕ) (area old_area : Space) (before after : Held) (tokens : List Token) (progress : Progress) (columns : List Column) (a b : Seen) (place place' : ℕ) → Tracks progress tokens → IsHolding old_area (behind tokens)
+pub metadata_reads : (charset : Charset) (room : ℕ) (area old_area : Space) (before after : Held) (tokens : List Token) (progress : Progress) (columns : List Column) (a b : Seen) (place place' : ℕ) → TracksBefore progress tokens → IsHolding old_area (behind tokens)
     → columns_of area.bytes ≡ columns → Describes room BeforeCount a b place place' old_area.peak area (WholeDescription area.bytes columns) → Puts before after (between (nat_lt 0 progress.report.sets) ++ header_line (columns_of area.bytes))
-    → ReadsTokens (response charset room) (in_metadata tokens) tokens a b place place' before after (record progress { report = record progress.report { sets = progress.report.sets + 1 }; described = true; is_final = false }) area
+    → ReadsTokens (response charset room) (in_metadata tokens) tokens a b place place' before after (record progress { report = record progress.report { sets = progress.report.sets + 1 }; described = true }) area
 metadata_reads charset room area old_area before after tokens progress columns a b place place' tracks holds shown x puts =
     let r = reads_inside (description room) (response charset room) (with_described tokens) (description_in_response charset room tokens) BeforeCount a b (WholeDescription area.bytes columns) x.reads in
     let header = between (nat_lt 0 progress.report.sets) ++ header_line columns in
@@ -284,7 +281,7 @@ some_bytes : (room : ℕ) (area bytes : List ℕ) (columns : List Column) → Sp
 some_bytes room area [] columns h = absurd (let same : WholeDescription area columns ≡ BeforeCount = one_state (description room) BeforeCount [] (WholeDescription area columns) BeforeCount h (Spelt-none (description room) BeforeCount) in cc)
 some_bytes room area (x ∷ bytes) columns h = omega arith
 
-pub metadata_breaks : (charset : Charset) (room : ℕ) (area old_area : Space) (before after : Held) (tokens : List Token) (progress : Progress) (columns : List Column) (a b : Seen) (place place' : ℕ) (stop : Stop) → before.delivered ≤ 2 ^ 64 - 1 → length before.waiting < 4096 → Tracks progress tokens → IsHolding old_area (behind tokens)
+pub metadata_breaks : (charset : Charset) (room : ℕ) (area old_area : Space) (before after : Held) (tokens : List Token) (progress : Progress) (columns : List Column) (a b : Seen) (place place' : ℕ) (stop : Stop) → before.delivered ≤ 2 ^ 64 - 1 → length before.waiting < 4096 → TracksBefore progress tokens → IsHolding old_area (behind tokens)
     → columns_of area.bytes ≡ columns → Describes room BeforeCount a b place place' old_area.peak area (WholeDescription area.bytes columns) → IsBetween b → Breaks before after (between (nat_lt 0 progress.report.sets) ++ header_line (columns_of area.bytes)) stop
     → StopsInWriting (response charset room) (in_metadata tokens) a b before after area stop
 metadata_breaks charset room area old_area before after tokens progress columns a b place place' stop d few tracks holds shown x between_b breaks =

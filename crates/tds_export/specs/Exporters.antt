@@ -13,7 +13,7 @@ use Rattle.tds_export.specs.declared.exporter.Exporter.{Exporter}
 use Rattle.tds_export.specs.declared.progress.Progress.{Progress}
 use Rattle.tds_export.specs.declared.report.Report.{Report}
 use Rattle.tds_export.specs.TokenGrammar.{Part, response, response_start}
-use Rattle.tds_export.specs.Steps.{Completes, StepStops, IsHolding, IsNoted, ReadsTokens, RunStops, Tracks, behind}
+use Rattle.tds_export.specs.Steps.{Completes, StepStops, IsHolding, IsNoted, ReadsTokens, RunStops, Tracks, TracksBefore, behind}
 use Rattle.tds_export.specs.Tokens.{Token}
 
 -- what a run reads, writes and keeps, at a moment: its payload and the place there, its sink and whether it failed, and its description and notice areas
@@ -124,7 +124,7 @@ pub record FindsEnd {R W : Type 0} (remaining : R → Option (List ℕ)) (old ne
 
 -- A token was read after its first byte, from this state on, and its text put; or that stopped: whatever the tokens before it are.
 abbrev pub StepRead : {R W U : Type 0} → (R → Option (List ℕ)) → (W → Option (List ℕ)) → (List Token → Part) → Exporter R W → Exporter R W → Result U Stop → Type 0
-StepRead remaining contents from old new result = (tokens : List Token) → Tracks old.progress tokens → IsHolding old.description.now (behind tokens) → IsNoted old.notice.now tokens →
+StepRead remaining contents from old new result = (tokens : List Token) → TracksBefore old.progress tokens → IsHolding old.description.now (behind tokens) → IsNoted old.notice.now tokens →
     MatchResult result
     (λ _. ReadsNext old.charset (from tokens) tokens (view_of remaining contents old) (view_of remaining contents new) new.progress)
     (λ stop. StopsIn old.charset (from tokens) (view_of remaining contents old) (view_of remaining contents new) stop)

@@ -48,11 +48,19 @@ IsNoted notice tokens = notice.bytes ≡ error_text tokens
 abbrev pub behind : List Token → Part
 behind tokens = record { tokens = tokens; at = Between }
 
--- What stands after these tokens is known: the report but for what was written, whether columns are described, and whether the last token is a final one.
-pub record Tracks (progress : Progress) (tokens : List Token) : Type 0 where
+-- What these tokens left is known, the report but for what was written and whether columns are described; and beside it whether the message may end.
+pub record Reflects (progress : Progress) (tokens : List Token) (may_end : Bool) : Type 0 where
   pub report : record progress.report { written = length (text tokens) } ≡ report_of tokens
   pub described : IsDescribed progress.described (encoded_after [] tokens) (described_after None tokens)
-  pub final : progress.is_final ≡ is_final tokens
+  pub final : progress.is_final ≡ may_end
+
+-- What stands after these tokens is known: the report but for what was written, whether columns are described, and whether the last token is a final one.
+abbrev pub Tracks : Progress → List Token → Type 0
+Tracks progress tokens = Reflects progress tokens (is_final tokens)
+
+-- A token has begun after these tokens: what they left is known, and the message may not end yet.
+abbrev pub TracksBefore : Progress → List Token → Type 0
+TracksBefore progress tokens = Reflects progress tokens false
 
 -- One token or more were read whole, and their text put.
 pub record ReadsTokens (g : Grammar Part Fault) (from : Part) (tokens : List Token) (old new : Seen) (place place' : ℕ) (before after : Held) (progress : Progress) (area : Space) : Type 0 where

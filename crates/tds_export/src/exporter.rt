@@ -48,14 +48,12 @@ impl<'a, 'p, 's, R: Read, W: Write> Exporter<'a, 'p, 's, R, W> {
     {
         if let Described::NoMetadata = gather(self.payload, self.description)? {
             self.progress.described = false;
-            self.progress.is_final = false;
             return Ok(());
         }
         let columns = Columns::view(self.description.bytes());
         put_header(self.sink, self.progress.report.sets > 0, columns)?;
         self.progress.report.sets += 1;
         self.progress.described = true;
-        self.progress.is_final = false;
         Ok(())
     }
 
@@ -70,7 +68,6 @@ impl<'a, 'p, 's, R: Read, W: Write> Exporter<'a, 'p, 's, R, W> {
         let columns = Columns::view(self.description.bytes());
         let count = read_rows(self.payload, columns, self.charset, self.small, self.sink)?;
         self.progress.report.rows += count;
-        self.progress.is_final = false;
         Ok(())
     }
 
@@ -92,7 +89,6 @@ impl<'a, 'p, 's, R: Read, W: Write> Exporter<'a, 'p, 's, R, W> {
             self.sink,
         )?;
         self.progress.report.rows += 1;
-        self.progress.is_final = false;
         Ok(())
     }
 
@@ -116,7 +112,6 @@ impl<'a, 'p, 's, R: Read, W: Write> Exporter<'a, 'p, 's, R, W> {
         ensures gives { StepRead R.remaining W.contents in_done_in_proc self.old self.new result }
     {
         self.payload.pass(DONE_FIELDS)?;
-        self.progress.is_final = false;
         Ok(())
     }
 
@@ -130,7 +125,6 @@ impl<'a, 'p, 's, R: Read, W: Write> Exporter<'a, 'p, 's, R, W> {
         self.payload.fill(&mut value)?;
         let status = LittleEndian::read_i32(&value);
         self.progress.report.return_status = Some(status);
-        self.progress.is_final = false;
         Ok(())
     }
 
@@ -146,7 +140,6 @@ impl<'a, 'p, 's, R: Read, W: Write> Exporter<'a, 'p, 's, R, W> {
         self.payload.fill(&mut length)?;
         let length = LittleEndian::read_u16(&length);
         self.payload.pass(usize::from(length))?;
-        self.progress.is_final = false;
         Ok(())
     }
 
@@ -159,7 +152,6 @@ impl<'a, 'p, 's, R: Read, W: Write> Exporter<'a, 'p, 's, R, W> {
     {
         take_notice(self.payload, self.token)?;
         self.progress.report.errors += 1;
-        self.progress.is_final = false;
         if self.progress.report.errors > 1 {
             return Ok(());
         }
@@ -178,7 +170,6 @@ impl<'a, 'p, 's, R: Read, W: Write> Exporter<'a, 'p, 's, R, W> {
     {
         take_notice(self.payload, self.token)?;
         self.progress.report.infos += 1;
-        self.progress.is_final = false;
         Ok(())
     }
 
@@ -191,7 +182,6 @@ impl<'a, 'p, 's, R: Read, W: Write> Exporter<'a, 'p, 's, R, W> {
     {
         pass_return(self.payload, self.small)?;
         self.progress.report.return_values += 1;
-        self.progress.is_final = false;
         Ok(())
     }
 
@@ -230,6 +220,7 @@ impl<'a, 'p, 's, R: Read, W: Write> Exporter<'a, 'p, 's, R, W> {
         let place = self.payload.place() - 1;
         match judge(byte, self.progress.described) {
             Ok(kind) => {
+                self.progress.is_final = false;
                 self.body(kind)?;
                 Ok(true)
             }
