@@ -23,8 +23,8 @@ pub record LeavesJoining {R W U : Type 0} (begins : List ℕ → Type 0) (withhe
   pub sink : LeavesSink before after result
   pub begun : begins withheld
 
--- The payload stands so many bytes further on: one at least, and at most this many.
-pub record StandsFurther {R : Type 0} (most : ℕ) (old new : Payload R) (n : ℕ) : Type 0 where
+-- The payload is this many bytes further on, at least one and at most `most`.
+pub record IsFurther {R : Type 0} (most : ℕ) (old new : Payload R) (n : ℕ) : Type 0 where
   pub some : 0 < n
   pub within : n ≤ most
   pub place : new.place ≡ old.place + n

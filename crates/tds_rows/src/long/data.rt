@@ -5,7 +5,7 @@ ghost use Rattle.tds_csv.specs.Quoting.{behind_comma, end_behind};
 ghost use Rattle.tds_csv.specs.Sinks.{IsWriting, LeavesSink, PutsPiece};
 ghost use Rattle.tds_rows.specs.Blames.{Blames, failures_of, failures_with};
 ghost use Rattle.tds_rows.specs.LongCells.{DataTaken, EndPut, PieceTaken, good_of, join_stop, opening};
-ghost use Rattle.tds_rows.specs.LongReading.{IsJoining, LeavesJoining, StandsFurther};
+ghost use Rattle.tds_rows.specs.LongReading.{IsJoining, LeavesJoining, IsFurther};
 
 use std::io::{Read, Write};
 use tds_csv::{JoinFault, Joiner, Sink, write_comma, write_line_end};
@@ -80,7 +80,7 @@ fn push_piece<J: Joiner, R: Read, W: Write>(
     requires some { 0 < most }
     ensures leaves { LeavesJoining J.begins (J.withheld joiner.new)
         payload.old payload.new sink.old sink.new result }
-    ensures further { IfOk result (λ n. StandsFurther most payload.old payload.new n) }
+    ensures further { IfOk result (λ n. IsFurther most payload.old payload.new n) }
     ensures blames { Blames (failures_of payload.old sink.old) (failures_of payload.new sink.new) result }
     ensures gives { (c : Conversion) (content : List ℕ) → Suits J.fit J.begins J.rest J.text J.UNIT J.QUOTED c →
         J.withheld joiner.old ≡ conversion_rest c content → Begins c content →
