@@ -81,9 +81,7 @@ fn main(rt: HostRuntime) -> ExitCode {
     let mut notes = Counted::new(rt.stderr());
     let status = match read_job(&rt) {
         Ok(job) => run(&rt, &job, &mut notes),
-        Err(usage) => {
-            say_usage(&usage, &mut Counted::new(rt.stdout()), &mut notes).number()
-        }
+        Err(usage) => say_usage(&usage, &mut Counted::new(rt.stdout()), &mut notes).number(),
     };
     ExitCode::from(status)
 }
