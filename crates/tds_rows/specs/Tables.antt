@@ -1,9 +1,10 @@
 -- What a table of a description's columns knows.
-use Rattle.std.specs.Prelude.{◌≡◌, ◌+◌, ◌≤◌, Bool, List, [], ◌∷◌, length, take, drop, map, Option, MatchOption}
+use Rattle.std.specs.Prelude.{◌≡◌, ◌⊎◌, ◌+◌, ◌<◌, ◌≤◌, ℕ, Bool, List, [], ◌∷◌, length, take, drop, map, Option, MatchOption}
 use Rattle.tds_values.specs.declared.kind.Kind.{Kind}
 use Rattle.tds_columns.specs.Description.{Column}
 use Rattle.tds_columns.specs.Walking.{columns_left}
 use Rattle.tds_rows.specs.CellSteps.{is_last}
+use Rattle.tds_rows.specs.Forms.{AreLaidOut}
 use Rattle.tds_rows.specs.declared.table.Ahead.{Ahead}
 use Rattle.tds_rows.specs.declared.form.Form.{Form}
 use Rattle.tds_rows.specs.declared.table.Table.{Table}
@@ -54,6 +55,14 @@ pub record TakesColumn (table : Table) (columns : List Column) (old new : Ahead)
 -- The next column was taken, or none is ahead.
 abbrev pub TakesForm : Table → List Column → Ahead → Option (Form × Ahead) → Type 0
 TakesForm table columns at result = MatchOption result (drop at.column columns ≡ []) (λ taken. TakesColumn table columns at taken.1 taken.0.kind)
+
+-- The forms are those of the next columns of a row, none after this many: several that the table knows, or one alone.
+pub record AreAhead (table : Table) (at : Ahead) (end : ℕ) (forms : List Form) : Type 0 where
+  pub laid : AreLaidOut table.charset forms
+  pub some : 0 < length forms
+  pub within : at.column + length forms ≤ end
+  pub known : (at.column + length forms ≤ table.known) ⊎ (length forms ≡ 1)
+  pub next : (columns : List Column) → Knows table columns → IsAhead table columns at → map (λ f. f.kind) forms ≡ kinds (take (length forms) (drop at.column columns))
 
 -- This is the kind of the next column ahead, of columns that the table knows, and so it stands with the last one.
 pub record IsNextKind (table : Table) (at : Ahead) (next_kind : Kind) (is_end : Bool) : Type 0 where

@@ -1,18 +1,21 @@
 // A run of cells: as many as are whole in the packet and have room, over the ends of rows.
 ghost use Rattle.std.specs.Prelude.{◌≡◌, ◌+◌, ◌-◌, ◌<◌, ◌≤◌, Bool, drop, length, IfSome};
 ghost use Rattle.tds_rows.specs.RowReading.{IsInRow, StaysInRow};
+ghost use Rattle.tds_rows.specs.declared.run.fields.TheConstants.{CELL_ROOM};
 ghost use Rattle.tds_rows.specs.Runs.{AloneWritten, CellsWritten, OneWritten, RowsPut, RowsWritten, RunEnds};
 ghost use Rattle.tds_rows.specs.Tables.{IsNextKind};
 ghost use Rattle.tds_values.specs.declared.kind.Kind.{Kind};
 
 use crate::reading::Rows;
-use crate::run::buffered::{INT4_SIZE, Written, has_int4, write_cell};
-use crate::run::fields::{CELL_ROOM, INT4_ROOM, write_int4_field};
+use crate::run::buffered::{INT4_SIZE, Written, has_int4};
+use crate::run::fields::{INT4_ROOM, write_int4_field};
+use crate::run::forms::run_forms;
 use crate::table::{Ahead, Table};
 use std::io::{Read, Write};
 
 pub(crate) mod buffered;
 pub(crate) mod fields;
+pub(crate) mod forms;
 pub(crate) mod nulls;
 pub(crate) mod short;
 
@@ -55,32 +58,26 @@ pub(crate) fn run_cells<'a>(
         OneWritten table.now from.entry bytes.now to.new result.used result.made }
     ensures gives { CellsWritten table.now from.entry bytes.now to.new result }
 {
-    let mut used = 0;
-    let mut made = 0;
-    let mut ahead = from;
-    while to.len() - made >= CELL_ROOM && ahead.column < end {
-        if used > 0 && table.int4_start(ahead).is_some() {
-            break;
-        }
-        let Some(form) = table.form(ahead) else {
-            break;
-        };
-        let last = table.is_last(ahead);
-        let Some(written) = write_cell(
-            &form,
-            table.charset,
-            ahead.column,
-            last,
-            &bytes[used..],
-            &mut to[made..],
-        ) else {
-            break;
-        };
-        used += written.used;
-        made += written.made;
-        ahead = table.after(ahead);
+    let none = CellRun {
+        used: 0,
+        made: 0,
+        ahead: from,
+    };
+    if from.column >= end {
+        return none;
     }
-    CellRun { used, made, ahead }
+    let Some(form) = table.form(from) else {
+        return none;
+    };
+    let one = [form];
+    let forms = (&*table).forms(from, end, &one);
+    let ends = from.column as usize + forms.len() == table.count() as usize;
+    let run = run_forms(forms, table.charset, from.column, ends, bytes, to);
+    CellRun {
+        used: run.used,
+        made: run.made,
+        ahead: table.past(from, run.cells),
+    }
 }
 
 /// Writes the next cell alone; none where it isn't whole in these bytes, is refused or in chunks, or where there

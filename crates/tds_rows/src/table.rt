@@ -1,5 +1,5 @@
 // What the cells of a description's columns need of them, known once for all its rows.
-ghost use Rattle.std.specs.Prelude.{◌≡◌, ◌==◌, ◌+◌, ◌<◌, ◌≤◌, get_or, IfSome, List};
+ghost use Rattle.std.specs.Prelude.{◌≡◌, ◌==◌, ◌⊎◌, ◌+◌, ◌<◌, ◌≤◌, get_or, IfSome, List};
 ghost use Rattle.tds_rows.specs.Forms.{AreLaidOut};
 ghost use Rattle.tds_rows.specs.Layouts.{IsLaidOut};
 ghost use Rattle.tds_rows.specs.declared.table.TheConstants.{TABLE_LENGTH};
@@ -39,7 +39,7 @@ impl<'a> Table<'a> {
     ghost use Rattle.tds_columns.specs.Description as spec;
     ghost use Rattle.tds_columns.specs.View.{columns_of};
     ghost use Rattle.tds_rows.specs.CellSteps.{int4_kind, int4_start_of};
-    ghost use Rattle.tds_rows.specs.Tables.{IsAhead, Knows, NextForm, TakesColumn, TakesForm, one_on};
+    ghost use Rattle.tds_rows.specs.Tables.{AreAhead, IsAhead, Knows, NextForm, TakesColumn, TakesForm, one_on};
 
     /// The table of a description's columns, whose single-byte text is in this set.
     pub(crate) fn of(columns: Columns<'a>, charset: Charset) -> Table<'a>
@@ -99,6 +99,22 @@ impl<'a> Table<'a> {
         Some(Form::of(column.kind, self.charset))
     }
 
+    /// What the next cells need that the table knows, up to the column `end`; where it knows none, what the next
+    /// cell alone needs.
+    #[inline(always)]
+    pub(crate) fn forms<'f>(&'f self, at: Ahead<'a>, end: u16, one: &'f [Form]) -> &'f [Form]
+        requires some { at.column < end }
+        requires within { end ≤ self.now.count }
+        requires one { AreAhead self.now at end one.now }
+        ensures { AreAhead self.now at.entry end result.now }
+    {
+        let from = at.column as usize;
+        if from < self.known {
+            return &self.forms[from..self.known.min(end as usize)];
+        }
+        one
+    }
+
     /// Where the number is in the next cell, at once or after a length of one byte, if the table knows that it is
     /// a whole number of four bytes, the most frequent kind. The place after that cell has the same walk.
     #[inline(always)]
@@ -154,6 +170,25 @@ impl<'a> Table<'a> {
             column: at.column + 1,
             walk,
         }
+    }
+
+    /// The place after the next cells, this many, which the table knows or which are one at most.
+    #[inline(always)]
+    pub(crate) fn past(&self, at: Ahead<'a>, cells: usize) -> Ahead<'a>
+        requires within { at.column + cells ≤ self.now.count }
+        requires known { (at.column + cells ≤ self.now.known) ⊎ (cells ≤ 1) }
+        ensures further { result.column ≡ at.entry.column + cells }
+        ensures none { cells ≡ 0 → result ≡ at.entry }
+        ensures gives { (columns : List spec.Column) → Knows self.now columns → IsAhead self.now columns at.entry →
+            IsAhead self.now columns result }
+    {
+        if (at.column as usize) < self.known || cells == 0 {
+            return Ahead {
+                column: at.column + cells as u16,
+                walk: at.walk,
+            };
+        }
+        self.after(at)
     }
 
     /// What the next cell needs, and the place after it; none at the row's end.

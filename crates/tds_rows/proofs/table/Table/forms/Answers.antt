@@ -1,0 +1,8 @@
+use Rattle.std.proofs.Common.{arith, rules}
+use Rattle.tds_rows.proofs.TableForms.{known_ahead}
+use Rattle.tds_rows.proofs.table.Table.forms.Goals as goal
+
+pub returns-then-from-self : goal.returns-then-from-self
+returns-then-from-self c =
+    let table = c.args.self.now in
+    known_ahead table c.args.at c.args.end _ table.laid (search (arith, rules)) (search (arith, rules)) (search (arith, rules)) (search (arith, rules)) table.few

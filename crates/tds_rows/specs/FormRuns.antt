@@ -1,0 +1,37 @@
+-- What a run over cells by their forms does, whose columns follow one another in a row.
+use Rattle.std.specs.Prelude.{◌≡◌, ◌==◌, ◌⊎◌, ◌+◌, ◌<◌, ◌≤◌, ◌&&◌, ◌∷◌, ℕ, Bool, List, length, map, take, drop}
+use Rattle.tds_columns.specs.Description.{Column}
+use Rattle.tds_rows.specs.declared.Charset.{Charset}
+use Rattle.tds_rows.specs.declared.form.Form.{Form}
+use Rattle.tds_rows.specs.declared.run.fields.TheConstants.{CELL_ROOM}
+use Rattle.tds_rows.specs.declared.run.forms.FormsRun.{FormsRun}
+use Rattle.tds_rows.specs.Cells.{Cell}
+use Rattle.tds_rows.specs.CellSteps.{IsLeft}
+use Rattle.tds_rows.specs.Runs.{WritesCells, WritesOne}
+use Rattle.tds_rows.specs.Tables.{kinds}
+
+-- The forms are those of the next columns, which are the row's last where the forms end it.
+pub record AreNext (forms : List Form) (ends : Bool) (columns : List Column) : Type 0 where
+  pub kinds_are : map (λ f. f.kind) forms ≡ kinds (take (length forms) columns)
+  pub ends_are : ends ≡ (length forms == length columns)
+
+-- A run wrote no more cells than there are, from no more bytes, into no more room; and a cell has some bytes.
+pub record IsWithin (run : FormsRun) (most bytes room : ℕ) : Type 0 where
+  pub cells : run.cells ≤ most
+  pub used : run.used ≤ bytes
+  pub made : run.made ≤ room
+  pub some : 0 < run.cells → 0 < run.used
+  pub none : run.cells ≡ 0 → run.used ≡ 0
+
+-- The first cell is left, with this much room; or there isn't room for every scalar.
+abbrev pub FirstLeft : Charset → List Form → List ℕ → ℕ → Type 0
+FirstLeft charset forms bytes room = (form : Form) (rest : List Form) → forms ≡ form ∷ rest → (room < CELL_ROOM) ⊎ IsLeft charset form.kind bytes room
+
+-- The first cell alone was written so.
+abbrev pub FirstWritten : Charset → List Form → ℕ → Bool → List ℕ → List ℕ → FormsRun → Type 0
+FirstWritten charset forms column ends bytes text run = (form : Form) (rest : List Form) → forms ≡ form ∷ rest → WritesOne charset form.kind column (ends && (1 == length forms)) bytes text run.used run.made
+
+-- A run wrote the text of the bytes that it used, which are the next cells.
+abbrev pub FormsWritten : Charset → List Form → ℕ → Bool → List ℕ → List ℕ → FormsRun → Type 0
+FormsWritten charset forms column ends bytes text run = (columns : List Column) → AreNext forms ends columns → (cells : List Cell) → length cells ≡ column →
+    WritesCells charset cells columns (drop run.cells columns) (column + run.cells) (take run.used bytes) (take run.made text)
