@@ -300,12 +300,12 @@ fn the_longest_description_is_held(rt: HostRuntime) -> Result<(), Fail> {
     let from = RepeatingReader::new(COUNT, COLUMN, 65_534, DONE);
     let to = ScriptedWriter::new(4096, Failing::Never);
     let came = run_repeated(&mut areas, from, to, NOTHING);
-    let came = came.map(|came| (came.answer, came.taken));
-    same(
-        "an answer",
-        &came,
-        &Some((Ok(report(1, 0, 196_603)), 196_603)),
-    )?;
+    let want = Repeated {
+        answer: Ok(report(1, 0, 196_603)),
+        taken: 196_603,
+        kept: None,
+    };
+    same("an answer", &came, &Some(want))?;
     let held = (areas.description_held(), areas.description_peak());
     same("its description", &held, &(524_274, 524_274))
 }

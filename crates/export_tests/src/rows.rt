@@ -212,20 +212,20 @@ struct Good {
     text: &'static [u8],
 }
 
-// A row that a call reads in packets of `size` bytes of the payload, the stop that it is refused with, its text, and the
-// longest cell that the small area had.
+// A row that a call reads in packets of `size` bytes of the payload, its answer and text, and the longest cell that the
+// small area had.
 struct Reading {
     what: &'static str,
     token: Token,
     columns: &'static [&'static [u8]],
     bytes: &'static [u8],
     size: usize,
-    stop: Option<(Fault, u64)>,
+    answer: Result<(), Stop>,
     text: &'static [u8],
     peak: usize,
 }
 
-// The description of three kinds has 27 bytes, and the date begins 5 bytes after it.
+// The description of three kinds has 27 bytes and that of a date 10, and the date of three kinds begins 5 bytes behind it.
 const READINGS: [Reading; 10] = [
     Reading {
         what: "each cell of a row by itself",
@@ -233,7 +233,7 @@ const READINGS: [Reading; 10] = [
         columns: MIXED,
         bytes: MIXED_ROW,
         size: 3,
-        stop: None,
+        answer: Ok(()),
         text: MIXED_TEXT,
         peak: 4,
     },
@@ -243,7 +243,7 @@ const READINGS: [Reading; 10] = [
         columns: &[WIDE_DECIMAL],
         bytes: NINES,
         size: 3,
-        stop: None,
+        answer: Ok(()),
         text: NINES_TEXT,
         peak: 18,
     },
@@ -253,7 +253,7 @@ const READINGS: [Reading; 10] = [
         columns: MIXED,
         bytes: MIXED_ROW,
         size: 4000,
-        stop: None,
+        answer: Ok(()),
         text: MIXED_TEXT,
         peak: 0,
     },
@@ -263,7 +263,7 @@ const READINGS: [Reading; 10] = [
         columns: &[VARCHAR],
         bytes: &[3, 0, 0x41, 0x42, 0x43],
         size: 4000,
-        stop: None,
+        answer: Ok(()),
         text: b"\"ABC\"\r\n",
         peak: 0,
     },
@@ -273,7 +273,10 @@ const READINGS: [Reading; 10] = [
         columns: MIXED,
         bytes: &[42, 0, 0, 0, 0, 3, 0xDB, 0xB9, 0x37],
         size: 1,
-        stop: Some((Fault::BadValue { column: 2 }, 6)),
+        answer: Err(Stop {
+            fault: Fault::BadValue { column: 2 },
+            place: Place::Payload(33),
+        }),
         text: b"42,NULL",
         peak: 4,
     },
@@ -283,7 +286,7 @@ const READINGS: [Reading; 10] = [
         columns: MIXED,
         bytes: MIXED_ROW,
         size: 4000,
-        stop: None,
+        answer: Ok(()),
         text: MIXED_TEXT,
         peak: 0,
     },
@@ -293,7 +296,7 @@ const READINGS: [Reading; 10] = [
         columns: MIXED,
         bytes: MIXED_ROW,
         size: 33,
-        stop: None,
+        answer: Ok(()),
         text: MIXED_TEXT,
         peak: 4,
     },
@@ -303,7 +306,10 @@ const READINGS: [Reading; 10] = [
         columns: &[DATE],
         bytes: &[4, 0, 0, 0, 0],
         size: 4000,
-        stop: Some((Fault::BadValueLength { column: 0 }, 0)),
+        answer: Err(Stop {
+            fault: Fault::BadValueLength { column: 0 },
+            place: Place::Payload(10),
+        }),
         text: b"",
         peak: 1,
     },
@@ -313,7 +319,7 @@ const READINGS: [Reading; 10] = [
         columns: &[INT4, DATE],
         bytes: &[0x01, 3, 0xDA, 0xB9, 0x37],
         size: 4000,
-        stop: None,
+        answer: Ok(()),
         text: b"NULL,9999-12-31\r\n",
         peak: 0,
     },
@@ -323,22 +329,11 @@ const READINGS: [Reading; 10] = [
         columns: &[INT4, DATE],
         bytes: &[0x01, 3, 0xDA, 0xB9, 0x37],
         size: 3,
-        stop: None,
+        answer: Ok(()),
         text: b"NULL,9999-12-31\r\n",
         peak: 4,
     },
 ];
-
-// What is wanted of it.
-fn wanted(reading: &Reading) -> Result<(), Stop> {
-    match reading.stop {
-        None => Ok(()),
-        Some((fault, at)) => Err(Stop {
-            fault,
-            place: Place::Payload(described(reading.columns).saturating_add(at)),
-        }),
-    }
-}
 
 fn read(alloc: Global, reading: &Reading) -> Result<(Outcome, usize), Fail> {
     run_metered(
@@ -358,7 +353,7 @@ fn rows_are_read_in_little_room(rt: HostRuntime) -> Result<(), Fail> {
     for reading in &READINGS {
         let (out, peak) = read(rt.alloc(), reading)?;
         let came = (out.answer, out.text, peak);
-        let want = (wanted(reading), Some(reading.text.len()), reading.peak);
+        let want = (reading.answer, Some(reading.text.len()), reading.peak);
         expect(&rt, reading.what, came == want);
     }
     Ok(())

@@ -78,52 +78,56 @@ fn a_vast_value_is_read_no_further_than_written(rt: HostRuntime) -> Result<(), F
     same("a block", &(out, areas.waiting()), &(Some(want), waiting))
 }
 
-// A packet up to the length of a value of varchar(max).
-const HEAD: [u8; 29] = [
-    0x04, 0x01, 0x00, 0x00, 0x00, 0x00, 0x01, 0x00, 0x81, 1, 0, 0, 0, 0, 0, 0, 0, 0xA7, 0xFF, 0xFF,
-    9, 4, 0xD0, 0, 0x34, 1, 0x74, 0, 0xD1,
-];
-
 // How many bytes a value has, how the writer fails, and how many bytes are written and wait then.
-const BLOCKS: [(usize, Failing, usize, usize); 4] = [
+const BLOCKS: [(u32, Failing, usize, u64); 4] = [
     (4086, Failing::AtWrite(0), 0, 4095),
     (4087, Failing::AtWrite(0), 0, 4096),
     (4087, Failing::InFlush, 4096, 0),
     (4088, Failing::AtWrite(1), 4096, 1),
 ];
 
-// A value of n times x, in one chunk of a row of varchar(max), and a DONE after it, in one packet.
-fn value_of(alloc: Global, n: usize) -> Result<Vec<u8>, AllocError> {
-    let size = (n.min(8000) as u32).to_le_bytes();
-    let mut wire = HEAD.to_vec(alloc)?;
-    for part in [&size[..], &[0; 4], &size] {
-        wire.extend_from_slice(part)?;
-    }
-    wire.resize(wire.len().saturating_add(n), b'x')?;
-    wire.extend_from_slice(&END)?;
-    let length = (wire.len().min(8192) as u16).to_be_bytes();
-    for (to, from) in wire.iter_mut().skip(2).zip(length) {
-        *to = from;
-    }
-    Ok(wire)
-}
+// A packet of one x, and the last, with the terminator and a DONE.
+const ONE_X: &[u8] = &[0x04, 0x00, 0x00, 0x09, 0x00, 0x00, 0x01, 0x00, b'x'];
 
-// So many of the n + 9 bytes of text are written before the writer fails, and so many wait.
-fn check_block(
-    alloc: Global,
-    areas: &mut Areas,
-    (n, failing, written, unwritten): (usize, Failing, usize, usize),
-) -> Result<(), Fail> {
-    let wire = value_of(alloc, n)?;
+const LAST_PACKET: &[u8] = &[
+    0x04, 0x01, 0x00, 0x19, 0x00, 0x00, 0x01, 0x00, 0, 0, 0, 0, 0xFD, 0, 0, 0, 0, 0, 0, 0, 0, 0, 0,
+    0, 0,
+];
+
+// The text of a value of n times x, in one chunk of a row of varchar(max).
+fn text_of(alloc: Global, n: usize) -> Result<Vec<u8>, AllocError> {
     let mut text = b"\"t\"\r\n\"".to_vec(alloc)?;
     text.resize(n.saturating_add(6), b'x')?;
     text.extend_from_slice(b"\"\r\n")?;
-    let from = ScriptedReader::new(&wire, 1000);
+    Ok(text)
+}
+
+// So many of its n + 9 bytes are written before the writer fails, and so many wait.
+fn check_block(
+    alloc: Global,
+    areas: &mut Areas,
+    (n, failing, written, unwritten): (u32, Failing, usize, u64),
+) -> Result<(), Fail> {
+    let text = text_of(alloc, n as usize)?;
+    let mut first = VAST;
+    first[2..4].copy_from_slice(&[0, 41]);
+    first[29..33].copy_from_slice(&n.to_le_bytes());
+    first[37..].copy_from_slice(&n.to_le_bytes());
+    let from = RepeatingReader::new(&first, ONE_X, u64::from(n), LAST_PACKET);
     let to = ScriptedWriter::new(4096, failing);
-    let taken = front(&text, written);
-    let out = run(areas, from, to, Charset::Windows1252, taken);
-    let want = broken_behind(taken, front(&text, unwritten));
-    same(n, &out, &Some(want))
+    let came = run_repeated(areas, from, to, &text);
+    let answer = Err(Stopped {
+        fault: Fault::WriteFailed,
+        place: Place::Text(written as u64),
+        written: written as u64,
+        unwritten,
+    });
+    let want = Repeated {
+        answer,
+        taken: written,
+        kept: Some(written),
+    };
+    same(n, &came, &Some(want))
 }
 
 // The text fills a block all but a byte, exactly, or passes it by a byte.
@@ -152,12 +156,15 @@ fn a_write_of_many_rows_fails(rt: HostRuntime) -> Result<(), Fail> {
     let from = RepeatingReader::new(&BIGINT, &LEAST, 370, DONE);
     let to = ScriptedWriter::new(1000, Failing::AfterBytes(4090));
     let came = run_repeated(&mut areas, from, to, NOTHING);
-    let came = came.map(|came| (came.answer, came.taken));
-    let answer = Err(Stopped {
-        fault: Fault::WriteFailed,
-        place: Place::Text(4090),
-        written: 4090,
-        unwritten: 6,
-    });
-    same("many rows", &came, &Some((answer, 4090)))
+    let want = Repeated {
+        answer: Err(Stopped {
+            fault: Fault::WriteFailed,
+            place: Place::Text(4090),
+            written: 4090,
+            unwritten: 6,
+        }),
+        taken: 4090,
+        kept: None,
+    };
+    same("many rows", &came, &Some(want))
 }

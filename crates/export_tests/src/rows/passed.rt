@@ -14,7 +14,7 @@ struct Value {
     what: &'static str,
     kind: Kind,
     bytes: &'static [u8],
-    answer: Result<u64, (Fault, u64)>,
+    answer: Result<u64, Stop>,
     peak: usize,
 }
 
@@ -37,14 +37,20 @@ const VALUES: [Value; 4] = [
         what: "a length that isn't allowed",
         kind: Kind::IntN(4),
         bytes: &[2, 7, 0, 0, 0],
-        answer: Err((Fault::BadValueLength { column: 65535 }, 0)),
+        answer: Err(Stop {
+            fault: Fault::BadValueLength { column: 65535 },
+            place: Place::Payload(0),
+        }),
         peak: 1,
     },
     Value {
         what: "a chunk that passes the total",
         kind: Kind::Binary(Reach::Chunked),
         bytes: &[3, 0, 0, 0, 0, 0, 0, 0, 4, 0, 0, 0],
-        answer: Err((Fault::PlpLength { column: 65535 }, 8)),
+        answer: Err(Stop {
+            fault: Fault::PlpLength { column: 65535 },
+            place: Place::Payload(8),
+        }),
         peak: 0,
     },
 ];
@@ -66,24 +72,12 @@ fn came(alloc: Global, value: &Value, size: usize) -> Result<(Result<u64, Stop>,
     Ok((answer, small.peak()))
 }
 
-// What is wanted of it.
-fn wanted(value: &Value) -> (Result<u64, Stop>, usize) {
-    let answer = match value.answer {
-        Ok(place) => Ok(place),
-        Err((fault, place)) => Err(Stop {
-            fault,
-            place: Place::Payload(place),
-        }),
-    };
-    (answer, value.peak)
-}
-
 #[test]
 fn values_are_passed_over(rt: HostRuntime) -> Result<(), Fail> {
     for value in &VALUES {
         for size in [1, 3, 4000] {
             let out = came(rt.alloc(), value, size)?;
-            expect_at(&rt, value.what, size, out == wanted(value));
+            expect_at(&rt, value.what, size, out == (value.answer, value.peak));
         }
     }
     Ok(())
