@@ -9,7 +9,7 @@ PREFIX ?= /usr/local
 # Where the benchmarks are built: outside of the repository, whose gate refuses files that no crate of crates.txt has.
 BENCH = $(or $(TMPDIR),/tmp)/gavyreto-bench
 
-.PHONY: help build install deb export test gate slowest recipes python-tests cuttings generated docs changing refused-memory refused-borrow check bench-text bench-values bench-export bench-peers
+.PHONY: help build install deb export test gate slowest recipes python-tests worked cuttings generated docs changing refused-memory refused-borrow check bench-text bench-values bench-export bench-peers
 
 help:
 	@echo "make build             proves and builds the program, bin/tds_replay"
@@ -20,6 +20,7 @@ help:
 	@echo "make gate              what a merge needs: every proof from nothing, each must-fail edit, each test and script"
 	@echo "make recipes           runs the commands of docs/RECIPES.md with bin/tds_replay, or with PROGRAM=P"
 	@echo "make python-tests      tests the Python module, and examples/query.py on a stand-in server, with bin/tds_replay or PROGRAM=P"
+	@echo "make worked            the program answers the worked rows of examples/worked.txt, with bin/tds_replay or PROGRAM=P"
 	@echo "make cuttings          responses in packets of every size, and of random sizes, have one text"
 	@echo "make generated         a thousand generated responses agree with a plain reading of them"
 	@echo "make refused-memory    the program, and tests that ask again, with each request for memory refused in turn"
@@ -56,8 +57,8 @@ python-tests:
 	@PROGRAM=$(or $(PROGRAM),bin/tds_replay) python/test_gavyreto.py
 	@PROGRAM=$(or $(PROGRAM),bin/tds_replay) tools/test_query.py
 
-cuttings:
-	@tools/cuttings $(or $(PROGRAM),bin/tds_replay)
+worked cuttings:
+	@tools/$@ $(or $(PROGRAM),bin/tds_replay)
 
 docs changing generated refused-memory refused-borrow:
 	@tools/$@

@@ -2,6 +2,8 @@
 
 It is written from the rules of docs/PROTOCOL.md over the joined payload, element by element, by Python's own integers, dates
 and codecs. It shares no code with the program, keeps everything in memory, and isn't proved."""
+from __future__ import annotations
+
 import codecs
 from collections.abc import Callable, Iterator
 from dataclasses import dataclass, field

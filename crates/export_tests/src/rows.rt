@@ -1,9 +1,10 @@
-// Rows worked out by hand, from the bytes after the token byte to the text and the answer.
+// Rows by each public call, from the bytes after the token byte to the text, the answer and the use of the small area, and
+// writers that fail in them. `examples/worked.txt` has more rows, by the program.
 ghost use Rattle.std.specs.Prelude.{◌≡◌, ◌≤◌, None, [], true, length};
 ghost use Rattle.tds_columns.specs.View.{IsDescription};
 ghost use Rattle.tds_packet.specs.Payloads.{IsOnSame, IsSound};
 
-use crate::checks::expect_at;
+use crate::checks::{expect, expect_at};
 use std::alloc::{AllocError, Global};
 use std::io::Read;
 use std::test::Fail;
@@ -14,31 +15,15 @@ use tds_packet::rig::{Failing, ScriptedReader, ScriptedWriter};
 use tds_packet::{Counted, Fault, Payload, Place, Stop};
 use tds_rows::*;
 
-mod long_values;
 mod nulls;
 mod passed;
-mod small_area;
 mod streamed;
 
 const INT4: &[u8] = &[0x38];
 
-const MONEY: &[u8] = &[0x3C];
-
-const DATETIME: &[u8] = &[0x3D];
-
-const SMALL_DATETIME: &[u8] = &[0x3A];
-
 const INT4_N: &[u8] = &[0x26, 0x04];
 
 const DATE: &[u8] = &[0x28];
-
-const GUID: &[u8] = &[0x24, 0x10];
-
-const TIME: &[u8] = &[0x29, 0x07];
-
-const OFFSET: &[u8] = &[0x2B, 0x00];
-
-const DECIMAL: &[u8] = &[0x6A, 0x05, 0x05, 0x02];
 
 const WIDE_DECIMAL: &[u8] = &[0x6A, 0x11, 0x26, 0x26];
 
@@ -62,12 +47,6 @@ const NINES: &[u8] = &[
 ];
 
 const NINES_TEXT: &[u8] = b"0.99999999999999999999999999999999999999\r\n";
-
-const GUID_ROW: &[u8] = &[0x10, 0, 1, 2, 3, 4, 5, 6, 7, 8, 9, 10, 11, 12, 13, 14, 15];
-
-const MONEY_ROW: &[u8] = &[
-    0xFF, 0xFF, 0xFF, 0xFF, 0xFF, 0xFF, 0xFF, 0xFF, 0x00, 0x00, 0x00, 0x00, 0x10, 0x27, 0x00, 0x00,
-];
 
 const FILLER: [u8; 4095] = [b'x'; 4095];
 
@@ -151,6 +130,21 @@ fn run(
     to: ScriptedWriter,
     wanted: &[u8],
 ) -> Result<Outcome, Fail> {
+    let (outcome, _) = run_metered(alloc, token, columns, bytes, size, waiting, to, wanted)?;
+    Ok(outcome)
+}
+
+// The same, and the most bytes that the small area had.
+fn run_metered(
+    alloc: Global,
+    token: Token,
+    columns: &[&[u8]],
+    bytes: &[u8],
+    size: usize,
+    waiting: usize,
+    to: ScriptedWriter,
+    wanted: &[u8],
+) -> Result<(Outcome, usize), Fail> {
     let payload = payload_of(alloc, columns, bytes)?;
     let start = (payload.len() - bytes.len().min(payload.len())) as u64;
     let wire = in_packets(alloc, &payload, size)?;
@@ -189,11 +183,12 @@ fn run(
     };
     let place = payload.place().saturating_sub(start);
     let _ = sink.finish();
-    Ok(Outcome {
+    let outcome = Outcome {
         answer,
         text: length_behind(to.device().kept(), wanted),
         place,
-    })
+    };
+    Ok((outcome, small.peak()))
 }
 
 fn usual_writer() -> ScriptedWriter {
@@ -217,305 +212,163 @@ struct Good {
     text: &'static [u8],
 }
 
-const GOOD_ROWS: [Good; 17] = [
-    Good {
-        what: "nine NULLs",
-        columns: NINE,
-        bytes: &[0; 9],
-        text: NINE_TEXT,
-    },
-    Good {
-        what: "three kinds",
-        columns: MIXED,
-        bytes: MIXED_ROW,
-        text: MIXED_TEXT,
-    },
-    Good {
-        what: "a decimal",
-        columns: &[DECIMAL],
-        bytes: &[5, 1, 0x39, 0x30, 0, 0],
-        text: b"123.45\r\n",
-    },
-    Good {
-        what: "a negative one",
-        columns: &[DECIMAL],
-        bytes: &[5, 0, 5, 0, 0, 0],
-        text: b"-0.05\r\n",
-    },
-    Good {
-        what: "zero",
-        columns: &[DECIMAL],
-        bytes: &[5, 0, 0, 0, 0, 0],
-        text: b"0.00\r\n",
-    },
-    Good {
-        what: "38 digits",
-        columns: &[WIDE_DECIMAL],
-        bytes: NINES,
-        text: NINES_TEXT,
-    },
-    Good {
-        what: "the first day",
-        columns: &[DATE],
-        bytes: &[3, 0, 0, 0],
-        text: b"0001-01-01\r\n",
-    },
-    Good {
-        what: "the last day",
-        columns: &[DATE],
-        bytes: &[3, 0xDA, 0xB9, 0x37],
-        text: b"9999-12-31\r\n",
-    },
-    Good {
-        what: "an offset",
-        columns: &[OFFSET],
-        bytes: &[8, 0, 0, 0, 0, 0, 0, 0x3C, 0],
-        text: b"0001-01-01 01:00:00 +01:00\r\n",
-    },
-    Good {
-        what: "a time",
-        columns: &[TIME],
-        bytes: &[5, 0xFF, 0xBF, 0x69, 0x2A, 0xC9],
-        text: b"23:59:59.9999999\r\n",
-    },
-    Good {
-        what: "a GUID",
-        columns: &[GUID],
-        bytes: GUID_ROW,
-        text: b"03020100-0504-0706-0809-0a0b0c0d0e0f\r\n",
-    },
-    Good {
-        what: "one byte",
-        columns: &[&[0x26, 0x01]],
-        bytes: &[1, 0xFF],
-        text: b"255\r\n",
-    },
-    Good {
-        what: "two bytes",
-        columns: &[&[0x26, 0x02]],
-        bytes: &[2, 0, 0x80],
-        text: b"-32768\r\n",
-    },
-    Good {
-        what: "eight bytes",
-        columns: &[&[0x26, 0x08]],
-        bytes: &[8, 0, 0, 0, 0, 0, 0, 0, 0x80],
-        text: b"-9223372036854775808\r\n",
-    },
-    Good {
-        what: "money",
-        columns: &[MONEY, MONEY],
-        bytes: MONEY_ROW,
-        text: b"-0.0001,1.0000\r\n",
-    },
-    Good {
-        what: "datetime",
-        columns: &[DATETIME],
-        bytes: &[0, 0, 0, 0, 0xFF, 0x81, 0x8B, 1],
-        text: b"1900-01-01 23:59:59.997\r\n",
-    },
-    Good {
-        what: "smalldatetime",
-        columns: &[SMALL_DATETIME],
-        bytes: &[0, 0, 0x9F, 5],
-        text: b"1900-01-01 23:59:00\r\n",
-    },
-];
-
-fn write_good(alloc: Global, case: &Good, size: usize) -> Result<Outcome, Fail> {
-    let to = usual_writer();
-    run(
-        alloc,
-        Token::Row,
-        case.columns,
-        case.bytes,
-        size,
-        0,
-        to,
-        case.text,
-    )
-}
-
-// The same by runs.
-fn write_rows(alloc: Global, case: &Good, size: usize) -> Result<Outcome, Fail> {
-    let to = usual_writer();
-    run(
-        alloc,
-        Token::Rows,
-        case.columns,
-        case.bytes,
-        size,
-        0,
-        to,
-        case.text,
-    )
-}
-
-#[test]
-fn rows_are_written(rt: HostRuntime) -> Result<(), Fail> {
-    for case in &GOOD_ROWS {
-        let want = Outcome {
-            answer: Ok(()),
-            text: Some(case.text.len()),
-            place: case.bytes.len() as u64,
-        };
-        for size in [1, 3, 4000] {
-            let out = write_good(rt.alloc(), case, size)?;
-            expect_at(&rt, case.what, size, out == want);
-        }
-    }
-    Ok(())
-}
-
-// A row, its columns, its fault and the byte of the row where it stands, and the text before it.
-struct Bad {
+// A row that a call reads in packets of `size` bytes of the payload, its answer and text, and the longest cell that the
+// small area had.
+struct Reading {
     what: &'static str,
+    token: Token,
     columns: &'static [&'static [u8]],
     bytes: &'static [u8],
-    fault: Fault,
-    at: u64,
+    size: usize,
+    answer: Result<(), Stop>,
     text: &'static [u8],
+    peak: usize,
 }
 
-const BAD_ROWS: [Bad; 11] = [
-    Bad {
-        what: "a day beyond the last",
-        columns: &[DATE],
-        bytes: &[3, 0xDB, 0xB9, 0x37],
-        fault: Fault::BadValue { column: 0 },
-        at: 1,
-        text: b"",
+// The description of three kinds has 27 bytes and that of a date 10, and the date of three kinds begins 5 bytes behind it.
+const READINGS: [Reading; 10] = [
+    Reading {
+        what: "each cell of a row by itself",
+        token: Token::Row,
+        columns: MIXED,
+        bytes: MIXED_ROW,
+        size: 3,
+        answer: Ok(()),
+        text: MIXED_TEXT,
+        peak: 4,
     },
-    Bad {
-        what: "a date of four bytes",
-        columns: &[DATE],
-        bytes: &[4, 0],
-        fault: Fault::BadValueLength { column: 0 },
-        at: 0,
-        text: b"",
+    Reading {
+        what: "the longest cell",
+        token: Token::Row,
+        columns: &[WIDE_DECIMAL],
+        bytes: NINES,
+        size: 3,
+        answer: Ok(()),
+        text: NINES_TEXT,
+        peak: 18,
     },
-    Bad {
+    Reading {
+        what: "no cell of a row that lies whole in its packet",
+        token: Token::Row,
+        columns: MIXED,
+        bytes: MIXED_ROW,
+        size: 4000,
+        answer: Ok(()),
+        text: MIXED_TEXT,
+        peak: 0,
+    },
+    Reading {
+        what: "no long value",
+        token: Token::Row,
+        columns: &[VARCHAR],
+        bytes: &[3, 0, 0x41, 0x42, 0x43],
+        size: 4000,
+        answer: Ok(()),
+        text: b"\"ABC\"\r\n",
+        peak: 0,
+    },
+    Reading {
         what: "a bad date behind two values",
+        token: Token::Row,
         columns: MIXED,
         bytes: &[42, 0, 0, 0, 0, 3, 0xDB, 0xB9, 0x37],
-        fault: Fault::BadValue { column: 2 },
-        at: 6,
+        size: 1,
+        answer: Err(Stop {
+            fault: Fault::BadValue { column: 2 },
+            place: Place::Payload(33),
+        }),
         text: b"42,NULL",
+        peak: 4,
     },
-    Bad {
-        what: "an int of three bytes",
+    Reading {
+        what: "no cell of many rows that lies whole in its packet",
+        token: Token::Rows,
         columns: MIXED,
-        bytes: &[42, 0, 0, 0, 3, 0, 0, 0],
-        fault: Fault::BadValueLength { column: 1 },
-        at: 4,
-        text: b"42",
+        bytes: MIXED_ROW,
+        size: 4000,
+        answer: Ok(()),
+        text: MIXED_TEXT,
+        peak: 0,
     },
-    Bad {
-        what: "a tick beyond the last",
-        columns: &[DATETIME],
-        bytes: &[0, 0, 0, 0, 0, 0x82, 0x8B, 1],
-        fault: Fault::BadValue { column: 0 },
-        at: 0,
-        text: b"",
-    },
-    Bad {
-        what: "a minute beyond the last",
-        columns: &[SMALL_DATETIME],
-        bytes: &[0, 0, 0xA0, 5],
-        fault: Fault::BadValue { column: 0 },
-        at: 0,
-        text: b"",
-    },
-    Bad {
-        what: "a local time before the first day",
-        columns: &[OFFSET],
-        bytes: &[8, 0, 0, 0, 0, 0, 0, 0xFF, 0xFF],
-        fault: Fault::BadValue { column: 0 },
-        at: 1,
-        text: b"",
-    },
-    Bad {
-        what: "a time of a whole day",
-        columns: &[TIME],
-        bytes: &[5, 0, 0xC0, 0x69, 0x2A, 0xC9],
-        fault: Fault::BadValue { column: 0 },
-        at: 1,
-        text: b"",
-    },
-    Bad {
-        what: "a varchar without its length",
-        columns: &[INT4, VARCHAR],
-        bytes: &[42, 0, 0, 0, 3],
-        fault: Fault::MessageEnded,
-        at: 4,
-        text: b"42",
-    },
-    Bad {
-        what: "a row that ends",
+    Reading {
+        what: "a date across the end of a packet",
+        token: Token::Rows,
         columns: MIXED,
-        bytes: &[42, 0, 0, 0],
-        fault: Fault::MessageEnded,
-        at: 4,
-        text: b"42",
+        bytes: MIXED_ROW,
+        size: 33,
+        answer: Ok(()),
+        text: MIXED_TEXT,
+        peak: 4,
     },
-    Bad {
-        what: "a date that ends",
-        columns: MIXED,
-        bytes: &[42, 0, 0, 0, 0, 3, 0, 0],
-        fault: Fault::MessageEnded,
-        at: 6,
-        text: b"42,NULL",
+    Reading {
+        what: "a date whose length isn't allowed",
+        token: Token::Rows,
+        columns: &[DATE],
+        bytes: &[4, 0, 0, 0, 0],
+        size: 4000,
+        answer: Err(Stop {
+            fault: Fault::BadValueLength { column: 0 },
+            place: Place::Payload(10),
+        }),
+        text: b"",
+        peak: 1,
+    },
+    Reading {
+        what: "no cell behind a bitmap that lies whole in its packet",
+        token: Token::NbcRow,
+        columns: &[INT4, DATE],
+        bytes: &[0x01, 3, 0xDA, 0xB9, 0x37],
+        size: 4000,
+        answer: Ok(()),
+        text: b"NULL,9999-12-31\r\n",
+        peak: 0,
+    },
+    Reading {
+        what: "a date behind a bitmap, across the end of a packet",
+        token: Token::NbcRow,
+        columns: &[INT4, DATE],
+        bytes: &[0x01, 3, 0xDA, 0xB9, 0x37],
+        size: 3,
+        answer: Ok(()),
+        text: b"NULL,9999-12-31\r\n",
+        peak: 4,
     },
 ];
 
-fn write_bad(alloc: Global, case: &Bad, size: usize) -> Result<Outcome, Fail> {
-    let to = usual_writer();
-    run(
+fn read(alloc: Global, reading: &Reading) -> Result<(Outcome, usize), Fail> {
+    run_metered(
         alloc,
-        Token::Row,
-        case.columns,
-        case.bytes,
-        size,
+        reading.token,
+        reading.columns,
+        reading.bytes,
+        reading.size,
         0,
-        to,
-        case.text,
+        usual_writer(),
+        reading.text,
     )
 }
 
 #[test]
-fn rows_are_refused(rt: HostRuntime) -> Result<(), Fail> {
-    for case in &BAD_ROWS {
-        let stop = Stop {
-            fault: case.fault,
-            place: Place::Payload(described(case.columns).saturating_add(case.at)),
-        };
-        let want = (Err(stop), Some(case.text.len()));
-        for size in [1, 4000] {
-            let out = write_bad(rt.alloc(), case, size)?;
-            let came = (out.answer, out.text);
-            expect_at(&rt, case.what, size, came == want);
-        }
+fn rows_are_read_in_little_room(rt: HostRuntime) -> Result<(), Fail> {
+    for reading in &READINGS {
+        let (out, peak) = read(rt.alloc(), reading)?;
+        let came = (out.answer, out.text, peak);
+        let want = (reading.answer, Some(reading.text.len()), reading.peak);
+        expect(&rt, reading.what, came == want);
     }
     Ok(())
 }
 
-// Three kinds after `waiting` bytes that wait.
+// A row after `waiting` bytes that wait.
 fn write_behind(
     alloc: Global,
+    columns: &[&[u8]],
+    bytes: &[u8],
     waiting: usize,
     to: ScriptedWriter,
     wanted: &[u8],
 ) -> Result<(Result<(), Stop>, Option<usize>), Fail> {
-    let out = run(
-        alloc,
-        Token::Row,
-        MIXED,
-        MIXED_ROW,
-        4000,
-        waiting,
-        to,
-        wanted,
-    )?;
+    let out = run(alloc, Token::Row, columns, bytes, 4000, waiting, to, wanted)?;
     Ok((out.answer, out.text))
 }
 
@@ -523,24 +376,39 @@ fn write_behind(
 #[test]
 fn a_line_lies_across_a_block(rt: HostRuntime) -> Result<(), Fail> {
     for waiting in 4060..=4095 {
-        let came = write_behind(rt.alloc(), waiting, usual_writer(), MIXED_TEXT)?;
+        let to = usual_writer();
+        let came = write_behind(rt.alloc(), MIXED, MIXED_ROW, waiting, to, MIXED_TEXT)?;
         let want = (Ok(()), Some(waiting + MIXED_TEXT.len()));
         expect_at(&rt, "bytes wait", waiting, came == want);
     }
     Ok(())
 }
 
-// The writer takes 4,000 bytes, and then fails at the block that the line fills.
+// The type of nvarchar(max), and a character of two units, its four bytes in three chunks. Its line has 8 bytes.
+const NVARCHAR_MAX: &[u8] = &[0xE7, 0xFF, 0xFF, 0x09, 0x04, 0xD0, 0x00, 0x34];
+
+const FACE: &[u8] = &[
+    4, 0, 0, 0, 0, 0, 0, 0, 1, 0, 0, 0, 0x3D, 2, 0, 0, 0, 0xD8, 0x00, 1, 0, 0, 0, 0xDE, 0, 0, 0, 0,
+];
+
+// A block ends after each byte of the line, and the writer takes 4,000 bytes of it and then fails.
 #[test]
 fn a_write_fails(rt: HostRuntime) -> Result<(), Fail> {
     let stop = Stop {
         fault: Fault::WriteFailed,
         place: Place::Text(4000),
     };
-    for waiting in 4076..=4095 {
+    for n in 1..=20usize {
         let to = ScriptedWriter::new(1000, Failing::AfterBytes(4000));
-        let came = write_behind(rt.alloc(), waiting, to, b"")?;
-        expect_at(&rt, "bytes wait", waiting, came == (Err(stop), Some(4000)));
+        let waiting = 4096 - n;
+        let came = write_behind(rt.alloc(), MIXED, MIXED_ROW, waiting, to, b"")?;
+        expect_at(&rt, "three kinds", n, came == (Err(stop), Some(4000)));
+    }
+    for n in 1..=8usize {
+        let to = ScriptedWriter::new(1000, Failing::AfterBytes(4000));
+        let waiting = 4096 - n;
+        let came = write_behind(rt.alloc(), &[NVARCHAR_MAX], FACE, waiting, to, b"")?;
+        expect_at(&rt, "a long value", n, came == (Err(stop), Some(4000)));
     }
     Ok(())
 }

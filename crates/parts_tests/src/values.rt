@@ -1,5 +1,5 @@
 // Values of each kind with the texts that they have.
-use crate::checks::{expect, expect_at};
+use crate::checks::expect_at;
 use std::process::Abort;
 use tds_values::{Kind, Reach, TEXT_ROOM, ValueFault, read_scalar, scalar_text, write_scalar};
 
@@ -88,96 +88,23 @@ fn check_decimals(rt: &impl Abort, table: &[(u8, u8, &str)]) {
 }
 
 #[test]
-fn worked_values(rt: HostRuntime) {
+fn numbers_have_their_texts(rt: HostRuntime) {
     check_all(&rt, &numbers::WORKED);
-}
-
-#[test]
-fn integers(rt: HostRuntime) {
     check_all(&rt, &numbers::INTEGERS);
-}
-
-#[test]
-fn money(rt: HostRuntime) {
     check_all(&rt, &numbers::MONEY);
-}
-
-#[test]
-fn magnitudes(rt: HostRuntime) {
+    check_all(&rt, &numbers::GUIDS);
     check_decimals(&rt, &decimals::LENGTHS);
-}
-
-#[test]
-fn scales(rt: HostRuntime) {
     check_decimals(&rt, &decimals::SCALES);
 }
 
 #[test]
-fn guids(rt: HostRuntime) {
-    check_all(&rt, &numbers::GUIDS);
-}
-
-#[test]
-fn calendar(rt: HostRuntime) {
+fn moments_have_their_texts(rt: HostRuntime) {
     check_all(&rt, &dates::DATES);
-}
-
-#[test]
-fn times(rt: HostRuntime) {
     check_all(&rt, &dates::TIMES);
-}
-
-#[test]
-fn date_times(rt: HostRuntime) {
     check_all(&rt, &dates::DATE_TIMES);
-}
-
-#[test]
-fn offset_times(rt: HostRuntime) {
     check_all(&rt, &dates::OFFSET_TIMES);
-}
-
-#[test]
-fn offsets(rt: HostRuntime) {
     check_all(&rt, &dates::OFFSETS);
-}
-
-#[test]
-fn old_date_times(rt: HostRuntime) {
     check_all(&rt, &dates::OLD_DATE_TIMES);
-}
-
-// The last three digits of the text of `ticks` 1/300 seconds after 1900-01-01.
-fn check_third(rt: &impl Abort, ticks: u32, want: &[u8]) {
-    let mut bytes = [0; 8];
-    for (to, from) in bytes[4..].iter_mut().zip(ticks.to_le_bytes()) {
-        *to = from;
-    }
-    match read_scalar(&Kind::DateTime8, &bytes) {
-        Ok(value) => {
-            let text = scalar_text(&value);
-            assert!(rt; text.len() == 23);
-            expect_at(
-                rt,
-                "the end of ticks",
-                ticks,
-                shown(&text.as_slice()[20..]) == shown(want),
-            );
-        }
-        Err(_) => expect_at(rt, "ticks are refused", ticks, false),
-    }
-}
-
-#[test]
-fn thirds(rt: HostRuntime) {
-    let mut n = 0;
-    for want in dates::THIRDS.as_bytes().chunks(3) {
-        assert!(rt; n < 300);
-        check_third(&rt, n, want);
-        check_third(&rt, 25919700 + n, want);
-        n += 1;
-    }
-    expect(&rt, "the number of rows", n == 300);
 }
 
 // Whether a list of numbers with spaces between them has `n`.

@@ -1,336 +1,45 @@
-// Responses with long values.
-use super::columns::ONE;
-use super::nbc_rows::packet_of;
-use super::return_values::joined;
+// Values of many packets and near the end of a block, and writers that fail in them.
 use super::*;
 use crate::checks::same;
 
-// The types of columns and their names t or b, after their Flags.
-const VARCHAR: &[u8] = &[0xA7, 0x0A, 0, 9, 4, 0xD0, 0, 0x34, 1, 0x74, 0];
-
-const NVARCHAR: &[u8] = &[0xE7, 0x14, 0, 9, 4, 0xD0, 0, 0x34, 1, 0x74, 0];
-
-const VARBINARY: &[u8] = &[0xA5, 0x0A, 0, 1, 0x62, 0];
-
-const VARCHAR_MAX: &[u8] = &[0xA7, 0xFF, 0xFF, 9, 4, 0xD0, 0, 0x34, 1, 0x74, 0];
-
-const NVARCHAR_MAX: &[u8] = &[0xE7, 0xFF, 0xFF, 9, 4, 0xD0, 0, 0x34, 1, 0x74, 0];
-
-const VARBINARY_MAX: &[u8] = &[0xA5, 0xFF, 0xFF, 1, 0x62, 0];
-
-// A row of one value under a character set, the stop that it is refused with, and the text.
-struct Value {
-    what: &'static str,
-    charset: Charset,
-    column: &'static [u8],
-    row: &'static [u8],
-    stop: Option<(Fault, u64)>,
-    text: &'static [u8],
-}
-
-const BAD_TEXT: Fault = Fault::BadText { column: 0 };
-
-const ODD_TEXT: Fault = Fault::OddText { column: 0 };
-
-const PLP_LENGTH: Fault = Fault::PlpLength { column: 0 };
-
-const SHORT_VALUES: [Value; 12] = [
-    Value {
-        what: "text of Windows-1252",
-        charset: SINGLE,
-        column: VARCHAR,
-        row: &[0xD1, 3, 0, 0x80, 0x22, 0xE9],
-        stop: None,
-        text: b"\"t\"\r\n\"\xE2\x82\xAC\"\"\xC3\xA9\"\r\n",
-    },
-    Value {
-        what: "no text",
-        charset: SINGLE,
-        column: VARCHAR,
-        row: &[0xD1, 0, 0],
-        stop: None,
-        text: b"\"t\"\r\n\"\"\r\n",
-    },
-    Value {
-        what: "no value",
-        charset: SINGLE,
-        column: VARCHAR,
-        row: &[0xD1, 0xFF, 0xFF],
-        stop: None,
-        text: b"\"t\"\r\nNULL\r\n",
-    },
-    Value {
-        what: "halves of characters",
-        charset: SINGLE,
-        column: NVARCHAR,
-        row: &[0xD1, 6, 0, 0x00, 0xD8, 0x41, 0x00, 0x00, 0xDC],
-        stop: None,
-        text: b"\"t\"\r\n\"\xEF\xBF\xBDA\xEF\xBF\xBD\"\r\n",
-    },
-    Value {
-        what: "an odd length",
-        charset: SINGLE,
-        column: NVARCHAR,
-        row: &[0xD1, 3, 0],
-        stop: Some((ODD_TEXT, 21)),
-        text: b"\"t\"\r\n",
-    },
-    Value {
-        what: "binary data",
-        charset: SINGLE,
-        column: VARBINARY,
-        row: &[0xD1, 2, 0, 0x0A, 0xFF],
-        stop: None,
-        text: b"\"b\"\r\n0x0aff\r\n",
-    },
-    Value {
-        what: "no binary data",
-        charset: SINGLE,
-        column: VARBINARY,
-        row: &[0xD1, 0, 0],
-        stop: None,
-        text: b"\"b\"\r\n0x\r\n",
-    },
-    Value {
-        what: "NULL of binary data",
-        charset: SINGLE,
-        column: VARBINARY,
-        row: &[0xD1, 0xFF, 0xFF],
-        stop: None,
-        text: b"\"b\"\r\nNULL\r\n",
-    },
-    Value {
-        what: "text of UTF-8",
-        charset: UTF8,
-        column: VARCHAR,
-        row: &[0xD1, 7, 0, 0xC3, 0xA9, 0x22, 0xF0, 0x9F, 0x98, 0x80],
-        stop: None,
-        text: b"\"t\"\r\n\"\xC3\xA9\"\"\xF0\x9F\x98\x80\"\r\n",
-    },
-    Value {
-        what: "half a character of UTF-16 in UTF-8",
-        charset: UTF8,
-        column: VARCHAR,
-        row: &[0xD1, 3, 0, 0x41, 0xED, 0xA0],
-        stop: Some((BAD_TEXT, 25)),
-        text: b"\"t\"\r\n\"A",
-    },
-    Value {
-        what: "a character that isn't whole",
-        charset: UTF8,
-        column: VARCHAR,
-        row: &[0xD1, 1, 0, 0xC3],
-        stop: Some((BAD_TEXT, 23)),
-        text: b"\"t\"\r\n\"",
-    },
-    Value {
-        what: "two bytes for one",
-        charset: UTF8,
-        column: VARCHAR,
-        row: &[0xD1, 2, 0, 0xC0, 0x80],
-        stop: Some((BAD_TEXT, 23)),
-        text: b"\"t\"\r\n\"",
-    },
+// The header of a packet of 512 bytes, a column of varchar(max), and a row of a value of 100,000,000 bytes in one
+// chunk, up to its data.
+const VAST: [u8; 41] = [
+    0x04, 0x00, 0x02, 0x00, 0x00, 0x00, 0x01, 0x00, 0x81, 1, 0, 0, 0, 0, 0, 0, 0, 0xA7, 0xFF, 0xFF,
+    9, 4, 0xD0, 0, 0x34, 1, 0x74, 0, 0xD1, 0x00, 0xE1, 0xF5, 0x05, 0, 0, 0, 0, 0x00, 0xE1, 0xF5,
+    0x05,
 ];
 
-const LONG_VALUES: [Value; 12] = [
-    Value {
-        what: "a long NULL",
-        charset: SINGLE,
-        column: NVARCHAR_MAX,
-        row: &[0xD1, 0xFF, 0xFF, 0xFF, 0xFF, 0xFF, 0xFF, 0xFF, 0xFF],
-        stop: None,
-        text: b"\"t\"\r\nNULL\r\n",
-    },
-    Value {
-        what: "half a character and no more of the message",
-        charset: SINGLE,
-        column: NVARCHAR_MAX,
-        row: &[
-            0xD1, 4, 0, 0, 0, 0, 0, 0, 0, 1, 0, 0, 0, 0x3D, 2, 0, 0, 0, 0xD8, 0x00,
-        ],
-        stop: Some((Fault::MessageEnded, 40)),
-        text: b"\"t\"\r\n\"",
-    },
-    Value {
-        what: "no chunk",
-        charset: SINGLE,
-        column: NVARCHAR_MAX,
-        row: &[0xD1, 0, 0, 0, 0, 0, 0, 0, 0, 0, 0, 0, 0],
-        stop: None,
-        text: b"\"t\"\r\n\"\"\r\n",
-    },
-    Value {
-        what: "half a character",
-        charset: SINGLE,
-        column: NVARCHAR_MAX,
-        row: &[
-            0xD1, 0xFE, 0xFF, 0xFF, 0xFF, 0xFF, 0xFF, 0xFF, 0xFF, 2, 0, 0, 0, 0x3D, 0xD8, 0, 0, 0,
-            0,
-        ],
-        stop: None,
-        text: b"\"t\"\r\n\"\xEF\xBF\xBD\"\r\n",
-    },
-    Value {
-        what: "half a unit",
-        charset: SINGLE,
-        column: NVARCHAR_MAX,
-        row: &[
-            0xD1, 0xFE, 0xFF, 0xFF, 0xFF, 0xFF, 0xFF, 0xFF, 0xFF, 1, 0, 0, 0, 0x41, 0, 0, 0, 0,
-        ],
-        stop: Some((ODD_TEXT, 34)),
-        text: b"\"t\"\r\n\"",
-    },
-    Value {
-        what: "an odd total",
-        charset: SINGLE,
-        column: NVARCHAR_MAX,
-        row: &[0xD1, 3, 0, 0, 0, 0, 0, 0, 0],
-        stop: Some((ODD_TEXT, 21)),
-        text: b"\"t\"\r\n",
-    },
-    Value {
-        what: "a chunk that passes the total",
-        charset: SINGLE,
-        column: VARBINARY_MAX,
-        row: &[0xD1, 3, 0, 0, 0, 0, 0, 0, 0, 4, 0, 0, 0],
-        stop: Some((PLP_LENGTH, 24)),
-        text: b"\"b\"\r\n0x",
-    },
-    Value {
-        what: "a terminator before the total",
-        charset: SINGLE,
-        column: VARBINARY_MAX,
-        row: &[
-            0xD1, 4, 0, 0, 0, 0, 0, 0, 0, 3, 0, 0, 0, 1, 2, 3, 0, 0, 0, 0,
-        ],
-        stop: Some((PLP_LENGTH, 31)),
-        text: b"\"b\"\r\n0x010203",
-    },
-    Value {
-        what: "the greatest total and no data",
-        charset: SINGLE,
-        column: VARBINARY_MAX,
-        row: &[
-            0xD1, 0xFD, 0xFF, 0xFF, 0xFF, 0xFF, 0xFF, 0xFF, 0xFF, 0, 0, 0, 0,
-        ],
-        stop: Some((PLP_LENGTH, 24)),
-        text: b"\"b\"\r\n0x",
-    },
-    Value {
-        what: "two chunks",
-        charset: SINGLE,
-        column: VARBINARY_MAX,
-        row: &[
-            0xD1, 2, 0, 0, 0, 0, 0, 0, 0, 1, 0, 0, 0, 0xAB, 1, 0, 0, 0, 0xCD, 0, 0, 0, 0,
-        ],
-        stop: None,
-        text: b"\"b\"\r\n0xabcd\r\n",
-    },
-    Value {
-        what: "a character in two chunks",
-        charset: UTF8,
-        column: VARCHAR_MAX,
-        row: &[
-            0xD1, 0xFE, 0xFF, 0xFF, 0xFF, 0xFF, 0xFF, 0xFF, 0xFF, 1, 0, 0, 0, 0xC3, 1, 0, 0, 0,
-            0xA9, 0, 0, 0, 0,
-        ],
-        stop: None,
-        text: b"\"t\"\r\n\"\xC3\xA9\"\r\n",
-    },
-    Value {
-        what: "half of it before the terminator",
-        charset: UTF8,
-        column: VARCHAR_MAX,
-        row: &[
-            0xD1, 0xFE, 0xFF, 0xFF, 0xFF, 0xFF, 0xFF, 0xFF, 0xFF, 1, 0, 0, 0, 0xC3, 0, 0, 0, 0,
-        ],
-        stop: Some((BAD_TEXT, 34)),
-        text: b"\"t\"\r\n\"",
-    },
-];
+// The header of a packet of 410 bytes, the last; and the terminator and a DONE in its end.
+const LAST: [u8; 8] = [0x04, 0x01, 0x01, 0x9A, 0x00, 0x00, 0x01, 0x00];
 
-// What is wanted of a row.
-fn wanted(value: &Value) -> Outcome {
-    let text = value.text;
-    match value.stop {
-        None => came_to(Ok(report(1, 1, text.len() as u64)), text),
-        Some((fault, place)) => came_to(stopped(fault, Place::Payload(place), text), text),
-    }
+const END: [u8; 17] = [0, 0, 0, 0, 0xFD, 0, 0, 0, 0, 0, 0, 0, 0, 0, 0, 0, 0];
+
+// What came of so many packets of 504 quotes between the first, with 471 of them, and the last, with 385.
+fn run_vast(areas: &mut Areas, times: u64, to: ScriptedWriter, text: &[u8]) -> Option<Repeated> {
+    let mut first = [b'"'; 512];
+    first[..41].copy_from_slice(&VAST);
+    let mut again = [b'"'; 512];
+    again[..8].copy_from_slice(&VAST[..8]);
+    let mut last = [b'"'; 410];
+    last[..8].copy_from_slice(&LAST);
+    last[393..].copy_from_slice(&END);
+    let from = RepeatingReader::new(&first, &again, times, &last);
+    run_repeated(areas, from, to, text)
 }
-
-// A row and a DONE in one packet; and in packets of one byte each, of which those after a refused byte are
-// left unread.
-fn check_value(alloc: Global, areas: &mut Areas, value: &Value) -> Result<(), Fail> {
-    let end = if value.stop.is_none() { DONE } else { NOTHING };
-    let payload = joined(alloc, &[ONE, value.column, value.row, end])?;
-    let want = Some(wanted(value));
-    let whole = in_one_packet(alloc, &payload)?;
-    let out = read_under(areas, &whole, 5, value.charset, value.text);
-    same(value.what, &out, &want)?;
-    let pieces = in_single_bytes(alloc, &payload, true)?;
-    let out = read_under(areas, &pieces, 5, value.charset, value.text);
-    let out = out.map(|out| Outcome { left: 0, ..out });
-    same(value.what, &out, &want)
-}
-
-#[test]
-fn short_values_are_read(rt: HostRuntime) -> Result<(), Fail> {
-    let mut areas = make_usual_areas(rt.alloc())?;
-    for value in &SHORT_VALUES {
-        check_value(rt.alloc(), &mut areas, value)?;
-    }
-    Ok(())
-}
-
-#[test]
-fn chunked_values_are_read(rt: HostRuntime) -> Result<(), Fail> {
-    let mut areas = make_usual_areas(rt.alloc())?;
-    for value in &LONG_VALUES {
-        check_value(rt.alloc(), &mut areas, value)?;
-    }
-    Ok(())
-}
-
-// A column of varchar(max), and a row of a value of 100,000,000 bytes in one chunk, up to its data.
-const VAST: &[u8] = &[
-    0x81, 1, 0, 0, 0, 0, 0, 0, 0, 0xA7, 0xFF, 0xFF, 9, 4, 0xD0, 0, 0x34, 1, 0x74, 0, 0xD1, 0x00,
-    0xE1, 0xF5, 0x05, 0, 0, 0, 0, 0x00, 0xE1, 0xF5, 0x05,
-];
 
 // The header line, and as many quotes as the first two blocks have.
-fn vast_text(alloc: Global) -> Result<Vec<u8>, AllocError> {
-    let mut text = b"\"t\"\r\n".to_vec(alloc)?;
-    text.resize(8192, b'"')?;
-    Ok(text)
+fn vast_text() -> [u8; 8192] {
+    let mut text = [b'"'; 8192];
+    text[..5].copy_from_slice(b"\"t\"\r\n");
+    text
 }
 
-// Its first packet, of 512 bytes; 471 of them are quotes.
-fn first_packet(alloc: Global) -> Result<Vec<u8>, AllocError> {
-    let mut body = VAST.to_vec(alloc)?;
-    body.resize(504, b'"')?;
-    packet_of(alloc, 0, &body)
-}
-
-// A packet of 504 quotes, as each is but the first and the last.
-fn packet_of_quotes(alloc: Global) -> Result<Vec<u8>, AllocError> {
-    let quotes = vec![in alloc; b'"'; 504]?;
-    packet_of(alloc, 0, &quotes)
-}
-
-// The last packet: 385 quotes, the terminator and a DONE.
-fn last_packet(alloc: Global) -> Result<Vec<u8>, AllocError> {
-    let mut body = vec![in alloc; b'"'; 385]?;
-    body.resize(389, 0)?;
-    body.extend_from_slice(DONE)?;
-    packet_of(alloc, 1, &body)
-}
-
-// Its first packet, 198,411 of quotes alone, and the last.
 #[test]
 fn a_vast_value_is_written_in_little_room(rt: HostRuntime) -> Result<(), Fail> {
-    let mut areas = make_areas(rt.alloc(), 512, COLUMN_ROOM, MAX_WIRE)?;
-    let came = run_vast(rt.alloc(), &mut areas)?;
+    let mut areas = make_areas(rt.alloc(), 512)?;
+    let to = ScriptedWriter::new(4096, Failing::Never);
+    let came = run_vast(&mut areas, 198_411, to, &vast_text());
     let want = Repeated {
         answer: Ok(report(1, 1, 200_000_009)),
         taken: 200_000_009,
@@ -341,97 +50,121 @@ fn a_vast_value_is_written_in_little_room(rt: HostRuntime) -> Result<(), Fail> {
     same("its meters", &meters, &(true, 19))
 }
 
-fn run_vast(alloc: Global, areas: &mut Areas) -> Result<Option<Repeated>, AllocError> {
-    let text = vast_text(alloc)?;
-    let (first, packet) = (first_packet(alloc)?, packet_of_quotes(alloc)?);
-    let last = last_packet(alloc)?;
-    let from = RepeatingReader::new(&first, &packet, 198_411, &last);
-    Ok(run_repeated(areas, from, &text))
-}
-
 // The first 20 packets.
 fn front_of_vast(alloc: Global) -> Result<Vec<u8>, AllocError> {
-    let mut wire = first_packet(alloc)?;
-    let packet = packet_of_quotes(alloc)?;
+    let mut wire = VAST.to_vec(alloc)?;
+    wire.resize(512, b'"')?;
     for _ in 1..20 {
-        wire.extend_from_slice(&packet)?;
+        wire.extend_from_slice(&VAST[..8])?;
+        wire.resize(wire.len().saturating_add(504), b'"')?;
     }
     Ok(wire)
 }
 
 // The writer fails at its third call: 13 packets of 20 were read, and the second block is waiting.
-fn check_front(alloc: Global, areas: &mut Areas, text: &[u8]) -> Result<(), Fail> {
-    let wire = front_of_vast(alloc)?;
+#[test]
+fn a_vast_value_is_read_no_further_than_written(rt: HostRuntime) -> Result<(), Fail> {
+    let mut areas = make_areas(rt.alloc(), 512)?;
+    let wire = front_of_vast(rt.alloc())?;
+    let text = vast_text();
+    let waiting = &text[4096..];
     let from = ScriptedReader::new(&wire, 1000);
     let to = ScriptedWriter::new(4096, Failing::AtWrite(2));
-    let out = run(areas, from, to, text);
-    let (_, waiting) = text.split_at(4096.min(text.len()));
+    let out = run(&mut areas, from, to, Charset::Windows1252, &text);
     let want = Outcome {
         left: 7 * 512,
-        ..broken_behind(text, waiting)
+        ..broken_behind(&text, waiting)
     };
     same("a block", &(out, areas.waiting()), &(Some(want), waiting))
 }
 
-#[test]
-fn a_vast_value_is_read_no_further_than_written(rt: HostRuntime) -> Result<(), Fail> {
-    let mut areas = make_areas(rt.alloc(), 512, COLUMN_ROOM, MAX_WIRE)?;
-    let text = vast_text(rt.alloc())?;
-    check_front(rt.alloc(), &mut areas, &text)
-}
-
 // How many bytes a value has, how the writer fails, and how many bytes are written and wait then.
-const BLOCKS: [(usize, Failing, usize, usize); 4] = [
+const BLOCKS: [(u32, Failing, usize, u64); 4] = [
     (4086, Failing::AtWrite(0), 0, 4095),
     (4087, Failing::AtWrite(0), 0, 4096),
     (4087, Failing::InFlush, 4096, 0),
     (4088, Failing::AtWrite(1), 4096, 1),
 ];
 
-// A value of n times x, in one chunk of a row of varchar(max), after a DONE.
-fn value_of(alloc: Global, n: usize) -> Result<Vec<u8>, AllocError> {
-    let size = (n.min(0xFFFF) as u32).to_le_bytes();
-    let mut payload = joined(alloc, &[ONE, VARCHAR_MAX, &[0xD1], &size, &[0; 4], &size])?;
-    for _ in 0..n {
-        payload.push(b'x')?;
-    }
-    payload.extend_from_slice(&[0; 4])?;
-    payload.extend_from_slice(DONE)?;
-    Ok(payload)
-}
+// A packet of one x, and the last, with the terminator and a DONE.
+const ONE_X: &[u8] = &[0x04, 0x00, 0x00, 0x09, 0x00, 0x00, 0x01, 0x00, b'x'];
 
-// Its text has n + 9 bytes.
+const LAST_PACKET: &[u8] = &[
+    0x04, 0x01, 0x00, 0x19, 0x00, 0x00, 0x01, 0x00, 0, 0, 0, 0, 0xFD, 0, 0, 0, 0, 0, 0, 0, 0, 0, 0,
+    0, 0,
+];
+
+// The text of a value of n times x, in one chunk of a row of varchar(max).
 fn text_of(alloc: Global, n: usize) -> Result<Vec<u8>, AllocError> {
-    let mut text = joined(alloc, &[b"\"t\"\r\n\""])?;
-    for _ in 0..n {
-        text.push(b'x')?;
-    }
+    let mut text = b"\"t\"\r\n\"".to_vec(alloc)?;
+    text.resize(n.saturating_add(6), b'x')?;
     text.extend_from_slice(b"\"\r\n")?;
     Ok(text)
 }
 
-// So many of the n + 9 bytes are written before the writer fails.
+// So many of its n + 9 bytes are written before the writer fails, and so many wait.
 fn check_block(
     alloc: Global,
     areas: &mut Areas,
-    (n, failing, written, unwritten): (usize, Failing, usize, usize),
+    (n, failing, written, unwritten): (u32, Failing, usize, u64),
 ) -> Result<(), Fail> {
-    let wire = in_one_packet(alloc, &value_of(alloc, n)?)?;
-    let text = text_of(alloc, n)?;
-    let (taken, waiting) = text.split_at(written.min(text.len()));
-    let from = ScriptedReader::new(&wire, 1000);
+    let text = text_of(alloc, n as usize)?;
+    let mut first = VAST;
+    first[2..4].copy_from_slice(&[0, 41]);
+    first[29..33].copy_from_slice(&n.to_le_bytes());
+    first[37..].copy_from_slice(&n.to_le_bytes());
+    let from = RepeatingReader::new(&first, ONE_X, u64::from(n), LAST_PACKET);
     let to = ScriptedWriter::new(4096, failing);
-    let out = run(areas, from, to, taken);
-    let want = broken_behind(taken, waiting);
-    same(n, &(out, waiting.len()), &(Some(want), unwritten))
+    let came = run_repeated(areas, from, to, &text);
+    let answer = Err(Stopped {
+        fault: Fault::WriteFailed,
+        place: Place::Text(written as u64),
+        written: written as u64,
+        unwritten,
+    });
+    let want = Repeated {
+        answer,
+        taken: written,
+        kept: Some(written),
+    };
+    same(n, &came, &Some(want))
 }
 
 // The text fills a block all but a byte, exactly, or passes it by a byte.
 #[test]
 fn a_value_ends_near_a_block(rt: HostRuntime) -> Result<(), Fail> {
-    let mut areas = make_areas(rt.alloc(), 8192, COLUMN_ROOM, MAX_WIRE)?;
+    let mut areas = make_areas(rt.alloc(), 8192)?;
     for row in &BLOCKS {
         check_block(rt.alloc(), &mut areas, *row)?;
     }
     Ok(())
+}
+
+// A column of bigint, and a row of the least one.
+const BIGINT: [u8; 21] = [
+    0x04, 0x00, 0x00, 0x15, 0x00, 0x00, 0x01, 0x00, 0x81, 1, 0, 0, 0, 0, 0, 0, 0, 0x7F, 1, 0x61, 0,
+];
+
+const LEAST: [u8; 17] = [
+    0x04, 0x00, 0x00, 0x11, 0x00, 0x00, 0x01, 0x00, 0xD1, 0, 0, 0, 0, 0, 0, 0, 0x80,
+];
+
+// 370 rows have 8,145 bytes of text. The writer fails in the end of the first block.
+#[test]
+fn a_write_of_many_rows_fails(rt: HostRuntime) -> Result<(), Fail> {
+    let mut areas = make_areas(rt.alloc(), PACKET_SIZE)?;
+    let from = RepeatingReader::new(&BIGINT, &LEAST, 370, DONE);
+    let to = ScriptedWriter::new(1000, Failing::AfterBytes(4090));
+    let came = run_repeated(&mut areas, from, to, NOTHING);
+    let want = Repeated {
+        answer: Err(Stopped {
+            fault: Fault::WriteFailed,
+            place: Place::Text(4090),
+            written: 4090,
+            unwritten: 6,
+        }),
+        taken: 4090,
+        kept: None,
+    };
+    same("many rows", &came, &Some(want))
 }

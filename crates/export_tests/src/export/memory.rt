@@ -2,7 +2,6 @@
 ghost use Rattle.std.specs.Prelude.{IfOk, IsTrue};
 ghost use Rattle.tds_meter.specs.Rooms.{is_intact};
 
-use super::notices::{INFO_AND_ERROR, NOT_FOUND, noticed};
 use super::*;
 use crate::checks::same;
 use tds_meter::OutOfMemory;
@@ -37,8 +36,28 @@ const LAST_CHUNK: &[u8] = &[
 
 const CHUNKS_TEXT: &[u8] = b"\"t\"\r\n\"\xF0\x9F\x98\x80\"\r\n";
 
-// The header of the packet of two sets, an INFO and an ERROR.
+// Two sets, of two rows and of one, an INFO in the first and an ERROR after it, in one packet.
 const HEADER: &[u8] = &[0x04, 0x01, 0x00, 0x73, 0x00, 0x00, 0x01, 0x00];
+
+const INFO_AND_ERROR: &[u8] = &[
+    0x81, 0x01, 0x00, 0x00, 0x00, 0x00, 0x00, 0x00, 0x00, 0x38, 0x01, 0x61, 0x00, 0xD1, 0x01, 0x00,
+    0x00, 0x00, 0xAB, 0x10, 0x00, 0x45, 0x16, 0x00, 0x00, 0x02, 0x00, 0x01, 0x00, 0x78, 0x00, 0x00,
+    0x00, 0x01, 0x00, 0x00, 0x00, 0xD1, 0x02, 0x00, 0x00, 0x00, 0xFD, 0x01, 0x00, 0x00, 0x00, 0x00,
+    0x00, 0x00, 0x00, 0x00, 0x00, 0x00, 0x00, 0xAA, 0x12, 0x00, 0xD0, 0x00, 0x00, 0x00, 0x01, 0x10,
+    0x02, 0x00, 0x6E, 0x00, 0x6F, 0x00, 0x00, 0x00, 0x01, 0x00, 0x00, 0x00, 0x81, 0x01, 0x00, 0x00,
+    0x00, 0x00, 0x00, 0x00, 0x00, 0x38, 0x01, 0x62, 0x00, 0xD1, 0x03, 0x00, 0x00, 0x00, 0xFD, 0x02,
+    0x00, 0x00, 0x00, 0x00, 0x00, 0x00, 0x00, 0x00, 0x00, 0x00, 0x00,
+];
+
+const TWO_SETS_TEXT: &[u8] = b"\"a\"\r\n1\r\n2\r\n\r\n\"b\"\r\n3\r\n";
+
+// The error.
+const NOT_FOUND: ServerError = ServerError {
+    number: 208,
+    state: 1,
+    class: 16,
+    line: 1,
+};
 
 // A response in two slices, its sets, rows and text, and the message of its error, which comes with an INFO.
 struct Worked {
@@ -93,14 +112,24 @@ const WORKED: [Worked; 4] = [
 // The devices are over arrays, so nothing is allocated here.
 fn check_worked(areas: &mut Areas, row: &Worked) -> Result<(), Fail> {
     let from = RepeatingReader::new(row.first, NOTHING, 0, row.last);
-    let came = run_repeated(areas, from, row.text);
+    let to = ScriptedWriter::new(4096, Failing::Never);
+    let came = run_repeated(areas, from, to, row.text);
     let plain = report(row.sets, row.rows, row.text.len() as u64);
     let answer = if row.message.is_empty() {
         plain
     } else {
-        noticed(plain, 1, 1, NOT_FOUND)
+        Report {
+            errors: 1,
+            infos: 1,
+            first_error: Some(NOT_FOUND),
+            ..plain
+        }
     };
-    let want = all_of(Ok(answer), row.text.len());
+    let want = Repeated {
+        answer: Ok(answer),
+        taken: row.text.len(),
+        kept: Some(row.text.len()),
+    };
     let said = front_of(areas.error_text(), row.message);
     same(
         row.what,

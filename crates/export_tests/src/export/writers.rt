@@ -2,10 +2,16 @@
 use super::*;
 use crate::checks::same;
 
-// So many bytes of the payload, a writer that fails, and what stops the export.
+// The packet without its DONE.
+const WITHOUT_DONE: [u8; 26] = [
+    0x04, 0x01, 0x00, 0x1A, 0x00, 0x00, 0x01, 0x00, 0x81, 0x01, 0x00, 0x00, 0x00, 0x00, 0x00, 0x08,
+    0x00, 0x38, 0x01, 0x61, 0x00, 0xD1, 0x2A, 0x00, 0x00, 0x00,
+];
+
+// A response, a writer that fails, and what stops the export.
 #[derive(Clone, Copy)]
 struct Broken {
-    length: usize,
+    wire: &'static [u8],
     failing: Failing,
     fault: Fault,
     place: Place,
@@ -14,28 +20,28 @@ struct Broken {
 
 const BROKEN: [Broken; 6] = [
     Broken {
-        length: 31,
+        wire: &WIRE,
         failing: Failing::ZeroAfterBytes(0),
         fault: Fault::WriteFailed,
         place: Place::Text(0),
         written: 0,
     },
     Broken {
-        length: 31,
+        wire: &WIRE,
         failing: Failing::AtWrite(0),
         fault: Fault::WriteFailed,
         place: Place::Text(0),
         written: 0,
     },
     Broken {
-        length: 31,
+        wire: &WIRE,
         failing: Failing::AtWrite(1),
         fault: Fault::WriteFailed,
         place: Place::Text(4),
         written: 4,
     },
     Broken {
-        length: 31,
+        wire: &WIRE,
         failing: Failing::InFlush,
         fault: Fault::WriteFailed,
         place: Place::Text(9),
@@ -43,14 +49,14 @@ const BROKEN: [Broken; 6] = [
     },
     // the message ends before its last token, and that fault stands
     Broken {
-        length: 18,
+        wire: &WITHOUT_DONE,
         failing: Failing::AfterBytes(0),
         fault: Fault::EndWithoutDone,
         place: Place::Payload(18),
         written: 0,
     },
     Broken {
-        length: 18,
+        wire: &WITHOUT_DONE,
         failing: Failing::InFlush,
         fault: Fault::EndWithoutDone,
         place: Place::Payload(18),
@@ -59,12 +65,11 @@ const BROKEN: [Broken; 6] = [
 ];
 
 // The writer takes at most four bytes a call.
-fn check_broken(alloc: Global, areas: &mut Areas, case: Broken) -> Result<(), Fail> {
-    let wire = in_one_packet(alloc, front(&PAYLOAD, case.length))?;
-    let from = ScriptedReader::new(&wire, 1000);
+fn check_broken(areas: &mut Areas, case: Broken) -> Result<(), Fail> {
+    let from = ScriptedReader::new(case.wire, 1000);
     let writer = ScriptedWriter::new(4, case.failing);
     let (taken, waiting) = TEXT.split_at(TEXT.len().min(case.written));
-    let out = run(areas, from, writer, taken);
+    let out = run(areas, from, writer, Charset::Windows1252, taken);
     let answer = Err(Stopped {
         fault: case.fault,
         place: case.place,
@@ -84,9 +89,9 @@ fn check_broken(alloc: Global, areas: &mut Areas, case: Broken) -> Result<(), Fa
 
 #[test]
 fn a_failed_write_says_what_was_taken(rt: HostRuntime) -> Result<(), Fail> {
-    let mut areas = make_usual_areas(rt.alloc())?;
+    let mut areas = make_areas(rt.alloc(), PACKET_SIZE)?;
     for case in &BROKEN {
-        check_broken(rt.alloc(), &mut areas, *case)?;
+        check_broken(&mut areas, *case)?;
     }
     Ok(())
 }

@@ -3,7 +3,6 @@ ghost use Rattle.std.specs.Prelude.{◌≡◌, [], false};
 ghost use Rattle.tds_csv.specs.Binary as binary;
 
 use super::{in_packets, length_behind, usual_writer};
-use crate::checks::expect_at;
 use std::alloc::Global;
 use std::io::Write;
 use std::test::Fail;
@@ -13,75 +12,6 @@ use tds_packet::rig::ScriptedReader;
 use tds_packet::{Counted, Fault, Payload, Place, Stop};
 use tds_rows::stream_value;
 use tds_values::Reach;
-
-// A value, the stop that it is refused with, and its text.
-struct Value {
-    what: &'static str,
-    reach: Reach,
-    bytes: &'static [u8],
-    answer: Result<(), (Fault, u64)>,
-    text: &'static [u8],
-}
-
-const BAD_TEXT: Fault = Fault::BadText { column: 0 };
-
-// Text of UTF-8.
-const VALUES: [Value; 7] = [
-    Value {
-        what: "characters of one, two and four bytes",
-        reach: Reach::Short,
-        bytes: &[7, 0, 0xC3, 0xA9, 0x22, 0xF0, 0x9F, 0x98, 0x80],
-        answer: Ok(()),
-        text: b"\"\xC3\xA9\"\"\xF0\x9F\x98\x80\"",
-    },
-    Value {
-        what: "half a character of UTF-16",
-        reach: Reach::Short,
-        bytes: &[3, 0, 0x41, 0xED, 0xA0],
-        answer: Err((BAD_TEXT, 4)),
-        text: b"\"A",
-    },
-    Value {
-        what: "a character that isn't whole",
-        reach: Reach::Short,
-        bytes: &[1, 0, 0xC3],
-        answer: Err((BAD_TEXT, 2)),
-        text: b"\"",
-    },
-    Value {
-        what: "two bytes for one",
-        reach: Reach::Short,
-        bytes: &[2, 0, 0xC0, 0x80],
-        answer: Err((BAD_TEXT, 2)),
-        text: b"\"",
-    },
-    Value {
-        what: "a character in two chunks",
-        reach: Reach::Chunked,
-        bytes: &[
-            0xFE, 0xFF, 0xFF, 0xFF, 0xFF, 0xFF, 0xFF, 0xFF, 1, 0, 0, 0, 0xC3, 1, 0, 0, 0, 0xA9, 0,
-            0, 0, 0,
-        ],
-        answer: Ok(()),
-        text: b"\"\xC3\xA9\"",
-    },
-    Value {
-        what: "half of it before the terminator",
-        reach: Reach::Chunked,
-        bytes: &[
-            0xFE, 0xFF, 0xFF, 0xFF, 0xFF, 0xFF, 0xFF, 0xFF, 1, 0, 0, 0, 0xC3, 0, 0, 0, 0,
-        ],
-        answer: Err((BAD_TEXT, 13)),
-        text: b"\"",
-    },
-    Value {
-        what: "a message that ends",
-        reach: Reach::Short,
-        bytes: &[3, 0, 0x41, 0xC3],
-        answer: Err((Fault::MessageEnded, 4)),
-        text: b"\"A",
-    },
-];
 
 // Reads a value of a column in packets of `size` bytes of it, with a new joiner.
 fn stream<J: Joiner + Drop>(
@@ -107,69 +37,24 @@ fn stream<J: Joiner + Drop>(
     Ok((answer, length_behind(to.device().kept(), wanted)))
 }
 
-// What is wanted of it.
-fn wanted(value: &Value) -> (Result<(), Stop>, Option<usize>) {
-    let text = Some(value.text.len());
-    match value.answer {
-        Ok(()) => (Ok(()), text),
-        Err((fault, place)) => {
-            let place = Place::Payload(place);
-            (Err(Stop { fault, place }), text)
-        }
-    }
-}
-
-#[test]
-fn utf8_values_are_judged(rt: HostRuntime) -> Result<(), Fail> {
-    for value in &VALUES {
-        for size in [1, 3, 4000] {
-            let joiner = Utf8Joiner::new();
-            let came = stream(
-                rt.alloc(),
-                value.bytes,
-                size,
-                value.reach,
-                0,
-                joiner,
-                value.text,
-            )?;
-            expect_at(&rt, value.what, size, came == wanted(value));
-        }
-    }
-    Ok(())
-}
-
-// The two bytes 41 and 80 as a value of column 3, by a joiner of each kind.
+// The two bytes 41 and 80 as a value of column 3, by a joiner of each kind: the second begins no character of UTF-8.
 #[test]
 fn each_joiner_has_its_text(rt: HostRuntime) -> Result<(), Fail> {
-    let bytes: &[u8] = &[2, 0, 0x41, 0x80];
-    let (hex, single, units): (&[u8], &[u8], &[u8]) = (
-        b",0x4180",
-        b",\"A\xE2\x82\xAC\"",
-        b",\"\xE8\x81\x81\"",
-    );
-    let binary = stream(rt.alloc(), bytes, 9, Reach::Short, 3, HexJoiner::new(), hex)?;
-    let narrow = stream(
-        rt.alloc(),
-        bytes,
-        9,
-        Reach::Short,
-        3,
-        Cp1252Joiner::new(),
-        single,
-    )?;
-    let wide = stream(
-        rt.alloc(),
-        bytes,
-        9,
-        Reach::Short,
-        3,
-        Utf16Joiner::new(),
-        units,
-    )?;
-    assert!(rt; binary == (Ok(()), Some(hex.len())));
-    assert!(rt; narrow == (Ok(()), Some(single.len())));
-    assert!(rt; wide == (Ok(()), Some(units.len())));
+    let (alloc, short, bytes) = (rt.alloc(), Reach::Short, &[2, 0, 0x41, 0x80]);
+    let hex = stream(alloc, bytes, 9, short, 3, HexJoiner::new(), b",0x4180")?;
+    assert!(rt; hex == (Ok(()), Some(7)));
+    let single = b",\"A\xE2\x82\xAC\"";
+    let narrow = stream(alloc, bytes, 9, short, 3, Cp1252Joiner::new(), single)?;
+    assert!(rt; narrow == (Ok(()), Some(7)));
+    let unit = b",\"\xE8\x81\x81\"";
+    let wide = stream(alloc, bytes, 9, short, 3, Utf16Joiner::new(), unit)?;
+    assert!(rt; wide == (Ok(()), Some(6)));
+    let stop = Stop {
+        fault: Fault::BadText { column: 3 },
+        place: Place::Payload(3),
+    };
+    let bad = stream(alloc, bytes, 9, short, 3, Utf8Joiner::new(), b",\"A")?;
+    assert!(rt; bad == (Err(stop), Some(3)));
     Ok(())
 }
 

@@ -1,6 +1,5 @@
-// What words mean, and which are refused.
+// What words mean.
 use super::{job, run, writer};
-use crate::checks::{expect, expect_at};
 use std::process::Abort;
 use std::test::Fail;
 use tds_export::Charset;
@@ -149,187 +148,19 @@ fn words_of_a_recut(rt: HostRuntime) -> Result<(), Fail> {
     Ok(())
 }
 
-// Words that are refused, and what is said of them.
-const REFUSED: [(&[&str], &str); 26] = [
-    (&[], "requires a subcommand"),
-    (&["import"], "unrecognized subcommand 'import'"),
-    (
-        &["--packet-size", "512"],
-        "unexpected argument '--packet-size'",
-    ),
-    (&["export", "--size", "512"], "unexpected argument '--size'"),
-    (&["export", "f", "g"], "unexpected argument 'g'"),
-    (
-        &["export", "--packet-size", "511"],
-        "511 is not in 512..=32767",
-    ),
-    (
-        &["export", "--packet-size", "32768"],
-        "32768 is not in 512..=32767",
-    ),
-    (
-        &["check", "--packet-size", "65536"],
-        "65536 is not in 512..=32767",
-    ),
-    (
-        &["export", "--packet-size", ""],
-        "cannot parse integer from empty string",
-    ),
-    (&["export", "--packet-size", "1e3"], "invalid digit"),
-    (
-        &["export", "--packet-size", "+512"],
-        "a number has digits alone",
-    ),
-    (
-        &["export", "--packet-size", "-512"],
-        "unexpected argument '-5'",
-    ),
-    (
-        &["export", "--packet-size"],
-        "a value is required for '--packet-size <N>'",
-    ),
-    (
-        &["export", "--packet-size", "512", "--packet-size", "512"],
-        "cannot be used multiple times",
-    ),
-    (
-        &["export", "--column-room", "9"],
-        "9 is not in 10..=67108864",
-    ),
-    (
-        &["check", "--column-room", "67108865"],
-        "67108865 is not in 10..=67108864",
-    ),
-    (
-        &["export", "--max-wire", "7"],
-        "7 is not in 8..=72057594037927936",
-    ),
-    (
-        &["export", "--max-wire", "72057594037927937"],
-        "is not in 8..=72057594037927936",
-    ),
-    (
-        &[
-            "recut",
-            "--packet-size",
-            "512",
-            "--max-wire",
-            "18446744073709551616",
-        ],
-        "number too large",
-    ),
-    (
-        &["recut", "--packet-size", "512", "--max-wire", "+8"],
-        "a number has digits alone",
-    ),
-    (&["recut", "f"], "--packet-size <N>"),
-    (
-        &["recut", "--packet-size", "511"],
-        "511 is not in 512..=32767",
-    ),
-    (
-        &["recut", "--packet-size", "512", "--column-room", "10"],
-        "unexpected argument '--column-room'",
-    ),
-    (
-        &["export", "--charset", "latin1"],
-        "[possible values: windows-1252, utf-8]",
-    ),
-    (
-        &["export", "--charset", "UTF-8"],
-        "[possible values: windows-1252, utf-8]",
-    ),
-    (
-        &["export", "--charset", ""],
-        "[possible values: windows-1252, utf-8]",
-    ),
-];
-
-// Refused words read and write nothing but the reason, and end with 2.
+// Words that are refused are answered on the notes with 2, and those that ask for the version on the output with 0. Nothing
+// is read.
 #[test]
-fn words_are_refused(rt: HostRuntime) -> Result<(), Fail> {
-    'rows: for (line, reason) in &REFUSED {
-        let mut from = Counted::new(ScriptedReader::new(b"\x04", 1));
-        let (mut to, mut notes) = (writer(Failing::Never), writer(Failing::Never));
-        expect_line(
-            &rt,
-            line,
-            run(&rt, line, &mut from, &mut to, &mut notes) == 2,
-        );
-        expect_line(&rt, line, from.device().left().len() == 1);
-        expect_line(&rt, line, to.device().taken() == 0);
-        let said = str::from_utf8(notes.device().kept()).ok().ok_or("no text")?;
-        expect(&rt, said, said.starts_with("error: "));
-        expect(&rt, said, said.contains(*reason));
-        expect(
-            &rt,
-            said,
-            said.contains("Usage: tds_replay") || said.contains("'--help'"),
-        );
-    }
-    Ok(())
-}
-
-// Arguments that ask for help or for the version, and what has to stand in the answer.
-const HELP: [(&[&str], &[&str]); 6] = [
-    (&["--version"], &["tds_replay 1.0.0\n"]),
-    (&["-V"], &["tds_replay 1.0.0\n"]),
-    (
-        &["--help"],
-        &[
-            "Usage: tds_replay <COMMAND>",
-            "export",
-            "check",
-            "recut",
-            "want of memory",
-        ],
-    ),
-    (
-        &["export", "--help"],
-        &[
-            "Usage: tds_replay export [OPTIONS] [FILE]",
-            "from 512 to 32767",
-            "[default: 4096]",
-            "from 10 to 67108864",
-            "[default: 1048576]",
-            "from 8 to 72057594037927936",
-            "[default: 1099511627776]",
-            "[default: windows-1252]",
-            "windows-1252 or utf-8",
-        ],
-    ),
-    (
-        &["help", "check"],
-        &[
-            "Usage: tds_replay check [OPTIONS] [FILE]",
-            "standard output stays empty",
-        ],
-    ),
-    (
-        &["recut", "-h"],
-        &[
-            "Usage: tds_replay recut [OPTIONS] --packet-size <N> [FILE]",
-            "from 512 to 32767",
-        ],
-    ),
-];
-
-// Help goes to standard output, and ends with 0.
-#[test]
-fn help_is_given(rt: HostRuntime) -> Result<(), Fail> {
-    'rows: for (line, parts) in &HELP {
-        let mut from = Counted::new(ScriptedReader::new(b"\x04", 1));
-        let (mut to, mut notes) = (writer(Failing::Never), writer(Failing::Never));
-        expect_line(
-            &rt,
-            line,
-            run(&rt, line, &mut from, &mut to, &mut notes) == 0,
-        );
-        expect_line(&rt, line, notes.device().taken() == 0);
-        let text = str::from_utf8(to.device().kept()).ok().ok_or("no text")?;
-        'parts: for part in *parts {
-            expect_at(&rt, part, text, text.contains(*part));
-        }
-    }
+fn words_without_a_job_are_answered(rt: HostRuntime) -> Result<(), Fail> {
+    let mut from = Counted::new(ScriptedReader::new(b"\x04", 1));
+    let (mut to, mut notes) = (writer(Failing::Never), writer(Failing::Never));
+    let refused = run(&rt, &["import"], &mut from, &mut to, &mut notes);
+    assert!(rt; (refused, to.device().taken()) == (2, 0));
+    assert!(rt; notes.device().kept().starts_with(b"error: "));
+    let mut notes = writer(Failing::Never);
+    let version = run(&rt, &["--version"], &mut from, &mut to, &mut notes);
+    assert!(rt; (version, notes.device().taken()) == (0, 0));
+    assert!(rt; to.device().kept() == b"tds_replay 1.0.0\n".as_slice());
+    assert!(rt; from.device().left().len() == 1);
     Ok(())
 }
