@@ -140,16 +140,6 @@ made_more made m to new rest within some =
 pub used_more : (used u : ℕ) (bytes : List ℕ) → take (used + u) bytes ≡ take used bytes ++ take u (take (length bytes - used) (drop used bytes))
 used_more used u bytes = take-add used u bytes ∙ ap (λ l. take used bytes ++ take u l) (sym (all_behind bytes used))
 
--- a run within a row, in the bytes that are left and after what was made
-pub cells_step : (charset : Charset) (columns left left' : List Column) (column column' used u made m : ℕ) (bytes to new rest : List ℕ) (cells : List Cell) → made ≤ length to → m ≤ length new → WritesCells charset cells columns left column (take used bytes) (take made to)
-    → ((cells : List Cell) → length cells ≡ column → WritesCells charset cells left left' column' (take u (take (length bytes - used) (drop used bytes))) (take m new))
-    → WritesCells charset cells columns left' column' (take (used + u) bytes) (take (made + m) (take made to ++ (new ++ rest)))
-cells_step charset columns left left' column column' used u made m bytes to new rest cells within some x f =
-    let there = take u (take (length bytes - used) (drop used bytes)) in
-    subst (λ l. WritesCells charset cells columns left' column' l (take (made + m) (take made to ++ (new ++ rest)))) (sym (used_more used u bytes))
-    (subst (λ l. WritesCells charset cells columns left' column' (take used bytes ++ there) l) (sym (made_more made m to new rest within some))
-    (cells_more charset columns left left' column column' (take used bytes) there (take made to) (take m new) cells x f))
-
 -- what is written after what was made leaves it as it was
 pub made_same : (made : ℕ) (to rest : List ℕ) → made ≤ length to → take made (take made to ++ rest) ≡ take made to
 made_same made to rest within = take-append-le made (take made to) rest (omega (arith, within, length-take-le made to within)) ∙ take_all made (take made to) (omega (arith, within, length-take-le made to within))

@@ -13,7 +13,7 @@ use Rattle.tds_rows.specs.WholeCells.{WritesWhole}
 use Rattle.tds_rows.specs.Runs.{OneWritten, WritesCells, WritesOne, WritesRows}
 use Rattle.tds_rows.specs.Tables.{IsAhead, Knows, NextColumn, TakesColumn}
 use Rattle.tds_rows.proofs.TableSteps.{last_one}
-use Rattle.tds_rows.proofs.RunSteps.{cells_step, made_more, one_cell, rows_step}
+use Rattle.tds_rows.proofs.RunSteps.{made_more, one_cell, rows_step}
 
 -- Between two places of a row these bytes are its cells, and this is their text.
 abbrev pub CellsBetween : Table → List Column → Ahead → Ahead → List ℕ → List ℕ → Type 0
@@ -24,14 +24,6 @@ abbrev pub RowsBetween : Table → List Column → Ahead → Ahead → ℕ → L
 RowsBetween table columns old new count bytes text = IsAhead table columns new × ((charset : Charset) (cells : List Cell) → table.charset ≡ charset → length cells ≡ old.column → WritesRows charset columns cells (drop old.column columns) (drop new.column columns) new.column count bytes text)
 
 module _ (table : Table) (from old new : Ahead) (used u made m : ℕ) (bytes to text rest : List ℕ) (within : made ≤ length to) (some : m ≤ length text) where
-  -- more cells within a row
-  pub more_in_row : (columns : List Column) → CellsBetween table columns from old (take used bytes) (take made to) → CellsBetween table columns old new (take u (take (length bytes - used) (drop used bytes))) (take m text)
-      → CellsBetween table columns from new (take (used + u) bytes) (take (made + m) (take made to ++ (text ++ rest)))
-  more_in_row columns x y = (
-    y.0,
-    λ charset cells set is. cells_step charset (drop from.column columns) (drop old.column columns) (drop new.column columns) old.column new.column used u made m bytes to text rest cells within some (x.1 charset cells set is) (λ cs h. y.1 charset cs set h),
-  )
-
   -- more cells of the last row
   pub more_in_rows : (count : ℕ) (columns : List Column) → RowsBetween table columns from old count (take used bytes) (take made to) → CellsBetween table columns old new (take u (take (length bytes - used) (drop used bytes))) (take m text)
       → RowsBetween table columns from new count (take (used + u) bytes) (take (made + m) (take made to ++ (text ++ rest)))

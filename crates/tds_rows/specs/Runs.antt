@@ -20,7 +20,7 @@ use Rattle.tds_rows.specs.declared.table.Ahead.{Ahead}
 use Rattle.tds_rows.specs.declared.table.Table.{Table}
 use Rattle.tds_rows.specs.Cells.{Cell, field}
 use Rattle.tds_rows.specs.Rows.{PlainRow, RowPart, RowToken, WholeRow, marked, next_cell, row, row_add, row_fault, row_size, row_so_far, token_byte, token_start}
-use Rattle.tds_rows.specs.MarkedRuns.{EndsLeft}
+use Rattle.tds_rows.specs.MarkedRuns.{EndsLeft, MarkedWritten}
 use Rattle.tds_rows.specs.CellSteps.{IsLeft, WritesKind, whole_size}
 use Rattle.tds_rows.specs.Tables.{IsAhead, IsNextKind, Knows}
 
@@ -115,11 +115,9 @@ abbrev pub AloneWritten : Table → Ahead → Kind → Bool → List ℕ → ℕ
 AloneWritten table at kind last bytes room text result = MatchOption result (IsLeft table.charset kind bytes room)
     (λ written. WritesOne table.charset kind at.column last bytes text written.used written.made)
 
--- A run wrote the text of the bytes that it used, within a row, and ended at a place of it; single-byte text was read in the table's set.
+-- A run wrote the text of the cells between two places of a row, whose bytes it used; none of them is NULL by a bit.
 abbrev pub CellsWritten : Table → Ahead → List ℕ → List ℕ → CellRun → Type 0
-CellsWritten table from bytes text run = (columns : List Column) → Knows table columns → IsAhead table columns from →
-    IsAhead table columns run.ahead × ((charset : Charset) (cells : List Cell) → table.charset ≡ charset → length cells ≡ from.column →
-    WritesCells charset cells (drop from.column columns) (drop run.ahead.column columns) run.ahead.column (take run.used bytes) (take run.made text))
+CellsWritten table from bytes text run = MarkedWritten table (λ k. false) from bytes text run
 
 -- A run wrote the text of the bytes that it used, over the ends of rows, and ended at a place of a row; single-byte text was read in the table's set.
 abbrev pub RowsWritten : Table → Ahead → List ℕ → List ℕ → RowsRun → Type 0

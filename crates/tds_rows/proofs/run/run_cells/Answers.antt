@@ -4,11 +4,13 @@ use Rattle.tds_columns.specs.Description.{Column}
 use Rattle.tds_columns.proofs.ViewLaws.{all_behind}
 use Rattle.tds_rows.specs.declared.table.Ahead.{Ahead}
 use Rattle.tds_rows.specs.CellSteps.{IsLeft, WritesKind}
-use Rattle.tds_rows.specs.Runs.{WritesCells}
+use Rattle.tds_rows.specs.MarkedRuns.{RunsMarked}
 use Rattle.tds_rows.specs.Tables.{IsAhead, Knows, TakesColumn}
-use Rattle.tds_rows.proofs.RunSteps.{cells_none, further_on, made_same, none_used, whole_some}
-use Rattle.tds_rows.proofs.TableSteps.{takes}
-use Rattle.tds_rows.proofs.TableRuns.{more_in_row, one_between, one_first}
+use Rattle.tds_rows.proofs.MarkedSteps.{runs_none, runs_one}
+use Rattle.tds_rows.proofs.RunSteps.{further_on, made_same, none_used, whole_some}
+use Rattle.tds_rows.proofs.Stretches.{none_null}
+use Rattle.tds_rows.proofs.TableSteps.{last_one, takes}
+use Rattle.tds_rows.proofs.TableRuns.{one_first}
 use Rattle.tds_rows.proofs.run.run_cells.Goals.{else-loop-to-test, then-loop-to-test+else-ahead-end, then-loop-to-test+then-ahead-end+then-used-gt0+then-is_some, then-loop-to-test+then-ahead-end+else-used-gt0+in_default, then-loop-to-test+then-ahead-end+else-used-gt0+in-Some+in_default-write_cell}
 use Rattle.tds_rows.proofs.run.run_cells.Goals as goal
 
@@ -16,10 +18,11 @@ pub loop-to-init : goal.loop-to-init
 loop-to-init c = record {
   used = omega arith;
   made = omega arith;
+  within = λ h. h;
   further = λ some. absurd (omega (arith, some));
   first = λ _. (refl, refl);
   one = λ some. absurd (omega (arith, some));
-  writes = λ columns knows ahead. (ahead, λ charset cells set is. cells_none charset (drop c.args.from.column columns) c.args.from.column cells is);
+  writes = λ columns knows ahead. runs_none c.args.table.now columns none_null c.args.from ahead;
 }
 
 pub loop-to-preserved : goal.loop-to-preserved
@@ -37,6 +40,7 @@ loop-to-preserved c =
     record {
       used = search (arith, rules);
       made = search (arith, rules);
+      within = λ _. omega (arith, c.if-ahead-end.true, after.ensures.further);
       further = λ _. further_on l.used c.args.from.column l.ahead.column after.result.column (λ none. ap (λ (a : Ahead). a.column) (l.invariant.first none).1) l.invariant.further after.ensures.further;
       first = λ none. absurd (omega (arith, none, c.in-Some-write_cell.ensures.whole, whole_some kind rest));
       one = λ _ alone.
@@ -45,8 +49,9 @@ loop-to-preserved c =
           one_first c.args.table.now l.ahead kind last.result last.ensures c.in-Some.ensures.gives c.args.from l.used written.used l.made written.made c.args.bytes.now l.to text _ begun.1 none begun.0 l.invariant.made within c.in-Some-write_cell.ensures.whole c.in-Some-write_cell.ensures.gives;
       writes = λ columns knows ahead.
           let x = l.invariant.writes columns knows ahead in
-          more_in_row c.args.table.now c.args.from l.ahead after.result l.used written.used l.made written.made c.args.bytes.now l.to text _ l.invariant.made within columns x
-          (one_between c.args.table.now columns l.ahead after.result kind last.result written.used written.made rest text knows (taken columns knows x.0) last.ensures c.in-Some-write_cell.ensures.gives);
+          let t = taken columns knows x.ahead in
+          let end = last.ensures ∙ last_one columns (drop after.result.column columns) t.column l.ahead.column c.args.table.now.count knows.counted t.next in
+          runs_one c.args.table.now columns none_null c.args.from l.ahead after.result kind last.result l.used written.used l.made written.made c.args.bytes.now l.to text _ l.invariant.made within t end c.in-Some-write_cell.ensures.gives.whole x;
     }
 
 -- what was made before the last step stands
@@ -72,8 +77,8 @@ returns-clause-ends c = λ none within columns column left knows ahead step.
       | else-loop-to-test w ↦ inl (omega (arith, text, w.loop-to-test.false, l.auto.to))
       | then-loop-to-test+else-ahead-end w ↦ absurd (omega (arith, within, ap (λ (a : Ahead). a.column) at, w.if-ahead-end.false))
       | then-loop-to-test+then-ahead-end+then-used-gt0+then-is_some w ↦ absurd (omega (arith, none, w.if-used-gt0.true))
-      | then-loop-to-test+then-ahead-end+else-used-gt0+in_default w ↦ absurd (let e : column ∷ left ≡ [] = sym here ∙ w.in_default.ensures.gives columns knows inv.0 in omega (arith, ap length e))
-      | then-loop-to-test+then-ahead-end+else-used-gt0+in-Some+in_default-write_cell w ↦ (let x = w.in-Some.ensures.gives columns knows inv.0 in
+      | then-loop-to-test+then-ahead-end+else-used-gt0+in_default w ↦ absurd (let e : column ∷ left ≡ [] = sym here ∙ w.in_default.ensures.gives columns knows inv.ahead in omega (arith, ap length e))
+      | then-loop-to-test+then-ahead-end+else-used-gt0+in-Some+in_default-write_cell w ↦ (let x = w.in-Some.ensures.gives columns knows inv.ahead in
           let kind = w.in-Some.form.kind in
           let same : kind ≡ column.kind = x.kind ∙ ap (λ (r : List Column). (get_or r 0 column).kind) (sym x.next ∙ here) in
           let lent = take (length l.to - l.made) (drop l.made l.to) in
@@ -99,7 +104,7 @@ pub returns-clause-gives : goal.returns-clause-gives
 returns-clause-gives c = λ columns knows ahead.
     let l = c.loop-to in
     let x = l.invariant.writes columns knows ahead in
-    (x.0, λ charset cells set is. subst (λ t. WritesCells charset cells (drop c.args.from.column columns) (drop l.ahead.column columns) l.ahead.column (take l.used c.args.bytes.now) t) (sym (same c)) (x.1 charset cells set is))
+    subst (λ t. RunsMarked c.args.table.now columns none_null c.args.from l.ahead (take l.used c.args.bytes.now) t) (sym (same c)) x
 
 pub loop-to-smaller : goal.loop-to-smaller
 loop-to-smaller c =
