@@ -6,7 +6,8 @@ ghost use Rattle.tds_rows.specs.RowReading.{IsInRow, StaysInRow};
 ghost use Rattle.tds_rows.specs.Rows.{bit};
 
 use crate::reading::Rows;
-use crate::run::fields::CELL_ROOM;
+use crate::run::buffered::{INT4_SIZE, has_int4};
+use crate::run::fields::{CELL_ROOM, write_int4_field};
 use crate::run::{CellRun, run_cells};
 use crate::table::{Ahead, Table};
 use std::io::{Read, Write};
@@ -67,7 +68,18 @@ pub(crate) fn run_nulls<'a>(
             ahead = table.after(ahead);
             continue;
         }
-        let cells = run_cells(table, ahead, end, &bytes[used..], &mut to[made..]);
+        let rest = &bytes[used..];
+        if let Some(start) = table.int4_start(ahead)
+            && has_int4(start, rest)
+        {
+            let last = table.is_last(ahead);
+            let value = &rest[start..start + INT4_SIZE];
+            made += write_int4_field(ahead.column, last, value, &mut to[made..]);
+            used += start + INT4_SIZE;
+            ahead.column += 1;
+            continue;
+        }
+        let cells = run_cells(table, ahead, end, rest, &mut to[made..]);
         if cells.used == 0 {
             break;
         }

@@ -1,14 +1,17 @@
-use Rattle.std.proofs.Common.{inl, ℕ, ◌≡◌, ◌∙◌, ◌-◌, ◌<◌, ◌≤◌, Bool, List, [], ◌∷◌, refl, sym, ap, length, take, drop, subst, arith, rules, length-take, length-drop}
+use Rattle.std.proofs.Common.{inl, ℕ, ◌≡◌, ◌∙◌, ◌+◌, ◌-◌, ◌<◌, ◌≤◌, Bool, List, [], ◌∷◌, refl, sym, ap, length, take, drop, subst, arith, rules, length-take, length-drop}
 use Rattle.std.specs.Prelude.{true, false}
 use Rattle.tds_columns.proofs.ViewLaws.{all_behind}
 use Rattle.tds_csv.specs.Quoting.{in_line, null_field}
-use Rattle.tds_rows.specs.CellSteps.{is_last}
+use Rattle.tds_rows.specs.CellSteps.{HasInt4, int4_kind, is_last}
+use Rattle.tds_rows.specs.MarkedRuns.{WritesNext}
+use Rattle.tds_rows.specs.Tables.{one_on}
 use Rattle.tds_rows.specs.Rows.{bit}
 use Rattle.tds_rows.specs.Runs.{RunEnds}
-use Rattle.tds_rows.proofs.MarkedSteps.{runs_null}
+use Rattle.tds_rows.proofs.MarkedSteps.{runs_null, runs_one}
+use Rattle.tds_rows.proofs.RunSteps.{writes_int4}
 use Rattle.tds_rows.proofs.Stretches.{ends_clear, runs_clear, runs_more}
 use Rattle.tds_rows.proofs.TableSteps.{last_one, next_any, none_next, takes}
-use Rattle.tds_rows.proofs.run.nulls.run_nulls.Goals.{else-loop-to-test, then-loop-to-test+else-ahead-count, then-loop-to-test+then-ahead-count+else-end-ahead+then-cells-eq0}
+use Rattle.tds_rows.proofs.run.nulls.run_nulls.Goals.{else-loop-to-test, then-loop-to-test+else-ahead-count, then-loop-to-test+then-ahead-count+else-end-ahead+in_default+then-cells-eq0}
 use Rattle.tds_rows.proofs.run.nulls.run_nulls.Goals as goal
 
 -- a column that is NULL by its bit
@@ -38,6 +41,40 @@ loop-to-preserved-then-end-ahead c =
           let last = c.is_last.ensures ∙ last_one columns left taken.column l.ahead.column table.count knows.counted taken.next in
           let line : take made text ≡ in_line l.ahead.column (is_last left) null_field = c.write_null-made.ensures.text ∙ ap (λ (k : ℕ). in_line k c.is_last.result null_field) at ∙ ap (λ (e : Bool). in_line l.ahead.column e null_field) last in
           runs_null table columns bits c.args.from l.ahead after one.0 (is_last left) l.used l.made made bytes l.to text _ l.invariant.made within taken refl null line ran;
+    }
+
+-- a whole number of four bytes
+pub loop-to-preserved-in-loop-to : goal.loop-to-preserved-in-loop-to
+loop-to-preserved-in-loop-to c =
+    let l = c.loop-to in
+    let table = c.args.table.now in
+    let bits = bit c.args.bitmap.now in
+    let end = c.clear_end-end in
+    let behind = one_on l.ahead in
+    let start = c.in-Some.start in
+    let kind = int4_kind start in
+    let last = c.is_last-last in
+    let made = c.write_int4_field-made.result in
+    let text = c.write_int4_field-made.new.to in
+    let there = take (length c.args.bytes.now - l.used) (drop l.used c.args.bytes.now) in
+    let has : HasInt4 start there = c.has_int4.ensures.so c.if-has_int4.true in
+    let most : start ≤ 1 = c.in-Some.ensures.most in
+    let wrote = writes_int4 table.charset start ((start + 4) - start) l.ahead.column last.result there (take made text) most (omega arith) has c.write_int4_field-made.ensures.gives in
+    let within : made ≤ length text = search (arith, rules) in
+    let before : l.ahead.column < end.result = omega (arith, end.ensures.least, c.if-end-ahead.false) in
+    let clear : bits l.ahead.column ≡ false = end.ensures.clear l.ahead.column (omega arith) before in
+    record {
+      used = search (arith, rules);
+      made = search (arith, rules);
+      most = search (arith, rules);
+      clear = λ k least most. end.ensures.clear k (omega (arith, least)) most;
+      writes = λ columns knows ahead.
+          let x = l.invariant.writes columns knows ahead in
+          let taken = c.in-Some.ensures.gives columns knows x.ahead in
+          let left = drop behind.column columns in
+          let ends = last.ensures ∙ last_one columns left taken.column l.ahead.column table.count knows.counted taken.next in
+          let cell = subst (λ (e : Bool). WritesNext table.charset e kind l.ahead.column last.result (take (start + 4) there) (take made text)) (sym clear) wrote.whole in
+          runs_one table columns bits c.args.from l.ahead behind kind last.result l.used (start + 4) l.made made c.args.bytes.now l.to text _ l.invariant.made within taken ends cell x;
     }
 
 -- a run over columns that aren't
@@ -71,7 +108,7 @@ returns-clause-ends c = λ columns column left knows ahead step.
     elim c.loop-to-test.branch [
       | else-loop-to-test w ↦ inl (omega (arith, w.loop-to-test.false, l.auto.to))
       | then-loop-to-test+else-ahead-count w ↦ absurd (let none = none_next columns l.ahead.column c.args.table.now.count knows.counted (omega (arith, w.count.ensures, w.if-ahead-count.false)) in let e : column ∷ left ≡ [] = sym step ∙ none in omega (arith, ap length e))
-      | then-loop-to-test+then-ahead-count+else-end-ahead+then-cells-eq0 w ↦ (let lent = take (length l.to - l.made) (drop l.made l.to) in
+      | then-loop-to-test+then-ahead-count+else-end-ahead+in_default+then-cells-eq0 w ↦ (let lent = take (length l.to - l.made) (drop l.made l.to) in
           let room : length lent ≡ length c.args.to.now - l.made = omega (arith, l.auto.to, length-take (length l.to - l.made) (drop l.made l.to), length-drop l.made l.to) in
           let before : l.ahead.column < w.clear_end-end.result = omega (arith, w.clear_end-end.ensures.least, w.if-end-ahead.false) in
           let clear : bits l.ahead.column ≡ false = w.clear_end-end.ensures.clear l.ahead.column (omega arith) before in
