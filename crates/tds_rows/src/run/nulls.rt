@@ -41,7 +41,7 @@ fn clear_end(bitmap: &[u8], from: u16, known: u16, count: u16) -> u16
 }
 
 // Writes cell after cell of an NBCROW, as far as they are NULL by their bit or whole in these bytes, aren't in
-// chunks, and have room. Those between two that are NULL by their bit are written by a run of cells.
+// chunks, and have room. NULLs and whole numbers of four bytes are written here.
 #[inline(never)]
 pub(crate) fn run_nulls<'a>(
     table: &Table<'a>,
