@@ -108,8 +108,8 @@ impl<'r, 't, 'p, 's, 'c, R: Read, W: Write> Rows<'r, 't, 'p, 's, 'c, R, W> {
         ensures peak { bitmap.new.peak ≤ bitmap.new.room }
         ensures few { IfOk result (λ count. self.old.payload.now.place + count ≤ self.new.payload.now.place + 1) }
         ensures gives { (columns : List Column) → Knows self.old.table.now columns →
-            RowsRead R.remaining W.contents NbcRow self.old.table.now.charset columns self.old.payload.now self.new.payload.now
-            self.old.sink.now self.new.sink.now result }
+            RowsRead R.remaining W.contents NbcRow self.old.table.now.charset columns
+            self.old.payload.now self.new.payload.now self.old.sink.now self.new.sink.now result }
     {
         let mut ended: u64 = 0;
         loop {

@@ -45,8 +45,8 @@ impl<'r, 't, 'p, 's, 'c, R: Read, W: Write> Rows<'r, 't, 'p, 's, 'c, R, W> {
         ensures leaves { LeavesRows self.old self.new result }
         ensures few { IfOk result (λ count. self.old.payload.now.place + count ≤ self.new.payload.now.place + 1) }
         ensures gives { (columns : List Column) → Knows self.old.table.now columns →
-            RowsRead R.remaining W.contents PlainRow self.old.table.now.charset columns self.old.payload.now self.new.payload.now
-            self.old.sink.now self.new.sink.now result }
+            RowsRead R.remaining W.contents PlainRow self.old.table.now.charset columns
+            self.old.payload.now self.new.payload.now self.old.sink.now self.new.sink.now result }
     {
         let mut ahead = self.table.start();
         let mut ended: u64 = 0;
