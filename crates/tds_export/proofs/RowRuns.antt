@@ -1,4 +1,4 @@
--- A run over rows, in its response.
+-- Rows of one token after one another, in their response.
 use Rattle.std.proofs.Common.{◌≡◌, ◌∙◌, ℕ, ◌+◌, ◌<◌, Bool, true, false, List, [], ◌∷◌, ◌++◌, length, refl, sym, ap, subst, arith, append_assoc, append-nil, length-append}
 use Rattle.std.specs.Prelude.{Option, Some, None, ◌==◌, map, if◌then◌else◌}
 use Rattle.std.proofs.lemmas.List.{map-append}
@@ -14,18 +14,28 @@ use Rattle.tds_csv.specs.Sinks.{Held}
 use Rattle.tds_csv.specs.Streaming.{PutsText, Streams}
 use Rattle.tds_rows.specs.declared.Charset.{Charset}
 use Rattle.tds_rows.specs.Cells.{Cell, field}
-use Rattle.tds_rows.specs.Rows.{Bitmap, InCell, RowPart, WholeRow, row, row_so_far, row_start}
+use Rattle.tds_rows.specs.Rows.{Bitmap, InCell, NbcRow, PlainRow, RowPart, RowToken, WholeRow, nbc_row_start, row, row_so_far, row_start, token_byte, token_start}
 use Rattle.tds_rows.specs.RowSteps.{ReadsRows, RowsStop}
 use Rattle.tds_rows.specs.Runs.{RowsPart, lines, rows, rows_so_far, rows_start}
 use Rattle.tds_packet.specs.declared.fault.Stop.{Stop}
 use Rattle.tds_export.specs.declared.progress.Progress.{Progress}
 use Rattle.tds_export.specs.Tokens.{Row, Token, described_after, encoded_after, text}
 use Rattle.tds_export.specs.TokenGrammar.{Part, response, row_byte_fault, start_of_row, text_so_far, with_row}
-use Rattle.tds_export.specs.Steps.{IsDescribed, IsHolding, ReadsTokens, StepStops, Tracks, TracksBefore, behind, in_row}
+use Rattle.tds_export.specs.Steps.{IsDescribed, IsHolding, ReadsTokens, StepStops, Tracks, TracksBefore, behind}
 use Rattle.tds_export.proofs.ResponseLaws.{described_after-append, row_in_response}
 use Rattle.tds_export.proofs.TokenLaws.{text_after-snoc, tracks_row}
 use Rattle.tds_export.proofs.TokenSteps.{holds-snoc, row_stops, row_text, stops_further}
 use Rattle.tds_packet.proofs.Lifts.{next_inside, next_some}
+
+-- a byte that is no other token's
+is_token_byte : (byte x : ℕ) → (if x == byte then None else Some (RefusedToken x)) ≡ None → x ≡ byte
+is_token_byte byte x h = search (arith, h)
+
+-- the token byte of a row begins it, where columns are described
+begins_next : (which : RowToken) (charset : Charset) (room : ℕ) (all : List Column) (tokens : List Token) → described_after None tokens ≡ Some all
+    → IsNext (response charset room) (behind tokens) (token_byte which ∷ []) × ((response charset room).add (behind tokens) (token_byte which ∷ []) ≡ with_row tokens (token_start which charset all))
+begins_next PlainRow charset room all tokens known = (record { some = omega arith; whole = refl; free = ap (row_byte_fault true) known }, ap (start_of_row tokens (row_start charset)) known)
+begins_next NbcRow charset room all tokens known = (record { some = omega arith; whole = refl; free = ap (row_byte_fault true) known }, ap (start_of_row tokens nbc_row_start) known)
 
 -- what one grammar reads, another reads there, where each element does
 module _ {S T : Type 0} (small : Grammar S Fault) (big : Grammar T Fault) (lift : S → T) (is : (s : S) (e : List ℕ) → IsNext small s e → IsNext big (lift s) e × (big.add (lift s) e ≡ lift (small.add s e))) where
@@ -48,46 +58,42 @@ rows_text tokens (r ∷ rs) =
     ap text (sym (append_assoc tokens (Row r ∷ []) (map Row rs))) ∙ rows_text (tokens ++ Row r ∷ []) rs
     ∙ ap (λ l. l ++ lines rs) (text_after-snoc false tokens (Row r) ∙ ap (λ l. text tokens ++ l) (append-nil (line (map field r)))) ∙ append_assoc (text tokens) (line (map field r)) (lines rs)
 
-module _ (charset : Charset) (room : ℕ) (all : List Column) (tokens : List Token) where
-  -- where a run is, in its response
+module _ (which : RowToken) (charset : Charset) (room : ℕ) (all : List Column) (tokens : List Token) where
+  -- where a reading of rows is, in its response
   abbrev pub in_rows : RowsPart → Part
   in_rows p = with_row (tokens ++ map Row p.before) p.at
 
   in_rows_text : (p : RowsPart) → text_so_far (in_rows p) ≡ text tokens ++ rows_so_far p
   in_rows_text p = row_text (tokens ++ map Row p.before) p.at ∙ ap (λ l. l ++ row_so_far p.at) (rows_text tokens p.before) ∙ append_assoc (text tokens) (lines p.before) (row_so_far p.at)
 
-  is_row_byte : (x : ℕ) → (if x == 0xD1 then None else Some (RefusedToken x)) ≡ None → x ≡ 0xD1
-  is_row_byte x h = search (arith, h)
-
   module _ (known : described_after None tokens ≡ Some all) where
-    token_next : (before : List (List Cell)) (cells : List Cell) → IsNext (response charset room) (in_rows (record { before = before; at = WholeRow cells })) (0xD1 ∷ []) × ((response charset room).add (in_rows (record { before = before; at = WholeRow cells })) (0xD1 ∷ []) ≡ in_rows (record { before = before ++ cells ∷ []; at = row_start charset all }))
+    token_next : (before : List (List Cell)) (cells : List Cell) → IsNext (response charset room) (in_rows (record { before = before; at = WholeRow cells })) (token_byte which ∷ []) × ((response charset room).add (in_rows (record { before = before; at = WholeRow cells })) (token_byte which ∷ []) ≡ in_rows (record { before = before ++ cells ∷ []; at = token_start which charset all }))
     token_next before cells =
         let ts : (tokens ++ map Row before) ++ Row cells ∷ [] ≡ tokens ++ map Row (before ++ cells ∷ []) = append_assoc tokens (map Row before) (Row cells ∷ []) ∙ ap (λ l. tokens ++ l) (sym (map-append Row before (cells ∷ []))) in
         let described : described_after None ((tokens ++ map Row before) ++ Row cells ∷ []) ≡ Some all =
-        ap (described_after None) ts ∙ described_after-append None tokens (map Row (before ++ cells ∷ [])) ∙ rows_describe (described_after None tokens) (before ++ cells ∷ []) ∙ known in (
-          record { some = omega arith; whole = refl; free = ap (row_byte_fault true) described },
-          ap (start_of_row ((tokens ++ map Row before) ++ Row cells ∷ []) (row_start charset)) described ∙ ap (λ l. with_row l (row_start charset all)) ts,
-        )
+        ap (described_after None) ts ∙ described_after-append None tokens (map Row (before ++ cells ∷ [])) ∙ rows_describe (described_after None tokens) (before ++ cells ∷ []) ∙ known in
+        let next = begins_next which charset room all ((tokens ++ map Row before) ++ Row cells ∷ []) described in
+        (next.0, next.1 ∙ ap (λ l. with_row l (token_start which charset all)) ts)
 
     row_next : (ts : List Token) (at : RowPart) (e : List ℕ) → IsNext (row charset) at e → IsNext (response charset room) (with_row ts at) e × ((response charset room).add (with_row ts at) e ≡ with_row ts ((row charset).add at e))
     row_next ts at e n =
         let inside = row_in_response charset room ts in
         (next_inside (row charset) (response charset room) (with_row ts) inside at e (next_some (row charset) at e n) n, inside.add at e (next_some (row charset) at e n))
 
-    element_next : (before : List (List Cell)) (p : RowPart) (e : List ℕ) → IsNext (rows charset all) (record { before = before; at = p }) e
-        → IsNext (response charset room) (in_rows (record { before = before; at = p })) e × ((response charset room).add (in_rows (record { before = before; at = p })) e ≡ in_rows ((rows charset all).add (record { before = before; at = p }) e))
+    element_next : (before : List (List Cell)) (p : RowPart) (e : List ℕ) → IsNext (rows which charset all) (record { before = before; at = p }) e
+        → IsNext (response charset room) (in_rows (record { before = before; at = p })) e × ((response charset room).add (in_rows (record { before = before; at = p })) e ≡ in_rows ((rows which charset all).add (record { before = before; at = p }) e))
     element_next before (Bitmap columns) e n = row_next (tokens ++ map Row before) (Bitmap columns) e (record { some = n.some; whole = n.whole; free = n.free })
     element_next before (InCell cells part ks) e n = row_next (tokens ++ map Row before) (InCell cells part ks) e (record { some = n.some; whole = n.whole; free = n.free })
     element_next before (WholeRow cells) [] n = absurd (let s : 0 < length {A = ℕ} [] = n.some in omega arith)
     element_next before (WholeRow cells) (x ∷ []) n =
-        subst (λ (x : ℕ). IsNext (response charset room) (in_rows (record { before = before; at = WholeRow cells })) (x ∷ []) × ((response charset room).add (in_rows (record { before = before; at = WholeRow cells })) (x ∷ []) ≡ in_rows (record { before = before ++ cells ∷ []; at = row_start charset all }))) (sym (is_row_byte x n.free)) (token_next before cells)
+        subst (λ (x : ℕ). IsNext (response charset room) (in_rows (record { before = before; at = WholeRow cells })) (x ∷ []) × ((response charset room).add (in_rows (record { before = before; at = WholeRow cells })) (x ∷ []) ≡ in_rows (record { before = before ++ cells ∷ []; at = token_start which charset all }))) (sym (is_token_byte (token_byte which) x n.free)) (token_next before cells)
     element_next before (WholeRow cells) (x ∷ y ∷ r) n = absurd (let w : length (x ∷ y ∷ r) ≡ 1 = n.whole in omega arith)
 
-    -- what a run reads and puts, is read of the response and put
-    abbrev rows_stream : (s t : RowsPart) (a b : Seen) (h j : Held) → Streams (rows charset all) rows_so_far s a b h j t → Streams (response charset room) text_so_far (in_rows s) a b h j (in_rows t)
+    -- what is read of rows and put, is read of the response and put
+    abbrev rows_stream : (s t : RowsPart) (a b : Seen) (h j : Held) → Streams (rows which charset all) rows_so_far s a b h j t → Streams (response charset room) text_so_far (in_rows s) a b h j (in_rows t)
     rows_stream s t a b h j x = record {
       bytes = x.bytes;
-      spelt = lifted_spelt (rows charset all) (response charset room) in_rows (λ p e n. element_next p.before p.at e n) s x.bytes t x.spelt;
+      spelt = lifted_spelt (rows which charset all) (response charset room) in_rows (λ p e n. element_next p.before p.at e n) s x.bytes t x.spelt;
       takes = x.takes;
       puts = (x.puts.0, ap (λ l. l ++ x.puts.0) (in_rows_text s) ∙ append_assoc (text tokens) (rows_so_far s) x.puts.0 ∙ ap (λ l. text tokens ++ l) x.puts.1 ∙ sym (in_rows_text t), x.puts.2);
     }
@@ -121,26 +127,30 @@ rows_hold area tokens (r ∷ rs) h = subst (λ ts. IsHolding area (behind ts)) (
 pub columns_known : (tokens : List Token) (described : Bool) (bytes : List ℕ) → described ≡ true → bytes ≡ encoded_after [] tokens → IsDescribed described (encoded_after [] tokens) (described_after None tokens) → described_after None tokens ≡ Some (columns_of bytes)
 columns_known tokens described bytes d is k = subst (λ b. IsDescribed b (encoded_after [] tokens) (described_after None tokens)) d k ∙ ap (λ l. Some (columns_of l)) (sym is)
 
-module _ (charset : Charset) (room : ℕ) (columns : List Column) (area : Space) (before after : Held) (tokens : List Token) (a b : Seen) (place : ℕ) (known : described_after None tokens ≡ Some columns) (holds : IsHolding area (behind tokens)) where
-  -- the state in a response before the first element of its rows
-  begins : in_rows charset room columns tokens (rows_start charset columns) ≡ in_row charset columns tokens
-  begins = ap (λ (ts : List Token). with_row ts (row_start charset columns)) (append-nil tokens)
+module _ (which : RowToken) (charset : Charset) (room : ℕ) (columns : List Column) (area : Space) (before after : Held) (tokens : List Token) (a b : Seen) (place : ℕ) (known : described_after None tokens ≡ Some columns) (holds : IsHolding area (behind tokens)) where
+  -- the state in a response after the first token byte of the rows
+  abbrev in_token : Part
+  in_token = with_row tokens (token_start which charset columns)
+
+  -- it is that before the first element of rows
+  begins : in_rows which charset room columns tokens (rows_start which charset columns) ≡ in_token
+  begins = ap (λ (ts : List Token). with_row ts (token_start which charset columns)) (append-nil tokens)
 
   -- rows were read, and their lines put
-  pub rows_read : (progress : Progress) (place' count : ℕ) → TracksBefore progress tokens → ReadsRows charset columns count a b place place' before after
-      → ReadsTokens (response charset room) (in_row charset columns tokens) tokens a b place place' before after (record progress { report = record progress.report { rows = progress.report.rows + count } }) area
+  pub rows_read : (progress : Progress) (place' count : ℕ) → TracksBefore progress tokens → ReadsRows which charset columns count a b place place' before after
+      → ReadsTokens (response charset room) in_token tokens a b place place' before after (record progress { report = record progress.report { rows = progress.report.rows + count } }) area
   rows_read progress place' count tracks x =
-      let from = in_rows charset room columns tokens (rows_start charset columns) in
-      let to : Part = in_rows charset room columns tokens (record { before = x.earlier; at = WholeRow x.last }) in
-      let there = rows_stream charset room columns tokens known (rows_start charset columns) (record { before = x.earlier; at = WholeRow x.last }) a b before after x.streams in
+      let from = in_rows which charset room columns tokens (rows_start which charset columns) in
+      let to : Part = in_rows which charset room columns tokens (record { before = x.earlier; at = WholeRow x.last }) in
+      let there = rows_stream which charset room columns tokens known (rows_start which charset columns) (record { before = x.earlier; at = WholeRow x.last }) a b before after x.streams in
       let end : to ≡ behind (tokens ++ map Row (x.earlier ++ x.last ∷ [])) = ap behind (append_assoc tokens (map Row x.earlier) (Row x.last ∷ []) ∙ ap (λ l. tokens ++ l) (sym (map-append Row x.earlier (x.last ∷ [])))) in
       record {
         more = map Row (x.earlier ++ x.last ∷ []);
         streams = record {
           bytes = x.streams.bytes;
-          spelt = subst (λ (v : Part). Spelt (response charset room) (in_row charset columns tokens) x.streams.bytes v) end (subst (λ (v : Part). Spelt (response charset room) v x.streams.bytes to) begins there.spelt);
+          spelt = subst (λ (v : Part). Spelt (response charset room) in_token x.streams.bytes v) end (subst (λ (v : Part). Spelt (response charset room) v x.streams.bytes to) begins there.spelt);
           takes = x.streams.takes;
-          puts = subst (λ (v : Part). PutsText text_so_far (in_row charset columns tokens) v before after) end (subst (λ (v : Part). PutsText text_so_far v to before after) begins there.puts);
+          puts = subst (λ (v : Part). PutsText text_so_far in_token v before after) end (subst (λ (v : Part). PutsText text_so_far v to before after) begins there.puts);
         };
         place_is = x.place_is;
         tracks = tracks_all progress tokens x.earlier x.last count x.counted tracks;
@@ -148,11 +158,11 @@ module _ (charset : Charset) (room : ℕ) (columns : List Column) (area : Space)
       }
 
   -- their reading stopped
-  pub rows_stop : (failed : Bool) (stop : Stop) → RowsStop charset columns a b place before after failed stop → StepStops (response charset room) (in_row charset columns tokens) a b place before after area failed stop
+  pub rows_stop : (failed : Bool) (stop : Stop) → RowsStop which charset columns a b place before after failed stop → StepStops (response charset room) in_token a b place before after area failed stop
   rows_stop failed stop x =
-      let from = in_rows charset room columns tokens (rows_start charset columns) in
-      let to : Part = in_rows charset room columns tokens (record { before = x.earlier; at = x.part }) in
-      let there = rows_stream charset room columns tokens known (rows_start charset columns) (record { before = x.earlier; at = x.part }) a x.middle before x.between x.streams in
+      let from = in_rows which charset room columns tokens (rows_start which charset columns) in
+      let to : Part = in_rows which charset room columns tokens (record { before = x.earlier; at = x.part }) in
+      let there = rows_stream which charset room columns tokens known (rows_start which charset columns) (record { before = x.earlier; at = x.part }) a x.middle before x.between x.streams in
       let stops = row_stops charset room x.part area x.between after (tokens ++ map Row x.earlier) x.middle b (place + length x.streams.bytes) failed stop (rows_hold area tokens x.earlier holds) x.stops in
       subst (λ (v : Part). StepStops (response charset room) v a b place before after area failed stop) begins
       (stops_further charset room from to a x.middle b place before x.between after area failed stop there stops)

@@ -22,7 +22,7 @@ use Rattle.tds_csv.proofs.Sinks.{Puts-none}
 use Rattle.tds_rows.specs.declared.Charset.{Charset}
 use Rattle.tds_rows.specs.Cells.{field, shape}
 use Rattle.tds_rows.specs.Rows.{RowPart, Bitmap, InCell, WholeRow, row, row_size, row_so_far, with_field}
-use Rattle.tds_rows.specs.RowSteps.{ReadsRow, RowStops}
+use Rattle.tds_rows.specs.RowSteps.{RowStops}
 use Rattle.tds_export.specs.declared.progress.Progress.{Progress}
 use Rattle.tds_export.specs.declared.report.Report.{Report}
 use Rattle.tds_export.specs.Tokens.{Token, Metadata, NoMetadata, Row, Done, DoneInProc, between, encoded_after, greatest_span, header_line, text, text_after}
@@ -32,10 +32,10 @@ use Rattle.tds_export.specs.TokenBytes.{Fixed, AStatus, ADone, ADoneInProc}
 use Rattle.tds_export.specs.TokenGrammar.{Open, Part, Fields, open_text, response, text_so_far, with_described, with_row}
 use Rattle.tds_export.specs.Steps.{StepStops, StopsInReading, StopsInWriting, IsHolding, ReadsTokens, Tracks, TracksBefore, behind, in_done, in_done_in_proc, in_fields, in_metadata, in_row, in_status}
 use Rattle.tds_packet.proofs.Lifts.{last_inside, reads_inside, stops_inside}
-use Rattle.tds_csv.proofs.Streams.{breaks_after, breaks_inside, puts_both, puts_inside, stops_size, streams_inside}
+use Rattle.tds_csv.proofs.Streams.{breaks_after, breaks_inside, puts_both, puts_inside, stops_size}
 use Rattle.tds_rows.proofs.RowSteps.{start_quiet}
 use Rattle.tds_export.proofs.ResponseLaws.{description_in_response, row_in_response, some_fields}
-use Rattle.tds_export.proofs.TokenLaws.{bare, bare_fixed, begun_after, begun_where_sets, encoded_after-append, greatest_span-append, is_bare, text_after-snoc, tracks_metadata, tracks_none, tracks_quiet, tracks_row, tracks_status}
+use Rattle.tds_export.proofs.TokenLaws.{bare, bare_fixed, begun_after, begun_where_sets, encoded_after-append, greatest_span-append, is_bare, text_after-snoc, tracks_metadata, tracks_none, tracks_quiet, tracks_status}
 
 -- nothing more is put for the same text
 pub same_text : (p q : Part) (h : Held) → text_so_far p ≡ text_so_far q → h.delivered ≤ 2 ^ 64 - 1 → PutsText text_so_far p q h h
@@ -204,17 +204,6 @@ row_stops charset room start area before after tokens a b place failed stop hold
   where
     row_some : (charset : Charset) (at : RowPart) (element : List ℕ) → IsNext (row charset) at element → 0 < row_size at
     row_some charset at element n = omega (arith, n.some, n.whole)
-
--- a row was read, and its line put
-pub row_reads : (charset : Charset) (room : ℕ) (start : RowPart) (area : Space) (before after : Held) (tokens : List Token) (progress : Progress) (a b : Seen) (place place' : ℕ) → TracksBefore progress tokens → IsHolding area (behind tokens)
-    → ReadsRow charset start a b place place' before after → ReadsTokens (response charset room) (with_row tokens start) tokens a b place place' before after (record progress { report = record progress.report { rows = progress.report.rows + 1 } }) area
-row_reads charset room start area before after tokens progress a b place place' tracks holds x = record {
-  more = Row x.cells ∷ [];
-  streams = streams_inside (row charset) (response charset room) (with_row tokens) (row_in_response charset room tokens) row_so_far text_so_far (text tokens) (row_front tokens) start a b before after (WholeRow x.cells) x.streams;
-  place_is = x.place_is;
-  tracks = tracks_row progress tokens x.cells tracks;
-  holds = row_holds area tokens (WholeRow x.cells) holds;
-}
 
 pub stops_reading : (charset : Charset) (room : ℕ) (s : Part) (a b : Seen) (place : ℕ) (h : Held) (area : Space) (failed : Bool) (stop : Stop) → h.delivered ≤ 2 ^ 64 - 1 → failed ≡ false → IsHolding area s → StopsReading (response charset room) s a b place s stop
     → StepStops (response charset room) s a b place h h area failed stop

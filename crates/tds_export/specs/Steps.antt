@@ -14,8 +14,8 @@ use Rattle.tds_columns.specs.View.{columns_of}
 use Rattle.tds_csv.specs.Sinks.{Held, Finishes, FinishFails}
 use Rattle.tds_csv.specs.Streaming.{PutsText, Streams, BreaksStreaming}
 use Rattle.tds_rows.specs.declared.Charset.{Charset}
-use Rattle.tds_rows.specs.Rows.{nbc_row_start, row_start, row_byte}
-use Rattle.tds_export.specs.TokenBytes.{APassed, AnEnvChange, AnError, AnInfo, AnOrder, Bodied, Fixed, AStatus, ADone, ADoneInProc, Lead, AMetadata, ARow, AnNbcRow, WithBody, WithFields, AReturn, lead_of, nbc_row_byte}
+use Rattle.tds_rows.specs.Rows.{nbc_row_byte, nbc_row_start, row_start, row_byte}
+use Rattle.tds_export.specs.TokenBytes.{APassed, AnEnvChange, AnError, AnInfo, AnOrder, Bodied, Fixed, AStatus, ADone, ADoneInProc, Lead, AMetadata, ARow, AnNbcRow, WithBody, WithFields, AReturn, lead_of}
 use Rattle.tds_export.specs.declared.progress.Progress.{Progress}
 use Rattle.tds_export.specs.declared.report.Report.{Report}
 use Rattle.tds_export.specs.declared.tokens.TokenKind.{TokenKind}

@@ -1,14 +1,10 @@
--- The first bytes of tokens, and what they begin (MS-TDS, Packet Data Token Stream Definition). That of a ROW stands with its cells.
+-- The first bytes of tokens, and what they begin (MS-TDS, Packet Data Token Stream Definition). Those of a ROW and an NBCROW stand with their cells.
 use Rattle.std.specs.Prelude.{◌≡◌, ◌==◌, ℕ, Bool, true, false, List, ◌∷◌, Option, Some, None, if◌then◌else◌}
-use Rattle.tds_rows.specs.Rows.{row_byte}
+use Rattle.tds_rows.specs.Rows.{nbc_row_byte, row_byte}
 
 -- of a COLMETADATA
 abbrev pub colmetadata_byte : ℕ
 colmetadata_byte = 0x81
-
--- of an NBCROW
-abbrev pub nbc_row_byte : ℕ
-nbc_row_byte = 0xD2
 
 -- of an ORDER
 abbrev pub order_byte : ℕ

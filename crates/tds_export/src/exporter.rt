@@ -20,7 +20,7 @@ use tds_columns::{Columns, Described, gather};
 use tds_csv::{Sink, utf16_into};
 use tds_meter::Area;
 use tds_packet::{Fault, Payload, Place, Stop};
-use tds_rows::{Charset, nbc_row, read_rows};
+use tds_rows::{Charset, read_nbc_rows, read_rows};
 
 /// How many bytes follow the token byte of a DONE, DONEPROC or DONEINPROC: Status, CurCmd and DoneRowCount.
 const DONE_FIELDS: usize = 12;
@@ -71,8 +71,9 @@ impl<'a, 'p, 's, R: Read, W: Write> Exporter<'a, 'p, 's, R, W> {
         Ok(())
     }
 
-    // Reads an NBCROW after its token byte, and puts its line. Its bitmap is in the token area.
-    fn nbc_row(&mut self) -> Result<(), Stop>
+    // Reads an NBCROW after its token byte and the NBCROWs that follow it in its packet, and puts their lines.
+    // A bitmap is in the token area.
+    fn nbc_rows(&mut self) -> Result<(), Stop>
         requires begun { IsInToken self.old }
         requires described { self.old.progress.described ≡ true }
         ensures leaves { LeavesRun self.old self.new result }
@@ -80,7 +81,7 @@ impl<'a, 'p, 's, R: Read, W: Write> Exporter<'a, 'p, 's, R, W> {
             StepRead R.remaining W.contents (in_nbc_row columns) self.old self.new result }
     {
         let columns = Columns::view(self.description.bytes());
-        nbc_row(
+        let rows = read_nbc_rows(
             self.payload,
             columns,
             self.charset,
@@ -88,7 +89,7 @@ impl<'a, 'p, 's, R: Read, W: Write> Exporter<'a, 'p, 's, R, W> {
             self.small,
             self.sink,
         )?;
-        self.progress.report.rows += 1;
+        self.progress.report.rows += rows;
         Ok(())
     }
 
@@ -196,7 +197,7 @@ impl<'a, 'p, 's, R: Read, W: Write> Exporter<'a, 'p, 's, R, W> {
         match kind {
             TokenKind::Metadata => self.metadata(),
             TokenKind::Row => self.rows(),
-            TokenKind::NbcRow => self.nbc_row(),
+            TokenKind::NbcRow => self.nbc_rows(),
             TokenKind::Done => self.done(),
             TokenKind::DoneInProc => self.done_in_proc(),
             TokenKind::ReturnStatus => self.return_status(),

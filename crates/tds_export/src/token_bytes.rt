@@ -4,8 +4,8 @@
 // browse mode; ALTMETADATA and ALTROW, which serve COMPUTE; and FEATUREEXTACK, SESSIONSTATE, SSPI and
 // FEDAUTHINFO, which belong to features that a client negotiates.
 
-// That of ROW is in `tds_rows`, whose runs go over it.
-pub(crate) use tds_rows::ROW;
+// Those of ROW and NBCROW are in `tds_rows`, which goes on over them.
+pub(crate) use tds_rows::{NBCROW, ROW};
 
 /// RETURNSTATUS.
 pub(crate) const RETURNSTATUS: u8 = 0x79;
@@ -19,8 +19,6 @@ pub(crate) const ERROR: u8 = 0xAA;
 pub(crate) const INFO: u8 = 0xAB;
 /// RETURNVALUE.
 pub(crate) const RETURNVALUE: u8 = 0xAC;
-/// NBCROW, a row with null bits (MS-TDS, NBCROW).
-pub(crate) const NBCROW: u8 = 0xD2;
 /// ENVCHANGE.
 pub(crate) const ENVCHANGE: u8 = 0xE3;
 /// DONE.

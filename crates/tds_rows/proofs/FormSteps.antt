@@ -1,19 +1,20 @@
 -- Runs over cells by their forms, a cell after those that were written.
-use Rattle.std.proofs.Common.{◌≡◌, ◌≢◌, ◌∙◌, ℕ, ◌+◌, ◌-◌, ◌<◌, ◌≤◌, Bool, true, false, List, [], ◌∷◌, ◌++◌, length, take, drop, get_or, refl, sym, ap, subst, arith}
+use Rattle.std.proofs.Common.{◌≡◌, ◌≢◌, ◌∙◌, ℕ, suc, ◌+◌, ◌-◌, ◌<◌, ◌≤◌, Bool, true, false, List, [], ◌∷◌, ◌++◌, length, take, drop, get_or, refl, sym, ap, subst, arith}
 use Rattle.std.specs.Prelude.{◌==◌, ◌&&◌, map}
 use Rattle.std.proofs.lemmas.List.{drop_more, length-drop, length-map, length-take, take_all}
+use lib.Seq.{drop-drop}
 use Rattle.tds_values.specs.declared.kind.Kind.{Kind}
 use Rattle.tds_packet.proofs.Choices.{eq_false, eq_true}
 use Rattle.tds_columns.specs.Description.{Column}
 use Rattle.tds_columns.proofs.ViewLaws.{all_behind}
 use Rattle.tds_rows.specs.declared.Charset.{Charset}
 use Rattle.tds_rows.specs.declared.form.Form.{Form}
-use Rattle.tds_rows.specs.Cells.{Cell, cell_start, shape}
+use Rattle.tds_rows.specs.Cells.{cell_start, shape}
 use Rattle.tds_rows.specs.CellSteps.{WritesKind, is_last, whole_size}
 use Rattle.tds_rows.specs.FormRuns.{AreNext, FirstWritten, FormsWritten}
-use Rattle.tds_rows.specs.Runs.{WritesCells}
+use Rattle.tds_rows.specs.MarkedRuns.{WritesColumn, WritesMarked}
 use Rattle.tds_rows.specs.WholeCells.{WritesWhole}
-use Rattle.tds_rows.proofs.RunSteps.{cells_none, cells_step, made_more, one_cell}
+use Rattle.tds_rows.proofs.RunSteps.{made_more, used_more}
 use Rattle.tds_rows.proofs.TableSteps.{known_kind, last_one}
 
 not_last : (rest : List Column) → 0 < length rest → false ≡ is_last rest
@@ -36,36 +37,47 @@ module _ (forms : List Form) (ends : Bool) (columns : List Column) (next : AreNe
           more isnt = omega (arith, few, isnt, within, ap length step, length-drop k columns)
 
   module _ (k : ℕ) (d : Form) (within : k < length forms) where
-    abbrev column : Column
-    column = get_or columns k (record { kind = d.kind; name = [] })
+    abbrev next_column : Column
+    next_column = get_or columns k (record { kind = d.kind; name = [] })
 
-    step : drop k columns ≡ column ∷ drop (k + 1) columns
+    step : drop k columns ≡ next_column ∷ drop (k + 1) columns
     step = drop_more columns k (record { kind = d.kind; name = [] }) (omega (arith, few, within))
 
-    kind_is : (get_or forms k d).kind ≡ column.kind
+    kind_is : (get_or forms k d).kind ≡ next_column.kind
     kind_is = known_kind forms columns (length forms) k d (record { kind = d.kind; name = [] }) (ap (map (λ f. f.kind)) (take_all (length forms) forms (omega arith)) ∙ next.kinds_are) within (omega arith) (omega (arith, few, within))
 
     -- the cell after this many
-    next_cell : (charset : Charset) (at : ℕ) (bytes text : List ℕ) → WritesKind charset (get_or forms k d).kind at (ends && (k + 1 == length forms)) bytes text → (cells : List Cell) → length cells ≡ at → WritesCells charset cells (drop k columns) (drop (k + 1) columns) (at + 1) bytes text
-    next_cell charset at bytes text x cells is =
+    next_cell : (charset : Charset) (all : List Column) (column : ℕ) (bytes text : List ℕ) → columns ≡ drop column all → WritesKind charset (get_or forms k d).kind (column + k) (ends && (k + 1 == length forms)) bytes text → WritesColumn charset all (λ k. false) (column + k) bytes text
+    next_cell charset all column bytes text is x =
         let left = drop (k + 1) columns in
-        let a = subst (λ (v : Bool). WritesWhole (cell_start (get_or forms k d).kind (shape charset (get_or forms k d).kind)) at v bytes text) (last_of k column left within step) x.whole in
-        let b = subst (λ (q : Kind). WritesWhole (cell_start q (shape charset q)) at (is_last left) bytes text) kind_is a in
-        subst (λ (l : List Column). WritesCells charset cells l left (at + 1) bytes text) (sym step) (one_cell charset column left at bytes text b cells is)
+        let a = subst (λ (v : Bool). WritesWhole (cell_start (get_or forms k d).kind (shape charset (get_or forms k d).kind)) (column + k) v bytes text) (last_of k next_column left within step) x.whole in
+        record {
+          column = next_column;
+          left = left;
+          next = ap (λ (n : ℕ). drop n all) (omega arith) ∙ sym (drop-drop k column all) ∙ ap (drop k) (sym is) ∙ step;
+          writes = subst (λ (q : Kind). WritesWhole (cell_start q (shape charset q)) (column + k) (is_last left) bytes text) kind_is a;
+        }
 
 -- before the first cell
 pub forms_none : (charset : Charset) (forms : List Form) (column : ℕ) (ends : Bool) (bytes text : List ℕ) → FormsWritten charset forms column ends bytes text (record { cells = 0; used = 0; made = 0 })
-forms_none charset forms column ends bytes text = λ columns next cells is.
-    subst (λ (n : ℕ). WritesCells charset cells columns columns n [] []) (omega arith) (cells_none charset columns column cells is)
+forms_none charset forms column ends bytes text = λ columns next. (refl, refl)
 
 module _ (charset : Charset) (forms : List Form) (column : ℕ) (ends : Bool) (bytes to text rest : List ℕ) (k used u made m : ℕ) (d : Form) (within : made ≤ length to) (some : m ≤ length text) (there : k < length forms)
     (wrote : WritesKind charset (get_or forms k d).kind (column + k) (ends && (k + 1 == length forms)) (take u (take (length bytes - used) (drop used bytes))) (take m text)) where
   -- one cell more
   pub forms_more : FormsWritten charset forms column ends bytes to (record { cells = k; used = used; made = made }) → FormsWritten charset forms column ends bytes (take made to ++ (text ++ rest)) (record { cells = k + 1; used = used + u; made = made + m })
-  forms_more x = λ columns next cells is.
-      subst (λ (n : ℕ). WritesCells charset cells columns (drop (k + 1) columns) n (take (used + u) bytes) (take (made + m) (take made to ++ (text ++ rest)))) (omega arith)
-      (cells_step charset columns (drop k columns) (drop (k + 1) columns) (column + k) ((column + k) + 1) used u made m bytes to text rest cells within some (x columns next cells is)
-      (next_cell forms ends columns next k d there charset (column + k) (take u (take (length bytes - used) (drop used bytes))) (take m text) wrote))
+  forms_more x = λ columns next.
+      let read = take u (take (length bytes - used) (drop used bytes)) in
+      subst (λ (n : ℕ). WritesMarked charset columns (λ k. false) column n (take (used + u) bytes) (take (made + m) (take made to ++ (text ++ rest)))) (let n : suc k ≡ k + 1 = omega arith in n) (
+        take used bytes,
+        read,
+        take made to,
+        take m text,
+        used_more used u bytes,
+        made_more made m to text rest within some,
+        x columns next,
+        next_cell forms ends (drop column columns) next k d there charset columns column read (take m text) refl wrote,
+      )
 
   -- the first
   pub forms_first : k ≡ 0 → used ≡ 0 → made ≡ 0 → u ≡ whole_size (get_or forms k d).kind (take (length bytes - used) (drop used bytes)) → FirstWritten charset forms column ends bytes (take made to ++ (text ++ rest)) (record { cells = k + 1; used = used + u; made = made + m })

@@ -15,23 +15,14 @@ use Rattle.tds_csv.proofs.Splits.{Puts_split}
 use Rattle.tds_rows.specs.declared.Charset.{Charset}
 use Rattle.tds_rows.specs.declared.table.Ahead.{Ahead}
 use Rattle.tds_rows.specs.declared.table.Table.{Table}
-use Rattle.std.specs.Prelude.{Option, None, Some}
-use Rattle.tds_rows.specs.declared.run.buffered.Written.{Written}
 use Rattle.tds_rows.specs.CellSteps.{PutsCell, is_last}
-use Rattle.tds_rows.specs.MarkedRuns.{NextWritten, PutsMarked, RunsMarked, WritesColumn, WritesMarked, WritesNext}
+use Rattle.tds_rows.specs.MarkedRuns.{PutsMarked, RunsMarked, WritesColumn, WritesMarked, WritesNext}
 use Rattle.tds_rows.specs.Rows.{RowPart, marked, next_cell, row, row_so_far}
-use Rattle.tds_rows.specs.Runs.{AloneWritten}
 use Rattle.tds_rows.specs.Tables.{IsAhead, TakesColumn}
 use Rattle.tds_rows.proofs.NullSteps.{NearsCells, cell_nears, next_left, null_nears}
 use Rattle.tds_rows.proofs.NullTexts.{ends_marked, nulls_ahead}
 use Rattle.tds_rows.proofs.RunSteps.{made_more, used_more, whole_puts}
 use Rattle.tds_rows.proofs.TableSteps.{next_column}
-
--- ---- the next cell
-
-pub next_alone : (table : Table) (at : Ahead) (null : Bool) (kind : Kind) (last : Bool) (bytes text : List ℕ) (room : ℕ) (r : Option Written) → null ≡ false → AloneWritten table at kind last bytes room text r → NextWritten table.charset null kind at.column last bytes room text r
-next_alone table at null kind last bytes text room None is x = (is, x)
-next_alone table at null kind last bytes text room (Some w) is x = subst (λ (n : Bool). WritesNext table.charset n kind at.column last (take w.used bytes) (take w.made text)) (sym is) x.writes.whole
 
 -- ---- a run, cell after cell
 
@@ -64,6 +55,14 @@ module _ (table : Table) (columns : List Column) (nulls : ℕ → Bool) (from : 
           subst (λ (k : ℕ). WritesColumn table.charset columns nulls k wrote (take m new)) x.further one,
         );
       }
+
+  -- one column more that is NULL by its bit
+  pub runs_null : (at behind : Ahead) (kind : Kind) (last : Bool) (used made m : ℕ) (bytes to new rest : List ℕ) → made ≤ length to → m ≤ length new → TakesColumn table columns at behind kind → last ≡ is_last (drop behind.column columns)
+      → nulls at.column ≡ true → take m new ≡ in_line at.column last null_field → RunsMarked table columns nulls from at (take used bytes) (take made to) → RunsMarked table columns nulls from behind (take used bytes) (take (made + m) (take made to ++ (new ++ rest)))
+  runs_null at behind kind last used made m bytes to new rest within some taken end null line x =
+      let cell = subst (λ (e : Bool). WritesNext table.charset e kind at.column last [] (take m new)) (sym null) (refl, line) in
+      subst (λ (n : ℕ). RunsMarked table columns nulls from behind (take n bytes) (take (made + m) (take made to ++ (new ++ rest)))) (add-zero used)
+      (runs_one at behind kind last used 0 made m bytes to new rest within some taken end cell x)
 
 -- text that doesn't fill the block waits
 pub all_waits : (h j : Held) (text : List ℕ) → Puts h j text → length h.waiting + length text < 4096 → length j.waiting ≡ length h.waiting + length text

@@ -4,6 +4,7 @@ use Rattle.std.proofs.lemmas.List.{length-take-le, take-append-le, take_all, tak
 use Rattle.std.proofs.Math.Seq.{take-append-add}
 use lib.Seq.{take-add}
 use Rattle.tds_packet.specs.declared.fault.Fault.{Fault}
+use Rattle.tds_packet.specs.declared.fault.Fault.TheVariants.{RefusedToken}
 use Rattle.tds_packet.specs.declared.fault.Stop.{Stop}
 use Rattle.std.specs.Prelude.{map}
 use Rattle.std.specs.List.{concat}
@@ -18,12 +19,12 @@ use Rattle.tds_columns.specs.Description.{Column}
 use Rattle.tds_columns.proofs.ViewLaws.{all_behind}
 use Rattle.tds_rows.specs.declared.Charset.{Charset}
 use Rattle.tds_rows.specs.Cells.{Cell, CellPart, CountedShape, FixedShape, LongShape, Shape, WholeCell, cell, cell_start, field, shape}
-use Rattle.tds_rows.specs.Rows.{Bitmap, InCell, RowPart, WholeRow, row_start, next_cell, row, row_so_far, with_cell, with_field}
+use Rattle.tds_rows.specs.Rows.{Bitmap, InCell, NbcRow, PlainRow, RowPart, RowToken, WholeRow, row_start, next_cell, row, row_so_far, token_byte, token_start, with_cell, with_field}
 use Rattle.tds_rows.specs.CellSteps.{HasInt4, int4_kind, IsLeft, IsScalarLeft, IsValueText, PutsCell, StopsCell, WritesKind, cell_so_far, is_last, length_behind, scalar_size, start_behind, whole_size}
 use Rattle.tds_rows.specs.WholeCells.{WritesCell, WritesWhole}
 use Rattle.tds_values.specs.Kind.{fixed_length, is_scalar}
 use Rattle.tds_rows.specs.ShortCells.{short_size}
-use Rattle.std.specs.Prelude.{Option, Some, None, Result, Ok, Err, MatchResult, true, false, if◌then◌else◌}
+use Rattle.std.specs.Prelude.{◌==◌, Option, Some, None, Result, Ok, Err, MatchResult, true, false, if◌then◌else◌}
 use Rattle.tds_rows.proofs.CellSteps.{fixed_some}
 use Rattle.tds_rows.specs.Runs.{RowsPart, RunsRows, Writes, WritesCells, WritesRows, behind_cells, lines, rows, rows_so_far, rows_start}
 use Rattle.tds_values.specs.declared.kind.Kind.{Kind}
@@ -36,18 +37,6 @@ use Rattle.tds_packet.proofs.Futures.{Takes-none}
 use Rattle.tds_csv.proofs.Sinks.{Puts-none}
 use Rattle.tds_csv.proofs.Streams.{streams_both, streams_inside}
 use Rattle.tds_rows.specs.RowSteps.{ReadsRows, RowStops, RowsStop}
-
--- ---- the place in a run
-
--- a step goes further than where the run began
-pub further_on : (used from at next : ℕ) → (used ≡ 0 → at ≡ from) → (0 < used → from < at) → next ≡ at + 1 → from < next
-further_on zero from at next first further is = omega (arith, first refl, is)
-further_on (suc n) from at next first further is = omega (arith, further (omega arith), is)
-
--- a run over one column ends after its first step
-pub none_used : (used from at end : ℕ) → (0 < used → from < at) → at < end → end ≡ from + 1 → used ≡ 0
-none_used zero from at end further within is = refl
-none_used (suc n) from at end further within is = absurd (omega (arith, further (omega arith), within, is))
 
 -- ---- over any grammar
 
@@ -139,16 +128,6 @@ made_more made m to new rest within some =
 pub used_more : (used u : ℕ) (bytes : List ℕ) → take (used + u) bytes ≡ take used bytes ++ take u (take (length bytes - used) (drop used bytes))
 used_more used u bytes = take-add used u bytes ∙ ap (λ l. take used bytes ++ take u l) (sym (all_behind bytes used))
 
--- a run within a row, in the bytes that are left and after what was made
-pub cells_step : (charset : Charset) (columns left left' : List Column) (column column' used u made m : ℕ) (bytes to new rest : List ℕ) (cells : List Cell) → made ≤ length to → m ≤ length new → WritesCells charset cells columns left column (take used bytes) (take made to)
-    → ((cells : List Cell) → length cells ≡ column → WritesCells charset cells left left' column' (take u (take (length bytes - used) (drop used bytes))) (take m new))
-    → WritesCells charset cells columns left' column' (take (used + u) bytes) (take (made + m) (take made to ++ (new ++ rest)))
-cells_step charset columns left left' column column' used u made m bytes to new rest cells within some x f =
-    let there = take u (take (length bytes - used) (drop used bytes)) in
-    subst (λ l. WritesCells charset cells columns left' column' l (take (made + m) (take made to ++ (new ++ rest)))) (sym (used_more used u bytes))
-    (subst (λ l. WritesCells charset cells columns left' column' (take used bytes ++ there) l) (sym (made_more made m to new rest within some))
-    (cells_more charset columns left left' column column' (take used bytes) there (take made to) (take m new) cells x f))
-
 -- what is written after what was made leaves it as it was
 pub made_same : (made : ℕ) (to rest : List ℕ) → made ≤ length to → take made (take made to ++ rest) ≡ take made to
 made_same made to rest within = take-append-le made (take made to) rest (omega (arith, within, length-take-le made to within)) ∙ take_all made (take made to) (omega (arith, within, length-take-le made to within))
@@ -194,29 +173,29 @@ fills_no_block h j piece stop few (sent, blocks, n, adds, most, least, less, who
 
 -- ---- over the ends of rows
 
-pub row_among_rows : (charset : Charset) (all : List Column) (before : List (List Cell)) → Inside (row charset) (rows charset all) (λ p. record { before = before; at = p })
-row_among_rows charset all before = record { size = size; fault = fault; add = add }
+pub row_among_rows : (token : RowToken) (charset : Charset) (all : List Column) (before : List (List Cell)) → Inside (row charset) (rows token charset all) (λ p. record { before = before; at = p })
+row_among_rows token charset all before = record { size = size; fault = fault; add = add }
   where
-    size : (p : RowPart) → 0 < (row charset).size p → (rows charset all).size (record { before = before; at = p }) ≡ (row charset).size p
+    size : (p : RowPart) → 0 < (row charset).size p → (rows token charset all).size (record { before = before; at = p }) ≡ (row charset).size p
     size (Bitmap columns) h = refl
     size (InCell cells part ks) h = refl
     size (WholeRow cells) h = absurd (omega arith)
 
-    fault : (p : RowPart) (e : List ℕ) → 0 < (row charset).size p → (rows charset all).fault (record { before = before; at = p }) e ≡ (row charset).fault p e
+    fault : (p : RowPart) (e : List ℕ) → 0 < (row charset).size p → (rows token charset all).fault (record { before = before; at = p }) e ≡ (row charset).fault p e
     fault (Bitmap columns) e h = refl
     fault (InCell cells part ks) e h = refl
     fault (WholeRow cells) e h = absurd (omega arith)
 
-    add : (p : RowPart) (e : List ℕ) → 0 < (row charset).size p → (rows charset all).add (record { before = before; at = p }) e ≡ record { before = before; at = (row charset).add p e }
+    add : (p : RowPart) (e : List ℕ) → 0 < (row charset).size p → (rows token charset all).add (record { before = before; at = p }) e ≡ record { before = before; at = (row charset).add p e }
     add (Bitmap columns) e h = refl
     add (InCell cells part ks) e h = refl
     add (WholeRow cells) e h = absurd (omega arith)
 
 -- what is written of a row is written of the rows
 row_among : (charset : Charset) (all : List Column) (before : List (List Cell)) (p q : RowPart) (bytes made : List ℕ) → Writes (row charset) row_so_far p bytes made q
-    → Writes (rows charset all) rows_so_far (record { before = before; at = p }) bytes made (record { before = before; at = q })
+    → Writes (rows PlainRow charset all) rows_so_far (record { before = before; at = p }) bytes made (record { before = before; at = q })
 row_among charset all before p q bytes made x = record {
-  spelt = Inside-Spelt (row charset) (rows charset all) (λ p. record { before = before; at = p }) (row_among_rows charset all before) p bytes q x.spelt;
+  spelt = Inside-Spelt (row charset) (rows PlainRow charset all) (λ p. record { before = before; at = p }) (row_among_rows PlainRow charset all before) p bytes q x.spelt;
   text_is = append_assoc (lines before) (row_so_far p) made ∙ ap (λ l. lines before ++ l) x.text_is;
 }
 
@@ -224,20 +203,27 @@ lines_snoc : (rs : List (List Cell)) (r : List Cell) → lines (rs ++ r ∷ []) 
 lines_snoc [] r = append-nil (line (map field r))
 lines_snoc (q ∷ qs) r = ap (λ l. line (map field q) ++ l) (lines_snoc qs r) ∙ sym (append_assoc (line (map field q)) (lines qs) (line (map field r)))
 
-start_text : (charset : Charset) (columns : List Column) → 0 < length columns → row_so_far (row_start charset columns) ≡ []
-start_text charset [] some = absurd (omega (arith, some))
-start_text charset (c ∷ cs) some = from_text charset [] c cs 1
+-- some columns are to come, so no line ends there
+start_text : (token : RowToken) (charset : Charset) (columns : List Column) → 0 < length columns → row_so_far (token_start token charset columns) ≡ []
+start_text PlainRow charset [] some = absurd (omega (arith, some))
+start_text PlainRow charset (c ∷ cs) some = from_text charset [] c cs 1
+start_text NbcRow charset columns some = refl
+
+-- the token byte of the next row is no other token's
+token_free : (token : RowToken) → (if token_byte token == token_byte token then None else Some (RefusedToken (token_byte token))) ≡ None
+token_free PlainRow = refl
+token_free NbcRow = refl
 
 -- the token byte of the next row
-row_token : (charset : Charset) (all : List Column) (before : List (List Cell)) (cells : List Cell) → 0 < length all
-    → Writes (rows charset all) rows_so_far (record { before = before; at = WholeRow cells }) (0xD1 ∷ []) [] (record { before = before ++ cells ∷ []; at = row_start charset all })
-row_token charset all before cells some = record {
-  spelt = Spelt-one (rows charset all) (record { before = before; at = WholeRow cells }) (0xD1 ∷ []) (record { some = omega arith; whole = refl; free = refl });
-  text_is = append-nil (lines before ++ line (map field cells)) ∙ sym (lines_snoc before cells) ∙ sym (append-nil (lines (before ++ cells ∷ []))) ∙ ap (λ l. lines (before ++ cells ∷ []) ++ l) (sym (start_text charset all some));
+pub row_token : (token : RowToken) (charset : Charset) (all : List Column) (before : List (List Cell)) (cells : List Cell) → 0 < length all
+    → Writes (rows token charset all) rows_so_far (record { before = before; at = WholeRow cells }) (token_byte token ∷ []) [] (record { before = before ++ cells ∷ []; at = token_start token charset all })
+row_token token charset all before cells some = record {
+  spelt = Spelt-one (rows token charset all) (record { before = before; at = WholeRow cells }) (token_byte token ∷ []) (record { some = omega arith; whole = refl; free = token_free token });
+  text_is = append-nil (lines before ++ line (map field cells)) ∙ sym (lines_snoc before cells) ∙ sym (append-nil (lines (before ++ cells ∷ []))) ∙ ap (λ l. lines (before ++ cells ∷ []) ++ l) (sym (start_text token charset all some));
 }
 
 pub rows_none : (charset : Charset) (all : List Column) (cells : List Cell) (columns : List Column) (column : ℕ) → length cells ≡ column → WritesRows charset all cells columns columns column 0 [] []
-rows_none charset all cells columns column h = record { before = []; more = cells; rows_counted = refl; counted = h; writes = writes_none (rows charset all) rows_so_far (record { before = []; at = behind_cells charset cells columns }) }
+rows_none charset all cells columns column h = record { before = []; more = cells; rows_counted = refl; counted = h; writes = writes_none (rows PlainRow charset all) rows_so_far (record { before = []; at = behind_cells charset cells columns }) }
 
 rows_more : (charset : Charset) (all : List Column) (cells : List Cell) (columns left left' : List Column) (column column' count : ℕ) (a b p q : List ℕ) → WritesRows charset all cells columns left column count a p
     → ((cells : List Cell) → length cells ≡ column → WritesCells charset cells left left' column' b q) → WritesRows charset all cells columns left' column' count (a ++ b) (p ++ q)
@@ -248,22 +234,22 @@ rows_more charset all cells columns left left' column column' count a b p q x f 
       more = x.more ++ y.more;
       rows_counted = x.rows_counted;
       counted = y.counted;
-      writes = writes_both (rows charset all) rows_so_far (record { before = []; at = behind_cells charset cells columns }) (record { before = x.before; at = behind_cells charset x.more left }) (record { before = x.before; at = behind_cells charset (x.more ++ y.more) left' }) a b p q x.writes
+      writes = writes_both (rows PlainRow charset all) rows_so_far (record { before = []; at = behind_cells charset cells columns }) (record { before = x.before; at = behind_cells charset x.more left }) (record { before = x.before; at = behind_cells charset (x.more ++ y.more) left' }) a b p q x.writes
           (row_among charset all x.before (behind_cells charset x.more left) (behind_cells charset (x.more ++ y.more) left') b q y.writes);
     }
 
 rows_next : (charset : Charset) (all : List Column) (cells : List Cell) (columns left : List Column) (column count : ℕ) (a p : List ℕ) → 0 < length all → left ≡ [] → WritesRows charset all cells columns left column count a p
     → WritesRows charset all cells columns all 0 (count + 1) (a ++ 0xD1 ∷ []) p
 rows_next charset all cells columns left column count a p some none x =
-    let y : Writes (rows charset all) rows_so_far (record { before = []; at = behind_cells charset cells columns }) a p (record { before = x.before; at = WholeRow x.more }) =
-    subst (λ l. Writes (rows charset all) rows_so_far (record { before = []; at = behind_cells charset cells columns }) a p (record { before = x.before; at = behind_cells charset x.more l })) none x.writes in
+    let y : Writes (rows PlainRow charset all) rows_so_far (record { before = []; at = behind_cells charset cells columns }) a p (record { before = x.before; at = WholeRow x.more }) =
+    subst (λ l. Writes (rows PlainRow charset all) rows_so_far (record { before = []; at = behind_cells charset cells columns }) a p (record { before = x.before; at = behind_cells charset x.more l })) none x.writes in
     record {
       before = x.before ++ x.more ∷ [];
       more = [];
       rows_counted = length-append x.before (x.more ∷ []) ∙ ap (λ n. n + 1) x.rows_counted;
       counted = refl;
-      writes = subst (λ l. Writes (rows charset all) rows_so_far (record { before = []; at = behind_cells charset cells columns }) (a ++ 0xD1 ∷ []) l (record { before = x.before ++ x.more ∷ []; at = row_start charset all })) (append-nil p)
-          (writes_both (rows charset all) rows_so_far (record { before = []; at = behind_cells charset cells columns }) (record { before = x.before; at = WholeRow x.more }) (record { before = x.before ++ x.more ∷ []; at = row_start charset all }) a (0xD1 ∷ []) p [] y (row_token charset all x.before x.more some));
+      writes = subst (λ l. Writes (rows PlainRow charset all) rows_so_far (record { before = []; at = behind_cells charset cells columns }) (a ++ 0xD1 ∷ []) l (record { before = x.before ++ x.more ∷ []; at = row_start charset all })) (append-nil p)
+          (writes_both (rows PlainRow charset all) rows_so_far (record { before = []; at = behind_cells charset cells columns }) (record { before = x.before; at = WholeRow x.more }) (record { before = x.before ++ x.more ∷ []; at = row_start charset all }) a (0xD1 ∷ []) p [] y (row_token PlainRow charset all x.before x.more some));
     }
 
 -- and over the ends of rows
@@ -291,7 +277,7 @@ rows_run charset all cells columns left column count a b place place' h j bytes 
   more = x.more;
   rows_counted = x.rows_counted;
   counted = x.counted;
-  streams = writes_streams (rows charset all) rows_so_far (record { before = []; at = behind_cells charset cells columns }) (record { before = x.before; at = behind_cells charset x.more left }) a b h j bytes made x.writes takes puts;
+  streams = writes_streams (rows PlainRow charset all) rows_so_far (record { before = []; at = behind_cells charset cells columns }) (record { before = x.before; at = behind_cells charset x.more left }) a b h j bytes made x.writes takes puts;
   place_is = at;
 }
 
@@ -306,10 +292,10 @@ module _ (charset : Charset) (all : List Column) (before : List (List Cell)) whe
   abbrev behind_rows : RowsPart → RowsPart
   behind_rows p = record { before = before ++ p.before; at = p.at }
 
-  rows_among_rows : Inside (rows charset all) (rows charset all) behind_rows
+  rows_among_rows : Inside (rows PlainRow charset all) (rows PlainRow charset all) behind_rows
   rows_among_rows = record { size = λ s h. refl; fault = λ s e h. refl; add = λ s e h. add s.before s.at e }
     where
-      add : (bs : List (List Cell)) (p : RowPart) (e : List ℕ) → (rows charset all).add (behind_rows (record { before = bs; at = p })) e ≡ behind_rows ((rows charset all).add (record { before = bs; at = p }) e)
+      add : (bs : List (List Cell)) (p : RowPart) (e : List ℕ) → (rows PlainRow charset all).add (behind_rows (record { before = bs; at = p })) e ≡ behind_rows ((rows PlainRow charset all).add (record { before = bs; at = p }) e)
       add bs (Bitmap columns) e = refl
       add bs (InCell cells part ks) e = refl
       add bs (WholeRow cells) e = ap (λ (l : List (List Cell)). record { before = l; at = row_start charset all }) (append_assoc before bs (cells ∷ []))
@@ -325,11 +311,11 @@ module _ (charset : Charset) (all : List Column) (a b d : Seen) (place middle pl
       let y : RunsRows charset all x.more left left' column' count' b d middle place' i j = f x.more x.counted in
       let from : RowsPart = record { before = []; at = behind_cells charset x.more left } in
       let to : RowsPart = record { before = y.before; at = behind_cells charset y.more left' } in
-      let there = streams_inside (rows charset all) (rows charset all) (behind_rows charset all x.before) (rows_among_rows charset all x.before) rows_so_far rows_so_far (lines x.before) (rows_behind_text charset all x.before) from b d i j to y.streams in
+      let there = streams_inside (rows PlainRow charset all) (rows PlainRow charset all) (behind_rows charset all x.before) (rows_among_rows charset all x.before) rows_so_far rows_so_far (lines x.before) (rows_behind_text charset all x.before) from b d i j to y.streams in
       let begins : behind_rows charset all x.before from ≡ record { before = x.before; at = behind_cells charset x.more left } = ap (λ (l : List (List Cell)). record { before = l; at = behind_cells charset x.more left }) (append-nil x.before) in
-      let next : Streams (rows charset all) rows_so_far (record { before = x.before; at = behind_cells charset x.more left }) b d i j (behind_rows charset all x.before to) = record {
+      let next : Streams (rows PlainRow charset all) rows_so_far (record { before = x.before; at = behind_cells charset x.more left }) b d i j (behind_rows charset all x.before to) = record {
         bytes = y.streams.bytes;
-        spelt = subst (λ s. Spelt (rows charset all) s y.streams.bytes (behind_rows charset all x.before to)) begins there.spelt;
+        spelt = subst (λ s. Spelt (rows PlainRow charset all) s y.streams.bytes (behind_rows charset all x.before to)) begins there.spelt;
         takes = y.streams.takes;
         puts = subst (λ s. PutsText rows_so_far s (behind_rows charset all x.before to) i j) begins there.puts;
       } in
@@ -338,7 +324,7 @@ module _ (charset : Charset) (all : List Column) (a b d : Seen) (place middle pl
         more = y.more;
         rows_counted = omega (arith, length-append x.before y.before, x.rows_counted, y.rows_counted);
         counted = y.counted;
-        streams = streams_both (rows charset all) rows_so_far (rows_start charset all) (record { before = x.before; at = behind_cells charset x.more left }) (behind_rows charset all x.before to) a b d h i j x.streams next;
+        streams = streams_both (rows PlainRow charset all) rows_so_far (rows_start PlainRow charset all) (record { before = x.before; at = behind_cells charset x.more left }) (behind_rows charset all x.before to) a b d h i j x.streams next;
         place_is = omega (arith, x.place_is, y.place_is, length-append x.streams.bytes y.streams.bytes);
       }
 
@@ -353,14 +339,14 @@ module _ (charset : Charset) (all : List Column) (a b d : Seen) (place middle pl
       let whole = x.more ++ z.value ∷ [] in
       let in_row = streams_inside (cell (length x.more)) (row charset) up (cell_in_row charset x.more (coming left n)) (cell_so_far (length x.more) (is_last left)) row_so_far (joined (map field x.more)) (row_text charset x.more left n) begin b d i j (WholeCell z.value) z.streams in
       let in_rows : RowPart → RowsPart = λ p. record { before = x.before; at = p } in
-      let there = streams_inside (row charset) (rows charset all) in_rows (row_among_rows charset all x.before) row_so_far rows_so_far (lines x.before) (λ p. refl) (up begin) b d i j (up (WholeCell z.value)) in_row in
+      let there = streams_inside (row charset) (rows PlainRow charset all) in_rows (row_among_rows PlainRow charset all x.before) row_so_far rows_so_far (lines x.before) (λ p. refl) (up begin) b d i j (up (WholeCell z.value)) in_row in
       let begins : up begin ≡ behind_cells charset x.more (c ∷ left) = begins_open charset x.more (coming left n) c.kind (shape charset c.kind) in
       let ends : up (WholeCell z.value) ≡ behind_cells charset whole left = ap (λ (k : ℕ). next_cell charset whole (coming left k)) (sym (length-append x.more (z.value ∷ []))) in
       let from = in_rows (behind_cells charset x.more (c ∷ left)) in
       let to = in_rows (behind_cells charset whole left) in
-      let one : Streams (rows charset all) rows_so_far from b d i j to = record {
+      let one : Streams (rows PlainRow charset all) rows_so_far from b d i j to = record {
         bytes = z.streams.bytes;
-        spelt = subst (λ s. Spelt (rows charset all) from z.streams.bytes (in_rows s)) ends (subst (λ s. Spelt (rows charset all) (in_rows s) z.streams.bytes (in_rows (up (WholeCell z.value)))) begins there.spelt);
+        spelt = subst (λ s. Spelt (rows PlainRow charset all) from z.streams.bytes (in_rows s)) ends (subst (λ s. Spelt (rows PlainRow charset all) (in_rows s) z.streams.bytes (in_rows (up (WholeCell z.value)))) begins there.spelt);
         takes = z.streams.takes;
         puts = subst (λ s. PutsText rows_so_far from (in_rows s) i j) ends (subst (λ s. PutsText rows_so_far (in_rows s) (in_rows (up (WholeCell z.value))) i j) begins there.puts);
       } in
@@ -369,13 +355,13 @@ module _ (charset : Charset) (all : List Column) (a b d : Seen) (place middle pl
         more = whole;
         rows_counted = x.rows_counted;
         counted = omega (arith, x.counted, further, length-append x.more (z.value ∷ []));
-        streams = streams_both (rows charset all) rows_so_far (rows_start charset all) from to a b d h i j x.streams one;
+        streams = streams_both (rows PlainRow charset all) rows_so_far (rows_start PlainRow charset all) from to a b d h i j x.streams one;
         place_is = omega (arith, x.place_is, z.place_is, length-append x.streams.bytes z.streams.bytes);
       }
 
   -- a cell that stops after what was read
   pub rows_stop : (c : Column) (left : List Column) (column count : ℕ) (failed : Bool) (stop : Stop) → RunsRows charset all [] all (c ∷ left) column count a b place middle h i → StopsCell charset c.kind column (is_last left) b d middle i j failed stop
-      → RowsStop charset all a d place h j failed stop
+      → RowsStop PlainRow charset all a d place h j failed stop
   rows_stop c left column count failed stop x y =
       let z : StopsCell charset c.kind (length x.more) (is_last left) b d middle i j failed stop = subst (λ (n : ℕ). StopsCell charset c.kind n (is_last left) b d middle i j failed stop) (sym x.counted) y in
       record {
@@ -394,13 +380,13 @@ rows_begin charset all left column a place h d same first = record {
   more = [];
   rows_counted = refl;
   counted = sym first;
-  streams = subst (λ (l : List Column). Streams (rows charset all) rows_so_far (rows_start charset all) a a h h (record { before = []; at = behind_cells charset [] l })) (sym same)
-      (record { bytes = []; spelt = Spelt-none (rows charset all) (rows_start charset all); takes = Takes-none a 0; puts = ([], append-nil (rows_so_far (rows_start charset all)), Puts-none h d) });
+  streams = subst (λ (l : List Column). Streams (rows PlainRow charset all) rows_so_far (rows_start PlainRow charset all) a a h h (record { before = []; at = behind_cells charset [] l })) (sym same)
+      (record { bytes = []; spelt = Spelt-none (rows PlainRow charset all) (rows_start PlainRow charset all); takes = Takes-none a 0; puts = ([], append-nil (rows_so_far (rows_start PlainRow charset all)), Puts-none h d) });
   place_is = subst (λ (l : List Column). place ≡ place + 0) same (omega arith);
 }
 
 -- after the last cell of the last row
-pub rows_end : (charset : Charset) (all left : List Column) (column count : ℕ) (a b : Seen) (place place' : ℕ) (h i : Held) → left ≡ [] → RunsRows charset all [] all left column count a b place place' h i → ReadsRows charset all (count + 1) a b place place' h i
+pub rows_end : (charset : Charset) (all left : List Column) (column count : ℕ) (a b : Seen) (place place' : ℕ) (h i : Held) → left ≡ [] → RunsRows charset all [] all left column count a b place place' h i → ReadsRows PlainRow charset all (count + 1) a b place place' h i
 rows_end charset all left column count a b place place' h i none x =
     let y = subst (λ (l : List Column). RunsRows charset all [] all l column count a b place place' h i) none x in
     record { earlier = y.before; last = y.more; counted = ap (λ n. n + 1) (sym y.rows_counted); streams = y.streams; place_is = y.place_is }

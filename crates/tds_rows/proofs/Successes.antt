@@ -14,7 +14,7 @@ use Rattle.tds_packet.specs.Elements.{Grammar, IsRefused, Longest, Spelt}
 use Rattle.tds_packet.specs.Reading.{CutsNext, RefusesNext, StopsReading}
 use Rattle.tds_packet.specs.Payloads.{seen}
 use Rattle.tds_packet.specs.Seen.{Ends, Seen}
-use Rattle.tds_packet.proofs.ElementLaws.{Inside-Spelt, Spelt-append, Spelt-one, longest_at, longest_cut, longest_refused, no_further, one_longest}
+use Rattle.tds_packet.proofs.ElementLaws.{Inside-Spelt, Spelt-append, longest_at, longest_cut, longest_refused, no_further, one_longest}
 use Rattle.tds_packet.proofs.Lifts.{stops_inside}
 use Rattle.tds_packet.proofs.Steps.{stops_after}
 use Rattle.tds_columns.specs.Description.{Column}
@@ -30,12 +30,12 @@ use Rattle.tds_rows.specs.declared.Charset.{Charset}
 use Rattle.tds_rows.specs.Cells.{Cell, CellPart, LongShape, SpellsCell, WholeCell, cell, long_start}
 use Rattle.tds_rows.specs.CellSteps.{FieldPut, cell_so_far}
 use Rattle.tds_rows.specs.RowSteps.{RowPut, RowsRead, RowsStop}
-use Rattle.tds_rows.specs.Rows.{RowPart, SpellsRow, WholeRow, row, row_byte, row_so_far, row_start}
+use Rattle.tds_rows.specs.Rows.{NbcRow, PlainRow, RowPart, RowToken, SpellsToken, WholeRow, row, row_so_far, token_byte, token_start}
 use Rattle.tds_rows.specs.Runs.{RowsPart, rows, rows_start}
 use Rattle.tds_rows.specs.Successes.{BeginNoRow, Brings, SpellsRows, SucceedsOn}
 use Rattle.tds_rows.proofs.CellLaws.{cell_is_read}
-use Rattle.tds_rows.proofs.RowLaws.{row_is_read}
-use Rattle.tds_rows.proofs.RunSteps.{row_among_rows}
+use Rattle.tds_rows.proofs.RowLaws.{nbc_row_is_read, row_is_read, some_bitmap}
+use Rattle.tds_rows.proofs.RunSteps.{row_among_rows, row_token}
 
 rose_from : (f : ℕ) (b : Bool) → nat_lt f (2 ^ 64 - 1) ≡ b → Rose f (one_more f)
 rose_from f true e = let low : f < 2 ^ 64 - 1 = grind (arith, nat_tests) in inl (omega (arith, low))
@@ -134,49 +134,60 @@ long_is_read column kind c Chunked value bytes h = cell_is_read column kind (Lon
 
 -- ---- rows, one after another
 
-module _ (charset : Charset) (columns : List Column) where
+-- what spells a row of some columns is read as it
+token_is_read : (token : RowToken) (charset : Charset) (columns : List Column) (cells : List Cell) (bytes : List ℕ) → 0 < length columns → SpellsToken token charset columns cells bytes → Spelt (row charset) (token_start token charset columns) bytes (WholeRow cells)
+token_is_read PlainRow charset columns cells bytes some h = row_is_read charset columns cells bytes h
+token_is_read NbcRow charset columns cells bytes some h = nbc_row_is_read charset columns cells bytes (some_bitmap columns some) h
+
+module _ (token : RowToken) (charset : Charset) (columns : List Column) (some_columns : 0 < length columns) where
+  abbrev all_rows : Grammar RowsPart Fault
+  all_rows = rows token charset columns
+
   abbrev among : List (List Cell) → RowPart → RowsPart
   among before part = record { before = before; at = part }
 
-  row_of_rows : (before : List (List Cell)) (cells : List Cell) (bytes : List ℕ) → SpellsRow charset columns cells bytes → Spelt (rows charset columns) (among before (row_start charset columns)) bytes (among before (WholeRow cells))
-  row_of_rows before cells bytes h = Inside-Spelt (row charset) (rows charset columns) (among before) (row_among_rows charset columns before) (row_start charset columns) bytes (WholeRow cells) (row_is_read charset columns cells bytes h)
+  abbrev begun_after : List (List Cell) → RowsPart
+  begun_after before = among before (token_start token charset columns)
+
+  row_of_rows : (before : List (List Cell)) (cells : List Cell) (bytes : List ℕ) → SpellsToken token charset columns cells bytes → Spelt all_rows (begun_after before) bytes (among before (WholeRow cells))
+  row_of_rows before cells bytes h = Inside-Spelt (row charset) all_rows (among before) (row_among_rows token charset columns before) (token_start token charset columns) bytes (WholeRow cells) (token_is_read token charset columns cells bytes some_columns h)
 
   -- rows that are spelt are read as rows
-  pub rows_are_read : (before : List (List Cell)) (first : List Cell) (later : List (List Cell)) (bytes : List ℕ) → SpellsRows charset columns first later bytes
-      → (earlier : List (List Cell)) × (last : List Cell) × Spelt (rows charset columns) (among before (row_start charset columns)) bytes (among earlier (WholeRow last))
+  pub rows_are_read : (before : List (List Cell)) (first : List Cell) (later : List (List Cell)) (bytes : List ℕ) → SpellsRows token charset columns first later bytes
+      → (earlier : List (List Cell)) × (last : List Cell) × Spelt all_rows (begun_after before) bytes (among earlier (WholeRow last))
   rows_are_read before first [] bytes h = (before, first, row_of_rows before first bytes h)
   rows_are_read before first (next ∷ later) bytes h =
-      let g = rows charset columns in
-      let from = among before (row_start charset columns) in
+      let byte = token_byte token in
+      let from = begun_after before in
       let whole = among before (WholeRow first) in
-      let there = among (before ++ first ∷ []) (row_start charset columns) in
+      let there = begun_after (before ++ first ∷ []) in
       let t = rows_are_read (before ++ first ∷ []) next later h.1 h.4 in
-      let one = Spelt-append g from h.0 whole (row_byte ∷ []) there (row_of_rows before first h.0 h.3) (Spelt-one g whole (row_byte ∷ []) (record { some = omega arith; whole = refl; free = refl })) in
-      let two = Spelt-append g from (h.0 ++ row_byte ∷ []) there h.1 (among t.0 (WholeRow t.1)) one t.2 in
-      (t.0, t.1, subst (λ v. Spelt g from v (among t.0 (WholeRow t.1))) (append_assoc h.0 (row_byte ∷ []) h.1 ∙ sym h.2) two)
+      let one = Spelt-append all_rows from h.0 whole (byte ∷ []) there (row_of_rows before first h.0 h.3) (row_token token charset columns before first some_columns).spelt in
+      let two = Spelt-append all_rows from (h.0 ++ byte ∷ []) there h.1 (among t.0 (WholeRow t.1)) one t.2 in
+      (t.0, t.1, subst (λ v. Spelt all_rows from v (among t.0 (WholeRow t.1))) (append_assoc h.0 (byte ∷ []) h.1 ∙ sym h.2) two)
 
   -- where no row follows, the last one is the end
-  pub longest_rows : (from : RowsPart) (earlier : List (List Cell)) (last : List Cell) (front more : List ℕ) → Spelt (rows charset columns) from front (among earlier (WholeRow last)) → BeginNoRow more
-      → Longest (rows charset columns) from (front ++ more) (length front) (among earlier (WholeRow last))
-  longest_rows from earlier last front [] spelt none = longest_cut (rows charset columns) from front [] (among earlier (WholeRow last)) spelt (omega arith)
-  longest_rows from earlier last front (byte ∷ more) spelt none = longest_refused (rows charset columns) from front (byte ∷ more) (among earlier (WholeRow last)) (RefusedToken byte) spelt
+  pub longest_rows : (from : RowsPart) (earlier : List (List Cell)) (last : List Cell) (front more : List ℕ) → Spelt all_rows from front (among earlier (WholeRow last)) → BeginNoRow token more
+      → Longest all_rows from (front ++ more) (length front) (among earlier (WholeRow last))
+  longest_rows from earlier last front [] spelt none = longest_cut all_rows from front [] (among earlier (WholeRow last)) spelt (omega arith)
+  longest_rows from earlier last front (byte ∷ more) spelt none = longest_refused all_rows from front (byte ∷ more) (among earlier (WholeRow last)) (RefusedToken byte) spelt
       (record { some = omega arith; whole = omega arith; first = ap (λ b. if b then None else Some (RefusedToken byte)) none })
 
-  end_same : (before : List (List Cell)) (at : RowPart) → 0 < (row charset).size at → (rows charset columns).end_fault (among before at) ≡ (row charset).end_fault at
+  end_same : (before : List (List Cell)) (at : RowPart) → 0 < (row charset).size at → all_rows.end_fault (among before at) ≡ (row charset).end_fault at
   end_same before (WholeRow cells) some = absurd (omega (arith, some))
   end_same before part some = refl
 
-  rows_stop_not : (a b : Seen) (place : ℕ) (h i : Held) (failed : Bool) (stop : Stop) (first : List Cell) (later : List (List Cell)) (front more : List ℕ) → Brings a (front ++ more) → SpellsRows charset columns first later front → BeginNoRow more
-      → (Rose a.failures b.failures → ⊥) → (Rose h.failures i.failures → ⊥) → RowsStop charset columns a b place h i failed stop → ⊥
+  rows_stop_not : (a b : Seen) (place : ℕ) (h i : Held) (failed : Bool) (stop : Stop) (first : List Cell) (later : List (List Cell)) (front more : List ℕ) → Brings a (front ++ more) → SpellsRows token charset columns first later front → BeginNoRow token more
+      → (Rose a.failures b.failures → ⊥) → (Rose h.failures i.failures → ⊥) → RowsStop token charset columns a b place h i failed stop → ⊥
   rows_stop_not a b place h i failed stop first later front more brings spelt none reads writes x = elim x.stops.cause [
     | inl y ↦
         (let t = rows_are_read [] first later front spelt in
-        let there = longest_rows (rows_start charset columns) t.0 t.1 front more t.2 none in
+        let there = longest_rows (rows_start token charset columns) t.0 t.1 front more t.2 none in
         let at = x.stops.at in
         let some : 0 < (row charset).size at = stops_size (row charset) x.part x.middle b (place + length x.streams.bytes) at stop y.0 in
-        let among_rows = stops_inside (row charset) (rows charset columns) (among x.earlier) (row_among_rows charset columns x.earlier) x.part x.middle b (place + length x.streams.bytes) at stop (end_same x.earlier at some) y.0 in
-        let all = stops_after (rows charset columns) (rows_start charset columns) (among x.earlier x.part) a x.middle b place (among x.earlier at) stop (record { bytes = x.streams.bytes; spelt = x.streams.spelt; takes = x.streams.takes }) among_rows in
-        let same : among x.earlier at ≡ among t.0 (WholeRow t.1) = stopped_there (rows charset columns) (rows_start charset columns) (among t.0 (WholeRow t.1)) a b front more brings there reads place (among x.earlier at) stop all in
+        let among_rows = stops_inside (row charset) all_rows (among x.earlier) (row_among_rows token charset columns x.earlier) x.part x.middle b (place + length x.streams.bytes) at stop (end_same x.earlier at some) y.0 in
+        let all = stops_after all_rows (rows_start token charset columns) (among x.earlier x.part) a x.middle b place (among x.earlier at) stop (record { bytes = x.streams.bytes; spelt = x.streams.spelt; takes = x.streams.takes }) among_rows in
+        let same : among x.earlier at ≡ among t.0 (WholeRow t.1) = stopped_there all_rows (rows_start token charset columns) (among t.0 (WholeRow t.1)) a b front more brings there reads place (among x.earlier at) stop all in
         let last : at ≡ WholeRow t.1 = ap (λ (p : RowsPart). p.at) same in
         omega (arith, some, ap (row charset).size last))
     | inr y ↦
@@ -186,6 +197,6 @@ module _ (charset : Charset) (columns : List Column) where
   ]
 
   pub rows_succeed : {R W : Type 0} (remaining : R → Option (List ℕ)) (contents : W → Option (List ℕ)) (old new : Payload R) (before after : Sink W) (result : Result ℕ Stop) (first : List Cell) (later : List (List Cell)) (bytes more : List ℕ)
-      → RowsRead remaining contents charset columns old new before after result → SpellsRows charset columns first later bytes → BeginNoRow more → SucceedsOn remaining old new before after result (bytes ++ more)
+      → RowsRead remaining contents token charset columns old new before after result → SpellsRows token charset columns first later bytes → BeginNoRow token more → SucceedsOn remaining old new before after result (bytes ++ more)
   rows_succeed remaining contents old new before after (Ok n) first later bytes more read spelt none = λ brings reads writes. refl
   rows_succeed remaining contents old new before after (Err stop) first later bytes more read spelt none = λ brings reads writes. absurd (rows_stop_not (seen remaining old) (seen remaining new) old.place (held contents before) (held contents after) after.failed stop first later bytes more brings spelt none reads writes read)

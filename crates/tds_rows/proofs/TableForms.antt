@@ -4,7 +4,6 @@ use Rattle.std.specs.Prelude.{◌⊎◌, ◌==◌, ◌&&◌, map}
 use Rattle.std.proofs.lemmas.Bool.{eq-eqb, ne_eqb}
 use Rattle.std.proofs.lemmas.List.{drop-map, drop-take, drop_more, get_or-drop, get_or-take, length-drop, length-take-le, take-append-le, take-map, take_all}
 use Rattle.std.proofs.Math.Seq.{take-add}
-use lib.Seq.{drop-drop}
 use Rattle.tds_values.specs.declared.kind.Kind.{Kind}
 use Rattle.tds_packet.proofs.Choices.{eq_false, eq_true}
 use Rattle.tds_columns.specs.Description.{Column}
@@ -18,9 +17,10 @@ use Rattle.tds_rows.specs.CellSteps.{IsLeft}
 use Rattle.tds_rows.specs.FormRuns.{AreNext, FirstLeft, FirstWritten, FormsWritten}
 use Rattle.tds_rows.specs.Forms.{AreLaidOut}
 use Rattle.tds_rows.specs.Layouts.{IsLaidOut}
-use Rattle.tds_rows.specs.Runs.{OneWritten, WritesCells}
+use Rattle.tds_rows.specs.MarkedRuns.{RunsMarked}
+use Rattle.tds_rows.specs.Runs.{OneWritten}
 use Rattle.tds_rows.specs.Tables.{AreAhead, IsAhead, Knows, NextColumn, kinds}
-use Rattle.tds_rows.proofs.TableRuns.{CellsBetween, one_next}
+use Rattle.tds_rows.proofs.TableRuns.{one_next}
 
 -- the first of the first
 take_front : {A : Type 0} (k n : ℕ) (l : List A) → k ≤ n → n ≤ length l → take k (take n l) ≡ take k l
@@ -77,6 +77,11 @@ pub none_written : (cells used : ℕ) → (0 < cells → 0 < used) → used ≡ 
 none_written zero used some none = refl
 none_written (suc n) used some none = absurd (omega (arith, some (omega arith), none))
 
+-- some were where some bytes were
+pub some_written : (cells used : ℕ) → (cells ≡ 0 → used ≡ 0) → 0 < used → 0 < cells
+some_written zero used none some = absurd (omega (arith, none refl, some))
+some_written (suc n) used none some = omega arith
+
 -- one was, of one at most
 pub one_written : (cells used : ℕ) → cells ≤ 1 → (cells ≡ 0 → used ≡ 0) → 0 < used → cells ≡ 1
 one_written zero used few none some = absurd (omega (arith, none refl, some))
@@ -104,16 +109,8 @@ module _ (table : Table) (from : Ahead) (end : ℕ) (forms : List Form) (within 
 
     -- what was written by them is between two places of the row
     pub forms_between : (columns : List Column) → Knows table columns → IsAhead table columns from → (to : Ahead) (bytes text : List ℕ) (run : FormsRun) → to.column ≡ from.column + run.cells → IsAhead table columns to → FormsWritten table.charset forms from.column ends bytes text run
-        → CellsBetween table columns from to (take run.used bytes) (take run.made text)
-    forms_between columns knows is to bytes text run further there x = (
-      there,
-      λ charset cells set counted.
-          let left : drop run.cells (drop from.column columns) ≡ drop to.column columns = drop-drop run.cells from.column columns ∙ ap (λ (n : ℕ). drop n columns) (omega (arith, further)) in
-          let y = x (drop from.column columns) (are_next columns knows is) cells counted in
-          let a = subst (λ (l : List Column). WritesCells table.charset cells (drop from.column columns) l (from.column + run.cells) (take run.used bytes) (take run.made text)) left y in
-          let b = subst (λ (n : ℕ). WritesCells table.charset cells (drop from.column columns) (drop to.column columns) n (take run.used bytes) (take run.made text)) (sym further) a in
-          subst (λ (s : Charset). WritesCells s cells (drop from.column columns) (drop to.column columns) to.column (take run.used bytes) (take run.made text)) set b,
-    )
+        → RunsMarked table columns (λ k. false) from to (take run.used bytes) (take run.made text)
+    forms_between columns knows is to bytes text run further there x = record { count = run.cells; ahead = there; further = further; writes = x columns (are_next columns knows is) }
 
     -- the first alone was written, of one
     pub alone_written : (bytes text : List ℕ) (run : FormsRun) → length forms ≡ 1 → FirstWritten table.charset forms from.column ends bytes text run → OneWritten table from bytes text run.used run.made

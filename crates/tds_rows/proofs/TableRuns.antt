@@ -1,9 +1,8 @@
 -- Runs of cells over the columns that a table knows: more cells after those that were written.
-use Rattle.std.proofs.Common.{◌≡◌, ◌∙◌, ℕ, ◌+◌, ◌-◌, ◌≤◌, Bool, List, ◌∷◌, ◌++◌, length, take, drop, get_or, sym, ap, subst, arith}
+use Rattle.std.proofs.Common.{◌≡◌, ◌∙◌, ℕ, ◌+◌, ◌-◌, ◌≤◌, Bool, List, ◌∷◌, ◌++◌, length, take, drop, get_or, sym, ap, subst}
 use Rattle.std.specs.Prelude.{◌==◌}
 use Rattle.tds_values.specs.declared.kind.Kind.{Kind}
 use Rattle.tds_columns.specs.Description.{Column}
-use Rattle.tds_columns.proofs.ViewLaws.{all_behind}
 use Rattle.tds_rows.specs.declared.Charset.{Charset}
 use Rattle.tds_rows.specs.declared.table.Ahead.{Ahead}
 use Rattle.tds_rows.specs.declared.table.Table.{Table}
@@ -13,7 +12,7 @@ use Rattle.tds_rows.specs.WholeCells.{WritesWhole}
 use Rattle.tds_rows.specs.Runs.{OneWritten, WritesCells, WritesOne, WritesRows}
 use Rattle.tds_rows.specs.Tables.{IsAhead, Knows, NextColumn, TakesColumn}
 use Rattle.tds_rows.proofs.TableSteps.{last_one}
-use Rattle.tds_rows.proofs.RunSteps.{cells_step, made_more, one_cell, rows_step}
+use Rattle.tds_rows.proofs.RunSteps.{one_cell, rows_step}
 
 -- Between two places of a row these bytes are its cells, and this is their text.
 abbrev pub CellsBetween : Table → List Column → Ahead → Ahead → List ℕ → List ℕ → Type 0
@@ -24,14 +23,6 @@ abbrev pub RowsBetween : Table → List Column → Ahead → Ahead → ℕ → L
 RowsBetween table columns old new count bytes text = IsAhead table columns new × ((charset : Charset) (cells : List Cell) → table.charset ≡ charset → length cells ≡ old.column → WritesRows charset columns cells (drop old.column columns) (drop new.column columns) new.column count bytes text)
 
 module _ (table : Table) (from old new : Ahead) (used u made m : ℕ) (bytes to text rest : List ℕ) (within : made ≤ length to) (some : m ≤ length text) where
-  -- more cells within a row
-  pub more_in_row : (columns : List Column) → CellsBetween table columns from old (take used bytes) (take made to) → CellsBetween table columns old new (take u (take (length bytes - used) (drop used bytes))) (take m text)
-      → CellsBetween table columns from new (take (used + u) bytes) (take (made + m) (take made to ++ (text ++ rest)))
-  more_in_row columns x y = (
-    y.0,
-    λ charset cells set is. cells_step charset (drop from.column columns) (drop old.column columns) (drop new.column columns) old.column new.column used u made m bytes to text rest cells within some (x.1 charset cells set is) (λ cs h. y.1 charset cs set h),
-  )
-
   -- more cells of the last row
   pub more_in_rows : (count : ℕ) (columns : List Column) → RowsBetween table columns from old count (take used bytes) (take made to) → CellsBetween table columns old new (take u (take (length bytes - used) (drop used bytes))) (take m text)
       → RowsBetween table columns from new count (take (used + u) bytes) (take (made + m) (take made to ++ (text ++ rest)))
@@ -72,16 +63,3 @@ module _ (table : Table) (from : Ahead) (kind : Kind) (last : Bool) (end : last 
       let last_is : last ≡ is_end = end ∙ last_one is.columns is.rest is.column from.column table.count is.knows.counted is.next ∙ sym is.last in
       let there = subst (λ (e : Bool). WritesOne table.charset kind from.column e bytes text used made) last_is (record { size = size; writes = writes }) in
       subst (λ (k : Kind). WritesOne table.charset k from.column is_end bytes text used made) kind_is there
-
-  -- so it was as the first step of a run
-  pub one_first : (first : Ahead) (used u made m : ℕ) (bytes to text rest : List ℕ) → from ≡ first → used ≡ 0 → made ≡ 0 → made ≤ length to → m ≤ length text → u ≡ whole_size kind (take (length bytes - used) (drop used bytes))
-      → WritesKind table.charset kind from.column last (take u (take (length bytes - used) (drop used bytes))) (take m text) → OneWritten table first bytes (take made to ++ (text ++ rest)) (used + u) (made + m)
-  one_first first used u made m bytes to text rest begun none nothing within some size writes =
-      let there : take (length bytes - used) (drop used bytes) ≡ bytes = all_behind bytes used ∙ ap (λ n. drop n bytes) none in
-      let whole : used + u ≡ u = omega (arith, none) in
-      let text_is : take (made + m) (take made to ++ (text ++ rest)) ≡ take m text = made_more made m to text rest within some ∙ ap (λ n. take n to ++ take m text) nothing in
-      subst (λ (a : Ahead). OneWritten table a bytes (take made to ++ (text ++ rest)) (used + u) (made + m)) begun
-      (one_next bytes (take made to ++ (text ++ rest)) (used + u) (made + m) (whole ∙ size ∙ ap (whole_size kind) there)
-      (subst (λ (n : ℕ). WritesKind table.charset kind from.column last (take n bytes) (take (made + m) (take made to ++ (text ++ rest)))) (sym whole)
-      (subst (λ l. WritesKind table.charset kind from.column last (take u bytes) l) (sym text_is)
-      (subst (λ l. WritesKind table.charset kind from.column last (take u l) (take m text)) there writes))))

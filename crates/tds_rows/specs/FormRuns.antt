@@ -1,13 +1,13 @@
 -- What a run over cells by their forms does, whose columns follow one another in a row.
-use Rattle.std.specs.Prelude.{◌≡◌, ◌==◌, ◌⊎◌, ◌+◌, ◌<◌, ◌≤◌, ◌&&◌, ◌∷◌, ℕ, Bool, List, length, map, take, drop}
+use Rattle.std.specs.Prelude.{◌≡◌, ◌==◌, ◌⊎◌, ◌<◌, ◌≤◌, ◌&&◌, ◌∷◌, ℕ, Bool, false, List, length, map, take, drop}
 use Rattle.tds_columns.specs.Description.{Column}
 use Rattle.tds_rows.specs.declared.Charset.{Charset}
 use Rattle.tds_rows.specs.declared.form.Form.{Form}
 use Rattle.tds_rows.specs.declared.run.fields.TheConstants.{CELL_ROOM}
 use Rattle.tds_rows.specs.declared.run.forms.FormsRun.{FormsRun}
-use Rattle.tds_rows.specs.Cells.{Cell}
 use Rattle.tds_rows.specs.CellSteps.{IsLeft}
-use Rattle.tds_rows.specs.Runs.{WritesCells, WritesOne}
+use Rattle.tds_rows.specs.MarkedRuns.{WritesMarked}
+use Rattle.tds_rows.specs.Runs.{WritesOne}
 use Rattle.tds_rows.specs.Tables.{kinds}
 
 -- The forms are those of the next columns, which are the row's last where the forms end it.
@@ -33,5 +33,5 @@ FirstWritten charset forms column ends bytes text run = (form : Form) (rest : Li
 
 -- A run wrote the text of the bytes that it used, which are the next cells.
 abbrev pub FormsWritten : Charset → List Form → ℕ → Bool → List ℕ → List ℕ → FormsRun → Type 0
-FormsWritten charset forms column ends bytes text run = (columns : List Column) → AreNext forms ends columns → (cells : List Cell) → length cells ≡ column →
-    WritesCells charset cells columns (drop run.cells columns) (column + run.cells) (take run.used bytes) (take run.made text)
+FormsWritten charset forms column ends bytes text run = (columns : List Column) → AreNext forms ends (drop column columns) →
+    WritesMarked charset columns (λ k. false) column run.cells (take run.used bytes) (take run.made text)

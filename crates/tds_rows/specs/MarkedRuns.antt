@@ -1,5 +1,5 @@
 -- What a run over the cells of an NBCROW does, which are NULL by their bit or lie whole in the packet.
-use Rattle.std.specs.Prelude.{◌≡◌, ◌⊎◌, ◌+◌, ◌-◌, ◌<◌, ℕ, zero, suc, Bool, true, false, List, [], ◌∷◌, ◌++◌, length, take, drop, Option, MatchOption}
+use Rattle.std.specs.Prelude.{◌≡◌, ◌⊎◌, ◌+◌, ◌-◌, ◌<◌, ◌≤◌, ℕ, zero, suc, Bool, true, false, List, [], ◌∷◌, ◌++◌, length, take, drop, Option}
 use Rattle.tds_values.specs.declared.kind.Kind.{Kind}
 use Rattle.tds_packet.specs.declared.payload.Payload.{Payload}
 use Rattle.tds_packet.specs.Payloads.{seen}
@@ -9,7 +9,6 @@ use Rattle.tds_csv.specs.Quoting.{in_line, null_field}
 use Rattle.tds_csv.specs.declared.sink.Sink.{Sink}
 use Rattle.tds_csv.specs.Sinks.{Held, Puts, held}
 use Rattle.tds_rows.specs.declared.Charset.{Charset}
-use Rattle.tds_rows.specs.declared.run.buffered.Written.{Written}
 use Rattle.tds_rows.specs.declared.run.CellRun.{CellRun}
 use Rattle.tds_rows.specs.declared.run.fields.TheConstants.{CELL_ROOM}
 use Rattle.tds_rows.specs.declared.table.Ahead.{Ahead}
@@ -24,11 +23,9 @@ abbrev pub WritesNext : Charset → Bool → Kind → ℕ → Bool → List ℕ 
 WritesNext charset true kind column last bytes text = (bytes ≡ []) × (text ≡ in_line column last null_field)
 WritesNext charset false kind column last bytes text = WritesWhole (cell_start kind (shape charset kind)) column last bytes text
 
--- The next cell was written, with these bytes at its front, this many of them; or it isn't NULL by its bit and is left, with this much room.
-abbrev pub NextWritten : Charset → Bool → Kind → ℕ → Bool → List ℕ → ℕ → List ℕ → Option Written → Type 0
-NextWritten charset null kind column last bytes room text result = MatchOption result
-    ((null ≡ false) × IsLeft charset kind bytes room)
-    (λ written. WritesNext charset null kind column last (take written.used bytes) (take written.made text))
+-- The columns from one up to another aren't NULL by their bit.
+abbrev pub AreClear : (ℕ → Bool) → ℕ → ℕ → Type 0
+AreClear nulls from end = (k : ℕ) → from ≤ k → k < end → nulls k ≡ false
 
 -- The bytes are the cell of the column after this many, none where it is NULL by its bit, and this is its text in its line.
 pub record WritesColumn (charset : Charset) (columns : List Column) (nulls : ℕ → Bool) (at : ℕ) (bytes text : List ℕ) : Type 0 where

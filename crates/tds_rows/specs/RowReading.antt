@@ -1,8 +1,10 @@
 -- The reading of rows as the contracts of its steps see it.
-use Rattle.std.specs.Prelude.{◌≡◌, ◌==◌, ◌+◌, ◌≤◌, ℕ, Bool, true, false, List, max, Option, Result}
+use Rattle.std.specs.Prelude.{◌≡◌, ◌==◌, ◌+◌, ◌≤◌, ℕ, Bool, true, false, List, [], ◌∷◌, max, Option, Result}
 use Rattle.tds_values.specs.declared.kind.Kind.{Kind}
 use Rattle.tds_packet.specs.declared.fault.Stop.{Stop}
-use Rattle.tds_packet.specs.Payloads.{IsGoing, IsOnSame, LeavesPayload}
+use Rattle.tds_packet.specs.declared.payload.Payload.{Payload}
+use Rattle.tds_packet.specs.Payloads.{IsGoing, IsOnSame, LeavesPayload, seen}
+use Rattle.tds_packet.specs.Seen.{Takes}
 use Rattle.tds_csv.specs.Quoting.{in_line, null_field}
 use Rattle.tds_csv.specs.Sinks.{IsOnSameSink, IsWriting, LeavesSink, PutsPiece}
 use Rattle.tds_rows.specs.declared.gather.TheConstants.{LONGEST_CELL}
@@ -10,7 +12,7 @@ use Rattle.tds_rows.specs.declared.reading.Rows.{Rows}
 use Rattle.tds_rows.specs.declared.table.Ahead.{Ahead}
 use Rattle.tds_rows.specs.Cells.{CellPart}
 use Rattle.tds_rows.specs.CellSteps.{CellPut, FieldPut}
-use Rattle.tds_rows.specs.Rows.{RowPart}
+use Rattle.tds_rows.specs.Rows.{RowPart, RowToken, token_byte}
 use Rattle.tds_rows.specs.RowSteps.{RowPut}
 use Rattle.tds_rows.specs.Tables.{IsNextKind}
 
@@ -64,3 +66,8 @@ NextRead remaining contents at kind false old new result = CellRead remaining co
 -- A row was read from this state on and its line put, or the call stopped.
 abbrev pub RowRead : {R W U : Type 0} → (R → Option (List ℕ)) → (W → Option (List ℕ)) → RowPart → Rows R W → Rows R W → Result U Stop → Type 0
 RowRead remaining contents start old new result = RowPut remaining contents old.table.now.charset start old.payload.now new.payload.now old.sink.now new.sink.now result
+
+-- The token byte of one more row was taken, or, where the answer is no, nothing was.
+abbrev pub TokenTaken : {R : Type 0} → (R → Option (List ℕ)) → RowToken → Payload R → Payload R → Bool → Type 0
+TokenTaken remaining token old new true = Takes (seen remaining old) (seen remaining new) (token_byte token ∷ []) 1 × (new.place ≡ old.place + 1)
+TokenTaken remaining token old new false = new ≡ old

@@ -10,7 +10,7 @@ use Rattle.tds_csv.specs.Sinks.{Held, held, stop_of}
 use Rattle.tds_csv.specs.Streaming.{StopsStreaming, Streams}
 use Rattle.tds_rows.specs.declared.Charset.{Charset}
 use Rattle.tds_rows.specs.Cells.{Cell}
-use Rattle.tds_rows.specs.Rows.{RowPart, WholeRow, row, row_so_far}
+use Rattle.tds_rows.specs.Rows.{RowPart, RowToken, WholeRow, row, row_so_far}
 use Rattle.tds_rows.specs.Runs.{rows, rows_so_far, rows_start}
 
 -- A row was read, and its line put.
@@ -30,27 +30,27 @@ RowPut remaining contents charset start old new before after result = MatchResul
     (λ stop. RowStops charset start (seen remaining old) (seen remaining new) old.place (held contents before) (held contents after) after.failed stop)
 
 -- Rows were read, this many, and their lines put.
-pub record ReadsRows (charset : Charset) (columns : List Column) (count : ℕ) (old new : Seen) (place place' : ℕ) (before after : Held) : Type 0 where
+pub record ReadsRows (token : RowToken) (charset : Charset) (columns : List Column) (count : ℕ) (old new : Seen) (place place' : ℕ) (before after : Held) : Type 0 where
   pub earlier : List (List Cell)
   pub last : List Cell
   pub counted : count ≡ length earlier + 1
-  pub streams : Streams (rows charset columns) rows_so_far (rows_start charset columns) old new before after (record { before = earlier; at = WholeRow last })
+  pub streams : Streams (rows token charset columns) rows_so_far (rows_start token charset columns) old new before after (record { before = earlier; at = WholeRow last })
   pub place_is : place' ≡ place + length streams.bytes
 
 -- Rows were read and their lines put, as far as a place in a row, and there the reading of that row stopped.
-pub record RowsStop (charset : Charset) (columns : List Column) (old new : Seen) (place : ℕ) (before after : Held) (failed : Bool) (stop : Stop) : Type 0 where
+pub record RowsStop (token : RowToken) (charset : Charset) (columns : List Column) (old new : Seen) (place : ℕ) (before after : Held) (failed : Bool) (stop : Stop) : Type 0 where
   pub earlier : List (List Cell)
   pub part : RowPart
   pub middle : Seen
   pub between : Held
-  pub streams : Streams (rows charset columns) rows_so_far (rows_start charset columns) old middle before between (record { before = earlier; at = part })
+  pub streams : Streams (rows token charset columns) rows_so_far (rows_start token charset columns) old middle before between (record { before = earlier; at = part })
   pub stops : RowStops charset part middle new (place + length streams.bytes) between after failed stop
 
 -- Rows were read and their lines put, or the call stopped in one of them.
-abbrev pub RowsRead : {R W : Type 0} → (R → Option (List ℕ)) → (W → Option (List ℕ)) → Charset → List Column → Payload R → Payload R → Sink W → Sink W → Result ℕ Stop → Type 0
-RowsRead remaining contents charset columns old new before after result = MatchResult result
-    (λ count. ReadsRows charset columns count (seen remaining old) (seen remaining new) old.place new.place (held contents before) (held contents after))
-    (λ stop. RowsStop charset columns (seen remaining old) (seen remaining new) old.place (held contents before) (held contents after) after.failed stop)
+abbrev pub RowsRead : {R W : Type 0} → (R → Option (List ℕ)) → (W → Option (List ℕ)) → RowToken → Charset → List Column → Payload R → Payload R → Sink W → Sink W → Result ℕ Stop → Type 0
+RowsRead remaining contents token charset columns old new before after result = MatchResult result
+    (λ count. ReadsRows token charset columns count (seen remaining old) (seen remaining new) old.place new.place (held contents before) (held contents after))
+    (λ stop. RowsStop token charset columns (seen remaining old) (seen remaining new) old.place (held contents before) (held contents after) after.failed stop)
 
 -- A payload or a sink that had stopped gives its stop again, the payload's first, and nothing changes.
 pub record StopsAgain {R W U : Type 0} (contents : W → Option (List ℕ)) (old new : Payload R) (before after : Sink W) (result : Result U Stop) : Type 0 where

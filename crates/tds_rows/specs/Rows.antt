@@ -12,6 +12,22 @@ use Rattle.tds_rows.specs.Cells.{Cell, Null, field, shape, SpellsCell, CellPart,
 abbrev pub row_byte : ℕ
 row_byte = 0xD1
 
+-- the first byte of an NBCROW (MS-TDS, NBCROW)
+abbrev pub nbc_row_byte : ℕ
+nbc_row_byte = 0xD2
+
+-- the tokens of rows
+pub data RowToken : Type 0 where
+  -- ROW
+  PlainRow : RowToken
+  -- NBCROW
+  NbcRow : RowToken
+
+-- the first byte of a row
+abbrev pub token_byte : RowToken → ℕ
+token_byte PlainRow = row_byte
+token_byte NbcRow = nbc_row_byte
+
 -- whether the bit k of a bitmap is set, the lowest of the first byte being bit 0
 abbrev pub bit : List ℕ → ℕ → Bool
 bit bitmap k = (slice_index bitmap (k / 8) / 2 ^ (k % 8)) % 2 == 1
@@ -45,6 +61,11 @@ pub record SpellsNbcRow (charset : Charset) (columns : List Column) (cells : Lis
   pub whole : length bitmap ≡ bitmap_length (length columns)
   pub each : SpellsMarked charset (marked columns (bit bitmap) 0) cells rest
 
+-- The bytes after the token byte of a row spell its cells.
+abbrev pub SpellsToken : RowToken → Charset → List Column → List Cell → List ℕ → Type 0
+SpellsToken PlainRow charset columns cells bytes = SpellsRow charset columns cells bytes
+SpellsToken NbcRow charset columns cells bytes = SpellsNbcRow charset columns cells bytes
+
 -- a row as far as it is read
 pub data RowPart : Type 0 where
   -- before the bitmap of an NBCROW
@@ -72,6 +93,11 @@ row_start charset columns = next_cell charset [] (marked columns (λ k. false) 0
 -- before the first element of an NBCROW: its bitmap
 abbrev pub nbc_row_start : List Column → RowPart
 nbc_row_start columns = Bitmap columns
+
+-- before the first element of a row
+abbrev pub token_start : RowToken → Charset → List Column → RowPart
+token_start PlainRow charset columns = row_start charset columns
+token_start NbcRow charset columns = nbc_row_start columns
 
 -- how many bytes the next element of a row has; 0 where nothing follows
 abbrev pub row_size : RowPart → ℕ

@@ -19,8 +19,8 @@ use Rattle.tds_rows.specs.declared.run.RowsRun.{RowsRun}
 use Rattle.tds_rows.specs.declared.table.Ahead.{Ahead}
 use Rattle.tds_rows.specs.declared.table.Table.{Table}
 use Rattle.tds_rows.specs.Cells.{Cell, field}
-use Rattle.tds_rows.specs.Rows.{RowPart, WholeRow, marked, next_cell, row, row_add, row_byte, row_fault, row_size, row_so_far, row_start}
-use Rattle.tds_rows.specs.MarkedRuns.{EndsLeft}
+use Rattle.tds_rows.specs.Rows.{PlainRow, RowPart, RowToken, WholeRow, marked, next_cell, row, row_add, row_fault, row_size, row_so_far, token_byte, token_start}
+use Rattle.tds_rows.specs.MarkedRuns.{EndsLeft, MarkedWritten}
 use Rattle.tds_rows.specs.CellSteps.{IsLeft, WritesKind, whole_size}
 use Rattle.tds_rows.specs.Tables.{IsAhead, IsNextKind, Knows}
 
@@ -46,28 +46,28 @@ pub record RowsPart : Type 0 where
   pub before : List (List Cell)
   pub at : RowPart
 
--- before the first element of a ROW and those that follow it
-abbrev pub rows_start : Charset → List Column → RowsPart
-rows_start charset columns = record { before = []; at = row_start charset columns }
+-- before the first element of a row and those that follow it
+abbrev pub rows_start : RowToken → Charset → List Column → RowsPart
+rows_start token charset columns = record { before = []; at = token_start token charset columns }
 
 -- how many bytes the next element of rows has: a token byte after a whole row
 abbrev pub rows_size : RowPart → ℕ
 rows_size (WholeRow cells) = 1
 rows_size part = row_size part
 
--- the first fault of an element of rows: a token byte that is no ROW's
-abbrev pub rows_fault : RowPart → List ℕ → Option Fault
-rows_fault (WholeRow cells) element = if slice_index element 0 == row_byte then None else Some (RefusedToken (slice_index element 0))
-rows_fault part element = row_fault part element
+-- the first fault of an element of rows: a token byte that is another token's
+abbrev pub rows_fault : RowToken → RowPart → List ℕ → Option Fault
+rows_fault token (WholeRow cells) element = if slice_index element 0 == token_byte token then None else Some (RefusedToken (slice_index element 0))
+rows_fault token part element = row_fault part element
 
 -- what stands after an element of rows
-abbrev pub rows_add : Charset → List Column → List (List Cell) → RowPart → List ℕ → RowsPart
-rows_add charset columns before (WholeRow cells) element = record { before = before ++ cells ∷ []; at = row_start charset columns }
-rows_add charset columns before part element = record { before = before; at = row_add charset part element }
+abbrev pub rows_add : RowToken → Charset → List Column → List (List Cell) → RowPart → List ℕ → RowsPart
+rows_add token charset columns before (WholeRow cells) element = record { before = before ++ cells ∷ []; at = token_start token charset columns }
+rows_add token charset columns before part element = record { before = before; at = row_add charset part element }
 
--- How rows are read, one after another.
-abbrev pub rows : Charset → List Column → Grammar RowsPart Fault
-rows charset columns = record { size = λ p. rows_size p.at; fault = λ p element. rows_fault p.at element; add = λ p element. rows_add charset columns p.before p.at element; end_fault = λ p. Some MessageEnded }
+-- How rows of one token are read, one after another.
+abbrev pub rows : RowToken → Charset → List Column → Grammar RowsPart Fault
+rows token charset columns = record { size = λ p. rows_size p.at; fault = λ p element. rows_fault token p.at element; add = λ p element. rows_add token charset columns p.before p.at element; end_fault = λ p. Some MessageEnded }
 
 -- the lines of whole rows
 abbrev pub lines : List (List Cell) → List ℕ
@@ -84,7 +84,7 @@ pub record WritesRows (charset : Charset) (all : List Column) (cells : List Cell
   pub more : List Cell
   pub rows_counted : length before ≡ count
   pub counted : length more ≡ column
-  pub writes : Writes (rows charset all) rows_so_far (record { before = []; at = behind_cells charset cells columns }) bytes made (record { before = before; at = behind_cells charset more left })
+  pub writes : Writes (rows PlainRow charset all) rows_so_far (record { before = []; at = behind_cells charset cells columns }) bytes made (record { before = before; at = behind_cells charset more left })
 
 -- More cells after these were read, over the ends of this many rows, and their text put.
 pub record RunsRows (charset : Charset) (all : List Column) (cells : List Cell) (columns left : List Column) (column count : ℕ) (old new : Seen) (place place' : ℕ) (earlier after : Held) : Type 0 where
@@ -92,7 +92,7 @@ pub record RunsRows (charset : Charset) (all : List Column) (cells : List Cell) 
   pub more : List Cell
   pub rows_counted : length before ≡ count
   pub counted : length more ≡ column
-  pub streams : Streams (rows charset all) rows_so_far (record { before = []; at = behind_cells charset cells columns }) old new earlier after (record { before = before; at = behind_cells charset more left })
+  pub streams : Streams (rows PlainRow charset all) rows_so_far (record { before = []; at = behind_cells charset cells columns }) old new earlier after (record { before = before; at = behind_cells charset more left })
   pub place_is : place' ≡ place + length streams.bytes
 
 -- ---- what a run gives, whatever the columns that its table knows, and whatever the cells before it
@@ -115,11 +115,9 @@ abbrev pub AloneWritten : Table → Ahead → Kind → Bool → List ℕ → ℕ
 AloneWritten table at kind last bytes room text result = MatchOption result (IsLeft table.charset kind bytes room)
     (λ written. WritesOne table.charset kind at.column last bytes text written.used written.made)
 
--- A run wrote the text of the bytes that it used, within a row, and ended at a place of it; single-byte text was read in the table's set.
+-- A run wrote the text of the cells between two places of a row, whose bytes it used; none of them is NULL by a bit.
 abbrev pub CellsWritten : Table → Ahead → List ℕ → List ℕ → CellRun → Type 0
-CellsWritten table from bytes text run = (columns : List Column) → Knows table columns → IsAhead table columns from →
-    IsAhead table columns run.ahead × ((charset : Charset) (cells : List Cell) → table.charset ≡ charset → length cells ≡ from.column →
-    WritesCells charset cells (drop from.column columns) (drop run.ahead.column columns) run.ahead.column (take run.used bytes) (take run.made text))
+CellsWritten table from bytes text run = MarkedWritten table (λ k. false) from bytes text run
 
 -- A run wrote the text of the bytes that it used, over the ends of rows, and ended at a place of a row; single-byte text was read in the table's set.
 abbrev pub RowsWritten : Table → Ahead → List ℕ → List ℕ → RowsRun → Type 0

@@ -8,7 +8,7 @@ use Rattle.tds_columns.specs.Description.{Column}
 use Rattle.tds_csv.specs.declared.sink.Sink.{Sink}
 use Rattle.tds_rows.specs.declared.Charset.{Charset}
 use Rattle.tds_rows.specs.Cells.{Cell}
-use Rattle.tds_rows.specs.Rows.{SpellsRow, row_byte}
+use Rattle.tds_rows.specs.Rows.{RowToken, SpellsToken, token_byte}
 
 -- The reader tells what it has left, and with it these bytes are to come.
 pub record Brings (seen : Seen) (bytes : List ℕ) : Type 0 where
@@ -22,12 +22,12 @@ SucceedsOn remaining old new before after result bytes = Brings (seen remaining 
     ¬ Rose old.from.now.failures new.from.now.failures → ¬ Rose before.to.now.failures after.to.now.failures → is_ok result ≡ true
 
 -- The bytes spell these rows, one at least, each further one after its token byte.
-abbrev pub SpellsRows : Charset → List Column → List Cell → List (List Cell) → List ℕ → Type 0
-SpellsRows charset columns first [] bytes = SpellsRow charset columns first bytes
-SpellsRows charset columns first (next ∷ later) bytes = (front : List ℕ) × (rest : List ℕ) × (bytes ≡ front ++ row_byte ∷ rest)
-    × SpellsRow charset columns first front × SpellsRows charset columns next later rest
+abbrev pub SpellsRows : RowToken → Charset → List Column → List Cell → List (List Cell) → List ℕ → Type 0
+SpellsRows token charset columns first [] bytes = SpellsToken token charset columns first bytes
+SpellsRows token charset columns first (next ∷ later) bytes = (front : List ℕ) × (rest : List ℕ) × (bytes ≡ front ++ token_byte token ∷ rest)
+    × SpellsToken token charset columns first front × SpellsRows token charset columns next later rest
 
--- The bytes don't begin with a ROW's token byte.
-abbrev pub BeginNoRow : List ℕ → Type 0
-BeginNoRow [] = Unit {0}
-BeginNoRow (byte ∷ bytes) = (byte == row_byte) ≡ false
+-- The bytes don't begin with a token byte of such a row.
+abbrev pub BeginNoRow : RowToken → List ℕ → Type 0
+BeginNoRow token [] = Unit {0}
+BeginNoRow token (byte ∷ bytes) = (byte == token_byte token) ≡ false

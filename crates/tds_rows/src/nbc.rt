@@ -1,15 +1,15 @@
-// A row with a bitmap of the columns that are NULL (MS-TDS, NBCROW).
-ghost use Rattle.std.specs.Prelude.{◌≡◌, ℕ, ◌+◌, ◌*◌, ◌<◌, ◌≤◌, ◌++◌, List, [], None, false, length, max};
+// A row with a bitmap of the columns that are NULL, and such rows after one another (MS-TDS, NBCROW).
+ghost use Rattle.std.specs.Prelude.{◌≡◌, ℕ, ◌+◌, ◌*◌, ◌<◌, ◌≤◌, ◌++◌, List, [], None, false, length, max, IfOk};
 ghost use Rattle.tds_columns.specs.Description.{Column};
 ghost use Rattle.tds_columns.specs.View.{columns_of};
-ghost use Rattle.tds_csv.specs.Sinks.{IsReady, LeavesSink};
-ghost use Rattle.tds_packet.specs.Payloads.{IsSound, LeavesPayload};
-ghost use Rattle.tds_rows.specs.RowReading.{IsInRow, LeavesRows, NextRead, RowRead};
-ghost use Rattle.tds_rows.specs.RowSteps.{RowPut, StopsAgain};
+ghost use Rattle.tds_csv.specs.Sinks.{IsReady, IsWriting, LeavesSink};
+ghost use Rattle.tds_packet.specs.Payloads.{IsGoing, IsSound, LeavesPayload};
+ghost use Rattle.tds_rows.specs.RowReading.{IsInRow, LeavesRows, NextRead, RowRead, StaysInRow, TokenTaken};
+ghost use Rattle.tds_rows.specs.RowSteps.{RowPut, RowsRead, StopsAgain};
 ghost use Rattle.tds_rows.specs.Cells.{Cell};
 ghost use Rattle.tds_rows.specs.Layouts.{IsLaidOut};
-ghost use Rattle.tds_rows.specs.Rows.{SpellsNbcRow, bit, bitmap_length, nbc_row_start};
-ghost use Rattle.tds_rows.specs.Successes.{SucceedsOn};
+ghost use Rattle.tds_rows.specs.Rows.{NbcRow, SpellsNbcRow, bit, bitmap_length, nbc_row_start};
+ghost use Rattle.tds_rows.specs.Successes.{BeginNoRow, SpellsRows, SucceedsOn};
 ghost use Rattle.tds_rows.specs.Tables.{Knows, KnowsSome};
 
 use crate::Charset;
@@ -24,6 +24,9 @@ use tds_columns::{Columns, take_into};
 use tds_csv::Sink;
 use tds_meter::Area;
 use tds_packet::{Payload, Stop};
+
+/// The token byte of an NBCROW (MS-TDS, NBCROW).
+pub const NBCROW: u8 = 0xD2;
 
 /// The most bytes that a bitmap has.
 const LONGEST_BITMAP: usize = 8192;
@@ -75,6 +78,47 @@ impl<'r, 't, 'p, 's, 'c, R: Read, W: Write> Rows<'r, 't, 'p, 's, 'c, R, W> {
             let null = is_null(bitmap.bytes(), at.column);
             self.put_next(at, &form, null)?;
             ahead = after;
+        }
+    }
+
+    // Takes the token byte of one more NBCROW, and answers yes, if it is next in the packet. It reads nothing.
+    fn take_token(&mut self) -> bool
+        requires { IsInRow self.old }
+        ensures stays { StaysInRow self.old self.new }
+        ensures sink { self.new.sink.now ≡ self.old.sink.now }
+        ensures gives { TokenTaken R.remaining NbcRow self.old.payload.now self.new.payload.now result }
+    {
+        let bytes = self.payload.buffered();
+        if bytes.is_empty() || bytes[0] != NBCROW {
+            return false;
+        }
+        self.payload.consume(1);
+        true
+    }
+
+    // Reads an NBCROW and those that follow it in its packet, each with its bitmap alone in the area, and puts
+    // their lines. Answers how many they are.
+    fn nbc_rows(&mut self, bitmap: &mut Area) -> Result<u64, Stop>
+        requires in_row { IsInRow self.old }
+        requires some { 0 < self.old.table.now.count }
+        requires knows { KnowsSome self.old.table.now }
+        requires room { LONGEST_BITMAP ≤ bitmap.old.room }
+        ensures leaves { LeavesRows self.old self.new result }
+        ensures room { bitmap.new.room ≡ bitmap.old.room }
+        ensures peak { bitmap.new.peak ≤ bitmap.new.room }
+        ensures few { IfOk result (λ count. self.old.payload.now.place + count ≤ self.new.payload.now.place + 1) }
+        ensures gives { (columns : List Column) → Knows self.old.table.now columns →
+            RowsRead R.remaining W.contents NbcRow self.old.table.now.charset columns
+            self.old.payload.now self.new.payload.now self.old.sink.now self.new.sink.now result }
+    {
+        let mut ended: u64 = 0;
+        loop {
+            bitmap.clear();
+            self.nbc_row(bitmap)?;
+            ended += 1;
+            if !self.take_token() {
+                return Ok(ended);
+            }
         }
     }
 }
@@ -130,4 +174,44 @@ pub fn nbc_row<R: Read, W: Write>(
         table: &table,
     };
     rows.nbc_row(bitmap)
+}
+
+/// Reads an NBCROW after its token byte, and the NBCROWs after it as far as their token bytes are in the packet
+/// that the one before them ends in, and puts their lines. Answers how many they are. The lines of the
+/// whole rows count at a stop, and the text so far of the row that it stops in. Each bitmap is read into the
+/// area, which is emptied before it. Faults, places and the areas' rooms are those of [`nbc_row`] (MS-TDS,
+/// NBCROW).
+pub fn read_nbc_rows<R: Read, W: Write>(
+    payload: &mut Payload<R>,
+    columns: Columns<'_>,
+    charset: Charset,
+    bitmap: &mut Area,
+    small: &mut Area,
+    sink: &mut Sink<W>,
+) -> Result<u64, Stop>
+    requires going { IsGoing payload.old }
+    requires writing { IsWriting sink.old }
+    requires room { LONGEST_BITMAP ≤ bitmap.old.room }
+    requires small_room { LONGEST_CELL ≤ small.old.room }
+    ensures payload { LeavesPayload payload.old payload.new result }
+    ensures sink { LeavesSink sink.old sink.new result }
+    ensures room { bitmap.new.room ≡ bitmap.old.room }
+    ensures peak { bitmap.new.peak ≤ bitmap.new.room }
+    ensures small_room { small.new.room ≡ small.old.room }
+    ensures small_bound { small.new.peak ≤ max small.old.peak LONGEST_CELL }
+    ensures few { IfOk result (λ count. payload.old.place + count ≤ payload.new.place + 1) }
+    ensures gives { RowsRead R.remaining W.contents NbcRow charset (columns_of columns.entry.bytes.now)
+        payload.old payload.new sink.old sink.new result }
+    ensures succeeds { (first : List Cell) (later : List (List Cell)) (bytes more : List ℕ) →
+        SpellsRows NbcRow charset (columns_of columns.entry.bytes.now) first later bytes → BeginNoRow NbcRow more →
+        SucceedsOn R.remaining payload.old payload.new sink.old sink.new result (bytes ++ more) }
+{
+    let table = Table::of(columns, charset);
+    let mut rows = Rows {
+        payload,
+        sink,
+        small,
+        table: &table,
+    };
+    rows.nbc_rows(bitmap)
 }

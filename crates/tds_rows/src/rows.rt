@@ -7,7 +7,7 @@ ghost use Rattle.tds_packet.specs.Payloads.{IsGoing, IsSound, LeavesPayload};
 ghost use Rattle.tds_rows.specs.Cells.{Cell};
 ghost use Rattle.tds_rows.specs.RowReading.{IsInRow, LeavesRows, RowRead};
 ghost use Rattle.tds_rows.specs.RowSteps.{RowPut, RowsRead, StopsAgain};
-ghost use Rattle.tds_rows.specs.Rows.{SpellsRow, row_start};
+ghost use Rattle.tds_rows.specs.Rows.{PlainRow, SpellsRow, row_start};
 ghost use Rattle.tds_rows.specs.Successes.{BeginNoRow, SpellsRows, SucceedsOn};
 ghost use Rattle.tds_rows.specs.Tables.{Knows, KnowsSome};
 
@@ -45,8 +45,8 @@ impl<'r, 't, 'p, 's, 'c, R: Read, W: Write> Rows<'r, 't, 'p, 's, 'c, R, W> {
         ensures leaves { LeavesRows self.old self.new result }
         ensures few { IfOk result (λ count. self.old.payload.now.place + count ≤ self.new.payload.now.place + 1) }
         ensures gives { (columns : List Column) → Knows self.old.table.now columns →
-            RowsRead R.remaining W.contents self.old.table.now.charset columns self.old.payload.now self.new.payload.now
-            self.old.sink.now self.new.sink.now result }
+            RowsRead R.remaining W.contents PlainRow self.old.table.now.charset columns
+            self.old.payload.now self.new.payload.now self.old.sink.now self.new.sink.now result }
     {
         let mut ahead = self.table.start();
         let mut ended: u64 = 0;
@@ -128,10 +128,10 @@ pub fn read_rows<R: Read, W: Write>(
     ensures room { small.new.room ≡ small.old.room }
     ensures bound { small.new.peak ≤ max small.old.peak LONGEST_CELL }
     ensures few { IfOk result (λ count. payload.old.place + count ≤ payload.new.place + 1) }
-    ensures gives { RowsRead R.remaining W.contents charset (columns_of columns.entry.bytes.now)
+    ensures gives { RowsRead R.remaining W.contents PlainRow charset (columns_of columns.entry.bytes.now)
         payload.old payload.new sink.old sink.new result }
     ensures succeeds { (first : List Cell) (later : List (List Cell)) (bytes more : List ℕ) →
-        SpellsRows charset (columns_of columns.entry.bytes.now) first later bytes → BeginNoRow more →
+        SpellsRows PlainRow charset (columns_of columns.entry.bytes.now) first later bytes → BeginNoRow PlainRow more →
         SucceedsOn R.remaining payload.old payload.new sink.old sink.new result (bytes ++ more) }
 {
     let table = Table::of(columns, charset);

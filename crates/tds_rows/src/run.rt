@@ -52,6 +52,8 @@ pub(crate) fn run_cells<'a>(
     requires { end ≤ table.now.count }
     ensures used { result.used ≤ length bytes.now }
     ensures made { result.made ≤ length to.old }
+    ensures further { 0 < result.used → from.entry.column < result.ahead.column }
+    ensures within { from.entry.column ≤ end → result.ahead.column ≤ end }
     ensures ends { result.used ≡ 0 → from.entry.column < end →
         RunEnds table.now from.entry bytes.now (length to.old) }
     ensures one { 0 < result.used → end ≡ from.entry.column + 1 →

@@ -1,10 +1,17 @@
 // Rows with a bitmap of the columns that are NULL, and where reading them stops.
-use super::{Good, INT4, INT4_N, NINE, NINE_TEXT, Outcome, Token, described, usual_writer};
+use super::{
+    Good, INT4, INT4_N, NINE, NINE_TEXT, Outcome, Token, describe, described, in_packets,
+    payload_of, usual_writer,
+};
 use crate::checks::expect_at;
-use std::alloc::Global;
+use std::alloc::{AllocError, Global};
 use std::test::Fail;
-use tds_packet::rig::{Failing, ScriptedWriter};
-use tds_packet::{Fault, Place, Stop};
+use tds_columns::Columns;
+use tds_csv::Sink;
+use tds_meter::{Area, SMALL_ROOM};
+use tds_packet::rig::{Failing, ScriptedReader, ScriptedWriter};
+use tds_packet::{Counted, Fault, Payload, Place, Stop};
+use tds_rows::{Charset, NBCROW, read_nbc_rows};
 
 const TWO: &[&[u8]] = &[INT4, INT4_N];
 
@@ -152,5 +159,43 @@ fn a_write_of_nulls_fails(rt: HostRuntime) -> Result<(), Fail> {
             came == (Err(stop), Some(4000)),
         );
     }
+    Ok(())
+}
+
+// Three rows, with the token bytes of the second and the third: two end in a packet, and the third is in the next.
+const THREE_ROWS: &[u8] = &[
+    0x02, 0x2A, 0x00, 0x00, 0x00, 0xD2, 0x00, 0x07, 0x00, 0x00, 0x00, 0x04, 0x08, 0x00, 0x00, 0x00,
+    0xD2, 0x03,
+];
+
+const THREE_TEXT: &[u8] = b"42,NULL\r\n7,8\r\nNULL,NULL\r\n";
+
+#[test]
+fn nbc_rows_are_read_to_the_end_of_a_packet(rt: HostRuntime) -> Result<(), Fail> {
+    let bytes = payload_of(rt.alloc(), TWO, THREE_ROWS)?;
+    let wire = in_packets(rt.alloc(), &bytes, bytes.len().saturating_sub(2))?;
+    let mut from = Counted::new(ScriptedReader::new(&wire, 5));
+    let mut to = Counted::new(usual_writer());
+    let mut packet = Area::new(rt.alloc(), 4096)?;
+    let mut output = Area::new(rt.alloc(), 4096)?;
+    let mut area = Area::new(rt.alloc(), 4096)?;
+    let mut bits = Area::new(rt.alloc(), 8192)?;
+    let mut small = Area::new(rt.alloc(), SMALL_ROOM)?;
+    let mut payload = Payload::new(&mut from, &mut packet, 1_000_000);
+    let mut sink = Sink::new(&mut to, &mut output);
+    if !describe(&mut payload, &mut area) {
+        return Err(Fail::from(AllocError));
+    }
+    let columns = Columns::view(area.bytes());
+    let set = Charset::Windows1252;
+    let rows = read_nbc_rows(&mut payload, columns, set, &mut bits, &mut small, &mut sink)?;
+    assert!(rt; rows == 2);
+    let mut token = [0u8; 1];
+    payload.fill(&mut token)?;
+    assert!(rt; token[0] == NBCROW);
+    let rows = read_nbc_rows(&mut payload, columns, set, &mut bits, &mut small, &mut sink)?;
+    assert!(rt; rows == 1);
+    let _ = sink.finish();
+    assert!(rt; to.device().kept() == THREE_TEXT);
     Ok(())
 }

@@ -1,16 +1,14 @@
 // A run over the cells of an NBCROW: as many as are NULL by their bit or whole in the packet, and have room.
-ghost use Rattle.std.specs.Prelude.{◌≡◌, ◌+◌, ◌-◌, ◌*◌, ◌<◌, ◌≤◌, Bool, drop, length, IfSome};
+ghost use Rattle.std.specs.Prelude.{◌≡◌, ◌+◌, ◌-◌, ◌*◌, ◌<◌, ◌≤◌, true, drop, length};
 ghost use Rattle.tds_packet.specs.Payloads.{buffered};
-ghost use Rattle.tds_rows.specs.MarkedRuns.{EndsLeft, MarkedPut, MarkedWritten, NextWritten, room_left};
+ghost use Rattle.tds_rows.specs.MarkedRuns.{AreClear, EndsLeft, MarkedPut, MarkedWritten, room_left};
 ghost use Rattle.tds_rows.specs.RowReading.{IsInRow, StaysInRow};
 ghost use Rattle.tds_rows.specs.Rows.{bit};
-ghost use Rattle.tds_rows.specs.Tables.{IsNextKind};
-ghost use Rattle.tds_values.specs.declared.kind.Kind.{Kind};
 
 use crate::reading::Rows;
-use crate::run::buffered::Written;
-use crate::run::fields::CELL_ROOM;
-use crate::run::{CellRun, write_alone};
+use crate::run::buffered::{INT4_SIZE, has_int4};
+use crate::run::fields::{CELL_ROOM, write_int4_field};
+use crate::run::{CellRun, run_cells};
 use crate::table::{Ahead, Table};
 use std::io::{Read, Write};
 use tds_csv::write_null;
@@ -23,27 +21,27 @@ pub(crate) fn is_null(bitmap: &[u8], column: u16) -> bool
     (bitmap[column as usize / 8] >> (column % 8) as u32) & 1 == 1
 }
 
-// Writes the next cell of an NBCROW: NULL, if that is its bit, or the cell at the front of these bytes; none
-// where that one isn't whole, is refused or in chunks, or where there isn't the room that the text of a short
-// value may need.
+// The end of the columns from one on whose bits are clear; those before `known` are known to be so.
 #[inline(always)]
-fn write_next(table: &Table, at: Ahead, null: bool, bytes: &[u8], to: &mut [u8]) -> Option<Written>
-    requires within { at.column < table.now.count }
-    requires room { CELL_ROOM ≤ length to.old }
-    ensures used { IfSome result (λ written. written.used ≤ length bytes.now) }
-    ensures most { IfSome result (λ written. written.made ≤ length to.old) }
-    ensures gives { (kind : Kind) (last : Bool) → IsNextKind table.now at.entry kind last →
-        NextWritten table.now.charset null kind at.entry.column last bytes.now (length to.old) to.new result }
+fn clear_end(bitmap: &[u8], from: u16, known: u16, count: u16) -> u16
+    requires bitmap { count ≤ 8 * length bitmap.now }
+    requires within { from ≤ count }
+    requires most { known ≤ count }
+    requires clear { AreClear (bit bitmap.now) from known }
+    ensures least { from ≤ result }
+    ensures most { result ≤ count }
+    ensures clear { AreClear (bit bitmap.now) from result }
+    ensures set { result < count → bit bitmap.now result ≡ true }
 {
-    if null {
-        let made = write_null(at.column, table.is_last(at), to);
-        return Some(Written { used: 0, made });
+    let mut at = from.max(known);
+    while at < count && !is_null(bitmap, at) {
+        at += 1;
     }
-    write_alone(table, at, bytes, to)
+    at
 }
 
 // Writes cell after cell of an NBCROW, as far as they are NULL by their bit or whole in these bytes, aren't in
-// chunks, and have room.
+// chunks, and have room. NULLs and whole numbers of four bytes are written here.
 #[inline(never)]
 pub(crate) fn run_nulls<'a>(
     table: &Table<'a>,
@@ -62,15 +60,32 @@ pub(crate) fn run_nulls<'a>(
     let mut used = 0;
     let mut made = 0;
     let mut ahead = from;
+    let mut end = 0;
     while to.len() - made >= CELL_ROOM && ahead.column < table.count() {
-        let null = is_null(bitmap, ahead.column);
+        end = clear_end(bitmap, ahead.column, end, table.count());
+        if end == ahead.column {
+            made += write_null(end, table.is_last(ahead), &mut to[made..]);
+            ahead = table.after(ahead);
+            continue;
+        }
         let rest = &bytes[used..];
-        let Some(written) = write_next(table, ahead, null, rest, &mut to[made..]) else {
+        if let Some(start) = table.int4_start(ahead)
+            && has_int4(start, rest)
+        {
+            let last = table.is_last(ahead);
+            let value = &rest[start..start + INT4_SIZE];
+            made += write_int4_field(ahead.column, last, value, &mut to[made..]);
+            used += start + INT4_SIZE;
+            ahead.column += 1;
+            continue;
+        }
+        let cells = run_cells(table, ahead, end, rest, &mut to[made..]);
+        if cells.used == 0 {
             break;
-        };
-        used += written.used;
-        made += written.made;
-        ahead = table.after(ahead);
+        }
+        used += cells.used;
+        made += cells.made;
+        ahead = cells.ahead;
     }
     CellRun { used, made, ahead }
 }

@@ -1,5 +1,5 @@
 use Rattle.std.proofs.Common.{arith, rules}
-use Rattle.tds_rows.proofs.TableForms.{alone_written, first_left, forms_between, none_written, one_written}
+use Rattle.tds_rows.proofs.TableForms.{alone_written, first_left, forms_between, none_written, one_written, some_written}
 use Rattle.tds_rows.proofs.run.run_cells.Goals as goal
 
 pub returns-clause-ends : goal.returns-clause-ends
@@ -18,3 +18,11 @@ pub returns-clause-gives : goal.returns-clause-gives
 returns-clause-gives c = λ columns knows is.
     let run = c.run_forms-run in
     forms_between c.args.table.now c.args.from c.args.end c.forms-forms.result.now c.requires c.forms-forms.ensures _ (search (arith, rules)) columns knows is c.past.result c.args.bytes.now run.new.to run.result c.past.ensures.further (c.past.ensures.gives columns knows is) run.ensures.gives
+
+pub returns-clause-further : goal.returns-clause-further
+returns-clause-further c = λ some.
+    let run = c.run_forms-run in
+    omega (arith, c.past.ensures.further, some_written run.result.cells run.result.used run.ensures.within.none some)
+
+pub returns-clause-within : goal.returns-clause-within
+returns-clause-within c = λ _. omega (arith, c.past.ensures.further, c.run_forms-run.ensures.within.cells, c.forms-forms.ensures.within)

@@ -4,6 +4,7 @@ use Rattle.tds_columns.proofs.ViewLaws.{all_behind}
 use Rattle.tds_rows.specs.Runs.{RunEnds, WritesRows}
 use Rattle.tds_rows.specs.Tables.{one_on}
 use Rattle.tds_rows.proofs.RunSteps.{made_same, rows_none, rows_onward, writes_int4}
+use Rattle.tds_rows.proofs.Stretches.{runs_cells}
 use Rattle.tds_rows.proofs.TableRuns.{more_in_rows, one_between}
 use Rattle.tds_rows.proofs.TableSteps.{at_end, not_end}
 use Rattle.tds_rows.proofs.run.run_rows.Goals.{else-loop-to-test, then-loop-to-test+in_default+then-is_end+then-used-bytes, then-loop-to-test+in_default+else-is_end+then-cells-eq0}
@@ -76,7 +77,7 @@ loop-to-preserved c =
       few = omega (arith, l.invariant.few);
       writes = λ columns knows ahead.
           let x = l.invariant.writes columns knows ahead in
-          more_in_rows c.args.table.now c.args.from l.ahead ran.ahead l.used ran.used l.made ran.made c.args.bytes.now l.to text _ l.invariant.made within l.rows columns x (cells.ensures.gives columns knows x.0);
+          more_in_rows c.args.table.now c.args.from l.ahead ran.ahead l.used ran.used l.made ran.made c.args.bytes.now l.to text _ l.invariant.made within l.rows columns x (runs_cells c.args.table.now columns l.ahead ran.ahead _ _ (cells.ensures.gives columns knows x.0));
     }
 
 -- what was made before the last step stands

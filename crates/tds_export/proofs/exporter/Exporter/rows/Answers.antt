@@ -5,6 +5,7 @@ use Rattle.tds_export.proofs.NoticeSteps.{quietly}
 use Rattle.tds_packet.proofs.Passing.{passed}
 use Rattle.tds_csv.specs.Sinks.{held}
 use Rattle.tds_rows.specs.RowSteps.{ReadsRows, RowsStop}
+use Rattle.tds_rows.specs.Rows.{PlainRow}
 use Rattle.tds_export.proofs.RowRuns.{columns_known, rows_read, rows_stop}
 use Rattle.tds_export.proofs.exporter.Exporter.rows.Goals as goal
 
@@ -19,8 +20,8 @@ returns-in_err-count-clause-gives g c = λ tokens tracks holds noted.
     let failed = c.read_rows.new.sink.failed in
     let stop = c.in_err-count.field-0.0 in
     let is = ap columns_of (c.view-columns.ensures ∙ c.bytes.ensures.value) in
-    passed _ _ _ _ c.from_residual.ensures.1 (rows_stop run.charset run.description.now.room columns run.description.now h k tokens a b run.payload.now.place (columns_known tokens run.progress.described run.description.now.bytes c.requires.described holds.bytes tracks.described) holds failed stop
-    (subst (λ cs. RowsStop run.charset cs a b run.payload.now.place h k failed stop) is c.in_err-count.ensures.gives))
+    passed _ _ _ _ c.from_residual.ensures.1 (rows_stop PlainRow run.charset run.description.now.room columns run.description.now h k tokens a b run.payload.now.place (columns_known tokens run.progress.described run.description.now.bytes c.requires.described holds.bytes tracks.described) holds failed stop
+    (subst (λ cs. RowsStop PlainRow run.charset cs a b run.payload.now.place h k failed stop) is c.in_err-count.ensures.gives))
 
 pub returns-clause-gives : goal.returns-clause-gives
 returns-clause-gives g c = λ tokens tracks holds noted.
@@ -35,5 +36,5 @@ returns-clause-gives g c = λ tokens tracks holds noted.
     let count = c.in_ok-count.count in
     let is = ap columns_of (c.view-columns.ensures ∙ c.bytes.ensures.value) in
     quietly _ _ _ _ _ _ _ _ _ _ _ _ run.notice.now tracks noted refl
-    (rows_read run.charset run.description.now.room columns run.description.now h k tokens a b place (columns_known tokens run.progress.described run.description.now.bytes c.requires.described holds.bytes tracks.described) holds run.progress place' count tracks
-    (subst (λ cs. ReadsRows run.charset cs count a b place place' h k) is c.in_ok-count.ensures.gives))
+    (rows_read PlainRow run.charset run.description.now.room columns run.description.now h k tokens a b place (columns_known tokens run.progress.described run.description.now.bytes c.requires.described holds.bytes tracks.described) holds run.progress place' count tracks
+    (subst (λ cs. ReadsRows PlainRow run.charset cs count a b place place' h k) is c.in_ok-count.ensures.gives))

@@ -6,6 +6,7 @@ use Rattle.tds_columns.specs.Description.{Column}
 use Rattle.tds_csv.specs.Sinks.{held}
 use Rattle.tds_rows.specs.CellSteps.{PutsCell, StopsCell, is_last}
 use Rattle.tds_rows.specs.RowSteps.{ReadsRows, RowsStop}
+use Rattle.tds_rows.specs.Rows.{PlainRow}
 use Rattle.tds_rows.specs.Runs.{RunsRows}
 use Rattle.tds_rows.specs.Tables.{IsAhead, IsNextKind, Knows, KnowsSome}
 use Rattle.tds_rows.proofs.RunSteps.{cell_some, rows_begin, rows_cell, rows_end, rows_further, rows_stop}
@@ -49,7 +50,7 @@ returns-in_default-clause-gives g c = λ columns known.
     let there = subst (λ t. Knows t.now columns) (sym kept.same.3) knows in
     let ahead = subst (λ t. IsAhead t.now columns run.ahead) (sym kept.same.3) ran.0 in
     let whole = rows_end charset columns (drop run.ahead.column columns) run.ahead.column (l.ended + run.rows) a d place middle h j (c.in_default.ensures.gives columns there ahead) x in
-    subst (λ t. ReadsRows t.now.charset columns (l.ended + run.rows + 1) a d place middle h j) l.invariant.stays.same.3 whole
+    subst (λ t. ReadsRows PlainRow t.now.charset columns (l.ended + run.rows + 1) a d place middle h j) l.invariant.stays.same.3 whole
 
 pub returns-in_err-put_cell-clause-gives : goal.returns-in_err-put_cell-clause-gives
 returns-in_err-put_cell-clause-gives g c = λ columns known.
@@ -82,7 +83,7 @@ returns-in_err-put_cell-clause-gives g c = λ columns known.
     let z = subst (λ t. StopsCell t.now.charset c.in-Some.form.kind run.ahead.column (is_last left) d e middle j k failed stop) kept.same.3 (c.in_err-put_cell.ensures.gives (is_last left) next) in
     let w = subst (λ (m : Kind). StopsCell charset m run.ahead.column (is_last left) d e middle j k failed stop) taken.kind z in
     let stops = rows_stop charset columns a d e place middle c.put_cell.new.self.payload.now.place h j k taken.column left run.ahead.column (l.ended + run.rows) failed stop y w in
-    passed _ _ _ _ c.from_residual.ensures.1 (subst (λ t. RowsStop t.now.charset columns a e place h k failed stop) l.invariant.stays.same.3 stops)
+    passed _ _ _ _ c.from_residual.ensures.1 (subst (λ t. RowsStop PlainRow t.now.charset columns a e place h k failed stop) l.invariant.stays.same.3 stops)
 
 pub loop-form-preserved : goal.loop-form-preserved
 loop-form-preserved g c =

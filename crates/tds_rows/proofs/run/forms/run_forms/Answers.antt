@@ -1,9 +1,9 @@
-use Rattle.std.proofs.Common.{inr, ℕ, ◌≡◌, ◌∙◌, ◌+◌, ◌-◌, ◌≤◌, List, rules, arith, sym, ap, subst, get_or, length, take, drop, length-take, length-drop}
+use Rattle.std.proofs.Common.{inr, false, ℕ, ◌≡◌, ◌∙◌, ◌+◌, ◌-◌, ◌≤◌, List, rules, arith, sym, ap, subst, get_or, length, take, drop, length-take, length-drop}
 use Rattle.std.specs.Prelude.{◌==◌, ◌&&◌}
 use Rattle.tds_columns.proofs.ViewLaws.{all_behind}
 use Rattle.tds_rows.specs.declared.form.Form.{Form}
 use Rattle.tds_rows.specs.CellSteps.{IsLeft, WritesKind, whole_size}
-use Rattle.tds_rows.specs.Runs.{WritesCells}
+use Rattle.tds_rows.specs.MarkedRuns.{WritesMarked}
 use Rattle.tds_rows.proofs.FormSteps.{forms_first, forms_more}
 use Rattle.tds_rows.proofs.RunSteps.{made_same, whole_some}
 use Rattle.tds_rows.proofs.run.forms.run_forms.Goals as goal
@@ -59,6 +59,6 @@ returns-in_default-write_cell-clause-one c = λ alone form others are.
     }
 
 pub returns-in_default-write_cell-clause-gives : goal.returns-in_default-write_cell-clause-gives
-returns-in_default-write_cell-clause-gives c = λ columns next cells is.
+returns-in_default-write_cell-clause-gives c = λ columns next.
     let l = c.loop-cells in
-    subst (λ t. WritesCells c.args.charset cells columns (drop l.cells columns) (c.args.column + l.cells) (take l.used c.args.bytes.now) t) (sym (made_same l.made l.to _ l.invariant.made)) (l.invariant.writes columns next cells is)
+    subst (λ t. WritesMarked c.args.charset columns (λ k. false) c.args.column l.cells (take l.used c.args.bytes.now) t) (sym (made_same l.made l.to _ l.invariant.made)) (l.invariant.writes columns next)

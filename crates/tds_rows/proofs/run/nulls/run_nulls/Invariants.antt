@@ -1,6 +1,6 @@
 use Rattle.std.proofs.Common.{◌-◌, ◌≤◌, List, length, take}
 use Rattle.tds_columns.specs.Description.{Column}
-use Rattle.tds_rows.specs.MarkedRuns.{RunsMarked}
+use Rattle.tds_rows.specs.MarkedRuns.{AreClear, RunsMarked}
 use Rattle.tds_rows.specs.Rows.{bit}
 use Rattle.tds_rows.specs.Tables.{IsAhead, Knows}
 use Rattle.tds_rows.proofs.run.nulls.run_nulls.Given as goal
@@ -9,6 +9,8 @@ abbrev pub invariant-loop-to : goal.invariant-loop-to
 invariant-loop-to l = record {
   used : l.used ≤ length l.fn.bytes;
   made : l.made ≤ length l.to;
+  most : l.end ≤ l.fn.table.count;
+  clear : AreClear (bit l.fn.bitmap) l.ahead.column l.end;
   writes : (columns : List Column) → Knows l.fn.table columns → IsAhead l.fn.table columns l.fn.from → RunsMarked l.fn.table columns (bit l.fn.bitmap) l.fn.from l.ahead (take l.used l.fn.bytes) (take l.made l.to);
 }
 
