@@ -7,6 +7,7 @@ mod lines;
 mod words;
 
 use crate::checks::expect;
+use csv::{ByteRecord, ReaderBuilder};
 use std::alloc::{AllocError, Global};
 use std::process::Abort;
 use std::test::Fail;
@@ -61,6 +62,31 @@ fn writer(failing: Failing) -> Counted<ScriptedWriter> {
 
 fn reader(bytes: &[u8]) -> Counted<ScriptedReader<'_>> {
     Counted::new(ScriptedReader::new(bytes, 4096))
+}
+
+// Another program's reader of CSV finds the name and the number in the text.
+#[test]
+fn the_text_reads_back(rt: HostRuntime) -> Result<(), Fail> {
+    let (mut to, mut notes) = (writer(Failing::Never), writer(Failing::Never));
+    run(&rt, EXPORT, &mut reader(&WIRE), &mut to, &mut notes);
+    let mut text = ReaderBuilder::new()
+        .has_headers(false)
+        .from_reader(rt.alloc(), to.device().kept());
+    let mut row = ByteRecord::new(rt.alloc());
+    for (what, field) in [
+        ("the name", b"a".as_slice()),
+        ("the number", b"42".as_slice()),
+    ] {
+        expect(
+            &rt,
+            what,
+            text.read_byte_record(&mut row).ok() == Some(true),
+        );
+        expect(&rt, what, row.len() == 1);
+        expect(&rt, what, row.get(0) == Some(field));
+    }
+    assert!(rt; text.read_byte_record(&mut row).ok() == Some(false));
+    Ok(())
 }
 
 #[test]
