@@ -15,7 +15,7 @@ use Rattle.tds_rows.specs.declared.Charset.{Charset}
 use Rattle.tds_rows.specs.declared.run.buffered.Written.{Written}
 use Rattle.tds_rows.specs.declared.form.Form.{Form}
 use Rattle.tds_rows.specs.declared.form.Layout.{Layout}
-use Rattle.tds_rows.specs.declared.form.Layout.TheVariants.{Fixed, Counted, Short, Chunked}
+use Rattle.tds_rows.specs.declared.form.Layout.TheVariants.{Int4, CountedInt4, Fixed, Counted, Short, Chunked}
 use Rattle.tds_rows.specs.Cells.{CountedShape, LongShape, cell_start, shape, shape_of_length}
 use Rattle.tds_rows.specs.CellSteps.{CellWritten, IsLeft, length_behind, scalar_size, start_behind, value_length, value_start, whole_size}
 use Rattle.tds_rows.specs.Forms.{AreLaidOut}
@@ -39,6 +39,10 @@ laid_set charset forms k f all within is j d here = go (j == k) refl
 -- ---- a value that is there
 
 scalar_value : (l : Layout) (o : Option ℕ) (start n : ℕ) (bytes : List ℕ) → shape_of_length o ≡ shape_of_layout l → HasValueAt l bytes start n → (start ≡ start_behind o) × (n ≡ length_behind o bytes)
+scalar_value Int4 (Some m) start n bytes e h = let same : 4 ≡ m = cc in (h.0, h.1 ∙ same)
+scalar_value Int4 None start n bytes e h = cc
+scalar_value CountedInt4 (Some m) start n bytes e h = cc
+scalar_value CountedInt4 None start n bytes e h = h
 scalar_value (Fixed k) (Some m) start n bytes e h = let same : k ≡ m = cc in (h.0, h.1 ∙ same)
 scalar_value (Fixed k) None start n bytes e h = cc
 scalar_value Counted (Some m) start n bytes e h = cc
@@ -47,6 +51,8 @@ scalar_value (Short content) o start n bytes e h = absurd h
 scalar_value (Chunked content) o start n bytes e h = absurd h
 
 long_value : (l : Layout) (c : Conversion) (r : Reach) (start n : ℕ) (bytes : List ℕ) → LongShape c r ≡ shape_of_layout l → HasValueAt l bytes start n → ⊥
+long_value Int4 c r start n bytes e h = cc
+long_value CountedInt4 c r start n bytes e h = cc
 long_value (Fixed k) c r start n bytes e h = cc
 long_value Counted c r start n bytes e h = cc
 long_value (Short content) c r start n bytes e h = h
@@ -66,8 +72,8 @@ module _ (charset : Charset) (kind : Kind) where
   value_there l bytes start n laid h = go (shape_cases charset kind)
     where
       go : ShapeCases charset kind → (is_scalar kind ≡ true) × ((start ≡ value_start kind) × (n ≡ value_length kind bytes))
-      go (inl x) = (x.0, scalar_value l (fixed_length kind) start n bytes (sym x.1 ∙ laid) h)
-      go (inr x) = absurd (long_value l x.1 x.2 start n bytes (sym x.3 ∙ laid) h)
+      go (inl x) = (x.0, scalar_value l (fixed_length kind) start n bytes (sym x.1 ∙ laid.shape_is) h)
+      go (inr x) = absurd (long_value l x.1 x.2 start n bytes (sym x.3 ∙ laid.shape_is) h)
 
   -- a kind whose values have lengths is a scalar one
   pub is_scalar_kind : (o : Option ℕ) → shape charset kind ≡ shape_of_length o → is_scalar kind ≡ true
@@ -87,32 +93,34 @@ module _ (charset : Charset) (kind : Kind) where
 
   -- ---- a cell that is left, and a short value
 
-  pub counted_left : (bytes : List ℕ) (room : ℕ) → IsLaidOut charset kind Counted → bytes ≡ [] → IsLeft charset kind bytes room
+  pub counted_left : (bytes : List ℕ) (room : ℕ) → shape charset kind ≡ CountedShape → bytes ≡ [] → IsLeft charset kind bytes room
   counted_left bytes room laid none = go (shape_cases charset kind)
     where
       go : ShapeCases charset kind → IsLeft charset kind bytes room
       go (inl x) = inl (x.0, inl (not_counted (fixed_length kind) bytes (sym x.1 ∙ laid) none))
       go (inr x) = absurd (let never : CountedShape ≡ LongShape x.1 x.2 = sym laid ∙ x.3 in cc)
 
-  pub chunked_left : (content : Content) (bytes : List ℕ) (room : ℕ) → IsLaidOut charset kind (Chunked content) → IsLeft charset kind bytes room
+  pub chunked_left : (content : Content) (bytes : List ℕ) (room : ℕ) → shape charset kind ≡ LongShape (conversion_of content) reach.Chunked → IsLeft charset kind bytes room
   chunked_left content bytes room laid =
       inr (is_long_kind (conversion_of content) reach.Chunked laid, subst (λ s. IsShortLeft (short_conversion s) bytes room) (sym laid) tt)
 
   -- none is there, and no short value is
   pub none_there : (l : Layout) (bytes : List ℕ) (room : ℕ) → IsLaidOut charset kind l → HasNoValue l bytes → ((content : Content) → l ≡ Short content → ⊥) → IsLeft charset kind bytes room
+  none_there Int4 bytes room laid none other = absurd none
+  none_there CountedInt4 bytes room laid none other = counted_left bytes room laid.shape_is none
   none_there (Fixed k) bytes room laid none other = absurd none
-  none_there Counted bytes room laid none other = counted_left bytes room laid none
+  none_there Counted bytes room laid none other = counted_left bytes room laid.shape_is none
   none_there (Short content) bytes room laid none other = absurd (other content refl)
-  none_there (Chunked content) bytes room laid none other = chunked_left content bytes room laid
+  none_there (Chunked content) bytes room laid none other = chunked_left content bytes room laid.shape_is
 
   -- how many bytes its cell has
   pub short_whole : (content : Content) (bytes : List ℕ) → IsLaidOut charset kind (Short content) → short_size bytes ≡ whole_size kind bytes
-  short_whole content bytes laid = sym (ap (λ b. if b then scalar_size kind bytes else short_size bytes) (is_long_kind (conversion_of content) reach.Short laid))
+  short_whole content bytes laid = sym (ap (λ b. if b then scalar_size kind bytes else short_size bytes) (is_long_kind (conversion_of content) reach.Short laid.shape_is))
 
   pub short_there : (content : Content) (column : ℕ) (last : Bool) (bytes text : List ℕ) (room : ℕ) (r : Option Written) → IsLaidOut charset kind (Short content) → ShortWritten (conversion_of content) column last bytes room text r → CellWritten charset kind column last bytes room text r
   short_there content column last bytes text room None laid x =
-      inr (is_long_kind (conversion_of content) reach.Short laid, subst (λ s. IsShortLeft (short_conversion s) bytes room) (sym laid) x)
+      inr (is_long_kind (conversion_of content) reach.Short laid.shape_is, subst (λ s. IsShortLeft (short_conversion s) bytes room) (sym laid.shape_is) x)
   short_there content column last bytes text room (Some w) laid x = record {
-    whole = subst (λ s. WritesWhole (cell_start kind s) column last (take w.used bytes) (take w.made text)) (sym laid) x;
-    at_once = λ scalar any. absurd (let never : true ≡ false = sym scalar ∙ is_long_kind (conversion_of content) reach.Short laid in cc);
+    whole = subst (λ s. WritesWhole (cell_start kind s) column last (take w.used bytes) (take w.made text)) (sym laid.shape_is) x;
+    at_once = λ scalar any. absurd (let never : true ≡ false = sym scalar ∙ is_long_kind (conversion_of content) reach.Short laid.shape_is in cc);
   }

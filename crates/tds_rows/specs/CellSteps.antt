@@ -1,10 +1,10 @@
 -- What reading a cell and putting it into its line does.
-use Rattle.std.specs.Prelude.{◌≡◌, ◌==◌, ◌⊎◌, ◌+◌, ◌<◌, ◌≤◌, ℕ, zero, suc, Bool, true, false, List, [], ◌∷◌, length, max, take, drop, slice_index, is_ok, Option, Some, None, Result, Ok, MatchOption, MatchResult, if◌then◌else◌}
+use Rattle.std.specs.Prelude.{◌≡◌, ◌==◌, ◌⊎◌, ◌+◌, ◌<◌, ◌≤◌, ℕ, zero, suc, Bool, true, false, List, [], ◌∷◌, length, max, take, drop, slice_index, is_ok, Option, Some, None, Result, Ok, IsTrue, MatchOption, MatchResult, if◌then◌else◌}
 use Rattle.tds_meter.specs.Space.{Space}
 use Rattle.tds_values.specs.declared.kind.Kind.{Kind}
 use Rattle.tds_values.specs.declared.kind.Kind.TheVariants.{Int4, IntN}
 use Rattle.tds_values.specs.declared.scalar.ScalarValue.{ScalarValue}
-use Rattle.tds_values.specs.Kind.{fixed_length, is_scalar}
+use Rattle.tds_values.specs.Kind.{fixed_length, is_scalar, is_valid}
 use Rattle.tds_values.specs.Scalar.{read_of}
 use Rattle.tds_values.specs.ScalarText.{text_of}
 use Rattle.tds_packet.specs.declared.fault.Fault.TheVariants.{BadValue}
@@ -44,6 +44,11 @@ IsValueText kind column last bytes text = (value : ScalarValue) × (read_of kind
 abbrev pub cell_so_far : ℕ → Bool → CellPart → List ℕ
 cell_so_far column last (WholeCell cell) = in_line column last (field cell)
 cell_so_far column last part = opened column (field_so_far part)
+
+-- The kind is a scalar one, and its numbers are allowed.
+pub record IsScalarKind (kind : Kind) : Type 0 where
+  pub valid : IsTrue (is_valid kind)
+  pub scalar : IsTrue (is_scalar kind)
 
 -- where the value of a scalar cell is in its bytes: after a length, unless each value has as many bytes
 abbrev pub start_behind : Option ℕ → ℕ

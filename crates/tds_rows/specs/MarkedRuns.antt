@@ -27,6 +27,13 @@ WritesNext charset false kind column last bytes text = WritesWhole (cell_start k
 abbrev pub AreClear : (ℕ → Bool) → ℕ → ℕ → Type 0
 AreClear nulls from end = (k : ℕ) → from ≤ k → k < end → nulls k ≡ false
 
+-- The columns from one up to another, of so many, aren't NULL by their bit; that one, if there is one, is.
+pub record EndsClear (nulls : ℕ → Bool) (from count end : ℕ) : Type 0 where
+  pub least : from ≤ end
+  pub most : end ≤ count
+  pub clear : AreClear nulls from end
+  pub set : end < count → nulls end ≡ true
+
 -- The bytes are the cell of the column after this many, none where it is NULL by its bit, and this is its text in its line.
 pub record WritesColumn (charset : Charset) (columns : List Column) (nulls : ℕ → Bool) (at : ℕ) (bytes text : List ℕ) : Type 0 where
   pub column : Column

@@ -1,5 +1,5 @@
 -- What a run of cells does, which lie whole in the packet.
-use Rattle.std.specs.Prelude.{◌≡◌, ◌==◌, ◌+◌, ℕ, Bool, false, List, [], ◌∷◌, ◌++◌, length, map, take, drop, Option, Some, None, MatchOption, if◌then◌else◌, slice_index}
+use Rattle.std.specs.Prelude.{◌≡◌, ◌==◌, ◌+◌, ◌<◌, ◌≤◌, ℕ, Bool, false, List, [], ◌∷◌, ◌++◌, length, map, take, drop, Option, Some, None, MatchOption, if◌then◌else◌, slice_index}
 use Rattle.tds_values.specs.declared.kind.Kind.{Kind}
 use Rattle.tds_packet.specs.declared.fault.Fault.{Fault}
 use Rattle.tds_packet.specs.declared.fault.Fault.TheVariants.{MessageEnded, RefusedToken}
@@ -96,6 +96,13 @@ pub record RunsRows (charset : Charset) (all : List Column) (cells : List Cell) 
   pub place_is : place' ≡ place + length streams.bytes
 
 -- ---- what a run gives, whatever the columns that its table knows, and whatever the cells before it
+
+-- A run within a row used and made no more than there is, went on where it used a byte, and not beyond its end.
+pub record StaysWithin (from : Ahead) (end bytes room : ℕ) (run : CellRun) : Type 0 where
+  pub used : run.used ≤ bytes
+  pub made : run.made ≤ room
+  pub further : 0 < run.used → from.column < run.ahead.column
+  pub before : from.column ≤ end → run.ahead.column ≤ end
 
 -- A run ended at the row's end, where there isn't room for every scalar, or before a cell that is left.
 abbrev pub RunEnds : Table → Ahead → List ℕ → ℕ → Type 0

@@ -1,8 +1,11 @@
 // What a cell needs of its column.
-ghost use Rattle.std.specs.Prelude.{◌≡◌, IsTrue};
+ghost use Rattle.std.specs.Prelude.{◌≡◌, None, IsTrue};
 ghost use Rattle.tds_csv.specs.Fields.{conversion_of};
-ghost use Rattle.tds_rows.specs.Cells.{LongShape, narrow};
-ghost use Rattle.tds_rows.specs.Layouts.{IsLaidOut, shape_of_layout};
+ghost use Rattle.tds_rows.specs.Cells.{LongShape, narrow, shape};
+ghost use Rattle.tds_rows.specs.CellSteps.{int4_start_of};
+ghost use Rattle.tds_rows.specs.Layouts.{IsLaidOut};
+ghost use Rattle.tds_rows.specs.declared.Charset.{Charset};
+ghost use Rattle.tds_values.specs.declared.kind.Kind.{Kind};
 ghost use Rattle.tds_values.specs.Kind.{is_valid};
 
 use crate::Charset;
@@ -12,6 +15,10 @@ use tds_values::{Kind, Reach};
 /// How the value of a cell is laid out in it, and what a long one holds.
 #[derive(Clone, Copy)]
 pub(crate) enum Layout {
+    /// A whole number of four bytes alone.
+    Int4,
+    /// A whole number of four bytes after its length of one byte, which is 0 for NULL.
+    CountedInt4,
     /// Alone, and each value has this number of bytes.
     Fixed(u8),
     /// After a length of one byte, which is 0 for NULL.
@@ -42,7 +49,8 @@ fn narrow_content(charset: Charset) -> Content
 
 // How long values of this content are laid out.
 fn lay_out_long(content: Content, reach: Reach) -> Layout
-    ensures { shape_of_layout result ≡ LongShape (conversion_of content) reach }
+    ensures { (charset : Charset) (kind : Kind) → shape charset kind ≡ LongShape (conversion_of content) reach →
+        int4_start_of kind ≡ None → IsLaidOut charset kind result }
 {
     match reach {
         Reach::Short => Layout::Short(content),
@@ -56,6 +64,8 @@ fn lay_out(kind: &Kind, charset: Charset) -> Layout
     ensures { IsLaidOut charset kind.now result }
 {
     match *kind {
+        Kind::Int4 => Layout::Int4,
+        Kind::IntN(4) => Layout::CountedInt4,
         Kind::Binary(reach) => lay_out_long(Content::Binary, reach),
         Kind::Wide(reach) => lay_out_long(Content::Utf16, reach),
         Kind::Narrow(reach) => lay_out_long(narrow_content(charset), reach),

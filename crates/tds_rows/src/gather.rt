@@ -1,8 +1,8 @@
 // The bytes of a cell, gathered in the small area from one packet or more.
-ghost use Rattle.std.specs.Prelude.{◌≡◌, ◌≤◌, None, Some, IsTrue};
+ghost use Rattle.std.specs.Prelude.{◌≡◌, ◌≤◌, None, Some};
 ghost use Rattle.tds_packet.specs.Payloads.{IsGoing};
 ghost use Rattle.tds_rows.specs.Cells.{ScalarBytes, ScalarLength, cell_start, shape};
-ghost use Rattle.tds_rows.specs.CellSteps.{CellGathered, IsGathering, LeavesGathering};
+ghost use Rattle.tds_rows.specs.CellSteps.{CellGathered, IsGathering, IsScalarKind, LeavesGathering};
 ghost use Rattle.tds_rows.specs.declared.Charset as sets;
 ghost use Rattle.tds_values.specs.Kind as kinds;
 
@@ -65,8 +65,7 @@ fn gather_counted<R: Read>(
     small: &mut Area,
 ) -> Result<(), Stop>
     requires gathering { IsGathering payload.old small.old }
-    requires valid { IsTrue (kinds.is_valid kind.now) }
-    requires scalar { IsTrue (kinds.is_scalar kind.now) }
+    requires scalar { IsScalarKind kind.now }
     requires counted { kinds.fixed_length kind.now ≡ None }
     ensures leaves { LeavesGathering payload.old payload.new small.old small.new result }
     ensures gives { CellGathered R.remaining kind.now (ScalarLength kind.now) column
@@ -92,8 +91,7 @@ pub(crate) fn gather_scalar<R: Read>(
     small: &mut Area,
 ) -> Result<(), Stop>
     requires going { IsGoing payload.old }
-    requires valid { IsTrue (kinds.is_valid kind.now) }
-    requires scalar { IsTrue (kinds.is_scalar kind.now) }
+    requires scalar { IsScalarKind kind.now }
     requires room { LONGEST_CELL ≤ small.old.room }
     ensures leaves { LeavesGathering payload.old payload.new small.old small.new result }
     ensures gives { (charset : sets.Charset) →

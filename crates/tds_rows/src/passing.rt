@@ -3,7 +3,7 @@ ghost use Rattle.std.specs.Prelude.{◌≡◌, ◌≤◌, ◌<◌, true, false, 
 ghost use Rattle.tds_csv.specs.Conversion.{Conversion};
 ghost use Rattle.tds_packet.specs.Payloads.{IsGoing, IsSound, LeavesPayload};
 ghost use Rattle.tds_rows.specs.Cells.{LongShape, ShortLength, cell_start, return_charset, shape};
-ghost use Rattle.tds_rows.specs.CellSteps.{LeavesGathering, scalar_size};
+ghost use Rattle.tds_rows.specs.CellSteps.{IsScalarKind, LeavesGathering, scalar_size};
 ghost use Rattle.tds_rows.specs.PassedCells.{AnyData, CellPassed, DataPassed, IsGoodValue, IsRefusedValue, PiecePassed};
 ghost use Rattle.tds_values.specs.Kind as kinds;
 ghost use Rattle.tds_values.specs.declared.kind.Kind.{Kind};
@@ -54,8 +54,7 @@ pub(crate) fn pass_data<R: Read>(payload: &mut Payload<R>, n: u64) -> Result<(),
 
 // Whether the value of a scalar cell is out of range; NULL isn't.
 fn is_refused(kind: &Kind, cell: &[u8]) -> bool
-    requires valid { IsTrue (kinds.is_valid kind.now) }
-    requires scalar { IsTrue (kinds.is_scalar kind.now) }
+    requires scalar { IsScalarKind kind.now }
     requires whole { length cell.now ≡ scalar_size kind.now cell.now }
     ensures refused { result ≡ true → IsRefusedValue kind.now cell.now }
     ensures good { result ≡ false → IsGoodValue kind.now cell.now }
@@ -67,8 +66,7 @@ fn is_refused(kind: &Kind, cell: &[u8]) -> bool
 // Passes over a value of a scalar kind, which is judged in the small area.
 fn pass_scalar<R: Read>(payload: &mut Payload<R>, kind: &Kind, small: &mut Area) -> Result<(), Stop>
     requires going { IsGoing payload.old }
-    requires valid { IsTrue (kinds.is_valid kind.now) }
-    requires scalar { IsTrue (kinds.is_scalar kind.now) }
+    requires scalar { IsScalarKind kind.now }
     requires room { LONGEST_CELL ≤ small.old.room }
     ensures leaves { LeavesGathering payload.old payload.new small.old small.new result }
     ensures gives { CellPassed R.remaining (cell_start kind.now (shape return_charset kind.now))

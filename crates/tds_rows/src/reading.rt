@@ -102,9 +102,11 @@ impl<'r, 't, 'p, 's, 'c, R: Read, W: Write> Rows<'r, 't, 'p, 's, 'c, R, W> {
         }
         let (column, last) = (at.column, self.table.is_last(at));
         match form.layout {
-            Layout::Fixed(_) | Layout::Counted => self.put_gathered(at, form),
             Layout::Short(content) => self.put_joined(content, Reach::Short, column, last),
             Layout::Chunked(content) => self.put_joined(content, Reach::Chunked, column, last),
+            Layout::Int4 | Layout::CountedInt4 | Layout::Fixed(_) | Layout::Counted => {
+                self.put_gathered(at, form)
+            }
         }
     }
 }

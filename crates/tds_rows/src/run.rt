@@ -2,7 +2,7 @@
 ghost use Rattle.std.specs.Prelude.{◌≡◌, ◌+◌, ◌-◌, ◌<◌, ◌≤◌, Bool, drop, length, IfSome};
 ghost use Rattle.tds_rows.specs.RowReading.{IsInRow, StaysInRow};
 ghost use Rattle.tds_rows.specs.declared.run.fields.TheConstants.{CELL_ROOM};
-ghost use Rattle.tds_rows.specs.Runs.{AloneWritten, CellsWritten, OneWritten, RowsPut, RowsWritten, RunEnds};
+ghost use Rattle.tds_rows.specs.Runs.{AloneWritten, CellsWritten, OneWritten, RowsPut, RowsWritten, RunEnds, StaysWithin};
 ghost use Rattle.tds_rows.specs.Tables.{IsNextKind};
 ghost use Rattle.tds_values.specs.declared.kind.Kind.{Kind};
 
@@ -50,10 +50,7 @@ pub(crate) fn run_cells<'a>(
     to: &mut [u8],
 ) -> CellRun<'a>
     requires { end ≤ table.now.count }
-    ensures used { result.used ≤ length bytes.now }
-    ensures made { result.made ≤ length to.old }
-    ensures further { 0 < result.used → from.entry.column < result.ahead.column }
-    ensures within { from.entry.column ≤ end → result.ahead.column ≤ end }
+    ensures within { StaysWithin from.entry end (length bytes.now) (length to.old) result }
     ensures ends { result.used ≡ 0 → from.entry.column < end →
         RunEnds table.now from.entry bytes.now (length to.old) }
     ensures one { 0 < result.used → end ≡ from.entry.column + 1 →

@@ -5,7 +5,7 @@ ghost use Rattle.tds_rows.specs.Layouts.{IsLaidOut};
 ghost use Rattle.tds_rows.specs.declared.table.TheConstants.{TABLE_LENGTH};
 
 use crate::Charset;
-use crate::form::Form;
+use crate::form::{Form, Layout};
 use tds_columns::{Columns, Walk};
 use tds_values::Kind;
 
@@ -130,9 +130,9 @@ impl<'a> Table<'a> {
             return None;
         }
         let form = self.forms[at.column as usize];
-        match form.kind {
-            Kind::Int4 => Some(0),
-            Kind::IntN(4) => Some(1),
+        match form.layout {
+            Layout::Int4 => Some(0),
+            Layout::CountedInt4 => Some(1),
             _ => None,
         }
     }

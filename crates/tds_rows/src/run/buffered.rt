@@ -38,8 +38,9 @@ fn value_at(layout: Layout, bytes: &[u8]) -> Option<(usize, usize)>
     ensures { MatchOption result (HasNoValue layout bytes.now) (λ at. HasValueAt layout bytes.now at.0 at.1) }
 {
     match layout {
+        Layout::Int4 => Some((0, INT4_SIZE)),
         Layout::Fixed(n) => Some((0, n as usize)),
-        Layout::Counted => {
+        Layout::CountedInt4 | Layout::Counted => {
             if bytes.is_empty() {
                 return None;
             }

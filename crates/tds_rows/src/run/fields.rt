@@ -1,9 +1,8 @@
 // The text of a scalar value in its line.
-ghost use Rattle.std.specs.Prelude.{◌≡◌, ◌≤◌, false, is_ok, length, take, IsTrue, MatchOption, IfSome};
+ghost use Rattle.std.specs.Prelude.{◌≡◌, ◌≤◌, false, is_ok, length, take, MatchOption, IfSome};
 ghost use Rattle.tds_csv.specs.Quoting.{in_line, null_field};
 ghost use Rattle.tds_csv.specs.Sinks.{IsWriting, PutsPiece};
-ghost use Rattle.tds_rows.specs.CellSteps.{IsValueText};
-ghost use Rattle.tds_values.specs.Kind as kinds;
+ghost use Rattle.tds_rows.specs.CellSteps.{IsScalarKind, IsValueText};
 ghost use Rattle.tds_values.specs.Scalar.{read_of};
 
 use std::io::Write;
@@ -30,8 +29,7 @@ pub(crate) fn write_value(
     bytes: &[u8],
     to: &mut [u8],
 ) -> Option<usize>
-    requires valid { IsTrue (kinds.is_valid kind.now) }
-    requires scalar { IsTrue (kinds.is_scalar kind.now) }
+    requires scalar { IsScalarKind kind.now }
     requires room { CELL_ROOM ≤ length to.old }
     ensures most { IfSome result (λ made. made ≤ LONGEST_IN_LINE) }
     ensures gives { MatchOption result

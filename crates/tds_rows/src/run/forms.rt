@@ -4,10 +4,9 @@ ghost use Rattle.tds_rows.specs.FormRuns.{FirstLeft, FirstWritten, FormsWritten,
 ghost use Rattle.tds_rows.specs.Forms.{AreLaidOut};
 
 use crate::Charset;
-use crate::form::Form;
+use crate::form::{Form, Layout};
 use crate::run::buffered::write_cell;
 use crate::run::fields::CELL_ROOM;
-use tds_values::Kind;
 
 /// How many cells a run wrote, how many bytes they have, and how many their text has.
 #[derive(Clone, Copy)]
@@ -50,7 +49,7 @@ pub(crate) fn run_forms(
     let mut made = 0;
     while cells < forms.len() && to.len() - made >= CELL_ROOM {
         let form = &forms[cells];
-        if cells > 0 && matches!(form.kind, Kind::Int4 | Kind::IntN(4)) {
+        if cells > 0 && matches!(form.layout, Layout::Int4 | Layout::CountedInt4) {
             break;
         }
         let at = column + cells as u16;

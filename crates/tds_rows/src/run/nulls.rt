@@ -1,7 +1,7 @@
 // A run over the cells of an NBCROW: as many as are NULL by their bit or whole in the packet, and have room.
-ghost use Rattle.std.specs.Prelude.{◌≡◌, ◌+◌, ◌-◌, ◌*◌, ◌<◌, ◌≤◌, true, drop, length};
+ghost use Rattle.std.specs.Prelude.{◌≡◌, ◌+◌, ◌-◌, ◌*◌, ◌≤◌, drop, length, ◌<◌};
 ghost use Rattle.tds_packet.specs.Payloads.{buffered};
-ghost use Rattle.tds_rows.specs.MarkedRuns.{AreClear, EndsLeft, MarkedPut, MarkedWritten, room_left};
+ghost use Rattle.tds_rows.specs.MarkedRuns.{AreClear, EndsClear, EndsLeft, MarkedPut, MarkedWritten, room_left};
 ghost use Rattle.tds_rows.specs.RowReading.{IsInRow, StaysInRow};
 ghost use Rattle.tds_rows.specs.Rows.{bit};
 
@@ -28,10 +28,7 @@ fn clear_end(bitmap: &[u8], from: u16, known: u16, count: u16) -> u16
     requires within { from ≤ count }
     requires most { known ≤ count }
     requires clear { AreClear (bit bitmap.now) from known }
-    ensures least { from ≤ result }
-    ensures most { result ≤ count }
-    ensures clear { AreClear (bit bitmap.now) from result }
-    ensures set { result < count → bit bitmap.now result ≡ true }
+    ensures { EndsClear (bit bitmap.now) from count result }
 {
     let mut at = from.max(known);
     while at < count && !is_null(bitmap, at) {

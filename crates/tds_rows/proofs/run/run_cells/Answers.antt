@@ -19,10 +19,12 @@ returns-clause-gives c = λ columns knows is.
     let run = c.run_forms-run in
     forms_between c.args.table.now c.args.from c.args.end c.forms-forms.result.now c.requires c.forms-forms.ensures _ (search (arith, rules)) columns knows is c.past.result c.args.bytes.now run.new.to run.result c.past.ensures.further (c.past.ensures.gives columns knows is) run.ensures.gives
 
-pub returns-clause-further : goal.returns-clause-further
-returns-clause-further c = λ some.
-    let run = c.run_forms-run in
-    omega (arith, c.past.ensures.further, some_written run.result.cells run.result.used run.ensures.within.none some)
-
 pub returns-clause-within : goal.returns-clause-within
-returns-clause-within c = λ _. omega (arith, c.past.ensures.further, c.run_forms-run.ensures.within.cells, c.forms-forms.ensures.within)
+returns-clause-within c =
+    let run = c.run_forms-run in
+    record {
+      used = search (arith, rules);
+      made = search (arith, rules);
+      further = λ some. omega (arith, c.past.ensures.further, some_written run.result.cells run.result.used run.ensures.within.none some);
+      before = λ _. omega (arith, c.past.ensures.further, run.ensures.within.cells, c.forms-forms.ensures.within);
+    }

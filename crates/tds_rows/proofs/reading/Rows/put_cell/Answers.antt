@@ -45,7 +45,7 @@ returns-clause-gives g c = λ last next.
 long_read : {R W U : Type 0} (remaining : R → Option (List ℕ)) (contents : W → Option (List ℕ)) (charset : Charset) (kind : Kind) (layout is : Layout) (start : CellPart) (column : ℕ) (end last : Bool) (old new : Payload R) (before after : Sink W) (r : Result U Stop)
     → IsLaidOut charset kind layout → layout ≡ is → cell_start kind (shape_of_layout is) ≡ start → end ≡ last → FieldPut remaining contents start column end old new before after r → CellPut remaining contents charset kind column last old new before after r
 long_read remaining contents charset kind layout is start column end last old new before after r laid same begins e x =
-    subst (λ (p : CellPart). FieldPut remaining contents p column last old new before after r) (sym (ap (cell_start kind) (laid ∙ ap shape_of_layout same) ∙ begins))
+    subst (λ (p : CellPart). FieldPut remaining contents p column last old new before after r) (sym (ap (cell_start kind) (laid.shape_is ∙ ap shape_of_layout same) ∙ begins))
     (subst (λ (b : Bool). FieldPut remaining contents start column b old new before after r) e x)
 
 pub returns-in-Short-clause-gives : goal.returns-in-Short-clause-gives

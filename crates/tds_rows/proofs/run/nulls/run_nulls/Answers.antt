@@ -86,8 +86,8 @@ loop-to-preserved c =
     let end = c.clear_end-end in
     let ran = c.run_cells-cells in
     let cells = ran.result in
-    let further : l.ahead.column < cells.ahead.column = ran.ensures.further (omega (arith, c.if-cells-eq0.false)) in
-    let within : cells.ahead.column ≤ end.result = ran.ensures.within end.ensures.least in
+    let further : l.ahead.column < cells.ahead.column = ran.ensures.within.further (omega (arith, c.if-cells-eq0.false)) in
+    let within : cells.ahead.column ≤ end.result = ran.ensures.within.before end.ensures.least in
     let some : cells.made ≤ length ran.new.to = search (arith, rules) in
     record {
       used = search (arith, rules);
