@@ -3,7 +3,7 @@ ghost use Rattle.std.specs.Prelude.{◌≡◌, ◌+◌, ◌≤◌, ◌++◌, ℕ
 ghost use Rattle.tds_csv.specs.Quoting.{behind_comma, end_behind, in_line, null_field};
 
 /// What separates two fields.
-pub(crate) const COMMA: u8 = b',';
+pub const COMMA: u8 = b',';
 
 /// What ends a line.
 pub(crate) const LINE_END: [u8; 2] = *b"\r\n";

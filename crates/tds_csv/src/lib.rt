@@ -9,7 +9,7 @@ mod laws;
 mod sink;
 
 pub use fields::{Content, field_room, write_field};
-pub use framing::{NULL_ROOM, write_comma, write_line_end, write_null};
+pub use framing::{COMMA, NULL_ROOM, write_comma, write_line_end, write_null};
 pub use joiners::binary::HexJoiner;
 pub use joiners::cp1252::Cp1252Joiner;
 pub use joiners::into_area::utf16_into;

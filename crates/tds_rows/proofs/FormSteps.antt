@@ -1,21 +1,35 @@
 -- Runs over cells by their forms, a cell after those that were written.
-use Rattle.std.proofs.Common.{◌≡◌, ◌≢◌, ◌∙◌, ℕ, suc, ◌+◌, ◌-◌, ◌<◌, ◌≤◌, Bool, true, false, List, [], ◌∷◌, ◌++◌, length, take, drop, get_or, refl, sym, ap, subst, arith}
-use Rattle.std.specs.Prelude.{◌==◌, ◌&&◌, map}
-use Rattle.std.proofs.lemmas.List.{drop_more, length-drop, length-map, length-take, take_all}
+use Rattle.std.proofs.Common.{◌≡◌, ◌≢◌, ◌∙◌, inl, inr, ℕ, zero, suc, ◌+◌, ◌-◌, ◌<◌, ◌≤◌, Bool, true, false, List, [], ◌∷◌, ◌++◌, length, take, drop, get_or, refl, sym, ap, subst, arith, append-nil, append_assoc, length-append}
+use Rattle.std.specs.Prelude.{◌==◌, ◌&&◌, ◌⊎◌, Option, Some, None, map, slice_set, if◌then◌else◌}
+use Rattle.std.proofs.lemmas.List.{drop_more, length-drop, length-map, length-take, length-take-le, take-append-le, take_all, take_more_set}
+use Rattle.std.proofs.lemmas.Bool.{ne_eqb}
+use Rattle.std.proofs.Math.Seq.{take-add}
 use lib.Seq.{drop-drop}
 use Rattle.tds_values.specs.declared.kind.Kind.{Kind}
 use Rattle.tds_packet.proofs.Choices.{eq_false, eq_true}
 use Rattle.tds_columns.specs.Description.{Column}
 use Rattle.tds_columns.proofs.ViewLaws.{all_behind}
+use Rattle.tds_csv.specs.Conversion.{Conversion}
+use Rattle.tds_csv.specs.Fields.{field_room}
+use Rattle.tds_csv.specs.Quoting.{behind_comma, end_behind, in_line}
 use Rattle.tds_rows.specs.declared.Charset.{Charset}
 use Rattle.tds_rows.specs.declared.form.Form.{Form}
 use Rattle.tds_rows.specs.Cells.{cell_start, shape}
-use Rattle.tds_rows.specs.CellSteps.{WritesKind, is_last, whole_size}
-use Rattle.tds_rows.specs.FormRuns.{AreNext, FirstWritten, FormsWritten}
+use Rattle.tds_rows.specs.CellSteps.{IsLeft, WritesField, WritesKind, is_last, whole_size}
+use Rattle.tds_rows.specs.FormRuns.{AreNext, FieldsWritten, FirstLeft, FirstUsed, FirstWritten, WritesForms}
 use Rattle.tds_rows.specs.MarkedRuns.{WritesColumn, WritesMarked}
+use Rattle.tds_rows.specs.ShortCells.{IsShortLeft, data_length, short_conversion}
 use Rattle.tds_rows.specs.WholeCells.{WritesWhole}
+use Rattle.tds_rows.proofs.LineTexts.{behind_some}
 use Rattle.tds_rows.proofs.RunSteps.{made_more, used_more}
 use Rattle.tds_rows.proofs.TableSteps.{known_kind, last_one}
+
+-- the first of the first
+pub take_front : {A : Type 0} (k n : ℕ) (l : List A) → k ≤ n → n ≤ length l → take k (take n l) ≡ take k l
+take_front k n l within fits =
+    let front : length (take k l) ≡ k = length-take-le k l (omega (arith, within, fits)) in
+    let split : take n l ≡ take (k + (n - k)) l = ap (λ (m : ℕ). take m l) (omega (arith, within)) in
+    ap (take k) (split ∙ take-add k (n - k) l) ∙ take-append-le k (take k l) (take (n - k) (drop k l)) (omega (arith, front)) ∙ take_all k (take k l) (omega (arith, front))
 
 not_last : (rest : List Column) → 0 < length rest → false ≡ is_last rest
 not_last [] some = absurd (omega (arith, some))
@@ -58,42 +72,124 @@ module _ (forms : List Form) (ends : Bool) (columns : List Column) (next : AreNe
           writes = subst (λ (q : Kind). WritesWhole (cell_start q (shape charset q)) (column + k) (is_last left) bytes text) kind_is a;
         }
 
--- before the first cell
-pub forms_none : (charset : Charset) (forms : List Form) (column : ℕ) (ends : Bool) (bytes text : List ℕ) → FormsWritten charset forms column ends bytes text (record { cells = 0; used = 0; made = 0 })
-forms_none charset forms column ends bytes text = λ columns next. (refl, refl)
+-- a form that is there, whatever stands for one that isn't
+same_form : (forms : List Form) (k : ℕ) (d e : Form) → k < length forms → get_or forms k d ≡ get_or forms k e
+same_form [] k d e there = absurd (omega (arith, there))
+same_form (f ∷ fs) zero d e there = refl
+same_form (f ∷ fs) (suc k) d e there = same_form fs k d e (omega (arith, there))
 
-module _ (charset : Charset) (forms : List Form) (column : ℕ) (ends : Bool) (bytes to text rest : List ℕ) (k used u made m : ℕ) (d : Form) (within : made ≤ length to) (some : m ≤ length text) (there : k < length forms)
-    (wrote : WritesKind charset (get_or forms k d).kind (column + k) (ends && (k + 1 == length forms)) (take u (take (length bytes - used) (drop used bytes))) (take m text)) where
+-- some forms have a first
+pub some_first : (forms : List Form) → 0 < length forms → (form : Form) × (rest : List Form) × (forms ≡ form ∷ rest)
+some_first [] some = absurd (omega (arith, some))
+some_first (f ∷ fs) some = (f, fs, refl)
+
+module _ (charset : Charset) (forms : List Form) (column : ℕ) (ends : Bool) (columns : List Column) (next : AreNext forms ends (drop column columns)) (d : Form) where
+  -- whether so many cells end their row
+  abbrev closes : ℕ → Bool
+  closes n = ends && (n == length forms)
+
+  one_more : (n : ℕ) (bytes text front rest before field : List ℕ) → n + 1 ≤ length forms → bytes ≡ front ++ rest → text ≡ before ++ behind_comma (column + n) field → WritesMarked charset columns (λ k. false) column n front before
+      → ((form : Form) → WritesField charset (get_or forms n form).kind rest field) → WritesMarked charset columns (λ k. false) column (suc n) bytes (text ++ end_behind (closes (n + 1)))
+  one_more n bytes text front rest before field few b t w x = (
+    front,
+    rest,
+    before,
+    in_line (column + n) (closes (n + 1)) field,
+    b,
+    ap (λ l. l ++ end_behind (closes (n + 1))) t ∙ append_assoc before (behind_comma (column + n) field) (end_behind (closes (n + 1))),
+    w,
+    next_cell forms ends (drop column columns) next n d (omega (arith, few)) charset columns column rest (in_line (column + n) (closes (n + 1)) field) refl (x d (column + n) (closes (n + 1))),
+  )
+
+  not_closed : (n : ℕ) → n < length forms → closes n ≡ false
+  not_closed n few = ap (λ v. ends && v) (ne_eqb n (length forms) (λ e. omega (arith, e, few))) ∙ and_false ends
+    where
+      and_false : (b : Bool) → (b && false) ≡ false
+      and_false true = refl
+      and_false false = refl
+
+  -- the fields of some cells are their text, with the end of their row
+  pub fields_marked : (n : ℕ) (bytes text : List ℕ) → suc n ≤ length forms → WritesForms charset forms column (suc n) bytes text → WritesMarked charset columns (λ k. false) column (suc n) bytes (text ++ end_behind (closes (suc n)))
+  fields_marked zero bytes text few (front, rest, before, field, b, t, x, y) = one_more zero bytes text front rest before field few b t x y
+  fields_marked (suc n) bytes text few (front, rest, before, field, b, t, x, y) =
+      let inner = fields_marked n front before (omega (arith, few)) x in
+      let unclosed : before ++ end_behind (closes (suc n)) ≡ before = ap (λ v. before ++ end_behind v) (not_closed (suc n) (omega (arith, few))) ∙ append-nil before in
+      subst (λ (m : ℕ). WritesMarked charset columns (λ k. false) column (suc (suc n)) bytes (text ++ end_behind (closes m))) (let m : suc n + 1 ≡ suc (suc n) = omega arith in m)
+      (one_more (suc n) bytes text front rest before field (omega (arith, few)) b t (subst (λ l. WritesMarked charset columns (λ k. false) column (suc n) front l) unclosed inner) y)
+
+-- the fields of some cells are the text of a run over them
+pub run_marked : (charset : Charset) (forms : List Form) (column : ℕ) (ends : Bool) (columns : List Column) → AreNext forms ends (drop column columns) → (cells : ℕ) (bytes fields : List ℕ) → 0 < cells → cells ≤ length forms
+    → WritesForms charset forms column cells bytes fields → WritesMarked charset columns (λ k. false) column cells bytes (fields ++ end_behind (ends && (cells == length forms)))
+run_marked charset forms column ends columns next zero bytes fields some few x = absurd (omega (arith, some))
+run_marked charset forms column ends columns next (suc n) bytes fields some few x = fields_marked charset forms column ends columns next (some_first forms (omega (arith, few))).0 n bytes fields few x
+
+-- a comma stands before what follows it
+comma_then : (n : ℕ) (text : List ℕ) → behind_comma n [] ++ text ≡ behind_comma n text
+comma_then n text = go (n == 0)
+  where
+    go : (b : Bool) → (if b then [] else 44 ∷ []) ++ text ≡ (if b then text else 44 ∷ text)
+    go true = refl
+    go false = refl
+
+-- what stands before the comma of the next cell
+pub before_comma : (made column : ℕ) (to fields : List ℕ) → 0 < column → made ≤ length to → take made to ≡ fields ++ behind_comma column [] → take (made - 1) to ≡ fields
+before_comma made column to fields some within is =
+    let comma : take made to ≡ fields ++ 44 ∷ [] = is ∙ ap (λ l. fields ++ l) (sym (behind_some column [] (λ e. omega (arith, e, some)))) in
+    let counted : length fields ≡ made - 1 = omega (arith, sym (length-take-le made to within) ∙ ap length comma ∙ length-append fields (44 ∷ [])) in
+    let less : made - 1 ≤ made = omega arith in
+    sym (take_front (made - 1) made to less within) ∙ ap (take (made - 1)) comma ∙ take-append-le (made - 1) fields (44 ∷ []) (omega (arith, counted)) ∙ take_all (made - 1) fields (omega (arith, counted))
+
+module _ (charset : Charset) (forms : List Form) (column : ℕ) (bytes : List ℕ) where
+  -- before the first cell
+  pub fields_none : (start : ℕ) (to : List ℕ) → ((text : List ℕ) → take start to ++ text ≡ behind_comma column text) → FieldsWritten charset forms column bytes to (record { cells = 0; used = 0; made = start })
+  fields_none start to x = ([], (refl, refl), sym (append-nil (take start to)) ∙ x [] ∙ ap (λ (n : ℕ). behind_comma n []) (omega arith))
+
   -- one cell more
-  pub forms_more : FormsWritten charset forms column ends bytes to (record { cells = k; used = used; made = made }) → FormsWritten charset forms column ends bytes (take made to ++ (text ++ rest)) (record { cells = k + 1; used = used + u; made = made + m })
-  forms_more x = λ columns next.
+  pub fields_more : (to text rest : List ℕ) (k used u made m : ℕ) (d : Form) → made ≤ length to → m < length text → k < length forms → WritesField charset (get_or forms k d).kind (take u (take (length bytes - used) (drop used bytes))) (take m text)
+      → FieldsWritten charset forms column bytes to (record { cells = k; used = used; made = made }) → FieldsWritten charset forms column bytes (slice_set (take made to ++ (text ++ rest)) (made + m) 44) (record { cells = k + 1; used = used + u; made = made + m + 1 })
+  fields_more to text rest k used u made m d within some there wrote (fields, x, is) =
       let read = take u (take (length bytes - used) (drop used bytes)) in
-      subst (λ (n : ℕ). WritesMarked charset columns (λ k. false) column n (take (used + u) bytes) (take (made + m) (take made to ++ (text ++ rest)))) (let n : suc k ≡ k + 1 = omega arith in n) (
-        take used bytes,
-        read,
-        take made to,
-        take m text,
-        used_more used u bytes,
-        made_more made m to text rest within some,
-        x columns next,
-        next_cell forms ends (drop column columns) next k d there charset columns column read (take m text) refl wrote,
-      )
+      let field = take m text in
+      let all = take made to ++ (text ++ rest) in
+      let here : made + m < length all = omega (arith, some, length-append (take made to) (text ++ rest), length-append text rest, length-take-le made to within) in
+      let is' : take (made + m + 1) (slice_set all (made + m) 44) ≡ (fields ++ behind_comma (column + k) field) ++ behind_comma (column + (k + 1)) [] =
+      take_more_set all (made + m) 44 here ∙ ap (λ l. l ++ 44 ∷ []) (made_more made m to text rest within (omega (arith, some)) ∙ ap (λ l. l ++ field) is ∙ append_assoc fields (behind_comma (column + k) []) field ∙ ap (λ l. fields ++ l) (comma_then (column + k) field))
+      ∙ ap (λ l. (fields ++ behind_comma (column + k) field) ++ l) (behind_some (column + (k + 1)) [] (λ e. omega (arith, e))) in
+      let written : WritesForms charset forms column (suc k) (take (used + u) bytes) (fields ++ behind_comma (column + k) field) = (take used bytes, read, fields, field, used_more used u bytes, refl, x, λ form. subst (λ (f : Form). WritesField charset f.kind read field) (same_form forms k d form there) wrote) in
+      (fields ++ behind_comma (column + k) field, subst (λ (n : ℕ). WritesForms charset forms column n (take (used + u) bytes) (fields ++ behind_comma (column + k) field)) (let n : suc k ≡ k + 1 = omega arith in n) written, is')
 
-  -- the first
-  pub forms_first : k ≡ 0 → used ≡ 0 → made ≡ 0 → u ≡ whole_size (get_or forms k d).kind (take (length bytes - used) (drop used bytes)) → FirstWritten charset forms column ends bytes (take made to ++ (text ++ rest)) (record { cells = k + 1; used = used + u; made = made + m })
-  forms_first first none nothing size = λ form others are.
+  -- the bytes of the first cell were used
+  pub first_used : (used u k : ℕ) (d : Form) → k ≡ 0 → used ≡ 0 → u ≡ whole_size (get_or forms k d).kind (take (length bytes - used) (drop used bytes)) → FirstUsed forms bytes (used + u)
+  first_used used u k d first none size form others are =
       let bytes_are : take (length bytes - used) (drop used bytes) ≡ bytes = all_behind bytes used ∙ ap (λ n. drop n bytes) none in
-      let text_is : take (made + m) (take made to ++ (text ++ rest)) ≡ take m text = made_more made m to text rest within some ∙ ap (λ n. take n to ++ take m text) nothing in
       let form_is : get_or forms k d ≡ form = ap (λ n. get_or forms n d) first ∙ ap (λ l. get_or l 0 d) are in
       let whole : used + u ≡ u = omega (arith, none) in
-      let at : column + k ≡ column = omega (arith, first) in
-      let one : (ends && (k + 1 == length forms)) ≡ (ends && (1 == length forms)) = ap (λ (n : ℕ). ends && (n + 1 == length forms)) first in
+      whole ∙ size ∙ (λ i. whole_size (form_is i).kind (bytes_are i))
+
+  -- the first alone
+  pub first_alone : (ends : Bool) (to : List ℕ) (used made : ℕ) (fields : List ℕ) → FirstUsed forms bytes used → WritesForms charset forms column 1 (take used bytes) fields → take made to ≡ fields ++ end_behind (ends && (1 == length forms))
+      → FirstWritten charset forms column ends bytes to (record { cells = 1; used = used; made = made })
+  first_alone ends to used made fields size (front, rest, before, field, b, t, x, y) is = λ form others are.
+      let last = ends && (1 == length forms) in
+      let read : rest ≡ take used bytes = sym (b ∙ ap (λ l. l ++ rest) x.0) in
+      let text : in_line column last field ≡ take made to = ap (λ l. l ++ end_behind last) (ap (λ (n : ℕ). behind_comma n field) (let n : column ≡ column + 0 = omega arith in n) ∙ sym (t ∙ ap (λ l. l ++ behind_comma (column + 0) field) x.1)) ∙ sym is in
+      let kind_is : (get_or forms 0 form).kind ≡ form.kind = ap (λ (l : List Form). (get_or l 0 form).kind) are in
       record {
-        size = whole ∙ size ∙ (λ i. whole_size (form_is i).kind (bytes_are i));
-        writes = subst (λ (n : ℕ). WritesKind charset form.kind column (ends && (1 == length forms)) (take n bytes) (take (made + m) (take made to ++ (text ++ rest)))) (sym whole)
-            (subst (λ t. WritesKind charset form.kind column (ends && (1 == length forms)) (take u bytes) t) (sym text_is)
-            (subst (λ (b : List ℕ). WritesKind charset form.kind column (ends && (1 == length forms)) (take u b) (take m text)) bytes_are
-            (subst (λ (f : Form). WritesKind charset f.kind column (ends && (1 == length forms)) (take u (take (length bytes - used) (drop used bytes))) (take m text)) form_is
-            (subst (λ (n : ℕ). WritesKind charset (get_or forms k d).kind n (ends && (1 == length forms)) (take u (take (length bytes - used) (drop used bytes))) (take m text)) at
-            (subst (λ (v : Bool). WritesKind charset (get_or forms k d).kind (column + k) v (take u (take (length bytes - used) (drop used bytes))) (take m text)) one wrote)))));
+        size = size form others are;
+        writes = subst (λ (q : Kind). WritesKind charset q column last (take used bytes) (take made to)) kind_is
+            (subst (λ l. WritesKind charset (get_or forms 0 form).kind column last (take used bytes) l) text
+            (subst (λ l. WritesKind charset (get_or forms 0 form).kind column last l (in_line column last field)) read (y form column last)));
       }
+
+-- ---- a cell that is left
+
+short_less : (c : Option Conversion) (bytes : List ℕ) (fewer room : ℕ) → fewer ≤ room → IsShortLeft c bytes room → IsShortLeft c bytes fewer
+short_less None bytes fewer room less x = tt
+short_less (Some c) bytes fewer room less (inl x) = inl x
+short_less (Some c) bytes fewer room less (inr (inl x)) = inr (inl (omega (arith, less, x)))
+short_less (Some c) bytes fewer room less (inr (inr x)) = inr (inr x)
+
+-- with less room too
+pub left_less : (charset : Charset) (kind : Kind) (bytes : List ℕ) (fewer room : ℕ) → fewer ≤ room → IsLeft charset kind bytes room → IsLeft charset kind bytes fewer
+left_less charset kind bytes fewer room less (inl x) = inl x
+left_less charset kind bytes fewer room less (inr x) = inr (x.0, short_less (short_conversion (shape charset kind)) bytes fewer room less x.1)

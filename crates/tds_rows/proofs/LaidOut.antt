@@ -11,6 +11,7 @@ use Rattle.tds_packet.proofs.Choices.{eq_false, eq_true}
 use Rattle.tds_csv.specs.declared.fields.Content.{Content}
 use Rattle.tds_csv.specs.Conversion.{Conversion}
 use Rattle.tds_csv.specs.Fields.{conversion_of}
+use Rattle.tds_csv.specs.Quoting.{in_line}
 use Rattle.tds_rows.specs.declared.Charset.{Charset}
 use Rattle.tds_rows.specs.declared.run.buffered.Written.{Written}
 use Rattle.tds_rows.specs.declared.form.Form.{Form}
@@ -117,10 +118,10 @@ module _ (charset : Charset) (kind : Kind) where
   pub short_whole : (content : Content) (bytes : List ℕ) → IsLaidOut charset kind (Short content) → short_size bytes ≡ whole_size kind bytes
   short_whole content bytes laid = sym (ap (λ b. if b then scalar_size kind bytes else short_size bytes) (is_long_kind (conversion_of content) reach.Short laid.shape_is))
 
-  pub short_there : (content : Content) (column : ℕ) (last : Bool) (bytes text : List ℕ) (room : ℕ) (r : Option Written) → IsLaidOut charset kind (Short content) → ShortWritten (conversion_of content) column last bytes room text r → CellWritten charset kind column last bytes room text r
-  short_there content column last bytes text room None laid x =
+  pub short_there : (content : Content) (bytes text : List ℕ) (room : ℕ) (r : Option Written) → IsLaidOut charset kind (Short content) → ShortWritten (conversion_of content) bytes room text r → CellWritten charset kind bytes room text r
+  short_there content bytes text room None laid x =
       inr (is_long_kind (conversion_of content) reach.Short laid.shape_is, subst (λ s. IsShortLeft (short_conversion s) bytes room) (sym laid.shape_is) x)
-  short_there content column last bytes text room (Some w) laid x = record {
-    whole = subst (λ s. WritesWhole (cell_start kind s) column last (take w.used bytes) (take w.made text)) (sym laid.shape_is) x;
+  short_there content bytes text room (Some w) laid x = λ column last. record {
+    whole = subst (λ s. WritesWhole (cell_start kind s) column last (take w.used bytes) (in_line column last (take w.made text))) (sym laid.shape_is) (x column last);
     at_once = λ scalar any. absurd (let never : true ≡ false = sym scalar ∙ is_long_kind (conversion_of content) reach.Short laid.shape_is in cc);
   }

@@ -20,14 +20,8 @@ use Rattle.tds_rows.specs.Layouts.{IsLaidOut}
 use Rattle.tds_rows.specs.MarkedRuns.{RunsMarked}
 use Rattle.tds_rows.specs.Runs.{OneWritten}
 use Rattle.tds_rows.specs.Tables.{AreAhead, IsAhead, Knows, NextColumn, kinds}
+use Rattle.tds_rows.proofs.FormSteps.{some_first, take_front}
 use Rattle.tds_rows.proofs.TableRuns.{one_next}
-
--- the first of the first
-take_front : {A : Type 0} (k n : ℕ) (l : List A) → k ≤ n → n ≤ length l → take k (take n l) ≡ take k l
-take_front k n l within fits =
-    let front : length (take k l) ≡ k = length-take-le k l (omega (arith, within, fits)) in
-    let split : take n l ≡ take (k + (n - k)) l = ap (λ (m : ℕ). take m l) (omega (arith, within)) in
-    ap (take k) (split ∙ take-add k (n - k) l) ∙ take-append-le k (take k l) (take (n - k) (drop k l)) (omega (arith, front)) ∙ take_all k (take k l) (omega (arith, front))
 
 -- two numbers are equal where two others are
 same_test : (a b c d : ℕ) → (a ≡ b → c ≡ d) → (c ≡ d → a ≡ b) → (a == b) ≡ (c == d)
@@ -66,11 +60,6 @@ known_ahead table at end n laid fits some within known few =
           ap (map (λ f. f.kind)) (sym (drop-take k n table.forms)) ∙ sym (drop-map (λ f. f.kind) k (take (k + n) table.forms)) ∙ ap (drop k) first ∙ drop-map (λ c. c.kind) k (take (k + n) columns) ∙ ap kinds (drop-take k n columns) in
           forms_are ∙ ap (λ (m : ℕ). kinds (take m (drop k columns))) (sym len);
     }
-
--- some forms have a first
-pub some_first : (forms : List Form) → 0 < length forms → (form : Form) × (rest : List Form) × (forms ≡ form ∷ rest)
-some_first [] some = absurd (omega (arith, some))
-some_first (f ∷ fs) some = (f, fs, refl)
 
 -- no cell was written where no byte was used
 pub none_written : (cells used : ℕ) → (0 < cells → 0 < used) → used ≡ 0 → cells ≡ 0

@@ -110,10 +110,14 @@ pub record WritesKind (charset : Charset) (kind : Kind) (column : ℕ) (last : B
   pub whole : WritesWhole (cell_start kind (shape charset kind)) column last bytes text
   pub at_once : is_scalar kind ≡ true → (any : Charset) → WritesCell (cell_start kind (shape any kind)) column last bytes text
 
--- The cell at the front of these bytes, this many of them, was written to the front of others; or it is left, with this much room.
-abbrev pub CellWritten : Charset → Kind → ℕ → Bool → List ℕ → ℕ → List ℕ → Option Written → Type 0
-CellWritten charset kind column last bytes room text result = MatchOption result (IsLeft charset kind bytes room)
-    (λ written. WritesKind charset kind column last (take written.used bytes) (take written.made text))
+-- The bytes are a whole cell of a kind, and this is its field, wherever it stands in a line.
+abbrev pub WritesField : Charset → Kind → List ℕ → List ℕ → Type 0
+WritesField charset kind bytes field = (column : ℕ) (last : Bool) → WritesKind charset kind column last bytes (in_line column last field)
+
+-- The field of the cell at the front of these bytes, this many of them, was written to the front of others; or it is left, with this much room.
+abbrev pub CellWritten : Charset → Kind → List ℕ → ℕ → List ℕ → Option Written → Type 0
+CellWritten charset kind bytes room text result = MatchOption result (IsLeft charset kind bytes room)
+    (λ written. WritesField charset kind (take written.used bytes) (take written.made text))
 
 -- Reading a cell stopped before it had any text.
 pub record StallsCell (from : CellPart) (column : ℕ) (old new : Seen) (place : ℕ) (stop : Stop) : Type 0 where

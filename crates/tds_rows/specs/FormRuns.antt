@@ -1,11 +1,12 @@
 -- What a run over cells by their forms does, whose columns follow one another in a row.
-use Rattle.std.specs.Prelude.{◌≡◌, ◌==◌, ◌⊎◌, ◌<◌, ◌≤◌, ◌&&◌, ◌∷◌, ℕ, Bool, false, List, length, map, take, drop}
+use Rattle.std.specs.Prelude.{◌≡◌, ◌==◌, ◌⊎◌, ◌+◌, ◌<◌, ◌≤◌, ◌&&◌, ◌∷◌, ◌++◌, ℕ, zero, suc, Bool, false, List, [], length, map, take, drop, get_or}
 use Rattle.tds_columns.specs.Description.{Column}
+use Rattle.tds_csv.specs.Quoting.{behind_comma}
 use Rattle.tds_rows.specs.declared.Charset.{Charset}
 use Rattle.tds_rows.specs.declared.form.Form.{Form}
 use Rattle.tds_rows.specs.declared.run.fields.TheConstants.{CELL_ROOM}
 use Rattle.tds_rows.specs.declared.run.forms.FormsRun.{FormsRun}
-use Rattle.tds_rows.specs.CellSteps.{IsLeft}
+use Rattle.tds_rows.specs.CellSteps.{IsLeft, WritesField, whole_size}
 use Rattle.tds_rows.specs.MarkedRuns.{WritesMarked}
 use Rattle.tds_rows.specs.Runs.{WritesOne}
 use Rattle.tds_rows.specs.Tables.{kinds}
@@ -27,9 +28,24 @@ pub record IsWithin (run : FormsRun) (most bytes room : ℕ) : Type 0 where
 abbrev pub FirstLeft : Charset → List Form → List ℕ → ℕ → Type 0
 FirstLeft charset forms bytes room = (form : Form) (rest : List Form) → forms ≡ form ∷ rest → (room < CELL_ROOM) ⊎ IsLeft charset form.kind bytes room
 
+-- The bytes of the first cell were used, which are this many.
+abbrev pub FirstUsed : List Form → List ℕ → ℕ → Type 0
+FirstUsed forms bytes used = (form : Form) (rest : List Form) → forms ≡ form ∷ rest → used ≡ whole_size form.kind bytes
+
 -- The first cell alone was written so.
 abbrev pub FirstWritten : Charset → List Form → ℕ → Bool → List ℕ → List ℕ → FormsRun → Type 0
 FirstWritten charset forms column ends bytes text run = (form : Form) (rest : List Form) → forms ≡ form ∷ rest → WritesOne charset form.kind column (ends && (1 == length forms)) bytes text run.used run.made
+
+-- The bytes are the cells of so many forms, and these are their fields after one another, each after its comma.
+abbrev pub WritesForms : Charset → List Form → ℕ → ℕ → List ℕ → List ℕ → Type 0
+WritesForms charset forms column zero bytes text = (bytes ≡ []) × (text ≡ [])
+WritesForms charset forms column (suc n) bytes text = (front : List ℕ) × (rest : List ℕ) × (before : List ℕ) × (field : List ℕ)
+    × (bytes ≡ front ++ rest) × (text ≡ before ++ behind_comma (column + n) field) × WritesForms charset forms column n front before × ((form : Form) → WritesField charset (get_or forms n form).kind rest field)
+
+-- A run wrote the fields of the bytes that it used, and the comma of the next one.
+abbrev pub FieldsWritten : Charset → List Form → ℕ → List ℕ → List ℕ → FormsRun → Type 0
+FieldsWritten charset forms column bytes text run = (fields : List ℕ) × WritesForms charset forms column run.cells (take run.used bytes) fields
+    × (take run.made text ≡ fields ++ behind_comma (column + run.cells) [])
 
 -- A run wrote the text of the bytes that it used, which are the next cells.
 abbrev pub FormsWritten : Charset → List Form → ℕ → Bool → List ℕ → List ℕ → FormsRun → Type 0

@@ -3,6 +3,7 @@ use Rattle.std.specs.Prelude.{◌≡◌, ◌==◌, ◌⊎◌, ◌+◌, ◌*◌, 
 use Rattle.tds_values.specs.declared.kind.Reach.TheVariants.{Short}
 use Rattle.tds_csv.specs.Conversion.{Conversion, is_fit}
 use Rattle.tds_csv.specs.Fields.{field_room}
+use Rattle.tds_csv.specs.Quoting.{in_line}
 use Rattle.tds_rows.specs.declared.run.buffered.Written.{Written}
 use Rattle.tds_rows.specs.Cells.{LongShape, Shape, ShortLength}
 use Rattle.tds_rows.specs.WholeCells.{WritesWhole}
@@ -33,6 +34,7 @@ abbrev pub IsShortLeft : Option Conversion → List ℕ → ℕ → Type 0
 IsShortLeft (Some c) bytes room = (length bytes < short_size bytes) ⊎ ((room < 1 + field_room c (data_length bytes)) ⊎ (is_fit c (short_data bytes) ≡ false))
 IsShortLeft None bytes room = Unit {0}
 
--- The cell of a short value of this conversion at the front of these bytes, this many of them, was written to the front of others; or it is left.
-abbrev pub ShortWritten : Conversion → ℕ → Bool → List ℕ → ℕ → List ℕ → Option Written → Type 0
-ShortWritten c column last bytes room text result = MatchOption result (IsShortLeft (Some c) bytes room) (λ written. WritesWhole (ShortLength c) column last (take written.used bytes) (take written.made text))
+-- The field of a short value of this conversion was written to the front of others, whose cell is at the front of these bytes, this many of them; or it is left.
+abbrev pub ShortWritten : Conversion → List ℕ → ℕ → List ℕ → Option Written → Type 0
+ShortWritten c bytes room text result = MatchOption result (IsShortLeft (Some c) bytes room)
+    (λ written. (column : ℕ) (last : Bool) → WritesWhole (ShortLength c) column last (take written.used bytes) (in_line column last (take written.made text)))

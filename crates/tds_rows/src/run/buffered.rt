@@ -1,15 +1,15 @@
 // A cell of a scalar kind whose bytes are together.
-ghost use Rattle.std.specs.Prelude.{◌≡◌, ◌≤◌, ◌<◌, ◌⊎◌, false, true, length, IsTrue, IfSome, MatchOption};
+ghost use Rattle.std.specs.Prelude.{◌≡◌, ◌+◌, ◌≤◌, ◌<◌, ◌⊎◌, false, true, length, IsTrue, IfSome, MatchOption};
 ghost use Rattle.tds_rows.specs.CellSteps.{CellWritten, HasInt4, value_start, whole_size};
 ghost use Rattle.tds_rows.specs.Layouts.{HasNoValue, HasValueAt, IsLaidOut};
 ghost use Rattle.tds_values.specs.Kind as kinds;
 
 use crate::Charset;
 use crate::form::{Form, Layout};
-use crate::run::fields::{CELL_ROOM, write_value};
+use crate::run::fields::VALUE_ROOM;
 use crate::run::short::write_short;
 use tds_csv::write_null;
-use tds_values::Kind;
+use tds_values::{Kind, write_scalar};
 
 // How many bytes a cell has, and how many its text in its line.
 #[derive(Clone, Copy)]
@@ -63,27 +63,25 @@ pub(crate) fn has_int4(start: usize, bytes: &[u8]) -> bool
     bytes.len() >= start + INT4_SIZE && (start == 0 || bytes[0] == 4)
 }
 
-// Writes the cell at the front of these bytes; none where it isn't whole, is refused or in chunks, or where
-// there isn't the room that the text of a short value may need.
+// Writes the field of the cell at the front of these bytes; none where it isn't whole, is refused or in chunks, or
+// where there isn't the room that the text of a short value may need. Two bytes of room are left after it.
 #[inline(always)]
 pub(crate) fn write_cell(
     form: &Form,
     charset: Charset,
-    column: u16,
-    last: bool,
     bytes: &[u8],
     to: &mut [u8],
 ) -> Option<Written>
     requires laid { IsLaidOut charset form.now.kind form.now.layout }
-    requires room { CELL_ROOM ≤ length to.old }
+    requires room { VALUE_ROOM ≤ length to.old }
     ensures used { IfSome result (λ written. written.used ≤ length bytes.now) }
-    ensures most { IfSome result (λ written. written.made ≤ length to.old) }
+    ensures most { IfSome result (λ written. written.made + 2 ≤ length to.old) }
     ensures whole { IfSome result (λ written. written.used ≡ whole_size form.now.kind bytes.now) }
-    ensures gives { CellWritten charset form.now.kind column last bytes.now (length to.old) to.new result }
+    ensures gives { CellWritten charset form.now.kind bytes.now (length to.old + 1) to.new result }
 {
     let Some((start, n)) = value_at(form.layout, bytes) else {
         return match form.layout {
-            Layout::Short(content) => write_short(content, column, last, bytes, to),
+            Layout::Short(content) => write_short(content, bytes, to),
             _ => None,
         };
     };
@@ -92,11 +90,11 @@ pub(crate) fn write_cell(
         return None;
     }
     if n == 0 {
-        let made = write_null(column, last, to);
+        let made = write_null(0, false, to);
         return Some(Written { used, made });
     }
-    match write_value(&form.kind, column, last, &bytes[start..used], to) {
-        Some(made) => Some(Written { used, made }),
-        None => None,
+    match write_scalar(&form.kind, &bytes[start..used], to) {
+        Ok(made) => Some(Written { used, made }),
+        Err(_) => None,
     }
 }

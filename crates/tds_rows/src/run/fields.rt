@@ -1,47 +1,23 @@
 // The text of a scalar value in its line.
-ghost use Rattle.std.specs.Prelude.{◌≡◌, ◌≤◌, false, is_ok, length, take, MatchOption, IfSome};
+ghost use Rattle.std.specs.Prelude.{◌≡◌, ◌≤◌, length, take};
 ghost use Rattle.tds_csv.specs.Quoting.{in_line, null_field};
 ghost use Rattle.tds_csv.specs.Sinks.{IsWriting, PutsPiece};
-ghost use Rattle.tds_rows.specs.CellSteps.{IsScalarKind, IsValueText};
-ghost use Rattle.tds_values.specs.Scalar.{read_of};
+ghost use Rattle.tds_rows.specs.CellSteps.{IsValueText};
+ghost use Rattle.tds_values.specs.declared.kind.Kind.TheVariants.{IntN};
 
 use std::io::Write;
 use tds_csv::{NULL_ROOM, Sink, write_comma, write_line_end, write_null};
 use tds_packet::Stop;
-use tds_values::{Kind, write_int4, write_scalar};
+use tds_values::write_int4;
 
 /// How many bytes the text of a scalar in its line may want, and a few to spare.
 pub(crate) const CELL_ROOM: usize = 66;
 
+/// How many bytes the text of a scalar may want, with the end of its line, and a few to spare.
+pub(crate) const VALUE_ROOM: usize = 65;
+
 /// How many bytes the text of a whole number of four bytes in its line may want, and a few to spare.
 pub(crate) const INT4_ROOM: usize = 28;
-
-/// The most bytes that the text of a scalar in its line has.
-pub(crate) const LONGEST_IN_LINE: usize = 44;
-
-// Writes the text of a value in its line to the front of a slice, and answers how many bytes it has;
-// none where the value is out of range.
-#[inline(always)]
-pub(crate) fn write_value(
-    kind: &Kind,
-    column: u16,
-    last: bool,
-    bytes: &[u8],
-    to: &mut [u8],
-) -> Option<usize>
-    requires scalar { IsScalarKind kind.now }
-    requires room { CELL_ROOM ≤ length to.old }
-    ensures most { IfSome result (λ made. made ≤ LONGEST_IN_LINE) }
-    ensures gives { MatchOption result
-        (is_ok (read_of kind.now bytes.now) ≡ false)
-        (λ made. IsValueText kind.now column last bytes.now (take made to.new)) }
-{
-    let start = write_comma(column, to);
-    match write_scalar(kind, bytes, &mut to[start..]) {
-        Ok(made) => Some(write_line_end(last, start + made, to)),
-        Err(_) => None,
-    }
-}
 
 // Writes the text of a whole number of four bytes in its line, and answers how many bytes it has.
 #[inline(always)]
@@ -49,7 +25,7 @@ pub(crate) fn write_int4_field(column: u16, last: bool, bytes: &[u8], to: &mut [
     requires whole { length bytes.now ≡ 4 }
     requires room { INT4_ROOM ≤ length to.old }
     ensures most { result ≤ INT4_ROOM }
-    ensures gives { IsValueText (Kind.IntN 4) column last bytes.now (take result to.new) }
+    ensures gives { IsValueText (IntN 4) column last bytes.now (take result to.new) }
 {
     let start = write_comma(column, to);
     let made = write_int4(bytes, &mut to[start..]);

@@ -1,12 +1,13 @@
 // A run over cells by their forms, whose columns follow one another in a row.
-ghost use Rattle.std.specs.Prelude.{◌≡◌, ◌==◌, ◌&&◌, ◌+◌, ◌<◌, ◌≤◌, length};
-ghost use Rattle.tds_rows.specs.FormRuns.{FirstLeft, FirstWritten, FormsWritten, IsWithin};
+ghost use Rattle.std.specs.Prelude.{◌≡◌, ◌==◌, ◌&&◌, ◌<◌, ◌≤◌, length};
+ghost use Rattle.tds_rows.specs.FormRuns.{FieldsWritten, FirstLeft, FirstUsed, FirstWritten, FormsWritten, IsWithin};
 ghost use Rattle.tds_rows.specs.Forms.{AreLaidOut};
 
 use crate::Charset;
 use crate::form::{Form, Layout};
 use crate::run::buffered::write_cell;
-use crate::run::fields::CELL_ROOM;
+use crate::run::fields::{CELL_ROOM, VALUE_ROOM};
+use tds_csv::{COMMA, write_comma, write_line_end};
 
 /// How many cells a run wrote, how many bytes they have, and how many their text has.
 #[derive(Clone, Copy)]
@@ -16,13 +17,50 @@ pub(crate) struct FormsRun {
     pub(crate) made: usize,
 }
 
-// Whether the next of `count` columns, after `cells` of them, is its row's last, which they may end.
+// Whether so many of `count` columns, the last of which may be the row's, end the row.
 #[inline(always)]
 fn is_last(ends: bool, cells: usize, count: usize) -> bool
-    requires { cells < count }
-    ensures { result ≡ (ends && (cells + 1 == count)) }
+    ensures { result ≡ (ends && (cells == count)) }
 {
-    ends && cells + 1 == count
+    ends && cells == count
+}
+
+// Writes the fields of the next cells, each after its comma, which the first has unless it is the row's first, and
+// a comma after the last of them.
+#[inline(always)]
+fn write_fields(
+    forms: &[Form],
+    charset: Charset,
+    column: u16,
+    bytes: &[u8],
+    to: &mut [u8],
+) -> FormsRun
+    requires laid { AreLaidOut charset forms.now }
+    requires room { CELL_ROOM ≤ length to.old }
+    ensures within { IsWithin result (length forms.now) (length bytes.now) (length to.old) }
+    ensures room { 0 < result.cells → (0 < result.made) × (result.made < length to.old) }
+    ensures ends { result.cells ≡ 0 → FirstLeft charset forms.now bytes.now (length to.old) }
+    ensures one { result.cells ≡ 1 → FirstUsed forms.now bytes.now result.used }
+    ensures gives { FieldsWritten charset forms.now column bytes.now to.new result }
+{
+    let mut cells = 0;
+    let mut used = 0;
+    let mut made = write_comma(column, to);
+    while cells < forms.len() && to.len() - made >= VALUE_ROOM {
+        let form = &forms[cells];
+        if cells > 0 && matches!(form.layout, Layout::Int4 | Layout::CountedInt4) {
+            break;
+        }
+        let Some(written) = write_cell(form, charset, &bytes[used..], &mut to[made..]) else {
+            break;
+        };
+        cells += 1;
+        used += written.used;
+        made += written.made;
+        to[made] = COMMA;
+        made += 1;
+    }
+    FormsRun { cells, used, made }
 }
 
 /// Writes the cells of the next columns of a row, of which `column` come before them, one after another: as far
@@ -38,29 +76,24 @@ pub(crate) fn run_forms(
     to: &mut [u8],
 ) -> FormsRun
     requires laid { AreLaidOut charset forms.now }
-    requires few { column + length forms.now ≤ 65535 }
     ensures within { IsWithin result (length forms.now) (length bytes.now) (length to.old) }
     ensures ends { result.cells ≡ 0 → FirstLeft charset forms.now bytes.now (length to.old) }
     ensures one { result.cells ≡ 1 → FirstWritten charset forms.now column ends bytes.now to.new result }
     ensures gives { FormsWritten charset forms.now column ends bytes.now to.new result }
 {
-    let mut cells = 0;
-    let mut used = 0;
-    let mut made = 0;
-    while cells < forms.len() && to.len() - made >= CELL_ROOM {
-        let form = &forms[cells];
-        if cells > 0 && matches!(form.layout, Layout::Int4 | Layout::CountedInt4) {
-            break;
-        }
-        let at = column + cells as u16;
-        let last = is_last(ends, cells, forms.len());
-        let Some(written) = write_cell(form, charset, at, last, &bytes[used..], &mut to[made..])
-        else {
-            break;
-        };
-        cells += 1;
-        used += written.used;
-        made += written.made;
+    let none = FormsRun {
+        cells: 0,
+        used: 0,
+        made: 0,
+    };
+    if to.len() < CELL_ROOM {
+        return none;
     }
-    FormsRun { cells, used, made }
+    let run = write_fields(forms, charset, column, bytes, to);
+    if run.cells == 0 {
+        return none;
+    }
+    let last = is_last(ends, run.cells, forms.len());
+    let made = write_line_end(last, run.made - 1, to);
+    FormsRun { made, ..run }
 }

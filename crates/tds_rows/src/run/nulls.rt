@@ -1,5 +1,5 @@
 // A run over the cells of an NBCROW: as many as are NULL by their bit or whole in the packet, and have room.
-ghost use Rattle.std.specs.Prelude.{◌≡◌, ◌+◌, ◌-◌, ◌*◌, ◌≤◌, drop, length, ◌<◌};
+ghost use Rattle.std.specs.Prelude.{◌≡◌, ◌-◌, ◌*◌, ◌<◌, ◌≤◌, drop, length};
 ghost use Rattle.tds_packet.specs.Payloads.{buffered};
 ghost use Rattle.tds_rows.specs.MarkedRuns.{AreClear, EndsClear, EndsLeft, MarkedPut, MarkedWritten, room_left};
 ghost use Rattle.tds_rows.specs.RowReading.{IsInRow, StaysInRow};

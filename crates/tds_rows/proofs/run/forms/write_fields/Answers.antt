@@ -1,0 +1,67 @@
+use Rattle.std.proofs.Common.{inr, ◌≡◌, ◌∙◌, ◌+◌, ◌-◌, ◌<◌, ◌≤◌, ℕ, List, length, take, drop, get_or, refl, ap, subst, arith, rules, length-take, length-drop}
+use Rattle.tds_columns.proofs.ViewLaws.{all_behind}
+use Rattle.tds_rows.specs.declared.form.Form.{Form}
+use Rattle.tds_rows.specs.CellSteps.{IsLeft, WritesField, whole_size}
+use Rattle.tds_rows.proofs.FormSteps.{fields_more, fields_none, first_used, left_less}
+use Rattle.tds_rows.proofs.RunSteps.{made_same, whole_some}
+use Rattle.tds_rows.proofs.run.forms.write_fields.Goals as goal
+
+pub loop-cells-init : goal.loop-cells-init
+loop-cells-init c =
+    let made = c.write_comma-made in
+    record {
+      cells = omega arith;
+      used = omega arith;
+      made = search (arith, rules);
+      begun = λ _. (refl, made.ensures.most);
+      some = λ never. absurd (omega (arith, never));
+      room = λ never. absurd (omega (arith, never));
+      one = λ never. absurd (omega (arith, never));
+      writes = fields_none c.args.charset c.args.forms.now c.args.column c.args.bytes.now made.result made.new.to made.ensures.text;
+    }
+
+pub loop-cells-preserved : goal.loop-cells-preserved
+loop-cells-preserved c =
+    let l = c.loop-cells in
+    let written = c.in-Some.written in
+    let text = c.write_cell.new.to in
+    let forms = c.args.forms.now in
+    let form = c.index-forms-cells.result in
+    let bytes = c.args.bytes.now in
+    let rest = take (length bytes - l.used) (drop l.used bytes) in
+    let some : written.made < length text = search (arith, rules) in
+    let form_is : form ≡ get_or forms l.cells form = search (arith, rules) in
+    let whole = c.in-Some.ensures.whole in
+    let wrote = subst (λ (f : Form). WritesField c.args.charset f.kind (take written.used rest) (take written.made text)) form_is c.in-Some.ensures.gives in
+    record {
+      cells = omega (arith, c.loop-cells-test.true);
+      used = search (arith, rules);
+      made = search (arith, rules);
+      begun = λ never. absurd (omega (arith, never));
+      some = λ _. omega (arith, whole, whole_some form.kind rest);
+      room = λ _. (omega arith, search (arith, rules));
+      one = λ first. first_used c.args.charset forms c.args.column bytes l.used written.used l.cells form (omega (arith, first)) (l.invariant.begun (omega (arith, first))).0 (whole ∙ ap (λ (f : Form). whole_size f.kind rest) form_is);
+      writes = fields_more c.args.charset forms c.args.column bytes l.to text _ l.cells l.used written.used l.made written.made form l.invariant.made some c.loop-cells-test.true wrote l.invariant.writes;
+    }
+
+pub returns-in_default-write_cell-clause-ends : goal.returns-in_default-write_cell-clause-ends
+returns-in_default-write_cell-clause-ends c = λ first form others are.
+    let l = c.loop-cells in
+    let bytes = c.args.bytes.now in
+    let begun = l.invariant.begun first in
+    let d = c.index-forms-cells.result in
+    let lent = take (length l.to - l.made) (drop l.made l.to) in
+    let rest = take (length bytes - l.used) (drop l.used bytes) in
+    let room : length c.args.to.now ≤ length lent + 1 = omega (arith, begun.1, l.auto.to, length-take (length l.to - l.made) (drop l.made l.to), length-drop l.made l.to) in
+    let there : d ≡ get_or c.args.forms.now l.cells d = search (arith, rules) in
+    let form_is : d ≡ form = there ∙ ap (λ (n : ℕ). get_or c.args.forms.now n d) first ∙ ap (λ (f : List Form). get_or f 0 d) are in
+    let bytes_are : rest ≡ bytes = all_behind bytes l.used ∙ ap (λ n. drop n bytes) begun.0 in
+    inr (left_less c.args.charset form.kind bytes (length c.args.to.now) (length lent + 1) room
+    (subst (λ (b : List ℕ). IsLeft c.args.charset form.kind b (length lent + 1)) bytes_are
+    (subst (λ (f : Form). IsLeft c.args.charset f.kind rest (length lent + 1)) form_is c.in_default-write_cell.ensures.gives)))
+
+pub returns-in_default-write_cell-clause-gives : goal.returns-in_default-write_cell-clause-gives
+returns-in_default-write_cell-clause-gives c =
+    let l = c.loop-cells in
+    let x = l.invariant.writes in
+    (x.0, x.1, made_same l.made l.to _ l.invariant.made ∙ x.2)
