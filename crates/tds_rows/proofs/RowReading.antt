@@ -3,11 +3,16 @@ use Rattle.std.proofs.Common.{◌≡◌, ◌∙◌, refl, subst, arith}
 use Rattle.std.specs.Prelude.{Ok, Result}
 use Rattle.tds_packet.specs.declared.fault.Stop.{Stop}
 use Rattle.tds_rows.specs.declared.reading.Rows.{Rows}
+use Rattle.tds_meter.specs.Space.{Space}
+use Rattle.tds_rows.specs.CellSteps.{LeavesSmall}
 use Rattle.tds_rows.specs.RowReading.{IsInRow, IsOnSameRows, LeavesRows, StaysInRow}
 
 -- two steps on the same devices and area, by the same table
 same_again : {R W : Type 0} (a b c : Rows R W) → IsOnSameRows a b → IsOnSameRows b c → IsOnSameRows a c
 same_again a b c x y = (y.0 ∙ x.0, y.1 ∙ x.1, y.2 ∙ x.2, y.3 ∙ x.3)
+
+small_again : (a b c : Space) → LeavesSmall a b → LeavesSmall b c → LeavesSmall a c
+small_again a b c x y = record { room = y.room ∙ x.room; bound = omega (arith, x.bound, y.bound) }
 
 -- before the first step
 pub stays : {R W : Type 0} (a : Rows R W) → IsInRow a → StaysInRow a a
@@ -16,8 +21,7 @@ stays a x = record {
   same = (refl, refl, refl, refl);
   payload = (refl, refl, refl, refl);
   sink = (refl, refl, refl);
-  room = refl;
-  bound = omega arith;
+  small = record { room = refl; bound = omega arith };
 }
 
 -- after a run
@@ -27,8 +31,7 @@ stays_on a b c x y = record {
   same = same_again a b c x.same y.same;
   payload = (y.payload.0 ∙ x.payload.0, y.payload.1 ∙ x.payload.1, y.payload.2 ∙ x.payload.2, y.payload.3 ∙ x.payload.3);
   sink = (y.sink.0 ∙ x.sink.0, y.sink.1 ∙ x.sink.1, y.sink.2 ∙ x.sink.2);
-  room = y.room ∙ x.room;
-  bound = omega (arith, x.bound, y.bound);
+  small = small_again a.small.now b.small.now c.small.now x.small y.small;
 }
 
 -- after a cell
@@ -37,13 +40,12 @@ stays_after a b u x y = record {
   in_row = record {
     payload = record { sound = y.payload.sound; going = y.payload.going };
     sink = record { ready = y.sink.ready; writing = y.sink.writing };
-    room = omega (arith, x.room, y.room);
+    room = omega (arith, x.room, y.small.room);
   };
   same = y.same;
   payload = y.payload.same;
   sink = y.sink.same;
-  room = y.room;
-  bound = y.bound;
+  small = y.small;
 }
 
 -- where a call after some steps leaves it
@@ -56,8 +58,7 @@ leaves_after a b c result x y = record {
     going = y.payload.going;
   };
   sink = record { ready = y.sink.ready; same = (y.sink.same.0 ∙ x.sink.0, y.sink.same.1 ∙ x.sink.1, y.sink.same.2 ∙ x.sink.2); writing = y.sink.writing };
-  room = y.room ∙ x.room;
-  bound = omega (arith, x.bound, y.bound);
+  small = small_again a.small.now b.small.now c.small.now x.small y.small;
 }
 
 -- what is said of a payload and a sink is said of those that they are

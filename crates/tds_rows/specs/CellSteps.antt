@@ -158,11 +158,15 @@ pub record IsGathering {R : Type 0} (p : payloads.Payload R) (small : Space) : T
   pub empty : small.bytes ≡ []
   pub room : LONGEST_CELL ≤ small.room
 
+-- The area in which cells are gathered has the room that it had, and held no more than before or than a cell.
+pub record LeavesSmall (before after : Space) : Type 0 where
+  pub room : after.room ≡ before.room
+  pub bound : after.peak ≤ max before.peak LONGEST_CELL
+
 -- A call left the payload sound, on the same reader and area, and going where it answered no error, with no more than a cell gathered in this area.
 pub record LeavesGathering {R U : Type 0} (old new : payloads.Payload R) (before after : Space) (result : Result U Stop) : Type 0 where
   pub payload : LeavesPayload old new result
-  pub room : after.room ≡ before.room
-  pub bound : after.peak ≤ max before.peak LONGEST_CELL
+  pub small : LeavesSmall before after
 
 -- These bytes, those of a scalar cell, were read from this state on; or the reading stopped.
 abbrev pub CellGathered : {R U : Type 0} → (R → Option (List ℕ)) → Kind → CellPart → ℕ → payloads.Payload R → payloads.Payload R → List ℕ → Result U Stop → Type 0

@@ -1,5 +1,5 @@
 -- The reading of rows as the contracts of its steps see it.
-use Rattle.std.specs.Prelude.{◌≡◌, ◌==◌, ◌+◌, ◌≤◌, ℕ, Bool, true, false, List, [], ◌∷◌, max, Option, Result}
+use Rattle.std.specs.Prelude.{◌≡◌, ◌==◌, ◌+◌, ◌≤◌, ℕ, Bool, true, false, List, [], ◌∷◌, Option, Result}
 use Rattle.tds_values.specs.declared.kind.Kind.{Kind}
 use Rattle.tds_packet.specs.declared.fault.Stop.{Stop}
 use Rattle.tds_packet.specs.declared.payload.Payload.{Payload}
@@ -11,7 +11,7 @@ use Rattle.tds_rows.specs.declared.gather.TheConstants.{LONGEST_CELL}
 use Rattle.tds_rows.specs.declared.reading.Rows.{Rows}
 use Rattle.tds_rows.specs.declared.table.Ahead.{Ahead}
 use Rattle.tds_rows.specs.Cells.{CellPart}
-use Rattle.tds_rows.specs.CellSteps.{CellPut, FieldPut}
+use Rattle.tds_rows.specs.CellSteps.{CellPut, FieldPut, LeavesSmall}
 use Rattle.tds_rows.specs.Rows.{RowPart, RowToken, token_byte}
 use Rattle.tds_rows.specs.RowSteps.{RowPut}
 use Rattle.tds_rows.specs.Tables.{IsNextKind}
@@ -31,8 +31,7 @@ pub record LeavesRows {R W U : Type 0} (old new : Rows R W) (result : Result U S
   pub same : IsOnSameRows old new
   pub payload : LeavesPayload old.payload.now new.payload.now result
   pub sink : LeavesSink old.sink.now new.sink.now result
-  pub room : new.small.now.room ≡ old.small.now.room
-  pub bound : new.small.now.peak ≤ max old.small.now.peak LONGEST_CELL
+  pub small : LeavesSmall old.small.now new.small.now
 
 -- A row is still being read, on the same devices and area, by the same table, with no more than a cell gathered.
 pub record StaysInRow {R W : Type 0} (old new : Rows R W) : Type 0 where
@@ -40,8 +39,7 @@ pub record StaysInRow {R W : Type 0} (old new : Rows R W) : Type 0 where
   pub same : IsOnSameRows old new
   pub payload : IsOnSame old.payload.now new.payload.now
   pub sink : IsOnSameSink old.sink.now new.sink.now
-  pub room : new.small.now.room ≡ old.small.now.room
-  pub bound : new.small.now.peak ≤ max old.small.now.peak LONGEST_CELL
+  pub small : LeavesSmall old.small.now new.small.now
 
 -- The cell after this many columns, the row's last or not, was read from this state on and its text put, or the call stopped.
 abbrev pub ContentRead : {R W U : Type 0} → (R → Option (List ℕ)) → (W → Option (List ℕ)) → CellPart → ℕ → Bool → Rows R W → Rows R W → Result U Stop → Type 0

@@ -19,9 +19,9 @@ pub record Knows (table : Table) (columns : List Column) : Type 0 where
   pub counted : table.count ≡ length columns
   pub rest : columns_left table.rest ≡ drop table.known columns
 
--- The table knows some columns.
+-- The table knows some columns, one at least.
 abbrev pub KnowsSome : Table → Type 0
-KnowsSome table = (columns : List Column) × Knows table columns
+KnowsSome table = (columns : List Column) × Knows table columns × (0 < table.count)
 
 -- The place is one in a row of these columns: its walk is over those ahead that the table doesn't know.
 pub record IsAhead (table : Table) (columns : List Column) (at : Ahead) : Type 0 where

@@ -1,5 +1,5 @@
 // A row with a bitmap of the columns that are NULL, and such rows after one another (MS-TDS, NBCROW).
-ghost use Rattle.std.specs.Prelude.{◌≡◌, ℕ, ◌+◌, ◌*◌, ◌<◌, ◌≤◌, ◌++◌, List, [], None, false, length, max, IfOk};
+ghost use Rattle.std.specs.Prelude.{◌≡◌, ℕ, ◌+◌, ◌*◌, ◌<◌, ◌≤◌, ◌++◌, List, [], None, false, length, IfOk};
 ghost use Rattle.tds_columns.specs.Description.{Column};
 ghost use Rattle.tds_columns.specs.View.{columns_of};
 ghost use Rattle.tds_csv.specs.Sinks.{IsReady, IsWriting, LeavesSink};
@@ -7,6 +7,7 @@ ghost use Rattle.tds_packet.specs.Payloads.{IsGoing, IsSound, LeavesPayload};
 ghost use Rattle.tds_rows.specs.RowReading.{IsInRow, LeavesRows, NextRead, RowRead, StaysInRow, TokenTaken};
 ghost use Rattle.tds_rows.specs.RowSteps.{RowPut, RowsRead, StopsAgain};
 ghost use Rattle.tds_rows.specs.Cells.{Cell};
+ghost use Rattle.tds_rows.specs.CellSteps.{LeavesSmall};
 ghost use Rattle.tds_rows.specs.Layouts.{IsLaidOut};
 ghost use Rattle.tds_rows.specs.Rows.{NbcRow, SpellsNbcRow, bit, bitmap_length, nbc_row_start};
 ghost use Rattle.tds_rows.specs.Successes.{BeginNoRow, SpellsRows, SucceedsOn};
@@ -57,7 +58,6 @@ impl<'r, 't, 'p, 's, 'c, R: Read, W: Write> Rows<'r, 't, 'p, 's, 'c, R, W> {
     // Reads an NBCROW after its token byte, its bitmap into an empty area, and puts its line.
     fn nbc_row(&mut self, bitmap: &mut Area) -> Result<(), Stop>
         requires in_row { IsInRow self.old }
-        requires some { 0 < self.old.table.now.count }
         requires knows { KnowsSome self.old.table.now }
         requires empty { bitmap.old.bytes ≡ [] }
         requires room { LONGEST_BITMAP ≤ bitmap.old.room }
@@ -100,7 +100,6 @@ impl<'r, 't, 'p, 's, 'c, R: Read, W: Write> Rows<'r, 't, 'p, 's, 'c, R, W> {
     // their lines. Answers how many they are.
     fn nbc_rows(&mut self, bitmap: &mut Area) -> Result<u64, Stop>
         requires in_row { IsInRow self.old }
-        requires some { 0 < self.old.table.now.count }
         requires knows { KnowsSome self.old.table.now }
         requires room { LONGEST_BITMAP ≤ bitmap.old.room }
         ensures leaves { LeavesRows self.old self.new result }
@@ -149,8 +148,7 @@ pub fn nbc_row<R: Read, W: Write>(
     ensures sink { LeavesSink sink.old sink.new result }
     ensures room { bitmap.new.room ≡ bitmap.old.room }
     ensures peak { bitmap.new.peak ≤ bitmap.new.room }
-    ensures small_room { small.new.room ≡ small.old.room }
-    ensures small_bound { small.new.peak ≤ max small.old.peak LONGEST_CELL }
+    ensures small { LeavesSmall small.old small.new }
     ensures gives { payload.old.stopped ≡ None → sink.old.failed ≡ false →
         RowPut R.remaining W.contents charset (nbc_row_start (columns_of columns.entry.bytes.now))
         payload.old payload.new sink.old sink.new result }
@@ -197,8 +195,7 @@ pub fn read_nbc_rows<R: Read, W: Write>(
     ensures sink { LeavesSink sink.old sink.new result }
     ensures room { bitmap.new.room ≡ bitmap.old.room }
     ensures peak { bitmap.new.peak ≤ bitmap.new.room }
-    ensures small_room { small.new.room ≡ small.old.room }
-    ensures small_bound { small.new.peak ≤ max small.old.peak LONGEST_CELL }
+    ensures small { LeavesSmall small.old small.new }
     ensures few { IfOk result (λ count. payload.old.place + count ≤ payload.new.place + 1) }
     ensures gives { RowsRead R.remaining W.contents NbcRow charset (columns_of columns.entry.bytes.now)
         payload.old payload.new sink.old sink.new result }

@@ -1,9 +1,9 @@
 // The value of a RETURNVALUE, which is passed over (MS-TDS, RETURNVALUE).
-ghost use Rattle.std.specs.Prelude.{◌≡◌, ◌≤◌, ◌<◌, true, false, length, max, None, Err, IfOk, IfSome, IsTrue};
+ghost use Rattle.std.specs.Prelude.{◌≡◌, ◌≤◌, ◌<◌, true, false, length, None, Err, IfOk, IfSome, IsTrue};
 ghost use Rattle.tds_csv.specs.Conversion.{Conversion};
 ghost use Rattle.tds_packet.specs.Payloads.{IsGoing, IsSound, LeavesPayload};
 ghost use Rattle.tds_rows.specs.Cells.{LongShape, ShortLength, cell_start, return_charset, shape};
-ghost use Rattle.tds_rows.specs.CellSteps.{IsScalarKind, LeavesGathering, scalar_size};
+ghost use Rattle.tds_rows.specs.CellSteps.{IsScalarKind, LeavesGathering, LeavesSmall, scalar_size};
 ghost use Rattle.tds_rows.specs.PassedCells.{AnyData, CellPassed, DataPassed, IsGoodValue, IsRefusedValue, PiecePassed};
 ghost use Rattle.tds_values.specs.Kind as kinds;
 ghost use Rattle.tds_values.specs.declared.kind.Kind.{Kind};
@@ -127,8 +127,7 @@ pub fn pass_over<R: Read>(
     requires valid { IsTrue (kinds.is_valid kind.now) }
     requires room { LONGEST_CELL ≤ small.old.room }
     ensures payload { LeavesPayload payload.old payload.new result }
-    ensures room { small.new.room ≡ small.old.room }
-    ensures bound { small.new.peak ≤ max small.old.peak LONGEST_CELL }
+    ensures small { LeavesSmall small.old small.new }
     ensures gives { payload.old.stopped ≡ None →
         CellPassed R.remaining (cell_start kind.now (shape return_charset kind.now))
         payload.old payload.new result }

@@ -1,10 +1,11 @@
 // A row, cell after cell, and rows after one another (MS-TDS, ROW).
-ghost use Rattle.std.specs.Prelude.{◌≡◌, ℕ, ◌+◌, ◌<◌, ◌≤◌, ◌++◌, List, None, false, max, IfOk};
+ghost use Rattle.std.specs.Prelude.{◌≡◌, ℕ, ◌+◌, ◌<◌, ◌≤◌, ◌++◌, List, None, false, IfOk};
 ghost use Rattle.tds_columns.specs.Description.{Column};
 ghost use Rattle.tds_columns.specs.View.{columns_of};
 ghost use Rattle.tds_csv.specs.Sinks.{IsReady, IsWriting, LeavesSink};
 ghost use Rattle.tds_packet.specs.Payloads.{IsGoing, IsSound, LeavesPayload};
 ghost use Rattle.tds_rows.specs.Cells.{Cell};
+ghost use Rattle.tds_rows.specs.CellSteps.{LeavesSmall};
 ghost use Rattle.tds_rows.specs.RowReading.{IsInRow, LeavesRows, RowRead};
 ghost use Rattle.tds_rows.specs.RowSteps.{RowPut, RowsRead, StopsAgain};
 ghost use Rattle.tds_rows.specs.Rows.{PlainRow, SpellsRow, row_start};
@@ -40,7 +41,6 @@ impl<'r, 't, 'p, 's, 'c, R: Read, W: Write> Rows<'r, 't, 'p, 's, 'c, R, W> {
     // Reads a row and those that follow it in its packet, and puts their lines. Answers how many they are.
     fn rows(&mut self) -> Result<u64, Stop>
         requires in_row { IsInRow self.old }
-        requires some { 0 < self.old.table.now.count }
         requires knows { KnowsSome self.old.table.now }
         ensures leaves { LeavesRows self.old self.new result }
         ensures few { IfOk result (λ count. self.old.payload.now.place + count ≤ self.new.payload.now.place + 1) }
@@ -83,8 +83,7 @@ pub fn row<R: Read, W: Write>(
     requires room { LONGEST_CELL ≤ small.old.room }
     ensures payload { LeavesPayload payload.old payload.new result }
     ensures sink { LeavesSink sink.old sink.new result }
-    ensures room { small.new.room ≡ small.old.room }
-    ensures bound { small.new.peak ≤ max small.old.peak LONGEST_CELL }
+    ensures small { LeavesSmall small.old small.new }
     ensures gives { payload.old.stopped ≡ None → sink.old.failed ≡ false →
         RowPut R.remaining W.contents charset (row_start charset (columns_of columns.entry.bytes.now))
         payload.old payload.new sink.old sink.new result }
@@ -125,8 +124,7 @@ pub fn read_rows<R: Read, W: Write>(
     requires room { LONGEST_CELL ≤ small.old.room }
     ensures payload { LeavesPayload payload.old payload.new result }
     ensures sink { LeavesSink sink.old sink.new result }
-    ensures room { small.new.room ≡ small.old.room }
-    ensures bound { small.new.peak ≤ max small.old.peak LONGEST_CELL }
+    ensures small { LeavesSmall small.old small.new }
     ensures few { IfOk result (λ count. payload.old.place + count ≤ payload.new.place + 1) }
     ensures gives { RowsRead R.remaining W.contents PlainRow charset (columns_of columns.entry.bytes.now)
         payload.old payload.new sink.old sink.new result }

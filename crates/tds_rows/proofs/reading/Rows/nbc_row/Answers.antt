@@ -47,14 +47,13 @@ loop-form-init g c =
         same = (refl, refl, refl, refl);
         payload = c.in_ok-take_into.ensures.payload.same;
         sink = (refl, refl, refl);
-        room = refl;
-        bound = omega arith;
+        small = record { room = refl; bound = omega arith };
       };
       knows = c.requires.knows;
       fits = omega (arith, ap length bytes, x.whole, c.bitmap_size.ensures.value, c.count.ensures);
       reads = λ columns knows.
           let whole : length x.element ≡ bitmap_length (length columns) = x.whole ∙ c.bitmap_size.ensures.value ∙ ap bitmap_length (c.count.ensures ∙ knows.counted) in
-          let some : 0 < length columns = omega (arith, c.requires.some, knows.counted) in (
+          let some : 0 < length columns = omega (arith, c.requires.knows.2, knows.counted) in (
             c.start-ahead.ensures.ahead columns knows,
             subst (λ (n : ℕ). NearsCells charset (nbc_row_start columns) (marked (drop n columns) (bit c.take_into.new.area.bytes) n) a b place place' h h n) (sym c.start-ahead.ensures.first)
                 (subst (λ (l : List ℕ). NearsCells charset (nbc_row_start columns) (marked columns (bit l) 0) a b place place' h h 0) (sym bytes)

@@ -15,7 +15,6 @@ loop-ended-init g c =
     let old = c.args.self.now in
     record {
       stays = stays _ c.requires.in_row;
-      some = c.requires.some;
       knows = c.requires.knows;
       room = refl;
       few = omega arith;
@@ -77,14 +76,13 @@ loop-ended-preserved g c =
     let known = l.invariant.knows in
     record {
       stays = stays_on _ _ _ (stays_on _ _ _ l.invariant.stays (stays_after _ _ _ l.invariant.stays.in_row done.leaves)) kept;
-      some = search (arith, rules);
       knows = subst (λ t. KnowsSome t.now) (sym same) known;
       room = search (arith, rules);
       few = omega (arith, l.invariant.few, (done.gives known.0 known.1).place_is, taken.1);
       reads = subst (λ t. (columns : List Column) → Knows t.now columns → BeginsRow NbcRow t.now.charset columns (l.ended + 1) a e place next.payload.now.place h (held g.W.Write.contents next.sink.now)) (sym same)
           (λ columns knows.
           let read = row_more NbcRow l.self.table.now.charset columns l.ended a b d place l.self.payload.now.place h i j (l.invariant.reads columns knows) new.payload.now.place (done.gives columns knows) in
-          let some : 0 < length columns = omega (arith, l.invariant.some, knows.counted) in
+          let some : 0 < length columns = omega (arith, l.invariant.knows.2, knows.counted) in
           let begun = row_begins NbcRow l.self.table.now.charset columns (l.ended + 1) a d e place new.payload.now.place h j some done.leaves.sink.ready.2 read taken.0 in
           said_of (λ n s. BeginsRow NbcRow l.self.table.now.charset columns (l.ended + 1) a e place n h (held g.W.Write.contents s)) (new.payload.now.place + 1) next.payload.now.place new.sink.now next.sink.now (sym taken.1) (sym c.take_token.ensures.sink) begun);
     }

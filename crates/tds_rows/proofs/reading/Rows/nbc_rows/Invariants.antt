@@ -11,7 +11,6 @@ use Rattle.tds_rows.proofs.reading.Rows.nbc_rows.Given as goal
 abbrev pub invariant-loop-ended : goal.invariant-loop-ended
 invariant-loop-ended g l = record {
   stays : StaysInRow l.fn.self l.self;
-  some : 0 < l.self.table.now.count;
   knows : KnowsSome l.self.table.now;
   room : l.bitmap.room ≡ l.fn.bitmap.room;
   few : l.fn.self.payload.now.place + l.ended ≤ l.self.payload.now.place;

@@ -19,7 +19,6 @@ loop-form-init g c =
     let start = c.start-ahead.result in
     record {
       stays = stays _ c.requires.in_row;
-      some = c.requires.some;
       knows = c.requires.knows;
       few = omega arith;
       reads = λ columns knows. (
@@ -120,7 +119,6 @@ loop-form-preserved g c =
     cell_some charset taken.column.kind run.ahead.column (is_last (drop after.column known.0)) d e middle place' j k (cell known.0 there ahead) in
     record {
       stays = stays_on _ _ _ (stays_on _ _ _ l.invariant.stays kept) (stays_after _ _ _ kept.in_row done.leaves);
-      some = search (arith, rules);
       knows = subst (λ t. KnowsSome t.now) (sym same) l.invariant.knows;
       few = omega (arith, l.invariant.few, c.put_run-run.ensures.few, some);
       reads = subst (λ t. (columns : List Column) → Knows t.now columns → IsAhead t.now columns after

@@ -10,7 +10,6 @@ use Rattle.tds_rows.proofs.reading.Rows.rows.Given as goal
 abbrev pub invariant-loop-form : goal.invariant-loop-form
 invariant-loop-form g l = record {
   stays : StaysInRow l.initial.self l.self;
-  some : 0 < l.self.table.now.count;
   knows : KnowsSome l.self.table.now;
   few : l.initial.self.payload.now.place + l.ended ≤ l.self.payload.now.place;
   reads : (columns : List Column) → Knows l.self.table.now columns → IsAhead l.self.table.now columns l.ahead
