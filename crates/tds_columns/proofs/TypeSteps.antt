@@ -1,5 +1,5 @@
 -- The type of a returned value, as it is read.
-use Rattle.std.proofs.Common.{◌≡◌, ◌≢◌, ◌∙◌, ℕ, ◌+◌, ◌-◌, ◌<◌, ◌≤◌, List, [], ◌∷◌, ◌++◌, length, take, drop, refl, sym, ap, subst, arith}
+use Rattle.std.proofs.Common.{◌≡◌, ◌≢◌, ◌∙◌, ℕ, ◌+◌, ◌-◌, ◌<◌, ◌≤◌, List, [], ◌∷◌, ◌++◌, length, take, drop, max, refl, sym, ap, subst, arith, length-append}
 use Rattle.std.specs.Prelude.{Bool, true, false, Some, None, ◌==◌, is_some, slice_index, unwrap_or, if◌then◌else◌}
 use Rattle.std.proofs.lemmas.Bool.{ne_eqb}
 use Rattle.std.proofs.Math.Seq.{drop-append_seam, take-append_seam}
@@ -124,5 +124,9 @@ type_whole o a b before after byte rest bytes kind taken eight is known t e foun
         reads_both returned_type TypeHead (TypeRest byte) (KnownType kind) o a b first last
 
 -- the area is cut back
-pub head_kept : (before : Space) (element : List ℕ) (after cut : Space) → length before.bytes ≡ 8 → after ≡ appended before element → cut ≡ holding after (take 8 after.bytes) → cut.bytes ≡ before.bytes
-head_kept before element after cut eight is e = ap (λ (s : Space). s.bytes) e ∙ ap (λ (s : Space). take 8 s.bytes) is ∙ ap (λ n. take n (before.bytes ++ element)) (sym eight) ∙ take-append_seam before.bytes element
+pub head_kept : (before : Space) (element : List ℕ) (after cut : Space) → length before.bytes ≡ 8 → length element ≤ 7 → after ≡ appended before element → cut ≡ holding after (take 8 after.bytes) → (cut.bytes ≡ before.bytes) × (cut.peak ≤ max before.peak 15)
+head_kept before element after cut eight few is e =
+    let peak : cut.peak ≡ max before.peak (length (before.bytes ++ element)) = ap (λ (s : Space). s.peak) e ∙ ap (λ (s : Space). s.peak) is in (
+      ap (λ (s : Space). s.bytes) e ∙ ap (λ (s : Space). take 8 s.bytes) is ∙ ap (λ n. take n (before.bytes ++ element)) (sym eight) ∙ take-append_seam before.bytes element,
+      omega (arith, peak, length-append before.bytes element, eight, few),
+    )

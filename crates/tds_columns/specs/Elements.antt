@@ -1,9 +1,9 @@
 -- What reading an element to the end of an area does.
-use Rattle.std.specs.Prelude.{◌≡◌, ℕ, ◌+◌, ◌<◌, ◌≤◌, List, length, max, Option, None, Result, MatchResult}
+use Rattle.std.specs.Prelude.{◌≡◌, ℕ, ◌+◌, ◌<◌, ◌≤◌, List, length, max, Option, None, Result, MatchResult, OnErr}
 use Rattle.tds_meter.specs.Space.{Space, appended}
 use Rattle.tds_packet.specs.declared.fault.Stop.{Stop}
 use Rattle.tds_packet.specs.declared.payload.Payload.{Payload}
-use Rattle.tds_packet.specs.Payloads.{seen}
+use Rattle.tds_packet.specs.Payloads.{LeavesPayload, seen}
 use Rattle.tds_packet.specs.Seen.{Seen, Takes, Ends, IsBetween, began_at}
 
 -- So many bytes were read, and stand at the end of the area.
@@ -27,6 +27,16 @@ pub record EndsInto (old new : Seen) (before after : Space) (place n : ℕ) (sto
 -- The area has what it had, though it may have held n bytes more for a moment.
 abbrev pub KeepsBytes : Space → Space → ℕ → Type 0
 KeepsBytes before after n = (after.bytes ≡ before.bytes) × (after.peak ≤ max before.peak (length before.bytes + n))
+
+-- A call that was to read n bytes to the end of an area left it its room, and where it stopped, its bytes.
+pub record LeavesArea {U : Type 0} (before after : Space) (n : ℕ) (result : Result U Stop) : Type 0 where
+  pub room : after.room ≡ before.room
+  pub kept : OnErr result (KeepsBytes before after n)
+
+-- A call that reads into an area left the payload as each call does, and the area's room.
+pub record LeavesGathering {R U : Type 0} (old new : Payload R) (before after : Space) (result : Result U Stop) : Type 0 where
+  pub payload : LeavesPayload old new result
+  pub room : after.room ≡ before.room
 
 -- So many bytes were read to the end of an area; or fewer, where the payload had not stopped before.
 abbrev pub ElementRead : {R U : Type 0} → (R → Option (List ℕ)) → (old new : Payload R) → (before after : Space) → ℕ → Result U Stop → Type 0

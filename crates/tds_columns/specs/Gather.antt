@@ -1,6 +1,7 @@
 -- What reading a description from a payload does, on success and on each stop.
-use Rattle.std.specs.Prelude.{◌≡◌, ℕ, ◌+◌, ◌*◌, ◌<◌, ◌≤◌, List, [], ◌∷◌, length, max, Option, None, Result, MatchResult}
+use Rattle.std.specs.Prelude.{◌≡◌, ℕ, ◌+◌, ◌*◌, ◌<◌, ◌≤◌, List, [], ◌∷◌, length, max, Option, Some, None, Result, MatchResult}
 use Rattle.tds_values.specs.declared.kind.Kind.{Kind}
+use Rattle.tds_values.specs.TypeInfo.{rest_length}
 use Rattle.tds_meter.specs.Space.{Space}
 use Rattle.tds_packet.specs.declared.fault.Stop.{Stop}
 use Rattle.tds_packet.specs.declared.payload.Payload.{Payload}
@@ -26,6 +27,11 @@ pub record StopsDescribing (room : ℕ) (from : DescriptionPart) (old new : Seen
   pub kept : area.bytes ≡ description_bytes at
   pub bound : area.peak ≤ max peak (span at)
   pub further : span from ≤ span at
+
+-- So many bytes follow this type byte, one at least.
+pub record FollowsType (byte rest : ℕ) : Type 0 where
+  pub known : rest_length byte ≡ Some rest
+  pub some : 0 < rest
 
 -- ---- what the calls that read a part of a description answer, over a payload and an area before and after it
 
@@ -85,11 +91,11 @@ pub record GatherStops (room : ℕ) (old new : Seen) (place peak : ℕ) (area : 
 
 module _ {R : Type 0} (remaining : R → Option (List ℕ)) (old new : Payload R) (before after : Space)
     (result : Result Described Stop) where
-  -- A Count was read into the area, or the reading stopped there.
+  -- A Count was read into the area, or the reading stopped there, and the area is empty.
   abbrev pub CountRead : Type 0
   CountRead = let a = seen remaining old in let b = seen remaining new in MatchResult result
       (DescribesCount before.room a b old.place new.place before.peak after)
-      (λ stop. old.stopped ≡ None → StopsDescribing before.room BeforeCount a b old.place before.peak after stop)
+      (λ stop. (after.bytes ≡ []) × (after.peak ≤ max before.peak 2) × (old.stopped ≡ None → StopsDescribing before.room BeforeCount a b old.place before.peak after stop))
 
   -- A description was read into the area, or the reading stopped in it.
   abbrev pub DescriptionRead : Type 0

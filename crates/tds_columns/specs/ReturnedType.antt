@@ -1,7 +1,8 @@
 -- The type of the value that a procedure returns (MS-TDS, RETURNVALUE): eight bytes that end with the type byte, and what follows it.
-use Rattle.std.specs.Prelude.{◌≡◌, ◌==◌, ℕ, ◌+◌, List, [], ◌∷◌, length, Option, Some, None, if◌then◌else◌, slice_index, unwrap_or, is_some}
+use Rattle.std.specs.Prelude.{◌≡◌, ◌==◌, ℕ, ◌+◌, ◌≤◌, List, [], ◌∷◌, length, max, Option, Some, None, Result, OnErr, if◌then◌else◌, slice_index, unwrap_or, is_some}
 use Rattle.tds_values.specs.declared.kind.Kind.{Kind}
 use Rattle.tds_values.specs.TypeInfo.{IsTypeInfo, rest_length, kind_of}
+use Rattle.tds_meter.specs.Space.{Space}
 use Rattle.tds_packet.specs.declared.fault.Fault.{Fault}
 use Rattle.tds_packet.specs.declared.fault.Fault.TheVariants.{MessageEnded, BadTypeInfo}
 use Rattle.tds_packet.specs.declared.fault.Stop.{Stop}
@@ -62,6 +63,18 @@ type_end part = Some MessageEnded
 -- How such a type is read.
 abbrev pub returned_type : Grammar TypePart Fault
 returned_type = record { size = type_size; fault = type_part_fault; add = type_add; end_fault = type_end }
+
+-- The area has the eight bytes that were just read from the payload, and room for seven more.
+pub record HoldsHead {R : Type 0} (payload : Payload R) (area : Space) : Type 0 where
+  pub place : 8 ≤ payload.place
+  pub eight : length area.bytes ≡ 8
+  pub room : 15 ≤ area.room
+
+-- Reading such a type left that area its room, raised its peak to fifteen bytes at most, and where it stopped left the eight.
+pub record LeavesHead {U : Type 0} (before after : Space) (result : Result U Stop) : Type 0 where
+  pub room : after.room ≡ before.room
+  pub bound : after.peak ≤ max before.peak 15
+  pub kept : OnErr result (after.bytes ≡ before.bytes)
 
 -- What follows a type byte was read: together they describe the kind.
 pub record ReadsType (byte : ℕ) (old new : Seen) (place place' : ℕ) (kind : Kind) : Type 0 where

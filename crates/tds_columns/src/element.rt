@@ -1,6 +1,6 @@
 // An element that is kept in an area.
-ghost use Rattle.std.specs.Prelude.{◌≡◌, ◌+◌, ◌≤◌, length, OnErr, is_ok, if◌then◌else◌};
-ghost use Rattle.tds_columns.specs.Elements.{ElementRead, KeepsBytes};
+ghost use Rattle.std.specs.Prelude.{◌≡◌, ◌+◌, ◌≤◌, length, is_ok, if◌then◌else◌};
+ghost use Rattle.tds_columns.specs.Elements.{ElementRead, LeavesArea};
 ghost use Rattle.tds_packet.specs.Payloads.{AnswersAgain, IsSound};
 
 use std::io::Read;
@@ -14,9 +14,8 @@ pub fn take_into<R: Read>(payload: &mut Payload<R>, area: &mut Area, n: usize) -
     requires fits { length area.old.bytes + n ≤ area.old.room }
     ensures payload { AnswersAgain payload.old payload.new result }
     ensures place { payload.new.place ≡ (if is_ok result then payload.old.place + n else payload.old.place) }
-    ensures room { area.new.room ≡ area.old.room }
+    ensures area { LeavesArea area.old area.new n result }
     ensures gives { ElementRead R.remaining payload.old payload.new area.old area.new n result }
-    ensures kept { OnErr result (KeepsBytes area.old area.new n) }
 {
     let start = area.len();
     let lent = area.grow_within(n);

@@ -1,7 +1,8 @@
 // Reading a description from a payload (MS-TDS, COLMETADATA).
 ghost use Rattle.std.specs.Prelude.{◌≡◌, ◌≢◌, ◌+◌, ◌*◌, ◌-◌, ◌<◌, ◌≤◌, [], Some, Err, length, max, IfSome, MatchResult, OnErr, OnOk};
 ghost use Rattle.tds_columns.specs.Description as spec;
-ghost use Rattle.tds_columns.specs.Gather.{ColumnRead, ColumnsRead, CountRead, DescriptionRead, InfoRead, NameRead, TypeRead};
+ghost use Rattle.tds_columns.specs.Elements.{LeavesGathering};
+ghost use Rattle.tds_columns.specs.Gather.{ColumnRead, ColumnsRead, CountRead, DescriptionRead, FollowsType, InfoRead, NameRead, TypeRead};
 ghost use Rattle.tds_packet.specs.Elements.{AreBytes};
 ghost use Rattle.tds_packet.specs.Payloads.{IsGoing, IsSound, LeavesPayload};
 ghost use Rattle.tds_values.specs.TypeInfo as info;
@@ -69,11 +70,9 @@ fn read_count<R: Read>(payload: &mut Payload<R>, area: &mut Area) -> Result<Desc
     requires sound { IsSound payload.old }
     requires room { COUNT ≤ area.old.room }
     requires empty { area.old.bytes ≡ [] }
-    ensures payload { LeavesPayload payload.old payload.new result }
-    ensures room { area.new.room ≡ area.old.room }
+    ensures leaves { LeavesGathering payload.old payload.new area.old area.new result }
     ensures gives { CountRead R.remaining payload.old payload.new area.old area.new result }
     ensures again { IfSome payload.old.stopped (λ stop. (result ≡ Err stop) × (payload.new ≡ payload.old)) }
-    ensures kept { OnErr result ((area.new.bytes ≡ []) × (area.new.peak ≤ max area.old.peak COUNT)) }
 {
     let place = payload.place();
     take_into(payload, area, COUNT)?;
@@ -119,11 +118,9 @@ fn read_info<R: Read>(
     index: u16,
 ) -> Result<(), Stop>
     requires going { IsGoing payload.old }
-    requires known { info.rest_length byte ≡ Some rest }
-    requires some { 0 < rest }
+    requires follows { FollowsType byte rest }
     requires fits { length area.old.bytes + rest ≤ area.old.room }
-    ensures payload { LeavesPayload payload.old payload.new result }
-    ensures room { area.new.room ≡ area.old.room }
+    ensures leaves { LeavesGathering payload.old payload.new area.old area.new result }
     ensures length { OnOk result (length area.new.bytes ≡ length area.old.bytes + rest) }
     ensures gives { InfoRead R.remaining payload.old payload.new area.old area.new result index byte }
 {
@@ -152,8 +149,7 @@ fn read_type<R: Read>(
     requires going { IsGoing payload.old }
     requires among { index < count }
     requires fits { length area.old.bytes + LEAST_COLUMN * (count - index) ≤ area.old.room }
-    ensures payload { LeavesPayload payload.old payload.new result }
-    ensures room { area.new.room ≡ area.old.room }
+    ensures leaves { LeavesGathering payload.old payload.new area.old area.new result }
     ensures fits { OnOk result (length area.new.bytes + 1 + LEAST_COLUMN * (count - (index + 1)) ≤ area.new.room) }
     ensures gives { TypeRead R.remaining payload.old payload.new area.old area.new result count index }
 {
@@ -187,8 +183,7 @@ fn read_name<R: Read>(
     requires going { IsGoing payload.old }
     requires among { index < count }
     requires fits { length area.old.bytes + 1 + LEAST_COLUMN * (count - (index + 1)) ≤ area.old.room }
-    ensures payload { LeavesPayload payload.old payload.new result }
-    ensures room { area.new.room ≡ area.old.room }
+    ensures leaves { LeavesGathering payload.old payload.new area.old area.new result }
     ensures fits { OnOk result (length area.new.bytes + LEAST_COLUMN * (count - (index + 1)) ≤ area.new.room) }
     ensures gives { NameRead R.remaining payload.old payload.new area.old area.new result count index }
 {
@@ -221,8 +216,7 @@ fn read_column<R: Read>(
     requires going { IsGoing payload.old }
     requires among { index < count }
     requires fits { length area.old.bytes + LEAST_COLUMN * (count - index) ≤ area.old.room }
-    ensures payload { LeavesPayload payload.old payload.new result }
-    ensures room { area.new.room ≡ area.old.room }
+    ensures leaves { LeavesGathering payload.old payload.new area.old area.new result }
     ensures fits { OnOk result (length area.new.bytes + LEAST_COLUMN * (count - (index + 1)) ≤ area.new.room) }
     ensures gives { ColumnRead R.remaining payload.old payload.new area.old area.new result count index }
 {
@@ -235,8 +229,7 @@ fn read_columns<R: Read>(payload: &mut Payload<R>, area: &mut Area, count: u16) 
     requires going { IsGoing payload.old }
     requires some { 0 < count }
     requires fits { length area.old.bytes + LEAST_COLUMN * count ≤ area.old.room }
-    ensures payload { LeavesPayload payload.old payload.new result }
-    ensures room { area.new.room ≡ area.old.room }
+    ensures leaves { LeavesGathering payload.old payload.new area.old area.new result }
     ensures gives { ColumnsRead R.remaining payload.old payload.new area.old area.new result count }
 {
     'columns: for index in 0..count {

@@ -1,6 +1,6 @@
 // The type of the value that a procedure returns (MS-TDS, RETURNVALUE).
-ghost use Rattle.std.specs.Prelude.{◌≡◌, ◌-◌, ◌≤◌, length, max, slice_index, MatchResult, IfOk, OnErr};
-ghost use Rattle.tds_columns.specs.ReturnedType.{KnownType, StopsType, TypeHead, TypeRead, WereTaken, returned_type};
+ghost use Rattle.std.specs.Prelude.{◌-◌, slice_index, MatchResult, IfOk};
+ghost use Rattle.tds_columns.specs.ReturnedType.{HoldsHead, KnownType, LeavesHead, StopsType, TypeHead, TypeRead, WereTaken, returned_type};
 ghost use Rattle.tds_packet.specs.Payloads.{IsGoing, LeavesPayload, seen};
 ghost use Rattle.tds_packet.specs.Reading.{Reads};
 ghost use Rattle.tds_packet.specs.Seen.{Seen};
@@ -30,13 +30,9 @@ pub const TYPE_ROOM: usize = 15;
 /// The number of the column is 65,535. The area has the eight bytes then.
 pub fn read_type_info<R: Read>(payload: &mut Payload<R>, small: &mut Area) -> Result<Kind, Stop>
     requires going { IsGoing payload.old }
-    requires place { TYPE_HEAD ≤ payload.old.place }
-    requires head { length small.old.bytes ≡ TYPE_HEAD }
-    requires room { TYPE_ROOM ≤ small.old.room }
+    requires head { HoldsHead payload.old small.old }
     ensures payload { LeavesPayload payload.old payload.new result }
-    ensures room { small.new.room ≡ small.old.room }
-    ensures kept { OnErr result (small.new.bytes ≡ small.old.bytes) }
-    ensures bound { small.new.peak ≤ max small.old.peak TYPE_ROOM }
+    ensures area { LeavesHead small.old small.new result }
     ensures kind { IfOk result (λ kind. TypeRead R.remaining payload.old payload.new (slice_index small.old.bytes 7) kind) }
     ensures gives { (before : Seen) → WereTaken before (seen R.remaining payload.old) small.old.bytes → MatchResult result
         (λ kind. Reads returned_type TypeHead before (seen R.remaining payload.new) (KnownType kind))

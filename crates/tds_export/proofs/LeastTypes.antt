@@ -1,10 +1,10 @@
 -- The least TYPE_INFO of each type byte.
 use Rattle.std.proofs.Common.{◌≡◌, ℕ, true, false, ◌∷◌, length, refl, sym, ◌∙◌, subst, arith}
-use Rattle.std.specs.Prelude.{Some, None, ◌==◌, ◌||◌, if◌then◌else◌}
+use Rattle.std.specs.Prelude.{Some, None, is_some, ◌==◌, ◌||◌, if◌then◌else◌}
 use Rattle.tds_values.specs.declared.kind.Kind.{Kind}
 use Rattle.tds_values.specs.declared.kind.Kind.TheVariants.{Int1, Int2, Int4, Int8, Bit, Money4, Money8, DateTime4, DateTime8, IntN, BitN, MoneyN, DateTimeN, Guid, Decimal, Date, Time, DateTime2, DateTimeOffset, Binary, Narrow, Wide}
 use Rattle.tds_values.specs.declared.kind.Reach.TheVariants.{Short}
-use Rattle.tds_values.specs.TypeInfo.{rest_length, named_kind, kind_of}
+use Rattle.tds_values.specs.TypeInfo.{bare_kind, rest_length, named_kind, kind_of}
 use Rattle.tds_packet.specs.Elements.{AreBytes}
 use Rattle.tds_packet.proofs.Choices.{eq_true}
 use Rattle.tds_export.specs.Completion.{least_info}
@@ -135,7 +135,8 @@ least_ef n h = record { kind = Wide Short; described = refl; whole = same_rest 7
 other_least : (byte : ℕ) → (byte == 0x30) ≡ false → (byte == 0x32) ≡ false → (byte == 0x34) ≡ false → (byte == 0x38) ≡ false → (byte == 0x7F) ≡ false → (byte == 0x3A) ≡ false → (byte == 0x3D) ≡ false → (byte == 0x7A) ≡ false → (byte == 0x3C) ≡ false → (byte == 0x28) ≡ false → (byte == 0x24) ≡ false → (byte == 0x26) ≡ false → (byte == 0x68) ≡ false → (byte == 0x6E) ≡ false → (byte == 0x6F) ≡ false → (byte == 0x29) ≡ false → (byte == 0x2A) ≡ false → (byte == 0x2B) ≡ false → (byte == 0x6A) ≡ false → (byte == 0x6C) ≡ false → (byte == 0xA5) ≡ false → (byte == 0xAD) ≡ false → (byte == 0xA7) ≡ false → (byte == 0xAF) ≡ false → (byte == 0xE7) ≡ false → (byte == 0xEF) ≡ false → HasLeast byte
 unfolding rest_length
 other_least byte h0 h1 h2 h3 h4 h5 h6 h7 h8 h9 h10 h11 h12 h13 h14 h15 h16 h17 h18 h19 h20 h21 h22 h23 h24 h25 n h =
-    let none : rest_length byte ≡ None = λ i. (if h0 i || h1 i || h2 i || h3 i || h4 i || h5 i || h6 i || h7 i || h8 i || h9 i then Some 0 else if h10 i || h11 i || h12 i || h13 i || h14 i || h15 i || h16 i || h17 i then Some 1 else if h18 i || h19 i then Some 3 else if h20 i || h21 i then Some 2 else if h22 i || h23 i || h24 i || h25 i then Some 7 else None) in
+    let bare : bare_kind byte ≡ None = λ i. (if h0 i then Some Int1 else if h1 i then Some Bit else if h2 i then Some Int2 else if h3 i then Some Int4 else if h4 i then Some Int8 else if h5 i then Some DateTime4 else if h6 i then Some DateTime8 else if h7 i then Some Money4 else if h8 i then Some Money8 else if h9 i then Some Date else None) in
+    let none : rest_length byte ≡ None = λ i. (if is_some (bare i) then Some 0 else if h10 i || h11 i || h12 i || h13 i || h14 i || h15 i || h16 i || h17 i then Some 1 else if h18 i || h19 i then Some 3 else if h20 i || h21 i then Some 2 else if h22 i || h23 i || h24 i || h25 i then Some 7 else None) in
     let never : None ≡ Some n = sym none ∙ h in
     cc
 

@@ -10,6 +10,11 @@ use Rattle.tds_packet.specs.Devices.{Device}
 abbrev pub Stays : ℕ → ℕ → List ℕ → Type 0
 Stays before after moved = (after ≡ before) × (0 < length moved → before < 2 ^ 64 - 1)
 
+-- One call of a device succeeded, and the count stayed, which was not the greatest; or it failed, and was counted.
+abbrev pub CountsCall : {U E : Type 0} → ℕ → ℕ → Result U E → Type 0
+CountsCall before after (Ok _) = (after ≡ before) × (before < 2 ^ 64 - 1)
+CountsCall before after (Err _) = after ≡ one_more before
+
 -- Fewer than n bytes were read.
 abbrev pub ReadsFewer : Option (List ℕ) → Option (List ℕ) → ℕ → Type 0
 ReadsFewer old new n = (bytes : List ℕ) × (length bytes < n) × Consumes old new bytes

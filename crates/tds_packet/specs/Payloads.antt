@@ -1,5 +1,5 @@
 -- How the fields of a payload are seen.
-use Rattle.std.specs.Prelude.{◌≡◌, ℕ, ◌+◌, ◌-◌, ◌^◌, ◌<◌, ◌≤◌, List, [], length, take, drop, Option, Some, None, Result, Err, IfErr, IfSome, MatchResult, OnOk, ⊤}
+use Rattle.std.specs.Prelude.{◌≡◌, ℕ, ◌+◌, ◌-◌, ◌^◌, ◌<◌, ◌≤◌, Bool, true, false, IsTrue, List, [], length, take, drop, Option, Some, None, Result, Err, IfErr, IfSome, MatchResult, OnOk, ⊤}
 use Rattle.std.specs.Borrow.{Fml, RattleType, MutBor}
 use Rattle.std.specs.Io.BufRead.{Rests}
 use mir.Syntax.{named}
@@ -8,7 +8,7 @@ use Rattle.tds_packet.specs.declared.fault.Stop.{Stop}
 use Rattle.tds_packet.specs.declared.payload.Payload.{Payload}
 use Rattle.tds_packet.specs.contracts.payload.Payload.{the_row}
 use Rattle.tds_packet.specs.Coming.{coming_of}
-use Rattle.tds_packet.specs.Seen.{Ends, IsBetween, Seen, Takes, began_at, begun}
+use Rattle.tds_packet.specs.Seen.{Ends, IsBetween, IsNotOver, IsOver, Seen, Takes, began_at, begun}
 
 -- the bytes of its packet that are not handed out
 abbrev pub buffered : {R : Type 0} → Payload R → List ℕ
@@ -60,6 +60,17 @@ pub record AnswersAgain {R U : Type 0} (old new : Payload R) (result : Result U 
   pub stopped : IfErr result (λ stop. new.stopped ≡ Some stop)
   pub again : IfSome old.stopped (λ stop. (result ≡ Err stop) × (new ≡ old))
 
+-- The same of a call that hands out no bytes: the place stays.
+pub record AnswersInPlace {R U : Type 0} (old new : Payload R) (result : Result U Stop) : Type 0 where
+  pub answers : AnswersAgain old new result
+  pub place : new.place ≡ old.place
+
+-- It needs a further packet: it hands out bytes, those of its packet are used up, and that isn't the last.
+pub record NeedsPacket {R : Type 0} (p : Payload R) : Type 0 where
+  pub going : IsGoing p
+  pub used_up : p.at ≡ length p.packet.now.bytes
+  pub more : p.last ≡ false
+
 -- A payload at the first byte of its message: nothing was read, and these are its limits.
 pub record IsBegun {R : Type 0} (remaining : R → Option (List ℕ)) (p : Payload R) (from : Counted R) (size most : ℕ) : Type 0 where
   pub sound : IsSound p
@@ -79,6 +90,18 @@ abbrev pub TakesOrEnds : {R U : Type 0} → (R → Option (List ℕ)) → Payloa
 TakesOrEnds remaining old new bytes result = MatchResult result
     (λ value. Takes (seen remaining old) (seen remaining new) (bytes value) 1)
     (λ stop. Ends (seen remaining old) (seen remaining new) [] stop)
+
+-- What is told of the message's end: it is over, or a byte of it lies ready.
+pub record TellsEnd {R : Type 0} (remaining : R → Option (List ℕ)) (p : Payload R) (end : Bool) : Type 0 where
+  pub over : IsTrue end → IsOver (seen remaining p)
+  pub more : end ≡ false → IsNotOver (seen remaining p)
+  pub ready : end ≡ false → 0 < length (buffered p)
+
+-- The message ended: its last packet is used up. But for the stop, no more was read than one byte needs, and none was handed out.
+pub record EndsMessage {R : Type 0} (remaining : R → Option (List ℕ)) (old new : Payload R) : Type 0 where
+  pub last : new.last ≡ true
+  pub used_up : new.at ≡ length new.packet.now.bytes
+  pub takes : Takes (seen remaining old) (seen remaining (record new { stopped = None })) [] 1
 
 -- The payload stopped before the slice was full; where the message ended, the stop stands where the call began.
 abbrev pub CutsFill : {R : Type 0} → (R → Option (List ℕ)) → Payload R → Payload R → List ℕ → Stop → Type 0

@@ -1,7 +1,8 @@
 -- What the read of one packet does.
-use Rattle.std.specs.Prelude.{◌≡◌, ◌⊎◌, ℕ, ◌<◌, List, [], ◌++◌, Bool, take, length, slice_index, Option, Some, None, Result, Ok, Err, ⊤}
+use Rattle.std.specs.Prelude.{◌≡◌, ◌⊎◌, ℕ, ◌<◌, ◌≤◌, List, [], ◌++◌, Bool, take, length, slice_index, Option, Some, None, Result, Ok, Err, ⊤}
 use Rattle.std.specs.Io.KnownBytes.{Consumes, IsAtEnd}
 use Rattle.tds_meter.specs.Counts.{one_more}
+use Rattle.tds_meter.specs.Space.{Space}
 use Rattle.tds_packet.specs.Devices.{Device}
 use Rattle.tds_packet.specs.Filling.{FallsShort, FillsSlice, Stays}
 use Rattle.tds_packet.specs.declared.counted.Short.TheVariants.{Ended, Failed}
@@ -57,6 +58,11 @@ ReadsPacket size limit wire old new body (Ok h) = (read : List ℕ) × Consumes 
     × IsFrontPacket size limit wire read body h.last h.length × Stays old.failures new.failures read
 ReadsPacket size limit wire old new body (Err fault) = RefusesHeader size limit wire old new fault
     ⊎ (GivesOut size limit wire old new fault ⊎ FailsInPacket size limit wire old new fault)
+
+-- The area of the packet has the room that it had, and its peak is within it.
+pub record KeepsRoom (before after : Space) : Type 0 where
+  pub room : after.room ≡ before.room
+  pub peak : after.peak ≤ after.room
 
 -- A fault of packets.
 abbrev pub IsOfPackets : Fault → Type 0

@@ -3,7 +3,7 @@ ghost use Rattle.std.specs.Io.KnownBytes.{Appends, Consumes, IsAtEnd, Keeps};
 ghost use Rattle.std.specs.Prelude.{◌≡◌, ◌-◌, ◌^◌, ◌<◌, ◌≤◌, length, take, IfErr, IfOk, IsTrue, OnErr, OnOk, false};
 ghost use Rattle.tds_meter.specs.Counts.{one_more};
 ghost use Rattle.tds_packet.specs.Devices.{device};
-ghost use Rattle.tds_packet.specs.Filling.{FillsSlice, Stays};
+ghost use Rattle.tds_packet.specs.Filling.{CountsCall, FillsSlice, Stays};
 
 use std::io::{Read, Write};
 
@@ -75,9 +75,7 @@ impl<R: Read> Counted<R> {
         ensures bound { IfOk result (λ n. n ≤ length to.old) }
         ensures ok { IfOk result (λ n. Consumes (R.remaining self.old.device) (R.remaining self.new.device) (take n to.new)) }
         ensures end { IfOk result (λ n. n ≡ 0 → 0 < length to.old → IsAtEnd (R.remaining self.new.device)) }
-        ensures same { OnOk result (self.new.failures ≡ self.old.failures) }
-        ensures asked { OnOk result (self.old.failures < 2 ^ 64 - 1) }
-        ensures counted { OnErr result (self.new.failures ≡ one_more self.old.failures) }
+        ensures counts { CountsCall self.old.failures self.new.failures result }
         ensures err { OnErr result (Keeps (R.remaining self.old.device) (R.remaining self.new.device)) }
     {
         if self.failures == u64::MAX {
@@ -113,9 +111,7 @@ impl<W: Write> Counted<W> {
     fn write(&mut self, bytes: &[u8]) -> Result<usize, Failed>
         ensures bound { IfOk result (λ n. (0 < n) × (n ≤ length bytes.now)) }
         ensures ok { IfOk result (λ n. Appends (W.contents self.old.device) (W.contents self.new.device) (take n bytes.now)) }
-        ensures same { OnOk result (self.new.failures ≡ self.old.failures) }
-        ensures asked { OnOk result (self.old.failures < 2 ^ 64 - 1) }
-        ensures counted { OnErr result (self.new.failures ≡ one_more self.old.failures) }
+        ensures counts { CountsCall self.old.failures self.new.failures result }
         ensures err { OnErr result (Keeps (W.contents self.old.device) (W.contents self.new.device)) }
     {
         if self.failures == u64::MAX {

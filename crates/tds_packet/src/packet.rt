@@ -1,7 +1,7 @@
 // One packet.
 ghost use Rattle.std.specs.Prelude.{◌≡◌, ◌+◌, ◌^◌, ◌<◌, ◌≤◌, length, IfErr, IfOk};
 ghost use Rattle.tds_packet.specs.Devices.{device};
-ghost use Rattle.tds_packet.specs.Reads.{FillsFrom, IsOfPackets, ReadsPacket, header_of};
+ghost use Rattle.tds_packet.specs.Reads.{FillsFrom, IsOfPackets, KeepsRoom, ReadsPacket, header_of};
 
 use crate::counted::{Counted, Short};
 use crate::fault::Fault;
@@ -59,8 +59,7 @@ fn read_body<R: Read>(from: &mut Counted<R>, packet: &mut Area, n: usize) -> Res
     requires peak { packet.old.peak ≤ packet.old.room }
     ensures bytes { let at = device R.remaining in FillsFrom (at from.old) (at from.new) packet.new.bytes result }
     ensures len { length packet.new.bytes ≡ n }
-    ensures room { packet.new.room ≡ packet.old.room }
-    ensures peak { packet.new.peak ≤ packet.new.room }
+    ensures area { KeepsRoom packet.old packet.new }
     ensures fault { IfErr result (λ fault. IsOfPackets fault) }
 {
     packet.clear();
@@ -81,8 +80,7 @@ pub(crate) fn read_packet<R: Read>(
     requires peak { packet.old.peak ≤ packet.old.room }
     ensures read { let at = device R.remaining in
         ReadsPacket packet.old.room max_wire wire (at from.old) (at from.new) packet.new.bytes result }
-    ensures room { packet.new.room ≡ packet.old.room }
-    ensures peak { packet.new.peak ≤ packet.new.room }
+    ensures area { KeepsRoom packet.old packet.new }
     ensures fits { IfOk result (λ h. (length packet.new.bytes + 8 ≡ h.length) × (wire + h.length ≤ max_wire)) }
     ensures fault { IfErr result (λ fault. IsOfPackets fault) }
 {

@@ -1,10 +1,10 @@
 // The bytes that the packets of one message carry.
 ghost use Rattle.std.specs.Borrow.{sem};
-ghost use Rattle.std.specs.Prelude.{◌≡◌, ℕ, ◌+◌, ◌^◌, ◌<◌, ◌≤◌, [], ◌∷◌, true, false, None, Some, Err, length, take, IfErr, IfOk, IfSome, IsTrue, MatchResult, OnOk, is_ok, if◌then◌else◌};
+ghost use Rattle.std.specs.Prelude.{◌≡◌, ℕ, ◌+◌, ◌^◌, ◌<◌, ◌≤◌, [], ◌∷◌, None, Some, length, take, IfErr, IfOk, MatchResult, OnOk, is_ok, if◌then◌else◌};
 ghost use Rattle.tds_meter.specs.LimitFaults.{IsPacketSize};
-ghost use Rattle.tds_packet.specs.Payloads.{AnswersAgain, CutsFill, CutsPass, IsBegun, IsGoing, IsOnSame, IsSound, LeavesPayload, LendsPiece, PassesOver, RestsPayload, TakesOrEnds, buffered, further, seen};
+ghost use Rattle.tds_packet.specs.Payloads.{AnswersAgain, AnswersInPlace, CutsFill, CutsPass, EndsMessage, IsBegun, IsGoing, IsSound, LendsPiece, NeedsPacket, PassesOver, RestsPayload, TakesOrEnds, TellsEnd, buffered, further, seen};
 ghost use Rattle.tds_packet.specs.Reads.{IsOfPackets};
-ghost use Rattle.tds_packet.specs.Seen.{IsBetween, IsNotOver, IsOver, Takes, began_at};
+ghost use Rattle.tds_packet.specs.Seen.{IsBetween, Takes, began_at};
 
 use crate::counted::Counted;
 use crate::fault::{Fault, Place, Stop};
@@ -70,13 +70,9 @@ impl<'a, R: Read> Payload<'a, R> {
 
     // Reads a packet.
     fn advance(&mut self) -> Result<(), Stop>
-        requires going { IsGoing self.old }
-        requires empty { self.old.at ≡ length self.old.packet.now.bytes }
-        requires more { self.old.last ≡ false }
-        ensures payload { LeavesPayload self.old self.new result }
-        ensures place { self.new.place ≡ self.old.place }
+        requires { NeedsPacket self.old }
+        ensures payload { AnswersInPlace self.old self.new result }
         ensures further { OnOk result (self.old.wire < self.new.wire) }
-        ensures stopped { IfErr result (λ stop. self.new.stopped ≡ Some stop) }
         ensures fault { IfErr result (λ stop. IsOfPackets stop.fault) }
         ensures gives { TakesOrEnds R.remaining self.old self.new (λ _. []) result }
     {
@@ -103,15 +99,12 @@ impl<'a, R: Read> Payload<'a, R> {
     // Sees to it that a byte is ready.
     fn ready(&mut self) -> Result<(), Stop>
         requires { IsSound self.old }
-        ensures payload { AnswersAgain self.old self.new result }
-        ensures place { self.new.place ≡ self.old.place }
+        ensures payload { AnswersInPlace self.old self.new result }
         ensures stands { OnOk result (self.new.at < length self.new.packet.now.bytes) }
         ensures lazy { self.old.at < length self.old.packet.now.bytes → self.new.from.now ≡ self.old.from.now }
         ensures gives { TakesOrEnds R.remaining self.old self.new (λ _. []) result }
         ensures ended { IfErr result (λ stop. stop.fault ≡ Fault.MessageEnded → self.old.stopped ≡ None →
-            (self.new.last ≡ true) × (self.new.at ≡ length self.new.packet.now.bytes)) }
-        ensures over { IfErr result (λ stop. stop.fault ≡ Fault.MessageEnded → self.old.stopped ≡ None →
-            Takes (seen R.remaining self.old) (seen R.remaining (record self.new { stopped = None })) [] 1) }
+            EndsMessage R.remaining self.old self.new) }
     {
         if let Some(stop) = self.stopped {
             return Err(stop);
@@ -236,13 +229,10 @@ impl<'a, R: Read> Payload<'a, R> {
     /// Whether every byte was handed out, and the last packet is among those read.
     pub fn at_end(&mut self) -> Result<bool, Stop>
         requires { IsSound self.old }
-        ensures payload { AnswersAgain self.old self.new result }
-        ensures place { self.new.place ≡ self.old.place }
+        ensures payload { AnswersInPlace self.old self.new result }
         ensures gives { TakesOrEnds R.remaining self.old self.new (λ _. []) result }
         ensures between { OnOk result (IsBetween (seen R.remaining self.new)) }
-        ensures over { IfOk result (λ end. IsTrue end → IsOver (seen R.remaining self.new)) }
-        ensures more { IfOk result (λ end. end ≡ false → IsNotOver (seen R.remaining self.new)) }
-        ensures ready { IfOk result (λ end. end ≡ false → 0 < length (buffered self.new)) }
+        ensures tells { IfOk result (TellsEnd R.remaining self.new) }
         ensures goes_on { IfErr result (λ stop. self.old.stopped ≡ None → stop.fault ≡ Fault.MessageEnded → ⊥) }
     {
         if let Some(stop) = self.stopped {

@@ -1,12 +1,11 @@
 -- The type byte decides how many bytes a TYPE_INFO has, so none begins another, and each describes one kind.
-use Rattle.std.proofs.Common.{◌≡◌, ℕ, true, false, cond, nat_eq, List, [], ◌∷◌, ◌++◌, length, take, Option, Some, None, refl, sym, ap, subst, ◌∙◌, arith}
-use Rattle.std.specs.Prelude.{option_and_then, ◌==◌, ◌||◌, Bool}
+use Rattle.std.proofs.Common.{◌≡◌, ℕ, true, false, cond, nat_eq, List, [], ◌∷◌, ◌++◌, length, take, Option, Some, None, refl, sym, ap, subst, ◌∙◌, arith, rules}
+use Rattle.std.specs.Prelude.{option_and_then, is_some, ◌==◌, ◌||◌, Bool}
 use Rattle.std.proofs.lemmas.Bool.Decides.{nat_tests}
 use Rattle.std.proofs.lemmas.List.{take_at}
 use Rattle.tds_values.specs.declared.kind.Kind.{Kind}
-use Rattle.tds_values.specs.declared.kind.Kind.TheVariants as kinds
 use Rattle.tds_values.specs.Kind.{is_valid}
-use Rattle.tds_values.specs.TypeInfo.{is_decimal_type, rest_length, named_kind, valid_kind, kind_after, kind_of, IsTypeInfo}
+use Rattle.tds_values.specs.TypeInfo.{bare_kind, is_decimal_type, rest_length, named_kind, valid_kind, kind_after, kind_of, IsTypeInfo}
 
 valid_some : (k j : Kind) → valid_kind j ≡ Some k → is_valid k ≡ true
 valid_some k j h =
@@ -61,23 +60,22 @@ some_rest false false true s h = cc
 some_rest false false false true h = cc
 some_rest false false false false h = cc
 
-bare_cases : (a b c d e f g h i j : Bool) (o : Option ℕ) → (o ≡ Some 0 → ⊥) → cond (a || b || c || d || e || f || g || h || i || j) (Some 0) o ≡ Some 0 → (k : Kind) × (option_and_then valid_kind (cond a (Some kinds.Int1) (cond b (Some kinds.Bit) (cond c (Some kinds.Int2) (cond d (Some kinds.Int4) (cond e (Some kinds.Int8) (cond f (Some kinds.DateTime4) (cond g (Some kinds.DateTime8) (cond h (Some kinds.Money4) (cond i (Some kinds.Money8) (cond j (Some kinds.Date) (None))))))))))) ≡ Some k)
-bare_cases true b c d e f g h i j o m z = (kinds.Int1, refl)
-bare_cases false true c d e f g h i j o m z = (kinds.Bit, refl)
-bare_cases false false true d e f g h i j o m z = (kinds.Int2, refl)
-bare_cases false false false true e f g h i j o m z = (kinds.Int4, refl)
-bare_cases false false false false true f g h i j o m z = (kinds.Int8, refl)
-bare_cases false false false false false true g h i j o m z = (kinds.DateTime4, refl)
-bare_cases false false false false false false true h i j o m z = (kinds.DateTime8, refl)
-bare_cases false false false false false false false true i j o m z = (kinds.Money4, refl)
-bare_cases false false false false false false false false true j o m z = (kinds.Money8, refl)
-bare_cases false false false false false false false false false true o m z = (kinds.Date, refl)
-bare_cases false false false false false false false false false false o m z = absurd (m z)
+bare_rest : (o : Option Kind) (rest : Option ℕ) → (rest ≡ Some 0 → ⊥) → cond (is_some o) (Some 0) rest ≡ Some 0 → (k : Kind) × (o ≡ Some k)
+bare_rest (Some k) rest other h = (k, refl)
+bare_rest None rest other h = absurd (other h)
+
+-- a kind without numbers is allowed
+one_more : (t : Bool) (k : Kind) (o : Option Kind) → is_valid k ≡ true → option_and_then valid_kind o ≡ o → option_and_then valid_kind (cond t (Some k) o) ≡ cond t (Some k) o
+one_more true k o valid others = ap (λ v. cond v (Some k) None) valid
+one_more false k o valid others = others
+
+bare_valid : (byte : ℕ) → option_and_then valid_kind (bare_kind byte) ≡ bare_kind byte
+bare_valid byte = search (rules, one_more) depth 14
 
 -- a type byte after which nothing follows describes a kind
 pub bare_type : (byte : ℕ) → rest_length byte ≡ Some 0 → (k : Kind) × (kind_of (byte ∷ []) ≡ Some k)
 unfolding rest_length named_kind
 bare_type byte h =
     let p = (byte == 0x24 || byte == 0x26 || byte == 0x68 || byte == 0x6E || byte == 0x6F || byte == 0x29 || byte == 0x2A || byte == 0x2B) in let q = (is_decimal_type byte) in let r = (byte == 0xA5 || byte == 0xAD) in let s = (byte == 0xA7 || byte == 0xAF || byte == 0xE7 || byte == 0xEF) in
-    let found = bare_cases (byte == 0x30) (byte == 0x32) (byte == 0x34) (byte == 0x38) (byte == 0x7F) (byte == 0x3A) (byte == 0x3D) (byte == 0x7A) (byte == 0x3C) (byte == 0x28) (cond {A = Option ℕ} p (Some 1) (cond {A = Option ℕ} q (Some 3) (cond {A = Option ℕ} r (Some 2) (cond {A = Option ℕ} s (Some 7) None)))) (some_rest p q r s) h in
-    (found.0, ap (λ o. kind_after byte [] o) h ∙ found.1)
+    let found = bare_rest (bare_kind byte) (cond {A = Option ℕ} p (Some 1) (cond {A = Option ℕ} q (Some 3) (cond {A = Option ℕ} r (Some 2) (cond {A = Option ℕ} s (Some 7) None)))) (some_rest p q r s) h in
+    (found.0, ap (λ o. kind_after byte [] o) h ∙ bare_valid byte ∙ found.1)

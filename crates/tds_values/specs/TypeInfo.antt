@@ -1,5 +1,5 @@
 -- TYPE_INFO: a type byte, and the bytes that describe it further (MS-TDS, Type Info Rule Definition).
-use Rattle.std.specs.Prelude.{◌≡◌, ℕ, ◌==◌, ◌||◌, ◌&&◌, Bool, List, [], ◌∷◌, length, slice_index, Option, Some, None, if◌then◌else◌, option_and_then}
+use Rattle.std.specs.Prelude.{◌≡◌, ℕ, ◌==◌, ◌||◌, ◌&&◌, Bool, List, [], ◌∷◌, length, slice_index, Option, Some, None, if◌then◌else◌, option_and_then, is_some}
 use Rattle.byteorder.specs.Endian.{little_number}
 use Rattle.tds_values.specs.declared.kind.Kind.{Kind}
 use Rattle.tds_values.specs.declared.kind.Kind.TheVariants as kinds
@@ -59,7 +59,7 @@ long_kind b described =
 -- how many bytes follow a type byte: none, a number, three numbers, a length, or a length and a collation
 unfoldable pub rest_length : ℕ → Option ℕ
 rest_length b =
-    if b == 0x30 || b == 0x32 || b == 0x34 || b == 0x38 || b == 0x7F || b == 0x3A || b == 0x3D || b == 0x7A || b == 0x3C || b == 0x28 then Some 0
+    if is_some (bare_kind b) then Some 0
     else if b == 0x24 || b == 0x26 || b == 0x68 || b == 0x6E || b == 0x6F || b == 0x29 || b == 0x2A || b == 0x2B then Some 1
     else if is_decimal_type b then Some 3
     else if b == 0xA5 || b == 0xAD then Some 2

@@ -1,6 +1,7 @@
 // The texts of dates and times, written to a slice from a place on.
 ghost use Rattle.std.specs.Prelude.{◌≡◌, ◌+◌, ◌<◌, ◌≤◌, ◌++◌, take, length, unsigned_abs};
 ghost use Rattle.tds_values.specs.ScalarText.{date_text, seconds_text, minutes_text, fraction_text, ticks_text, offset_text, date_and_time};
+ghost use Rattle.tds_values.specs.TimeOfDay.{IsClockTime};
 
 use crate::digits::{put_byte, put_tail, put_two};
 use crate::ranges::{LARGEST_OFFSET, LAST_DAY, MINUTES_A_DAY, SECONDS_A_DAY, TICKS_A_DAY};
@@ -72,8 +73,7 @@ fn put_part(to: &mut [u8], at: usize, scale: u8, units: u64) -> usize
 #[inline(always)]
 pub(crate) fn put_time(to: &mut [u8], at: usize, seconds: u32, scale: u8, units: u64) -> usize
     requires room { at + 17 ≤ length to.old }
-    requires day { seconds < SECONDS_A_DAY }
-    requires scale { scale ≤ 7 }
+    requires time { IsClockTime seconds scale }
     ensures end { result ≤ at + 9 + scale }
     ensures written { take result to.new ≡ take at to.old ++ (seconds_text seconds ++ fraction_text scale units) }
 {
@@ -86,8 +86,7 @@ pub(crate) fn put_time(to: &mut [u8], at: usize, seconds: u32, scale: u8, units:
 pub(crate) fn put_moment(to: &mut [u8], day: u32, seconds: u32, scale: u8, units: u64) -> usize
     requires room { 28 ≤ length to.old }
     requires date { day ≤ LAST_DAY }
-    requires time { seconds < SECONDS_A_DAY }
-    requires scale { scale ≤ 7 }
+    requires time { IsClockTime seconds scale }
     ensures end { result ≤ 20 + scale }
     ensures written { take result to.new ≡ date_and_time day (seconds_text seconds ++ fraction_text scale units) }
 {

@@ -14,7 +14,7 @@ returns-in_default-clause-gives g c = rw (c.in_default.is, c.clear.ensures.value
 
 pub returns-in_err-count-clause-gives : goal.returns-in_err-count-clause-gives
 returns-in_err-count-clause-gives g c = passed _ _ _ _ c.from_residual.ensures.1 (λ going.
-    let stops = rw c.clear.ensures.value at c.in_err-count.ensures.gives going in
+    let stops = rw c.clear.ensures.value at c.in_err-count.ensures.gives.2 going in
     gather_stops c.args.area.now.room (seen g.R.Read.remaining c.args.payload.now) (seen g.R.Read.remaining c.read_count.new.payload) c.args.payload.now.place c.args.area.now.peak c.read_count.new.area c.in_err-count.field-0.0 stops)
 
 pub returns-in_err-read_columns-clause-gives : goal.returns-in_err-read_columns-clause-gives
@@ -27,7 +27,7 @@ returns-in_err-read_columns-clause-gives g c = passed _ _ _ _ c.from_residual-in
     let d = seen g.R.Read.remaining c.read_columns.new.payload in
     let at = InColumn middle.bytes c.in-Columns.count [] ColumnHead in
     let count = rw (c.in-Columns.is, c.clear.ensures.value) at c.in_ok-count.ensures.gives in
-    let room : middle.room ≡ before.room = c.in_ok-count.ensures.room ∙ ap (λ (s : Space). s.room) c.clear.ensures.value in
+    let room : middle.room ≡ before.room = c.in_ok-count.ensures.leaves.room ∙ ap (λ (s : Space). s.room) c.clear.ensures.value in
     let stops = subst (λ r. StopsDescribing r at b d c.read_count.new.payload.place middle.peak after c.in_err-read_columns.field-0.0) room c.in_err-read_columns.ensures.gives in
     gather_stops before.room a d c.args.payload.now.place before.peak after c.in_err-read_columns.field-0.0
     (stops_describing_after before.room BeforeCount at a b d c.args.payload.now.place c.read_count.new.payload.place before.peak middle after c.in_err-read_columns.field-0.0 count.0 stops))
@@ -42,7 +42,7 @@ returns-clause-gives g c =
     let d = seen g.R.Read.remaining c.read_columns.new.payload in
     let at = InColumn middle.bytes c.in-Columns.count [] ColumnHead in
     let count = rw (c.in-Columns.is, c.clear.ensures.value) at c.in_ok-count.ensures.gives in
-    let room : middle.room ≡ before.room = c.in_ok-count.ensures.room ∙ ap (λ (s : Space). s.room) c.clear.ensures.value in
+    let room : middle.room ≡ before.room = c.in_ok-count.ensures.leaves.room ∙ ap (λ (s : Space). s.room) c.clear.ensures.value in
     let read = c.in_ok-read_columns.ensures.gives in
     let whole = subst (λ r. Describes r at b d c.read_count.new.payload.place c.read_columns.new.payload.place middle.peak after (WholeDescription after.bytes read.0.0)) room read.1 in
     let both = describes_both before.room BeforeCount at (WholeDescription after.bytes read.0.0) a b d c.args.payload.now.place c.read_count.new.payload.place c.read_columns.new.payload.place before.peak middle after count.0 whole in

@@ -24,9 +24,9 @@ returns-clause-gives g c =
       name.0,
       describes_both before.room (InColumn before.bytes c.args.count columns ColumnHead) (InColumn middle.bytes c.args.count columns (NameCount type.0)) (with_column after.bytes c.args.count columns name.0) a b d
           c.args.payload.now.place c.read_type.new.payload.place c.read_name.new.payload.place before.peak middle after type.1
-          (subst (λ r. Describes r (InColumn middle.bytes c.args.count columns (NameCount type.0)) b d c.read_type.new.payload.place c.read_name.new.payload.place middle.peak after (with_column after.bytes c.args.count columns name.0)) c.in_ok-read_type.ensures.room name.1),
+          (subst (λ r. Describes r (InColumn middle.bytes c.args.count columns (NameCount type.0)) b d c.read_type.new.payload.place c.read_name.new.payload.place middle.peak after (with_column after.bytes c.args.count columns name.0)) c.in_ok-read_type.ensures.leaves.room name.1),
     ))
     (λ stop name.
     stops_describing_after before.room (InColumn before.bytes c.args.count columns ColumnHead) (InColumn middle.bytes c.args.count columns (NameCount type.0)) a b d
     c.args.payload.now.place c.read_type.new.payload.place before.peak middle after stop type.1
-    (subst (λ r. StopsDescribing r (InColumn middle.bytes c.args.count columns (NameCount type.0)) b d c.read_type.new.payload.place middle.peak after stop) c.in_ok-read_type.ensures.room name))
+    (subst (λ r. StopsDescribing r (InColumn middle.bytes c.args.count columns (NameCount type.0)) b d c.read_type.new.payload.place middle.peak after stop) c.in_ok-read_type.ensures.leaves.room name))

@@ -42,10 +42,10 @@ columns-preserved g c =
     let one = c.in_ok-read_column.ensures.gives columns.0 columns.1 in
     let column = subst (λ r. Describes r (InColumn middle.bytes c.args.count columns.0 ColumnHead) b d c.columns.payload.place c.read_column.new.payload.place middle.peak after (with_column after.bytes c.args.count columns.0 one.0)) c.columns.invariant.room one.1 in
     record {
-      sound = c.in_ok-read_column.ensures.payload.sound;
-      going = c.in_ok-read_column.ensures.payload.going;
+      sound = c.in_ok-read_column.ensures.leaves.payload.sound;
+      going = c.in_ok-read_column.ensures.leaves.payload.going;
       same = search rules;
-      room = c.in_ok-read_column.ensures.room ∙ c.columns.invariant.room;
+      room = c.in_ok-read_column.ensures.leaves.room ∙ c.columns.invariant.room;
       fits = c.in_ok-read_column.ensures.fits;
       reads = columns_more before.room c.args.count c.columns.index from a b d c.args.payload.now.place c.columns.payload.place c.read_column.new.payload.place before.peak middle after c.columns-test.true columns.0 columns.1 columns.2 one.0 column;
     }

@@ -10,9 +10,13 @@ use Rattle.tds_columns.proofs.metadata.read_count.Goals as goal
 
 pub returns-in_err-take_into-clause-gives : goal.returns-in_err-take_into-clause-gives
 returns-in_err-take_into-clause-gives g c =
-    passed _ _ _ _ c.from_residual.ensures.1 (λ going.
-    description_cut c.args.area.now.room BeforeCount (seen g.R.Read.remaining c.args.payload.now) (seen g.R.Read.remaining c.take_into.new.payload) c.args.area.now c.take_into.new.area c.args.payload.now.place 2 c.in_err-take_into.field-0.0
-    (c.in_err-take_into.ensures.gives going) c.requires.empty refl refl refl)
+    passed _ _ _ _ c.from_residual.ensures.1 (
+      search rules,
+      search rules,
+      λ going.
+          description_cut c.args.area.now.room BeforeCount (seen g.R.Read.remaining c.args.payload.now) (seen g.R.Read.remaining c.take_into.new.payload) c.args.area.now c.take_into.new.area c.args.payload.now.place 2 c.in_err-take_into.field-0.0
+          (c.in_err-take_into.ensures.gives going) c.requires.empty refl refl refl,
+    )
 
 pub returns-then-count-clause-gives : goal.returns-then-count-clause-gives
 returns-then-count-clause-gives g c =
@@ -25,14 +29,17 @@ returns-then-count-clause-gives g c =
 
 pub returns-in-None-clause-gives : goal.returns-in-None-clause-gives
 returns-in-None-clause-gives g c =
-    let room : c.room.result ≡ c.args.area.now.room = c.room.ensures ∙ c.in_ok-take_into.ensures.room in
+    let room : c.room.result ≡ c.args.area.now.room = c.room.ensures ∙ c.in_ok-take_into.ensures.area.room in
     let free : count_fault c.args.area.now.room c.read_u16-count.result ≡ None = subst (λ n. count_fault n c.read_u16-count.result ≡ None) room (search rules) in
     count_some c.args.area.now.room (seen g.R.Read.remaining c.args.payload.now) (seen g.R.Read.remaining c.take_into.new.payload) c.args.area.now c.take_into.new.area c.args.payload.now.place c.take_into.new.payload.place
     c.read_u16-count.result c.requires.empty c.in_ok-take_into.ensures.gives (search rules) (search rules) free c.in_ok-take_into.ensures.place
 
 pub returns-in-Some-clause-gives : goal.returns-in-Some-clause-gives
-returns-in-Some-clause-gives g c = λ _.
-    let room : c.room.result ≡ c.args.area.now.room = c.room.ensures ∙ c.in_ok-take_into.ensures.room in
-    let why : count_fault c.args.area.now.room c.read_u16-count.result ≡ Some c.in-Some.fault = subst (λ n. count_fault n c.read_u16-count.result ≡ Some c.in-Some.fault) room (search rules) in
-    rw c.place-place.ensures (count_refused c.args.area.now.room (seen g.R.Read.remaining c.args.payload.now) (seen g.R.Read.remaining c.take_into.new.payload) c.args.area.now c.take_into.new.area c.clear-in-Some.new.self c.args.payload.now.place
-    c.read_u16-count.result c.in-Some.fault c.requires.empty c.in_ok-take_into.ensures.gives (search rules) why c.clear-in-Some.ensures.value)
+returns-in-Some-clause-gives g c =
+    let room : c.room.result ≡ c.args.area.now.room = c.room.ensures ∙ c.in_ok-take_into.ensures.area.room in
+    let why : count_fault c.args.area.now.room c.read_u16-count.result ≡ Some c.in-Some.fault = subst (λ n. count_fault n c.read_u16-count.result ≡ Some c.in-Some.fault) room (search rules) in (
+      search rules,
+      search rules,
+      λ _. rw c.place-place.ensures (count_refused c.args.area.now.room (seen g.R.Read.remaining c.args.payload.now) (seen g.R.Read.remaining c.take_into.new.payload) c.args.area.now c.take_into.new.area c.clear-in-Some.new.self c.args.payload.now.place
+          c.read_u16-count.result c.in-Some.fault c.requires.empty c.in_ok-take_into.ensures.gives (search rules) why c.clear-in-Some.ensures.value),
+    )

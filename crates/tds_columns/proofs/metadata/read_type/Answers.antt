@@ -24,7 +24,7 @@ returns-in-Err-clause-gives g c = λ columns number.
     let byte : ℕ = get_or c.bytes.result.now (c.len-start.result + 6) 0 in
     let left : ℕ = c.args.count - (c.args.index + 1) in
     let start : c.len-start.result ≡ length before.bytes = c.len-start.ensures.value in
-    let room : c.room.result ≡ before.room = c.room.ensures ∙ c.in_ok-take_into.ensures.room in
+    let room : c.room.result ≡ before.room = c.room.ensures ∙ c.in_ok-take_into.ensures.area.room in
     let is : byte ≡ slice_index c.take_into.new.area.bytes (length before.bytes + 6) = type_byte c.take_into.new.area.bytes c.bytes.result.now c.len-start.result (length before.bytes) c.bytes.ensures.value start in
     let first : head_fault before.room (length before.bytes + 7) byte c.args.index left ≡ Some c.in-Err.fault =
     subst (λ r. head_fault r (length before.bytes + 7) byte c.args.index left ≡ Some c.in-Err.fault) room
@@ -38,7 +38,7 @@ returns-then-rest-eq0-clause-gives g c = λ columns number.
     let byte : ℕ = get_or c.bytes.result.now (c.len-start.result + 6) 0 in
     let left : ℕ = c.args.count - (c.args.index + 1) in
     let start : c.len-start.result ≡ length before.bytes = c.len-start.ensures.value in
-    let room : c.room.result ≡ before.room = c.room.ensures ∙ c.in_ok-take_into.ensures.room in
+    let room : c.room.result ≡ before.room = c.room.ensures ∙ c.in_ok-take_into.ensures.area.room in
     let is : byte ≡ slice_index c.take_into.new.area.bytes (length before.bytes + 6) = type_byte c.take_into.new.area.bytes c.bytes.result.now c.len-start.result (length before.bytes) c.bytes.ensures.value start in
     let fits : ((length before.bytes + 7) + c.in-Ok.rest) + 1 + 8 * left ≤ before.room = omega (arith, c.in-Ok.ensures.1, start, room) in
     head_bare before.room c.args.index c.args.count byte left c.in-Ok.rest columns (seen g.R.Read.remaining c.args.payload.now) (seen g.R.Read.remaining c.take_into.new.payload) before c.take_into.new.area c.args.payload.now.place c.take_into.new.payload.place
@@ -54,7 +54,7 @@ returns-clause-gives g c =
     let byte : ℕ = get_or c.bytes.result.now (c.len-start.result + 6) 0 in
     let left : ℕ = c.args.count - (c.args.index + 1) in
     let start : c.len-start.result ≡ length before.bytes = c.len-start.ensures.value in
-    let room : c.room.result ≡ before.room = c.room.ensures ∙ c.in_ok-take_into.ensures.room in
+    let room : c.room.result ≡ before.room = c.room.ensures ∙ c.in_ok-take_into.ensures.area.room in
     let is : byte ≡ slice_index middle.bytes (length before.bytes + 6) = type_byte middle.bytes c.bytes.result.now c.len-start.result (length before.bytes) c.bytes.ensures.value start in
     let fits : ((length before.bytes + 7) + c.in-Ok.rest) + 1 + 8 * left ≤ before.room = omega (arith, c.in-Ok.ensures.1, start, room) in
     let head : (columns : List Column) → length columns ≡ c.args.index → Describes before.room (InColumn before.bytes c.args.count columns ColumnHead) a b c.args.payload.now.place c.take_into.new.payload.place before.peak middle (InColumn middle.bytes c.args.count columns (ColumnInfo byte)) = λ columns number.
@@ -63,9 +63,9 @@ returns-clause-gives g c =
       info.0,
       describes_both before.room (InColumn before.bytes c.args.count columns ColumnHead) (InColumn middle.bytes c.args.count columns (ColumnInfo byte)) (InColumn c.read_info.new.area.bytes c.args.count columns (NameCount info.0)) a b d
           c.args.payload.now.place c.take_into.new.payload.place c.read_info.new.payload.place before.peak middle c.read_info.new.area (head columns number)
-          (subst (λ r. Describes r (InColumn middle.bytes c.args.count columns (ColumnInfo byte)) b d c.take_into.new.payload.place c.read_info.new.payload.place middle.peak c.read_info.new.area (InColumn c.read_info.new.area.bytes c.args.count columns (NameCount info.0))) c.in_ok-take_into.ensures.room info.1),
+          (subst (λ r. Describes r (InColumn middle.bytes c.args.count columns (ColumnInfo byte)) b d c.take_into.new.payload.place c.read_info.new.payload.place middle.peak c.read_info.new.area (InColumn c.read_info.new.area.bytes c.args.count columns (NameCount info.0))) c.in_ok-take_into.ensures.area.room info.1),
     ))
     (λ stop info.
     stops_describing_after before.room (InColumn before.bytes c.args.count columns ColumnHead) (InColumn middle.bytes c.args.count columns (ColumnInfo byte)) a b d
     c.args.payload.now.place c.take_into.new.payload.place before.peak middle c.read_info.new.area stop (head columns number)
-    (subst (λ r. StopsDescribing r (InColumn middle.bytes c.args.count columns (ColumnInfo byte)) b d c.take_into.new.payload.place middle.peak c.read_info.new.area stop) c.in_ok-take_into.ensures.room info))
+    (subst (λ r. StopsDescribing r (InColumn middle.bytes c.args.count columns (ColumnInfo byte)) b d c.take_into.new.payload.place middle.peak c.read_info.new.area stop) c.in_ok-take_into.ensures.area.room info))

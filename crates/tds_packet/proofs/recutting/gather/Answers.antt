@@ -36,7 +36,7 @@ returns-then-n-eq0-clause-body g c =
     let inv = c.loop-payload.invariant in
     let room : c.loop-payload.output.room ≡ c.args.output.now.room = search rules in
     let more : c.in_ok-at_end.field-0 ≡ false = search rules in
-    let ready = c.in_ok-at_end.ensures.ready more in
+    let ready = c.in_ok-at_end.ensures.tells.ready more in
     let up : c.min-n.result ≡ min (length (buffered t)) (c.loop-payload.output.room - length packet) = search rules in
     let none : c.min-n.result ≡ 0 = search rules in
     record {
@@ -44,9 +44,9 @@ returns-then-n-eq0-clause-body g c =
       fits = omega (arith, inv.fits, room);
       gives = asked (seen g.R.Read.remaining o) (seen g.R.Read.remaining s) (seen g.R.Read.remaining t) (drop 8 packet) inv.takes c.in_ok-at_end.ensures.gives;
       over = λ e. cc;
-      full = λ _. (omega (arith, inv.fits, room, up, none, ready), ready, c.in_ok-at_end.ensures.more more);
+      full = λ _. (omega (arith, inv.fits, room, up, none, ready), ready, c.in_ok-at_end.ensures.tells.more more);
       between = c.in_ok-at_end.ensures.between;
-      place = omega (arith, inv.place, c.in_ok-at_end.ensures.place);
+      place = omega (arith, inv.place, c.in_ok-at_end.ensures.payload.place);
       goes_on = tt;
     }
 
@@ -62,10 +62,10 @@ returns-clause-body g c =
       header = inv.header;
       fits = omega (arith, inv.fits, room);
       gives = asked (seen g.R.Read.remaining o) (seen g.R.Read.remaining s) (seen g.R.Read.remaining t) (drop 8 packet) inv.takes c.in_ok-at_end.ensures.gives;
-      over = λ _. c.in_ok-at_end.ensures.over (search rules);
+      over = λ _. c.in_ok-at_end.ensures.tells.over (search rules);
       full = λ e. cc;
       between = c.in_ok-at_end.ensures.between;
-      place = omega (arith, inv.place, c.in_ok-at_end.ensures.place);
+      place = omega (arith, inv.place, c.in_ok-at_end.ensures.payload.place);
       goes_on = tt;
     }
 
@@ -92,7 +92,7 @@ loop-payload-preserved g c =
       room = room ∙ inv.room;
       header = omega (arith, long, inv.header);
       fits = omega (arith, long, len, up, inv.fits, room);
-      place = omega (arith, far, c.in_ok-at_end.ensures.place, inv.place, ap length split, length-append (drop 8 packet) piece, len);
+      place = omega (arith, far, c.in_ok-at_end.ensures.payload.place, inv.place, ap length split, length-append (drop 8 packet) piece, len);
       takes = subst (λ l. Takes (seen g.R.Read.remaining o) (seen g.R.Read.remaining d) l (length l + 1)) (sym split)
           (gathered (seen g.R.Read.remaining o) (seen g.R.Read.remaining s) (seen g.R.Read.remaining t) (seen g.R.Read.remaining d) (drop 8 packet) piece inv.takes c.in_ok-at_end.ensures.gives c.consume.ensures.gives);
     }

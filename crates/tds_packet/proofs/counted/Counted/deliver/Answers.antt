@@ -15,6 +15,6 @@ loop-taken-preserved g c =
     let joined = ap (λ l. take done xs ++ l) (take-take n (length xs - done) (drop done xs) (omega arith)) ∙ sym (take-add done n xs) in
     record {
       within = omega arith;
-      stays = (c.in-Ok.ensures.same ∙ before.stays.0, λ _. omega (arith, c.in-Ok.ensures.asked, before.stays.0));
+      stays = (c.in-Ok.ensures.counts.0 ∙ before.stays.0, λ _. omega (arith, c.in-Ok.ensures.counts.1, before.stays.0));
       written = subst (Appends _ _) joined (Appends-trans _ _ _ _ _ before.written c.in-Ok.ensures.ok);
     }

@@ -1,25 +1,34 @@
-use Rattle.std.proofs.Common.{arith, rules, drop, length-drop, refl, None}
+use Rattle.std.proofs.Common.{◌<◌, arith, rules, drop, length, length-drop, refl, None}
 use Rattle.std.proofs.Math.ListN.{drop_of_length-le}
 use Rattle.tds_packet.proofs.Futures.{over, not_over, stopped_ends}
 use Rattle.tds_packet.proofs.PayloadLaws.{between_of}
 use Rattle.tds_packet.proofs.payload.Payload.at_end.Goals as goal
 
-pub returns-in-Ok-clause-more : goal.returns-in-Ok-clause-more
-returns-in-Ok-clause-more g c = λ _.
+pub returns-in-Ok-clause-tells : goal.returns-in-Ok-clause-tells
+returns-in-Ok-clause-tells g c =
     let s = c.ready.new.self in
-    not_over s.packet.now.room s.max_wire s.wire s.place s.last s.stopped (drop s.at s.packet.now.bytes) (g.R.Read.remaining s.from.now.device) s.from.now.failures c.in-Ok.ensures.payload.going (omega (arith, length-drop s.at s.packet.now.bytes, c.in-Ok.ensures.stands))
+    let some : 0 < length (drop s.at s.packet.now.bytes) = omega (arith, length-drop s.at s.packet.now.bytes, c.in-Ok.ensures.stands) in
+    record {
+      over = λ e. cc;
+      more = λ _. not_over s.packet.now.room s.max_wire s.wire s.place s.last s.stopped (drop s.at s.packet.now.bytes) (g.R.Read.remaining s.from.now.device) s.from.now.failures c.in-Ok.ensures.payload.answers.going some;
+      ready = λ _. some;
+    }
 
-pub returns-in-MessageEnded-clause-over : goal.returns-in-MessageEnded-clause-over
-returns-in-MessageEnded-clause-over g c = λ _.
+pub returns-in-MessageEnded-clause-tells : goal.returns-in-MessageEnded-clause-tells
+returns-in-MessageEnded-clause-tells g c =
     let s = c.ready.new.self in
     let ended = c.in-Err.ensures.ended c.in-MessageEnded.is (search rules) in
-    over s.packet.now.room s.max_wire s.wire s.place s.last None (drop s.at s.packet.now.bytes) (g.R.Read.remaining s.from.now.device) s.from.now.failures ended.0 refl (drop_of_length-le s.packet.now.bytes (omega (arith, ended.1)))
+    record {
+      over = λ _. over s.packet.now.room s.max_wire s.wire s.place s.last None (drop s.at s.packet.now.bytes) (g.R.Read.remaining s.from.now.device) s.from.now.failures ended.last refl (drop_of_length-le s.packet.now.bytes (omega (arith, ended.used_up)));
+      more = λ e. cc;
+      ready = λ e. cc;
+    }
 
 pub returns-in-Some-clause-gives : goal.returns-in-Some-clause-gives
 returns-in-Some-clause-gives g c = stopped_ends _ _ _ _ _ _ _ _ _ _ c.in-Some.is
 
 pub returns-in-Ok-clause-between : goal.returns-in-Ok-clause-between
-returns-in-Ok-clause-between g c = between_of g.R.Read.remaining c.ready.new.self c.in-Ok.ensures.payload.going
+returns-in-Ok-clause-between g c = between_of g.R.Read.remaining c.ready.new.self c.in-Ok.ensures.payload.answers.going
 
 pub returns-in-MessageEnded-clause-between : goal.returns-in-MessageEnded-clause-between
 returns-in-MessageEnded-clause-between g c = between_of g.R.Read.remaining (record c.ready.new.self { stopped = None }) refl

@@ -12,22 +12,22 @@ returns g c =
     let up : n ≡ min c.args.max (length xs - s.at) = search rules in
     let out = take ((s.at + n) - s.at) (drop s.at xs) in
     let len : length out ≡ n = omega (arith, length-take ((s.at + n) - s.at) (drop s.at xs), length-drop s.at xs, c.in_ok-ready.ensures.stands, up) in
-    let hands = hands_out s.packet.now.room s.max_wire s.wire s.place n s.last s.stopped (drop s.at xs) out (drop (s.at + n) xs) (g.R.Read.remaining s.from.now.device) s.from.now.failures 1 c.in_ok-ready.ensures.payload.going (split_piece s.at n xs) (sym len) in
+    let hands = hands_out s.packet.now.room s.max_wire s.wire s.place n s.last s.stopped (drop s.at xs) out (drop (s.at + n) xs) (g.R.Read.remaining s.from.now.device) s.from.now.failures 1 c.in_ok-ready.ensures.payload.answers.going (split_piece s.at n xs) (sym len) in
     let bound : (0 < n) × (n ≤ c.args.max) = (omega (arith, up, c.in_ok-ready.ensures.stands, c.requires.some), omega (arith, up)) in
     let fits : s.at + n ≤ length xs = omega (arith, up, c.in_ok-ready.ensures.stands) in
     let a = seen g.R.Read.remaining c.args.self.now in
     let b = seen g.R.Read.remaining s in
     let d = seen g.R.Read.remaining (record s { at = s.at + n; place = s.place + n }) in
-    let sound = c.in_ok-ready.ensures.payload.sound in
+    let sound = c.in_ok-ready.ensures.payload.answers.sound in
     let value = c.bytes-bytes.ensures.value in (
       (
         refl,
         λ _. tt,
         (
-          record { at = fits; place = omega (arith, sound.place, fits); wire = sound.wire; limit = sound.limit; peak = sound.peak; used_up = rw c.in_ok-ready.ensures.payload.going tt },
-          c.in_ok-ready.ensures.payload.same,
-          (rw value (Takes-trans a b d [] out 1 1 (le_refl 1) c.in_ok-ready.ensures.gives hands), between_of g.R.Read.remaining (record s { at = s.at + n; place = s.place + n }) c.in_ok-ready.ensures.payload.going, rw value (omega (arith, len, c.in_ok-ready.ensures.place)), c.in_ok-ready.ensures.payload.going),
-          not_again _ _ _ _ c.in_ok-ready.ensures.payload.again,
+          record { at = fits; place = omega (arith, sound.place, fits); wire = sound.wire; limit = sound.limit; peak = sound.peak; used_up = rw c.in_ok-ready.ensures.payload.answers.going tt },
+          c.in_ok-ready.ensures.payload.answers.same,
+          (rw value (Takes-trans a b d [] out 1 1 (le_refl 1) c.in_ok-ready.ensures.gives hands), between_of g.R.Read.remaining (record s { at = s.at + n; place = s.place + n }) c.in_ok-ready.ensures.payload.answers.going, rw value (omega (arith, len, c.in_ok-ready.ensures.payload.place)), c.in_ok-ready.ensures.payload.answers.going),
+          not_again _ _ _ _ c.in_ok-ready.ensures.payload.answers.again,
         ),
       ),
       record { len = rw value (omega (arith, len, bound.0), omega (arith, len, bound.1)); after = tt },

@@ -17,11 +17,15 @@ returns-then-self-clause-gives g c =
     let b = seen g.R.Read.remaining s in
     Ends-after a b b [] [] 1 _ c.loop-self.invariant.gives (ended_ends s.packet.now.room s.max_wire s.wire s.place s.last s.stopped (drop s.at s.packet.now.bytes) (g.R.Read.remaining s.from.now.device) s.from.now.failures c.if-self.true c.loop-self.invariant.going none)
 
-pub returns-then-self-clause-over : goal.returns-then-self-clause-over
-returns-then-self-clause-over g c = λ _ _.
+pub returns-then-self-clause-ended : goal.returns-then-self-clause-ended
+returns-then-self-clause-ended g c = λ _ _.
     let s = c.loop-self.self in
     let same : record s { stopped = None } ≡ s = ap (λ o. record s { stopped = o }) (sym c.loop-self.invariant.going) in
-    subst (λ t. Takes (seen g.R.Read.remaining c.args.self.now) (seen g.R.Read.remaining t) [] 1) (sym same) c.loop-self.invariant.gives
+    record {
+      last = c.if-self.true;
+      used_up = c.loop-self-test.true ∙ c.len.ensures.value;
+      takes = subst (λ t. Takes (seen g.R.Read.remaining c.args.self.now) (seen g.R.Read.remaining t) [] 1) (sym same) c.loop-self.invariant.gives;
+    }
 
 pub returns-in_err-advance-clause-gives : goal.returns-in_err-advance-clause-gives
 returns-in_err-advance-clause-gives g c =
@@ -48,13 +52,13 @@ loop-self-preserved g c =
     let b = seen g.R.Read.remaining c.loop-self.self in
     let d = seen g.R.Read.remaining c.advance.new.self in
     record {
-      sound = c.in_ok-advance.ensures.payload.sound;
+      sound = c.in_ok-advance.ensures.payload.answers.sound;
       same = search rules;
       lazy = λ h.
           let same = ap (λ p. p.at) (c.loop-self.invariant.lazy h) in
           let len = ap (λ p. length p.packet.now.bytes) (c.loop-self.invariant.lazy h) in
           absurd (omega (arith, same, len, c.loop-self-test.true, c.len.ensures));
-      place = c.in_ok-advance.ensures.place ∙ c.loop-self.invariant.place;
-      going = c.in_ok-advance.ensures.payload.going;
+      place = c.in_ok-advance.ensures.payload.place ∙ c.loop-self.invariant.place;
+      going = c.in_ok-advance.ensures.payload.answers.going;
       gives = Takes-trans a b d [] [] 1 1 (le_refl 1) c.loop-self.invariant.gives c.in_ok-advance.ensures.gives;
     }
