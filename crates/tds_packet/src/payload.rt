@@ -163,6 +163,13 @@ impl<'a, R: Read> Payload<'a, R> {
         if let Some(stop) = self.stopped {
             return Err(stop);
         }
+        let n = to.len();
+        let held = self.buffered();
+        if n <= held.len() {
+            to.copy_from_slice(&held[..n]);
+            self.consume(n);
+            return Ok(());
+        }
         let start = self.place;
         let mut at = 0;
         while at < to.len() {

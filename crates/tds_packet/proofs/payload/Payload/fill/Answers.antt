@@ -26,11 +26,11 @@ loop-at-preserved g c =
     let n = (i + length bytes) - i in
     let within = c.loop-at.invariant.within in
     let fits : i + length bytes ≤ length to = omega (arith, c.in-Ok.ensures.len, within) in
-    let all : c.copy_from_slice.new.self ≡ bytes = search rules in
-    let part : slice_range (put_mid i n to c.copy_from_slice.new.self) i (i + length bytes) ≡ bytes =
+    let all : c.copy_from_slice-in-Ok.new.self ≡ bytes = search rules in
+    let part : slice_range (put_mid i n to c.copy_from_slice-in-Ok.new.self) i (i + length bytes) ≡ bytes =
     ap (λ l. slice_range (put_mid i n to l) i (i + length bytes)) all ∙ slice_range-put_mid i n (length bytes) to bytes within (le_refl _) ∙ take_all (length bytes) bytes (le_refl _) in
-    let joined = take_split i (i + length bytes) to (put_mid i n to c.copy_from_slice.new.self) (omega arith) (take-put_mid_below _ _ _ _ _ (le_refl _) within) in
-    let done : take i to ++ bytes ≡ take (i + length bytes) (put_mid i n to c.copy_from_slice.new.self) = ap (λ l. take i to ++ l) (sym part) ∙ joined in
+    let joined = take_split i (i + length bytes) to (put_mid i n to c.copy_from_slice-in-Ok.new.self) (omega arith) (take-put_mid_below _ _ _ _ _ (le_refl _) within) in
+    let done : take i to ++ bytes ≡ take (i + length bytes) (put_mid i n to c.copy_from_slice-in-Ok.new.self) = ap (λ l. take i to ++ l) (sym part) ∙ joined in
     record {
       sound = h.0;
       same = search rules;
