@@ -11,6 +11,7 @@ use Rattle.tds_rows.specs.declared.gather.TheConstants.{LONGEST_CELL}
 use Rattle.tds_rows.specs.declared.reading.Rows.{Rows}
 use Rattle.tds_rows.specs.declared.table.Ahead.{Ahead}
 use Rattle.tds_rows.specs.Cells.{CellPart}
+use Rattle.tds_meter.specs.Space.{Space}
 use Rattle.tds_rows.specs.CellSteps.{CellPut, FieldPut, LeavesSmall}
 use Rattle.tds_rows.specs.Rows.{RowPart, RowToken, token_byte}
 use Rattle.tds_rows.specs.RowSteps.{RowPut}
@@ -60,6 +61,12 @@ abbrev pub NextRead : {R W U : Type 0} → (R → Option (List ℕ)) → (W → 
 NextRead remaining contents at kind true old new result =
     (new.payload.now ≡ old.payload.now) × PutsPiece contents old.sink.now new.sink.now (in_line at.column (at.column + 1 == old.table.now.count) null_field) result
 NextRead remaining contents at kind false old new result = CellRead remaining contents at kind old new result
+
+-- A bitmap can be read into the area: it is empty, and has room for the longest.
+pub record AwaitsBitmap (bitmap : Space) : Type 0 where
+  pub empty : bitmap.bytes ≡ []
+  pub room : 8192 ≤ bitmap.room
+  pub peak : bitmap.peak ≤ bitmap.room
 
 -- A row was read from this state on and its line put, or the call stopped.
 abbrev pub RowRead : {R W U : Type 0} → (R → Option (List ℕ)) → (W → Option (List ℕ)) → RowPart → Rows R W → Rows R W → Result U Stop → Type 0

@@ -1,10 +1,11 @@
 // A row with a bitmap of the columns that are NULL, and such rows after one another (MS-TDS, NBCROW).
-ghost use Rattle.std.specs.Prelude.{◌≡◌, ℕ, ◌+◌, ◌*◌, ◌<◌, ◌≤◌, ◌++◌, List, [], None, false, length, IfOk};
+ghost use Rattle.std.specs.Prelude.{◌≡◌, ℕ, ◌+◌, ◌*◌, ◌<◌, ◌≤◌, ◌++◌, List, None, false, length, IfOk};
 ghost use Rattle.tds_columns.specs.Description.{Column};
 ghost use Rattle.tds_columns.specs.View.{columns_of};
 ghost use Rattle.tds_csv.specs.Sinks.{IsReady, IsWriting, LeavesSink};
 ghost use Rattle.tds_packet.specs.Payloads.{IsGoing, IsSound, LeavesPayload};
-ghost use Rattle.tds_rows.specs.RowReading.{IsInRow, LeavesRows, NextRead, RowRead, StaysInRow, TokenTaken};
+ghost use Rattle.tds_packet.specs.Reads.{KeepsRoom};
+ghost use Rattle.tds_rows.specs.RowReading.{AwaitsBitmap, IsInRow, LeavesRows, NextRead, RowRead, StaysInRow, TokenTaken};
 ghost use Rattle.tds_rows.specs.RowSteps.{RowPut, RowsRead, StopsAgain};
 ghost use Rattle.tds_rows.specs.Cells.{Cell};
 ghost use Rattle.tds_rows.specs.CellSteps.{LeavesSmall};
@@ -59,12 +60,9 @@ impl<'r, 't, 'p, 's, 'c, R: Read, W: Write> Rows<'r, 't, 'p, 's, 'c, R, W> {
     fn nbc_row(&mut self, bitmap: &mut Area) -> Result<(), Stop>
         requires in_row { IsInRow self.old }
         requires knows { KnowsSome self.old.table.now }
-        requires empty { bitmap.old.bytes ≡ [] }
-        requires room { LONGEST_BITMAP ≤ bitmap.old.room }
-        requires peak { bitmap.old.peak ≤ bitmap.old.room }
+        requires awaits { AwaitsBitmap bitmap.old }
         ensures leaves { LeavesRows self.old self.new result }
-        ensures room { bitmap.new.room ≡ bitmap.old.room }
-        ensures peak { bitmap.new.peak ≤ bitmap.new.room }
+        ensures bitmap { KeepsRoom bitmap.old bitmap.new }
         ensures gives { (columns : List Column) → Knows self.old.table.now columns →
             RowRead R.remaining W.contents (nbc_row_start columns) self.old self.new result }
     {
@@ -103,8 +101,7 @@ impl<'r, 't, 'p, 's, 'c, R: Read, W: Write> Rows<'r, 't, 'p, 's, 'c, R, W> {
         requires knows { KnowsSome self.old.table.now }
         requires room { LONGEST_BITMAP ≤ bitmap.old.room }
         ensures leaves { LeavesRows self.old self.new result }
-        ensures room { bitmap.new.room ≡ bitmap.old.room }
-        ensures peak { bitmap.new.peak ≤ bitmap.new.room }
+        ensures bitmap { KeepsRoom bitmap.old bitmap.new }
         ensures few { IfOk result (λ count. self.old.payload.now.place + count ≤ self.new.payload.now.place + 1) }
         ensures gives { (columns : List Column) → Knows self.old.table.now columns →
             RowsRead R.remaining W.contents NbcRow self.old.table.now.charset columns
@@ -146,8 +143,7 @@ pub fn nbc_row<R: Read, W: Write>(
     requires small_room { LONGEST_CELL ≤ small.old.room }
     ensures payload { LeavesPayload payload.old payload.new result }
     ensures sink { LeavesSink sink.old sink.new result }
-    ensures room { bitmap.new.room ≡ bitmap.old.room }
-    ensures peak { bitmap.new.peak ≤ bitmap.new.room }
+    ensures bitmap { KeepsRoom bitmap.old bitmap.new }
     ensures small { LeavesSmall small.old small.new }
     ensures gives { payload.old.stopped ≡ None → sink.old.failed ≡ false →
         RowPut R.remaining W.contents charset (nbc_row_start (columns_of columns.entry.bytes.now))
@@ -193,8 +189,7 @@ pub fn read_nbc_rows<R: Read, W: Write>(
     requires small_room { LONGEST_CELL ≤ small.old.room }
     ensures payload { LeavesPayload payload.old payload.new result }
     ensures sink { LeavesSink sink.old sink.new result }
-    ensures room { bitmap.new.room ≡ bitmap.old.room }
-    ensures peak { bitmap.new.peak ≤ bitmap.new.room }
+    ensures bitmap { KeepsRoom bitmap.old bitmap.new }
     ensures small { LeavesSmall small.old small.new }
     ensures few { IfOk result (λ count. payload.old.place + count ≤ payload.new.place + 1) }
     ensures gives { RowsRead R.remaining W.contents NbcRow charset (columns_of columns.entry.bytes.now)

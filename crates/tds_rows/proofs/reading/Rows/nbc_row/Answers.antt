@@ -36,7 +36,7 @@ loop-form-init g c =
     let place = old.payload.now.place in
     let place' = c.take_into.new.payload.place in
     let x = c.in_ok-take_into.ensures.gives in
-    let bytes : c.take_into.new.area.bytes ≡ x.element = ap (λ (s : Space). s.bytes) x.stands ∙ ap (λ (l : List ℕ). l ++ x.element) c.requires.empty in
+    let bytes : c.take_into.new.area.bytes ≡ x.element = ap (λ (s : Space). s.bytes) x.stands ∙ ap (λ (l : List ℕ). l ++ x.element) c.requires.awaits.empty in
     record {
       stays = record {
         in_row = record {
