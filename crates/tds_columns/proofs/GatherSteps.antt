@@ -1,6 +1,6 @@
 -- The elements of a description, as they are read into its area.
 use Rattle.std.proofs.Common.{◌≡◌, ◌≢◌, ◌∙◌, ℕ, ◌+◌, ◌*◌, ◌-◌, ◌<◌, ◌≤◌, List, [], ◌∷◌, ◌++◌, length, take, drop, max, refl, sym, ap, subst, arith, le_refl, length-append}
-use Rattle.std.specs.Prelude.{Some, None, is_some, ◌==◌, slice_index, unwrap_or, if◌then◌else◌}
+use Rattle.std.specs.Prelude.{Some, None, Result, Ok, Err, MatchResult, is_some, ◌==◌, slice_index, unwrap_or, if◌then◌else◌}
 use Rattle.std.proofs.lemmas.Bool.{ne_eqb}
 use Rattle.std.proofs.lemmas.Bool.Decides.{nat_tests}
 use Rattle.std.proofs.lemmas.List.{get_or-append-add}
@@ -81,6 +81,13 @@ stops_describing_after room s t a b c p q k middle after stop x y = record {
   bound = omega (arith, x.bound, y.bound, y.further);
   further = omega (arith, x.further, y.further);
 }
+
+-- what a call reads from there on is read after the first part
+pub part_after : {U X : Type 0} (r : Result U Stop) (room : ℕ) (s t : DescriptionPart) (to : X → DescriptionPart) (a b c : Seen) (p q z k : ℕ) (middle after : Space) → middle.room ≡ room → Describes room s a b p q k middle t
+    → MatchResult r (λ _. (x : X) × Describes middle.room t b c q z middle.peak after (to x)) (λ stop. StopsDescribing middle.room t b c q middle.peak after stop)
+    → MatchResult r (λ _. (x : X) × Describes room s a c p z k after (to x)) (λ stop. StopsDescribing room s a c p k after stop)
+part_after (Ok _) room s t to a b c p q z k middle after same first h = (h.0, describes_both room s t (to h.0) a b c p q z k middle after first (subst (λ n. Describes n t b c q z middle.peak after (to h.0)) same h.1))
+part_after (Err stop) room s t to a b c p q z k middle after same first h = stops_describing_after room s t a b c p q k middle after stop first (subst (λ n. StopsDescribing n t b c q middle.peak after stop) same h)
 
 -- ---- Count
 

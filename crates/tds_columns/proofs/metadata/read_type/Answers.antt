@@ -2,10 +2,8 @@ use Rattle.std.proofs.Common.{◌≡◌, ◌∙◌, ◌+◌, ◌*◌, ◌-◌, �
 use Rattle.std.specs.Prelude.{Some}
 use Rattle.tds_meter.specs.Space.{holding}
 use Rattle.tds_packet.specs.Payloads.{seen}
-use Rattle.std.proofs.lemmas.Result.{MatchResult-weaker}
-use Rattle.tds_columns.specs.Description.{Column, ColumnHead, ColumnInfo, InColumn, NameCount, head_fault}
-use Rattle.tds_columns.specs.Gather.{StopsDescribing, Describes}
-use Rattle.tds_columns.proofs.GatherSteps.{describes_both, head_bare, head_cut, head_open, head_refused, stops_describing_after}
+use Rattle.tds_columns.specs.Description.{ColumnHead, ColumnInfo, InColumn, NameCount, head_fault}
+use Rattle.tds_columns.proofs.GatherSteps.{head_bare, head_cut, head_open, head_refused, part_after}
 use Rattle.tds_packet.proofs.Passing.{passed}
 use Rattle.tds_columns.proofs.metadata.read_type.Goals as goal
 
@@ -48,6 +46,7 @@ pub returns-clause-gives : goal.returns-clause-gives
 returns-clause-gives g c =
     let before = c.args.area.now in
     let middle = c.take_into.new.area in
+    let after = c.read_info.new.area in
     let a = seen g.R.Read.remaining c.args.payload.now in
     let b = seen g.R.Read.remaining c.take_into.new.payload in
     let d = seen g.R.Read.remaining c.read_info.new.payload in
@@ -57,15 +56,8 @@ returns-clause-gives g c =
     let room : c.room.result ≡ before.room = c.room.ensures ∙ c.in_ok-take_into.ensures.area.room in
     let is : byte ≡ slice_index middle.bytes (length before.bytes + 6) = type_byte middle.bytes c.bytes.result.now c.len-start.result (length before.bytes) c.bytes.ensures.value start in
     let fits : ((length before.bytes + 7) + c.in-Ok.rest) + 1 + 8 * left ≤ before.room = omega (arith, c.in-Ok.ensures.1, start, room) in
-    let head : (columns : List Column) → length columns ≡ c.args.index → Describes before.room (InColumn before.bytes c.args.count columns ColumnHead) a b c.args.payload.now.place c.take_into.new.payload.place before.peak middle (InColumn middle.bytes c.args.count columns (ColumnInfo byte)) = λ columns number.
-    head_open before.room c.args.index c.args.count byte left c.in-Ok.rest columns a b before middle c.args.payload.now.place c.take_into.new.payload.place number refl c.in_ok-take_into.ensures.gives is c.in-Ok.ensures.0 fits c.in_ok-take_into.ensures.place c.if-rest-eq0.false in
-    λ columns number. MatchResult-weaker c.read_info.result (c.read_info.ensures.gives c.args.count columns number) (λ _ info. (
-      info.0,
-      describes_both before.room (InColumn before.bytes c.args.count columns ColumnHead) (InColumn middle.bytes c.args.count columns (ColumnInfo byte)) (InColumn c.read_info.new.area.bytes c.args.count columns (NameCount info.0)) a b d
-          c.args.payload.now.place c.take_into.new.payload.place c.read_info.new.payload.place before.peak middle c.read_info.new.area (head columns number)
-          (subst (λ r. Describes r (InColumn middle.bytes c.args.count columns (ColumnInfo byte)) b d c.take_into.new.payload.place c.read_info.new.payload.place middle.peak c.read_info.new.area (InColumn c.read_info.new.area.bytes c.args.count columns (NameCount info.0))) c.in_ok-take_into.ensures.area.room info.1),
-    ))
-    (λ stop info.
-    stops_describing_after before.room (InColumn before.bytes c.args.count columns ColumnHead) (InColumn middle.bytes c.args.count columns (ColumnInfo byte)) a b d
-    c.args.payload.now.place c.take_into.new.payload.place before.peak middle c.read_info.new.area stop (head columns number)
-    (subst (λ r. StopsDescribing r (InColumn middle.bytes c.args.count columns (ColumnInfo byte)) b d c.take_into.new.payload.place middle.peak c.read_info.new.area stop) c.in_ok-take_into.ensures.area.room info))
+    λ columns number.
+    part_after c.read_info.result before.room (InColumn before.bytes c.args.count columns ColumnHead) (InColumn middle.bytes c.args.count columns (ColumnInfo byte)) (λ kind. InColumn after.bytes c.args.count columns (NameCount kind)) a b d
+    c.args.payload.now.place c.take_into.new.payload.place c.read_info.new.payload.place before.peak middle after c.in_ok-take_into.ensures.area.room
+    (head_open before.room c.args.index c.args.count byte left c.in-Ok.rest columns a b before middle c.args.payload.now.place c.take_into.new.payload.place number refl c.in_ok-take_into.ensures.gives is c.in-Ok.ensures.0 fits c.in_ok-take_into.ensures.place c.if-rest-eq0.false)
+    (c.read_info.ensures.gives c.args.count columns number)
