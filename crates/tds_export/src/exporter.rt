@@ -1,11 +1,12 @@
 // The run of an export: token after token to the message's end.
-ghost use Rattle.std.specs.Prelude.{◌≡◌, ◌≤◌, false, true, IfOk};
+ghost use Rattle.std.specs.Prelude.{◌≡◌, false, true, IfOk};
 ghost use Rattle.tds_columns.specs.View.{columns_of};
 ghost use Rattle.tds_csv.specs.Sinks.{LeavesSink};
 ghost use Rattle.tds_export.specs.Steps.{IsRow, in_done, in_done_in_proc, in_kind, in_length, in_metadata, in_nbc_row, in_return, in_row, in_status};
 ghost use Rattle.tds_export.specs.TokenGrammar.{AnError, AnInfo, Bodied, is_notice};
 ghost use Rattle.tds_export.specs.Exporters.{Advances, CanBegin, IsInToken, IsRunning, LeavesRun};
 ghost use Rattle.tds_export.specs.Exporters.{ResponseRead, StepRead, TokenRead, WholeRead, view};
+ghost use Rattle.tds_export.specs.Lending.{LeavesAreas, lent};
 ghost use Rattle.tds_packet.specs.Payloads.{LeavesPayload};
 
 use crate::notice::{error_of, message_of, take_notice};
@@ -266,13 +267,8 @@ pub(crate) fn read_response<R: Read, W: Write>(
     requires { CanBegin payload.old sink.old description.old token.old notice.old small.old }
     ensures payload { LeavesPayload payload.old payload.new result }
     ensures sink { LeavesSink sink.old sink.new result }
-    ensures room { description.new.room ≡ description.old.room }
-    ensures token { token.new.room ≡ token.old.room }
-    ensures token_peak { token.new.peak ≤ token.new.room }
-    ensures notice { notice.new.room ≡ notice.old.room }
-    ensures notice_peak { notice.new.peak ≤ notice.new.room }
-    ensures small { small.new.room ≡ small.old.room }
-    ensures small_peak { small.new.peak ≤ small.new.room }
+    ensures areas { LeavesAreas (lent description.old token.old notice.old small.old)
+        (lent description.new token.new notice.new small.new) }
     ensures gives { let at = view R.remaining W.contents in
         ResponseRead charset (at payload.old sink.old description.old notice.old)
         (at payload.new sink.new description.new notice.new) result }
