@@ -122,11 +122,16 @@ pub record FindsEnd {R W : Type 0} (remaining : R → Option (List ℕ)) (old ne
   pub progress : new.progress ≡ old.progress
 
 -- A token was read after its first byte, from this state on, and its text put; or that stopped: whatever the tokens before it are.
-abbrev pub StepRead : {R W U : Type 0} → (R → Option (List ℕ)) → (W → Option (List ℕ)) → (List Token → Part) → Exporter R W → Exporter R W → Result U Stop → Type 0
-StepRead remaining contents from old new result = (tokens : List Token) → TracksBefore old.progress tokens → IsHolding old.description.now (behind tokens) → IsNoted old.notice.now tokens →
+abbrev pub BodyRead : {R W U : Type 0} → (R → Option (List ℕ)) → (W → Option (List ℕ)) → (List Token → Part) → Exporter R W → Exporter R W → Result U Stop → Type 0
+BodyRead remaining contents from old new result = (tokens : List Token) → TracksBefore old.progress tokens → IsHolding old.description.now (behind tokens) → IsNoted old.notice.now tokens →
     MatchResult result
     (λ _. ReadsNext old.charset (from tokens) tokens (view_of remaining contents old) (view_of remaining contents new) new.progress)
     (λ stop. StopsIn old.charset (from tokens) (view_of remaining contents old) (view_of remaining contents new) stop)
+
+-- A call read a token after its first byte, as above, and left the run on the same devices and areas, going on where it answered no error.
+pub record StepRead {R W U : Type 0} (remaining : R → Option (List ℕ)) (contents : W → Option (List ℕ)) (from : List Token → Part) (old new : Exporter R W) (result : Result U Stop) : Type 0 where
+  pub leaves : LeavesRun old new result
+  pub reads : BodyRead remaining contents from old new result
 
 -- The next token was read and its text put, or the message is over; or that stopped: whatever the tokens before it are.
 abbrev pub TokenRead : {R W : Type 0} → (R → Option (List ℕ)) → (W → Option (List ℕ)) → Exporter R W → Exporter R W → Result Bool Stop → Type 0

@@ -37,30 +37,36 @@ tracks_status s ts n status e k =
     let t = ReturnStatus n in
     tracks_bare s ts t (record s.report { return_status = Some status }) s.is_final refl (ap (λ (r : Report). record r { return_status = Some status; written = length (text (ts ++ t ∷ [])) }) k.report ∙ ap (λ z. record (report_of ts) { return_status = Some z; written = length (text (ts ++ t ∷ [])) }) e ∙ sym (status_report ts n)) k.final k
 
-pub returns-in_err-fill-clause-gives : goal.returns-in_err-fill-clause-gives
-returns-in_err-fill-clause-gives g c = λ tokens tracks holds noted.
-    let run = c.args.self.now in
-    let sink = held g.W.Write.contents run.sink.now in
-    let room = run.description.now.room in
-    let a = seen g.R.Read.remaining run.payload.now in
-    let b = seen g.R.Read.remaining c.fill.new.self in
-    let running = c.requires.running in
-    let part = c.in_err-fill.ensures.part running.payload.going in
-    let four : length c.fill.new.to ≡ 4 = search rules in
-    let less : part.0 < length c.fill.new.to = part.2 in
-    passed _ _ _ _ c.from_residual.ensures.1 (stops_reading run.charset room (in_status tokens) a b run.payload.now.place sink run.description.now run.sink.now.failed c.in_err-fill.field-0.0 running.sink.ready.2 running.sink.writing (record { bytes = holds.bytes; peak = holds.peak })
-    (token_cut run.charset room (in_status tokens) a b run.payload.now.place 4 part.0 c.fill.new.to part.1 c.in_err-fill.field-0.0 refl refl (omega (arith, less, four)) four part.3 part.4))
+pub returns-in_err-fill : goal.returns-in_err-fill
+returns-in_err-fill g c = record {
+  leaves = search rules;
+  reads = λ tokens tracks holds noted.
+      let run = c.args.self.now in
+      let sink = held g.W.Write.contents run.sink.now in
+      let room = run.description.now.room in
+      let a = seen g.R.Read.remaining run.payload.now in
+      let b = seen g.R.Read.remaining c.fill.new.self in
+      let running = c.requires.running in
+      let part = c.in_err-fill.ensures.part running.payload.going in
+      let four : length c.fill.new.to ≡ 4 = search rules in
+      let less : part.0 < length c.fill.new.to = part.2 in
+      passed _ _ _ _ c.from_residual.ensures.1 (stops_reading run.charset room (in_status tokens) a b run.payload.now.place sink run.description.now run.sink.now.failed c.in_err-fill.field-0.0 running.sink.ready.2 running.sink.writing (record { bytes = holds.bytes; peak = holds.peak })
+      (token_cut run.charset room (in_status tokens) a b run.payload.now.place 4 part.0 c.fill.new.to part.1 c.in_err-fill.field-0.0 refl refl (omega (arith, less, four)) four part.3 part.4));
+}
 
-pub returns-clause-gives : goal.returns-clause-gives
-returns-clause-gives g c = λ tokens tracks holds noted.
-    let run = c.args.self.now in
-    let a = seen g.R.Read.remaining run.payload.now in
-    let b = seen g.R.Read.remaining c.fill.new.self in
-    let fields = c.fill.new.to in
-    let four : length fields ≡ 4 = search rules in
-    let status : ℤ = cast_signed w32 (cast_unsigned w32 c.read_i32-status.result) in
-    let kept : status ≡ c.read_i32-status.result = search rules in
-    let is : status ≡ signed (little fields) = kept ∙ c.read_i32-status.ensures ∙ signed_is (little_number 4 fields) ∙ ap (λ n. signed (little_number n fields)) (sym four) in
-    quietly _ _ _ _ _ _ _ _ _ _ _ _ run.notice.now tracks noted refl
-    (fixed_reads run.charset run.description.now.room run.description.now (held g.W.Write.contents run.sink.now) tokens AStatus _ fields a b run.payload.now.place c.fill.new.self.place c.in_ok-fill.ensures.place
-    c.requires.running.sink.ready.2 (tracks_status run.progress tokens (little fields) status is tracks) holds four c.in_ok-fill.ensures.all)
+pub returns : goal.returns
+returns g c = record {
+  leaves = search rules;
+  reads = λ tokens tracks holds noted.
+      let run = c.args.self.now in
+      let a = seen g.R.Read.remaining run.payload.now in
+      let b = seen g.R.Read.remaining c.fill.new.self in
+      let fields = c.fill.new.to in
+      let four : length fields ≡ 4 = search rules in
+      let status : ℤ = cast_signed w32 (cast_unsigned w32 c.read_i32-status.result) in
+      let kept : status ≡ c.read_i32-status.result = search rules in
+      let is : status ≡ signed (little fields) = kept ∙ c.read_i32-status.ensures ∙ signed_is (little_number 4 fields) ∙ ap (λ n. signed (little_number n fields)) (sym four) in
+      quietly _ _ _ _ _ _ _ _ _ _ _ _ run.notice.now tracks noted refl
+      (fixed_reads run.charset run.description.now.room run.description.now (held g.W.Write.contents run.sink.now) tokens AStatus _ fields a b run.payload.now.place c.fill.new.self.place c.in_ok-fill.ensures.place
+      c.requires.running.sink.ready.2 (tracks_status run.progress tokens (little fields) status is tracks) holds four c.in_ok-fill.ensures.all);
+}
