@@ -11,7 +11,7 @@ pub record IsNext (bytes : List ℕ) (code len : ℕ) : Type 0 where
   pub keeps : rest bytes ≡ rest (drop len bytes)
   pub spells : characters bytes ≡ encode_utf8 code ++ characters (drop len bytes)
 
--- The code is that of a character, which takes one unit, or two: those above 65,535 do.
+-- This is the code of a character, in this many bytes of whole units, four or more where the code is above 65,535.
 pub record IsCharacter (code len : ℕ) : Type 0 where
   pub scalar : IsScalar code
   pub range : code < 1114112

@@ -187,6 +187,13 @@ pub stops_reading : (charset : Charset) (room : ℕ) (s : Part) (a b : Seen) (pl
     → StepStops (response charset room) s a b place h h area failed stop
 stops_reading charset room s a b place h area failed stop d going holds stops = inl (record { at = s; stops = stops; puts = same_text s s h refl d; holds = holds }, going)
 
+-- a slice wasn't filled with the next element
+pub fill_stops : (charset : Charset) (room : ℕ) (s : Part) (a b : Seen) (place n : ℕ) (to : List ℕ) (h : Held) (area : Space) (failed : Bool) (stop : Stop) → (response charset room).size s ≡ n → (response charset room).end_fault s ≡ Some MessageEnded → length to ≡ n → h.delivered ≤ 2 ^ 64 - 1 → failed ≡ false → IsHolding area s
+    → ((k : ℕ) × (own : Stop) × (k < length to) × Ends a b (take k to) own × (stop ≡ began_at place own)) → StepStops (response charset room) s a b place h h area failed stop
+fill_stops charset room s a b place n to h area failed stop size end len d going holds part =
+    let less : part.0 < length to = part.2 in
+    stops_reading charset room s a b place h area failed stop d going holds (token_cut charset room s a b place n part.0 to part.1 stop size end (omega (arith, less, len)) len part.3 part.4)
+
 -- ---- COLMETADATA
 
 header_text : (progress : Progress) (tokens : List Token) (bytes : List ℕ) (columns : List Column) → TracksBefore progress tokens

@@ -103,7 +103,7 @@ line_at body = procedure_at body + 1 + 2 * slice_index body (procedure_at body)
 abbrev pub holds_notice : List ℕ → Bool
 holds_notice body = nat_lt (server_at body) (length body) && nat_lt (procedure_at body) (length body) && nat_le (line_at body + 4) (length body)
 
--- The bytes are the body of a notice: as many as it has at least, with its inner lengths within it.
+-- The bytes are the body of an ERROR or INFO: 14 or more, and its inner lengths stay within it.
 pub record IsNoticeBody (body : List ℕ) : Type 0 where
   pub long : 14 ≤ length body
   pub holds : holds_notice body ≡ true

@@ -13,7 +13,7 @@ use Rattle.tds_export.specs.TokenBytes.{AStatus}
 use Rattle.tds_export.specs.Steps.{Tracks, TracksBefore, in_status}
 use Rattle.tds_export.proofs.NoticeReading.{signed_is}
 use Rattle.tds_export.proofs.TokenLaws.{status_after-append, tracks_bare, uncounted, unerring}
-use Rattle.tds_export.proofs.TokenSteps.{fixed_reads, stops_reading, token_cut}
+use Rattle.tds_export.proofs.TokenSteps.{fill_stops, fixed_reads}
 use Rattle.tds_export.proofs.NoticeSteps.{quietly}
 use Rattle.tds_packet.proofs.Passing.{passed}
 use Rattle.tds_export.proofs.exporter.Exporter.return_status.Goals as goal
@@ -42,16 +42,10 @@ returns-in_err-fill g c = record {
   leaves = search rules;
   reads = λ tokens tracks holds noted.
       let run = c.args.self.now in
-      let sink = held g.W.Write.contents run.sink.now in
-      let room = run.description.now.room in
-      let a = seen g.R.Read.remaining run.payload.now in
-      let b = seen g.R.Read.remaining c.fill.new.self in
       let running = c.requires.running in
-      let part = c.in_err-fill.ensures.part running.payload.going in
       let four : length c.fill.new.to ≡ 4 = search rules in
-      let less : part.0 < length c.fill.new.to = part.2 in
-      passed _ _ _ _ c.from_residual.ensures.1 (stops_reading run.charset room (in_status tokens) a b run.payload.now.place sink run.description.now run.sink.now.failed c.in_err-fill.field-0.0 running.sink.ready.2 running.sink.writing (record { bytes = holds.bytes; peak = holds.peak })
-      (token_cut run.charset room (in_status tokens) a b run.payload.now.place 4 part.0 c.fill.new.to part.1 c.in_err-fill.field-0.0 refl refl (omega (arith, less, four)) four part.3 part.4));
+      passed _ _ _ _ c.from_residual.ensures.1 (fill_stops run.charset run.description.now.room (in_status tokens) (seen g.R.Read.remaining run.payload.now) (seen g.R.Read.remaining c.fill.new.self) run.payload.now.place 4 c.fill.new.to (held g.W.Write.contents run.sink.now) run.description.now run.sink.now.failed c.in_err-fill.field-0.0
+      refl refl four running.sink.ready.2 running.sink.writing (record { bytes = holds.bytes; peak = holds.peak }) (c.in_err-fill.ensures.part running.payload.going));
 }
 
 pub returns : goal.returns
