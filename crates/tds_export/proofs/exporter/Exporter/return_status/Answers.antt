@@ -1,6 +1,6 @@
 use Rattle.std.specs.Int.{cast_signed, cast_unsigned, w32}
 use Rattle.std.specs.Prelude.{ℤ, Some, None}
-use Rattle.std.proofs.Common.{◌≡◌, ◌∙◌, ◌<◌, ℕ, List, [], ◌∷◌, ◌++◌, length, refl, sym, ap, arith, rules}
+use Rattle.std.proofs.Common.{◌≡◌, ◌∙◌, ℕ, List, [], ◌∷◌, ◌++◌, length, refl, sym, ap, rules}
 use Rattle.tds_values.specs.Numbers.{little}
 use Rattle.byteorder.specs.Endian.{little_number}
 use Rattle.tds_packet.specs.Payloads.{seen}
