@@ -15,7 +15,7 @@ use Rattle.tds_csv.specs.Sinks.{Held, Puts, Breaks, held}
 use Rattle.tds_csv.proofs.Puttings.{same_sink_after}
 use Rattle.tds_csv.specs.Utf8.{Begins, rest, text}
 use Rattle.tds_csv.proofs.Utf8Laws.{joins_utf8, emits, rest-append, front, front-rest}
-use Rattle.tds_csv.specs.Utf8Scan.{StopsAt}
+use Rattle.tds_csv.specs.Utf8Scan.{IsScan, StopsAt}
 use Rattle.tds_csv.proofs.Sinks.{Puts-trans, Breaks-after, Breaks-longer}
 
 -- the answer of a push, by where its piece begins in another one
@@ -26,7 +26,7 @@ behind n (Err Odd) = Err Odd
 behind n (Err (BadText k)) = Err (BadText (n + k))
 
 -- three bytes hold what is withheld
-pub scan_short : (bytes : List ℕ) (whole good : ℕ) → whole ≤ good → good ≤ length bytes → drop whole bytes ≡ rest bytes → (good ≡ length bytes → Begins bytes) → (good < length bytes → StopsAt bytes whole good) → good ≤ whole + 3
+scan_short : (bytes : List ℕ) (whole good : ℕ) → whole ≤ good → good ≤ length bytes → drop whole bytes ≡ rest bytes → (good ≡ length bytes → Begins bytes) → (good < length bytes → StopsAt bytes whole good) → good ≤ whole + 3
 scan_short bytes whole good order most same begins stops = elim (cases_lt good (length bytes)) [
   | inl less ↦
       let s = stops less in
@@ -38,6 +38,9 @@ scan_short bytes whole good order most same begins stops = elim (cases_lt good (
       let short = joins_utf8.short bytes (begins (omega arith)) in
       omega (arith, ap length same, length-drop whole bytes, short)
 ]
+
+pub is_scan : (bytes : List ℕ) (whole good : ℕ) → whole ≤ good → good ≤ length bytes → drop whole bytes ≡ rest bytes → (good ≡ length bytes → Begins bytes) → (good < length bytes → StopsAt bytes whole good) → IsScan bytes whole good
+is_scan bytes whole good order most same begins stops = record { order = order; most = most; short = scan_short bytes whole good order most same begins stops; rest = same; begins = begins; stops = stops }
 
 -- a beginning of what begins a text
 begins_part : (xs : List ℕ) (n : ℕ) → Begins xs → Begins (take n xs)

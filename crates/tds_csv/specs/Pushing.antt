@@ -4,7 +4,12 @@ use Rattle.tds_csv.specs.declared.joiners.JoinFault.{JoinFault}
 use Rattle.tds_csv.specs.declared.joiners.JoinFault.TheVariants.{Stopped, Odd, BadText}
 use Rattle.tds_csv.specs.Joining.{emit}
 use Rattle.tds_csv.specs.declared.sink.Sink.{Sink}
-use Rattle.tds_csv.specs.Sinks.{Breaks, Held, IsOnSameSink, IsReady, Puts, held, stop_of}
+use Rattle.tds_csv.specs.Sinks.{Breaks, Held, IsOnSameSink, IsReady, IsWriting, Puts, held, stop_of}
+
+-- A piece can be taken: what is withheld begins some data, and the sink takes text.
+pub record CanTake {W : Type 0} (begins : List ℕ → Type 0) (kept : List ℕ) (sink : Sink W) : Type 0 where
+  pub begun : begins kept
+  pub writing : IsWriting sink
 
 -- the piece is taken: its text is put as far as it is fixed, and the rest is withheld
 pub record TakesPiece (begins : List ℕ → Type 0) (rest text : List ℕ → List ℕ) (old new : List ℕ) (before after : Held) (piece : List ℕ) : Type 0 where

@@ -1,6 +1,6 @@
 -- The steps through text in UTF-16.
-use Rattle.std.specs.Prelude.{◌≡◌, ℕ, ◌+◌, ◌*◌, ◌≤◌, List, [], ◌∷◌, ◌++◌, length, drop, take}
-use Rattle.std.specs.Char.{encode_utf8}
+use Rattle.std.specs.Prelude.{◌≡◌, ℕ, ◌+◌, ◌*◌, ◌%◌, ◌<◌, ◌≤◌, List, [], ◌∷◌, ◌++◌, length, drop, take}
+use Rattle.std.specs.Char.{IsScalar, encode_utf8}
 use Rattle.tds_csv.specs.Joining.{Leads, emit}
 use Rattle.tds_csv.specs.Quoting.{doubled}
 use Rattle.tds_csv.specs.Utf16.{characters, rest, text}
@@ -10,6 +10,14 @@ pub record IsNext (bytes : List ℕ) (code len : ℕ) : Type 0 where
   pub emits : emit rest text bytes ≡ doubled (encode_utf8 code) ++ emit rest text (drop len bytes)
   pub keeps : rest bytes ≡ rest (drop len bytes)
   pub spells : characters bytes ≡ encode_utf8 code ++ characters (drop len bytes)
+
+-- This is the code of a character, in this many bytes of whole units, four or more where the code is above 65,535.
+pub record IsCharacter (code len : ℕ) : Type 0 where
+  pub scalar : IsScalar code
+  pub range : code < 1114112
+  pub some : 2 ≤ len
+  pub even : len % 2 ≡ 0
+  pub long : len < 4 → code < 65536
 
 -- The bytes before this place were converted, and the room so far holds their text.
 pub record Converts (bytes to : List ℕ) (used made : ℕ) : Type 0 where

@@ -2,7 +2,6 @@
 ghost use Rattle.std.specs.Prelude.{◌≡◌, ◌+◌, ◌*◌, ◌%◌, ◌<◌, ◌≤◌, ◌++◌, ◌∷◌, [], length, take, IfSome};
 ghost use Rattle.tds_csv.specs.Conversion.{HexDigits, Utf16Text, Utf8Text, Windows1252Text, long_field};
 ghost use Rattle.tds_csv.specs.Fields.{FieldWritten, conversion_of, field_room};
-ghost use Rattle.tds_csv.specs.Plain.{LiesIn};
 ghost use Rattle.tds_csv.specs.Quoting.{quote};
 
 use crate::convert::lanes_hex::encode;
@@ -63,28 +62,28 @@ fn write_binary(bytes: &[u8], to: &mut [u8]) -> usize
     end
 }
 
-// Writes text in UTF-16 as a field.
-fn write_utf16(bytes: &[u8], source: &[u8], to: &mut [u8]) -> usize
-    requires source { LiesIn bytes.now source.now }
-    requires whole { length bytes.now % 2 ≡ 0 }
-    requires room { field_room Utf16Text (length bytes.now) ≤ length to.old }
+// Writes text in UTF-16, the first `n` of these bytes, as a field.
+fn write_utf16(source: &[u8], n: usize, to: &mut [u8]) -> usize
+    requires within { n ≤ length source.now }
+    requires whole { n % 2 ≡ 0 }
+    requires room { field_room Utf16Text n ≤ length to.old }
     ensures most { result + 2 ≤ length to.old }
-    ensures field { take result to.new ≡ long_field Utf16Text bytes.now }
+    ensures field { take result to.new ≡ long_field Utf16Text (take n source.now) }
 {
     to[0] = QUOTE;
-    let made = utf16::convert_whole(bytes, source, &mut to[1..]);
+    let made = utf16::convert_whole(&source[..n], source, &mut to[1..]);
     close_quoted(to, 1 + made)
 }
 
-// Writes text in Windows-1252 as a field.
-fn write_windows_1252(bytes: &[u8], source: &[u8], to: &mut [u8]) -> usize
-    requires source { LiesIn bytes.now source.now }
-    requires room { field_room Windows1252Text (length bytes.now) ≤ length to.old }
+// Writes text in Windows-1252, the first `n` of these bytes, as a field.
+fn write_windows_1252(source: &[u8], n: usize, to: &mut [u8]) -> usize
+    requires within { n ≤ length source.now }
+    requires room { field_room Windows1252Text n ≤ length to.old }
     ensures most { result + 2 ≤ length to.old }
-    ensures field { take result to.new ≡ long_field Windows1252Text bytes.now }
+    ensures field { take result to.new ≡ long_field Windows1252Text (take n source.now) }
 {
     to[0] = QUOTE;
-    let made = windows_1252::convert(bytes, source, &mut to[1..]);
+    let made = windows_1252::convert(&source[..n], source, &mut to[1..]);
     close_quoted(to, 1 + made)
 }
 
@@ -112,12 +111,12 @@ pub fn write_field(content: Content, source: &[u8], n: usize, to: &mut [u8]) -> 
     let bytes = &source[..n];
     match content {
         Content::Binary => Some(write_binary(bytes, to)),
-        Content::Windows1252 => Some(write_windows_1252(bytes, source, to)),
+        Content::Windows1252 => Some(write_windows_1252(source, n, to)),
         Content::Utf16 => {
             if n % 2 == 1 {
                 return None;
             }
-            Some(write_utf16(bytes, source, to))
+            Some(write_utf16(source, n, to))
         }
         Content::Utf8 => {
             let Ok(_) = str::from_utf8(bytes) else {

@@ -1,15 +1,15 @@
 -- What completes a cell is read as its rest.
 use Rattle.std.proofs.Common.{◌≡◌, ◌≢◌, inl, inr, ℕ, zero, suc, ◌+◌, ◌-◌, ◌%◌, ◌^◌, ◌<◌, ◌≤◌, Bool, true, false, List, [], ◌∷◌, ◌++◌, length, replicate, refl, sym, ◌∙◌, ap, subst, arith, add-one, length-append, append_assoc}
-use Rattle.std.specs.Prelude.{Option, Some, None, ◌==◌, ◌&&◌, ◌||◌, nat_lt, nat_le, Result, Ok, Err, is_ok, slice_index, if◌then◌else◌}
+use Rattle.std.specs.Prelude.{Option, Some, None, ◌==◌, ◌&&◌, ◌||◌, nat_lt, nat_le, Result, Ok, Err, is_ok, slice_index, if◌then◌else◌, option_map, unwrap_or}
 use Rattle.std.proofs.lemmas.Bool.{and_parts, or_cases, eq-eqb, ne_eqb}
 use Rattle.std.proofs.lemmas.List.{length-replicate}
 use Rattle.tds_values.specs.declared.kind.Kind.{Kind}
-use Rattle.tds_values.specs.declared.kind.Kind.TheVariants.{Int1, Int2, Int4, Int8, Bit, Money4, Money8, DateTime4, DateTime8, IntN, BitN, MoneyN, DateTimeN, Guid, Decimal, Date, Time, DateTime2, DateTimeOffset, Binary, Narrow, Wide}
+use Rattle.tds_values.specs.declared.kind.Kind.TheVariants.{IntN, BitN, MoneyN, DateTimeN, Guid, Decimal, Date, Time, DateTime2, DateTimeOffset, Binary, Narrow, Wide}
 use Rattle.tds_values.specs.declared.kind.Reach.TheVariants.{Short, Chunked}
 use Rattle.tds_values.specs.declared.scalar.ScalarValue.{ScalarValue}
 use Rattle.tds_values.specs.declared.scalar.ValueFault.{ValueFault}
 use Rattle.tds_values.specs.Numbers.{little}
-use Rattle.tds_values.specs.Kind.{is_scalar, is_valid, is_length_allowed, is_decimal_length}
+use Rattle.tds_values.specs.Kind.{is_scalar, is_valid, fixed_length, is_length_allowed, is_decimal_length}
 use Rattle.tds_values.specs.Scalar.{read_of, checked, value_of}
 use Rattle.tds_csv.specs.Conversion.{Conversion, HexDigits, Utf16Text, Windows1252Text, Utf8Text, unit, is_fit, is_begun}
 use Rattle.tds_packet.specs.declared.fault.Fault.TheVariants.{BadValue, BadValueLength, BadText, OddText, PlpLength}
@@ -17,8 +17,9 @@ use Rattle.tds_packet.specs.Elements.{AreBytes, Spelt, IsNext}
 use Rattle.tds_packet.proofs.ElementLaws.{Spelt-step, Spelt-append, Spelt-none}
 use Rattle.tds_packet.proofs.Choices.{choose, choose_false, eq_true, eq_false, le_true, test_le, test_lt}
 use Rattle.tds_rows.specs.declared.Charset.TheVariants.{Windows1252}
-use Rattle.tds_rows.specs.Cells.{Cell, Null, ScalarCell, DataCell, shape, CellPart, ScalarBytes, ScalarLength, ShortLength, ShortData, Total, ChunkLength, ChunkData, WholeCell, cell_start, cell_add, cell, unless, within_total, is_total, end_of_chunks, value_part, known_total, unknown_total, null_total}
+use Rattle.tds_rows.specs.Cells.{Cell, Null, ScalarCell, DataCell, shape, shape_of_length, CellPart, ScalarBytes, ScalarLength, ShortLength, ShortData, Total, ChunkLength, ChunkData, WholeCell, cell_start, cell_add, cell, unless, within_total, is_total, end_of_chunks, value_part, known_total, unknown_total, null_total}
 use Rattle.tds_rows.proofs.CellMeaning.{unless_none}
+use Rattle.tds_rows.proofs.CellSteps.{fixed_some}
 use Rattle.tds_export.specs.Completion.{zeros, zero_chunks, one_zero, terminator, rest_of_chunks, rest_of_cell}
 use Rattle.tds_export.proofs.SomeBytes.{little_below}
 
@@ -112,15 +113,6 @@ zero_decimal d p s n valid allowed =
     (λ f. cc)
 
 zeros_are_a_value : (kind : Kind) (n : ℕ) → is_valid kind ≡ true → is_scalar kind ≡ true → is_length_allowed kind n ≡ true → ZerosAre kind n
-zeros_are_a_value Int1 n v s h = exactly (ZerosAre Int1) n 1 h (_, refl)
-zeros_are_a_value Int2 n v s h = exactly (ZerosAre Int2) n 2 h (_, refl)
-zeros_are_a_value Int4 n v s h = exactly (ZerosAre Int4) n 4 h (_, refl)
-zeros_are_a_value Int8 n v s h = exactly (ZerosAre Int8) n 8 h (_, refl)
-zeros_are_a_value Bit n v s h = exactly (ZerosAre Bit) n 1 h (_, refl)
-zeros_are_a_value Money4 n v s h = exactly (ZerosAre Money4) n 4 h (_, refl)
-zeros_are_a_value Money8 n v s h = exactly (ZerosAre Money8) n 8 h (_, refl)
-zeros_are_a_value DateTime4 n v s h = exactly (ZerosAre DateTime4) n 4 h (_, refl)
-zeros_are_a_value DateTime8 n v s h = exactly (ZerosAre DateTime8) n 8 h (_, refl)
 zeros_are_a_value (IntN d) n v s h = exactly (ZerosAre (IntN d)) n d h (one_of_four (λ d. ZerosAre (IntN d) d) 1 2 4 8 d v (_, refl) (_, refl) (_, refl) (_, refl))
 zeros_are_a_value BitN n v s h = exactly (ZerosAre BitN) n 1 h (_, refl)
 zeros_are_a_value (MoneyN d) n v s h = exactly (ZerosAre (MoneyN d)) n d h (one_of_two (λ d. ZerosAre (MoneyN d) d) 4 8 d v (_, refl) (_, refl))
@@ -146,6 +138,7 @@ zeros_are_a_value (DateTimeOffset sc) n v s h =
 zeros_are_a_value (Binary r) n v s h = cc
 zeros_are_a_value (Narrow r) n v s h = cc
 zeros_are_a_value (Wide r) n v s h = cc
+zeros_are_a_value kind n v s h = exactly (ZerosAre kind) n (unwrap_or (fixed_length kind) 0) h (_, refl)
 
 zeros_more : (n : ℕ) → zeros (n + 1) ≡ 0 ∷ zeros n
 zeros_more n = ap (λ v. replicate v 0) (add-one n)
@@ -309,21 +302,34 @@ module _ (column : ℕ) where
       (plain, subst (λ v. HoldsTotal c total v) same h))
   cell_keeps (WholeCell x) e are h n = tt
 
+-- a value of a kind with a fixed length has that length
+fixed_allowed : (kind : Kind) (n : ℕ) → fixed_length kind ≡ Some n → is_length_allowed kind n ≡ true
+fixed_allowed (IntN d) n h = cc
+fixed_allowed BitN n h = cc
+fixed_allowed (MoneyN d) n h = cc
+fixed_allowed (DateTimeN d) n h = cc
+fixed_allowed Guid n h = cc
+fixed_allowed (Decimal d p s) n h = cc
+fixed_allowed Date n h = cc
+fixed_allowed (Time s) n h = cc
+fixed_allowed (DateTime2 s) n h = cc
+fixed_allowed (DateTimeOffset s) n h = cc
+fixed_allowed (Binary r) n h = refl
+fixed_allowed (Narrow r) n h = refl
+fixed_allowed (Wide r) n h = cc
+fixed_allowed kind n h = ap (λ o. unwrap_or (option_map (λ length. n == length) o) false) h ∙ eq-eqb n n refl
+
+-- the cell of a scalar begins so
+scalar_reached : (kind : Kind) (o : Option ℕ) → fixed_length kind ≡ o → is_valid kind ≡ true → is_scalar kind ≡ true → CellReached (cell_start kind (shape_of_length o))
+scalar_reached kind (Some n) is v s = (fixed_some kind n is, v, s, fixed_allowed kind n is)
+scalar_reached kind None is v s = (v, s)
+
 -- A cell of a valid kind begins so.
 pub start_reached : (kind : Kind) → is_valid kind ≡ true → CellReached (cell_start kind (shape Windows1252 kind))
-start_reached Int1 v = (omega arith, v, refl, refl)
-start_reached Int2 v = (omega arith, v, refl, refl)
-start_reached Int4 v = (omega arith, v, refl, refl)
-start_reached Int8 v = (omega arith, v, refl, refl)
-start_reached Bit v = (omega arith, v, refl, refl)
-start_reached Money4 v = (omega arith, v, refl, refl)
-start_reached Money8 v = (omega arith, v, refl, refl)
-start_reached DateTime4 v = (omega arith, v, refl, refl)
-start_reached DateTime8 v = (omega arith, v, refl, refl)
 start_reached (Binary Short) v = refl
 start_reached (Binary Chunked) v = refl
 start_reached (Narrow Short) v = refl
 start_reached (Narrow Chunked) v = refl
 start_reached (Wide Short) v = refl
 start_reached (Wide Chunked) v = refl
-start_reached kind v = (v, refl)
+start_reached kind v = scalar_reached kind (fixed_length kind) refl v refl

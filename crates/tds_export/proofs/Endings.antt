@@ -1,8 +1,9 @@
 -- How an export ends, from what its calls did.
-use Rattle.std.proofs.Common.{◌≡◌, inl, inr, ℕ, Bool, true, false, [], length, sym, subst, Result, Ok, Err, MatchResult}
+use Rattle.std.proofs.Common.{◌≡◌, inl, inr, ℕ, Bool, true, false, List, [], length, Option, sym, subst, Result, Ok, Err, MatchResult}
 use Rattle.tds_meter.specs.Counts.{Rose}
 use Rattle.tds_packet.specs.declared.fault.Stop.{Stop}
-use Rattle.tds_csv.specs.Sinks.{FinishFails, Finishes, Held}
+use Rattle.tds_csv.specs.declared.sink.Sink.{Sink}
+use Rattle.tds_csv.specs.Sinks.{FinishFails, Finishes, FinishesSink, Held, held}
 use Rattle.tds_packet.specs.Seen.{Seen}
 use Rattle.tds_rows.proofs.Successes.{rose}
 use Rattle.tds_export.specs.declared.report.Report.{Report}
@@ -13,9 +14,13 @@ use Rattle.tds_export.specs.Moments.{Given}
 use Rattle.tds_export.specs.Exports.{Reports, IsReader, IsWriter, StopsExport, Tidied, begun_at, fresh_at}
 
 -- however the last delivery ended
-pub tidied : {U : Type 0} (h k : Held) (failed : Bool) (r : Result U Stop) → failed ≡ false → MatchResult r (λ _. Finishes h k) (λ stop. failed ≡ false → FinishFails h k stop) → Tidied h k
+tidied : {U : Type 0} (h k : Held) (failed : Bool) (r : Result U Stop) → failed ≡ false → MatchResult r (λ _. Finishes h k) (λ stop. failed ≡ false → FinishFails h k stop) → Tidied h k
 tidied h k failed (Ok u) going x = (x.0, x.1, inl (x.2, x.3))
 tidied h k failed (Err e) going x = let y = x going in (y.0, y.1, inr (subst (Rose h.failures) (sym y.3) (rose h.failures)))
+
+-- the end of a text leaves a sink so
+pub tidies : {W U : Type 0} (contents : W → Option (List ℕ)) (old new : Sink W) (r : Result U Stop) → FinishesSink contents old new r → old.failed ≡ false → Tidied (held contents old) (held contents new)
+tidies contents old new r x going = tidied (held contents old) (held contents new) old.failed r going x.gives
 
 -- ---- what an export leaves, from what its calls did
 

@@ -35,14 +35,15 @@ parts_within body h =
     let p = all_three (nat_lt (server_at body) (length body)) (nat_lt (procedure_at body) (length body)) (nat_le (line_at body + 4) (length body)) h in
     (less_is (server_at body) (length body) p.0, less_is (procedure_at body) (length body) p.1, at_most_is (line_at body + 4) (length body) p.2)
 
+-- a number of 32 bits as one with a sign
+pub signed_is : (n : ℕ) → cast_signed w32 n ≡ signed n
+signed_is n =
+    let same : 2 ^ 32 - suc n ≡ 2 ^ 32 - n - 1 = omega arith in
+    ap (λ m. if nat_lt n (2 ^ 31) then pos n else negsuc m) same
+
 -- the first four bytes as a number with a sign
 signed_first : (xs : List ℕ) → 4 ≤ length xs → cast_signed w32 (little_number 4 xs) ≡ signed (little (take 4 xs))
 signed_first xs h = signed_is (little_number 4 xs) ∙ ap signed (four_first xs h)
-  where
-    signed_is : (n : ℕ) → cast_signed w32 n ≡ signed n
-    signed_is n =
-        let same : 2 ^ 32 - suc n ≡ 2 ^ 32 - n - 1 = omega arith in
-        ap (λ m. if nat_lt n (2 ^ 31) then pos n else negsuc m) same
 
 -- an error as its body has it
 pub error_is : (body : List ℕ) (number line : ℤ) (at : ℕ) → 14 ≤ length body → at ≡ line_at body → line_at body + 4 ≤ length body → number ≡ cast_signed w32 (little_number 4 body) → line ≡ cast_signed w32 (little_number 4 (drop at body))

@@ -18,8 +18,8 @@ use Rattle.tds_rows.proofs.RowLaws.{row_is_read, nbc_row_is_read}
 use Rattle.std.proofs.lemmas.Bool.{and_right}
 use Rattle.tds_export.specs.ReturnValue.{ReturnPart, ReturnOrdinal, WholeReturn, return_value}
 use Rattle.tds_export.proofs.ReturnLaws.{return_is_read}
-use Rattle.tds_export.specs.TokenBytes.{APassed, AnError, AnInfo, Bodied, Fixed, AStatus, ADone, ADoneInProc, Lead, AMetadata, ARow, AnNbcRow, WithBody, WithFields, AReturn, Begins, is_row_lead}
-use Rattle.tds_export.specs.Tokens.{Notice, Token, Metadata, NoMetadata, Row, PassedOver, Error, Info, ReturnStatus, Returned, Done, DoneInProc, described_after}
+use Rattle.tds_export.specs.TokenBytes.{APassed, AnError, AnInfo, Bodied, Fixed, ADone, Lead, AMetadata, ARow, AnNbcRow, WithBody, WithFields, AReturn, Begins, is_row_lead}
+use Rattle.tds_export.specs.Tokens.{Notice, Token, Metadata, NoMetadata, Row, PassedOver, Error, Info, Returned, described_after}
 use Rattle.tds_export.specs.Response.{fields_length, fixed, SpellsBody, SpellsNotice, SpellsRowToken, SpellsToken, SpellsTokens, Response, Accepted}
 use Rattle.tds_export.specs.TokenGrammar.{Open, Between, Describing, Fields, TokenLength, TokenBody, Part, after_first, after_lead, lead_fault, response_start, with_token, with_described, with_row, with_return, start_of_row, row_byte_fault, holds_notice, bodied, is_notice, response}
 use Rattle.tds_packet.proofs.Choices.{choose_false}
@@ -40,9 +40,8 @@ HasColumns (Some columns) = 0 < length columns
 
 -- there are fields
 pub some_fields : (f : Fixed) → 0 < fields_length f
-some_fields AStatus = omega arith
 some_fields ADone = omega arith
-some_fields ADoneInProc = omega arith
+some_fields f = omega arith
 
 -- a byte that begins no row is free
 pub no_row : (current : Option (List Column)) → row_byte_fault false current ≡ None
@@ -151,9 +150,8 @@ module _ (charset : Charset) (room : ℕ) where
 
   -- which its fields spell
   pub fixed_spelt : (current : Option (List Column)) (f : Fixed) (fields bytes : List ℕ) → Begins (WithFields f) fields bytes → length fields ≡ fields_length f → SpellsToken charset room current (fixed f fields) bytes
-  fixed_spelt current AStatus fields bytes begins long = (fields, begins, long, refl)
   fixed_spelt current ADone fields bytes begins long = (fields, begins, long, refl)
-  fixed_spelt current ADoneInProc fields bytes begins long = (fields, begins, long, refl)
+  fixed_spelt current f fields bytes begins long = (fields, begins, long, refl)
 
   row_token_is_read : (tokens : List Token) (current : Option (List Column)) (cells : List Cell) (bytes : List ℕ) → described_after None tokens ≡ current → HasColumns current → SpellsRowToken charset current cells bytes → Spelt (response charset room) (between_tokens tokens) bytes (with_token tokens (Row cells))
   row_token_is_read tokens None cells bytes is some h = absurd h
@@ -176,12 +174,10 @@ module _ (charset : Charset) (room : ℕ) where
   token_is_read tokens (PassedOver passed body) bytes some (rest, begins, s) = lead_then tokens (WithBody (APassed passed)) rest bytes (with_token tokens (PassedOver passed body)) begins (no_row (described_after None tokens)) (body_is_read tokens (APassed passed) body rest refl refl s)
   token_is_read tokens (Error n) bytes some (rest, body, begins, s, h) = notice_token_is_read tokens AnError n (Error n) body rest bytes begins s h (ap Error (notice_is_read n body h).2)
   token_is_read tokens (Info n) bytes some (rest, body, begins, s, h) = notice_token_is_read tokens AnInfo n (Info n) body rest bytes begins s h (ap Info (notice_is_read n body h).2)
-  token_is_read tokens (ReturnStatus n) bytes some (rest, begins, long, is) = fixed_is_read tokens AStatus (ReturnStatus n) rest bytes begins long (ap ReturnStatus is)
   token_is_read tokens (Returned r) bytes some (rest, begins, h) =
       lead_then tokens AReturn rest bytes (with_token tokens (Returned r)) begins (no_row (described_after None tokens))
       (Inside-Spelt return_value (response charset room) (with_return tokens) (return_in_response tokens) ReturnOrdinal rest (WholeReturn r) (return_is_read r rest h))
-  token_is_read tokens (Done m) bytes some (fields, begins, long, is) = fixed_is_read tokens ADone (Done m) fields bytes begins long (ap Done is)
-  token_is_read tokens (DoneInProc m) bytes some (fields, begins, long, is) = fixed_is_read tokens ADoneInProc (DoneInProc m) fields bytes begins long (ap DoneInProc is)
+  token_is_read tokens t bytes some h = let is = h.3 in fixed_is_read tokens _ t h.0 bytes h.1 h.2 (cc)
 
   next_HasColumns : (current : Option (List Column)) (t : Token) (bytes : List ℕ) → HasColumns current → SpellsToken charset room current t bytes → HasColumns (described_after current (t ∷ []))
   next_HasColumns current (Metadata encoded columns) bytes some h = h.1.some

@@ -1,6 +1,6 @@
 -- What one more token adds to a response.
 use Rattle.std.proofs.Common.{◌≡◌, ◌∙◌, ℕ, ◌+◌, ◌<◌, Bool, true, false, List, [], ◌∷◌, ◌++◌, length, max, refl, sym, ap, subst, arith, append_assoc}
-use Rattle.std.specs.Prelude.{ℤ, Option, Some, None, nat_lt, map, if◌then◌else◌, option_map}
+use Rattle.std.specs.Prelude.{Option, Some, None, nat_lt, map, if◌then◌else◌, option_map}
 use Rattle.std.proofs.lemmas.Bool.Decides.{nat_tests}
 use Rattle.tds_csv.specs.Quoting.{line}
 use Rattle.tds_rows.specs.Cells.{Cell, field}
@@ -10,10 +10,10 @@ use Rattle.tds_export.specs.declared.report.Report.{Report}
 use Rattle.tds_export.specs.declared.report.ServerError.{ServerError}
 use Rattle.tds_export.specs.declared.progress.Progress.{Progress}
 use Rattle.tds_export.specs.ReturnValue.{ReturnValue}
-use Rattle.tds_export.specs.Tokens.{Notice, Token, described_after, Metadata, NoMetadata, Row, PassedOver, Error, Info, ReturnStatus, Returned, between, encoded_after, first_error, greatest_span, header_line, how_many, is_error, is_final, is_info, is_return, is_row, is_set, return_status_after, text, text_after}
+use Rattle.tds_export.specs.Tokens.{Notice, Token, described_after, Metadata, NoMetadata, Row, PassedOver, Error, Info, Returned, Done, DoneInProc, between, encoded_after, first_error, greatest_span, header_line, how_many, is_error, is_final, is_info, is_return, is_row, is_set, return_status_after, text, text_after}
 use Rattle.tds_export.specs.Response.{fixed}
-use Rattle.tds_export.specs.Outcome.{report_of, server_error, signed}
-use Rattle.tds_export.specs.TokenBytes.{APassed, AnError, AnInfo, Bodied, Fixed, AStatus, ADone, ADoneInProc}
+use Rattle.tds_export.specs.Outcome.{report_of, server_error}
+use Rattle.tds_export.specs.TokenBytes.{APassed, AnError, AnInfo, Bodied, Fixed, ADone}
 use Rattle.tds_export.specs.TokenGrammar.{bodied, is_notice}
 use Rattle.tds_export.specs.Steps.{IsDescribed, Tracks, TracksBefore}
 use Rattle.tds_export.proofs.ResponseLaws.{described_after-append}
@@ -48,35 +48,49 @@ count_if : (b : Bool) (n m : ℕ) → (if b then 1 + (n + m) else n + m) ≡ (if
 count_if true n m = omega arith
 count_if false n m = refl
 
-how_many-snoc : (p : Token → Bool) (ts : List Token) (t : Token) → how_many p (ts ++ t ∷ []) ≡ how_many p ts + how_many p (t ∷ [])
+pub how_many-snoc : (p : Token → Bool) (ts : List Token) (t : Token) → how_many p (ts ++ t ∷ []) ≡ how_many p ts + how_many p (t ∷ [])
 how_many-snoc p [] t = omega arith
 how_many-snoc p (u ∷ ts) t = ap (λ n. if p u then 1 + n else n) (how_many-snoc p ts t) ∙ count_if (p u) (how_many p ts) (how_many p (t ∷ []))
 
--- a token that says nothing of errors and statuses
-abbrev is_silent : Token → Bool
-is_silent (Error n) = false
-is_silent (ReturnStatus n) = false
-is_silent t = true
+none : (n : ℕ) → n + 0 ≡ n
+none n = omega arith
 
-silent_error : (t : Token) → is_silent t ≡ true → first_error (t ∷ []) ≡ None
-silent_error (Error n) h = cc
-silent_error (ReturnStatus n) h = cc
-silent_error t h = refl
+pub uncounted : (p : Token → Bool) (ts : List Token) (t : Token) → how_many p (t ∷ []) ≡ 0 → how_many p (ts ++ t ∷ []) ≡ how_many p ts
+uncounted p ts t e = how_many-snoc p ts t ∙ ap (λ n. how_many p ts + n) e ∙ none (how_many p ts)
 
-silent_status : (before : Option ℕ) (t : Token) → is_silent t ≡ true → return_status_after before (t ∷ []) ≡ before
-silent_status before (Error n) h = cc
-silent_status before (ReturnStatus n) h = cc
-silent_status before t h = refl
+-- without an error there is no first one
+pub no_errors : (ts : List Token) → how_many is_error ts ≡ 0 → first_error ts ≡ None
+no_errors [] h = refl
+no_errors (Error n ∷ ts) h = absurd (omega (arith, h))
+no_errors (u ∷ ts) h = no_errors ts h
 
-first_error-snoc : (ts : List Token) (t : Token) → is_silent t ≡ true → first_error (ts ++ t ∷ []) ≡ first_error ts
-first_error-snoc [] t h = silent_error t h
-first_error-snoc (Error n ∷ ts) t h = refl
-first_error-snoc (u ∷ ts) t h = first_error-snoc ts t h
+-- and the next one is
+pub first_next : (ts : List Token) (n : Notice) → first_error ts ≡ None → first_error (ts ++ Error n ∷ []) ≡ Some n
+first_next [] n h = refl
+first_next (Error m ∷ ts) n h = cc
+first_next (u ∷ ts) n h = first_next ts n h
 
-return_status-snoc : (before : Option ℕ) (ts : List Token) (t : Token) → is_silent t ≡ true → return_status_after before (ts ++ t ∷ []) ≡ return_status_after before ts
-return_status-snoc before [] t h = silent_status before t h
-return_status-snoc before (ReturnStatus n ∷ ts) t h = return_status-snoc (Some n) ts t h
-return_status-snoc before (u ∷ ts) t h = return_status-snoc before ts t h
+-- after an error none is the first
+pub first_stays : (ts us : List Token) → 0 < how_many is_error ts → first_error (ts ++ us) ≡ first_error ts
+first_stays [] us h = absurd (omega (arith, h))
+first_stays (Error n ∷ ts) us h = refl
+first_stays (u ∷ ts) us h = first_stays ts us h
+
+-- where no error is added, the first one is the same
+pub same_first : (ts us : List Token) → how_many is_error (ts ++ us) ≡ how_many is_error ts → first_error (ts ++ us) ≡ first_error ts
+same_first [] us h = no_errors us h
+same_first (Error n ∷ ts) us h = refl
+same_first (u ∷ ts) us h = same_first ts us h
+
+-- nor does another token change it
+pub unerring : (ts : List Token) (t : Token) → how_many is_error (t ∷ []) ≡ 0 → first_error (ts ++ t ∷ []) ≡ first_error ts
+unerring ts t e = same_first ts (t ∷ []) (uncounted is_error ts t e)
+
+-- the last status of a procedure after more tokens
+pub status_after-append : (before : Option ℕ) (a b : List Token) → return_status_after before (a ++ b) ≡ return_status_after (return_status_after before a) b
+status_after-append before [] b = refl
+status_after-append before (NoMetadata ∷ a) b = status_after-append before a b
+status_after-append before (t ∷ a) b = status_after-append (return_status_after before (t ∷ [])) a b
 
 pub encoded_after-append : (before : List ℕ) (a b : List Token) → encoded_after before (a ++ b) ≡ encoded_after (encoded_after before a) b
 encoded_after-append before [] b = refl
@@ -93,45 +107,19 @@ is_final-snoc [] t = refl
 is_final-snoc (u ∷ []) t = refl
 is_final-snoc (u ∷ v ∷ ts) t = is_final-snoc (v ∷ ts) t
 
-status_is_no_error : (ts : List Token) (n : ℕ) → first_error (ts ++ ReturnStatus n ∷ []) ≡ first_error ts
-status_is_no_error [] n = refl
-status_is_no_error (Error m ∷ ts) n = refl
-status_is_no_error (u ∷ ts) n = status_is_no_error ts n
+-- whether a token leaves the status that came last
+abbrev LeavesStatus : Token → Type 0
+LeavesStatus t = (before : Option ℕ) → return_status_after before (t ∷ []) ≡ before
 
-last_status : (before : Option ℕ) (ts : List Token) (n : ℕ) → return_status_after before (ts ++ ReturnStatus n ∷ []) ≡ Some n
-last_status before [] n = refl
-last_status before (ReturnStatus m ∷ ts) n = last_status (Some m) ts n
-last_status before (u ∷ ts) n = last_status before ts n
-
--- the report with one more token, but for what was written
-report-snoc : (ts : List Token) (t : Token) → is_silent t ≡ true → report_of (ts ++ t ∷ []) ≡ record {
-  sets = how_many is_set ts + how_many is_set (t ∷ []);
-  rows = how_many is_row ts + how_many is_row (t ∷ []);
-  errors = how_many is_error ts + how_many is_error (t ∷ []);
-  infos = how_many is_info ts + how_many is_info (t ∷ []);
-  first_error = option_map server_error (first_error ts);
-  return_status = option_map signed (return_status_after None ts);
+-- the report with one more token that is no error and leaves the status, but for what was written
+report-snoc : (ts : List Token) (t : Token) → how_many is_error (t ∷ []) ≡ 0 → LeavesStatus t → report_of (ts ++ t ∷ []) ≡ record (report_of ts) {
+  sets = how_many is_set (ts ++ t ∷ []);
+  rows = how_many is_row (ts ++ t ∷ []);
+  infos = how_many is_info (ts ++ t ∷ []);
   written = length (text (ts ++ t ∷ []));
-  return_values = how_many is_return ts + how_many is_return (t ∷ []);
+  return_values = how_many is_return (ts ++ t ∷ []);
 }
-report-snoc ts t h = rw (how_many-snoc is_set ts t, how_many-snoc is_row ts t, how_many-snoc is_error ts t, how_many-snoc is_info ts t, how_many-snoc is_return ts t, first_error-snoc ts t h, return_status-snoc None ts t h) refl
-
-none : (n : ℕ) → n + 0 ≡ n
-none n = omega arith
-
--- the report with one more status, but for what was written
-status_report : (ts : List Token) (n : ℕ) → report_of (ts ++ ReturnStatus n ∷ []) ≡ record (report_of ts) { return_status = Some (signed n); written = length (text (ts ++ ReturnStatus n ∷ [])) }
-status_report ts n =
-    let t = ReturnStatus n in
-    rw (
-      how_many-snoc is_set ts t ∙ none (how_many is_set ts),
-      how_many-snoc is_row ts t ∙ none (how_many is_row ts),
-      how_many-snoc is_error ts t ∙ none (how_many is_error ts),
-      how_many-snoc is_info ts t ∙ none (how_many is_info ts),
-      how_many-snoc is_return ts t ∙ none (how_many is_return ts),
-      status_is_no_error ts n,
-      last_status None ts n,
-    ) refl
+report-snoc ts t no_error status = rw (uncounted is_error ts t no_error, unerring ts t no_error, status_after-append None ts (t ∷ []) ∙ status (return_status_after None ts)) refl
 
 -- ---- what is tracked, with one more token
 
@@ -169,18 +157,17 @@ bare_body AnInfo body = refl
 
 -- and those with fields of a fixed length
 pub bare_fixed : (which : Fixed) (fields : List ℕ) → is_bare (fixed which fields) ≡ true
-bare_fixed AStatus fields = refl
 bare_fixed ADone fields = refl
-bare_fixed ADoneInProc fields = refl
+bare_fixed which fields = refl
 
--- whether a token is counted nowhere too
+-- whether the report has nothing of a token
 abbrev is_quiet : Token → Bool
-is_quiet (Error n) = false
-is_quiet (Info n) = false
-is_quiet (Returned r) = false
-is_quiet t = is_bare t
+is_quiet (PassedOver passed body) = true
+is_quiet (Done more) = true
+is_quiet (DoneInProc more) = true
+is_quiet t = false
 
--- A token that is counted nowhere.
+-- A token of which the report has nothing.
 record IsQuiet (t : Token) : Type 0 where
   bare : is_bare t ≡ true
   sets : how_many is_set (t ∷ []) ≡ 0
@@ -188,86 +175,75 @@ record IsQuiet (t : Token) : Type 0 where
   errors : how_many is_error (t ∷ []) ≡ 0
   infos : how_many is_info (t ∷ []) ≡ 0
   returns : how_many is_return (t ∷ []) ≡ 0
+  status : LeavesStatus t
 
 quiet : (t : Token) → is_quiet t ≡ true → IsQuiet t
-quiet (Metadata bytes columns) h = cc
-quiet NoMetadata h = cc
-quiet (Row cells) h = cc
-quiet (Error n) h = cc
-quiet (Info n) h = cc
-quiet (Returned r) h = cc
-quiet t h = record { bare = refl; sets = refl; rows = refl; errors = refl; infos = refl; returns = refl }
-
-uncounted : (p : Token → Bool) (ts : List Token) (t : Token) → how_many p (t ∷ []) ≡ 0 → how_many p ts + how_many p (t ∷ []) ≡ how_many p ts
-uncounted p ts t e = ap (λ n. how_many p ts + n) e ∙ none (how_many p ts)
+quiet (PassedOver passed body) h = record { bare = refl; sets = refl; rows = refl; errors = refl; infos = refl; returns = refl; status = λ _. refl }
+quiet (Done more) h = record { bare = refl; sets = refl; rows = refl; errors = refl; infos = refl; returns = refl; status = λ _. refl }
+quiet (DoneInProc more) h = record { bare = refl; sets = refl; rows = refl; errors = refl; infos = refl; returns = refl; status = λ _. refl }
+quiet t h = cc
 
 -- where a token begins, the tokens before it are known
 pub tracks_begun : (s : Progress) (ts : List Token) → Tracks s ts → TracksBefore (record s { is_final = false }) ts
 tracks_begun s ts k = record { report = k.report; described = k.described; final = refl }
 
 -- a token that has no text and describes nothing, by its report
-tracks_bare : (s : Progress) (ts : List Token) (t : Token) (report : Report) (final : Bool) → is_bare t ≡ true → record report { written = length (text (ts ++ t ∷ [])) } ≡ report_of (ts ++ t ∷ []) → final ≡ is_final (t ∷ []) → TracksBefore s ts → Tracks (record s { report = report; is_final = final }) (ts ++ t ∷ [])
+pub tracks_bare : (s : Progress) (ts : List Token) (t : Token) (report : Report) (final : Bool) → is_bare t ≡ true → record report { written = length (text (ts ++ t ∷ [])) } ≡ report_of (ts ++ t ∷ []) → final ≡ is_final (t ∷ []) → TracksBefore s ts → Tracks (record s { report = report; is_final = final }) (ts ++ t ∷ [])
 tracks_bare s ts t report final is e f k =
     let b = bare t is in
     record { report = e; described = same_columns s.described ts t (b.encoded (encoded_after [] ts)) (b.columns (described_after None ts)) k.described; final = f ∙ sym (is_final-snoc ts t) }
 
-pub tracks_quiet : (s : Progress) (ts : List Token) (t : Token) (final : Bool) → is_quiet t ≡ true → is_silent t ≡ true → final ≡ is_final (t ∷ []) → TracksBefore s ts → Tracks (record s { is_final = final }) (ts ++ t ∷ [])
-tracks_quiet s ts t final is h e k =
+pub tracks_quiet : (s : Progress) (ts : List Token) (t : Token) (final : Bool) → is_quiet t ≡ true → final ≡ is_final (t ∷ []) → TracksBefore s ts → Tracks (record s { is_final = final }) (ts ++ t ∷ [])
+tracks_quiet s ts t final is e k =
     let q = quiet t is in
-    tracks_bare s ts t s.report final q.bare (ap (λ (r : Report). record r { written = length (text (ts ++ t ∷ [])) }) k.report ∙ sym (report-snoc ts t h ∙ rw (uncounted is_set ts t q.sets, uncounted is_row ts t q.rows, uncounted is_error ts t q.errors, uncounted is_info ts t q.infos, uncounted is_return ts t q.returns) refl)) e k
+    tracks_bare s ts t s.report final q.bare (ap (λ (r : Report). record r { written = length (text (ts ++ t ∷ [])) }) k.report ∙ sym (report-snoc ts t q.errors q.status ∙ rw (uncounted is_set ts t q.sets, uncounted is_row ts t q.rows, uncounted is_info ts t q.infos, uncounted is_return ts t q.returns) refl)) e k
 
 pub tracks_body : (s : Progress) (ts : List Token) (which : Bodied) (body : List ℕ) → is_notice which ≡ false → TracksBefore s ts → Tracks s (ts ++ bodied which body ∷ [])
-tracks_body s ts (APassed passed) body h k = tracks_quiet s ts (PassedOver passed body) s.is_final refl refl k.final k
+tracks_body s ts (APassed passed) body h k = tracks_quiet s ts (PassedOver passed body) s.is_final refl k.final k
 tracks_body s ts AnError body h k = cc
 tracks_body s ts AnInfo body h k = cc
 
-pub tracks_status : (s : Progress) (ts : List Token) (n : ℕ) (status : ℤ) → status ≡ signed n → TracksBefore s ts → Tracks (record s { report = record s.report { return_status = Some status } }) (ts ++ ReturnStatus n ∷ [])
-tracks_status s ts n status e k =
-    let t = ReturnStatus n in
-    tracks_bare s ts t (record s.report { return_status = Some status }) s.is_final refl (ap (λ (r : Report). record r { return_status = Some status; written = length (text (ts ++ t ∷ [])) }) k.report ∙ ap (λ z. record (report_of ts) { return_status = Some z; written = length (text (ts ++ t ∷ [])) }) e ∙ sym (status_report ts n)) k.final k
-
 pub tracks_none : (s : Progress) (ts : List Token) → TracksBefore s ts → Tracks (record s { described = false }) (ts ++ NoMetadata ∷ [])
-tracks_none s ts k = record {
-  report = ap (λ (r : Report). record r { written = length (text (ts ++ NoMetadata ∷ [])) }) k.report ∙ sym (report-snoc ts NoMetadata refl ∙ rw (none (how_many is_set ts), none (how_many is_row ts), none (how_many is_error ts), none (how_many is_info ts), none (how_many is_return ts)) refl);
-  described = described_after-append None ts (NoMetadata ∷ []);
-  final = k.final ∙ sym (is_final-snoc ts NoMetadata);
-}
+tracks_none s ts k =
+    let t = NoMetadata in
+    record {
+      report = ap (λ (r : Report). record r { written = length (text (ts ++ t ∷ [])) }) k.report ∙ sym (report-snoc ts t refl (λ _. refl) ∙ rw (uncounted is_set ts t refl, uncounted is_row ts t refl, uncounted is_info ts t refl, uncounted is_return ts t refl) refl);
+      described = described_after-append None ts (t ∷ []);
+      final = k.final ∙ sym (is_final-snoc ts t);
+    }
 
 pub tracks_metadata : (s : Progress) (ts : List Token) (bytes : List ℕ) (columns : List Column) → columns_of bytes ≡ columns → TracksBefore s ts
     → Tracks (record s { report = record s.report { sets = s.report.sets + 1 }; described = true }) (ts ++ Metadata bytes columns ∷ [])
 tracks_metadata s ts bytes columns shown k =
     let t = Metadata bytes columns in
     record {
-      report = ap (λ (r : Report). record r { sets = r.sets + 1; written = length (text (ts ++ t ∷ [])) }) k.report ∙ sym (report-snoc ts t refl ∙ rw (none (how_many is_row ts), none (how_many is_error ts), none (how_many is_info ts), none (how_many is_return ts)) refl);
+      report = ap (λ (r : Report). record r { sets = r.sets + 1; written = length (text (ts ++ t ∷ [])) }) k.report ∙ sym (report-snoc ts t refl (λ _. refl) ∙ rw (how_many-snoc is_set ts t, uncounted is_row ts t refl, uncounted is_info ts t refl, uncounted is_return ts t refl) refl);
       described = described_after-append None ts (t ∷ []) ∙ ap Some (sym shown ∙ ap columns_of (sym (encoded_after-append [] ts (t ∷ []))));
       final = k.final ∙ sym (is_final-snoc ts t);
     }
 
 pub tracks_row : (s : Progress) (ts : List Token) (cells : List Cell) → TracksBefore s ts → Tracks (record s { report = record s.report { rows = s.report.rows + 1 } }) (ts ++ Row cells ∷ [])
-tracks_row s ts cells k = record {
-  report = ap (λ (r : Report). record r { rows = r.rows + 1; written = length (text (ts ++ Row cells ∷ [])) }) k.report ∙ sym (report-snoc ts (Row cells) refl ∙ rw (none (how_many is_set ts), none (how_many is_error ts), none (how_many is_info ts), none (how_many is_return ts)) refl);
-  described = same_columns s.described ts (Row cells) refl refl k.described;
-  final = k.final ∙ sym (is_final-snoc ts (Row cells));
-}
+tracks_row s ts cells k =
+    let t = Row cells in
+    record {
+      report = ap (λ (r : Report). record r { rows = r.rows + 1; written = length (text (ts ++ t ∷ [])) }) k.report ∙ sym (report-snoc ts t refl (λ _. refl) ∙ rw (uncounted is_set ts t refl, how_many-snoc is_row ts t, uncounted is_info ts t refl, uncounted is_return ts t refl) refl);
+      described = same_columns s.described ts t refl refl k.described;
+      final = k.final ∙ sym (is_final-snoc ts t);
+    }
 
 -- ---- ERROR and INFO
-
-error_is_no_status : (before : Option ℕ) (ts : List Token) (n : Notice) → return_status_after before (ts ++ Error n ∷ []) ≡ return_status_after before ts
-error_is_no_status before [] n = refl
-error_is_no_status before (ReturnStatus m ∷ ts) n = error_is_no_status (Some m) ts n
-error_is_no_status before (u ∷ ts) n = error_is_no_status before ts n
 
 -- the report with one more error, but for what was written
 error_report : (ts : List Token) (n : Notice) → report_of (ts ++ Error n ∷ []) ≡ record (report_of ts) { errors = how_many is_error ts + 1; first_error = option_map server_error (first_error (ts ++ Error n ∷ [])); written = length (text (ts ++ Error n ∷ [])) }
 error_report ts n =
     let t = Error n in
     rw (
-      how_many-snoc is_set ts t ∙ none (how_many is_set ts),
-      how_many-snoc is_row ts t ∙ none (how_many is_row ts),
+      uncounted is_set ts t refl,
+      uncounted is_row ts t refl,
       how_many-snoc is_error ts t,
-      how_many-snoc is_info ts t ∙ none (how_many is_info ts),
-      how_many-snoc is_return ts t ∙ none (how_many is_return ts),
-      error_is_no_status None ts n,
+      uncounted is_info ts t refl,
+      uncounted is_return ts t refl,
+      status_after-append None ts (t ∷ []),
     ) refl
 
 pub tracks_error : (s : Progress) (ts : List Token) (n : Notice) (first : Option ServerError) → first ≡ option_map server_error (first_error (ts ++ Error n ∷ [])) → TracksBefore s ts
@@ -278,36 +254,12 @@ tracks_error s ts n first e k =
 
 pub tracks_info : (s : Progress) (ts : List Token) (n : Notice) → TracksBefore s ts → Tracks (record s { report = record s.report { infos = s.report.infos + 1 } }) (ts ++ Info n ∷ [])
 tracks_info s ts n k =
-    tracks_bare s ts (Info n) (record s.report { infos = s.report.infos + 1 }) s.is_final refl (ap (λ (r : Report). record r { infos = r.infos + 1; written = length (text (ts ++ Info n ∷ [])) }) k.report ∙ sym (report-snoc ts (Info n) refl ∙ rw (none (how_many is_set ts), none (how_many is_row ts), none (how_many is_error ts), none (how_many is_return ts)) refl)) k.final k
+    let t = Info n in
+    tracks_bare s ts t (record s.report { infos = s.report.infos + 1 }) s.is_final refl (ap (λ (r : Report). record r { infos = r.infos + 1; written = length (text (ts ++ t ∷ [])) }) k.report ∙ sym (report-snoc ts t refl (λ _. refl) ∙ rw (uncounted is_set ts t refl, uncounted is_row ts t refl, how_many-snoc is_info ts t, uncounted is_return ts t refl) refl)) k.final k
 
 -- ---- RETURNVALUE
 
 pub tracks_returned : (s : Progress) (ts : List Token) (v : ReturnValue) → TracksBefore s ts → Tracks (record s { report = record s.report { return_values = s.report.return_values + 1 } }) (ts ++ Returned v ∷ [])
 tracks_returned s ts v k =
-    tracks_bare s ts (Returned v) (record s.report { return_values = s.report.return_values + 1 }) s.is_final refl (ap (λ (r : Report). record r { return_values = r.return_values + 1; written = length (text (ts ++ Returned v ∷ [])) }) k.report ∙ sym (report-snoc ts (Returned v) refl ∙ rw (none (how_many is_set ts), none (how_many is_row ts), none (how_many is_error ts), none (how_many is_info ts)) refl)) k.final k
-
--- ---- the first ERROR
-
--- without an error there is no first one
-pub no_errors : (ts : List Token) → how_many is_error ts ≡ 0 → first_error ts ≡ None
-no_errors [] h = refl
-no_errors (Error n ∷ ts) h = absurd (omega (arith, h))
-no_errors (u ∷ ts) h = no_errors ts h
-
--- and the next one is
-pub first_next : (ts : List Token) (n : Notice) → first_error ts ≡ None → first_error (ts ++ Error n ∷ []) ≡ Some n
-first_next [] n h = refl
-first_next (Error m ∷ ts) n h = cc
-first_next (u ∷ ts) n h = first_next ts n h
-
--- after an error none is the first
-pub first_stays : (ts us : List Token) → 0 < how_many is_error ts → first_error (ts ++ us) ≡ first_error ts
-first_stays [] us h = absurd (omega (arith, h))
-first_stays (Error n ∷ ts) us h = refl
-first_stays (u ∷ ts) us h = first_stays ts us h
-
--- where no error is added, the first one is the same
-pub same_first : (ts us : List Token) → how_many is_error (ts ++ us) ≡ how_many is_error ts → first_error (ts ++ us) ≡ first_error ts
-same_first [] us h = no_errors us h
-same_first (Error n ∷ ts) us h = refl
-same_first (u ∷ ts) us h = same_first ts us h
+    let t = Returned v in
+    tracks_bare s ts t (record s.report { return_values = s.report.return_values + 1 }) s.is_final refl (ap (λ (r : Report). record r { return_values = r.return_values + 1; written = length (text (ts ++ t ∷ [])) }) k.report ∙ sym (report-snoc ts t refl (λ _. refl) ∙ rw (uncounted is_set ts t refl, uncounted is_row ts t refl, uncounted is_info ts t refl, how_many-snoc is_return ts t) refl)) k.final k

@@ -1,9 +1,6 @@
 -- The tokens, as they are read and their text is put.
 use Rattle.std.proofs.Common.{◌≡◌, ◌∙◌, inl, inr, ℕ, ◌+◌, ◌-◌, ◌%◌, ◌^◌, ◌<◌, ◌≤◌, Bool, true, false, List, [], ◌∷◌, ◌++◌, length, take, max, refl, sym, ap, subst, arith, append-nil, length-take, suc, zero}
-use Rattle.std.specs.Prelude.{ℤ, pos, negsuc, Some, nat_lt, ◌==◌, map, slice_index, if◌then◌else◌}
-use Rattle.std.specs.Int.{cast_signed, w32}
-use Rattle.byteorder.specs.Endian.{little_number}
-use Rattle.tds_values.specs.Numbers.{little}
+use Rattle.std.specs.Prelude.{Some, nat_lt, ◌==◌, map, slice_index, if◌then◌else◌}
 use Rattle.tds_meter.specs.Space.{Space}
 use Rattle.tds_packet.specs.declared.fault.Fault.TheVariants.{MessageEnded}
 use Rattle.tds_packet.specs.declared.fault.Stop.{Stop}
@@ -27,15 +24,14 @@ use Rattle.tds_export.specs.declared.progress.Progress.{Progress}
 use Rattle.tds_export.specs.declared.report.Report.{Report}
 use Rattle.tds_export.specs.Tokens.{Token, Metadata, NoMetadata, Row, Done, DoneInProc, between, encoded_after, greatest_span, header_line, text, text_after}
 use Rattle.tds_export.specs.Response.{fields_length, fixed, more}
-use Rattle.tds_export.specs.Outcome.{signed}
-use Rattle.tds_export.specs.TokenBytes.{Fixed, AStatus, ADone, ADoneInProc}
+use Rattle.tds_export.specs.TokenBytes.{Fixed, ADone, ADoneInProc}
 use Rattle.tds_export.specs.TokenGrammar.{Open, Part, Fields, open_text, response, text_so_far, with_described, with_row}
-use Rattle.tds_export.specs.Steps.{StepStops, StopsInReading, StopsInWriting, IsHolding, ReadsTokens, Tracks, TracksBefore, behind, in_done, in_done_in_proc, in_fields, in_metadata, in_row, in_status}
+use Rattle.tds_export.specs.Steps.{StepStops, StopsInReading, StopsInWriting, IsHolding, ReadsTokens, Tracks, TracksBefore, behind, in_done, in_done_in_proc, in_fields, in_metadata, in_row}
 use Rattle.tds_packet.proofs.Lifts.{last_inside, reads_inside, stops_inside}
 use Rattle.tds_csv.proofs.Streams.{breaks_after, breaks_inside, puts_both, puts_inside, stops_size}
 use Rattle.tds_rows.proofs.RowSteps.{start_quiet}
 use Rattle.tds_export.proofs.ResponseLaws.{description_in_response, row_in_response, some_fields}
-use Rattle.tds_export.proofs.TokenLaws.{bare, bare_fixed, begun_after, begun_where_sets, encoded_after-append, greatest_span-append, is_bare, text_after-snoc, tracks_metadata, tracks_none, tracks_quiet, tracks_status}
+use Rattle.tds_export.proofs.TokenLaws.{bare, bare_fixed, begun_after, begun_where_sets, encoded_after-append, greatest_span-append, is_bare, text_after-snoc, tracks_metadata, tracks_none, tracks_quiet}
 
 -- nothing more is put for the same text
 pub same_text : (p q : Part) (h : Held) → text_so_far p ≡ text_so_far q → h.delivered ≤ 2 ^ 64 - 1 → PutsText text_so_far p q h h
@@ -107,7 +103,7 @@ bare_reads charset room area sink tokens t from progress bytes a b place place' 
     }
 
 -- so was one with fields of a fixed length
-fixed_reads : (charset : Charset) (room : ℕ) (area : Space) (sink : Held) (tokens : List Token) (which : Fixed) (progress : Progress) (fields : List ℕ) (a b : Seen) (place place' : ℕ) → place' ≡ place + length fields → sink.delivered ≤ 2 ^ 64 - 1
+pub fixed_reads : (charset : Charset) (room : ℕ) (area : Space) (sink : Held) (tokens : List Token) (which : Fixed) (progress : Progress) (fields : List ℕ) (a b : Seen) (place place' : ℕ) → place' ≡ place + length fields → sink.delivered ≤ 2 ^ 64 - 1
     → Tracks progress (tokens ++ fixed which fields ∷ []) → IsHolding area (behind tokens) → length fields ≡ fields_length which → Takes a b fields (length fields)
     → ReadsTokens (response charset room) (in_fields which tokens) tokens a b place place' sink sink progress area
 fixed_reads charset room area sink tokens which progress fields a b place place' at d tracks holds len takes =
@@ -120,7 +116,7 @@ pub done_reads : (charset : Charset) (room : ℕ) (area : Space) (sink : Held) (
 done_reads charset room area sink tokens progress fields a b place place' at d tracks holds len takes =
     let final = slice_index fields 0 % 2 == 0 in
     fixed_reads charset room area sink tokens ADone (record progress { is_final = final }) fields a b place place' at d
-    (tracks_quiet progress tokens (Done (more fields)) final refl refl (final_or_more (slice_index fields 0)) tracks) holds len takes
+    (tracks_quiet progress tokens (Done (more fields)) final refl (final_or_more (slice_index fields 0)) tracks) holds len takes
 
 -- ---- DONEINPROC
 
@@ -129,25 +125,7 @@ pub done_in_proc_reads : (charset : Charset) (room : ℕ) (area : Space) (sink :
     → ReadsTokens (response charset room) (in_done_in_proc tokens) tokens a b place place' sink sink progress area
 done_in_proc_reads charset room area sink tokens progress fields a b place place' at d tracks holds len takes =
     fixed_reads charset room area sink tokens ADoneInProc progress fields a b place place' (omega (arith, at, len)) d
-    (tracks_quiet progress tokens (DoneInProc (more fields)) progress.is_final refl refl tracks.final tracks) holds len (subst (Takes a b fields) (sym len) takes)
-
--- ---- RETURNSTATUS
-
--- four bytes as a number with a sign
-signed_four : (bytes : List ℕ) → length bytes ≡ 4 → cast_signed w32 (little_number 4 bytes) ≡ signed (little bytes)
-signed_four bytes len = signed_is (little_number 4 bytes) ∙ ap (λ n. signed (little_number n bytes)) (sym len)
-  where
-    signed_is : (n : ℕ) → cast_signed w32 n ≡ signed n
-    signed_is n =
-        let same : 2 ^ 32 - suc n ≡ 2 ^ 32 - n - 1 = omega arith in
-        ap (λ m. if nat_lt n (2 ^ 31) then pos n else negsuc m) same
-
-pub status_reads : (charset : Charset) (room : ℕ) (area : Space) (sink : Held) (tokens : List Token) (progress : Progress) (status : ℤ) (element : List ℕ) (a b : Seen) (place place' : ℕ) → place' ≡ place + length element → sink.delivered ≤ 2 ^ 64 - 1 → TracksBefore progress tokens → IsHolding area (behind tokens)
-    → length element ≡ 4 → status ≡ cast_signed w32 (little_number 4 element) → Takes a b element (length element)
-    → ReadsTokens (response charset room) (in_status tokens) tokens a b place place' sink sink (record progress { report = record progress.report { return_status = Some status } }) area
-status_reads charset room area sink tokens progress status element a b place place' at d tracks holds len is takes =
-    fixed_reads charset room area sink tokens AStatus (record progress { report = record progress.report { return_status = Some status } }) element a b place place' at d
-    (tracks_status progress tokens (little element) status (is ∙ signed_four element len) tracks) holds len takes
+    (tracks_quiet progress tokens (DoneInProc (more fields)) progress.is_final refl tracks.final tracks) holds len (subst (Takes a b fields) (sym len) takes)
 
 -- ---- ROW
 
@@ -208,6 +186,13 @@ row_stops charset room start area before after tokens a b place failed stop hold
 pub stops_reading : (charset : Charset) (room : ℕ) (s : Part) (a b : Seen) (place : ℕ) (h : Held) (area : Space) (failed : Bool) (stop : Stop) → h.delivered ≤ 2 ^ 64 - 1 → failed ≡ false → IsHolding area s → StopsReading (response charset room) s a b place s stop
     → StepStops (response charset room) s a b place h h area failed stop
 stops_reading charset room s a b place h area failed stop d going holds stops = inl (record { at = s; stops = stops; puts = same_text s s h refl d; holds = holds }, going)
+
+-- a slice wasn't filled with the next element
+pub fill_stops : (charset : Charset) (room : ℕ) (s : Part) (a b : Seen) (place n : ℕ) (to : List ℕ) (h : Held) (area : Space) (failed : Bool) (stop : Stop) → (response charset room).size s ≡ n → (response charset room).end_fault s ≡ Some MessageEnded → length to ≡ n → h.delivered ≤ 2 ^ 64 - 1 → failed ≡ false → IsHolding area s
+    → ((k : ℕ) × (own : Stop) × (k < length to) × Ends a b (take k to) own × (stop ≡ began_at place own)) → StepStops (response charset room) s a b place h h area failed stop
+fill_stops charset room s a b place n to h area failed stop size end len d going holds part =
+    let less : part.0 < length to = part.2 in
+    stops_reading charset room s a b place h area failed stop d going holds (token_cut charset room s a b place n part.0 to part.1 stop size end (omega (arith, less, len)) len part.3 part.4)
 
 -- ---- COLMETADATA
 

@@ -12,6 +12,7 @@ use Rattle.tds_rows.specs.declared.Charset.{Charset}
 use Rattle.tds_export.specs.declared.exporter.Exporter.{Exporter}
 use Rattle.tds_export.specs.declared.progress.Progress.{Progress}
 use Rattle.tds_export.specs.declared.report.Report.{Report}
+use Rattle.tds_export.specs.Lending.{LeavesAreas, Lent, lent}
 use Rattle.tds_export.specs.TokenGrammar.{Part, response, response_start}
 use Rattle.tds_export.specs.Steps.{Completes, StepStops, IsHolding, IsNoted, ReadsTokens, RunStops, Tracks, TracksBefore, behind}
 use Rattle.tds_export.specs.Tokens.{Token}
@@ -84,18 +85,16 @@ IsOnSameRun old new =
     × (new.description.ghost_name ≡ old.description.ghost_name) × (new.token.ghost_name ≡ old.token.ghost_name)
     × (new.notice.ghost_name ≡ old.notice.ghost_name) × (new.small.ghost_name ≡ old.small.ghost_name) × (new.charset ≡ old.charset)
 
+-- the areas that a run is lent
+abbrev pub lent_to : {R W : Type 0} → Exporter R W → Lent
+lent_to e = lent e.description.now e.token.now e.notice.now e.small.now
+
 -- A call left the run on the same devices and areas, and where it answered no error, going on and no further back in the payload.
 pub record LeavesRun {R W U : Type 0} (old new : Exporter R W) (result : Result U Stop) : Type 0 where
   pub same : IsOnSameRun old new
   pub payload : LeavesPayload old.payload.now new.payload.now result
   pub sink : LeavesSink old.sink.now new.sink.now result
-  pub room : new.description.now.room ≡ old.description.now.room
-  pub token : new.token.now.room ≡ old.token.now.room
-  pub token_peak : new.token.now.peak ≤ new.token.now.room
-  pub notice : new.notice.now.room ≡ old.notice.now.room
-  pub notice_peak : new.notice.now.peak ≤ new.notice.now.room
-  pub small : new.small.now.room ≡ old.small.now.room
-  pub small_peak : new.small.now.peak ≤ new.small.now.room
+  pub areas : LeavesAreas (lent_to old) (lent_to new)
   pub forward : OnOk result (old.payload.now.place ≤ new.payload.now.place)
   pub running : OnOk result (IsRunning new)
 
@@ -123,11 +122,16 @@ pub record FindsEnd {R W : Type 0} (remaining : R → Option (List ℕ)) (old ne
   pub progress : new.progress ≡ old.progress
 
 -- A token was read after its first byte, from this state on, and its text put; or that stopped: whatever the tokens before it are.
-abbrev pub StepRead : {R W U : Type 0} → (R → Option (List ℕ)) → (W → Option (List ℕ)) → (List Token → Part) → Exporter R W → Exporter R W → Result U Stop → Type 0
-StepRead remaining contents from old new result = (tokens : List Token) → TracksBefore old.progress tokens → IsHolding old.description.now (behind tokens) → IsNoted old.notice.now tokens →
+abbrev pub BodyRead : {R W U : Type 0} → (R → Option (List ℕ)) → (W → Option (List ℕ)) → (List Token → Part) → Exporter R W → Exporter R W → Result U Stop → Type 0
+BodyRead remaining contents from old new result = (tokens : List Token) → TracksBefore old.progress tokens → IsHolding old.description.now (behind tokens) → IsNoted old.notice.now tokens →
     MatchResult result
     (λ _. ReadsNext old.charset (from tokens) tokens (view_of remaining contents old) (view_of remaining contents new) new.progress)
     (λ stop. StopsIn old.charset (from tokens) (view_of remaining contents old) (view_of remaining contents new) stop)
+
+-- A call read a token after its first byte, as above, and left the run on the same devices and areas, going on where it answered no error.
+pub record StepRead {R W U : Type 0} (remaining : R → Option (List ℕ)) (contents : W → Option (List ℕ)) (from : List Token → Part) (old new : Exporter R W) (result : Result U Stop) : Type 0 where
+  pub leaves : LeavesRun old new result
+  pub reads : BodyRead remaining contents from old new result
 
 -- The next token was read and its text put, or the message is over; or that stopped: whatever the tokens before it are.
 abbrev pub TokenRead : {R W : Type 0} → (R → Option (List ℕ)) → (W → Option (List ℕ)) → Exporter R W → Exporter R W → Result Bool Stop → Type 0

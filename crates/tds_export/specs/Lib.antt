@@ -6,6 +6,7 @@ pub mod TokenGrammar
 pub mod JoinStops
 pub mod Outcome
 pub mod Steps
+pub mod Lending
 pub mod Exporters
 pub mod Laws
 pub mod Moments

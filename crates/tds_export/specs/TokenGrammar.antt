@@ -1,5 +1,5 @@
 -- The element grammar of a response: how many bytes the next element has, its fault, and what stands after it.
-use Rattle.std.specs.Prelude.{◌==◌, ◌&&◌, ◌+◌, ◌*◌, ℕ, Bool, true, false, not, List, [], ◌∷◌, ◌++◌, length, take, drop, max, Option, Some, None, if◌then◌else◌, nat_lt, nat_le, slice_index}
+use Rattle.std.specs.Prelude.{◌≡◌, ◌==◌, ◌&&◌, ◌+◌, ◌*◌, ◌≤◌, ℕ, Bool, true, false, not, List, [], ◌∷◌, ◌++◌, length, take, drop, max, Option, Some, None, if◌then◌else◌, nat_lt, nat_le, slice_index}
 use Rattle.tds_values.specs.Numbers.{little}
 use Rattle.tds_columns.specs.Description.{Column, DescriptionPart, BeforeCount, NoDescription, WholeDescription, described_size, described_fault, add_described, span}
 use Rattle.tds_rows.specs.declared.Charset.{Charset}
@@ -102,6 +102,11 @@ line_at body = procedure_at body + 1 + 2 * slice_index body (procedure_at body)
 -- whether the inner lengths of a notice's body stay within it
 abbrev pub holds_notice : List ℕ → Bool
 holds_notice body = nat_lt (server_at body) (length body) && nat_lt (procedure_at body) (length body) && nat_le (line_at body + 4) (length body)
+
+-- The bytes are the body of an ERROR or INFO: 14 or more, and its inner lengths stay within it.
+pub record IsNoticeBody (body : List ℕ) : Type 0 where
+  pub long : 14 ≤ length body
+  pub holds : holds_notice body ≡ true
 
 -- what a notice's body says
 abbrev pub notice_of : List ℕ → Notice

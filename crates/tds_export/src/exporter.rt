@@ -1,11 +1,12 @@
 // The run of an export: token after token to the message's end.
-ghost use Rattle.std.specs.Prelude.{◌≡◌, ◌≤◌, false, true, IfOk};
+ghost use Rattle.std.specs.Prelude.{◌≡◌, false, true, IfOk};
 ghost use Rattle.tds_columns.specs.View.{columns_of};
 ghost use Rattle.tds_csv.specs.Sinks.{LeavesSink};
 ghost use Rattle.tds_export.specs.Steps.{IsRow, in_done, in_done_in_proc, in_kind, in_length, in_metadata, in_nbc_row, in_return, in_row, in_status};
 ghost use Rattle.tds_export.specs.TokenGrammar.{AnError, AnInfo, Bodied, is_notice};
 ghost use Rattle.tds_export.specs.Exporters.{Advances, CanBegin, IsInToken, IsRunning, LeavesRun};
-ghost use Rattle.tds_export.specs.Exporters.{ResponseRead, StepRead, TokenRead, WholeRead, view};
+ghost use Rattle.tds_export.specs.Exporters.{BodyRead, ResponseRead, StepRead, TokenRead, WholeRead, view};
+ghost use Rattle.tds_export.specs.Lending.{LeavesAreas, lent};
 ghost use Rattle.tds_packet.specs.Payloads.{LeavesPayload};
 
 use crate::notice::{error_of, message_of, take_notice};
@@ -43,8 +44,7 @@ impl<'a, 'p, 's, R: Read, W: Write> Exporter<'a, 'p, 's, R, W> {
     // Reads a COLMETADATA after its token byte, and puts the header line of its set.
     fn metadata(&mut self) -> Result<(), Stop>
         requires { IsInToken self.old }
-        ensures leaves { LeavesRun self.old self.new result }
-        ensures gives { StepRead R.remaining W.contents in_metadata self.old self.new result }
+        ensures { StepRead R.remaining W.contents in_metadata self.old self.new result }
     {
         if let Described::NoMetadata = gather(self.payload, self.description)? {
             self.progress.described = false;
@@ -61,8 +61,7 @@ impl<'a, 'p, 's, R: Read, W: Write> Exporter<'a, 'p, 's, R, W> {
     fn rows(&mut self) -> Result<(), Stop>
         requires begun { IsInToken self.old }
         requires described { self.old.progress.described ≡ true }
-        ensures leaves { LeavesRun self.old self.new result }
-        ensures gives { let columns = columns_of self.old.description.now.bytes in
+        ensures { let columns = columns_of self.old.description.now.bytes in
             StepRead R.remaining W.contents (in_row self.old.charset columns) self.old self.new result }
     {
         let columns = Columns::view(self.description.bytes());
@@ -76,8 +75,7 @@ impl<'a, 'p, 's, R: Read, W: Write> Exporter<'a, 'p, 's, R, W> {
     fn nbc_rows(&mut self) -> Result<(), Stop>
         requires begun { IsInToken self.old }
         requires described { self.old.progress.described ≡ true }
-        ensures leaves { LeavesRun self.old self.new result }
-        ensures gives { let columns = columns_of self.old.description.now.bytes in
+        ensures { let columns = columns_of self.old.description.now.bytes in
             StepRead R.remaining W.contents (in_nbc_row columns) self.old self.new result }
     {
         let columns = Columns::view(self.description.bytes());
@@ -96,8 +94,7 @@ impl<'a, 'p, 's, R: Read, W: Write> Exporter<'a, 'p, 's, R, W> {
     // Reads a DONE or DONEPROC after its token byte (MS-TDS, DONE).
     fn done(&mut self) -> Result<(), Stop>
         requires { IsInToken self.old }
-        ensures leaves { LeavesRun self.old self.new result }
-        ensures gives { StepRead R.remaining W.contents in_done self.old self.new result }
+        ensures { StepRead R.remaining W.contents in_done self.old self.new result }
     {
         let mut fields = [0u8; DONE_FIELDS];
         self.payload.fill(&mut fields)?;
@@ -109,8 +106,7 @@ impl<'a, 'p, 's, R: Read, W: Write> Exporter<'a, 'p, 's, R, W> {
     // Reads a DONEINPROC after its token byte, of which nothing is kept (MS-TDS, DONEINPROC).
     fn done_in_proc(&mut self) -> Result<(), Stop>
         requires { IsInToken self.old }
-        ensures leaves { LeavesRun self.old self.new result }
-        ensures gives { StepRead R.remaining W.contents in_done_in_proc self.old self.new result }
+        ensures { StepRead R.remaining W.contents in_done_in_proc self.old self.new result }
     {
         self.payload.pass(DONE_FIELDS)?;
         Ok(())
@@ -119,8 +115,7 @@ impl<'a, 'p, 's, R: Read, W: Write> Exporter<'a, 'p, 's, R, W> {
     // Reads a RETURNSTATUS after its token byte (MS-TDS, RETURNSTATUS).
     fn return_status(&mut self) -> Result<(), Stop>
         requires { IsInToken self.old }
-        ensures leaves { LeavesRun self.old self.new result }
-        ensures gives { StepRead R.remaining W.contents in_status self.old self.new result }
+        ensures { StepRead R.remaining W.contents in_status self.old self.new result }
     {
         let mut value = [0u8; 4];
         self.payload.fill(&mut value)?;
@@ -135,7 +130,7 @@ impl<'a, 'p, 's, R: Read, W: Write> Exporter<'a, 'p, 's, R, W> {
         requires { IsInToken self.old }
         ensures leaves { LeavesRun self.old self.new result }
         ensures gives { (which : Bodied) → is_notice which ≡ false →
-            StepRead R.remaining W.contents (in_length which) self.old self.new result }
+            BodyRead R.remaining W.contents (in_length which) self.old self.new result }
     {
         let mut length = [0u8; 2];
         self.payload.fill(&mut length)?;
@@ -148,8 +143,7 @@ impl<'a, 'p, 's, R: Read, W: Write> Exporter<'a, 'p, 's, R, W> {
     // area (MS-TDS, ERROR).
     fn error(&mut self) -> Result<(), Stop>
         requires { IsInToken self.old }
-        ensures leaves { LeavesRun self.old self.new result }
-        ensures gives { StepRead R.remaining W.contents (in_length AnError) self.old self.new result }
+        ensures { StepRead R.remaining W.contents (in_length AnError) self.old self.new result }
     {
         take_notice(self.payload, self.token)?;
         self.progress.report.errors += 1;
@@ -166,8 +160,7 @@ impl<'a, 'p, 's, R: Read, W: Write> Exporter<'a, 'p, 's, R, W> {
     // Reads an INFO after its token byte (MS-TDS, INFO).
     fn info(&mut self) -> Result<(), Stop>
         requires { IsInToken self.old }
-        ensures leaves { LeavesRun self.old self.new result }
-        ensures gives { StepRead R.remaining W.contents (in_length AnInfo) self.old self.new result }
+        ensures { StepRead R.remaining W.contents (in_length AnInfo) self.old self.new result }
     {
         take_notice(self.payload, self.token)?;
         self.progress.report.infos += 1;
@@ -178,8 +171,7 @@ impl<'a, 'p, 's, R: Read, W: Write> Exporter<'a, 'p, 's, R, W> {
     // RETURNVALUE).
     fn return_value(&mut self) -> Result<(), Stop>
         requires { IsInToken self.old }
-        ensures leaves { LeavesRun self.old self.new result }
-        ensures gives { StepRead R.remaining W.contents in_return self.old self.new result }
+        ensures { StepRead R.remaining W.contents in_return self.old self.new result }
     {
         pass_return(self.payload, self.small)?;
         self.progress.report.return_values += 1;
@@ -190,8 +182,7 @@ impl<'a, 'p, 's, R: Read, W: Write> Exporter<'a, 'p, 's, R, W> {
     fn body(&mut self, kind: TokenKind) -> Result<(), Stop>
         requires begun { IsInToken self.old }
         requires described { IsRow kind → self.old.progress.described ≡ true }
-        ensures leaves { LeavesRun self.old self.new result }
-        ensures gives { let columns = columns_of self.old.description.now.bytes in
+        ensures { let columns = columns_of self.old.description.now.bytes in
             StepRead R.remaining W.contents (in_kind self.old.charset columns kind) self.old self.new result }
     {
         match kind {
@@ -266,13 +257,8 @@ pub(crate) fn read_response<R: Read, W: Write>(
     requires { CanBegin payload.old sink.old description.old token.old notice.old small.old }
     ensures payload { LeavesPayload payload.old payload.new result }
     ensures sink { LeavesSink sink.old sink.new result }
-    ensures room { description.new.room ≡ description.old.room }
-    ensures token { token.new.room ≡ token.old.room }
-    ensures token_peak { token.new.peak ≤ token.new.room }
-    ensures notice { notice.new.room ≡ notice.old.room }
-    ensures notice_peak { notice.new.peak ≤ notice.new.room }
-    ensures small { small.new.room ≡ small.old.room }
-    ensures small_peak { small.new.peak ≤ small.new.room }
+    ensures areas { LeavesAreas (lent description.old token.old notice.old small.old)
+        (lent description.new token.new notice.new small.new) }
     ensures gives { let at = view R.remaining W.contents in
         ResponseRead charset (at payload.old sink.old description.old notice.old)
         (at payload.new sink.new description.new notice.new) result }

@@ -1,9 +1,10 @@
 // The bodies of ERROR and INFO (MS-TDS, ERROR and INFO).
-ghost use Rattle.std.specs.Prelude.{◌≡◌, ◌+◌, ◌%◌, ◌<◌, ◌≤◌, true, length, OnOk};
+ghost use Rattle.std.specs.Prelude.{◌≡◌, ◌%◌, ◌<◌, ◌≤◌, length, OnOk};
+ghost use Rattle.tds_export.specs.Lending.{LeavesArea, LeavesFurther};
 ghost use Rattle.tds_export.specs.Noticing.{NoticeRead};
 ghost use Rattle.tds_export.specs.Outcome.{server_error};
-ghost use Rattle.tds_export.specs.TokenGrammar.{holds_notice, line_at, notice_of, procedure_at, server_at};
-ghost use Rattle.tds_packet.specs.Payloads.{IsGoing, LeavesPayload};
+ghost use Rattle.tds_export.specs.TokenGrammar.{IsNoticeBody, holds_notice, line_at, notice_of, procedure_at, server_at};
+ghost use Rattle.tds_packet.specs.Payloads.{IsGoing};
 
 use crate::report::ServerError;
 use byteorder::{ByteOrder, LittleEndian};
@@ -60,8 +61,7 @@ pub(crate) fn lengths_fit(body: &[u8]) -> bool
 
 /// What a body says of an error, but for its message.
 pub(crate) fn error_of(body: &[u8]) -> ServerError
-    requires long { LEAST_NOTICE ≤ length body.now }
-    requires holds { holds_notice body.now ≡ true }
+    requires { IsNoticeBody body.now }
     ensures { result ≡ server_error (notice_of body.now) }
 {
     let number = LittleEndian::read_i32(body);
@@ -76,8 +76,7 @@ pub(crate) fn error_of(body: &[u8]) -> ServerError
 
 /// The units of a body's message, in place.
 pub(crate) fn message_of(body: &[u8]) -> &[u8]
-    requires long { LEAST_NOTICE ≤ length body.now }
-    requires holds { holds_notice body.now ≡ true }
+    requires { IsNoticeBody body.now }
     ensures value { result.now ≡ (notice_of body.now).message }
     ensures even { length result.now % 2 ≡ 0 }
 {
@@ -89,12 +88,9 @@ pub(crate) fn message_of(body: &[u8]) -> &[u8]
 pub(crate) fn take_notice<R: Read>(payload: &mut Payload<R>, token: &mut Area) -> Result<(), Stop>
     requires going { IsGoing payload.old }
     requires room { 65535 ≤ token.old.room }
-    ensures leaves { LeavesPayload payload.old payload.new result }
-    ensures room { token.new.room ≡ token.old.room }
-    ensures peak { token.new.peak ≤ token.new.room }
-    ensures forward { OnOk result (payload.old.place < payload.new.place) }
-    ensures long { OnOk result (LEAST_NOTICE ≤ length token.new.bytes) }
-    ensures holds { OnOk result (holds_notice token.new.bytes ≡ true) }
+    ensures leaves { LeavesFurther payload.old payload.new result }
+    ensures area { LeavesArea token.old token.new }
+    ensures body { OnOk result (IsNoticeBody token.new.bytes) }
     ensures gives { NoticeRead R.remaining payload.old payload.new token.new.bytes result }
 {
     token.clear();

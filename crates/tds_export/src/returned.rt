@@ -1,7 +1,8 @@
 // The value that a procedure returns (MS-TDS, RETURNVALUE).
-ghost use Rattle.std.specs.Prelude.{◌≡◌, ◌≤◌, IfOk, IsTrue, OnOk};
+ghost use Rattle.std.specs.Prelude.{◌≤◌, IfOk, IsTrue};
+ghost use Rattle.tds_export.specs.Lending.{LeavesArea, LeavesFurther};
 ghost use Rattle.tds_export.specs.Returning.{NamePassed, ReturnPassed, TypeTaken};
-ghost use Rattle.tds_packet.specs.Payloads.{IsGoing, LeavesPayload};
+ghost use Rattle.tds_packet.specs.Payloads.{IsGoing};
 ghost use Rattle.tds_values.specs.Kind as kinds;
 
 use std::io::Read;
@@ -17,8 +18,7 @@ const ORDINAL: usize = 2;
 // Passes over the ordinal and the name.
 fn pass_name<R: Read>(payload: &mut Payload<R>) -> Result<(), Stop>
     requires { IsGoing payload.old }
-    ensures leaves { LeavesPayload payload.old payload.new result }
-    ensures forward { OnOk result (payload.old.place ≤ payload.new.place) }
+    ensures leaves { LeavesFurther payload.old payload.new result }
     ensures gives { NamePassed R.remaining payload.old payload.new result }
 {
     payload.pass(ORDINAL)?;
@@ -32,10 +32,8 @@ fn pass_name<R: Read>(payload: &mut Payload<R>) -> Result<(), Stop>
 fn take_type<R: Read>(payload: &mut Payload<R>, small: &mut Area) -> Result<Kind, Stop>
     requires going { IsGoing payload.old }
     requires room { TYPE_ROOM ≤ small.old.room }
-    ensures leaves { LeavesPayload payload.old payload.new result }
-    ensures room { small.new.room ≡ small.old.room }
-    ensures peak { small.new.peak ≤ small.new.room }
-    ensures forward { OnOk result (payload.old.place ≤ payload.new.place) }
+    ensures leaves { LeavesFurther payload.old payload.new result }
+    ensures area { LeavesArea small.old small.new }
     ensures valid { IfOk result (λ kind. IsTrue (kinds.is_valid kind)) }
     ensures gives { TypeTaken R.remaining payload.old payload.new result }
 {
@@ -50,10 +48,8 @@ pub(crate) fn pass_return<R: Read>(payload: &mut Payload<R>, small: &mut Area) -
     requires going { IsGoing payload.old }
     requires room { SMALL_ROOM ≤ small.old.room }
     requires peak { small.old.peak ≤ small.old.room }
-    ensures leaves { LeavesPayload payload.old payload.new result }
-    ensures room { small.new.room ≡ small.old.room }
-    ensures peak { small.new.peak ≤ small.new.room }
-    ensures forward { OnOk result (payload.old.place ≤ payload.new.place) }
+    ensures leaves { LeavesFurther payload.old payload.new result }
+    ensures area { LeavesArea small.old small.new }
     ensures gives { ReturnPassed R.remaining payload.old payload.new result }
 {
     pass_name(payload)?;

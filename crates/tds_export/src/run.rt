@@ -14,6 +14,7 @@ use tds_meter::Areas;
 use tds_packet::{Counted, Payload, Stop};
 
 // Delivers what waits, if the writer has not failed, and says what it took.
+#[tactic(auto, using(crate::proofs::Endings::tidies))]
 fn stop_at<W: Write>(sink: &mut Sink<W>, stop: Stop) -> Stopped
     requires { IsReady sink.old }
     ensures ready { IsReady sink.new }

@@ -3,7 +3,7 @@ ghost use Rattle.std.specs.Prelude.{◌≡◌, ◌%◌, ◌++◌, codes, length,
 ghost use Rattle.tds_csv.specs.Conversion.{Utf16Text, conversion_text, long_field};
 ghost use Rattle.tds_columns.specs.View.{columns_of};
 ghost use Rattle.tds_csv.specs.Quoting.{joined};
-ghost use Rattle.tds_csv.specs.Sinks.{IsWriting, PutsPiece};
+ghost use Rattle.tds_csv.specs.Sinks.{IsReady, IsWriting, PutsPiece};
 ghost use Rattle.tds_export.specs.JoinStops.{IsStopIn, IsStopped};
 ghost use Rattle.tds_export.specs.Tokens.{between, header_line, names_of, text_if};
 
@@ -41,7 +41,7 @@ fn put_units<W: Write>(sink: &mut Sink<W>, units: &[u8]) -> Result<(), Stop>
 
 // Puts a column's name, quoted.
 fn put_name<W: Write>(sink: &mut Sink<W>, units: &[u8]) -> Result<(), Stop>
-    requires writing { IsWriting sink.old }
+    requires ready { IsReady sink.old }
     requires even { length units.now % 2 ≡ 0 }
     ensures { PutsPiece W.contents sink.old sink.new (long_field Utf16Text units.now) result }
 {

@@ -1,11 +1,11 @@
 // Characters of text in UTF-16.
 ghost use Rattle.std.specs.Prelude.{◌≡◌, ◌+◌, ◌-◌, ◌*◌, ◌<◌, ◌≤◌, ◌%◌, ◌++◌, length, take, drop, slice_index, MatchOption, IfSome};
-ghost use Rattle.std.specs.Char.{IsScalar, encode_utf8};
+ghost use Rattle.std.specs.Char.{encode_utf8};
 ghost use Rattle.std.specs.Char.Utf16.{is_high_surrogate, is_low_surrogate};
 ghost use Rattle.tds_csv.specs.Joining.{emit};
 ghost use Rattle.tds_csv.specs.Plain.{LiesIn};
 ghost use Rattle.tds_csv.specs.Utf16 as utf16;
-ghost use Rattle.tds_csv.specs.Utf16Next.{Converts, IsNext, LeavesRest};
+ghost use Rattle.tds_csv.specs.Utf16Next.{Converts, IsCharacter, IsNext, LeavesRest};
 
 use crate::convert::encode::put_quoted;
 use crate::convert::lanes_utf16::{UNITS, take_units};
@@ -47,12 +47,8 @@ pub(crate) fn next_character(bytes: &[u8], at: usize) -> Option<Character>
     ensures gives { MatchOption result
         (utf16.rest (drop at bytes.now) ≡ drop at bytes.now)
         (λ next. IsNext (drop at bytes.now) next.code next.len) }
-    ensures range { IfSome result (λ next. next.code < 1114112) }
-    ensures some { IfSome result (λ next. 2 ≤ next.len) }
+    ensures character { IfSome result (λ next. IsCharacter next.code next.len) }
     ensures within { IfSome result (λ next. at + next.len ≤ length bytes.now) }
-    ensures long { IfSome result (λ next. next.len < 4 → next.code < 65536) }
-    ensures even { IfSome result (λ next. next.len % 2 ≡ 0) }
-    ensures scalar { IfSome result (λ next. IsScalar next.code) }
 {
     if bytes.len() - at < 2 {
         return None;
@@ -84,11 +80,8 @@ pub(crate) fn character_at(bytes: &[u8], at: usize) -> Character
     requires whole { (length bytes.now - at) % 2 ≡ 0 }
     ensures spells { let behind = drop (at + result.len) bytes.now in
         utf16.characters (drop at bytes.now) ≡ encode_utf8 result.code ++ utf16.characters behind }
-    ensures range { result.code < 1114112 }
-    ensures some { 2 ≤ result.len }
+    ensures character { IsCharacter result.code result.len }
     ensures within { at + result.len ≤ length bytes.now }
-    ensures even { result.len % 2 ≡ 0 }
-    ensures scalar { IsScalar result.code }
 {
     match next_character(bytes, at) {
         Some(next) => next,

@@ -1,10 +1,10 @@
 // Where bytes stop being text in UTF-8.
-ghost use Rattle.std.specs.Prelude.{◌≡◌, ◌<◌, ◌≤◌, length, drop, take, if◌then◌else◌};
+ghost use Rattle.std.specs.Prelude.{◌≡◌, take, if◌then◌else◌};
 ghost use Rattle.std.specs.Int.{is_in_range};
 ghost use Rattle.tds_csv.specs.Joining.{emit};
 ghost use Rattle.tds_csv.specs.Quoting.{doubled};
 ghost use Rattle.tds_csv.specs.Utf8 as utf8;
-ghost use Rattle.tds_csv.specs.Utf8Scan.{StopsAt};
+ghost use Rattle.tds_csv.specs.Utf8Scan.{IsScan};
 
 // What is found in bytes: how many of the first are whole characters, and how many begin a text.
 #[derive(Clone, Copy)]
@@ -26,13 +26,8 @@ fn good_of(first: u8, len: usize) -> usize
 
 // How many of the first bytes are whole characters, and how many begin a text.
 pub(crate) fn scan_text(bytes: &[u8]) -> Scan
-    ensures within { result.whole ≤ length bytes.now }
-    ensures order { result.whole ≤ result.good }
-    ensures most { result.good ≤ length bytes.now }
     ensures text { emit utf8.rest utf8.text bytes.now ≡ doubled (take result.whole bytes.now) }
-    ensures rest { drop result.whole bytes.now ≡ utf8.rest bytes.now }
-    ensures begins { result.good ≡ length bytes.now → utf8.Begins bytes.now }
-    ensures stops { result.good < length bytes.now → StopsAt bytes.now result.whole result.good }
+    ensures scan { IsScan bytes.now result.whole result.good }
 {
     match str::from_utf8(bytes) {
         Ok(_) => Scan {

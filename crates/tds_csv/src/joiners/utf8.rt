@@ -1,7 +1,7 @@
 // Text in UTF-8 that comes in pieces.
 ghost use Rattle.std.specs.Prelude.{◌≤◌, [], true, length, IfOk};
 ghost use Rattle.tds_csv.specs.Joining.{emit};
-ghost use Rattle.tds_csv.specs.Pushing.{PushesPiece};
+ghost use Rattle.tds_csv.specs.Pushing.{CanTake, PushesPiece};
 ghost use Rattle.tds_csv.specs.Sinks.{IsWriting, PutsPiece};
 ghost use Rattle.tds_csv.specs.Utf8 as utf8;
 ghost use Rattle.tds_csv.specs.Utf8Scan.{IsScan};
@@ -35,8 +35,7 @@ fn put_whole<W: Write>(bytes: &[u8], sink: &mut Sink<'_, W>) -> Result<Scan, Sto
 impl Utf8Joiner {
     // Takes a piece as if nothing was withheld.
     fn take_text<W: Write>(&mut self, bytes: &[u8], sink: &mut Sink<'_, W>) -> Result<(), JoinFault>
-        requires writing { IsWriting sink.old }
-        requires begun { utf8.Begins self.old.kept }
+        requires { CanTake utf8.Begins self.old.kept sink.old }
         ensures { PushesPiece W.contents utf8.Begins utf8.rest utf8.text [] self.new.kept
             sink.old sink.new bytes.now result }
     {
@@ -55,9 +54,8 @@ impl Utf8Joiner {
         piece: &[u8],
         sink: &mut Sink<'_, W>,
     ) -> Result<(), JoinFault>
-        requires writing { IsWriting sink.old }
+        requires taking { CanTake utf8.Begins self.old.kept sink.old }
         requires short { length piece.now ≤ 3 }
-        requires begun { utf8.Begins self.old.kept }
         ensures { PushesPiece W.contents utf8.Begins utf8.rest utf8.text self.old.kept self.new.kept
             sink.old sink.new piece.now result }
     {
@@ -75,9 +73,8 @@ impl Utf8Joiner {
 
     // Takes a piece of three bytes or more.
     fn push_long<W: Write>(&mut self, piece: &[u8], sink: &mut Sink<'_, W>) -> Result<(), JoinFault>
-        requires writing { IsWriting sink.old }
+        requires taking { CanTake utf8.Begins self.old.kept sink.old }
         requires long { 3 ≤ length piece.now }
-        requires begun { utf8.Begins self.old.kept }
         ensures { PushesPiece W.contents utf8.Begins utf8.rest utf8.text self.old.kept self.new.kept
             sink.old sink.new piece.now result }
     {

@@ -25,4 +25,4 @@ returns-clause-gives g c =
     let kind = c.in_ok-kind.kind in
     let x = c.in_ok-pass_name.ensures.gives in
     let front = return_reads_after ReturnOrdinal (ReturnHead x.name) (before_value x.name kind) a b d place one two x.steps (c.in_ok-kind.ensures.gives x.name) in
-    value_passed c.pass_over.result x.name kind a d e place two c.pass_over.new.payload.place front (c.pass_over.ensures.gives c.in_ok-kind.ensures.leaves.going)
+    value_passed c.pass_over.result x.name kind a d e place two c.pass_over.new.payload.place front (c.pass_over.ensures.gives c.in_ok-kind.ensures.leaves.payload.going)

@@ -29,9 +29,9 @@ loop-at-preserved c =
     let old = take made c.convert_some-done.new.to in
     let code = c.in-Some.next.code in
     let len = c.in-Some.next.len in
-    let two : 2 ≤ len = c.in-Some.ensures.some in
+    let two : 2 ≤ len = c.in-Some.ensures.character.some in
     let most : length (doubled (encode_utf8 code)) ≤ 4 = (doubled_length code).0 in
-    let small : len < 4 → length (doubled (encode_utf8 code)) ≤ 3 = λ h. (doubled_length code).1 (c.in-Some.ensures.long h) in
+    let small : len < 4 → length (doubled (encode_utf8 code)) ≤ 3 = λ h. (doubled_length code).1 (c.in-Some.ensures.character.long h) in
     record {
       within = c.in-Some.ensures.within;
       long = search rules;

@@ -1,9 +1,11 @@
-use Rattle.std.proofs.Common.{◌≡◌, ◌∙◌, ◌+◌, ℕ, List, cond, length, drop, get_or, Some, sym, ap, subst, arith}
+use Rattle.std.proofs.Common.{◌≡◌, ◌∙◌, ◌+◌, ◌≤◌, rules, ℕ, List, cond, length, drop, get_or, Some, sym, ap, subst, arith}
 use Rattle.std.proofs.lemmas.List.{get_or-drop}
 use Rattle.std.proofs.lemmas.Str.{utf8_valid_len-IsUtf8}
 use Rattle.std.specs.Int.{is_in_range}
 use Rattle.std.specs.Str.Lossy.{utf8_error_len, utf8_valid_len}
+use Rattle.tds_csv.specs.Utf8.{Begins, rest}
 use Rattle.tds_csv.specs.Utf8Scan.{StopsAt}
+use Rattle.tds_csv.proofs.Utf8Pushing.{is_scan}
 use Rattle.tds_csv.proofs.Utf8Test.{none_begins}
 use Rattle.tds_csv.proofs.Utf8Stops.{emit_take, stops_at}
 use Rattle.tds_csv.proofs.convert.utf8.scan_text.Goals as goal
@@ -11,8 +13,11 @@ use Rattle.tds_csv.proofs.convert.utf8.scan_text.Goals as goal
 pub returns-in-Ok-clause-text : goal.returns-in-Ok-clause-text
 returns-in-Ok-clause-text c = emit_take c.args.bytes.now (length c.args.bytes.now) (sym (utf8_valid_len-IsUtf8 c.args.bytes.now c.in-Ok.ensures.cases.1))
 
-pub returns-in-Ok-clause-rest : goal.returns-in-Ok-clause-rest
-returns-in-Ok-clause-rest c = ap (λ n. drop n c.args.bytes.now) (sym (utf8_valid_len-IsUtf8 c.args.bytes.now c.in-Ok.ensures.cases.1))
+pub returns-in-Ok-clause-scan : goal.returns-in-Ok-clause-scan
+returns-in-Ok-clause-scan c =
+    let bytes = c.args.bytes.now in
+    let begun : Begins bytes = search rules in
+    is_scan bytes (length bytes) (length bytes) (omega arith) (omega arith) (ap (λ n. drop n bytes) (sym (utf8_valid_len-IsUtf8 bytes c.in-Ok.ensures.cases.1))) (λ _. begun) (λ less. absurd (omega (arith, less)))
 
 stops : (bytes : List ℕ) (whole len j : ℕ) → whole ≡ utf8_valid_len bytes → utf8_error_len (drop whole bytes) ≡ Some len → j ≡ cond (is_in_range 0xC2 0xF4 (get_or bytes whole 0)) len 0
     → StopsAt bytes whole (whole + j)
@@ -20,18 +25,21 @@ stops bytes whole len j is fault e =
     let first : get_or (drop whole bytes) 0 0 ≡ get_or bytes whole 0 = get_or-drop whole bytes 0 0 ∙ ap (λ n. get_or bytes n 0) {x = whole + 0} {y = whole} (omega arith) in
     subst (λ k. StopsAt bytes whole (whole + k)) (ap (λ x. cond (is_in_range 0xC2 0xF4 x) len 0) first ∙ sym e) (stops_at bytes whole len is fault)
 
-pub returns-in-Some-clause-stops : goal.returns-in-Some-clause-stops
-returns-in-Some-clause-stops c = λ _.
-    stops c.args.bytes.now c.valid_up_to-whole.result c.in-Some.len c.good_of.result (c.valid_up_to-whole.ensures ∙ c.in-Err.ensures.valid_len)
-    (ap (λ n. utf8_error_len (drop n c.args.bytes.now)) c.valid_up_to-whole.ensures ∙ sym c.in-Err.ensures.fault ∙ sym c.in-Some.ensures) c.good_of.ensures
+pub returns-in-Some-clause-scan : goal.returns-in-Some-clause-scan
+returns-in-Some-clause-scan c =
+    let bytes = c.args.bytes.now in
+    let whole = c.valid_up_to-whole.result in
+    let good = c.good_of.result in
+    let rest_is : drop whole bytes ≡ rest bytes = search rules in
+    let s = stops bytes whole c.in-Some.len good (c.valid_up_to-whole.ensures ∙ c.in-Err.ensures.valid_len)
+    (ap (λ n. utf8_error_len (drop n bytes)) c.valid_up_to-whole.ensures ∙ sym c.in-Err.ensures.fault ∙ sym c.in-Some.ensures) c.good_of.ensures in
+    is_scan bytes whole (whole + good) (omega arith) (omega (arith, s.within)) rest_is (λ all. absurd (omega (arith, s.within, all))) (λ _. s)
 
-pub returns-in-Some-clause-begins : goal.returns-in-Some-clause-begins
-returns-in-Some-clause-begins c = λ e.
-    let s = stops c.args.bytes.now c.valid_up_to-whole.result c.in-Some.len c.good_of.result (c.valid_up_to-whole.ensures ∙ c.in-Err.ensures.valid_len)
-    (ap (λ n. utf8_error_len (drop n c.args.bytes.now)) c.valid_up_to-whole.ensures ∙ sym c.in-Err.ensures.fault ∙ sym c.in-Some.ensures) c.good_of.ensures in
-    absurd (omega (arith, s.within))
-
-pub returns-in-None-clause-begins : goal.returns-in-None-clause-begins
-returns-in-None-clause-begins c = λ _.
-    none_begins c.args.bytes.now
-    (ap (λ n. utf8_error_len (drop n c.args.bytes.now)) (sym c.in-Err.ensures.valid_len) ∙ sym c.in-Err.ensures.fault ∙ sym c.in-None.ensures)
+pub returns-in-None-clause-scan : goal.returns-in-None-clause-scan
+returns-in-None-clause-scan c =
+    let bytes = c.args.bytes.now in
+    let whole = c.valid_up_to-whole.result in
+    let rest_is : drop whole bytes ≡ rest bytes = search rules in
+    let within : whole ≤ length bytes = search rules in
+    is_scan bytes whole (length bytes) within (omega arith) rest_is
+    (λ _. none_begins bytes (ap (λ n. utf8_error_len (drop n bytes)) (sym c.in-Err.ensures.valid_len) ∙ sym c.in-Err.ensures.fault ∙ sym c.in-None.ensures)) (λ less. absurd (omega (arith, less)))

@@ -29,7 +29,7 @@ loop-at-preserved c =
     let before : length c.loop-at.to.bytes ≡ length s.bytes + length added.0 = ap (λ (t : Space). length t.bytes) added.1 ∙ length-append s.bytes added.0 in
     let fits : length c.loop-at.to.bytes + length c.bytes.result.now ≤ c.loop-at.to.room = c.in_default-append.ensures.fits in
     let within : c.loop-at.at + len ≤ length c.args.units.now = c.character_at-next.ensures.within in
-    let even : len % 2 ≡ 0 = c.character_at-next.ensures.even in
+    let even : len % 2 ≡ 0 = c.character_at-next.ensures.character.even in
     record {
       within = within;
       even = omega arith;
@@ -37,7 +37,7 @@ loop-at-preserved c =
         added.0 ++ encode_utf8 code,
         c.in_default-append.ensures.ok ∙ (λ i. appended (added.1 i) (is i)) ∙ appended_twice s added.0 (encode_utf8 code),
         added.2 ∙ ap (λ l. added.0 ++ l) c.character_at-next.ensures.spells ∙ sym (append_assoc added.0 (encode_utf8 code) more),
-        IsUtf8-append added.0 (encode_utf8 code) added.3 (IsUtf8-encode code c.character_at-next.ensures.scalar),
+        IsUtf8-append added.0 (encode_utf8 code) added.3 (IsUtf8-encode code c.character_at-next.ensures.character.scalar),
         omega (arith, ap length is, length-append added.0 (encode_utf8 code)),
       );
     }

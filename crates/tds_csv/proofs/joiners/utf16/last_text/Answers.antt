@@ -10,7 +10,7 @@ returns-then-kept-eq2 c =
     let kept = c.args.kept.now in
     let code = c.character_at.result.code in
     let len = c.character_at.result.len in
-    let over : drop (0 + len) kept ≡ [] = nil_of_length (drop (0 + len) kept) (omega (arith, length-drop (0 + len) kept, c.character_at.ensures.some, c.if-kept-eq2.true)) in
+    let over : drop (0 + len) kept ≡ [] = nil_of_length (drop (0 + len) kept) (omega (arith, length-drop (0 + len) kept, c.character_at.ensures.character.some, c.if-kept-eq2.true)) in
     let last : utf16.characters kept ≡ encode_utf8 code =
     c.character_at.ensures.spells ∙ ap (λ l. encode_utf8 code ++ utf16.characters l) over ∙ ap (λ l. encode_utf8 code ++ l) characters_nil ∙ append-nil (encode_utf8 code) in
     c.push_quoted.ensures ∙ ap (λ l. l ++ doubled (encode_utf8 code)) c.new-run.ensures ∙ sym (ap doubled last)

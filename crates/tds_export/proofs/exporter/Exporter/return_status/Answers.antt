@@ -1,34 +1,66 @@
 use Rattle.std.specs.Int.{cast_signed, cast_unsigned, w32}
-use Rattle.std.proofs.Common.{◌≡◌, ◌∙◌, ◌<◌, length, refl, arith, rules}
+use Rattle.std.specs.Prelude.{ℤ, Some, None}
+use Rattle.std.proofs.Common.{◌≡◌, ◌∙◌, ℕ, List, [], ◌∷◌, ◌++◌, length, refl, sym, ap, rules}
+use Rattle.tds_values.specs.Numbers.{little}
+use Rattle.byteorder.specs.Endian.{little_number}
 use Rattle.tds_packet.specs.Payloads.{seen}
 use Rattle.tds_csv.specs.Sinks.{held}
-use Rattle.tds_export.specs.Steps.{in_status}
-use Rattle.tds_export.proofs.TokenSteps.{status_reads, stops_reading, token_cut}
+use Rattle.tds_export.specs.declared.progress.Progress.{Progress}
+use Rattle.tds_export.specs.declared.report.Report.{Report}
+use Rattle.tds_export.specs.Outcome.{report_of, signed}
+use Rattle.tds_export.specs.Tokens.{Token, ReturnStatus, is_error, is_info, is_return, is_row, is_set, text}
+use Rattle.tds_export.specs.TokenBytes.{AStatus}
+use Rattle.tds_export.specs.Steps.{Tracks, TracksBefore, in_status}
+use Rattle.tds_export.proofs.NoticeReading.{signed_is}
+use Rattle.tds_export.proofs.TokenLaws.{status_after-append, tracks_bare, uncounted, unerring}
+use Rattle.tds_export.proofs.TokenSteps.{fill_stops, fixed_reads}
 use Rattle.tds_export.proofs.NoticeSteps.{quietly}
 use Rattle.tds_packet.proofs.Passing.{passed}
 use Rattle.tds_export.proofs.exporter.Exporter.return_status.Goals as goal
 
-pub returns-in_err-fill-clause-gives : goal.returns-in_err-fill-clause-gives
-returns-in_err-fill-clause-gives g c = λ tokens tracks holds noted.
-    let run = c.args.self.now in
-    let sink = held g.W.Write.contents run.sink.now in
-    let room = run.description.now.room in
-    let a = seen g.R.Read.remaining run.payload.now in
-    let b = seen g.R.Read.remaining c.fill.new.self in
-    let running = c.requires.running in
-    let part = c.in_err-fill.ensures.part running.payload.going in
-    let four : length c.fill.new.to ≡ 4 = search rules in
-    let less : part.0 < length c.fill.new.to = part.2 in
-    passed _ _ _ _ c.from_residual.ensures.1 (stops_reading run.charset room (in_status tokens) a b run.payload.now.place sink run.description.now run.sink.now.failed c.in_err-fill.field-0.0 running.sink.ready.2 running.sink.writing (record { bytes = holds.bytes; peak = holds.peak })
-    (token_cut run.charset room (in_status tokens) a b run.payload.now.place 4 part.0 c.fill.new.to part.1 c.in_err-fill.field-0.0 refl refl (omega (arith, less, four)) four part.3 part.4))
+-- the report with one more status, but for what was written
+status_report : (ts : List Token) (n : ℕ) → report_of (ts ++ ReturnStatus n ∷ []) ≡ record (report_of ts) { return_status = Some (signed n); written = length (text (ts ++ ReturnStatus n ∷ [])) }
+status_report ts n =
+    let t = ReturnStatus n in
+    rw (
+      uncounted is_set ts t refl,
+      uncounted is_row ts t refl,
+      uncounted is_error ts t refl,
+      uncounted is_info ts t refl,
+      uncounted is_return ts t refl,
+      unerring ts t refl,
+      status_after-append None ts (t ∷ []),
+    ) refl
 
-pub returns-clause-gives : goal.returns-clause-gives
-returns-clause-gives g c = λ tokens tracks holds noted.
-    let run = c.args.self.now in
-    let a = seen g.R.Read.remaining run.payload.now in
-    let b = seen g.R.Read.remaining c.fill.new.self in
-    let four : length c.fill.new.to ≡ 4 = search rules in
-    let kept : cast_signed w32 (cast_unsigned w32 c.read_i32-status.result) ≡ c.read_i32-status.result = search rules in
-    quietly _ _ _ _ _ _ _ _ _ _ _ _ run.notice.now tracks noted refl
-    (status_reads run.charset run.description.now.room run.description.now (held g.W.Write.contents run.sink.now) tokens run.progress (cast_signed w32 (cast_unsigned w32 c.read_i32-status.result)) c.fill.new.to a b run.payload.now.place c.fill.new.self.place c.in_ok-fill.ensures.place
-    c.requires.running.sink.ready.2 tracks holds four (kept ∙ c.read_i32-status.ensures) c.in_ok-fill.ensures.all)
+tracks_status : (s : Progress) (ts : List Token) (n : ℕ) (status : ℤ) → status ≡ signed n → TracksBefore s ts → Tracks (record s { report = record s.report { return_status = Some status } }) (ts ++ ReturnStatus n ∷ [])
+tracks_status s ts n status e k =
+    let t = ReturnStatus n in
+    tracks_bare s ts t (record s.report { return_status = Some status }) s.is_final refl (ap (λ (r : Report). record r { return_status = Some status; written = length (text (ts ++ t ∷ [])) }) k.report ∙ ap (λ z. record (report_of ts) { return_status = Some z; written = length (text (ts ++ t ∷ [])) }) e ∙ sym (status_report ts n)) k.final k
+
+pub returns-in_err-fill : goal.returns-in_err-fill
+returns-in_err-fill g c = record {
+  leaves = search rules;
+  reads = λ tokens tracks holds noted.
+      let run = c.args.self.now in
+      let running = c.requires.running in
+      let four : length c.fill.new.to ≡ 4 = search rules in
+      passed _ _ _ _ c.from_residual.ensures.1 (fill_stops run.charset run.description.now.room (in_status tokens) (seen g.R.Read.remaining run.payload.now) (seen g.R.Read.remaining c.fill.new.self) run.payload.now.place 4 c.fill.new.to (held g.W.Write.contents run.sink.now) run.description.now run.sink.now.failed c.in_err-fill.field-0.0
+      refl refl four running.sink.ready.2 running.sink.writing (record { bytes = holds.bytes; peak = holds.peak }) (c.in_err-fill.ensures.part running.payload.going));
+}
+
+pub returns : goal.returns
+returns g c = record {
+  leaves = search rules;
+  reads = λ tokens tracks holds noted.
+      let run = c.args.self.now in
+      let a = seen g.R.Read.remaining run.payload.now in
+      let b = seen g.R.Read.remaining c.fill.new.self in
+      let fields = c.fill.new.to in
+      let four : length fields ≡ 4 = search rules in
+      let status : ℤ = cast_signed w32 (cast_unsigned w32 c.read_i32-status.result) in
+      let kept : status ≡ c.read_i32-status.result = search rules in
+      let is : status ≡ signed (little fields) = kept ∙ c.read_i32-status.ensures ∙ signed_is (little_number 4 fields) ∙ ap (λ n. signed (little_number n fields)) (sym four) in
+      quietly _ _ _ _ _ _ _ _ _ _ _ _ run.notice.now tracks noted refl
+      (fixed_reads run.charset run.description.now.room run.description.now (held g.W.Write.contents run.sink.now) tokens AStatus _ fields a b run.payload.now.place c.fill.new.self.place c.in_ok-fill.ensures.place
+      c.requires.running.sink.ready.2 (tracks_status run.progress tokens (little fields) status is tracks) holds four c.in_ok-fill.ensures.all);
+}

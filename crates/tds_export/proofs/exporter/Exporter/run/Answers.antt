@@ -24,10 +24,10 @@ tokens-preserved g c = record {
   same = search rules;
   same_payload = search rules;
   same_sink = search rules;
-  room = c.in_ok-token.ensures.leaves.room ∙ c.tokens.invariant.room;
-  token = c.in_ok-token.ensures.leaves.token ∙ c.tokens.invariant.token;
-  notice = c.in_ok-token.ensures.leaves.notice ∙ c.tokens.invariant.notice;
-  small = c.in_ok-token.ensures.leaves.small ∙ c.tokens.invariant.small;
+  room = c.in_ok-token.ensures.leaves.areas.description ∙ c.tokens.invariant.room;
+  token = c.in_ok-token.ensures.leaves.areas.token.room ∙ c.tokens.invariant.token;
+  notice = c.in_ok-token.ensures.leaves.areas.notice.room ∙ c.tokens.invariant.notice;
+  small = c.in_ok-token.ensures.leaves.areas.small.room ∙ c.tokens.invariant.small;
   forward = omega (arith, c.tokens.invariant.forward, c.in_ok-token.ensures.leaves.forward);
   runs = λ tracks empty noted.
       let x = c.tokens.invariant.runs tracks empty noted in
@@ -76,13 +76,12 @@ returns-clause-leaves g c =
       same = search rules;
       payload = record { sound = running.payload.sound; same = search rules; going = running.payload.going };
       sink = record { ready = c.in_ok-finish.ensures.ready; same = search rules; writing = c.in_ok-finish.ensures.failed };
-      room = c.in_ok-token.ensures.leaves.room ∙ c.tokens.invariant.room;
-      token = c.in_ok-token.ensures.leaves.token ∙ c.tokens.invariant.token;
-      notice = c.in_ok-token.ensures.leaves.notice ∙ c.tokens.invariant.notice;
-      small = c.in_ok-token.ensures.leaves.small ∙ c.tokens.invariant.small;
-      token_peak = running.token_peak;
-      notice_peak = running.notice_peak;
-      small_peak = running.small_peak;
+      areas = record {
+        description = c.in_ok-token.ensures.leaves.areas.description ∙ c.tokens.invariant.room;
+        token = record { room = c.in_ok-token.ensures.leaves.areas.token.room ∙ c.tokens.invariant.token; peak = running.token_peak };
+        notice = record { room = c.in_ok-token.ensures.leaves.areas.notice.room ∙ c.tokens.invariant.notice; peak = running.notice_peak };
+        small = record { room = c.in_ok-token.ensures.leaves.areas.small.room ∙ c.tokens.invariant.small; peak = running.small_peak };
+      };
       forward = omega (arith, c.tokens.invariant.forward, c.in_ok-token.ensures.leaves.forward);
       running = record {
         payload = running.payload;

@@ -1,9 +1,9 @@
-use Rattle.std.proofs.Common.{◌≡◌, ◌∙◌, ◌<◌, length, refl, arith, rules}
+use Rattle.std.proofs.Common.{◌≡◌, ◌∙◌, length, refl, rules}
 use Rattle.tds_packet.specs.Payloads.{seen}
 use Rattle.tds_csv.specs.Sinks.{held}
 use Rattle.tds_export.specs.Steps.{in_length}
 use Rattle.tds_export.proofs.Bodies.{body_reads, body_stops}
-use Rattle.tds_export.proofs.TokenSteps.{stops_reading, token_cut}
+use Rattle.tds_export.proofs.TokenSteps.{fill_stops}
 use Rattle.tds_export.proofs.NoticeSteps.{quietly}
 use Rattle.tds_packet.proofs.Passing.{passed}
 use Rattle.tds_export.proofs.exporter.Exporter.skip.Goals as goal
@@ -11,16 +11,10 @@ use Rattle.tds_export.proofs.exporter.Exporter.skip.Goals as goal
 pub returns-in_err-fill-clause-gives : goal.returns-in_err-fill-clause-gives
 returns-in_err-fill-clause-gives g c = λ which quiet tokens tracks holds noted.
     let run = c.args.self.now in
-    let sink = held g.W.Write.contents run.sink.now in
-    let room = run.description.now.room in
-    let a = seen g.R.Read.remaining run.payload.now in
-    let b = seen g.R.Read.remaining c.fill.new.self in
     let running = c.requires.running in
-    let part = c.in_err-fill.ensures.part running.payload.going in
     let two : length c.fill.new.to ≡ 2 = search rules in
-    let less : part.0 < length c.fill.new.to = part.2 in
-    passed _ _ _ _ c.from_residual.ensures.1 (stops_reading run.charset room (in_length which tokens) a b run.payload.now.place sink run.description.now run.sink.now.failed c.in_err-fill.field-0.0 running.sink.ready.2 running.sink.writing (record { bytes = holds.bytes; peak = holds.peak })
-    (token_cut run.charset room (in_length which tokens) a b run.payload.now.place 2 part.0 c.fill.new.to part.1 c.in_err-fill.field-0.0 refl refl (omega (arith, less, two)) two part.3 part.4))
+    passed _ _ _ _ c.from_residual.ensures.1 (fill_stops run.charset run.description.now.room (in_length which tokens) (seen g.R.Read.remaining run.payload.now) (seen g.R.Read.remaining c.fill.new.self) run.payload.now.place 2 c.fill.new.to (held g.W.Write.contents run.sink.now) run.description.now run.sink.now.failed c.in_err-fill.field-0.0
+    refl refl two running.sink.ready.2 running.sink.writing (record { bytes = holds.bytes; peak = holds.peak }) (c.in_err-fill.ensures.part running.payload.going))
 
 pub returns-in_err-pass-clause-gives : goal.returns-in_err-pass-clause-gives
 returns-in_err-pass-clause-gives g c = λ which quiet tokens tracks holds noted.

@@ -12,7 +12,7 @@ overflow_sub-result g c =
     let bytes = c.bytes-2.result.now in
     let is : bytes ≡ kept ++ piece = c.bytes-2.ensures.value ∙ c.extend-2.ensures ∙ ap (λ l. l ++ piece) (c.extend.ensures ∙ ap (λ l. l ++ c.bytes.result.now) c.new-seam.ensures ∙ c.bytes.ensures.value) in
     let found = rw c.in-Err-BadText.field-0-is at c.in-Err-BadText.ensures in
-    subst (λ l. length l ≤ c.in-Err-BadText.good) (sym c.bytes-kept.ensures.value) (behind_kept kept piece bytes c.in-Err-BadText.good is c.requires.begun found.gives.bad)
+    subst (λ l. length l ≤ c.in-Err-BadText.good) (sym c.bytes-kept.ensures.value) (behind_kept kept piece bytes c.in-Err-BadText.good is c.requires.taking.begun found.gives.bad)
 
 pub returns-in-Err-BadText : goal.returns-in-Err-BadText
 returns-in-Err-BadText g c =
@@ -26,4 +26,4 @@ returns-in-Err-BadText g c =
     let is : bytes ≡ kept ++ piece = c.bytes-2.ensures.value ∙ c.extend-2.ensures ∙ ap (λ l. l ++ piece) (c.extend.ensures ∙ ap (λ l. l ++ c.bytes.result.now) c.new-seam.ensures ∙ c.bytes.ensures.value) in
     let found = rw c.in-Err-BadText.field-0-is at c.in-Err-BadText.ensures in
     subst (λ l. PushesPiece {U = Unit {0}} contents utf8.Begins utf8.rest utf8.text kept new a b piece (Err (BadText (c.in-Err-BadText.good - length l)))) (sym c.bytes-kept.ensures.value)
-    (pushes_seam contents a b kept piece bytes new c.in-Err-BadText.good is c.requires.begun found)
+    (pushes_seam contents a b kept piece bytes new c.in-Err-BadText.good is c.requires.taking.begun found)
