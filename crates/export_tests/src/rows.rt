@@ -2,11 +2,12 @@
 // writers that fail in them. `examples/worked.txt` has more rows, by the program.
 ghost use Rattle.std.specs.Prelude.{◌≡◌, ◌≤◌, None, [], true, length};
 ghost use Rattle.tds_columns.specs.View.{IsDescription};
-ghost use Rattle.tds_packet.specs.Payloads.{IsOnSame, IsSound};
+ghost use Rattle.tds_csv.specs.Sinks.{IsReady, IsWriting};
+ghost use Rattle.tds_packet.specs.Payloads.{IsGoing, IsOnSame, IsSound};
 
 use crate::checks::{expect, expect_at};
 use std::alloc::{AllocError, Global};
-use std::io::Read;
+use std::io::{Read, Write};
 use std::test::Fail;
 use tds_columns::{Columns, Described, gather};
 use tds_csv::Sink;
@@ -68,26 +69,38 @@ struct Outcome {
     place: u64,
 }
 
+// Puts a column of a type, without a name.
+fn put_column(payload: &mut Vec<u8>, info: &[u8]) -> Result<(), AllocError> {
+    payload.extend_from_slice(&[0; 6])?;
+    payload.extend_from_slice(info)?;
+    payload.push(0)?;
+    Ok(())
+}
+
 // The description of these columns, without names, and a row after it.
 fn payload_of(alloc: Global, columns: &[&[u8]], row: &[u8]) -> Result<Vec<u8>, AllocError> {
     let mut payload = Vec::new(alloc);
-    payload.extend_from_slice(&(columns.len().min(0xFFFF) as u16).to_le_bytes())?;
+    payload.push(columns.len().min(0xFF) as u8)?;
+    payload.push(0)?;
     for info in columns {
-        payload.extend_from_slice(&[0; 6])?;
-        payload.extend_from_slice(info)?;
-        payload.push(0)?;
+        put_column(&mut payload, info)?;
     }
     payload.extend_from_slice(row)?;
     Ok(payload)
+}
+
+// Puts a packet that isn't the last.
+fn put_packet(wire: &mut Vec<u8>, body: &[u8]) -> Result<(), AllocError> {
+    let [high, low] = ((8 + body.len().min(4096)) as u16).to_be_bytes();
+    wire.extend_from_slice(&[0x04, 0x00, high, low, 0x00, 0x00, 0x01, 0x00])?;
+    wire.extend_from_slice(body)
 }
 
 // The payload in packets of `size` bytes of it, and an empty last one.
 fn in_packets(alloc: Global, payload: &[u8], size: usize) -> Result<Vec<u8>, AllocError> {
     let mut wire = Vec::new(alloc);
     for body in payload.chunks(size.max(1)) {
-        let length = ((8 + body.len()).min(0xFFFF) as u16).to_be_bytes();
-        wire.extend_from_slice(&[0x04, 0x00, length[0], length[1], 0x00, 0x00, 0x01, 0x00])?;
-        wire.extend_from_slice(body)?;
+        put_packet(&mut wire, body)?;
     }
     wire.extend_from_slice(&[0x04, 0x01, 0x00, 0x08, 0x00, 0x00, 0x01, 0x00])?;
     Ok(wire)
@@ -116,6 +129,32 @@ fn length_behind(bytes: &[u8], end: &[u8]) -> Option<usize> {
         Some(bytes.len())
     } else {
         None
+    }
+}
+
+// Reads what follows a token byte.
+fn read_token<R: Read, W: Write>(
+    token: Token,
+    payload: &mut Payload<R>,
+    columns: Columns,
+    bitmap: &mut Area,
+    small: &mut Area,
+    sink: &mut Sink<W>,
+) -> Result<(), Stop>
+    requires going { IsGoing payload.old }
+    requires writing { IsWriting sink.old }
+    requires bits { 8192 ≤ bitmap.old.room }
+    requires room { SMALL_ROOM ≤ small.old.room }
+    ensures { IsReady sink.new }
+{
+    let charset = Charset::Windows1252;
+    match token {
+        Token::Row => row(payload, columns, charset, small, sink),
+        Token::Rows => match read_rows(payload, columns, charset, small, sink) {
+            Ok(_) => Ok(()),
+            Err(stop) => Err(stop),
+        },
+        Token::NbcRow => nbc_row(payload, columns, charset, bitmap, small, sink),
     }
 }
 
@@ -162,25 +201,14 @@ fn run_metered(
     }
     sink.put(&FILLER[..waiting.min(4095)])?;
     let columns = Columns::view(description.bytes());
-    if columns.count() == 0 {
-        return Err(Fail::from(AllocError));
-    }
-    let charset = Charset::Windows1252;
-    let answer = match token {
-        Token::Row => row(&mut payload, columns, charset, &mut small, &mut sink),
-        Token::Rows => match read_rows(&mut payload, columns, charset, &mut small, &mut sink) {
-            Ok(_) => Ok(()),
-            Err(stop) => Err(stop),
-        },
-        Token::NbcRow => nbc_row(
-            &mut payload,
-            columns,
-            charset,
-            &mut bitmap,
-            &mut small,
-            &mut sink,
-        ),
-    };
+    let answer = read_token(
+        token,
+        &mut payload,
+        columns,
+        &mut bitmap,
+        &mut small,
+        &mut sink,
+    );
     let place = payload.place().saturating_sub(start);
     let _ = sink.finish();
     let outcome = Outcome {

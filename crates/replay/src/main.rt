@@ -6,11 +6,6 @@
 ghost use Rattle.std.specs.Prelude.{IfOk};
 ghost use Rattle.tds_arguments.specs.Jobs.{IsInRange};
 
-#[cfg(test)]
-mod checks;
-#[cfg(test)]
-mod tests;
-
 use std::alloc::AllocError;
 use std::env;
 use std::env::Args;

@@ -175,15 +175,17 @@ const FACE: [Element; 18] = [
     Element(b"\0\0\0\0\0\0\0\0\0\0\0\0", b""),
 ];
 
-// The elements of a response, and its character set.
-const RESPONSES: [(&[Element], Charset); 6] = [
-    (&EVERY_TOKEN, Charset::Windows1252),
-    (&ONE_INT, Charset::Windows1252),
-    (&MONEY, Charset::Windows1252),
-    (&PAIR, Charset::Windows1252),
-    (&FACE, Charset::Windows1252),
-    (&NARROW, Charset::Utf8),
-];
+// The elements of each response, and its character set. They come by a call, so that no proof reads the tables.
+fn responses() -> [(&'static [Element], Charset); 6] {
+    [
+        (&EVERY_TOKEN, Charset::Windows1252),
+        (&ONE_INT, Charset::Windows1252),
+        (&MONEY, Charset::Windows1252),
+        (&PAIR, Charset::Windows1252),
+        (&FACE, Charset::Windows1252),
+        (&NARROW, Charset::Utf8),
+    ]
+}
 
 // The elements' bytes in packets of one byte each.
 fn wire_of(alloc: Global, elements: &[Element]) -> Result<Vec<u8>, AllocError> {
@@ -286,8 +288,8 @@ fn check_response(
 #[test]
 fn devices_fail_behind_each_byte(rt: HostRuntime) -> Result<(), Fail> {
     let mut areas = make_areas(rt.alloc(), PACKET_SIZE)?;
-    for (elements, charset) in &RESPONSES {
-        check_response(rt.alloc(), &mut areas, elements, *charset)?;
+    for (elements, charset) in responses() {
+        check_response(rt.alloc(), &mut areas, elements, charset)?;
     }
     Ok(())
 }

@@ -10,36 +10,48 @@ const VAST: [u8; 41] = [
     0x05,
 ];
 
-// The header of a packet of 410 bytes, the last; and the terminator and a DONE in its end.
-const LAST: [u8; 8] = [0x04, 0x01, 0x01, 0x9A, 0x00, 0x00, 0x01, 0x00];
+// The header of a packet of 512 bytes.
+const HEADER: &[u8] = &[0x04, 0x00, 0x02, 0x00, 0x00, 0x00, 0x01, 0x00];
 
-const END: [u8; 17] = [0, 0, 0, 0, 0xFD, 0, 0, 0, 0, 0, 0, 0, 0, 0, 0, 0, 0];
+// The header of a packet of 410 bytes, the last; and the terminator and a DONE in its end.
+const LAST: &[u8] = &[0x04, 0x01, 0x01, 0x9A, 0x00, 0x00, 0x01, 0x00];
+
+const END: &[u8] = &[0, 0, 0, 0, 0xFD, 0, 0, 0, 0, 0, 0, 0, 0, 0, 0, 0, 0];
+
+// Bytes, and after them as many of one byte as make `n` in all.
+fn filled(alloc: Global, bytes: &[u8], n: usize, byte: u8) -> Result<Vec<u8>, AllocError> {
+    let mut all = bytes.to_vec(alloc)?;
+    all.resize(n, byte)?;
+    Ok(all)
+}
 
 // What came of so many packets of 504 quotes between the first, with 471 of them, and the last, with 385.
-fn run_vast(areas: &mut Areas, times: u64, to: ScriptedWriter, text: &[u8]) -> Option<Repeated> {
-    let mut first = [b'"'; 512];
-    first[..41].copy_from_slice(&VAST);
-    let mut again = [b'"'; 512];
-    again[..8].copy_from_slice(&VAST[..8]);
-    let mut last = [b'"'; 410];
-    last[..8].copy_from_slice(&LAST);
-    last[393..].copy_from_slice(&END);
+fn run_vast(
+    alloc: Global,
+    areas: &mut Areas,
+    times: u64,
+    to: ScriptedWriter,
+    text: &[u8],
+) -> Result<Option<Repeated>, AllocError> {
+    let first = filled(alloc, &VAST, 512, b'"')?;
+    let again = filled(alloc, HEADER, 512, b'"')?;
+    let mut last = filled(alloc, LAST, 393, b'"')?;
+    last.extend_from_slice(END)?;
     let from = RepeatingReader::new(&first, &again, times, &last);
-    run_repeated(areas, from, to, text)
+    Ok(run_repeated(areas, from, to, text))
 }
 
 // The header line, and as many quotes as the first two blocks have.
-fn vast_text() -> [u8; 8192] {
-    let mut text = [b'"'; 8192];
-    text[..5].copy_from_slice(b"\"t\"\r\n");
-    text
+fn vast_text(alloc: Global) -> Result<Vec<u8>, AllocError> {
+    filled(alloc, b"\"t\"\r\n", 8192, b'"')
 }
 
 #[test]
 fn a_vast_value_is_written_in_little_room(rt: HostRuntime) -> Result<(), Fail> {
     let mut areas = make_areas(rt.alloc(), 512)?;
     let to = ScriptedWriter::new(4096, Failing::Never);
-    let came = run_vast(&mut areas, 198_411, to, &vast_text());
+    let text = vast_text(rt.alloc())?;
+    let came = run_vast(rt.alloc(), &mut areas, 198_411, to, &text)?;
     let want = Repeated {
         answer: Ok(report(1, 1, 200_000_009)),
         taken: 200_000_009,
@@ -52,11 +64,10 @@ fn a_vast_value_is_written_in_little_room(rt: HostRuntime) -> Result<(), Fail> {
 
 // The first 20 packets.
 fn front_of_vast(alloc: Global) -> Result<Vec<u8>, AllocError> {
-    let mut wire = VAST.to_vec(alloc)?;
-    wire.resize(512, b'"')?;
+    let mut wire = filled(alloc, &VAST, 512, b'"')?;
+    let packet = filled(alloc, HEADER, 512, b'"')?;
     for _ in 1..20 {
-        wire.extend_from_slice(&VAST[..8])?;
-        wire.resize(wire.len().saturating_add(504), b'"')?;
+        wire.extend_from_slice(&packet)?;
     }
     Ok(wire)
 }
@@ -66,8 +77,8 @@ fn front_of_vast(alloc: Global) -> Result<Vec<u8>, AllocError> {
 fn a_vast_value_is_read_no_further_than_written(rt: HostRuntime) -> Result<(), Fail> {
     let mut areas = make_areas(rt.alloc(), 512)?;
     let wire = front_of_vast(rt.alloc())?;
-    let text = vast_text();
-    let waiting = &text[4096..];
+    let text = vast_text(rt.alloc())?;
+    let (_, waiting) = text.split_at(text.len().min(4096));
     let from = ScriptedReader::new(&wire, 1000);
     let to = ScriptedWriter::new(4096, Failing::AtWrite(2));
     let out = run(&mut areas, from, to, Charset::Windows1252, &text);
@@ -96,8 +107,7 @@ const LAST_PACKET: &[u8] = &[
 
 // The text of a value of n times x, in one chunk of a row of varchar(max).
 fn text_of(alloc: Global, n: usize) -> Result<Vec<u8>, AllocError> {
-    let mut text = b"\"t\"\r\n\"".to_vec(alloc)?;
-    text.resize(n.saturating_add(6), b'x')?;
+    let mut text = filled(alloc, b"\"t\"\r\n\"", n.saturating_add(6), b'x')?;
     text.extend_from_slice(b"\"\r\n")?;
     Ok(text)
 }

@@ -1,10 +1,15 @@
 // Rows with a bitmap of the columns that are NULL, and where reading them stops.
+ghost use Rattle.std.specs.Prelude.{◌≡◌, ◌≤◌, IfOk};
+ghost use Rattle.tds_csv.specs.Sinks.{IsReady, IsWriting};
+ghost use Rattle.tds_packet.specs.Payloads.{IsGoing};
+
 use super::{
     Good, INT4, INT4_N, NINE, NINE_TEXT, Outcome, Token, describe, described, in_packets,
     payload_of, usual_writer,
 };
 use crate::checks::expect_at;
 use std::alloc::{AllocError, Global};
+use std::io::{Read, Write};
 use std::test::Fail;
 use tds_columns::Columns;
 use tds_csv::Sink;
@@ -170,6 +175,47 @@ const THREE_ROWS: &[u8] = &[
 
 const THREE_TEXT: &[u8] = b"42,NULL\r\n7,8\r\nNULL,NULL\r\n";
 
+// Reads rows as far as they are in the packet, and answers how many they are.
+fn read_some<R: Read, W: Write>(
+    payload: &mut Payload<R>,
+    columns: Columns,
+    bits: &mut Area,
+    small: &mut Area,
+    sink: &mut Sink<W>,
+) -> Result<u64, Stop>
+    requires going { IsGoing payload.old }
+    requires writing { IsWriting sink.old }
+    requires bits { 8192 ≤ bits.old.room }
+    requires small { SMALL_ROOM ≤ small.old.room }
+    ensures going { IfOk result (λ _. IsGoing payload.new) }
+    ensures writing { IfOk result (λ _. IsWriting sink.new) }
+    ensures ready { IsReady sink.new }
+    ensures bits { bits.new.room ≡ bits.old.room }
+    ensures small { small.new.room ≡ small.old.room }
+{
+    read_nbc_rows(payload, columns, Charset::Windows1252, bits, small, sink)
+}
+
+// Reads rows to the end of a packet, a byte, and rows again.
+fn read_twice<R: Read, W: Write>(
+    payload: &mut Payload<R>,
+    columns: Columns,
+    bits: &mut Area,
+    small: &mut Area,
+    sink: &mut Sink<W>,
+) -> Result<(u64, u8, u64), Stop>
+    requires going { IsGoing payload.old }
+    requires writing { IsWriting sink.old }
+    requires bits { 8192 ≤ bits.old.room }
+    requires small { SMALL_ROOM ≤ small.old.room }
+    ensures { IsReady sink.new }
+{
+    let first = read_some(payload, columns, bits, small, sink)?;
+    let token = payload.next()?;
+    let second = read_some(payload, columns, bits, small, sink)?;
+    Ok((first, token, second))
+}
+
 #[test]
 fn nbc_rows_are_read_to_the_end_of_a_packet(rt: HostRuntime) -> Result<(), Fail> {
     let bytes = payload_of(rt.alloc(), TWO, THREE_ROWS)?;
@@ -187,14 +233,8 @@ fn nbc_rows_are_read_to_the_end_of_a_packet(rt: HostRuntime) -> Result<(), Fail>
         return Err(Fail::from(AllocError));
     }
     let columns = Columns::view(area.bytes());
-    let set = Charset::Windows1252;
-    let rows = read_nbc_rows(&mut payload, columns, set, &mut bits, &mut small, &mut sink)?;
-    assert!(rt; rows == 2);
-    let mut token = [0u8; 1];
-    payload.fill(&mut token)?;
-    assert!(rt; token[0] == NBCROW);
-    let rows = read_nbc_rows(&mut payload, columns, set, &mut bits, &mut small, &mut sink)?;
-    assert!(rt; rows == 1);
+    let rows = read_twice(&mut payload, columns, &mut bits, &mut small, &mut sink)?;
+    assert!(rt; rows == (2, NBCROW, 1));
     let _ = sink.finish();
     assert!(rt; to.device().kept() == THREE_TEXT);
     Ok(())

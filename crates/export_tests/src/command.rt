@@ -7,6 +7,7 @@ mod lines;
 mod words;
 
 use crate::checks::expect;
+use crate::export::{TEXT, WIRE};
 use csv::{ByteRecord, ReaderBuilder};
 use std::alloc::{AllocError, Global};
 use std::process::Abort;
@@ -16,15 +17,6 @@ use tds_meter::Limits;
 use tds_packet::Counted;
 use tds_packet::rig::{Failing, ScriptedReader, ScriptedWriter};
 use tds_replay::{Job, Usage, parse, perform, say_usage};
-
-// A column of numbers named a, a row of 42, and a DONE, in one packet.
-const WIRE: [u8; 39] = [
-    0x04, 0x01, 0x00, 0x27, 0x00, 0x00, 0x01, 0x00, 0x81, 0x01, 0x00, 0x00, 0x00, 0x00, 0x00, 0x08,
-    0x00, 0x38, 0x01, 0x61, 0x00, 0xD1, 0x2A, 0x00, 0x00, 0x00, 0xFD, 0x10, 0x00, 0xC1, 0x00, 0x01,
-    0x00, 0x00, 0x00, 0x00, 0x00, 0x00, 0x00,
-];
-
-const TEXT: &[u8] = b"\"a\"\r\n42\r\n";
 
 // A line of words.
 fn words_of(alloc: Global, line: &[&str]) -> Result<Vec<String>, AllocError> {
