@@ -1,7 +1,7 @@
 // The text of a scalar value in its line.
 ghost use Rattle.std.specs.Prelude.{◌≡◌, ◌≤◌, length, take};
 ghost use Rattle.tds_csv.specs.Quoting.{in_line, null_field};
-ghost use Rattle.tds_csv.specs.Sinks.{IsWriting, PutsPiece};
+ghost use Rattle.tds_csv.specs.Sinks.{IsReady, PutsPiece};
 ghost use Rattle.tds_rows.specs.CellSteps.{IsValueText};
 ghost use Rattle.tds_values.specs.declared.kind.Kind.TheVariants.{IntN};
 
@@ -34,7 +34,7 @@ pub(crate) fn write_int4_field(column: u16, last: bool, bytes: &[u8], to: &mut [
 
 /// Puts NULL in its line.
 pub(crate) fn put_null<W: Write>(column: u16, last: bool, sink: &mut Sink<W>) -> Result<(), Stop>
-    requires { IsWriting sink.old }
+    requires { IsReady sink.old }
     ensures { PutsPiece W.contents sink.old sink.new (in_line column last null_field) result }
 {
     let mut text = [0u8; NULL_ROOM];
