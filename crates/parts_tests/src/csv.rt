@@ -144,17 +144,29 @@ fn the_first_bad_byte_is_told(rt: HostRuntime) -> Result<(), Fail> {
     same("an odd byte", &came, &(Err(JoinFault::Odd), true))
 }
 
-fn put_two_lines<W: Write>(sink: &mut Sink<'_, W>) -> Result<(), Stop>
+fn put_numbers<W: Write>(sink: &mut Sink<'_, W>) -> Result<(), Stop>
     requires { IsReady sink.old }
     ensures { IsReady sink.new }
 {
     sink.null()?;
     sink.comma()?;
     sink.plain(b"-12.50")?;
-    sink.comma()?;
+    sink.comma()
+}
+
+fn put_binary<W: Write>(sink: &mut Sink<'_, W>) -> Result<(), Stop>
+    requires { IsReady sink.old }
+    ensures { IsReady sink.new }
+{
     sink.open_binary()?;
     sink.put(b"0aff")?;
-    sink.line_end()?;
+    sink.line_end()
+}
+
+fn put_text<W: Write>(sink: &mut Sink<'_, W>) -> Result<(), Stop>
+    requires { IsReady sink.old }
+    ensures { IsReady sink.new }
+{
     sink.open_quoted()?;
     sink.put(b"a")?;
     sink.close_quoted()?;
@@ -166,7 +178,9 @@ fn the_fields_of_two_lines(rt: HostRuntime) -> Result<(), Fail> {
     let mut area = Area::new(rt.alloc(), 4096)?;
     let mut to = make_writer(Failing::Never);
     let mut sink = Sink::new(&mut to, &mut area);
-    put_two_lines(&mut sink)?;
+    put_numbers(&mut sink)?;
+    put_binary(&mut sink)?;
+    put_text(&mut sink)?;
     let waiting = sink.waiting();
     sink.finish()?;
     assert!(rt; (waiting, sink.delivered()) == (25, 25));
@@ -305,20 +319,23 @@ const fn write_failed(place: u64) -> Stop {
     }
 }
 
+fn wanted(row: &Delivery) -> Delivered {
+    let (finished, failures) = match row.place {
+        Some(place) => (Err(write_failed(place)), 1),
+        None => (Ok(()), 0),
+    };
+    Delivered {
+        at_once: row.at_once,
+        finished,
+        waiting: row.waiting,
+        failures,
+    }
+}
+
 #[test]
 fn a_block_is_delivered_at_once(rt: HostRuntime) -> Result<(), Fail> {
     for row in &DELIVERIES {
-        let (finished, failures) = match row.place {
-            Some(place) => (Err(write_failed(place)), 1),
-            None => (Ok(()), 0),
-        };
-        let want = Delivered {
-            at_once: row.at_once,
-            finished,
-            waiting: row.waiting,
-            failures,
-        };
-        expect(&rt, row.name, deliver(rt.alloc(), row)? == want);
+        expect(&rt, row.name, deliver(rt.alloc(), row)? == wanted(row));
     }
     Ok(())
 }
