@@ -1,6 +1,6 @@
 -- The elements of a description, as they are read into its area.
 use Rattle.std.proofs.Common.{◌≡◌, ◌≢◌, ◌∙◌, ℕ, ◌+◌, ◌*◌, ◌-◌, ◌<◌, ◌≤◌, List, [], ◌∷◌, ◌++◌, length, take, drop, max, refl, sym, ap, subst, arith, le_refl, length-append}
-use Rattle.std.specs.Prelude.{Some, None, Result, Ok, Err, MatchResult, is_some, ◌==◌, slice_index, unwrap_or, if◌then◌else◌}
+use Rattle.std.specs.Prelude.{Option, Some, None, Result, Ok, Err, MatchResult, OnOk, is_ok, is_some, ◌==◌, slice_index, unwrap_or, if◌then◌else◌}
 use Rattle.std.proofs.lemmas.Bool.{ne_eqb}
 use Rattle.std.proofs.lemmas.Bool.Decides.{nat_tests}
 use Rattle.std.proofs.lemmas.List.{get_or-append-add}
@@ -22,7 +22,7 @@ use Rattle.tds_columns.specs.Description.{BeforeCount, ColumnHead, ColumnInfo, C
 use Rattle.tds_columns.specs.Elements.{TakesInto, EndsInto}
 use Rattle.tds_columns.specs.Gather.{Describes, StopsDescribing}
 use Rattle.tds_columns.proofs.ColumnLaws.{fits_in}
-use Rattle.tds_columns.proofs.ColumnMeaning.{not_zero, room_for}
+use Rattle.tds_columns.proofs.ColumnMeaning.{not_long, not_zero, room_for}
 use Rattle.tds_columns.proofs.TypeSteps.{size_of}
 use Rattle.tds_packet.proofs.Steps.{began_is_cut, cut_at_once, reads_both, reads_none, reads_one, refused_at_once, stops_after}
 
@@ -278,7 +278,7 @@ units_some room index count units columns kind a b before after place place' num
     ∙ ap (λ l. InColumn l count columns (NameUnits kind (2 * units))) (sym (behind before e after t.stands)))
     refl refl (omega (arith, len)) (omega (arith, len)) at
 
-pub name_read : (room index count units : ℕ) (columns : List Column) (kind : Kind) (a b c : Seen) (before middle after : Space) (place place' place'' : ℕ) → length columns ≡ index → TakesInto a b before middle 1 → units ≡ slice_index middle.bytes (length before.bytes + 0)
+name_read : (room index count units : ℕ) (columns : List Column) (kind : Kind) (a b c : Seen) (before middle after : Space) (place place' place'' : ℕ) → length columns ≡ index → TakesInto a b before middle 1 → units ≡ slice_index middle.bytes (length before.bytes + 0)
     → too_long room (length before.bytes + 1) (2 * units + 8 * (count - (index + 1))) ≡ None → units ≢ 0 → place' ≡ place + 1 → TakesInto b c middle after (2 * units) → place'' ≡ place' + 2 * units
     → (column : Column) × Describes room (InColumn before.bytes count columns (NameCount kind)) a c place place'' before.peak after (with_column after.bytes count columns column)
 name_read room index count units columns kind a b c before middle after place place' place'' number t is free some at u at' =
@@ -297,13 +297,28 @@ name_read room index count units columns kind a b c before middle after place pl
     positive : (n : ℕ) → n ≢ 0 → 0 < 2 * n
     positive n h = omega (arith, h)
 
-pub name_cut : (room index count units : ℕ) (columns : List Column) (kind : Kind) (a b c : Seen) (before middle after : Space) (place place' : ℕ) (stop : Stop) → length columns ≡ index → TakesInto a b before middle 1 → units ≡ slice_index middle.bytes (length before.bytes + 0)
+name_cut : (room index count units : ℕ) (columns : List Column) (kind : Kind) (a b c : Seen) (before middle after : Space) (place place' : ℕ) (stop : Stop) → length columns ≡ index → TakesInto a b before middle 1 → units ≡ slice_index middle.bytes (length before.bytes + 0)
     → too_long room (length before.bytes + 1) (2 * units + 8 * (count - (index + 1))) ≡ None → units ≢ 0 → place' ≡ place + 1 → EndsInto b c middle after place' (2 * units) stop
     → StopsDescribing room (InColumn before.bytes count columns (NameCount kind)) a c place before.peak after stop
 name_cut room index count units columns kind a b c before middle after place place' stop number t is free some at e =
     stops_describing_after room (InColumn before.bytes count columns (NameCount kind)) (InColumn middle.bytes count columns (NameUnits kind (2 * units))) a b c place place' before.peak middle after stop
     (units_some room index count units columns kind a b before middle place place' number t is free some at)
     (description_cut room (InColumn middle.bytes count columns (NameUnits kind (2 * units))) b c middle after place' (2 * units) stop e refl refl refl refl)
+
+-- the name after its count is read, or is cut
+pub name_taken : {U : Type 0} (r : Result U Stop) (stopped : Option Stop) (room index count units : ℕ) (columns : List Column) (kind : Kind) (a b c : Seen) (before middle after : Space) (place place' place'' : ℕ) → length columns ≡ index → TakesInto a b before middle 1 → units ≡ slice_index middle.bytes (length before.bytes + 0)
+    → too_long room (length before.bytes + 1) (2 * units + 8 * (count - (index + 1))) ≡ None → units ≢ 0 → place' ≡ place + 1 → stopped ≡ None → place'' ≡ (if is_ok r then place' + 2 * units else place')
+    → MatchResult r (λ _. TakesInto b c middle after (2 * units)) (λ stop. stopped ≡ None → EndsInto b c middle after place' (2 * units) stop)
+    → MatchResult r (λ _. (column : Column) × Describes room (InColumn before.bytes count columns (NameCount kind)) a c place place'' before.peak after (with_column after.bytes count columns column)) (λ stop. StopsDescribing room (InColumn before.bytes count columns (NameCount kind)) a c place before.peak after stop)
+name_taken (Ok _) stopped room index count units columns kind a b c before middle after place place' place'' number t is free some at going at' u = name_read room index count units columns kind a b c before middle after place place' place'' number t is free some at u at'
+name_taken (Err stop) stopped room index count units columns kind a b c before middle after place place' place'' number t is free some at going at' e = name_cut room index count units columns kind a b c before middle after place place' stop number t is free some at (e going)
+
+-- and room is left for the columns that follow
+pub name_leaves : {U : Type 0} (r : Result U Stop) (stopped : Option Stop) (room room' units left : ℕ) (a b c : Seen) (before middle after : Space) (place : ℕ) → TakesInto a b before middle 1 → too_long room (length before.bytes + 1) (2 * units + 8 * left) ≡ None → room' ≡ room
+    → MatchResult r (λ _. TakesInto b c middle after (2 * units)) (λ stop. stopped ≡ None → EndsInto b c middle after place (2 * units) stop) → OnOk r (length after.bytes + 8 * left ≤ room')
+name_leaves (Ok _) stopped room room' units left a b c before middle after place t free same u =
+    omega (arith, longer before t.element middle 1 t.stands t.whole, longer middle u.element after (2 * units) u.stands u.whole, not_long room (length before.bytes + 1) (2 * units + 8 * left) free, same)
+name_leaves (Err _) stopped room room' units left a b c before middle after place t free same u = tt
 
 -- ---- columns, one after another
 

@@ -202,8 +202,7 @@ fn read_name<R: Read>(
     if size == 0 {
         return Ok(());
     }
-    take_into(payload, area, size)?;
-    Ok(())
+    take_into(payload, area, size)
 }
 
 // Reads a column.
