@@ -1,6 +1,6 @@
 -- Runs over cells by their forms, a cell after those that were written.
 use Rattle.std.proofs.Common.{◌≡◌, ◌≢◌, ◌∙◌, inl, inr, ℕ, zero, suc, ◌+◌, ◌-◌, ◌<◌, ◌≤◌, Bool, true, false, List, [], ◌∷◌, ◌++◌, length, take, drop, get_or, refl, sym, ap, subst, arith, append-nil, append_assoc, length-append}
-use Rattle.std.specs.Prelude.{◌==◌, ◌&&◌, ◌⊎◌, Option, Some, None, map, slice_set, if◌then◌else◌}
+use Rattle.std.specs.Prelude.{◌==◌, ◌&&◌, Option, Some, None, map, slice_set, if◌then◌else◌}
 use Rattle.std.proofs.lemmas.List.{drop_more, length-drop, length-map, length-take, length-take-le, take-append-le, take_all, take_more_set}
 use Rattle.std.proofs.lemmas.Bool.{ne_eqb}
 use Rattle.std.proofs.Math.Seq.{take-add}
@@ -10,15 +10,14 @@ use Rattle.tds_packet.proofs.Choices.{eq_false, eq_true}
 use Rattle.tds_columns.specs.Description.{Column}
 use Rattle.tds_columns.proofs.ViewLaws.{all_behind}
 use Rattle.tds_csv.specs.Conversion.{Conversion}
-use Rattle.tds_csv.specs.Fields.{field_room}
 use Rattle.tds_csv.specs.Quoting.{behind_comma, end_behind, in_line}
 use Rattle.tds_rows.specs.declared.Charset.{Charset}
 use Rattle.tds_rows.specs.declared.form.Form.{Form}
 use Rattle.tds_rows.specs.Cells.{cell_start, shape}
 use Rattle.tds_rows.specs.CellSteps.{IsLeft, WritesField, WritesKind, is_last, whole_size}
-use Rattle.tds_rows.specs.FormRuns.{AreNext, FieldsWritten, FirstLeft, FirstUsed, FirstWritten, WritesForms}
+use Rattle.tds_rows.specs.FormRuns.{AreNext, FieldsWritten, FirstUsed, FirstWritten, WritesForms}
 use Rattle.tds_rows.specs.MarkedRuns.{WritesColumn, WritesMarked}
-use Rattle.tds_rows.specs.ShortCells.{IsShortLeft, data_length, short_conversion}
+use Rattle.tds_rows.specs.ShortCells.{IsShortLeft, short_conversion}
 use Rattle.tds_rows.specs.WholeCells.{WritesWhole}
 use Rattle.tds_rows.proofs.LineTexts.{behind_some}
 use Rattle.tds_rows.proofs.RunSteps.{made_more, used_more}

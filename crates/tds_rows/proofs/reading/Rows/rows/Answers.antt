@@ -1,4 +1,4 @@
-use Rattle.std.proofs.Common.{◌+◌, ◌∙◌, ℕ, List, [], drop, refl, sym, ap, subst, arith, rules}
+use Rattle.std.proofs.Common.{◌+◌, ◌∙◌, ℕ, List, [], drop, refl, sym, ap, subst, arith}
 use Rattle.tds_values.specs.declared.kind.Kind.{Kind}
 use Rattle.tds_packet.specs.Payloads.{seen}
 use Rattle.tds_packet.proofs.Passing.{passed}

@@ -1,4 +1,4 @@
-use Rattle.std.proofs.Common.{◌+◌, ◌-◌, ◌<◌, ◌≤◌, List, [], drop}
+use Rattle.std.proofs.Common.{◌+◌, ◌-◌, ◌≤◌, List, [], drop}
 use Rattle.tds_columns.specs.Description.{Column}
 use Rattle.tds_csv.specs.Sinks.{held}
 use Rattle.tds_packet.specs.Payloads.{seen}
