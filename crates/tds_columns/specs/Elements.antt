@@ -34,7 +34,7 @@ pub record LeavesArea {U : Type 0} (before after : Space) (n : ℕ) (result : Re
   pub kept : OnErr result (KeepsBytes before after n)
 
 -- A call that reads into an area left the payload as each call does, and the area's room.
-pub record LeavesGathering {R U : Type 0} (old new : Payload R) (before after : Space) (result : Result U Stop) : Type 0 where
+pub record LeavesReading {R U : Type 0} (old new : Payload R) (before after : Space) (result : Result U Stop) : Type 0 where
   pub payload : LeavesPayload old new result
   pub room : after.room ≡ before.room
 

@@ -1,7 +1,7 @@
 // Reading a description from a payload (MS-TDS, COLMETADATA).
 ghost use Rattle.std.specs.Prelude.{◌≡◌, ◌≢◌, ◌+◌, ◌*◌, ◌-◌, ◌<◌, ◌≤◌, [], Some, Err, length, max, IfSome, MatchResult, OnErr, OnOk};
 ghost use Rattle.tds_columns.specs.Description as spec;
-ghost use Rattle.tds_columns.specs.Elements.{LeavesGathering};
+ghost use Rattle.tds_columns.specs.Elements.{LeavesReading};
 ghost use Rattle.tds_columns.specs.Gather.{ColumnRead, ColumnsRead, CountRead, DescriptionRead, FollowsType, InfoRead, NameRead, TypeRead};
 ghost use Rattle.tds_packet.specs.Elements.{AreBytes};
 ghost use Rattle.tds_packet.specs.Payloads.{IsGoing, IsSound, LeavesPayload};
@@ -70,7 +70,7 @@ fn read_count<R: Read>(payload: &mut Payload<R>, area: &mut Area) -> Result<Desc
     requires sound { IsSound payload.old }
     requires room { COUNT ≤ area.old.room }
     requires empty { area.old.bytes ≡ [] }
-    ensures leaves { LeavesGathering payload.old payload.new area.old area.new result }
+    ensures leaves { LeavesReading payload.old payload.new area.old area.new result }
     ensures gives { CountRead R.remaining payload.old payload.new area.old area.new result }
     ensures again { IfSome payload.old.stopped (λ stop. (result ≡ Err stop) × (payload.new ≡ payload.old)) }
 {
@@ -120,7 +120,7 @@ fn read_info<R: Read>(
     requires going { IsGoing payload.old }
     requires follows { FollowsType byte rest }
     requires fits { length area.old.bytes + rest ≤ area.old.room }
-    ensures leaves { LeavesGathering payload.old payload.new area.old area.new result }
+    ensures leaves { LeavesReading payload.old payload.new area.old area.new result }
     ensures length { OnOk result (length area.new.bytes ≡ length area.old.bytes + rest) }
     ensures gives { InfoRead R.remaining payload.old payload.new area.old area.new result index byte }
 {
@@ -149,7 +149,7 @@ fn read_type<R: Read>(
     requires going { IsGoing payload.old }
     requires among { index < count }
     requires fits { length area.old.bytes + LEAST_COLUMN * (count - index) ≤ area.old.room }
-    ensures leaves { LeavesGathering payload.old payload.new area.old area.new result }
+    ensures leaves { LeavesReading payload.old payload.new area.old area.new result }
     ensures fits { OnOk result (length area.new.bytes + 1 + LEAST_COLUMN * (count - (index + 1)) ≤ area.new.room) }
     ensures gives { TypeRead R.remaining payload.old payload.new area.old area.new result count index }
 {
@@ -183,7 +183,7 @@ fn read_name<R: Read>(
     requires going { IsGoing payload.old }
     requires among { index < count }
     requires fits { length area.old.bytes + 1 + LEAST_COLUMN * (count - (index + 1)) ≤ area.old.room }
-    ensures leaves { LeavesGathering payload.old payload.new area.old area.new result }
+    ensures leaves { LeavesReading payload.old payload.new area.old area.new result }
     ensures fits { OnOk result (length area.new.bytes + LEAST_COLUMN * (count - (index + 1)) ≤ area.new.room) }
     ensures gives { NameRead R.remaining payload.old payload.new area.old area.new result count index }
 {
@@ -215,7 +215,7 @@ fn read_column<R: Read>(
     requires going { IsGoing payload.old }
     requires among { index < count }
     requires fits { length area.old.bytes + LEAST_COLUMN * (count - index) ≤ area.old.room }
-    ensures leaves { LeavesGathering payload.old payload.new area.old area.new result }
+    ensures leaves { LeavesReading payload.old payload.new area.old area.new result }
     ensures fits { OnOk result (length area.new.bytes + LEAST_COLUMN * (count - (index + 1)) ≤ area.new.room) }
     ensures gives { ColumnRead R.remaining payload.old payload.new area.old area.new result count index }
 {
@@ -228,7 +228,7 @@ fn read_columns<R: Read>(payload: &mut Payload<R>, area: &mut Area, count: u16) 
     requires going { IsGoing payload.old }
     requires some { 0 < count }
     requires fits { length area.old.bytes + LEAST_COLUMN * count ≤ area.old.room }
-    ensures leaves { LeavesGathering payload.old payload.new area.old area.new result }
+    ensures leaves { LeavesReading payload.old payload.new area.old area.new result }
     ensures gives { ColumnsRead R.remaining payload.old payload.new area.old area.new result count }
 {
     'columns: for index in 0..count {

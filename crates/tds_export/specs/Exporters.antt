@@ -12,7 +12,7 @@ use Rattle.tds_rows.specs.declared.Charset.{Charset}
 use Rattle.tds_export.specs.declared.exporter.Exporter.{Exporter}
 use Rattle.tds_export.specs.declared.progress.Progress.{Progress}
 use Rattle.tds_export.specs.declared.report.Report.{Report}
-use Rattle.tds_export.specs.Lending.{LeavesAreas, Lent, lent}
+use Rattle.tds_export.specs.Lending.{KeepsRooms, Lent, lent}
 use Rattle.tds_export.specs.TokenGrammar.{Part, response, response_start}
 use Rattle.tds_export.specs.Steps.{Completes, StepStops, IsHolding, IsNoted, ReadsTokens, RunStops, Tracks, TracksBefore, behind}
 use Rattle.tds_export.specs.Tokens.{Token}
@@ -94,7 +94,7 @@ pub record LeavesRun {R W U : Type 0} (old new : Exporter R W) (result : Result 
   pub same : IsOnSameRun old new
   pub payload : LeavesPayload old.payload.now new.payload.now result
   pub sink : LeavesSink old.sink.now new.sink.now result
-  pub areas : LeavesAreas (lent_to old) (lent_to new)
+  pub areas : KeepsRooms (lent_to old) (lent_to new)
   pub forward : OnOk result (old.payload.now.place ≤ new.payload.now.place)
   pub running : OnOk result (IsRunning new)
 

@@ -6,7 +6,7 @@ ghost use Rattle.tds_export.specs.Steps.{IsRow, in_done, in_done_in_proc, in_kin
 ghost use Rattle.tds_export.specs.TokenGrammar.{AnError, AnInfo, Bodied, is_notice};
 ghost use Rattle.tds_export.specs.Exporters.{Advances, CanBegin, IsInToken, IsRunning, LeavesRun};
 ghost use Rattle.tds_export.specs.Exporters.{BodyRead, ResponseRead, StepRead, TokenRead, WholeRead, view};
-ghost use Rattle.tds_export.specs.Lending.{LeavesAreas, lent};
+ghost use Rattle.tds_export.specs.Lending.{KeepsRooms, lent};
 ghost use Rattle.tds_packet.specs.Payloads.{LeavesPayload};
 
 use crate::notice::{error_of, message_of, take_notice};
@@ -257,7 +257,7 @@ pub(crate) fn read_response<R: Read, W: Write>(
     requires { CanBegin payload.old sink.old description.old token.old notice.old small.old }
     ensures payload { LeavesPayload payload.old payload.new result }
     ensures sink { LeavesSink sink.old sink.new result }
-    ensures areas { LeavesAreas (lent description.old token.old notice.old small.old)
+    ensures areas { KeepsRooms (lent description.old token.old notice.old small.old)
         (lent description.new token.new notice.new small.new) }
     ensures gives { let at = view R.remaining W.contents in
         ResponseRead charset (at payload.old sink.old description.old notice.old)

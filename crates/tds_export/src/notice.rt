@@ -1,10 +1,11 @@
 // The bodies of ERROR and INFO (MS-TDS, ERROR and INFO).
 ghost use Rattle.std.specs.Prelude.{◌≡◌, ◌%◌, ◌<◌, ◌≤◌, length, OnOk};
-ghost use Rattle.tds_export.specs.Lending.{LeavesArea, LeavesFurther};
+ghost use Rattle.tds_export.specs.Lending.{LeavesFurther};
 ghost use Rattle.tds_export.specs.Noticing.{NoticeRead};
 ghost use Rattle.tds_export.specs.Outcome.{server_error};
 ghost use Rattle.tds_export.specs.TokenGrammar.{IsNoticeBody, holds_notice, line_at, notice_of, procedure_at, server_at};
 ghost use Rattle.tds_packet.specs.Payloads.{IsGoing};
+ghost use Rattle.tds_packet.specs.Reads.{KeepsRoom};
 
 use crate::report::ServerError;
 use byteorder::{ByteOrder, LittleEndian};
@@ -89,7 +90,7 @@ pub(crate) fn take_notice<R: Read>(payload: &mut Payload<R>, token: &mut Area) -
     requires going { IsGoing payload.old }
     requires room { 65535 ≤ token.old.room }
     ensures leaves { LeavesFurther payload.old payload.new result }
-    ensures area { LeavesArea token.old token.new }
+    ensures area { KeepsRoom token.old token.new }
     ensures body { OnOk result (IsNoticeBody token.new.bytes) }
     ensures gives { NoticeRead R.remaining payload.old payload.new token.new.bytes result }
 {

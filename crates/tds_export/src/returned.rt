@@ -1,8 +1,9 @@
 // The value that a procedure returns (MS-TDS, RETURNVALUE).
 ghost use Rattle.std.specs.Prelude.{◌≤◌, IfOk, IsTrue};
-ghost use Rattle.tds_export.specs.Lending.{LeavesArea, LeavesFurther};
+ghost use Rattle.tds_export.specs.Lending.{LeavesFurther};
 ghost use Rattle.tds_export.specs.Returning.{NamePassed, ReturnPassed, TypeTaken};
 ghost use Rattle.tds_packet.specs.Payloads.{IsGoing};
+ghost use Rattle.tds_packet.specs.Reads.{KeepsRoom};
 ghost use Rattle.tds_values.specs.Kind as kinds;
 
 use std::io::Read;
@@ -33,7 +34,7 @@ fn take_type<R: Read>(payload: &mut Payload<R>, small: &mut Area) -> Result<Kind
     requires going { IsGoing payload.old }
     requires room { TYPE_ROOM ≤ small.old.room }
     ensures leaves { LeavesFurther payload.old payload.new result }
-    ensures area { LeavesArea small.old small.new }
+    ensures area { KeepsRoom small.old small.new }
     ensures valid { IfOk result (λ kind. IsTrue (kinds.is_valid kind)) }
     ensures gives { TypeTaken R.remaining payload.old payload.new result }
 {
@@ -49,7 +50,7 @@ pub(crate) fn pass_return<R: Read>(payload: &mut Payload<R>, small: &mut Area) -
     requires room { SMALL_ROOM ≤ small.old.room }
     requires peak { small.old.peak ≤ small.old.room }
     ensures leaves { LeavesFurther payload.old payload.new result }
-    ensures area { LeavesArea small.old small.new }
+    ensures area { KeepsRoom small.old small.new }
     ensures gives { ReturnPassed R.remaining payload.old payload.new result }
 {
     pass_name(payload)?;

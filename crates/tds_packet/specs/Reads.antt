@@ -59,7 +59,7 @@ ReadsPacket size limit wire old new body (Ok h) = (read : List ℕ) × Consumes 
 ReadsPacket size limit wire old new body (Err fault) = RefusesHeader size limit wire old new fault
     ⊎ (GivesOut size limit wire old new fault ⊎ FailsInPacket size limit wire old new fault)
 
--- The area of the packet has the room that it had, and its peak is within it.
+-- The area has the room that it had, and its peak is within it.
 pub record KeepsRoom (before after : Space) : Type 0 where
   pub room : after.room ≡ before.room
   pub peak : after.peak ≤ after.room
