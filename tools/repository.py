@@ -94,26 +94,18 @@ def is_built(name: str) -> bool:
 
 
 def put_back(name: str) -> None:
-    """Gives a crate back what a room of it holds, and empties the room but for links to it.
-
-    `rt` has noted the room as the place where the crate was proved: by the links a check in another clone on this
-    machine finds it, and begins with it."""
+    """Gives a crate back what a room of it holds, and removes the room."""
     kept, out = path_of("bin", "rooms", name, "crates", name, "out"), path_of("crates", name, "out")
-    if os.path.isdir(kept) and not os.path.islink(kept):
+    if os.path.isdir(kept):
         shutil.rmtree(out, ignore_errors=True)
         os.rename(kept, out)
     shutil.rmtree(path_of("bin", "rooms", name), ignore_errors=True)
-    for crate in [*below(name), name]:
-        folder = path_of("bin", "rooms", name, "crates", crate)
-        os.makedirs(folder)
-        os.symlink(path_of("crates", crate, "out"), os.path.join(folder, "out"))
 
 
 def make_room(name: str) -> str:
     """Makes a room for a crate, and returns the crate's folder in it."""
     put_back(name)
     room = path_of("bin", "rooms", name)
-    shutil.rmtree(room)
     for crate in [*below(name), name]:
         folder = os.path.join(room, "crates", crate)
         for part in PARTS:
