@@ -34,9 +34,7 @@ last_digits-below k m n h =
 
 -- the last a + b digits are the last a of what lies above the last b, and these
 pub last_digits-add : (a b n : ℕ) → last_digits (a + b) n ≡ last_digits a (n / 10 ^ b) ++ last_digits b n
-last_digits-add a zero n =
-    let e : a + 0 ≡ a = omega arith in
-    ap (λ k. last_digits k n) e ∙ ap (last_digits a) (sym (div-one n)) ∙ sym (append-none (last_digits a (n / 1)))
+last_digits-add a zero n = grind (arith, append-none, div-one)
 last_digits-add a (suc b) n =
     let e : a + suc b ≡ suc (a + b) = omega arith in
     let d : n / 10 / 10 ^ b ≡ n / 10 ^ suc b = div-div-eq-div-mul n 10 (10 ^ b) ∙ ap (λ p. n / p) (sym (pow-succ' 10 b)) in
@@ -45,9 +43,7 @@ last_digits-add a (suc b) n =
 
 -- the same, of k digits the last b
 pub last_digits_behind : (k b n : ℕ) → b ≤ k → last_digits k n ≡ last_digits (k - b) (n / 10 ^ b) ++ last_digits b (n % 10 ^ b)
-last_digits_behind k b n h =
-    let e : k - b + b ≡ k = omega arith in
-    ap (λ m. last_digits m n) (sym e) ∙ last_digits-add (k - b) b n ∙ ap (λ t. last_digits (k - b) (n / 10 ^ b) ++ t) (sym (last_digits-mod b n))
+last_digits_behind k b n h = grind (arith, last_digits-add, last_digits-mod)
 
 tenth : (k n : ℕ) → 10 ^ suc k ≤ n → 10 ^ k ≤ n / 10
 tenth k n h = let e = pow-succ' 10 k in le-div (10 ^ k) n 10 (omega arith) (omega arith)
@@ -67,10 +63,7 @@ decimal_split (suc k) n h small =
 -- the text of a number of k digits
 pub decimal_last : (k n : ℕ) → 1 ≤ k → (k ≡ 1) ⊎ (10 ^ (k - 1) ≤ n) → n < 10 ^ k → n < 10 ^ 64 → decimal n ≡ last_digits k n
 decimal_last zero n h low high small = absurd (omega arith)
-decimal_last (suc zero) n h low high small =
-    let less : n < 10 = omega arith in
-    let e : n ≡ n % 10 = omega arith in
-    decimal_digit n less ∙ ap (λ d. (48 + d) ∷ []) e
+decimal_last (suc zero) n h low high small = grind (arith, decimal_digit)
 decimal_last (suc (suc k)) n h low high small =
     let large : 10 ^ suc k ≤ n = let e : suc (suc k) - 1 ≡ suc k = omega arith in ⊎_elim (λ one. absurd (omega arith)) (λ l. subst (λ m. 10 ^ m ≤ n) e l) low in
     let back : suc k - 1 ≡ k = omega arith in
@@ -85,7 +78,4 @@ decimal_eight n h small = decimal_split 8 n h small ∙ ap (λ t. decimal (n / 1
 -- sixteen digits after the text of the rest
 pub decimal_sixteen : (n : ℕ) → 10000000000000000 ≤ n → n < 10 ^ 64
     → decimal n ≡ (decimal (n / 10000000000000000) ++ last_digits 8 (n / 100000000 % 100000000)) ++ last_digits 8 (n % 100000000)
-decimal_sixteen n h small =
-    let high : n / 100000000 / 100000000 ≡ n / 10000000000000000 = omega arith in
-    decimal_eight n (omega arith) small
-    ∙ ap (λ t. t ++ last_digits 8 (n % 100000000)) (decimal_eight (n / 100000000) (omega arith) (omega arith) ∙ ap (λ m. decimal m ++ last_digits 8 (n / 100000000 % 100000000)) high)
+decimal_sixteen n h small = grind (arith, decimal_eight)

@@ -55,10 +55,7 @@ local_by_seconds scale units day offset =
     ]
 
 less : (p f o t l : ℕ) → nat_le o t ≡ true → t - o ≡ l → t * p + f - o * p ≡ l * p + f
-less p f o t l h e =
-    let le : o ≤ t = grind (arith, nat_tests) in
-    let sum : t ≡ l + o = omega arith in
-    omega (arith, ap (λ k. k * p) sum)
+less p f o t l h e = grind (arith, nat_tests)
 
 -- and its units are those seconds and the fraction
 pub units_of_seconds : (scale units day l : ℕ) (offset : ℤ) → local_seconds (units / 10 ^ scale) day offset ≡ Some l

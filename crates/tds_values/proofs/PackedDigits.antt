@@ -6,8 +6,7 @@ use Rattle.std.proofs.lemmas.Nat.{and_block, and_mask}
 -- a mask keeps the low j bits of the lowest w, and does to those above what it does alone
 kept : (w j high mask low q : ℕ) → low < 2 ^ w → 2 ^ j - 1 < 2 ^ w → low % 2 ^ j ≡ q
     → bit_and (high * 2 ^ w + low) (mask * 2 ^ w + (2 ^ j - 1)) ≡ bit_and high mask * 2 ^ w + q
-kept w j high mask low q fits few e =
-    and_block w high mask low (2 ^ j - 1) fits few ∙ ap (λ t. bit_and high mask * 2 ^ w + t) (and_mask low j ∙ e)
+kept w j high mask low q fits few e = grind (arith, and_block, and_mask)
 
 -- the lowest of some numbers of four digits, divided by 100
 hundredth : (a rest mask : ℕ) → a < 10000

@@ -1,5 +1,5 @@
 -- The type byte decides how many bytes a TYPE_INFO has, so none begins another, and each describes one kind.
-use Rattle.std.proofs.Common.{◌≡◌, ℕ, true, false, cond, nat_eq, List, [], ◌∷◌, ◌++◌, length, take, Option, Some, None, refl, sym, ap, subst, ◌∙◌, arith, rules}
+use Rattle.std.proofs.Common.{◌≡◌, ℕ, true, false, cond, nat_eq, List, [], ◌∷◌, ◌++◌, length, take, Option, Some, None, refl, sym, ap, ◌∙◌, arith, rules}
 use Rattle.std.specs.Prelude.{option_and_then, is_some, ◌==◌, ◌||◌, Bool}
 use Rattle.std.proofs.lemmas.Bool.Decides.{nat_tests}
 use Rattle.std.proofs.lemmas.List.{take_at}
@@ -8,9 +8,7 @@ use Rattle.tds_values.specs.Kind.{is_valid}
 use Rattle.tds_values.specs.TypeInfo.{bare_kind, is_decimal_type, rest_length, named_kind, valid_kind, kind_after, kind_of, IsTypeInfo}
 
 valid_some : (k j : Kind) → valid_kind j ≡ Some k → is_valid k ≡ true
-valid_some k j h =
-    elim (is_valid j) as (λ t. is_valid j ≡ t → cond t (Some j) None ≡ Some k → is_valid k ≡ true)
-    [ true ↦ λ e h. let same : j ≡ k = cc in subst (λ i. is_valid i ≡ true) same e | false ↦ λ e h. cc ] refl h
+valid_some k j h = grind arith
 
 and_then_valid : (k : Kind) (o : Option Kind) → option_and_then valid_kind o ≡ Some k → is_valid k ≡ true
 and_then_valid k None h = cc

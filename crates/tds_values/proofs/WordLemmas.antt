@@ -1,7 +1,7 @@
 -- Digits as the bytes of one number.
 use Rattle.std.proofs.Common.{◌≡◌, ℕ, zero, suc, ◌+◌, ◌-◌, ◌*◌, ◌/◌, ◌%◌, ◌^◌, ◌<◌, ◌≤◌, List, [], ◌∷◌, ◌++◌, refl, sym, ap, ◌∙◌, arith, take, drop, length}
 use Rattle.std.proofs.Math.Nat.{pow-succ', pow-suc, div-div-eq-div-mul}
-use Rattle.std.specs.Int.{bytes_low_first, byte_at}
+use Rattle.std.specs.Int.{bytes_low_first}
 use Rattle.std.specs.Prelude.{All}
 use Rattle.std.proofs.lemmas.List.Elements.{All-head, All-nil, All-push, All-tail}
 use Rattle.std.proofs.lemmas.Slice.{take-put_mid}
@@ -39,11 +39,7 @@ digits_are_bytes (suc k) n =
 -- the low bytes of a number give back what it was made of
 bytes_of-word_of : (xs : List ℕ) → All IsByte xs → bytes_of (length xs) (word_of xs) ≡ xs
 bytes_of-word_of [] h = refl
-bytes_of-word_of (x ∷ xs) h =
-    let b : x < 256 = All-head IsByte x xs h in
-    let low : (x + 256 * word_of xs) % 256 ≡ x = omega arith in
-    let high : (x + 256 * word_of xs) / 256 ≡ word_of xs = omega arith in
-    (λ i. low i ∷ bytes_of (length xs) (high i)) ∙ ap (λ t. x ∷ t) (bytes_of-word_of xs (All-tail IsByte x xs h))
+bytes_of-word_of (x ∷ xs) h = grind (arith, All-head, All-tail, (bytes_of-word_of xs (All-tail IsByte x xs h)))
 
 -- a shift takes the first bytes away
 word_of-shift : (xs ys : List ℕ) → All IsByte xs → word_of (xs ++ ys) / 256 ^ length xs ≡ word_of ys
@@ -73,13 +69,7 @@ take-bytes_of (suc k) j w =
 
 low_bytes : (i k n : ℕ) → bytes_low_first i k n ≡ bytes_of k (n / 256 ^ i)
 low_bytes i zero n = refl
-low_bytes i (suc k) n =
-    let next : n / 256 ^ suc i ≡ n / 256 ^ i / 256 = ap (λ p. n / p) (pow-suc 256 i) ∙ sym (div-div-eq-div-mul n (256 ^ i) 256) in
-    (λ j. first i n j ∷ bytes_low_first (suc i) k n) ∙ ap (λ t. n / 256 ^ i % 256 ∷ t) (low_bytes (suc i) k n ∙ ap (bytes_of k) next)
-  where
-    first : (i n : ℕ) → byte_at i n ≡ n / 256 ^ i % 256
-    first zero n = omega arith
-    first (suc i) n = refl
+low_bytes i (suc k) n = grind (arith, div-div-eq-div-mul, pow-suc, (low_bytes (suc i) k n))
 
 -- the bytes of a whole number
 pub whole_word : (m w : ℕ) → bytes_low_first 0 m w ≡ bytes_of m w

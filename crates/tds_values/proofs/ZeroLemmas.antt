@@ -45,11 +45,7 @@ low_bit (suc a) r d m some few =
 -- and a digits that aren't set all count
 low_zeros : (a r m : ℕ) → count_trailing_zeros (a + r) (2 ^ a * m) ≡ a + count_trailing_zeros r m
 unfolding count_trailing_zeros
-low_zeros zero r m =
-    let width : 0 + r ≡ r = omega arith in
-    let e : 2 ^ 0 * m ≡ m = omega arith in
-    let same : 0 + count_trailing_zeros r m ≡ count_trailing_zeros r m = omega arith in
-    (λ i. count_trailing_zeros (width i) (e i)) ∙ sym same
+low_zeros zero r m = grind arith
 low_zeros (suc a) r m =
     let z = 2 ^ a * m in
     let e : 2 ^ suc a * m ≡ 2 * z = ap (λ p. p * m) (pow-succ' 2 a) ∙ omega arith in
@@ -64,17 +60,11 @@ abbrev IsNeedless : ℕ → ℕ → ℕ → Type 0
 IsNeedless k n t = (t ≤ k) × ((n < 10 ^ (suc k - t)) × ((t ≡ k) ⊎ (10 ^ (k - t) ≤ n)))
 
 next : (k n t s : ℕ) → s ≡ suc t → IsNeedless k n t → IsNeedless (suc k) n s
-next k n t s e h =
-    let first : suc k - t ≡ suc (suc k) - s = omega arith in
-    let rest : k - t ≡ suc k - s = omega arith in
-    (omega (arith, h.0), (subst (λ m. n < 10 ^ m) first h.1.0, ⊎_elim (λ same. inl (omega arith)) (λ large. inr (subst (λ m. 10 ^ m ≤ n) rest large)) h.1.1))
+next k n t s e h = grind arith
 
 -- none is, where the first is set
 first_set : (k n t : ℕ) → t ≡ 0 → n < 10 ^ suc k → (k ≡ 0) ⊎ (10 ^ k ≤ n) → IsNeedless k n t
-first_set k n t e small large =
-    let all : suc k ≡ suc k - t = omega arith in
-    let most : k ≡ k - t = omega arith in
-    (omega arith, (subst (λ m. n < 10 ^ m) all small, ⊎_elim (λ one. inl (omega arith)) (λ more. inr (subst (λ m. 10 ^ m ≤ n) most more)) large))
+first_set k n t e small large = grind arith
 
 needless : (k n : ℕ) → n < 10 ^ suc k → IsNeedless k n (count_trailing_zeros (8 * suc k) (values_of k n) / 8)
 needless zero n h =
