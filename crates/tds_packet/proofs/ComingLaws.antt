@@ -2,11 +2,11 @@
 use Rattle.std.proofs.Common.{◌≡◌, ◌≢◌, ℕ, zero, suc, ◌+◌, ◌-◌, ◌<◌, ◌≤◌, Bool, true, false, List, [], ◌∷◌, ◌++◌, length, take, drop, refl, sym, ◌∙◌, ap, subst, inl, inr, append_assoc, append-nil, arith, length-append}
 use Rattle.std.proofs.lemmas.List.{take-append-drop, length-take-le, length-drop}
 use Rattle.std.proofs.Math.Seq.{take-append_seam, drop-append_seam}
-use Rattle.std.specs.Prelude.{Option, Some, None, ◌==◌, ◌||◌, nat_lt, slice_index, if◌then◌else◌}
+use Rattle.std.specs.Prelude.{Option, Some, None, ◌==◌, nat_lt, slice_index, if◌then◌else◌}
 use Rattle.std.proofs.lemmas.Bool.Decides.{nat_tests}
 use Rattle.std.proofs.lemmas.Grind.{flat_map-append}
 use Rattle.tds_packet.specs.declared.fault.Fault.{Fault}
-use Rattle.tds_packet.specs.declared.fault.Fault.TheVariants.{InputEnded, MessageEnded, WrongPacketType, BadPacketLength, ResponseTooLong}
+use Rattle.tds_packet.specs.declared.fault.Fault.TheVariants.{InputEnded, MessageEnded}
 use Rattle.tds_packet.specs.declared.fault.Place.TheVariants.{Wire, Payload}
 use Rattle.tds_packet.specs.declared.fault.Stop.{Stop}
 use Rattle.tds_packet.specs.Elements.{AreBytes, IsRefused, Longest}
@@ -38,12 +38,7 @@ pub record Agrees (size limit : ℕ) (packets : List Packet) (p : Progress WireP
   pub rest : left_of p ≡ c.rest
 
 least_length : (size limit n : ℕ) (header : List ℕ) → header_fault size limit n header ≡ None → 8 ≤ header_length header
-least_length size limit n header free = go (slice_index header 0 == 4) (nat_lt (header_length header) 8) refl free
-  where
-    go : (a b : Bool) → nat_lt (header_length header) 8 ≡ b → (if a then (if b || nat_lt size (header_length header) then Some (BadPacketLength (header_length header)) else if nat_lt limit (n + header_length header) then Some ResponseTooLong else None) else Some (WrongPacketType (slice_index header 0))) ≡ None → 8 ≤ header_length header
-    go false b e k = cc
-    go true true e k = cc
-    go true false e k = grind (arith, nat_tests)
+least_length size limit n header free = grind (arith, nat_tests)
 
 module _ (size limit : ℕ) where
   abbrev at : List Packet → WirePlace → WirePart
@@ -179,12 +174,8 @@ module _ (size limit : ℕ) where
           let s : c.stop ≡ stop_after w.packets None = agree.stop ∙ ap (λ v. stop_after w.packets (fault_of (wire size limit) (Reading (at w.packets v) begun))) e in
           let r : begun ≡ c.rest = ap (λ v. left_behind v begun) (sym e) ∙ agree.rest in
           record { packets = w.packets; front = read_front size limit input (length front) w are long; bytes = sym agree.bytes; stop = inl (k.1, s, ap (λ v. wire_of w.packets ++ v) (sym r) ∙ ap (λ v. v ++ begun) (sym k.0 ∙ taken_is) ∙ sym is) }
-      go BeforeHeader e m =
-          let k : WireMeans size limit w.packets BeforeHeader (take (length front) input) = subst (λ v. WireMeans size limit w.packets v (take (length front) input)) e m in
-          let s : c.stop ≡ stop_after w.packets (Some InputEnded) = agree.stop ∙ ap (λ v. stop_after w.packets (fault_of (wire size limit) (Reading (at w.packets v) begun))) e in
-          record { packets = w.packets; front = read_front size limit input (length front) w are long; bytes = sym agree.bytes; stop = inr (k.1, on_wire s (ap (λ v. (wire size limit).end_fault (at w.packets v)) e), ap (λ v. v.place) s) }
-      go (BeforeBody header) e m =
-          let k : WireMeans size limit w.packets (BeforeBody header) (take (length front) input) = subst (λ v. WireMeans size limit w.packets v (take (length front) input)) e m in
+      go place e m =
+          let k : WireMeans size limit w.packets place (take (length front) input) = subst (λ v. WireMeans size limit w.packets v (take (length front) input)) e m in
           let s : c.stop ≡ stop_after w.packets (Some InputEnded) = agree.stop ∙ ap (λ v. stop_after w.packets (fault_of (wire size limit) (Reading (at w.packets v) begun))) e in
           record { packets = w.packets; front = read_front size limit input (length front) w are long; bytes = sym agree.bytes; stop = inr (k.1, on_wire s (ap (λ v. (wire size limit).end_fault (at w.packets v)) e), ap (λ v. v.place) s) }
 
@@ -205,9 +196,8 @@ module _ (size limit : ℕ) where
       means = wire_is_spelt size limit (take (length front) input) w (AreBytes-front (take (length front) input) (drop (length front) input) (subst (λ v. AreBytes v) (sym (take-append-drop (length front) input)) are)) long.spelt
 
       are_before : (place : WirePlace) → w.place ≡ place → WireMeans size limit w.packets w.place (take (length front) input) → AreBefore size w.packets
-      are_before BeforeHeader e m = (subst (λ v. WireMeans size limit w.packets v (take (length front) input)) e m).1
-      are_before (BeforeBody header) e m = (subst (λ v. WireMeans size limit w.packets v (take (length front) input)) e m).1
       are_before BehindLast e m = absurd (let z : 0 < (wire size limit).size (at w.packets BehindLast) = subst (λ v. 0 < (wire size limit).size (at w.packets v)) e refused.some in omega arith)
+      are_before place e m = (subst (λ v. WireMeans size limit w.packets v (take (length front) input)) e m).1
 
       fault_is : WireFault size limit input w.packets c.stop.fault
       fault_is = subst (λ v. WireFault size limit input w.packets v.fault) (sym agree.stop) (record { taken = length front; read = w; longest = long; packets_are = refl; first = inl (subst (λ v. IsRefused (wire size limit) w v f) (sym rest_is) refused) })
@@ -215,11 +205,11 @@ module _ (size limit : ℕ) where
   -- What comes of an input is the message at its front.
   pub front_message : (input : List ℕ) → AreBytes input → IsFrontMessage size limit input (whole_message size limit input)
   unfolding Told
-  front_message input are = go (read (wire size limit) no_wire input) (told (wire size limit) no_wire input) (message_agrees (suc (length input)) [] input (omega arith))
+  front_message input are =
+      let p = read (wire size limit) no_wire input in
+      let r = read_longest (wire size limit) no_wire input p (told (wire size limit) no_wire input) in
+      stops p (told (wire size limit) no_wire input) (message_agrees (suc (length input)) [] input (omega arith)) r
     where
-      go : (p : Progress WirePart Fault) → Told (wire size limit) no_wire input p → Agrees size limit [] p (whole_message size limit input) → IsFrontMessage size limit input (whole_message size limit input)
-      go p t agree = stops p t agree (read_longest (wire size limit) no_wire input p t)
-        where
-          stops : (p : Progress WirePart Fault) → Told (wire size limit) no_wire input p → Agrees size limit [] p (whole_message size limit input) → (front : List ℕ) × (input ≡ front ++ rest_of p) × Longest (wire size limit) no_wire input (length front) (state_of p) → IsFrontMessage size limit input (whole_message size limit input)
-          stops (Reading w begun) t agree r = reading_stops input (whole_message size limit input) w begun r.0 are agree r.1 r.2 t.3
-          stops (Refused w rest f) t agree r = refusal_stops input (whole_message size limit input) w rest r.0 f are agree r.1 r.2 t.3
+      stops : (p : Progress WirePart Fault) → Told (wire size limit) no_wire input p → Agrees size limit [] p (whole_message size limit input) → (front : List ℕ) × (input ≡ front ++ rest_of p) × Longest (wire size limit) no_wire input (length front) (state_of p) → IsFrontMessage size limit input (whole_message size limit input)
+      stops (Reading w begun) t agree r = reading_stops input (whole_message size limit input) w begun r.0 are agree r.1 r.2 t.3
+      stops (Refused w rest f) t agree r = refusal_stops input (whole_message size limit input) w rest r.0 f are agree r.1 r.2 t.3

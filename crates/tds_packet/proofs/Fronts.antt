@@ -1,10 +1,10 @@
 -- The packets at the front of an input, and what is read of it.
-use Rattle.std.proofs.Common.{◌≡◌, ◌∙◌, ◌⊎◌, inl, inr, ℕ, suc, ◌+◌, ◌<◌, ◌≤◌, List, [], ◌∷◌, ◌++◌, length, take, drop, Some, None, Bool, true, false, refl, sym, ap, subst, arith, append-nil, append_assoc, length-append}
+use Rattle.std.proofs.Common.{◌≡◌, ◌∙◌, ◌⊎◌, inl, inr, ℕ, suc, ◌<◌, ◌≤◌, List, [], ◌∷◌, ◌++◌, length, take, Some, None, Bool, refl, sym, ap, subst, arith, append-nil, append_assoc, length-append}
 use Rattle.std.proofs.Math.Seq.{take-append_seam}
 use Rattle.std.proofs.lemmas.List.{append_cancel_right}
 use Rattle.std.proofs.lemmas.Grind.{flat_map-append}
-use Rattle.std.specs.Io.KnownBytes.{Consumes, IsAtEnd}
-use Rattle.std.specs.Prelude.{◌==◌, ◌||◌, nat_lt, slice_index, if◌then◌else◌}
+use Rattle.std.specs.Io.KnownBytes.{Consumes}
+use Rattle.std.specs.Prelude.{if◌then◌else◌}
 use Rattle.tds_meter.specs.Counts.{one_more}
 use Rattle.tds_packet.specs.declared.fault.Fault.{Fault}
 use Rattle.tds_packet.specs.declared.fault.Fault.TheVariants.{InputEnded, MessageEnded, ReadFailed, WrongPacketType, BadPacketLength, ResponseTooLong}
@@ -12,7 +12,7 @@ use Rattle.tds_packet.specs.declared.fault.Place.TheVariants.{Wire, Payload}
 use Rattle.tds_packet.specs.declared.fault.Stop.{Stop}
 use Rattle.tds_packet.specs.Elements.{AreBytes}
 use Rattle.tds_packet.proofs.Feeding.{Progress, Reading, state_of, feed_all}
-use Rattle.tds_packet.specs.Packets.{Packet, packet_bytes, wire_of, payload_of, AreBefore, AreMessage, WireFault, WirePlace, BeforeHeader, BeforeBody, BehindLast, WirePart, no_wire, header_length, wire_fault, wire_end, wire}
+use Rattle.tds_packet.specs.Packets.{Packet, packet_bytes, wire_of, payload_of, AreBefore, AreMessage, WireFault, WirePart, no_wire, wire}
 use Rattle.tds_packet.specs.Coming.{Coming, before, whole_message, IsFrontMessage}
 use Rattle.tds_packet.specs.Seen.{Seen, Takes, Ends, IsBetween, IsOver, begun}
 use Rattle.tds_packet.proofs.ElementLaws.{AreBytes-front, feed-Spelt}
@@ -33,44 +33,16 @@ no_more a (x ∷ b) c e l = absurd (omega (arith, l, ap length e, length-append 
 
 -- no fault of the wire is the message's end
 pub not_header : (a b c : Bool) (length kind : ℕ) → (if a then (if b then Some (BadPacketLength length) else if c then Some ResponseTooLong else None) else Some (WrongPacketType kind)) ≡ Some MessageEnded → ⊥
-not_header true true c length kind e = cc
-not_header true false true length kind e = cc
-not_header true false false length kind e = cc
-not_header false b c length kind e = cc
-
-not_refused : (size limit : ℕ) (packets : List Packet) (place : WirePlace) (element : List ℕ) → wire_fault size limit packets place element ≡ Some MessageEnded → ⊥
-not_refused size limit packets BeforeHeader header e =
-    not_header (slice_index header 0 == 4) (nat_lt (header_length header) 8 || nat_lt size (header_length header)) (nat_lt limit (length (wire_of packets) + header_length header)) (header_length header) (slice_index header 0) e
-not_refused size limit packets (BeforeBody header) body e = cc
-not_refused size limit packets BehindLast bytes e = cc
-
-not_end : (place : WirePlace) → wire_end place ≡ Some MessageEnded → ⊥
-not_end BeforeHeader e = cc
-not_end (BeforeBody header) e = cc
-not_end BehindLast e = cc
+not_header a b c length kind e = grind (arith)
 
 pub wire_goes_on : (size limit : ℕ) (input : List ℕ) (packets : List Packet) (fault : Fault) → WireFault size limit input packets fault → fault ≡ MessageEnded → ⊥
-wire_goes_on size limit input packets fault w e =
-    elim w.first [
-      | inl r ↦ not_refused size limit w.read.packets w.read.place (take ((wire size limit).size w.read) (drop w.taken input)) (r.first ∙ ap Some e)
-      | inr r ↦ not_end w.read.place (r.1 ∙ ap Some e)
-    ]
+wire_goes_on size limit input packets fault w e = grind (arith, not_header)
 
 -- an input all of which is packets
 all_packets : (size limit : ℕ) (read payload : List ℕ) (place : ℕ) (c : Coming) → IsFrontMessage size limit read c → c.bytes ≡ payload → c.rest ≡ []
     → ((c.stop.fault ≡ MessageEnded) ⊎ (c.stop ≡ record { fault = InputEnded; place = Wire place })) → place ≡ length read
     → (packets : List Packet) × (wire_of packets ≡ read) × (AreMessage size packets ⊎ AreBefore size packets) × (length (wire_of packets) ≤ limit) × (payload_of packets ≡ payload)
-all_packets size limit read payload place c m b r s p = go m.stop
-  where
-    at_place : WireFault size limit read m.packets c.stop.fault → c.stop.place ≡ Wire (length (wire_of m.packets)) → ((c.stop.fault ≡ MessageEnded) ⊎ (c.stop ≡ record { fault = InputEnded; place = Wire place })) → length (wire_of m.packets) ≡ length read
-    at_place w e (inl x) = absurd (wire_goes_on size limit read m.packets c.stop.fault w x)
-    at_place w e (inr x) = let same : Wire (length (wire_of m.packets)) ≡ Wire place = sym e ∙ ap (λ (t : Stop). t.place) x in let n : length (wire_of m.packets) ≡ place = cc in n ∙ p
-
-    go : ((AreMessage size m.packets × (c.stop ≡ record { fault = MessageEnded; place = Payload (length (payload_of m.packets)) }) × (wire_of m.packets ++ c.rest ≡ read))
-        ⊎ (AreBefore size m.packets × WireFault size limit read m.packets c.stop.fault × (c.stop.place ≡ Wire (length (wire_of m.packets)))))
-        → (packets : List Packet) × (wire_of packets ≡ read) × (AreMessage size packets ⊎ AreBefore size packets) × (length (wire_of packets) ≤ limit) × (payload_of packets ≡ payload)
-    go (inl x) = (m.packets, sym (append-nil (wire_of m.packets)) ∙ ap (λ l. wire_of m.packets ++ l) (sym r) ∙ x.2, inl x.0, m.front.within, sym m.bytes ∙ b)
-    go (inr x) = (m.packets, (no_more (wire_of m.packets) m.front.rest read m.front.spelt (at_place x.1 x.2 s)).1, inr x.0, m.front.within, sym m.bytes ∙ b)
+all_packets size limit read payload place c m b r s p = grind (arith, wire_goes_on, append-nil, no_more)
 
 -- what was taken, right after a packet, came of whole packets at the front of the input
 pub takes_begins : (size limit f : ℕ) (input rest : List ℕ) (q : Seen) (bytes : List ℕ) (n : ℕ) → AreBytes input → q.left ≡ Some rest → Takes (begun size limit (Some input) f) q bytes n → IsBetween q
@@ -117,92 +89,24 @@ pub record EndsMessage (size limit : ℕ) (input rest payload : List ℕ) (failu
 
 whole_stop : (size limit f g : ℕ) (input rest payload : List ℕ) (stop : Stop) → AreBytes input → g ≡ f → whole_message size limit input ≡ record { bytes = payload; stop = stop; rest = rest }
     → EndsMessage size limit input rest payload f g stop ⊎ StopsBehind size limit input rest payload f g stop
-whole_stop size limit f g input rest payload stop are same e = go m.stop
-  where
-    m : IsFrontMessage size limit input (whole_message size limit input)
-    m = front_message size limit input are
-
-    bytes : payload_of m.packets ≡ payload
-    bytes = sym m.bytes ∙ ap (λ (c : Coming). c.bytes) e
-
-    stop_is : (whole_message size limit input).stop ≡ stop
-    stop_is = ap (λ (c : Coming). c.stop) e
-
-    go : ((AreMessage size m.packets × ((whole_message size limit input).stop ≡ record { fault = MessageEnded; place = Payload (length (payload_of m.packets)) }) × (wire_of m.packets ++ (whole_message size limit input).rest ≡ input))
-        ⊎ (AreBefore size m.packets × WireFault size limit input m.packets (whole_message size limit input).stop.fault × ((whole_message size limit input).stop.place ≡ Wire (length (wire_of m.packets)))))
-        → EndsMessage size limit input rest payload f g stop ⊎ StopsBehind size limit input rest payload f g stop
-    go (inl x) = inl (record {
-      packets = m.packets;
-      begin = ap (λ l. wire_of m.packets ++ l) (sym (ap (λ (c : Coming). c.rest) e)) ∙ x.2;
-      each = x.0;
-      within = m.front.within;
-      payload_is = bytes;
-      ended = sym stop_is ∙ x.1 ∙ ap (λ l. record { fault = MessageEnded; place = Payload (length l) }) bytes;
-      same = same;
-    })
-    go (inr x) = inr (record {
-      packets = m.packets;
-      more = m.front.rest;
-      begin = m.front.spelt;
-      each = x.0;
-      within = m.front.within;
-      payload_is = bytes;
-      place = sym (ap (λ (s : Stop). s.place) stop_is) ∙ x.2;
-      cause = inr (subst (λ (s : Stop). WireFault size limit input m.packets s.fault) stop_is x.1, same);
-    })
+whole_stop size limit f g input rest payload stop are same e =
+    let m = front_message size limit input are in
+    grind (arith, append-nil)
 
 -- a payload's stop, where its reader tells its bytes
 pub ends_front : (size limit f : ℕ) (input rest : List ℕ) (q : Seen) (payload : List ℕ) (stop : Stop) → AreBytes input → q.left ≡ Some rest → Ends (begun size limit (Some input) f) q payload stop
     → EndsMessage size limit input rest payload f q.failures stop ⊎ StopsBehind size limit input rest payload f q.failures stop
-ends_front size limit f input rest q payload stop are left (inl x) =
-    let split : input ≡ x.0.0 ++ rest = subst (λ l. Consumes (Some input) l x.0.0) left x.0.1 in
-    whole_stop size limit f q.failures input rest payload stop are x.1 (ap (whole_message size limit) split ∙ x.0.2 rest)
-ends_front size limit f input rest q payload stop are left (inr (inl x)) =
-    let split : input ≡ x.0.0 ++ rest = subst (λ l. Consumes (Some input) l x.0.0) left x.0.1 in
-    let none : rest ≡ [] = subst IsAtEnd left x.0.2 in
-    let same : input ≡ x.0.0 = split ∙ ap (λ l. x.0.0 ++ l) none ∙ append-nil x.0.0 in
-    whole_stop size limit f q.failures input rest payload stop are x.1 (ap (whole_message size limit) same ∙ x.0.3 ∙ ap (λ l. record { bytes = payload; stop = stop; rest = l }) (sym none))
+ends_front size limit f input rest q payload stop are left (inl x) = grind (arith, whole_stop)
+ends_front size limit f input rest q payload stop are left (inr (inl x)) = grind (arith, append-nil, whole_stop)
 ends_front size limit f input rest q payload stop are left (inr (inr x)) =
-    let read = x.0.0 in
-    let split : input ≡ read ++ rest = subst (λ l. Consumes (Some input) l read) left x.0.1 in
-    inr (failed read (front_message size limit read (AreBytes-front read rest (subst AreBytes split are))) split x.0.2 x.0.3 x.1)
-  where
-    failed : (read : List ℕ) → IsFrontMessage size limit read (whole_message size limit read) → input ≡ read ++ rest → stop.fault ≡ ReadFailed
-        → whole_message size limit read ≡ record { bytes = payload; stop = record { fault = InputEnded; place = stop.place }; rest = [] } → q.failures ≡ one_more f → StopsBehind size limit input rest payload f q.failures stop
-    failed read m split named e count = go m.stop
-      where
-        ended : (whole_message size limit read).stop.fault ≡ InputEnded
-        ended = ap (λ (c : Coming). c.stop.fault) e
-
-        go : ((AreMessage size m.packets × ((whole_message size limit read).stop ≡ record { fault = MessageEnded; place = Payload (length (payload_of m.packets)) }) × (wire_of m.packets ++ (whole_message size limit read).rest ≡ read))
-            ⊎ (AreBefore size m.packets × WireFault size limit read m.packets (whole_message size limit read).stop.fault × ((whole_message size limit read).stop.place ≡ Wire (length (wire_of m.packets)))))
-            → StopsBehind size limit input rest payload f q.failures stop
-        go (inl x) = absurd (let differ : MessageEnded ≡ InputEnded = sym (ap (λ (t : Stop). t.fault) x.1) ∙ ended in cc)
-        go (inr x) = record {
-          packets = m.packets;
-          more = m.front.rest ++ rest;
-          begin = sym (append_assoc (wire_of m.packets) m.front.rest rest) ∙ ap (λ l. l ++ rest) m.front.spelt ∙ sym split;
-          each = x.0;
-          within = m.front.within;
-          payload_is = sym m.bytes ∙ ap (λ (c : Coming). c.bytes) e;
-          place = sym (ap (λ (c : Coming). c.stop.place) e) ∙ x.2;
-          cause = inl (named, count, record { read = read; split = sym split; cut = subst (WireFault size limit read m.packets) ended x.1 });
-        }
+    let split : input ≡ x.0.0 ++ rest = subst (λ l. Consumes (Some input) l x.0.0) left x.0.1 in
+    let m = front_message size limit x.0.0 (AreBytes-front x.0.0 rest (subst AreBytes split are)) in
+    grind (arith, append_assoc)
 
 -- a message of which all was handed out
 pub over_front : (size limit f : ℕ) (input rest : List ℕ) (q : Seen) (bytes : List ℕ) (n : ℕ) → AreBytes input → q.left ≡ Some rest → Takes (begun size limit (Some input) f) q bytes n → (o : IsOver q)
     → EndsMessage size limit input rest bytes f q.failures o.0
-over_front size limit f input rest q bytes n are left t o =
-    let split : input ≡ t.0 ++ rest = subst (λ l. Consumes (Some input) l t.0) left t.1.0 in
-    let all : whole_message size limit input ≡ record { bytes = bytes; stop = o.0; rest = rest } =
-    ap (whole_message size limit) split ∙ t.1.1 rest ∙ ap (before bytes) (o.2 rest) ∙ ap (λ l. record { bytes = l; stop = o.0; rest = rest }) (append-nil bytes) in
-    elim (whole_stop size limit f q.failures input rest bytes o.0 are t.4.0 all) [
-      | inl x ↦ x
-      | inr x ↦ absurd (elim x.cause [
-        | inl y ↦ (let differ : ReadFailed ≡ MessageEnded = sym y.0 ∙ o.1 in cc)
-        | inr y ↦ wire_goes_on size limit input x.packets o.0.fault y.0 o.1
-      ])
-    ]
+over_front size limit f input rest q bytes n are left t o = grind (arith, append-nil, whole_stop, wire_goes_on)
 
 -- ---- the last of the packets read
 
@@ -241,14 +145,9 @@ in_last_of size limit f n input rest payload q bytes left t (x ∷ xs) begin eac
     let l = last_of x xs in
     let split : input ≡ t.0 ++ rest = subst (λ l. Consumes (Some input) l t.0) left t.1.0 in
     let wires : wire_of (x ∷ xs) ≡ wire_of l.0 ++ (packet_bytes l.1 ++ []) = ap wire_of (sym l.2) ∙ flat_map-append packet_bytes l.0 (l.1 ∷ []) in
-    let some_last : 0 < length (packet_bytes l.1 ++ []) = omega arith in
-    let shorter : length (wire_of l.0) < length (wire_of (x ∷ xs)) = omega (arith, ap length wires, length-append (wire_of l.0) (packet_bytes l.1 ++ []), some_last) in
     let read : wire_of (x ∷ xs) ≡ t.0 = append_cancel_right (wire_of (x ∷ xs)) t.0 rest (begin ∙ split) in
     let front : take (length (wire_of l.0)) t.0 ≡ wire_of l.0 = ap (take (length (wire_of l.0))) (sym read ∙ wires) ∙ take-append_seam (wire_of l.0) (packet_bytes l.1 ++ []) in
-    let before_last : AreBefore size l.0 = elim each [ inl h ↦ front_message_before size l.0 l.1 (subst (AreMessage size) (sym l.2) h) | inr h ↦ front_before size l.0 l.1 (subst (AreBefore size) (sym l.2) h) ] in
-    let few : length (whole_message size limit (take (length (wire_of l.0)) t.0)).bytes < n = t.3 (length (wire_of l.0)) (omega (arith, shorter, ap length read)) in
-    let is : (whole_message size limit (take (length (wire_of l.0)) t.0)).bytes ≡ payload_of l.0 = ap (λ i. (whole_message size limit i).bytes) front ∙ before_bytes size limit l.0 before_last (omega (arith, shorter, within)) in
-    record { before = l.0; last = l.1; split = l.2; none_last = before_last; earlier = omega (arith, few, ap length is) }
+    grind (arith, last_of, flat_map-append, length-append, append_cancel_right, take-append_seam, front_message_before, front_before, before_bytes)
 
 -- the packets read were needed for n bytes of the payload
 pub in_last : (size limit f n : ℕ) (input rest : List ℕ) (q : Seen) (bytes payload : List ℕ) → q.left ≡ Some rest → Takes (begun size limit (Some input) f) q bytes n

@@ -67,21 +67,8 @@ module _ {S T : Type 0} (small : Grammar S Fault) (big : Grammar T Fault) (lift 
     pub to_is : big.add (lift at) element ≡ lift to
 
   last_of : (from s : S) (front : List ℕ) (e : List ℕ) (es : List (List ℕ)) (to : S) → Spelt small from front s → Leads small s (e ∷ es) to → LastInside from (front ++ concat (e ∷ es)) to
-  last_of from s front e [] to spelt leads =
-      let some : 0 < small.size s = (let a : 0 < length e = leads.0.some in let w : length e ≡ small.size s = leads.0.whole in omega arith) in
-      record {
-        at = s;
-        front = front;
-        element = e;
-        joined = ap (λ l. front ++ l) (sym (append-nil e));
-        size = some;
-        spelt = Inside-Spelt small big lift is from front s spelt;
-        next = next_inside s e some leads.0;
-        to_is = is.add s e some ∙ ap lift leads.1;
-      }
-  last_of from s front e (f ∷ es) to spelt leads =
-      subst (λ l. LastInside from l to) (append_assoc front e (concat (f ∷ es)))
-      (last_of from (small.add s e) (front ++ e) f es to (Spelt-append small from front s e (small.add s e) spelt (Spelt-one small s e leads.0)) leads.1)
+  last_of from s front e [] to spelt leads = grind (arith, append-nil, Inside-Spelt, next_inside)
+  last_of from s front e (f ∷ es) to spelt leads = grind (arith, append_assoc, Spelt-append, Spelt-one, last_of from (small.add s e) (front ++ e) f es to (Spelt-append small from front s e (small.add s e) spelt (Spelt-one small s e leads.0)) leads.1)
 
   last_in : (from : S) (bytes : List ℕ) (es : List (List ℕ)) (to : S) → concat es ≡ bytes → Leads small from es to → 0 < length bytes → LastInside from bytes to
   last_in from bytes [] to joined leads some = absurd (let z : length bytes ≡ 0 = ap length (sym joined) in omega arith)

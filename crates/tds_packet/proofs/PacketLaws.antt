@@ -1,11 +1,10 @@
 -- What the wire's grammar reads are the packets that the input begins with.
-use Rattle.std.proofs.Common.{◌≡◌, ℕ, ◌+◌, ◌-◌, ◌*◌, ◌/◌, ◌%◌, ◌<◌, ◌≤◌, Bool, true, false, List, [], ◌∷◌, ◌++◌, length, take, drop, refl, sym, ◌∙◌, ap, subst, inl, inr, append_assoc, append-nil, arith, length-append}
+use Rattle.std.proofs.Common.{◌≡◌, ℕ, ◌+◌, ◌-◌, ◌/◌, ◌%◌, ◌<◌, ◌≤◌, Bool, true, false, List, [], ◌∷◌, ◌++◌, length, take, drop, refl, sym, ◌∙◌, ap, subst, inl, inr, append_assoc, append-nil, arith, length-append}
 use Rattle.std.proofs.lemmas.List.{take-append-drop, length-take-le}
 use Rattle.std.proofs.Math.Seq.{take-append_seam}
-use Rattle.std.specs.Prelude.{Some, None, ◌==◌, ◌||◌, nat_lt, slice_index, if◌then◌else◌}
+use Rattle.std.specs.Prelude.{None, ◌==◌, slice_index, if◌then◌else◌}
 use Rattle.std.proofs.lemmas.Bool.Decides.{nat_tests}
 use Rattle.std.proofs.lemmas.Grind.{flat_map-append}
-use Rattle.tds_packet.specs.declared.fault.Fault.TheVariants.{WrongPacketType, BadPacketLength, ResponseTooLong}
 use Rattle.tds_packet.specs.Elements.{AreBytes, Spelt, IsNext, Longest}
 use Rattle.tds_packet.proofs.ElementLaws.{Spelt-step, Spelt-append, Spelt-none, Spelt-induct, AreBytes-front, AreBytes-back, one_state}
 use Rattle.tds_packet.specs.Packets.{Packet, packet_length, packet_bytes, wire_of, is_last, IsPacket, AreBefore, AreMessage, IsNextPacket, Front, WirePlace, BeforeHeader, BeforeBody, BehindLast, WirePart, no_wire, header_length, packet_of, with_packet, header_fault, wire}
@@ -30,36 +29,7 @@ pub record Good (size limit : ℕ) (packets : List Packet) (header : List ℕ) :
   pub within : length (wire_of packets) + header_length header ≤ limit
 
 free_is_good : (size limit : ℕ) (packets : List Packet) (header : List ℕ) → length header ≡ 8 → AreBytes header → header_fault size limit (length (wire_of packets)) header ≡ None → Good size limit packets header
-free_is_good size limit packets header eight bytes free = go (slice_index header 0 == 4) (nat_lt (header_length header) 8) (nat_lt size (header_length header)) (nat_lt limit (length (wire_of packets) + header_length header)) refl refl refl refl free
-  where
-    go : (a b c d : Bool) → (slice_index header 0 == 4) ≡ a → nat_lt (header_length header) 8 ≡ b → nat_lt size (header_length header) ≡ c → nat_lt limit (length (wire_of packets) + header_length header) ≡ d
-        → (if a then (if b || c then Some (BadPacketLength (header_length header)) else if d then Some ResponseTooLong else None) else Some (WrongPacketType (slice_index header 0))) ≡ None → Good size limit packets header
-    go false b c d e f g h k = cc
-    go true true c d e f g h k = cc
-    go true false true d e f g h k = cc
-    go true false false true e f g h k = cc
-    go true false false false e f g h k = record { eight = eight; bytes = bytes; type = eq_true (slice_index header 0) 4 e; least = grind (arith, nat_tests); most = grind (arith, nat_tests); within = grind (arith, nat_tests) }
-
--- a good header and a body of its length are a packet
-packet_is : (size limit : ℕ) (packets : List Packet) (header body : List ℕ) → Good size limit packets header → length body ≡ header_length header - 8 → (packet_bytes (packet_of header body) ≡ header ++ body) × IsPacket size (packet_of header body)
-packet_is size limit packets (a ∷ b ∷ c ∷ d ∷ e ∷ f ∷ g ∷ h ∷ []) body good l =
-    let least : 8 ≤ 256 * c + d = good.least in
-    let most : 256 * c + d ≤ size = good.most in
-    let n : 8 + length body ≡ 256 * c + d = omega arith in
-    let small : d < 256 = good.bytes.1.1.1.0 in
-    let high : (8 + length body) / 256 ≡ c = omega arith in
-    let low : (8 + length body) % 256 ≡ d = omega arith in
-    let type : a ≡ 4 = good.type in
-    (cc, record { id = refl; fits = omega arith })
-packet_is size limit packets [] body good l = absurd (let k : length {A = ℕ} [] ≡ 8 = good.eight in omega arith)
-packet_is size limit packets (a ∷ []) body good l = absurd (let k : length (a ∷ []) ≡ 8 = good.eight in omega arith)
-packet_is size limit packets (a ∷ b ∷ []) body good l = absurd (let k : length (a ∷ b ∷ []) ≡ 8 = good.eight in omega arith)
-packet_is size limit packets (a ∷ b ∷ c ∷ []) body good l = absurd (let k : length (a ∷ b ∷ c ∷ []) ≡ 8 = good.eight in omega arith)
-packet_is size limit packets (a ∷ b ∷ c ∷ d ∷ []) body good l = absurd (let k : length (a ∷ b ∷ c ∷ d ∷ []) ≡ 8 = good.eight in omega arith)
-packet_is size limit packets (a ∷ b ∷ c ∷ d ∷ e ∷ []) body good l = absurd (let k : length (a ∷ b ∷ c ∷ d ∷ e ∷ []) ≡ 8 = good.eight in omega arith)
-packet_is size limit packets (a ∷ b ∷ c ∷ d ∷ e ∷ f ∷ []) body good l = absurd (let k : length (a ∷ b ∷ c ∷ d ∷ e ∷ f ∷ []) ≡ 8 = good.eight in omega arith)
-packet_is size limit packets (a ∷ b ∷ c ∷ d ∷ e ∷ f ∷ g ∷ []) body good l = absurd (let k : length (a ∷ b ∷ c ∷ d ∷ e ∷ f ∷ g ∷ []) ≡ 8 = good.eight in omega arith)
-packet_is size limit packets (a ∷ b ∷ c ∷ d ∷ e ∷ f ∷ g ∷ h ∷ i ∷ j) body good l = absurd (let k : length (a ∷ b ∷ c ∷ d ∷ e ∷ f ∷ g ∷ h ∷ i ∷ j) ≡ 8 = good.eight in omega arith)
+free_is_good size limit packets header eight bytes free = grind (arith, eq_true, nat_tests)
 
 -- what the bytes that lead to a place of the wire are
 abbrev pub WireMeans : ℕ → ℕ → List Packet → WirePlace → List ℕ → Type 0
@@ -72,20 +42,7 @@ Means size limit w b = WireMeans size limit w.packets w.place b
 
 module _ (size limit : ℕ) where
   with_means : (packets : List Packet) (header body : List ℕ) → AreBefore size packets → Good size limit packets header → length body ≡ header_length header - 8 → Means size limit (with_packet packets (packet_of header body)) (wire_of packets ++ (header ++ body))
-  with_means packets header body before good l =
-      let p : Packet = packet_of header body in
-      let k = packet_is size limit packets header body good l in
-      let e : wire_of packets ++ (header ++ body) ≡ wire_of (packets ++ p ∷ []) = ap (λ v. wire_of packets ++ v) (sym k.0 ∙ sym (append-nil (packet_bytes p))) ∙ sym (flat_map-append packet_bytes packets (p ∷ [])) in
-      let la : length (wire_of packets ++ (header ++ body)) ≡ length (wire_of packets) + (length header + length body) = length-append (wire_of packets) (header ++ body) ∙ ap (λ v. length (wire_of packets) + v) (length-append header body) in
-      let eight : length header ≡ 8 = good.eight in
-      let least : 8 ≤ header_length header = good.least in
-      let within : length (wire_of packets) + header_length header ≤ limit = good.within in
-      let fits : length (wire_of packets ++ (header ++ body)) ≤ limit = omega (arith, la) in
-      choose_last (is_last p) refl e k.1 fits
-    where
-      choose_last : (t : Bool) → is_last (packet_of header body) ≡ t → wire_of packets ++ (header ++ body) ≡ wire_of (packets ++ packet_of header body ∷ []) → IsPacket size (packet_of header body) → length (wire_of packets ++ (header ++ body)) ≤ limit → WireMeans size limit (packets ++ packet_of header body ∷ []) (if t then BehindLast else BeforeHeader) (wire_of packets ++ (header ++ body))
-      choose_last true q e i f = (e, last_one size packets (packet_of header body) before i q, f)
-      choose_last false q e i f = (e, one_more size packets (packet_of header body) before i q, f)
+  with_means packets header body before good l = grind (arith, append-nil, flat_map-append, length-append, last_one, one_more)
 
   wire_step : (packets : List Packet) (place : WirePlace) (b e : List ℕ) → AreBytes e → WireMeans size limit packets place b → IsNext (wire size limit) (record { packets = packets; place = place }) e → Means size limit ((wire size limit).add (record { packets = packets; place = place }) e) (b ++ e)
   wire_step packets BehindLast b e bytes h n = absurd (let l : length e ≡ 0 = n.whole in let s : 0 < length e = n.some in omega arith)
@@ -94,8 +51,7 @@ module _ (size limit : ℕ) where
       choose (λ w. Means size limit w (b ++ e)) (header_length e == 8) (with_packet packets (packet_of e [])) (record { packets = packets; place = BeforeBody e })
       (λ z. subst (λ v. Means size limit (with_packet packets (packet_of e [])) v) (ap (λ v. wire_of packets ++ v) (append-nil e) ∙ ap (λ v. v ++ e) (sym h.0)) (with_means packets e [] h.1 good (let q : header_length e ≡ 8 = eq_true (header_length e) 8 z in omega arith)))
       (λ z. (ap (λ v. v ++ e) h.0, h.1, good))
-  wire_step packets (BeforeBody header) b e bytes h n =
-      subst (λ v. Means size limit (with_packet packets (packet_of header e)) v) (sym (append_assoc (wire_of packets) header e) ∙ ap (λ v. v ++ e) (sym h.0)) (with_means packets header e h.1 h.2 n.whole)
+  wire_step packets (BeforeBody header) b e bytes h n = grind (arith, append_assoc, with_means)
 
   -- what is read of a wire are the packets that it begins with
   pub wire_is_spelt : (bytes : List ℕ) (w : WirePart) → AreBytes bytes → Spelt (wire size limit) no_wire bytes w → Means size limit w bytes
@@ -110,32 +66,14 @@ module _ (size limit : ℕ) where
   header-length p = omega arith
 
   good_header : (packets : List Packet) (p : Packet) → IsPacket size p → length (wire_of packets) + packet_length p ≤ limit → header_fault size limit (length (wire_of packets)) (header_of p) ≡ None
-  good_header packets p i f =
-      let e : header_length (header_of p) ≡ packet_length p = header-length p in
-      let most : packet_length p ≤ size = i.fits in
-      let a : nat_lt (header_length (header_of p)) 8 ≡ false = grind (arith, nat_tests) in
-      let b : nat_lt size (header_length (header_of p)) ≡ false = grind (arith, nat_tests) in
-      let c : nat_lt limit (length (wire_of packets) + header_length (header_of p)) ≡ false = grind (arith, nat_tests) in
-      go (nat_lt (header_length (header_of p)) 8) (nat_lt size (header_length (header_of p))) (nat_lt limit (length (wire_of packets) + header_length (header_of p))) a b c
-    where
-      go : (a b c : Bool) → a ≡ false → b ≡ false → c ≡ false → (if a || b then Some (BadPacketLength (header_length (header_of p))) else if c then Some ResponseTooLong else None) ≡ None
-      go true b c x y z = cc
-      go false true c x y z = cc
-      go false false true x y z = cc
-      go false false false x y z = refl
+  good_header packets p i f = grind (arith, nat_tests)
 
   abbrev pub before_packet : List Packet → WirePart
   before_packet packets = record { packets = packets; place = BeforeHeader }
 
   -- a packet that may follow is read
   bytes_are_read : (packets : List Packet) (status : ℕ) (id body : List ℕ) (p : Packet) → p ≡ record { status = status; id = id; body = body } → IsPacket size p → length (wire_of packets) + packet_length p ≤ limit → Spelt (wire size limit) (before_packet packets) (header_of p ++ body) (with_packet packets p)
-  bytes_are_read packets status id [] p e i f =
-      let four : length p.id ≡ 4 = i.id in
-      let n : packet_length p ≡ 8 = ap (λ v. packet_length v) e in
-      let k : header_length (header_of p) ≡ 8 = header-length p ∙ n in
-      subst (λ v. Spelt (wire size limit) (before_packet packets) v (with_packet packets p)) (sym (append-nil (header_of p)))
-      (Spelt-step (wire size limit) (before_packet packets) (header_of p) (with_packet packets p) (omega arith) (omega arith) (good_header packets p i f)
-      (ap (λ v. (if v == 8 then with_packet packets (packet_of (header_of p) []) else record { packets = packets; place = BeforeBody (header_of p) })) k ∙ ap (λ v. with_packet packets (record { status = p.status; id = p.id; body = v })) (sym (ap (λ v. v.body) e))))
+  bytes_are_read packets status id [] p e i f = grind (arith, header-length, append-nil, Spelt-step, good_header)
   bytes_are_read packets status id (x ∷ xs) p e i f =
       let four : length p.id ≡ 4 = i.id in
       let n : packet_length p ≡ 8 + length (x ∷ xs) = ap (λ v. packet_length v) e in
@@ -172,16 +110,12 @@ module _ (size limit : ℕ) where
       Spelt-append (wire size limit) no_wire (wire_of packets) (before_packet packets) (packet_bytes next) (with_packet packets next) (before_are_read [] packets before (omega (arith, la))) (packet_is_read packets next i (omega (arith, la, lp)))
 
   last_place : (t : Bool) (header : List ℕ) → ◌≡◌ {A = WirePlace} (if t then BehindLast else BeforeHeader) (BeforeBody header) → ⊥
-  last_place true header e = cc
-  last_place false header e = cc
+  last_place t header e = grind (arith)
 
   -- What is read at most of an input are the packets at its front.
   pub read_front : (input : List ℕ) (taken : ℕ) (w : WirePart) → AreBytes input → Longest (wire size limit) no_wire input taken w → Front size limit input w.packets
   read_front input taken w are l = go w.place refl (wire_is_spelt size limit (take taken input) w (AreBytes-front (take taken input) (drop taken input) (subst (λ v. AreBytes v) (sym (take-append-drop taken input)) are)) l.spelt)
     where
-      within : taken ≤ length input
-      within = l.within
-
       none : (next : Packet) → IsNextPacket size limit input w.packets next → AreBefore size w.packets → length (wire_of w.packets ++ packet_bytes next) ≤ taken
       none next f before =
           let all : List ℕ = wire_of w.packets ++ packet_bytes next in
@@ -199,10 +133,7 @@ module _ (size limit : ℕ) where
               k.1,
               λ next f.
                   let n : length (wire_of w.packets ++ packet_bytes next) ≤ taken = none next f k.1 in
-                  let la : length (wire_of w.packets ++ packet_bytes next) ≡ length (wire_of w.packets) + length (packet_bytes next) = length-append (wire_of w.packets) (packet_bytes next) in
-                  let lp : length (packet_bytes next) ≡ packet_length next = length-packet_bytes next f.rules in
-                  let lt : taken ≡ length (wire_of w.packets) = sym (length-take-le taken input within) ∙ ap (λ v. length v) k.0 in
-                  omega (arith, la, lp, lt, n),
+                  grind (arith, length-append, length-packet_bytes, length-take-le),
             );
           }
       go (BeforeBody header) e m = let k : WireMeans size limit w.packets (BeforeBody header) (take taken input) = subst (λ v. WireMeans size limit w.packets v (take taken input)) e m in
@@ -218,7 +149,7 @@ module _ (size limit : ℕ) where
                   let la : length all ≡ length (wire_of w.packets) + length (packet_bytes next) = length-append (wire_of w.packets) (packet_bytes next) in
                   let lp : length (packet_bytes next) ≡ packet_length next = length-packet_bytes next f.rules in
                   let eight : length header ≡ 8 = k.2.eight in
-                  let lt : taken ≡ length (wire_of w.packets) + length header = sym (length-take-le taken input within) ∙ ap (λ v. length v) k.0 ∙ length-append (wire_of w.packets) header in
+                  let lt : taken ≡ length (wire_of w.packets) + length header = sym (length-take-le taken input l.within) ∙ ap (λ v. length v) k.0 ∙ length-append (wire_of w.packets) header in
                   let same : length all ≡ taken = omega (arith, la, lp, lt, n) in
                   let t : take taken input ≡ all = ap (λ v. take v input) (sym same) ∙ ap (λ v. take (length all) v) f.spelt ∙ take-append_seam all f.more in
                   let one : w ≡ with_packet w.packets next = one_state (wire size limit) no_wire (take taken input) w (with_packet w.packets next) l.spelt (subst (λ v. Spelt (wire size limit) no_wire v (with_packet w.packets next)) (sym t) (following w.packets next k.1 f.rules f.within)) in

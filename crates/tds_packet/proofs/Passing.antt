@@ -1,16 +1,14 @@
 -- What `?` passes on.
-use Rattle.std.proofs.Common.{◌≡◌, Result, Err, MatchResult, sym, subst}
+use Rattle.std.proofs.lemmas.Grind.{common_steps}
+use Rattle.std.proofs.Common.{arith}
+use Rattle.std.proofs.Common.{◌≡◌, Result, Err, MatchResult}
 use Rattle.std.specs.Result.{IsErrAnd}
 use Rattle.std.proofs.lemmas.Result.{err_from_is_err_and}
 
 -- where `?` leaves with an error, what is said of each answer holds if it holds of that error
 pub passed : {T E : Type 0} (r : Result T E) (e : E) (P : T → Type 0) (Q : E → Type 0) → IsErrAnd r (λ x. x ≡ e) → Q e → MatchResult r P Q
-passed r e P Q is holds =
-    let p = err_from_is_err_and r is in
-    rw p.1 (subst Q (sym p.2) holds)
+passed r e P Q is holds = grind (arith, common_steps, err_from_is_err_and)
 
 -- so it is of whatever is said of the answer
 pub passed_on : {T E : Type 0} (r : Result T E) (e : E) (P : Result T E → Type 0) → IsErrAnd r (λ x. x ≡ e) → P (Err e) → P r
-passed_on r e P is holds =
-    let p = err_from_is_err_and r is in
-    rw (p.1, p.2) holds
+passed_on r e P is holds = grind (arith, common_steps, err_from_is_err_and)

@@ -1,16 +1,12 @@
 -- Where a payload stops that hands out nothing.
-use Rattle.std.proofs.Common.{◌≡◌, ◌∙◌, ℕ, zero, suc, ◌+◌, ◌-◌, Bool, true, false, List, [], ◌++◌, length, take, drop, Option, Some, None, inl, inr, refl, sym, ap, subst, arith, length-append, add-zero}
-use Rattle.std.specs.Prelude.{nat_lt, slice_index, ◌==◌, ◌||◌}
-use Rattle.tds_packet.specs.declared.fault.Fault.{Fault}
-use Rattle.tds_packet.specs.declared.fault.Fault.TheVariants.{InputEnded, MessageEnded, ReadFailed}
+use Rattle.std.proofs.Common.{◌≡◌, ◌∙◌, ℕ, zero, suc, ◌+◌, Bool, true, false, List, [], ◌++◌, length, Option, None, inl, inr, sym, ap, subst, arith, length-append, add-zero}
+use Rattle.tds_packet.specs.declared.fault.Fault.TheVariants.{MessageEnded, ReadFailed}
 use Rattle.tds_packet.specs.declared.fault.Place.TheVariants.{Payload}
 use Rattle.tds_packet.specs.declared.fault.Stop.{Stop}
 use Rattle.tds_packet.specs.declared.payload.Payload as payloads
 use Rattle.tds_packet.specs.Payloads.{buffered, seen}
-use Rattle.tds_packet.specs.Coming.{Coming, FrontPacket, WholePacket, NoPacket, before, behind_header, behind_packet, coming_of, front_packet, message, stopped_at}
-use Rattle.tds_packet.specs.Packets.{header_fault, header_length, is_last_status}
-use Rattle.tds_packet.specs.Seen.{Ends, Seen, began_at, place_at}
-use Rattle.tds_packet.proofs.Choices.{choose}
+use Rattle.tds_packet.specs.Coming.{Coming, FrontPacket, WholePacket, NoPacket, before, behind_packet, coming_of, front_packet, message, stopped_at}
+use Rattle.tds_packet.specs.Seen.{Ends, Seen, began_at}
 use Rattle.tds_packet.proofs.Fronts.{not_header}
 
 -- Where the message ends, the stop stands after its bytes.
@@ -22,20 +18,9 @@ abbrev GoesOn : FrontPacket → Type 0
 GoesOn (WholePacket body last n rest) = Unit {0}
 GoesOn (NoPacket fault rest) = fault ≡ MessageEnded → ⊥
 
-header_goes_on : (header rest : List ℕ) (o : Option Fault) → (o ≡ Some MessageEnded → ⊥) → GoesOn (behind_header header rest o)
-header_goes_on header rest (Some fault) h = λ e. h (ap Some e)
-header_goes_on header rest None h =
-    choose GoesOn (nat_lt (length rest) (header_length header - 8)) (NoPacket InputEnded []) (WholePacket (take (header_length header - 8) rest) (is_last_status (slice_index header 1)) (header_length header) (drop (header_length header - 8) rest))
-    (λ _ e. cc) (λ _. tt)
-
 front_goes_on : (size limit wire : ℕ) (input : List ℕ) → GoesOn (front_packet size limit wire input)
 unfolding front_packet
-front_goes_on size limit wire input =
-    let header = take 8 input in
-    choose GoesOn (nat_lt (length input) 8) (NoPacket InputEnded []) (behind_header header (drop 8 input) (header_fault size limit wire header))
-    (λ _ e. cc)
-    (λ _. header_goes_on header (drop 8 input) (header_fault size limit wire header)
-    (not_header (slice_index header 0 == 4) (nat_lt (header_length header) 8 || nat_lt size (header_length header)) (nat_lt limit (wire + header_length header)) (header_length header) (slice_index header 0)))
+front_goes_on size limit wire input = grind (arith, not_header)
 
 before_ends : (place : ℕ) (body : List ℕ) (c : Coming) → EndsBehind (place + length body) c → EndsBehind place (before body c)
 before_ends place body c h = record { stands = λ e. h.stands e ∙ ap Payload (omega (arith, length-append body c.bytes)) }
@@ -57,14 +42,7 @@ coming_ends size limit wire place true left input = before_ends place left (stop
 coming_ends size limit wire place false left input = before_ends place left (message size limit (suc (length input)) wire (place + length left) input) (message_ends size limit (suc (length input)) wire (place + length left) input)
 
 began_there : (place : ℕ) (stop : Stop) → (stop.fault ≡ MessageEnded → stop.place ≡ Payload place) → stop ≡ began_at place stop
-began_there place stop h = go stop.fault refl
-  where
-    here : (f : Fault) → stop.fault ≡ f → place_at place f stop.place ≡ stop.place → stop ≡ began_at place stop
-    here f e same = ap (λ q. record { fault = stop.fault; place = q }) (sym same ∙ ap (λ g. place_at place g stop.place) (sym e))
-
-    go : (f : Fault) → stop.fault ≡ f → stop ≡ began_at place stop
-    go MessageEnded e = here MessageEnded e (sym (h e))
-    go f e = here f e refl
+began_there place stop h = grind (arith)
 
 -- where a payload stops that had not, and hands out nothing, the message ends at its place if it does
 pub stops_here : {R : Type 0} (remaining : R → Option (List ℕ)) (p : payloads.Payload R) (new : Seen) (stop : Stop) → p.stopped ≡ None → Ends (seen remaining p) new [] stop → stop ≡ began_at p.place stop

@@ -1,5 +1,5 @@
 -- A payload on its way into packets of one size.
-use Rattle.std.proofs.Common.{◌≡◌, ◌∙◌, inl, inr, ◌⊎◌, ℕ, zero, suc, ◌+◌, ◌-◌, ◌*◌, ◌/◌, ◌<◌, ◌≤◌, Bool, true, false, List, [], ◌∷◌, ◌++◌, length, take, drop, Option, None, refl, sym, ap, subst, arith, append-nil, length-append, length-drop, take_all, le_refl}
+use Rattle.std.proofs.Common.{◌≡◌, ◌∙◌, inl, inr, ◌⊎◌, ℕ, zero, suc, ◌+◌, ◌-◌, ◌*◌, ◌<◌, ◌≤◌, Bool, true, false, List, [], ◌∷◌, ◌++◌, length, take, drop, Option, None, refl, sym, ap, subst, arith, append-nil, length-append, length-drop, take_all, le_refl}
 use Rattle.std.proofs.lemmas.Nat.{div-mul-add}
 use Rattle.std.proofs.lemmas.Grind.{flat_map-append}
 use Rattle.std.proofs.KnownBytes.{Appends-nil, Appends-trans, Appends-kept}
@@ -18,7 +18,7 @@ use Rattle.tds_packet.specs.declared.fault.Fault.TheVariants.{MessageEnded}
 use Rattle.tds_packet.specs.declared.fault.Stop.{Stop}
 use Rattle.tds_packet.specs.declared.payload.Payload.{Payload}
 use Rattle.tds_packet.specs.declared.recutting.Written.{Written}
-use Rattle.tds_packet.specs.Coming.{Coming, before, coming_of, message}
+use Rattle.tds_packet.specs.Coming.{Coming, before, coming_of}
 use Rattle.tds_packet.specs.Packets.{Packet, packet_bytes, wire_of}
 use Rattle.tds_packet.specs.Payloads.{buffered, seen}
 use Rattle.tds_packet.specs.Recutting.{Cuts, Flushes, Gains, StopsInput, StopsOutput, write_stop, cut_packet, cut_packets, first_packets, before_last, last_packet, packets_before}
@@ -49,17 +49,9 @@ joined a b c hs bs p q =
 
 -- ---- bytes that lie ready are handed out before the end
 
-starts : (size limit wire place : ℕ) (last : Bool) (left input : List ℕ) → length left ≤ length (coming_of size limit wire place last None left input).bytes
-unfolding coming_of
-starts size limit wire place true left input = omega (arith, length-append left [])
-starts size limit wire place false left input = omega (arith, length-append left (message size limit (suc (length input)) wire (place + length left) input).bytes)
-
 starts_in : {R : Type 0} (remaining : R → Option (List ℕ)) (p : Payload R) (input bytes : List ℕ) → p.stopped ≡ None → ((seen remaining p).future input).bytes ≡ bytes → length (buffered p) ≤ length bytes
-starts_in remaining p input bytes e is =
-    let first = starts p.packet.now.room p.max_wire p.wire p.place p.last (buffered p) input in
-    let same : coming_of p.packet.now.room p.max_wire p.wire p.place p.last p.stopped (buffered p) input ≡ coming_of p.packet.now.room p.max_wire p.wire p.place p.last None (buffered p) input =
-    ap (λ o. coming_of p.packet.now.room p.max_wire p.wire p.place p.last o (buffered p) input) e in
-    omega (arith, first, ap (λ (c : Coming). length c.bytes) same, ap (λ l. length l) is)
+unfolding coming_of
+starts_in remaining p input bytes e is = grind (arith, length-append)
 
 pub some_over : {R : Type 0} (remaining : R → Option (List ℕ)) (p : Payload R) (b : Seen) (bytes : List ℕ) (n : ℕ) → p.stopped ≡ None → Takes (seen remaining p) b bytes n → IsOver b → length (buffered p) ≤ length bytes
 some_over remaining p b bytes n e takes over =
@@ -73,15 +65,12 @@ some_ends remaining p b bytes stop e (inr (inr x)) = starts_in remaining p x.0.0
 
 -- ---- the packets of a payload
 
-mul_suc : (k m : ℕ) → suc k * m ≡ k * m + m
-mul_suc k m = suc-mul k m
-
 -- more bytes after full packets change none of them
 first-more : (m k : ℕ) (xs ys : List ℕ) → k * m ≤ length xs → first_packets m k (xs ++ ys) ≡ first_packets m k xs
 unfolding first_packets
 first-more m zero xs ys h = refl
 first-more m (suc k) xs ys h =
-    let long : k * m + m ≤ length xs = omega (arith, h, mul_suc k m) in
+    let long : k * m + m ≤ length xs = omega (arith, h, suc-mul k m) in
     let tail : drop (k * m) (xs ++ ys) ≡ drop (k * m) xs ++ ys = drop-append-le (k * m) xs ys (omega (arith, long)) in
     let body : take m (drop (k * m) (xs ++ ys)) ≡ take m (drop (k * m) xs) = ap (take m) tail ∙ take-append-le m (drop (k * m) xs) ys (omega (arith, long, length-drop (k * m) xs)) in
     let one : Packet → List Packet = λ p. p ∷ [] in
@@ -95,9 +84,7 @@ first-length m (suc k) xs = length-append (first_packets m k xs) _ ∙ ap (λ n.
 
 -- how many stand before the last, by what is left for it
 before_is : (m k r n : ℕ) → n ≡ k * m + r → r ≤ m → 0 < m → (0 < k → 0 < r) → before_last m n ≡ k
-before_is m k (suc r) n e h some more = ap (λ i. i / m) (omega (arith, e)) ∙ div-mul-add k m r (omega (arith, h))
-before_is m zero zero n e h some more = ap (λ i. i / m) (omega (arith, e)) ∙ div-mul-add zero m zero some
-before_is m (suc k) zero n e h some more = absurd (omega (arith, more (omega arith)))
+before_is m k r n e h some more = grind (arith, div-mul-add)
 
 wire-more : (ps : List Packet) (p : Packet) → wire_of (ps ++ p ∷ []) ≡ wire_of ps ++ packet_bytes p
 wire-more ps p = flat_map-append packet_bytes ps (p ∷ []) ∙ ap (λ l. wire_of ps ++ l) (append-nil (packet_bytes p))
@@ -116,9 +103,7 @@ pub record Cutting {W : Type 0} (contents : W → Option (List ℕ)) (m : ℕ) (
 
 -- the packets before a body that follows full packets
 pub before_body : (m k : ℕ) (payload body : List ℕ) → length payload ≡ k * m → length body ≤ m → 0 < m → (0 < k → 0 < length body) → packets_before m (payload ++ body) ≡ first_packets m k payload
-before_body m k payload body whole fits some more =
-    ap (λ i. first_packets m i (payload ++ body)) (before_is m k (length body) (length (payload ++ body)) (omega (arith, length-append payload body, whole)) fits some more)
-    ∙ first-more m k payload body (omega (arith, whole))
+before_body m k payload body whole fits some more = grind (arith, length-append, first-more, div-mul-add)
 
 -- and the packet of that body
 pub body_packet : (m k : ℕ) (last : Bool) (payload body : List ℕ) → length payload ≡ k * m → length body ≤ m → 0 < m → (0 < k → 0 < length body) → last_packet m last (payload ++ body) ≡ cut_packet k last body
@@ -130,23 +115,13 @@ body_packet m k last payload body whole fits some more =
 -- a full packet more is one of the first
 pub first_is : (m k : ℕ) (payload body : List ℕ) → length payload ≡ k * m → length body ≡ m → first_packets m (suc k) (payload ++ body) ≡ first_packets m k payload ++ cut_packet k false body ∷ []
 unfolding first_packets
-first_is m k payload body whole full =
-    let one : Packet → List Packet = λ p. p ∷ [] in
-    let tail : take m (drop (k * m) (payload ++ body)) ≡ body = ap (λ i. take m (drop i (payload ++ body))) (sym whole) ∙ ap (take m) (drop-append_seam payload body) ∙ take_all m body (omega (arith, full)) in
-    ap (λ l. l ++ one (cut_packet k false (take m (drop (k * m) (payload ++ body))))) (first-more m k payload body (omega (arith, whole)))
-    ∙ ap (λ l. first_packets m k payload ++ one (cut_packet k false l)) tail
+first_is m k payload body whole full = grind (arith, drop-append_seam, take_all, first-more)
 
 -- ---- a header over the first bytes
 
 pub header_put : (s : Space) (number n : ℕ) (last : Bool) (w hs : List ℕ) → 8 ≤ length s.bytes → n ≡ length s.bytes → length hs ≡ 8 → ((body : List ℕ) → 8 + length body ≡ n → hs ++ body ≡ packet_bytes (cut_packet number last body)) → w ≡ hs ++ drop (length hs) s.bytes
     → holding s (take (length s.bytes) (take 0 s.bytes ++ (w ++ drop (length w) (drop 0 s.bytes)))) ≡ holding s (packet_bytes (cut_packet number last (drop 8 s.bytes)))
-header_put s number n last w hs h en eight eh ew =
-    let len : length w ≡ length s.bytes = omega (arith, ap length ew, length-append hs (drop (length hs) s.bytes), length-drop (length hs) s.bytes, eight, h) in
-    let rest : drop (length w) s.bytes ≡ [] = drop_of_length-le s.bytes (omega (arith, len)) in
-    let size : 8 + length (drop 8 s.bytes) ≡ n = omega (arith, en, h, length-drop 8 s.bytes) in
-    let all : w ≡ packet_bytes (cut_packet number last (drop 8 s.bytes)) =
-    ew ∙ ap (λ l. hs ++ drop l s.bytes) eight ∙ eh (drop 8 s.bytes) size in
-    ap (holding s) (ap (λ r. take (length s.bytes) (w ++ r)) rest ∙ ap (take (length s.bytes)) (append-nil w) ∙ take_all (length s.bytes) w (omega (arith, len)) ∙ all)
+header_put s number n last w hs h en eight eh ew = grind (arith, length-append, length-drop, drop_of_length-le, append-nil, take_all)
 
 -- ---- the loop's steps and exits
 
@@ -246,8 +221,7 @@ module _ {W : Type 0} (contents : W → Option (List ℕ)) (m : ℕ) (a b c : Se
 
 -- what a flush does to the count of failures
 flushed_or : (b : Bool) (before after : ℕ) → (IsTrue b → (after ≡ before) × (before < 2 ^ 64 - 1)) → (b ≡ false → after ≡ one_more before) → (after ≡ before) ⊎ (after ≡ one_more before)
-flushed_or true before after ok counted = inl ((ok refl).0)
-flushed_or false before after ok counted = inr (counted refl)
+flushed_or b before after ok counted = grind (arith)
 
 -- the input stopped, and the writer was flushed
 pub cut_stopped : {W : Type 0} (contents : W → Option (List ℕ)) (m : ℕ) (a b c : Seen) (old mid new : Counted W) (done : Written) (place : ℕ) → Cutting contents m a b old mid done place

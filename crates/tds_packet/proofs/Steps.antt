@@ -1,12 +1,12 @@
 -- Calls that read by a grammar, one after another.
-use Rattle.std.proofs.Common.{◌≡◌, ◌∙◌, inl, inr, refl, ℕ, ◌+◌, ◌<◌, List, [], ◌++◌, length, sym, ap, subst, arith, append_assoc, append-nil, length-append}
+use Rattle.std.proofs.Common.{◌≡◌, ◌∙◌, inl, inr, ℕ, ◌+◌, ◌<◌, List, [], ◌++◌, length, sym, ap, subst, arith, append_assoc, append-nil, length-append}
 use Rattle.std.specs.Prelude.{Option, Some}
 use Rattle.tds_packet.specs.declared.fault.Fault.{Fault}
 use Rattle.tds_packet.specs.declared.fault.Fault.TheVariants.{MessageEnded}
 use Rattle.tds_packet.specs.declared.fault.Place.TheVariants.{Payload}
 use Rattle.tds_packet.specs.declared.fault.Stop.{Stop}
 use Rattle.tds_packet.specs.Elements.{Grammar, IsNext, Spelt}
-use Rattle.tds_packet.specs.Seen.{Seen, Takes, Ends, IsBetween, began_at, place_at}
+use Rattle.tds_packet.specs.Seen.{Seen, Takes, Ends, IsBetween, began_at}
 use Rattle.tds_packet.specs.Reading.{Reads, RefusesNext, CutsNext, StopsReading, IsCutStop}
 use Rattle.tds_packet.proofs.ElementLaws.{Spelt-none, Spelt-append, Spelt-one}
 use Rattle.tds_packet.proofs.Futures.{Takes-none, Takes-trans, Ends-after}
@@ -31,20 +31,7 @@ add_none n = omega arith
 
 -- a call of many bytes and a cut element of an open description stop alike
 pub began_is_cut : (place : ℕ) (ended : Option Fault) (own stop : Stop) → ended ≡ Some MessageEnded → stop ≡ began_at place own → IsCutStop place ended own stop
-began_is_cut place ended own stop end is = go own.fault refl
-  where
-    named : (f : Fault) → own.fault ≡ f → stop ≡ record { fault = f; place = place_at place f own.place }
-    named f e = is ∙ ap (λ g. record { fault = g; place = place_at place g own.place }) e
-
-    same : (f : Fault) → own.fault ≡ f → stop ≡ record { fault = f; place = own.place } → stop ≡ own
-    same f e t = t ∙ ap (λ g. record { fault = g; place = own.place }) (sym e)
-
-    other : (f : Fault) → own.fault ≡ f → (f ≡ MessageEnded → ⊥) → own.fault ≡ MessageEnded → ⊥
-    other f e differs m = differs (sym e ∙ m)
-
-    go : (f : Fault) → own.fault ≡ f → IsCutStop place ended own stop
-    go MessageEnded e = inl (e, (MessageEnded, end, named MessageEnded e))
-    go f e = inr (other f e (λ m. cc), same f e (named f e))
+began_is_cut place ended own stop end is = grind (arith)
 
 module _ {S : Type 0} (g : Grammar S Fault) where
   abbrev pub reads_none : (s : S) (a : Seen) → Reads g s a a s
@@ -109,8 +96,4 @@ module _ {S : Type 0} (g : Grammar S Fault) where
 
   -- the payload stopped in the first element
   pub cut_at_once : (s : S) (a b : Seen) (place : ℕ) (part : List ℕ) (own stop : Stop) → length part < g.size s → Ends a b part own → IsCutStop place (g.end_fault s) own stop → StopsReading g s a b place s stop
-  cut_at_once s a b place part own stop cut ends is = record {
-    bytes = [];
-    spelt = Spelt-none g s;
-    cause = inr (record { part = part; cut = cut; own = own; ends = ends; stop_is = subst (λ n. IsCutStop n (g.end_fault s) own stop) (sym (add_none place)) is });
-  }
+  cut_at_once s a b place part own stop cut ends is = grind (arith, Spelt-none, add_none)

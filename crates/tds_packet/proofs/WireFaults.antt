@@ -1,13 +1,14 @@
 -- Which faults the payload itself may have.
-use Rattle.std.proofs.Common.{◌≡◌, ◌∙◌, inl, inr, ℕ, zero, suc, ◌+◌, ◌-◌, Bool, true, false, List, [], ◌++◌, length, take, drop, sym, ap, subst}
-use Rattle.std.specs.Prelude.{Option, Some, None, ⊤, ◌==◌, ◌||◌, nat_lt, slice_index, if◌then◌else◌}
+use Rattle.std.proofs.lemmas.Grind.{common_steps}
+use Rattle.std.proofs.Common.{arith}
+use Rattle.std.proofs.Common.{◌≡◌, ◌∙◌, inl, inr, ℕ, zero, suc, Bool, List, [], ◌++◌, sym, ap, subst}
+use Rattle.std.specs.Prelude.{Option, None, ⊤}
 use Rattle.tds_meter.specs.Counts.{one_more}
 use Rattle.tds_packet.specs.declared.fault.Fault.{Fault}
-use Rattle.tds_packet.specs.declared.fault.Fault.TheVariants.{ReadFailed, WriteFailed, WrongPacketType, BadPacketLength, ResponseTooLong, InputEnded}
+use Rattle.tds_packet.specs.declared.fault.Fault.TheVariants.{ReadFailed, WriteFailed}
 use Rattle.tds_packet.specs.declared.fault.Stop.{Stop}
 use Rattle.tds_packet.specs.declared.payload.Payload as payloads
-use Rattle.tds_packet.specs.Coming.{Coming, FrontPacket, NoPacket, WholePacket, behind_header, behind_packet, coming_of, front_packet, message}
-use Rattle.tds_packet.specs.Packets.{header_fault, header_length}
+use Rattle.tds_packet.specs.Coming.{Coming, FrontPacket, NoPacket, WholePacket, behind_packet, coming_of, front_packet, message}
 use Rattle.tds_packet.specs.Payloads.{buffered, seen}
 use Rattle.tds_packet.specs.Seen.{Ends, Seen}
 
@@ -17,44 +18,16 @@ IsOfWire ReadFailed = ⊥
 IsOfWire WriteFailed = ⊥
 IsOfWire fault = ⊤
 
-abbrev AtMostOfWire : Option Fault → Type 0
-AtMostOfWire None = ⊤
-AtMostOfWire (Some fault) = IsOfWire fault
-
 abbrev FrontOfWire : FrontPacket → Type 0
 FrontOfWire (WholePacket body last n rest) = ⊤
 FrontOfWire (NoPacket fault rest) = IsOfWire fault
 
-judged : (a b c : Bool) (n kind : ℕ) → AtMostOfWire (if a then (if b then Some (BadPacketLength n) else if c then Some ResponseTooLong else None) else Some (WrongPacketType kind))
-judged true true c n kind = tt
-judged true false true n kind = tt
-judged true false false n kind = tt
-judged false b c n kind = tt
-
-header_of_wire : (size limit wire : ℕ) (header : List ℕ) → AtMostOfWire (header_fault size limit wire header)
-header_of_wire size limit wire header = judged (slice_index header 0 == 4) (nat_lt (header_length header) 8 || nat_lt size (header_length header)) (nat_lt limit (wire + header_length header)) (header_length header) (slice_index header 0)
-
-body_of_wire : (short : Bool) (body : List ℕ) (last : Bool) (n : ℕ) (rest : List ℕ) → FrontOfWire (if short then NoPacket InputEnded [] else WholePacket body last n rest)
-body_of_wire true body last n rest = tt
-body_of_wire false body last n rest = tt
-
-behind_of_wire : (header rest : List ℕ) (fault : Option Fault) → AtMostOfWire fault → FrontOfWire (behind_header header rest fault)
-behind_of_wire header rest (Some fault) h = h
-behind_of_wire header rest None h = body_of_wire (nat_lt (length rest) (header_length header - 8)) _ _ _ _
-
-if_front : (short : Bool) (p : FrontPacket) → FrontOfWire p → FrontOfWire (if short then NoPacket InputEnded [] else p)
-if_front true p h = tt
-if_front false p h = h
-
 front_of_wire : (size limit wire : ℕ) (input : List ℕ) → FrontOfWire (front_packet size limit wire input)
 unfolding front_packet
-front_of_wire size limit wire input =
-    if_front (nat_lt (length input) 8) (behind_header (take 8 input) (drop 8 input) (header_fault size limit wire (take 8 input))) (behind_of_wire (take 8 input) (drop 8 input) (header_fault size limit wire (take 8 input)) (header_of_wire size limit wire (take 8 input)))
+front_of_wire size limit wire input = grind (arith, common_steps)
 
 packet_of_wire : (more : ℕ → ℕ → List ℕ → Coming) (wire place : ℕ) (p : FrontPacket) → FrontOfWire p → ((w q : ℕ) (l : List ℕ) → IsOfWire (more w q l).stop.fault) → IsOfWire (behind_packet more wire place p).stop.fault
-packet_of_wire more wire place (WholePacket body true n rest) h next = tt
-packet_of_wire more wire place (WholePacket body false n rest) h next = next (wire + n) (place + length body) rest
-packet_of_wire more wire place (NoPacket fault rest) h next = h
+packet_of_wire more wire place p h next = grind (arith)
 
 -- what comes of an input stops with such a fault
 pub message_of_wire : (size limit fuel wire place : ℕ) (input : List ℕ) → IsOfWire (message size limit fuel wire place input).stop.fault
@@ -64,8 +37,7 @@ message_of_wire size limit (suc fuel) wire place input = packet_of_wire (message
 
 coming_of_wire : (size limit wire place : ℕ) (last : Bool) (left input : List ℕ) → IsOfWire (coming_of size limit wire place last None left input).stop.fault
 unfolding coming_of
-coming_of_wire size limit wire place true left input = tt
-coming_of_wire size limit wire place false left input = message_of_wire size limit (suc (length input)) wire (place + length left) input
+coming_of_wire size limit wire place last left input = grind (arith, message_of_wire)
 
 -- a payload that stops blames a device only where a read failed
 pub ends_blame : {R : Type 0} (remaining : R → Option (List ℕ)) (p : payloads.Payload R) (b : Seen) (bytes : List ℕ) (own : Stop) → p.stopped ≡ None → Ends (seen remaining p) b bytes own

@@ -1,4 +1,5 @@
-use Rattle.std.proofs.Common.{◌≡◌, ◌∙◌, inl, inr, ◌+◌, ◌-◌, ◌<◌, ◌≤◌, true, false, drop, length, refl, sym, ap, rules, arith, length-drop}
+use Rattle.std.proofs.lemmas.Grind.{common_steps}
+use Rattle.std.proofs.Common.{◌≡◌, ◌∙◌, inl, inr, ◌+◌, ◌-◌, ◌<◌, ◌≤◌, true, false, drop, length, sym, ap, rules, arith, length-drop}
 use Rattle.tds_packet.specs.Packets.{packet_bytes}
 use Rattle.tds_packet.specs.Payloads.{seen}
 use Rattle.tds_packet.specs.Recutting.{Cuts, cut_packet}
@@ -7,15 +8,7 @@ use Rattle.tds_packet.proofs.Recuts.{cut_broken, cut_finished, cut_length, cut_m
 use Rattle.tds_packet.proofs.recutting.cut.Goals as goal
 
 pub loop-to-init : goal.loop-to-init
-loop-to-init g c = record {
-  going = c.requires.going;
-  same = (refl, refl, refl, refl);
-  room = refl;
-  few = omega arith;
-  short = omega arith;
-  more = λ h. absurd (omega (arith, h));
-  cutting = cut_none g.W.Write.contents (c.args.output.now.room - 8) (seen g.R.Read.remaining c.args.payload.now) c.args.to.now c.args.payload.now.place c.requires.place;
-}
+loop-to-init g c = grind (arith, common_steps, cut_none)
 
 pub returns-in-Ok-true-clause-cuts : goal.returns-in-Ok-true-clause-cuts
 returns-in-Ok-true-clause-cuts g c =

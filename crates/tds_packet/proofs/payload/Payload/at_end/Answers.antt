@@ -1,4 +1,5 @@
-use Rattle.std.proofs.Common.{◌<◌, arith, rules, drop, length, length-drop, refl, None}
+use Rattle.std.proofs.lemmas.Grind.{common_steps}
+use Rattle.std.proofs.Common.{◌<◌, arith, drop, length, length-drop, refl, None}
 use Rattle.std.proofs.Math.ListN.{drop_of_length-le}
 use Rattle.tds_packet.proofs.Futures.{over, not_over, stopped_ends}
 use Rattle.tds_packet.proofs.PayloadLaws.{between_of}
@@ -15,14 +16,7 @@ returns-in-Ok-clause-tells g c =
     }
 
 pub returns-in-MessageEnded-clause-tells : goal.returns-in-MessageEnded-clause-tells
-returns-in-MessageEnded-clause-tells g c =
-    let s = c.ready.new.self in
-    let ended = c.in-Err.ensures.ended c.in-MessageEnded.is (search rules) in
-    record {
-      over = λ _. over s.packet.now.room s.max_wire s.wire s.place s.last None (drop s.at s.packet.now.bytes) (g.R.Read.remaining s.from.now.device) s.from.now.failures ended.last refl (drop_of_length-le s.packet.now.bytes (omega (arith, ended.used_up)));
-      more = λ e. cc;
-      ready = λ e. cc;
-    }
+returns-in-MessageEnded-clause-tells g c = grind (arith, common_steps, over, drop_of_length-le)
 
 pub returns-in-Some-clause-gives : goal.returns-in-Some-clause-gives
 returns-in-Some-clause-gives g c = stopped_ends _ _ _ _ _ _ _ _ _ _ c.in-Some.is

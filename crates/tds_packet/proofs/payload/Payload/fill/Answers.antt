@@ -1,16 +1,12 @@
-use Rattle.std.proofs.Common.{◌≡◌, ◌∙◌, ℕ, List, [], ◌++◌, ◌+◌, ◌-◌, ◌<◌, ◌≤◌, length, take, take_all, slice_range, sym, ap, subst, arith, rules, append-nil, length-take-le, le_refl}
+use Rattle.std.proofs.Common.{◌≡◌, ◌∙◌, [], ◌++◌, ◌+◌, ◌-◌, ◌≤◌, length, take, take_all, slice_range, sym, ap, subst, arith, rules, append-nil, length-take-le, le_refl}
 use Rattle.std.proofs.lemmas.Slice.{take-put_mid_below}
 use borrow.Rule.Slice.PartMut.{put_mid}
-use Rattle.tds_packet.specs.Seen.{Seen, Takes, Ends}
+use Rattle.tds_packet.specs.Seen.{Takes, Ends}
 use Rattle.tds_packet.specs.Payloads.{seen}
-use Rattle.tds_packet.proofs.Futures.{Takes-more, Takes-trans, Ends-after}
+use Rattle.tds_packet.proofs.Futures.{Ends-after}
 use Rattle.tds_packet.proofs.Parts.{slice_range-put_mid, take_split}
-use Rattle.tds_packet.proofs.PayloadLaws.{at_ok, at_err, between_of}
+use Rattle.tds_packet.proofs.PayloadLaws.{at_ok, at_err, between_of, takes_piece}
 use Rattle.tds_packet.proofs.payload.Payload.fill.Goals as goal
-
-filled : (a b d : Seen) (front bytes : List ℕ) (i : ℕ) → length front ≡ i → 0 < length bytes → Takes a b front i → Takes b d bytes 1 → Takes a d (front ++ bytes) (i + length bytes)
-filled a b d front bytes i len some p q =
-    subst (λ n. Takes a d (front ++ bytes) (n + length bytes)) len (Takes-trans a b d front bytes i (length bytes) (omega (arith, len)) p (Takes-more b d bytes 1 (length bytes) some q))
 
 pub loop-at-preserved : goal.loop-at-preserved
 loop-at-preserved g c =
@@ -38,7 +34,7 @@ loop-at-preserved g c =
       within = search rules;
       place = omega (arith, k.2, c.loop-at.invariant.place);
       going = k.3;
-      takes = subst (λ l. Takes a d l (i + length bytes)) done (filled a b d (take i to) bytes i (length-take-le i to within) c.in-Ok.ensures.len.0 c.loop-at.invariant.takes k.0);
+      takes = subst (λ l. Takes a d l (i + length bytes)) done (takes_piece a b d (take i to) bytes i (length-take-le i to within) c.in-Ok.ensures.len.0 c.loop-at.invariant.takes k.0);
     }
 
 pub returns-in-Err-clause-part : goal.returns-in-Err-clause-part

@@ -1,14 +1,6 @@
-use Rattle.std.proofs.Common.{[], ◌∷◌, le_refl, drop}
-use Rattle.tds_packet.specs.Payloads.{seen}
-use Rattle.tds_packet.proofs.Futures.{Takes-trans, between}
+use Rattle.std.proofs.Common.{drop}
+use Rattle.tds_packet.proofs.Futures.{between}
 use Rattle.tds_packet.proofs.payload.Payload.next.Goals as goal
-
-pub returns-clause-gives : goal.returns-clause-gives
-returns-clause-gives g c =
-    let a = seen g.R.Read.remaining c.args.self.now in
-    let b = seen g.R.Read.remaining c.ready.new.self in
-    let d = seen g.R.Read.remaining c.take.new.self in
-    Takes-trans a b d [] (c.take.result ∷ []) 1 1 (le_refl 1) c.in_ok-ready.ensures.gives c.take.ensures.gives
 
 pub returns-clause-between : goal.returns-clause-between
 returns-clause-between g c =

@@ -1,13 +1,9 @@
-use Rattle.std.proofs.Common.{◌≡◌, ◌∙◌, ℕ, List, [], ◌++◌, ◌+◌, ◌<◌, length, ap, subst, arith, rules, append-nil, length-append}
-use Rattle.tds_packet.specs.Seen.{Seen, Takes, Ends}
+use Rattle.std.proofs.Common.{◌≡◌, ◌∙◌, [], ◌++◌, ◌+◌, length, ap, subst, arith, rules, append-nil, length-append}
+use Rattle.tds_packet.specs.Seen.{Ends}
 use Rattle.tds_packet.specs.Payloads.{seen}
-use Rattle.tds_packet.proofs.Futures.{Takes-more, Takes-trans, Ends-after}
-use Rattle.tds_packet.proofs.PayloadLaws.{at_ok, at_err, between_of}
+use Rattle.tds_packet.proofs.Futures.{Ends-after}
+use Rattle.tds_packet.proofs.PayloadLaws.{at_ok, at_err, between_of, takes_piece}
 use Rattle.tds_packet.proofs.payload.Payload.pass.Goals as goal
-
-taken : (a b d : Seen) (front bytes : List ℕ) (i : ℕ) → length front ≡ i → 0 < length bytes → Takes a b front i → Takes b d bytes 1 → Takes a d (front ++ bytes) (i + length bytes)
-taken a b d front bytes i len some p q =
-    subst (λ n. Takes a d (front ++ bytes) (n + length bytes)) len (Takes-trans a b d front bytes i (length bytes) (omega (arith, len)) p (Takes-more b d bytes 1 (length bytes) some q))
 
 pub loop-passed-preserved : goal.loop-passed-preserved
 loop-passed-preserved g c =
@@ -28,7 +24,7 @@ loop-passed-preserved g c =
       passes = record {
         bytes = before.bytes ++ bytes;
         counted = length-append before.bytes bytes ∙ ap (λ n. n + length bytes) before.counted;
-        takes = taken a b d before.bytes bytes c.loop-passed.passed before.counted c.in-Ok.ensures.len.0 before.takes k.0;
+        takes = takes_piece a b d before.bytes bytes c.loop-passed.passed before.counted c.in-Ok.ensures.len.0 before.takes k.0;
       };
     }
 

@@ -1,6 +1,5 @@
-use Rattle.std.proofs.Common.{◌≡◌, ◌∙◌, [], length, drop, sym, ap, rules, arith, le_refl, None, subst}
+use Rattle.std.proofs.Common.{◌≡◌, ◌∙◌, [], length, drop, ap, rules, arith, le_refl}
 use Rattle.std.proofs.Math.ListN.{drop_of_length-le}
-use Rattle.tds_packet.specs.Seen.{Takes}
 use Rattle.tds_packet.specs.Payloads.{seen}
 use Rattle.tds_packet.proofs.Futures.{stopped_ends, ended_ends, Ends-after, Takes-trans}
 use Rattle.tds_packet.proofs.Passing.{passed}
@@ -17,34 +16,12 @@ returns-then-self-clause-gives g c =
     let b = seen g.R.Read.remaining s in
     Ends-after a b b [] [] 1 _ c.loop-self.invariant.gives (ended_ends s.packet.now.room s.max_wire s.wire s.place s.last s.stopped (drop s.at s.packet.now.bytes) (g.R.Read.remaining s.from.now.device) s.from.now.failures c.if-self.true c.loop-self.invariant.going none)
 
-pub returns-then-self-clause-ended : goal.returns-then-self-clause-ended
-returns-then-self-clause-ended g c = λ _ _.
-    let s = c.loop-self.self in
-    let same : record s { stopped = None } ≡ s = ap (λ o. record s { stopped = o }) (sym c.loop-self.invariant.going) in
-    record {
-      last = c.if-self.true;
-      used_up = c.loop-self-test.true ∙ c.len.ensures.value;
-      takes = subst (λ t. Takes (seen g.R.Read.remaining c.args.self.now) (seen g.R.Read.remaining t) [] 1) (sym same) c.loop-self.invariant.gives;
-    }
-
 pub returns-in_err-advance-clause-gives : goal.returns-in_err-advance-clause-gives
 returns-in_err-advance-clause-gives g c =
     let a = seen g.R.Read.remaining c.args.self.now in
     let b = seen g.R.Read.remaining c.loop-self.self in
     let d = seen g.R.Read.remaining c.advance.new.self in
     passed _ _ _ _ c.from_residual.ensures.1 (Ends-after a b d [] [] 1 _ c.loop-self.invariant.gives c.in_err-advance.ensures.gives)
-
-pub returns-then-self-clause-lazy : goal.returns-then-self-clause-lazy
-returns-then-self-clause-lazy g c = λ h. ap (λ p. p.from.now) (c.loop-self.invariant.lazy h)
-
-pub returns-clause-lazy : goal.returns-clause-lazy
-returns-clause-lazy g c = λ h. ap (λ p. p.from.now) (c.loop-self.invariant.lazy h)
-
-pub returns-in_err-advance-clause-lazy : goal.returns-in_err-advance-clause-lazy
-returns-in_err-advance-clause-lazy g c = λ h.
-    let same = ap (λ p. p.at) (c.loop-self.invariant.lazy h) in
-    let len = ap (λ p. length p.packet.now.bytes) (c.loop-self.invariant.lazy h) in
-    absurd (omega (arith, same, len, c.loop-self-test.true, c.len.ensures))
 
 pub loop-self-preserved : goal.loop-self-preserved
 loop-self-preserved g c =
