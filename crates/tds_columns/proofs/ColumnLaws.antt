@@ -1,6 +1,6 @@
 -- What a description's spelling is read as.
-use Rattle.std.proofs.Common.{◌≡◌, ℕ, ◌+◌, ◌-◌, ◌*◌, ◌/◌, ◌%◌, ◌<◌, ◌≤◌, true, false, List, [], ◌∷◌, ◌++◌, length, refl, sym, ◌∙◌, ap, subst, append_assoc, append-nil, arith, length-append}
-use Rattle.std.specs.Prelude.{Some, None, ◌==◌, nat_lt, is_some, slice_index, unwrap_or, if◌then◌else◌}
+use Rattle.std.proofs.Common.{◌≡◌, ℕ, ◌+◌, ◌-◌, ◌*◌, ◌/◌, ◌%◌, ◌<◌, ◌≤◌, List, [], ◌∷◌, ◌++◌, length, refl, sym, ◌∙◌, ap, subst, append_assoc, append-nil, arith, length-append}
+use Rattle.std.specs.Prelude.{Some, None, ◌==◌, nat_lt, if◌then◌else◌}
 use Rattle.std.proofs.lemmas.Bool.Decides.{nat_tests}
 use Rattle.std.proofs.lemmas.Bool.{ne_eqb}
 use Rattle.std.proofs.Math.Seq.{get_or-append_seam}
@@ -8,10 +8,10 @@ use Rattle.tds_values.specs.declared.kind.Kind.{Kind}
 use Rattle.tds_values.specs.Numbers.{little}
 use Rattle.tds_values.specs.TypeInfo.{IsTypeInfo, rest_length, kind_of}
 use Rattle.tds_values.proofs.TypeInfoLemmas.{rest_length_of}
-use Rattle.tds_packet.specs.declared.fault.Fault.TheVariants.{DescriptionTooLong, NoColumns, BadTypeInfo}
+use Rattle.tds_packet.specs.declared.fault.Fault.TheVariants.{DescriptionTooLong, NoColumns}
 use Rattle.tds_packet.specs.Elements.{Spelt}
 use Rattle.tds_packet.proofs.ElementLaws.{Spelt-step, Spelt-append, Spelt-none}
-use Rattle.tds_columns.specs.Description.{Column, SpellsColumn, SpellsColumns, SpellsDescription, ColumnHead, ColumnInfo, NameCount, NameUnits, BeforeCount, NoDescription, InColumn, WholeDescription, with_column, with_kind, with_count, with_type, with_units, too_long, type_fault, first_of_two, count_fault, description}
+use Rattle.tds_columns.specs.Description.{Column, SpellsColumn, SpellsColumns, SpellsDescription, ColumnHead, NameCount, BeforeCount, NoDescription, InColumn, WholeDescription, with_column, with_count, with_type, with_units, too_long, count_fault, description}
 use Rattle.tds_packet.proofs.Choices.{choose_false, choose_true}
 
 pub fits_in : (room so_far least : ℕ) → so_far + least ≤ room → too_long room so_far least ≡ None
@@ -26,47 +26,23 @@ pub record ByteAndRest (kind : Kind) (info : List ℕ) : Type 0 where
   pub allowed : kind_of (byte ∷ rest) ≡ Some kind
 
 pub byte_and_rest : (kind : Kind) (info : List ℕ) → IsTypeInfo kind info → ByteAndRest kind info
-byte_and_rest kind [] h = cc
-byte_and_rest kind (byte ∷ rest) h = record { byte = byte; rest = rest; spelt = refl; whole = rest_length_of kind byte rest h; allowed = h }
+byte_and_rest kind info h = grind (arith, rest_length_of)
 
 module _ (room : ℕ) where
   -- up to the name's count
   head_is_read : (b : List ℕ) (count : ℕ) (cols : List Column) (ignored : List ℕ) (byte : ℕ) (n : ℕ) → length ignored ≡ 6 → rest_length byte ≡ Some n → ((length b + 7) + ((n + 1) + 8 * (count - (length cols + 1)))) ≤ room → Spelt (description room) (InColumn b count cols ColumnHead) (ignored ++ byte ∷ []) (with_type (b ++ (ignored ++ byte ∷ [])) count cols byte n)
-  head_is_read b count cols ignored byte n six rest fits =
-      let l : length (ignored ++ byte ∷ []) ≡ length ignored + 1 = length-append ignored (byte ∷ []) in
-      let six' : 6 ≡ length ignored = sym six in
-      let at : slice_index (ignored ++ byte ∷ []) 6 ≡ byte = ap (λ i. slice_index (ignored ++ byte ∷ []) i) six' ∙ get_or-append_seam ignored byte [] 0 in
-      let free : first_of_two (type_fault (length cols) byte (rest_length byte)) (too_long room (length b + 7) ((unwrap_or (rest_length byte) 0 + 1) + 8 * (count - (length cols + 1)))) ≡ None =
-      ap (λ o. first_of_two (type_fault (length cols) byte o) (too_long room (length b + 7) ((unwrap_or o 0 + 1) + 8 * (count - (length cols + 1))))) rest ∙ fits_in room (length b + 7) ((n + 1) + 8 * (count - (length cols + 1))) fits in
-      Spelt-step (description room) (InColumn b count cols ColumnHead) (ignored ++ byte ∷ []) (with_type (b ++ (ignored ++ byte ∷ [])) count cols byte n) (omega arith) (omega (arith, l))
-      (ap (λ v. first_of_two (type_fault (length cols) v (rest_length v)) (too_long room (length b + 7) ((unwrap_or (rest_length v) 0 + 1) + 8 * (count - (length cols + 1))))) at ∙ free)
-      (ap (λ v. with_type (b ++ (ignored ++ byte ∷ [])) count cols v (unwrap_or (rest_length v) 0)) at ∙ ap (λ o. with_type (b ++ (ignored ++ byte ∷ [])) count cols byte (unwrap_or o 0)) rest)
+  head_is_read b count cols ignored byte n six rest fits = grind (arith, Spelt-step, fits_in, get_or-append_seam, length-append)
 
   info_is_read : (b : List ℕ) (count : ℕ) (cols : List Column) (byte : ℕ) (rest : List ℕ) (kind : Kind) → rest_length byte ≡ Some (length rest) → kind_of (byte ∷ rest) ≡ Some kind → Spelt (description room) (with_type b count cols byte (length rest)) rest (InColumn (b ++ rest) count cols (NameCount kind))
-  info_is_read b count cols byte [] kind n k =
-      subst (λ v. Spelt (description room) v [] (InColumn (b ++ []) count cols (NameCount kind))) (sym (ap (λ o. with_kind b count cols o) k))
-      (subst (λ v. Spelt (description room) (InColumn b count cols (NameCount kind)) [] (InColumn v count cols (NameCount kind))) (sym (append-nil b)) (Spelt-none (description room) (InColumn b count cols (NameCount kind))))
-  info_is_read b count cols byte (x ∷ xs) kind n k =
-      let from : with_type b count cols byte (length (x ∷ xs)) ≡ InColumn b count cols (ColumnInfo byte) = choose_false (length (x ∷ xs) == 0) (with_kind b count cols (kind_of (byte ∷ []))) (InColumn b count cols (ColumnInfo byte)) (ne_eqb (length (x ∷ xs)) 0 (λ e. omega arith)) in
-      subst (λ v. Spelt (description room) v (x ∷ xs) (InColumn (b ++ x ∷ xs) count cols (NameCount kind))) (sym from)
-      (Spelt-step (description room) (InColumn b count cols (ColumnInfo byte)) (x ∷ xs) (InColumn (b ++ x ∷ xs) count cols (NameCount kind)) (omega arith) (sym (ap (λ o. unwrap_or o 0) n))
-      (ap (λ o. (if is_some o then None else Some (BadTypeInfo (length cols)))) k)
-      (ap (λ o. with_kind (b ++ x ∷ xs) count cols o) k))
+  info_is_read b count cols byte [] kind n k = grind (arith, Spelt-none, append-nil)
+  info_is_read b count cols byte (x ∷ xs) kind n k = grind (arith, Spelt-step, choose_false, ne_eqb)
 
   units_are_read : (b : List ℕ) (count : ℕ) (cols : List Column) (kind : Kind) (units : ℕ) → (length b + 1) + (2 * units + 8 * (count - (length cols + 1))) ≤ room → Spelt (description room) (InColumn b count cols (NameCount kind)) (units ∷ []) (with_units (b ++ units ∷ []) count cols kind units)
   units_are_read b count cols kind units fits = Spelt-step (description room) (InColumn b count cols (NameCount kind)) (units ∷ []) (with_units (b ++ units ∷ []) count cols kind units) (omega arith) refl (fits_in room (length b + 1) (2 * units + 8 * (count - (length cols + 1))) fits) refl
 
   name_is_read : (b : List ℕ) (count : ℕ) (cols : List Column) (kind : Kind) (units : ℕ) (name : List ℕ) → length name ≡ 2 * units → Spelt (description room) (with_units b count cols kind units) name (with_column (b ++ name) count cols (record { kind = kind; name = name }))
-  name_is_read b count cols kind units [] l =
-      let e : (units == 0) ≡ true = grind (arith, nat_tests) in
-      let none : Column = record { kind = kind; name = [] } in
-      subst (λ v. Spelt (description room) v [] (with_column (b ++ []) count cols none)) (sym (choose_true (units == 0) (with_column b count cols none) (InColumn b count cols (NameUnits kind (2 * units))) e))
-      (subst (λ v. Spelt (description room) (with_column b count cols none) [] (with_column v count cols none)) (sym (append-nil b)) (Spelt-none (description room) (with_column b count cols none)))
-  name_is_read b count cols kind units (x ∷ xs) l =
-      let e : (units == 0) ≡ false = ne_eqb units 0 (λ q. omega arith) in
-      let none : Column = record { kind = kind; name = [] } in
-      subst (λ v. Spelt (description room) v (x ∷ xs) (with_column (b ++ x ∷ xs) count cols (record { kind = kind; name = x ∷ xs }))) (sym (choose_false (units == 0) (with_column b count cols none) (InColumn b count cols (NameUnits kind (2 * units))) e))
-      (Spelt-step (description room) (InColumn b count cols (NameUnits kind (2 * units))) (x ∷ xs) (with_column (b ++ x ∷ xs) count cols (record { kind = kind; name = x ∷ xs })) (omega arith) l refl refl)
+  name_is_read b count cols kind units [] l = grind (arith, Spelt-none, append-nil, choose_true, nat_tests)
+  name_is_read b count cols kind units (x ∷ xs) l = grind (arith, Spelt-step, choose_false, ne_eqb)
 
   length-SpellsColumn : (c : Column) (bytes : List ℕ) (h : SpellsColumn c bytes) → length bytes ≡ (6 + length h.info) + (1 + length c.name)
   length-SpellsColumn c bytes h = ap (λ v. length v) h.spelt ∙ length-append (h.ignored ++ h.info) (h.units ∷ c.name) ∙ ap (λ v. v + length (h.units ∷ c.name)) (length-append h.ignored h.info ∙ ap (λ v. v + length h.info) h.six) ∙ omega arith
@@ -102,13 +78,7 @@ module _ (room : ℕ) where
   -- a column takes at least 8 bytes
   least-SpellsColumns : (cs : List Column) (bytes : List ℕ) → SpellsColumns cs bytes → 8 * length cs ≤ length bytes
   least-SpellsColumns [] bytes h = omega arith
-  least-SpellsColumns (c ∷ cs) bytes h =
-      let l : length h.0 ≡ (6 + length h.3.info) + (1 + length c.name) = length-SpellsColumn c h.0 h.3 in
-      let type = byte_and_rest c.kind h.3.info h.3.kind in
-      let li : length h.3.info ≡ 1 + length type.rest = ap (λ v. length v) type.spelt ∙ omega arith in
-      let la : length bytes ≡ length h.0 + length h.1 = ap (λ v. length v) h.2 ∙ length-append h.0 h.1 in
-      let more : 8 * length cs ≤ length h.1 = least-SpellsColumns cs h.1 h.4 in
-      omega (arith, l, li, la, more)
+  least-SpellsColumns (c ∷ cs) bytes h = grind (arith, byte_and_rest, length-SpellsColumn, length-append, (least-SpellsColumns cs h.1 h.4))
 
   pub columns_are_read : (b : List ℕ) (count : ℕ) (cols : List Column) (c : Column) (cs : List Column) (bytes : List ℕ) → count ≡ length cols + (1 + length cs) → length b + length bytes ≤ room → SpellsColumns (c ∷ cs) bytes → Spelt (description room) (InColumn b count cols ColumnHead) bytes (WholeDescription (b ++ bytes) (cols ++ c ∷ cs))
   columns_are_read b count cols c [] bytes n fits h =

@@ -1,9 +1,7 @@
 -- What a description that was read spells.
-use Rattle.std.proofs.Common.{◌≡◌, ◌∙◌, inl, inr, ℕ, ◌+◌, ◌*◌, ◌-◌, ◌%◌, ◌/◌, ◌<◌, List, [], ◌∷◌, ◌++◌, length, refl, sym, ap, subst, arith}
-use Rattle.std.specs.Prelude.{Some, ◌==◌, slice_index, unwrap_or}
+use Rattle.std.proofs.Common.{◌≡◌, ◌∙◌, inl, inr, ℕ, ◌+◌, ◌<◌, List, [], ◌∷◌, ◌++◌, length, refl, sym, subst, arith}
+use Rattle.std.specs.Prelude.{◌==◌}
 use Rattle.byteorder.specs.Endian.{little_number}
-use Rattle.tds_values.specs.Numbers.{little}
-use Rattle.tds_values.specs.TypeInfo.{rest_length, kind_of}
 use Rattle.tds_values.proofs.TypeInfoLemmas.{bare_type}
 use Rattle.tds_meter.specs.Space.{Space}
 use Rattle.tds_packet.specs.declared.fault.Stop.{Stop}
@@ -11,7 +9,7 @@ use Rattle.tds_packet.specs.Elements.{AreBytes, IsNext, Spelt}
 use Rattle.tds_packet.specs.Seen.{Seen, Takes}
 use Rattle.tds_packet.proofs.Choices.{choose, eq_true, is_some_value}
 use Rattle.tds_packet.proofs.ElementLaws.{Spelt-induct, AreBytes-front, AreBytes-back}
-use Rattle.tds_columns.specs.Description.{Column, ColumnPlace, ColumnHead, ColumnInfo, NameCount, NameUnits, DescriptionPart, BeforeCount, NoDescription, InColumn, WholeDescription, SpellsDescription, add_described, description, description_bytes, described_size, too_long, with_column, with_count, with_kind, with_type}
+use Rattle.tds_columns.specs.Description.{Column, ColumnPlace, ColumnHead, DescriptionPart, BeforeCount, NoDescription, InColumn, WholeDescription, SpellsDescription, add_described, description, description_bytes, described_size, with_column}
 use Rattle.tds_columns.specs.Elements.{TakesInto}
 use Rattle.tds_columns.specs.Gather.{Describes, GatherStops, StopsDescribing}
 use Rattle.tds_columns.proofs.ByteLemmas.{two_bytes}
@@ -29,26 +27,10 @@ keeps_column bytes count columns column b same = choose (λ d. Keeps d b) (lengt
 
 module _ (room : ℕ) where
   keeps_place : (have : List ℕ) (count : ℕ) (columns : List Column) (place : ColumnPlace) (b e : List ℕ) → have ++ e ≡ b ++ e → IsNext (description room) (InColumn have count columns place) e → Keeps (add_described (InColumn have count columns place) e) (b ++ e)
-  keeps_place have count columns ColumnHead b e same n =
-      let byte : ℕ = slice_index e 6 in
-      let k = known_type (length columns) byte (rest_length byte) (too_long room (length have + 7) ((unwrap_or (rest_length byte) 0 + 1) + 8 * (count - (length columns + 1)))) n.free in
-      subst (λ o. Keeps (with_type (have ++ e) count columns byte (unwrap_or o 0)) (b ++ e)) (sym k.1)
-      (choose (λ d. Keeps d (b ++ e)) (k.0 == 0) (with_kind (have ++ e) count columns (kind_of (byte ∷ []))) (InColumn (have ++ e) count columns (ColumnInfo byte))
-      (λ z. let bare = bare_type byte (k.1 ∙ ap (λ v. Some v) (eq_true k.0 0 z)) in subst (λ o. Keeps (with_kind (have ++ e) count columns o) (b ++ e)) (sym bare.1) same)
-      (λ _. same))
-  keeps_place have count columns (ColumnInfo byte) b e same n =
-      let k = is_some_value (kind_of (byte ∷ e)) (some_kind (length columns) (kind_of (byte ∷ e)) n.free) in
-      subst (λ o. Keeps (with_kind (have ++ e) count columns o) (b ++ e)) (sym k.1) same
-  keeps_place have count columns (NameCount kind) b e same n =
-      choose (λ d. Keeps d (b ++ e)) (slice_index e 0 == 0) (with_column (have ++ e) count columns (record { kind = kind; name = [] })) (InColumn (have ++ e) count columns (NameUnits kind (2 * slice_index e 0)))
-      (λ _. keeps_column (have ++ e) count columns (record { kind = kind; name = [] }) (b ++ e) same) (λ _. same)
-  keeps_place have count columns (NameUnits kind m) b e same n = keeps_column (have ++ e) count columns (record { kind = kind; name = e }) (b ++ e) same
+  keeps_place have count columns place b e same n = grind (arith, bare_type, choose, eq_true, is_some_value, keeps_column, known_type, some_kind)
 
   keeps_step : (d : DescriptionPart) (b e : List ℕ) → Keeps d b → IsNext (description room) d e → Keeps (add_described d e) (b ++ e)
-  keeps_step BeforeCount b e h n = subst (λ v. Keeps (with_count e (little e)) (v ++ e)) (sym h) (choose (λ d. Keeps d e) (little e == 0xFFFF) NoDescription (InColumn e (little e) [] ColumnHead) (λ _. tt) (λ _. refl))
-  keeps_step NoDescription b e h n = tt
-  keeps_step (InColumn have count columns place) b e h n = keeps_place have count columns place b e (ap (λ l. l ++ e) h) n
-  keeps_step (WholeDescription have columns) b e h n = absurd (let l : length e ≡ 0 = n.whole in let s : 0 < length e = n.some in omega arith)
+  keeps_step d b e h n = grind (arith, choose, keeps_place)
 
   pub kept_bytes : (d : DescriptionPart) (bytes : List ℕ) → Spelt (description room) BeforeCount bytes d → Keeps d bytes
   kept_bytes d bytes h = Spelt-induct (description room) Keeps keeps_step BeforeCount refl bytes d h
@@ -67,12 +49,7 @@ gathers room a b place place' peak area columns are x =
 
 -- a Count that says that there is no metadata
 pub gathers_none : (a b : Seen) (before after : Space) → before.bytes ≡ [] → TakesInto a b before after 2 → AreBytes after.bytes → little_number 2 after.bytes ≡ 0xFFFF → Takes a b (255 ∷ 255 ∷ []) 2
-gathers_none a b before after none t are all =
-    let is : after.bytes ≡ t.element = ap (λ (s : Space). s.bytes) t.stands ∙ ap (λ l. l ++ t.element) none in
-    let two : length after.bytes ≡ 2 = ap length is ∙ t.whole in
-    let number : little after.bytes ≡ 0xFFFF = ap (λ n. little_number n after.bytes) two ∙ all in
-    let both : after.bytes ≡ 255 ∷ 255 ∷ [] = (two_bytes after.bytes two are).0 ∙ ap (λ n. n % 256 ∷ n / 256 ∷ []) number in
-    subst (λ l. Takes a b l 2) (sym is ∙ both) t.takes
+gathers_none a b before after none t are all = grind (arith, two_bytes)
 
 -- where a description stops the bytes kept are those of the whole elements
 pub gather_stops : (room : ℕ) (a b : Seen) (place peak : ℕ) (area : Space) (stop : Stop) → StopsDescribing room BeforeCount a b place peak area stop → GatherStops room a b place peak area stop

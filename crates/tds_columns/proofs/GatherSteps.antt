@@ -16,7 +16,6 @@ use Rattle.tds_packet.specs.declared.fault.Fault.TheVariants.{MessageEnded, BadT
 use Rattle.tds_packet.specs.declared.fault.Place.TheVariants.{Payload}
 use Rattle.tds_packet.specs.declared.fault.Stop.{Stop}
 use Rattle.tds_packet.specs.Seen.{Seen, Takes}
-use Rattle.tds_packet.specs.Reading.{StopsReading}
 use Rattle.tds_packet.proofs.Choices.{choose, choose_false, choose_true}
 use Rattle.tds_columns.specs.Description.{BeforeCount, ColumnHead, ColumnInfo, Column, ColumnPlace, DescriptionPart, InColumn, NameCount, NameUnits, NoDescription, WholeDescription, count_fault, add_described, described_fault, description, description_bytes, described_end, described_size, first_of_two, span, too_long, type_fault, with_column, with_count, with_kind, with_type, with_units, head_fault}
 use Rattle.tds_columns.specs.Elements.{TakesInto, EndsInto}
@@ -74,13 +73,7 @@ describes_both room s t u a b c p q r k middle after x y = record {
 }
 
 pub stops_describing_after : (room : ℕ) (s t : DescriptionPart) (a b c : Seen) (p q k : ℕ) (middle after : Space) (stop : Stop) → Describes room s a b p q k middle t → StopsDescribing room t b c q middle.peak after stop → StopsDescribing room s a c p k after stop
-stops_describing_after room s t a b c p q k middle after stop x y = record {
-  at = y.at;
-  stops = stops_after (description room) s t a b c p y.at stop x.reads (subst (λ n. StopsReading (description room) t b c n y.at stop) x.place_is y.stops);
-  kept = y.kept;
-  bound = omega (arith, x.bound, y.bound, y.further);
-  further = omega (arith, x.further, y.further);
-}
+stops_describing_after room s t a b c p q k middle after stop x y = grind (arith, stops_after)
 
 -- what a call reads from there on is read after the first part
 pub part_after : {U X : Type 0} (r : Result U Stop) (room : ℕ) (s t : DescriptionPart) (to : X → DescriptionPart) (a b c : Seen) (p q z k : ℕ) (middle after : Space) → middle.room ≡ room → Describes room s a b p q k middle t
@@ -147,8 +140,7 @@ byte_of before element after k is = ap (λ l. slice_index l (length before.bytes
 
 pub info_cut : (room index byte rest count : ℕ) (columns : List Column) (a b : Seen) (before after : Space) (place : ℕ) (stop : Stop) → rest_length byte ≡ Some rest → EndsInto a b before after place rest stop
     → StopsDescribing room (InColumn before.bytes count columns (ColumnInfo byte)) a b place before.peak after stop
-info_cut room index byte rest count columns a b before after place stop known e =
-    description_cut room (InColumn before.bytes count columns (ColumnInfo byte)) a b before after place rest stop e refl (size_of byte rest known) refl (ap (λ n. length before.bytes + n) (size_of byte rest known))
+info_cut room index byte rest count columns a b before after place stop known e = grind (arith, description_cut, size_of)
 
 -- the bytes after what the area had
 element_is : (before : Space) (element : List ℕ) (after : Space) (bytes : List ℕ) → after ≡ appended before element → bytes ≡ drop (length before.bytes) after.bytes → element ≡ bytes
@@ -244,8 +236,7 @@ units_refused room index count units columns kind a b before after cut place fau
 
 -- a column that is whole adds no bytes
 column_bytes : (bytes : List ℕ) (count : ℕ) (columns : List Column) (column : Column) → (bytes ≡ description_bytes (with_column bytes count columns column)) × (length bytes ≤ span (with_column bytes count columns column))
-column_bytes bytes count columns column = choose (λ d. (bytes ≡ description_bytes d) × (length bytes ≤ span d)) (length columns + 1 == count) (WholeDescription bytes (columns ++ column ∷ [])) (InColumn bytes count (columns ++ column ∷ []) ColumnHead)
-    (λ _. (refl, omega arith)) (λ _. (refl, omega arith))
+column_bytes bytes count columns column = grind (arith, choose)
 
 -- the count of a name without units
 pub units_none : (room index count units : ℕ) (columns : List Column) (kind : Kind) (a b : Seen) (before after : Space) (place place' : ℕ) → length columns ≡ index → TakesInto a b before after 1 → units ≡ slice_index after.bytes (length before.bytes + 0)
@@ -316,9 +307,7 @@ name_taken (Err stop) stopped room index count units columns kind a b c before m
 -- and room is left for the columns that follow
 pub name_leaves : {U : Type 0} (r : Result U Stop) (stopped : Option Stop) (room room' units left : ℕ) (a b c : Seen) (before middle after : Space) (place : ℕ) → TakesInto a b before middle 1 → too_long room (length before.bytes + 1) (2 * units + 8 * left) ≡ None → room' ≡ room
     → MatchResult r (λ _. TakesInto b c middle after (2 * units)) (λ stop. stopped ≡ None → EndsInto b c middle after place (2 * units) stop) → OnOk r (length after.bytes + 8 * left ≤ room')
-name_leaves (Ok _) stopped room room' units left a b c before middle after place t free same u =
-    omega (arith, longer before t.element middle 1 t.stands t.whole, longer middle u.element after (2 * units) u.stands u.whole, not_long room (length before.bytes + 1) (2 * units + 8 * left) free, same)
-name_leaves (Err _) stopped room room' units left a b c before middle after place t free same u = tt
+name_leaves r stopped room room' units left a b c before middle after place t free same u = grind (arith, longer, not_long)
 
 -- ---- columns, one after another
 

@@ -41,10 +41,7 @@ before_head place h = omega (arith, h)
 -- the type byte is refused
 pub type_refused : (o a : Seen) (head : List ℕ) (byte place : ℕ) (fault : Fault) → WereTaken o a head → length head ≡ 8 → byte ≡ slice_index head 7 → type_fault return_column byte (rest_length byte) ≡ Some fault
     → StopsType o a place (record { fault = fault; place = Payload place })
-type_refused o a head byte place fault taken eight is first = record {
-  at = TypeHead;
-  stops = refused_at_once returned_type TypeHead o a place head fault (omega (arith, eight)) eight (ap (λ b. type_fault return_column b (rest_length b)) (sym is) ∙ first) (subst (Takes o a head) (sym eight) taken.0) taken.1;
-}
+type_refused o a head byte place fault taken eight is first = grind (arith, refused_at_once)
 
 -- a stop after the eight bytes
 behind_head : (o a b : Seen) (head : List ℕ) (byte rest place : ℕ) (at : TypePart) (stop : Stop) → WereTaken o a head → length head ≡ 8 → byte ≡ slice_index head 7 → rest_length byte ≡ Some rest → rest ≢ 0 → 8 ≤ place → StopsReading returned_type (TypeRest byte) a b place at stop
@@ -72,11 +69,7 @@ none_of [] h = refl
 none_of (x ∷ xs) h = absurd (omega (arith, h))
 
 no_kind : (byte : ℕ) (element : List ℕ) (rest : ℕ) → rest_length byte ≡ Some rest → length element ≡ rest → kind_of (byte ∷ element) ≡ None → rest ≢ 0
-no_kind byte element rest known len none zero =
-    let k = bare_type byte (known ∙ ap (λ n. Some n) zero) in
-    let empty : element ≡ [] = none_of element (len ∙ zero) in
-    let clash : Some k.0 ≡ None = sym k.1 ∙ ap (λ l. kind_of (byte ∷ l)) (sym empty) ∙ none in
-    cc
+no_kind byte element rest known len none zero = grind (arith, bare_type, none_of)
 
 -- what follows describes no type
 pub type_bad : (o a b : Seen) (before after : Space) (byte rest place : ℕ) (bytes : List ℕ) → WereTaken o a before.bytes → length before.bytes ≡ 8 → byte ≡ slice_index before.bytes 7 → rest_length byte ≡ Some rest → 8 ≤ place → TakesInto a b before after rest

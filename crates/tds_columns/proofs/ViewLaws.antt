@@ -1,5 +1,5 @@
 -- The columns of a description lie in its bytes as it is spelt.
-use Rattle.std.proofs.Common.{◌≡◌, ◌≢◌, ◌∙◌, ℕ, zero, suc, ◌+◌, ◌*◌, ◌-◌, ◌%◌, ◌/◌, ◌≤◌, true, false, List, [], ◌∷◌, ◌++◌, length, take, take_all, drop, drop-cons, refl, sym, ap, subst, arith, append_assoc, length-append, length-drop, length-take-le}
+use Rattle.std.proofs.Common.{◌≡◌, ◌≢◌, ◌∙◌, ℕ, zero, suc, ◌+◌, ◌*◌, ◌-◌, ◌≤◌, true, false, List, [], ◌∷◌, ◌++◌, length, take, take_all, drop, drop-cons, refl, sym, ap, arith, append_assoc, length-append, length-drop, length-take-le}
 use Rattle.std.specs.Prelude.{Option, Some, None, ◌==◌, nat_le, is_some, slice_index, unwrap_or, option_and_then, if◌then◌else◌}
 use Rattle.std.proofs.lemmas.Bool.Decides.{nat_tests}
 use Rattle.std.proofs.Math.Seq.{get_or-append_seam, drop-append_seam, take-append_seam}
@@ -106,25 +106,12 @@ pub columns_lie : (cs : List Column) (bytes : List ℕ) → SpellsColumns cs byt
 columns_lie [] bytes h = (refl, refl)
 columns_lie (c ∷ cs) bytes h =
     let f = front_of c h.0 h.1 h.3 in
-    let size : column_size bytes ≡ length h.0 = ap column_size h.2 ∙ f.size in
-    let at : column_at bytes ≡ c = ap column_at h.2 ∙ f.at in
-    let whole : is_column bytes ≡ true = ap is_column h.2 ∙ f.whole in
-    let more : drop (column_size bytes) bytes ≡ h.1 = ap (drop (column_size bytes)) h.2 ∙ behind h.0 h.1 (column_size bytes) size in
     let tail = columns_lie cs h.1 h.4 in
-    let shown : columns_in (length (c ∷ cs)) bytes ≡ c ∷ cs = ap (λ d. d ∷ columns_in (length cs) (drop (column_size bytes) bytes)) at ∙ ap (λ l. c ∷ columns_in (length cs) l) more ∙ ap (λ l. c ∷ l) tail.0 in
-    (shown, and_from (is_column bytes) (are_columns (length cs) (drop (column_size bytes) bytes)) whole (ap (are_columns (length cs)) more ∙ tail.1))
+    grind (arith, front_of, behind, and_from)
 
 -- a description that is spelt shows its columns
 pub description_shows : (room : ℕ) (columns : List Column) (bytes : List ℕ) → SpellsDescription room columns bytes → (columns_of bytes ≡ columns) × (is_described bytes ≡ true) × (little_number 2 bytes ≡ length columns)
-description_shows room columns bytes h =
-    let count : List ℕ = length columns % 256 ∷ length columns / 256 ∷ [] in
-    let number : little_number 2 bytes ≡ length columns = ap (little_number 2) h.spelt ∙ little-two (length columns) in
-    let rest : drop 2 bytes ≡ h.rest = ap (drop 2) h.spelt in
-    let lie = columns_lie columns h.rest h.each in
-    let two : 2 ≤ length bytes = (let l : length bytes ≡ length count + length h.rest = ap length h.spelt ∙ length-append count h.rest in omega (arith, l)) in
-    let shown : columns_of bytes ≡ columns = ap (λ n. columns_in n (drop 2 bytes)) number ∙ ap (columns_in (length columns)) rest ∙ lie.0 in
-    let whole : are_columns (little_number 2 bytes) (drop 2 bytes) ≡ true = ap (λ n. are_columns n (drop 2 bytes)) number ∙ ap (are_columns (length columns)) rest ∙ lie.1 in
-    (shown, and_from (nat_le 2 (length bytes)) (are_columns (little_number 2 bytes) (drop 2 bytes)) (test_le 2 (length bytes) two) whole, number)
+description_shows room columns bytes h = grind (arith, and_from, columns_lie, length-append, little-two, test_le)
 
 -- ---- what a whole column at the front allows
 
@@ -136,8 +123,7 @@ valid_named : (j k : Kind) → valid_kind j ≡ Some k → j ≡ k
 valid_named j k h = elim (is_valid j) as (λ t. (if t then Some j else None) ≡ Some k → j ≡ k) [ true ↦ λ e. cc | false ↦ λ e. cc ] h
 
 and_then_named : (o : Option Kind) (k : Kind) → option_and_then valid_kind o ≡ Some k → o ≡ Some k
-and_then_named (Some j) k h = ap Some (valid_named j k h)
-and_then_named None k h = cc
+and_then_named o k h = grind (arith, valid_named)
 
 -- the kind that a TYPE_INFO names
 named_of : (k : Kind) (b : ℕ) (rest : List ℕ) → kind_of (b ∷ rest) ≡ Some k → named_kind b rest ≡ Some k
@@ -156,21 +142,7 @@ from_type : (bytes : List ℕ) (n : ℕ) → 7 ≤ length bytes → take (1 + n)
 from_type bytes n h = ap (take (1 + n)) (drop-cons bytes 6 0 (omega (arith, h))) ∙ ap (λ k. take k (slice_index bytes 6 ∷ drop 7 bytes)) (one_more n)
 
 pub lies : (bytes : List ℕ) → is_column bytes ≡ true → Lies bytes
-lies bytes h =
-    let both = and_parts (is_some (kind_of (take (1 + rest_size bytes) (drop 6 bytes)))) (nat_le (column_size bytes) (length bytes)) h in
-    let some = is_some_value (kind_of (take (1 + rest_size bytes) (drop 6 bytes))) both.0 in
-    let enough : column_size bytes ≤ length bytes = le_true (column_size bytes) (length bytes) both.1 in
-    let info : take (1 + rest_size bytes) (drop 6 bytes) ≡ slice_index bytes 6 ∷ take (rest_size bytes) (drop 7 bytes) = from_type bytes (rest_size bytes) (omega (arith, enough)) in
-    let is : kind_of (slice_index bytes 6 ∷ take (rest_size bytes) (drop 7 bytes)) ≡ Some some.0 = sym (ap kind_of info) ∙ some.1 in
-    let len : length (take (rest_size bytes) (drop 7 bytes)) ≡ rest_size bytes = length-take-le (rest_size bytes) (drop 7 bytes) (omega (arith, enough, length-drop 7 bytes)) in
-    record {
-      kind = some.0;
-      enough = enough;
-      known = rest_length_of some.0 (slice_index bytes 6) (take (rest_size bytes) (drop 7 bytes)) is ∙ ap (λ n. Some n) len;
-      named = named_of some.0 (slice_index bytes 6) (take (rest_size bytes) (drop 7 bytes)) is;
-      at = ap (λ k. record { kind = k; name = take (name_size bytes) (drop (8 + rest_size bytes) bytes) }) (ap (λ o. unwrap_or o Int4) some.1);
-      valid = valid_of some.0 (slice_index bytes 6 ∷ take (rest_size bytes) (drop 7 bytes)) is;
-    }
+lies bytes h = grind (arith, and_parts, from_type, is_some_value, le_true, length-drop, length-take-le, named_of, rest_length_of, valid_of)
 
 -- ---- one column after another
 
@@ -182,14 +154,7 @@ pub record Steps (n : ℕ) (bytes : List ℕ) : Type 0 where
 
 pub steps : (n : ℕ) (bytes : List ℕ) → n ≢ 0 → are_columns n bytes ≡ true → Steps n bytes
 steps zero bytes some h = absurd (some refl)
-steps (suc m) bytes some h =
-    let both = and_parts (is_column bytes) (are_columns m (drop (column_size bytes) bytes)) h in
-    let less : m ≡ suc m - 1 = omega arith in
-    record {
-      first = both.0;
-      others = subst (λ k. are_columns k (drop (column_size bytes) bytes) ≡ true) less both.1;
-      columns = ap (λ k. column_at bytes ∷ columns_in k (drop (column_size bytes) bytes)) less;
-    }
+steps (suc m) bytes some h = grind (arith, and_parts)
 
 -- all bytes from a place on
 pub all_behind : (bytes : List ℕ) (n : ℕ) → take (length bytes - n) (drop n bytes) ≡ drop n bytes
