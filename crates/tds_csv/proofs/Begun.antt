@@ -26,14 +26,7 @@ pub record BegunFront (c : Conversion) (old piece : List ℕ) : Type 0 where
   pub same : emit (conversion_rest c) (conversion_text c) (old ++ take taken piece) ≡ emit (conversion_rest c) (conversion_text c) (old ++ piece)
 
 all_begun : (c : Conversion) (old piece : List ℕ) → Begins c (old ++ piece) → BegunFront c old piece
-all_begun c old piece begun =
-    let all : take (length piece) piece ≡ piece = take_all (length piece) piece (omega arith) in
-    record {
-      taken = length piece;
-      within = omega arith;
-      begun = subst (λ l. Begins c (old ++ l)) (sym all) begun;
-      same = ap (λ l. emit (conversion_rest c) (conversion_text c) (old ++ l)) all;
-    }
+all_begun c old piece begun = grind (arith, take_all)
 
 -- a byte of the piece is bad
 stopped_front : (old piece : List ℕ) (whole good : ℕ) → utf8.Begins old → StopsAt (old ++ piece) whole good → BegunFront Utf8Text old piece
@@ -41,14 +34,7 @@ stopped_front old piece whole good begins stops =
     let behind : length old ≤ good = behind_kept old piece (old ++ piece) good refl begins stops.bad in
     let n : ℕ = good - length old in
     let at : good ≡ length old + n = omega (arith, behind) in
-    let cut : take good (old ++ piece) ≡ old ++ take n piece = ap (λ k. take k (old ++ piece)) at ∙ take-append-add old piece n in
-    let within : good < length (old ++ piece) = stops.within in
-    record {
-      taken = n;
-      within = omega (arith, at, within, length-append old piece);
-      begun = subst utf8.Begins cut stops.begun;
-      same = ap (emit utf8.rest utf8.text) (sym cut) ∙ stops.same;
-    }
+    grind (arith, behind_kept, take-append-add, length-append)
 
 utf8_front : (old piece : List ℕ) (fault : Option ℕ) → utf8_error_len (utf8.rest (old ++ piece)) ≡ fault → utf8.Begins old → BegunFront Utf8Text old piece
 utf8_front old piece None is begins = all_begun Utf8Text old piece (none_begins (old ++ piece) is)
@@ -58,10 +44,7 @@ utf8_front old piece (Some k) is begins =
 
 -- after data that begins, the first bytes of any piece begin too and fix all the text that the piece fixes
 pub begun_front : (c : Conversion) (old piece : List ℕ) → Begins c old → BegunFront c old piece
-begun_front HexDigits old piece begins = all_begun HexDigits old piece tt
-begun_front Utf16Text old piece begins = all_begun Utf16Text old piece tt
-begun_front Windows1252Text old piece begins = all_begun Windows1252Text old piece tt
-begun_front Utf8Text old piece begins = utf8_front old piece (utf8_error_len (utf8.rest (old ++ piece))) refl begins
+begun_front c old piece begins = grind (arith, utf8_front, take_all)
 
 -- an odd byte completes no unit
 odd_front : (d : List ℕ) (x : ℕ) → (length (d ++ x ∷ []) % 2 ≡ 0 → ⊥) → utf16_laws.front (d ++ x ∷ []) ≡ utf16_laws.front d
@@ -79,7 +62,6 @@ unfit_front d x unfit =
     let size : length all ≡ length d + 1 = length-append d (x ∷ []) in
     let m : ℕ = utf8_valid_len all in
     let n : ℕ = utf8_valid_len d in
-    let most : m ≤ length all = utf8_valid_len_le all in
     let fits : n ≤ length d = utf8_valid_len_le d in
     let less : m < length all = elim (cases_lt m (length all)) [ inl l ↦ l | inr l ↦ absurd (unfit (subst IsUtf8 (take_all m all l) (utf8_laws.front_is all))) ] in
     let in_d : m ≤ length d = omega (arith, less, size) in
@@ -87,8 +69,7 @@ unfit_front d x unfit =
     let front_n : take n all ≡ take n d = take-append-le n d (x ∷ []) fits in
     let up : m ≤ n = elim (cases_lt n m) [ inl l ↦ absurd (utf8_laws.longest_is d m l in_d (subst IsUtf8 front_m (utf8_laws.front_is all))) | inr l ↦ l ] in
     let down : n ≤ m = elim (cases_lt m n) [ inl l ↦ absurd (utf8_laws.longest_is all n l (omega (arith, fits, size)) (subst IsUtf8 (sym front_n) (utf8_laws.front_is d))) | inr l ↦ l ] in
-    let same : m ≡ n = omega (arith, up, down) in
-    front_m ∙ ap (λ k. take k d) same
+    grind (arith, length-append, utf8_valid_len_le, cases_lt, take_all, take-append-le)
 
 -- a byte after which the data isn't whole adds no text
 pub unfit_adds_none : (c : Conversion) (d : List ℕ) (x : ℕ) → is_fit c (d ++ x ∷ []) ≡ false → emit (conversion_rest c) (conversion_text c) (d ++ x ∷ []) ≡ emit (conversion_rest c) (conversion_text c) d

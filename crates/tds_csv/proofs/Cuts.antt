@@ -12,11 +12,7 @@ use Rattle.tds_csv.proofs.Utf8Laws.{front, front_is, valid_len-past}
 
 -- two pieces, one after the other
 pub appended_twice : (s : Space) (x y : List ℕ) → appended (appended s x) y ≡ appended s (x ++ y)
-appended_twice s x y =
-    let e = append_assoc s.bytes x y in
-    let more = length-append (s.bytes ++ x) y in
-    let peak : (appended (appended s x) y).peak ≡ (appended s (x ++ y)).peak = omega (arith, more, ap length e) in
-    λ i. record { bytes = e i; room = s.room; peak = peak i }
+appended_twice s x y = grind (arith, append_assoc, length-append)
 
 -- a beginning of a character is no text
 part_is_no_text : (c n : ℕ) → 0 < n → n < length (encode_utf8 c) → IsUtf8 (take n (encode_utf8 c)) → ⊥
@@ -24,8 +20,7 @@ part_is_no_text c n some short ([], u) = let e = ap length u.1 in let len = leng
 part_is_no_text c n some short (d ∷ cs, u) =
     let whole : encode_utf8 c ++ [] ≡ encode_utf8 d ++ (encode_utf8_all cs ++ drop n (encode_utf8 c)) =
     append-nil (encode_utf8 c) ∙ sym (take-append-drop n (encode_utf8 c)) ∙ ap (λ l. l ++ drop n (encode_utf8 c)) (sym u.1) ∙ append_assoc (encode_utf8 d) (encode_utf8_all cs) (drop n (encode_utf8 c)) in
-    let same = ap length (encode_same c d [] (encode_utf8_all cs ++ drop n (encode_utf8 c)) whole).1 in
-    omega (arith, same, length-append (encode_utf8_all cs) (drop n (encode_utf8 c)), length-drop n (encode_utf8 c))
+    grind (arith, encode_utf8_all, append-nil, take-append-drop, append_assoc, encode_same, length-append, length-drop)
 
 part_has_none : (c k : ℕ) → k < length (encode_utf8 c) → utf8_valid_len (take k (encode_utf8 c)) ≡ 0
 unfolding front
@@ -42,33 +37,19 @@ part_has_none c k short =
 -- the next character doesn't fit
 pub cut_before : (room c : ℕ) (out more : List ℕ) → IsUtf8 out → length out ≤ room → room < length out + length (encode_utf8 c) → whole_within room (out ++ (encode_utf8 c ++ more)) ≡ out
 cut_before room c out more u fits full =
-    let text = out ++ (encode_utf8 c ++ more) in
     let k = room - length out in
     let split : room ≡ length out + k = omega arith in
-    let cut : take room text ≡ out ++ take k (encode_utf8 c) =
-    ap (λ n. take n text) split ∙ take-append-add out (encode_utf8 c ++ more) k ∙ ap (λ l. out ++ l) (take-append-le k (encode_utf8 c) more (omega arith)) in
-    let len : utf8_valid_len (take room text) ≡ length out =
-    ap utf8_valid_len cut ∙ valid_len-past out (take k (encode_utf8 c)) u ∙ ap (λ n. length out + n) (part_has_none c k (omega arith)) ∙ omega arith in
-    take_at out (encode_utf8 c ++ more) (utf8_valid_len (take room text)) (sym len)
+    grind (arith, take-append-add, take-append-le, valid_len-past, part_has_none, take_at)
 
 -- all fits
 pub cut_none : (room : ℕ) (out : List ℕ) → IsUtf8 out → length out ≤ room → whole_within room out ≡ out
-cut_none room out u fits =
-    take_all (utf8_valid_len (take room out)) out (omega (arith, ap utf8_valid_len (take_all room out fits), utf8_valid_len-IsUtf8 out u))
+cut_none room out u fits = grind (arith, take_all, utf8_valid_len-IsUtf8)
 
 -- the area stands as the longest beginning that fits leaves it, where the next character doesn't fit
 pub stays_cut : (s to : Space) (out piece text more : List ℕ) (c : ℕ) → to ≡ appended s out → piece ≡ encode_utf8 c → text ≡ out ++ (encode_utf8 c ++ more) → IsUtf8 out → length s.bytes + length out ≤ s.room
     → to.room < length to.bytes + length piece → to ≡ appended s (whole_within (s.room - length s.bytes) text)
-stays_cut s to out piece text more c is one all u fits full =
-    let room : to.room ≡ s.room = ap (λ (t : Space). t.room) is in
-    let len : length to.bytes ≡ length s.bytes + length out = ap (λ (t : Space). length t.bytes) is ∙ length-append s.bytes out in
-    let enc : length piece ≡ length (encode_utf8 c) = ap length one in
-    let left = s.room - length s.bytes in
-    is ∙ ap (appended s) (sym (ap (whole_within left) all ∙ cut_before left c out more u (omega arith) (omega arith)))
+stays_cut s to out piece text more c is one all u fits full = grind (arith, length-append, cut_before)
 
 -- and where all fits
 pub stays_whole : (s to : Space) (out text more : List ℕ) → to ≡ appended s out → text ≡ out ++ more → more ≡ [] → IsUtf8 out → length s.bytes + length out ≤ s.room → to ≡ appended s (whole_within (s.room - length s.bytes) text)
-stays_whole s to out text more is all none u fits =
-    let left = s.room - length s.bytes in
-    let whole : text ≡ out = all ∙ ap (λ l. out ++ l) none ∙ append-nil out in
-    is ∙ ap (appended s) (sym (ap (whole_within left) whole ∙ cut_none left out u (omega arith)))
+stays_whole s to out text more is all none u fits = grind (arith, append-nil, cut_none)

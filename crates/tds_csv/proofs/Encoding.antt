@@ -1,5 +1,5 @@
 -- Bytes that were written to a place, one after the other or many at once.
-use Rattle.std.proofs.Common.{◌≡◌, ◌∙◌, ◌+◌, ◌≤◌, ◌∷◌, ◌++◌, [], ℕ, List, length, take, drop, ap, sym, append_assoc, arith, length-take-le}
+use Rattle.std.proofs.Common.{◌≡◌, ◌∙◌, ◌+◌, ◌≤◌, ◌∷◌, ◌++◌, [], ℕ, List, length, take, ap, sym, append_assoc, arith, length-take-le}
 use Rattle.std.proofs.lemmas.Simd.{put_chunk_is}
 use Rattle.std.proofs.Math.Seq.{take-append-add}
 use lib.Lanes.{put_chunk}
@@ -30,10 +30,4 @@ added_doubled c t u big e = e ∙ ap (λ l. t ++ l) (sym (doubled_character c (�
 
 -- a beginning of what was written at a place
 pub taken_put : (i n : ℕ) (xs ys : List ℕ) → n ≤ length ys → i + length ys ≤ length xs → take (i + n) (put_chunk i xs ys) ≡ take i xs ++ take n ys
-taken_put i n xs ys within room =
-    let more = drop (length ys) (drop i xs) in
-    let len : length (take i xs) ≡ i = length-take-le i xs (omega arith) in
-    ap (take (i + n)) (put_chunk_is i xs ys room)
-    ∙ ap (λ k. take (k + n) (take i xs ++ (ys ++ more))) {x = i} {y = length (take i xs)} (omega (arith, len))
-    ∙ take-append-add (take i xs) (ys ++ more) n
-    ∙ ap (λ l. take i xs ++ l) (take-append-le n ys more within)
+taken_put i n xs ys within room = grind (arith, length-take-le, put_chunk_is, take-append-add, take-append-le)

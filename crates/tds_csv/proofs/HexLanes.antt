@@ -1,5 +1,5 @@
 -- Hexadecimal digits that are looked up 16 at a time.
-use Rattle.std.proofs.Common.{◌≡◌, ◌∙◌, ℕ, ◌+◌, ◌*◌, ◌/◌, ◌%◌, ◌<◌, ◌≤◌, suc, leb, false, cond, List, [], ◌∷◌, ◌++◌, map, length, get_or, drop, refl, sym, ap, subst, arith, length-drop, w8, Fits}
+use Rattle.std.proofs.Common.{◌≡◌, ◌∙◌, ℕ, ◌+◌, ◌/◌, ◌%◌, ◌<◌, ◌≤◌, suc, List, [], ◌∷◌, ◌++◌, map, length, get_or, drop, refl, sym, ap, subst, arith, length-drop, w8, Fits}
 use Rattle.std.proofs.lemmas.Bool.Decides.{nat_tests}
 use Rattle.std.proofs.lemmas.Simd.{swz_l}
 use lib.Lanes.{Each1}
@@ -9,11 +9,7 @@ use Rattle.tds_csv.proofs.Utf16Steps.{drop_four, nil_of_length}
 
 pub looked_up : (i : ℕ) (js : List ℕ) → i + length js ≤ 16 → Each1 (λ j. j < 16) js → swz_l w8 16 lower_digits i js ≡ map digit js
 looked_up i [] few small = refl
-looked_up i (j ∷ js) few small =
-    let below : j < 16 = small.0 in
-    let kept : leb 128 j ≡ false = grind (arith, nat_tests) in
-    let place : 16 * (i / 16) + j ≡ j = omega arith in
-    (λ k. cond (kept k) 0 (get_or lower_digits (place k) 0) ∷ looked_up (suc i) js (omega arith) small.1 k)
+looked_up i (j ∷ js) few small = grind (arith, nat_tests, looked_up (suc i) js (omega arith) small.1)
 
 -- sixteen bytes by name
 sixteen : (v : List ℕ) → length v ≡ 16

@@ -14,10 +14,7 @@ module _ (rest text : List ℕ → List ℕ) where
   Leads-none xs = record { emits = refl; keeps = refl }
 
   pub Leads-trans : (xs ys zs p q : List ℕ) → Leads rest text xs ys p → Leads rest text ys zs q → Leads rest text xs zs (p ++ q)
-  Leads-trans xs ys zs p q x y = record {
-    emits = x.emits ∙ ap (λ l. p ++ l) y.emits ∙ sym (append_assoc p q (emit rest text zs));
-    keeps = x.keeps ∙ y.keeps;
-  }
+  Leads-trans xs ys zs p q x y = grind (arith, append_assoc)
 
   pub Leads-chunk : {fit begins : List ℕ → Type 0} (laws : JoinsPieces fit begins rest text) (xs more : List ℕ) → begins (xs ++ more) → Leads rest text (xs ++ more) (rest xs ++ more) (emit rest text xs)
   Leads-chunk laws xs more h = record { emits = laws.emits xs more h; keeps = laws.keeps xs more h }
@@ -32,14 +29,11 @@ module _ (rest text : List ℕ → List ℕ) where
       let whole : chunk ++ more ≡ ys = take-append-drop (end - at) ys in
       let others : rest chunk ++ more ≡ drop (at + used) xs =
       ap (λ l. l ++ more) (sym e) ∙ sym (drop-append-le used chunk more le) ∙ ap (drop used) whole ∙ drop-drop used at xs in
-      subst (λ l. Leads rest text ys l (emit rest text chunk)) others
-      (subst (λ l. Leads rest text l (rest chunk ++ more) (emit rest text chunk)) whole (Leads-chunk laws chunk more (subst begins (sym whole) h)))
+      grind (arith, take-append-drop, drop-append-le, drop-drop, Leads-chunk)
 
   -- nothing is fixed where all is withheld
   pub emit_held : (xs : List ℕ) → text [] ≡ [] → rest xs ≡ xs → emit rest text xs ≡ []
-  emit_held xs empty e =
-      let none : length xs - length (rest xs) ≡ 0 = omega (arith, ap length e) in
-      ap (λ n. text (take n xs)) none ∙ empty
+  emit_held xs empty e = grind (arith)
 
   -- the part before was put, and then what follows was, or a write of it failed
   pub puts_whole : {W U V : Type 0} (contents : W → Option (List ℕ)) (a b d : Sink W) (xs ys p : List ℕ) (u : U) (r : Result V Stop) → Leads rest text xs ys p
@@ -53,9 +47,7 @@ module _ (rest text : List ℕ → List ℕ) where
 
   -- the first chunk of some bytes
   pub Leads-front : {fit begins : List ℕ → Type 0} (laws : JoinsPieces fit begins rest text) (xs : List ℕ) (n : ℕ) → begins xs → Leads rest text xs (rest (take n xs) ++ drop n xs) (emit rest text (take n xs))
-  Leads-front {fit} {begins} laws xs n h =
-      let whole : take n xs ++ drop n xs ≡ xs = take-append-drop n xs in
-      subst (λ l. Leads rest text l (rest (take n xs) ++ drop n xs) (emit rest text (take n xs))) whole (Leads-chunk laws (take n xs) (drop n xs) (subst begins (sym whole) h))
+  Leads-front {fit} {begins} laws xs n h = grind (arith, take-append-drop, Leads-chunk)
 
   -- withheld bytes and the first ones of a piece
   seam : (kept piece : List ℕ) (n : ℕ) → (kept ++ take n piece) ++ drop n piece ≡ kept ++ piece
@@ -71,14 +63,9 @@ module _ (rest text : List ℕ → List ℕ) where
       let tail : drop used bytes ≡ drop at (take n piece) = (λ i. drop (split i) (is i)) ∙ drop-append-add kept (take n piece) at in
       let others : rest bytes ++ more ≡ drop at piece =
       ap (λ l. l ++ more) (sym e ∙ tail) ∙ sym (drop-append-le at (take n piece) more le) ∙ ap (drop at) (take-append-drop n piece) in
-      let whole : bytes ++ more ≡ kept ++ piece = ap (λ l. l ++ more) is ∙ seam kept piece n in
-      subst (λ l. Leads rest text (kept ++ piece) l (emit rest text bytes)) others
-      (subst (λ l. Leads rest text l (rest bytes ++ more) (emit rest text bytes)) whole (Leads-chunk laws bytes more (subst begins (sym whole) h)))
+      grind (arith, length-append, drop-append-add, drop-append-le, take-append-drop, seam, Leads-chunk)
 
   -- withheld bytes with the first ones of a piece are the first chunk of both
   pub Leads-seam-front : {fit begins : List ℕ → Type 0} (laws : JoinsPieces fit begins rest text) (kept piece : List ℕ) (n : ℕ) → begins (kept ++ piece)
       → Leads rest text (kept ++ piece) (rest (kept ++ take n piece) ++ drop n piece) (emit rest text (kept ++ take n piece))
-  Leads-seam-front {fit} {begins} laws kept piece n h =
-      let whole = seam kept piece n in
-      subst (λ l. Leads rest text l (rest (kept ++ take n piece) ++ drop n piece) (emit rest text (kept ++ take n piece))) whole
-      (Leads-chunk laws (kept ++ take n piece) (drop n piece) (subst begins (sym whole) h))
+  Leads-seam-front {fit} {begins} laws kept piece n h = grind (arith, Leads-chunk, append_assoc, take-append-drop)

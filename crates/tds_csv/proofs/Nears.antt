@@ -129,10 +129,7 @@ module _ {S : Type 0} (g : Grammar S Fault) (text : S → List ℕ) where
   -- the text of what is read later stands after that of what is read before
   grown : Grows g text → (s : S) (es : List (List ℕ)) (t : S) → Leads g s es t → (more : List ℕ) × (text s ++ more ≡ text t)
   grown grows s [] t leads = ([], append-nil (text s) ∙ ap text leads)
-  grown grows s (e ∷ es) t leads =
-      let one : (more : List ℕ) × (text s ++ more ≡ text (g.add s e)) = grows s e leads.0 in
-      let all : (more : List ℕ) × (text (g.add s e) ++ more ≡ text t) = grown grows (g.add s e) es t leads.1 in
-      (one.0 ++ all.0, sym (append_assoc (text s) one.0 all.0) ∙ ap (λ l. l ++ all.0) one.1 ∙ all.1)
+  grown grows s (e ∷ es) t leads = grind (arith, append_assoc, grown grows (g.add s e) es t leads.1)
 
   pub grown_leads : Grows g text → (s : S) (es : List (List ℕ)) (t : S) → Leads g s es t → (more : List ℕ) × (text s ++ more ≡ text t)
   grown_leads grows s es t leads = grown grows s es t leads
@@ -165,8 +162,7 @@ module _ {S T : Type 0} (small : Grammar S Fault) (big : Grammar T Fault) (lift 
 
   -- after the small text the big one has a tail
   pub tail_behind : (s t : S) (more tail : List ℕ) → 0 < small.size s → text s ++ more ≡ text t → (front ++ text t) ++ tail ≡ whole (lift t) → whole (lift s) ++ (more ++ tail) ≡ whole (lift t)
-  tail_behind s t more tail some e end =
-      ap (λ l. l ++ (more ++ tail)) (sym (text_is s some)) ∙ sym (append_assoc (front ++ text s) more tail) ∙ ap (λ l. l ++ tail) (append_assoc front (text s) more ∙ ap (λ l. front ++ l) e) ∙ end
+  tail_behind s t more tail some e end = grind (arith, append_assoc)
 
   -- the small grammar was read to its end, and its text put: of the big one's text only what stands after it is to be put
   abbrev pub nears_inside : (from : S) (a b : Seen) (h i : Held) (to : S) (tail : List ℕ) → (x : Streams small text from a b h i to) → 0 < length x.bytes → IsBetween b → length i.waiting < 4096 → (front ++ text to) ++ tail ≡ whole (lift to)

@@ -1,4 +1,5 @@
 -- A piece that was lent is many elements: where a write of their text fails, it fails in that of one of them.
+use Rattle.std.proofs.lemmas.Grind.{common_steps}
 use Rattle.std.proofs.Common.{◌≡◌, ◌∙◌, inl, inr, ℕ, ◌-◌, ◌^◌, ◌<◌, ◌≤◌, List, [], ◌∷◌, ◌++◌, length, sym, ap, subst, arith, append_assoc, append-nil, length-append}
 use Rattle.std.specs.List.{concat}
 use Rattle.std.proofs.lemmas.List.{append_cancel_left}
@@ -38,9 +39,7 @@ module _ {S : Type 0} (g : Grammar S Fault) (text : S → List ℕ) (grows : Gro
   -- the elements from a state on, before which all was put
   breaks_from : (at t : S) (es : List (List ℕ)) (bytes rest : List ℕ) (m : Held) (added : List ℕ) → Spelt g s bytes at → Leads g at es t → Takes a b ((bytes ++ concat es) ++ rest) 1 → PutsText text s at h m → length m.waiting < 4096 → text at ++ added ≡ text t → Breaks m j added stop
       → (to : S) × BreaksStreaming g text s a b h j to stop
-  breaks_from at t [] bytes rest m added spelt leads takes puts few text_is breaks =
-      let none : added ≡ [] = append_cancel_left (text at) added [] (text_is ∙ ap text (sym leads) ∙ sym (append-nil (text at))) in
-      absurd (Breaks_none m j stop few (subst (λ l. Breaks m j l stop) none breaks))
+  breaks_from at t [] bytes rest m added spelt leads takes puts few text_is breaks = grind (arith, common_steps, append_cancel_left, append-nil, Breaks_none)
   breaks_from at t (e ∷ es) bytes rest m added spelt leads takes puts few text_is breaks =
       let next : IsNext g at e = leads.0 in
       let more : (x : List ℕ) × (text at ++ x ≡ text (g.add at e)) = grows at e next in

@@ -12,17 +12,13 @@ use Rattle.tds_csv.proofs.SingleLaws.{windows_1252-append}
 use Rattle.tds_csv.proofs.Characters.{of_one, doubled_character}
 use Rattle.tds_csv.proofs.Singles.{some_itself}
 
-itself : (b : ℕ) → b < 128 → windows_1252.character b ≡ b
-itself b small = grind (arith, nat_tests)
-
 -- the text of one byte
 pub text_one : (b : ℕ) → windows_1252.text (b ∷ []) ≡ doubled (encode_utf8 (windows_1252.character b))
 text_one b = ap doubled (append-nil (encode_utf8 (windows_1252.character b)))
 
 -- a byte of ASCII that isn't a quote
 plain_byte : (b : ℕ) → b < 128 → b ≢ 34 → windows_1252.text (b ∷ []) ≡ b ∷ []
-plain_byte b small ne =
-    ap (λ c. doubled (encode_utf8_all (c ∷ []))) (itself b small) ∙ ap doubled (append-nil (encode_utf8 b)) ∙ doubled_character b ne ∙ of_one b small
+plain_byte b small ne = grind (arith, encode_utf8_all, append-nil, doubled_character, of_one, nat_tests)
 
 plain : (b : ℕ) → is_plain b ≡ true → windows_1252.text (b ∷ []) ≡ b ∷ []
 plain b h = plain_byte b (grind (arith, nat_tests)) (λ e. grind (arith, nat_tests))

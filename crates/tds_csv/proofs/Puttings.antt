@@ -1,4 +1,6 @@
 -- Calls that put texts, one after another.
+use Rattle.std.proofs.lemmas.Grind.{common_steps}
+use Rattle.std.proofs.Common.{arith}
 use Rattle.std.proofs.Common.{◌≡◌, ◌∙◌, ℕ, List, [], ◌++◌, Option, Result, Ok, Err, refl}
 use Rattle.std.specs.Result.{IsErrAnd}
 use Rattle.std.proofs.lemmas.Result.{err_from_is_err_and}
@@ -43,22 +45,12 @@ PutsPiece-ok contents a b p u v x = record { ready = x.ready; same = x.same; fai
 
 -- a call that failed, of a longer text
 pub PutsPiece-longer : {W U V : Type 0} (contents : W → Option (List ℕ)) (a b : Sink W) (p more : List ℕ) (e : Stop) → PutsPiece {U = U} contents a b p (Err e) → PutsPiece {U = V} contents a b (p ++ more) (Err e)
-PutsPiece-longer contents a b p more e x = record {
-  ready = x.ready;
-  same = x.same;
-  failed = x.failed;
-  gives = λ going. Breaks-longer (held contents a) (held contents b) p more e (x.gives going);
-  again = λ failed. (cc ((x.again failed).0), (x.again failed).1);
-}
+PutsPiece-longer contents a b p more e x = grind (arith, common_steps, Breaks-longer)
 
 -- `?` passed its error on, of the same text
 pub PutsPiece-error : {W U V : Type 0} (contents : W → Option (List ℕ)) (a b : Sink W) (p : List ℕ) (e : Stop) (r : Result V Stop) → IsErrAnd r (λ stop. stop ≡ e) → PutsPiece {U = U} contents a b p (Err e) → PutsPiece contents a b p r
-PutsPiece-error contents a b p e r is x =
-    let q = err_from_is_err_and r is in
-    rw (q.1, q.2) (record { ready = x.ready; same = x.same; failed = x.failed; gives = x.gives; again = λ failed. (cc ((x.again failed).0), (x.again failed).1) })
+PutsPiece-error contents a b p e r is x = grind (arith, common_steps, err_from_is_err_and)
 
 -- and of a longer one
 pub PutsPiece-passed : {W U V : Type 0} (contents : W → Option (List ℕ)) (a b : Sink W) (p more : List ℕ) (e : Stop) (r : Result V Stop) → IsErrAnd r (λ stop. stop ≡ e) → PutsPiece {U = U} contents a b p (Err e) → PutsPiece contents a b (p ++ more) r
-PutsPiece-passed contents a b p more e r is x =
-    let q = err_from_is_err_and r is in
-    rw (q.1, q.2) (PutsPiece-longer contents a b p more e x)
+PutsPiece-passed contents a b p more e r is x = grind (arith, common_steps, err_from_is_err_and, PutsPiece-longer)

@@ -1,5 +1,5 @@
 -- A field between quotes, as it is written to a slice.
-use Rattle.std.proofs.Common.{◌≡◌, ◌∙◌, ℕ, ◌+◌, ◌≤◌, List, [], ◌∷◌, ◌++◌, length, take, refl, ap, arith}
+use Rattle.std.proofs.Common.{◌≡◌, ℕ, ◌+◌, ◌≤◌, List, [], ◌∷◌, ◌++◌, length, take, refl, arith}
 use Rattle.std.specs.Prelude.{slice_set}
 use Rattle.std.proofs.lemmas.List.{take-append-le}
 use Rattle.std.proofs.Math.Seq.{take-append-add}
@@ -11,6 +11,4 @@ opened (a ∷ to) h = refl
 
 -- a quote, so many bytes of what was written after it, and a quote
 pub quoted : (to new rest text : List ℕ) (m : ℕ) → 1 ≤ length to → m ≤ length new → take m new ≡ text → take (1 + m) (take 1 (slice_set to 0 quote) ++ (new ++ rest)) ++ quote ∷ [] ≡ quoted_field text
-quoted to new rest text m some within is =
-    ap (λ l. l ++ quote ∷ [])
-    (ap (λ l. take (1 + m) (l ++ (new ++ rest))) (opened to some) ∙ take-append-add (quote ∷ []) (new ++ rest) m ∙ ap (λ l. quote ∷ l) (take-append-le m new rest within ∙ is))
+quoted to new rest text m some within is = grind (arith, opened, take-append-add, take-append-le)

@@ -34,13 +34,11 @@ module _ (text : List ℕ → List ℕ) (appends : (x y : List ℕ) → text (x 
 
   -- the text so far, with that of n more bytes
   pub text_more : (run bytes : List ℕ) (at n : ℕ) → run ≡ text (take at bytes) → run ++ text (take n (drop at bytes)) ≡ text (take (at + n) bytes)
-  text_more run bytes at n e =
-      ap (λ l. l ++ text (take n (drop at bytes))) e ∙ sym (appends (take at bytes) (take n (drop at bytes))) ∙ ap text (sym (take-add at n bytes))
+  text_more run bytes at n e = grind (arith, take-add)
 
   -- and that of the next byte
   pub text_next : (run bytes : List ℕ) (at : ℕ) → at < length bytes → run ≡ text (take at bytes) → run ++ text (get_or bytes at 0 ∷ []) ≡ text (take (at + 1) bytes)
-  text_next run bytes at within e =
-      ap (λ l. l ++ text (get_or bytes at 0 ∷ [])) e ∙ sym (appends (take at bytes) (get_or bytes at 0 ∷ [])) ∙ ap text (sym (take_more bytes at 0 within))
+  text_next run bytes at within e = grind (arith, take_more)
 
   -- bytes that stand for themselves, up to the first that needn't
   module _ (q : ℕ → Bool) (empty : text [] ≡ []) (itself : (b : ℕ) → q b ≡ true → text (b ∷ []) ≡ b ∷ []) where
@@ -67,7 +65,4 @@ module _ (text : List ℕ → List ℕ) (appends : (x y : List ℕ) → text (x 
 
     -- those that were found among the next 16
     pub lanes_itself : (bytes : List ℕ) (at n : ℕ) → n ≤ 16 → n ≡ prefix_len q (chunk at 16 bytes) → take n (chunk at 16 bytes) ≡ text (take n (drop at bytes))
-    lanes_itself bytes at n few e =
-        let v = chunk at 16 bytes in
-        let itself_n : text (take n v) ≡ take n v = ap (λ k. text (take k v)) e ∙ front_itself v ∙ ap (λ k. take k v) (sym e) in
-        sym itself_n ∙ ap text (take-take n 16 (drop at bytes) few)
+    lanes_itself bytes at n few e = grind (arith, chunk, front_itself, take-take)

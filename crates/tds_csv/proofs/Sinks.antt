@@ -1,8 +1,7 @@
 -- What was put into a sink, call after call.
-use Rattle.std.proofs.Common.{◌≡◌, ◌∙◌, Bool, false, ℕ, ◌+◌, ◌-◌, ◌*◌, ◌^◌, ◌<◌, ◌≤◌, List, [], ◌++◌, length, take, Result, Ok, Err, OnErr, MatchResult, refl, sym, ap, subst, arith, append-nil, append_assoc, length-append, le_refl, take_all}
+use Rattle.std.proofs.Common.{◌≡◌, ◌∙◌, Bool, false, ℕ, ◌+◌, ◌-◌, ◌^◌, ◌<◌, ◌≤◌, List, [], ◌++◌, length, take, Result, Ok, Err, OnErr, MatchResult, refl, sym, ap, subst, arith, append-nil, append_assoc, length-append, le_refl, take_all}
 use Rattle.std.proofs.Math.Seq.{take-append-add}
 use lib.Seq.{take-append-le}
-use Rattle.std.specs.Io.KnownBytes.{Appends}
 use Rattle.std.proofs.KnownBytes.{Appends-nil, Appends-trans}
 use Rattle.tds_meter.specs.Counts.{counted, one_more}
 use Rattle.tds_packet.specs.declared.fault.Stop.{Stop}
@@ -18,11 +17,7 @@ pub Adds-none : (a : Held) → a.delivered ≤ 2 ^ 64 - 1 → Adds a a [] []
 Adds-none a h = (Appends-nil a.had, append-nil a.waiting, counted-none a.delivered h)
 
 pub Adds-trans : (a b c : Held) (d f p q : List ℕ) → Adds a b d p → Adds b c f q → Adds a c (d ++ f) (p ++ q)
-Adds-trans a b c d f p q x y =
-    let left : a.waiting ++ (p ++ q) ≡ d ++ (b.waiting ++ q) = sym (append_assoc a.waiting p q) ∙ ap (λ l. l ++ q) x.1 ∙ append_assoc d b.waiting q in
-    let right : d ++ (b.waiting ++ q) ≡ (d ++ f) ++ c.waiting = ap (λ l. d ++ l) y.1 ∙ sym (append_assoc d f c.waiting) in
-    let len : c.delivered ≡ counted a.delivered (length (d ++ f)) = y.2 ∙ ap (λ n. counted n (length f)) x.2 ∙ counted-twice a.delivered (length d) (length f) ∙ ap (counted a.delivered) (sym (length-append d f)) in
-    (Appends-trans a.had b.had c.had d f x.0 y.0, left ∙ right, len)
+Adds-trans a b c d f p q x y = grind (arith, append_assoc, counted-twice, length-append, Appends-trans)
 
 pub Puts-none : (a : Held) → a.delivered ≤ 2 ^ 64 - 1 → Puts a a []
 Puts-none a h = ([], 0, Adds-none a h, refl, refl)
@@ -50,35 +45,12 @@ Breaks-after a b c p q e x y =
     )
 
 pub Breaks-longer : (a b : Held) (p more : List ℕ) (e : Stop) → Breaks a b p e → Breaks a b (p ++ more) e
-Breaks-longer a b p more e x =
-    (x.0, x.1, x.2, subst (Adds a b x.0) (sym (take-append-le x.2 p more x.4)) x.3, omega (arith, length-append p more, x.4), x.5, x.6, x.7, x.8, x.9)
+Breaks-longer a b p more e x = grind (arith, take-append-le, length-append)
 
 -- a block became full, and was delivered, or not
 pub block : {U : Type 0} (a m b : Held) (piece : List ℕ) (r : Result U Stop) → m ≡ record a { waiting = a.waiting ++ piece } → length m.waiting ≡ 4096 → OnErr r (0 < length b.waiting)
     → MatchResult r (λ _. Sends m b) (λ e. FinishFails m b e) → MatchResult r (λ _. Puts a b piece) (λ e. Breaks a b piece e)
-block a m b piece (Ok u) is full some x =
-    let d = x.0 in
-    let same : m.waiting ++ [] ≡ a.waiting ++ piece = append-nil m.waiting ∙ ap (λ (h : Held). h.waiting) is in
-    let all : a.waiting ++ piece ≡ d ++ b.waiting = sym same ∙ x.1.1 in
-    let len : length d ≡ 4096 * 1 = omega (arith, full, ap length x.1.1, ap length (append-nil m.waiting), length-append d b.waiting, ap length x.2) in
-    (d, 1, (subst (λ (h : Held). Appends h.had b.had d) is x.1.0, all, subst (λ (h : Held). b.delivered ≡ counted h.delivered (length d)) is x.1.2), len, subst (λ (h : Held). b.failures ≡ h.failures) is x.3)
-block a m b piece (Err e) is full some x =
-    let d = x.0 in
-    let same : m.waiting ++ [] ≡ a.waiting ++ piece = append-nil m.waiting ∙ ap (λ (h : Held). h.waiting) is in
-    let whole : take (length piece) piece ≡ piece = take_all (length piece) piece (le_refl _) in
-    let all : a.waiting ++ take (length piece) piece ≡ d ++ b.waiting = ap (λ l. a.waiting ++ l) whole ∙ sym same ∙ x.1.1 in
-    let len : length d + length b.waiting ≡ 4096 = omega (arith, full, ap length x.1.1, ap length (append-nil m.waiting), length-append d b.waiting) in (
-      d,
-      0,
-      length piece,
-      (subst (λ (h : Held). Appends h.had b.had d) is x.1.0, all, subst (λ (h : Held). b.delivered ≡ counted h.delivered (length d)) is x.1.2),
-      le_refl _,
-      omega arith,
-      omega (arith, len, some),
-      omega (arith, len),
-      x.2,
-      subst (λ (h : Held). b.failures ≡ one_more h.failures) is x.3,
-    )
+block a m b piece r is full some x = grind (arith, append-nil, length-append, take_all, le_refl)
 
 pub block_going : {U : Type 0} (a m b : Held) (piece : List ℕ) (r : Result U Stop) (failed : Bool) → m ≡ record a { waiting = a.waiting ++ piece } → length m.waiting ≡ 4096 → OnErr r (0 < length b.waiting)
     → MatchResult r (λ _. Sends m b) (λ e. FinishFails m b e) → MatchResult r (λ _. Puts a b piece) (λ e. failed ≡ false → Breaks a b piece e)

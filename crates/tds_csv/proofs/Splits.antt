@@ -1,6 +1,7 @@
 -- A text that is put in one call could have been put in two.
+use Rattle.std.proofs.lemmas.Grind.{common_steps}
 use Rattle.std.proofs.Common.{◌≡◌, ◌∙◌, ◌⊎◌, inl, inr, ℕ, ◌+◌, ◌-◌, ◌*◌, ◌^◌, ◌<◌, ◌≤◌, List, [], ◌++◌, length, take, drop, refl, sym, ap, subst, arith, append_assoc, length-append, length-drop, length-take}
-use Rattle.std.specs.Prelude.{◌/◌, ◌%◌, Option, Some, None}
+use Rattle.std.specs.Prelude.{◌/◌, ◌%◌, Option}
 use Rattle.std.proofs.lemmas.List.{length-take-le, take-append-drop, take-append-le, drop-append-le}
 use Rattle.std.proofs.lemmas.Nat.{div-add-mod'}
 use Rattle.std.proofs.Math.Nat.{mod-lt}
@@ -14,14 +15,11 @@ use Rattle.tds_csv.proofs.Sinks.{counted-twice}
 
 -- what has grown by some bytes
 Appends-known : (a : Option (List ℕ)) (bs : List ℕ) → Appends a (append_known a bs) bs
-Appends-known None bs = tt
-Appends-known (Some x) bs = refl
+Appends-known a bs = grind (arith)
 
 -- the second part of what was appended
 Appends-behind : (a c : Option (List ℕ)) (bs cs : List ℕ) → Appends a c (bs ++ cs) → Appends (append_known a bs) c cs
-Appends-behind None c bs cs p = tt
-Appends-behind (Some x) None bs cs p = absurd p
-Appends-behind (Some x) (Some y) bs cs p = p ∙ sym (append_assoc x bs cs)
+Appends-behind a c bs cs p = grind (arith, append_assoc)
 
 -- what waits and what was delivered once the first part of a piece was put, and what the second part then delivered
 pub record Halves (a b : Held) (p r sent : List ℕ) (blocks : ℕ) : Type 0 where
@@ -143,7 +141,4 @@ Breaks_split a b p q stop x = elim (dec_le x.2 (length p)) [
 
 -- no write fails where nothing is put
 pub Breaks_none : (a b : Held) (stop : Stop) → length a.waiting < 4096 → Breaks a b [] stop → ⊥
-Breaks_none a b stop few x =
-    let none : length (take {A = ℕ} x.2 []) ≡ 0 = omega (arith, length-take {A = ℕ} x.2 []) in
-    let total : length a.waiting + length (take x.2 []) ≡ length x.0 + length b.waiting = sym (length-append a.waiting (take x.2 [])) ∙ ap length x.3.1 ∙ length-append x.0 b.waiting in
-    omega (arith, total, none, few, x.7)
+Breaks_none a b stop few x = grind (arith, common_steps, length-append, length-take)

@@ -1,15 +1,14 @@
 -- Units that are looked at eight at a time, by their low and high bytes.
-use Rattle.std.proofs.Common.{◌≡◌, ◌∙◌, ℕ, ◌+◌, ◌*◌, ◌/◌, ◌%◌, ◌^◌, ◌<◌, ◌≤◌, ◌&&◌, eqb, leb, Bool, true, false, not, cond, List, [], ◌∷◌, map, length, replicate, refl, ap, ap₂, arith, bit_or}
-use Rattle.std.specs.Prelude.{◌==◌, nat_lt}
+use Rattle.std.proofs.Common.{◌≡◌, ◌∙◌, ℕ, ◌+◌, ◌*◌, ◌/◌, ◌%◌, ◌^◌, ◌≤◌, ◌&&◌, eqb, leb, Bool, true, false, not, cond, List, [], ◌∷◌, map, length, replicate, refl, ap, ap₂, arith, bit_or}
+use Rattle.std.specs.Prelude.{◌==◌}
 use Rattle.std.proofs.lemmas.Bool.Decides.{nat_tests}
 use Rattle.std.proofs.lemmas.Simd.{map-map, mask_l-mod, first_set_mask_l, zip2_of_maps, splat_is_map}
 use Rattle.std.proofs.lemmas.List.{length-map, take-append-drop, take-take}
 use Rattle.std.specs.List.{prefix_len}
 use lib.Lanes.{zip2, mask_l, top}
-use Rattle.std.proofs.Common.{sym, zero, suc, ◌++◌, ◌≢◌, take, drop, subst, unwrap_or}
-use Rattle.std.specs.Char.Utf16.{lone_unit_char}
-use Rattle.tds_csv.specs.Joining.{Leads, emit}
-use Rattle.tds_csv.specs.Utf16.{is_high, rest, text}
+use Rattle.std.proofs.Common.{sym, zero, suc, ◌++◌, take, drop, subst, unwrap_or}
+use Rattle.tds_csv.specs.Joining.{Leads}
+use Rattle.tds_csv.specs.Utf16.{rest, text}
 use Rattle.tds_csv.proofs.Characters.{of_one, doubled_character}
 use Rattle.tds_csv.proofs.Utf16Steps.{next_one}
 use Rattle.tds_csv.proofs.Leading.{Leads-none, Leads-trans}
@@ -39,21 +38,8 @@ length-pairs (low ∷ high ∷ xs) = let e = length-pairs xs in omega arith
 abbrev pub lane : ℕ × ℕ → ℕ
 lane p = bit_or (bit_or (cond (eqb p.0 34) 255 0) (cond (leb 128 p.0) 255 0)) (cond (leb 1 p.1) 255 0)
 
-bits : (a b c : Bool) → not (top 7 (bit_or (bit_or (cond a 255 0) (cond b 255 0)) (cond c 255 0))) ≡ ((not b && not a) && not c)
-bits true true true = refl
-bits true true false = refl
-bits true false true = refl
-bits true false false = refl
-bits false true true = refl
-bits false true false = refl
-bits false false true = refl
-bits false false false = refl
-
 same : (low high : ℕ) → not (top 7 (lane (low, high))) ≡ (is_plain low && (high == 0))
-same low high =
-    let small : not (leb 128 low) ≡ nat_lt low 128 = grind (arith, nat_tests) in
-    let none : not (leb 1 high) ≡ (high == 0) = grind (arith, nat_tests) in
-    bits (eqb low 34) (leb 128 low) (leb 1 high) ∙ (λ i. (small i && not (eqb low 34)) && none i)
+same low high = grind (arith, nat_tests)
 
 counted : (xs : List ℕ) → prefix_len (λ p. not (top 7 (lane p))) (pairs xs) ≡ plain_units xs
 counted [] = refl
@@ -81,8 +67,7 @@ units_run xs z long lanes =
     ap (λ m. first_set m 8) mask ∙ first_set_mask_l stops ps 8 n (omega arith) ∙ counted xs
 
 more_within : (b : Bool) (n m : ℕ) → n ≤ m → cond b (1 + n) 0 ≤ 1 + m
-more_within true n m h = omega arith
-more_within false n m h = omega arith
+more_within b n m h = grind (arith)
 
 pub plain_within : (xs : List ℕ) → plain_units xs ≤ length (evens xs)
 plain_within [] = omega arith
@@ -96,27 +81,14 @@ length-evens (low ∷ high ∷ xs) = let e = length-evens xs in omega arith
 
 -- a character of ASCII that is no quote
 leads_one : (low high : ℕ) (more : List ℕ) → (is_plain low && (high == 0)) ≡ true → Leads rest text (low ∷ high ∷ more) more (low ∷ [])
-leads_one low high more h =
-    let small : low < 128 = grind (arith, nat_tests) in
-    let other : low ≢ 34 = λ e. grind (arith, nat_tests) in
-    let none : high ≡ 0 = grind (arith, nat_tests) in
-    let apart : is_high low high ≡ false = grind (arith, nat_tests) in
-    let code : unwrap_or (lone_unit_char (low + 256 * high)) 0xFFFD ≡ low = grind (arith, nat_tests) in
-    let next = next_one low high more low apart code in
-    record {
-      emits = next.emits ∙ ap (λ l. l ++ emit rest text more) (doubled_character low other ∙ of_one low small);
-      keeps = next.keeps;
-    }
+leads_one low high more h = grind (arith, nat_tests, unwrap_or, next_one, doubled_character, of_one)
 
 leads_more : (b : Bool) (low high n : ℕ) (ys more : List ℕ) → (b ≡ true → Leads rest text (low ∷ high ∷ more) more (low ∷ [])) → Leads rest text more (drop (2 * n) more) (take n ys)
     → Leads rest text (low ∷ high ∷ more) (drop (2 * cond b (1 + n) 0) (low ∷ high ∷ more)) (take (cond b (1 + n) 0) (low ∷ ys))
 leads_more true low high n ys more one next =
     let next_n : suc n ≡ 1 + n = omega arith in
     let next_two : suc (suc (2 * n)) ≡ 2 * suc n = omega arith in
-    let xs = low ∷ high ∷ more in
-    subst (λ k. Leads rest text xs (drop (2 * k) xs) (take k (low ∷ ys))) next_n
-    (subst (λ k. Leads rest text xs (drop k xs) (low ∷ take n ys)) next_two
-    (Leads-trans rest text xs more (drop (2 * n) more) (low ∷ []) (take n ys) (one refl) next))
+    grind (arith, Leads-trans)
 leads_more false low high n ys more one next = Leads-none rest text (low ∷ high ∷ more)
 
 pub leads_plain : (ys more : List ℕ) → Leads rest text (ys ++ more) (drop (2 * plain_units ys) (ys ++ more)) (take (plain_units ys) (evens ys))
@@ -128,8 +100,7 @@ leads_plain (low ∷ high ∷ ys) more =
 -- ---- some of the units that were looked at
 
 below : (b : Bool) (k n : ℕ) → suc k ≤ cond b (1 + n) 0 → (b ≡ true) × (k ≤ n)
-below true k n h = (refl, omega arith)
-below false k n h = absurd (omega arith)
+below b k n h = grind (arith)
 
 -- the first of plain units are plain
 plain_take : (k : ℕ) (ys : List ℕ) → k ≤ plain_units ys → plain_units (take (2 * k) ys) ≡ k
@@ -153,8 +124,6 @@ evens_take (suc k) (low ∷ high ∷ ys) =
 pub leads_some : (k : ℕ) (ys xs : List ℕ) → k ≤ plain_units ys → take (2 * k) xs ≡ take (2 * k) ys → Leads rest text xs (drop (2 * k) xs) (take k (evens ys))
 leads_some k ys xs few alike =
     let front = take (2 * k) ys in
-    let n : plain_units front ≡ k = plain_take k ys few in
     let whole : front ++ drop (2 * k) xs ≡ xs = ap (λ l. l ++ drop (2 * k) xs) (sym alike) ∙ take-append-drop (2 * k) xs in
     let from = subst (λ l. Leads rest text l (drop (2 * plain_units front) l) (take (plain_units front) (evens front))) whole (leads_plain front (drop (2 * k) xs)) in
-    let to = subst (λ m. Leads rest text xs (drop (2 * m) xs) (take m (evens front))) n from in
-    subst (λ l. Leads rest text xs (drop (2 * k) xs) l) (ap (take k) (evens_take k ys) ∙ take-take k k (evens ys) (omega arith)) to
+    grind (arith, plain_take, take-append-drop, leads_plain, evens_take, take-take)

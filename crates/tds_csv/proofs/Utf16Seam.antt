@@ -1,5 +1,5 @@
 -- Withheld bytes of text in UTF-16, with the first ones of a piece.
-use Rattle.std.proofs.Common.{◌≡◌, ◌<◌, ℕ, List, [], ◌∷◌, ◌++◌, length, take, drop, refl, sym, subst, arith}
+use Rattle.std.proofs.Common.{◌≡◌, ◌<◌, ℕ, List, [], ◌∷◌, ◌++◌, length, take, drop, sym, subst, arith}
 use Rattle.tds_csv.specs.Joining.{Leads, emit}
 use Rattle.tds_csv.specs.Utf16.{rest, text}
 use Rattle.tds_csv.proofs.Utf16Laws.{joins_utf16}
@@ -12,8 +12,7 @@ emit_none = text_nil
 
 -- some bytes are withheld
 pub seam_some : (kept piece : List ℕ) → 0 < length kept → seam kept piece ≡ kept ++ take 3 piece
-seam_some [] piece some = absurd (omega arith)
-seam_some (byte ∷ kept) piece some = refl
+seam_some kept piece some = grind (arith)
 
 -- where the text goes on after that of the seam
 abbrev pub behind : List ℕ → List ℕ → List ℕ

@@ -1,5 +1,5 @@
 -- One character after the other of text in UTF-16.
-use Rattle.std.proofs.Common.{◌≡◌, ◌∙◌, ◌&&◌, ◌+◌, ◌*◌, ◌<◌, ◌≤◌, ◌%◌, ℕ, Bool, true, false, cond, List, [], ◌∷◌, ◌++◌, length, map, drop, get_or, refl, sym, ap, arith, encode_utf8_all, unwrap_or}
+use Rattle.std.proofs.Common.{◌≡◌, ◌∙◌, ◌&&◌, ◌+◌, ◌*◌, ◌<◌, ◌≤◌, ◌%◌, ℕ, Bool, true, false, List, [], ◌∷◌, ◌++◌, length, map, drop, get_or, refl, ap, arith, encode_utf8_all, unwrap_or}
 use Rattle.std.proofs.lemmas.List.{drop_more}
 use Rattle.std.proofs.lemmas.Bool.{and_right}
 use Rattle.std.proofs.lemmas.Bool.Decides.{nat_tests}
@@ -35,8 +35,7 @@ chars_pair u v us h = simp h
 
 spells_one : (low high : ℕ) (bytes : List ℕ) (code : ℕ) → unwrap_or (lone_unit_char (low + 256 * high)) 0xFFFD ≡ code → (is_high low high && starts_low (units bytes)) ≡ false
     → characters (low ∷ high ∷ bytes) ≡ encode_utf8 code ++ characters bytes
-spells_one low high bytes code e h =
-    ap encode_utf8_all (chars_one (low + 256 * high) (units bytes) h) ∙ ap (λ c. encode_utf8 c ++ characters bytes) e
+spells_one low high bytes code e h = grind (arith, encode_utf8_all, chars_one)
 
 spells_pair : (low high low' high' : ℕ) (bytes : List ℕ) → (is_high low high && is_low_surrogate (low' + 256 * high')) ≡ true
     → characters (low ∷ high ∷ low' ∷ high' ∷ bytes) ≡ encode_utf8 (surrogate_pair_char (low + 256 * high) (low' + 256 * high')) ++ characters bytes
@@ -44,8 +43,7 @@ spells_pair low high low' high' bytes h = ap encode_utf8_all (chars_pair (low + 
 
 -- the text of a front, from its characters
 emits_by : (bytes more : List ℕ) (code : ℕ) → characters (front bytes) ≡ encode_utf8 code ++ characters (front more) → emit rest text bytes ≡ doubled (encode_utf8 code) ++ emit rest text more
-emits_by bytes more code e =
-    emit-front bytes ∙ ap doubled e ∙ doubled-append (encode_utf8 code) (characters (front more)) ∙ ap (λ t. doubled (encode_utf8 code) ++ t) (sym (emit-front more))
+emits_by bytes more code e = grind (arith, emit-front, doubled-append, front)
 
 not_high : (low high : ℕ) (b : Bool) → is_high low high ≡ false → (is_high low high && b) ≡ false
 not_high low high b h = ap (λ t. t && b) h
@@ -61,9 +59,7 @@ next_one low high bytes code h e = record {
 -- no low surrogate stands first in a front either
 starts_low-front : (low high : ℕ) (bytes : List ℕ) → is_low_surrogate (low + 256 * high) ≡ false → starts_low (units (front (low ∷ high ∷ bytes))) ≡ false
 unfolding starts_low
-starts_low-front low high [] h = elim (is_high low high) as (λ t. starts_low (units (cond t [] (low ∷ high ∷ []))) ≡ false) [ true ↦ refl | false ↦ h ]
-starts_low-front low high (odd ∷ []) h = elim (is_high low high) as (λ t. starts_low (units (cond t [] (low ∷ high ∷ []))) ≡ false) [ true ↦ refl | false ↦ h ]
-starts_low-front low high (low' ∷ high' ∷ bytes) h = h
+starts_low-front low high bytes h = grind (arith, starts_low)
 
 starts_low-units : (low high : ℕ) (bytes : List ℕ) → is_low_surrogate (low + 256 * high) ≡ false → starts_low (units (low ∷ high ∷ bytes)) ≡ false
 unfolding starts_low
@@ -109,39 +105,18 @@ next_pair low high low' high' bytes h l =
       spells = spells_pair low high low' high' bytes pair;
     }
 
--- a high surrogate that stands last
-held_is_high : (low high : ℕ) → rest (low ∷ high ∷ []) ≡ low ∷ high ∷ [] → is_high low high ≡ true
-held_is_high low high e = elim (is_high low high) as (λ t. cond t (low ∷ high ∷ []) [] ≡ low ∷ high ∷ [] → t ≡ true) [ true ↦ λ _. refl | false ↦ λ e. cc ] e
-
-spells_last : (low high : ℕ) → rest (low ∷ high ∷ []) ≡ low ∷ high ∷ [] → characters (low ∷ high ∷ []) ≡ encode_utf8 0xFFFD ++ characters []
-unfolding starts_low
-spells_last low high e =
-    let h = held_is_high low high e in
-    spells_one low high [] 0xFFFD (lone_high (low + 256 * high) h) (and_right (is_high low high) false refl)
-
 -- whole data of which all is withheld is a high surrogate
 pub spells_held : (xs : List ℕ) → 2 ≤ length xs → length xs % 2 ≡ 0 → rest xs ≡ xs → characters xs ≡ encode_utf8 0xFFFD ++ characters (drop 2 xs)
-spells_held [] some whole e = absurd (omega arith)
-spells_held (low ∷ []) some whole e = absurd (omega arith)
-spells_held (low ∷ high ∷ []) some whole e = spells_last low high e
-spells_held (low ∷ high ∷ x ∷ bytes) some whole e = let most = short (low ∷ high ∷ x ∷ bytes) in absurd (omega (arith, ap length e, most))
+unfolding starts_low
+spells_held xs some whole e = grind (arith, short, lone_high, and_right, encode_utf8_all, chars_one)
 
 -- what isn't a whole unit stays
 pub held_short : (bytes : List ℕ) → length bytes < 2 → rest bytes ≡ bytes
-held_short [] h = refl
-held_short (odd ∷ []) h = refl
-held_short (low ∷ high ∷ bytes) h = absurd (omega arith)
+held_short bytes h = grind (arith)
 
 -- the bytes from a place on, the first ones named
 pub drop_two : (xs : List ℕ) (i : ℕ) → i + 1 < length xs → drop i xs ≡ get_or xs i 0 ∷ get_or xs (i + 1) 0 ∷ drop (i + 2) xs
-drop_two xs i h =
-    drop_more xs i 0 (omega arith) ∙ ap (λ l. get_or xs i 0 ∷ l) (drop_more xs (i + 1) 0 h)
-    ∙ ap (λ n. get_or xs i 0 ∷ get_or xs (i + 1) 0 ∷ drop n xs) {x = i + 1 + 1} {y = i + 2} (omega arith)
+drop_two xs i h = grind (arith, drop_more)
 
 pub drop_four : (xs : List ℕ) (i : ℕ) → i + 3 < length xs → drop i xs ≡ get_or xs i 0 ∷ get_or xs (i + 1) 0 ∷ get_or xs (i + 2) 0 ∷ get_or xs (i + 3) 0 ∷ drop (i + 4) xs
-drop_four xs i h =
-    drop_two xs i (omega arith)
-    ∙ ap (λ l. get_or xs i 0 ∷ get_or xs (i + 1) 0 ∷ l)
-    (drop_two xs (i + 2) (omega arith)
-    ∙ ap (λ n. get_or xs (i + 2) 0 ∷ get_or xs n 0 ∷ drop (i + 2 + 2) xs) {x = i + 2 + 1} {y = i + 3} (omega arith)
-    ∙ ap (λ n. get_or xs (i + 2) 0 ∷ get_or xs (i + 3) 0 ∷ drop n xs) {x = i + 2 + 2} {y = i + 4} (omega arith))
+drop_four xs i h = grind (arith, drop_two)

@@ -110,20 +110,16 @@ regrouped a b = ap (λ t. t ++ b) (front-rest a) ∙ append_assoc (front a) (res
 
 front-append : (a b : List ℕ) → front (a ++ b) ≡ front a ++ front (rest a ++ b)
 unfolding front
-front-append a b =
-    (λ i. take (valid_len-append a b i) (regrouped a b i)) ∙ take-past (front a) (rest a ++ b) (utf8_valid_len (rest a ++ b))
+front-append a b = grind (arith, valid_len-append, regrouped, take-past)
 
 pub rest-append : (a b : List ℕ) → rest (a ++ b) ≡ rest (rest a ++ b)
-rest-append a b =
-    (λ i. drop (valid_len-append a b i) (regrouped a b i)) ∙ drop-past (front a) (rest a ++ b) (utf8_valid_len (rest a ++ b))
+rest-append a b = grind (arith, valid_len-append, regrouped, drop-past)
 
 pub emit-front : (a : List ℕ) → emit rest text a ≡ text (front a)
 emit-front a = ap text (settled_front rest a (front a) (front-rest a))
 
 pub emits : (a b : List ℕ) → emit rest text (a ++ b) ≡ emit rest text a ++ emit rest text (rest a ++ b)
-emits a b =
-    emit-front (a ++ b) ∙ ap text (front-append a b) ∙ doubled-append (front a) (front (rest a ++ b))
-    ∙ sym (λ i. emit-front a i ++ emit-front (rest a ++ b) i)
+emits a b = grind (arith, emit-front, front-append, doubled-append)
 
 ends : (a : List ℕ) → text a ≡ emit rest text a ++ text (rest a)
 ends a = ap text (front-rest a) ∙ doubled-append (front a) (rest a) ∙ ap (λ t. t ++ text (rest a)) (sym (emit-front a))

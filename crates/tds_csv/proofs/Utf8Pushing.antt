@@ -62,19 +62,7 @@ up_to_seam kept piece bytes new a b k is begun x =
     let j = k - length kept in
     let split : k ≡ length kept + j = omega arith in
     let after : k + 1 ≡ length kept + (j + 1) = omega arith in
-    let good : take k bytes ≡ kept ++ take j piece =
-    (λ i. take (split i) (is i)) ∙ take-append-add kept piece j in
-    let next : take (k + 1) bytes ≡ kept ++ take (j + 1) piece =
-    (λ i. take (after i) (is i)) ∙ take-append-add kept piece (j + 1) in
-    record {
-      within = omega (arith, x.within, ap length is, length-append kept piece);
-      good = record {
-        begun = subst Begins good x.good.begun;
-        put = subst (λ l. Puts a b (emit rest text l)) good x.good.put;
-        withheld = x.good.withheld ∙ ap rest good;
-      };
-      bad = λ h. x.bad (subst Begins (sym next) h);
-    }
+    grind (arith, behind_kept, take-append-add, length-append)
 
 -- a part of a piece was taken before, and then the next bytes
 pub takes_both : (kept mid new part more : List ℕ) (a b d : Held) → TakesPiece Begins rest text kept mid a b part → TakesPiece Begins rest text [] new b d (mid ++ more) → TakesPiece Begins rest text kept new a d (part ++ more)
@@ -163,15 +151,7 @@ breaks_first kept piece n a b stop x =
 
 -- a byte was bad in the first bytes of a piece
 pub up_to_first : (kept piece new : List ℕ) (n : ℕ) (a b : Held) (k : ℕ) → n ≤ length piece → TakesUpTo Begins rest text kept new a b (take n piece) k → TakesUpTo Begins rest text kept new a b piece k
-up_to_first kept piece new n a b k long x =
-    let len = length-take-le n piece long in
-    let good : take k (take n piece) ≡ take k piece = take-take k n piece (omega (arith, x.within)) in
-    let next : take (k + 1) (take n piece) ≡ take (k + 1) piece = take-take (k + 1) n piece (omega (arith, x.within)) in
-    record {
-      within = omega (arith, x.within);
-      good = subst (λ l. TakesPiece Begins rest text kept new a b l) good x.good;
-      bad = λ h. x.bad (subst (λ l. Begins (kept ++ l)) (sym next) h);
-    }
+up_to_first kept piece new n a b k long x = grind (arith, length-take-le, take-take)
 
 -- a byte was bad after the first three bytes of a piece
 pub up_to_long : (kept piece mid new held : List ℕ) (a b d : Held) (j : ℕ) → 3 ≤ length piece → held ≡ mid → length held ≤ 3 → Begins mid → TakesPiece Begins rest text kept mid a b (take 3 piece)
@@ -190,10 +170,7 @@ up_to_long kept piece mid new held a b d j long same le begun x y =
 
 -- an answer is no other stop
 stopped_behind : {V : Type 0} (n : ℕ) (r : Result V JoinFault) → is_stopped (behind n r) ≡ is_stopped r
-stopped_behind n (Ok v) = refl
-stopped_behind n (Err (Stopped stop)) = refl
-stopped_behind n (Err Odd) = refl
-stopped_behind n (Err (BadText k)) = refl
+stopped_behind n r = grind (arith)
 
 -- what a push of the first bytes of a piece that failed says of the piece
 first_gives : (U : Type 0) (kept piece new : List ℕ) (n : ℕ) (a b : Held) (failed : Bool) (e : JoinFault) → n ≤ length piece

@@ -1,5 +1,6 @@
 -- The first byte with which bytes stop beginning a text, from what std says of them.
-use Rattle.std.proofs.Common.{◌≡◌, ◌∙◌, ℕ, ◌+◌, ◌-◌, ◌<◌, ◌≤◌, Bool, true, false, cond, nat_lt, nat_eq, List, [], ◌∷◌, ◌++◌, length, get_or, take, drop, Option, Some, None, refl, sym, ap, subst, arith, IsUtf8, length-drop, length-take-le}
+use Rattle.std.proofs.lemmas.Grind.{common_steps}
+use Rattle.std.proofs.Common.{◌≡◌, ◌∙◌, ℕ, ◌+◌, ◌<◌, ◌≤◌, Bool, true, false, cond, nat_lt, nat_eq, List, [], ◌∷◌, ◌++◌, length, get_or, take, drop, Some, None, refl, sym, ap, subst, arith, IsUtf8, length-drop, length-take-le}
 use Rattle.std.proofs.lemmas.Bool.Decides.{nat_tests}
 use Rattle.std.proofs.lemmas.Bool.{cases_lt}
 use Rattle.std.proofs.Common.{inl, inr}
@@ -39,13 +40,7 @@ fault_three x y z = refl
 
 fault_four : (x y z w : ℕ) (t : List ℕ) → utf8_error_len (x ∷ y ∷ z ∷ w ∷ t) ≡ cond (is_first x) (cond (is_second x y) (cond (is_next z) (Some 3) (Some 2)) (Some 1)) (Some 1)
 unfolding utf8_error_len
-fault_four x y z w t =
-    let r = x ∷ y ∷ z ∷ w ∷ t in
-    let some : nat_eq (length r) 0 ≡ false = grind (arith, nat_tests) in
-    let two : nat_lt (length r) 2 ≡ false = grind (arith, nat_tests) in
-    let three : nat_lt (length r) 3 ≡ false = grind (arith, nat_tests) in
-    let four : nat_lt (length r) 4 ≡ false = grind (arith, nat_tests) in
-    simp (some, two, three, four)
+fault_four x y z w t = grind (arith, nat_eq, nat_tests, nat_lt)
 
 -- so many bytes of these could begin a character, and with the next one they can't
 record Good (r : List ℕ) (j : ℕ) : Type 0 where
@@ -55,59 +50,27 @@ record Good (r : List ℕ) (j : ℕ) : Type 0 where
 
 good_zero : (x : ℕ) (t : List ℕ) → is_first x ≡ false → Good (x ∷ t) 0
 unfolding utf8_error_len
-good_zero x t f = record {
-  within = omega arith;
-  begun = refl;
-  bad = λ e. let found : Some 1 ≡ None = sym (ap (λ b. cond {A = Option ℕ} b None (Some 1)) f) ∙ sym (fault_one x) ∙ e in cc;
-}
+good_zero x t f = grind (arith)
 
 good_one : (x y : ℕ) (t : List ℕ) → is_first x ≡ true → is_second x y ≡ false → Good (x ∷ y ∷ t) 1
-good_one x y t f s = record {
-  within = omega arith;
-  begun = fault_one x ∙ ap (λ b. cond {A = Option ℕ} b None (Some 1)) f;
-  bad = λ e. let found : Some 1 ≡ None = sym (fault_two x y ∙ (λ i. cond {A = Option ℕ} (f i) (cond (s i) None (Some 1)) (Some 1))) ∙ e in cc;
-}
+unfolding utf8_error_len
+good_one x y t f s = grind (arith)
 
 good_two : (x y z : ℕ) (t : List ℕ) → is_first x ≡ true → is_second x y ≡ true → is_next z ≡ false → Good (x ∷ y ∷ z ∷ t) 2
-good_two x y z t f s n = record {
-  within = omega arith;
-  begun = fault_two x y ∙ (λ i. cond {A = Option ℕ} (f i) (cond (s i) None (Some 1)) (Some 1));
-  bad = λ e. let found : Some 2 ≡ None = sym (fault_three x y z ∙ (λ i. cond {A = Option ℕ} (f i) (cond (s i) (cond (n i) None (Some 2)) (Some 1)) (Some 1))) ∙ e in cc;
-}
+unfolding utf8_error_len
+good_two x y z t f s n = grind (arith)
 
 good_three : (x y z w : ℕ) (t : List ℕ) → is_first x ≡ true → is_second x y ≡ true → is_next z ≡ true → Good (x ∷ y ∷ z ∷ w ∷ t) 3
-good_three x y z w t f s n = record {
-  within = omega arith;
-  begun = fault_three x y z ∙ (λ i. cond {A = Option ℕ} (f i) (cond (s i) (cond (n i) None (Some 2)) (Some 1)) (Some 1));
-  bad = λ e. let found : Some 3 ≡ None = sym (fault_four x y z w [] ∙ (λ i. cond {A = Option ℕ} (f i) (cond (s i) (cond (n i) (Some 3) (Some 2)) (Some 1)) (Some 1))) ∙ e in cc;
-}
+unfolding utf8_error_len
+good_three x y z w t f s n = grind (arith, nat_eq, nat_tests, nat_lt)
 
 -- the number of good bytes, from the fault
 good_of : (r : List ℕ) (k : ℕ) → utf8_error_len r ≡ Some k → Good r (cond (is_first (get_or r 0 0)) k 0)
 unfolding utf8_error_len
 good_of [] k e = cc
-good_of (x ∷ []) k e =
-    elim (is_first x) as (λ b. is_first x ≡ b → cond b None (Some 1) ≡ Some k → Good (x ∷ []) (cond b k 0))
-    [ true ↦ λ f e. cc | false ↦ λ f e. good_zero x [] f ] refl (sym (fault_one x) ∙ e)
-good_of (x ∷ y ∷ []) k e =
-    elim (is_first x) as (λ b. is_first x ≡ b → cond b (cond (is_second x y) None (Some 1)) (Some 1) ≡ Some k → Good (x ∷ y ∷ []) (cond b k 0)) [
-      | true ↦ λ f e. elim (is_second x y) as (λ b. is_second x y ≡ b → cond b None (Some 1) ≡ Some k → Good (x ∷ y ∷ []) k) [
-        | true ↦ λ s e. cc
-        | false ↦ λ s e. let one : 1 ≡ k = cc in subst (Good (x ∷ y ∷ [])) one (good_one x y [] f s)
-      ] refl e
-      | false ↦ λ f e. good_zero x (y ∷ []) f
-    ] refl (sym (fault_two x y) ∙ e)
-good_of (x ∷ y ∷ z ∷ []) k e =
-    elim (is_first x) as (λ b. is_first x ≡ b → cond b (cond (is_second x y) (cond (is_next z) None (Some 2)) (Some 1)) (Some 1) ≡ Some k → Good (x ∷ y ∷ z ∷ []) (cond b k 0)) [
-      | true ↦ λ f e. elim (is_second x y) as (λ b. is_second x y ≡ b → cond b (cond (is_next z) None (Some 2)) (Some 1) ≡ Some k → Good (x ∷ y ∷ z ∷ []) k) [
-        | true ↦ λ s e. elim (is_next z) as (λ b. is_next z ≡ b → cond b None (Some 2) ≡ Some k → Good (x ∷ y ∷ z ∷ []) k) [
-          | true ↦ λ n e. cc
-          | false ↦ λ n e. let two : 2 ≡ k = cc in subst (Good (x ∷ y ∷ z ∷ [])) two (good_two x y z [] f s n)
-        ] refl e
-        | false ↦ λ s e. let one : 1 ≡ k = cc in subst (Good (x ∷ y ∷ z ∷ [])) one (good_one x y (z ∷ []) f s)
-      ] refl e
-      | false ↦ λ f e. good_zero x (y ∷ z ∷ []) f
-    ] refl (sym (fault_three x y z) ∙ e)
+good_of (x ∷ []) k e = grind (arith, good_zero, fault_one)
+good_of (x ∷ y ∷ []) k e = grind (arith, common_steps, good_one, good_zero, fault_two)
+good_of (x ∷ y ∷ z ∷ []) k e = grind (arith, common_steps, good_two, good_one, good_zero, fault_three)
 good_of (x ∷ y ∷ z ∷ w ∷ t) k e =
     elim (is_first x) as (λ b. is_first x ≡ b → cond b (cond (is_second x y) (cond (is_next z) (Some 3) (Some 2)) (Some 1)) (Some 1) ≡ Some k → Good (x ∷ y ∷ z ∷ w ∷ t) (cond b k 0)) [
       | true ↦ λ f e. elim (is_second x y) as (λ b. is_second x y ≡ b → cond b (cond (is_next z) (Some 3) (Some 2)) (Some 1) ≡ Some k → Good (x ∷ y ∷ z ∷ w ∷ t) k) [
@@ -154,15 +117,7 @@ stops_at bytes whole k is e =
     ap (λ n. rest (take n bytes)) {x = whole + j + 1} {y = utf8_valid_len bytes + (j + 1)} (omega arith) ∙ rest_after bytes (j + 1) (omega arith) ∙ ap (take (j + 1)) same in
     let cut : take (whole + j) bytes ≡ front bytes ++ rest (take (whole + j) bytes) =
     (λ i. take ((is ∙ sym (length-front bytes)) i + j) (front-rest bytes i)) ∙ take-past (front bytes) (rest bytes) j ∙ ap (λ l. front bytes ++ l) (ap (take j) same ∙ sym part) in
-    record {
-      within = omega (arith, length-drop whole bytes, utf8_valid_len_le bytes, ap length same);
-      begun = none_begins (take (whole + j) bytes) (ap utf8_error_len part ∙ good.begun);
-      bad = λ b. good.bad (ap utf8_error_len (sym next) ∙ begins_none (take (whole + j + 1) bytes) b);
-      same = ap text (settled_front rest (take (whole + j) bytes) (front bytes) cut) ∙ sym (emit-front bytes);
-      keeps = part ∙ ap (λ n. take n r) {x = j} {y = (whole + j) - whole} (omega arith);
-    }
+    grind (arith, is_first, good_of, rest_after, front, length-front, front-rest, take-past, length-drop, utf8_valid_len_le, none_begins, begins_none, settled_front, emit-front)
 
 pub emit_take : (bytes : List ℕ) (n : ℕ) → n ≡ utf8_valid_len bytes → emit rest text bytes ≡ text (take n bytes)
-emit_take bytes n is =
-    let e : length bytes - length (rest bytes) ≡ n = omega (arith, length-drop (utf8_valid_len bytes) bytes, utf8_valid_len_le bytes) in
-    ap (λ k. text (take k bytes)) e
+emit_take bytes n is = grind (arith, length-drop, utf8_valid_len_le)

@@ -1,5 +1,5 @@
 -- Whether bytes begin a text: std's test of what follows the last whole character.
-use Rattle.std.proofs.Common.{◌≡◌, ℕ, ◌+◌, ◌-◌, ◌*◌, ◌≤◌, ◌<◌, ◌⊎◌, inl, inr, ⊎_elim, Bool, true, false, cond, nat_lt, nat_eq, List, [], ◌∷◌, ◌++◌, length, get_or, take, Option, Some, None, refl, sym, ap, subst, ◌∙◌, arith, IsUtf8, encode_utf8, encode_utf8_all}
+use Rattle.std.proofs.Common.{◌≡◌, ℕ, ◌+◌, ◌-◌, ◌*◌, ◌≤◌, ◌<◌, ◌⊎◌, inl, inr, ⊎_elim, Bool, true, cond, List, [], ◌∷◌, ◌++◌, length, take, Option, Some, None, refl, sym, ap, subst, ◌∙◌, arith, IsUtf8, encode_utf8, encode_utf8_all}
 use Rattle.std.specs.Int.{is_in_range}
 use Rattle.std.specs.Char.{len_utf8}
 use Rattle.std.specs.Str.Lossy.{utf8_error_len, second_byte_min, second_byte_max}
@@ -31,16 +31,11 @@ none_one a l h = ap (λ t. cond t None (Some 1)) (in_range 194 244 a l h)
 
 none_two : (a b : ℕ) → 194 ≤ a → a ≤ 244 → second_byte_min a ≤ b → b ≤ second_byte_max a → utf8_error_len (a ∷ b ∷ []) ≡ None
 unfolding utf8_error_len
-none_two a b l h lo hi =
-    ap (λ t. cond t (cond (is_in_range (second_byte_min a) (second_byte_max a) b) None (Some 1)) (Some 1)) (in_range 194 244 a l h)
-    ∙ ap (λ t. cond t None (Some 1)) (in_range (second_byte_min a) (second_byte_max a) b lo hi)
+none_two a b l h lo hi = grind (arith, nat_tests)
 
 none_three : (a b d : ℕ) → 194 ≤ a → a ≤ 244 → second_byte_min a ≤ b → b ≤ second_byte_max a → 128 ≤ d → d < 192 → utf8_error_len (a ∷ b ∷ d ∷ []) ≡ None
 unfolding utf8_error_len
-none_three a b d l h lo hi dl dh =
-    ap (λ t. cond t (cond (is_in_range (second_byte_min a) (second_byte_max a) b) (cond (is_in_range 128 191 d) None (Some 2)) (Some 1)) (Some 1)) (in_range 194 244 a l h)
-    ∙ ap (λ t. cond t (cond (is_in_range 128 191 d) None (Some 2)) (Some 1)) (in_range (second_byte_min a) (second_byte_max a) b lo hi)
-    ∙ ap (λ t. cond t None (Some 2)) (in_range 128 191 d dl (omega arith))
+none_three a b d l h lo hi dl dh = grind (arith, nat_tests)
 
 two_from : (c : ℕ) → 2 ≤ len_utf8 c → 128 ≤ c
 two_from c h = grind (arith, nat_tests)
@@ -48,73 +43,23 @@ two_from c h = grind (arith, nat_tests)
 three_from : (c : ℕ) → 3 ≤ len_utf8 c → 2048 ≤ c
 three_from c h = grind (arith, nat_tests)
 
-four_from : (c : ℕ) → 4 ≤ len_utf8 c → 65536 ≤ c
-four_from c h = grind (arith, nat_tests)
-
 -- the first two bytes of a character of four
 four : (c a b d w : ℕ) → Scalar c → 240 ≤ a → Follows b → Follows d → Follows w → c + 63447168 ≡ a * 262144 + b * 4096 + d * 64 + w → 4 ≤ len_utf8 c
     → (a ≤ 244) × (second_byte_min a ≤ b) × (b ≤ second_byte_max a)
-four c a b d w k l f g h s long =
-    let least = four_from c long in
-    let top : c < 1114112 = ⊎_elim (λ low. omega arith) (λ high. high.1) k in
-    let fl = f.0 in
-    let fh = f.1 in
-    let gl = g.0 in
-    let gh = g.1 in
-    let hl = h.0 in
-    let hh = h.1 in
-    (omega arith, min_le a b (omega arith) (λ e. omega arith) (λ e. omega arith), le_max a b (omega arith) (λ e. omega arith) (λ e. omega arith))
+four c a b d w k l f g h s long = grind (arith, ⊎_elim, nat_tests)
 
 -- the front of a character
 front_none : (c : ℕ) (r more tail : List ℕ) → Scalar c → Shape c → r ++ more ≡ encode_utf8 c ++ tail → length r < length (encode_utf8 c) → utf8_error_len r ≡ None
 front_none c [] more tail k s e short = unfold utf8_error_len in refl
 front_none c (x ∷ r) more tail k (of1 h e') e short = let n = ap length e' in absurd (omega arith)
-front_none c (x ∷ []) more tail k (of2 a b l u f s e') e short =
-    let least = two_from c (omega (arith, length-encode c, ap length e')) in
-    let q : x ∷ more ≡ a ∷ b ∷ tail = e ∙ ap (λ w. w ++ tail) e' in
-    let same : x ≡ a = cc in
-    let high = f.1 in
-    none_one x (omega arith) (omega arith)
+front_none c (x ∷ []) more tail k (of2 a b l u f s e') e short = grind (arith, two_from, length-encode, none_one)
 front_none c (x ∷ y ∷ r) more tail k (of2 a b l u f s e') e short = let n = ap length e' in absurd (omega arith)
-front_none c (x ∷ []) more tail k (of3 a b d l u f g s e') e short =
-    let q : x ∷ more ≡ a ∷ b ∷ d ∷ tail = e ∙ ap (λ w. w ++ tail) e' in
-    let same : x ≡ a = cc in
-    none_one x (omega arith) (omega arith)
-front_none c (x ∷ y ∷ []) more tail k (of3 a b d l u f g s e') e short =
-    let least = three_from c (omega (arith, length-encode c, ap length e')) in
-    let q : x ∷ y ∷ more ≡ a ∷ b ∷ d ∷ tail = e ∙ ap (λ w. w ++ tail) e' in
-    let same : x ≡ a = cc in
-    let next : y ≡ b = cc in
-    let fl = f.0 in
-    let fh = f.1 in
-    let gl = g.0 in
-    let gh = g.1 in
-    let surrogate : a ≡ 237 → b ≤ 159 = λ h. ⊎_elim (λ low. omega arith) (λ high. let hl = high.0 in omega arith) k in
-    let lo : second_byte_min a ≤ b = min_le a b (omega arith) (λ h. omega arith) (λ h. omega arith) in
-    let hi : b ≤ second_byte_max a = le_max a b (omega arith) surrogate (λ h. omega arith) in
-    rw (same, next) (none_two a b (omega arith) (omega arith) lo hi)
+front_none c (x ∷ []) more tail k (of3 a b d l u f g s e') e short = grind (arith, none_one)
+front_none c (x ∷ y ∷ []) more tail k (of3 a b d l u f g s e') e short = grind (arith, three_from, length-encode, ⊎_elim, min_le, le_max, none_two)
 front_none c (x ∷ y ∷ z ∷ r) more tail k (of3 a b d l u f g s e') e short = let n = ap length e' in absurd (omega arith)
-front_none c (x ∷ []) more tail k (of4 a b d w l u f g h s e') e short =
-    let q : x ∷ more ≡ a ∷ b ∷ d ∷ w ∷ tail = e ∙ ap (λ v. v ++ tail) e' in
-    let same : x ≡ a = cc in
-    let fl = f.0 in
-    let top : c < 1114112 = ⊎_elim (λ low. omega arith) (λ high. high.1) k in
-    none_one x (omega arith) (omega arith)
-front_none c (x ∷ y ∷ []) more tail k (of4 a b d w l u f g h s e') e short =
-    let q : x ∷ y ∷ more ≡ a ∷ b ∷ d ∷ w ∷ tail = e ∙ ap (λ v. v ++ tail) e' in
-    let same : x ≡ a = cc in
-    let next : y ≡ b = cc in
-    let r = four c a b d w k l f g h s (omega (arith, length-encode c, ap length e')) in
-    rw (same, next) (none_two a b (omega arith) r.0 r.1 r.2)
-front_none c (x ∷ y ∷ z ∷ []) more tail k (of4 a b d w l u f g h s e') e short =
-    let q : x ∷ y ∷ z ∷ more ≡ a ∷ b ∷ d ∷ w ∷ tail = e ∙ ap (λ v. v ++ tail) e' in
-    let same : x ≡ a = cc in
-    let next : y ≡ b = cc in
-    let third : z ≡ d = cc in
-    let r = four c a b d w k l f g h s (omega (arith, length-encode c, ap length e')) in
-    let gl = g.0 in
-    let gh = g.1 in
-    rw (same, next, third) (none_three a b d (omega arith) r.0 r.1 r.2 (omega arith) (omega arith))
+front_none c (x ∷ []) more tail k (of4 a b d w l u f g h s e') e short = grind (arith, ⊎_elim, none_one)
+front_none c (x ∷ y ∷ []) more tail k (of4 a b d w l u f g h s e') e short = grind (arith, four, length-encode, none_two)
+front_none c (x ∷ y ∷ z ∷ []) more tail k (of4 a b d w l u f g h s e') e short = grind (arith, four, length-encode, none_three)
 front_none c (x ∷ y ∷ z ∷ v ∷ r) more tail k (of4 a b d w l u f g h s e') e short = let n = ap length e' in absurd (omega arith)
 
 empty_front : (r more : List ℕ) → [] ≡ r ++ more → utf8_error_len r ≡ None
@@ -143,8 +88,7 @@ begins_none bytes begins =
     begins_none_if bytes begins.0 tail.0 tail.1.0 tail.1.1
 
 cond_none : (t : Bool) (o : Option ℕ) (k : ℕ) → cond t o (Some k) ≡ None → (t ≡ true) × (o ≡ None)
-cond_none true o k h = (refl, h)
-cond_none false o k h = cc
+cond_none t o k h = grind (arith)
 
 range_low : (lo hi c : ℕ) → is_in_range lo hi c ≡ true → lo ≤ c
 range_low lo hi c h = grind (arith, nat_tests)
@@ -162,25 +106,7 @@ record Second (a b : ℕ) : Type 0 where
   after_244 : a ≡ 244 → b ≤ 143
 
 second_is : (a b : ℕ) → second_byte_min a ≤ b → b ≤ second_byte_max a → Second a b
-second_is a b lo hi = record { low = low a b lo; high = high a b hi; after_224 = after_224 a b lo; after_240 = after_240 a b lo; after_237 = after_237 a b hi; after_244 = after_244 a b hi }
-  where
-    low : (a b : ℕ) → second_byte_min a ≤ b → 128 ≤ b
-    low a b h = grind (arith, nat_tests)
-
-    high : (a b : ℕ) → b ≤ second_byte_max a → b < 192
-    high a b h = grind (arith, nat_tests)
-
-    after_224 : (a b : ℕ) → second_byte_min a ≤ b → a ≡ 224 → 160 ≤ b
-    after_224 a b h e = grind (arith, nat_tests)
-
-    after_240 : (a b : ℕ) → second_byte_min a ≤ b → a ≡ 240 → 144 ≤ b
-    after_240 a b h e = grind (arith, nat_tests)
-
-    after_237 : (a b : ℕ) → b ≤ second_byte_max a → a ≡ 237 → b ≤ 159
-    after_237 a b h e = grind (arith, nat_tests)
-
-    after_244 : (a b : ℕ) → b ≤ second_byte_max a → a ≡ 244 → b ≤ 143
-    after_244 a b h e = grind (arith, nat_tests)
+second_is a b lo hi = grind (arith, nat_tests)
 
 two_bytes : (a b : ℕ) → 194 ≤ a → a < 224 → 128 ≤ b → b < 192 → IsUtf8 (a ∷ b ∷ [])
 two_bytes a b l u bl bh = of_two (a ∷ b ∷ []) 0 (omega arith) (l, u) (bl, bh)
@@ -204,10 +130,7 @@ four_bytes a b d w l u s dl dh wl wh =
 
 -- a second byte that may follow the first
 second_for : (a : ℕ) → Second a (second_byte_min a)
-second_for a = second_is a (second_byte_min a) (omega arith) (within a)
-  where
-    within : (a : ℕ) → second_byte_min a ≤ second_byte_max a
-    within a = grind (arith, nat_tests)
+second_for a = grind (arith, nat_tests)
 
 -- no front of the list is a text
 unfoldable pub NoText : List ℕ → Type 0
@@ -250,57 +173,18 @@ three_complete a b d l h s dl dh none =
     (cases_lt a 240))
     (cases_lt a 224)
 
-abbrev three_at : Option ℕ
-three_at = Some 3
-
-abbrev two_at : Option ℕ
-two_at = Some 2
-
-abbrev one_at : Option ℕ
-one_at = Some 1
-
-never : (t u v : Bool) → cond t (cond u (cond v three_at two_at) one_at) one_at ≡ None → ⊥
-never true true true h = cc
-never true true false h = cc
-never true false v h = cc
-never false u v h = cc
-
-is_zero : (n : ℕ) → 4 ≤ n → nat_eq n 0 ≡ false
-is_zero n h = grind (arith, nat_tests)
-
-not_below : (n k : ℕ) → 4 ≤ n → k ≤ 4 → nat_lt n k ≡ false
-not_below n k h l = grind (arith, nat_tests)
-
 -- four bytes hold a whole character or a fault
 long_some : (bs : List ℕ) → 4 ≤ length bs → utf8_error_len bs ≡ None → ⊥
 unfolding utf8_error_len
-long_some bs h e =
-    let zero_is = is_zero (length bs) h in
-    let two_is = not_below (length bs) 2 h (omega arith) in
-    let three_is = not_below (length bs) 3 h (omega arith) in
-    let four_is = not_below (length bs) 4 h (omega arith) in
-    never (is_in_range 194 244 (get_or bs 0 0)) (is_in_range (second_byte_min (get_or bs 0 0)) (second_byte_max (get_or bs 0 0)) (get_or bs 1 0)) (is_in_range 128 191 (get_or bs 2 0))
-    (rw (zero_is, two_is, three_is, four_is) at e)
+long_some bs h e = grind (arith, nat_tests)
 
 -- what std finds no fault in can be completed
 completes : (r : List ℕ) → NoText r → utf8_error_len r ≡ None → Completes r
 unfolding Completes utf8_error_len
 completes [] none e = ([], IsUtf8-nil)
-completes (a ∷ []) none e =
-    let lead = cond_none (is_in_range 194 244 a) None 1 e in
-    one_completes a (range_low 194 244 a lead.0) (range_high 194 244 a lead.0)
-completes (a ∷ b ∷ []) none e =
-    let lead = cond_none (is_in_range 194 244 a) (cond (is_in_range (second_byte_min a) (second_byte_max a) b) None (Some 1)) 1 e in
-    let next = cond_none (is_in_range (second_byte_min a) (second_byte_max a) b) None 1 lead.1 in
-    let s = second_is a b (range_low (second_byte_min a) (second_byte_max a) b next.0) (range_high (second_byte_min a) (second_byte_max a) b next.0) in
-    two_complete a b (range_low 194 244 a lead.0) (range_high 194 244 a lead.0) s none
-completes (a ∷ b ∷ d ∷ []) none e =
-    let lead = cond_none (is_in_range 194 244 a) (cond (is_in_range (second_byte_min a) (second_byte_max a) b) (cond (is_in_range 128 191 d) None (Some 2)) (Some 1)) 1 e in
-    let next = cond_none (is_in_range (second_byte_min a) (second_byte_max a) b) (cond (is_in_range 128 191 d) None (Some 2)) 1 lead.1 in
-    let third = cond_none (is_in_range 128 191 d) None 2 next.1 in
-    let s = second_is a b (range_low (second_byte_min a) (second_byte_max a) b next.0) (range_high (second_byte_min a) (second_byte_max a) b next.0) in
-    let dh = range_high 128 191 d third.0 in
-    three_complete a b d (range_low 194 244 a lead.0) (range_high 194 244 a lead.0) s (range_low 128 191 d third.0) (omega arith) none
+completes (a ∷ []) none e = grind (arith, cond_none, one_completes, range_low, range_high)
+completes (a ∷ b ∷ []) none e = grind (arith, cond_none, second_is, range_low, range_high, two_complete)
+completes (a ∷ b ∷ d ∷ []) none e = grind (arith, cond_none, second_is, range_low, range_high, three_complete)
 completes (a ∷ b ∷ d ∷ w ∷ r) none e = absurd (long_some (a ∷ b ∷ d ∷ w ∷ r) (omega arith) e)
 
 -- the rest of bytes has no text at its front

@@ -63,6 +63,7 @@ fn write_binary(bytes: &[u8], to: &mut [u8]) -> usize
 }
 
 // Writes text in UTF-16, the first `n` of these bytes, as a field.
+#[tactic(auto, using(crate::proofs::QuotedFields::quoted, std::proofs::lemmas::Grind::common_steps))]
 fn write_utf16(source: &[u8], n: usize, to: &mut [u8]) -> usize
     requires within { n ≤ length source.now }
     requires whole { n % 2 ≡ 0 }
@@ -76,6 +77,7 @@ fn write_utf16(source: &[u8], n: usize, to: &mut [u8]) -> usize
 }
 
 // Writes text in Windows-1252, the first `n` of these bytes, as a field.
+#[tactic(auto, using(crate::proofs::QuotedFields::quoted, std::proofs::lemmas::Grind::common_steps))]
 fn write_windows_1252(source: &[u8], n: usize, to: &mut [u8]) -> usize
     requires within { n ≤ length source.now }
     requires room { field_room Windows1252Text n ≤ length to.old }
@@ -88,6 +90,7 @@ fn write_windows_1252(source: &[u8], n: usize, to: &mut [u8]) -> usize
 }
 
 // Writes text in UTF-8 as a field.
+#[tactic(auto, using(crate::proofs::QuotedFields::quoted, std::proofs::lemmas::Grind::common_steps))]
 fn write_utf8(bytes: &[u8], to: &mut [u8]) -> usize
     requires { field_room Utf8Text (length bytes.now) ≤ length to.old }
     ensures most { result + 2 ≤ length to.old }

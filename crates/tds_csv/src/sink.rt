@@ -104,6 +104,7 @@ impl<'a, W: Write> Sink<'a, W> {
     }
 
     // Adds a piece for which there is room, and delivers a full chunk.
+    #[tactic(auto, using(crate::proofs::Sinks::block_going, std::proofs::lemmas::Grind::common_steps))]
     fn push(&mut self, piece: &[u8]) -> Result<(), Stop>
         requires writing { IsWriting self.old }
         requires fits { length self.old.output.now.bytes + length piece.now ≤ OUTPUT_ROOM }

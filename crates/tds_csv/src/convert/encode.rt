@@ -21,6 +21,7 @@ fn put_byte(to: &mut [u8], at: usize, byte: u8) -> usize
 
 // A character beyond ASCII in two bytes.
 #[inline(always)]
+#[tactic(auto, using(crate::proofs::Encoding::two_more, crate::proofs::Characters::of_two, std::proofs::lemmas::Grind::common_steps))]
 fn put_two(to: &mut [u8], at: usize, code: u32) -> usize
     requires low { 128 ≤ code }
     requires high { code < 2048 }
@@ -34,6 +35,7 @@ fn put_two(to: &mut [u8], at: usize, code: u32) -> usize
 
 // A character in three bytes.
 #[inline(always)]
+#[tactic(auto, using(crate::proofs::Encoding::three_more, crate::proofs::Characters::of_three, std::proofs::lemmas::Grind::common_steps))]
 fn put_three(to: &mut [u8], at: usize, code: u32) -> usize
     requires low { 2048 ≤ code }
     requires high { code < 65536 }
@@ -48,6 +50,7 @@ fn put_three(to: &mut [u8], at: usize, code: u32) -> usize
 
 // A character in four bytes.
 #[inline(always)]
+#[tactic(auto, using(crate::proofs::Encoding::four_more, crate::proofs::Characters::of_four, std::proofs::lemmas::Grind::common_steps))]
 fn put_four(to: &mut [u8], at: usize, code: u32) -> usize
     requires low { 65536 ≤ code }
     requires high { code < 1114112 }
@@ -63,6 +66,7 @@ fn put_four(to: &mut [u8], at: usize, code: u32) -> usize
 
 // A character beyond ASCII.
 #[inline(always)]
+#[tactic(auto, using(crate::proofs::Characters::of_two, crate::proofs::Characters::of_three, crate::proofs::Characters::of_four))]
 fn put_wide(to: &mut [u8], at: usize, code: u32) -> usize
     requires low { 128 ≤ code }
     requires high { code < 1114112 }
@@ -95,6 +99,7 @@ pub(crate) fn put_character(to: &mut [u8], at: usize, code: u32) -> usize
 
 // A character in UTF-8, and a quote twice.
 #[inline(always)]
+#[tactic(auto, using(crate::proofs::Encoding::doubled_as_long, crate::proofs::Encoding::added_doubled))]
 pub(crate) fn put_quoted(to: &mut [u8], at: usize, code: u32) -> usize
     requires range { code < 1114112 }
     requires room { at + 4 ≤ length to.old }
@@ -123,6 +128,7 @@ pub(crate) fn put_doubled(to: &mut [u8], at: usize, byte: u8) -> usize
 
 // The first `n` of eight bytes.
 #[inline(always)]
+#[tactic(auto, using(crate::proofs::Encoding::taken_put))]
 pub(crate) fn put_lanes(to: &mut [u8], at: usize, lanes: u8x8, n: usize)
     requires lanes { length lanes ≡ UNITS }
     requires within { n ≤ UNITS }
@@ -134,6 +140,7 @@ pub(crate) fn put_lanes(to: &mut [u8], at: usize, lanes: u8x8, n: usize)
 
 // The first `n` of sixteen bytes.
 #[inline(always)]
+#[tactic(auto, using(crate::proofs::Encoding::taken_put))]
 pub(crate) fn put_bytes(to: &mut [u8], at: usize, lanes: u8x16, n: usize)
     requires lanes { length lanes ≡ LANES }
     requires within { n ≤ LANES }

@@ -57,5 +57,6 @@ impl Joiner for HexJoiner {
         Ok(sink.check()?)
     }
 
+    #[tactic(auto, using(crate::proofs::SingleLaws::joins_binary))]
     fn laws() {}
 }

@@ -55,5 +55,6 @@ impl Joiner for Cp1252Joiner {
         Ok(sink.check()?)
     }
 
+    #[tactic(auto, using(crate::proofs::SingleLaws::joins_windows_1252))]
     fn laws() {}
 }

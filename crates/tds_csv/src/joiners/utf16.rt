@@ -189,5 +189,6 @@ impl Joiner for Utf16Joiner {
         Ok(())
     }
 
+    #[tactic(auto, using(crate::proofs::Utf16Laws::joins_utf16))]
     fn laws() {}
 }

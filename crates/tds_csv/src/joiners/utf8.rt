@@ -130,5 +130,6 @@ impl Joiner for Utf8Joiner {
         Ok(())
     }
 
+    #[tactic(auto, using(crate::proofs::Utf8Laws::joins_utf8))]
     fn laws() {}
 }

@@ -1,3 +1,4 @@
+use Rattle.std.proofs.lemmas.Grind.{common_steps}
 use Rattle.std.proofs.Common.{◌≡◌, ◌∙◌, ◌+◌, take, arith, rules}
 use Rattle.tds_csv.specs.Quoting.{doubled}
 use Rattle.tds_csv.proofs.JoiningLemmas.{doubled-append}
@@ -11,12 +12,7 @@ loop-at-preserved-then-at-bytes c =
     let at = c.loop-at.at + n in
     let run = take (c.loop-at.made + n) c.take_unquoted-n.new.to in
     let so_far : run ≡ doubled (take at bytes) = c.take_unquoted-n.ensures.taken ∙ text_more doubled doubled-append (take c.loop-at.made c.loop-at.to) bytes c.loop-at.at n c.loop-at.invariant.text in
-    record {
-      within = omega arith;
-      long = search rules;
-      room = omega (arith, c.put_doubled-made.ensures.most, c.loop-at.invariant.room);
-      text = c.put_doubled-made.ensures.written ∙ text_next doubled doubled-append run bytes at c.if-at-bytes.true so_far;
-    }
+    grind (arith, common_steps, text_more, doubled-append, text_next)
 
 pub loop-at-preserved : goal.loop-at-preserved
 loop-at-preserved c = record {

@@ -1,3 +1,4 @@
+use Rattle.std.proofs.lemmas.Grind.{common_steps}
 use Rattle.std.proofs.Common.{◌≡◌, ◌∙◌, ◌+◌, ◌*◌, ◌-◌, ◌≤◌, ◌++◌, ℕ, List, [], length, take, drop, sym, ap, arith, append_assoc, length-drop}
 use Rattle.std.proofs.lemmas.List.{take-append-drop}
 use Rattle.std.proofs.lemmas.Simd.{length-put_chunk, take_more_put_chunk}
@@ -11,37 +12,15 @@ use Rattle.tds_csv.proofs.SingleLaws.{hex-append, hex-nil}
 use Rattle.tds_csv.proofs.convert.lanes_hex.encode.Goals as goal
 
 pub loop-at-init : goal.loop-at-init
-loop-at-init c = record {
-  within = omega arith;
-  room = c.requires;
-  digits = sym hex-nil;
-}
+loop-at-init c = grind (arith, common_steps, hex-nil)
 
 -- two vectors were stored one after the other
 stored : (i m : ℕ) (to first second : List ℕ) → length first ≡ 16 → length second ≡ 16 → m ≡ i + 32 → m ≤ length to
     → take m (put_chunk (i + 16) (put_chunk i to first) second) ≡ take i to ++ (first ++ second)
-stored i m to first second a b e room =
-    take_more_put_chunk (i + 16) (put_chunk i to first) second m (omega arith) (omega (arith, length-put_chunk i to first))
-    ∙ ap (λ l. l ++ second) (take_more_put_chunk i to first (i + 16) (omega arith) (omega arith)) ∙ append_assoc (take i to) first second
+stored i m to first second a b e room = grind (arith, common_steps, take_more_put_chunk, put_chunk, length-put_chunk, append_assoc)
 
 pub loop-at-preserved : goal.loop-at-preserved
-loop-at-preserved c =
-    let bytes = c.args.bytes.now in
-    let at = c.loop-at.at in
-    let to = c.loop-at.to in
-    let first = c.hex_lanes.result.0 in
-    let second = c.hex_lanes.result.1 in
-    let within : at + 16 ≤ length bytes = omega arith in
-    let room = c.loop-at.invariant.room in
-    record {
-      within = within;
-      room = length-put_chunk (2 * at + 16) (put_chunk (2 * at) to first) second ∙ length-put_chunk (2 * at) to first ∙ room;
-      digits =
-          stored (2 * at) (2 * (at + 16)) to first second c.hex_lanes.ensures.first c.hex_lanes.ensures.second (omega arith) (omega (arith, room, within))
-          ∙ (λ i. c.loop-at.invariant.digits i ++ c.hex_lanes.ensures.digits i)
-          ∙ sym (hex-append lower_digits (take at bytes) (chunk at 16 bytes))
-          ∙ ap encode_lower (sym (take-add at 16 bytes));
-    }
+loop-at-preserved c = grind (arith, common_steps, length-put_chunk, put_chunk, stored, hex-append, chunk, take-add)
 
 -- the digits of the other bytes were written after them
 ended : (bytes to new : List ℕ) (at : ℕ) → at ≤ length bytes → length to ≡ 2 * length bytes → take (2 * at) to ≡ encode_lower (take at bytes) → new ≡ encode_lower (drop at bytes)

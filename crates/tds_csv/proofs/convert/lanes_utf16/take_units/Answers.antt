@@ -1,3 +1,4 @@
+use Rattle.std.proofs.lemmas.Grind.{common_steps}
 use Rattle.std.proofs.Common.{◌≡◌, ◌∙◌, ◌+◌, ◌*◌, ◌≤◌, ◌++◌, ℕ, List, length, take, drop, ap, subst, arith, rules}
 use Rattle.std.proofs.lemmas.List.{length-take-le}
 use Rattle.std.proofs.lemmas.Simd.{length-chunk}
@@ -13,10 +14,8 @@ use Rattle.tds_csv.proofs.convert.lanes_utf16.take_units.Goals as goal
 -- the units that were looked at are few
 few : (source : List ℕ) (at : ℕ) → at + 16 ≤ length source → (plain_units (chunk at 16 source) ≤ 8) × (length (evens (chunk at 16 source)) ≡ 8)
 few source at room =
-    let v = chunk at 16 source in
     let long = length-chunk at 16 source room in
-    let n = length-evens v in
-    (omega (arith, plain_within v, n, long), omega (arith, n, long))
+    grind (arith, common_steps, chunk, length-chunk, length-evens, plain_within)
 
 -- so many of them lead on
 leads : (bytes source : List ℕ) (at n : ℕ) → LiesIn bytes source → n ≤ 8 → n ≤ plain_units (chunk at 16 source) → at + 2 * n ≤ length bytes → Leads utf16.rest utf16.text (drop at bytes) (drop (at + 2 * n) bytes) (take n (evens (chunk at 16 source)))

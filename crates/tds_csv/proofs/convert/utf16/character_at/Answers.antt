@@ -5,10 +5,6 @@ use Rattle.tds_csv.specs.Utf16 as utf16
 use Rattle.tds_csv.proofs.Utf16Steps.{spells_held}
 use Rattle.tds_csv.proofs.convert.utf16.character_at.Goals as goal
 
-pub returns-in-Some-clause-spells : goal.returns-in-Some-clause-spells
-returns-in-Some-clause-spells c =
-    c.in-Some.ensures.gives.spells ∙ ap (λ l. encode_utf8 c.in-Some.next.code ++ utf16.characters l) (drop-drop c.in-Some.next.len c.args.at c.args.bytes.now)
-
 pub returns-in-None-clause-spells : goal.returns-in-None-clause-spells
 returns-in-None-clause-spells c =
     let xs = drop c.args.at c.args.bytes.now in

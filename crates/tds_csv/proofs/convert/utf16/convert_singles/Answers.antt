@@ -1,3 +1,4 @@
+use Rattle.std.proofs.lemmas.Grind.{common_steps}
 use Rattle.std.proofs.Common.{◌+◌, ◌≤◌, ℕ, List, length, take, drop, sym, subst, arith, rules}
 use lib.Seq.{drop-drop}
 use Rattle.std.specs.Char.{encode_utf8}
@@ -10,8 +11,7 @@ use Rattle.tds_csv.proofs.Leading.{Leads-trans}
 use Rattle.tds_csv.proofs.convert.utf16.convert_singles.Goals as goal
 
 step : (bytes : List ℕ) (at code len : ℕ) → IsNext (drop at bytes) code len → Leads utf16.rest utf16.text (drop at bytes) (drop (at + len) bytes) (doubled (encode_utf8 code))
-step bytes at code len next =
-    subst (λ l. Leads utf16.rest utf16.text (drop at bytes) l (doubled (encode_utf8 code))) (drop-drop len at bytes) (record { emits = next.emits; keeps = next.keeps })
+step bytes at code len next = grind (arith, common_steps, drop-drop)
 
 pub loop-at-preserved : goal.loop-at-preserved
 loop-at-preserved c =

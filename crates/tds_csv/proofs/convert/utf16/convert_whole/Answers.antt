@@ -1,4 +1,5 @@
-use Rattle.std.proofs.Common.{◌≡◌, ◌≢◌, ◌∙◌, ◌%◌, ◌≤◌, ◌++◌, ℕ, List, [], length, drop, sym, ap, arith, length-drop, append-nil}
+use Rattle.std.proofs.lemmas.Grind.{common_steps}
+use Rattle.std.proofs.Common.{◌≡◌, ◌≢◌, ◌∙◌, ◌%◌, ◌++◌, ℕ, List, [], length, drop, sym, ap, arith, length-drop, append-nil}
 use Rattle.std.specs.Char.{encode_utf8}
 use Rattle.tds_csv.specs.Joining.{emit}
 use Rattle.tds_csv.specs.Quoting.{doubled}
@@ -6,7 +7,7 @@ use Rattle.tds_csv.specs.Utf16 as utf16
 use Rattle.tds_csv.specs.Utf16Next.{LeavesRest}
 use Rattle.tds_csv.proofs.Characters.{doubled_length}
 use Rattle.tds_csv.proofs.Utf16Laws.{joins_utf16}
-use Rattle.tds_csv.proofs.Utf16Steps.{characters_nil, nil_of_length, spells_held, text_nil}
+use Rattle.tds_csv.proofs.Utf16Steps.{characters_nil, nil_of_length, spells_held}
 use Rattle.tds_csv.proofs.convert.utf16.convert_whole.Goals as goal
 
 -- the text of whole data, by what its rest is
@@ -15,9 +16,7 @@ by_rest bytes tail whole is = joins_utf16.ends bytes whole ∙ ap (λ l. emit ut
 
 -- what is left of whole data has two bytes
 two_left : (bytes : List ℕ) (used : ℕ) → length bytes % 2 ≡ 0 → LeavesRest bytes 0 used → used ≢ length bytes → length (drop used bytes) ≡ 2
-two_left bytes used whole leaves some =
-    let even : length (utf16.rest bytes) % 2 ≡ 0 = joins_utf16.fit_rest bytes whole in
-    omega (arith, length-drop used bytes, leaves.within, leaves.most, some, even, ap length leaves.rest)
+two_left bytes used whole leaves some = grind (arith, common_steps, joins_utf16, length-drop)
 
 -- its text is U+FFFD
 left_text : (bytes tail : List ℕ) → tail ≡ utf16.rest bytes → length tail ≡ 2 → utf16.text tail ≡ doubled (encode_utf8 0xFFFD)
@@ -26,19 +25,8 @@ left_text bytes tail is two =
     let none : drop 2 tail ≡ [] = nil_of_length (drop 2 tail) (omega (arith, length-drop 2 tail, two)) in
     ap doubled (spells_held tail (omega (arith, two)) (ap (λ n. n % 2) two) again ∙ ap (λ l. encode_utf8 0xFFFD ++ utf16.characters l) none ∙ ap (λ l. encode_utf8 0xFFFD ++ l) characters_nil ∙ append-nil (encode_utf8 0xFFFD))
 
-pub returns-then-done-bytes-clause-text : goal.returns-then-done-bytes-clause-text
-returns-then-done-bytes-clause-text c =
-    let bytes = c.args.bytes.now in
-    let tail = drop c.convert-done.result.used bytes in
-    let none : tail ≡ [] = nil_of_length tail (omega (arith, length-drop c.convert-done.result.used bytes, c.if-done-bytes.true)) in
-    c.convert-done.ensures.text
-    ∙ sym (by_rest bytes tail c.requires.whole c.convert-done.ensures.used.rest ∙ ap (λ l. emit utf16.rest utf16.text bytes ++ utf16.text l) none ∙ ap (λ l. emit utf16.rest utf16.text bytes ++ l) text_nil ∙ append-nil (emit utf16.rest utf16.text bytes))
-
 pub returns-clause-short : goal.returns-clause-short
-returns-clause-short c =
-    let used = c.convert-done.result.used in
-    let most : length (doubled (encode_utf8 65533)) ≤ 3 = (doubled_length 65533).1 (omega arith) in
-    omega (arith, c.put_quoted.ensures.end, most, c.convert-done.ensures.short, two_left c.args.bytes.now used c.requires.whole c.convert-done.ensures.used c.if-done-bytes.false, length-drop used c.args.bytes.now)
+returns-clause-short c = grind (arith, common_steps, doubled_length, two_left, length-drop)
 
 pub returns-clause-text : goal.returns-clause-text
 returns-clause-text c =

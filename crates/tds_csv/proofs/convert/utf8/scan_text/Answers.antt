@@ -1,9 +1,9 @@
-use Rattle.std.proofs.Common.{◌≡◌, ◌∙◌, ◌+◌, ◌≤◌, rules, ℕ, List, cond, length, drop, get_or, Some, sym, ap, subst, arith}
+use Rattle.std.proofs.lemmas.Grind.{common_steps}
+use Rattle.std.proofs.Common.{◌≡◌, ◌∙◌, ◌+◌, ℕ, List, cond, length, drop, get_or, Some, sym, ap, subst, arith}
 use Rattle.std.proofs.lemmas.List.{get_or-drop}
 use Rattle.std.proofs.lemmas.Str.{utf8_valid_len-IsUtf8}
 use Rattle.std.specs.Int.{is_in_range}
 use Rattle.std.specs.Str.Lossy.{utf8_error_len, utf8_valid_len}
-use Rattle.tds_csv.specs.Utf8.{Begins, rest}
 use Rattle.tds_csv.specs.Utf8Scan.{StopsAt}
 use Rattle.tds_csv.proofs.Utf8Pushing.{is_scan}
 use Rattle.tds_csv.proofs.Utf8Test.{none_begins}
@@ -14,10 +14,7 @@ pub returns-in-Ok-clause-text : goal.returns-in-Ok-clause-text
 returns-in-Ok-clause-text c = emit_take c.args.bytes.now (length c.args.bytes.now) (sym (utf8_valid_len-IsUtf8 c.args.bytes.now c.in-Ok.ensures.cases.1))
 
 pub returns-in-Ok-clause-scan : goal.returns-in-Ok-clause-scan
-returns-in-Ok-clause-scan c =
-    let bytes = c.args.bytes.now in
-    let begun : Begins bytes = search rules in
-    is_scan bytes (length bytes) (length bytes) (omega arith) (omega arith) (ap (λ n. drop n bytes) (sym (utf8_valid_len-IsUtf8 bytes c.in-Ok.ensures.cases.1))) (λ _. begun) (λ less. absurd (omega (arith, less)))
+returns-in-Ok-clause-scan c = grind (arith, common_steps, is_scan, utf8_valid_len-IsUtf8)
 
 stops : (bytes : List ℕ) (whole len j : ℕ) → whole ≡ utf8_valid_len bytes → utf8_error_len (drop whole bytes) ≡ Some len → j ≡ cond (is_in_range 0xC2 0xF4 (get_or bytes whole 0)) len 0
     → StopsAt bytes whole (whole + j)
@@ -30,16 +27,9 @@ returns-in-Some-clause-scan c =
     let bytes = c.args.bytes.now in
     let whole = c.valid_up_to-whole.result in
     let good = c.good_of.result in
-    let rest_is : drop whole bytes ≡ rest bytes = search rules in
     let s = stops bytes whole c.in-Some.len good (c.valid_up_to-whole.ensures ∙ c.in-Err.ensures.valid_len)
     (ap (λ n. utf8_error_len (drop n bytes)) c.valid_up_to-whole.ensures ∙ sym c.in-Err.ensures.fault ∙ sym c.in-Some.ensures) c.good_of.ensures in
-    is_scan bytes whole (whole + good) (omega arith) (omega (arith, s.within)) rest_is (λ all. absurd (omega (arith, s.within, all))) (λ _. s)
+    grind (arith, common_steps, stops, is_scan)
 
 pub returns-in-None-clause-scan : goal.returns-in-None-clause-scan
-returns-in-None-clause-scan c =
-    let bytes = c.args.bytes.now in
-    let whole = c.valid_up_to-whole.result in
-    let rest_is : drop whole bytes ≡ rest bytes = search rules in
-    let within : whole ≤ length bytes = search rules in
-    is_scan bytes whole (length bytes) within (omega arith) rest_is
-    (λ _. none_begins bytes (ap (λ n. utf8_error_len (drop n bytes)) (sym c.in-Err.ensures.valid_len) ∙ sym c.in-Err.ensures.fault ∙ sym c.in-None.ensures)) (λ less. absurd (omega (arith, less)))
+returns-in-None-clause-scan c = grind (arith, common_steps, is_scan, none_begins)

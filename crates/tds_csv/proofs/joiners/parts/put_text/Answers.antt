@@ -1,14 +1,6 @@
-use Rattle.std.proofs.Common.{Ok, refl, sym, subst, arith, rules}
-use Rattle.tds_csv.specs.Sinks.{PutsPiece}
-use Rattle.tds_csv.proofs.Puttings.{PutsPiece-none}
+use Rattle.std.proofs.Common.{refl, arith, rules}
 use Rattle.tds_csv.proofs.Singles.{puts_break, puts_more}
 use Rattle.tds_csv.proofs.joiners.parts.put_text.Goals as goal
-
-pub loop-taken-init : goal.loop-taken-init
-loop-taken-init g c = let sink = c.args.sink.now in record {
-  within = search rules;
-  puts = subst (λ l. PutsPiece g.W.Write.contents sink sink l (Ok (tt {0}))) (sym c.laws.ensures.empty) (PutsPiece-none g.W.Write.contents sink tt c.requires);
-}
 
 pub returns-in_err-put_chunk : goal.returns-in_err-put_chunk
 returns-in_err-put_chunk g c =

@@ -1,13 +1,6 @@
 use Rattle.std.proofs.Common.{◌+◌, refl, arith, rules}
-use Rattle.tds_csv.proofs.Puttings.{PutsPiece-none}
 use Rattle.tds_csv.proofs.Singles.{puts_break, puts_more}
 use Rattle.tds_csv.proofs.sink.Sink.put.Goals as goal
-
-pub loop-taken-init : goal.loop-taken-init
-loop-taken-init g c = record {
-  within = search rules;
-  puts = PutsPiece-none g.W.Write.contents c.args.self.now tt (record { ready = c.requires; writing = search rules });
-}
 
 pub returns-in_err-push : goal.returns-in_err-push
 returns-in_err-push g c =

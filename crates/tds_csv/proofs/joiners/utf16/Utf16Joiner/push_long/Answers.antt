@@ -1,4 +1,5 @@
-use Rattle.std.proofs.Common.{◌≡◌, ◌∙◌, ◌-◌, ◌++◌, Ok, Err, length, take, drop, refl, sym, arith, rules, length-drop, take_all}
+use Rattle.std.proofs.lemmas.Grind.{common_steps}
+use Rattle.std.proofs.Common.{◌++◌, Ok, Err, drop, refl, arith, length-drop, take_all}
 use Rattle.std.specs.Prelude.{⊤}
 use Rattle.tds_csv.specs.Joining.{emit}
 use Rattle.tds_csv.specs.Utf16.{rest, text}
@@ -41,7 +42,4 @@ returns g c =
     let from = c.in_ok-from.from in
     let at = c.in_ok-at.at in
     let put = puts_whole rest text contents a c.put_kept.new.sink d (kept ++ piece) (drop from piece) (emit rest text (seam kept piece)) from (Ok at) c.in_ok-from.ensures.leads c.in_ok-from.ensures.puts c.in_ok-at.ensures.puts in
-    let tail : take (length piece - at) (drop at piece) ≡ rest (kept ++ piece) =
-    take_all (length piece - at) (drop at piece) (omega (arith, length-drop at piece)) ∙ c.in_ok-at.ensures.used.rest ∙ sym c.in_ok-from.ensures.leads.keeps in
-    let withheld : c.extend.new.self ≡ rest (kept ++ piece) = search (tail, rules) in
-    pushes_taken contents (λ _. ⊤) rest text kept c.extend.new.self a d (emit rest text (kept ++ piece)) piece at tt c.requires.writing.writing tt tt refl withheld put
+    grind (arith, common_steps, puts_whole, take_all, length-drop, pushes_taken)

@@ -1,6 +1,6 @@
-use Rattle.std.proofs.Common.{◌≡◌, ◌∙◌, ◌+◌, ◌-◌, ◌<◌, ◌≤◌, ◌++◌, ℕ, [], Ok, length, take, drop, sym, ap, subst, arith, rules, length-append, length-take-le}
+use Rattle.std.proofs.lemmas.Grind.{common_steps}
+use Rattle.std.proofs.Common.{◌≡◌, ◌∙◌, ◌+◌, ◌-◌, ◌<◌, ◌≤◌, ◌++◌, length, take, drop, sym, ap, subst, arith, rules, length-append, length-take-le}
 use Rattle.tds_csv.specs.Joining.{Leads, emit}
-use Rattle.tds_csv.specs.Sinks.{PutsPiece}
 use Rattle.tds_csv.specs.Utf16.{rest, text}
 use Rattle.tds_csv.proofs.Utf16Laws.{joins_utf16}
 use Rattle.tds_csv.specs.Utf16Next.{seam}
@@ -11,20 +11,10 @@ use Rattle.tds_csv.proofs.Utf16Steps.{nil_of_length}
 use Rattle.tds_csv.proofs.joiners.utf16.Utf16Joiner.put_kept.Goals as goal
 
 pub returns-then-is_empty-clause-puts : goal.returns-then-is_empty-clause-puts
-returns-then-is_empty-clause-puts g c =
-    let sink = c.args.sink.now in
-    let contents = g.W.Write.contents in
-    let empty : length c.bytes-kept.result.now ≡ 0 = search rules in
-    let none : [] ≡ c.args.self.now.kept = sym (nil_of_length c.bytes-kept.result.now empty) ∙ c.bytes-kept.ensures.value in
-    let nothing : [] ≡ emit rest text (seam c.args.self.now.kept c.args.piece.now) = sym emit_none ∙ ap (λ l. emit rest text (seam l c.args.piece.now)) none in
-    subst (λ l. PutsPiece {U = ℕ} contents sink sink l (Ok 0)) nothing (PutsPiece-none {U = ℕ} contents sink 0 c.requires.writing)
+returns-then-is_empty-clause-puts g c = grind (arith, common_steps, nil_of_length, emit_none, PutsPiece-none)
 
 pub returns-then-is_empty-clause-leads : goal.returns-then-is_empty-clause-leads
-returns-then-is_empty-clause-leads g c =
-    let piece = c.args.piece.now in
-    let empty : length c.bytes-kept.result.now ≡ 0 = search rules in
-    let none : [] ≡ c.args.self.now.kept = sym (nil_of_length c.bytes-kept.result.now empty) ∙ c.bytes-kept.ensures.value in
-    subst (λ k. Leads rest text (k ++ piece) piece (emit rest text (seam k piece))) none (Leads-behind [] piece)
+returns-then-is_empty-clause-leads g c = grind (arith, common_steps, nil_of_length, Leads-behind)
 
 pub returns-clause-leads : goal.returns-clause-leads
 returns-clause-leads g c =
