@@ -1,6 +1,6 @@
 -- Where a call stops with the fault of a device, that device failed in it.
-use Rattle.std.proofs.Common.{◌≡◌, ◌∙◌, ◌⊎◌, inl, inr, ℕ, ◌+◌, ◌%◌, Bool, true, false, List, sym, ap, subst}
-use Rattle.std.specs.Prelude.{◌==◌, ◌||◌, nat_le, Option, Some, None, Result, Ok, Err, IfErr, ⊤, if◌then◌else◌}
+use Rattle.std.proofs.Common.{arith, ◌≡◌, ◌∙◌, ◌⊎◌, inl, inr, ℕ, ◌%◌, Bool, false, List, sym, ap, subst}
+use Rattle.std.specs.Prelude.{◌==◌, ◌||◌, nat_le, Option, Some, None, Result, Err, IfErr, ⊤, if◌then◌else◌}
 use Rattle.tds_meter.specs.Counts.{one_more}
 use Rattle.tds_packet.specs.declared.fault.Fault.{Fault}
 use Rattle.tds_packet.specs.declared.fault.Fault.TheVariants.{BadText, OddText, PlpLength, ReadFailed, WriteFailed}
@@ -10,13 +10,11 @@ use Rattle.tds_packet.specs.Payloads.{seen}
 use Rattle.tds_packet.specs.Seen.{Seen}
 use Rattle.tds_packet.proofs.WireFaults.{ends_blame}
 use Rattle.tds_csv.specs.declared.joiners.JoinFault.{JoinFault}
-use Rattle.tds_csv.specs.declared.joiners.JoinFault.TheVariants.{Odd, Stopped}
-use Rattle.tds_csv.specs.declared.joiners.JoinFault.TheVariants as join_faults
 use Rattle.tds_csv.specs.declared.sink.Sink.{Sink}
 use Rattle.tds_csv.specs.Pushing.{EndsBy, Pushes}
-use Rattle.tds_csv.specs.Sinks.{Breaks, Held, PutsPiece, held}
+use Rattle.tds_csv.specs.Sinks.{Breaks, Held, PutsPiece}
 use Rattle.tds_rows.specs.Blames.{Blames, Failures, StopBlames, failures_with}
-use Rattle.tds_rows.specs.Cells.{is_total, unknown_total, unless, within_total}
+use Rattle.tds_rows.specs.Cells.{is_total, unknown_total, unless}
 use Rattle.tds_rows.specs.LongCells.{CutsNumber, RefusesNumber, chunk_length_fault, end_fault, join_stop, short_fault, total_fault}
 
 pub same_failures : (a b c d : ℕ) → a ≡ c → b ≡ d → ◌≡◌ {A = Failures} (record { reads = a; writes = b }) (record { reads = c; writes = d })
@@ -50,12 +48,10 @@ past : (column : ℕ) → NoDevice (Some (PlpLength column))
 past column = (λ e. cc, λ e. cc)
 
 if_none : (b : Bool) (x y : Option Fault) → NoDevice x → NoDevice y → NoDevice (if b then x else y)
-if_none true x y h k = h
-if_none false x y h k = k
+if_none b x y h k = grind arith
 
 unless_none : (b : Bool) (fault : Fault) → NoDevice (Some fault) → NoDevice (unless b fault)
-unless_none true fault h = tt
-unless_none false fault h = h
+unless_none b fault h = grind arith
 
 pub short_none : (column size n : ℕ) → NoDevice (short_fault column size n)
 short_none column size n = unless_none ((n == 0xFFFF) || (n % size == 0)) (OddText column) (odd column)
@@ -67,15 +63,12 @@ end_none : (column size : ℕ) (total : Option ℕ) (sum : ℕ) → NoDevice (en
 end_none column size total sum = if_none (is_total total sum) (unless (sum % size == 0) (OddText column)) (Some (PlpLength column)) (unless_none (sum % size == 0) (OddText column) (odd column)) (past column)
 
 pub chunk_none : (column size : ℕ) (total : Option ℕ) (sum n : ℕ) → NoDevice (chunk_length_fault column size total sum n)
-chunk_none column size total sum n = if_none (n == 0) (end_fault column size total sum) (unless (within_total total (sum + n)) (PlpLength column)) (end_none column size total sum)
-    (unless_none (within_total total (sum + n)) (PlpLength column) (past column))
+chunk_none column size total sum n = grind (arith, end_none, if_none, past, unless_none)
 
 -- a length that was refused or cut
 pub length_blames : {R : Type 0} (remaining : R → Option (List ℕ)) (size : ℕ) (fault : ℕ → Option Fault) (old : Payload R) (b : Seen) (stop : Stop) → old.stopped ≡ None → ((n : ℕ) → NoDevice (fault n))
     → RefusesNumber size fault (seen remaining old) b old.place stop ⊎ CutsNumber size (seen remaining old) b old.place stop → ReadBlames old.from.now.failures b.failures stop
-length_blames remaining size fault old b stop going none (inl x) =
-    let h : NoDevice (Some stop.fault) = subst NoDevice x.first (none x.n) in
-    (h.0, λ e. absurd (h.1 e))
+length_blames remaining size fault old b stop going none (inl x) = grind arith
 length_blames remaining size fault old b stop going none (inr x) =
     let h = ends_blame remaining old b x.part x.own going x.ends in
     let is : stop.fault ≡ x.own.fault = ap (λ (s : Stop). s.fault) x.stop_is in
@@ -84,13 +77,11 @@ length_blames remaining size fault old b stop going none (inr x) =
 -- ---- the writer
 
 pub write_stops : (old new : Failures) (h i : Held) (piece : List ℕ) (stop : Stop) → old.writes ≡ h.failures → new.writes ≡ i.failures → Breaks h i piece stop → StopBlames old new stop
-write_stops old new h i piece stop before after x =
-    (λ e. absurd (let no : WriteFailed ≡ ReadFailed = sym (ap (λ (s : Stop). s.fault) x.8) ∙ e in cc), λ _. after ∙ x.9 ∙ ap one_more (sym before))
+write_stops old new h i piece stop before after x = grind arith
 
 -- a call of the sink alone
 pub piece_blames : {W U : Type 0} (contents : W → Option (List ℕ)) (reads : ℕ) (old new : Sink W) (text : List ℕ) (r : Result U Stop) → old.failed ≡ false → PutsPiece contents old new text r → Blames (failures_with reads old) (failures_with reads new) r
-piece_blames contents reads old new text (Ok x) going p = λ i. record { reads = reads; writes = p.gives.4 i }
-piece_blames contents reads old new text (Err stop) going p = write_stops (failures_with reads old) (failures_with reads new) (held contents old) (held contents new) text stop (λ i. old.to.now.failures) (λ i. new.to.now.failures) (p.gives going)
+piece_blames contents reads old new text r going p = grind (arith, write_stops)
 
 -- a fault of the text names no device
 bad_text : (old new : Failures) (column : ℕ) (stop : Stop) → stop.fault ≡ BadText column → StopBlames old new stop
@@ -98,22 +89,16 @@ bad_text old new column stop is = (λ e. absurd (let no : BadText column ≡ Rea
 
 pub push_blames : (begins : List ℕ → Type 0) (rest text : List ℕ → List ℕ) (w w' : List ℕ) (h i : Held) (failed : Bool) (piece : List ℕ) (column place : ℕ) (reads reads' : ℕ) (fault : JoinFault) → failed ≡ false
     → Pushes {U = Unit {0}} begins rest text w w' h i failed piece (Err fault) → StopBlames (record { reads = reads; writes = h.failures }) (record { reads = reads'; writes = i.failures }) (join_stop column place fault)
-push_blames begins rest text w w' h i failed piece column place reads reads' (Stopped stop) going x = write_stops (record { reads = reads; writes = h.failures }) (record { reads = reads'; writes = i.failures }) h i _ stop (λ j. h.failures) (λ j. i.failures) (x going)
-push_blames begins rest text w w' h i failed piece column place reads reads' Odd going x = absurd x
-push_blames begins rest text w w' h i failed piece column place reads reads' (join_faults.BadText k) going x = bad_text (record { reads = reads; writes = h.failures }) (record { reads = reads'; writes = i.failures }) column (join_stop column place (join_faults.BadText k)) (λ j. BadText column)
+push_blames begins rest text w w' h i failed piece column place reads reads' fault going x = grind (arith, bad_text, write_stops)
 
 pub end_blames : (unit : ℕ) (fit : List ℕ → Type 0) (text : List ℕ → List ℕ) (w w' : List ℕ) (h i : Held) (failed : Bool) (column place reads : ℕ) (fault : JoinFault) → failed ≡ false
     → EndsBy {U = Unit {0}} unit fit text w w' h i failed (Err fault) → StopBlames (record { reads = reads; writes = h.failures }) (record { reads = reads; writes = i.failures }) (join_stop column place fault)
-end_blames unit fit text w w' h i failed column place reads (Stopped stop) going x = write_stops (record { reads = reads; writes = h.failures }) (record { reads = reads; writes = i.failures }) h i _ stop (λ j. h.failures) (λ j. i.failures) (x going).1
-end_blames unit fit text w w' h i failed column place reads Odd going x = bad_text (record { reads = reads; writes = h.failures }) (record { reads = reads; writes = i.failures }) column (join_stop column place Odd) (λ j. BadText column)
-end_blames unit fit text w w' h i failed column place reads (join_faults.BadText k) going x = bad_text (record { reads = reads; writes = h.failures }) (record { reads = reads; writes = i.failures }) column (join_stop column place (join_faults.BadText k)) (λ j. BadText column)
+end_blames unit fit text w w' h i failed column place reads fault going x = grind (arith, bad_text, write_stops)
 
 -- ---- the whole call
 
 pub reads_named : {U : Type 0} (a b : Failures) (r : Result U Stop) → Blames a b r → IfErr r (λ stop. stop.fault ≡ ReadFailed → b.reads ≡ one_more a.reads)
-reads_named a b (Ok x) h = tt
-reads_named a b (Err stop) h = h.0
+reads_named a b r h = grind arith
 
 pub writes_named : {U : Type 0} (a b : Failures) (r : Result U Stop) → Blames a b r → IfErr r (λ stop. stop.fault ≡ WriteFailed → b.writes ≡ one_more a.writes)
-writes_named a b (Ok x) h = tt
-writes_named a b (Err stop) h = h.1
+writes_named a b r h = grind arith

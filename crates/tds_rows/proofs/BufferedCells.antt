@@ -1,15 +1,14 @@
 -- Cells whose bytes lie together, and the room that a sink lends for their text.
-use Rattle.std.proofs.Common.{◌≡◌, ◌≢◌, ◌∙◌, ℕ, zero, suc, ◌+◌, ◌-◌, ◌^◌, ◌<◌, ◌≤◌, Bool, true, false, List, [], ◌∷◌, ◌++◌, length, take, drop, Result, Ok, Err, MatchResult, inr, refl, sym, ap, subst, arith, length-take, length-drop}
+use Rattle.std.proofs.Common.{◌≡◌, ◌≢◌, ◌∙◌, ℕ, ◌+◌, ◌-◌, ◌^◌, ◌<◌, ◌≤◌, Bool, true, false, List, [], ◌++◌, length, take, drop, Result, Ok, Err, MatchResult, inr, refl, sym, ap, subst, arith, length-take, length-drop}
 use Rattle.std.specs.Prelude.{None, Some, Option, ◌==◌, ◌||◌, is_ok, slice_index, if◌then◌else◌}
 use Rattle.std.proofs.lemmas.Bool.{ne_eqb}
 use Rattle.std.proofs.lemmas.List.{length-take-le}
 use lib.Seq.{take-add}
 use Rattle.tds_values.specs.declared.kind.Kind.{Kind}
-use Rattle.tds_values.specs.declared.kind.Kind.TheVariants.{Int4, IntN}
+use Rattle.tds_values.specs.declared.kind.Kind.TheVariants.{IntN}
 use Rattle.tds_values.specs.declared.scalar.ScalarValue.{ScalarValue}
-use Rattle.tds_values.specs.declared.scalar.ValueFault.TheVariants as faults
 use Rattle.tds_values.specs.Kind.{fixed_length, is_length_allowed, is_scalar}
-use Rattle.tds_values.specs.Scalar.{checked, read_of, value_of}
+use Rattle.tds_values.specs.Scalar.{read_of}
 use Rattle.tds_packet.specs.declared.fault.Fault.TheVariants.{BadValue, BadValueLength}
 use Rattle.tds_packet.specs.declared.fault.Stop.{Stop}
 use Rattle.tds_packet.specs.Elements.{IsNext, Spelt}
@@ -31,11 +30,7 @@ use Rattle.tds_csv.specs.Quoting.{in_line}
 
 -- a value that is read has a length that is allowed
 read_allowed : (kind : Kind) (bytes : List ℕ) (value : ScalarValue) → read_of kind bytes ≡ Ok value → is_length_allowed kind (length bytes) ≡ true
-read_allowed kind bytes value h = go (is_length_allowed kind (length bytes)) refl h
-  where
-    go : (b : Bool) → is_length_allowed kind (length bytes) ≡ b → (if b then checked (value_of kind bytes) else Err faults.Length) ≡ Ok value → is_length_allowed kind (length bytes) ≡ true
-    go true e k = e
-    go false e k = cc
+read_allowed kind bytes value h = grind arith
 
 value_next : (column : ℕ) (kind : Kind) (n : ℕ) (bytes : List ℕ) (value : ScalarValue) → 0 < n → length bytes ≡ n → read_of kind bytes ≡ Ok value → IsNext (cell column) (ScalarBytes kind n) bytes
 value_next column kind n bytes value some whole h = record { some = omega (arith, some, whole); whole = whole; free = ap (λ r. unless (is_ok r) (BadValue column)) h }
@@ -55,8 +50,7 @@ fixed_written column kind n last bytes text some within x = record {
 }
 
 first_of : (bytes : List ℕ) → 1 ≤ length bytes → slice_index (take 1 bytes) 0 ≡ slice_index bytes 0
-first_of [] h = refl
-first_of (x ∷ xs) h = refl
+first_of bytes h = grind arith
 
 pub null_written : (column : ℕ) (kind : Kind) (last : Bool) (bytes text : List ℕ) → 1 ≤ length bytes → slice_index bytes 0 ≡ 0 → text ≡ in_line column last null_field → WritesCell (ScalarLength kind) column last (take 1 bytes) text
 null_written column kind last bytes text within is text_is =
@@ -101,15 +95,7 @@ counted_written column kind n last bytes text is some within x =
 module _ (charset : Charset) (kind : Kind) (column : ℕ) (last : Bool) (bytes text : List ℕ) (scalar : is_scalar kind ≡ true) where
   -- NULL at the front of these bytes
   pub null_cell : (start : ℕ) → start ≡ value_start kind → value_length kind bytes ≡ 0 → start + 0 ≤ length bytes → text ≡ in_line column last null_field → WritesCell (cell_start kind (shape charset kind)) column last (take (start + 0) bytes) text
-  null_cell start at none within is = go (fixed_length kind) refl
-    where
-      go : (o : Option ℕ) → fixed_length kind ≡ o → WritesCell (cell_start kind (shape charset kind)) column last (take (start + 0) bytes) text
-      go (Some n) e = absurd (omega (arith, fixed_some kind n e, sym (ap (λ o. length_behind o bytes) e) ∙ none))
-      go None e =
-          let one : start + 0 ≡ 1 = omega (arith, at ∙ ap start_behind e) in
-          let zero : slice_index bytes 0 ≡ 0 = sym (ap (λ o. length_behind o bytes) e) ∙ none in
-          subst (λ s. WritesCell (cell_start kind s) column last (take (start + 0) bytes) text) (ap shape_of_length (sym e) ∙ sym (scalar_shape charset kind scalar))
-          (subst (λ (m : ℕ). WritesCell (ScalarLength kind) column last (take m bytes) text) (sym one) (null_written column kind last bytes text (omega (arith, within, one)) zero is))
+  null_cell start at none within is = grind (arith, fixed_some, null_written, scalar_shape)
 
   -- a value there
   pub value_cell : (start n : ℕ) → start ≡ value_start kind → n ≡ value_length kind bytes → n ≢ 0 → start + n ≤ length bytes → IsValueText kind column last (take n (drop start bytes)) text
@@ -133,9 +119,7 @@ module _ (charset : Charset) (kind : Kind) (column : ℕ) (last : Bool) (bytes t
 -- a whole number of four bytes there
 pub int4_cell : (charset : Charset) (start column : ℕ) (last : Bool) (bytes text : List ℕ) → start ≤ 1 → HasInt4 start bytes → IsValueText (IntN 4) column last (take 4 (drop start bytes)) text
     → WritesCell (cell_start (int4_kind start) (shape charset (int4_kind start))) column last (take (start + 4) bytes) text
-int4_cell charset zero column last bytes text most h x = value_cell charset Int4 column last bytes text refl 0 4 refl refl (λ e. omega (arith, e)) h.whole x
-int4_cell charset (suc zero) column last bytes text most h x = value_cell charset (IntN 4) column last bytes text refl 1 4 refl (sym (h.length_is (omega arith))) (λ e. omega (arith, e)) h.whole x
-int4_cell charset (suc (suc n)) column last bytes text most h x = absurd (omega (arith, most))
+int4_cell charset start column last bytes text most h x = grind (arith, value_cell)
 
 -- a cell whose value is refused is left
 pub refused_left : (kind : Kind) (bytes : List ℕ) (start n : ℕ) → start ≡ value_start kind → n ≡ value_length kind bytes → n ≢ 0 → is_ok (read_of kind (take ((start + n) - start) (drop start bytes))) ≡ false → IsScalarLeft kind bytes
@@ -146,20 +130,7 @@ refused_left kind bytes start n at many some bad =
 -- bytes that are a cell were read
 pub cell_reads : (from : CellPart) (column : ℕ) (last : Bool) (a b : Seen) (place place' : ℕ) (bytes text : List ℕ) → WritesCell from column last bytes text → Takes a b bytes (length bytes) → IsBetween b → place' ≡ place + length bytes
     → ReadsCell from column last a b place place' text
-cell_reads from column last a b place place' bytes text x takes between at = record {
-  value = x.value;
-  front = x.front;
-  at = x.at;
-  element = x.element;
-  spelt = x.spelt;
-  next = x.next;
-  whole = x.whole;
-  quiet = x.quiet;
-  takes = subst (λ l. Takes a b l (length l)) (sym x.joined) takes;
-  between = between;
-  place_is = at ∙ ap (λ (l : List ℕ). place + length l) (sym x.joined);
-  text_is = x.text_is;
-}
+cell_reads from column last a b place place' bytes text x takes between at = grind arith
 
 -- ---- what is written into the room that a sink lends
 
@@ -182,8 +153,7 @@ module _ (h j : Held) (room written : List ℕ) (n : ℕ) (whole : length writte
 
   -- the text of a cell that was written there was put
   pub kept_text : {U : Type 0} (r : Result U Stop) (made : ℕ) → MatchResult r (λ _. Puts lent_held j (take made (drop n lent))) (λ stop. Breaks lent_held j (take made (drop n lent)) stop) → MatchResult r (λ _. Puts h j (take made written)) (λ stop. Breaks h j (take made written) stop)
-  kept_text (Ok u) made x = subst (λ (l : List ℕ). Puts h j (take made l)) behind (subst (λ (k : Held). Puts k j (take made (drop n lent))) same x)
-  kept_text (Err stop) made x = subst (λ (l : List ℕ). Breaks h j (take made l) stop) behind (subst (λ (k : Held). Breaks k j (take made (drop n lent)) stop) same x)
+  kept_text r made x = grind (arith, behind, same)
 
 -- a cell whose text comes at once was read, and the text put, or a write of it failed
 pub puts_cell : {U : Type 0} (r : Result U Stop) (charset : Charset) (kind : Kind) (column : ℕ) (last : Bool) (a b : Seen) (place place' : ℕ) (h j : Held) (failed : Bool) (text : List ℕ) → h.delivered ≤ 2 ^ 64 - 1 → length h.waiting < 4096 → failed ≡ (if is_ok r then false else true)

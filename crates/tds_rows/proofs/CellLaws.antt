@@ -1,5 +1,5 @@
 -- What a cell's spelling is read as.
-use Rattle.std.proofs.Common.{◌≡◌, ◌⊎◌, ℕ, suc, ◌+◌, ◌-◌, ◌/◌, ◌%◌, ◌<◌, ◌≤◌, Bool, true, false, List, [], ◌∷◌, ◌++◌, length, replicate, refl, sym, ◌∙◌, ap, subst, inl, inr, append_assoc, append-nil, arith, rules, length-append}
+use Rattle.std.proofs.Common.{◌≡◌, ◌⊎◌, ℕ, suc, ◌+◌, ◌-◌, ◌/◌, ◌%◌, ◌<◌, ◌≤◌, Bool, true, List, [], ◌∷◌, ◌++◌, length, replicate, refl, sym, ◌∙◌, ap, subst, inl, inr, append_assoc, append-nil, arith, rules, length-append}
 use Rattle.std.specs.Prelude.{Option, Some, None, ◌==◌, ◌&&◌, ◌||◌, nat_le, nat_lt, Ok, is_ok, if◌then◌else◌}
 use Rattle.std.specs.List.{concat}
 use Rattle.std.proofs.lemmas.Bool.Decides.{nat_tests}
@@ -10,7 +10,7 @@ use Rattle.tds_values.specs.declared.scalar.ScalarValue.{ScalarValue}
 use Rattle.tds_values.specs.Numbers.{little}
 use Rattle.tds_values.specs.Kind.{is_length_allowed}
 use Rattle.tds_values.specs.Scalar.{read_of}
-use Rattle.tds_csv.specs.Conversion.{Conversion, HexDigits, Utf16Text, Windows1252Text, Utf8Text, unit, is_fit, is_begun}
+use Rattle.tds_csv.specs.Conversion.{Conversion, unit, is_fit, is_begun}
 use Rattle.tds_csv.proofs.ConversionLaws.{fit_units, fit_begins}
 use Rattle.tds_packet.specs.Elements.{Spelt}
 use Rattle.tds_packet.specs.declared.fault.Fault.{Fault}
@@ -25,15 +25,11 @@ abbrev pub HasBytes : Shape → Type 0
 HasBytes (FixedShape n) = 0 < n
 HasBytes s = Unit {0}
 
-unless_true : (b : Bool) (f : Fault) → b ≡ true → unless b f ≡ None
-unless_true true f h = refl
-unless_true false f h = cc
+pub unless_true : (b : Bool) (f : Fault) → b ≡ true → unless b f ≡ None
+unless_true b f h = rw h
 
 zero-mod : (c : Conversion) → 0 % unit c ≡ 0
-zero-mod HexDigits = refl
-zero-mod Utf16Text = refl
-zero-mod Windows1252Text = refl
-zero-mod Utf8Text = refl
+zero-mod c = grind arith
 
 is_known : (n : ℕ) → n < unknown_total → known_total n ≡ Some n
 is_known n h = choose_false (n == unknown_total) None (Some n) (ne_eqb n unknown_total (λ e. omega arith))
@@ -67,29 +63,26 @@ module _ (column : ℕ) where
   short_length : (c : Conversion) (n : ℕ) → n < 65535 → n % unit c ≡ 0 → Spelt (cell column) (ShortLength c) (n % 256 ∷ n / 256 ∷ []) (if n == 0 then WholeCell (DataCell c []) else ShortData c (n - 1) [])
   short_length c n less even =
       let l : little (n % 256 ∷ n / 256 ∷ []) ≡ n = little-two n in
-      Spelt-step (cell column) (ShortLength c) (n % 256 ∷ n / 256 ∷ []) (if n == 0 then WholeCell (DataCell c []) else ShortData c (n - 1) []) (omega arith) refl
-      (unless_true ((little (n % 256 ∷ n / 256 ∷ []) == 0xFFFF) || (little (n % 256 ∷ n / 256 ∷ []) % unit c == 0)) (OddText column)
+      Spelt-step (cell column) _ _ _ (omega arith) refl (unless_true _ _
       (or_right (little (n % 256 ∷ n / 256 ∷ []) == 0xFFFF) (little (n % 256 ∷ n / 256 ∷ []) % unit c == 0) (rw l (rw even refl))))
-      (rw l (choose_false (n == 0xFFFF) (WholeCell Null) (if n == 0 then WholeCell (DataCell c []) else ShortData c (n - 1) []) (ne_eqb n 0xFFFF (λ e. omega arith))))
+      (rw l (choose_false _ (WholeCell Null) (if n == 0 then WholeCell (DataCell c []) else ShortData c (n - 1) []) (ne_eqb n 0xFFFF (λ e. omega arith))))
 
   short_cell : (c : Conversion) (d bytes : List ℕ) → is_fit c d ≡ true → SpellsShort d bytes → Spelt (cell column) (ShortLength c) bytes (WholeCell (DataCell c d))
   short_cell c [] bytes h s = subst (λ v. Spelt (cell column) (ShortLength c) v (WholeCell (DataCell c []))) (sym s.counted) (short_length c 0 (omega arith) (zero-mod c))
   short_cell c (x ∷ xs) bytes h s =
-      let e : length (x ∷ xs) % unit c ≡ 0 = fit_units c (x ∷ xs) h in
-      let to : (if length (x ∷ xs) == 0 then WholeCell (DataCell c []) else ShortData c (length (x ∷ xs) - 1) []) ≡ ShortData c (length xs) [] = choose_false (length (x ∷ xs) == 0) (WholeCell (DataCell c [])) (ShortData c (length (x ∷ xs) - 1) []) (ne_eqb (length (x ∷ xs)) 0 (λ q. omega arith)) ∙ ap (λ k. ShortData c k []) (omega arith) in
-      let head : Spelt (cell column) (ShortLength c) (length (x ∷ xs) % 256 ∷ length (x ∷ xs) / 256 ∷ []) (ShortData c (length xs) []) = subst (λ v. Spelt (cell column) (ShortLength c) (length (x ∷ xs) % 256 ∷ length (x ∷ xs) / 256 ∷ []) v) to (short_length c (length (x ∷ xs)) s.least e) in
-      subst (λ v. Spelt (cell column) (ShortLength c) v (WholeCell (DataCell c (x ∷ xs)))) (sym s.counted)
-      (Spelt-append (cell column) (ShortLength c) (length (x ∷ xs) % 256 ∷ length (x ∷ xs) / 256 ∷ []) (ShortData c (length xs) []) (x ∷ xs) (WholeCell (DataCell c (x ∷ xs))) head (short_data c [] x xs h))
+      let e : length (x ∷ xs) % unit c ≡ 0 = fit_units c _ h in
+      let to : (if length (x ∷ xs) == 0 then WholeCell (DataCell c []) else ShortData c (length (x ∷ xs) - 1) []) ≡ ShortData c (length xs) [] = choose_false _ (WholeCell (DataCell c [])) (ShortData c (length (x ∷ xs) - 1) []) (ne_eqb (length (x ∷ xs)) 0 (λ q. omega arith)) ∙ ap (λ k. ShortData c k []) (omega arith) in
+      let head : Spelt (cell column) (ShortLength c) (length (x ∷ xs) % 256 ∷ length (x ∷ xs) / 256 ∷ []) (ShortData c (length xs) []) = subst (λ v. Spelt (cell column) (ShortLength c) (length (x ∷ xs) % 256 ∷ length (x ∷ xs) / 256 ∷ []) v) to (short_length c _ s.least e) in
+      subst (λ v. Spelt (cell column) (ShortLength c) v (WholeCell (DataCell c (x ∷ xs)))) (sym s.counted) (Spelt-append (cell column) _ _ _ _ _ head (short_data c [] x xs h))
 
   -- the data of a chunk, byte by byte
   chunk_data : (c : Conversion) (total : Option ℕ) (d : List ℕ) (x : ℕ) (xs more : List ℕ) → is_fit c ((d ++ x ∷ xs) ++ more) ≡ true → Spelt (cell column) (ChunkData c total (length xs) d) (x ∷ xs) (ChunkLength c total (d ++ x ∷ xs))
-  chunk_data c total d x [] more h = Spelt-step (cell column) (ChunkData c total 0 d) (x ∷ []) (ChunkLength c total (d ++ x ∷ [])) (omega arith) refl (unless_true (is_begun c (d ++ x ∷ [])) (BadText column) (fit_begins c (d ++ x ∷ []) more h)) refl
+  chunk_data c total d x [] more h = Spelt-step (cell column) _ _ _ (omega arith) refl (unless_true _ _ (fit_begins c _ _ h)) refl
   chunk_data c total d x (y ∷ ys) more h =
       let k : is_fit c (((d ++ x ∷ []) ++ y ∷ ys) ++ more) ≡ true = ap (λ v. is_fit c (v ++ more)) (append_assoc d (x ∷ []) (y ∷ ys)) ∙ h in
-      let begun : is_begun c (d ++ x ∷ []) ≡ true = fit_begins c (d ++ x ∷ []) (y ∷ ys ++ more) (ap (λ v. is_fit c v) (sym (append_assoc (d ++ x ∷ []) (y ∷ ys) more)) ∙ k) in
-      let one : Spelt (cell column) (ChunkData c total (suc (length ys)) d) (x ∷ []) (ChunkData c total (length ys) (d ++ x ∷ [])) = Spelt-step (cell column) (ChunkData c total (suc (length ys)) d) (x ∷ []) (ChunkData c total (length ys) (d ++ x ∷ [])) (omega arith) refl (unless_true (is_begun c (d ++ x ∷ [])) (BadText column) begun) (search rules) in
-      Spelt-append (cell column) (ChunkData c total (suc (length ys)) d) (x ∷ []) (ChunkData c total (length ys) (d ++ x ∷ [])) (y ∷ ys) (ChunkLength c total (d ++ x ∷ y ∷ ys)) one
-      (subst (λ v. Spelt (cell column) (ChunkData c total (length ys) (d ++ x ∷ [])) (y ∷ ys) (ChunkLength c total v)) (append_assoc d (x ∷ []) (y ∷ ys)) (chunk_data c total (d ++ x ∷ []) y ys more k))
+      let begun : is_begun c (d ++ x ∷ []) ≡ true = fit_begins c _ _ (ap (λ v. is_fit c v) (sym (append_assoc (d ++ x ∷ []) (y ∷ ys) more)) ∙ k) in
+      Spelt-append (cell column) _ _ _ _ _ (Spelt-step (cell column) _ _ _ (omega arith) refl (unless_true _ _ begun) (search rules))
+      (subst (λ v. Spelt (cell column) (ChunkData c total (length ys) (d ++ x ∷ [])) (y ∷ ys) (ChunkLength c total v)) (append_assoc d (x ∷ []) (y ∷ ys)) (chunk_data c _ _ y ys _ k))
 
   -- one chunk
   chunk_cell : (c : Conversion) (total : Option ℕ) (d content bytes more : List ℕ) → is_fit c ((d ++ content) ++ more) ≡ true → within_total total (length d + length content) ≡ true → SpellsChunk content bytes → Spelt (cell column) (ChunkLength c total d) bytes (ChunkLength c total (d ++ content))
@@ -97,8 +90,7 @@ module _ (column : ℕ) where
   chunk_cell c total d (x ∷ xs) bytes more f w s =
       let n : little s.header ≡ suc (length xs) = s.counted in
       let head : Spelt (cell column) (ChunkLength c total d) s.header (ChunkData c total (length xs) d) = Spelt-step (cell column) (ChunkLength c total d) s.header (ChunkData c total (length xs) d) (let four : length s.header ≡ 4 = s.four in omega arith) s.four (rw n (choose_false (suc (length xs) == 0) (end_of_chunks column c total d) (unless (within_total total (length d + suc (length xs))) (PlpLength column)) (ne_eqb (suc (length xs)) 0 (λ q. omega arith)) ∙ unless_true (within_total total (length d + suc (length xs))) (PlpLength column) w)) (rw n (search rules)) in
-      subst (λ v. Spelt (cell column) (ChunkLength c total d) v (ChunkLength c total (d ++ x ∷ xs))) (sym s.spelt)
-      (Spelt-append (cell column) (ChunkLength c total d) s.header (ChunkData c total (length xs) d) (x ∷ xs) (ChunkLength c total (d ++ x ∷ xs)) head (chunk_data c total d x xs more f))
+      rw (sym s.spelt) at (Spelt-append (cell column) (ChunkLength c total d) s.header (ChunkData c total (length xs) d) (x ∷ xs) (ChunkLength c total (d ++ x ∷ xs)) head (chunk_data c total d x xs more f))
 
   -- the chunks and the terminator
   chunks_cell : (c : Conversion) (total : Option ℕ) (d : List ℕ) (ds : List (List ℕ)) (bytes : List ℕ) → ((n : ℕ) → n ≤ length (d ++ concat ds) → within_total total n ≡ true) → is_total total (length (d ++ concat ds)) ≡ true → is_fit c (d ++ concat ds) ≡ true → SpellsChunks ds bytes → Spelt (cell column) (ChunkLength c total d) bytes (WholeCell (DataCell c (d ++ concat ds)))
@@ -107,24 +99,22 @@ module _ (column : ℕ) where
       let tt' : is_total total (length d) ≡ true = rw e at t in
       let ff : is_fit c d ≡ true = rw e at f in
       let end : end_of_chunks column c total d ≡ None =
-      choose_true (is_total total (length d)) (if length d % unit c == 0 then unless (is_fit c d) (BadText column) else Some (OddText column)) (Some (PlpLength column)) tt'
-      ∙ choose_true (length d % unit c == 0) (unless (is_fit c d) (BadText column)) (Some (OddText column)) (ap (λ n. n == 0) (fit_units c d ff))
-      ∙ unless_true (is_fit c d) (BadText column) ff in
-      let last : Spelt (cell column) (ChunkLength c total d) (0 ∷ 0 ∷ 0 ∷ 0 ∷ []) (WholeCell (DataCell c d)) = Spelt-step (cell column) (ChunkLength c total d) (0 ∷ 0 ∷ 0 ∷ 0 ∷ []) (WholeCell (DataCell c d)) (omega arith) refl end refl in
+      choose_true _ (if length d % unit c == 0 then unless (is_fit c d) (BadText column) else Some (OddText column)) (Some (PlpLength column)) tt'
+      ∙ choose_true _ (unless (is_fit c d) (BadText column)) (Some (OddText column)) (ap (λ n. n == 0) (fit_units c d ff)) ∙ unless_true _ _ ff in
+      let last : Spelt (cell column) (ChunkLength c total d) (0 ∷ 0 ∷ 0 ∷ 0 ∷ []) (WholeCell (DataCell c d)) = Spelt-step (cell column) _ _ _ (omega arith) refl end refl in
       subst (λ v. Spelt (cell column) (ChunkLength c total d) v (WholeCell (DataCell c (d ++ [])))) (sym s) (subst (λ v. Spelt (cell column) (ChunkLength c total d) (0 ∷ 0 ∷ 0 ∷ 0 ∷ []) (WholeCell (DataCell c v))) (sym e) last)
   chunks_cell c total d (x ∷ xs) bytes w t f s =
       let a : (d ++ x) ++ concat xs ≡ d ++ (x ++ concat xs) = append_assoc d x (concat xs) in
       let l : length (d ++ (x ++ concat xs)) ≡ length d + (length x + length (concat xs)) = rw length-append (rw length-append refl) in
       let one : Spelt (cell column) (ChunkLength c total d) s.0 (ChunkLength c total (d ++ x)) = chunk_cell c total d x s.0 (concat xs) (rw a f) (w (length d + length x) (omega (arith, l))) s.3 in
-      let more : Spelt (cell column) (ChunkLength c total (d ++ x)) s.1 (WholeCell (DataCell c ((d ++ x) ++ concat xs))) = chunks_cell c total (d ++ x) xs s.1 (rw a w) (rw a t) (rw a f) s.4 in
+      let more : Spelt (cell column) (ChunkLength c total (d ++ x)) s.1 (WholeCell (DataCell c ((d ++ x) ++ concat xs))) = chunks_cell c _ _ xs s.1 (rw a w) (rw a t) (rw a f) s.4 in
       subst (λ v. Spelt (cell column) (ChunkLength c total d) v (WholeCell (DataCell c (d ++ (x ++ concat xs))))) (sym s.2)
-      (Spelt-append (cell column) (ChunkLength c total d) s.0 (ChunkLength c total (d ++ x)) s.1 (WholeCell (DataCell c (d ++ (x ++ concat xs)))) one (subst (λ v. Spelt (cell column) (ChunkLength c total (d ++ x)) s.1 (WholeCell (DataCell c v))) a more))
+      (Spelt-append (cell column) _ s.0 _ s.1 _ one (subst (λ v. Spelt (cell column) (ChunkLength c total (d ++ x)) s.1 (WholeCell (DataCell c v))) a more))
 
   -- the total
   total_cell : (c : Conversion) (total : List ℕ) → length total ≡ 8 → little total < null_total → (nat_le unknown_total (little total) || (little total % unit c == 0)) ≡ true → Spelt (cell column) (Total c) total (ChunkLength c (known_total (little total)) [])
-  total_cell c total eight less even = Spelt-step (cell column) (Total c) total (ChunkLength c (known_total (little total)) []) (omega arith) eight
-      (unless_true (nat_le unknown_total (little total) || (little total % unit c == 0)) (OddText column) even)
-      (choose_false (little total == null_total) (WholeCell Null) (ChunkLength c (known_total (little total)) []) (ne_eqb (little total) null_total (λ e. omega arith)))
+  total_cell c total eight less even = Spelt-step (cell column) _ _ _ (omega arith) eight
+      (unless_true _ _ even) (choose_false _ (WholeCell Null) (ChunkLength c (known_total (little total)) []) (ne_eqb (little total) null_total (λ e. omega arith)))
 
   chunked_cell : (c : Conversion) (d bytes : List ℕ) → is_fit c d ≡ true → SpellsChunked d bytes → Spelt (cell column) (Total c) bytes (WholeCell (DataCell c d))
   chunked_cell c d bytes f s = subst (λ v. Spelt (cell column) (Total c) v (WholeCell (DataCell c d))) (sym s.spelt) (go s.known)
@@ -144,15 +134,11 @@ module _ (column : ℕ) where
 
   -- What spells a cell is read as that cell.
   pub cell_is_read : (kind : Kind) (sh : Shape) (x : Cell) (bytes : List ℕ) → HasBytes sh → SpellsCell kind sh x bytes → Spelt (cell column) (cell_start kind sh) bytes (WholeCell x)
-  cell_is_read kind (FixedShape n) Null bytes some h = absurd h
   cell_is_read kind (FixedShape n) (ScalarCell v) bytes some h = fixed_cell kind n v bytes some h.0 h.1
-  cell_is_read kind (FixedShape n) (DataCell c d) bytes some h = absurd h
   cell_is_read kind CountedShape Null bytes some h = subst (λ v. Spelt (cell column) (ScalarLength kind) v (WholeCell Null)) (sym h) (Spelt-step (cell column) (ScalarLength kind) (0 ∷ []) (WholeCell Null) (omega arith) refl refl refl)
   cell_is_read kind CountedShape (ScalarCell v) bytes some h = subst (λ b. Spelt (cell column) (ScalarLength kind) b (WholeCell (ScalarCell v))) (sym h.1) (counted_cell kind v h.0 h.2 h.3 h.4)
-  cell_is_read kind CountedShape (DataCell c d) bytes some h = absurd h
   cell_is_read kind (LongShape c Short) Null bytes some h = subst (λ v. Spelt (cell column) (ShortLength c) v (WholeCell Null)) (sym h) (Spelt-step (cell column) (ShortLength c) (255 ∷ 255 ∷ []) (WholeCell Null) (omega arith) refl refl refl)
-  cell_is_read kind (LongShape c Short) (ScalarCell v) bytes some h = absurd h
   cell_is_read kind (LongShape c Short) (DataCell c' d) bytes some h = subst (λ v. Spelt (cell column) (ShortLength c) bytes (WholeCell (DataCell v d))) (sym h.0) (short_cell c d bytes h.1 h.2)
   cell_is_read kind (LongShape c Chunked) Null bytes some h = subst (λ v. Spelt (cell column) (Total c) v (WholeCell Null)) (sym h) (Spelt-step (cell column) (Total c) (replicate 8 255) (WholeCell Null) (omega arith) refl refl refl)
-  cell_is_read kind (LongShape c Chunked) (ScalarCell v) bytes some h = absurd h
   cell_is_read kind (LongShape c Chunked) (DataCell c' d) bytes some h = subst (λ v. Spelt (cell column) (Total c) bytes (WholeCell (DataCell v d))) (sym h.0) (chunked_cell c d bytes h.1 h.2)
+  cell_is_read kind sh x bytes some h = absurd h

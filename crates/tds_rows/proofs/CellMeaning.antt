@@ -1,6 +1,6 @@
 -- What the bytes that lead to a part of a cell spell.
-use Rattle.std.proofs.Common.{◌≡◌, ◌≢◌, ◌⊎◌, ℕ, ◌+◌, ◌-◌, ◌/◌, ◌%◌, ◌^◌, ◌<◌, Bool, true, false, List, [], ◌∷◌, ◌++◌, length, replicate, refl, sym, ◌∙◌, ap, subst, inl, inr, append_assoc, append-nil, arith, length-append}
-use Rattle.std.specs.Prelude.{Option, Some, None, ◌==◌, ◌&&◌, ◌||◌, nat_lt, Result, Ok, Err, is_ok, slice_index, if◌then◌else◌}
+use Rattle.std.proofs.Common.{◌≡◌, ◌≢◌, ◌⊎◌, ℕ, ◌+◌, ◌-◌, ◌/◌, ◌%◌, ◌^◌, ◌<◌, Bool, true, List, [], ◌∷◌, ◌++◌, length, replicate, refl, sym, ◌∙◌, ap, subst, append_assoc, append-nil, arith, length-append}
+use Rattle.std.specs.Prelude.{Option, Some, None, ◌==◌, ◌&&◌, ◌||◌, nat_lt, Result, Ok, is_ok, slice_index, if◌then◌else◌}
 use Rattle.std.specs.List.{concat}
 use Rattle.std.proofs.lemmas.List.Folds.{concat-append}
 use Rattle.std.proofs.lemmas.Bool.Decides.{nat_tests}
@@ -16,7 +16,7 @@ use Rattle.tds_csv.proofs.ConversionLaws.{no_data_is_fit}
 use Rattle.tds_packet.specs.Elements.{AreBytes, Spelt, IsNext}
 use Rattle.tds_packet.proofs.ElementLaws.{Spelt-induct, AreBytes-front, AreBytes-back}
 use Rattle.tds_packet.specs.declared.fault.Fault.{Fault}
-use Rattle.tds_packet.specs.declared.fault.Fault.TheVariants.{BadValue, BadValueLength, BadText, OddText, PlpLength}
+use Rattle.tds_packet.specs.declared.fault.Fault.TheVariants.{BadText, OddText, PlpLength}
 use Rattle.tds_rows.specs.Cells.{Cell, Null, ScalarCell, DataCell, Shape, FixedShape, CountedShape, LongShape, SpellsChunk, SpellsChunks, SpellsCell, CellPart, ScalarBytes, ScalarLength, ShortLength, ShortData, Total, ChunkLength, ChunkData, WholeCell, cell_start, cell_add, cell, unless, within_total, is_total, end_of_chunks, chunk_fault, value_part, known_total, unknown_total, null_total}
 use Rattle.std.proofs.lemmas.Bool.{and_parts}
 use Rattle.tds_packet.proofs.Choices.{choose, eq_true, eq_false}
@@ -24,50 +24,19 @@ use Rattle.tds_columns.proofs.ByteLemmas.{one_byte, two_bytes}
 
 -- a test that gave no fault passed
 pub unless_none : (b : Bool) (f : Fault) → unless b f ≡ None → b ≡ true
-unless_none true f h = refl
-unless_none false f h = cc
+unless_none b f h = grind arith
 
 eight_below : (e : List ℕ) → length e ≡ 8 → AreBytes e → little e < 2 ^ 64
 eight_below (a ∷ b ∷ c ∷ d ∷ e ∷ f ∷ g ∷ h ∷ []) l k = omega (arith, k.0, k.1.0, k.1.1.0, k.1.1.1.0, k.1.1.1.1.0, k.1.1.1.1.1.0, k.1.1.1.1.1.1.0, k.1.1.1.1.1.1.1.0)
-eight_below [] l k = absurd (omega arith)
-eight_below (a ∷ []) l k = absurd (omega arith)
-eight_below (a ∷ b ∷ []) l k = absurd (omega arith)
-eight_below (a ∷ b ∷ c ∷ []) l k = absurd (omega arith)
-eight_below (a ∷ b ∷ c ∷ d ∷ []) l k = absurd (omega arith)
-eight_below (a ∷ b ∷ c ∷ d ∷ e ∷ []) l k = absurd (omega arith)
-eight_below (a ∷ b ∷ c ∷ d ∷ e ∷ f ∷ []) l k = absurd (omega arith)
-eight_below (a ∷ b ∷ c ∷ d ∷ e ∷ f ∷ g ∷ []) l k = absurd (omega arith)
-eight_below (a ∷ b ∷ c ∷ d ∷ e ∷ f ∷ g ∷ h ∷ i ∷ j) l k = absurd (omega arith)
+eight_below e l k = absurd (omega arith)
 
 eight_ones : (e : List ℕ) → length e ≡ 8 → AreBytes e → little e ≡ null_total → e ≡ replicate 8 255
-eight_ones (a ∷ b ∷ c ∷ d ∷ e ∷ f ∷ g ∷ h ∷ []) l k n =
-    let is_a : a ≡ 255 = omega (arith, k.0, k.1.0, k.1.1.0, k.1.1.1.0, k.1.1.1.1.0, k.1.1.1.1.1.0, k.1.1.1.1.1.1.0, k.1.1.1.1.1.1.1.0) in
-    let is_b : b ≡ 255 = omega (arith, k.0, k.1.0, k.1.1.0, k.1.1.1.0, k.1.1.1.1.0, k.1.1.1.1.1.0, k.1.1.1.1.1.1.0, k.1.1.1.1.1.1.1.0) in
-    let is_c : c ≡ 255 = omega (arith, k.0, k.1.0, k.1.1.0, k.1.1.1.0, k.1.1.1.1.0, k.1.1.1.1.1.0, k.1.1.1.1.1.1.0, k.1.1.1.1.1.1.1.0) in
-    let is_d : d ≡ 255 = omega (arith, k.0, k.1.0, k.1.1.0, k.1.1.1.0, k.1.1.1.1.0, k.1.1.1.1.1.0, k.1.1.1.1.1.1.0, k.1.1.1.1.1.1.1.0) in
-    let is_e : e ≡ 255 = omega (arith, k.0, k.1.0, k.1.1.0, k.1.1.1.0, k.1.1.1.1.0, k.1.1.1.1.1.0, k.1.1.1.1.1.1.0, k.1.1.1.1.1.1.1.0) in
-    let is_f : f ≡ 255 = omega (arith, k.0, k.1.0, k.1.1.0, k.1.1.1.0, k.1.1.1.1.0, k.1.1.1.1.1.0, k.1.1.1.1.1.1.0, k.1.1.1.1.1.1.1.0) in
-    let is_g : g ≡ 255 = omega (arith, k.0, k.1.0, k.1.1.0, k.1.1.1.0, k.1.1.1.1.0, k.1.1.1.1.1.0, k.1.1.1.1.1.1.0, k.1.1.1.1.1.1.1.0) in
-    let is_h : h ≡ 255 = omega (arith, k.0, k.1.0, k.1.1.0, k.1.1.1.0, k.1.1.1.1.0, k.1.1.1.1.1.0, k.1.1.1.1.1.1.0, k.1.1.1.1.1.1.1.0) in
-    cc
-eight_ones [] l k n = absurd (omega arith)
-eight_ones (a ∷ []) l k n = absurd (omega arith)
-eight_ones (a ∷ b ∷ []) l k n = absurd (omega arith)
-eight_ones (a ∷ b ∷ c ∷ []) l k n = absurd (omega arith)
-eight_ones (a ∷ b ∷ c ∷ d ∷ []) l k n = absurd (omega arith)
-eight_ones (a ∷ b ∷ c ∷ d ∷ e ∷ []) l k n = absurd (omega arith)
-eight_ones (a ∷ b ∷ c ∷ d ∷ e ∷ f ∷ []) l k n = absurd (omega arith)
-eight_ones (a ∷ b ∷ c ∷ d ∷ e ∷ f ∷ g ∷ []) l k n = absurd (omega arith)
-eight_ones (a ∷ b ∷ c ∷ d ∷ e ∷ f ∷ g ∷ h ∷ i ∷ j) l k n = absurd (omega arith)
+eight_ones (a ∷ b ∷ c ∷ d ∷ e ∷ f ∷ g ∷ h ∷ []) l k n = grind arith
+eight_ones e l k n = absurd (omega arith)
 
 four_zeros : (e : List ℕ) → length e ≡ 4 → little e ≡ 0 → e ≡ 0 ∷ 0 ∷ 0 ∷ 0 ∷ []
-four_zeros (a ∷ b ∷ c ∷ d ∷ []) l n =
-    let x : a ≡ 0 = omega arith in let y : b ≡ 0 = omega arith in let z : c ≡ 0 = omega arith in let w : d ≡ 0 = omega arith in cc
-four_zeros [] l n = absurd (omega arith)
-four_zeros (a ∷ []) l n = absurd (omega arith)
-four_zeros (a ∷ b ∷ []) l n = absurd (omega arith)
-four_zeros (a ∷ b ∷ c ∷ []) l n = absurd (omega arith)
-four_zeros (a ∷ b ∷ c ∷ d ∷ e ∷ f) l n = absurd (omega arith)
+four_zeros (a ∷ b ∷ c ∷ d ∷ []) l n = grind arith
+four_zeros e l n = absurd (omega arith)
 
 -- chunks so far, without the terminator
 abbrev pub BeginsChunks : List (List ℕ) → List ℕ → Type 0
@@ -117,51 +86,26 @@ CellMeans kind (LongShape c Chunked) (ChunkLength c' total d) b = (c' ≡ c) × 
 CellMeans kind (LongShape c Chunked) (ChunkData c' total left d) b = (c' ≡ c) × ChunkMeans total left d b
 CellMeans kind sh part b = ⊥
 
-is_ok_value : (r : Result ScalarValue ValueFault) → is_ok r ≡ true → (v : ScalarValue) × (r ≡ Ok v)
-is_ok_value (Ok v) h = (v, refl)
-is_ok_value (Err f) h = cc
+pub is_ok_value : (r : Result ScalarValue ValueFault) → is_ok r ≡ true → (v : ScalarValue) × (r ≡ Ok v)
+is_ok_value r h = grind arith
 
 -- a test that gave no fault passed, and nor did what follows it
 pub guard_none : (b : Bool) (o : Option Fault) (f : Fault) → (if b then o else Some f) ≡ None → (b ≡ true) × (o ≡ None)
-guard_none true o f h = (refl, h)
-guard_none false o f h = cc
+guard_none b o f h = (grind arith, grind arith)
 
 total_known : (n m : ℕ) → n < null_total → is_total (known_total n) m ≡ true → (n ≡ unknown_total) ⊎ ((n ≡ m) × (m < unknown_total))
-total_known n m less h = go (n == unknown_total) refl
-  where
-    go : (b : Bool) → (n == unknown_total) ≡ b → (n ≡ unknown_total) ⊎ ((n ≡ m) × (m < unknown_total))
-    go true e = inl (eq_true n unknown_total e)
-    go false e =
-        let k : known_total n ≡ Some n = ap (λ b. (if b then None else Some n)) e in
-        let t : (m == n) ≡ true = (rw k at h) in
-        let q : m ≡ n = eq_true m n t in
-        let r : n ≢ unknown_total = eq_false n unknown_total e in
-        inr (sym q, omega arith)
+total_known n m less h = grind (arith, nat_tests)
 
 module _ (column : ℕ) (kind : Kind) where
   value_means : (sh : Shape) (e b : List ℕ) → is_ok (read_of kind e) ≡ true → ((v : ScalarValue) → read_of kind e ≡ Ok v → SpellsCell kind sh (ScalarCell v) b) → CellMeans kind sh (value_part (read_of kind e)) b
   value_means sh e b h k = let v = is_ok_value (read_of kind e) h in subst (λ o. CellMeans kind sh (value_part o) b) (sym v.1) (k v.0 v.1)
 
   short_means : (c : Conversion) (n left : ℕ) (d : List ℕ) (b : List ℕ) (x : ℕ) → n ≡ length d + (left + 1) → n < 65535 → b ≡ (n % 256 ∷ n / 256 ∷ []) ++ d → (is_begun c (d ++ x ∷ []) && (nat_lt 0 left || is_fit c (d ++ x ∷ []))) ≡ true → CellMeans kind (LongShape c Short) (cell_add (ShortData c left d) (x ∷ [])) (b ++ x ∷ [])
-  short_means c n left d b x count less is free =
-      let la : length (d ++ x ∷ []) ≡ length d + 1 = length-append d (x ∷ []) in
-      let spelt : b ++ x ∷ [] ≡ (n % 256 ∷ n / 256 ∷ []) ++ (d ++ x ∷ []) = ap (λ v. v ++ x ∷ []) is in
-      choose (λ p. CellMeans kind (LongShape c Short) p (b ++ x ∷ [])) (left == 0) (WholeCell (DataCell c (d ++ x ∷ []))) (ShortData c (left - 1) (d ++ x ∷ []))
-      (λ z.
-      let zero' : left ≡ 0 = eq_true left 0 z in
-      let n_is : n ≡ length (d ++ x ∷ []) = omega arith in
-      let whole : is_fit c (d ++ x ∷ []) ≡ true = fit_last (nat_lt 0 left) (is_fit c (d ++ x ∷ [])) (let q : nat_lt 0 left ≡ false = grind (arith, nat_tests) in q) (and_parts (is_begun c (d ++ x ∷ [])) (nat_lt 0 left || is_fit c (d ++ x ∷ [])) free).1 in
-      (refl, whole, record { counted = subst (λ v. b ++ x ∷ [] ≡ (v % 256 ∷ v / 256 ∷ []) ++ (d ++ x ∷ [])) n_is spelt; least = omega arith }))
-      (λ z. let some : left ≢ 0 = eq_false left 0 z in (refl, n, omega arith, less, spelt))
-    where
-      fit_last : (p q : Bool) → p ≡ false → (p || q) ≡ true → q ≡ true
-      fit_last true q a h = cc
-      fit_last false q a h = h
+  short_means c n left d b x count less is free = grind (arith, and_parts, choose, eq_false, eq_true, length-append, nat_tests)
 
   chunk_means : (c : Conversion) (total : Option ℕ) (d b e : List ℕ) → length e ≡ 4 → ChunksMean total d b → chunk_fault column c total d (little e) ≡ None → CellMeans kind (LongShape c Chunked) (cell_add (ChunkLength c total d) e) (b ++ e)
   chunk_means c total d b e four m free =
-      choose (λ p. CellMeans kind (LongShape c Chunked) p (b ++ e)) (little e == 0) (WholeCell (DataCell c d)) (ChunkData c total (little e - 1) d)
-      (λ z.
+      choose (λ p. CellMeans kind (LongShape c Chunked) p (b ++ e)) (little e == 0) (WholeCell (DataCell c d)) (ChunkData c total (little e - 1) d) (λ z.
       let zero' : little e ≡ 0 = eq_true (little e) 0 z in
       let end : end_of_chunks column c total d ≡ None = sym (ap (λ t. (if t then end_of_chunks column c total d else unless (within_total total (length d + little e)) (PlpLength column))) z) ∙ free in
       let g1 = guard_none (is_total total (length d)) (if length d % unit c == 0 then unless (is_fit c d) (BadText column) else Some (OddText column)) (PlpLength column) end in
@@ -180,8 +124,7 @@ module _ (column : ℕ) (kind : Kind) where
       let counted : little m.header ≡ length m.part + (left + 1) = m.counted in
       let spelt : b ++ x ∷ [] ≡ m.whole ++ (m.header ++ (m.part ++ x ∷ [])) = ap (λ v. v ++ x ∷ []) m.spelt ∙ append_assoc m.whole (m.header ++ m.part) (x ∷ []) ∙ ap (λ v. m.whole ++ v) (append_assoc m.header m.part (x ∷ [])) in
       let all : d ++ x ∷ [] ≡ m.before ++ (m.part ++ x ∷ []) = ap (λ v. v ++ x ∷ []) m.all ∙ append_assoc m.before m.part (x ∷ []) in
-      choose (λ p. CellMeans kind (LongShape c Chunked) p (b ++ x ∷ [])) (left == 0) (ChunkLength c total (d ++ x ∷ [])) (ChunkData c total (left - 1) (d ++ x ∷ []))
-      (λ z.
+      choose (λ p. CellMeans kind (LongShape c Chunked) p (b ++ x ∷ [])) (left == 0) (ChunkLength c total (d ++ x ∷ [])) (ChunkData c total (left - 1) (d ++ x ∷ [])) (λ z.
       let zero' : left ≡ 0 = eq_true left 0 z in
       let one : SpellsChunk (m.part ++ x ∷ []) (m.header ++ (m.part ++ x ∷ [])) = record { header = m.header; spelt = refl; four = m.four; counted = omega (arith, la); some = omega (arith, la) } in (
         refl,
@@ -196,91 +139,24 @@ module _ (column : ℕ) (kind : Kind) where
           begun = more_chunks m.chunks.chunks m.chunks.rest (m.part ++ x ∷ []) (m.header ++ (m.part ++ x ∷ [])) m.chunks.begun one;
           all = concat-append m.chunks.chunks ((m.part ++ x ∷ []) ∷ []) ∙ ap (λ v. v ++ concat ((m.part ++ x ∷ []) ∷ [])) m.chunks.all ∙ ap (λ v. m.before ++ v) (append-nil (m.part ++ x ∷ [])) ∙ sym all;
         },
-      ))
-      (λ z. let some : left ≢ 0 = eq_false left 0 z in
+      )) (λ z. let some : left ≢ 0 = eq_false left 0 z in
       (refl, record { before = m.before; whole = m.whole; chunks = m.chunks; header = m.header; part = m.part ++ x ∷ []; spelt = spelt; four = m.four; counted = omega (arith, la); all = all }))
 
   length_means : (e : List ℕ) → length e ≡ 1 → ((slice_index e 0 == 0) || is_length_allowed kind (slice_index e 0)) ≡ true → CellMeans kind CountedShape (if slice_index e 0 == 0 then WholeCell Null else ScalarBytes kind (slice_index e 0)) e
-  length_means e one free =
-      let x = one_byte e one in
-      let at : slice_index e 0 ≡ x.0 = ap (λ v. slice_index v 0) x.1 in
-      choose (λ p. CellMeans kind CountedShape p e) (slice_index e 0 == 0) (WholeCell Null) (ScalarBytes kind (slice_index e 0))
-      (λ z. x.1 ∙ ap (λ v. v ∷ []) (sym at ∙ eq_true (slice_index e 0) 0 z))
-      (λ z.
-      let some : slice_index e 0 ≢ 0 = eq_false (slice_index e 0) 0 z in
-      (refl, x.1 ∙ ap (λ v. v ∷ []) (sym at), omega arith, or_left (slice_index e 0 == 0) (is_length_allowed kind (slice_index e 0)) z free))
-    where
-      or_left : (p q : Bool) → p ≡ false → (p || q) ≡ true → q ≡ true
-      or_left true q a h = cc
-      or_left false q a h = h
+  length_means e one free = grind (arith, choose, eq_false, eq_true, one_byte)
 
   short_length_means : (c : Conversion) (e : List ℕ) → length e ≡ 2 → AreBytes e → CellMeans kind (LongShape c Short) (cell_add (ShortLength c) e) e
-  short_length_means c e two bytes =
-      let is : e ≡ little e % 256 ∷ little e / 256 ∷ [] = (two_bytes e two bytes).0 in
-      choose (λ p. CellMeans kind (LongShape c Short) p e) (little e == 0xFFFF) (WholeCell Null) (if little e == 0 then WholeCell (DataCell c []) else ShortData c (little e - 1) [])
-      (λ z. is ∙ ap (λ v. v % 256 ∷ v / 256 ∷ []) (eq_true (little e) 0xFFFF z))
-      (λ z. choose (λ p. CellMeans kind (LongShape c Short) p e) (little e == 0) (WholeCell (DataCell c [])) (ShortData c (little e - 1) [])
-      (λ y. (refl, no_data_is_fit c, record { counted = is ∙ ap (λ v. v % 256 ∷ v / 256 ∷ []) (eq_true (little e) 0 y); least = omega arith }))
-      (λ y.
-      let none : little e ≢ 0xFFFF = eq_false (little e) 0xFFFF z in
-      let some : little e ≢ 0 = eq_false (little e) 0 y in
-      let fits : little e < 65536 = (two_bytes e two bytes).1 in
-      (refl, little e, omega arith, omega arith, is ∙ sym (append-nil (little e % 256 ∷ little e / 256 ∷ [])))))
+  short_length_means c e two bytes = grind (arith, append-nil, choose, eq_false, eq_true, no_data_is_fit, two_bytes)
 
   total_means : (c : Conversion) (e : List ℕ) → length e ≡ 8 → AreBytes e → CellMeans kind (LongShape c Chunked) (cell_add (Total c) e) e
-  total_means c e eight bytes =
-      choose (λ p. CellMeans kind (LongShape c Chunked) p e) (little e == null_total) (WholeCell Null) (ChunkLength c (known_total (little e)) [])
-      (λ z. eight_ones e eight bytes (eq_true (little e) null_total z))
-      (λ z.
-      let none : little e ≢ null_total = eq_false (little e) null_total z in
-      let fits : little e < 2 ^ 64 = eight_below e eight bytes in
-      (refl, record { first = e; chunks = []; rest = []; spelt = sym (append-nil e); eight = eight; total_is = refl; below = omega arith; begun = refl; all = refl }))
+  total_means c e eight bytes = grind (arith, append-nil, choose, eight_below, eight_ones, eq_false, eq_true)
 
   -- each element keeps the meaning
   pub cell_step : (sh : Shape) (p : CellPart) (b e : List ℕ) → AreBytes e → CellMeans kind sh p b → IsNext (cell column) p e → CellMeans kind sh (cell_add p e) (b ++ e)
-  cell_step sh (WholeCell x) b e bytes h n = absurd (let l : length e ≡ 0 = n.whole in let s : 0 < length e = n.some in omega arith)
-  cell_step (FixedShape m) (ScalarBytes k i) b e bytes h n =
-      let free : is_ok (read_of k e) ≡ true = unless_none (is_ok (read_of k e)) (BadValue column) n.free in
-      let l : length e ≡ m = n.whole ∙ h.1 in
-      subst (λ v. CellMeans kind (FixedShape m) (value_part (read_of v e)) (b ++ e)) (sym h.0)
-      (subst (λ v. CellMeans kind (FixedShape m) (value_part (read_of kind e)) (v ++ e)) (sym h.2)
-      (value_means (FixedShape m) e e (subst (λ v. is_ok (read_of v e) ≡ true) h.0 free) (λ v q. (l, q))))
-  cell_step CountedShape (ScalarBytes k i) b e bytes h n =
-      let free : is_ok (read_of k e) ≡ true = unless_none (is_ok (read_of k e)) (BadValue column) n.free in
-      let l : length e ≡ i = n.whole in
-      subst (λ v. CellMeans kind CountedShape (value_part (read_of v e)) (b ++ e)) (sym h.0)
-      (value_means CountedShape e (b ++ e) (subst (λ v. is_ok (read_of v e) ≡ true) h.0 free) (λ v q. (e, ap (λ w. w ++ e) h.1 ∙ ap (λ w. w ∷ e) (sym l), n.some, subst (λ w. is_length_allowed kind w ≡ true) (sym l) h.3, q)))
-  cell_step CountedShape (ScalarLength k) b e bytes h n =
-      let free : ((slice_index e 0 == 0) || is_length_allowed k (slice_index e 0)) ≡ true = unless_none ((slice_index e 0 == 0) || is_length_allowed k (slice_index e 0)) (BadValueLength column) n.free in
-      subst (λ v. CellMeans kind CountedShape (if slice_index e 0 == 0 then WholeCell Null else ScalarBytes v (slice_index e 0)) (b ++ e)) (sym h.0)
-      (subst (λ v. CellMeans kind CountedShape (if slice_index e 0 == 0 then WholeCell Null else ScalarBytes kind (slice_index e 0)) (v ++ e)) (sym h.1)
-      (length_means e n.whole (subst (λ v. ((slice_index e 0 == 0) || is_length_allowed v (slice_index e 0)) ≡ true) h.0 free)))
-  cell_step (LongShape c Short) (ShortLength d) b e bytes h n =
-      subst (λ v. CellMeans kind (LongShape c Short) (cell_add (ShortLength v) e) (b ++ e)) (sym h.0)
-      (subst (λ v. CellMeans kind (LongShape c Short) (cell_add (ShortLength c) e) (v ++ e)) (sym h.1) (short_length_means c e n.whole bytes))
-  cell_step (LongShape c Short) (ShortData d left content) b e bytes h n =
-      let x = one_byte e n.whole in
-      let free : (is_begun d (content ++ e) && (nat_lt 0 left || is_fit d (content ++ e))) ≡ true = unless_none (is_begun d (content ++ e) && (nat_lt 0 left || is_fit d (content ++ e))) (BadText column) n.free in
-      let free' : (is_begun c (content ++ x.0 ∷ []) && (nat_lt 0 left || is_fit c (content ++ x.0 ∷ []))) ≡ true = subst (λ v. (is_begun c (content ++ v) && (nat_lt 0 left || is_fit c (content ++ v))) ≡ true) x.1 (subst (λ v. (is_begun v (content ++ e) && (nat_lt 0 left || is_fit v (content ++ e))) ≡ true) h.0 free) in
-      subst (λ v. CellMeans kind (LongShape c Short) (cell_add (ShortData v left content) e) (b ++ e)) (sym h.0)
-      (subst (λ v. CellMeans kind (LongShape c Short) (cell_add (ShortData c left content) v) (b ++ v)) (sym x.1) (short_means c h.1 left content b x.0 h.2 h.3 h.4 free'))
-  cell_step (LongShape c Chunked) (Total d) b e bytes h n =
-      subst (λ v. CellMeans kind (LongShape c Chunked) (cell_add (Total v) e) (b ++ e)) (sym h.0)
-      (subst (λ v. CellMeans kind (LongShape c Chunked) (cell_add (Total c) e) (v ++ e)) (sym h.1) (total_means c e n.whole bytes))
-  cell_step (LongShape c Chunked) (ChunkLength d total content) b e bytes h n =
-      subst (λ v. CellMeans kind (LongShape c Chunked) (cell_add (ChunkLength v total content) e) (b ++ e)) (sym h.0)
-      (chunk_means c total content b e n.whole h.1 (subst (λ v. chunk_fault column v total content (little e) ≡ None) h.0 n.free))
-  cell_step (LongShape c Chunked) (ChunkData d total left content) b e bytes h n =
-      let x = one_byte e n.whole in
-      subst (λ v. CellMeans kind (LongShape c Chunked) (cell_add (ChunkData v total left content) e) (b ++ e)) (sym h.0)
-      (subst (λ v. CellMeans kind (LongShape c Chunked) (cell_add (ChunkData c total left content) v) (b ++ v)) (sym x.1) (data_means c total left content b x.0 h.1))
-  cell_step sh part b e bytes h n = absurd h
+  cell_step sh p b e bytes h n = grind (arith, chunk_means, data_means, length_means, one_byte, short_length_means, short_means, total_means, unless_none, value_means)
 
 pub start_means : (kind : Kind) (sh : Shape) → CellMeans kind sh (cell_start kind sh) []
-start_means kind (FixedShape n) = (refl, refl, refl)
-start_means kind CountedShape = (refl, refl)
-start_means kind (LongShape c Short) = (refl, refl)
-start_means kind (LongShape c Chunked) = (refl, refl)
+start_means kind sh = grind arith
 
 -- What is read as a cell spells it.
 pub cell_is_spelt : (column : ℕ) (kind : Kind) (sh : Shape) (x : Cell) (bytes : List ℕ) → AreBytes bytes → Spelt (cell column) (cell_start kind sh) bytes (WholeCell x) → SpellsCell kind sh x bytes

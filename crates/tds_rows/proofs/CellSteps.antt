@@ -1,5 +1,5 @@
 -- The cells of scalar kinds, as they are read.
-use Rattle.std.proofs.Common.{◌≡◌, ◌≢◌, ◌∙◌, ◌⊎◌, inl, inr, ℕ, ◌+◌, ◌<◌, true, false, List, [], ◌∷◌, ◌++◌, length, take, drop, get_or, refl, sym, ap, subst, arith}
+use Rattle.std.proofs.Common.{◌≡◌, ◌≢◌, ◌∙◌, ◌⊎◌, ℕ, ◌+◌, ◌<◌, true, false, List, [], ◌∷◌, ◌++◌, length, take, drop, get_or, refl, sym, ap, subst, arith}
 use Rattle.std.specs.Prelude.{Option, Some, None, Result, Ok, Err, MatchResult, ◌==◌, ◌||◌, is_ok, slice_index, if◌then◌else◌}
 use Rattle.std.proofs.lemmas.Bool.{ne_eqb}
 use Rattle.std.proofs.lemmas.List.{take_all}
@@ -17,9 +17,9 @@ use Rattle.tds_packet.specs.Reading.{Reads, StopsReading}
 use Rattle.tds_packet.proofs.Choices.{choose_false}
 use Rattle.tds_packet.proofs.Steps.{began_is_cut, cut_at_once, reads_one, refused_at_once, stops_after, takes_both}
 use Rattle.tds_columns.specs.Elements.{EndsInto, TakesInto}
-use Rattle.tds_csv.specs.Conversion.{Conversion, HexDigits, Utf16Text}
+use Rattle.tds_csv.specs.Conversion.{Conversion}
 use Rattle.tds_rows.specs.declared.Charset.{Charset}
-use Rattle.tds_rows.specs.Cells.{CellPart, LongShape, Null, ScalarBytes, ScalarLength, WholeCell, cell, cell_end, cell_size, cell_start, narrow, shape, shape_of_length, unless}
+use Rattle.tds_rows.specs.Cells.{CellPart, LongShape, Null, ScalarBytes, ScalarLength, WholeCell, cell, cell_end, cell_size, cell_start, shape, shape_of_length, unless}
 use Rattle.tds_rows.specs.CellSteps.{GathersCell, IsScalarLeft, StallsCell, length_behind, start_behind, value_bytes, value_start}
 
 -- a kind's shape is that of its length, or that of a long one
@@ -27,48 +27,15 @@ abbrev pub ShapeCases : Charset → Kind → Type 0
 ShapeCases charset kind = ((is_scalar kind ≡ true) × (shape charset kind ≡ shape_of_length (fixed_length kind))) ⊎ ((is_scalar kind ≡ false) × (c : Conversion) × (r : Reach) × (shape charset kind ≡ LongShape c r))
 
 pub shape_cases : (charset : Charset) (kind : Kind) → ShapeCases charset kind
-shape_cases charset kinds.Int1 = inl (refl, refl)
-shape_cases charset kinds.Int2 = inl (refl, refl)
-shape_cases charset kinds.Int4 = inl (refl, refl)
-shape_cases charset kinds.Int8 = inl (refl, refl)
-shape_cases charset kinds.Bit = inl (refl, refl)
-shape_cases charset kinds.Money4 = inl (refl, refl)
-shape_cases charset kinds.Money8 = inl (refl, refl)
-shape_cases charset kinds.DateTime4 = inl (refl, refl)
-shape_cases charset kinds.DateTime8 = inl (refl, refl)
-shape_cases charset (kinds.IntN n) = inl (refl, refl)
-shape_cases charset kinds.BitN = inl (refl, refl)
-shape_cases charset (kinds.MoneyN n) = inl (refl, refl)
-shape_cases charset (kinds.DateTimeN n) = inl (refl, refl)
-shape_cases charset kinds.Guid = inl (refl, refl)
-shape_cases charset (kinds.Decimal n p s) = inl (refl, refl)
-shape_cases charset kinds.Date = inl (refl, refl)
-shape_cases charset (kinds.Time s) = inl (refl, refl)
-shape_cases charset (kinds.DateTime2 s) = inl (refl, refl)
-shape_cases charset (kinds.DateTimeOffset s) = inl (refl, refl)
-shape_cases charset (kinds.Binary r) = inr (refl, HexDigits, r, refl)
-shape_cases charset (kinds.Narrow r) = inr (refl, narrow charset, r, refl)
-shape_cases charset (kinds.Wide r) = inr (refl, Utf16Text, r, refl)
+shape_cases charset kind = grind arith
 
 pub scalar_shape : (charset : Charset) (kind : Kind) → is_scalar kind ≡ true → shape charset kind ≡ shape_of_length (fixed_length kind)
-scalar_shape charset kind h = go (shape_cases charset kind)
-  where
-    go : ShapeCases charset kind → shape charset kind ≡ shape_of_length (fixed_length kind)
-    go (inl x) = x.1
-    go (inr x) = absurd (let never : true ≡ false = sym h ∙ x.0 in cc)
+scalar_shape charset kind h = grind (arith, shape_cases charset kind)
 
 -- the values of a kind of fixed length have some bytes
 pub fixed_some : (kind : Kind) (n : ℕ) → fixed_length kind ≡ Some n → 0 < n
 fixed_some kinds.Int1 n h = grind arith
-fixed_some kinds.Int2 n h = grind arith
-fixed_some kinds.Int4 n h = grind arith
-fixed_some kinds.Int8 n h = grind arith
-fixed_some kinds.Bit n h = grind arith
-fixed_some kinds.Money4 n h = grind arith
-fixed_some kinds.Money8 n h = grind arith
-fixed_some kinds.DateTime4 n h = grind arith
-fixed_some kinds.DateTime8 n h = grind arith
-fixed_some kind n h = cc
+fixed_some kind n h = grind arith
 
 -- the next element of a cell is cut
 pub cell_cut : (column : ℕ) (s : CellPart) (a b : Seen) (place n : ℕ) (part : List ℕ) (own stop : Stop) → cell_size s ≡ n → cell_end s ≡ Some MessageEnded → length part < n → Ends a b part own → stop ≡ began_at place own → StopsReading (cell column) s a b place s stop
@@ -100,8 +67,7 @@ fixed_gathers column kind n a b place place' bytes is whole takes between at = r
   place_is = at;
   refused = λ some bad.
       let all : value_bytes kind bytes ≡ bytes = (λ i. take (length_behind (is i) bytes) (drop (start_behind (is i)) bytes)) ∙ take_all n bytes (omega (arith, whole)) in
-      let here : place ≡ place + value_start kind = omega (arith, ap start_behind is) in
-      subst (λ (k : ℕ). StallsCell (ScalarBytes kind n) column a b place (record { fault = BadValue column; place = Payload k })) here
+      subst (λ (k : ℕ). StallsCell (ScalarBytes kind n) column a b place (record { fault = BadValue column; place = Payload k })) (omega (arith, ap start_behind is))
       (value_stalls column kind n a b place bytes (fixed_some kind n is) whole (ap (λ l. is_ok (read_of kind l)) (sym all) ∙ bad) takes between);
 }
 
@@ -119,20 +85,13 @@ length_refused column kind a b place n bytes len is some bad takes between =
 
 -- a list of one number
 pub only_one : (l : List ℕ) → length l ≡ 1 → l ≡ get_or l 0 0 ∷ []
-only_one [] h = absurd (omega (arith, h))
 only_one (x ∷ []) h = refl
-only_one (x ∷ y ∷ r) h = absurd (omega (arith, h))
+only_one l h = absurd (omega (arith, h))
 
 -- NULL was read
 pub null_gathers : (column : ℕ) (kind : Kind) (a b : Seen) (place place' : ℕ) (bytes : List ℕ) → fixed_length kind ≡ None → length bytes ≡ 1 → slice_index bytes 0 ≡ 0 → Takes a b bytes (length bytes) → IsBetween b → place' ≡ place + length bytes
     → GathersCell kind (ScalarLength kind) column a b place place' bytes
-null_gathers column kind a b place place' bytes is len zero takes between at = record {
-  whole = omega (arith, len, zero, ap start_behind is, ap (λ o. length_behind o bytes) is);
-  takes = takes;
-  between = between;
-  place_is = at;
-  refused = λ some bad. absurd (omega (arith, some, zero, ap (λ o. length_behind o bytes) is));
-}
+null_gathers column kind a b place place' bytes is len zero takes between at = grind arith
 
 -- a length that is allowed leads to the value's bytes
 abbrev length_leads : (column : ℕ) (kind : Kind) (n : ℕ) (a b : Seen) (bytes : List ℕ) → length bytes ≡ 1 → slice_index bytes 0 ≡ n → n ≢ 0 → is_length_allowed kind n ≡ true → Takes a b bytes (length bytes) → Reads (cell column) (ScalarLength kind) a b (ScalarBytes kind n)
@@ -153,8 +112,7 @@ length_then column kind n a b d place bytes stop len is some good takes x =
 pub counted_cut : (column : ℕ) (kind : Kind) (n : ℕ) (a b d : Seen) (place middle : ℕ) (bytes part : List ℕ) (own stop : Stop) → length bytes ≡ 1 → slice_index bytes 0 ≡ n → n ≢ 0 → is_length_allowed kind n ≡ true → Takes a b bytes (length bytes)
     → middle ≡ place + length bytes → length part < n → Ends b d part own → stop ≡ began_at middle own → StallsCell (ScalarLength kind) column a d place stop
 counted_cut column kind n a b d place middle bytes part own stop len is some good takes at fewer ends told =
-    length_then column kind n a b d place bytes stop len is some good takes
-    (subst (λ (m : ℕ). StopsReading (cell column) (ScalarBytes kind n) b d m (ScalarBytes kind n) stop) at (cell_cut column (ScalarBytes kind n) b d middle n part own stop refl refl fewer ends told))
+    length_then column kind n a b d place bytes stop len is some good takes (rw at at (cell_cut column (ScalarBytes kind n) b d middle n part own stop refl refl fewer ends told))
 
 -- a length and the value after it were read
 pub counted_gathers : (column : ℕ) (kind : Kind) (n : ℕ) (a b d : Seen) (place middle place' : ℕ) (value : List ℕ) → fixed_length kind ≡ None → n ≢ 0 → is_length_allowed kind n ≡ true → Takes a b (n ∷ []) 1 → middle ≡ place + 1
@@ -191,10 +149,7 @@ fixed_taken (Err stop) stopped column kind n a b place place' before after is no
 
 -- the length that an empty area got
 pub length_taken : (a b : Seen) (before after : Space) (n : ℕ) → before.bytes ≡ [] → slice_index after.bytes 0 ≡ n → TakesInto a b before after 1 → (after.bytes ≡ n ∷ []) × (Takes a b (n ∷ []) 1)
-length_taken a b before after n none is x =
-    let alone = stands_alone before after x.element none x.stands in
-    let bytes : after.bytes ≡ n ∷ [] = only_one after.bytes (ap length alone ∙ x.whole) ∙ ap (λ m. m ∷ []) is in
-    (bytes, subst (λ l. Takes a b l 1) (sym alone ∙ bytes) x.takes)
+length_taken a b before after n none is x = grind (arith, only_one, stands_alone)
 
 -- the value after a length that is allowed was read into the area that has the length, or it is cut
 pub counted_taken : {U : Type 0} → (result : Result U Stop) (stopped : Option Stop) (column : ℕ) (kind : Kind) (n : ℕ) (a b d : Seen) (place middle place' : ℕ) (before after : Space) → fixed_length kind ≡ None → before.bytes ≡ n ∷ [] → n ≢ 0 → is_length_allowed kind n ≡ true
@@ -216,5 +171,4 @@ scalar_start charset kind o scalar is = ap (λ l. cell_start kind (shape_of_leng
 -- a cell whose bytes were gathered, and that is left, stops at its value
 pub left_stalls : (kind : Kind) (from : CellPart) (column : ℕ) (a b : Seen) (place place' : ℕ) (bytes : List ℕ) → (x : GathersCell kind from column a b place place' bytes) → IsScalarLeft kind bytes
     → StallsCell from column a b place (record { fault = BadValue column; place = Payload (place + value_start kind) })
-left_stalls kind from column a b place place' bytes x (inl short) = absurd (omega (arith, short, x.whole))
-left_stalls kind from column a b place place' bytes x (inr bad) = x.refused bad.0 bad.1
+left_stalls kind from column a b place place' bytes x h9 = grind arith

@@ -1,8 +1,7 @@
 -- Runs over cells by their forms, a cell after those that were written.
-use Rattle.std.proofs.Common.{◌≡◌, ◌≢◌, ◌∙◌, inl, inr, ℕ, zero, suc, ◌+◌, ◌-◌, ◌<◌, ◌≤◌, Bool, true, false, List, [], ◌∷◌, ◌++◌, length, take, drop, get_or, refl, sym, ap, subst, arith, append-nil, append_assoc, length-append}
-use Rattle.std.specs.Prelude.{◌==◌, ◌&&◌, Option, Some, None, map, slice_set, if◌then◌else◌}
+use Rattle.std.proofs.Common.{◌≡◌, ◌≢◌, ◌∙◌, ℕ, zero, suc, ◌+◌, ◌-◌, ◌<◌, ◌≤◌, Bool, true, false, List, [], ◌∷◌, ◌++◌, length, take, drop, get_or, refl, sym, ap, subst, arith, append-nil, append_assoc, length-append}
+use Rattle.std.specs.Prelude.{◌==◌, ◌&&◌, Option, map, slice_set}
 use Rattle.std.proofs.lemmas.List.{drop_more, length-drop, length-map, length-take, length-take-le, take-append-le, take_all, take_more_set}
-use Rattle.std.proofs.lemmas.Bool.{ne_eqb}
 use Rattle.std.proofs.Math.Seq.{take-add}
 use lib.Seq.{drop-drop}
 use Rattle.tds_values.specs.declared.kind.Kind.{Kind}
@@ -17,11 +16,12 @@ use Rattle.tds_rows.specs.Cells.{cell_start, shape}
 use Rattle.tds_rows.specs.CellSteps.{IsLeft, WritesField, WritesKind, is_last, whole_size}
 use Rattle.tds_rows.specs.FormRuns.{AreNext, FieldsWritten, FirstUsed, FirstWritten, WritesForms}
 use Rattle.tds_rows.specs.MarkedRuns.{WritesColumn, WritesMarked}
-use Rattle.tds_rows.specs.ShortCells.{IsShortLeft, short_conversion}
+use Rattle.tds_rows.specs.ShortCells.{IsShortLeft}
 use Rattle.tds_rows.specs.WholeCells.{WritesWhole}
-use Rattle.tds_rows.proofs.LineTexts.{behind_some}
+use Rattle.tds_rows.proofs.LineTexts.{behind_some, behind_append}
 use Rattle.tds_rows.proofs.RunSteps.{made_more, used_more}
 use Rattle.tds_rows.proofs.TableSteps.{known_kind, last_one}
+use Rattle.std.proofs.lemmas.Bool.Decides.{nat_tests}
 
 -- the first of the first
 pub take_front : {A : Type 0} (k n : ℕ) (l : List A) → k ≤ n → n ≤ length l → take k (take n l) ≡ take k l
@@ -31,8 +31,7 @@ take_front k n l within fits =
     ap (take k) (split ∙ take-add k (n - k) l) ∙ take-append-le k (take k l) (take (n - k) (drop k l)) (omega (arith, front)) ∙ take_all k (take k l) (omega (arith, front))
 
 not_last : (rest : List Column) → 0 < length rest → false ≡ is_last rest
-not_last [] some = absurd (omega (arith, some))
-not_last (c ∷ cs) some = refl
+not_last rest some = grind arith
 
 module _ (forms : List Form) (ends : Bool) (columns : List Column) (next : AreNext forms ends columns) where
   few : length forms ≤ length columns
@@ -101,11 +100,7 @@ module _ (charset : Charset) (forms : List Form) (column : ℕ) (ends : Bool) (c
   )
 
   not_closed : (n : ℕ) → n < length forms → closes n ≡ false
-  not_closed n few = ap (λ v. ends && v) (ne_eqb n (length forms) (λ e. omega (arith, e, few))) ∙ and_false ends
-    where
-      and_false : (b : Bool) → (b && false) ≡ false
-      and_false true = refl
-      and_false false = refl
+  not_closed n few = grind (arith, nat_tests)
 
   -- the fields of some cells are their text, with the end of their row
   pub fields_marked : (n : ℕ) (bytes text : List ℕ) → suc n ≤ length forms → WritesForms charset forms column (suc n) bytes text → WritesMarked charset columns (λ k. false) column (suc n) bytes (text ++ end_behind (closes (suc n)))
@@ -124,11 +119,7 @@ run_marked charset forms column ends columns next (suc n) bytes fields some few 
 
 -- a comma stands before what follows it
 comma_then : (n : ℕ) (text : List ℕ) → behind_comma n [] ++ text ≡ behind_comma n text
-comma_then n text = go (n == 0)
-  where
-    go : (b : Bool) → (if b then [] else 44 ∷ []) ++ text ≡ (if b then text else 44 ∷ text)
-    go true = refl
-    go false = refl
+comma_then n text = sym (behind_append n [] text)
 
 -- what stands before the comma of the next cell
 pub before_comma : (made column : ℕ) (to fields : List ℕ) → 0 < column → made ≤ length to → take made to ≡ fields ++ behind_comma column [] → take (made - 1) to ≡ fields
@@ -159,11 +150,7 @@ module _ (charset : Charset) (forms : List Form) (column : ℕ) (bytes : List �
 
   -- the bytes of the first cell were used
   pub first_used : (used u k : ℕ) (d : Form) → k ≡ 0 → used ≡ 0 → u ≡ whole_size (get_or forms k d).kind (take (length bytes - used) (drop used bytes)) → FirstUsed forms bytes (used + u)
-  first_used used u k d first none size form others are =
-      let bytes_are : take (length bytes - used) (drop used bytes) ≡ bytes = all_behind bytes used ∙ ap (λ n. drop n bytes) none in
-      let form_is : get_or forms k d ≡ form = ap (λ n. get_or forms n d) first ∙ ap (λ l. get_or l 0 d) are in
-      let whole : used + u ≡ u = omega (arith, none) in
-      whole ∙ size ∙ (λ i. whole_size (form_is i).kind (bytes_are i))
+  first_used used u k d first none size form others are = grind (arith, all_behind)
 
   -- the first alone
   pub first_alone : (ends : Bool) (to : List ℕ) (used made : ℕ) (fields : List ℕ) → FirstUsed forms bytes used → WritesForms charset forms column 1 (take used bytes) fields → take made to ≡ fields ++ end_behind (ends && (1 == length forms))
@@ -175,20 +162,14 @@ module _ (charset : Charset) (forms : List Form) (column : ℕ) (bytes : List �
       let kind_is : (get_or forms 0 form).kind ≡ form.kind = ap (λ (l : List Form). (get_or l 0 form).kind) are in
       record {
         size = size form others are;
-        writes = subst (λ (q : Kind). WritesKind charset q column last (take used bytes) (take made to)) kind_is
-            (subst (λ l. WritesKind charset (get_or forms 0 form).kind column last (take used bytes) l) text
-            (subst (λ l. WritesKind charset (get_or forms 0 form).kind column last l (in_line column last field)) read (y form column last)));
+        writes = rw kind_is at (rw text at (rw read at (y form column last)));
       }
 
 -- ---- a cell that is left
 
 short_less : (c : Option Conversion) (bytes : List ℕ) (fewer room : ℕ) → fewer ≤ room → IsShortLeft c bytes room → IsShortLeft c bytes fewer
-short_less None bytes fewer room less x = tt
-short_less (Some c) bytes fewer room less (inl x) = inl x
-short_less (Some c) bytes fewer room less (inr (inl x)) = inr (inl (omega (arith, less, x)))
-short_less (Some c) bytes fewer room less (inr (inr x)) = inr (inr x)
+short_less c bytes fewer room less x = grind arith
 
 -- with less room too
 pub left_less : (charset : Charset) (kind : Kind) (bytes : List ℕ) (fewer room : ℕ) → fewer ≤ room → IsLeft charset kind bytes room → IsLeft charset kind bytes fewer
-left_less charset kind bytes fewer room less (inl x) = inl x
-left_less charset kind bytes fewer room less (inr x) = inr (x.0, short_less (short_conversion (shape charset kind)) bytes fewer room less x.1)
+left_less charset kind bytes fewer room less h6 = grind (arith, short_less)

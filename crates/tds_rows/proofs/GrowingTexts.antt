@@ -1,22 +1,20 @@
 -- What a text that grows is, and what the cells and rows that are read add to it.
-use Rattle.std.proofs.Common.{◌≡◌, ℕ, ◌+◌, ◌-◌, ◌<◌, Bool, true, false, List, [], ◌∷◌, ◌++◌, length, refl, sym, ◌∙◌, ap, subst, inl, inr, append_assoc, append-nil, arith}
-use Rattle.std.specs.Prelude.{◌⊎◌, ◌%◌, Option, Some, None, ◌==◌, ◌&&◌, ◌||◌, nat_lt, map, codes, if◌then◌else◌}
+use Rattle.std.proofs.Common.{◌≡◌, ℕ, ◌-◌, Bool, true, false, List, [], ◌∷◌, ◌++◌, length, refl, sym, ◌∙◌, ap, subst, append_assoc, append-nil, arith}
+use Rattle.std.specs.Prelude.{Option, Some, None, ◌==◌, ◌||◌, nat_lt, map, codes, if◌then◌else◌}
 use Rattle.std.proofs.lemmas.List.{map-append}
-use Rattle.tds_values.specs.Numbers.{little}
 use Rattle.tds_csv.specs.Joining.{emit}
-use Rattle.tds_csv.specs.Quoting.{joined, line, line_end, null_field}
-use Rattle.tds_csv.specs.Conversion.{Conversion, closing, conversion_rest, conversion_text, unit, is_fit, is_begun, is_quoted, long_field, open_field}
+use Rattle.tds_csv.specs.Quoting.{joined, null_field}
+use Rattle.tds_csv.specs.Conversion.{Conversion, closing, conversion_rest, conversion_text, is_fit, is_begun, is_quoted, long_field, open_field}
 use Rattle.tds_csv.proofs.Begun.{open_closes, open_grows}
 use Rattle.tds_csv.proofs.ConversionLaws.{begun_by_test}
 use Rattle.tds_packet.specs.Elements.{IsNext}
 use Rattle.tds_packet.specs.declared.fault.Fault.{Fault}
-use Rattle.tds_packet.specs.declared.fault.Fault.TheVariants.{BadText, OddText, PlpLength}
 use Rattle.std.proofs.lemmas.Bool.{and_parts, or_cases}
 use Rattle.tds_packet.proofs.Choices.{choose, eq_true, lt_true}
 use Rattle.tds_columns.specs.Description.{Column}
 use Rattle.tds_rows.proofs.CellMeaning.{guard_none, unless_none}
 use Rattle.tds_rows.specs.declared.Charset.{Charset}
-use Rattle.tds_rows.specs.Cells.{Cell, Null, DataCell, field, shape, CellPart, ScalarBytes, ScalarLength, ShortLength, ShortData, Total, ChunkLength, ChunkData, WholeCell, cell_start, cell_add, cell, field_so_far, unless, is_total, within_total, end_of_chunks, chunk_fault}
+use Rattle.tds_rows.specs.Cells.{Cell, Null, DataCell, field, shape, CellPart, ShortData, ChunkLength, ChunkData, WholeCell, cell_start, cell_add, cell, field_so_far, chunk_fault}
 use Rattle.tds_rows.specs.Rows.{RowPart, Bitmap, InCell, WholeRow, next_cell, with_cell, row_add, row, with_field, row_so_far}
 
 -- the second text begins with the first
@@ -87,48 +85,28 @@ long_grows c a h = (conversion_text c (conversion_rest c a) ++ closing (is_quote
 
 -- what is chosen by a test that holds gave no fault
 first_none : (b : Bool) (o p : Option Fault) → b ≡ true → (if b then o else p) ≡ None → o ≡ None
-first_none true o p z h = h
-first_none false o p z h = cc
+first_none b o p z h = grind arith
 
 -- the last byte of a short value leaves it fit
 pub last_fit : (left : ℕ) (b : Bool) → (nat_lt 0 left || b) ≡ true → (left == 0) ≡ true → b ≡ true
-last_fit left b h z = go (or_cases (nat_lt 0 left) b h)
-  where
-    go : ((nat_lt 0 left ≡ true) ⊎ (b ≡ true)) → b ≡ true
-    go (inl t) = let some : 0 < left = lt_true 0 left t in let none : left ≡ 0 = eq_true left 0 z in absurd (omega arith)
-    go (inr t) = t
+last_fit left b h z = grind (arith, eq_true, lt_true, or_cases)
 
 -- what ends the chunks leaves the data fit
 pub end_fit : (column : ℕ) (c : Conversion) (total : Option ℕ) (content : List ℕ) (n : ℕ) → chunk_fault column c total content n ≡ None → (n == 0) ≡ true → is_fit c content ≡ true
-end_fit column c total content n h z =
-    let o : end_of_chunks column c total content ≡ None = first_none (n == 0) (end_of_chunks column c total content) (unless (within_total total (length content + n)) (PlpLength column)) z h in
-    let inner = guard_none (is_total total (length content)) (if length content % unit c == 0 then unless (is_fit c content) (BadText column) else Some (OddText column)) (PlpLength column) o in
-    let last = guard_none (length content % unit c == 0) (unless (is_fit c content) (BadText column)) (OddText column) inner.1 in
-    unless_none (is_fit c content) (BadText column) last.1
+end_fit column c total content n h z = grind (arith, first_none, guard_none, unless_none)
 
 module _ (column : ℕ) where
   -- each element of a cell adds to its text
   pub cell_grows : (p : CellPart) (e : List ℕ) → IsNext (cell column) p e → OptionGrows (field_so_far p) (field_so_far (cell_add p e))
-  cell_grows (ScalarBytes k i) e n = tt
-  cell_grows (ScalarLength k) e n = tt
-  cell_grows (ShortLength c) e n = tt
-  cell_grows (Total c) e n = tt
-  cell_grows (WholeCell x) e n = grows_same (field x)
+  cell_grows (WholeCell x) e n = grows_same _
   cell_grows (ShortData c left content) e n =
-      let free = and_parts (is_begun c (content ++ e)) (nat_lt 0 left || is_fit c (content ++ e)) (unless_none (is_begun c (content ++ e) && (nat_lt 0 left || is_fit c (content ++ e))) (BadText column) n.free) in
-      let one : Grows (open_field c content) (open_field c (content ++ e)) = open_more c content e free.0 in
-      choose (λ p. OptionGrows (Some (open_field c content)) (field_so_far p)) (left == 0) (WholeCell (DataCell c (content ++ e))) (ShortData c (left - 1) (content ++ e))
-      (λ z. grows_trans (open_field c content) (open_field c (content ++ e)) (long_field c (content ++ e)) one (long_grows c (content ++ e) (last_fit left (is_fit c (content ++ e)) free.1 z)))
-      (λ z. one)
-  cell_grows (ChunkLength c total content) e n =
-      choose (λ p. OptionGrows (Some (open_field c content)) (field_so_far p)) (little e == 0) (WholeCell (DataCell c content)) (ChunkData c total (little e - 1) content)
-      (λ z. long_grows c content (end_fit column c total content (little e) n.free z))
-      (λ z. grows_same (open_field c content))
-  cell_grows (ChunkData c total left content) e n =
-      let one : Grows (open_field c content) (open_field c (content ++ e)) = open_more c content e (unless_none (is_begun c (content ++ e)) (BadText column) n.free) in
-      choose (λ p. OptionGrows (Some (open_field c content)) (field_so_far p)) (left == 0) (ChunkLength c total (content ++ e)) (ChunkData c total (left - 1) (content ++ e))
-      (λ z. one)
-      (λ z. one)
+      let free = and_parts (is_begun c (content ++ e)) (nat_lt 0 left || is_fit c (content ++ e)) (unless_none _ _ n.free) in
+      let one : Grows (open_field c content) (open_field c (content ++ e)) = open_more c _ e free.0 in
+      choose (λ p. OptionGrows (Some (open_field c content)) (field_so_far p)) _ (WholeCell (DataCell c (content ++ e))) (ShortData c (left - 1) (content ++ e))
+      (λ z. grows_trans _ _ _ one (long_grows c _ (last_fit _ _ free.1 z))) (λ z. one)
+  cell_grows (ChunkLength c total content) e n = grind (arith, choose, end_fit, grows_same, long_grows)
+  cell_grows (ChunkData c total left content) e n = grind (arith, choose, open_more, unless_none)
+  cell_grows p e n = tt
 
 -- ---- a row
 
@@ -139,29 +117,24 @@ one_more_field cells c = map-append field cells (c ∷ [])
 module _ (charset : Charset) where
   -- the cells to come begin
   next_grows : (cells : List Cell) (ks : List (Column × Bool)) → Grows (joined (map field cells)) (row_so_far (next_cell charset cells ks))
-  next_grows cells [] = grows_by (joined (map field cells)) line_end
+  next_grows cells [] = grows_by _ _
   next_grows cells ((k, true) ∷ ks) =
-      grows_trans (joined (map field cells)) (joined (map field (cells ++ Null ∷ []))) (row_so_far (next_cell charset (cells ++ Null ∷ []) ks))
-      (subst (λ v. Grows (joined (map field cells)) (joined v)) (sym (one_more_field cells Null)) (joined_more (map field cells) (null_field ∷ [])))
-      (next_grows (cells ++ Null ∷ []) ks)
-  next_grows cells ((k, false) ∷ ks) = with_field_grows cells None (field_so_far (cell_start k.kind (shape charset k.kind))) tt
+      grows_trans _ _ _ (rw (sym (one_more_field cells Null)) at (joined_more (map field cells) (null_field ∷ []))) (next_grows _ ks)
+  next_grows cells ((k, false) ∷ ks) = with_field_grows _ None (field_so_far (cell_start k.kind (shape charset k.kind))) tt
 
   -- a cell in its row
   with_cell_grows : (cells : List Cell) (ks : List (Column × Bool)) (p : CellPart) → Grows (joined (with_field cells (field_so_far p))) (row_so_far (with_cell charset cells ks p))
   with_cell_grows cells ks (WholeCell c) = subst (λ v. Grows (joined v) (row_so_far (next_cell charset (cells ++ c ∷ []) ks))) (one_more_field cells c) (next_grows (cells ++ c ∷ []) ks)
-  with_cell_grows cells ks (ScalarBytes k i) = grows_same (joined (map field cells))
-  with_cell_grows cells ks (ScalarLength k) = grows_same (joined (map field cells))
-  with_cell_grows cells ks (ShortLength c) = grows_same (joined (map field cells))
-  with_cell_grows cells ks (Total c) = grows_same (joined (map field cells))
   with_cell_grows cells ks (ShortData c left content) = grows_same (joined (map field cells ++ open_field c content ∷ []))
   with_cell_grows cells ks (ChunkLength c total content) = grows_same (joined (map field cells ++ open_field c content ∷ []))
   with_cell_grows cells ks (ChunkData c total left content) = grows_same (joined (map field cells ++ open_field c content ∷ []))
+  with_cell_grows cells ks p = grows_same (joined (map field cells))
 
   -- each element of a row adds to its text
   pub row_grows : (p : RowPart) (e : List ℕ) → IsNext (row charset) p e → Grows (row_so_far p) (row_so_far (row_add charset p e))
-  row_grows (Bitmap columns) e n = grows_all (row_so_far (row_add charset (Bitmap columns) e))
-  row_grows (WholeRow cells) e n = grows_same (line (map field cells))
+  row_grows (Bitmap columns) e n = grows_all _
+  row_grows (WholeRow cells) e n = grows_same _
   row_grows (InCell cells part ks) e n =
-      grows_trans (joined (with_field cells (field_so_far part))) (joined (with_field cells (field_so_far (cell_add part e)))) (row_so_far (with_cell charset cells ks (cell_add part e)))
-      (with_field_grows cells (field_so_far part) (field_so_far (cell_add part e)) (cell_grows (length cells) part e (record { some = n.some; whole = n.whole; free = n.free })))
+      grows_trans _ _ _
+      (with_field_grows _ (field_so_far part) (field_so_far (cell_add part e)) (cell_grows (length cells) part e (record { some = n.some; whole = n.whole; free = n.free })))
       (with_cell_grows cells ks (cell_add part e))

@@ -136,9 +136,7 @@ module _ (fit begins : List ℕ → Type 0) (rest text : List ℕ → List ℕ) 
 
 -- no push says that more bytes are good than the piece has
 pub good_within : (begins : List ℕ → Type 0) (rest text : List ℕ → List ℕ) (old new : List ℕ) (h i : Held) (failed : Bool) (piece : List ℕ) (fault : JoinFault) → Pushes {U = Unit {0}} begins rest text old new h i failed piece (Err fault) → good_of fault ≤ length piece
-good_within begins rest text old new h i failed piece (Stopped stop) x = omega arith
-good_within begins rest text old new h i failed piece Odd x = absurd x
-good_within begins rest text old new h i failed piece (join_faults.BadText k) x = let within : k < length piece = x.within in omega (arith, within)
+good_within begins rest text old new h i failed piece fault x = grind arith
 
 -- ---- piece after piece
 
@@ -212,16 +210,7 @@ module _ (c : Conversion) (content : List ℕ) (begun : Begins c content) (n : �
     }
 
     pub filled_ends : (k : ℕ) → left ≡ k → TakesData c (content ++ p.more) kept' b d middle place' i j k → EndsData c content kept' a d place place' h j n
-    filled_ends k all x = record {
-      front = p.more;
-      middle = b;
-      there = middle;
-      between = i;
-      fills = p.fills;
-      last = k;
-      takes = x;
-      counted = omega (arith, p.counted, all);
-    }
+    filled_ends k all x = grind arith
 
     pub filled_stops : (column : ℕ) (failed : Bool) (stop : Stop) → 0 < left → StopsData c (content ++ p.more) column left b d middle i j failed stop → StopsFilling c content column n a d place h j failed stop
     filled_stops column failed stop some x =

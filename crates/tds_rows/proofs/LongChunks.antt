@@ -26,28 +26,21 @@ use Rattle.tds_rows.specs.LongCells.{CutsNumber, EndsData, ReadsNumber, RefusesN
 use Rattle.tds_rows.specs.PassedCells.{chunk_left}
 use Rattle.tds_rows.proofs.LongSteps.{chunk_holds, ending_text, ends_streams, filling_stops}
 use Rattle.tds_rows.proofs.LongValues.{field_puts, field_stops, none_begins, not_fit, null_puts, number_breaks, number_cut, number_refused, number_streams, number_whole, open_none}
-use Rattle.tds_rows.proofs.PassedCells.{unless_true}
+use Rattle.tds_rows.proofs.CellLaws.{unless_true}
 
 -- ---- the length of a chunk
 
 -- a fault but for what the content itself has is a fault
 first_same : (z t u f : Bool) (odd plp bad x : Fault) (w : Option Fault) → (if z then (if t then unless u odd else Some plp) else w) ≡ Some x → (if z then (if t then (if u then unless f bad else Some odd) else Some plp) else w) ≡ Some x
-first_same false t u f odd plp bad x w h = h
-first_same true false u f odd plp bad x w h = h
-first_same true true true f odd plp bad x w h = cc
-first_same true true false f odd plp bad x w h = h
+first_same z t u f odd plp bad x w h = grind arith
 
 -- no fault of a length that isn't 0
 later_none : (z t u f : Bool) (odd plp bad : Fault) (w : Option Fault) → z ≡ false → (if z then (if t then unless u odd else Some plp) else w) ≡ None → (if z then (if t then (if u then unless f bad else Some odd) else Some plp) else w) ≡ None
-later_none false t u f odd plp bad w e h = h
-later_none true t u f odd plp bad w e h = cc
+later_none z t u f odd plp bad w e h = grind arith
 
 -- at the terminator the content is judged last
 end_last : (z t u f : Bool) (odd plp bad : Fault) (w : Option Fault) → z ≡ true → (if z then (if t then unless u odd else Some plp) else w) ≡ None → (if z then (if t then (if u then unless f bad else Some odd) else Some plp) else w) ≡ unless f bad
-end_last false t u f odd plp bad w e h = cc
-end_last true false u f odd plp bad w e h = cc
-end_last true true false f odd plp bad w e h = cc
-end_last true true true f odd plp bad w e h = refl
+end_last z t u f odd plp bad w e h = grind arith
 
 zero_true : (n : ℕ) → n ≡ 0 → (n == 0) ≡ true
 zero_true n e = ap (λ (k : ℕ). k == 0) e
@@ -60,9 +53,7 @@ module _ (column : ℕ) (last : Bool) (c : Conversion) (size : ℕ) (unit_is : s
 
     chunk_same : cell_fault column (ChunkLength c total content) e ≡ judged
     unfolding judged
-    chunk_same = λ i.
-        if is i == 0 then (if is_total total (counted i) then (if counted i % (sym unit_is i) == 0 then unless (is_fit c content) (BadText column) else Some (OddText column)) else Some (PlpLength column))
-        else unless (within_total total (counted i + is i)) (PlpLength column)
+    chunk_same = grind arith
 
     pub chunk_first : (f : Fault) → chunk_length_fault column size total sum n ≡ Some f → cell_fault column (ChunkLength c total content) e ≡ Some f
     unfolding judged
@@ -80,9 +71,7 @@ module _ (column : ℕ) (last : Bool) (c : Conversion) (size : ℕ) (unit_is : s
     to_end none = choose_true (little e == 0) (WholeCell (DataCell c content)) (ChunkData c total (little e - 1) content) (zero_true (little e) (is ∙ none))
 
     pub to_data : n ≢ 0 → cell_add (ChunkLength c total content) e ≡ chunk_left c total n content
-    to_data some =
-        choose_false (little e == 0) (WholeCell (DataCell c content)) (ChunkData c total (little e - 1) content) (ne_eqb (little e) 0 (λ z. some (sym is ∙ z))) ∙ ap (λ (m : ℕ). ChunkData c total (m - 1) content) is
-        ∙ sym (choose_false (n == 0) (ChunkLength c total content) (ChunkData c total (n - 1) content) (ne_eqb n 0 some))
+    to_data some = grind (arith, choose_false, ne_eqb)
 
   -- ---- chunk after chunk
 
@@ -159,8 +148,7 @@ module _ (column : ℕ) (last : Bool) (c : Conversion) (size : ℕ) (unit_is : s
         chunk_to = to_data x.content sum x.counted y.element n y.number some
 
         pub chunk_text : cell_so_far column last (ChunkLength c total x.content) ++ [] ≡ cell_so_far column last (chunk_left c total n x.content)
-        chunk_text =
-            append-nil (behind_comma column (open_field c x.content)) ∙ sym (ap (cell_so_far column last) (choose_false (n == 0) (ChunkLength c total x.content) (ChunkData c total (n - 1) x.content) (ne_eqb n 0 some)))
+        chunk_text = grind (arith, append-nil, choose_false, ne_eqb)
 
         abbrev pub to_chunk : Streams (cell column) (cell_so_far column last) (ChunkLength c total x.content) b d i i (chunk_left c total n x.content)
         to_chunk = number_streams column last (ChunkLength c total x.content) 4 b d middle there n (omega arith) refl y chunk_fault_free (chunk_left c total n x.content) chunk_to i i [] chunk_text (Puts-none i delivered)
@@ -174,8 +162,7 @@ module _ (column : ℕ) (last : Bool) (c : Conversion) (size : ℕ) (unit_is : s
         -- the content of the chunk stopped
         pub chunk_data_stops : (e : Seen) (j : Held) (failed : Bool) (stop : Stop) → StopsFilling c x.content column n d e there i j failed stop → StopsField (ChunkLength c total []) column last a e place h j failed stop
         chunk_data_stops e j failed stop z =
-            field_stops column last (ChunkLength c total []) (chunk_left c total n x.content) a d e place there h i j failed stop behind_length behind_at
-            (filling_stops column last c (chunk_left c total) (λ _. Unit {0}) n (chunk_holds column c total n) x.content n d e there i j failed stop z)
+            field_stops _ _ _ _ a d e _ _ h i j _ _ behind_length behind_at (filling_stops _ _ c (chunk_left c total) (λ _. Unit {0}) n (chunk_holds _ c _ n) _ n d e _ i j _ _ z)
 
         -- one chunk more was read
         pub streamed_more : (kept' : List ℕ) (e : Seen) (place' : ℕ) (j : Held) → j.delivered ≤ 2 ^ 64 - 1 → EndsData c x.content kept' d e there place' i j n → Streamed kept' (sum + n) a e place place' h j
@@ -210,9 +197,7 @@ module _ (column : ℕ) (last : Bool) (c : Conversion) (size : ℕ) (unit_is : s
     total_to_null null = choose_true (little x.element == null_total) (WholeCell Null) (ChunkLength c (known_total (little x.element)) []) (ap (λ (m : ℕ). m == null_total) (x.number ∙ null))
 
     pub total_to : (t : Option ℕ) → n ≢ null_total → known_total n ≡ t → cell_add (Total c) x.element ≡ ChunkLength c t []
-    total_to t some known =
-        choose_false (little x.element == null_total) (WholeCell Null) (ChunkLength c (known_total (little x.element)) []) (ap (λ (m : ℕ). m == null_total) x.number ∙ ne_eqb n null_total some)
-        ∙ ap (λ (m : ℕ). ChunkLength c (known_total m) []) x.number ∙ ap (λ o. ChunkLength c o []) known
+    total_to t some known = grind (arith, choose_false, ne_eqb)
 
     -- the value is NULL
     pub total_null_puts : {W U : Type 0} (contents : W → Option (List ℕ)) → n ≡ null_total → (h k : Sink W) (r : Result U Stop) → length (held contents h).waiting < 4096 → (held contents h).delivered ≤ 2 ^ 64 - 1 → h.failed ≡ false → PutsPiece contents h k (in_line column last null_field) r

@@ -1,6 +1,6 @@
 -- Long values, in the grammar of a cell: the text of its parts, and the pieces of its content.
-use Rattle.std.proofs.Common.{◌≡◌, ◌∙◌, ◌⊎◌, inl, inr, ℕ, zero, suc, ◌+◌, ◌-◌, ◌^◌, ◌<◌, ◌≤◌, Bool, true, false, List, [], ◌∷◌, ◌++◌, length, refl, sym, ap, subst, arith, append_assoc, append-nil, length-append}
-use Rattle.std.specs.Prelude.{Option, Some, None, ◌==◌, ◌&&◌, ◌||◌, nat_lt, if◌then◌else◌}
+use Rattle.std.proofs.Common.{◌≡◌, ◌∙◌, ◌⊎◌, inl, inr, ℕ, suc, ◌+◌, ◌-◌, ◌^◌, ◌<◌, ◌≤◌, Bool, true, false, List, [], ◌∷◌, ◌++◌, length, refl, sym, ap, subst, arith, append_assoc, append-nil, length-append}
+use Rattle.std.specs.Prelude.{Option, Some, None, ◌&&◌, ◌||◌, nat_lt}
 use Rattle.std.proofs.lemmas.Bool.{and_from, cases_lt, or_left, or_right}
 use Rattle.std.proofs.lemmas.List.{append_cancel_left}
 use Rattle.tds_packet.specs.declared.fault.Fault.TheVariants.{BadText, MessageEnded}
@@ -9,7 +9,7 @@ use Rattle.tds_packet.specs.declared.fault.Stop.{Stop}
 use Rattle.tds_packet.specs.Elements.{IsNext, Spelt}
 use Rattle.tds_packet.specs.Seen.{Seen, Takes, IsBetween}
 use Rattle.tds_packet.proofs.Choices.{test_lt}
-use Rattle.tds_packet.proofs.ElementLaws.{Spelt-none, Spelt-append, Spelt-one, Spelt-step}
+use Rattle.tds_packet.proofs.ElementLaws.{Spelt-none, Spelt-append, Spelt-step}
 use Rattle.tds_packet.proofs.Futures.{Takes-more}
 use Rattle.tds_packet.proofs.Steps.{began_is_cut, cut_at_once}
 use Rattle.tds_csv.specs.Conversion.{Begins, Conversion, conversion_rest, conversion_text, is_begun, is_fit, is_quoted, closing, long_field, open_field}
@@ -19,70 +19,22 @@ use Rattle.tds_csv.specs.Sinks.{Breaks, Held, Puts}
 use Rattle.tds_csv.specs.Streaming.{BreaksStreaming, PutsText, StopsStreaming, Streams}
 use Rattle.tds_csv.proofs.Begun.{open_grows, open_closes, unfit_adds_none}
 use Rattle.tds_csv.proofs.ConversionLaws.{begun_by_test, joins_by_name}
-use Rattle.tds_csv.proofs.Nears.{Grows}
 use Rattle.tds_csv.proofs.Pieces.{breaks_somewhere}
 use Rattle.tds_csv.proofs.Sinks.{Breaks-after, Breaks-longer, Puts-none, Puts-trans}
 use Rattle.tds_csv.proofs.Streams.{streaming_after, streams_both}
-use Rattle.tds_rows.specs.Cells.{CellPart, ChunkData, ChunkLength, ScalarBytes, ScalarLength, ShortData, ShortLength, Total, WholeCell, cell, cell_add, cell_end, cell_fault, cell_size, field_so_far, unless}
+use Rattle.tds_rows.specs.Cells.{CellPart, cell, cell_add, cell_end, cell_fault, cell_size, field_so_far, unless}
 use Rattle.tds_rows.specs.CellSteps.{cell_so_far, opened}
 use Rattle.tds_rows.specs.LongCells.{BreaksData, CutsData, EndsData, FillsData, RefusesData, StopsData, StopsFilling, added_text, ending}
 use Rattle.tds_rows.specs.PassedCells.{chunk_left, short_left}
-use Rattle.tds_rows.proofs.GrowingTexts.{OptionGrows, cell_grows}
-use Rattle.tds_rows.proofs.PassedCells.{chunk_next, short_next, unless_true}
-
--- ---- the text of a cell grows with each element
-
-pub behind_append : (column : ℕ) (a b : List ℕ) → behind_comma column (a ++ b) ≡ behind_comma column a ++ b
-behind_append column a b = go (column == 0)
-  where
-    go : (first : Bool) → (if first then a ++ b else 44 ∷ (a ++ b)) ≡ (if first then a else 44 ∷ a) ++ b
-    go true = refl
-    go false = refl
-
--- the text of a cell that isn't whole is that of its open field
-pub open_part : (column : ℕ) (last : Bool) (p : CellPart) → 0 < cell_size p → cell_so_far column last p ≡ opened column (field_so_far p)
-open_part column last (ScalarBytes k n) some = refl
-open_part column last (ScalarLength k) some = refl
-open_part column last (ShortLength c) some = refl
-open_part column last (ShortData c left content) some = refl
-open_part column last (Total c) some = refl
-open_part column last (ChunkLength c total content) some = refl
-open_part column last (ChunkData c total left content) some = refl
-open_part column last (WholeCell x) some = absurd (omega (arith, some))
-
--- the text of any part begins with that of its field
-part_text : (column : ℕ) (last : Bool) (p : CellPart) → (more : List ℕ) × (opened column (field_so_far p) ++ more ≡ cell_so_far column last p)
-part_text column last (ScalarBytes k n) = ([], refl)
-part_text column last (ScalarLength k) = ([], refl)
-part_text column last (ShortLength c) = ([], refl)
-part_text column last (ShortData c left content) = ([], append-nil (behind_comma column (open_field c content)))
-part_text column last (Total c) = ([], refl)
-part_text column last (ChunkLength c total content) = ([], append-nil (behind_comma column (open_field c content)))
-part_text column last (ChunkData c total left content) = ([], append-nil (behind_comma column (open_field c content)))
-part_text column last (WholeCell x) = (end_behind last, refl)
-
-opened_grows : (column : ℕ) (a b : Option (List ℕ)) → OptionGrows a b → (more : List ℕ) × (opened column a ++ more ≡ opened column b)
-opened_grows column None b h = (opened column b, refl)
-opened_grows column (Some a) None h = absurd h
-opened_grows column (Some a) (Some b) h = (h.0, sym (behind_append column a h.0) ∙ ap (behind_comma column) h.1)
-
--- each element of a cell adds to its text
-pub cell_text_grows : (column : ℕ) (last : Bool) → Grows (cell column) (cell_so_far column last)
-cell_text_grows column last s e next =
-    let some : 0 < length e = next.some in
-    let whole : length e ≡ cell_size s = next.whole in
-    let p = open_part column last s (omega (arith, some, whole)) in
-    let o = opened_grows column (field_so_far s) (field_so_far (cell_add s e)) (cell_grows column s e next) in
-    let q = part_text column last (cell_add s e) in
-    (o.0 ++ q.0, ap (λ l. l ++ (o.0 ++ q.0)) p ∙ sym (append_assoc (opened column (field_so_far s)) o.0 q.0) ∙ ap (λ l. l ++ q.0) o.1 ∙ q.1)
+use Rattle.tds_rows.proofs.NullTexts.{line_grows, opened_text}
+use Rattle.tds_rows.proofs.PassedCells.{chunk_next, short_next}
+use Rattle.tds_rows.proofs.LineTexts.{behind_append}
+use Rattle.tds_csv.proofs.Utf16Steps.{nil_of_length}
+use Rattle.tds_rows.proofs.CellLaws.{unless_true}
 
 -- ---- one element, and its text
 
 module _ (column : ℕ) (last : Bool) (s : CellPart) (a b : Seen) (e : List ℕ) (next : IsNext (cell column) s e) (takes : Takes a b e (length e)) where
-  -- an element was read, and all of its text put
-  pub element_streams : (h i : Held) (added : List ℕ) → cell_so_far column last s ++ added ≡ cell_so_far column last (cell_add s e) → Puts h i added → Streams (cell column) (cell_so_far column last) s a b h i (cell_add s e)
-  element_streams h i added text_is puts = record { bytes = e; spelt = Spelt-one (cell column) s e next; takes = takes; puts = (added, text_is, puts) }
-
   -- a write of its text failed
   pub element_breaks : (h j : Held) (p q : List ℕ) (stop : Stop) → IsBetween b → length h.waiting < 4096 → h.delivered ≤ 2 ^ 64 - 1 → cell_so_far column last s ++ (p ++ q) ≡ cell_so_far column last (cell_add s e) → Breaks h j p stop
       → BreaksStreaming (cell column) (cell_so_far column last) s a b h j s stop
@@ -122,18 +74,15 @@ snoc_of (x ∷ []) some = ([], x, refl)
 snoc_of (x ∷ y ∷ l) some = let r = snoc_of (y ∷ l) (omega arith) in (x ∷ r.0, r.1, ap (λ t. x ∷ t) r.2)
 
 no_text_false : (c : Conversion) (l : List ℕ) (b : Bool) → is_begun c l ≡ b → (Begins c l → ⊥) → b ≡ false
-no_text_false c l true is h = absurd (h ((begun_by_test c l).0 is))
-no_text_false c l false is h = refl
+no_text_false c l b is h = grind (arith, begun_by_test)
 
 module _ (column : ℕ) (last : Bool) (c : Conversion) (state : ℕ → List ℕ → CellPart) (Good : List ℕ → Type 0) (n : ℕ) (holds : HoldsContent column c state Good n) where
   pub text_at : (r : ℕ) (d : List ℕ) → cell_so_far column last (state (suc r) d) ≡ behind_comma column (open_field c d)
-  text_at r d = open_part column last (state (suc r) d) (omega (arith, holds.size r d)) ∙ ap (opened column) (holds.text r d)
+  text_at r d = sym (opened_text column last (state (suc r) d) (omega (arith, holds.size r d))) ∙ ap (opened column) (holds.text r d)
 
   -- the bytes of some content are elements
   pub content_spelt : (d bytes : List ℕ) (m r : ℕ) → m ≡ length bytes + r → Begins c (d ++ bytes) → (r ≡ 0 → 0 < length bytes → Good (d ++ bytes)) → Spelt (cell column) (state m d) bytes (state r (d ++ bytes))
-  content_spelt d [] m r is begun good =
-      let same : m ≡ r = omega (arith, is) in
-      subst (λ (k : ℕ). Spelt (cell column) (state m d) [] (state k (d ++ []))) same (subst (λ l. Spelt (cell column) (state m d) [] (state m l)) (sym (append-nil d)) (Spelt-none (cell column) (state m d)))
+  content_spelt d [] m r is begun good = grind (arith, Spelt-none, append-nil)
   content_spelt d (x ∷ xs) m r is begun good =
       let k : ℕ = length xs + r in
       let next : m ≡ suc k = omega (arith, is) in
@@ -141,16 +90,12 @@ module _ (column : ℕ) (last : Bool) (c : Conversion) (state : ℕ → List ℕ
       let more_begun : Begins c ((d ++ x ∷ []) ++ xs) = subst (Begins c) regroup begun in
       let begun_one : Begins c (d ++ x ∷ []) = (joins_by_name c).front (d ++ x ∷ []) xs more_begun in
       let good_one : k ≡ 0 → Good (d ++ x ∷ []) = λ none.
-      let empty : xs ≡ [] = nothing xs (omega (arith, none)) in
+      let empty : xs ≡ [] = nil_of_length xs (omega (arith, none)) in
       subst (λ l. Good (d ++ x ∷ l)) empty (good (omega (arith, none)) (omega arith)) in
       let one : Spelt (cell column) (state (suc k) d) (x ∷ []) (state k (d ++ x ∷ [])) = Spelt-step (cell column) (state (suc k) d) (x ∷ []) (state k (d ++ x ∷ [])) (omega arith) (sym (holds.size k d)) (holds.free k d x ((begun_by_test c (d ++ x ∷ [])).1 begun_one) good_one) (holds.add k d x) in
       let more : Spelt (cell column) (state k (d ++ x ∷ [])) xs (state r ((d ++ x ∷ []) ++ xs)) = content_spelt (d ++ x ∷ []) xs k r refl more_begun (λ none some. subst Good regroup (good none (omega arith))) in
       subst (λ (j : ℕ). Spelt (cell column) (state j d) (x ∷ xs) (state r (d ++ x ∷ xs))) (sym next)
       (subst (λ l. Spelt (cell column) (state (suc k) d) (x ∷ xs) (state r l)) (append_assoc d (x ∷ []) xs) (Spelt-append (cell column) (state (suc k) d) (x ∷ []) (state k (d ++ x ∷ [])) xs (state r ((d ++ x ∷ []) ++ xs)) one more))
-    where
-      nothing : (l : List ℕ) → length l ≡ 0 → l ≡ []
-      nothing [] e = refl
-      nothing (y ∷ l) e = absurd (omega (arith, e))
 
   -- what some content adds to the open field
   text_more : (d more : List ℕ) → Begins c (d ++ more) → behind_comma column (open_field c d) ++ added_text c d more ≡ behind_comma column (open_field c (d ++ more))
@@ -232,7 +177,7 @@ module _ (column : ℕ) (last : Bool) (c : Conversion) (state : ℕ → List ℕ
     broken : (good ahead added : List ℕ) (to : CellPart) (stop : Stop) → Spelt (cell column) (state (suc r) d) good to → Takes a b (good ++ ahead) 1 → IsBetween b → cell_so_far column last (state (suc r) d) ++ added ≡ cell_so_far column last to → Breaks h i added stop
         → StopsStreaming (cell column) (cell_so_far column last) (state (suc r) d) a b place h i true stop
     broken good ahead added to stop spelt takes between text_is breaks =
-        let x = breaks_somewhere (cell column) (cell_so_far column last) (cell_text_grows column last) (state (suc r) d) a b h i stop between to good ahead added spelt takes few delivered text_is breaks in
+        let x = breaks_somewhere (cell column) (cell_so_far column last) (line_grows column last) (state (suc r) d) a b h i stop between to good ahead added spelt takes few delivered text_is breaks in
         record { at = x.0; cause = inr (x.1, refl) }
 
     piece_broken_before : (stop : Stop) (x : BreaksData c d (suc r) a b h i stop) → length x.good < suc r → StopsStreaming (cell column) (cell_so_far column last) (state (suc r) d) a b place h i true stop
@@ -273,13 +218,7 @@ module _ (column : ℕ) (last : Bool) (c : Conversion) (state : ℕ → List ℕ
 
     -- the next piece stopped
     pub piece_stops : (failed : Bool) (stop : Stop) → StopsData c d column (suc r) a b place h i failed stop → StopsStreaming (cell column) (cell_so_far column last) (state (suc r) d) a b place h i failed stop
-    piece_stops failed stop x =
-        let at = StopsStreaming (cell column) (cell_so_far column last) (state (suc r) d) a b place h i in
-        elim x [
-          | inl y ↦ subst (λ f. at f stop) (sym y.1) (piece_cut stop y.0)
-          | inr (inl y) ↦ subst (λ f. at f stop) (sym y.1) (piece_refused stop y.0)
-          | inr (inr y) ↦ subst (λ f. at f stop) (sym y.1) (piece_broken stop y.0)
-        ]
+    piece_stops failed stop x = grind (arith, piece_broken, piece_cut, piece_refused)
 
   -- the content stopped in one of its pieces
   pub filling_stops : (d : List ℕ) (m : ℕ) (a b : Seen) (place : ℕ) (h i : Held) (failed : Bool) (stop : Stop) → StopsFilling c d column m a b place h i failed stop
@@ -291,11 +230,8 @@ module _ (column : ℕ) (last : Bool) (c : Conversion) (state : ℕ → List ℕ
       let there : x.there ≡ place + length x.front = x.fills.place_is in
       let left : m - length x.front ≡ suc r = omega (arith, fewer) in
       let stops : StopsData c (d ++ x.front) column (suc r) x.middle b (place + length x.front) x.between i failed stop =
-      subst (λ (k : ℕ). StopsData c (d ++ x.front) column k x.middle b (place + length x.front) x.between i failed stop) left
-      (subst (λ (k : ℕ). StopsData c (d ++ x.front) column (m - length x.front) x.middle b k x.between i failed stop) there x.stops) in
-      streaming_after (cell column) (cell_so_far column last) (state m d) (state (suc r) (d ++ x.front)) a x.middle b h x.between i place failed stop
-      (fills_streams d x.front m r a x.middle place x.there h x.between split x.fills)
-      (piece_stops (d ++ x.front) r x.middle b (place + length x.front) x.between i x.fills.few x.fills.delivered failed stop stops)
+      rw left at (rw there at x.stops) in
+      streaming_after _ _ _ _ a _ b h _ i _ _ _ (fills_streams d _ m _ a _ _ _ h _ split x.fills) (piece_stops _ _ _ b _ _ i x.fills.few x.fills.delivered _ _ stops)
 
   -- ---- the last piece
 
@@ -326,12 +262,11 @@ module _ (column : ℕ) (last : Bool) (c : Conversion) (state : ℕ → List ℕ
     abbrev pub ends_streams : (j : Held) (tail : List ℕ) → Good all_content → behind_comma column (open_field c all_content) ++ tail ≡ cell_so_far column last (state 0 all_content) → Puts i j tail
         → Streams (cell column) (cell_so_far column last) (state m d) a b h j (state 0 all_content)
     ends_streams j tail good whole puts =
-        streams_both (cell column) (cell_so_far column last) (state m d) (state (suc last_left) (d ++ x.front)) (state 0 all_content) a x.middle b h x.between j front_streams
-        (record {
+        streams_both _ _ _ _ _ a _ b h _ j front_streams (record {
           bytes = x.takes.piece;
           spelt = last_spelt good;
-          takes = Takes-more x.middle b x.takes.piece 1 (length x.takes.piece) (let some : 0 < x.last = x.takes.some in omega (arith, some, x.takes.counted)) x.takes.takes;
-          puts = (added_text c (d ++ x.front) x.takes.piece ++ tail, last_text tail whole, Puts-trans x.between i j (added_text c (d ++ x.front) x.takes.piece) tail x.takes.puts puts);
+          takes = Takes-more x.middle b _ 1 _ (let some : 0 < x.last = x.takes.some in omega (arith, some, x.takes.counted)) x.takes.takes;
+          puts = (added_text c (d ++ x.front) x.takes.piece ++ tail, last_text _ whole, Puts-trans _ i j _ _ x.takes.puts puts);
         })
 
     -- a write of what ends it failed
@@ -339,9 +274,8 @@ module _ (column : ℕ) (last : Bool) (c : Conversion) (state : ℕ → List ℕ
         → StopsStreaming (cell column) (cell_so_far column last) (state m d) a b place h j true stop
     ends_break j p q stop good whole breaks =
         let taken : Takes x.middle b (x.takes.piece ++ []) 1 = subst (λ l. Takes x.middle b l 1) (sym (append-nil x.takes.piece)) x.takes.takes in
-        streaming_after (cell column) (cell_so_far column last) (state m d) (state (suc last_left) (d ++ x.front)) a x.middle b h x.between j place true stop front_streams
-        (broken (d ++ x.front) last_left x.middle b (place + length x.front) x.between j x.fills.few x.fills.delivered x.takes.piece [] (added_text c (d ++ x.front) x.takes.piece ++ (p ++ q)) (state 0 all_content) stop (last_spelt good) taken x.takes.between
-        (last_text (p ++ q) whole) (Breaks-after x.between i j (added_text c (d ++ x.front) x.takes.piece) (p ++ q) stop x.takes.puts (Breaks-longer i j p q stop breaks)))
+        streaming_after _ _ _ _ a _ b h _ j _ _ _ front_streams (broken _ _ _ b _ _ j x.fills.few x.fills.delivered _ [] _ _ _ (last_spelt good) taken x.takes.between
+        (last_text _ whole) (Breaks-after _ i j _ _ _ x.takes.puts (Breaks-longer i j p q _ breaks)))
 
     -- where the content isn't whole, its last byte is refused
     pub ends_refused : ((e : List ℕ) (y : ℕ) → is_fit c (e ++ y ∷ []) ≡ false → cell_fault column (state 1 e) (y ∷ []) ≡ Some (BadText column)) → is_fit c all_content ≡ false
@@ -390,21 +324,16 @@ module _ (column : ℕ) (last : Bool) (c : Conversion) (state : ℕ → List ℕ
 
 module _ (column : ℕ) (c : Conversion) where
   short_free : (r : ℕ) (d : List ℕ) (x : ℕ) → is_begun c (d ++ x ∷ []) ≡ true → (r ≡ 0 → is_fit c (d ++ x ∷ []) ≡ true) → (is_begun c (d ++ x ∷ []) && (nat_lt 0 r || is_fit c (d ++ x ∷ []))) ≡ true
-  short_free zero d x begun fit = and_from (is_begun c (d ++ x ∷ [])) (nat_lt 0 0 || is_fit c (d ++ x ∷ [])) begun (or_right (nat_lt 0 0) (is_fit c (d ++ x ∷ [])) (fit refl))
-  short_free (suc r) d x begun fit = and_from (is_begun c (d ++ x ∷ [])) (nat_lt 0 (suc r) || is_fit c (d ++ x ∷ [])) begun (or_left (nat_lt 0 (suc r)) (is_fit c (d ++ x ∷ [])) (test_lt 0 (suc r) (omega arith)))
+  short_free r d x begun fit = grind (arith, and_from, or_left, or_right, test_lt)
 
   no_begun : (b k : Bool) → b ≡ false → unless (b && k) (BadText column) ≡ Some (BadText column)
-  no_begun true k h = cc
-  no_begun false k h = refl
+  no_begun b k h = rw h
 
   no_fit : (b k : Bool) → k ≡ false → unless (b && (nat_lt 0 0 || k)) (BadText column) ≡ Some (BadText column)
-  no_fit true true h = cc
-  no_fit true false h = refl
-  no_fit false k h = refl
+  no_fit b k h = grind arith
 
   fit_or_none : (d : List ℕ) (x : ℕ) (b : Bool) → is_fit c (d ++ x ∷ []) ≡ b → (is_fit c (d ++ x ∷ []) ≡ true) ⊎ (emit (conversion_rest c) (conversion_text c) (d ++ x ∷ []) ≡ emit (conversion_rest c) (conversion_text c) d)
-  fit_or_none d x true is = inl is
-  fit_or_none d x false is = inr (unfit_adds_none c d x is)
+  fit_or_none d x b is = grind (arith, unfit_adds_none)
 
   -- the end of a value that is whole
   pub ending_text : (last : Bool) (d : List ℕ) → is_fit c d ≡ true → behind_comma column (open_field c d) ++ ending c (is_quoted c) last d ≡ in_line column last (long_field c d)
@@ -431,17 +360,7 @@ module _ (column : ℕ) (c : Conversion) where
   short_refused e y unfit = ap (λ s. cell_fault column s (y ∷ [])) (short_next c 0 e) ∙ no_fit (is_begun c (e ++ y ∷ [])) (is_fit c (e ++ y ∷ [])) unfit
 
   begun_or : (b : Bool) → b ≡ false → unless b (BadText column) ≡ Some (BadText column)
-  begun_or true h = cc
-  begun_or false h = refl
+  begun_or b h = rw h
 
   pub chunk_holds : (total : Option ℕ) (n : ℕ) → HoldsContent column c (chunk_left c total) (λ _. Unit {0}) n
-  chunk_holds total n = record {
-    size = λ r d. ap cell_size (chunk_next c total r d);
-    end = λ r d. ap cell_end (chunk_next c total r d);
-    text = λ r d. ap field_so_far (chunk_next c total r d);
-    add = λ r d x. ap (λ s. cell_add s (x ∷ [])) (chunk_next c total r d);
-    free = λ r d x begun fit. ap (λ s. cell_fault column s (x ∷ [])) (chunk_next c total r d) ∙ unless_true (is_begun c (d ++ x ∷ [])) (BadText column) begun;
-    bad = λ r d x no. ap (λ s. cell_fault column s (x ∷ [])) (chunk_next c total r d) ∙ begun_or (is_begun c (d ++ x ∷ [])) no;
-    ends = λ d x. inl tt;
-    whole = λ last d _. ([], append-nil (behind_comma column (open_field c d)));
-  }
+  chunk_holds total n = grind (arith, append-nil, begun_or, chunk_next, unless_true)

@@ -1,16 +1,16 @@
 -- Long values, element after element: their lengths, the content between, and the end.
 use Rattle.std.proofs.Common.{◌≡◌, ◌≢◌, ◌∙◌, ◌⊎◌, inl, inr, ℕ, zero, suc, ◌+◌, ◌-◌, ◌%◌, ◌^◌, ◌<◌, ◌≤◌, Bool, true, false, List, [], ◌∷◌, ◌++◌, length, refl, sym, ap, subst, arith, append-nil, length-append}
-use Rattle.std.specs.Prelude.{Option, Some, None, Result, Ok, Err, MatchResult, ◌==◌, ◌||◌, if◌then◌else◌}
+use Rattle.std.specs.Prelude.{Option, Some, None, Result, Ok, Err, MatchResult, ◌==◌, ◌||◌}
 use Rattle.std.proofs.Math.Seq.{drop-nil, take-nil}
 use Rattle.std.proofs.lemmas.Bool.{ne_eqb}
 use Rattle.tds_values.specs.Numbers.{little}
 use Rattle.tds_packet.specs.declared.fault.Fault.{Fault}
-use Rattle.tds_packet.specs.declared.fault.Fault.TheVariants.{BadText, MessageEnded, OddText}
+use Rattle.tds_packet.specs.declared.fault.Fault.TheVariants.{MessageEnded, OddText}
 use Rattle.tds_packet.specs.declared.fault.Place.TheVariants.{Payload}
 use Rattle.tds_packet.specs.declared.fault.Stop.{Stop}
 use Rattle.tds_packet.specs.Elements.{IsNext, Spelt}
 use Rattle.tds_packet.specs.Seen.{Seen}
-use Rattle.tds_packet.proofs.Choices.{choose_false, choose_true, eq_false, eq_true}
+use Rattle.tds_packet.proofs.Choices.{choose_false, choose_true}
 use Rattle.tds_packet.proofs.ElementLaws.{Spelt-one}
 use Rattle.tds_packet.proofs.Steps.{began_is_cut, cut_at_once, refused_at_once}
 use Rattle.tds_csv.specs.Conversion.{Begins, Conversion, HexDigits, IsFit, Utf16Text, Utf8Text, Windows1252Text, conversion_rest, conversion_text, is_fit, is_quoted, open_field, unit}
@@ -29,20 +29,15 @@ use Rattle.tds_rows.specs.CellSteps.{PutsField, StopsField, cell_so_far}
 use Rattle.tds_rows.specs.LongCells.{CutsNumber, EndsData, ReadsNumber, RefusesNumber, StopsEnding, StopsFilling, ending, opening, short_fault, short_length, total_of}
 use Rattle.tds_rows.specs.PassedCells.{short_left}
 use Rattle.tds_rows.proofs.LongSteps.{element_breaks, ending_text, ends_break, ends_refused, ends_streams, all_content, filling_stops, short_holds, short_refused, text_at}
+use Rattle.std.proofs.lemmas.Bool.Decides.{nat_tests}
 
 -- ---- no content
 
 text_none : (c : Conversion) → conversion_text c [] ≡ []
-text_none HexDigits = hex-nil
-text_none Utf16Text = text_nil
-text_none Windows1252Text = refl
-text_none Utf8Text = refl
+text_none c = grind (arith, hex-nil, text_nil)
 
 pub rest_none : (c : Conversion) → conversion_rest c [] ≡ []
-rest_none HexDigits = refl
-rest_none Utf16Text = refl
-rest_none Windows1252Text = refl
-rest_none Utf8Text = drop-nil _
+rest_none c = grind (arith, drop-nil)
 
 emit_none : (c : Conversion) → emit (conversion_rest c) (conversion_text c) [] ≡ []
 emit_none c = ap (conversion_text c) (take-nil (length {A = ℕ} [] - length (conversion_rest c []))) ∙ text_none c
@@ -68,8 +63,7 @@ module _ (column : ℕ) (last : Bool) where
   }
 
   pub field_stops : (s t : CellPart) (a b d : Seen) (place middle : ℕ) (h i j : Held) (failed : Bool) (stop : Stop) → (x : Streams (cell column) (cell_so_far column last) s a b h i t) → middle ≡ place + length x.bytes → StopsField t column last b d middle i j failed stop → StopsField s column last a d place h j failed stop
-  field_stops s t a b d place middle h i j failed stop x at y =
-      streaming_after (cell column) (cell_so_far column last) s t a b d h i j place failed stop x (subst (λ (k : ℕ). StopsField t column last b d k i j failed stop) at y)
+  field_stops s t a b d place middle h i j failed stop x at y = streaming_after _ _ s t a b d h i j _ _ _ x (subst (λ (k : ℕ). StopsField t column last b d k i j failed stop) at y)
 
   -- an element was cut
   pub number_cut : (s : CellPart) (size : ℕ) (a b : Seen) (place : ℕ) (h : Held) (failed : Bool) (stop : Stop) → cell_size s ≡ size → cell_end s ≡ Some MessageEnded → h.delivered ≤ 2 ^ 64 - 1 → failed ≡ false → CutsNumber size a b place stop → StopsField s column last a b place h h failed stop
@@ -149,38 +143,21 @@ module _ (column : ℕ) (last : Bool) where
       (ap (λ l. l ++ (in_line column last null_field ++ [])) silent ∙ append-nil (in_line column last null_field)) (puts.gives going)
 
 pub not_fit : (c : Conversion) (l : List ℕ) (b : Bool) → is_fit c l ≡ b → (IsFit c l → ⊥) → b ≡ false
-not_fit c l true is h = absurd (h ((fit_by_test c l).0 is))
-not_fit c l false is h = refl
+not_fit c l b is h = grind (arith, fit_by_test)
 
 -- ---- what numbers stand for
 
 pub short_none : (n : ℕ) → None ≡ short_length n → n ≡ 0xFFFF
-short_none n h = go (n == 0xFFFF) refl h
-  where
-    go : (b : Bool) → (n == 0xFFFF) ≡ b → None ≡ (if b then None else Some n) → n ≡ 0xFFFF
-    go true e f = eq_true n 0xFFFF e
-    go false e f = cc
+short_none n h = grind (arith, nat_tests)
 
 pub short_some : (n k : ℕ) → Some k ≡ short_length n → (n ≡ k) × (n ≢ 0xFFFF)
-short_some n k h = go (n == 0xFFFF) refl h
-  where
-    go : (b : Bool) → (n == 0xFFFF) ≡ b → Some k ≡ (if b then None else Some n) → (n ≡ k) × (n ≢ 0xFFFF)
-    go true e f = cc
-    go false e f = (cc, eq_false n 0xFFFF e)
+short_some n k h = (grind (arith, nat_tests), λ e. grind (arith, nat_tests))
 
 pub total_null : (n : ℕ) → None ≡ total_of n → n ≡ null_total
-total_null n h = go (n == null_total) refl h
-  where
-    go : (b : Bool) → (n == null_total) ≡ b → None ≡ (if b then None else Some (known_total n)) → n ≡ null_total
-    go true e f = eq_true n null_total e
-    go false e f = cc
+total_null n h = grind (arith, nat_tests)
 
 pub total_some : (n : ℕ) (t : Option ℕ) → Some t ≡ total_of n → (n ≢ null_total) × (known_total n ≡ t)
-total_some n t h = go (n == null_total) refl h
-  where
-    go : (b : Bool) → (n == null_total) ≡ b → Some t ≡ (if b then None else Some (known_total n)) → (n ≢ null_total) × (known_total n ≡ t)
-    go true e f = cc
-    go false e f = (eq_false n null_total e, cc)
+total_some n t h = (λ e. grind (arith, nat_tests), grind (arith, nat_tests))
 
 -- ---- short values
 
@@ -196,8 +173,7 @@ module _ (column : ℕ) (last : Bool) (c : Conversion) (size : ℕ) (unit_is : s
 
   -- the text that comes with the length
   pub short_open : (n : ℕ) → 0 < n → behind_comma column (opening (is_quoted c)) ≡ cell_so_far column last (short_left c n [])
-  short_open zero some = absurd (omega (arith, some))
-  short_open (suc n) some = ap (behind_comma column) (open_none c) ∙ sym (text_at column last c (short_left c) (λ d. is_fit c d ≡ true) 0 (short_holds column c 0) n [])
+  short_open n some = grind (arith, open_none, short_holds, text_at)
 
   pub empty_open : behind_comma column (opening (is_quoted c)) ++ ending c (is_quoted c) last [] ≡ cell_so_far column last (short_left c 0 [])
   empty_open = ap (λ l. behind_comma column l ++ ending c (is_quoted c) last []) (open_none c) ∙ ending_text column c last [] (no_data_is_fit c)
@@ -223,8 +199,7 @@ module _ (column : ℕ) (last : Bool) (c : Conversion) (size : ℕ) (unit_is : s
     -- the value has no bytes, and its end was put
     pub empty_puts : (h i j : Held) → n ≡ 0 → Puts h i (behind_comma column (opening (is_quoted c))) → Puts i j (ending c (is_quoted c) last []) → PutsField (ShortLength c) column last a b place place' h j
     empty_puts h i j none first then_puts =
-        number_whole column last (ShortLength c) 2 a b place place' n (omega arith) refl x fault_free (DataCell c []) (to_here ∙ ap (λ (k : ℕ). short_left c k []) none) h j (behind_comma column (opening (is_quoted c)) ++ ending c (is_quoted c) last []) empty_open
-        (Puts-trans h i j (behind_comma column (opening (is_quoted c))) (ending c (is_quoted c) last []) first then_puts)
+        number_whole _ _ _ 2 a b _ _ n (omega arith) refl x fault_free _ (to_here ∙ ap (λ (k : ℕ). short_left c k []) none) h j _ empty_open (Puts-trans h i j _ _ first then_puts)
 
     -- a write of its end failed
     pub empty_stops : (h i j : Held) (failed : Bool) (stop : Stop) (there : ℕ) → length h.waiting < 4096 → h.delivered ≤ 2 ^ 64 - 1 → n ≡ 0 → Puts h i (behind_comma column (opening (is_quoted c))) → StopsEnding c (is_quoted c) last [] column there i j failed stop
@@ -241,8 +216,7 @@ module _ (column : ℕ) (last : Bool) (c : Conversion) (size : ℕ) (unit_is : s
       short_open_text = short_open n bytes
 
       then_stops_to : (k : Held) (failed : Bool) (stop : Stop) → StopsField (short_left c n []) column last b d place' i k failed stop → StopsField (ShortLength c) column last a d place h k failed stop
-      then_stops_to k failed stop y =
-          number_then_stops column last (ShortLength c) 2 a b place place' n (omega arith) refl x fault_free (short_left c n []) to_here d h i k (behind_comma column (opening (is_quoted c))) failed stop short_open_text opened y
+      then_stops_to k failed stop y = number_then_stops _ _ _ 2 a b _ _ n (omega arith) refl x fault_free _ to_here d h i k _ _ _ short_open_text opened y
 
       -- the content stopped
       pub short_data_stops : (failed : Bool) (stop : Stop) → StopsFilling c [] column n b d place' i j failed stop → StopsField (ShortLength c) column last a d place h j failed stop
@@ -267,13 +241,11 @@ module _ (column : ℕ) (last : Bool) (c : Conversion) (size : ℕ) (unit_is : s
             let tail = ending c (is_quoted c) last short_all in
             let broken = ends_break column last c (short_left c) (λ l. is_fit c l ≡ true) n (short_holds column c n) [] kept n b d place' place'' i j y k tail [] stop good
             (ap (λ l. behind_comma column (open_field c short_all) ++ l) (append-nil tail) ∙ ending_text column c last short_all good) z.1 in
-            then_stops_to k failed stop (subst (λ f. StopsField (short_left c n []) column last b d place' i k f stop) (sym z.2) broken)
+            then_stops_to k failed stop (rw (sym z.2) at broken)
         short_end_stops failed stop (inr z) =
             let unfit : is_fit c short_all ≡ false = not_fit c short_all (is_fit c short_all) refl z.0 in
             let refused = ends_refused column last c (short_left c) (λ l. is_fit c l ≡ true) n (short_holds column c n) [] kept n b d place' place'' i j y (short_refused column c) unfit in
-            then_stops_to k failed stop
-            (subst (λ f. StopsField (short_left c n []) column last b d place' i k f stop) (sym z.3) (subst (λ t. StopsField (short_left c n []) column last b d place' i k false t) (sym z.2)
-            (subst (λ m. StopsField (short_left c n []) column last b d place' i m false (record { fault = BadText column; place = Payload (place'' - 1) })) (sym z.1) refused)))
+            then_stops_to k failed stop (rw (sym z.3) at (rw (sym z.2) at (rw (sym z.1) at refused)))
 
 -- the length of a short value was refused, or is cut
 pub short_length_stops : (column : ℕ) (last : Bool) (c : Conversion) (size : ℕ) → size ≡ unit c → (a b : Seen) (place : ℕ) (h : Held) (failed : Bool) (stop : Stop) → h.delivered ≤ 2 ^ 64 - 1 → failed ≡ false
@@ -289,13 +261,7 @@ pub record ReadsShort (column size : ℕ) (a b : Seen) (place place' k : ℕ) : 
   pub some : k ≢ 0xFFFF
 
 pub short_read : (column size : ℕ) (a b : Seen) (place place' k : ℕ) (answer : Option ℕ) → ((n : ℕ) × ReadsNumber 2 a b place place' n × (short_fault column size n ≡ None) × (answer ≡ short_length n)) → answer ≡ Some k → ReadsShort column size a b place place' k
-short_read column size a b place place' k answer x is =
-    let y = short_some x.0 k (sym is ∙ x.3) in
-    record {
-      reads = subst (λ (m : ℕ). ReadsNumber 2 a b place place' m) y.0 x.1;
-      free = subst (λ (m : ℕ). short_fault column size m ≡ None) y.0 x.2;
-      some = λ e. y.1 (y.0 ∙ e);
-    }
+short_read column size a b place place' k answer x is = grind (arith, short_some)
 
 -- a length was read that is NULL's
 pub short_null_puts : {W U : Type 0} (contents : W → Option (List ℕ)) (column : ℕ) (last : Bool) (c : Conversion) (size : ℕ) → size ≡ unit c → (a b : Seen) (place place' : ℕ) (answer : Option ℕ)

@@ -76,8 +76,7 @@ takes_apart a b front rest p between =
     let m : Seen = record { left = b.left; future = λ zs. before rest (b.future zs); wire = b.wire; failures = b.failures } in
     let f : Coming → List ℕ → Coming = λ c l. record { bytes = l; stop = c.stop; rest = c.rest } in
     let first : Takes a m front 0 = (p.0, (p.1.0, λ zs. p.1.1 zs ∙ ap (f (b.future zs)) (append_assoc front rest (b.future zs).bytes)), p.2, p.3, p.4) in
-    let second : Takes m b rest 0 = ([], (Consumes-nil b.left, λ zs. refl), sym (add-zero b.wire), (λ j lt. absurd (omega (arith, lt))), Stays-none b.failures) in
-    (m, first, second, between)
+    (m, first, ([], (Consumes-nil b.left, λ zs. refl), sym (add-zero b.wire), (λ j lt. absurd (omega (arith, lt))), Stays-none b.failures), between)
 
 -- nothing more was read
 nears_onward : (charset : Charset) (start : RowPart) (left : List (Column × Bool)) (a b d : Seen) (place middle : ℕ) (h i : Held) (column : ℕ) → Takes b d [] 0 → IsBetween d → NearsCells charset start left a b place middle h i column → NearsCells charset start left a d place middle h i column
@@ -164,7 +163,4 @@ module _ (charset : Charset) (start : RowPart) (columns : List Column) (nulls : 
 pub run_nears : (table : Table) (columns : List Column) (nulls : ℕ → Bool) (from to : Ahead) (charset : Charset) (start : RowPart) (a b d : Seen) (place middle place' : ℕ) (h i j : Held) → table.charset ≡ charset → PutsMarked table columns nulls from to b d middle place' i j
     → IsBetween d → length j.waiting < 4096 → i.delivered ≤ 2 ^ 64 - 1 → NearsCells charset start (marked (drop from.column columns) nulls from.column) a b place middle h i from.column
     → NearsCells charset start (marked (drop to.column columns) nulls to.column) a d place place' h j to.column
-run_nears table columns nulls from to charset start a b d place middle place' h i j set x between few delivered near =
-    let writes = subst (λ (s : Charset). WritesMarked s columns nulls from.column x.runs.count x.bytes x.text) set x.runs.writes in
-    subst (λ (k : ℕ). NearsCells charset start (marked (drop k columns) nulls k) a d place place' h j k) (sym x.runs.further)
-    (marked_nears charset start columns nulls a place h from.column x.runs.count b d middle place' i j x.bytes x.text writes x.takes between x.puts few delivered x.place_is near)
+run_nears table columns nulls from to charset start a b d place middle place' h i j set x between few delivered near = grind (arith, marked_nears)

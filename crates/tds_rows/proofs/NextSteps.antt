@@ -1,5 +1,5 @@
 -- The next cell of an NBCROW, NULL or not, as it is put after a run.
-use Rattle.std.proofs.Common.{◌≡◌, ◌∙◌, ◌+◌, ℕ, Bool, true, false, List, ◌∷◌, drop, refl, sym, subst}
+use Rattle.std.proofs.Common.{arith, ◌≡◌, ◌∙◌, ◌+◌, ℕ, Bool, true, false, List, ◌∷◌, drop, refl, sym, subst}
 use Rattle.std.specs.Prelude.{Err, Ok, Option}
 use Rattle.tds_values.specs.declared.kind.Kind.{Kind}
 use Rattle.tds_packet.specs.declared.fault.Stop.{Stop}
@@ -8,7 +8,7 @@ use Rattle.tds_packet.specs.Seen.{Seen}
 use Rattle.tds_packet.proofs.PayloadLaws.{between_of}
 use Rattle.tds_columns.specs.Description.{Column}
 use Rattle.tds_csv.specs.Quoting.{in_line, null_field}
-use Rattle.tds_csv.specs.Sinks.{Breaks, Held, Puts, held}
+use Rattle.tds_csv.specs.Sinks.{Breaks, Held, held}
 use Rattle.tds_rows.specs.declared.reading.Rows.{Rows}
 use Rattle.tds_rows.specs.declared.table.Ahead.{Ahead}
 use Rattle.tds_rows.specs.CellSteps.{PutsCell, StopsCell, is_last}
@@ -30,9 +30,7 @@ pub run_near : {R W : Type 0} (remaining : R → Option (List ℕ)) (contents : 
     → NearsCells new.table.now.charset start (marked (drop to.column columns) nulls to.column) a (seen remaining new.payload.now) place new.payload.now.place h (held contents new.sink.now) to.column
 run_near remaining contents old new columns nulls from to start a place h x kept put near =
     let sink = kept.in_row.sink in
-    subst (λ t. NearsCells t.now.charset start (marked (drop to.column columns) nulls to.column) a (seen remaining new.payload.now) place new.payload.now.place h (held contents new.sink.now) to.column) (sym kept.same.3)
-    (run_nears old.table.now columns nulls from to old.table.now.charset start a (seen remaining old.payload.now) (seen remaining new.payload.now) place old.payload.now.place new.payload.now.place h (held contents old.sink.now) (held contents new.sink.now) refl put
-    (between_of remaining new.payload.now kept.in_row.payload.going) (sink.ready.1 sink.writing) x.sink.ready.2 near)
+    rw (sym kept.same.3) at (run_nears _ _ _ _ to _ _ a _ _ _ _ _ h _ _ refl put (between_of remaining new.payload.now kept.in_row.payload.going) (sink.ready.1 sink.writing) x.sink.ready.2 near)
 
 module _ {R W : Type 0} (remaining : R → Option (List ℕ)) (contents : W → Option (List ℕ)) (old new : Rows R W) (columns left : List Column) (c : Column) (nulls : ℕ → Bool) (at : Ahead) (kind : Kind) (start : RowPart)
     (a : Seen) (place : ℕ) (h : Held) (in_row : IsInRow old) (knows : Knows old.table.now columns) (ahead : IsAhead old.table.now columns at) (next : drop at.column columns ≡ c ∷ left) (is : kind ≡ c.kind) where
@@ -54,26 +52,20 @@ module _ {R W : Type 0} (remaining : R → Option (List ℕ)) (contents : W → 
   pub next_nears : {U : Type 0} (u : U) (null : Bool) → NearsCells old.table.now.charset start ((c, null) ∷ marked left nulls (at.column + 1)) a b place old.payload.now.place h i at.column
       → LeavesRows old new (Ok u) → NextRead remaining contents at kind null old new (Ok u)
       → NearsCells old.table.now.charset start (marked left nulls (at.column + 1)) a d place new.payload.now.place h j (at.column + 1)
-  next_nears u true x leaves y =
-      let last = last_one columns left c at.column old.table.now.count knows.counted next ∙ ends_marked left nulls (at.column + 1) in
-      let puts = subst (λ (e : Bool). Puts i j (in_line at.column e null_field)) last y.1.gives in
-      subst (λ p. NearsCells old.table.now.charset start (marked left nulls (at.column + 1)) a (seen remaining p) place p.place h j (at.column + 1)) (sym y.0)
-      (null_nears old.table.now.charset start c (marked left nulls (at.column + 1)) a b place old.payload.now.place h i at.column j x puts)
+  next_nears u true x leaves y = grind (arith, ends_marked, last_one, null_nears)
   next_nears u false x leaves y =
       let z = subst (λ (k : Kind). PutsCell old.table.now.charset k at.column (is_last left) b d old.payload.now.place new.payload.now.place i j) is (y (is_last left) is_next) in
-      let w = subst (λ (e : Bool). PutsCell old.table.now.charset c.kind at.column e b d old.payload.now.place new.payload.now.place i j) (ends_marked left nulls (at.column + 1)) z in
-      cell_nears old.table.now.charset start c (marked left nulls (at.column + 1)) a b d place old.payload.now.place h i j at.column in_row.sink.ready.2 new.payload.now.place
-      (between_of remaining new.payload.now leaves.payload.going) (leaves.sink.ready.1 leaves.sink.writing) x w
+      let w = subst (λ (e : Bool). PutsCell old.table.now.charset c.kind at.column e b d old.payload.now.place new.payload.now.place i j) (ends_marked _ _ _) z in
+      cell_nears _ _ c _ a b d _ _ h i j _ in_row.sink.ready.2 _ (between_of remaining new.payload.now leaves.payload.going) (leaves.sink.ready.1 leaves.sink.writing) x w
 
   pub next_stops : (U : Type 0) (stop : Stop) (null : Bool) → NearsCells old.table.now.charset start ((c, null) ∷ marked left nulls (at.column + 1)) a b place old.payload.now.place h i at.column
       → NextRead {U = U} remaining contents at kind null old new (Err stop) → RowStops old.table.now.charset start a d place h j new.sink.now.failed stop
   next_stops U stop true x y =
-      let last = last_one columns left c at.column old.table.now.count knows.counted next ∙ ends_marked left nulls (at.column + 1) in
+      let last = last_one _ _ c _ _ knows.counted next ∙ ends_marked _ _ _ in
       let breaks = subst (λ (e : Bool). Breaks i j (in_line at.column e null_field) stop) last (y.1.gives in_row.sink.writing) in
       subst (λ p. RowStops old.table.now.charset start a (seen remaining p) place h j new.sink.now.failed stop) (sym y.0)
-      (subst (λ (e : Bool). RowStops old.table.now.charset start a b place h j e stop) (sym y.1.failed)
-      (null_breaks old.table.now.charset start c (marked left nulls (at.column + 1)) a b place old.payload.now.place h i at.column j stop x breaks))
+      (subst (λ (e : Bool). RowStops old.table.now.charset start a b place h j e stop) (sym y.1.failed) (null_breaks _ _ c _ a b _ _ h i _ j _ x breaks))
   next_stops U stop false x y =
       let z = subst (λ (k : Kind). StopsCell old.table.now.charset k at.column (is_last left) b d old.payload.now.place i j new.sink.now.failed stop) is (y (is_last left) is_next) in
-      let w = subst (λ (e : Bool). StopsCell old.table.now.charset c.kind at.column e b d old.payload.now.place i j new.sink.now.failed stop) (ends_marked left nulls (at.column + 1)) z in
-      cell_stops_row old.table.now.charset start c (marked left nulls (at.column + 1)) a b d place old.payload.now.place h i j at.column in_row.sink.ready.2 new.sink.now.failed stop x w
+      let w = subst (λ (e : Bool). StopsCell old.table.now.charset c.kind at.column e b d old.payload.now.place i j new.sink.now.failed stop) (ends_marked _ _ _) z in
+      cell_stops_row _ _ c _ a b d _ _ h i j _ in_row.sink.ready.2 _ _ x w

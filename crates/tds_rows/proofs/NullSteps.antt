@@ -76,12 +76,11 @@ module _ (charset : Charset) (cells : List Cell) (ks : List (Column × Bool)) wh
       let is = cell_in_row charset cells ks in
       let begun = begun_text charset cells ks in
       let grows = line_grows (length cells) (ends ks) in
-      let end = same_end charset cells ks in
       record {
         at = up x.at;
         cause = elim x.cause [
           | inl y ↦ inl (
-            stops_inside small big up is from b d place x.at stop (end x.at (stops_size small from b d place x.at stop y.0)) y.0,
+            stops_inside small big up is from b d place x.at stop ((same_end charset cells ks) x.at (stops_size small from b d place x.at stop y.0)) y.0,
             (y.1.0, added_between small big up is text row_so_far front begun grows from x.at y.1.0 some (stops_size small from b d place x.at stop y.0) y.1.1, y.1.2),
             y.2,
           )
@@ -109,8 +108,7 @@ pub record NearsCells (charset : Charset) (start : RowPart) (left : List (Column
 -- the next column is left, and this is its bit
 pub next_left : (charset : Charset) (start : RowPart) (columns left : List Column) (c : Column) (nulls : ℕ → Bool) (null : Bool) (a b : Seen) (place middle : ℕ) (h i : Held) (n : ℕ) → drop n columns ≡ c ∷ left → nulls n ≡ null → NearsCells charset start (marked (drop n columns) nulls n) a b place middle h i n
     → NearsCells charset start ((c, null) ∷ marked left nulls (n + 1)) a b place middle h i n
-next_left charset start columns left c nulls null a b place middle h i n next is x =
-    subst (λ (e : Bool). NearsCells charset start ((c, e) ∷ marked left nulls (n + 1)) a b place middle h i n) is (subst (λ (r : List Column). NearsCells charset start (marked r nulls n) a b place middle h i n) next x)
+next_left charset start columns left c nulls null a b place middle h i n next is x = rw is at (rw next at x)
 
 -- some columns are left, so the line doesn't end there
 all_ahead : (charset : Charset) (columns : List Column) (nulls : ℕ → Bool) → 0 < length columns → nulls_ahead 0 (marked columns nulls 0) ≡ row_so_far (next_cell charset [] (marked columns nulls 0))
@@ -151,8 +149,7 @@ module _ (charset : Charset) (start : RowPart) (c : Column) (ks : List (Column �
   -- a write of it failed
   pub null_breaks : (j : Held) (stop : Stop) → NearsCells charset start ((c, true) ∷ ks) a b place middle h i column → Breaks i j (in_line column (ends ks) null_field) stop → RowStops charset start a b place h j true stop
   null_breaks j stop x breaks =
-      let tail = in_line column (ends ks) null_field ++ nulls_ahead (column + 1) ks in
-      let broken = nears_breaks (row charset) row_so_far start a b h i j (next_cell charset (x.cells ++ Null ∷ []) ks) tail (in_line column (ends ks) null_field) (nulls_ahead (column + 1) ks) stop x.nears refl breaks in
+      let broken = nears_breaks _ _ _ a b h i j _ _ _ _ _ x.nears refl breaks in
       record { at = broken.0; cause = inr (broken.1, refl) }
 
 -- no NULL by its bit is next, so all text was put
@@ -192,9 +189,8 @@ module _ (charset : Charset) (start : RowPart) (c : Column) (ks : List (Column �
   cell_stops_row failed stop x y =
       let z : StopsCell charset c.kind (length x.cells) (ends ks) b d middle i j failed stop = subst (λ (n : ℕ). StopsCell charset c.kind n (ends ks) b d middle i j failed stop) (sym x.counted) y in
       let begin = InCell x.cells (cell_start c.kind (shape charset c.kind)) ks in
-      let begun : Streams (row charset) row_so_far start a b h i begin = all_put charset start ((c, false) ∷ ks) a b place middle h i column refl delivered x in
-      streaming_after (row charset) row_so_far start begin a b d h i j place failed stop begun
-      (subst (λ (n : ℕ). RowStops charset begin b d n i j failed stop) x.place_is (marked_stops charset x.cells ks c b d middle i j failed stop z))
+      let begun : Streams (row charset) row_so_far start a b h i begin = all_put _ _ _ a b _ _ h i _ refl delivered x in
+      streaming_after _ _ _ _ a b d h i j _ _ _ begun (subst (λ (n : ℕ). RowStops charset begin b d n i j failed stop) x.place_is (marked_stops _ _ ks c b d _ i j _ _ z))
 
 -- after the last column
 pub row_ends : (charset : Charset) (start : RowPart) (a b : Seen) (place place' : ℕ) (h i : Held) (column : ℕ) → i.delivered ≤ 2 ^ 64 - 1 → NearsCells charset start [] a b place place' h i column → ReadsRow charset start a b place place' h i

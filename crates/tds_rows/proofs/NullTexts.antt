@@ -1,17 +1,16 @@
 -- Columns that are NULL by their bit: their text stands after that of the element that is read before them.
-use Rattle.std.proofs.Common.{◌≡◌, ◌∙◌, ℕ, ◌+◌, ◌<◌, Bool, true, false, List, [], ◌∷◌, ◌++◌, length, refl, sym, ap, subst, arith, append_assoc, append-nil, length-append}
+use Rattle.std.proofs.Common.{◌≡◌, ◌∙◌, ℕ, ◌+◌, ◌<◌, Bool, true, false, List, [], ◌∷◌, ◌++◌, length, sym, ap, arith, append_assoc, append-nil, length-append}
 use Rattle.std.specs.Prelude.{◌==◌, Option, Some, None, if◌then◌else◌, map}
 use Rattle.tds_values.specs.declared.kind.Kind.{Kind}
-use Rattle.tds_values.specs.declared.kind.Reach.TheVariants.{Short, Chunked}
 use Rattle.tds_packet.specs.Elements.{IsNext}
 use Rattle.tds_packet.proofs.Lifts.{next_some}
 use Rattle.tds_columns.specs.Description.{Column}
 use Rattle.tds_csv.specs.Conversion.{open_field}
 use Rattle.tds_csv.specs.Quoting.{behind_comma, end_behind, in_line, joined, line, null_field}
 use Rattle.tds_rows.specs.declared.Charset.{Charset}
-use Rattle.tds_rows.specs.Cells.{Cell, CellPart, ChunkData, ChunkLength, CountedShape, FixedShape, LongShape, Null, ScalarBytes, ScalarLength, Shape, ShortData, ShortLength, Total, WholeCell, cell, cell_add, cell_size, cell_start, field, field_so_far, shape}
+use Rattle.tds_rows.specs.Cells.{Cell, CellPart, ChunkData, ChunkLength, Null, Shape, ShortData, WholeCell, cell, cell_add, cell_size, cell_start, field, field_so_far}
 use Rattle.tds_rows.specs.CellSteps.{cell_so_far, is_last, opened}
-use Rattle.tds_rows.specs.Rows.{RowPart, marked, next_cell, row_so_far, with_cell, with_field}
+use Rattle.tds_rows.specs.Rows.{RowPart, marked, next_cell, row_so_far, with_cell}
 use Rattle.tds_rows.proofs.GrowingTexts.{Grows, OptionGrows, cell_grows, grows_all, grows_by, grows_same, grows_trans, grows_under}
 use Rattle.tds_rows.proofs.CellLaws.{HasBytes}
 use Rattle.tds_rows.proofs.RowSteps.{cell_more, fields_more, start_quiet}
@@ -23,8 +22,7 @@ ends (k ∷ ks) = false
 
 -- so it is where no column is left
 pub ends_marked : (columns : List Column) (nulls : ℕ → Bool) (n : ℕ) → is_last columns ≡ ends (marked columns nulls n)
-ends_marked [] nulls n = refl
-ends_marked (c ∷ cs) nulls n = refl
+ends_marked columns nulls n = grind arith
 
 -- the text in its line of the first columns, as far as they are NULL by their bit; this many columns lie before them
 abbrev pub nulls_ahead : ℕ → List (Column × Bool) → List ℕ
@@ -44,27 +42,21 @@ one_more cells v ks text is =
 pub nulls_text : (charset : Charset) (cells : List Cell) (ks : List (Column × Bool)) → (joined (map field cells) ++ end_behind (ends ks)) ++ nulls_ahead (length cells) ks ≡ row_so_far (next_cell charset cells ks)
 nulls_text charset cells [] = append-nil (line (map field cells))
 nulls_text charset cells ((k, true) ∷ ks) =
-    let text = row_so_far (next_cell charset (cells ++ Null ∷ []) ks) in
     let tail = nulls_ahead (length cells + 1) ks in
     ap (λ l. l ++ (in_line (length cells) (ends ks) null_field ++ tail)) (append-nil (joined (map field cells))) ∙ sym (append_assoc (joined (map field cells)) (in_line (length cells) (ends ks) null_field) tail)
-    ∙ one_more cells Null ks text (nulls_text charset (cells ++ Null ∷ []) ks)
-nulls_text charset cells ((k, false) ∷ ks) =
-    append-nil (joined (map field cells) ++ []) ∙ append-nil (joined (map field cells)) ∙ ap (λ o. joined (with_field cells o)) (sym (start_quiet k.kind (shape charset k.kind)))
+    ∙ one_more cells Null ks (row_so_far (next_cell charset (cells ++ Null ∷ []) ks)) (nulls_text charset (cells ++ Null ∷ []) ks)
+nulls_text charset cells ((k, false) ∷ ks) = grind (arith, append-nil, start_quiet)
 
 -- ---- a cell's text in its line
 
 -- before its first element a cell has some to come
 pub start_size : (kind : Kind) (s : Shape) → HasBytes s → 0 < cell_size (cell_start kind s)
-start_size kind (FixedShape n) h = h
-start_size kind CountedShape h = omega arith
-start_size kind (LongShape c Short) h = omega arith
-start_size kind (LongShape c Chunked) h = omega arith
+start_size kind s h = grind arith
 
 module _ (column : ℕ) (last : Bool) where
   -- a field after its comma grows as it does
   comma_grows : (first : Bool) (a b : List ℕ) → Grows a b → Grows (if first then a else 44 ∷ a) (if first then b else 44 ∷ b)
-  comma_grows true a b h = h
-  comma_grows false a b h = grows_under (44 ∷ []) a b h
+  comma_grows first a b h = grind (arith, grows_under)
 
   opened_grows : (a b : Option (List ℕ)) → OptionGrows a b → Grows (opened column a) (opened column b)
   opened_grows None b h = grows_all (opened column b)
@@ -72,33 +64,22 @@ module _ (column : ℕ) (last : Bool) where
   opened_grows (Some a) (Some b) h = comma_grows (column == 0) a b h
 
   -- while it is open, the text so far of a cell is that of its field
-  opened_text : (p : CellPart) → 0 < cell_size p → opened column (field_so_far p) ≡ cell_so_far column last p
-  opened_text (ScalarBytes kind n) h = refl
-  opened_text (ScalarLength kind) h = refl
-  opened_text (ShortLength c) h = refl
-  opened_text (ShortData c n d) h = refl
-  opened_text (Total c) h = refl
-  opened_text (ChunkLength c t d) h = refl
-  opened_text (ChunkData c t n d) h = refl
-  opened_text (WholeCell v) h = absurd (omega arith)
+  pub opened_text : (p : CellPart) → 0 < cell_size p → opened column (field_so_far p) ≡ cell_so_far column last p
+  opened_text p h = grind arith
 
   opened_to : (p : CellPart) → Grows (opened column (field_so_far p)) (cell_so_far column last p)
-  opened_to (ScalarBytes kind n) = grows_all []
-  opened_to (ScalarLength kind) = grows_all []
-  opened_to (ShortLength c) = grows_all []
   opened_to (ShortData c n d) = grows_same (behind_comma column (open_field c d))
-  opened_to (Total c) = grows_all []
   opened_to (ChunkLength c t d) = grows_same (behind_comma column (open_field c d))
   opened_to (ChunkData c t n d) = grows_same (behind_comma column (open_field c d))
   opened_to (WholeCell v) = grows_by (behind_comma column (field v)) (end_behind last)
+  opened_to p = grows_all []
 
   -- each element of a cell adds to its text in its line
   pub line_grows : (p : CellPart) (e : List ℕ) → IsNext (cell column) p e → Grows (cell_so_far column last p) (cell_so_far column last (cell_add p e))
   line_grows p e n =
       let here = opened column (field_so_far p) in
       let there = cell_so_far column last (cell_add p e) in
-      subst (λ l. Grows l there) (opened_text p (next_some (cell column) p e n))
-      (grows_trans here (opened column (field_so_far (cell_add p e))) there (opened_grows (field_so_far p) (field_so_far (cell_add p e)) (cell_grows column p e n)) (opened_to (cell_add p e)))
+      rw (opened_text p (next_some (cell column) p e n)) at (grows_trans here (opened column (field_so_far (cell_add p e))) there (opened_grows (field_so_far p) (field_so_far (cell_add p e)) (cell_grows column p e n)) (opened_to (cell_add p e)))
 
 -- ---- a cell in its row, with the NULLs after it
 
@@ -113,31 +94,14 @@ module _ (charset : Charset) (cells : List Cell) (ks : List (Column × Bool)) wh
   rest_of part = []
 
   no_rest : (at : CellPart) → 0 < cell_size at → rest_of at ≡ []
-  no_rest (ScalarBytes kind n) h = refl
-  no_rest (ScalarLength kind) h = refl
-  no_rest (ShortLength c) h = refl
-  no_rest (ShortData c n d) h = refl
-  no_rest (Total c) h = refl
-  no_rest (ChunkLength c t d) h = refl
-  no_rest (ChunkData c t n d) h = refl
-  no_rest (WholeCell v) h = absurd (omega arith)
-
-  quiet_part : (joined (map field cells) ++ []) ++ [] ≡ joined (map field cells)
-  quiet_part = append-nil (joined (map field cells) ++ []) ∙ append-nil (joined (map field cells))
+  no_rest at h = grind arith
 
   open_part : (f : List ℕ) → (joined (map field cells) ++ behind_comma (length cells) f) ++ [] ≡ joined (map field cells ++ f ∷ [])
   open_part f = append-nil (joined (map field cells) ++ behind_comma (length cells) f) ∙ fields_more cells f
 
   -- the text so far of the row is that of the whole cells, that of the next one, and that of the NULLs after it
   pub part_text : (at : CellPart) → (joined (map field cells) ++ cell_so_far (length cells) (ends ks) at) ++ rest_of at ≡ row_so_far (up at)
-  part_text (ScalarBytes kind n) = quiet_part
-  part_text (ScalarLength kind) = quiet_part
-  part_text (ShortLength c) = quiet_part
-  part_text (ShortData c n d) = open_part (open_field c d)
-  part_text (Total c) = quiet_part
-  part_text (ChunkLength c t d) = open_part (open_field c d)
-  part_text (ChunkData c t n d) = open_part (open_field c d)
-  part_text (WholeCell v) = one_more cells v ks (row_so_far (next_cell charset (cells ++ v ∷ []) ks)) (nulls_text charset (cells ++ v ∷ []) ks)
+  part_text at = grind (arith, append-nil, nulls_text, one_more, open_part)
 
   -- there are none after it while it is open
   pub begun_text : (at : CellPart) → 0 < cell_size at → joined (map field cells) ++ cell_so_far (length cells) (ends ks) at ≡ row_so_far (up at)

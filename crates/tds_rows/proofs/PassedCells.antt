@@ -1,35 +1,32 @@
 -- The value of a RETURNVALUE, as it is passed over.
-use Rattle.std.proofs.Common.{◌≡◌, ◌∙◌, ◌⊎◌, inl, inr, ℕ, zero, suc, ◌+◌, ◌-◌, ◌%◌, ◌<◌, ◌≤◌, Bool, true, false, List, [], ◌∷◌, ◌++◌, length, take, refl, sym, ap, subst, arith, append_assoc, append-nil, length-append, take_all}
-use Rattle.std.specs.Prelude.{Option, Some, None, Result, Ok, Err, ◌==◌, ◌&&◌, ◌||◌, is_ok, nat_lt}
+use Rattle.std.proofs.Common.{◌≡◌, ◌∙◌, ◌⊎◌, inl, inr, ℕ, zero, suc, ◌+◌, ◌-◌, ◌%◌, ◌<◌, ◌≤◌, Bool, true, List, [], ◌∷◌, ◌++◌, length, take, refl, sym, ap, subst, arith, append_assoc, append-nil, length-append, take_all}
+use Rattle.std.specs.Prelude.{Option, Some, None, ◌==◌, ◌&&◌, ◌||◌, is_ok, nat_lt}
 use Rattle.std.proofs.lemmas.Bool.{and_from, ne_eqb, or_left, or_right}
 use Rattle.tds_values.specs.declared.kind.Kind.{Kind}
 use Rattle.tds_values.specs.declared.kind.Kind.TheVariants.{Binary, Narrow, Wide}
 use Rattle.tds_values.specs.declared.kind.Reach.{Reach}
-use Rattle.tds_values.specs.declared.scalar.ScalarValue.{ScalarValue}
-use Rattle.tds_values.specs.declared.scalar.ValueFault.{ValueFault}
 use Rattle.tds_values.specs.Kind.{is_scalar}
 use Rattle.tds_values.specs.Scalar.{read_of}
-use Rattle.tds_values.specs.ScalarText.{text_of}
 use Rattle.tds_packet.specs.declared.fault.Fault.{Fault}
-use Rattle.tds_packet.specs.declared.fault.Fault.TheVariants.{BadText, MessageEnded}
+use Rattle.tds_packet.specs.declared.fault.Fault.TheVariants.{MessageEnded}
 use Rattle.tds_packet.specs.declared.fault.Place.TheVariants.{Payload}
 use Rattle.tds_packet.specs.declared.fault.Stop.{Stop}
 use Rattle.tds_packet.specs.Elements.{Spelt}
-use Rattle.tds_packet.specs.Reading.{StopsReading}
 use Rattle.tds_packet.specs.Seen.{Seen, Takes, Ends, IsBetween, began_at}
 use Rattle.tds_packet.proofs.Choices.{choose_false, test_lt}
 use Rattle.tds_packet.proofs.ElementLaws.{Spelt-none, Spelt-append, Spelt-one, Spelt-step}
 use Rattle.tds_packet.proofs.Futures.{Ends-after, Takes-none, Takes-trans}
 use Rattle.tds_packet.proofs.Steps.{add_none, began_is_cut, reads_both, reads_none, reads_one, refused_at_once, stops_after}
 use Rattle.tds_csv.specs.Conversion.{Conversion, HexDigits, Utf16Text, Windows1252Text, is_begun, is_fit}
-use Rattle.tds_csv.specs.Quoting.{in_line, null_field}
 use Rattle.tds_rows.specs.declared.Charset.{Charset}
-use Rattle.tds_rows.specs.Cells.{Cell, CellPart, ChunkData, ChunkLength, DataCell, LongShape, ShortData, ShortLength, WholeCell, cell_add, cell_end, cell_fault, cell_size, cell_start, return_charset, shape, unless}
+use Rattle.tds_rows.specs.Cells.{Cell, CellPart, ChunkData, ChunkLength, DataCell, LongShape, ShortData, ShortLength, WholeCell, cell_add, cell_end, cell_fault, cell_size, cell_start, return_charset, shape}
 use Rattle.tds_rows.specs.CellSteps.{GathersCell, StallsCell, scalar_size, value_bytes, value_length, value_start}
 use Rattle.tds_rows.specs.WholeCells.{WritesCell}
 use Rattle.tds_columns.specs.ReturnedType.{return_column}
 use Rattle.tds_rows.specs.PassedCells.{AnyData, CutsPassing, IsGoodValue, PassesCell, PassesData, StepsOver, StopsPassing, chunk_left, return_cell, short_left}
 use Rattle.tds_rows.proofs.BufferedCells.{null_cell, value_cell}
+use Rattle.tds_rows.proofs.CellLaws.{unless_true}
+use Rattle.tds_rows.proofs.CellMeaning.{is_ok_value}
 
 -- ---- elements
 
@@ -59,16 +56,9 @@ steps_both s t u a b d place middle place' x y = record {
 }
 
 pub stops_behind : (s t : CellPart) (a b d : Seen) (place middle : ℕ) (stop : Stop) → StepsOver s t a b place middle → StopsPassing t b d middle stop → StopsPassing s a d place stop
-stops_behind s t a b d place middle stop x y = record {
-  at = y.at;
-  stops = stops_after return_cell s t a b d place y.at stop x.reads (subst (λ (m : ℕ). StopsReading return_cell t b d m y.at stop) x.place_is y.stops);
-}
+stops_behind s t a b d place middle stop x y = grind (arith, stops_after)
 
 -- ---- data, byte by byte
-
-pub unless_true : (b : Bool) (f : Fault) → b ≡ true → unless b f ≡ None
-unless_true true f h = refl
-unless_true false f h = cc
 
 -- The states of n bytes of data, by how many follow and what was read: each next byte is an element without a fault.
 pub record RunsData (state : ℕ → List ℕ → CellPart) (n : ℕ) : Type 0 where
@@ -79,9 +69,7 @@ pub record RunsData (state : ℕ → List ℕ → CellPart) (n : ℕ) : Type 0 w
 
 module _ (state : ℕ → List ℕ → CellPart) (n : ℕ) (runs : RunsData state n) where
   data_run : (d bytes : List ℕ) (m r : ℕ) → m ≡ length bytes + r → length d + m ≡ n → Spelt return_cell (state m d) bytes (state r (d ++ bytes))
-  data_run d [] m r is all =
-      let same : m ≡ r = omega (arith, is) in
-      subst (λ (k : ℕ). Spelt return_cell (state m d) [] (state k (d ++ []))) same (subst (λ l. Spelt return_cell (state m d) [] (state m l)) (sym (append-nil d)) (Spelt-none return_cell (state m d)))
+  data_run d [] m r is all = grind (arith, Spelt-none, append-nil)
   data_run d (x ∷ xs) m r is all =
       let k : ℕ = length xs + r in
       let next : m ≡ suc k = omega (arith, is) in
@@ -119,35 +107,21 @@ module _ (state : ℕ → List ℕ → CellPart) (n : ℕ) (runs : RunsData stat
       }
 
 short_free : (c : Conversion) (size n : ℕ) (any : AnyData c size) → n % size ≡ 0 → (r : ℕ) (d : List ℕ) (x : ℕ) → length d + suc r ≡ n → (is_begun c (d ++ x ∷ []) && (nat_lt 0 r || is_fit c (d ++ x ∷ []))) ≡ true
-short_free c size n any even zero d x all =
-    let len : length (d ++ x ∷ []) ≡ n = omega (arith, all, length-append d (x ∷ [])) in
-    and_from (is_begun c (d ++ x ∷ [])) (nat_lt 0 0 || is_fit c (d ++ x ∷ [])) (any.begun (d ++ x ∷ [])) (or_right (nat_lt 0 0) (is_fit c (d ++ x ∷ [])) (any.fit (d ++ x ∷ []) (ap (λ (k : ℕ). k % size) len ∙ even)))
-short_free c size n any even (suc r) d x all =
-    and_from (is_begun c (d ++ x ∷ [])) (nat_lt 0 (suc r) || is_fit c (d ++ x ∷ [])) (any.begun (d ++ x ∷ [])) (or_left (nat_lt 0 (suc r)) (is_fit c (d ++ x ∷ [])) (test_lt 0 (suc r) (omega arith)))
+short_free c size n any even r d x all = grind (arith, and_from, length-append, or_left, or_right, test_lt)
 
 pub short_next : (c : Conversion) (r : ℕ) (d : List ℕ) → short_left c (suc r) d ≡ ShortData c r d
 short_next c r d = choose_false (suc r == 0) (WholeCell (DataCell c d)) (ShortData c (suc r - 1) d) (ne_eqb (suc r) 0 (λ e. omega (arith, e))) ∙ ap (λ (k : ℕ). ShortData c k d) (omega arith)
 
 -- the data of a short value
 pub short_runs : (c : Conversion) (size n : ℕ) → AnyData c size → n % size ≡ 0 → RunsData (short_left c) n
-short_runs c size n any even = record {
-  size = λ r d. ap cell_size (short_next c r d);
-  free = λ r d x all. ap (λ s. cell_fault return_column s (x ∷ [])) (short_next c r d) ∙ unless_true (is_begun c (d ++ x ∷ []) && (nat_lt 0 r || is_fit c (d ++ x ∷ []))) (BadText return_column) (short_free c size n any even r d x all);
-  add = λ r d x. ap (λ s. cell_add s (x ∷ [])) (short_next c r d);
-  end = λ r d. ap cell_end (short_next c r d);
-}
+short_runs c size n any even = grind (arith, short_free, short_next, unless_true)
 
 pub chunk_next : (c : Conversion) (total : Option ℕ) (r : ℕ) (d : List ℕ) → chunk_left c total (suc r) d ≡ ChunkData c total r d
 chunk_next c total r d = choose_false (suc r == 0) (ChunkLength c total d) (ChunkData c total (suc r - 1) d) (ne_eqb (suc r) 0 (λ e. omega (arith, e))) ∙ ap (λ (k : ℕ). ChunkData c total k d) (omega arith)
 
 -- the data of a chunk
 pub chunk_runs : (c : Conversion) (size n : ℕ) (total : Option ℕ) → AnyData c size → RunsData (chunk_left c total) n
-chunk_runs c size n total any = record {
-  size = λ r d. ap cell_size (chunk_next c total r d);
-  free = λ r d x all. ap (λ s. cell_fault return_column s (x ∷ [])) (chunk_next c total r d) ∙ unless_true (is_begun c (d ++ x ∷ [])) (BadText return_column) (any.begun (d ++ x ∷ []));
-  add = λ r d x. ap (λ s. cell_add s (x ∷ [])) (chunk_next c total r d);
-  end = λ r d. ap cell_end (chunk_next c total r d);
-}
+chunk_runs c size n total any = grind (arith, chunk_next, unless_true)
 
 -- ---- scalars
 
@@ -159,14 +133,8 @@ scalar_stops charset kind a b place stop x = record { at = x.at; stops = x.stops
 written_spelt : (from : CellPart) (last : Bool) (bytes text : List ℕ) → WritesCell from return_column last bytes text → (value : Cell) × Spelt return_cell from bytes (WholeCell value)
 written_spelt from last bytes text x = (
   x.value,
-  subst (λ l. Spelt return_cell from l (WholeCell x.value)) x.joined
-      (Spelt-append return_cell from x.front x.at x.element (WholeCell x.value) x.spelt (subst (λ s. Spelt return_cell x.at x.element s) x.whole (Spelt-one return_cell x.at x.element x.next))),
+  rw x.joined at (Spelt-append return_cell from x.front x.at x.element (WholeCell x.value) x.spelt (rw x.whole at (Spelt-one return_cell x.at x.element x.next))),
 )
-
--- a value that was read without a fault
-ok_value : (r : Result ScalarValue ValueFault) → is_ok r ≡ true → (v : ScalarValue) × (r ≡ Ok v)
-ok_value (Ok v) h = (v, refl)
-ok_value (Err f) h = cc
 
 -- the bytes of a scalar cell whose value isn't refused are a whole cell
 pub scalar_whole : (charset : Charset) (kind : Kind) (bytes : List ℕ) → is_scalar kind ≡ true → length bytes ≡ scalar_size kind bytes → (0 < value_length kind bytes → is_ok (read_of kind (value_bytes kind bytes)) ≡ true)
@@ -179,14 +147,13 @@ scalar_whole charset kind bytes scalar whole good = go (value_length kind bytes)
     go : (n : ℕ) → value_length kind bytes ≡ n → (value : Cell) × Spelt return_cell from bytes (WholeCell value)
     go zero e =
         let all : take (value_start kind + 0) bytes ≡ bytes = take_all (value_start kind + 0) bytes (omega (arith, whole, e)) in
-        let x = null_cell charset kind return_column true bytes (in_line return_column true null_field) scalar (value_start kind) refl e (omega (arith, whole)) refl in
-        subst (λ l. (value : Cell) × Spelt return_cell from l (WholeCell value)) all (written_spelt from true (take (value_start kind + 0) bytes) (in_line return_column true null_field) x)
+        let x = null_cell _ _ _ true _ _ scalar _ refl e (omega (arith, whole)) refl in
+        subst (λ l. (value : Cell) × Spelt return_cell from l (WholeCell value)) all (written_spelt _ _ _ _ x)
     go (suc n) e =
         let all : take (value_start kind + value_length kind bytes) bytes ≡ bytes = take_all (value_start kind + value_length kind bytes) bytes (omega (arith, whole)) in
-        let v = ok_value (read_of kind (value_bytes kind bytes)) (good (omega (arith, e))) in
-        let text = in_line return_column true (text_of v.0) in
-        let x = value_cell charset kind return_column true bytes text scalar (value_start kind) (value_length kind bytes) refl refl (λ z. omega (arith, e, z)) (omega (arith, whole)) (v.0, v.1, refl) in
-        subst (λ l. (value : Cell) × Spelt return_cell from l (WholeCell value)) all (written_spelt from true (take (value_start kind + value_length kind bytes) bytes) text x)
+        let v = is_ok_value (read_of kind (value_bytes kind bytes)) (good (omega (arith, e))) in
+        let x = value_cell _ _ _ true _ _ scalar _ _ refl refl (λ z. omega (arith, e, z)) (omega (arith, whole)) (v.0, v.1, refl) in
+        subst (λ l. (value : Cell) × Spelt return_cell from l (WholeCell value)) all (written_spelt _ _ _ _ x)
 
 -- ---- pieces
 
@@ -233,8 +200,7 @@ short_passes c size n a b d place middle place' any even x y =
     cell_behind (ShortLength c) (short_left c n []) a b d place middle place' x (record { value = DataCell c y.bytes; steps = data_steps (short_left c) n (short_runs c size n any even) [] n b d middle place' (omega arith) y })
 
 pub short_cuts : (c : Conversion) (size n : ℕ) (a b d : Seen) (place middle : ℕ) (stop : Stop) → AnyData c size → n % size ≡ 0 → StepsOver (ShortLength c) (short_left c n []) a b place middle → CutsPassing n b d middle stop → StopsPassing (ShortLength c) a d place stop
-short_cuts c size n a b d place middle stop any even x y =
-    stops_behind (ShortLength c) (short_left c n []) a b d place middle stop x (data_stops (short_left c) n (short_runs c size n any even) [] n b d middle stop (omega arith) y)
+short_cuts c size n a b d place middle stop any even x y = stops_behind _ _ a b d _ _ _ x (data_stops (short_left c) n (short_runs c _ n any even) [] n b d _ _ (omega arith) y)
 
 -- ---- chunks
 
@@ -261,20 +227,17 @@ module _ (c : Conversion) (total : Option ℕ) (sum n : ℕ) (a b d : Seen) (pla
 
   -- a chunk more was passed over
   pub chunks_more : (size : ℕ) (e : Seen) (place' : ℕ) → AnyData c size → StepsOver (ChunkLength c total x.content) (chunk_left c total n x.content) b d middle there → PassesData n d e there place' → WalksChunks c total (sum + n) a e place place'
-  chunks_more size e place' any y z = record {
+  chunks_more size e _ any y z = record {
     content = x.content ++ z.bytes;
     counted = omega (arith, length-append x.content z.bytes, x.counted, z.counted);
-    steps = steps_both (ChunkLength c total []) (chunk_left c total n x.content) (ChunkLength c total (x.content ++ z.bytes)) a d e place there place'
-        (steps_both (ChunkLength c total []) (ChunkLength c total x.content) (chunk_left c total n x.content) a b d place middle there x.steps y)
-        (data_steps (chunk_left c total) (length x.content + n) (chunk_runs c size (length x.content + n) total any) x.content n d e there place' refl z);
+    steps = steps_both _ _ _ a d e _ _ _
+        (steps_both _ _ _ a b d _ _ _ x.steps y) (data_steps (chunk_left c total) _ (chunk_runs c _ _ _ any) _ n d e _ _ refl z);
   }
 
   -- the data of a chunk is cut
   pub chunks_cut : (size : ℕ) (e : Seen) (stop : Stop) → AnyData c size → StepsOver (ChunkLength c total x.content) (chunk_left c total n x.content) b d middle there → CutsPassing n d e there stop → StopsPassing (ChunkLength c total []) a e place stop
-  chunks_cut size e stop any y z =
-      stops_behind (ChunkLength c total []) (chunk_left c total n x.content) a d e place there stop
-      (steps_both (ChunkLength c total []) (ChunkLength c total x.content) (chunk_left c total n x.content) a b d place middle there x.steps y)
-      (data_stops (chunk_left c total) (length x.content + n) (chunk_runs c size (length x.content + n) total any) x.content n d e there stop refl z)
+  chunks_cut size e _ any y z =
+      stops_behind _ _ a d e _ _ _ (steps_both _ _ _ a b d _ _ _ x.steps y) (data_stops (chunk_left c total) _ (chunk_runs c _ _ _ any) _ n d e _ _ refl z)
 
 -- ---- the data of a RETURNVALUE may be any bytes
 

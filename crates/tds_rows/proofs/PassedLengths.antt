@@ -1,9 +1,9 @@
 -- Lengths and totals of the value of a RETURNVALUE, as it is passed over.
-use Rattle.std.proofs.Common.{◌≡◌, ◌≢◌, ◌∙◌, ◌⊎◌, inl, inr, ℕ, ◌%◌, ◌<◌, Bool, true, false, List, [], length, refl, sym, ap, subst, arith}
-use Rattle.std.specs.Prelude.{Option, Some, None, ◌==◌, ◌||◌, if◌then◌else◌}
+use Rattle.std.proofs.Common.{◌≡◌, ◌≢◌, ◌∙◌, ◌⊎◌, inl, inr, ℕ, ◌%◌, ◌<◌, Bool, true, List, [], length, refl, sym, ap, subst, arith}
+use Rattle.std.specs.Prelude.{Option, Some, None, ◌==◌, if◌then◌else◌}
 use Rattle.tds_values.specs.Numbers.{little}
 use Rattle.tds_packet.specs.declared.fault.Fault.{Fault}
-use Rattle.tds_packet.specs.declared.fault.Fault.TheVariants.{BadText, MessageEnded, OddText, PlpLength}
+use Rattle.tds_packet.specs.declared.fault.Fault.TheVariants.{MessageEnded, OddText, PlpLength}
 use Rattle.tds_packet.specs.declared.fault.Place.TheVariants.{Payload}
 use Rattle.tds_packet.specs.declared.fault.Stop.{Stop}
 use Rattle.tds_packet.specs.Seen.{Seen}
@@ -18,7 +18,8 @@ use Rattle.tds_rows.specs.PassedCells.{AnyData, PassesCell, StepsOver, StopsPass
 use Rattle.tds_rows.proofs.CellMeaning.{unless_none}
 use Rattle.tds_rows.proofs.LongChunks.{chunk_first, chunk_free, end_judged, to_data, to_end, total_same, total_to, total_to_null}
 use Rattle.tds_rows.proofs.LongValues.{short_none, short_read, short_same, short_to, short_to_null, total_null, total_some}
-use Rattle.tds_rows.proofs.PassedCells.{step_one, step_refused, unless_true}
+use Rattle.tds_rows.proofs.PassedCells.{step_one, step_refused}
+use Rattle.tds_rows.proofs.CellLaws.{unless_true}
 
 -- a number was refused, or is cut
 pub number_stops : (s : CellPart) (size : ℕ) (fault : ℕ → Option Fault) (a b : Seen) (place : ℕ) (stop : Stop) → 0 < size → cell_size s ≡ size → cell_end s ≡ Some MessageEnded → ((e : List ℕ) (n : ℕ) (f : Fault) → little e ≡ n → fault n ≡ Some f → cell_fault return_column s e ≡ Some f)
@@ -58,19 +59,12 @@ module _ (c : Conversion) (size : ℕ) (any : AnyData c size) where
 
   -- whole units
   pub short_even : (a b : Seen) (place place' k : ℕ) (answer : Option ℕ) → ((n : ℕ) × ReadsNumber 2 a b place place' n × (short_fault return_column size n ≡ None) × (answer ≡ short_length n)) → answer ≡ Some k → k % size ≡ 0
-  short_even a b place place' k answer x is =
-      let y = short_read return_column size a b place place' k answer x is in
-      elim (or_cases (k == 0xFFFF) (k % size == 0) (unless_none ((k == 0xFFFF) || (k % size == 0)) (OddText return_column) y.free)) [
-        | inl e ↦ absurd (y.some (eq_true k 0xFFFF e))
-        | inr e ↦ eq_true (k % size) 0 e
-      ]
+  short_even a b place place' k answer x is = grind (arith, eq_true, or_cases, short_read, unless_none)
 
   -- ---- chunks
 
   end_even : (t u : Bool) (odd plp : Fault) → (if t then unless u odd else Some plp) ≡ None → u ≡ true
-  end_even true true odd plp h = refl
-  end_even true false odd plp h = cc
-  end_even false u odd plp h = cc
+  end_even t u odd plp h = grind arith
 
   module _ (total : Option ℕ) (content : List ℕ) (sum : ℕ) (counted : length content ≡ sum) (a b : Seen) (place place' : ℕ) where
     pub chunk_length_stops : (stop : Stop) → RefusesNumber 4 (λ n. chunk_length_fault return_column size total sum n) a b place stop ⊎ CutsNumber 4 a b place stop → StopsPassing (ChunkLength c total content) a b place stop
@@ -83,19 +77,16 @@ module _ (c : Conversion) (size : ℕ) (any : AnyData c size) where
       end_steps zero =
           let none : n ≡ 0 = sym is ∙ zero in
           let last : (if is_total total sum then unless (sum % size == 0) (OddText return_column) else Some (PlpLength return_column)) ≡ None = subst (λ (m : ℕ). chunk_length_fault return_column size total sum m ≡ None) none free in
-          let even : sum % size ≡ 0 = eq_true (sum % size) 0 (end_even (is_total total sum) (sum % size == 0) (OddText return_column) (PlpLength return_column) last) in
+          let even : sum % size ≡ 0 = eq_true _ 0 (end_even _ _ _ _ last) in
           let fit : is_fit c content ≡ true = any.fit content (ap (λ (m : ℕ). m % size) counted ∙ even) in
-          number_steps (ChunkLength c total content) (WholeCell (DataCell c content)) 4 a b place place' n (omega arith) refl x
-          (end_judged return_column true c size unit_is total content sum counted x.element n x.number none free ∙ unless_true (is_fit c content) (BadText return_column) fit)
-          (to_end return_column true c size unit_is total content sum counted x.element n x.number none)
+          number_steps _ _ 4 a b _ _ n (omega arith) refl x (end_judged _ true c _ unit_is _ _ sum counted _ n x.number none free ∙ unless_true _ _ fit)
+          (to_end return_column true c _ unit_is _ _ sum counted _ n x.number none)
 
       -- the length of a chunk was read
       pub chunk_steps : k ≢ 0 → StepsOver (ChunkLength c total content) (chunk_left c total k content) a b place place'
       chunk_steps some =
           let more : n ≢ 0 = λ e. some (is ∙ e) in
-          subst (λ (m : ℕ). StepsOver (ChunkLength c total content) (chunk_left c total m content) a b place place') (sym is)
-          (number_steps (ChunkLength c total content) (chunk_left c total n content) 4 a b place place' n (omega arith) refl x (chunk_free return_column true c size unit_is total content sum counted x.element n x.number more free)
-          (to_data return_column true c size unit_is total content sum counted x.element n x.number more))
+          rw (sym is) at (number_steps (ChunkLength c total content) (chunk_left c total n content) 4 a b place place' n (omega arith) refl x (chunk_free return_column true c size unit_is total content sum counted x.element n x.number more free) (to_data return_column true c size unit_is total content sum counted x.element n x.number more))
 
   -- ---- the total
 

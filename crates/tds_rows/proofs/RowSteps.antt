@@ -3,7 +3,6 @@ use Rattle.std.proofs.Common.{◌≡◌, ◌∙◌, inl, ℕ, ◌+◌, ◌^◌, 
 use Rattle.std.specs.Prelude.{None, map}
 use Rattle.std.proofs.lemmas.List.{length-map, map-append}
 use Rattle.tds_values.specs.declared.kind.Kind.{Kind}
-use Rattle.tds_values.specs.declared.kind.Reach.TheVariants.{Short, Chunked}
 use Rattle.tds_packet.specs.declared.fault.Stop.{Stop}
 use Rattle.tds_packet.specs.Elements.{IsNext, Spelt}
 use Rattle.tds_packet.specs.Seen.{IsBetween, Seen, Takes}
@@ -16,9 +15,8 @@ use Rattle.tds_csv.specs.Streaming.{BreaksStreaming, PutsText, StopsStreaming, S
 use Rattle.tds_csv.proofs.Sinks.{Puts-none}
 use Rattle.tds_csv.proofs.Streams.{streaming_after, streaming_inside, streams_both, streams_inside}
 use Rattle.tds_rows.specs.declared.Charset.{Charset}
-use Rattle.tds_rows.specs.Cells.{Cell, CellPart, ChunkData, ChunkLength, CountedShape, FixedShape, LongShape, ScalarBytes, ScalarLength, Shape, ShortData, ShortLength, Total, WholeCell, cell, cell_add, cell_end, cell_size, cell_start, field, field_so_far, shape}
-use Rattle.tds_csv.specs.Conversion.{open_field}
-use Rattle.tds_rows.specs.Rows.{InCell, RowPart, marked, next_cell, row, row_so_far, row_start, with_cell, with_field}
+use Rattle.tds_rows.specs.Cells.{Cell, CellPart, Shape, WholeCell, cell, cell_add, cell_end, cell_size, cell_start, field, field_so_far, shape}
+use Rattle.tds_rows.specs.Rows.{InCell, RowPart, marked, next_cell, row, row_so_far, row_start, with_cell}
 use Rattle.tds_rows.specs.CellSteps.{PutsCell, StallsCell, StopsCell, cell_so_far, is_last}
 use Rattle.tds_csv.specs.Quoting.{behind_comma, in_line}
 use Rattle.tds_rows.specs.RowSteps.{ReadsRow, RowStops}
@@ -55,21 +53,11 @@ coming left n = marked left (λ k. false) n
 
 -- before its first element a cell has no text
 pub start_quiet : (kind : Kind) (s : Shape) → field_so_far (cell_start kind s) ≡ None
-start_quiet kind (FixedShape n) = refl
-start_quiet kind CountedShape = refl
-start_quiet kind (LongShape c Short) = refl
-start_quiet kind (LongShape c Chunked) = refl
+start_quiet kind s = grind arith
 
 -- it has no text yet
 pub quiet_text : (column : ℕ) (last : Bool) (at : CellPart) → field_so_far at ≡ None → cell_so_far column last at ≡ []
-quiet_text column last (ScalarBytes kind n) h = refl
-quiet_text column last (ScalarLength kind) h = refl
-quiet_text column last (ShortLength c) h = refl
-quiet_text column last (ShortData c n d) h = cc
-quiet_text column last (Total c) h = refl
-quiet_text column last (ChunkLength c t d) h = cc
-quiet_text column last (ChunkData c t n d) h = cc
-quiet_text column last (WholeCell x) h = cc
+quiet_text column last at h = grind arith
 
 module _ (kind : Kind) (s : Shape) (column : ℕ) (last : Bool) where
   none_put : (at : CellPart) (h : Held) → field_so_far at ≡ None → h.delivered ≤ 2 ^ 64 - 1 → PutsText (cell_so_far column last) (cell_start kind s) at h h
@@ -119,9 +107,7 @@ cell_more cells v = fields_more cells (field v) ∙ ap joined (sym (map-append f
 -- the text of a row after one more whole cell
 pub next_text : (charset : Charset) (cells : List Cell) (v : Cell) (left : List Column) (n : ℕ) → joined (map field cells) ++ in_line (length cells) (is_last left) (field v) ≡ row_so_far (next_cell charset (cells ++ v ∷ []) (coming left n))
 next_text charset cells v [] n = sym (append_assoc (joined (map field cells)) (behind_comma (length cells) (field v)) line_end) ∙ ap (λ l. l ++ line_end) (cell_more cells v)
-next_text charset cells v (c ∷ cs) n =
-    ap (λ l. joined (map field cells) ++ l) (append-nil (behind_comma (length cells) (field v))) ∙ cell_more cells v
-    ∙ ap (λ o. joined (with_field (cells ++ v ∷ []) o)) (sym (start_quiet c.kind (shape charset c.kind)))
+next_text charset cells v (c ∷ cs) n = grind (arith, append-nil, cell_more, start_quiet)
 
 module _ (charset : Charset) (cells : List Cell) (left : List Column) (n : ℕ) where
   -- a cell's states in its row
@@ -130,27 +116,13 @@ module _ (charset : Charset) (cells : List Cell) (left : List Column) (n : ℕ) 
 
   -- the text so far of the row is that of the whole cells and then that of the open one
   pub row_text : (at : CellPart) → joined (map field cells) ++ cell_so_far (length cells) (is_last left) at ≡ row_so_far (lift at)
-  row_text (ScalarBytes kind k) = append-nil (joined (map field cells))
-  row_text (ScalarLength kind) = append-nil (joined (map field cells))
-  row_text (ShortLength c) = append-nil (joined (map field cells))
-  row_text (ShortData c k d) = fields_more cells (open_field c d)
-  row_text (Total c) = append-nil (joined (map field cells))
-  row_text (ChunkLength c t d) = fields_more cells (open_field c d)
-  row_text (ChunkData c t k d) = fields_more cells (open_field c d)
-  row_text (WholeCell v) = next_text charset cells v left n
+  row_text at = grind (arith, append-nil, fields_more, next_text)
 
 -- the columns to come, each with whether it is NULL by its bit
 module _ (charset : Charset) (cells : List Cell) (ks : List (Column × Bool)) where
   -- a row ends as its open cell does
   pub same_end : (at : CellPart) → 0 < cell_size at → (row charset).end_fault (with_cell charset cells ks at) ≡ cell_end at
-  same_end (ScalarBytes kind k) h = refl
-  same_end (ScalarLength kind) h = refl
-  same_end (ShortLength c) h = refl
-  same_end (ShortData c k d) h = refl
-  same_end (Total c) h = refl
-  same_end (ChunkLength c t d) h = refl
-  same_end (ChunkData c t k d) h = refl
-  same_end (WholeCell v) h = absurd (omega arith)
+  same_end at h = grind arith
 
 -- before the first cell of a ROW
 pub cells_none : (charset : Charset) (columns : List Column) (a : Seen) (place : ℕ) (h : Held) → h.delivered ≤ 2 ^ 64 - 1 → ReadsCells charset (row_start charset columns) (coming columns 0) a a place place h h 0
@@ -165,10 +137,9 @@ cells_none charset columns a place h d = record {
 pub cell_stops : (charset : Charset) (cells : List Cell) (c : Column) (left : List Column) (n : ℕ) (b d : Seen) (place : ℕ) (i j : Held) (failed : Bool) (stop : Stop) → StopsCell charset c.kind (length cells) (is_last left) b d place i j failed stop
     → RowStops charset (InCell cells (cell_start c.kind (shape charset c.kind)) (coming left n)) b d place i j failed stop
 cell_stops charset cells c left n b d place i j failed stop y =
-    let begin = cell_start c.kind (shape charset c.kind) in
-    let there = streaming_inside (cell (length cells)) (row charset) (lift charset cells left n) (cell_in_row charset cells (coming left n)) (cell_so_far (length cells) (is_last left)) row_so_far (joined (map field cells)) (row_text charset cells left n)
-    (same_end charset cells (coming left n)) begin b d place i j failed stop y in
-    subst (λ v. StopsStreaming (row charset) row_so_far v b d place i j failed stop) (begins_open charset cells (coming left n) c.kind (shape charset c.kind)) there
+    let there = streaming_inside _ (row charset) (lift charset cells left n) (cell_in_row _ _ _) _ row_so_far _ (row_text charset cells left n)
+    (same_end charset cells (coming left n)) _ b d _ i j _ _ y in
+    subst (λ v. StopsStreaming (row charset) row_so_far v b d place i j failed stop) (begins_open _ _ _ _ _) there
 
 module _ (charset : Charset) (start : RowPart) (c : Column) (left : List Column) (a b d : Seen) (place middle : ℕ) (h i j : Held) (column : ℕ) where
   -- one cell more

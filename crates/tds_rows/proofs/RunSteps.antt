@@ -1,5 +1,5 @@
 -- The cells of a run, as they are written one after another.
-use Rattle.std.proofs.Common.{◌≡◌, ◌∙◌, inl, inr, ℕ, zero, suc, ◌+◌, ◌-◌, ◌^◌, ◌≤◌, ◌<◌, Bool, List, [], ◌∷◌, ◌++◌, length, take, drop, get_or, refl, sym, ap, subst, arith, append_assoc, append-nil, length-append, length-take}
+use Rattle.std.proofs.Common.{◌≡◌, ◌∙◌, ℕ, ◌+◌, ◌-◌, ◌^◌, ◌≤◌, ◌<◌, Bool, List, [], ◌∷◌, ◌++◌, length, take, drop, get_or, refl, sym, ap, subst, arith, append_assoc, append-nil, length-append, length-take}
 use Rattle.std.proofs.lemmas.List.{length-take-le, take-append-le, take_all, take_more}
 use Rattle.std.proofs.Math.Seq.{take-append-add}
 use lib.Seq.{take-add}
@@ -18,18 +18,17 @@ use Rattle.tds_packet.proofs.ElementLaws.{Inside, Inside-Spelt, Spelt-append, Sp
 use Rattle.tds_columns.specs.Description.{Column}
 use Rattle.tds_columns.proofs.ViewLaws.{all_behind}
 use Rattle.tds_rows.specs.declared.Charset.{Charset}
-use Rattle.tds_rows.specs.Cells.{Cell, CellPart, CountedShape, FixedShape, LongShape, Shape, WholeCell, cell, cell_start, field, shape}
-use Rattle.tds_rows.specs.Rows.{Bitmap, InCell, NbcRow, PlainRow, RowPart, RowToken, WholeRow, row_start, next_cell, row, row_so_far, token_byte, token_start, with_cell, with_field}
-use Rattle.tds_rows.specs.CellSteps.{HasInt4, int4_kind, IsLeft, IsScalarLeft, IsValueText, PutsCell, StopsCell, WritesKind, cell_so_far, is_last, length_behind, scalar_size, start_behind, whole_size}
+use Rattle.tds_rows.specs.Cells.{Cell, CellPart, Shape, WholeCell, cell, cell_start, field, shape}
+use Rattle.tds_rows.specs.Rows.{InCell, NbcRow, PlainRow, RowPart, RowToken, WholeRow, row_start, next_cell, row, row_so_far, token_byte, token_start, with_cell, with_field}
+use Rattle.tds_rows.specs.CellSteps.{HasInt4, int4_kind, IsLeft, IsScalarLeft, IsValueText, PutsCell, StopsCell, WritesKind, cell_so_far, is_last, scalar_size, whole_size}
 use Rattle.tds_rows.specs.WholeCells.{WritesCell, WritesWhole}
-use Rattle.tds_values.specs.Kind.{fixed_length, is_scalar}
+use Rattle.tds_values.specs.Kind.{is_scalar}
 use Rattle.tds_rows.specs.ShortCells.{short_size}
-use Rattle.std.specs.Prelude.{◌==◌, Option, Some, None, Result, Ok, Err, MatchResult, true, false, if◌then◌else◌}
+use Rattle.std.specs.Prelude.{◌==◌, Option, Some, None, Result, Ok, Err, MatchResult, true, if◌then◌else◌}
 use Rattle.tds_rows.proofs.CellSteps.{fixed_some}
 use Rattle.tds_rows.specs.Runs.{RowsPart, RunsRows, Writes, WritesCells, WritesRows, behind_cells, lines, rows, rows_so_far, rows_start}
 use Rattle.tds_values.specs.declared.kind.Kind.{Kind}
 use Rattle.tds_values.specs.declared.kind.Kind.TheVariants.{IntN}
-use Rattle.tds_values.specs.declared.kind.Reach.TheVariants.{Chunked, Short}
 use Rattle.tds_rows.proofs.BufferedCells.{int4_cell}
 use Rattle.tds_rows.proofs.RowLaws.{begins_open, cell_in_row}
 use Rattle.tds_rows.proofs.RowSteps.{cell_stops, coming, lift, next_text, quiet_text, row_text, start_quiet}
@@ -62,14 +61,7 @@ writes_scalar set kind column last bytes made x = record { whole = whole_of (cel
 
 -- a whole number of four bytes, in any set
 pub writes_int4 : (set : Charset) (start n column : ℕ) (last : Bool) (bytes made : List ℕ) → start ≤ 1 → n ≡ 4 → HasInt4 start bytes → IsValueText (IntN 4) column last (take n (drop start bytes)) made → WritesKind set (int4_kind start) column last (take (start + 4) bytes) made
-writes_int4 set start n column last bytes made most is h x =
-    writes_scalar set (int4_kind start) column last (take (start + 4) bytes) made (λ any. int4_cell any start column last bytes made most h (subst (λ (k : ℕ). IsValueText (IntN 4) column last (take k (drop start bytes)) made) is x))
-
--- how many bytes its cell has
-pub int4_size : (start : ℕ) (bytes : List ℕ) → start ≤ 1 → HasInt4 start bytes → start + 4 ≡ whole_size (int4_kind start) bytes
-int4_size zero bytes most h = refl
-int4_size (suc zero) bytes most h = omega (arith, h.length_is (omega arith))
-int4_size (suc (suc n)) bytes most h = absurd (omega (arith, most))
+writes_int4 set start n column last bytes made most is h x = grind (arith, int4_cell, writes_scalar)
 
 from_text : (charset : Charset) (cells : List Cell) (c : Column) (left : List Column) (n : ℕ) → row_so_far (InCell cells (cell_start c.kind (shape charset c.kind)) (coming left n)) ≡ joined (map field cells)
 from_text charset cells c left n = ap (λ o. joined (with_field cells o)) (start_quiet c.kind (shape charset c.kind))
@@ -85,8 +77,7 @@ cell_writes : (charset : Charset) (cells : List Cell) (c : Column) (left : List 
     → Writes (row charset) row_so_far (behind_cells charset cells (c ∷ left)) bytes made (behind_cells charset (cells ++ x.value ∷ []) left)
 cell_writes charset cells c left bytes made x =
     let n : length cells + 1 ≡ length (cells ++ x.value ∷ []) = sym (length-append cells (x.value ∷ [])) in
-    subst (λ (k : ℕ). Writes (row charset) row_so_far (behind_cells charset cells (c ∷ left)) bytes made (next_cell charset (cells ++ x.value ∷ []) (coming left k))) n
-    (record {
+    subst (λ (k : ℕ). Writes (row charset) row_so_far (behind_cells charset cells (c ∷ left)) bytes made (next_cell charset (cells ++ x.value ∷ []) (coming left k))) n (record {
       spelt = spelt_there charset cells c left (length cells + 1) bytes (WholeCell x.value) x.spelt;
       text_is = (λ i. from_text charset cells c left (length cells + 1) i ++ x.text_is i) ∙ next_text charset cells x.value left (length cells + 1);
     })
@@ -99,10 +90,7 @@ one_cell charset c left column bytes made x cells is =
     record { more = y.value ∷ []; counted = length-append cells (y.value ∷ []) ∙ ap (λ n. n + 1) is; writes = cell_writes charset cells c left bytes made y }
 
 pub cells_none : (charset : Charset) (columns : List Column) (column : ℕ) (cells : List Cell) → length cells ≡ column → WritesCells charset cells columns columns column [] []
-cells_none charset columns column cells is =
-    let same : cells ++ [] ≡ cells = append-nil cells in
-    let from = behind_cells charset cells columns in
-    record { more = []; counted = ap length same ∙ is; writes = subst (λ (l : List Cell). Writes (row charset) row_so_far from [] [] (behind_cells charset l columns)) (sym same) (writes_none (row charset) row_so_far from) }
+cells_none charset columns column cells is = grind (arith, append-nil, writes_none)
 
 -- more cells of a row after these
 pub cells_more : (charset : Charset) (columns left left' : List Column) (column column' : ℕ) (a b p q : List ℕ) (cells : List Cell) → WritesCells charset cells columns left column a p
@@ -110,19 +98,15 @@ pub cells_more : (charset : Charset) (columns left left' : List Column) (column 
 cells_more charset columns left left' column column' a b p q cells x f =
     let y : WritesCells charset (cells ++ x.more) left left' column' b q = f (cells ++ x.more) x.counted in
     let same : (cells ++ x.more) ++ y.more ≡ cells ++ (x.more ++ y.more) = append_assoc cells x.more y.more in
-    let from = behind_cells charset cells columns in
     record {
       more = x.more ++ y.more;
       counted = ap length (sym same) ∙ y.counted;
-      writes = subst (λ (l : List Cell). Writes (row charset) row_so_far from (a ++ b) (p ++ q) (behind_cells charset l left')) same
-          (writes_both (row charset) row_so_far from (behind_cells charset (cells ++ x.more) left) (behind_cells charset ((cells ++ x.more) ++ y.more) left') a b p q x.writes y.writes);
+      writes = rw same at (writes_both _ _ _ _ _ a b p q x.writes y.writes);
     }
 
 -- what is made after what was made
 pub made_more : (made m : ℕ) (to new rest : List ℕ) → made ≤ length to → m ≤ length new → take (made + m) (take made to ++ (new ++ rest)) ≡ take made to ++ take m new
-made_more made m to new rest within some =
-    let len : length (take made to) ≡ made = length-take-le made to within in
-    ap (λ k. take (k + m) (take made to ++ (new ++ rest))) (sym len) ∙ take-append-add (take made to) (new ++ rest) m ∙ ap (λ l. take made to ++ l) (take-append-le m new rest some)
+made_more made m to new rest within some = grind (arith, length-take-le, take-append-add, take-append-le)
 
 -- what is used after what was used
 pub used_more : (used u : ℕ) (bytes : List ℕ) → take (used + u) bytes ≡ take used bytes ++ take u (take (length bytes - used) (drop used bytes))
@@ -136,11 +120,7 @@ made_same made to rest within = take-append-le made (take made to) rest (omega (
 
 -- a cell of a scalar kind has some bytes
 scalar_some : (kind : Kind) (bytes : List ℕ) → 0 < scalar_size kind bytes
-scalar_some kind bytes = go (fixed_length kind) refl
-  where
-    go : (o : Option ℕ) → fixed_length kind ≡ o → 0 < scalar_size kind bytes
-    go (Some n) e = omega (arith, fixed_some kind n e, ap start_behind e, ap (λ o. length_behind o bytes) e)
-    go None e = omega (arith, ap start_behind e, ap (λ o. length_behind o bytes) e)
+scalar_some kind bytes = grind (arith, fixed_some)
 
 -- how many bytes it has
 pub scalar_whole : (kind : Kind) (bytes : List ℕ) → is_scalar kind ≡ true → whole_size kind bytes ≡ scalar_size kind bytes
@@ -148,16 +128,11 @@ scalar_whole kind bytes h = ap (λ b. if b then scalar_size kind bytes else shor
 
 -- it is left as a scalar cell is
 pub scalar_left : (set : Charset) (kind : Kind) (bytes : List ℕ) (room : ℕ) → is_scalar kind ≡ true → IsLeft set kind bytes room → IsScalarLeft kind bytes
-scalar_left set kind bytes room scalar (inl x) = x.1
-scalar_left set kind bytes room scalar (inr x) = absurd (let never : true ≡ false = sym scalar ∙ x.0 in cc)
+scalar_left set kind bytes room scalar h5 = grind arith
 
 -- a cell has some bytes
 pub whole_some : (kind : Kind) (bytes : List ℕ) → 0 < whole_size kind bytes
-whole_some kind bytes = go (is_scalar kind)
-  where
-    go : (b : Bool) → 0 < (if b then scalar_size kind bytes else short_size bytes)
-    go true = scalar_some kind bytes
-    go false = omega arith
+whole_some kind bytes = grind (arith, scalar_some kind bytes)
 
 -- ---- a run between a payload and a sink
 
@@ -174,22 +149,7 @@ fills_no_block h j piece stop few (sent, blocks, n, adds, most, least, less, who
 -- ---- over the ends of rows
 
 pub row_among_rows : (token : RowToken) (charset : Charset) (all : List Column) (before : List (List Cell)) → Inside (row charset) (rows token charset all) (λ p. record { before = before; at = p })
-row_among_rows token charset all before = record { size = size; fault = fault; add = add }
-  where
-    size : (p : RowPart) → 0 < (row charset).size p → (rows token charset all).size (record { before = before; at = p }) ≡ (row charset).size p
-    size (Bitmap columns) h = refl
-    size (InCell cells part ks) h = refl
-    size (WholeRow cells) h = absurd (omega arith)
-
-    fault : (p : RowPart) (e : List ℕ) → 0 < (row charset).size p → (rows token charset all).fault (record { before = before; at = p }) e ≡ (row charset).fault p e
-    fault (Bitmap columns) e h = refl
-    fault (InCell cells part ks) e h = refl
-    fault (WholeRow cells) e h = absurd (omega arith)
-
-    add : (p : RowPart) (e : List ℕ) → 0 < (row charset).size p → (rows token charset all).add (record { before = before; at = p }) e ≡ record { before = before; at = (row charset).add p e }
-    add (Bitmap columns) e h = refl
-    add (InCell cells part ks) e h = refl
-    add (WholeRow cells) e h = absurd (omega arith)
+row_among_rows token charset all before = grind arith
 
 -- what is written of a row is written of the rows
 row_among : (charset : Charset) (all : List Column) (before : List (List Cell)) (p q : RowPart) (bytes made : List ℕ) → Writes (row charset) row_so_far p bytes made q
@@ -211,16 +171,12 @@ start_text NbcRow charset columns some = refl
 
 -- the token byte of the next row is no other token's
 token_free : (token : RowToken) → (if token_byte token == token_byte token then None else Some (RefusedToken (token_byte token))) ≡ None
-token_free PlainRow = refl
-token_free NbcRow = refl
+token_free token = grind arith
 
 -- the token byte of the next row
 pub row_token : (token : RowToken) (charset : Charset) (all : List Column) (before : List (List Cell)) (cells : List Cell) → 0 < length all
     → Writes (rows token charset all) rows_so_far (record { before = before; at = WholeRow cells }) (token_byte token ∷ []) [] (record { before = before ++ cells ∷ []; at = token_start token charset all })
-row_token token charset all before cells some = record {
-  spelt = Spelt-one (rows token charset all) (record { before = before; at = WholeRow cells }) (token_byte token ∷ []) (record { some = omega arith; whole = refl; free = token_free token });
-  text_is = append-nil (lines before ++ line (map field cells)) ∙ sym (lines_snoc before cells) ∙ sym (append-nil (lines (before ++ cells ∷ []))) ∙ ap (λ l. lines (before ++ cells ∷ []) ++ l) (sym (start_text token charset all some));
-}
+row_token token charset all before cells some = grind (arith, Spelt-one, append-nil, lines_snoc, start_text, token_free)
 
 pub rows_none : (charset : Charset) (all : List Column) (cells : List Cell) (columns : List Column) (column : ℕ) → length cells ≡ column → WritesRows charset all cells columns columns column 0 [] []
 rows_none charset all cells columns column h = record { before = []; more = cells; rows_counted = refl; counted = h; writes = writes_none (rows PlainRow charset all) rows_so_far (record { before = []; at = behind_cells charset cells columns }) }
@@ -242,14 +198,13 @@ rows_next : (charset : Charset) (all : List Column) (cells : List Cell) (columns
     → WritesRows charset all cells columns all 0 (count + 1) (a ++ 0xD1 ∷ []) p
 rows_next charset all cells columns left column count a p some none x =
     let y : Writes (rows PlainRow charset all) rows_so_far (record { before = []; at = behind_cells charset cells columns }) a p (record { before = x.before; at = WholeRow x.more }) =
-    subst (λ l. Writes (rows PlainRow charset all) rows_so_far (record { before = []; at = behind_cells charset cells columns }) a p (record { before = x.before; at = behind_cells charset x.more l })) none x.writes in
+    rw none at x.writes in
     record {
       before = x.before ++ x.more ∷ [];
       more = [];
       rows_counted = length-append x.before (x.more ∷ []) ∙ ap (λ n. n + 1) x.rows_counted;
       counted = refl;
-      writes = subst (λ l. Writes (rows PlainRow charset all) rows_so_far (record { before = []; at = behind_cells charset cells columns }) (a ++ 0xD1 ∷ []) l (record { before = x.before ++ x.more ∷ []; at = row_start charset all })) (append-nil p)
-          (writes_both (rows PlainRow charset all) rows_so_far (record { before = []; at = behind_cells charset cells columns }) (record { before = x.before; at = WholeRow x.more }) (record { before = x.before ++ x.more ∷ []; at = row_start charset all }) a (0xD1 ∷ []) p [] y (row_token PlainRow charset all x.before x.more some));
+      writes = rw (append-nil p) at (writes_both (rows PlainRow charset all) rows_so_far (record { before = []; at = behind_cells charset cells columns }) (record { before = x.before; at = WholeRow x.more }) (record { before = x.before ++ x.more ∷ []; at = row_start charset all }) a (0xD1 ∷ []) p [] y (row_token PlainRow charset all x.before x.more some));
     }
 
 -- and over the ends of rows
@@ -257,17 +212,12 @@ pub rows_step : (charset : Charset) (all : List Column) (cells : List Cell) (col
     → WritesRows charset all cells columns left column count (take used bytes) (take made to)
     → ((cells : List Cell) → length cells ≡ column → WritesCells charset cells left left' column' (take u (take (length bytes - used) (drop used bytes))) (take m new))
     → WritesRows charset all cells columns left' column' count (take (used + u) bytes) (take (made + m) (take made to ++ (new ++ rest)))
-rows_step charset all cells columns left left' column column' count used u made m bytes to new rest within some x f =
-    subst (λ l. WritesRows charset all cells columns left' column' count l (take (made + m) (take made to ++ (new ++ rest)))) (sym (used_more used u bytes))
-    (subst (λ l. WritesRows charset all cells columns left' column' count (take used bytes ++ take u (take (length bytes - used) (drop used bytes))) l) (sym (made_more made m to new rest within some))
-    (rows_more charset all cells columns left left' column column' count (take used bytes) (take u (take (length bytes - used) (drop used bytes))) (take made to) (take m new) x f))
+rows_step charset all cells columns left left' column column' count used u made m bytes to new rest within some x f = grind (arith, made_more, rows_more, used_more)
 
 -- and then the token byte of the next row
 pub rows_onward : (charset : Charset) (all : List Column) (cells : List Cell) (columns left : List Column) (column count used : ℕ) (bytes p : List ℕ) → 0 < length all → left ≡ [] → used < length bytes → get_or bytes used 0 ≡ 0xD1
     → WritesRows charset all cells columns left column count (take used bytes) p → WritesRows charset all cells columns all 0 (count + 1) (take (used + 1) bytes) p
-rows_onward charset all cells columns left column count used bytes p some none within is x =
-    let one : take (used + 1) bytes ≡ take used bytes ++ 0xD1 ∷ [] = take_more bytes used 0 within ∙ ap (λ n. take used bytes ++ n ∷ []) is in
-    subst (λ l. WritesRows charset all cells columns all 0 (count + 1) l p) (sym one) (rows_next charset all cells columns left column count (take used bytes) p some none x)
+rows_onward charset all cells columns left column count used bytes p some none within is x = grind (arith, rows_next, take_more)
 
 -- a run between a payload and a sink, over the ends of rows
 pub rows_run : (charset : Charset) (all : List Column) (cells : List Cell) (columns left : List Column) (column count : ℕ) (a b : Seen) (place place' : ℕ) (h j : Held) (bytes made : List ℕ) → WritesRows charset all cells columns left column count bytes made
@@ -293,12 +243,7 @@ module _ (charset : Charset) (all : List Column) (before : List (List Cell)) whe
   behind_rows p = record { before = before ++ p.before; at = p.at }
 
   rows_among_rows : Inside (rows PlainRow charset all) (rows PlainRow charset all) behind_rows
-  rows_among_rows = record { size = λ s h. refl; fault = λ s e h. refl; add = λ s e h. add s.before s.at e }
-    where
-      add : (bs : List (List Cell)) (p : RowPart) (e : List ℕ) → (rows PlainRow charset all).add (behind_rows (record { before = bs; at = p })) e ≡ behind_rows ((rows PlainRow charset all).add (record { before = bs; at = p }) e)
-      add bs (Bitmap columns) e = refl
-      add bs (InCell cells part ks) e = refl
-      add bs (WholeRow cells) e = ap (λ (l : List (List Cell)). record { before = l; at = row_start charset all }) (append_assoc before bs (cells ∷ []))
+  rows_among_rows = grind (arith, append_assoc)
 
   rows_behind_text : (p : RowsPart) → lines before ++ rows_so_far p ≡ rows_so_far (behind_rows p)
   rows_behind_text p = sym (append_assoc (lines before) (lines p.before) (row_so_far p.at)) ∙ ap (λ l. l ++ row_so_far p.at) (sym (lines-append before p.before))
@@ -393,10 +338,7 @@ rows_end charset all left column count a b place place' h i none x =
 
 -- nothing but the end of a cell is whole
 not_whole : (kind : Kind) (s : Shape) (v : Cell) → cell_start kind s ≡ WholeCell v → ⊥
-not_whole kind (FixedShape n) v h = cc
-not_whole kind CountedShape v h = cc
-not_whole kind (LongShape c Short) v h = cc
-not_whole kind (LongShape c Chunked) v h = cc
+not_whole kind s v h = grind arith
 
 some_bytes : (column : ℕ) (from : CellPart) (v : Cell) (es : List (List ℕ)) → (from ≡ WholeCell v → ⊥) → Leads (cell column) from es (WholeCell v) → 0 < length (concat es)
 some_bytes column from v [] before h = absurd (before h)

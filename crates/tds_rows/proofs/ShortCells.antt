@@ -13,9 +13,7 @@ use Rattle.tds_rows.specs.WholeCells.{WritesWhole}
 use Rattle.tds_rows.proofs.CellLaws.{cell_is_read}
 
 two_of : (bytes : List ℕ) → 2 ≤ length bytes → take 2 bytes ≡ slice_index bytes 0 ∷ slice_index bytes 1 ∷ []
-two_of [] h = absurd (omega arith)
-two_of (a ∷ []) h = absurd (omega arith)
-two_of (a ∷ b ∷ bytes) h = refl
+two_of bytes h = grind arith
 
 module _ (column : ℕ) (kind : Kind) (c : Conversion) (last : Bool) (bytes text : List ℕ) (within : 2 ≤ length bytes) (low : slice_index bytes 0 < 256) (high : slice_index bytes 1 < 256) where
   -- NULL
@@ -23,8 +21,7 @@ module _ (column : ℕ) (kind : Kind) (c : Conversion) (last : Bool) (bytes text
   short_null all is =
       let a : slice_index bytes 0 ≡ 255 = omega (arith, all, low, high) in
       let b : slice_index bytes 1 ≡ 255 = omega (arith, all, low, high) in
-      let ones : take 2 bytes ≡ 255 ∷ 255 ∷ [] = two_of bytes within ∙ (λ i. a i ∷ b i ∷ []) in
-      record { value = Null; spelt = cell_is_read column kind (LongShape c Short) Null (take 2 bytes) tt ones; text_is = is }
+      record { value = Null; spelt = cell_is_read column kind (LongShape c Short) Null (take 2 bytes) tt (two_of bytes within ∙ (λ i. a i ∷ b i ∷ [])); text_is = is }
 
   -- a value
   pub short_value : (n : ℕ) → n ≡ stated_length bytes → n ≢ 65535 → 2 + n ≤ length bytes → is_fit c (take n (drop 2 bytes)) ≡ true → text ≡ in_line column last (long_field c (take n (drop 2 bytes)))

@@ -1,5 +1,5 @@
 -- Stretches of columns that aren't NULL by their bit, within the cells of an NBCROW and of a ROW.
-use Rattle.std.proofs.Common.{inl, inr, ◌≡◌, ◌∙◌, ℕ, zero, suc, ◌+◌, ◌-◌, ◌≤◌, ◌<◌, Bool, false, List, [], ◌∷◌, ◌++◌, length, take, drop, sym, ap, subst, arith, append_assoc, append-nil, add-zero}
+use Rattle.std.proofs.Common.{inl, inr, ◌≡◌, ◌∙◌, ℕ, zero, suc, ◌+◌, ◌-◌, ◌≤◌, ◌<◌, Bool, false, List, ◌∷◌, ◌++◌, length, take, drop, sym, ap, subst, arith, append_assoc, append-nil, add-zero}
 use Rattle.tds_columns.specs.Description.{Column}
 use Rattle.tds_rows.specs.declared.Charset.{Charset}
 use Rattle.tds_rows.specs.declared.table.Ahead.{Ahead}
@@ -19,10 +19,7 @@ none_null k = false
 module _ (charset : Charset) (columns : List Column) where
   -- so many columns, and then so many more
   pub marked_both : (nulls : ℕ → Bool) (from n m : ℕ) (a b p q : List ℕ) → WritesMarked charset columns nulls from n a p → WritesMarked charset columns nulls (from + n) m b q → WritesMarked charset columns nulls from (n + m) (a ++ b) (p ++ q)
-  marked_both nulls from n zero a b p q x y =
-      subst (λ (k : ℕ). WritesMarked charset columns nulls from k (a ++ b) (p ++ q)) (sym (add-zero n))
-      (subst (λ l. WritesMarked charset columns nulls from n l (p ++ q)) (sym (append-nil a) ∙ ap (λ l. a ++ l) (sym y.0))
-      (subst (λ l. WritesMarked charset columns nulls from n a l) (sym (append-nil p) ∙ ap (λ l. p ++ l) (sym y.1)) x))
+  marked_both nulls from n zero a b p q x y = grind (arith, add-zero, append-nil)
   marked_both nulls from n (suc m) a b p q x y =
       let at : (from + n) + m ≡ from + (n + m) = omega arith in
       let counted : suc (n + m) ≡ n + suc m = omega arith in
@@ -51,10 +48,7 @@ module _ (charset : Charset) (columns : List Column) where
 
   -- as cells of a ROW
   marked_cells : (from n : ℕ) (bytes text : List ℕ) (cells : List Cell) → length cells ≡ from → WritesMarked charset columns none_null from n bytes text → WritesCells charset cells (drop from columns) (drop (from + n) columns) (from + n) bytes text
-  marked_cells from zero bytes text cells is x =
-      subst (λ (k : ℕ). WritesCells charset cells (drop from columns) (drop k columns) k bytes text) (sym (add-zero from))
-      (subst (λ l. WritesCells charset cells (drop from columns) (drop from columns) from l text) (sym x.0)
-      (subst (λ l. WritesCells charset cells (drop from columns) (drop from columns) from [] l) (sym x.1) (cells_none charset (drop from columns) from cells is)))
+  marked_cells from zero bytes text cells is x = grind (arith, add-zero, cells_none)
   marked_cells from (suc n) bytes text cells is x =
       let at = from + n in
       let last = x.7 in
@@ -70,36 +64,24 @@ module _ (charset : Charset) (columns : List Column) where
 module _ (table : Table) (columns : List Column) where
   -- a run over columns whose bits are clear
   pub runs_clear : (nulls : ℕ → Bool) (from to : Ahead) (bytes text : List ℕ) → ((k : ℕ) → from.column ≤ k → k < to.column → nulls k ≡ false) → RunsMarked table columns none_null from to bytes text → RunsMarked table columns nulls from to bytes text
-  runs_clear nulls from to bytes text clear x = record {
-    count = x.count;
-    ahead = x.ahead;
-    further = x.further;
-    writes = marked_clear table.charset columns nulls from.column x.count bytes text (λ k least most. clear k least (omega (arith, most, x.further))) x.writes;
-  }
+  runs_clear nulls from to bytes text clear x = grind (arith, marked_clear)
 
   -- more cells, in the bytes that are left and after what was made
   pub runs_more : (nulls : ℕ → Bool) (from at to : Ahead) (used u made m : ℕ) (bytes text new rest : List ℕ) → made ≤ length text → m ≤ length new → RunsMarked table columns nulls from at (take used bytes) (take made text)
       → RunsMarked table columns nulls at to (take u (take (length bytes - used) (drop used bytes))) (take m new) → RunsMarked table columns nulls from to (take (used + u) bytes) (take (made + m) (take made text ++ (new ++ rest)))
   runs_more nulls from at to used u made m bytes text new rest within some x y =
-      let wrote = take u (take (length bytes - used) (drop used bytes)) in
-      let next = subst (λ (k : ℕ). WritesMarked table.charset columns nulls k y.count wrote (take m new)) x.further y.writes in
-      let both = marked_both table.charset columns nulls from.column x.count y.count (take used bytes) wrote (take made text) (take m new) x.writes next in
+      let next = rw x.further at y.writes in
+      let both = marked_both _ _ _ _ _ _ _ _ _ _ x.writes next in
       record {
         count = x.count + y.count;
         ahead = y.ahead;
         further = omega (arith, x.further, y.further);
-        writes = subst (λ l. WritesMarked table.charset columns nulls from.column (x.count + y.count) l (take (made + m) (take made text ++ (new ++ rest)))) (sym (used_more used u bytes))
-            (subst (λ l. WritesMarked table.charset columns nulls from.column (x.count + y.count) (take used bytes ++ wrote) l) (sym (made_more made m text new rest within some)) both);
+        writes = rw (sym (used_more used u bytes)) at (rw (sym (made_more made m text new rest within some)) at both);
       }
 
   -- a run within a ROW
   pub runs_cells : (from to : Ahead) (bytes text : List ℕ) → RunsMarked table columns none_null from to bytes text → CellsBetween table columns from to bytes text
-  runs_cells from to bytes text x = (
-    x.ahead,
-    λ charset cells set is.
-        let writes = subst (λ (s : Charset). WritesMarked s columns none_null from.column x.count bytes text) set x.writes in
-        subst (λ (k : ℕ). WritesCells charset cells (drop from.column columns) (drop k columns) k bytes text) (sym x.further) (marked_cells charset columns from.column x.count bytes text cells is writes),
-  )
+  runs_cells from to bytes text x = grind (arith, marked_cells)
 
 -- a run ended before a column whose bit is clear
 pub ends_clear : (table : Table) (nulls : ℕ → Bool) (at : Ahead) (bytes : List ℕ) (room : ℕ) → nulls at.column ≡ false → RunEnds table at bytes room → EndsLeft table nulls at bytes room

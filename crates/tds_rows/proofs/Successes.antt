@@ -1,5 +1,5 @@
 -- A call that reads what comes whole stops only where a device fails.
-use Rattle.std.proofs.Common.{◌≡◌, ◌∙◌, inl, inr, ℕ, ◌+◌, ◌-◌, ◌^◌, ◌<◌, ◌≤◌, Bool, true, false, List, [], ◌∷◌, ◌++◌, length, take, refl, sym, ap, subst, arith, append_assoc, append-nil, length-append, length-take-le}
+use Rattle.std.proofs.Common.{◌≡◌, ◌∙◌, inl, inr, ℕ, ◌+◌, ◌-◌, ◌^◌, ◌<◌, ◌≤◌, Bool, List, [], ◌∷◌, ◌++◌, length, take, refl, sym, ap, subst, arith, append_assoc, append-nil, length-append, length-take-le}
 use Rattle.std.specs.Prelude.{nat_lt, Option, Some, None, Result, Ok, Err, if◌then◌else◌}
 use Rattle.std.proofs.Math.Seq.{take-append_seam}
 use Rattle.std.proofs.lemmas.Bool.Decides.{nat_tests}
@@ -30,7 +30,7 @@ use Rattle.tds_rows.specs.declared.Charset.{Charset}
 use Rattle.tds_rows.specs.Cells.{Cell, CellPart, LongShape, SpellsCell, WholeCell, cell, long_start}
 use Rattle.tds_rows.specs.CellSteps.{FieldPut, cell_so_far}
 use Rattle.tds_rows.specs.RowSteps.{RowPut, RowsRead, RowsStop}
-use Rattle.tds_rows.specs.Rows.{NbcRow, PlainRow, RowPart, RowToken, SpellsToken, WholeRow, row, row_so_far, token_byte, token_start}
+use Rattle.tds_rows.specs.Rows.{RowPart, RowToken, SpellsToken, WholeRow, row, row_so_far, token_byte, token_start}
 use Rattle.tds_rows.specs.Runs.{RowsPart, rows, rows_start}
 use Rattle.tds_rows.specs.Successes.{BeginNoRow, Brings, SpellsRows, SucceedsOn}
 use Rattle.tds_rows.proofs.CellLaws.{cell_is_read}
@@ -38,8 +38,7 @@ use Rattle.tds_rows.proofs.RowLaws.{nbc_row_is_read, row_is_read, some_bitmap}
 use Rattle.tds_rows.proofs.RunSteps.{row_among_rows, row_token}
 
 rose_from : (f : ℕ) (b : Bool) → nat_lt f (2 ^ 64 - 1) ≡ b → Rose f (one_more f)
-rose_from f true e = let low : f < 2 ^ 64 - 1 = grind (arith, nat_tests) in inl (omega (arith, low))
-rose_from f false e = let high : 2 ^ 64 - 1 ≤ f = grind (arith, nat_tests) in inr (high, omega (arith, high))
+rose_from f b e = grind (arith, nat_tests)
 
 -- a call that fails raises the count
 pub rose : (f : ℕ) → Rose f (one_more f)
@@ -49,15 +48,12 @@ rose f = rose_from f (nat_lt f (2 ^ 64 - 1)) refl
 
 -- what is left, where it is told
 left_of : (input read : List ℕ) (new : Option (List ℕ)) → Consumes (Some input) new read → (left : List ℕ) × (new ≡ Some left) × (input ≡ read ++ left)
-left_of input read (Some left) h = (left, refl, h)
-left_of input read None h = absurd h
+left_of input read new h = grind arith
 
 module _ {S : Type 0} (g : Grammar S Fault) (from to : S) (a b : Seen) (front more : List ℕ) (brings : Brings a (front ++ more)) (last : Longest g from (front ++ more) (length front) to) (calm : Rose a.failures b.failures → ⊥) where
   -- what was read is the beginning of what comes
   came : (read : List ℕ) (bytes : List ℕ) → Consumes a.left b.left read → ((zs : List ℕ) → (a.future (read ++ zs)).bytes ≡ bytes ++ (b.future zs).bytes) → (rest : List ℕ) × (front ++ more ≡ bytes ++ rest)
-  came read bytes taken gives =
-      let l = left_of brings.input read b.left (subst (λ o. Consumes o b.left read) brings.left taken) in
-      ((b.future l.0).bytes, sym brings.comes ∙ ap (λ i. (a.future i).bytes) l.2 ∙ gives l.0)
+  came read bytes taken gives = grind (arith, left_of)
 
   refused_there : (at : S) (bytes : List ℕ) (fault : Fault) → Spelt g from bytes at → RefusesNext g a b bytes at fault → at ≡ to
   refused_there at bytes fault spelt x =
@@ -85,8 +81,7 @@ module _ {S : Type 0} (g : Grammar S Fault) (from to : S) (a b : Seen) (front mo
           let read = y.0.0 in
           let l = left_of brings.input read b.left (subst (λ o. Consumes o b.left read) brings.left y.0.1) in
           let none : l.0 ≡ [] = subst IsAtEnd l.1 y.0.2 in
-          let all : brings.input ≡ read = l.2 ∙ ap (λ v. read ++ v) none ∙ append-nil read in
-          sym brings.comes ∙ ap (λ i. (a.future i).bytes) all ∙ ap (λ (c : Coming). c.bytes) y.0.3
+          sym brings.comes ∙ ap (λ i. (a.future i).bytes) (l.2 ∙ ap (λ v. read ++ v) none ∙ append-nil read) ∙ ap (λ (c : Coming). c.bytes) y.0.3
       ends (inr (inr y)) = absurd (calm (subst (Rose a.failures) (sym y.1) (rose a.failures)))
 
   -- a reading that stops does so at the end of what comes
@@ -136,8 +131,7 @@ long_is_read column kind c Chunked value bytes h = cell_is_read column kind (Lon
 
 -- what spells a row of some columns is read as it
 token_is_read : (token : RowToken) (charset : Charset) (columns : List Column) (cells : List Cell) (bytes : List ℕ) → 0 < length columns → SpellsToken token charset columns cells bytes → Spelt (row charset) (token_start token charset columns) bytes (WholeRow cells)
-token_is_read PlainRow charset columns cells bytes some h = row_is_read charset columns cells bytes h
-token_is_read NbcRow charset columns cells bytes some h = nbc_row_is_read charset columns cells bytes (some_bitmap columns some) h
+token_is_read token charset columns cells bytes some h = grind (arith, nbc_row_is_read, row_is_read, some_bitmap)
 
 module _ (token : RowToken) (charset : Charset) (columns : List Column) (some_columns : 0 < length columns) where
   abbrev all_rows : Grammar RowsPart Fault
@@ -174,8 +168,7 @@ module _ (token : RowToken) (charset : Charset) (columns : List Column) (some_co
       (record { some = omega arith; whole = omega arith; first = ap (λ b. if b then None else Some (RefusedToken byte)) none })
 
   end_same : (before : List (List Cell)) (at : RowPart) → 0 < (row charset).size at → all_rows.end_fault (among before at) ≡ (row charset).end_fault at
-  end_same before (WholeRow cells) some = absurd (omega (arith, some))
-  end_same before part some = refl
+  end_same before at some = grind arith
 
   rows_stop_not : (a b : Seen) (place : ℕ) (h i : Held) (failed : Bool) (stop : Stop) (first : List Cell) (later : List (List Cell)) (front more : List ℕ) → Brings a (front ++ more) → SpellsRows token charset columns first later front → BeginNoRow token more
       → (Rose a.failures b.failures → ⊥) → (Rose h.failures i.failures → ⊥) → RowsStop token charset columns a b place h i failed stop → ⊥

@@ -1,14 +1,13 @@
 -- Runs of cells over the columns that a table knows: more cells after those that were written.
-use Rattle.std.proofs.Common.{◌≡◌, ◌∙◌, ℕ, ◌+◌, ◌-◌, ◌≤◌, Bool, List, ◌∷◌, ◌++◌, length, take, drop, get_or, sym, ap, subst}
+use Rattle.std.proofs.Common.{arith, ◌≡◌, ◌∙◌, ℕ, ◌+◌, ◌-◌, ◌≤◌, Bool, List, ◌++◌, length, take, drop, get_or, sym, ap, subst}
 use Rattle.std.specs.Prelude.{◌==◌}
 use Rattle.tds_values.specs.declared.kind.Kind.{Kind}
 use Rattle.tds_columns.specs.Description.{Column}
 use Rattle.tds_rows.specs.declared.Charset.{Charset}
 use Rattle.tds_rows.specs.declared.table.Ahead.{Ahead}
 use Rattle.tds_rows.specs.declared.table.Table.{Table}
-use Rattle.tds_rows.specs.Cells.{Cell, cell_start, shape}
+use Rattle.tds_rows.specs.Cells.{Cell}
 use Rattle.tds_rows.specs.CellSteps.{WritesKind, is_last, whole_size}
-use Rattle.tds_rows.specs.WholeCells.{WritesWhole}
 use Rattle.tds_rows.specs.Runs.{OneWritten, WritesCells, WritesOne, WritesRows}
 use Rattle.tds_rows.specs.Tables.{IsAhead, Knows, NextColumn, TakesColumn}
 use Rattle.tds_rows.proofs.TableSteps.{last_one}
@@ -41,16 +40,7 @@ module _ (table : Table) (columns : List Column) (old new : Ahead) (kind : Kind)
 
   -- its column was taken, and it was written
   pub one_between : CellsBetween table columns old new (take u bytes) (take m text)
-  one_between = (
-    taken.ahead,
-    λ charset cells set is.
-        let left = drop new.column columns in
-        let a = subst (λ (k : Charset). WritesWhole (cell_start kind (shape k kind)) old.column last (take u bytes) (take m text)) set wrote.whole in
-        let b = subst (λ (v : Bool). WritesWhole (cell_start kind (shape charset kind)) old.column v (take u bytes) (take m text)) ends a in
-        let c = subst (λ (k : Kind). WritesWhole (cell_start k (shape charset k)) old.column (is_last left) (take u bytes) (take m text)) taken.kind b in
-        subst (λ (l : List Column). WritesCells charset cells l left new.column (take u bytes) (take m text)) (sym taken.next)
-        (subst (λ (n : ℕ). WritesCells charset cells (taken.column ∷ left) left n (take u bytes) (take m text)) (sym taken.further) (one_cell charset taken.column left old.column (take u bytes) (take m text) c cells is)),
-  )
+  one_between = grind (arith, ends, one_cell)
 
 -- ---- the first cell alone
 

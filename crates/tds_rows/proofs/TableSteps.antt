@@ -1,5 +1,5 @@
 -- A table of columns, column by column.
-use Rattle.std.proofs.Common.{◌≡◌, ◌≢◌, ◌∙◌, ℕ, true, false, ◌+◌, ◌≤◌, ◌<◌, List, [], ◌∷◌, ◌++◌, length, take, drop, get_or, refl, sym, ap, arith}
+use Rattle.std.proofs.Common.{◌≡◌, ◌∙◌, ℕ, true, false, ◌+◌, ◌≤◌, ◌<◌, List, [], ◌∷◌, ◌++◌, length, take, drop, get_or, refl, sym, ap, arith}
 use Rattle.std.specs.Prelude.{map, slice_set, ◌==◌}
 use Rattle.tds_rows.specs.CellSteps.{is_last}
 use Rattle.std.proofs.lemmas.Bool.{eq-eqb, ne_eqb}
@@ -7,7 +7,7 @@ use Rattle.std.proofs.lemmas.List.{drop_all, drop_more, get_or-map, get_or-take,
 use Rattle.tds_values.specs.declared.kind.Kind.{Kind}
 use Rattle.tds_values.specs.declared.kind.Kind.TheVariants.{Int4}
 use Rattle.tds_columns.specs.Description.{Column}
-use Rattle.std.specs.Prelude.{Option, Some, None}
+use Rattle.std.specs.Prelude.{Option}
 use Rattle.std.specs.Iterator.{YieldsFirstBy}
 use lib.Seq.{drop-drop}
 use Rattle.tds_packet.proofs.Choices.{eq_false, eq_true}
@@ -38,9 +38,8 @@ first_more forms columns k f c rest within first h is =
 pub known_kind : (forms : List Form) (columns : List Column) (n k : ℕ) (f : Form) (c : Column) → map (λ f. f.kind) (take n forms) ≡ kinds (take n columns) → k < n → n ≤ length forms → k < length columns → (get_or forms k f).kind ≡ (get_or columns k c).kind
 known_kind forms columns n k f c first known some within =
     let one : k < length (take n forms) = omega (arith, known, some, length-take n forms) in
-    let two : k < length (take n columns) = omega (arith, known, within, length-take n columns) in
     ap (λ (f : Form). f.kind) (sym (get_or-take n forms k f known)) ∙ sym (get_or-map (λ f. f.kind) (take n forms) k f f.kind one) ∙ ap (λ l. get_or l k f.kind) first
-    ∙ get_or-map (λ c. c.kind) (take n columns) k c f.kind two ∙ ap (λ (c : Column). c.kind) (get_or-take n columns k c known)
+    ∙ get_or-map (λ c. c.kind) (take n columns) k c f.kind (omega (arith, known, within, length-take n columns)) ∙ ap (λ (c : Column). c.kind) (get_or-take n columns k c known)
 
 module _ (table : Table) (columns : List Column) (at : Ahead) (kind : Kind) (knows : Knows table columns) (is : IsAhead table columns at) where
   -- a column that the table knows is next
@@ -58,12 +57,7 @@ module _ (table : Table) (columns : List Column) (at : Ahead) (kind : Kind) (kno
 module _ (table : Table) (columns : List Column) (old new : Ahead) (knows : Knows table columns) (is : IsAhead table columns old) (further : new.column ≡ old.column + 1) (some : old.column < table.count) where
   -- the place after a column that the table knows
   pub behind_known : old.column < table.known → columns_left new.walk ≡ columns_left old.walk → IsAhead table columns new
-  behind_known known same =
-      record {
-        counted = omega (arith, knows.counted, further, some);
-        within = λ _. same ∙ is.within (omega (arith, known));
-        beyond = λ most. same ∙ is.within (omega (arith, known)) ∙ ap (λ (n : ℕ). drop n columns) (omega (arith, most, known, further));
-      }
+  behind_known known same = grind arith
 
   -- the place after a column that the walk gives
   pub behind_walked : table.known ≤ old.column → columns_left new.walk ≡ drop 1 (columns_left old.walk) → IsAhead table columns new
@@ -76,25 +70,15 @@ module _ (table : Table) (columns : List Column) (old new : Ahead) (knows : Know
 
 -- what a walk leaves after its next column
 pub walk_behind : (walk new : Walk) (column : Option walks.Column) → YieldsFirstBy column_value columns_left walk column new → columns_left new ≡ drop 1 (columns_left walk)
-walk_behind walk new None y = y.1 ∙ ap (drop 1) (sym y.0)
-walk_behind walk new (Some c) y = ap (drop 1) (sym y)
+walk_behind walk new column y = grind arith
 
 -- the next column was taken
 pub takes : (table : Table) (columns : List Column) (old new : Ahead) (kind : Kind) → NextColumn columns old kind → new.column ≡ old.column + 1 → IsAhead table columns new → TakesColumn table columns old new kind
-takes table columns old new kind x further ahead = record {
-  column = x.column;
-  next = x.next ∙ ap (λ l. x.column ∷ l) (sym (next_column columns old.column x.column x.rest x.next).1.1 ∙ ap (λ (n : ℕ). drop n columns) (sym further));
-  kind = x.kind;
-  further = further;
-  ahead = ahead;
-}
+takes table columns old new kind x further ahead = grind (arith, next_column)
 
 -- a place in a row that isn't at its end is before it
 pub not_end : (columns : List Column) (k n : ℕ) → n ≡ length columns → k ≤ length columns → (k == n) ≡ false → k < n
-not_end columns k n whole within isnt = below k n (omega (arith, whole, within)) (eq_false k n isnt)
-  where
-    below : (a b : ℕ) → a ≤ b → a ≢ b → a < b
-    below a b h k = omega (arith, h, k)
+not_end columns k n whole within isnt = grind (arith, eq_false)
 
 -- a column is the last one where as many as there are lie before what is after it
 pub last_one : (columns rest : List Column) (c : Column) (k n : ℕ) → n ≡ length columns → drop k columns ≡ c ∷ rest → (k + 1 == n) ≡ is_last rest
@@ -108,10 +92,9 @@ none_next columns k n whole all = drop_all k columns (omega (arith, whole, all))
 -- before the row's end the next column is ahead, of some kind
 pub next_any : (columns : List Column) (at : Ahead) (n : ℕ) → n ≡ length columns → at.column < n → (kind : Kind) × NextColumn columns at kind
 next_any columns at n whole some =
-    let within : at.column < length columns = omega (arith, whole, some) in
     let c : Column = record { kind = Int4; name = [] } in
     let column = get_or columns at.column c in
-    (column.kind, record { column = column; rest = drop (at.column + 1) columns; next = drop_more columns at.column c within; kind = refl })
+    (column.kind, record { column = column; rest = drop (at.column + 1) columns; next = drop_more columns at.column c (omega (arith, whole, some)); kind = refl })
 
 -- so it is at the row's end
 pub at_end : (columns : List Column) (k n : ℕ) → n ≡ length columns → (k == n) ≡ true → drop k columns ≡ []

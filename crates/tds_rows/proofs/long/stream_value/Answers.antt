@@ -1,18 +1,16 @@
-use Rattle.tds_rows.specs.Cells.{long_start}
 use Rattle.tds_rows.proofs.Successes.{field_succeeds, long_is_read}
-use Rattle.tds_rows.specs.Blames.{failures_of}
 use Rattle.tds_rows.proofs.Blames.{reads_named, writes_named}
 use Rattle.tds_rows.proofs.long.stream_value.Goals as goal
 
 pub returns-clause-succeeds : goal.returns-clause-succeeds
 returns-clause-succeeds g c = λ going writing conversion suits kind value bytes more spelt.
-    field_succeeds g.R.Read.remaining g.W.Write.contents (long_start conversion c.args.reach) c.args.column _ c.args.payload.now c.stream_long.new.payload c.args.sink.now c.stream_long.new.sink _ value bytes more
-    (c.stream_long.ensures.gives conversion suits) (long_is_read c.args.column kind conversion c.args.reach value bytes spelt)
+    field_succeeds g.R.Read.remaining g.W.Write.contents _ _ _ c.args.payload.now c.stream_long.new.payload c.args.sink.now c.stream_long.new.sink _ _ _ _
+    (c.stream_long.ensures.gives conversion suits) (long_is_read _ kind _ _ _ _ spelt)
 
 pub returns-clause-failed_reads : goal.returns-clause-failed_reads
 returns-clause-failed_reads g c = λ going writing.
-    reads_named (failures_of c.args.payload.now c.args.sink.now) (failures_of c.stream_long.new.payload c.stream_long.new.sink) c.stream_long.result c.stream_long.ensures.blames
+    reads_named _ _ c.stream_long.result c.stream_long.ensures.blames
 
 pub returns-clause-failed_writes : goal.returns-clause-failed_writes
 returns-clause-failed_writes g c = λ going writing.
-    writes_named (failures_of c.args.payload.now c.args.sink.now) (failures_of c.stream_long.new.payload c.stream_long.new.sink) c.stream_long.result c.stream_long.ensures.blames
+    writes_named _ _ c.stream_long.result c.stream_long.ensures.blames

@@ -1,6 +1,5 @@
-use Rattle.std.proofs.Common.{subst, rules}
+use Rattle.std.proofs.Common.{rules}
 use Rattle.tds_columns.specs.View.{columns_of}
-use Rattle.tds_rows.specs.declared.Charset.{Charset}
 use Rattle.tds_rows.specs.RowSteps.{RowPut}
 use Rattle.tds_rows.specs.Rows.{nbc_row_start}
 use Rattle.tds_rows.proofs.RowLaws.{nbc_row_is_read, some_bitmap}
@@ -11,11 +10,10 @@ use Rattle.tds_rows.proofs.nbc.nbc_row.Goals as goal
 pub returns-clause-gives : goal.returns-clause-gives
 returns-clause-gives g c = λ _ _.
     let columns = columns_of c.args.columns.bytes.now in
-    let x = subst (λ (s : Charset). RowPut g.R.Read.remaining g.W.Write.contents s (nbc_row_start columns) c.args.payload.now c.nbc_row.new.self.payload.now c.args.sink.now c.nbc_row.new.self.sink.now c.nbc_row.result) c.of-table.ensures.charset (c.nbc_row.ensures.gives columns c.of-table.ensures.knows) in
+    let x = rw c.of-table.ensures.charset at (c.nbc_row.ensures.gives (columns_of c.args.columns.bytes.now) c.of-table.ensures.knows) in
     said_of (λ p s. RowPut g.R.Read.remaining g.W.Write.contents c.args.charset (nbc_row_start columns) c.args.payload.now p c.args.sink.now s c.nbc_row.result) c.nbc_row.new.self.payload.now c.payload-1.given.0 c.nbc_row.new.self.sink.now c.sink-1.given.0 (search rules) (search rules) x
 
 pub returns-clause-succeeds : goal.returns-clause-succeeds
 returns-clause-succeeds g c = λ going writing cells bytes more spelt.
-    let columns = columns_of c.args.columns.bytes.now in
-    row_succeeds g.R.Read.remaining g.W.Write.contents c.args.charset (nbc_row_start columns) c.args.payload.now c.payload-1.given.0 c.args.sink.now c.sink-1.given.0 _ cells bytes more
-    (returns-clause-gives g c going writing) (nbc_row_is_read c.args.charset columns cells bytes (some_bitmap columns c.args.columns.some) spelt)
+    row_succeeds g.R.Read.remaining g.W.Write.contents _ _ c.args.payload.now c.payload-1.given.0 c.args.sink.now c.sink-1.given.0 _ _ _ _
+    (returns-clause-gives g c going writing) (nbc_row_is_read _ _ _ _ (some_bitmap _ c.args.columns.some) spelt)

@@ -1,5 +1,4 @@
-use Rattle.std.proofs.Common.{◌-◌, arith, rules}
-use Rattle.tds_packet.specs.Payloads.{seen}
+use Rattle.std.proofs.Common.{arith, rules}
 use Rattle.tds_packet.proofs.Passing.{passed}
 use Rattle.tds_packet.proofs.PayloadLaws.{between_of}
 use Rattle.tds_rows.proofs.PassedCells.{cuts_more, passes_more, passes_none}
@@ -10,28 +9,21 @@ loop-left-init g c = record {
   going = c.requires.going;
   same = search rules;
   most = omega arith;
-  passes = passes_none _ (seen g.R.Read.remaining c.args.payload.now) c.args.payload.now.place (omega arith) (between_of g.R.Read.remaining c.args.payload.now c.requires.going.going);
+  passes = passes_none _ _ _ (omega arith) (between_of g.R.Read.remaining c.args.payload.now c.requires.going.going);
 }
 
 pub returns-in_err-left-clause-gives : goal.returns-in_err-left-clause-gives
 returns-in_err-left-clause-gives g c =
-    let a = seen g.R.Read.remaining c.args.payload.now in
-    let b = seen g.R.Read.remaining c.loop-left.payload in
-    let d = seen g.R.Read.remaining c.pass_piece.new.payload in
     let l = c.loop-left in
-    passed _ _ _ _ c.from_residual.ensures.1 (cuts_more (c.args.n - l.left) 1 c.args.n a b d c.args.payload.now.place l.payload.place c.in_err-left.field-0.0 (omega (arith, l.invariant.most, c.loop-left-test.true)) l.invariant.passes c.in_err-left.ensures.gives)
+    passed _ _ _ _ c.from_residual.ensures.1 (cuts_more _ _ _ _ _ _ _ _ _ (omega (arith, l.invariant.most, c.loop-left-test.true)) l.invariant.passes c.in_err-left.ensures.gives)
 
 pub loop-left-preserved : goal.loop-left-preserved
 loop-left-preserved g c =
-    let a = seen g.R.Read.remaining c.args.payload.now in
-    let b = seen g.R.Read.remaining c.loop-left.payload in
-    let d = seen g.R.Read.remaining c.pass_piece.new.payload in
     let l = c.loop-left in
-    let n = c.in_ok-left.field-0 in
     let done = c.in_ok-left.ensures in
     record {
       going = record { sound = done.payload.sound; going = done.payload.going };
       same = search rules;
       most = omega (arith, l.invariant.most);
-      passes = passes_more (c.args.n - l.left) n (c.args.n - (l.left - n)) a b d c.args.payload.now.place l.payload.place c.pass_piece.new.payload.place (omega (arith, l.invariant.most, done.some)) l.invariant.passes done.gives;
+      passes = passes_more _ _ _ _ _ _ _ _ _ (omega (arith, l.invariant.most, done.some)) l.invariant.passes done.gives;
     }

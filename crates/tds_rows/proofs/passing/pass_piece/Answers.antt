@@ -5,14 +5,12 @@ use Rattle.tds_rows.proofs.passing.pass_piece.Goals as goal
 
 pub returns-clause-gives : goal.returns-clause-gives
 returns-clause-gives g c =
-    let a = seen g.R.Read.remaining c.args.payload.now in
-    let b = seen g.R.Read.remaining c.consume.new.self in
     let n = c.min-n.result in
     let bytes = take n (buffered c.args.payload.now) in
     record {
       bytes = bytes;
       counted = length-take-le n (buffered c.args.payload.now) (search (arith, rules));
-      takes = Takes-more a b bytes 0 n (omega arith) c.consume.ensures.gives;
+      takes = Takes-more (seen g.R.Read.remaining c.args.payload.now) (seen g.R.Read.remaining c.consume.new.self) bytes _ _ (omega arith) c.consume.ensures.gives;
       between = c.consume.ensures.between c.requires.going.going;
       place_is = search rules;
     }

@@ -9,9 +9,7 @@ use Rattle.tds_rows.proofs.passing.pass_scalar.Goals as goal
 
 pub returns-in_err-gather_scalar-clause-gives : goal.returns-in_err-gather_scalar-clause-gives
 returns-in_err-gather_scalar-clause-gives g c =
-    let a = seen g.R.Read.remaining c.args.payload.now in
-    let b = seen g.R.Read.remaining c.gather_scalar.new.payload in
-    passed _ _ _ _ c.from_residual.ensures.1 (scalar_stops return_charset c.args.kind.now a b c.args.payload.now.place c.in_err-gather_scalar.field-0.0 (c.in_err-gather_scalar.ensures.gives return_charset))
+    passed _ _ _ _ c.from_residual.ensures.1 (scalar_stops return_charset _ _ _ _ _ (c.in_err-gather_scalar.ensures.gives return_charset))
 
 pub is_refused-requires-clause-whole : goal.is_refused-requires-clause-whole
 is_refused-requires-clause-whole g c = rw c.bytes.ensures.value (c.in_ok-gather_scalar.ensures.gives return_charset).whole
@@ -23,7 +21,7 @@ returns-then-is_refused-clause-gives g c =
     let b = seen g.R.Read.remaining c.gather_scalar.new.payload in
     let bad = c.is_refused.ensures.refused c.if-is_refused.true in
     let x = subst (GathersCell kind (cell_start kind (shape return_charset kind)) RETURN_COLUMN a b c.args.payload.now.place c.gather_scalar.new.payload.place) (sym c.bytes.ensures.value) (c.in_ok-gather_scalar.ensures.gives return_charset) in
-    rw (c.bad_value.ensures, c.place-place.ensures, c.length_size.ensures.value) (scalar_stops return_charset kind a b c.args.payload.now.place _ (x.refused bad.0 bad.1))
+    rw (c.bad_value.ensures, c.place-place.ensures, c.length_size.ensures.value) (scalar_stops return_charset _ _ _ _ _ (x.refused bad.0 bad.1))
 
 pub returns-clause-gives : goal.returns-clause-gives
 returns-clause-gives g c =
@@ -33,4 +31,4 @@ returns-clause-gives g c =
     let place = c.args.payload.now.place in
     let place' = c.gather_scalar.new.payload.place in
     let x = subst (GathersCell kind (cell_start kind (shape return_charset kind)) RETURN_COLUMN a b place place') (sym c.bytes.ensures.value) (c.in_ok-gather_scalar.ensures.gives return_charset) in
-    scalar_passes return_charset kind a b place place' c.bytes.result.now (search rules) x (c.is_refused.ensures.good c.if-is_refused.false)
+    scalar_passes return_charset _ _ _ _ _ _ (search rules) x (c.is_refused.ensures.good c.if-is_refused.false)

@@ -1,5 +1,5 @@
 use Rattle.std.proofs.Common.{inl, List, [], ◌∷◌, rules, arith, sym, ap, subst, ◌≡◌, ◌∙◌, ◌+◌, ◌-◌, ◌<◌, ◌≤◌, ℕ, length, take, drop, length-take, length-drop}
-use Rattle.tds_rows.specs.CellSteps.{HasInt4, int4_kind}
+use Rattle.tds_rows.specs.CellSteps.{HasInt4}
 use Rattle.tds_columns.proofs.ViewLaws.{all_behind}
 use Rattle.tds_rows.specs.Runs.{RunEnds, WritesRows}
 use Rattle.tds_rows.specs.Tables.{one_on}
@@ -15,14 +15,13 @@ loop-to-init c = record {
   used = omega arith;
   made = omega arith;
   few = omega arith;
-  writes = λ columns knows ahead. (ahead, λ charset cells set is. rows_none charset columns cells (drop c.args.from.column columns) c.args.from.column is);
+  writes = λ columns knows ahead. (ahead, λ charset cells set is. rows_none _ _ _ _ _ is);
 }
 
 pub loop-to-preserved-then-is_end : goal.loop-to-preserved-then-is_end
 loop-to-preserved-then-is_end c =
     let l = c.loop-to in
     let bytes = c.args.bytes.now in
-    let start = c.start-ahead.result in
     let within : l.used < length bytes = search (arith, rules) in
     record {
       used = omega (arith, within);
@@ -30,12 +29,12 @@ loop-to-preserved-then-is_end c =
       few = omega (arith, l.invariant.few);
       writes = λ columns knows ahead.
           let inv = l.invariant.writes columns knows ahead in
-          let none = at_end columns l.ahead.column c.args.table.now.count knows.counted (sym c.is_end.ensures ∙ c.if-is_end.true) in
+          let none = at_end _ _ _ knows.counted (sym c.is_end.ensures ∙ c.if-is_end.true) in
           let some : 0 < length columns = omega (arith, c.requires, knows.counted) in (
             c.start-ahead.ensures.ahead columns knows,
             λ charset cells set is.
                 subst (λ (k : ℕ). WritesRows charset columns cells (drop c.args.from.column columns) (drop k columns) k (l.rows + 1) (take (l.used + 1) bytes) (take l.made l.to)) (sym c.start-ahead.ensures.first)
-                (rows_onward charset columns cells (drop c.args.from.column columns) (drop l.ahead.column columns) l.ahead.column l.rows l.used bytes (take l.made l.to) some none within c.if-bytes-used.false (inv.1 charset cells set is)),
+                (rows_onward _ _ _ _ _ _ _ _ _ _ some none within c.if-bytes-used.false (inv.1 charset cells set is)),
           );
     }
 
@@ -43,24 +42,17 @@ pub loop-to-preserved-in-loop-to : goal.loop-to-preserved-in-loop-to
 loop-to-preserved-in-loop-to c =
     let l = c.loop-to in
     let behind = one_on l.ahead in
-    let start = c.in-Some.start in
-    let kind = int4_kind start in
-    let last = c.is_last-last in
-    let text = c.write_int4_field-made.new.to in
-    let m = c.write_int4_field-made.result in
-    let there = take (length c.args.bytes.now - l.used) (drop l.used c.args.bytes.now) in
-    let has : HasInt4 start there = c.has_int4.ensures.so c.if-has_int4.true in
-    let most : start ≤ 1 = c.in-Some.ensures.most in
-    let wrote = writes_int4 c.args.table.now.charset start ((start + 4) - start) l.ahead.column last.result there (take m text) most (omega arith) has c.write_int4_field-made.ensures.gives in
-    let within : m ≤ length text = search (arith, rules) in
+    let has : HasInt4 c.in-Some.start (take (length c.args.bytes.now - l.used) (drop l.used c.args.bytes.now)) = c.has_int4.ensures.so c.if-has_int4.true in
+    let wrote = writes_int4 _ _ _ _ _ _ _ c.in-Some.ensures.most (omega arith) has c.write_int4_field-made.ensures.gives in
+    let within : c.write_int4_field-made.result ≤ length c.write_int4_field-made.new.to = search (arith, rules) in
     record {
       used = search (arith, rules);
       made = search (arith, rules);
       few = omega (arith, l.invariant.few);
       writes = λ columns knows ahead.
           let x = l.invariant.writes columns knows ahead in
-          more_in_rows c.args.table.now c.args.from l.ahead behind l.used (start + 4) l.made m c.args.bytes.now l.to text _ l.invariant.made within l.rows columns x
-          (one_between c.args.table.now columns l.ahead behind kind last.result (start + 4) m there text knows (c.in-Some.ensures.gives columns knows x.0) last.ensures wrote);
+          more_in_rows _ c.args.from _ _ _ _ _ _ _ _ _ _ l.invariant.made within _ _ x
+          (one_between _ _ _ _ _ _ _ _ _ _ knows (c.in-Some.ensures.gives columns knows x.0) c.is_last-last.ensures wrote);
     }
 
 pub loop-to-preserved : goal.loop-to-preserved
@@ -68,16 +60,15 @@ loop-to-preserved c =
     let l = c.loop-to in
     let cells = c.run_cells-cells in
     let ran = cells.result in
-    let text = cells.new.to in
     let further : 0 < ran.used = omega (arith, c.if-cells-eq0.false) in
-    let within : ran.made ≤ length text = search (arith, rules) in
+    let within : ran.made ≤ length cells.new.to = search (arith, rules) in
     record {
       used = search (arith, rules);
       made = search (arith, rules);
       few = omega (arith, l.invariant.few);
       writes = λ columns knows ahead.
           let x = l.invariant.writes columns knows ahead in
-          more_in_rows c.args.table.now c.args.from l.ahead ran.ahead l.used ran.used l.made ran.made c.args.bytes.now l.to text _ l.invariant.made within l.rows columns x (runs_cells c.args.table.now columns l.ahead ran.ahead _ _ (cells.ensures.gives columns knows x.0));
+          more_in_rows _ c.args.from _ _ _ _ _ _ _ _ _ _ l.invariant.made within _ _ x (runs_cells _ _ _ _ _ _ (cells.ensures.gives columns knows x.0));
     }
 
 -- what was made before the last step stands
@@ -86,7 +77,7 @@ same c =
     elim c.loop-to-test.branch [
       | else-loop-to-test w ↦ ap (take c.loop-to.made) w.to-is
       | then-loop-to-test+in_default+then-is_end+then-used-bytes w ↦ ap (take c.loop-to.made) w.to-is
-      | then-loop-to-test+in_default+else-is_end+then-cells-eq0 w ↦ ap (take c.loop-to.made) w.to-is ∙ made_same c.loop-to.made c.loop-to.to _ c.loop-to.invariant.made
+      | then-loop-to-test+in_default+else-is_end+then-cells-eq0 w ↦ ap (take c.loop-to.made) w.to-is ∙ made_same _ _ _ c.loop-to.invariant.made
     ]
 
 pub returns-clause-ends : goal.returns-clause-ends
@@ -95,11 +86,11 @@ returns-clause-ends c = λ columns column left knows ahead step.
     let bytes = c.args.bytes.now in
     elim c.loop-to-test.branch [
       | else-loop-to-test w ↦ inl (omega (arith, w.loop-to-test.false, l.auto.to))
-      | then-loop-to-test+in_default+then-is_end+then-used-bytes w ↦ absurd (let e : column ∷ left ≡ [] = sym step ∙ at_end columns l.ahead.column c.args.table.now.count knows.counted (sym w.is_end.ensures ∙ w.if-is_end.true) in omega (arith, ap length e))
+      | then-loop-to-test+in_default+then-is_end+then-used-bytes w ↦ absurd (let e : column ∷ left ≡ [] = sym step ∙ at_end _ _ _ knows.counted (sym w.is_end.ensures ∙ w.if-is_end.true) in omega (arith, ap length e))
       | then-loop-to-test+in_default+else-is_end+then-cells-eq0 w ↦ (let lent = take (length l.to - l.made) (drop l.made l.to) in
           let room : length lent ≡ length c.args.to.now - l.made = omega (arith, l.auto.to, length-take (length l.to - l.made) (drop l.made l.to), length-drop l.made l.to) in
           subst (λ (n : ℕ). RunEnds c.args.table.now l.ahead (drop l.used bytes) n) room
-          (subst (λ (b : List ℕ). RunEnds c.args.table.now l.ahead b (length lent)) (all_behind bytes l.used) (w.run_cells-cells.ensures.ends w.if-cells-eq0.true (omega (arith, w.count.ensures, not_end columns l.ahead.column c.args.table.now.count knows.counted ahead.counted (sym w.is_end.ensures ∙ w.if-is_end.false)))))
+          (subst (λ (b : List ℕ). RunEnds c.args.table.now l.ahead b (length lent)) (all_behind bytes l.used) (w.run_cells-cells.ensures.ends w.if-cells-eq0.true (omega (arith, w.count.ensures, not_end _ _ _ knows.counted ahead.counted (sym w.is_end.ensures ∙ w.if-is_end.false)))))
           columns column left knows ahead step)
     ]
 

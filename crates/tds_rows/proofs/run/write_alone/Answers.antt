@@ -11,9 +11,8 @@ left P room enough (inr x) = x.1
 
 pub returns-then-run-eq0-clause-gives : goal.returns-then-run-eq0-clause-gives
 returns-then-run-eq0-clause-gives c = λ kind last next.
-    let none = c.if-run-eq0.true in
     let charset = c.args.table.now.charset in
-    let ends = c.run_cells-run.ensures.ends none (omega arith) next.columns next.column next.rest next.knows next.ahead next.next in
+    let ends = c.run_cells-run.ensures.ends c.if-run-eq0.true (omega arith) next.columns next.column next.rest next.knows next.ahead next.next in
     subst (λ (k : Kind). IsLeft charset k c.args.bytes.now (length c.args.to.now)) (sym next.kind) (left (IsLeft charset next.column.kind c.args.bytes.now (length c.args.to.now)) (length c.args.to.now) c.requires.room ends)
 
 pub returns-clause-gives : goal.returns-clause-gives

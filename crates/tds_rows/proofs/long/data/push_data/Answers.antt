@@ -1,10 +1,7 @@
 use Rattle.std.proofs.Common.{◌∙◌, arith, refl, rules}
-use Rattle.tds_packet.specs.Payloads.{seen}
 use Rattle.tds_packet.proofs.Passing.{passed}
 use Rattle.tds_packet.proofs.PayloadLaws.{between_of}
-use Rattle.tds_csv.specs.Sinks.{held}
 use Rattle.tds_rows.proofs.JoinedPieces.{filled_ends, filled_more, filled_none, filled_stops}
-use Rattle.tds_rows.specs.Blames.{failures_of}
 use Rattle.tds_rows.proofs.Blames.{stops_after}
 use Rattle.tds_rows.proofs.long.data.push_data.Goals as goal
 
@@ -19,7 +16,7 @@ loop-left-init g c = record {
   place = search rules;
   calm = refl;
   filled = λ conversion content suits is begun.
-      filled_none conversion content begun c.args.n (g.J.Joiner.withheld c.args.joiner.now) (seen g.R.Read.remaining c.args.payload.now) c.args.payload.now.place (held g.W.Write.contents c.args.sink.now) is
+      filled_none _ _ begun _ _ _ _ _ is
       (between_of g.R.Read.remaining c.args.payload.now c.requires.joining.payload.going) (c.requires.joining.sink.ready.1 c.requires.joining.sink.writing) c.requires.joining.sink.ready.2;
 }
 
@@ -28,25 +25,18 @@ returns-in_err-left-clause-gives g c = λ conversion content suits is begun.
     let l = c.loop-left in
     let w = g.J.Joiner.withheld in
     let p = l.invariant.filled conversion content suits is begun in
-    let stop = c.in_err-left.field-0.0 in
     let x = c.in_err-left.ensures.gives conversion _ suits p.kept_is p.fills.begun in
-    passed _ _ _ _ c.from_residual.ensures.1 (filled_stops conversion content begun c.args.n (w l.joiner) (w c.push_piece.new.joiner) l.left (seen g.R.Read.remaining c.args.payload.now) (seen g.R.Read.remaining l.payload) (seen g.R.Read.remaining c.push_piece.new.payload)
-    c.args.payload.now.place l.payload.place c.push_piece.new.payload.place (held g.W.Write.contents c.args.sink.now) (held g.W.Write.contents l.sink) (held g.W.Write.contents c.push_piece.new.sink) p c.args.column c.push_piece.new.sink.failed stop l.invariant.some x)
+    passed _ _ _ _ c.from_residual.ensures.1 (filled_stops _ _ begun _ _ (w c.push_piece.new.joiner) _ _ _ _ _ _ c.push_piece.new.payload.place _ _ _ p _ _ _ l.invariant.some x)
 
 pub returns-then-left-eq0-clause-gives : goal.returns-then-left-eq0-clause-gives
 returns-then-left-eq0-clause-gives g c = λ conversion content suits is begun.
-    let l = c.loop-left in
-    let w = g.J.Joiner.withheld in
-    let p = l.invariant.filled conversion content suits is begun in
-    let k = c.in_ok-left.field-0 in
+    let p = c.loop-left.invariant.filled conversion content suits is begun in
     let x = c.in_ok-left.ensures.gives conversion _ suits p.kept_is p.fills.begun in
-    filled_ends conversion content begun c.args.n (w l.joiner) (w c.push_piece.new.joiner) l.left (seen g.R.Read.remaining c.args.payload.now) (seen g.R.Read.remaining l.payload) (seen g.R.Read.remaining c.push_piece.new.payload)
-    c.args.payload.now.place l.payload.place c.push_piece.new.payload.place (held g.W.Write.contents c.args.sink.now) (held g.W.Write.contents l.sink) (held g.W.Write.contents c.push_piece.new.sink) p k (omega (arith, c.in_ok-left.ensures.further.within, c.if-left-eq0.true)) x
+    filled_ends _ _ begun _ _ _ _ _ _ _ _ _ _ _ _ _ p _ (omega (arith, c.in_ok-left.ensures.further.within, c.if-left-eq0.true)) x
 
 pub loop-left-preserved : goal.loop-left-preserved
 loop-left-preserved g c =
     let l = c.loop-left in
-    let w = g.J.Joiner.withheld in
     let done = c.in_ok-left.ensures in
     record {
       going = record { sound = done.leaves.payload.sound; going = done.leaves.payload.going };
@@ -59,17 +49,12 @@ loop-left-preserved g c =
       place = omega (arith, done.further.place, done.further.within, l.invariant.place);
       filled = λ conversion content suits is begun.
           let p = l.invariant.filled conversion content suits is begun in
-          let k = c.in_ok-left.field-0 in
           let x = done.gives conversion _ suits p.kept_is p.fills.begun in
-          filled_more conversion content begun c.args.n (w l.joiner) (w c.push_piece.new.joiner) l.left (seen g.R.Read.remaining c.args.payload.now) (seen g.R.Read.remaining l.payload) (seen g.R.Read.remaining c.push_piece.new.payload)
-          c.args.payload.now.place l.payload.place c.push_piece.new.payload.place (held g.W.Write.contents c.args.sink.now) (held g.W.Write.contents l.sink) (held g.W.Write.contents c.push_piece.new.sink) p k done.further.within
-          (done.leaves.sink.ready.1 done.leaves.sink.writing) done.leaves.sink.ready.2 x;
+          filled_more _ _ begun _ _ _ _ _ _ _ _ _ _ _ _ _ p _ done.further.within (done.leaves.sink.ready.1 done.leaves.sink.writing) done.leaves.sink.ready.2 x;
     }
 
 pub returns-in_err-left-clause-blames : goal.returns-in_err-left-clause-blames
-returns-in_err-left-clause-blames g c =
-    let l = c.loop-left in
-    passed _ _ _ _ c.from_residual.ensures.1 (stops_after (failures_of c.args.payload.now c.args.sink.now) (failures_of l.payload l.sink) (failures_of c.push_piece.new.payload c.push_piece.new.sink) c.in_err-left.field-0.0 l.invariant.calm c.in_err-left.ensures.blames)
+returns-in_err-left-clause-blames g c = passed _ _ _ _ c.from_residual.ensures.1 (stops_after _ _ _ c.in_err-left.field-0.0 c.loop-left.invariant.calm c.in_err-left.ensures.blames)
 
 pub returns-then-left-eq0-clause-blames : goal.returns-then-left-eq0-clause-blames
 returns-then-left-eq0-clause-blames g c = c.in_ok-left.ensures.blames ∙ c.loop-left.invariant.calm

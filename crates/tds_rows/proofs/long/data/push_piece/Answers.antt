@@ -1,4 +1,4 @@
-use Rattle.std.proofs.Common.{[], inl, refl, arith}
+use Rattle.std.proofs.Common.{inl, refl, arith}
 use Rattle.tds_packet.specs.Payloads.{seen}
 use Rattle.tds_packet.proofs.Passing.{passed}
 use Rattle.tds_packet.proofs.PayloadLaws.{at_err, at_ok}
@@ -6,24 +6,19 @@ use Rattle.tds_packet.proofs.Places.{stops_here}
 use Rattle.tds_csv.specs.Sinks.{held}
 use Rattle.tds_rows.proofs.JoinedPieces.{good_within, piece_taken, push_stops}
 use Rattle.tds_packet.proofs.WireFaults.{ends_blame}
-use Rattle.tds_rows.specs.Blames.{failures_of}
 use Rattle.tds_rows.proofs.Blames.{push_blames, read_stops, same_failures}
 use Rattle.tds_rows.proofs.long.data.push_piece.Goals as goal
 
 pub returns-in_err-piece-clause-gives : goal.returns-in_err-piece-clause-gives
 returns-in_err-piece-clause-gives g c = λ conversion content suits is begun.
-    let h = c.piece.follows.holds-at-none in
-    let stop = c.in_err-piece.field-0.0 in
-    let k = at_err _ _ _ _ c.in_err-piece.was h.2 in
-    let there = stops_here g.R.Read.remaining c.args.payload.now (seen g.R.Read.remaining c.piece.follows.lender-at-none) stop c.requires.joining.payload.going k.0 in
-    passed _ _ _ _ c.from_residual.ensures.1 (inl (record { own = stop; ends = k.0; stop_is = there; same = refl }, c.requires.joining.sink.writing))
+    let k = at_err _ _ _ _ c.in_err-piece.was c.piece.follows.holds-at-none.2 in
+    let there = stops_here g.R.Read.remaining c.args.payload.now (seen g.R.Read.remaining c.piece.follows.lender-at-none) _ c.requires.joining.payload.going k.0 in
+    passed _ _ _ _ c.from_residual.ensures.1 (inl (record { own = c.in_err-piece.field-0.0; ends = k.0; stop_is = there; same = refl }, c.requires.joining.sink.writing))
 
 pub returns-in-Ok-clause-gives : goal.returns-in-Ok-clause-gives
 returns-in-Ok-clause-gives g c = λ conversion content suits is begun.
-    let j = g.J.Joiner in
     let k = at_ok _ _ _ _ c.in_ok-piece.was c.piece.follows.holds-at-none.2 in
-    piece_taken j.fit j.begins j.rest j.text j.UNIT j.QUOTED conversion suits content (j.withheld c.args.joiner.now) is begun (j.withheld c.push.new.self) c.in_ok-piece.piece.now (seen g.R.Read.remaining c.args.payload.now)
-    (seen g.R.Read.remaining c.piece.follows.lender-at-none) c.args.payload.now.place c.piece.follows.lender-at-none.place (held g.W.Write.contents c.args.sink.now) (held g.W.Write.contents c.push.new.sink) c.in_ok-piece.ensures.len.0 k.0 k.1 k.2 c.in-Ok.ensures.gives
+    piece_taken _ _ _ _ _ _ _ suits _ _ is begun _ _ _ _ _ _ _ _ c.in_ok-piece.ensures.len.0 k.0 k.1 k.2 c.in-Ok.ensures.gives
 
 pub returns-in-Ok-clause-further : goal.returns-in-Ok-clause-further
 returns-in-Ok-clause-further g c = record {
@@ -41,27 +36,21 @@ join_stop-requires g c =
 
 pub returns-in-Err-clause-gives : goal.returns-in-Err-clause-gives
 returns-in-Err-clause-gives g c = λ conversion content suits is begun.
-    let j = g.J.Joiner in
     let k = at_ok _ _ _ _ c.in_ok-piece.was c.piece.follows.holds-at-none.2 in
-    rw (c.join_stop.ensures, c.place-place.ensures) (push_stops j.fit j.begins j.rest j.text j.UNIT j.QUOTED conversion suits content (j.withheld c.args.joiner.now) is begun (j.withheld c.push.new.self) c.in_ok-piece.piece.now c.args.column c.args.most
-    (seen g.R.Read.remaining c.args.payload.now) (seen g.R.Read.remaining c.piece.follows.lender-at-none) c.args.payload.now.place (held g.W.Write.contents c.args.sink.now) (held g.W.Write.contents c.push.new.sink) c.args.sink.now.failed c.push.new.sink.failed c.in-Err.fault
+    rw (c.join_stop.ensures, c.place-place.ensures) (push_stops _ _ _ _ _ _ _ suits _ _ is begun _ _ _ _ _ _ _ _ _ _ _ c.in-Err.fault
     (omega (arith, c.in_ok-piece.ensures.len.1, c.min.ensures)) k.0 k.1 c.requires.joining.begun c.requires.joining.sink.writing c.in-Err.ensures.failed c.in-Err.ensures.gives)
 
 pub returns-in_err-piece-clause-blames : goal.returns-in_err-piece-clause-blames
 returns-in_err-piece-clause-blames g c =
-    let stop = c.in_err-piece.field-0.0 in
-    let p = c.piece.follows.lender-at-none in
     let k = at_err _ _ _ _ c.in_err-piece.was c.piece.follows.holds-at-none.2 in
-    passed _ _ _ _ c.from_residual.ensures.1 (read_stops (failures_of c.args.payload.now c.args.sink.now) (failures_of p c.args.sink.now) stop
-    (ends_blame g.R.Read.remaining c.args.payload.now (seen g.R.Read.remaining p) [] stop c.requires.joining.payload.going k.0))
+    passed _ _ _ _ c.from_residual.ensures.1 (read_stops _ _ c.in_err-piece.field-0.0
+    (ends_blame g.R.Read.remaining c.args.payload.now (seen g.R.Read.remaining c.piece.follows.lender-at-none) _ _ c.requires.joining.payload.going k.0))
 
 pub returns-in-Ok-clause-blames : goal.returns-in-Ok-clause-blames
-returns-in-Ok-clause-blames g c =
-    let k = at_ok _ _ _ _ c.in_ok-piece.was c.piece.follows.holds-at-none.2 in
-    same_failures _ _ _ _ k.0.4.0 c.in-Ok.ensures.gives.put.4
+returns-in-Ok-clause-blames g c = same_failures _ _ _ _ (at_ok _ _ _ _ c.in_ok-piece.was c.piece.follows.holds-at-none.2).0.4.0 c.in-Ok.ensures.gives.put.4
 
 pub returns-in-Err-clause-blames : goal.returns-in-Err-clause-blames
 returns-in-Err-clause-blames g c =
     let j = g.J.Joiner in
-    rw (c.join_stop.ensures) (push_blames j.begins j.rest j.text (j.withheld c.args.joiner.now) (j.withheld c.push.new.self) (held g.W.Write.contents c.args.sink.now) (held g.W.Write.contents c.push.new.sink) c.args.sink.now.failed c.in_ok-piece.piece.now c.args.column c.place-place.result
-    c.args.payload.now.from.now.failures c.piece.follows.lender-at-none.from.now.failures c.in-Err.fault c.requires.joining.sink.writing c.in-Err.ensures.gives)
+    rw (c.join_stop.ensures) (push_blames j.begins j.rest j.text (j.withheld c.args.joiner.now) (j.withheld c.push.new.self) _ _ _ c.in_ok-piece.piece.now _ _
+    _ _ c.in-Err.fault c.requires.joining.sink.writing c.in-Err.ensures.gives)

@@ -28,17 +28,14 @@ returns-clause-ends g c =
 
 pub returns-clause-gives : goal.returns-clause-gives
 returns-clause-gives g c = λ columns knows ahead.
-    let h = held g.W.Write.contents c.args.self.now.sink.now in
-    let j = held g.W.Write.contents c.commit.new.self in
     let run = c.run_nulls-run.result in
     let written = c.run_nulls-run.new.to in
     let lies : run.used ≤ length (buffered c.args.self.now.payload.now) = search (arith, rules) in
-    let whole : length written ≡ length c.spare.result.now = c.run_nulls-run.auto.to in
     record {
       bytes = take run.used (buffered c.args.self.now.payload.now);
       text = take run.made written;
       runs = subst (λ (l : List ℕ). RunsMarked c.args.self.now.table.now columns (bit c.args.bitmap.now) c.args.from run.ahead (take run.used l) (take run.made written)) c.buffered.ensures (c.run_nulls-run.ensures.gives columns knows ahead);
       takes = c.consume.ensures.gives;
-      puts = kept_text h j c.spare.result.now written c.waiting-waiting.result whole c.waiting-waiting.ensures {U = Unit {0}} (Ok tt) run.made c.commit.ensures.gives;
+      puts = kept_text _ _ _ _ _ c.run_nulls-run.auto.to c.waiting-waiting.ensures {U = Unit {0}} (Ok tt) _ c.commit.ensures.gives;
       place_is = omega (arith, lies, ap (λ p. p.place) c.consume.ensures.rest, length-take run.used (buffered c.args.self.now.payload.now));
     }

@@ -13,25 +13,24 @@ pub returns-then-n-eq0-clause-gives : goal.returns-then-n-eq0-clause-gives
 returns-then-n-eq0-clause-gives c = λ column last.
     let kind = c.args.form.now.kind in
     let text = in_line column last (take c.write_null-made.result c.write_null-made.new.to) in
-    let at = value_there c.args.charset kind c.args.form.now.layout c.args.bytes.now c.in-Some.start c.in-Some.n c.requires.laid c.in-Some.ensures in
-    writes_scalar c.args.charset kind column last (take (c.in-Some.start + c.in-Some.n) c.args.bytes.now) text (λ charset.
+    let at = value_there _ _ _ _ _ _ c.requires.laid c.in-Some.ensures in
+    writes_scalar _ _ _ _ _ _ (λ charset.
     subst (λ (n : ℕ). WritesCell (cell_start kind (shape charset kind)) column last (take (c.in-Some.start + n) c.args.bytes.now) text) (sym c.if-n-eq0.true)
-    (null_cell charset kind column last c.args.bytes.now text at.0 c.in-Some.start at.1.0 (sym at.1.1 ∙ c.if-n-eq0.true) (search (arith, rules)) (ap (in_line column last) c.write_null-made.ensures.text)))
+    (null_cell _ _ _ _ _ _ at.0 _ at.1.0 (sym at.1.1 ∙ c.if-n-eq0.true) (search (arith, rules)) (ap (in_line column last) c.write_null-made.ensures.text)))
 
 pub returns-in-Ok-clause-gives : goal.returns-in-Ok-clause-gives
 returns-in-Ok-clause-gives c = λ column last.
     let kind = c.args.form.now.kind in
-    let at = value_there c.args.charset kind c.args.form.now.layout c.args.bytes.now c.in-Some.start c.in-Some.n c.requires.laid c.in-Some.ensures in
+    let at = value_there _ _ _ _ _ _ c.requires.laid c.in-Some.ensures in
     let start = c.in-Some.start in
     let text = in_line column last (take c.in-Ok.made c.write_scalar.new.to) in
     let behind : (start + c.in-Some.n) - start ≡ c.in-Some.n = omega arith in
     let x = c.in-Ok.ensures.written in
     let is : IsValueText kind column last (take ((start + c.in-Some.n) - start) (drop start c.args.bytes.now)) text = (x.0, x.1.0, ap (in_line column last) x.1.1.0) in
-    writes_scalar c.args.charset kind column last (take (start + c.in-Some.n) c.args.bytes.now) text (λ charset.
-    value_cell charset kind column last c.args.bytes.now text at.0 start c.in-Some.n at.1.0 at.1.1 c.if-n-eq0.false (search (arith, rules))
-    (subst (λ (m : ℕ). IsValueText kind column last (take m (drop start c.args.bytes.now)) text) behind is))
+    writes_scalar _ _ _ _ _ _ (λ charset.
+    value_cell _ _ _ _ _ _ at.0 _ _ at.1.0 at.1.1 c.if-n-eq0.false (search (arith, rules)) (rw behind at is))
 
 pub returns-in-Err-clause-gives : goal.returns-in-Err-clause-gives
 returns-in-Err-clause-gives c =
-    let at = value_there c.args.charset c.args.form.now.kind c.args.form.now.layout c.args.bytes.now c.in-Some.start c.in-Some.n c.requires.laid c.in-Some.ensures in
-    inl (at.0, refused_left c.args.form.now.kind c.args.bytes.now c.in-Some.start c.in-Some.n at.1.0 at.1.1 c.if-n-eq0.false (ap is_ok c.in-Err.ensures.refused))
+    let at = value_there _ _ _ _ _ _ c.requires.laid c.in-Some.ensures in
+    inl (at.0, refused_left _ _ _ _ at.1.0 at.1.1 c.if-n-eq0.false (ap is_ok c.in-Err.ensures.refused))

@@ -6,7 +6,7 @@ use Rattle.tds_rows.proofs.run.fields.write_int4_field.Goals as goal
 
 pub returns-clause-gives : goal.returns-clause-gives
 returns-clause-gives c =
-    let x = answered _ (Ok c.write_int4-made.result) c.write_int4-made.new.to c.write_int4-made.ensures.text in
+    let x = answered _ (Ok c.write_int4-made.result) _ c.write_int4-made.ensures.text in
     let within : c.write_comma-start.result ≤ length c.write_comma-start.new.to = search (arith, rules) in
     let some : c.write_int4-made.result ≤ length c.write_int4-made.new.to = search (arith, rules) in
-    (x.0, x.1.0, value_text c.write_comma-start.result c.write_int4-made.result c.write_line_end.result c.args.column c.args.last c.write_comma-start.new.to c.write_int4-made.new.to _ c.write_line_end.new.to (text_of x.0) within some x.1.1.0 (c.write_comma-start.ensures.text (text_of x.0)) c.write_line_end.ensures.text)
+    (x.0, x.1.0, value_text _ _ _ _ _ _ _ _ _ _ within some x.1.1.0 (c.write_comma-start.ensures.text (text_of x.0)) c.write_line_end.ensures.text)

@@ -1,8 +1,7 @@
-use Rattle.std.proofs.Common.{false, ℕ, ◌≡◌, ◌∙◌, ◌+◌, ◌-◌, ◌<◌, ◌++◌, length, take, sym, ap, subst, arith, rules}
+use Rattle.std.proofs.Common.{ℕ, ◌≡◌, ◌∙◌, ◌-◌, ◌<◌, ◌++◌, length, take, sym, ap, subst, arith, rules}
 use Rattle.std.specs.Prelude.{◌==◌, ◌&&◌}
 use Rattle.tds_csv.specs.Quoting.{end_behind}
 use Rattle.tds_rows.specs.FormRuns.{WritesForms}
-use Rattle.tds_rows.specs.MarkedRuns.{WritesMarked}
 use Rattle.tds_rows.proofs.FormSteps.{before_comma, first_alone, run_marked}
 use Rattle.tds_rows.proofs.run.forms.run_forms.Goals as goal
 
@@ -14,7 +13,7 @@ before_end : (c : goal.After-slice_known-3-1) → take (c.write_fields-run.resul
 before_end c =
     let run = c.write_fields-run in
     let some : 0 < run.result.cells = omega (arith, c.if-run-eq0.false) in
-    before_comma run.result.made (c.args.column + run.result.cells) run.new.to run.ensures.gives.0 (omega (arith, some)) (search (arith, rules)) run.ensures.gives.2
+    before_comma _ _ _ _ (omega (arith, some)) (search (arith, rules)) run.ensures.gives.2
 
 pub returns-clause-one : goal.returns-clause-one
 returns-clause-one c = λ alone.
@@ -22,13 +21,11 @@ returns-clause-one c = λ alone.
     let x = run.ensures.gives in
     let one = subst (λ (n : ℕ). WritesForms c.args.charset c.args.forms.now c.args.column n (take run.result.used c.args.bytes.now) x.0) alone x.1 in
     let text = c.write_line_end-made.ensures.text ∙ (λ i. before_end c i ++ end_behind (c.is_last-last.ensures i)) ∙ ap (λ (n : ℕ). x.0 ++ end_behind (c.args.ends && (n == length c.args.forms.now))) alone in
-    first_alone c.args.charset c.args.forms.now c.args.column c.args.bytes.now c.args.ends c.write_line_end-made.new.to run.result.used c.write_line_end-made.result x.0 (run.ensures.one alone) one text
+    first_alone _ _ _ _ _ _ _ _ _ (run.ensures.one alone) one text
 
 pub returns-clause-gives : goal.returns-clause-gives
 returns-clause-gives c = λ columns next.
     let run = c.write_fields-run in
-    let x = run.ensures.gives in
     let some : 0 < run.result.cells = omega (arith, c.if-run-eq0.false) in
     let text = c.write_line_end-made.ensures.text ∙ (λ i. before_end c i ++ end_behind (c.is_last-last.ensures i)) in
-    subst (λ l. WritesMarked c.args.charset columns (λ k. false) c.args.column run.result.cells (take run.result.used c.args.bytes.now) l) (sym text)
-    (run_marked c.args.charset c.args.forms.now c.args.column c.args.ends columns next run.result.cells (take run.result.used c.args.bytes.now) x.0 some run.ensures.within.cells x.1)
+    rw (sym text) at (run_marked _ _ _ _ _ next _ _ _ some run.ensures.within.cells run.ensures.gives.1)

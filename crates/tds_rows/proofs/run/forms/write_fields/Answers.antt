@@ -1,7 +1,7 @@
 use Rattle.std.proofs.Common.{inr, ◌≡◌, ◌∙◌, ◌+◌, ◌-◌, ◌<◌, ◌≤◌, ℕ, List, length, take, drop, get_or, refl, ap, subst, arith, rules, length-take, length-drop}
 use Rattle.tds_columns.proofs.ViewLaws.{all_behind}
 use Rattle.tds_rows.specs.declared.form.Form.{Form}
-use Rattle.tds_rows.specs.CellSteps.{IsLeft, WritesField, whole_size}
+use Rattle.tds_rows.specs.CellSteps.{WritesField, whole_size}
 use Rattle.tds_rows.proofs.FormSteps.{fields_more, fields_none, first_used, left_less}
 use Rattle.tds_rows.proofs.RunSteps.{made_same, whole_some}
 use Rattle.tds_rows.proofs.run.forms.write_fields.Goals as goal
@@ -17,7 +17,7 @@ loop-cells-init c =
       some = λ never. absurd (omega (arith, never));
       room = λ never. absurd (omega (arith, never));
       one = λ never. absurd (omega (arith, never));
-      writes = fields_none c.args.charset c.args.forms.now c.args.column c.args.bytes.now made.result made.new.to made.ensures.text;
+      writes = fields_none c.args.charset c.args.forms.now _ c.args.bytes.now _ _ made.ensures.text;
     }
 
 pub loop-cells-preserved : goal.loop-cells-preserved
@@ -51,17 +51,14 @@ returns-in_default-write_cell-clause-ends c = λ first form others are.
     let begun = l.invariant.begun first in
     let d = c.index-forms-cells.result in
     let lent = take (length l.to - l.made) (drop l.made l.to) in
-    let rest = take (length bytes - l.used) (drop l.used bytes) in
     let room : length c.args.to.now ≤ length lent + 1 = omega (arith, begun.1, l.auto.to, length-take (length l.to - l.made) (drop l.made l.to), length-drop l.made l.to) in
     let there : d ≡ get_or c.args.forms.now l.cells d = search (arith, rules) in
     let form_is : d ≡ form = there ∙ ap (λ (n : ℕ). get_or c.args.forms.now n d) first ∙ ap (λ (f : List Form). get_or f 0 d) are in
-    let bytes_are : rest ≡ bytes = all_behind bytes l.used ∙ ap (λ n. drop n bytes) begun.0 in
-    inr (left_less c.args.charset form.kind bytes (length c.args.to.now) (length lent + 1) room
-    (subst (λ (b : List ℕ). IsLeft c.args.charset form.kind b (length lent + 1)) bytes_are
-    (subst (λ (f : Form). IsLeft c.args.charset f.kind rest (length lent + 1)) form_is c.in_default-write_cell.ensures.gives)))
+    let bytes_are : (take (length bytes - l.used) (drop l.used bytes)) ≡ bytes = all_behind bytes l.used ∙ ap (λ n. drop n bytes) begun.0 in
+    inr (left_less _ _ _ _ _ room (rw bytes_are at (rw form_is at c.in_default-write_cell.ensures.gives)))
 
 pub returns-in_default-write_cell-clause-gives : goal.returns-in_default-write_cell-clause-gives
 returns-in_default-write_cell-clause-gives c =
     let l = c.loop-cells in
     let x = l.invariant.writes in
-    (x.0, x.1, made_same l.made l.to _ l.invariant.made ∙ x.2)
+    (x.0, x.1, made_same _ _ _ l.invariant.made ∙ x.2)

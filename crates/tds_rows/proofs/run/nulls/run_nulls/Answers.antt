@@ -1,4 +1,4 @@
-use Rattle.std.proofs.Common.{inl, ℕ, ◌≡◌, ◌∙◌, ◌+◌, ◌-◌, ◌<◌, ◌≤◌, Bool, List, [], ◌∷◌, refl, sym, ap, length, take, drop, subst, arith, rules, length-take, length-drop}
+use Rattle.std.proofs.Common.{inl, ℕ, ◌≡◌, ◌∙◌, ◌+◌, ◌-◌, ◌<◌, ◌≤◌, Bool, [], ◌∷◌, refl, sym, ap, length, take, drop, subst, arith, rules, length-take, length-drop}
 use Rattle.std.specs.Prelude.{true, false}
 use Rattle.tds_columns.proofs.ViewLaws.{all_behind}
 use Rattle.tds_csv.specs.Quoting.{in_line, null_field}
@@ -6,7 +6,6 @@ use Rattle.tds_rows.specs.CellSteps.{HasInt4, int4_kind, is_last}
 use Rattle.tds_rows.specs.MarkedRuns.{WritesNext}
 use Rattle.tds_rows.specs.Tables.{one_on}
 use Rattle.tds_rows.specs.Rows.{bit}
-use Rattle.tds_rows.specs.Runs.{RunEnds}
 use Rattle.tds_rows.proofs.MarkedSteps.{runs_null, runs_one}
 use Rattle.tds_rows.proofs.RunSteps.{writes_int4}
 use Rattle.tds_rows.proofs.Stretches.{ends_clear, runs_clear, runs_more}
@@ -18,10 +17,7 @@ use Rattle.tds_rows.proofs.run.nulls.run_nulls.Goals as goal
 pub loop-to-preserved-then-end-ahead : goal.loop-to-preserved-then-end-ahead
 loop-to-preserved-then-end-ahead c =
     let l = c.loop-to in
-    let table = c.args.table.now in
-    let bytes = c.args.bytes.now in
     let bits = bit c.args.bitmap.now in
-    let after = c.after-ahead.result in
     let end = c.clear_end-end in
     let made = c.write_null-made.result in
     let text = c.write_null-made.new.to in
@@ -35,12 +31,12 @@ loop-to-preserved-then-end-ahead c =
       clear = λ k least most. absurd (omega (arith, least, most, at, c.after-ahead.ensures.further));
       writes = λ columns knows ahead.
           let ran = l.invariant.writes columns knows ahead in
-          let one = next_any columns l.ahead table.count knows.counted (omega (arith, c.count.ensures, c.if-ahead-count.true)) in
-          let taken = takes table columns l.ahead after one.0 one.1 c.after-ahead.ensures.further (c.after-ahead.ensures.gives columns knows ran.ahead) in
-          let left = drop after.column columns in
-          let last = c.is_last.ensures ∙ last_one columns left taken.column l.ahead.column table.count knows.counted taken.next in
+          let one = next_any _ _ _ knows.counted (omega (arith, c.count.ensures, c.if-ahead-count.true)) in
+          let taken = takes _ _ _ _ _ one.1 c.after-ahead.ensures.further (c.after-ahead.ensures.gives columns knows ran.ahead) in
+          let left = drop c.after-ahead.result.column columns in
+          let last = c.is_last.ensures ∙ last_one _ _ _ _ _ knows.counted taken.next in
           let line : take made text ≡ in_line l.ahead.column (is_last left) null_field = c.write_null-made.ensures.text ∙ ap (λ (k : ℕ). in_line k c.is_last.result null_field) at ∙ ap (λ (e : Bool). in_line l.ahead.column e null_field) last in
-          runs_null table columns bits c.args.from l.ahead after one.0 (is_last left) l.used l.made made bytes l.to text _ l.invariant.made within taken refl null line ran;
+          runs_null _ _ _ _ _ _ _ _ _ _ _ _ _ _ _ l.invariant.made within taken refl null line ran;
     }
 
 -- a whole number of four bytes
@@ -48,7 +44,6 @@ pub loop-to-preserved-in-loop-to : goal.loop-to-preserved-in-loop-to
 loop-to-preserved-in-loop-to c =
     let l = c.loop-to in
     let table = c.args.table.now in
-    let bits = bit c.args.bitmap.now in
     let end = c.clear_end-end in
     let behind = one_on l.ahead in
     let start = c.in-Some.start in
@@ -59,10 +54,10 @@ loop-to-preserved-in-loop-to c =
     let there = take (length c.args.bytes.now - l.used) (drop l.used c.args.bytes.now) in
     let has : HasInt4 start there = c.has_int4.ensures.so c.if-has_int4.true in
     let most : start ≤ 1 = c.in-Some.ensures.most in
-    let wrote = writes_int4 table.charset start ((start + 4) - start) l.ahead.column last.result there (take made text) most (omega arith) has c.write_int4_field-made.ensures.gives in
+    let wrote = writes_int4 _ _ _ _ _ _ _ most (omega arith) has c.write_int4_field-made.ensures.gives in
     let within : made ≤ length text = search (arith, rules) in
     let before : l.ahead.column < end.result = omega (arith, end.ensures.least, c.if-end-ahead.false) in
-    let clear : bits l.ahead.column ≡ false = end.ensures.clear l.ahead.column (omega arith) before in
+    let clear : (bit c.args.bitmap.now) l.ahead.column ≡ false = end.ensures.clear l.ahead.column (omega arith) before in
     record {
       used = search (arith, rules);
       made = search (arith, rules);
@@ -71,18 +66,14 @@ loop-to-preserved-in-loop-to c =
       writes = λ columns knows ahead.
           let x = l.invariant.writes columns knows ahead in
           let taken = c.in-Some.ensures.gives columns knows x.ahead in
-          let left = drop behind.column columns in
-          let ends = last.ensures ∙ last_one columns left taken.column l.ahead.column table.count knows.counted taken.next in
           let cell = subst (λ (e : Bool). WritesNext table.charset e kind l.ahead.column last.result (take (start + 4) there) (take made text)) (sym clear) wrote.whole in
-          runs_one table columns bits c.args.from l.ahead behind kind last.result l.used (start + 4) l.made made c.args.bytes.now l.to text _ l.invariant.made within taken ends cell x;
+          runs_one _ _ _ _ _ _ _ _ _ _ _ _ _ _ _ _ l.invariant.made within taken (last.ensures ∙ last_one _ _ _ _ _ knows.counted taken.next) cell x;
     }
 
 -- a run over columns that aren't
 pub loop-to-preserved : goal.loop-to-preserved
 loop-to-preserved c =
     let l = c.loop-to in
-    let table = c.args.table.now in
-    let bits = bit c.args.bitmap.now in
     let end = c.clear_end-end in
     let ran = c.run_cells-cells in
     let cells = ran.result in
@@ -96,8 +87,8 @@ loop-to-preserved c =
       clear = λ k least most. end.ensures.clear k (omega (arith, further, least)) most;
       writes = λ columns knows ahead.
           let x = l.invariant.writes columns knows ahead in
-          let y = runs_clear table columns bits l.ahead cells.ahead _ _ (λ k least most. end.ensures.clear k least (omega (arith, most, within))) (ran.ensures.gives columns knows x.ahead) in
-          runs_more table columns bits c.args.from l.ahead cells.ahead l.used cells.used l.made cells.made c.args.bytes.now l.to ran.new.to _ l.invariant.made some x y;
+          let y = runs_clear _ _ _ _ _ _ _ (λ k least most. end.ensures.clear k least (omega (arith, most, within))) (ran.ensures.gives columns knows x.ahead) in
+          runs_more _ _ _ _ _ _ _ _ _ _ _ _ _ _ l.invariant.made some x y;
     }
 
 pub returns-clause-ends : goal.returns-clause-ends
@@ -107,12 +98,10 @@ returns-clause-ends c = λ columns column left knows ahead step.
     let bits = bit c.args.bitmap.now in
     elim c.loop-to-test.branch [
       | else-loop-to-test w ↦ inl (omega (arith, w.loop-to-test.false, l.auto.to))
-      | then-loop-to-test+else-ahead-count w ↦ absurd (let none = none_next columns l.ahead.column c.args.table.now.count knows.counted (omega (arith, w.count.ensures, w.if-ahead-count.false)) in let e : column ∷ left ≡ [] = sym step ∙ none in omega (arith, ap length e))
+      | then-loop-to-test+else-ahead-count w ↦ absurd (let none = none_next _ _ _ knows.counted (omega (arith, w.count.ensures, w.if-ahead-count.false)) in let e : column ∷ left ≡ [] = sym step ∙ none in omega (arith, ap length e))
       | then-loop-to-test+then-ahead-count+else-end-ahead+in_default+then-cells-eq0 w ↦ (let lent = take (length l.to - l.made) (drop l.made l.to) in
           let room : length lent ≡ length c.args.to.now - l.made = omega (arith, l.auto.to, length-take (length l.to - l.made) (drop l.made l.to), length-drop l.made l.to) in
           let before : l.ahead.column < w.clear_end-end.result = omega (arith, w.clear_end-end.ensures.least, w.if-end-ahead.false) in
-          let clear : bits l.ahead.column ≡ false = w.clear_end-end.ensures.clear l.ahead.column (omega arith) before in
-          let run = subst (λ (n : ℕ). RunEnds c.args.table.now l.ahead (drop l.used bytes) n) room
-          (subst (λ (b : List ℕ). RunEnds c.args.table.now l.ahead b (length lent)) (all_behind bytes l.used) (w.run_cells-cells.ensures.ends w.if-cells-eq0.true before)) in
-          ends_clear c.args.table.now bits l.ahead (drop l.used bytes) (length c.args.to.now - l.made) clear run columns column left knows ahead step)
+          let run = rw room at (rw (all_behind bytes l.used) at (w.run_cells-cells.ensures.ends w.if-cells-eq0.true before)) in
+          ends_clear _ bits _ _ _ (w.clear_end-end.ensures.clear l.ahead.column (omega arith) before) run columns column left knows ahead step)
     ]

@@ -11,7 +11,7 @@ use Rattle.tds_rows.proofs.run.short.write_short.Goals as goal
 
 pub returns-then-n-clause-gives : goal.returns-then-n-clause-gives
 returns-then-n-clause-gives c = λ column last.
-    short_null column (Wide Short) (conversion_of c.args.content) last c.args.bytes.now (in_line column last (take c.write_null-made.result c.write_null-made.new.to)) (omega (arith, c.if-bytes-lt2.false)) (c.type_inv.bytes 0).fits (c.type_inv.bytes 1).fits
+    short_null _ (Wide Short) _ _ _ _ (omega (arith, c.if-bytes-lt2.false)) (c.type_inv.bytes 0).fits (c.type_inv.bytes 1).fits
     c.if-n.true (ap (in_line column last) c.write_null-made.ensures.text)
 
 pub returns-clause-gives : goal.returns-clause-gives

@@ -6,6 +6,6 @@ use Rattle.tds_rows.proofs.table.Table.after.Goals as goal
 
 pub returns-clause-gives : goal.returns-clause-gives
 returns-clause-gives c = λ columns knows ahead. elim c.if-at-self.branch [
-  | then-at-self w ↦ behind_walked c.args.self.now columns c.args.at _ knows ahead refl c.requires w.if-at-self.true (ap columns_left w.walk-is ∙ walk_behind c.args.at.walk w.next.new.self w.next.result w.next.ensures.steps)
-  | else-at-self w ↦ behind_known c.args.self.now columns c.args.at _ knows ahead refl c.requires (omega (arith, w.if-at-self.false)) (ap columns_left w.walk-is)
+  | then-at-self w ↦ behind_walked _ _ _ _ knows ahead refl c.requires w.if-at-self.true (ap columns_left w.walk-is ∙ walk_behind c.args.at.walk w.next.new.self w.next.result w.next.ensures.steps)
+  | else-at-self w ↦ behind_known _ _ _ _ knows ahead refl c.requires (omega (arith, w.if-at-self.false)) (ap columns_left w.walk-is)
 ]

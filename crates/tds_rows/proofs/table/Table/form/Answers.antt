@@ -6,5 +6,5 @@ pub returns-then-at-self : goal.returns-then-at-self
 returns-then-at-self c = record {
   laid = c.args.self.now.laid c.args.at.column c.index-self-at.result (search (arith, rules));
   gives = λ columns knows ahead.
-      next_known c.args.self.now columns c.args.at _ knows ahead c.index-self-at.result (search (arith, rules)) c.if-at-self.true (search (arith, rules)) refl;
+      next_known _ _ _ _ knows ahead _ (search (arith, rules)) c.if-at-self.true (search (arith, rules)) refl;
 }

@@ -5,4 +5,4 @@ use Rattle.tds_rows.proofs.table.Table.forms.Goals as goal
 pub returns-then-from-self : goal.returns-then-from-self
 returns-then-from-self c =
     let table = c.args.self.now in
-    known_ahead table c.args.at c.args.end _ table.laid (search (arith, rules)) (search (arith, rules)) (search (arith, rules)) (search (arith, rules)) table.few
+    known_ahead _ _ _ _ table.laid (search (arith, rules)) (search (arith, rules)) (search (arith, rules)) (search (arith, rules)) table.few

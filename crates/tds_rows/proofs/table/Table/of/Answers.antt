@@ -11,7 +11,7 @@ loop-known-init c = record {
   few = search (arith, rules);
   whole = search (arith, rules);
   first = search (arith, rules);
-  laid = laid_all c.args.charset 64 c.of-forms.result c.of-forms.ensures.laid;
+  laid = laid_all _ 64 c.of-forms.result c.of-forms.ensures.laid;
   rest = search (arith, rules);
 }
 
