@@ -1,26 +1,26 @@
 -- What an export answers of an accepted response: it succeeds, but for a device that fails.
-use Rattle.std.proofs.Common.{◌≡◌, ◌∙◌, inl, inr, ℕ, ◌+◌, ◌<◌, ◌≤◌, Bool, true, false, List, [], ◌∷◌, ◌++◌, length, take, drop, refl, sym, ap, subst, arith, append_assoc, append-nil, take-append-drop}
-use Rattle.std.specs.Prelude.{◌==◌, Some, None, Result, Ok, Err, if◌then◌else◌}
+use Rattle.std.proofs.Common.{◌≡◌, ◌∙◌, inl, inr, ℕ, ◌+◌, ◌≤◌, List, [], ◌∷◌, ◌++◌, length, take, drop, refl, sym, ap, subst, arith, append_assoc, append-nil, take-append-drop}
+use Rattle.std.specs.Prelude.{◌==◌, Some, Result, Ok, Err}
 use Rattle.std.proofs.lemmas.Grind.{flat_map-append}
-use Rattle.tds_packet.specs.declared.fault.Fault.{Fault}
-use Rattle.tds_packet.specs.declared.fault.Fault.TheVariants.{EndWithoutDone}
-use Rattle.tds_packet.specs.declared.fault.Place.{Place}
-use Rattle.tds_packet.specs.declared.fault.Place.TheVariants.{Wire, Payload, Text}
-use Rattle.tds_packet.specs.Elements.{IsRefused, Longest}
-use Rattle.tds_packet.proofs.Feeding.{Reading, feed_all}
-use Rattle.tds_packet.specs.Packets.{AreBefore, BeforeBody, BeforeHeader, BehindLast, Message, Packet, WireFault, WirePart, WirePlace, header_length, no_wire, packet_of, payload_of, wire, wire_add, wire_end, wire_of, wire_size, with_packet}
-use Rattle.tds_packet.proofs.ElementLaws.{Spelt-induct, Told, feed-Spelt, feed_all-append, longest_cut, one_longest, read_longest, told}
-use Rattle.tds_packet.proofs.PacketLaws.{before_are_read, before_packet}
-use Rattle.tds_packet.proofs.MessageLaws.{behind as behind_last, one_message, read_to_end}
-use Rattle.tds_meter.specs.Counts.{Rose}
+use Rattle.tds_export.specs.Moments.{Run}
+use Rattle.tds_export.specs.Outcome.{Outcome, Packets, Stops, SucceedsIfAccepted, grammar, report_of}
+use Rattle.tds_export.specs.Response.{Accepted, Response}
+use Rattle.tds_export.specs.Steps.{behind}
+use Rattle.tds_export.specs.TokenGrammar.{Part, response_start}
+use Rattle.tds_export.specs.Tokens.{Token, error_text, text}
 use Rattle.tds_export.specs.declared.report.Report.{Report}
 use Rattle.tds_export.specs.declared.report.Stopped.{Stopped}
-use Rattle.tds_export.specs.Tokens.{Token, error_text, is_final, text}
-use Rattle.tds_export.specs.Response.{Accepted, Response}
-use Rattle.tds_export.specs.Moments.{Run}
-use Rattle.tds_export.specs.Outcome.{Outcome, Packets, Reported, Stops, SucceedsIfAccepted, grammar, report_of}
-use Rattle.tds_export.specs.TokenGrammar.{Part, response_start}
-use Rattle.tds_export.specs.Steps.{behind}
+use Rattle.tds_meter.specs.Counts.{Rose}
+use Rattle.tds_packet.proofs.Choices.{choose}
+use Rattle.tds_packet.proofs.Feeding.{Reading, feed_all}
+use Rattle.tds_packet.specs.Elements.{IsRefused, Longest}
+use Rattle.tds_packet.specs.Packets.{AreBefore, BeforeBody, BeforeHeader, BehindLast, Message, Packet, WireFault, WirePart, WirePlace, header_length, no_wire, packet_of, payload_of, wire, wire_add, wire_end, wire_of, wire_size, with_packet}
+use Rattle.tds_packet.specs.declared.fault.Fault.{Fault}
+use Rattle.tds_packet.specs.declared.fault.Place.TheVariants.{Wire, Payload, Text}
+use Rattle.tds_packet.specs.declared.fault.Place.{Place}
+use Rattle.tds_packet.proofs.ElementLaws.{Told, Spelt-induct, feed-Spelt, feed_all-append, longest_cut, one_longest, read_longest, told}
+use Rattle.tds_packet.proofs.PacketLaws.{before_are_read, before_packet}
+use Rattle.tds_packet.proofs.MessageLaws.{behind as behind_last, one_message, read_to_end}
 use Rattle.tds_export.proofs.ResponseLaws.{one_accepted, refused_response, response_is_read}
 
 -- ---- packets at the front of a message
@@ -29,15 +29,12 @@ use Rattle.tds_export.proofs.ResponseLaws.{one_accepted, refused_response, respo
 abbrev pub BeginsWith : List Packet → List Packet → Type 0
 BeginsWith packets front = (tail : List Packet) × (front ++ tail ≡ packets)
 
-one_of : (P : WirePart → Type 0) (b : Bool) (x y : WirePart) → P x → P y → P (if b then x else y)
-one_of P true x y p q = p
-one_of P false x y p q = q
-
 begins_more : (front packets : List Packet) (p : Packet) → BeginsWith packets front → BeginsWith (packets ++ p ∷ []) front
 begins_more front packets p h = (h.0 ++ p ∷ [], sym (append_assoc front h.0 (p ∷ [])) ∙ ap (λ l. l ++ p ∷ []) h.1)
 
 pub begins_added : (front packets : List Packet) (place : WirePlace) (element : List ℕ) → BeginsWith packets front → BeginsWith (wire_add packets place element).packets front
-begins_added front packets BeforeHeader element h = one_of (λ w. BeginsWith w.packets front) (header_length element == 8) (with_packet packets (packet_of element [])) (record { packets = packets; place = BeforeBody element }) (begins_more front packets (packet_of element []) h) h
+begins_added front packets BeforeHeader element h =
+    choose (λ w. BeginsWith w.packets front) (header_length element == 8) (with_packet packets (packet_of element [])) (record { packets = packets; place = BeforeBody element }) (λ z. begins_more front packets (packet_of element []) h) (λ z. h)
 begins_added front packets (BeforeBody header) element h = begins_more front packets (packet_of header element) h
 begins_added front packets BehindLast element h = h
 
@@ -61,7 +58,7 @@ no_wire_fault size limit input wires unread packets read fault m e f =
     let l = read_longest g no_wire input (Reading (behind_last size limit packets) unread) (subst (λ p. Told g no_wire input p) fed (told g no_wire input)) in
     let same : f.read ≡ behind_last size limit packets = (one_longest g no_wire input f.taken (length l.0) f.read (behind_last size limit packets) f.longest l.2).1 in
     elim f.first [
-      | inl r ↦ nothing (wire_size f.read.place) (ap (λ (w : WirePart). wire_size w.place) same) r.some
+      | inl r ↦ omega (arith, r.some, ap (λ (w : WirePart). wire_size w.place) same)
       | inr r ↦ no_end f.read.place (ap (λ (w : WirePart). w.place) same) r.1
     ]
   where
@@ -69,9 +66,6 @@ no_wire_fault size limit input wires unread packets read fault m e f =
     no_end BeforeHeader e h = cc
     no_end (BeforeBody header) e h = cc
     no_end BehindLast e h = cc
-
-    nothing : (n : ℕ) → n ≡ 0 → 0 < n → ⊥
-    nothing n e h = omega (arith, e, h)
 
 -- ---- no stop of an accepted response is one of the input
 
@@ -81,12 +75,7 @@ ended_accepted run tokens payload place part fault r l end =
     let read = response_is_read run.given.charset run.given.before.areas.limits.column_room tokens payload r in
     let all = subst (λ v. Longest g response_start v (length payload) (behind tokens)) (append-nil payload) (longest_cut g response_start payload [] (behind tokens) read (omega arith)) in
     let same : part ≡ behind tokens = (one_longest g response_start payload place (length payload) part (behind tokens) l all).1 in
-    let ends : g.end_fault (behind tokens) ≡ Some fault = ap g.end_fault (sym same) ∙ end in
-    final_ends (is_final tokens) r.final fault ends
-  where
-    final_ends : (b : Bool) → b ≡ true → (fault : Fault) → (if b then None else Some EndWithoutDone) ≡ Some fault → ⊥
-    final_ends true e fault h = cc
-    final_ends false e fault h = cc
+    grind (arith, response_is_read, append-nil, longest_cut, one_longest)
 
 refused_accepted : (run : Run) (tokens : List Token) (payload more : List ℕ) (place : ℕ) (part : Part) (fault : Fault) → Response run.given.charset run.given.before.areas.limits.column_room tokens (payload ++ more) → Longest (grammar run) response_start payload place part → IsRefused (grammar run) part (drop place payload) fault → ⊥
 refused_accepted run tokens payload more place part fault r l refused =
@@ -118,9 +107,9 @@ none_stops run fault (Wire taken) x tokens packets a reads writes = elim x.first
 ]
 none_stops run fault (Text written) x tokens packets a reads writes = writes x.failed
 
--- a report that is answered is that of the accepted response
-reported_succeeds : (run : Run) (report : Report) → Reported run report → SucceedsIfAccepted run (Ok report)
-reported_succeeds run report r = λ tokens packets accepted reads writes.
+-- an answer that is true of an accepted response is its report
+pub outcome_succeeds : (run : Run) (result : Result Report Stopped) → Outcome run result → SucceedsIfAccepted run result
+outcome_succeeds run (Ok report) r = λ tokens packets accepted reads writes.
     let same = one_accepted run.given.charset run.given.before.areas.limits.column_room run.given.before.areas.limits.packet_size run.given.before.areas.limits.max_wire tokens r.tokens packets r.packets run.input accepted r.accepted in
     record {
       report_is = ap (λ v. Ok v) (r.report_is ∙ ap report_of (sym same.0));
@@ -128,8 +117,4 @@ reported_succeeds run report r = λ tokens packets accepted reads writes.
       notice = r.notice ∙ ap error_text (sym same.0);
       stands = subst (λ v. Packets run v) (sym same.1) r.stands;
     }
-
--- an answer that is true of an accepted response is its report
-pub outcome_succeeds : (run : Run) (result : Result Report Stopped) → Outcome run result → SucceedsIfAccepted run result
-outcome_succeeds run (Ok report) r = reported_succeeds run report r
 outcome_succeeds run (Err stopped) r = λ tokens packets a reads writes. absurd (none_stops run stopped.fault stopped.place r.stop tokens packets a reads writes)

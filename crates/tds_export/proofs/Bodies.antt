@@ -1,25 +1,25 @@
 -- Tokens with a Length and a body of which nothing is kept.
 use Rattle.std.proofs.Common.{◌≡◌, ◌∙◌, inl, ℕ, ◌+◌, ◌-◌, ◌^◌, ◌<◌, ◌≤◌, Bool, false, List, [], ◌∷◌, ◌++◌, length, refl, sym, ap, subst, arith, append-nil, length-append}
+use Rattle.std.specs.Prelude.{Some, None, ◌&&◌, not, nat_lt, if◌then◌else◌}
 use Rattle.std.proofs.lemmas.Bool.{ne_eqb}
-use Rattle.std.specs.Prelude.{Some, None, ◌==◌, ◌&&◌, not, nat_lt, if◌then◌else◌}
 use Rattle.byteorder.specs.Endian.{little_number}
-use Rattle.tds_values.specs.Numbers.{little}
+use Rattle.tds_csv.specs.Sinks.{Held}
+use Rattle.tds_export.specs.Steps.{IsHolding, ReadsTokens, StepStops, TracksBefore, behind, in_length}
+use Rattle.tds_export.specs.TokenBytes.{Bodied}
+use Rattle.tds_export.specs.TokenGrammar.{Part, TokenBody, TokenLength, bodied, holds_notice, is_notice, part_fault, response, with_token}
+use Rattle.tds_export.specs.Tokens.{Token}
+use Rattle.tds_export.specs.declared.progress.Progress.{Progress}
 use Rattle.tds_meter.specs.Space.{Space}
-use Rattle.tds_packet.specs.declared.fault.Fault.TheVariants.{BadNotice}
-use Rattle.tds_packet.specs.declared.fault.Stop.{Stop}
-use Rattle.tds_packet.specs.Elements.{Spelt}
-use Rattle.tds_packet.specs.Reading.{StopsReading}
-use Rattle.tds_packet.specs.Seen.{Seen, Takes, Ends, began_at}
 use Rattle.tds_packet.proofs.Choices.{choose_false}
 use Rattle.tds_packet.proofs.ElementLaws.{Spelt-append, Spelt-step}
 use Rattle.tds_packet.proofs.Steps.{stops_after, takes_both}
-use Rattle.tds_csv.specs.Sinks.{Held}
+use Rattle.tds_packet.specs.Elements.{Spelt}
+use Rattle.tds_packet.specs.Reading.{StopsReading}
+use Rattle.tds_packet.specs.Seen.{Seen, Takes, Ends, began_at}
+use Rattle.tds_packet.specs.declared.fault.Fault.TheVariants.{BadNotice}
+use Rattle.tds_packet.specs.declared.fault.Stop.{Stop}
 use Rattle.tds_rows.specs.declared.Charset.{Charset}
-use Rattle.tds_export.specs.declared.progress.Progress.{Progress}
-use Rattle.tds_export.specs.Tokens.{Token}
-use Rattle.tds_export.specs.TokenBytes.{Bodied}
-use Rattle.tds_export.specs.TokenGrammar.{Part, TokenBody, TokenLength, bodied, holds_notice, is_notice, part_fault, response, with_token}
-use Rattle.tds_export.specs.Steps.{IsHolding, ReadsTokens, StepStops, TracksBefore, behind, in_length}
+use Rattle.tds_values.specs.Numbers.{little}
 use Rattle.tds_export.proofs.TokenLaws.{bare_body, tracks_body}
 use Rattle.tds_export.proofs.TokenSteps.{bare_reads, part_cut, same_text}
 
@@ -33,22 +33,16 @@ module _ (charset : Charset) (room : ℕ) (tokens : List Token) (which : Bodied)
 
   -- the Length was read, and a body follows
   length_spelt : (element : List ℕ) (n : ℕ) → length element ≡ 2 → little element ≡ n → 0 < n → Spelt (response charset room) (in_length which tokens) element (in_body n)
-  length_spelt element n two is some =
-      Spelt-step (response charset room) (in_length which tokens) element (in_body n) (omega (arith, two)) two (length_free element)
-      (ap (λ m. if m == 0 then with_token tokens (bodied which []) else in_body m) is ∙ choose_false (n == 0) (with_token tokens (bodied which [])) (in_body n) (ne_eqb n 0 (λ q. omega (arith, some, q))))
+  length_spelt element n two is some = grind (arith, Spelt-step, choose_false, length_free, ne_eqb)
 
   -- the Length and the body were read
   body_spelt : (element body : List ℕ) → length element ≡ 2 → length body ≡ little element → Spelt (response charset room) (in_length which tokens) (element ++ body) (behind (tokens ++ bodied which body ∷ []))
-  body_spelt element [] two is =
-      let to = with_token tokens (bodied which []) in
-      subst (λ l. Spelt (response charset room) (in_length which tokens) l to) (sym (append-nil element))
-      (Spelt-step (response charset room) (in_length which tokens) element to (omega (arith, two)) two (length_free element) (ap (λ m. if m == 0 then to else in_body m) (sym is)))
+  body_spelt element [] two is = grind (arith, Spelt-step, append-nil, length_free)
   body_spelt element (x ∷ xs) two is =
       let n : ℕ = length (x ∷ xs) in
       let to = with_token tokens (bodied which (x ∷ xs)) in
-      let free : part_fault room tokens (TokenBody which n) (x ∷ xs) ≡ None = ap (λ v. if v && not (holds_notice (x ∷ xs)) then Some BadNotice else None) quiet in
       Spelt-append (response charset room) (in_length which tokens) element (in_body n) (x ∷ xs) to (length_spelt element n two (sym is) (omega arith))
-      (Spelt-step (response charset room) (in_body n) (x ∷ xs) to (omega arith) refl free refl)
+      (Spelt-step (response charset room) (in_body n) (x ∷ xs) to (omega arith) refl (ap (λ v. if v && not (holds_notice (x ∷ xs)) then Some BadNotice else None) quiet) refl)
 
   pub body_reads : (area : Space) (sink : Held) (progress : Progress) (element body : List ℕ) (n : ℕ) (a b c : Seen) (place middle place' : ℕ) → length element ≡ 2 → n ≡ little_number 2 element → length body ≡ n → middle ≡ place + length element → place' ≡ middle + n
       → sink.delivered ≤ 2 ^ 64 - 1 → TracksBefore progress tokens → IsHolding area (behind tokens) → Takes a b element (length element) → Takes b c body n

@@ -1,27 +1,26 @@
 -- What completes a cell is read as its rest.
-use Rattle.std.proofs.Common.{◌≡◌, ◌≢◌, inl, inr, ℕ, zero, suc, ◌+◌, ◌-◌, ◌%◌, ◌^◌, ◌<◌, ◌≤◌, Bool, true, false, List, [], ◌∷◌, ◌++◌, length, replicate, refl, sym, ◌∙◌, ap, subst, arith, add-one, length-append, append_assoc}
-use Rattle.std.specs.Prelude.{Option, Some, None, ◌==◌, ◌&&◌, ◌||◌, nat_lt, nat_le, Result, Ok, Err, is_ok, slice_index, if◌then◌else◌, option_map, unwrap_or}
+use Rattle.std.proofs.Common.{◌≡◌, ◌≢◌, ℕ, zero, suc, ◌+◌, ◌-◌, ◌%◌, ◌^◌, ◌<◌, ◌≤◌, Bool, true, false, List, [], ◌∷◌, ◌++◌, length, replicate, refl, sym, ◌∙◌, ap, subst, arith, add-one, length-append, append_assoc}
+use Rattle.std.specs.Prelude.{Option, Some, None, ◌==◌, ◌&&◌, ◌||◌, nat_lt, nat_le, Result, Ok, is_ok, if◌then◌else◌, unwrap_or}
 use Rattle.std.proofs.lemmas.Bool.{and_parts, or_cases, eq-eqb, ne_eqb}
 use Rattle.std.proofs.lemmas.List.{length-replicate}
-use Rattle.tds_values.specs.declared.kind.Kind.{Kind}
-use Rattle.tds_values.specs.declared.kind.Kind.TheVariants.{IntN, BitN, MoneyN, DateTimeN, Guid, Decimal, Date, Time, DateTime2, DateTimeOffset, Binary, Narrow, Wide}
-use Rattle.tds_values.specs.declared.kind.Reach.TheVariants.{Short, Chunked}
-use Rattle.tds_values.specs.declared.scalar.ScalarValue.{ScalarValue}
-use Rattle.tds_values.specs.declared.scalar.ValueFault.{ValueFault}
-use Rattle.tds_values.specs.Numbers.{little}
+use Rattle.tds_csv.specs.Conversion.{Conversion, Utf8Text, unit, is_fit, is_begun}
+use Rattle.tds_export.specs.Completion.{zeros, zero_chunks, one_zero, terminator, rest_of_chunks, rest_of_cell}
+use Rattle.tds_packet.proofs.Choices.{choose, choose_false, eq_true, eq_false, le_true, test_le, test_lt}
+use Rattle.tds_packet.proofs.ElementLaws.{Spelt-step, Spelt-append, Spelt-none}
+use Rattle.tds_packet.specs.Elements.{AreBytes, Spelt, IsNext}
+use Rattle.tds_packet.specs.declared.fault.Fault.TheVariants.{BadValue, BadText, OddText, PlpLength}
+use Rattle.tds_rows.proofs.CellMeaning.{unless_none}
+use Rattle.tds_rows.specs.Cells.{Cell, Null, ScalarCell, DataCell, shape, shape_of_length, CellPart, ScalarBytes, ScalarLength, ShortLength, ShortData, Total, ChunkLength, ChunkData, WholeCell, cell_start, cell_add, cell, unless, within_total, is_total, value_part, known_total, unknown_total, null_total}
+use Rattle.tds_rows.specs.declared.Charset.TheVariants.{Windows1252}
 use Rattle.tds_values.specs.Kind.{is_scalar, is_valid, fixed_length, is_length_allowed, is_decimal_length}
 use Rattle.tds_values.specs.Scalar.{read_of, checked, value_of}
-use Rattle.tds_csv.specs.Conversion.{Conversion, HexDigits, Utf16Text, Windows1252Text, Utf8Text, unit, is_fit, is_begun}
-use Rattle.tds_packet.specs.declared.fault.Fault.TheVariants.{BadValue, BadValueLength, BadText, OddText, PlpLength}
-use Rattle.tds_packet.specs.Elements.{AreBytes, Spelt, IsNext}
-use Rattle.tds_packet.proofs.ElementLaws.{Spelt-step, Spelt-append, Spelt-none}
-use Rattle.tds_packet.proofs.Choices.{choose, choose_false, eq_true, eq_false, le_true, test_le, test_lt}
-use Rattle.tds_rows.specs.declared.Charset.TheVariants.{Windows1252}
-use Rattle.tds_rows.specs.Cells.{Cell, Null, ScalarCell, DataCell, shape, shape_of_length, CellPart, ScalarBytes, ScalarLength, ShortLength, ShortData, Total, ChunkLength, ChunkData, WholeCell, cell_start, cell_add, cell, unless, within_total, is_total, end_of_chunks, value_part, known_total, unknown_total, null_total}
-use Rattle.tds_rows.proofs.CellMeaning.{unless_none}
+use Rattle.tds_values.specs.declared.kind.Kind.{Kind}
+use Rattle.tds_values.specs.declared.kind.Kind.TheVariants.{IntN, BitN, MoneyN, DateTimeN, Guid, Decimal, Date, Time, DateTime2, DateTimeOffset, Binary, Narrow, Wide}
+use Rattle.tds_values.specs.declared.scalar.ScalarValue.{ScalarValue}
+use Rattle.tds_values.specs.declared.scalar.ValueFault.{ValueFault}
 use Rattle.tds_rows.proofs.CellSteps.{fixed_some}
-use Rattle.tds_export.specs.Completion.{zeros, zero_chunks, one_zero, terminator, rest_of_chunks, rest_of_cell}
-use Rattle.tds_export.proofs.SomeBytes.{little_below}
+use Rattle.tds_export.proofs.SomeBytes.{exactly, little_below, one_of_four, one_of_two}
+use Rattle.tds_values.specs.TimeOfDay.{time_length}
 
 -- the conversions that Windows-1252 names: none judges data before its end
 abbrev pub is_plain : Conversion → Bool
@@ -29,16 +28,10 @@ is_plain Utf8Text = false
 is_plain c = true
 
 plain_begun : (c : Conversion) (b : List ℕ) → is_plain c ≡ true → is_begun c b ≡ true
-plain_begun HexDigits b h = refl
-plain_begun Utf16Text b h = refl
-plain_begun Windows1252Text b h = refl
-plain_begun Utf8Text b h = cc
+plain_begun c b h = grind arith
 
 plain_fit : (c : Conversion) (b : List ℕ) → is_plain c ≡ true → length b % unit c ≡ 0 → is_fit c b ≡ true
-plain_fit HexDigits b h e = refl
-plain_fit Utf16Text b h e = ap (λ v. v == 0) e
-plain_fit Windows1252Text b h e = refl
-plain_fit Utf8Text b h e = cc
+plain_fit c b h e = grind arith
 
 -- a known total is of whole units, and the sum may still become it
 abbrev pub HoldsTotal : Conversion → Option ℕ → ℕ → Type 0
@@ -58,23 +51,11 @@ CellReached (WholeCell x) = Unit {0}
 
 -- the second of two, where the first isn't
 if_not_first : (p q : Bool) → p ≡ false → (p || q) ≡ true → q ≡ true
-if_not_first true q a h = cc
-if_not_first false q a h = h
+if_not_first p q a h = grind arith
 
 -- numbers up to 7
 below_eight : (P : ℕ → Type 0) → P 0 → P 1 → P 2 → P 3 → P 4 → P 5 → P 6 → P 7 → (s : ℕ) → s ≤ 7 → P s
-below_eight P a b c d e f g h s l = go (7 - s) s (omega arith)
-  where
-    go : (n s : ℕ) → s + n ≡ 7 → P s
-    go zero s q = subst P (let r : 7 ≡ s = omega arith in r) h
-    go (suc zero) s q = subst P (let r : 6 ≡ s = omega arith in r) g
-    go (suc (suc zero)) s q = subst P (let r : 5 ≡ s = omega arith in r) f
-    go (suc (suc (suc zero))) s q = subst P (let r : 4 ≡ s = omega arith in r) e
-    go (suc (suc (suc (suc zero)))) s q = subst P (let r : 3 ≡ s = omega arith in r) d
-    go (suc (suc (suc (suc (suc zero))))) s q = subst P (let r : 2 ≡ s = omega arith in r) c
-    go (suc (suc (suc (suc (suc (suc zero)))))) s q = subst P (let r : 1 ≡ s = omega arith in r) b
-    go (suc (suc (suc (suc (suc (suc (suc zero))))))) s q = subst P (let r : 0 ≡ s = omega arith in r) a
-    go (suc (suc (suc (suc (suc (suc (suc (suc n)))))))) s q = absurd (omega arith)
+below_eight P a b c d e f g h s l = grind arith
 
 -- a value was read
 abbrev IsRead : Result ScalarValue ValueFault → Type 0
@@ -84,29 +65,10 @@ IsRead r = (v : ScalarValue) × (r ≡ Ok v)
 abbrev ZerosAre : Kind → ℕ → Type 0
 ZerosAre kind n = IsRead (read_of kind (zeros n))
 
--- a test for one of four numbers
-one_of_four : (P : ℕ → Type 0) (a b c d n : ℕ) → (n == a || n == b || n == c || n == d) ≡ true → P a → P b → P c → P d → P n
-one_of_four P a b c d n h pa pb pc pd =
-    elim (or_cases (n == a || n == b || n == c) (n == d) h) [
-      | inl x ↦
-          elim (or_cases (n == a || n == b) (n == c) x) [
-            | inl y ↦ elim (or_cases (n == a) (n == b) y) [ inl z ↦ subst P (sym (eq_true n a z)) pa | inr z ↦ subst P (sym (eq_true n b z)) pb ]
-            | inr y ↦ subst P (sym (eq_true n c y)) pc
-          ]
-      | inr x ↦ subst P (sym (eq_true n d x)) pd
-    ]
-
-one_of_two : (P : ℕ → Type 0) (a b n : ℕ) → (n == a || n == b) ≡ true → P a → P b → P n
-one_of_two P a b n h pa pb = elim (or_cases (n == a) (n == b) h) [ inl z ↦ subst P (sym (eq_true n a z)) pa | inr z ↦ subst P (sym (eq_true n b z)) pb ]
-
-exactly : (P : ℕ → Type 0) (n m : ℕ) → (n == m) ≡ true → P m → P n
-exactly P n m h p = subst P (sym (eq_true n m h)) p
-
 zero_decimal : (d p s n : ℕ) → is_valid (Decimal d p s) ≡ true → is_length_allowed (Decimal d p s) n ≡ true → ZerosAre (Decimal d p s) n
 zero_decimal d p s n valid allowed =
     let one = and_parts (is_decimal_length d && nat_le 1 p && nat_le p 38) (nat_le s p) valid in
-    let two = and_parts (is_decimal_length d && nat_le 1 p) (nat_le p 38) one.0 in
-    let small : nat_le s 38 ≡ true = test_le s 38 (omega (arith, le_true s p one.1, le_true p 38 two.1)) in
+    let small : nat_le s 38 ≡ true = test_le s 38 (omega (arith, le_true s p one.1, le_true p 38 (and_parts (is_decimal_length d && nat_le 1 p) (nat_le p 38) one.0).1)) in
     let long : is_length_allowed (Decimal d p s) (length (zeros n)) ≡ true = ap (λ v. is_length_allowed (Decimal d p s) v) (length-replicate n 0) ∙ allowed in
     choose IsRead (is_length_allowed (Decimal d p s) (length (zeros n))) (checked (value_of (Decimal d p s) (zeros n))) _
     (λ t. choose IsRead (nat_le s 38) (Ok _) _ (λ u. (_, refl)) (λ f. cc))
@@ -121,20 +83,11 @@ zeros_are_a_value Guid n v s h = exactly (ZerosAre Guid) n 16 h (_, refl)
 zeros_are_a_value (Decimal d p sc) n v s h = zero_decimal d p sc n v h
 zeros_are_a_value Date n v s h = exactly (ZerosAre Date) n 3 h (_, refl)
 zeros_are_a_value (Time sc) n v s h =
-    below_eight (λ sc. is_length_allowed (Time sc) n ≡ true → ZerosAre (Time sc) n)
-    (λ h. exactly (ZerosAre (Time 0)) n 3 h (_, refl)) (λ h. exactly (ZerosAre (Time 1)) n 3 h (_, refl)) (λ h. exactly (ZerosAre (Time 2)) n 3 h (_, refl)) (λ h. exactly (ZerosAre (Time 3)) n 4 h (_, refl))
-    (λ h. exactly (ZerosAre (Time 4)) n 4 h (_, refl)) (λ h. exactly (ZerosAre (Time 5)) n 5 h (_, refl)) (λ h. exactly (ZerosAre (Time 6)) n 5 h (_, refl)) (λ h. exactly (ZerosAre (Time 7)) n 5 h (_, refl))
-    sc (le_true sc 7 v) h
+    exactly (ZerosAre (Time sc)) n (time_length sc) h (below_eight (λ sc. ZerosAre (Time sc) (time_length sc)) (_, refl) (_, refl) (_, refl) (_, refl) (_, refl) (_, refl) (_, refl) (_, refl) sc (le_true sc 7 v))
 zeros_are_a_value (DateTime2 sc) n v s h =
-    below_eight (λ sc. is_length_allowed (DateTime2 sc) n ≡ true → ZerosAre (DateTime2 sc) n)
-    (λ h. exactly (ZerosAre (DateTime2 0)) n 6 h (_, refl)) (λ h. exactly (ZerosAre (DateTime2 1)) n 6 h (_, refl)) (λ h. exactly (ZerosAre (DateTime2 2)) n 6 h (_, refl)) (λ h. exactly (ZerosAre (DateTime2 3)) n 7 h (_, refl))
-    (λ h. exactly (ZerosAre (DateTime2 4)) n 7 h (_, refl)) (λ h. exactly (ZerosAre (DateTime2 5)) n 8 h (_, refl)) (λ h. exactly (ZerosAre (DateTime2 6)) n 8 h (_, refl)) (λ h. exactly (ZerosAre (DateTime2 7)) n 8 h (_, refl))
-    sc (le_true sc 7 v) h
+    exactly (ZerosAre (DateTime2 sc)) n (time_length sc + 3) h (below_eight (λ sc. ZerosAre (DateTime2 sc) (time_length sc + 3)) (_, refl) (_, refl) (_, refl) (_, refl) (_, refl) (_, refl) (_, refl) (_, refl) sc (le_true sc 7 v))
 zeros_are_a_value (DateTimeOffset sc) n v s h =
-    below_eight (λ sc. is_length_allowed (DateTimeOffset sc) n ≡ true → ZerosAre (DateTimeOffset sc) n)
-    (λ h. exactly (ZerosAre (DateTimeOffset 0)) n 8 h (_, refl)) (λ h. exactly (ZerosAre (DateTimeOffset 1)) n 8 h (_, refl)) (λ h. exactly (ZerosAre (DateTimeOffset 2)) n 8 h (_, refl)) (λ h. exactly (ZerosAre (DateTimeOffset 3)) n 9 h (_, refl))
-    (λ h. exactly (ZerosAre (DateTimeOffset 4)) n 9 h (_, refl)) (λ h. exactly (ZerosAre (DateTimeOffset 5)) n 10 h (_, refl)) (λ h. exactly (ZerosAre (DateTimeOffset 6)) n 10 h (_, refl)) (λ h. exactly (ZerosAre (DateTimeOffset 7)) n 10 h (_, refl))
-    sc (le_true sc 7 v) h
+    exactly (ZerosAre (DateTimeOffset sc)) n (time_length sc + 5) h (below_eight (λ sc. ZerosAre (DateTimeOffset sc) (time_length sc + 5)) (_, refl) (_, refl) (_, refl) (_, refl) (_, refl) (_, refl) (_, refl) (_, refl) sc (le_true sc 7 v))
 zeros_are_a_value (Binary r) n v s h = cc
 zeros_are_a_value (Narrow r) n v s h = cc
 zeros_are_a_value (Wide r) n v s h = cc
@@ -145,23 +98,18 @@ zeros_more n = ap (λ v. replicate v 0) (add-one n)
 
 -- a sum that stays below that of a known total may still become it
 within : (total : Option ℕ) (m k : ℕ) → is_total total m ≡ true → k ≤ m → within_total total k ≡ true
-within None m k h le = refl
-within (Some t) m k h le = let e : m ≡ t = eq_true m t h in test_le k t (omega arith)
+within total m k h le = grind (arith, eq_true, test_le)
 
 -- one zero byte where the sum is odd makes it even
 made_even : (c : Conversion) (n : ℕ) → (n + n % unit c) % unit c ≡ 0
-made_even HexDigits n = omega arith
-made_even Utf16Text n = omega arith
-made_even Windows1252Text n = omega arith
-made_even Utf8Text n = omega arith
+made_even c n = grind arith
 
 module _ (column : ℕ) where
   -- the rest of a short value
   short_ends : (c : Conversion) (left : ℕ) (content : List ℕ) → CellReached (ShortData c left content) → (x : Cell) × Spelt (cell column) (ShortData c left content) (zeros (left + 1)) (WholeCell x)
   short_ends c zero content (plain, even) =
-      let l : length (content ++ 0 ∷ []) ≡ length content + 1 = length-append content (0 ∷ []) in
       let begun : is_begun c (content ++ 0 ∷ []) ≡ true = plain_begun c (content ++ 0 ∷ []) plain in
-      let fit : is_fit c (content ++ 0 ∷ []) ≡ true = plain_fit c (content ++ 0 ∷ []) plain (ap (λ v. v % unit c) l ∙ even) in
+      let fit : is_fit c (content ++ 0 ∷ []) ≡ true = plain_fit c (content ++ 0 ∷ []) plain (ap (λ v. v % unit c) (length-append content (0 ∷ [])) ∙ even) in
       (DataCell c (content ++ 0 ∷ []), Spelt-step (cell column) (ShortData c 0 content) (0 ∷ []) (WholeCell (DataCell c (content ++ 0 ∷ []))) (omega arith) refl (λ i. unless (begun i && fit i) (BadText column)) refl)
   short_ends c (suc left) content (plain, even) =
       let l : length (content ++ 0 ∷ []) ≡ length content + 1 = length-append content (0 ∷ []) in
@@ -186,9 +134,8 @@ module _ (column : ℕ) where
       choose_false (suc left == 0) (ChunkLength c total (content ++ 0 ∷ [])) (ChunkData c total (suc left - 1) (content ++ 0 ∷ [])) (ne_eqb (suc left) 0 (λ q. omega arith)) ∙ ap (λ v. ChunkData c total v (content ++ 0 ∷ [])) (omega arith) in
       let one : Spelt (cell column) (ChunkData c total (suc left) content) (0 ∷ []) (ChunkData c total left (content ++ 0 ∷ [])) = Spelt-step (cell column) (ChunkData c total (suc left) content) (0 ∷ []) (ChunkData c total left (content ++ 0 ∷ [])) (omega arith) refl (λ i. unless (begun i) (BadText column)) to in
       let bytes : 0 ∷ zeros (left + 1) ≡ zeros (suc left + 1) = ap (λ v. 0 ∷ zeros v) (add-one left) ∙ sym (zeros_more (suc left)) in
-      let all : (content ++ 0 ∷ []) ++ zeros (left + 1) ≡ content ++ (0 ∷ zeros (left + 1)) = append_assoc content (0 ∷ []) (zeros (left + 1)) in
       subst (λ v. Spelt (cell column) (ChunkData c total (suc left) content) v (ChunkLength c total (content ++ v))) bytes
-      (subst (λ v. Spelt (cell column) (ChunkData c total (suc left) content) (0 ∷ zeros (left + 1)) (ChunkLength c total v)) all
+      (subst (λ v. Spelt (cell column) (ChunkData c total (suc left) content) (0 ∷ zeros (left + 1)) (ChunkLength c total v)) (append_assoc content (0 ∷ []) (zeros (left + 1)))
       (Spelt-append (cell column) (ChunkData c total (suc left) content) (0 ∷ []) (ChunkData c total left (content ++ 0 ∷ [])) (zeros (left + 1)) (ChunkLength c total ((content ++ 0 ∷ []) ++ zeros (left + 1))) one (chunk_ends c total left (content ++ 0 ∷ []) plain)))
 
   -- a chunk of one zero byte
@@ -216,9 +163,7 @@ module _ (column : ℕ) where
   -- the rest of the chunks
   length_ends : (c : Conversion) (total : Option ℕ) (content : List ℕ) → is_plain c ≡ true → HoldsTotal c total (length content) → (x : Cell) × Spelt (cell column) (ChunkLength c total content) (rest_of_chunks c total (length content)) (WholeCell x)
   length_ends c None content plain h = chunks_end c None (length content % unit c) content plain refl (made_even c (length content))
-  length_ends c (Some t) content plain (le, even) =
-      let e : length content + (t - length content) ≡ t = omega arith in
-      chunks_end c (Some t) (t - length content) content plain (eq-eqb (length content + (t - length content)) t e) (ap (λ v. v % unit c) e ∙ even)
+  length_ends c (Some t) content plain (le, even) = grind (arith, chunks_end, eq-eqb)
 
   -- A part of a cell followed by what completes it is a whole cell.
   pub cell_ends : (p : CellPart) → CellReached p → (x : Cell) × Spelt (cell column) p (rest_of_cell p) (WholeCell x)
@@ -239,97 +184,33 @@ module _ (column : ℕ) where
   cell_ends (WholeCell x) h = (x, Spelt-none (cell column) (WholeCell x))
 
   value_reached : (r : Result ScalarValue ValueFault) → CellReached (value_part r)
-  value_reached (Ok v) = tt
-  value_reached (Err f) = tt
+  value_reached r = grind arith
 
   total_reached : (c : Conversion) (n : ℕ) → n < 2 ^ 64 → n ≢ null_total → (nat_le unknown_total n || (n % unit c == 0)) ≡ true → HoldsTotal c (known_total n) 0
-  total_reached c n small other h =
-      choose (λ t. HoldsTotal c t 0) (n == unknown_total) None (Some n) (λ z. tt)
-      (λ z.
-      let off : n ≢ unknown_total = eq_false n unknown_total z in
-      (omega arith, elim (or_cases (nat_le unknown_total n) (n % unit c == 0) h) [ inl x ↦ absurd (let le : unknown_total ≤ n = le_true unknown_total n x in omega arith) | inr y ↦ eq_true (n % unit c) 0 y ]))
+  total_reached c n small other h = grind (arith, choose, eq_false, eq_true, le_true, or_cases)
 
   within_reached : (c : Conversion) (total : Option ℕ) (sum more n : ℕ) → more ≡ sum + n → HoldsTotal c total sum → within_total total (sum + n) ≡ true → HoldsTotal c total more
-  within_reached c None sum more n e h w = tt
-  within_reached c (Some t) sum more n e (le, even) w = (let q : sum + n ≤ t = le_true (sum + n) t w in omega arith, even)
+  within_reached c total sum more n e h w = grind (arith, le_true)
 
   -- Each element keeps what is known.
   pub cell_keeps : (p : CellPart) (e : List ℕ) → AreBytes e → CellReached p → IsNext (cell column) p e → CellReached (cell_add p e)
   cell_keeps (ScalarBytes kind m) e are h n = value_reached (read_of kind e)
-  cell_keeps (ScalarLength kind) e are (valid, scalar) n =
-      let free : ((slice_index e 0 == 0) || is_length_allowed kind (slice_index e 0)) ≡ true = unless_none ((slice_index e 0 == 0) || is_length_allowed kind (slice_index e 0)) (BadValueLength column) n.free in
-      choose CellReached (slice_index e 0 == 0) (WholeCell Null) (ScalarBytes kind (slice_index e 0)) (λ z. tt)
-      (λ z.
-      let some : slice_index e 0 ≢ 0 = eq_false (slice_index e 0) 0 z in
-      (omega arith, valid, scalar, if_not_first (slice_index e 0 == 0) (is_length_allowed kind (slice_index e 0)) z free))
-  cell_keeps (ShortLength c) e are plain n =
-      let free : ((little e == 0xFFFF) || (little e % unit c == 0)) ≡ true = unless_none ((little e == 0xFFFF) || (little e % unit c == 0)) (OddText column) n.free in
-      choose CellReached (little e == 0xFFFF) (WholeCell Null) (if little e == 0 then WholeCell (DataCell c []) else ShortData c (little e - 1) []) (λ z. tt)
-      (λ z. choose CellReached (little e == 0) (WholeCell (DataCell c [])) (ShortData c (little e - 1) []) (λ y. tt)
-      (λ y.
-      let some : little e ≢ 0 = eq_false (little e) 0 y in
-      let same : 0 + (little e - 1 + 1) ≡ little e = omega arith in
-      (plain, ap (λ v. v % unit c) same ∙ eq_true (little e % unit c) 0 (if_not_first (little e == 0xFFFF) (little e % unit c == 0) z free))))
-  cell_keeps (ShortData c left content) e are (plain, even) n =
-      let l : length (content ++ e) ≡ length content + 1 = length-append content e ∙ ap (λ v. length content + v) n.whole in
-      choose CellReached (left == 0) (WholeCell (DataCell c (content ++ e))) (ShortData c (left - 1) (content ++ e)) (λ z. tt)
-      (λ z.
-      let some : left ≢ 0 = eq_false left 0 z in
-      let same : length (content ++ e) + (left - 1 + 1) ≡ length content + (left + 1) = omega (arith, l) in
-      (plain, ap (λ v. v % unit c) same ∙ even))
-  cell_keeps (Total c) e are plain n =
-      let free : (nat_le unknown_total (little e) || (little e % unit c == 0)) ≡ true = unless_none (nat_le unknown_total (little e) || (little e % unit c == 0)) (OddText column) n.free in
-      let eight : length e ≡ 8 = n.whole in
-      let small : little e < 2 ^ 64 = subst (λ v. little e < 256 ^ v) eight (little_below (length e) 0 e are) in
-      choose CellReached (little e == null_total) (WholeCell Null) (ChunkLength c (known_total (little e)) []) (λ z. tt) (λ z. (plain, total_reached c (little e) small (eq_false (little e) null_total z) free))
-  cell_keeps (ChunkLength c total content) e are (plain, h) n =
-      choose CellReached (little e == 0) (WholeCell (DataCell c content)) (ChunkData c total (little e - 1) content) (λ z. tt)
-      (λ z.
-      let some : little e ≢ 0 = eq_false (little e) 0 z in
-      let same : length content + (little e - 1 + 1) ≡ length content + little e = omega arith in
-      let free : unless (within_total total (length content + little e)) (PlpLength column) ≡ None = sym (choose_false (little e == 0) (end_of_chunks column c total content) (unless (within_total total (length content + little e)) (PlpLength column)) z) ∙ n.free in
-      (plain, within_reached c total (length content) (length content + (little e - 1 + 1)) (little e) same h (unless_none (within_total total (length content + little e)) (PlpLength column) free)))
-  cell_keeps (ChunkData c total left content) e are (plain, h) n =
-      let l : length (content ++ e) ≡ length content + 1 = length-append content e ∙ ap (λ v. length content + v) n.whole in
-      choose CellReached (left == 0) (ChunkLength c total (content ++ e)) (ChunkData c total (left - 1) (content ++ e))
-      (λ z.
-      let none : left ≡ 0 = eq_true left 0 z in
-      let same : length content + (left + 1) ≡ length (content ++ e) = omega (arith, l) in
-      (plain, subst (λ v. HoldsTotal c total v) same h))
-      (λ z.
-      let some : left ≢ 0 = eq_false left 0 z in
-      let same : length content + (left + 1) ≡ length (content ++ e) + (left - 1 + 1) = omega (arith, l) in
-      (plain, subst (λ v. HoldsTotal c total v) same h))
+  cell_keeps (ScalarLength kind) e are (valid, scalar) n = grind (arith, choose, eq_false, if_not_first, unless_none)
+  cell_keeps (ShortLength c) e are plain n = grind (arith, choose, eq_false, eq_true, if_not_first, unless_none)
+  cell_keeps (ShortData c left content) e are (plain, even) n = grind (arith, choose, eq_false, length-append)
+  cell_keeps (Total c) e are plain n = grind (arith, choose, eq_false, little_below, total_reached, unless_none)
+  cell_keeps (ChunkLength c total content) e are (plain, h) n = grind (arith, choose, choose_false, eq_false, unless_none, within_reached)
+  cell_keeps (ChunkData c total left content) e are (plain, h) n = grind (arith, choose, eq_false, eq_true, length-append)
   cell_keeps (WholeCell x) e are h n = tt
 
 -- a value of a kind with a fixed length has that length
 fixed_allowed : (kind : Kind) (n : ℕ) → fixed_length kind ≡ Some n → is_length_allowed kind n ≡ true
-fixed_allowed (IntN d) n h = cc
-fixed_allowed BitN n h = cc
-fixed_allowed (MoneyN d) n h = cc
-fixed_allowed (DateTimeN d) n h = cc
-fixed_allowed Guid n h = cc
-fixed_allowed (Decimal d p s) n h = cc
-fixed_allowed Date n h = cc
-fixed_allowed (Time s) n h = cc
-fixed_allowed (DateTime2 s) n h = cc
-fixed_allowed (DateTimeOffset s) n h = cc
-fixed_allowed (Binary r) n h = refl
-fixed_allowed (Narrow r) n h = refl
-fixed_allowed (Wide r) n h = cc
-fixed_allowed kind n h = ap (λ o. unwrap_or (option_map (λ length. n == length) o) false) h ∙ eq-eqb n n refl
+fixed_allowed kind n h = grind arith
 
 -- the cell of a scalar begins so
 scalar_reached : (kind : Kind) (o : Option ℕ) → fixed_length kind ≡ o → is_valid kind ≡ true → is_scalar kind ≡ true → CellReached (cell_start kind (shape_of_length o))
-scalar_reached kind (Some n) is v s = (fixed_some kind n is, v, s, fixed_allowed kind n is)
-scalar_reached kind None is v s = (v, s)
+scalar_reached kind o is v s = grind (arith, fixed_allowed, fixed_some)
 
 -- A cell of a valid kind begins so.
 pub start_reached : (kind : Kind) → is_valid kind ≡ true → CellReached (cell_start kind (shape Windows1252 kind))
-start_reached (Binary Short) v = refl
-start_reached (Binary Chunked) v = refl
-start_reached (Narrow Short) v = refl
-start_reached (Narrow Chunked) v = refl
-start_reached (Wide Short) v = refl
-start_reached (Wide Chunked) v = refl
-start_reached kind v = scalar_reached kind (fixed_length kind) refl v refl
+start_reached kind v = grind (arith, scalar_reached)

@@ -1,22 +1,21 @@
 -- What completes a description is read as its rest.
-use Rattle.std.proofs.Common.{◌≡◌, ◌≢◌, ℕ, zero, suc, ◌+◌, ◌-◌, ◌*◌, ◌<◌, ◌≤◌, true, List, [], ◌∷◌, ◌++◌, length, replicate, refl, sym, ◌∙◌, ap, subst, append_assoc, arith, length-append}
-use Rattle.std.specs.Prelude.{Some, None, ◌==◌, is_some, slice_index, unwrap_or, if◌then◌else◌}
+use Rattle.std.proofs.Common.{◌≡◌, ℕ, zero, suc, ◌+◌, ◌-◌, ◌*◌, ◌<◌, ◌≤◌, true, List, [], ◌∷◌, ◌++◌, length, replicate, refl, sym, ◌∙◌, ap, subst, append_assoc, arith, length-append}
+use Rattle.std.specs.Prelude.{Some, None, ◌==◌, is_some, unwrap_or, if◌then◌else◌}
 use Rattle.std.proofs.lemmas.Bool.Decides.{nat_tests}
 use Rattle.std.proofs.lemmas.List.{length-replicate}
-use Rattle.tds_values.specs.declared.kind.Kind.{Kind}
-use Rattle.tds_values.specs.declared.kind.Kind.TheVariants.{Int4}
-use Rattle.tds_values.specs.Numbers.{little}
-use Rattle.tds_values.specs.Kind.{is_valid}
-use Rattle.tds_values.specs.TypeInfo.{rest_length, named_kind, kind_of}
-use Rattle.tds_values.proofs.TypeInfoLemmas.{bare_type, valid_of}
-use Rattle.tds_packet.specs.declared.fault.Fault.TheVariants.{BadTypeInfo}
-use Rattle.tds_packet.specs.Elements.{AreBytes, Spelt, IsNext}
-use Rattle.tds_packet.proofs.ElementLaws.{Spelt-step, Spelt-append, Spelt-none}
-use Rattle.tds_packet.proofs.Choices.{choose, choose_true, eq_true, eq_false, is_some_value}
-use Rattle.tds_columns.specs.Description.{Column, SpellsColumn, SpellsColumns, ColumnPlace, ColumnHead, ColumnInfo, NameCount, NameUnits, DescriptionPart, BeforeCount, NoDescription, InColumn, WholeDescription, with_column, with_kind, with_type, add_described, too_long, type_fault, first_of_two, description}
 use Rattle.tds_columns.proofs.ColumnLaws.{fits_in, columns_are_read}
 use Rattle.tds_columns.proofs.ColumnMeaning.{not_long, not_zero, room_for, known_type, some_kind}
+use Rattle.tds_columns.specs.Description.{Column, SpellsColumn, SpellsColumns, ColumnPlace, ColumnHead, ColumnInfo, NameCount, NameUnits, DescriptionPart, BeforeCount, NoDescription, InColumn, WholeDescription, with_column, with_kind, with_type, add_described, too_long, description}
 use Rattle.tds_export.specs.Completion.{zeros, int_column, int_columns, least_info, rest_of_description}
+use Rattle.tds_packet.proofs.Choices.{choose, choose_true, eq_true, eq_false, is_some_value}
+use Rattle.tds_packet.proofs.ElementLaws.{Spelt-step, Spelt-append, Spelt-none}
+use Rattle.tds_packet.specs.Elements.{AreBytes, Spelt, IsNext}
+use Rattle.tds_packet.specs.declared.fault.Fault.TheVariants.{BadTypeInfo}
+use Rattle.tds_values.proofs.TypeInfoLemmas.{bare_type, valid_of}
+use Rattle.tds_values.specs.Kind.{is_valid}
+use Rattle.tds_values.specs.declared.kind.Kind.{Kind}
+use Rattle.tds_values.specs.declared.kind.Kind.TheVariants.{Int4}
+use Rattle.tds_values.specs.TypeInfo.{rest_length, named_kind}
 use Rattle.tds_export.proofs.LeastTypes.{least_type}
 use Rattle.tds_export.proofs.CompletedRows.{AreValid}
 
@@ -46,62 +45,23 @@ AreValid-append (d ∷ cs) c h v = (h.0, AreValid-append cs c h.1 v)
 
 module _ (room : ℕ) where
   column_reached : (bytes : List ℕ) (count : ℕ) (cols : List Column) (c : Column) → length cols < count → AreValid cols → is_valid c.kind ≡ true → length bytes + 8 * (count - (length cols + 1)) ≤ room → DescribedReached room (with_column bytes count cols c)
-  column_reached bytes count cols c fewer valid v fits =
-      let l : length (cols ++ c ∷ []) ≡ length cols + 1 = length-append cols (c ∷ []) in
-      choose (λ d. DescribedReached room d) (length cols + 1 == count) (WholeDescription bytes (cols ++ c ∷ [])) (InColumn bytes count (cols ++ c ∷ []) ColumnHead)
-      (λ z. (omega (arith, l), AreValid-append cols c valid v))
-      (λ z. let off : length cols + 1 ≢ count = eq_false (length cols + 1) count z in (omega (arith, l), AreValid-append cols c valid v, omega (arith, l, fits)))
+  column_reached bytes count cols c fewer valid v fits = grind (arith, AreValid-append, choose, eq_false, length-append)
 
   type_reached : (bytes : List ℕ) (count : ℕ) (cols : List Column) (byte n : ℕ) → length cols < count → AreValid cols → rest_length byte ≡ Some n → length bytes + ((n + 1) + 8 * (count - (length cols + 1))) ≤ room → DescribedReached room (with_type bytes count cols byte n)
-  type_reached bytes count cols byte n fewer valid known fits =
-      choose (λ d. DescribedReached room d) (n == 0) (with_kind bytes count cols (kind_of (byte ∷ []))) (InColumn bytes count cols (ColumnInfo byte))
-      (λ z.
-      let k = bare_type byte (known ∙ ap (λ v. Some v) (eq_true n 0 z)) in
-      subst (λ o. DescribedReached room (with_kind bytes count cols o)) (sym k.1) (fewer, valid, (valid_of k.0 (byte ∷ []) k.1, omega (arith, fits))))
-      (λ z. let some : n ≢ 0 = eq_false n 0 z in (fewer, valid, (n, known, omega arith, fits)))
+  type_reached bytes count cols byte n fewer valid known fits = grind (arith, bare_type, choose, eq_false, eq_true, valid_of)
 
   head_keeps : (bytes : List ℕ) (count : ℕ) (cols : List Column) (e : List ℕ) → DescribedReached room (InColumn bytes count cols ColumnHead) → IsNext (description room) (InColumn bytes count cols ColumnHead) e → DescribedReached room (add_described (InColumn bytes count cols ColumnHead) e)
-  head_keeps bytes count cols e (fewer, valid, fits) n =
-      let left : ℕ = count - (length cols + 1) in
-      let byte : ℕ = slice_index e 6 in
-      let l : length (bytes ++ e) ≡ length bytes + 7 = length-append bytes e ∙ ap (λ v. length bytes + v) n.whole in
-      let k = known_type (length cols) byte (rest_length byte) (too_long room (length bytes + 7) ((unwrap_or (rest_length byte) 0 + 1) + 8 * left)) n.free in
-      let free : too_long room (length bytes + 7) ((k.0 + 1) + 8 * left) ≡ None = sym (ap (λ o. first_of_two (type_fault (length cols) byte o) (too_long room (length bytes + 7) ((unwrap_or o 0 + 1) + 8 * left))) k.1) ∙ n.free in
-      let enough : (length bytes + 7) + ((k.0 + 1) + 8 * left) ≤ room = not_long room (length bytes + 7) ((k.0 + 1) + 8 * left) free in
-      subst (λ o. DescribedReached room (with_type (bytes ++ e) count cols byte (unwrap_or o 0))) (sym k.1)
-      (type_reached (bytes ++ e) count cols byte k.0 fewer valid k.1 (omega (arith, l, enough)))
+  head_keeps bytes count cols e (fewer, valid, fits) n = grind (arith, known_type, length-append, not_long, type_reached)
 
   info_keeps : (bytes : List ℕ) (count : ℕ) (cols : List Column) (byte : ℕ) (e : List ℕ) → DescribedReached room (InColumn bytes count cols (ColumnInfo byte)) → IsNext (description room) (InColumn bytes count cols (ColumnInfo byte)) e → DescribedReached room (add_described (InColumn bytes count cols (ColumnInfo byte)) e)
-  info_keeps bytes count cols byte e (fewer, valid, (m, known, some, fits)) n =
-      let k = is_some_value (kind_of (byte ∷ e)) (some_kind (length cols) (kind_of (byte ∷ e)) n.free) in
-      let l : length (bytes ++ e) ≡ length bytes + m = length-append bytes e ∙ ap (λ v. length bytes + v) (n.whole ∙ ap (λ o. unwrap_or o 0) known) in
-      subst (λ o. DescribedReached room (with_kind (bytes ++ e) count cols o)) (sym k.1) (fewer, valid, (valid_of k.0 (byte ∷ e) k.1, omega (arith, l, fits)))
+  info_keeps bytes count cols byte e (fewer, valid, (m, known, some, fits)) n = grind (arith, is_some_value, length-append, some_kind, valid_of)
 
   units_keep : (bytes : List ℕ) (count : ℕ) (cols : List Column) (kind : Kind) (e : List ℕ) → DescribedReached room (InColumn bytes count cols (NameCount kind)) → IsNext (description room) (InColumn bytes count cols (NameCount kind)) e → DescribedReached room (add_described (InColumn bytes count cols (NameCount kind)) e)
-  units_keep bytes count cols kind e (fewer, valid, (v, fits)) n =
-      let left : ℕ = count - (length cols + 1) in
-      let units : ℕ = slice_index e 0 in
-      let l : length (bytes ++ e) ≡ length bytes + 1 = length-append bytes e ∙ ap (λ v. length bytes + v) n.whole in
-      let enough : (length bytes + 1) + (2 * units + 8 * left) ≤ room = not_long room (length bytes + 1) (2 * units + 8 * left) n.free in
-      choose (λ d. DescribedReached room d) (units == 0) (with_column (bytes ++ e) count cols (record { kind = kind; name = [] })) (InColumn (bytes ++ e) count cols (NameUnits kind (2 * units)))
-      (λ z. column_reached (bytes ++ e) count cols (record { kind = kind; name = [] }) fewer valid v (omega (arith, l, enough)))
-      (λ z. let some : units ≢ 0 = eq_false units 0 z in (fewer, valid, (v, omega arith, omega (arith, l, enough))))
+  units_keep bytes count cols kind e (fewer, valid, (v, fits)) n = grind (arith, choose, column_reached, eq_false, length-append, not_long)
 
   -- Each element keeps what is known.
   pub described_keeps : (d : DescriptionPart) (e : List ℕ) → AreBytes e → DescribedReached room d → IsNext (description room) d e → DescribedReached room (add_described d e)
-  described_keeps BeforeCount e are h n =
-      let two : length e ≡ 2 = n.whole in
-      let some : 0 < little e = not_zero room (little e) n.free in
-      choose (λ d. DescribedReached room d) (little e == 0xFFFF) NoDescription (InColumn e (little e) [] ColumnHead) (λ z. tt)
-      (λ z. let enough : 2 + 8 * little e ≤ room = room_for room (little e) (eq_false (little e) 0xFFFF z) n.free in (some, tt, omega arith))
-  described_keeps NoDescription e are h n = tt
-  described_keeps (InColumn bytes count cols ColumnHead) e are h n = head_keeps bytes count cols e h n
-  described_keeps (InColumn bytes count cols (ColumnInfo byte)) e are h n = info_keeps bytes count cols byte e h n
-  described_keeps (InColumn bytes count cols (NameCount kind)) e are h n = units_keep bytes count cols kind e h n
-  described_keeps (InColumn bytes count cols (NameUnits kind m)) e are (fewer, valid, (v, some, fits)) n =
-      let l : length (bytes ++ e) ≡ length bytes + m = length-append bytes e ∙ ap (λ v. length bytes + v) n.whole in
-      column_reached (bytes ++ e) count cols (record { kind = kind; name = e }) fewer valid v (omega (arith, l, fits))
-  described_keeps (WholeDescription bytes cols) e are h n = h
+  described_keeps d e are h n = grind (arith, choose, column_reached, eq_false, head_keeps, info_keeps, length-append, not_zero, room_for, units_keep)
 
 -- the column that int_column describes
 abbrev int : Column
@@ -137,10 +97,9 @@ module _ (room : ℕ) where
       let to : with_column bytes count cols c ≡ WholeDescription bytes (cols ++ c ∷ []) = choose_true (length cols + 1 == count) (WholeDescription bytes (cols ++ c ∷ [])) (InColumn bytes count (cols ++ c ∷ []) ColumnHead) (grind (arith, nat_tests)) in
       (bytes, cols ++ c ∷ [], subst (λ d. Spelt (description room) d [] (WholeDescription bytes (cols ++ c ∷ []))) (sym to) (Spelt-none (description room) (WholeDescription bytes (cols ++ c ∷ []))))
   column_ends bytes count cols c (suc n) e fits =
-      let l : length (cols ++ c ∷ []) ≡ length cols + 1 = length-append cols (c ∷ []) in
       choose (λ d. Ends room d (int_columns (suc n))) (length cols + 1 == count) (WholeDescription bytes (cols ++ c ∷ [])) (InColumn bytes count (cols ++ c ∷ []) ColumnHead)
       (λ z. absurd (let same : length cols + 1 ≡ count = eq_true (length cols + 1) count z in omega arith))
-      (λ z. ints_end bytes count (cols ++ c ∷ []) n (omega (arith, l)) (omega arith))
+      (λ z. ints_end bytes count (cols ++ c ∷ []) n (omega (arith, length-append cols (c ∷ []))) (omega arith))
 
   -- an element, and what follows it
   then_ends : (d to : DescriptionPart) (e rest : List ℕ) → Spelt (description room) d e to → Ends room to rest → Ends room d (e ++ rest)
@@ -148,24 +107,22 @@ module _ (room : ℕ) where
 
   count_ends : (bytes : List ℕ) (count : ℕ) (cols : List Column) (kind : Kind) (n : ℕ) → n ≡ count - (length cols + 1) → length cols < count → length bytes + (1 + 8 * n) ≤ room → Ends room (InColumn bytes count cols (NameCount kind)) (0 ∷ int_columns n)
   count_ends bytes count cols kind n is fewer fits =
-      let l : length (bytes ++ 0 ∷ []) ≡ length bytes + 1 = length-append bytes (0 ∷ []) in
       let c : Column = record { kind = kind; name = [] } in
       let free : too_long room (length bytes + 1) (2 * 0 + 8 * (count - (length cols + 1))) ≡ None = fits_in room (length bytes + 1) (2 * 0 + 8 * (count - (length cols + 1))) (omega arith) in
       then_ends (InColumn bytes count cols (NameCount kind)) (with_column (bytes ++ 0 ∷ []) count cols c) (0 ∷ []) (int_columns n)
       (Spelt-step (description room) (InColumn bytes count cols (NameCount kind)) (0 ∷ []) (with_column (bytes ++ 0 ∷ []) count cols c) (omega arith) refl free refl)
-      (column_ends (bytes ++ 0 ∷ []) count cols c n (omega arith) (omega (arith, l)))
+      (column_ends (bytes ++ 0 ∷ []) count cols c n (omega arith) (omega (arith, length-append bytes (0 ∷ []))))
 
   info_ends : (bytes : List ℕ) (count : ℕ) (cols : List Column) (byte : ℕ) (n : ℕ) → n ≡ count - (length cols + 1) → length cols < count → PlaceReached room bytes n (ColumnInfo byte) → Ends room (InColumn bytes count cols (ColumnInfo byte)) (least_info byte ++ (0 ∷ int_columns n))
   info_ends bytes count cols byte n is fewer (m, known, some, fits) =
       let least = least_type byte m known in
       let rest : List ℕ = least_info byte in
       let lr : length rest ≡ m = least.whole in
-      let l : length (bytes ++ rest) ≡ length bytes + m = length-append bytes rest ∙ ap (λ v. length bytes + v) lr in
       then_ends (InColumn bytes count cols (ColumnInfo byte)) (InColumn (bytes ++ rest) count cols (NameCount least.kind)) rest (0 ∷ int_columns n)
       (Spelt-step (description room) (InColumn bytes count cols (ColumnInfo byte)) rest (InColumn (bytes ++ rest) count cols (NameCount least.kind)) (omega (arith, lr)) (lr ∙ sym (ap (λ o. unwrap_or o 0) known))
       (ap (λ o. (if is_some o then None else Some (BadTypeInfo (length cols)))) least.described)
       (ap (λ o. with_kind (bytes ++ rest) count cols o) least.described))
-      (count_ends (bytes ++ rest) count cols least.kind n is fewer (omega (arith, l)))
+      (count_ends (bytes ++ rest) count cols least.kind n is fewer (omega (arith, length-append bytes rest ∙ ap (λ v. length bytes + v) lr)))
 
   -- A part of a description that isn't all of it, followed by what completes it, is a whole one.
   pub described_ends : 10 ≤ room → (d : DescriptionPart) → IsOpenDescription d → DescribedReached room d → Ends room d (rest_of_description d)
@@ -173,7 +130,6 @@ module _ (room : ℕ) where
       then_ends BeforeCount (InColumn (1 ∷ 0 ∷ []) 1 [] ColumnHead) (1 ∷ 0 ∷ []) int_column
       (Spelt-step (description room) BeforeCount (1 ∷ 0 ∷ []) (InColumn (1 ∷ 0 ∷ []) 1 [] ColumnHead) (omega arith) refl (fits_in room 2 8 (omega arith)) refl)
       (ints_end (1 ∷ 0 ∷ []) 1 [] 0 refl (omega arith))
-  described_ends ten NoDescription o h = absurd o
   described_ends ten (InColumn bytes count cols ColumnHead) o (fewer, valid, fits) = ints_end bytes count cols (count - (length cols + 1)) (omega arith) fits
   described_ends ten (InColumn bytes count cols (ColumnInfo byte)) o (fewer, valid, fits) =
       subst (λ v. Ends room (InColumn bytes count cols (ColumnInfo byte)) v) (sym (append_assoc (least_info byte) (0 ∷ []) (int_columns (count - (length cols + 1)))))
@@ -181,9 +137,8 @@ module _ (room : ℕ) where
   described_ends ten (InColumn bytes count cols (NameCount kind)) o (fewer, valid, (v, fits)) = count_ends bytes count cols kind (count - (length cols + 1)) refl fewer fits
   described_ends ten (InColumn bytes count cols (NameUnits kind m)) o (fewer, valid, (v, some, fits)) =
       let lz : length (zeros m) ≡ m = length-replicate m 0 in
-      let l : length (bytes ++ zeros m) ≡ length bytes + m = length-append bytes (zeros m) ∙ ap (λ v. length bytes + v) lz in
       let c : Column = record { kind = kind; name = zeros m } in
       then_ends (InColumn bytes count cols (NameUnits kind m)) (with_column (bytes ++ zeros m) count cols c) (zeros m) (int_columns (count - (length cols + 1)))
       (Spelt-step (description room) (InColumn bytes count cols (NameUnits kind m)) (zeros m) (with_column (bytes ++ zeros m) count cols c) (omega (arith, lz)) lz refl refl)
-      (column_ends (bytes ++ zeros m) count cols c (count - (length cols + 1)) (omega arith) (omega (arith, l, fits)))
-  described_ends ten (WholeDescription bytes cols) o h = absurd o
+      (column_ends (bytes ++ zeros m) count cols c (count - (length cols + 1)) (omega arith) (omega (arith, length-append bytes (zeros m) ∙ ap (λ v. length bytes + v) lz, fits)))
+  described_ends ten d o h = absurd o

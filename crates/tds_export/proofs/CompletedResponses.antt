@@ -1,22 +1,22 @@
 -- What completes a response is read as its rest.
-use Rattle.std.proofs.Common.{◌≡◌, ◌≢◌, ℕ, ◌+◌, ◌-◌, ◌<◌, ◌≤◌, Bool, true, false, List, [], ◌∷◌, ◌++◌, length, refl, sym, ◌∙◌, ap, subst, arith}
-use Rattle.std.specs.Prelude.{Option, Some, None, ◌==◌, ◌&&◌, nat_lt, nat_le, not, slice_index, if◌then◌else◌}
+use Rattle.std.proofs.Common.{◌≡◌, ℕ, ◌-◌, ◌<◌, ◌≤◌, Bool, true, false, List, [], ◌∷◌, ◌++◌, length, refl, sym, ◌∙◌, ap, subst, arith}
+use Rattle.std.specs.Prelude.{Option, Some, None, ◌&&◌, nat_lt, not, slice_index, if◌then◌else◌}
 use Rattle.std.proofs.lemmas.Bool.Decides.{nat_tests}
 use Rattle.std.proofs.lemmas.List.{length-replicate, replicate-append-replicate}
-use Rattle.tds_values.specs.Numbers.{little}
-use Rattle.tds_packet.specs.declared.fault.Fault.TheVariants.{BadNotice}
-use Rattle.tds_packet.specs.Elements.{AreBytes, Spelt, IsNext}
-use Rattle.tds_packet.proofs.ElementLaws.{Spelt-step, Spelt-append, Spelt-none, Spelt-induct, Inside-Spelt, AreBytes-front, AreBytes-back}
-use Rattle.tds_packet.proofs.Choices.{choose, eq_false, test_lt, test_le}
-use Rattle.tds_columns.specs.Description.{Column, DescriptionPart, BeforeCount, NoDescription, InColumn, WholeDescription, add_described, description}
-use Rattle.tds_rows.specs.declared.Charset.TheVariants.{Windows1252}
-use Rattle.tds_rows.specs.Rows.{RowPart, WholeRow, marked, row_start, nbc_row_start, row_add, row}
-use Rattle.tds_export.specs.TokenBytes.{APassed, AnError, AnInfo, Bodied, ADone, Lead, AMetadata, ARow, AnNbcRow, WithBody, WithFields, AReturn, done_byte, lead_of}
-use Rattle.tds_export.specs.ReturnValue.{ReturnPart, WholeReturn, return_add, return_value}
-use Rattle.tds_export.specs.Tokens.{Token, Metadata, NoMetadata, Row, Returned, Done, described_after}
-use Rattle.tds_export.specs.TokenGrammar.{Open, Between, Describing, Fields, InRow, InReturn, TokenLength, TokenBody, Part, response_start, with_token, with_described, with_row, with_return, start_of_row, after_first, holds_notice, bodied, is_notice, part_add, response}
+use Rattle.tds_columns.specs.Description.{Column, DescriptionPart, WholeDescription, add_described, description}
+use Rattle.tds_export.specs.Completion.{rest_of_description, rest_of_row, rest_of_return, zeros, rest_of_token, done, completion, CanBeCompleted}
 use Rattle.tds_export.specs.Response.{fields_length, fixed}
-use Rattle.tds_export.specs.Completion.{zeros, rest_of_token, done, completion, CanBeCompleted}
+use Rattle.tds_export.specs.ReturnValue.{ReturnPart, WholeReturn, return_add, return_value}
+use Rattle.tds_export.specs.TokenBytes.{APassed, AnError, AnInfo, Bodied, ADone, Lead, done_byte, lead_of}
+use Rattle.tds_export.specs.TokenGrammar.{Open, Between, Describing, Fields, InRow, InReturn, TokenLength, TokenBody, Part, response_start, with_token, with_described, with_row, with_return, start_of_row, after_first, holds_notice, bodied, is_notice, part_add, response}
+use Rattle.tds_export.specs.Tokens.{Token, Metadata, Row, Returned, Done, described_after}
+use Rattle.tds_packet.proofs.Choices.{choose, eq_false, test_lt, test_le}
+use Rattle.tds_packet.proofs.ElementLaws.{Inside, Spelt-step, Spelt-append, Spelt-none, Spelt-induct, Inside-Spelt, AreBytes-front, AreBytes-back}
+use Rattle.tds_packet.specs.Elements.{Grammar, AreBytes, Spelt, IsNext}
+use Rattle.tds_packet.specs.declared.fault.Fault.{Fault}
+use Rattle.tds_packet.specs.declared.fault.Fault.TheVariants.{BadNotice}
+use Rattle.tds_rows.specs.Rows.{RowPart, WholeRow, row_add, row}
+use Rattle.tds_rows.specs.declared.Charset.TheVariants.{Windows1252}
 use Rattle.tds_export.proofs.ResponseLaws.{described_after-append, description_in_response, row_in_response, return_in_response, some_fields}
 use Rattle.tds_export.proofs.ResponseMeaning.{response_is_spelt}
 use Rattle.tds_export.proofs.TokenLaws.{bare, bare_body, bare_fixed, is_bare, is_final-snoc}
@@ -40,16 +40,11 @@ zeros_hold : (n : ℕ) → 14 ≤ n → holds_notice (zeros n) ≡ true
 zeros_hold n h =
     let more : List ℕ = zeros (n - 14) in
     let body : List ℕ = zeros 14 ++ more in
-    let l : length body ≡ 14 + length more = omega arith in
-    let a : nat_lt 8 (length body) ≡ true = test_lt 8 (length body) (omega arith) in
-    let b : nat_lt 9 (length body) ≡ true = test_lt 9 (length body) (omega arith) in
-    let c : nat_le 14 (length body) ≡ true = test_le 14 (length body) (omega arith) in
     let same : body ≡ zeros n = replicate-append-replicate 14 (n - 14) 0 ∙ ap zeros (omega arith) in
-    subst (λ v. holds_notice v ≡ true) same (λ i. (a i && b i) && c i)
+    grind (arith, test_le, replicate-append-replicate, test_lt)
 
 not_short : (n : ℕ) (t : Bool) → nat_lt n 14 ≡ t → ((if t then Some BadNotice else None) ≡ None) → 14 ≤ n
-not_short n true e f = cc
-not_short n false e f = grind (arith, nat_tests)
+not_short n t e f = grind (arith, nat_tests)
 
 module _ (room : ℕ) where
   -- a token that describes nothing
@@ -60,36 +55,22 @@ module _ (room : ℕ) where
   bare_reached tokens t is h = token_reached tokens t (bare t is).columns h
 
   described_reached : (tokens : List Token) (d : DescriptionPart) → CurrentReached (described_after None tokens) → DescribedReached room d → PartReached room (with_described tokens d)
-  described_reached tokens BeforeCount h r = (h, (tt, r))
-  described_reached tokens NoDescription h r = (subst CurrentReached (sym (described_after-append None tokens (NoMetadata ∷ []))) tt, tt)
-  described_reached tokens (InColumn bytes count cols place) h r = (h, (tt, r))
-  described_reached tokens (WholeDescription bytes cols) h r = (subst CurrentReached (sym (described_after-append None tokens (Metadata bytes cols ∷ []))) r, tt)
+  described_reached tokens d h r = grind (arith, described_after-append)
 
   row_reached : (tokens : List Token) (part : RowPart) → CurrentReached (described_after None tokens) → RowReached part → PartReached room (with_row tokens part)
-  row_reached tokens (WholeRow cells) h r = token_reached tokens (Row cells) (λ c. refl) h
-  row_reached tokens part h r = (h, (tt, r))
+  row_reached tokens part h r = grind (arith, token_reached)
 
   return_reached : (tokens : List Token) (part : ReturnPart) → CurrentReached (described_after None tokens) → ReturnReached part → PartReached room (with_return tokens part)
-  return_reached tokens (WholeReturn v) h r = bare_reached tokens (Returned v) refl h
-  return_reached tokens part h r = (h, (tt, r))
+  return_reached tokens part h r = grind (arith, bare_reached)
 
   row_starts : (tokens : List Token) (start : List Column → RowPart) → ((columns : List Column) → (0 < length columns) × AreValid columns → RowReached (start columns)) → (current : Option (List Column)) → described_after None tokens ≡ current → CurrentReached current → PartReached room (start_of_row tokens start current)
-  row_starts tokens start begins None is h = (subst CurrentReached (sym is) h, tt)
-  row_starts tokens start begins (Some columns) is h = row_reached tokens (start columns) (subst CurrentReached (sym is) h) (begins columns h)
+  row_starts tokens start begins current is h = grind (arith, row_reached)
 
   lead_reached : (tokens : List Token) (begun : Option Lead) → CurrentReached (described_after None tokens) → PartReached room (after_first Windows1252 tokens begun)
-  lead_reached tokens None h = (h, tt)
-  lead_reached tokens (Some AMetadata) h = (h, (tt, tt))
-  lead_reached tokens (Some ARow) h = row_starts tokens (row_start Windows1252) (λ columns v. next_reached [] (marked columns (λ k. false) 0) (marked_valid columns (λ k. false) 0 v.1)) (described_after None tokens) refl h
-  lead_reached tokens (Some AnNbcRow) h = row_starts tokens nbc_row_start (λ columns v. v) (described_after None tokens) refl h
-  lead_reached tokens (Some (WithBody b)) h = (h, tt)
-  lead_reached tokens (Some (WithFields f)) h = (h, tt)
-  lead_reached tokens (Some AReturn) h = (h, (tt, tt))
+  lead_reached tokens begun h = grind (arith, marked_valid, next_reached, row_starts)
 
   length_reached : (b : Bodied) (n : ℕ) → ((if is_notice b && nat_lt n 14 then Some BadNotice else None) ≡ None) → is_notice b ≡ true → 14 ≤ n
-  length_reached (APassed passed) n f h = cc
-  length_reached AnError n f h = not_short n (nat_lt n 14) refl f
-  length_reached AnInfo n f h = not_short n (nat_lt n 14) refl f
+  length_reached b n f h = grind (arith, not_short)
 
   -- Each element keeps what is known.
   open_keeps : (tokens : List Token) (at : Open) (e : List ℕ) → AreBytes e → CurrentReached (described_after None tokens) → OpenReached room at → IsNext (response Windows1252 room) (record { tokens = tokens; at = at }) e → PartReached room (part_add Windows1252 tokens at e)
@@ -97,9 +78,7 @@ module _ (room : ℕ) where
   open_keeps tokens (Describing d) e are h (begun, r) n = described_reached tokens (add_described d e) h (described_keeps room d e are r (record { some = n.some; whole = n.whole; free = n.free }))
   open_keeps tokens (InRow part) e are h (begun, r) n = row_reached tokens (row_add Windows1252 part e) h (row_keeps part e are r (record { some = n.some; whole = n.whole; free = n.free }))
   open_keeps tokens (InReturn part) e are h (begun, r) n = return_reached tokens (return_add part e) h (return_keeps part e are r (record { some = n.some; whole = n.whole; free = n.free }))
-  open_keeps tokens (TokenLength b) e are h o n =
-      choose (PartReached room) (little e == 0) (with_token tokens (bodied b [])) (record { tokens = tokens; at = TokenBody b (little e) }) (λ z. bare_reached tokens (bodied b []) (bare_body b []) h)
-      (λ z. let some : little e ≢ 0 = eq_false (little e) 0 z in (h, (omega arith, length_reached b (little e) n.free)))
+  open_keeps tokens (TokenLength b) e are h o n = grind (arith, bare_body, bare_reached, choose, eq_false, length_reached)
   open_keeps tokens (TokenBody b m) e are h o n = bare_reached tokens (bodied b e) (bare_body b e) h
   open_keeps tokens (Fields f) e are h o n = bare_reached tokens (fixed f e) (bare_fixed f e) h
 
@@ -112,18 +91,13 @@ module _ (room : ℕ) where
   Ends tokens at rest = (ts : List Token) × Spelt (response Windows1252 room) (record { tokens = tokens; at = at }) rest (record { tokens = ts; at = Between })
 
   described_opens : (tokens : List Token) (d : DescriptionPart) → IsOpenDescription d → with_described tokens d ≡ record { tokens = tokens; at = Describing d }
-  described_opens tokens BeforeCount h = refl
-  described_opens tokens NoDescription h = absurd h
-  described_opens tokens (InColumn bytes count cols place) h = refl
-  described_opens tokens (WholeDescription bytes cols) h = absurd h
+  described_opens tokens d h = grind arith
 
   row_opens : (tokens : List Token) (part : RowPart) → IsOpenRow part → with_row tokens part ≡ record { tokens = tokens; at = InRow part }
-  row_opens tokens (WholeRow cells) h = absurd h
-  row_opens tokens part h = refl
+  row_opens tokens part h = grind arith
 
   return_opens : (tokens : List Token) (part : ReturnPart) → IsOpenReturn part → with_return tokens part ≡ record { tokens = tokens; at = InReturn part }
-  return_opens tokens (WholeReturn r) h = absurd h
-  return_opens tokens part h = refl
+  return_opens tokens part h = grind arith
 
   body_ends : (tokens : List Token) (b : Bodied) (n : ℕ) → OpenReached room (TokenBody b n) → Ends tokens (TokenBody b n) (zeros n)
   body_ends tokens b n (some, long) =
@@ -132,8 +106,7 @@ module _ (room : ℕ) where
     where
       free : (b : Bodied) → (is_notice b ≡ true → 14 ≤ n) → ((if is_notice b && not (holds_notice (zeros n)) then Some BadNotice else None) ≡ None)
       free (APassed passed) long = refl
-      free AnError long = ap (λ t. (if not t then Some BadNotice else None)) (zeros_hold n (long refl))
-      free AnInfo long = ap (λ t. (if not t then Some BadNotice else None)) (zeros_hold n (long refl))
+      free b long = ap (λ t. (if not t then Some BadNotice else None)) (zeros_hold n (long refl))
 
   notice_ends : (tokens : List Token) (b : Bodied) → ((if is_notice b && nat_lt 14 14 then Some BadNotice else None) ≡ None) → Ends tokens (TokenLength b) (14 ∷ 0 ∷ zeros 14)
   notice_ends tokens b free =
@@ -146,24 +119,23 @@ module _ (room : ℕ) where
   one_ends : (tokens : List Token) (at : Open) (e : List ℕ) (t : Token) → Spelt (response Windows1252 room) (record { tokens = tokens; at = at }) e (with_token tokens t) → Ends tokens at e
   one_ends tokens at e t h = (tokens ++ t ∷ [], h)
 
+  -- what ends a grammar inside ends its token
+  inside_ends : {S : Type 0} (small : Grammar S Fault) (lift : S → Part) → Inside small (response Windows1252 room) lift → (tokens : List Token) (at : Open) (s whole : S) (rest : List ℕ) (t : Token) → lift s ≡ record { tokens = tokens; at = at } → lift whole ≡ with_token tokens t
+      → Spelt small s rest whole → Ends tokens at rest
+  inside_ends small lift inside tokens at s whole rest t begun end h = (tokens ++ t ∷ [], rw (← begun, ← end) (Inside-Spelt small (response Windows1252 room) lift inside s rest whole h))
+
   -- The rest of the token that is read ends it.
   token_ends : 10 ≤ room → (tokens : List Token) (at : Open) → OpenReached room at → Ends tokens at (rest_of_token at)
   token_ends ten tokens Between o = (tokens, Spelt-none (response Windows1252 room) (record { tokens = tokens; at = Between }))
   token_ends ten tokens (Describing d) (begun, r) =
       let all = described_ends room ten d begun r in
-      one_ends tokens (Describing d) (rest_of_token (Describing d)) (Metadata all.0 all.1)
-      (subst (λ p. Spelt (response Windows1252 room) p (rest_of_token (Describing d)) (with_token tokens (Metadata all.0 all.1))) (described_opens tokens d begun)
-      (Inside-Spelt (description room) (response Windows1252 room) (with_described tokens) (description_in_response Windows1252 room tokens) d (rest_of_token (Describing d)) (WholeDescription all.0 all.1) all.2))
+      inside_ends (description room) (with_described tokens) (description_in_response Windows1252 room tokens) tokens (Describing d) d (WholeDescription all.0 all.1) (rest_of_description d) (Metadata all.0 all.1) (described_opens tokens d begun) refl all.2
   token_ends ten tokens (InRow part) (begun, r) =
       let all = row_ends part r in
-      one_ends tokens (InRow part) (rest_of_token (InRow part)) (Row all.0)
-      (subst (λ p. Spelt (response Windows1252 room) p (rest_of_token (InRow part)) (with_token tokens (Row all.0))) (row_opens tokens part begun)
-      (Inside-Spelt (row Windows1252) (response Windows1252 room) (with_row tokens) (row_in_response Windows1252 room tokens) part (rest_of_token (InRow part)) (WholeRow all.0) all.1))
+      inside_ends (row Windows1252) (with_row tokens) (row_in_response Windows1252 room tokens) tokens (InRow part) part (WholeRow all.0) (rest_of_row part) (Row all.0) (row_opens tokens part begun) refl all.1
   token_ends ten tokens (InReturn part) (begun, r) =
       let all = return_ends part r in
-      one_ends tokens (InReturn part) (rest_of_token (InReturn part)) (Returned all.0)
-      (subst (λ p. Spelt (response Windows1252 room) p (rest_of_token (InReturn part)) (with_token tokens (Returned all.0))) (return_opens tokens part begun)
-      (Inside-Spelt return_value (response Windows1252 room) (with_return tokens) (return_in_response Windows1252 room tokens) part (rest_of_token (InReturn part)) (WholeReturn all.0) all.1))
+      inside_ends return_value (with_return tokens) (return_in_response Windows1252 room tokens) tokens (InReturn part) part (WholeReturn all.0) (rest_of_return part) (Returned all.0) (return_opens tokens part begun) refl all.1
   token_ends ten tokens (TokenLength (APassed passed)) o =
       one_ends tokens (TokenLength (APassed passed)) (zeros 2) (bodied (APassed passed) []) (Spelt-step (response Windows1252 room) (record { tokens = tokens; at = TokenLength (APassed passed) }) (zeros 2) (with_token tokens (bodied (APassed passed) [])) (omega arith) refl refl refl)
   token_ends ten tokens (TokenLength AnError) o = notice_ends tokens AnError refl

@@ -1,20 +1,20 @@
 -- What completes a return value is read as its rest.
-use Rattle.std.proofs.Common.{◌≡◌, ◌≢◌, ℕ, ◌*◌, ◌<◌, true, List, [], ◌∷◌, ◌++◌, length, refl, sym, ◌∙◌, ap, subst, arith}
-use Rattle.std.specs.Prelude.{Option, Some, None, ◌==◌, is_some, slice_index, unwrap_or, if◌then◌else◌}
+use Rattle.std.proofs.Common.{◌≡◌, ℕ, ◌<◌, true, List, [], ◌∷◌, ◌++◌, length, refl, sym, ◌∙◌, ap, subst, arith}
+use Rattle.std.specs.Prelude.{Option, Some, None, is_some, unwrap_or, if◌then◌else◌}
 use Rattle.std.proofs.lemmas.List.{length-replicate}
+use Rattle.tds_columns.specs.ReturnedType.{return_column}
+use Rattle.tds_export.specs.Completion.{zeros, least_info, rest_of_cell, rest_of_return_head, rest_of_value, rest_of_return}
+use Rattle.tds_export.specs.ReturnValue.{ReturnValue, ReturnPart, ReturnOrdinal, ReturnNameCount, ReturnName, ReturnHead, ReturnInfo, InReturnCell, WholeReturn, with_value, with_return_kind, return_add, return_value}
+use Rattle.tds_packet.proofs.Choices.{choose, eq_true, eq_false, is_some_value}
+use Rattle.tds_packet.proofs.ElementLaws.{Spelt-step, Spelt-append, Spelt-none, Inside-Spelt}
+use Rattle.tds_packet.specs.Elements.{AreBytes, Spelt, IsNext}
+use Rattle.tds_packet.specs.declared.fault.Fault.TheVariants.{BadTypeInfo}
+use Rattle.tds_rows.specs.Cells.{Null, shape, CellPart, ScalarLength, WholeCell, cell_start, cell_add, cell, return_charset}
+use Rattle.tds_values.proofs.TypeInfoLemmas.{bare_type, valid_of}
+use Rattle.tds_values.specs.Kind.{is_valid}
 use Rattle.tds_values.specs.declared.kind.Kind.{Kind}
 use Rattle.tds_values.specs.declared.kind.Kind.TheVariants.{Guid}
-use Rattle.tds_values.specs.Kind.{is_valid}
 use Rattle.tds_values.specs.TypeInfo.{rest_length, named_kind, kind_of}
-use Rattle.tds_values.proofs.TypeInfoLemmas.{bare_type, valid_of}
-use Rattle.tds_packet.specs.declared.fault.Fault.TheVariants.{BadTypeInfo}
-use Rattle.tds_packet.specs.Elements.{AreBytes, Spelt, IsNext}
-use Rattle.tds_packet.proofs.ElementLaws.{Spelt-step, Spelt-append, Spelt-none, Inside-Spelt}
-use Rattle.tds_packet.proofs.Choices.{choose, eq_true, eq_false, is_some_value}
-use Rattle.tds_columns.specs.ReturnedType.{return_column}
-use Rattle.tds_rows.specs.Cells.{Null, shape, CellPart, ScalarLength, WholeCell, cell_start, cell_add, cell, return_charset}
-use Rattle.tds_export.specs.ReturnValue.{ReturnValue, ReturnPart, ReturnOrdinal, ReturnNameCount, ReturnName, ReturnHead, ReturnInfo, InReturnCell, WholeReturn, with_value, with_return_kind, with_return_type, return_add, return_value}
-use Rattle.tds_export.specs.Completion.{zeros, least_info, rest_of_cell, rest_of_return_head, rest_of_value, rest_of_return}
 use Rattle.tds_export.proofs.ReturnLaws.{value_in_return, accepted, some_kind}
 use Rattle.tds_export.proofs.LeastTypes.{least_type}
 use Rattle.tds_export.proofs.CompletedCells.{CellReached, cell_ends, cell_keeps, start_reached}
@@ -28,29 +28,18 @@ ReturnReached (InReturnCell name kind part) = IsOpenCell part × CellReached par
 ReturnReached part = Unit {0}
 
 value_reached : (name : List ℕ) (kind : Kind) (part : CellPart) → CellReached part → ReturnReached (with_value name kind part)
-value_reached name kind (WholeCell x) h = tt
-value_reached name kind part h = (tt, h)
+value_reached name kind part h = grind arith
 
 kind_reached : (name : List ℕ) (kind : Kind) (o : Option Kind) → o ≡ Some kind → is_valid kind ≡ true → ReturnReached (with_return_kind name o)
 kind_reached name kind o is v = subst (λ o. ReturnReached (with_return_kind name o)) (sym is) (value_reached name kind (cell_start kind (shape return_charset kind)) (start_reached kind v))
 
 -- Each element keeps what is known.
 pub return_keeps : (p : ReturnPart) (e : List ℕ) → AreBytes e → ReturnReached p → IsNext return_value p e → ReturnReached (return_add p e)
-return_keeps ReturnOrdinal e are h n = tt
-return_keeps ReturnNameCount e are h n =
-    choose ReturnReached (slice_index e 0 == 0) (ReturnHead []) (ReturnName (2 * slice_index e 0)) (λ z. tt)
-    (λ z. let some : slice_index e 0 ≢ 0 = eq_false (slice_index e 0) 0 z in omega arith)
-return_keeps (ReturnName m) e are h n = tt
-return_keeps (ReturnHead name) e are h n =
-    let byte : ℕ = slice_index e 7 in
-    let k = accepted byte (rest_length byte) n.free in
-    subst (λ o. ReturnReached (with_return_type name byte (unwrap_or o 0))) (sym k.1)
-    (choose ReturnReached (k.0 == 0) (with_return_kind name (kind_of (byte ∷ []))) (ReturnInfo name byte)
-    (λ z. let j = bare_type byte (k.1 ∙ ap (λ v. Some v) (eq_true k.0 0 z)) in kind_reached name j.0 (kind_of (byte ∷ [])) j.1 (valid_of j.0 (byte ∷ []) j.1))
-    (λ z. let some : k.0 ≢ 0 = eq_false k.0 0 z in (k.0, k.1, omega arith)))
+return_keeps ReturnNameCount e are h n = grind (arith, choose, eq_false)
+return_keeps (ReturnHead name) e are h n = grind (arith, accepted, bare_type, choose, eq_false, eq_true, kind_reached, valid_of)
 return_keeps (ReturnInfo name byte) e are h n = let k = is_some_value (kind_of (byte ∷ e)) (some_kind (kind_of (byte ∷ e)) n.free) in kind_reached name k.0 (kind_of (byte ∷ e)) k.1 (valid_of k.0 (byte ∷ e) k.1)
 return_keeps (InReturnCell name kind part) e are (begun, h) n = value_reached name kind (cell_add part e) (cell_keeps return_column part e are h (record { some = n.some; whole = n.whole; free = n.free }))
-return_keeps (WholeReturn r) e are h n = tt
+return_keeps p e are h n = tt
 
 -- the rest of a return value, up to its end
 abbrev Ends : ReturnPart → List ℕ → Type 0
@@ -69,8 +58,7 @@ kind_ends : (name : List ℕ) (kind : Kind) (o : Option Kind) → o ≡ Some kin
 kind_ends name kind o is v = subst (λ o. Ends (with_return_kind name o) (rest_of_value o)) (sym is) (value_ends name kind (cell_start kind (shape return_charset kind)) (start_reached kind v))
 
 stays_open : (name : List ℕ) (kind : Kind) (part : CellPart) → IsOpenCell part → with_value name kind part ≡ InReturnCell name kind part
-stays_open name kind (WholeCell x) h = absurd h
-stays_open name kind part h = refl
+stays_open name kind part h = grind arith
 
 head_ends : (name : List ℕ) → Ends (ReturnHead name) rest_of_return_head
 unfolding rest_length named_kind

@@ -1,19 +1,18 @@
 -- What completes a row is read as its rest.
-use Rattle.std.proofs.Common.{◌≡◌, ℕ, zero, suc, ◌+◌, ◌/◌, ◌%◌, ◌^◌, ◌<◌, ◌≤◌, Bool, true, false, List, [], ◌∷◌, ◌++◌, length, refl, ◌∙◌, ap, subst, arith}
-use Rattle.std.specs.Prelude.{◌==◌, slice_index}
+use Rattle.std.proofs.Common.{◌≡◌, ℕ, zero, suc, ◌+◌, ◌<◌, Bool, true, false, List, [], ◌∷◌, ◌++◌, length, refl, subst, arith}
+use Rattle.std.specs.Prelude.{slice_index}
 use Rattle.std.proofs.Math.Nat.{one-le-pow, div-eq_of_lt}
 use Rattle.std.proofs.lemmas.List.{length-replicate}
-use Rattle.tds_values.specs.declared.kind.Kind.{Kind}
-use Rattle.tds_values.specs.declared.kind.Reach.TheVariants.{Short, Chunked}
-use Rattle.tds_values.specs.Kind.{is_valid}
-use Rattle.tds_packet.specs.Elements.{AreBytes, Spelt, IsNext}
-use Rattle.tds_packet.proofs.ElementLaws.{Spelt-step, Spelt-append, Spelt-none, Inside-Spelt}
 use Rattle.tds_columns.specs.Description.{Column}
-use Rattle.tds_rows.specs.declared.Charset.TheVariants.{Windows1252}
-use Rattle.tds_rows.specs.Cells.{Cell, Null, Shape, FixedShape, CountedShape, LongShape, shape, CellPart, WholeCell, cell_start, cell_add, cell}
-use Rattle.tds_rows.specs.Rows.{marked, bit, bitmap_length, RowPart, Bitmap, InCell, WholeRow, next_cell, with_cell, row_add, row}
-use Rattle.tds_rows.proofs.RowLaws.{cell_in_row, begins_open, some_bitmap}
 use Rattle.tds_export.specs.Completion.{zeros, rest_of_cell, rest_of_cells, all_clear, rest_of_row}
+use Rattle.tds_packet.proofs.ElementLaws.{Spelt-step, Spelt-append, Spelt-none, Inside-Spelt}
+use Rattle.tds_packet.specs.Elements.{AreBytes, Spelt, IsNext}
+use Rattle.tds_rows.proofs.RowLaws.{cell_in_row, begins_open, some_bitmap}
+use Rattle.tds_rows.specs.Cells.{Cell, Null, Shape, shape, CellPart, WholeCell, cell_start, cell}
+use Rattle.tds_rows.specs.Rows.{marked, bit, bitmap_length, RowPart, Bitmap, InCell, WholeRow, next_cell, with_cell, row_add, row}
+use Rattle.tds_rows.specs.declared.Charset.TheVariants.{Windows1252}
+use Rattle.tds_values.specs.Kind.{is_valid}
+use Rattle.tds_values.specs.declared.kind.Kind.{Kind}
 use Rattle.tds_export.proofs.CompletedCells.{CellReached, cell_ends, cell_keeps, start_reached}
 
 -- the kinds of the columns are valid
@@ -42,10 +41,7 @@ marked_valid [] nulls k h = tt
 marked_valid (c ∷ cs) nulls k (v, h) = (v, marked_valid cs nulls (k + 1) h)
 
 pub starts_open : (kind : Kind) (sh : Shape) → IsOpenCell (cell_start kind sh)
-starts_open kind (FixedShape n) = tt
-starts_open kind CountedShape = tt
-starts_open kind (LongShape c Short) = tt
-starts_open kind (LongShape c Chunked) = tt
+starts_open kind sh = grind arith
 
 pub next_reached : (cells : List Cell) (ks : List (Column × Bool)) → AreMarkedValid ks → RowReached (next_cell Windows1252 cells ks)
 next_reached cells [] h = tt
@@ -53,14 +49,11 @@ next_reached cells ((k, true) ∷ ks) (v, h) = next_reached (cells ++ Null ∷ [
 next_reached cells ((k, false) ∷ ks) (v, h) = (starts_open k.kind (shape Windows1252 k.kind), start_reached k.kind v, h)
 
 with_reached : (cells : List Cell) (ks : List (Column × Bool)) (part : CellPart) → CellReached part → AreMarkedValid ks → RowReached (with_cell Windows1252 cells ks part)
-with_reached cells ks (WholeCell x) h m = next_reached (cells ++ x ∷ []) ks m
-with_reached cells ks part h m = (tt, h, m)
+with_reached cells ks part h m = grind (arith, next_reached)
 
 -- Each element keeps what is known.
 pub row_keeps : (p : RowPart) (e : List ℕ) → AreBytes e → RowReached p → IsNext (row Windows1252) p e → RowReached (row_add Windows1252 p e)
-row_keeps (Bitmap columns) e are (some, h) n = next_reached [] (marked columns (bit e) 0) (marked_valid columns (bit e) 0 h)
-row_keeps (InCell cells part ks) e are (begun, h, m) n = with_reached cells ks (cell_add part e) (cell_keeps (length cells) part e are h (record { some = n.some; whole = n.whole; free = n.free })) m
-row_keeps (WholeRow cells) e are h n = tt
+row_keeps p e are h3 n = grind (arith, cell_keeps, marked_valid, next_reached, with_reached)
 
 -- the cell that is read, and those to come
 part_ends : (before : List Cell) (part : CellPart) (ks : List (Column × Bool)) → CellReached part → ((b : List Cell) → (cells : List Cell) × Spelt (row Windows1252) (next_cell Windows1252 b ks) (rest_of_cells ks) (WholeRow cells)) → (cells : List Cell) × Spelt (row Windows1252) (with_cell Windows1252 before ks part) (rest_of_cell part ++ rest_of_cells ks) (WholeRow cells)
@@ -80,8 +73,7 @@ cells_end before ((k, false) ∷ ks) (v, h) =
     (all.0, subst (λ p. Spelt (row Windows1252) p (rest_of_cell start ++ rest_of_cells ks) (WholeRow all.0)) (begins_open Windows1252 before ks k.kind (shape Windows1252 k.kind)) all.1)
 
 pub stays_open : (cells : List Cell) (ks : List (Column × Bool)) (part : CellPart) → IsOpenCell part → with_cell Windows1252 cells ks part ≡ InCell cells part ks
-stays_open cells ks (WholeCell x) h = absurd h
-stays_open cells ks part h = refl
+stays_open cells ks part h = grind arith
 
 zero_at : (n i : ℕ) → slice_index (zeros n) i ≡ 0
 zero_at zero i = refl
@@ -90,10 +82,7 @@ zero_at (suc n) (suc i) = zero_at n i
 
 -- no bit of zero bytes is set
 clear_at : (n k : ℕ) → bit (zeros n) k ≡ false
-clear_at n k =
-    let some : 1 ≤ 2 ^ (k % 8) = one-le-pow (k % 8) 2 (omega arith) in
-    let none : 0 / 2 ^ (k % 8) ≡ 0 = div-eq_of_lt (omega arith) in
-    ap (λ v. (v / 2 ^ (k % 8)) % 2 == 1) (zero_at n (k / 8)) ∙ ap (λ v. v % 2 == 1) none
+clear_at n k = grind (arith, div-eq_of_lt, one-le-pow, zero_at)
 
 marked_clear : (columns : List Column) (nulls : ℕ → Bool) (k : ℕ) → ((i : ℕ) → nulls i ≡ false) → marked columns nulls k ≡ all_clear columns
 marked_clear [] nulls k h = refl

@@ -1,19 +1,18 @@
 -- What completes a response are bytes.
-use Rattle.std.proofs.Common.{◌≡◌, ℕ, zero, suc, ◌+◌, ◌-◌, ◌%◌, ◌<◌, ◌≤◌, Bool, true, false, List, [], ◌∷◌, length, arith}
-use Rattle.std.specs.Prelude.{Option, Some, None}
-use Rattle.tds_values.specs.declared.kind.Kind.{Kind}
-use Rattle.tds_values.specs.TypeInfo.{kind_of}
-use Rattle.tds_csv.specs.Conversion.{Conversion, unit}
-use Rattle.tds_packet.specs.Elements.{AreBytes}
-use Rattle.tds_columns.specs.Description.{Column, ColumnPlace, ColumnHead, ColumnInfo, NameCount, NameUnits, DescriptionPart, BeforeCount, NoDescription, InColumn, WholeDescription}
-use Rattle.tds_rows.specs.declared.Charset.TheVariants.{Windows1252}
-use Rattle.tds_rows.specs.Cells.{CellPart, ScalarBytes, ScalarLength, ShortLength, ShortData, Total, ChunkLength, ChunkData, WholeCell, cell_start, shape, return_charset}
-use Rattle.tds_rows.specs.Rows.{RowPart, Bitmap, InCell, WholeRow, bitmap_length}
+use Rattle.std.proofs.Common.{◌≡◌, ℕ, zero, suc, ◌<◌, ◌≤◌, Bool, true, false, List, [], ◌∷◌, arith}
+use Rattle.std.specs.Prelude.{Option}
+use Rattle.tds_columns.specs.Description.{Column, ColumnPlace, DescriptionPart}
+use Rattle.tds_csv.specs.Conversion.{Conversion}
+use Rattle.tds_export.specs.Completion.{zeros, int_column, int_columns, least_info, rest_of_column, rest_of_description, zero_chunks, rest_of_chunks, rest_of_cell, rest_of_cells, rest_of_row, rest_of_return_head, rest_of_value, rest_of_return, least_body, rest_of_token, done, completion}
 use Rattle.tds_export.specs.ReturnValue.{ReturnPart, ReturnOrdinal, ReturnNameCount, ReturnName, ReturnHead, ReturnInfo, InReturnCell, WholeReturn}
-use Rattle.tds_export.specs.TokenBytes.{APassed, AnError, AnInfo, Bodied}
-use Rattle.tds_export.specs.Response.{fields_length}
-use Rattle.tds_export.specs.TokenGrammar.{Open, Between, Describing, Fields, InRow, InReturn, TokenLength, TokenBody, Part, is_notice}
-use Rattle.tds_export.specs.Completion.{zeros, int_column, int_columns, least_info, rest_of_column, rest_of_description, zero_chunks, terminator, rest_of_chunks, rest_of_cell, rest_of_cells, all_clear, rest_of_row, rest_of_return_head, rest_of_value, rest_of_return, least_body, rest_of_token, done, completion}
+use Rattle.tds_export.specs.TokenBytes.{Bodied}
+use Rattle.tds_export.specs.TokenGrammar.{Open, Describing, InRow, InReturn, TokenBody, Part, is_notice}
+use Rattle.tds_packet.specs.Elements.{AreBytes}
+use Rattle.tds_rows.specs.Cells.{CellPart, cell_start, shape}
+use Rattle.tds_rows.specs.Rows.{RowPart, WholeRow}
+use Rattle.tds_rows.specs.declared.Charset.TheVariants.{Windows1252}
+use Rattle.tds_values.specs.TypeInfo.{kind_of}
+use Rattle.tds_values.specs.declared.kind.Kind.{Kind}
 use Rattle.tds_export.proofs.SomeBytes.{AreBytes-append, AreBytes-replicate}
 use Rattle.tds_export.proofs.LeastTypes.{least_type}
 use Rattle.tds_export.proofs.CompletedRows.{RowReached}
@@ -48,34 +47,20 @@ AreBytes-ints zero = tt
 AreBytes-ints (suc n) = AreBytes-append int_column (int_columns n) AreBytes-int (AreBytes-ints n)
 
 AreBytes-column : (room : ℕ) (bytes : List ℕ) (left : ℕ) (place : ColumnPlace) → PlaceReached room bytes left place → AreBytes (rest_of_column place)
-AreBytes-column room bytes left ColumnHead h = AreBytes-int
-AreBytes-column room bytes left (ColumnInfo byte) (n, known, some, fits) = AreBytes-append (least_info byte) (0 ∷ []) (least_type byte n known).bytes (AreBytes-zeros 1)
-AreBytes-column room bytes left (NameCount kind) h = AreBytes-zeros 1
-AreBytes-column room bytes left (NameUnits kind n) h = AreBytes-zeros n
+AreBytes-column room bytes left place h = grind (arith, AreBytes-append, AreBytes-int, AreBytes-zeros, least_type)
 
 AreBytes-description : (room : ℕ) (d : DescriptionPart) → DescribedReached room d → AreBytes (rest_of_description d)
-AreBytes-description room BeforeCount h = (omega arith, (omega arith, AreBytes-int))
-AreBytes-description room NoDescription h = tt
-AreBytes-description room (InColumn bytes count cols place) (fewer, valid, fits) = AreBytes-append (rest_of_column place) (int_columns (count - (length cols + 1))) (AreBytes-column room bytes (count - (length cols + 1)) place fits) (AreBytes-ints (count - (length cols + 1)))
-AreBytes-description room (WholeDescription bytes cols) h = tt
+AreBytes-description room d h = grind (arith, AreBytes-append, AreBytes-column, AreBytes-int, AreBytes-ints)
 
 AreBytes-zero_chunks : (n : ℕ) → AreBytes (zero_chunks n)
 AreBytes-zero_chunks zero = tt
 AreBytes-zero_chunks (suc n) = (omega arith, AreBytes-append (zeros 4) (zero_chunks n) (AreBytes-zeros 4) (AreBytes-zero_chunks n))
 
 AreBytes-chunks : (c : Conversion) (total : Option ℕ) (sum : ℕ) → AreBytes (rest_of_chunks c total sum)
-AreBytes-chunks c (Some total) sum = AreBytes-append (zero_chunks (total - sum)) terminator (AreBytes-zero_chunks (total - sum)) (AreBytes-zeros 4)
-AreBytes-chunks c None sum = AreBytes-append (zero_chunks (sum % unit c)) terminator (AreBytes-zero_chunks (sum % unit c)) (AreBytes-zeros 4)
+AreBytes-chunks c total sum = grind (arith, AreBytes-append, AreBytes-zero_chunks, AreBytes-zeros)
 
 AreBytes-cell : (p : CellPart) → AreBytes (rest_of_cell p)
-AreBytes-cell (ScalarBytes kind n) = AreBytes-zeros n
-AreBytes-cell (ScalarLength kind) = AreBytes-zeros 1
-AreBytes-cell (ShortLength c) = AreBytes-replicate 2 255 (omega arith)
-AreBytes-cell (ShortData c left content) = AreBytes-zeros (left + 1)
-AreBytes-cell (Total c) = AreBytes-replicate 8 255 (omega arith)
-AreBytes-cell (ChunkLength c total content) = AreBytes-chunks c total (length content)
-AreBytes-cell (ChunkData c total left content) = AreBytes-append (zeros (left + 1)) (rest_of_chunks c total (length content + (left + 1))) (AreBytes-zeros (left + 1)) (AreBytes-chunks c total (length content + (left + 1)))
-AreBytes-cell (WholeCell x) = tt
+AreBytes-cell p = grind (arith, AreBytes-append, AreBytes-chunks, AreBytes-replicate, AreBytes-zeros)
 
 AreBytes-cells : (ks : List (Column × Bool)) → AreBytes (rest_of_cells ks)
 AreBytes-cells [] = tt
@@ -83,16 +68,13 @@ AreBytes-cells ((k, true) ∷ ks) = AreBytes-cells ks
 AreBytes-cells ((k, false) ∷ ks) = AreBytes-append (rest_of_cell (cell_start k.kind (shape Windows1252 k.kind))) (rest_of_cells ks) (AreBytes-cell (cell_start k.kind (shape Windows1252 k.kind))) (AreBytes-cells ks)
 
 AreBytes-row : (p : RowPart) → AreBytes (rest_of_row p)
-AreBytes-row (Bitmap columns) = AreBytes-append (zeros (bitmap_length (length columns))) (rest_of_cells (all_clear columns)) (AreBytes-zeros (bitmap_length (length columns))) (AreBytes-cells (all_clear columns))
-AreBytes-row (InCell cells part ks) = AreBytes-append (rest_of_cell part) (rest_of_cells ks) (AreBytes-cell part) (AreBytes-cells ks)
-AreBytes-row (WholeRow cells) = tt
+AreBytes-row p = grind (arith, AreBytes-append, AreBytes-cell, AreBytes-cells, AreBytes-zeros)
 
 AreBytes-head : AreBytes rest_of_return_head
 AreBytes-head = AreBytes-append (zeros 7) (0x24 ∷ 16 ∷ 0 ∷ []) (AreBytes-zeros 7) (omega arith, (omega arith, (omega arith, tt)))
 
 AreBytes-value : (o : Option Kind) → AreBytes (rest_of_value o)
-AreBytes-value (Some kind) = AreBytes-cell (cell_start kind (shape return_charset kind))
-AreBytes-value None = tt
+AreBytes-value o = grind (arith, AreBytes-cell)
 
 AreBytes-return : (p : ReturnPart) → ReturnReached p → AreBytes (rest_of_return p)
 AreBytes-return ReturnOrdinal h = AreBytes-append (zeros 3) rest_of_return_head (AreBytes-zeros 3) AreBytes-head
@@ -104,18 +86,10 @@ AreBytes-return (InReturnCell name kind part) h = AreBytes-cell part
 AreBytes-return (WholeReturn r) h = tt
 
 AreBytes-body : (b : Bodied) → AreBytes (least_body b)
-AreBytes-body (APassed passed) = AreBytes-zeros 2
-AreBytes-body AnError = (omega arith, AreBytes-zeros 15)
-AreBytes-body AnInfo = (omega arith, AreBytes-zeros 15)
+AreBytes-body b = grind (arith, AreBytes-zeros)
 
 AreBytes-token : (room : ℕ) (at : Open) → OpenReached room at → AreBytes (rest_of_token at)
-AreBytes-token room Between h = tt
-AreBytes-token room (Describing d) (begun, h) = AreBytes-description room d h
-AreBytes-token room (InRow part) h = AreBytes-row part
-AreBytes-token room (InReturn part) (begun, h) = AreBytes-return part h
-AreBytes-token room (TokenLength b) h = AreBytes-body b
-AreBytes-token room (TokenBody b n) h = AreBytes-zeros n
-AreBytes-token room (Fields f) h = AreBytes-zeros (fields_length f)
+AreBytes-token room at h = grind (arith, AreBytes-body, AreBytes-description, AreBytes-return, AreBytes-row, AreBytes-zeros)
 
 -- What completes a part that bytes led to are bytes.
 pub AreBytes-completion : (room : ℕ) (p : Part) → OpenReached room p.at → AreBytes (completion p)

@@ -1,23 +1,24 @@
 -- Where an export stops with the fault of a device, the device's count of failures rose.
-use Rattle.std.proofs.Common.{◌≡◌, ◌∙◌, ◌⊎◌, inl, inr, ℕ, true, List, [], ◌++◌, sym, ap, subst}
+use Rattle.std.proofs.Common.{◌≡◌, ◌∙◌, ◌⊎◌, inl, inr, ℕ, true, List, [], ◌++◌, sym, ap, subst, ◌-◌, ◌^◌, ◌<◌, ◌∷◌, length, arith}
 use Rattle.std.specs.Prelude.{Option}
-use Rattle.tds_meter.specs.Counts.{Rose, one_more}
-use Rattle.tds_packet.specs.declared.fault.Fault.{Fault}
-use Rattle.tds_packet.specs.declared.fault.Fault.TheVariants.{ReadFailed, WriteFailed}
-use Rattle.tds_packet.specs.declared.fault.Stop.{Stop}
-use Rattle.tds_packet.specs.Coming.{Coming}
-use Rattle.tds_packet.specs.Seen.{Seen, Ends, begun}
-use Rattle.tds_packet.specs.Reading.{StopsReading}
-use Rattle.tds_packet.proofs.WireFaults.{IsOfWire, message_of_wire}
 use Rattle.tds_csv.specs.Sinks.{Held}
-use Rattle.tds_rows.specs.declared.Charset.{Charset}
-use Rattle.tds_export.specs.declared.report.Stopped.{Stopped}
+use Rattle.tds_export.specs.Exports.{StopsExport, begun_at, fresh_at, Reports}
 use Rattle.tds_export.specs.Moments.{Given, grammar_of}
-use Rattle.tds_export.specs.Exports.{StopsExport, begun_at, fresh_at}
-use Rattle.tds_export.specs.TokenGrammar.{Part, response, response_start}
 use Rattle.tds_export.specs.Steps.{RunStops}
-use Rattle.tds_export.proofs.PayloadFaults.{IsOfPayload, element_fault, end_fault}
+use Rattle.tds_export.specs.TokenGrammar.{Part, response, response_start}
+use Rattle.tds_export.specs.declared.report.Report.{Report}
+use Rattle.tds_export.specs.declared.report.Stopped.{Stopped}
+use Rattle.tds_meter.specs.Counts.{Rose, one_more}
+use Rattle.tds_packet.specs.Reading.{StopsReading}
+use Rattle.tds_packet.specs.Seen.{Seen, Ends, begun, IsOver, Takes}
+use Rattle.tds_packet.specs.declared.fault.Fault.{Fault}
+use Rattle.tds_packet.specs.declared.fault.Fault.TheVariants.{ReadFailed, WriteFailed, InputEnded, MessageEnded}
+use Rattle.tds_packet.specs.declared.fault.Stop.{Stop}
 use Rattle.tds_rows.proofs.Successes.{rose}
+use Rattle.tds_rows.specs.declared.Charset.{Charset}
+use Rattle.tds_packet.specs.Coming.{Coming, before, front_packet, message, whole_message}
+use Rattle.tds_packet.proofs.WireFaults.{IsOfWire, message_of_wire}
+use Rattle.tds_export.proofs.PayloadFaults.{IsOfPayload, element_fault, end_fault}
 
 -- ---- a payload that has just begun
 
@@ -31,19 +32,17 @@ ends_of_wire size limit failures left b bytes own (inr (inr x)) = inr (x.0.2, x.
 abbrev ReadingFault : ℕ → ℕ → Fault → Type 0
 ReadingFault before after fault = ((fault ≡ WriteFailed) → ⊥) × ((fault ≡ ReadFailed) → after ≡ one_more before)
 
-of_payload : (before after : ℕ) (fault : Fault) → IsOfPayload fault → ReadingFault before after fault
-of_payload before after fault h = (λ e. subst IsOfPayload e h, λ e. absurd (subst IsOfPayload e h))
-
-of_wire : (before after : ℕ) (fault : Fault) → IsOfWire fault → ReadingFault before after fault
-of_wire before after fault h = (λ e. subst IsOfWire e h, λ e. absurd (subst IsOfWire e h))
+-- a fault of which no device's is one
+of_none : (P : Fault → Type 0) → (P WriteFailed → ⊥) → (P ReadFailed → ⊥) → (before after : ℕ) (fault : Fault) → P fault → ReadingFault before after fault
+of_none P write read before after fault h = (λ e. write (subst P e h), λ e. absurd (read (subst P e h)))
 
 reading_fault : (charset : Charset) (room size limit failures : ℕ) (left : Option (List ℕ)) (b : Seen) (place : ℕ) (at : Part) (stop : Stop) → StopsReading (response charset room) response_start (begun size limit left failures) b place at stop → ReadingFault failures b.failures stop.fault
 reading_fault charset room size limit failures left b place at stop x = elim x.cause [
-  | inl y ↦ of_payload failures b.failures stop.fault (element_fault charset room at y.0.element stop.fault y.0.first)
+  | inl y ↦ of_none IsOfPayload (λ h. h) (λ h. h) failures b.failures stop.fault (element_fault charset room at y.0.element stop.fault y.0.first)
   | inr y ↦ elim y.stop_is [
-    | inl z ↦ subst (ReadingFault failures b.failures) (sym (ap (λ (s : Stop). s.fault) z.1.2)) (of_payload failures b.failures z.1.0 (end_fault charset room at z.1.0 z.1.1))
+    | inl z ↦ subst (ReadingFault failures b.failures) (sym (ap (λ (s : Stop). s.fault) z.1.2)) (of_none IsOfPayload (λ h. h) (λ h. h) failures b.failures z.1.0 (end_fault charset room at z.1.0 z.1.1))
     | inr z ↦ subst (ReadingFault failures b.failures) (sym (ap (λ (s : Stop). s.fault) z.1)) (elim (ends_of_wire size limit failures left b (x.bytes ++ y.part) y.own y.ends) [
-      | inl w ↦ of_wire failures b.failures y.own.fault w
+      | inl w ↦ of_none IsOfWire (λ h. h) (λ h. h) failures b.failures y.own.fault w
       | inr w ↦ (λ e. (let no : ReadFailed ≡ WriteFailed = sym w.0 ∙ e in cc), λ e. w.1)
     ])
   ]
@@ -54,11 +53,7 @@ reading_fault charset room size limit failures left b place at stop x = elim x.c
 -- a failed write rose the count, and is no failed read
 by_write : (given : Given) (stopped : Stopped) (stop : Stop) (middle after : Held) → stopped.fault ≡ stop.fault → stop.fault ≡ WriteFailed → middle.failures ≡ given.before.writer.failures → after.failures ≡ one_more middle.failures → after.failures ≡ given.after.writer.failures
     → (stopped.fault ≡ ReadFailed → Rose given.before.reader.failures given.after.reader.failures) × (stopped.fault ≡ WriteFailed → Rose given.before.writer.failures given.after.writer.failures)
-by_write given stopped stop middle after is named start failed end =
-    (λ e. absurd (let no : WriteFailed ≡ ReadFailed = sym named ∙ sym is ∙ e in cc), λ e. subst (Rose given.before.writer.failures) (sym failed' ∙ end) (rose given.before.writer.failures))
-  where
-    failed' : after.failures ≡ one_more given.before.writer.failures
-    failed' = failed ∙ ap one_more start
+by_write given stopped stop middle after is named start failed end = grind (arith, rose)
 
 -- a device is blamed only where its count rose
 pub blamed : (given : Given) (stopped : Stopped) → StopsExport given stopped → (stopped.fault ≡ ReadFailed → Rose given.before.reader.failures given.after.reader.failures) × (stopped.fault ≡ WriteFailed → Rose given.before.writer.failures given.after.writer.failures)
@@ -81,3 +76,28 @@ blamed given stopped x = go x.stops
     go (inr y) =
         let f = y.0.fails in
         by_write given stopped x.stop y.0.middle x.middle is (ap (λ (s : Stop). s.fault) f.2) y.0.whole.puts.2.4 f.3 (ends y.1)
+
+-- ---- no device failed
+
+-- an input of no byte is over before the message is
+no_message : (size limit : ℕ) (c : Coming) → c.stop.fault ≡ MessageEnded → whole_message size limit [] ≡ c → ⊥
+unfolding message front_packet
+no_message size limit c is e = let no : InputEnded ≡ MessageEnded = ap (λ (d : Coming). d.stop.fault) e ∙ is in cc
+
+-- to read a whole message takes a byte
+some_read : (size limit failures : ℕ) (left : Option (List ℕ)) (q : Seen) (bytes : List ℕ) (n : ℕ) (t : Takes (begun size limit left failures) q bytes n) → IsOver q → 0 < length t.0
+some_read size limit failures left q bytes n t o = go t.0 t.1.1
+  where
+    go : (read : List ℕ) → ((zs : List ℕ) → whole_message size limit (read ++ zs) ≡ before bytes (q.future zs)) → 0 < length read
+    go [] f = absurd (no_message size limit (before bytes (q.future [])) (ap (λ (c : Coming). c.stop.fault) (o.2 []) ∙ o.1) (f []))
+    go (x ∷ read) f = omega arith
+
+-- a count below the greatest that is the same didn't rise
+not_rose : (before after : ℕ) → before < 2 ^ 64 - 1 → after ≡ before → Rose before after → ⊥
+not_rose before after h e h4 = grind arith
+
+pub no_failure : (given : Given) (report : Report) → Reports given report → (Rose given.before.reader.failures given.after.reader.failures → ⊥) × (Rose given.before.writer.failures given.after.writer.failures → ⊥)
+no_failure given report x =
+    let t = x.completes.whole.takes in
+    let moved = some_read given.before.areas.limits.packet_size given.before.areas.limits.max_wire given.before.reader.failures given.before.reader.bytes x.seen x.completes.whole.bytes _ t x.completes.whole.over in
+    grind (arith, some_read, not_rose)

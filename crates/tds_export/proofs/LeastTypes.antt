@@ -1,13 +1,13 @@
 -- The least TYPE_INFO of each type byte.
-use Rattle.std.proofs.Common.{◌≡◌, ◌∙◌, ℕ, zero, suc, ◌<◌, Bool, true, false, List, [], ◌∷◌, length, refl, sym, subst, arith}
+use Rattle.std.proofs.Common.{◌≡◌, ℕ, zero, suc, ◌<◌, Bool, true, false, List, [], ◌∷◌, length, refl, sym, subst, arith}
 use Rattle.std.specs.Prelude.{Option, Some, None, ◌==◌, ◌&&◌, nat_lt}
 use Rattle.std.proofs.lemmas.Bool.{and_parts}
 use Rattle.std.proofs.lemmas.Bool.Decides.{nat_tests}
+use Rattle.tds_export.specs.Completion.{least_info}
+use Rattle.tds_packet.proofs.Choices.{eq_false, eq_true, lt_true}
+use Rattle.tds_packet.specs.Elements.{AreBytes}
 use Rattle.tds_values.specs.declared.kind.Kind.{Kind}
 use Rattle.tds_values.specs.TypeInfo.{rest_length, named_kind, kind_of}
-use Rattle.tds_packet.specs.Elements.{AreBytes}
-use Rattle.tds_packet.proofs.Choices.{eq_false, eq_true, lt_true}
-use Rattle.tds_export.specs.Completion.{least_info}
 
 -- after this type byte the least rest is of so many bytes, and describes a kind
 pub record IsLeast (byte n : ℕ) : Type 0 where
@@ -61,12 +61,7 @@ unfolding rest_length
 beyond byte n h = grind (arith, nat_tests)
 
 found : (byte n : ℕ) (r : Option ℕ) (k : Option Kind) → holds r (least_info byte) k ≡ true → r ≡ Some n → kind_of (byte ∷ least_info byte) ≡ k → IsLeast byte n
-found byte n None k h e d = cc
-found byte n (Some m) None h e d = cc
-found byte n (Some m) (Some kind) h e d =
-    let both = and_parts (length (least_info byte) == m) (are_bytes (least_info byte)) h in
-    let same : m ≡ n = cc in
-    record { kind = kind; described = d; whole = eq_true (length (least_info byte)) m both.0 ∙ same; bytes = bytes_true (least_info byte) both.1 }
+found byte n r k h e d = grind (arith, and_parts, bytes_true, eq_true)
 
 -- After each type byte that is accepted its least rest describes a kind.
 pub least_type : (byte n : ℕ) → rest_length byte ≡ Some n → IsLeast byte n

@@ -1,12 +1,8 @@
 pub mod CompletionVectors
 pub mod NoticeLaws
-pub mod PrefixVectors
 pub mod ResponseLaws
 pub mod ResponseMeaning
 pub mod ReturnLaws
-pub mod ReturnVectors
-pub mod ValueVectors
-pub mod Utf8Vectors
 pub mod Vectors
 pub mod HeaderTexts
 pub mod TokenLaws
@@ -25,14 +21,11 @@ pub mod TextBound
 pub mod PacketOutcomes
 pub mod Endings
 pub mod PayloadFaults
-pub mod Leading
 pub mod ToldAnswers
 pub mod AcceptedSucceeds
 pub mod Peaks
-mod Emptied
 mod NameTexts
-mod DeviceFaults
-pub mod NoFailures
+pub mod DeviceFaults
 mod SomeBytes
 mod LeastTypes
 mod CompletedCells

@@ -3,14 +3,14 @@ use Rattle.std.proofs.Common.{◌≡◌, ◌∙◌, ℕ, Bool, true, false, List
 use Rattle.std.specs.Result.{IsErrAnd}
 use Rattle.std.specs.Prelude.{codes, not}
 use Rattle.std.proofs.lemmas.List.{map-append}
-use Rattle.tds_packet.specs.declared.fault.Stop.{Stop}
 use Rattle.tds_columns.specs.Description.{Column}
-use Rattle.tds_csv.specs.Quoting.{joined}
-use Rattle.tds_csv.specs.declared.sink.Sink.{Sink}
-use Rattle.tds_csv.specs.Sinks.{IsWriting, PutsPiece}
 use Rattle.tds_csv.proofs.Puttings.{PutsPiece-none, PutsPiece-passed, PutsPiece-trans}
+use Rattle.tds_csv.specs.Quoting.{joined}
+use Rattle.tds_csv.specs.Sinks.{IsWriting, PutsPiece}
 use Rattle.tds_export.specs.Tokens.{name_field, text_if}
+use Rattle.tds_packet.specs.declared.fault.Stop.{Stop}
 use Rattle.tds_rows.proofs.GrowingTexts.{joined_more}
+use Rattle.tds_csv.specs.declared.sink.Sink.{Sink}
 
 abbrev is_none : List (List ℕ) → Bool
 is_none [] = true

@@ -1,26 +1,25 @@
 -- ERROR and INFO in their response, and the text of the first error.
-use Rattle.std.proofs.Common.{◌≡◌, ◌∙◌, ℕ, ◌+◌, ◌-◌, ◌^◌, ◌<◌, ◌≤◌, Bool, false, List, [], ◌∷◌, ◌++◌, length, length-append, length-take, take, refl, sym, ap, subst, arith, inl, inr}
-use Rattle.std.specs.Str.Lossy.{utf8_valid_len}
+use Rattle.std.proofs.Common.{◌≡◌, ◌∙◌, ℕ, ◌+◌, ◌-◌, ◌^◌, ◌<◌, ◌≤◌, Bool, false, List, [], ◌∷◌, ◌++◌, length, length-append, length-take, refl, sym, ap, arith, inl, inr}
 use Rattle.std.proofs.lemmas.Str.{utf8_valid_len_le}
 use Rattle.std.specs.Prelude.{Option, Some, None, option_map}
-use Rattle.tds_meter.specs.Space.{Space, appended}
-use Rattle.tds_packet.specs.declared.fault.Fault.{Fault}
-use Rattle.tds_packet.specs.declared.fault.Stop.{Stop}
-use Rattle.tds_packet.specs.Elements.{Grammar}
-use Rattle.tds_packet.specs.Seen.{Seen}
-use Rattle.tds_csv.specs.Cutting.{whole_within}
 use Rattle.tds_csv.specs.Sinks.{Held}
-use Rattle.tds_csv.specs.Utf16.{characters}
-use Rattle.tds_rows.specs.declared.Charset.{Charset}
+use Rattle.tds_export.specs.Outcome.{server_error}
+use Rattle.tds_export.specs.Steps.{IsHolding, IsNoted, ReadsTokens, StepStops, TracksBefore, behind, in_length}
+use Rattle.tds_export.specs.TokenBytes.{AnError, AnInfo, Bodied}
+use Rattle.tds_export.specs.TokenGrammar.{Part, TokenLength, notice_of, response, text_so_far}
+use Rattle.tds_export.specs.Tokens.{Error, Info, Token, first_error, how_many, is_error, message_text}
 use Rattle.tds_export.specs.declared.progress.Progress.{Progress}
 use Rattle.tds_export.specs.declared.report.Report.{Report}
 use Rattle.tds_export.specs.declared.report.ServerError.{ServerError}
+use Rattle.tds_meter.specs.Space.{Space, appended}
+use Rattle.tds_packet.specs.Elements.{Grammar}
+use Rattle.tds_packet.specs.Seen.{Seen}
+use Rattle.tds_packet.specs.declared.fault.Fault.{Fault}
+use Rattle.tds_packet.specs.declared.fault.Stop.{Stop}
+use Rattle.tds_rows.specs.declared.Charset.{Charset}
+use Rattle.tds_csv.specs.Cutting.{whole_within}
+use Rattle.tds_csv.specs.Utf16.{characters}
 use Rattle.tds_export.specs.Noticing.{IsInBody, ReadsNotice, StopsInNotice}
-use Rattle.tds_export.specs.Outcome.{server_error}
-use Rattle.tds_export.specs.Tokens.{Error, Info, Token, first_error, how_many, is_error, message_text}
-use Rattle.tds_export.specs.TokenBytes.{AnError, AnInfo, Bodied}
-use Rattle.tds_export.specs.TokenGrammar.{Part, TokenLength, notice_of, response, text_so_far}
-use Rattle.tds_export.specs.Steps.{IsHolding, IsNoted, ReadsTokens, StepStops, TracksBefore, behind, in_length}
 use Rattle.tds_export.proofs.TokenLaws.{first_next, first_stays, no_errors, same_first, tracks_error, tracks_info}
 use Rattle.tds_export.proofs.TokenSteps.{bare_reads, same_text}
 
@@ -28,15 +27,11 @@ use Rattle.tds_export.proofs.TokenSteps.{bare_reads, same_text}
 pub quietly : (g : Grammar Part Fault) (from : Part) (tokens : List Token) (a b : Seen) (place place' : ℕ) (h k : Held) (s t : Progress) (area notice : Space) → TracksBefore s tokens → IsNoted notice tokens → t.report.errors ≡ s.report.errors → ReadsTokens g from tokens a b place place' h k t area
     → (x : ReadsTokens g from tokens a b place place' h k t area) × IsNoted notice (tokens ++ x.more)
 quietly g from tokens a b place place' h k s t area notice tracks noted same x =
-    let added : how_many is_error (tokens ++ x.more) ≡ how_many is_error tokens = sym (ap (λ (r : Report). r.errors) x.tracks.report) ∙ same ∙ ap (λ (r : Report). r.errors) tracks.report in
-    (x, noted ∙ sym (ap message_text (same_first tokens x.more added)))
+    (x, noted ∙ sym (ap message_text (same_first tokens x.more (sym (ap (λ (r : Report). r.errors) x.tracks.report) ∙ same ∙ ap (λ (r : Report). r.errors) tracks.report))))
 
 -- a text as far as it fits stays within the room
 pub within_room : (s : Space) (text : List ℕ) → s.bytes ≡ [] → s.peak ≤ s.room → (appended s (whole_within (s.room - length s.bytes) text)).peak ≤ s.room
-within_room s text empty peak =
-    let k = s.room - length s.bytes in
-    let fits = utf8_valid_len (take k text) in
-    omega (arith, peak, ap length empty, length-append s.bytes (take fits text), length-take fits text, utf8_valid_len_le (take k text), length-take k text)
+within_room s text empty peak = grind (arith, length-append, length-take, utf8_valid_len_le)
 
 module _ (charset : Charset) (room : ℕ) (tokens : List Token) (area : Space) (sink : Held) (d : sink.delivered ≤ 2 ^ 64 - 1) (holds : IsHolding area (behind tokens)) where
   -- a notice is cut or refused
@@ -45,19 +40,16 @@ module _ (charset : Charset) (room : ℕ) (tokens : List Token) (area : Space) (
     record {
       at = x.at;
       stops = x.stops;
-      puts = same_text (in_length which tokens) x.at sink (no_text x.at x.in_body) d;
-      holds = held_on x.at x.in_body;
+      puts = same_text (in_length which tokens) x.at sink (at_body x.at x.in_body).0 d;
+      holds = (at_body x.at x.in_body).1;
     },
     going,
   )
     where
-      no_text : (at : Part) → IsInBody tokens which at → text_so_far (in_length which tokens) ≡ text_so_far at
-      no_text at (inl e) = ap text_so_far (sym e)
-      no_text at (inr e) = ap text_so_far (sym e.1)
-
-      held_on : (at : Part) → IsInBody tokens which at → IsHolding area at
-      held_on at (inl e) = subst (IsHolding area) (sym e) (record { bytes = holds.bytes; peak = holds.peak })
-      held_on at (inr e) = subst (IsHolding area) (sym e.1) (record { bytes = holds.bytes; peak = holds.peak })
+      -- no text is added there, and the area holds what it held
+      at_body : (at : Part) → IsInBody tokens which at → (text_so_far (in_length which tokens) ≡ text_so_far at) × IsHolding area at
+      at_body at (inl e) = rw e (refl, record { bytes = holds.bytes; peak = holds.peak })
+      at_body at (inr e) = rw e.1 (refl, record { bytes = holds.bytes; peak = holds.peak })
 
   module _ (s : Progress) (body : List ℕ) (a b : Seen) (place place' : ℕ) (notice : Space) (tracks : TracksBefore s tokens) (noted : IsNoted notice tokens) where
     -- an INFO was read
@@ -92,9 +84,4 @@ module _ (charset : Charset) (room : ℕ) (tokens : List Token) (area : Space) (
     -- a later ERROR was read
     pub later_error_reads : 0 < s.report.errors → ReadsNotice charset room tokens AnError a b place place' body
         → (x : ReadsTokens (response charset room) (in_length AnError tokens) tokens a b place place' sink sink (record s { report = record s.report { errors = s.report.errors + 1 } }) area) × IsNoted notice (tokens ++ x.more)
-    later_error_reads some x =
-        let n = notice_of body in
-        let stays : first_error (tokens ++ Error n ∷ []) ≡ first_error tokens = first_stays tokens (Error n ∷ []) (subst (λ m. 0 < m) errors_are some) in (
-          error_reads s.report.first_error (ap (λ (r : Report). r.first_error) tracks.report ∙ ap (option_map server_error) (sym stays)) x,
-          noted ∙ sym (ap message_text stays),
-        )
+    later_error_reads some x = grind (arith, first_stays, errors_are, error_reads)

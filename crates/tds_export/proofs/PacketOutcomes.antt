@@ -2,21 +2,21 @@
 use Rattle.std.proofs.Common.{◌≡◌, ◌∙◌, inl, inr, ℕ, ◌<◌, ◌≤◌, List, [], ◌++◌, length, take, drop, refl, sym, ap, subst, arith, append_assoc, length-append}
 use Rattle.std.specs.Prelude.{Some}
 use Rattle.std.proofs.Math.Seq.{take-append_seam, drop-append_seam}
+use Rattle.tds_export.specs.Moments.{Run}
+use Rattle.tds_export.specs.Outcome.{EndsInLast, IsKept, StopsInPayload, StopsOnWire, grammar}
+use Rattle.tds_export.specs.Steps.{IsHolding, description_of}
+use Rattle.tds_export.specs.TokenGrammar.{Describing, Open, Part, response_start, text_so_far}
+use Rattle.tds_export.specs.Tokens.{Token}
 use Rattle.tds_meter.specs.Counts.{Rose, one_more}
 use Rattle.tds_meter.specs.Space.{Space}
-use Rattle.tds_packet.specs.declared.fault.Fault.{Fault}
-use Rattle.tds_packet.specs.declared.fault.Stop.{Stop}
+use Rattle.tds_packet.proofs.ElementLaws.{longest_cut, longest_refused}
+use Rattle.tds_packet.proofs.Fronts.{EndsMessage, InLast, StopsBehind, in_last, takes_begins}
 use Rattle.tds_packet.specs.Elements.{AreBytes, IsRefused, Longest, Spelt}
 use Rattle.tds_packet.specs.Packets.{Packet, payload_of, wire_of}
-use Rattle.tds_packet.specs.Seen.{Seen, begun}
 use Rattle.tds_packet.specs.Reading.{RefusesNext}
-use Rattle.tds_packet.proofs.ElementLaws.{longest_cut, longest_refused}
-use Rattle.tds_packet.proofs.Fronts.{Begins, EndsMessage, InLast, StopsBehind, in_last, takes_begins}
-use Rattle.tds_export.specs.Tokens.{Token}
-use Rattle.tds_export.specs.Moments.{Run}
-use Rattle.tds_export.specs.Outcome.{EndsInLast, IsKept, Packets, StopsInPayload, StopsOnWire, grammar}
-use Rattle.tds_export.specs.TokenGrammar.{Describing, Open, Part, response_start, text_so_far}
-use Rattle.tds_export.specs.Steps.{IsHolding, description_of}
+use Rattle.tds_packet.specs.Seen.{Seen, begun}
+use Rattle.tds_packet.specs.declared.fault.Fault.{Fault}
+use Rattle.tds_packet.specs.declared.fault.Stop.{Stop}
 
 -- what the area holds at a part is kept, whatever follows
 pub kept_at : (area : Space) (tokens : List Token) (at : Open) (rest : List ℕ) → area.bytes ≡ description_of tokens at → IsKept area.bytes tokens at rest
@@ -33,24 +33,13 @@ pub record ReaderSide (run : Run) (q : Seen) (area : Space) : Type 0 where
 abbrev pub start : Run → Seen
 start run = begun run.given.before.areas.limits.packet_size run.given.before.areas.limits.max_wire (Some run.input) run.given.before.reader.failures
 
-packets_of : (run : Run) (payload : List ℕ) (b : Begins run.given.before.areas.limits.packet_size run.given.before.areas.limits.max_wire run.input run.left payload) → Packets run b.packets
-packets_of run payload b = record { begin = b.begin; each = b.each; within = b.within }
-
 -- an element's end lies in the last of the packets that were needed for it
 ends_in_last : (run : Run) (part : Part) (packets : List Packet) (bytes element : List ℕ) → length element ≡ (grammar run).size part → InLast run.given.before.areas.limits.packet_size packets (length (bytes ++ element)) → EndsInLast run packets (length bytes) part
-ends_in_last run part packets bytes element whole l = record {
-  before = l.before;
-  last = l.last;
-  split = l.split;
-  none_last = l.none_last;
-  later = omega (arith, l.earlier, length-append bytes element, whole);
-}
+ends_in_last run part packets bytes element whole l = grind (arith, length-append)
 
 -- a payload that begins with whole elements and one more
 split_payload : (bytes element more payload : List ℕ) → payload ≡ (bytes ++ element) ++ more → (payload ≡ bytes ++ (element ++ more)) × (drop (length bytes) payload ≡ element ++ more) × (take (length bytes) payload ≡ bytes)
-split_payload bytes element more payload e =
-    let all : payload ≡ bytes ++ (element ++ more) = e ∙ append_assoc bytes element more in
-    (all, ap (drop (length bytes)) all ∙ drop-append_seam bytes (element ++ more), ap (take (length bytes)) all ∙ take-append_seam bytes (element ++ more))
+split_payload bytes element more payload e = grind (arith, append_assoc, drop-append_seam, take-append_seam)
 
 -- an element was refused
 pub refused_in_payload : (run : Run) (q : Seen) (area : Space) (part : Part) (bytes : List ℕ) (fault : Fault) → ReaderSide run q area → Spelt (grammar run) response_start bytes part → RefusesNext (grammar run) (start run) q bytes part fault → IsHolding area part
@@ -73,7 +62,7 @@ refused_in_payload run q area part bytes fault side spelt x holds text =
     record {
       packets = b.packets;
       part = part;
-      stands = packets_of run (((bytes ++ e) ++ x.ahead) ++ (q.future []).bytes) b;
+      stands = record { begin = b.begin; each = b.each; within = b.within };
       leads = subst (λ p. Longest g response_start p (length bytes) part) (sym s.0) (longest_refused g response_start bytes (e ++ more) part fault spelt refused);
       first = inl (subst (λ r. IsRefused g part r fault) (sym s.1) refused, ends_in_last run part b.packets bytes e whole l);
       written = text;
@@ -90,13 +79,12 @@ pub ended_in_payload : (run : Run) (q : Seen) (area : Space) (part : Part) (byte
     → run.gained ++ run.given.after.areas.output.bytes ≡ text_so_far part → StopsInPayload run fault (length bytes)
 ended_in_payload run q area part bytes cut own fault side spelt short m end holds text =
     let g = grammar run in
-    let rest = rest_of bytes cut (payload_of m.packets) m.payload_is in
     record {
       packets = m.packets;
       part = part;
       stands = record { begin = m.begin; each = inl m.each; within = m.within };
       leads = subst (λ p. Longest g response_start p (length bytes) part) (sym m.payload_is) (longest_cut g response_start bytes cut part spelt short);
-      first = inr (m.each, (λ some. subst (λ r. length r < g.size part) (sym rest) short), end);
+      first = inr (m.each, (λ some. subst (λ r. length r < g.size part) (sym (rest_of bytes cut (payload_of m.packets) m.payload_is)) short), end);
       written = text;
       kept = subst (λ a. IsKept a part.tokens part.at (drop (length bytes) (payload_of m.packets))) (sym side.description) (kept_at area part.tokens part.at (drop (length bytes) (payload_of m.packets)) holds.bytes);
     }

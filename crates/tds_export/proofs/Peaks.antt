@@ -1,30 +1,30 @@
 -- How much of a description was held in an export: no more than the span of one at the front of the input.
 use Rattle.std.proofs.Common.{◌≡◌, ◌∙◌, ◌⊎◌, inl, inr, ℕ, ◌+◌, ◌-◌, ◌≤◌, List, [], ◌++◌, length, take, sym, ap, subst, arith, append_assoc, append-nil, length-append}
 use Rattle.std.specs.Prelude.{Some}
-use Rattle.std.proofs.lemmas.Grind.{flat_map-append}
 use Rattle.std.proofs.Math.Seq.{take-append_seam, take-append-add}
-use Rattle.tds_meter.specs.declared.limits.Limits.{Limits}
+use Rattle.std.proofs.lemmas.Grind.{flat_map-append}
+use Rattle.tds_csv.specs.Sinks.{Held}
+use Rattle.tds_export.specs.Moments.{Run}
+use Rattle.tds_export.specs.Outcome.{Bounded, grammar}
+use Rattle.tds_export.specs.Steps.{StopsInWriting, ReadsWhole, behind}
+use Rattle.tds_export.specs.TokenGrammar.{Part, response, response_start, span_so_far}
 use Rattle.tds_meter.specs.Space.{Space}
-use Rattle.tds_packet.specs.declared.fault.Fault.{Fault}
-use Rattle.tds_packet.specs.declared.fault.Stop.{Stop}
+use Rattle.tds_packet.proofs.Feeding.{feed_all}
+use Rattle.tds_packet.proofs.Fronts.{ends_front, over_front, takes_begins}
 use Rattle.tds_packet.specs.Elements.{AreBytes, Grammar, Longest, Spelt}
 use Rattle.tds_packet.specs.Packets.{AreBefore, AreMessage, Packet, WirePart, no_wire, payload_of, wire, wire_of}
 use Rattle.tds_packet.specs.Reading.{StopsReading}
 use Rattle.tds_packet.specs.Seen.{Seen, Takes, IsBetween}
-use Rattle.tds_packet.proofs.ElementLaws.{Spelt-append, Spelt-induct, Spelt-one, some_longest}
+use Rattle.tds_packet.specs.declared.fault.Fault.{Fault}
+use Rattle.tds_packet.specs.declared.fault.Stop.{Stop}
+use Rattle.tds_rows.specs.declared.Charset.{Charset}
+use Rattle.tds_meter.specs.declared.limits.Limits.{Limits}
 use Rattle.tds_packet.proofs.PacketLaws.{before_are_read, before_packet, read_front}
 use Rattle.tds_packet.proofs.MessageLaws.{behind as behind_last, message_is_read}
-use Rattle.tds_packet.proofs.Fronts.{ends_front, over_front, takes_begins}
-use Rattle.tds_csv.specs.Sinks.{Held}
-use Rattle.tds_rows.specs.declared.Charset.{Charset}
-use Rattle.tds_export.specs.Moments.{Run}
-use Rattle.tds_export.specs.Outcome.{Bounded, grammar}
-use Rattle.tds_export.specs.TokenGrammar.{Part, response, response_start, span_so_far}
-use Rattle.tds_export.specs.Steps.{StopsInWriting, ReadsWhole, behind}
 use Rattle.tds_export.proofs.ReadingGrows.{span_along}
-use Rattle.tds_export.proofs.Leading.{rest_leads}
 use Rattle.tds_export.proofs.PacketOutcomes.{start}
 use Rattle.tds_export.proofs.AcceptedSucceeds.{BeginsWith, begins_added}
+use Rattle.tds_packet.proofs.ElementLaws.{Told, Spelt-append, Spelt-induct, Spelt-one, some_longest, feed-Spelt, feed_all-append, told}
 
 -- a part of a response was read from whole packets at the front of an input
 pub record Reached (charset : Charset) (limits : Limits) (input : List ℕ) (at : Part) : Type 0 where
@@ -38,8 +38,13 @@ pub record Reached (charset : Charset) (limits : Limits) (input : List ℕ) (at 
   pub spelt : Spelt (response charset limits.column_room) response_start bytes at
   pub payload_is : payload_of packets ≡ bytes ++ more
 
+-- what follows whole elements leads from where they lead
+pub rest_leads : {S : Type 0} (g : Grammar S Fault) (s t u : S) (a b : List ℕ) → Spelt g s a t → Spelt g s (a ++ b) u → Spelt g t b u
+unfolding Told
+rest_leads g s t u a b h k = grind (arith, append-nil, feed-Spelt, feed_all, feed_all-append, told)
+
 -- what follows such bytes, up to the longest part
-further : {S : Type 0} (g : Grammar S Fault) (from to last : S) (bytes more : List ℕ) (place : ℕ) → Spelt g from bytes to → Longest g from (bytes ++ more) place last → (rest : List ℕ) × Spelt g to rest last
+pub further : {S : Type 0} (g : Grammar S Fault) (from to last : S) (bytes more : List ℕ) (place : ℕ) → Spelt g from bytes to → Longest g from (bytes ++ more) place last → (rest : List ℕ) × Spelt g to rest last
 further g from to last bytes more place h l =
     let least : length bytes ≤ place = l.longest (length bytes) to (omega (arith, length-append bytes more)) (subst (λ v. Spelt g from v to) (sym (take-append_seam bytes more)) h) in
     let n = place - length bytes in
@@ -47,16 +52,16 @@ further g from to last bytes more place h l =
     let split : take place (bytes ++ more) ≡ bytes ++ take n more = ap (λ v. take v (bytes ++ more)) (sym sum) ∙ take-append-add bytes more n in
     (take n more, rest_leads g from to last bytes (take n more) h (subst (λ v. Spelt g from v last) split l.spelt))
 
+-- what is read of an input at most has the packets that are read of its front
+begins_of : (size limit : ℕ) (input rest : List ℕ) (packets : List Packet) (s w : WirePart) (taken : ℕ) → wire_of packets ++ rest ≡ input → Spelt (wire size limit) no_wire (wire_of packets) s → BeginsWith s.packets packets → Longest (wire size limit) no_wire input taken w → BeginsWith w.packets packets
+begins_of size limit input rest packets s w taken begin spelt begins l =
+    let f = further (wire size limit) no_wire s w (wire_of packets) rest taken spelt (subst (λ v. Longest (wire size limit) no_wire v taken w) (sym begin) l) in
+    Spelt-induct (wire size limit) (λ v b. BeginsWith v.packets packets) (λ v b element h n. begins_added packets v.packets v.place element h) s begins f.0 w f.1
+
 -- whole packets at the front of an input begin those that are read of it at most
 front_begins : (size limit : ℕ) (input rest : List ℕ) (packets : List Packet) (w : WirePart) (taken : ℕ) → wire_of packets ++ rest ≡ input → (AreMessage size packets ⊎ AreBefore size packets) → length (wire_of packets) ≤ limit → Longest (wire size limit) no_wire input taken w → BeginsWith w.packets packets
-front_begins size limit input rest packets w taken begin (inl each) within l =
-    let s = message_is_read size limit [] packets each within in
-    let f = further (wire size limit) no_wire (behind_last size limit packets) w (wire_of packets) rest taken s (subst (λ v. Longest (wire size limit) no_wire v taken w) (sym begin) l) in
-    Spelt-induct (wire size limit) (λ v b. BeginsWith v.packets packets) (λ v b element h n. begins_added packets v.packets v.place element h) (behind_last size limit packets) ([], append-nil packets) f.0 w f.1
-front_begins size limit input rest packets w taken begin (inr each) within l =
-    let s = before_are_read size limit [] packets each within in
-    let f = further (wire size limit) no_wire (before_packet size limit packets) w (wire_of packets) rest taken s (subst (λ v. Longest (wire size limit) no_wire v taken w) (sym begin) l) in
-    Spelt-induct (wire size limit) (λ v b. BeginsWith v.packets packets) (λ v b element h n. begins_added packets v.packets v.place element h) (before_packet size limit packets) ([], append-nil packets) f.0 w f.1
+front_begins size limit input rest packets w taken begin (inl each) within l = begins_of size limit input rest packets (behind_last size limit packets) w taken begin (message_is_read size limit [] packets each within) ([], append-nil packets) l
+front_begins size limit input rest packets w taken begin (inr each) within l = begins_of size limit input rest packets (before_packet size limit packets) w taken begin (before_are_read size limit [] packets each within) ([], append-nil packets) l
 
 pub bounded : (run : Run) (at : Part) → AreBytes run.input → Reached run.given.charset run.given.before.areas.limits run.input at → run.given.after.areas.description.peak ≤ span_so_far at → Bounded run
 bounded run at are r peak =
@@ -88,20 +93,9 @@ reached_stopped run q at stop are left s = elim s.cause [
 
 pub reached_broken : (run : Run) (q : Seen) (old new : Held) (area : Space) (stop : Stop) (x : StopsInWriting (grammar run) response_start (start run) q old new area stop) → AreBytes run.input → q.left ≡ Some run.left → Reached run.given.charset run.given.before.areas.limits run.input ((grammar run).add x.at x.breaks.element)
 reached_broken run q old new area stop x are left =
-    let be = x.breaks.bytes ++ x.breaks.element in
-    let to = (grammar run).add x.at x.breaks.element in
-    let b = takes_begins run.given.before.areas.limits.packet_size run.given.before.areas.limits.max_wire run.given.before.reader.failures run.input run.left q (be ++ x.breaks.ahead) (length be) are left x.breaks.takes x.breaks.between in
-    record {
-      packets = b.packets;
-      rest = run.left;
-      begin = b.begin;
-      each = b.each;
-      within = b.within;
-      bytes = be;
-      more = x.breaks.ahead ++ (q.future []).bytes;
-      spelt = Spelt-append (grammar run) response_start x.breaks.bytes x.at x.breaks.element to x.breaks.spelt (Spelt-one (grammar run) x.at x.breaks.element x.breaks.next);
-      payload_is = b.payload_is ∙ append_assoc be x.breaks.ahead (q.future []).bytes;
-    }
+    let b = x.breaks in
+    let to = (grammar run).add x.at b.element in
+    taken run q to (b.bytes ++ b.element) b.ahead (length (b.bytes ++ b.element)) are left b.takes b.between (Spelt-append (grammar run) response_start b.bytes x.at b.element to b.spelt (Spelt-one (grammar run) x.at b.element b.next))
 
 pub reached_whole : (run : Run) (q : Seen) (old new : Held) (area : Space) (x : ReadsWhole (grammar run) response_start (start run) q old new area) → AreBytes run.input → q.left ≡ Some run.left → Reached run.given.charset run.given.before.areas.limits run.input (behind x.tokens)
 reached_whole run q old new area x are left =

@@ -1,30 +1,29 @@
 -- What a response's spelling is read as.
-use Rattle.std.proofs.Common.{◌≡◌, ℕ, ◌+◌, ◌/◌, ◌%◌, ◌<◌, ◌≤◌, true, false, List, [], ◌∷◌, ◌++◌, length, take, drop, refl, sym, ◌∙◌, ap, subst, inl, inr, append_assoc, append-nil, arith}
+use Rattle.std.proofs.Common.{◌≡◌, ℕ, ◌+◌, ◌/◌, ◌%◌, ◌<◌, true, false, List, [], ◌∷◌, ◌++◌, length, take, drop, refl, sym, ◌∙◌, ap, subst, inl, inr, append_assoc, append-nil, arith}
 use Rattle.std.specs.Prelude.{Option, Some, None, ◌==◌, ◌&&◌, nat_lt, not, if◌then◌else◌}
 use Rattle.std.proofs.Common.{take-add}
+use Rattle.std.proofs.lemmas.Bool.{ne_eqb, and_right}
 use Rattle.std.proofs.lemmas.Bool.Decides.{nat_tests}
-use Rattle.std.proofs.lemmas.Bool.{ne_eqb}
-use Rattle.tds_values.specs.Numbers.{little}
+use Rattle.tds_columns.proofs.ColumnLaws.{description_is_read}
+use Rattle.tds_columns.specs.Description.{Column, DescriptionPart, BeforeCount, WholeDescription, description}
+use Rattle.tds_export.specs.Response.{fields_length, fixed, SpellsBody, SpellsNotice, SpellsRowToken, SpellsToken, SpellsTokens, Response, Accepted}
+use Rattle.tds_export.specs.ReturnValue.{ReturnPart, ReturnOrdinal, WholeReturn, return_value}
+use Rattle.tds_export.specs.TokenBytes.{APassed, AnError, AnInfo, Bodied, Fixed, Lead, AMetadata, ARow, AnNbcRow, WithBody, WithFields, AReturn, Begins, is_row_lead}
+use Rattle.tds_export.specs.TokenGrammar.{Open, Between, Describing, Fields, TokenLength, TokenBody, Part, after_first, after_lead, lead_fault, response_start, with_token, with_described, with_row, with_return, start_of_row, row_byte_fault, holds_notice, bodied, is_notice, response}
+use Rattle.tds_export.specs.Tokens.{Notice, Token, Metadata, NoMetadata, Row, PassedOver, Error, Info, Returned, described_after}
+use Rattle.tds_packet.proofs.Choices.{choose_false}
+use Rattle.tds_packet.proofs.ElementLaws.{Inside, Inside-Spelt, Spelt-append, Spelt-none, Spelt-step, one_state, refused_for_good}
+use Rattle.tds_packet.proofs.MessageLaws.{one_message}
+use Rattle.tds_packet.specs.Elements.{Spelt, IsRefused, Longest}
+use Rattle.tds_packet.specs.Packets.{Packet, payload_of}
 use Rattle.tds_packet.specs.declared.fault.Fault.{Fault}
 use Rattle.tds_packet.specs.declared.fault.Fault.TheVariants.{BadNotice}
-use Rattle.tds_packet.specs.Elements.{Spelt, IsRefused, Longest}
-use Rattle.tds_packet.proofs.ElementLaws.{Inside, Inside-Spelt, Spelt-append, Spelt-none, Spelt-step, one_state, refused_for_good}
-use Rattle.tds_columns.specs.Description.{Column, DescriptionPart, BeforeCount, NoDescription, InColumn, WholeDescription, description}
-use Rattle.tds_columns.proofs.ColumnLaws.{description_is_read}
-use Rattle.tds_rows.specs.declared.Charset.{Charset}
+use Rattle.tds_rows.proofs.RowLaws.{row_is_read, nbc_row_is_read}
 use Rattle.tds_rows.specs.Cells.{Cell}
 use Rattle.tds_rows.specs.Rows.{RowPart, WholeRow, row_start, nbc_row_start, row}
-use Rattle.tds_rows.proofs.RowLaws.{row_is_read, nbc_row_is_read}
-use Rattle.std.proofs.lemmas.Bool.{and_right}
-use Rattle.tds_export.specs.ReturnValue.{ReturnPart, ReturnOrdinal, WholeReturn, return_value}
-use Rattle.tds_export.proofs.ReturnLaws.{return_is_read}
-use Rattle.tds_export.specs.TokenBytes.{APassed, AnError, AnInfo, Bodied, Fixed, ADone, Lead, AMetadata, ARow, AnNbcRow, WithBody, WithFields, AReturn, Begins, is_row_lead}
-use Rattle.tds_export.specs.Tokens.{Notice, Token, Metadata, NoMetadata, Row, PassedOver, Error, Info, Returned, described_after}
-use Rattle.tds_export.specs.Response.{fields_length, fixed, SpellsBody, SpellsNotice, SpellsRowToken, SpellsToken, SpellsTokens, Response, Accepted}
-use Rattle.tds_export.specs.TokenGrammar.{Open, Between, Describing, Fields, TokenLength, TokenBody, Part, after_first, after_lead, lead_fault, response_start, with_token, with_described, with_row, with_return, start_of_row, row_byte_fault, holds_notice, bodied, is_notice, response}
-use Rattle.tds_packet.proofs.Choices.{choose_false}
-use Rattle.tds_packet.specs.Packets.{Packet, payload_of}
-use Rattle.tds_packet.proofs.MessageLaws.{one_message}
+use Rattle.tds_rows.specs.declared.Charset.{Charset}
+use Rattle.tds_values.specs.Numbers.{little}
+use Rattle.tds_export.proofs.ReturnLaws.{return_is_read, Agrees, inside}
 use Rattle.tds_export.proofs.NoticeLaws.{notice_is_read}
 
 pub described_after-append : (before : Option (List Column)) (a b : List Token) → described_after before (a ++ b) ≡ described_after (described_after before a) b
@@ -40,68 +39,33 @@ HasColumns (Some columns) = 0 < length columns
 
 -- there are fields
 pub some_fields : (f : Fixed) → 0 < fields_length f
-some_fields ADone = omega arith
-some_fields f = omega arith
+some_fields f = grind arith
 
 -- a byte that begins no row is free
 pub no_row : (current : Option (List Column)) → row_byte_fault false current ≡ None
-no_row None = refl
-no_row (Some columns) = refl
+no_row current = grind arith
 
 module _ (charset : Charset) (room : ℕ) where
   -- a description is read in its response as by itself
+  pub description_agrees : (tokens : List Token) (d : DescriptionPart) → 0 < (description room).size d → Agrees (description room) (response charset room) (with_described tokens) d
+  description_agrees tokens d h = grind arith
+
   pub description_in_response : (tokens : List Token) → Inside (description room) (response charset room) (with_described tokens)
-  description_in_response tokens = record { size = size; fault = fault; add = add }
-    where
-      size : (d : DescriptionPart) → 0 < (description room).size d → (response charset room).size (with_described tokens d) ≡ (description room).size d
-      size BeforeCount h = refl
-      size NoDescription h = absurd (omega arith)
-      size (InColumn b n cs p) h = refl
-      size (WholeDescription b cs) h = absurd (omega arith)
+  description_in_response tokens = inside (description room) (response charset room) (with_described tokens) (description_agrees tokens)
 
-      fault : (d : DescriptionPart) (e : List ℕ) → 0 < (description room).size d → (response charset room).fault (with_described tokens d) e ≡ (description room).fault d e
-      fault BeforeCount e h = refl
-      fault NoDescription e h = absurd (omega arith)
-      fault (InColumn b n cs p) e h = refl
-      fault (WholeDescription b cs) e h = absurd (omega arith)
+  -- so is a row
+  pub row_agrees : (tokens : List Token) (p : RowPart) → 0 < (row charset).size p → Agrees (row charset) (response charset room) (with_row tokens) p
+  row_agrees tokens p h = grind arith
 
-      add : (d : DescriptionPart) (e : List ℕ) → 0 < (description room).size d → (response charset room).add (with_described tokens d) e ≡ with_described tokens ((description room).add d e)
-      add BeforeCount e h = refl
-      add NoDescription e h = absurd (omega arith)
-      add (InColumn b n cs p) e h = refl
-      add (WholeDescription b cs) e h = absurd (omega arith)
-
-  -- a row is read in its response as by itself
   pub row_in_response : (tokens : List Token) → Inside (row charset) (response charset room) (with_row tokens)
-  row_in_response tokens = record { size = size; fault = fault; add = add }
-    where
-      size : (p : RowPart) → 0 < (row charset).size p → (response charset room).size (with_row tokens p) ≡ (row charset).size p
-      size (WholeRow cells) h = absurd (omega arith)
-      size p h = refl
+  row_in_response tokens = inside (row charset) (response charset room) (with_row tokens) (row_agrees tokens)
 
-      fault : (p : RowPart) (e : List ℕ) → 0 < (row charset).size p → (response charset room).fault (with_row tokens p) e ≡ (row charset).fault p e
-      fault (WholeRow cells) e h = absurd (omega arith)
-      fault p e h = refl
+  -- and a return value
+  pub return_agrees : (tokens : List Token) (p : ReturnPart) → 0 < return_value.size p → Agrees return_value (response charset room) (with_return tokens) p
+  return_agrees tokens p h = grind arith
 
-      add : (p : RowPart) (e : List ℕ) → 0 < (row charset).size p → (response charset room).add (with_row tokens p) e ≡ with_row tokens ((row charset).add p e)
-      add (WholeRow cells) e h = absurd (omega arith)
-      add p e h = refl
-
-  -- a return value is read in its response as by itself
   pub return_in_response : (tokens : List Token) → Inside return_value (response charset room) (with_return tokens)
-  return_in_response tokens = record { size = size; fault = fault; add = add }
-    where
-      size : (p : ReturnPart) → 0 < return_value.size p → (response charset room).size (with_return tokens p) ≡ return_value.size p
-      size (WholeReturn r) h = absurd (omega arith)
-      size p h = refl
-
-      fault : (p : ReturnPart) (e : List ℕ) → 0 < return_value.size p → (response charset room).fault (with_return tokens p) e ≡ return_value.fault p e
-      fault (WholeReturn r) e h = absurd (omega arith)
-      fault p e h = refl
-
-      add : (p : ReturnPart) (e : List ℕ) → 0 < return_value.size p → (response charset room).add (with_return tokens p) e ≡ with_return tokens (return_value.add p e)
-      add (WholeReturn r) e h = absurd (omega arith)
-      add p e h = refl
+  return_in_response tokens = inside return_value (response charset room) (with_return tokens) (return_agrees tokens)
 
   abbrev between_tokens : List Token → Part
   between_tokens tokens = record { tokens = tokens; at = Between }
@@ -132,11 +96,7 @@ module _ (charset : Charset) (room : ℕ) where
   notice_body : (tokens : List Token) (b : Bodied) (n : Notice) (body bytes : List ℕ) → SpellsNotice n body → SpellsBody body bytes → Spelt (response charset room) (at_part tokens (TokenLength b)) bytes (with_token tokens (bodied b body))
   notice_body tokens b n body bytes h s =
       let r = notice_is_read n body h in
-      let long : nat_lt (length body) 14 ≡ false = let l : 14 ≤ length body = r.0 in grind (arith, nat_tests) in
-      let held : not (holds_notice body) ≡ false = ap (λ v. not v) r.1 in
-      body_is_read tokens b body bytes
-      (choose_false (is_notice b && nat_lt (length body) 14) (Some BadNotice) None (and_right (is_notice b) (nat_lt (length body) 14) long))
-      (choose_false (is_notice b && not (holds_notice body)) (Some BadNotice) None (and_right (is_notice b) (not (holds_notice body)) held)) s
+      grind (arith, notice_is_read, nat_tests, body_is_read, choose_false, and_right)
 
   -- so is a notice
   notice_token_is_read : (tokens : List Token) (b : Bodied) (n : Notice) (t : Token) (body rest bytes : List ℕ) → Begins (WithBody b) rest bytes → SpellsBody body rest → SpellsNotice n body → bodied b body ≡ t → Spelt (response charset room) (between_tokens tokens) bytes (with_token tokens t)
@@ -150,8 +110,7 @@ module _ (charset : Charset) (room : ℕ) where
 
   -- which its fields spell
   pub fixed_spelt : (current : Option (List Column)) (f : Fixed) (fields bytes : List ℕ) → Begins (WithFields f) fields bytes → length fields ≡ fields_length f → SpellsToken charset room current (fixed f fields) bytes
-  fixed_spelt current ADone fields bytes begins long = (fields, begins, long, refl)
-  fixed_spelt current f fields bytes begins long = (fields, begins, long, refl)
+  fixed_spelt current f fields bytes begins long = grind arith
 
   row_token_is_read : (tokens : List Token) (current : Option (List Column)) (cells : List Cell) (bytes : List ℕ) → described_after None tokens ≡ current → HasColumns current → SpellsRowToken charset current cells bytes → Spelt (response charset room) (between_tokens tokens) bytes (with_token tokens (Row cells))
   row_token_is_read tokens None cells bytes is some h = absurd h
@@ -180,21 +139,15 @@ module _ (charset : Charset) (room : ℕ) where
   token_is_read tokens t bytes some h = let is = h.3 in fixed_is_read tokens _ t h.0 bytes h.1 h.2 (cc)
 
   next_HasColumns : (current : Option (List Column)) (t : Token) (bytes : List ℕ) → HasColumns current → SpellsToken charset room current t bytes → HasColumns (described_after current (t ∷ []))
-  next_HasColumns current (Metadata encoded columns) bytes some h = h.1.some
-  next_HasColumns current NoMetadata bytes some h = tt
-  next_HasColumns current t bytes some h = some
+  next_HasColumns current t bytes some h = grind arith
 
   tokens_are_read : (before : List Token) (current : Option (List Column)) (ts : List Token) (bytes : List ℕ) → described_after None before ≡ current → HasColumns current → SpellsTokens charset room current ts bytes → Spelt (response charset room) (between_tokens before) bytes (between_tokens (before ++ ts))
-  tokens_are_read before current [] bytes is some h =
-      subst (λ v. Spelt (response charset room) (between_tokens before) v (between_tokens (before ++ []))) (sym h)
-      (subst (λ v. Spelt (response charset room) (between_tokens before) [] (between_tokens v)) (sym (append-nil before)) (Spelt-none (response charset room) (between_tokens before)))
+  tokens_are_read before current [] bytes is some h = grind (arith, Spelt-none, append-nil)
   tokens_are_read before current (t ∷ ts) bytes is some h =
       let one : Spelt (response charset room) (between_tokens before) h.0 (with_token before t) = token_is_read before t h.0 (subst (λ v. HasColumns v) (sym is) some) (subst (λ v. SpellsToken charset room v t h.0) (sym is) h.3) in
       let now : described_after None (before ++ t ∷ []) ≡ described_after current (t ∷ []) = described_after-append None before (t ∷ []) ∙ ap (λ v. described_after v (t ∷ [])) is in
       let rest : Spelt (response charset room) (with_token before t) h.1 (between_tokens ((before ++ t ∷ []) ++ ts)) = tokens_are_read (before ++ t ∷ []) (described_after current (t ∷ [])) ts h.1 now (next_HasColumns current t h.0 some h.3) h.4 in
-      subst (λ v. Spelt (response charset room) (between_tokens before) v (between_tokens (before ++ t ∷ ts))) (sym h.2)
-      (Spelt-append (response charset room) (between_tokens before) h.0 (with_token before t) h.1 (between_tokens (before ++ t ∷ ts)) one
-      (subst (λ v. Spelt (response charset room) (with_token before t) h.1 (between_tokens v)) (append_assoc before (t ∷ []) ts) rest))
+      grind (arith, between_tokens, token_is_read, HasColumns, described_after-append, next_HasColumns, Spelt-append, append_assoc)
 
   -- What spells a response is read as its tokens, all of it.
   pub response_is_read : (tokens : List Token) (payload : List ℕ) → Response charset room tokens payload → Spelt (response charset room) response_start payload (between_tokens tokens)

@@ -1,27 +1,27 @@
 -- What the bytes that lead to a part of a response spell.
 use Rattle.std.proofs.Common.{◌≡◌, ℕ, ◌+◌, ◌-◌, ◌*◌, ◌/◌, ◌%◌, ◌<◌, ◌≤◌, Bool, true, false, List, [], ◌∷◌, ◌++◌, length, take, drop, refl, sym, ◌∙◌, ap, subst, inl, inr, append_assoc, append-nil, arith, length-drop, drop-cons, add-one}
+use Rattle.std.specs.Prelude.{Option, Some, None, ◌==◌, ◌&&◌, nat_lt, not, slice_index, if◌then◌else◌}
 use Rattle.std.proofs.lemmas.List.{take-append-drop, length-take-le, drop-drop}
-use Rattle.std.specs.Prelude.{Option, Some, None, ◌==◌, ◌&&◌, nat_lt, nat_le, not, slice_index, if◌then◌else◌}
-use Rattle.tds_values.specs.Numbers.{little}
-use Rattle.tds_packet.specs.declared.fault.Fault.TheVariants.{BadNotice}
-use Rattle.tds_packet.specs.Elements.{AreBytes, Spelt, IsNext}
-use Rattle.tds_packet.proofs.ElementLaws.{Spelt-induct, AreBytes-front, AreBytes-back}
-use Rattle.tds_columns.specs.Description.{Column, SpellsDescription, DescriptionPart, BeforeCount, NoDescription, InColumn, WholeDescription, add_described}
 use Rattle.tds_columns.proofs.ColumnMeaning.{DescribedMeans, described_step}
-use Rattle.tds_rows.specs.declared.Charset.{Charset}
+use Rattle.tds_columns.specs.Description.{Column, SpellsDescription, DescriptionPart, NoDescription, WholeDescription, add_described}
+use Rattle.tds_export.specs.Response.{SpellsBody, SpellsNotice, SpellsRowToken, SpellsToken, SpellsTokens, Response, fixed}
+use Rattle.tds_export.specs.ReturnValue.{ReturnPart, WholeReturn, return_add}
+use Rattle.tds_export.specs.TokenBytes.{APassed, Bodied, Lead, AMetadata, ARow, AnNbcRow, WithBody, WithFields, AReturn, lead_of}
+use Rattle.tds_export.specs.TokenGrammar.{Open, Between, Describing, Fields, InRow, InReturn, TokenLength, TokenBody, Part, response_start, with_token, with_described, with_row, with_return, start_of_row, after_first, lead_fault, row_byte_fault, server_at, procedure_at, line_at, holds_notice, notice_of, bodied, is_notice, part_add, response}
+use Rattle.tds_export.specs.Tokens.{Token, Metadata, NoMetadata, Row, Returned, described_after, is_final}
+use Rattle.tds_packet.proofs.Choices.{choose, eq_true}
+use Rattle.tds_packet.proofs.ElementLaws.{Spelt-induct, AreBytes-front, AreBytes-back}
+use Rattle.tds_packet.specs.Elements.{AreBytes, Spelt, IsNext}
+use Rattle.tds_packet.specs.declared.fault.Fault.TheVariants.{BadNotice}
 use Rattle.tds_rows.specs.Cells.{Cell}
 use Rattle.tds_rows.specs.Rows.{RowPart, WholeRow, row_start, nbc_row_start, row_add}
+use Rattle.tds_rows.specs.declared.Charset.{Charset}
+use Rattle.tds_values.specs.Numbers.{little}
 use Rattle.tds_rows.proofs.RowMeaning.{RowMeans, row_step, row_start_means}
-use Rattle.tds_export.specs.ReturnValue.{ReturnPart, WholeReturn, return_add}
 use Rattle.tds_export.proofs.ReturnLaws.{ReturnMeans, return_step}
-use Rattle.tds_export.specs.TokenBytes.{APassed, AnError, AnInfo, Bodied, Lead, AMetadata, ARow, AnNbcRow, WithBody, WithFields, AReturn, lead_of}
-use Rattle.tds_export.specs.Tokens.{Token, Metadata, NoMetadata, Row, Returned, described_after, is_final}
-use Rattle.tds_export.specs.Response.{SpellsBody, SpellsNotice, SpellsRowToken, SpellsToken, SpellsTokens, Response, fixed}
-use Rattle.tds_export.specs.TokenGrammar.{Open, Between, Describing, Fields, InRow, InReturn, TokenLength, TokenBody, Part, response_start, with_token, with_described, with_row, with_return, start_of_row, after_first, lead_fault, row_byte_fault, server_at, procedure_at, line_at, holds_notice, notice_of, bodied, is_notice, part_add, response}
 use Rattle.tds_export.proofs.ResponseLaws.{described_after-append, fixed_spelt}
-use Rattle.std.proofs.lemmas.Bool.{and_parts}
-use Rattle.tds_packet.proofs.Choices.{choose, eq_true, lt_true, le_true}
 use Rattle.tds_columns.proofs.ByteLemmas.{one_byte, two_bytes}
+use Rattle.tds_export.proofs.NoticeReading.{parts_within}
 
 -- the next k bytes after the first n
 cut : (body : List ℕ) (n k m : ℕ) → n + k ≡ m → drop n body ≡ take k (drop n body) ++ drop m body
@@ -34,12 +34,6 @@ first_of body n h = rw (add-one, drop-cons body n 0)
 long : (body : List ℕ) (n k : ℕ) → n + k ≤ length body → length (take k (drop n body)) ≡ k
 long body n k h = let l : length (drop n body) ≡ length body - n = length-drop n body in length-take-le k (drop n body) (omega (arith, l))
 
-half : (n : ℕ) → (2 * n) / 2 ≡ n
-half n = omega arith
-
-even : (n : ℕ) → (2 * n) % 2 ≡ 0
-even n = omega arith
-
 regroup : (head : List ℕ) (st cl : ℕ) (units message : List ℕ) (s : ℕ) (server : List ℕ) (p : ℕ) (procedure last rest : List ℕ) → head ++ (st ∷ cl ∷ (units ++ (message ++ (s ∷ (server ++ (p ∷ (procedure ++ (last ++ rest)))))))) ≡ ((((((head ++ st ∷ cl ∷ []) ++ units) ++ message) ++ (s ∷ server)) ++ (p ∷ procedure)) ++ last) ++ rest
 regroup head st cl units message s server p procedure last rest = sym (simp append_assoc)
 
@@ -51,10 +45,10 @@ notice_spelt body h =
     let la : ℕ = line_at body in
     let s : ℕ = slice_index body sa in
     let p : ℕ = slice_index body pa in
-    let t = and_parts (nat_lt sa (length body) && nat_lt pa (length body)) (nat_le (la + 4) (length body)) h in
-    let a : sa < length body = lt_true sa (length body) (and_parts (nat_lt sa (length body)) (nat_lt pa (length body)) t.0).0 in
-    let b : pa < length body = lt_true pa (length body) (and_parts (nat_lt sa (length body)) (nat_lt pa (length body)) t.0).1 in
-    let c : la + 4 ≤ length body = le_true (la + 4) (length body) t.1 in
+    let t = parts_within body h in
+    let a : sa < length body = t.0 in
+    let b : pa < length body = t.1 in
+    let c : la + 4 ≤ length body = t.2 in
     let server : List ℕ = take (2 * s) (drop (sa + 1) body) in
     let procedure : List ℕ = take (2 * p) (drop (pa + 1) body) in
     let rest : List ℕ = drop (la + 4) body in
@@ -71,17 +65,15 @@ notice_spelt body h =
     let e2 : drop 6 body ≡ units ++ drop 8 body = cut body 6 2 8 refl in
     let e3 : drop 8 body ≡ message ++ drop sa body = cut body 8 (2 * u) sa refl in
     let e4 : drop sa body ≡ s ∷ drop (sa + 1) body = first_of body sa a in
-    let e5 : drop (sa + 1) body ≡ server ++ drop pa body = cut body (sa + 1) (2 * s) pa refl in
     let e6 : drop pa body ≡ p ∷ drop (pa + 1) body = first_of body pa b in
-    let e7 : drop (pa + 1) body ≡ procedure ++ drop la body = cut body (pa + 1) (2 * p) la refl in
     let e8 : drop la body ≡ last ++ rest = cut body la 4 (la + 4) refl in
-    let f7 : drop pa body ≡ p ∷ (procedure ++ (last ++ rest)) = e6 ∙ ap (λ v. p ∷ v) (e7 ∙ ap (λ v. procedure ++ v) e8) in
-    let f5 : drop sa body ≡ s ∷ (server ++ (p ∷ (procedure ++ (last ++ rest)))) = e4 ∙ ap (λ v. s ∷ v) (e5 ∙ ap (λ v. server ++ v) f7) in
+    let f7 : drop pa body ≡ p ∷ (procedure ++ (last ++ rest)) = e6 ∙ ap (λ v. p ∷ v) (cut body (pa + 1) (2 * p) la refl ∙ ap (λ v. procedure ++ v) e8) in
+    let f5 : drop sa body ≡ s ∷ (server ++ (p ∷ (procedure ++ (last ++ rest)))) = e4 ∙ ap (λ v. s ∷ v) (cut body (sa + 1) (2 * s) pa refl ∙ ap (λ v. server ++ v) f7) in
     let f3 : drop 6 body ≡ units ++ (message ++ (s ∷ (server ++ (p ∷ (procedure ++ (last ++ rest)))))) = e2 ∙ ap (λ v. units ++ v) (e3 ∙ ap (λ v. message ++ v) f5) in
     let all : body ≡ ((((((head ++ st ∷ cl ∷ []) ++ units) ++ message) ++ (s ∷ server)) ++ (p ∷ procedure)) ++ last) ++ rest =
     sym (take-append-drop 4 body) ∙ ap (λ v. head ++ v) (e1 ∙ ap (λ v. st ∷ cl ∷ v) f3) ∙ regroup head st cl units message s server p procedure last rest in
-    let s_is : s ≡ length server / 2 = sym (ap (λ v. v / 2) ls ∙ half s) in
-    let p_is : p ≡ length procedure / 2 = sym (ap (λ v. v / 2) lp ∙ half p) in
+    let s_is : s ≡ length server / 2 = omega (arith, ls) in
+    let p_is : p ≡ length procedure / 2 = omega (arith, lp) in
     record {
       head = head;
       units = units;
@@ -92,19 +84,16 @@ notice_spelt body h =
       spelt = all ∙ ap (λ v. ((((((head ++ st ∷ cl ∷ []) ++ units) ++ message) ++ (v ∷ server)) ++ (p ∷ procedure)) ++ last) ++ rest) s_is ∙ ap (λ v. ((((((head ++ st ∷ cl ∷ []) ++ units) ++ message) ++ (length server / 2 ∷ server)) ++ (v ∷ procedure)) ++ last) ++ rest) p_is;
       number = (length-take-le 4 body (omega arith), refl);
       message = (long body 6 2 (omega arith), long body 8 (2 * u) (omega arith));
-      servers = ap (λ v. v % 2) ls ∙ even s;
-      procedures = ap (λ v. v % 2) lp ∙ even p;
+      servers = omega (arith, ls);
+      procedures = omega (arith, lp);
       line = (long body la 4 (omega arith), refl);
     }
 
 empty_body : (k : Bodied) → ((if is_notice k && nat_lt 0 14 then Some BadNotice else None) ≡ None) → ((if is_notice k && not (holds_notice []) then Some BadNotice else None) ≡ None)
-empty_body (APassed passed) h = refl
-empty_body AnError h = cc
-empty_body AnInfo h = cc
+empty_body k h = grind arith
 
 held : (b : Bool) → ((if not b then Some BadNotice else None) ≡ None) → b ≡ true
-held true h = refl
-held false h = cc
+held b h = grind arith
 
 module _ (charset : Charset) (room : ℕ) where
   one_more_token : (current : Option (List Column)) (ts : List Token) (a : List ℕ) (t : Token) (e : List ℕ) → SpellsTokens charset room current ts a → SpellsToken charset room (described_after current ts) t e → SpellsTokens charset room current (ts ++ t ∷ []) (a ++ e)
@@ -139,24 +128,15 @@ module _ (charset : Charset) (room : ℕ) where
 
   -- more bytes of the token that is read
   further : (tokens : List Token) (lead : Lead) (P Q : List ℕ → Type 0) (b e : List ℕ) → (h : Behind tokens lead P b) → Q (h.rest ++ e) → Behind tokens lead Q (b ++ e)
-  further tokens lead P Q b e h q = record {
-    front = h.front;
-    first = h.first;
-    rest = h.rest ++ e;
-    spelt = ap (λ v. v ++ e) h.spelt ∙ append_assoc h.front (h.first ∷ h.rest) e;
-    before = h.before;
-    begins = h.begins;
-    behind = q;
-  }
+  further tokens lead P Q b e h q = grind (arith, append_assoc)
 
   token_means : (tokens : List Token) (t : Token) (lead : Lead) (P : List ℕ → Type 0) (b : List ℕ) → (h : Behind tokens lead P b) → SpellsToken charset room (described_after None tokens) t (h.first ∷ h.rest) → PartMeans (with_token tokens t) b
   token_means tokens t lead P b h s = subst (λ v. SpellsTokens charset room None (tokens ++ t ∷ []) v) (sym h.spelt) (one_more_token None tokens h.front t (h.first ∷ h.rest) h.before s)
 
   with_described_means : (tokens : List Token) (d : DescriptionPart) (b : List ℕ) → Behind tokens AMetadata (λ rest. DescribedMeans room d rest) b → PartMeans (with_described tokens d) b
-  with_described_means tokens BeforeCount b h = h
   with_described_means tokens NoDescription b h = token_means tokens NoMetadata AMetadata (λ rest. DescribedMeans room NoDescription rest) b h (h.first, ap (λ v. h.first ∷ v) h.behind, h.begins)
-  with_described_means tokens (InColumn x n cs p) b h = h
   with_described_means tokens (WholeDescription x cs) b h = token_means tokens (Metadata x cs) AMetadata (λ rest. DescribedMeans room (WholeDescription x cs) rest) b h ((h.first, ap (λ v. h.first ∷ v) (sym h.behind.0), h.begins), subst (λ v. SpellsDescription room cs v) (sym h.behind.0) h.behind.1)
+  with_described_means tokens d b h = h
 
   row_token : (current : Option (List Column)) (columns : List Column) (nbc : Bool) (cells : List Cell) (first : ℕ) (rest : List ℕ) → current ≡ Some columns → lead_of first ≡ Some (row_lead nbc) → RowMeans charset columns nbc (WholeRow cells) rest → SpellsRowToken charset current cells (first ∷ rest)
   row_token current columns false cells first rest e begins h = subst (λ v. SpellsRowToken charset v cells (first ∷ rest)) (sym e) (rest, inl ((first, refl, begins), h))
@@ -175,33 +155,22 @@ module _ (charset : Charset) (room : ℕ) where
   row_begins tokens b x (Some columns) e f h begins = with_row_means tokens (row_start charset columns) (b ++ x ∷ []) columns false e (record { front = b; first = x; rest = []; spelt = refl; before = h; begins = begins; behind = row_start_means charset columns })
 
   nbc_row_begins : (tokens : List Token) (b : List ℕ) (x : ℕ) (current : Option (List Column)) → described_after None tokens ≡ current → row_byte_fault true current ≡ None → SpellsTokens charset room None tokens b → lead_of x ≡ Some AnNbcRow → PartMeans (start_of_row tokens nbc_row_start current) (b ++ x ∷ [])
-  nbc_row_begins tokens b x None e f h begins = cc
-  nbc_row_begins tokens b x (Some columns) e f h begins = (columns, true, e, record { front = b; first = x; rest = []; spelt = refl; before = h; begins = begins; behind = (refl, refl, refl) })
+  nbc_row_begins tokens b x current e f h begins = grind arith
 
   -- the byte begins what it begins
   byte_step : (tokens : List Token) (b : List ℕ) (x : ℕ) (begun : Option Lead) → lead_of x ≡ begun → SpellsTokens charset room None tokens b → lead_fault (described_after None tokens) x begun ≡ None → PartMeans (after_first charset tokens begun) (b ++ x ∷ [])
-  byte_step tokens b x None is h free = cc
-  byte_step tokens b x (Some AMetadata) is h free = record { front = b; first = x; rest = []; spelt = refl; before = h; begins = is; behind = refl }
-  byte_step tokens b x (Some ARow) is h free = row_begins tokens b x (described_after None tokens) refl free h is
-  byte_step tokens b x (Some AnNbcRow) is h free = nbc_row_begins tokens b x (described_after None tokens) refl free h is
-  byte_step tokens b x (Some (WithBody k)) is h free = record { front = b; first = x; rest = []; spelt = refl; before = h; begins = is; behind = refl }
-  byte_step tokens b x (Some (WithFields f)) is h free = record { front = b; first = x; rest = []; spelt = refl; before = h; begins = is; behind = refl }
-  byte_step tokens b x (Some AReturn) is h free = record { front = b; first = x; rest = []; spelt = refl; before = h; begins = is; behind = refl }
+  byte_step tokens b x begun is h free = grind (arith, nbc_row_begins, row_begins)
 
   body_means : (tokens : List Token) (k : Bodied) (body b : List ℕ) → (h : Behind tokens (WithBody k) (λ rest. SpellsBody body rest) b) → ((if is_notice k && not (holds_notice body) then Some BadNotice else None) ≡ None) → PartMeans (with_token tokens (bodied k body)) b
   body_means tokens k body b h f = token_means tokens (bodied k body) (WithBody k) (λ rest. SpellsBody body rest) b h (spelt k h.begins f)
     where
       spelt : (k : Bodied) → lead_of h.first ≡ Some (WithBody k) → ((if is_notice k && not (holds_notice body) then Some BadNotice else None) ≡ None) → SpellsToken charset room (described_after None tokens) (bodied k body) (h.first ∷ h.rest)
       spelt (APassed passed) begins f = (h.rest, (h.first, refl, begins), h.behind)
-      spelt AnError begins f = (h.rest, body, (h.first, refl, begins), h.behind, notice_spelt body (held (holds_notice body) f))
-      spelt AnInfo begins f = (h.rest, body, (h.first, refl, begins), h.behind, notice_spelt body (held (holds_notice body) f))
+      spelt b begins f = (h.rest, body, (h.first, refl, begins), h.behind, notice_spelt body (held (holds_notice body) f))
 
   -- each element keeps the meaning
   part_step : (tokens : List Token) (at : Open) (b e : List ℕ) → AreBytes e → OpenMeans tokens at b → IsNext (response charset room) (record { tokens = tokens; at = at }) e → PartMeans (part_add charset tokens at e) (b ++ e)
-  part_step tokens Between b e bytes h n =
-      let x = one_byte e n.whole in
-      let at : slice_index e 0 ≡ x.0 = ap (λ v. slice_index v 0) x.1 in
-      subst (λ v. PartMeans (after_first charset tokens (lead_of (slice_index v 0))) (b ++ v)) (sym x.1) (byte_step tokens b x.0 (lead_of x.0) refl h (subst (λ v. lead_fault (described_after None tokens) v (lead_of v) ≡ None) at n.free))
+  part_step tokens Between b e bytes h n = grind (arith, byte_step, one_byte)
   part_step tokens (Describing d) b e bytes h n =
       with_described_means tokens (add_described d e) (b ++ e)
       (further tokens AMetadata (λ rest. DescribedMeans room d rest) (λ rest. DescribedMeans room (add_described d e) rest) b e h (described_step room d h.rest e bytes h.behind (record { some = n.some; whole = n.whole; free = n.free })))

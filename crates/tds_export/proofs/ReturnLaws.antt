@@ -1,91 +1,73 @@
 -- What a return value's spelling is read as, and what the bytes that lead to a part of it spell.
-use Rattle.std.proofs.Common.{◌≡◌, ℕ, ◌+◌, ◌*◌, ◌<◌, true, false, List, [], ◌∷◌, ◌++◌, length, refl, sym, ◌∙◌, ap, subst, append_assoc, append-nil, arith, length-append}
-use Rattle.std.specs.Prelude.{Option, Some, None, ◌==◌, is_some, slice_index, unwrap_or, if◌then◌else◌}
-use Rattle.std.proofs.lemmas.Bool.Decides.{nat_tests}
-use Rattle.std.proofs.lemmas.Bool.{ne_eqb}
+use Rattle.std.proofs.Common.{◌≡◌, ℕ, ◌*◌, ◌<◌, true, List, [], ◌∷◌, ◌++◌, length, refl, sym, ◌∙◌, ap, subst, append_assoc, append-nil, arith, length-append}
+use Rattle.std.specs.Prelude.{Option, Some, None, ◌==◌, is_some, if◌then◌else◌}
 use Rattle.std.proofs.Math.Seq.{get_or-append_seam}
-use Rattle.tds_values.specs.declared.kind.Kind.{Kind}
-use Rattle.tds_values.specs.TypeInfo.{IsTypeInfo, rest_length, kind_of}
-use Rattle.tds_values.proofs.TypeInfoLemmas.{bare_type}
-use Rattle.tds_packet.specs.declared.fault.RefusedKind.{RefusedKind}
-use Rattle.tds_packet.specs.declared.fault.Fault.TheVariants.{BadTypeInfo}
-use Rattle.tds_packet.specs.Elements.{AreBytes, Spelt, IsNext}
-use Rattle.tds_packet.proofs.ElementLaws.{Inside, Inside-Spelt, Spelt-append, Spelt-none, Spelt-step}
-use Rattle.tds_packet.proofs.Choices.{choose, choose_false, choose_true, eq_true, is_some_value}
-use Rattle.tds_columns.specs.Description.{type_fault, refused_type, refused_kind}
-use Rattle.tds_columns.proofs.ByteLemmas.{split_last, one_byte}
+use Rattle.std.proofs.lemmas.Bool.{ne_eqb}
+use Rattle.std.proofs.lemmas.Bool.Decides.{nat_tests}
 use Rattle.tds_columns.proofs.ColumnLaws.{byte_and_rest}
-use Rattle.tds_rows.specs.Cells.{shape, CellPart, WholeCell, cell_start, cell, cell_add, return_charset}
-use Rattle.tds_rows.proofs.CellLaws.{cell_is_read}
+use Rattle.tds_columns.specs.Description.{type_fault}
+use Rattle.tds_columns.specs.ReturnedType.{return_column}
+use Rattle.tds_export.specs.ReturnValue.{ReturnValue, SpellsReturnName, SpellsReturnValue, ReturnPart, ReturnOrdinal, ReturnNameCount, ReturnName, ReturnHead, ReturnInfo, InReturnCell, WholeReturn, with_value, with_return_kind, with_return_type, with_return_units, return_add, return_value}
+use Rattle.tds_packet.proofs.Choices.{choose, choose_false, choose_true, eq_true, is_some_value}
+use Rattle.tds_packet.proofs.ElementLaws.{Inside, Inside-Spelt, Spelt-append, Spelt-none, Spelt-step}
+use Rattle.tds_packet.specs.Elements.{Grammar, AreBytes, Spelt, IsNext}
+use Rattle.tds_packet.specs.declared.fault.Fault.{Fault}
+use Rattle.tds_packet.specs.declared.fault.Fault.TheVariants.{BadTypeInfo}
 use Rattle.tds_rows.proofs.CellMeaning.{CellMeans, cell_step, start_means}
 use Rattle.tds_rows.proofs.RowLaws.{shape-HasBytes}
-use Rattle.tds_export.specs.ReturnValue.{ReturnValue, SpellsReturnName, SpellsReturnValue, ReturnPart, ReturnOrdinal, ReturnNameCount, ReturnName, ReturnHead, ReturnInfo, InReturnCell, WholeReturn, with_value, with_return_kind, with_return_type, with_return_units, return_add, return_value}
-use Rattle.tds_columns.specs.ReturnedType.{return_column}
+use Rattle.tds_rows.specs.Cells.{shape, CellPart, WholeCell, cell_start, cell, cell_add, return_charset}
+use Rattle.tds_values.proofs.TypeInfoLemmas.{bare_type}
+use Rattle.tds_values.specs.TypeInfo.{IsTypeInfo, rest_length, kind_of}
+use Rattle.tds_values.specs.declared.kind.Kind.{Kind}
+use Rattle.tds_columns.proofs.ByteLemmas.{split_last, one_byte}
+use Rattle.tds_rows.proofs.CellLaws.{cell_is_read}
+
+-- a state of a small grammar stands in a big one: the next element is the same there, and so is the fault of an end
+abbrev pub Agrees : {S T : Type 0} → Grammar S Fault → Grammar T Fault → (S → T) → S → Type 0
+Agrees small big lift s =
+    (big.size (lift s) ≡ small.size s) × ((e : List ℕ) → big.fault (lift s) e ≡ small.fault s e) × ((e : List ℕ) → big.add (lift s) e ≡ lift (small.add s e)) × (big.end_fault (lift s) ≡ small.end_fault s)
+
+-- a grammar whose open states stand so is inside the big one
+pub inside : {S T : Type 0} (small : Grammar S Fault) (big : Grammar T Fault) (lift : S → T) → ((s : S) → 0 < small.size s → Agrees small big lift s) → Inside small big lift
+inside small big lift all = record { size = λ s h. (all s h).0; fault = λ s e h. (all s h).1 e; add = λ s e h. (all s h).2 e }
 
 -- a value is read in its token as by itself
+pub value_agrees : (name : List ℕ) (kind : Kind) (p : CellPart) → 0 < (cell return_column).size p → Agrees (cell return_column) return_value (with_value name kind) p
+value_agrees name kind p h = grind arith
+
 pub value_in_return : (name : List ℕ) (kind : Kind) → Inside (cell return_column) return_value (with_value name kind)
-value_in_return name kind = record { size = size; fault = fault; add = add }
-  where
-    size : (p : CellPart) → 0 < (cell return_column).size p → return_value.size (with_value name kind p) ≡ (cell return_column).size p
-    size (WholeCell x) h = absurd (omega arith)
-    size p h = refl
-
-    fault : (p : CellPart) (e : List ℕ) → 0 < (cell return_column).size p → return_value.fault (with_value name kind p) e ≡ (cell return_column).fault p e
-    fault (WholeCell x) e h = absurd (omega arith)
-    fault p e h = refl
-
-    add : (p : CellPart) (e : List ℕ) → 0 < (cell return_column).size p → return_value.add (with_value name kind p) e ≡ with_value name kind ((cell return_column).add p e)
-    add (WholeCell x) e h = absurd (omega arith)
-    add p e h = refl
+value_in_return name kind = inside (cell return_column) return_value (with_value name kind) (value_agrees name kind)
 
 pub return_name_is_read : (units : ℕ) (name : List ℕ) → length name ≡ 2 * units → Spelt return_value (with_return_units units) name (ReturnHead name)
-return_name_is_read units [] l =
-    let e : (units == 0) ≡ true = grind (arith, nat_tests) in
-    subst (λ v. Spelt return_value v [] (ReturnHead [])) (sym (choose_true (units == 0) (ReturnHead []) (ReturnName (2 * units)) e)) (Spelt-none return_value (ReturnHead []))
-return_name_is_read units (x ∷ xs) l =
-    let e : (units == 0) ≡ false = ne_eqb units 0 (λ q. omega arith) in
-    subst (λ v. Spelt return_value v (x ∷ xs) (ReturnHead (x ∷ xs))) (sym (choose_false (units == 0) (ReturnHead []) (ReturnName (2 * units)) e))
-    (Spelt-step return_value (ReturnName (2 * units)) (x ∷ xs) (ReturnHead (x ∷ xs)) (omega arith) l refl refl)
+return_name_is_read units [] l = grind (arith, Spelt-none, choose_true, nat_tests)
+return_name_is_read units (x ∷ xs) l = grind (arith, Spelt-step, choose_false, ne_eqb)
 
 front_is_read : (name front : List ℕ) → SpellsReturnName name front → Spelt return_value ReturnOrdinal front (ReturnHead name)
 front_is_read name front h =
-    let two : length h.ordinal ≡ 2 = h.two in
-    let one : Spelt return_value ReturnOrdinal h.ordinal ReturnNameCount = Spelt-step return_value ReturnOrdinal h.ordinal ReturnNameCount (omega arith) two refl refl in
+    let one : Spelt return_value ReturnOrdinal h.ordinal ReturnNameCount = Spelt-step return_value ReturnOrdinal h.ordinal ReturnNameCount (omega arith) h.two refl refl in
     let next : Spelt return_value ReturnNameCount (h.units ∷ []) (with_return_units h.units) = Spelt-step return_value ReturnNameCount (h.units ∷ []) (with_return_units h.units) (omega arith) refl refl refl in
     let rest : Spelt return_value ReturnNameCount (h.units ∷ name) (ReturnHead name) = Spelt-append return_value ReturnNameCount (h.units ∷ []) (with_return_units h.units) name (ReturnHead name) next (return_name_is_read h.units name h.counted) in
     subst (λ v. Spelt return_value ReturnOrdinal v (ReturnHead name)) (sym h.spelt) (Spelt-append return_value ReturnOrdinal h.ordinal ReturnNameCount (h.units ∷ name) (ReturnHead name) one rest)
 
 head_is_read : (name ignored : List ℕ) (byte n : ℕ) → length ignored ≡ 7 → rest_length byte ≡ Some n → Spelt return_value (ReturnHead name) (ignored ++ byte ∷ []) (with_return_type name byte n)
-head_is_read name ignored byte n seven known =
-    let l : length (ignored ++ byte ∷ []) ≡ length ignored + 1 = length-append ignored (byte ∷ []) in
-    let seven' : 7 ≡ length ignored = sym seven in
-    let at : slice_index (ignored ++ byte ∷ []) 7 ≡ byte = ap (λ i. slice_index (ignored ++ byte ∷ []) i) seven' ∙ get_or-append_seam ignored byte [] 0 in
-    Spelt-step return_value (ReturnHead name) (ignored ++ byte ∷ []) (with_return_type name byte n) (omega (arith, l)) (omega (arith, l))
-    (ap (λ v. type_fault return_column v (rest_length v)) at ∙ ap (λ o. type_fault return_column byte o) known)
-    (ap (λ v. with_return_type name v (unwrap_or (rest_length v) 0)) at ∙ ap (λ o. with_return_type name byte (unwrap_or o 0)) known)
+head_is_read name ignored byte n seven known = grind (arith, Spelt-step, get_or-append_seam, length-append)
 
 pub info_is_read : (name : List ℕ) (byte : ℕ) (rest : List ℕ) (kind : Kind) → rest_length byte ≡ Some (length rest) → kind_of (byte ∷ rest) ≡ Some kind → Spelt return_value (with_return_type name byte (length rest)) rest (with_return_kind name (Some kind))
 info_is_read name byte [] kind n k = subst (λ o. Spelt return_value (with_return_kind name o) [] (with_return_kind name (Some kind))) (sym k) (Spelt-none return_value (with_return_kind name (Some kind)))
-info_is_read name byte (x ∷ xs) kind n k =
-    let from : with_return_type name byte (length (x ∷ xs)) ≡ ReturnInfo name byte = choose_false (length (x ∷ xs) == 0) (with_return_kind name (kind_of (byte ∷ []))) (ReturnInfo name byte) (ne_eqb (length (x ∷ xs)) 0 (λ e. omega arith)) in
-    subst (λ v. Spelt return_value v (x ∷ xs) (with_return_kind name (Some kind))) (sym from)
-    (Spelt-step return_value (ReturnInfo name byte) (x ∷ xs) (with_return_kind name (Some kind)) (omega arith) (sym (ap (λ o. unwrap_or o 0) n))
-    (ap (λ o. (if is_some o then None else Some (BadTypeInfo return_column))) k)
-    (ap (λ o. with_return_kind name o) k))
+info_is_read name byte (x ∷ xs) kind n k = grind (arith, Spelt-step, choose_false, ne_eqb)
 
 -- What spells a return value is read as it.
 pub return_is_read : (r : ReturnValue) (bytes : List ℕ) → SpellsReturnValue r bytes → Spelt return_value ReturnOrdinal bytes (WholeReturn r)
 return_is_read r bytes h =
     let info = byte_and_rest r.kind h.info h.type in
     let start : ReturnPart = with_return_kind r.name (Some r.kind) in
-    let one : Spelt return_value ReturnOrdinal h.front (ReturnHead r.name) = front_is_read r.name h.front h.named in
     let two : Spelt return_value (ReturnHead r.name) (h.ignored ++ info.byte ∷ []) (with_return_type r.name info.byte (length info.rest)) = head_is_read r.name h.ignored info.byte (length info.rest) h.seven info.whole in
     let three : Spelt return_value (with_return_type r.name info.byte (length info.rest)) info.rest start = info_is_read r.name info.byte info.rest r.kind info.whole info.allowed in
     let four : Spelt return_value start h.value (WholeReturn r) = Inside-Spelt (cell return_column) return_value (with_value r.name r.kind) (value_in_return r.name r.kind) (cell_start r.kind (shape return_charset r.kind)) h.value (WholeCell r.value) (cell_is_read return_column r.kind (shape return_charset r.kind) r.value h.value (shape-HasBytes return_charset r.kind) h.cell) in
     let same : (h.ignored ++ info.byte ∷ []) ++ info.rest ≡ h.ignored ++ h.info = append_assoc h.ignored (info.byte ∷ []) info.rest ∙ ap (λ v. h.ignored ++ v) (sym info.spelt) in
     let five : Spelt return_value (ReturnHead r.name) (h.ignored ++ h.info) start = subst (λ v. Spelt return_value (ReturnHead r.name) v start) same (Spelt-append return_value (ReturnHead r.name) (h.ignored ++ info.byte ∷ []) (with_return_type r.name info.byte (length info.rest)) info.rest start two three) in
     subst (λ v. Spelt return_value ReturnOrdinal v (WholeReturn r)) (sym h.spelt)
-    (Spelt-append return_value ReturnOrdinal h.front (ReturnHead r.name) ((h.ignored ++ h.info) ++ h.value) (WholeReturn r) one
+    (Spelt-append return_value ReturnOrdinal h.front (ReturnHead r.name) ((h.ignored ++ h.info) ++ h.value) (WholeReturn r) (front_is_read r.name h.front h.named)
     (Spelt-append return_value (ReturnHead r.name) (h.ignored ++ h.info) start h.value (WholeReturn r) five four))
 
 -- the bytes up to the value's, and what is read of it
@@ -111,31 +93,13 @@ ReturnMeans (InReturnCell name kind part) b = ValueMeans name kind part b
 ReturnMeans (WholeReturn r) b = SpellsReturnValue r b
 
 with_value_means : (name : List ℕ) (kind : Kind) (part : CellPart) (b : List ℕ) → ValueMeans name kind part b → ReturnMeans (with_value name kind part) b
-with_value_means name kind (WholeCell c) b h = record { front = h.front; ignored = h.ignored; info = h.info; value = h.value; spelt = h.spelt; named = h.named; seven = h.seven; type = h.type; cell = h.begun }
-with_value_means name kind part b h = h
+with_value_means name kind part b h = grind arith
 
 value_begins : (name : List ℕ) (o : Option Kind) (kind : Kind) (b front ignored info : List ℕ) → o ≡ Some kind → b ≡ front ++ (ignored ++ info) → SpellsReturnName name front → length ignored ≡ 7 → IsTypeInfo kind info → ReturnMeans (with_return_kind name o) b
-value_begins name o kind b front ignored info is spelt named seven type =
-    subst (λ v. ReturnMeans (with_return_kind name v) b) (sym is)
-    (with_value_means name kind (cell_start kind (shape return_charset kind)) b (record {
-      front = front;
-      ignored = ignored;
-      info = info;
-      value = [];
-      spelt = spelt ∙ ap (λ v. front ++ v) (sym (append-nil (ignored ++ info)));
-      named = named;
-      seven = seven;
-      type = type;
-      begun = start_means kind (shape return_charset kind);
-    }))
+value_begins name o kind b front ignored info is spelt named seven type = grind (arith, append-nil, start_means, with_value_means)
 
 pub accepted : (byte : ℕ) (o : Option ℕ) → type_fault return_column byte o ≡ None → (n : ℕ) × (o ≡ Some n)
-accepted byte (Some n) h = (n, refl)
-accepted byte None h = go (refused_kind byte) h
-  where
-    go : (r : Option RefusedKind) → refused_type return_column byte r ≡ None → (n : ℕ) × (None ≡ Some n)
-    go (Some k) e = cc
-    go None e = cc
+accepted byte o h = grind arith
 
 type_begins : (name : List ℕ) (byte n : ℕ) (b front ignored : List ℕ) → b ≡ front ++ (ignored ++ byte ∷ []) → SpellsReturnName name front → length ignored ≡ 7 → rest_length byte ≡ Some n → ReturnMeans (with_return_type name byte n) b
 type_begins name byte n b front ignored spelt named seven known =
@@ -146,31 +110,16 @@ type_begins name byte n b front ignored spelt named seven known =
     (λ z. (front, ignored, spelt, named, seven, n, known))
 
 pub some_kind : (o : Option Kind) → (if is_some o then None else Some (BadTypeInfo return_column)) ≡ None → is_some o ≡ true
-some_kind (Some k) q = refl
-some_kind None q = cc
+some_kind o q = grind arith
 
 -- each element keeps the meaning
 pub return_step : (p : ReturnPart) (b e : List ℕ) → AreBytes e → ReturnMeans p b → IsNext return_value p e → ReturnMeans (return_add p e) (b ++ e)
 return_step ReturnOrdinal b e bytes h n = ap (λ v. length (v ++ e)) h ∙ n.whole
-return_step ReturnNameCount b e bytes h n =
-    let x = one_byte e n.whole in
-    let u : ℕ = slice_index e 0 in
-    let at : u ≡ x.0 = ap (λ v. slice_index v 0) x.1 in
-    let e_is : e ≡ u ∷ [] = x.1 ∙ ap (λ v. v ∷ []) (sym at) in
-    let small : u < 256 = (subst (λ v. AreBytes v) e_is bytes).0 in
-    choose (λ p. ReturnMeans p (b ++ e)) (u == 0) (ReturnHead []) (ReturnName (2 * u))
-    (λ z. let none : u ≡ 0 = eq_true u 0 z in record { ordinal = b; units = u; spelt = ap (λ v. b ++ v) e_is; two = h; counted = omega arith; byte = small })
-    (λ z. (b, u, ap (λ v. b ++ v) e_is, h, refl, small))
+return_step ReturnNameCount b e bytes h n = grind (arith, choose, eq_true, one_byte)
 return_step (ReturnName m) b e bytes h n = record { ordinal = h.0; units = h.1; spelt = ap (λ v. v ++ e) h.2 ∙ append_assoc h.0 (h.1 ∷ []) e; two = h.3; counted = n.whole ∙ h.4; byte = h.5 }
 return_step (ReturnHead name) b e bytes h n =
     let s = split_last 7 e n.whole in
-    let byte : ℕ = s.1 in
-    let at : slice_index e 7 ≡ byte = ap (λ v. slice_index v 7) s.2 ∙ ap (λ v. slice_index (s.0 ++ byte ∷ []) v) (sym s.3) ∙ get_or-append_seam s.0 byte [] 0 in
-    let k = accepted (slice_index e 7) (rest_length (slice_index e 7)) n.free in
-    let known : rest_length byte ≡ Some k.0 = ap (λ v. rest_length v) (sym at) ∙ k.1 in
-    subst (λ v. ReturnMeans (with_return_type name v (unwrap_or (rest_length v) 0)) (b ++ e)) (sym at)
-    (subst (λ o. ReturnMeans (with_return_type name byte (unwrap_or o 0)) (b ++ e)) (sym known)
-    (type_begins name byte k.0 (b ++ e) b s.0 (ap (λ v. b ++ v) s.2) h s.3 known))
+    grind (arith, split_last, get_or-append_seam, accepted, ReturnMeans, type_begins)
 return_step (ReturnInfo name byte) b e bytes h n =
     let k = is_some_value (kind_of (byte ∷ e)) (some_kind (kind_of (byte ∷ e)) n.free) in
     value_begins name (kind_of (byte ∷ e)) k.0 (b ++ e) h.0 h.1 (byte ∷ e) k.1 (ap (λ v. v ++ e) h.2 ∙ append_assoc h.0 (h.1 ++ byte ∷ []) e ∙ ap (λ v. h.0 ++ v) (append_assoc h.1 (byte ∷ []) e)) h.3 h.4 k.1

@@ -2,33 +2,32 @@
 use Rattle.std.proofs.Common.{◌≡◌, ◌∙◌, inl, ℕ, ◌+◌, ◌*◌, ◌-◌, ◌^◌, ◌<◌, ◌≤◌, Bool, true, false, List, [], ◌∷◌, ◌++◌, length, length-take, take, refl, sym, ap, subst, arith, Result, Ok, Err, MatchResult}
 use Rattle.std.specs.Prelude.{Option, Some, None, ◌==◌, IfOk, if◌then◌else◌, slice_index, unwrap_or}
 use Rattle.std.proofs.lemmas.Bool.{ne_eqb}
-use Rattle.tds_values.specs.declared.kind.Kind.{Kind}
-use Rattle.tds_values.specs.TypeInfo.{kind_of, rest_length}
-use Rattle.tds_values.proofs.TypeInfoLemmas.{rest_length_of}
-use Rattle.tds_meter.specs.Space.{Space}
-use Rattle.tds_packet.specs.declared.fault.Fault.TheVariants.{MessageEnded}
-use Rattle.tds_packet.specs.declared.fault.Stop.{Stop}
-use Rattle.tds_packet.proofs.ElementLaws.{Inside}
-use Rattle.tds_packet.specs.Reading.{Reads, StopsReading}
-use Rattle.tds_packet.specs.Seen.{Seen, Takes, Ends, began_at}
-use Rattle.tds_packet.proofs.Choices.{choose_false}
-use Rattle.tds_packet.proofs.Lifts.{reads_inside, stops_inside}
-use Rattle.tds_packet.proofs.Steps.{began_is_cut, cut_at_once, place_after, reads_both, reads_one, stops_after}
 use Rattle.tds_columns.specs.Description.{type_fault}
 use Rattle.tds_columns.specs.ReturnedType.{KnownType, NoType, ReadsType, StopsType, TypeHead, TypePart, TypeRest, return_column, returned_type, with_known}
 use Rattle.tds_csv.specs.Sinks.{Held}
-use Rattle.tds_csv.proofs.Streams.{stops_size}
-use Rattle.tds_rows.specs.declared.Charset.{Charset}
-use Rattle.tds_rows.specs.Cells.{CellPart, WholeCell, cell, cell_start, return_charset, shape}
-use Rattle.tds_rows.specs.PassedCells.{PassesCell, StopsPassing}
-use Rattle.tds_export.specs.declared.progress.Progress.{Progress}
 use Rattle.tds_export.specs.ReturnValue.{ReturnHead, ReturnInfo, ReturnName, ReturnNameCount, ReturnOrdinal, ReturnPart, WholeReturn, return_end, return_size, return_value, with_return_kind, with_return_type, with_return_units, with_value}
-use Rattle.tds_export.specs.Returning.{ReadsReturn, ReadsValue, StopsReturn, before_value}
-use Rattle.tds_export.specs.Tokens.{Returned, Token}
-use Rattle.tds_export.specs.TokenGrammar.{InReturn, response, text_so_far, with_return}
 use Rattle.tds_export.specs.Steps.{IsHolding, IsNoted, ReadsTokens, StepStops, TracksBefore, behind, in_return}
-use Rattle.tds_export.proofs.ReturnLaws.{info_is_read, return_name_is_read, value_in_return}
-use Rattle.tds_export.proofs.ResponseLaws.{return_in_response}
+use Rattle.tds_export.specs.TokenGrammar.{InReturn, response, text_so_far, with_return}
+use Rattle.tds_export.specs.Tokens.{Returned, Token}
+use Rattle.tds_export.specs.declared.progress.Progress.{Progress}
+use Rattle.tds_meter.specs.Space.{Space}
+use Rattle.tds_packet.proofs.Choices.{choose_false}
+use Rattle.tds_packet.proofs.Lifts.{reads_inside, stops_inside}
+use Rattle.tds_packet.proofs.Steps.{began_is_cut, cut_at_once, place_after, reads_both, reads_one, stops_after}
+use Rattle.tds_packet.specs.Reading.{Reads}
+use Rattle.tds_packet.specs.Seen.{Seen, Takes, Ends, began_at}
+use Rattle.tds_packet.specs.declared.fault.Fault.TheVariants.{MessageEnded}
+use Rattle.tds_packet.specs.declared.fault.Stop.{Stop}
+use Rattle.tds_rows.specs.Cells.{WholeCell, cell, cell_start, return_charset, shape}
+use Rattle.tds_rows.specs.declared.Charset.{Charset}
+use Rattle.tds_values.proofs.TypeInfoLemmas.{rest_length_of}
+use Rattle.tds_values.specs.TypeInfo.{kind_of, rest_length}
+use Rattle.tds_values.specs.declared.kind.Kind.{Kind}
+use Rattle.tds_csv.proofs.Streams.{stops_size}
+use Rattle.tds_rows.specs.PassedCells.{PassesCell, StopsPassing}
+use Rattle.tds_export.specs.Returning.{ReadsReturn, ReadsValue, StopsReturn, before_value}
+use Rattle.tds_export.proofs.ReturnLaws.{info_is_read, return_name_is_read, value_in_return, Agrees, inside, value_agrees}
+use Rattle.tds_export.proofs.ResponseLaws.{return_in_response, return_agrees}
 use Rattle.tds_export.proofs.TokenLaws.{tracks_returned}
 use Rattle.tds_export.proofs.TokenSteps.{bare_reads, same_text}
 use Rattle.tds_export.proofs.NoticeSteps.{quietly}
@@ -46,10 +45,7 @@ fill_cut at a b place n k to own stop size end less len ends is = return_cut at 
 
 -- what stops a call stops one that began before it
 pub return_stops_after : (s t : ReturnPart) (a b c : Seen) (place middle : ℕ) (stop : Stop) → ReadsReturn s t a b place middle → StopsReturn t b c middle stop → StopsReturn s a c place stop
-return_stops_after s t a b c place middle stop x y = record {
-  at = y.at;
-  stops = stops_after return_value s t a b c place y.at stop x.reads (subst (λ n. StopsReading return_value t b c n y.at stop) x.place_is y.stops);
-}
+return_stops_after s t a b c place middle stop x y = grind (arith, stops_after)
 
 -- and so it is where nothing stops
 abbrev pub return_reads_after : (s t u : ReturnPart) (a b c : Seen) (place middle place' : ℕ) → ReadsReturn s t a b place middle → ReadsReturn t u b c middle place' → ReadsReturn s u a c place place'
@@ -102,21 +98,9 @@ behind_name name (KnownType kind) = before_value name kind
 behind_name name NoType = ReturnOrdinal
 
 -- a type is read in its return value as by itself
-type_in_return : (name : List ℕ) → Inside returned_type return_value (behind_name name)
-type_in_return name = record { size = size; fault = fault; add = add }
+type_agrees : (name : List ℕ) (p : TypePart) → 0 < returned_type.size p → Agrees returned_type return_value (behind_name name) p
+type_agrees name = agrees
   where
-    size : (p : TypePart) → 0 < returned_type.size p → return_value.size (behind_name name p) ≡ returned_type.size p
-    size TypeHead h = refl
-    size (TypeRest byte) h = refl
-    size (KnownType kind) h = absurd (omega arith)
-    size NoType h = absurd (omega arith)
-
-    fault : (p : TypePart) (e : List ℕ) → 0 < returned_type.size p → return_value.fault (behind_name name p) e ≡ returned_type.fault p e
-    fault TypeHead e h = refl
-    fault (TypeRest byte) e h = refl
-    fault (KnownType kind) e h = absurd (omega arith)
-    fault NoType e h = absurd (omega arith)
-
     known : (o : Option Kind) → with_return_kind name o ≡ behind_name name (with_known o)
     known (Some kind) = refl
     known None = refl
@@ -125,23 +109,16 @@ type_in_return name = record { size = size; fault = fault; add = add }
     byte_read byte rest true = known (kind_of (byte ∷ []))
     byte_read byte rest false = refl
 
-    add : (p : TypePart) (e : List ℕ) → 0 < returned_type.size p → return_value.add (behind_name name p) e ≡ behind_name name (returned_type.add p e)
-    add TypeHead e h = let rest = unwrap_or (rest_length (slice_index e 7)) 0 in byte_read (slice_index e 7) rest (rest == 0)
-    add (TypeRest byte) e h = known (kind_of (byte ∷ e))
-    add (KnownType kind) e h = absurd (omega arith)
-    add NoType e h = absurd (omega arith)
-
-type_end_is : (name : List ℕ) (p : TypePart) → 0 < returned_type.size p → return_value.end_fault (behind_name name p) ≡ returned_type.end_fault p
-type_end_is name TypeHead h = refl
-type_end_is name (TypeRest byte) h = refl
-type_end_is name (KnownType kind) h = absurd (omega arith)
-type_end_is name NoType h = absurd (omega arith)
+    agrees : (p : TypePart) → 0 < returned_type.size p → Agrees returned_type return_value (behind_name name) p
+    agrees TypeHead h = (refl, λ e. refl, λ e. (let rest = unwrap_or (rest_length (slice_index e 7)) 0 in byte_read (slice_index e 7) rest (rest == 0)), refl)
+    agrees (TypeRest byte) h = (refl, λ e. refl, λ e. known (kind_of (byte ∷ e)), refl)
+    agrees p h = absurd (omega arith)
 
 -- a type stopped the call
 type_stops : (name : List ℕ) (a b : Seen) (place : ℕ) (stop : Stop) → StopsType a b place stop → StopsReturn (ReturnHead name) a b place stop
 type_stops name a b place stop x = record {
   at = behind_name name x.at;
-  stops = stops_inside returned_type return_value (behind_name name) (type_in_return name) TypeHead a b place x.at stop (type_end_is name x.at (stops_size returned_type TypeHead a b place x.at stop x.stops)) x.stops;
+  stops = stops_inside returned_type return_value (behind_name name) (inside returned_type return_value (behind_name name) (type_agrees name)) TypeHead a b place x.at stop (type_agrees name x.at (stops_size returned_type TypeHead a b place x.at stop x.stops)).3 x.stops;
 }
 
 -- the eight bytes and what follows them were read
@@ -166,10 +143,6 @@ type_taken (Err stop) name head a b c place middle place' eight takes at x y = t
 
 -- ---- the value
 
-value_end_is : (name : List ℕ) (kind : Kind) (p : CellPart) → 0 < (cell return_column).size p → return_value.end_fault (with_value name kind p) ≡ (cell return_column).end_fault p
-value_end_is name kind (WholeCell x) h = absurd (omega arith)
-value_end_is name kind p h = refl
-
 -- the value was passed over, or that stopped
 pub value_passed : {U : Type 0} (r : Result U Stop) (name : List ℕ) (kind : Kind) (a b c : Seen) (place middle place' : ℕ) → ReadsReturn ReturnOrdinal (before_value name kind) a b place middle
     → MatchResult r (λ _. PassesCell (cell_start kind (shape return_charset kind)) b c middle place') (λ stop. StopsPassing (cell_start kind (shape return_charset kind)) b c middle stop)
@@ -185,22 +158,16 @@ value_passed (Err stop) name kind a b c place middle place' x y =
     let start = cell_start kind (shape return_charset kind) in
     let some = stops_size (cell return_column) start b c middle y.at stop y.stops in
     return_stops_after ReturnOrdinal (before_value name kind) a b c place middle stop x
-    (record { at = with_value name kind y.at; stops = stops_inside (cell return_column) return_value (with_value name kind) (value_in_return name kind) start b c middle y.at stop (value_end_is name kind y.at some) y.stops })
+    (record { at = with_value name kind y.at; stops = stops_inside (cell return_column) return_value (with_value name kind) (value_in_return name kind) start b c middle y.at stop (value_agrees name kind y.at some).3 y.stops })
 
 -- ---- in its response
 
 module _ (charset : Charset) (room : ℕ) (tokens : List Token) (area : Space) (sink : Held) (d : sink.delivered ≤ 2 ^ 64 - 1) (holds : IsHolding area (behind tokens)) where
   no_text : (p : ReturnPart) → 0 < return_size p → text_so_far (in_return tokens) ≡ text_so_far (with_return tokens p)
-  no_text (WholeReturn r) h = absurd (omega arith)
-  no_text p h = refl
+  no_text p h = grind arith
 
   held_on : (p : ReturnPart) → 0 < return_size p → IsHolding area (with_return tokens p)
-  held_on (WholeReturn r) h = absurd (omega arith)
-  held_on p h = record { bytes = holds.bytes; peak = holds.peak }
-
-  return_end_is : (p : ReturnPart) → 0 < return_size p → (response charset room).end_fault (with_return tokens p) ≡ return_end p
-  return_end_is (WholeReturn r) h = absurd (omega arith)
-  return_end_is p h = refl
+  held_on p h = grind arith
 
   -- a return value stopped the call
   pub return_stops : (a b : Seen) (place : ℕ) (failed : Bool) (stop : Stop) → failed ≡ false → StopsReturn ReturnOrdinal a b place stop → StepStops (response charset room) (in_return tokens) a b place sink sink area failed stop
@@ -209,7 +176,7 @@ module _ (charset : Charset) (room : ℕ) (tokens : List Token) (area : Space) (
       inl (
         record {
           at = with_return tokens x.at;
-          stops = stops_inside return_value (response charset room) (with_return tokens) (return_in_response charset room tokens) ReturnOrdinal a b place x.at stop (return_end_is x.at some) x.stops;
+          stops = stops_inside return_value (response charset room) (with_return tokens) (return_in_response charset room tokens) ReturnOrdinal a b place x.at stop (return_agrees charset room tokens x.at some).3 x.stops;
           puts = same_text (in_return tokens) (with_return tokens x.at) sink (no_text x.at some) d;
           holds = held_on x.at some;
         },

@@ -1,31 +1,30 @@
 -- Rows of one token after one another, in their response.
-use Rattle.std.proofs.Common.{◌≡◌, ◌∙◌, ℕ, ◌+◌, ◌<◌, Bool, true, false, List, [], ◌∷◌, ◌++◌, length, refl, sym, ap, subst, arith, append_assoc, append-nil, length-append}
+use Rattle.std.proofs.Common.{◌≡◌, ◌∙◌, ℕ, ◌+◌, ◌<◌, Bool, true, List, [], ◌∷◌, ◌++◌, length, refl, sym, ap, subst, arith, append_assoc, append-nil, length-append}
 use Rattle.std.specs.Prelude.{Option, Some, None, ◌==◌, map, if◌then◌else◌}
 use Rattle.std.proofs.lemmas.List.{map-append}
-use Rattle.tds_meter.specs.Space.{Space}
-use Rattle.tds_packet.specs.declared.fault.Fault.{Fault}
-use Rattle.tds_packet.specs.declared.fault.Fault.TheVariants.{RefusedToken}
-use Rattle.tds_packet.specs.Elements.{Grammar, IsNext, Leads, Spelt}
-use Rattle.tds_packet.specs.Seen.{Seen}
 use Rattle.tds_columns.specs.Description.{Column}
 use Rattle.tds_columns.specs.View.{columns_of}
-use Rattle.tds_csv.specs.Quoting.{line}
 use Rattle.tds_csv.specs.Sinks.{Held}
 use Rattle.tds_csv.specs.Streaming.{PutsText, Streams}
+use Rattle.tds_export.specs.Steps.{IsDescribed, IsHolding, ReadsTokens, StepStops, Tracks, TracksBefore, behind}
+use Rattle.tds_export.specs.TokenGrammar.{Part, response, text_so_far, with_row}
+use Rattle.tds_export.specs.Tokens.{Row, Token, described_after, encoded_after, text}
+use Rattle.tds_export.specs.declared.progress.Progress.{Progress}
+use Rattle.tds_meter.specs.Space.{Space}
+use Rattle.tds_packet.proofs.Lifts.{next_inside, next_some}
+use Rattle.tds_packet.specs.Elements.{Grammar, IsNext, Leads, Spelt}
+use Rattle.tds_packet.specs.Seen.{Seen}
+use Rattle.tds_packet.specs.declared.fault.Fault.{Fault}
+use Rattle.tds_packet.specs.declared.fault.Fault.TheVariants.{RefusedToken}
+use Rattle.tds_packet.specs.declared.fault.Stop.{Stop}
+use Rattle.tds_rows.specs.Cells.{Cell}
+use Rattle.tds_rows.specs.Rows.{RowPart, RowToken, WholeRow, row, row_so_far, token_byte, token_start}
 use Rattle.tds_rows.specs.declared.Charset.{Charset}
-use Rattle.tds_rows.specs.Cells.{Cell, field}
-use Rattle.tds_rows.specs.Rows.{Bitmap, InCell, NbcRow, PlainRow, RowPart, RowToken, WholeRow, nbc_row_start, row, row_so_far, row_start, token_byte, token_start}
 use Rattle.tds_rows.specs.RowSteps.{ReadsRows, RowsStop}
 use Rattle.tds_rows.specs.Runs.{RowsPart, lines, rows, rows_so_far, rows_start}
-use Rattle.tds_packet.specs.declared.fault.Stop.{Stop}
-use Rattle.tds_export.specs.declared.progress.Progress.{Progress}
-use Rattle.tds_export.specs.Tokens.{Row, Token, described_after, encoded_after, text}
-use Rattle.tds_export.specs.TokenGrammar.{Part, response, row_byte_fault, start_of_row, text_so_far, with_row}
-use Rattle.tds_export.specs.Steps.{IsDescribed, IsHolding, ReadsTokens, StepStops, Tracks, TracksBefore, behind}
 use Rattle.tds_export.proofs.ResponseLaws.{described_after-append, row_in_response}
 use Rattle.tds_export.proofs.TokenLaws.{text_after-snoc, tracks_row}
 use Rattle.tds_export.proofs.TokenSteps.{holds-snoc, row_stops, row_text, stops_further}
-use Rattle.tds_packet.proofs.Lifts.{next_inside, next_some}
 
 -- a byte that is no other token's
 is_token_byte : (byte x : ℕ) → (if x == byte then None else Some (RefusedToken x)) ≡ None → x ≡ byte
@@ -34,8 +33,7 @@ is_token_byte byte x h = search (arith, h)
 -- the token byte of a row begins it, where columns are described
 begins_next : (which : RowToken) (charset : Charset) (room : ℕ) (all : List Column) (tokens : List Token) → described_after None tokens ≡ Some all
     → IsNext (response charset room) (behind tokens) (token_byte which ∷ []) × ((response charset room).add (behind tokens) (token_byte which ∷ []) ≡ with_row tokens (token_start which charset all))
-begins_next PlainRow charset room all tokens known = (record { some = omega arith; whole = refl; free = ap (row_byte_fault true) known }, ap (start_of_row tokens (row_start charset)) known)
-begins_next NbcRow charset room all tokens known = (record { some = omega arith; whole = refl; free = ap (row_byte_fault true) known }, ap (start_of_row tokens nbc_row_start) known)
+begins_next which charset room all tokens known = grind (arith, known)
 
 -- what one grammar reads, another reads there, where each element does
 module _ {S T : Type 0} (small : Grammar S Fault) (big : Grammar T Fault) (lift : S → T) (is : (s : S) (e : List ℕ) → IsNext small s e → IsNext big (lift s) e × (big.add (lift s) e ≡ lift (small.add s e))) where
@@ -54,9 +52,7 @@ rows_describe before (r ∷ rs) = rows_describe before rs
 -- the lines of rows
 rows_text : (tokens : List Token) (rs : List (List Cell)) → text (tokens ++ map Row rs) ≡ text tokens ++ lines rs
 rows_text tokens [] = ap text (append-nil tokens) ∙ sym (append-nil (text tokens))
-rows_text tokens (r ∷ rs) =
-    ap text (sym (append_assoc tokens (Row r ∷ []) (map Row rs))) ∙ rows_text (tokens ++ Row r ∷ []) rs
-    ∙ ap (λ l. l ++ lines rs) (text_after-snoc false tokens (Row r) ∙ ap (λ l. text tokens ++ l) (append-nil (line (map field r)))) ∙ append_assoc (text tokens) (line (map field r)) (lines rs)
+rows_text tokens (r ∷ rs) = grind (arith, append-nil, append_assoc, text_after-snoc, (rows_text (tokens ++ Row r ∷ []) rs))
 
 module _ (which : RowToken) (charset : Charset) (room : ℕ) (all : List Column) (tokens : List Token) where
   -- where a reading of rows is, in its response
@@ -68,26 +64,18 @@ module _ (which : RowToken) (charset : Charset) (room : ℕ) (all : List Column)
 
   module _ (known : described_after None tokens ≡ Some all) where
     token_next : (before : List (List Cell)) (cells : List Cell) → IsNext (response charset room) (in_rows (record { before = before; at = WholeRow cells })) (token_byte which ∷ []) × ((response charset room).add (in_rows (record { before = before; at = WholeRow cells })) (token_byte which ∷ []) ≡ in_rows (record { before = before ++ cells ∷ []; at = token_start which charset all }))
-    token_next before cells =
-        let ts : (tokens ++ map Row before) ++ Row cells ∷ [] ≡ tokens ++ map Row (before ++ cells ∷ []) = append_assoc tokens (map Row before) (Row cells ∷ []) ∙ ap (λ l. tokens ++ l) (sym (map-append Row before (cells ∷ []))) in
-        let described : described_after None ((tokens ++ map Row before) ++ Row cells ∷ []) ≡ Some all =
-        ap (described_after None) ts ∙ described_after-append None tokens (map Row (before ++ cells ∷ [])) ∙ rows_describe (described_after None tokens) (before ++ cells ∷ []) ∙ known in
-        let next = begins_next which charset room all ((tokens ++ map Row before) ++ Row cells ∷ []) described in
-        (next.0, next.1 ∙ ap (λ l. with_row l (token_start which charset all)) ts)
+    token_next before cells = grind (arith, append_assoc, begins_next, described_after-append, known, map-append, rows_describe)
 
     row_next : (ts : List Token) (at : RowPart) (e : List ℕ) → IsNext (row charset) at e → IsNext (response charset room) (with_row ts at) e × ((response charset room).add (with_row ts at) e ≡ with_row ts ((row charset).add at e))
-    row_next ts at e n =
-        let inside = row_in_response charset room ts in
-        (next_inside (row charset) (response charset room) (with_row ts) inside at e (next_some (row charset) at e n) n, inside.add at e (next_some (row charset) at e n))
+    row_next ts at e n = grind (arith, next_inside, next_some, row_in_response)
 
     element_next : (before : List (List Cell)) (p : RowPart) (e : List ℕ) → IsNext (rows which charset all) (record { before = before; at = p }) e
         → IsNext (response charset room) (in_rows (record { before = before; at = p })) e × ((response charset room).add (in_rows (record { before = before; at = p })) e ≡ in_rows ((rows which charset all).add (record { before = before; at = p }) e))
-    element_next before (Bitmap columns) e n = row_next (tokens ++ map Row before) (Bitmap columns) e (record { some = n.some; whole = n.whole; free = n.free })
-    element_next before (InCell cells part ks) e n = row_next (tokens ++ map Row before) (InCell cells part ks) e (record { some = n.some; whole = n.whole; free = n.free })
     element_next before (WholeRow cells) [] n = absurd (let s : 0 < length {A = ℕ} [] = n.some in omega arith)
     element_next before (WholeRow cells) (x ∷ []) n =
         subst (λ (x : ℕ). IsNext (response charset room) (in_rows (record { before = before; at = WholeRow cells })) (x ∷ []) × ((response charset room).add (in_rows (record { before = before; at = WholeRow cells })) (x ∷ []) ≡ in_rows (record { before = before ++ cells ∷ []; at = token_start which charset all }))) (sym (is_token_byte (token_byte which) x n.free)) (token_next before cells)
     element_next before (WholeRow cells) (x ∷ y ∷ r) n = absurd (let w : length (x ∷ y ∷ r) ≡ 1 = n.whole in omega arith)
+    element_next before p e n = row_next (tokens ++ map Row before) p e (record { some = n.some; whole = n.whole; free = n.free })
 
     -- what is read of rows and put, is read of the response and put
     abbrev rows_stream : (s t : RowsPart) (a b : Seen) (h j : Held) → Streams (rows which charset all) rows_so_far s a b h j t → Streams (response charset room) text_so_far (in_rows s) a b h j (in_rows t)
@@ -127,22 +115,26 @@ rows_hold area tokens (r ∷ rs) h = subst (λ ts. IsHolding area (behind ts)) (
 pub columns_known : (tokens : List Token) (described : Bool) (bytes : List ℕ) → described ≡ true → bytes ≡ encoded_after [] tokens → IsDescribed described (encoded_after [] tokens) (described_after None tokens) → described_after None tokens ≡ Some (columns_of bytes)
 columns_known tokens described bytes d is k = subst (λ b. IsDescribed b (encoded_after [] tokens) (described_after None tokens)) d k ∙ ap (λ l. Some (columns_of l)) (sym is)
 
-module _ (which : RowToken) (charset : Charset) (room : ℕ) (columns : List Column) (area : Space) (before after : Held) (tokens : List Token) (a b : Seen) (place : ℕ) (known : described_after None tokens ≡ Some columns) (holds : IsHolding area (behind tokens)) where
+module _ (which : RowToken) (charset : Charset) (room : ℕ) (columns : List Column) (area : Space) (before after : Held) (tokens : List Token) (a b : Seen) (place : ℕ) (progress : Progress)
+    (described : progress.described ≡ true) (shown : columns ≡ columns_of area.bytes) (tracks : TracksBefore progress tokens) (holds : IsHolding area (behind tokens)) where
   -- the state in a response after the first token byte of the rows
   abbrev in_token : Part
-  in_token = with_row tokens (token_start which charset columns)
+  in_token = with_row tokens (token_start which charset (columns_of area.bytes))
+
+  known : described_after None tokens ≡ Some (columns_of area.bytes)
+  known = columns_known tokens progress.described area.bytes described holds.bytes tracks.described
 
   -- it is that before the first element of rows
-  begins : in_rows which charset room columns tokens (rows_start which charset columns) ≡ in_token
-  begins = ap (λ (ts : List Token). with_row ts (token_start which charset columns)) (append-nil tokens)
+  begins : in_rows which charset room (columns_of area.bytes) tokens (rows_start which charset (columns_of area.bytes)) ≡ in_token
+  begins = ap (λ (ts : List Token). with_row ts (token_start which charset (columns_of area.bytes))) (append-nil tokens)
 
   -- rows were read, and their lines put
-  pub rows_read : (progress : Progress) (place' count : ℕ) → TracksBefore progress tokens → ReadsRows which charset columns count a b place place' before after
+  pub rows_read : (place' count : ℕ) → ReadsRows which charset columns count a b place place' before after
       → ReadsTokens (response charset room) in_token tokens a b place place' before after (record progress { report = record progress.report { rows = progress.report.rows + count } }) area
-  rows_read progress place' count tracks x =
-      let from = in_rows which charset room columns tokens (rows_start which charset columns) in
-      let to : Part = in_rows which charset room columns tokens (record { before = x.earlier; at = WholeRow x.last }) in
-      let there = rows_stream which charset room columns tokens known (rows_start which charset columns) (record { before = x.earlier; at = WholeRow x.last }) a b before after x.streams in
+  rows_read place' count y =
+      let x = subst (λ cs. ReadsRows which charset cs count a b place place' before after) shown y in
+      let to : Part = in_rows which charset room (columns_of area.bytes) tokens (record { before = x.earlier; at = WholeRow x.last }) in
+      let there = rows_stream which charset room (columns_of area.bytes) tokens known (rows_start which charset (columns_of area.bytes)) (record { before = x.earlier; at = WholeRow x.last }) a b before after x.streams in
       let end : to ≡ behind (tokens ++ map Row (x.earlier ++ x.last ∷ [])) = ap behind (append_assoc tokens (map Row x.earlier) (Row x.last ∷ []) ∙ ap (λ l. tokens ++ l) (sym (map-append Row x.earlier (x.last ∷ [])))) in
       record {
         more = map Row (x.earlier ++ x.last ∷ []);
@@ -159,10 +151,11 @@ module _ (which : RowToken) (charset : Charset) (room : ℕ) (columns : List Col
 
   -- their reading stopped
   pub rows_stop : (failed : Bool) (stop : Stop) → RowsStop which charset columns a b place before after failed stop → StepStops (response charset room) in_token a b place before after area failed stop
-  rows_stop failed stop x =
-      let from = in_rows which charset room columns tokens (rows_start which charset columns) in
-      let to : Part = in_rows which charset room columns tokens (record { before = x.earlier; at = x.part }) in
-      let there = rows_stream which charset room columns tokens known (rows_start which charset columns) (record { before = x.earlier; at = x.part }) a x.middle before x.between x.streams in
+  rows_stop failed stop y =
+      let x = subst (λ cs. RowsStop which charset cs a b place before after failed stop) shown y in
+      let from = in_rows which charset room (columns_of area.bytes) tokens (rows_start which charset (columns_of area.bytes)) in
+      let to : Part = in_rows which charset room (columns_of area.bytes) tokens (record { before = x.earlier; at = x.part }) in
+      let there = rows_stream which charset room (columns_of area.bytes) tokens known (rows_start which charset (columns_of area.bytes)) (record { before = x.earlier; at = x.part }) a x.middle before x.between x.streams in
       let stops = row_stops charset room x.part area x.between after (tokens ++ map Row x.earlier) x.middle b (place + length x.streams.bytes) failed stop (rows_hold area tokens x.earlier holds) x.stops in
       subst (λ (v : Part). StepStops (response charset room) v a b place before after area failed stop) begins
       (stops_further charset room from to a x.middle b place before x.between after area failed stop there stops)

@@ -1,29 +1,28 @@
 -- The tokens of a response, one after another.
 use Rattle.std.proofs.Common.{◌≡◌, ◌∙◌, inl, ℕ, ◌+◌, ◌-◌, ◌^◌, ◌≤◌, Bool, true, false, List, [], ◌++◌, length, refl, sym, ap, subst, arith, append-nil, length-append}
 use Rattle.std.specs.Prelude.{Some, None, if◌then◌else◌}
+use Rattle.std.proofs.KnownBytes.{Consumes-nil}
+use Rattle.tds_csv.proofs.Sinks.{Puts-none}
+use Rattle.tds_csv.specs.Sinks.{FinishFails, Finishes, Held}
+use Rattle.tds_csv.specs.Streaming.{Streams}
+use Rattle.tds_export.specs.Steps.{Completes, StopsAtEnd, StepStops, IsHolding, IsNoted, ReadsTokens, ReadsWhole, Tracks, behind}
+use Rattle.tds_export.specs.TokenGrammar.{Part, response, response_start, text_so_far}
+use Rattle.tds_export.specs.Tokens.{Token}
+use Rattle.tds_export.specs.declared.progress.Progress.{Progress}
+use Rattle.tds_export.specs.declared.report.Report.{Report}
 use Rattle.tds_meter.specs.Space.{Space, empty}
+use Rattle.tds_packet.proofs.ElementLaws.{Spelt-none}
+use Rattle.tds_packet.proofs.Steps.{cut_at_once}
+use Rattle.tds_packet.specs.Elements.{Grammar}
+use Rattle.tds_packet.specs.Reading.{IsCutStop}
+use Rattle.tds_packet.specs.Seen.{Seen, Takes, Ends, IsOver}
 use Rattle.tds_packet.specs.declared.fault.Fault.{Fault}
 use Rattle.tds_packet.specs.declared.fault.Fault.TheVariants.{EndWithoutDone}
 use Rattle.tds_packet.specs.declared.fault.Place.TheVariants.{Payload}
 use Rattle.tds_packet.specs.declared.fault.Stop.{Stop}
-use Rattle.tds_packet.specs.Elements.{Grammar}
-use Rattle.tds_packet.specs.Seen.{Seen, Takes, Ends, IsOver}
-use Rattle.tds_packet.specs.Reading.{IsCutStop}
-use Rattle.tds_packet.proofs.ElementLaws.{Spelt-append, Spelt-none}
-use Rattle.std.proofs.KnownBytes.{Consumes-nil}
-use Rattle.tds_packet.proofs.Futures.{Ends-after, Takes-none, Takes-trans}
-use Rattle.tds_csv.specs.Sinks.{FinishFails, Finishes, Held}
-use Rattle.tds_csv.specs.Streaming.{Streams}
-use Rattle.tds_csv.proofs.Streams.{puts_both}
-use Rattle.tds_csv.proofs.Sinks.{Puts-none}
 use Rattle.tds_rows.specs.declared.Charset.{Charset}
-use Rattle.tds_export.specs.declared.progress.Progress.{Progress}
-use Rattle.tds_export.specs.declared.report.Report.{Report}
-use Rattle.tds_export.specs.Tokens.{Token}
-use Rattle.tds_export.specs.TokenGrammar.{Part, response, response_start, text_so_far}
-use Rattle.tds_export.specs.Steps.{Completes, StopsAtEnd, StepStops, IsHolding, IsNoted, ReadsTokens, ReadsWhole, Tracks, behind}
-use Rattle.tds_packet.proofs.Steps.{cut_at_once, takes_both}
-use Rattle.tds_export.proofs.TokenSteps.{same_text, stops_further}
+use Rattle.tds_packet.proofs.Futures.{Ends-after, Takes-none, Takes-trans}
+use Rattle.tds_export.proofs.TokenSteps.{same_text, stops_further, streams_both}
 
 -- whole tokens were read and their text put
 pub record Runs (g : Grammar Part Fault) (old new : Seen) (place place' : ℕ) (before after : Held) (progress : Progress) (area : Space) : Type 0 where
@@ -42,38 +41,24 @@ runs_none charset room a place h progress area d tracks is = record {
   holds = record { bytes = ap (λ (s : Space). s.bytes) is; peak = omega (arith, ap (λ (s : Space). s.peak) is) };
 }
 
-abbrev runs_more : (g : Grammar Part Fault) (a b c : Seen) (p q r : ℕ) (h i k : Held) (s t : Progress) (area area' : Space) → (x : Runs g a b p q h i s area) → ReadsTokens g (behind x.tokens) x.tokens b c q r i k t area' → Runs g a c p r h k t area'
-runs_more g a b c p q r h i k s t area area' x y = record {
+abbrev runs_more : (charset : Charset) (room : ℕ) (a b c : Seen) (p q r : ℕ) (h i k : Held) (s t : Progress) (area area' : Space) → (x : Runs (response charset room) a b p q h i s area) → ReadsTokens (response charset room) (behind x.tokens) x.tokens b c q r i k t area' → Runs (response charset room) a c p r h k t area'
+runs_more charset room a b c p q r h i k s t area area' x y = record {
   tokens = x.tokens ++ y.more;
-  streams = record {
-    bytes = x.streams.bytes ++ y.streams.bytes;
-    spelt = Spelt-append g response_start x.streams.bytes (behind x.tokens) y.streams.bytes (behind (x.tokens ++ y.more)) x.streams.spelt y.streams.spelt;
-    takes = takes_both a b c x.streams.bytes y.streams.bytes x.streams.takes y.streams.takes;
-    puts = puts_both text_so_far response_start (behind x.tokens) (behind (x.tokens ++ y.more)) h i k x.streams.puts y.streams.puts;
-  };
+  streams = streams_both charset room response_start (behind x.tokens) (behind (x.tokens ++ y.more)) a b c h i k x.streams y.streams;
   place_is = y.place_is ∙ omega (arith, x.place_is, length-append x.streams.bytes y.streams.bytes);
   tracks = y.tracks;
   holds = y.holds;
 }
 
--- the same grammar, of a run that keeps its character set and its room
-same_grammar : (c c' : Charset) (r r' : ℕ) → c' ≡ c → r' ≡ r → response c' r' ≡ response c r
-same_grammar c c' r r' e f = ap (λ x. response x r') e ∙ ap (response c) f
-
 pub runs_on : (c c' : Charset) (r r' : ℕ) (a b d : Seen) (p q n : ℕ) (h i k : Held) (s t : Progress) (area area' notice : Space) → c' ≡ c → r' ≡ r → (x : Runs (response c r) a b p q h i s area)
     → (y : ReadsTokens (response c' r') (behind x.tokens) x.tokens b d q n i k t area') × IsNoted notice (x.tokens ++ y.more) → (z : Runs (response c r) a d p n h k t area') × IsNoted notice z.tokens
 runs_on c c' r r' a b d p q n h i k s t area area' notice e f x y =
-    let w = subst (λ (g : Grammar Part Fault). (y : ReadsTokens g (behind x.tokens) x.tokens b d q n i k t area') × IsNoted notice (x.tokens ++ y.more)) (same_grammar c c' r r' e f) y in
-    (runs_more (response c r) a b d p q n h i k s t area area' x w.0, w.1)
+    let w = rw (e, f) at y in
+    (runs_more c r a b d p q n h i k s t area area' x w.0, w.1)
 
 -- nothing but the payload has changed
 pub runs_same : (g : Grammar Part Fault) (a b : Seen) (p q q' : ℕ) (h k k' : Held) (s s' : Progress) (area area' notice notice' : Space) → q' ≡ q → k' ≡ k → s' ≡ s → area' ≡ area → notice' ≡ notice → (x : Runs g a b p q h k s area) × IsNoted notice x.tokens → (x : Runs g a b p q' h k' s' area') × IsNoted notice' x.tokens
-runs_same g a b p q q' h k k' s s' area area' notice notice' e1 e2 e3 e4 e5 x =
-    subst (λ (v : ℕ). (x : Runs g a b p v h k' s' area') × IsNoted notice' x.tokens) (sym e1)
-    (subst (λ (v : Held). (x : Runs g a b p q h v s' area') × IsNoted notice' x.tokens) (sym e2)
-    (subst (λ (v : Progress). (x : Runs g a b p q h k v area') × IsNoted notice' x.tokens) (sym e3)
-    (subst (λ (v : Space). (x : Runs g a b p q h k s v) × IsNoted notice' x.tokens) (sym e4)
-    (subst (λ (v : Space). (x : Runs g a b p q h k s area) × IsNoted v x.tokens) (sym e5) x))))
+runs_same g a b p q q' h k k' s s' area area' notice notice' e1 e2 e3 e4 e5 x = rw (e1, e2, e3, e4, e5) x
 
 -- what stops a step stops the run
 stops_run : (charset : Charset) (room : ℕ) (a b c : Seen) (p q : ℕ) (h i k : Held) (s : Progress) (area area' : Space) (failed : Bool) (stop : Stop) → (x : Runs (response charset room) a b p q h i s area)
@@ -84,7 +69,7 @@ stops_run charset room a b c p q h i k s area area' failed stop x y =
 pub stops_on : (c c' : Charset) (r r' : ℕ) (a b d : Seen) (p q : ℕ) (h i k : Held) (s : Progress) (area area' : Space) (failed : Bool) (stop : Stop) → c' ≡ c → r' ≡ r → (x : Runs (response c r) a b p q h i s area)
     → StepStops (response c' r') (behind x.tokens) b d q i k area' failed stop → StepStops (response c r) response_start a d p h k area' failed stop
 stops_on c c' r r' a b d p q h i k s area area' failed stop e f x y =
-    stops_run c r a b d p q h i k s area area' failed stop x (subst (λ (g : Grammar Part Fault). StepStops g (behind x.tokens) b d q i k area' failed stop) (same_grammar c c' r r' e f) y)
+    stops_run c r a b d p q h i k s area area' failed stop x (rw (e, f) at y)
 
 -- ---- the message's end
 

@@ -1,8 +1,10 @@
 -- Lists of bytes.
-use Rattle.std.proofs.Common.{ℕ, zero, suc, ◌*◌, ◌^◌, ◌<◌, ◌≡◌, List, [], ◌∷◌, ◌++◌, drop, replicate, arith}
-use Rattle.std.specs.Prelude.{slice_index}
+use Rattle.std.proofs.Common.{ℕ, zero, suc, ◌^◌, ◌<◌, ◌≡◌, inl, inr, true, List, [], ◌∷◌, ◌++◌, drop, replicate, sym, subst, arith}
+use Rattle.std.specs.Prelude.{slice_index, ◌==◌, ◌||◌}
 use Rattle.std.proofs.Math.Nat.{pow-suc}
+use Rattle.std.proofs.lemmas.Bool.{or_cases}
 use Rattle.byteorder.specs.Endian.{little_from}
+use Rattle.tds_packet.proofs.Choices.{eq_true}
 use Rattle.tds_packet.specs.Elements.{AreBytes}
 
 -- each of some bytes is below 256
@@ -14,11 +16,7 @@ byte_below (x ∷ xs) (suc i) h = byte_below xs i h.1
 -- so many bytes spell a number below that power
 pub little_below : (n i : ℕ) (xs : List ℕ) → AreBytes xs → little_from i n xs < 256 ^ n
 little_below zero i xs h = omega arith
-little_below (suc n) i xs h =
-    let b : slice_index xs i < 256 = byte_below xs i h in
-    let r : little_from (suc i) n xs < 256 ^ n = little_below n (suc i) xs h in
-    let p : 256 ^ (suc n) ≡ 256 ^ n * 256 = pow-suc 256 n in
-    omega arith
+little_below (suc n) i xs h = grind (arith, byte_below, pow-suc, (little_below n (suc i) xs h))
 
 -- the bytes after some bytes
 pub AreBytes-drop : (n : ℕ) (xs : List ℕ) → AreBytes xs → AreBytes (drop n xs)
@@ -33,3 +31,14 @@ AreBytes-append (x ∷ a) b h k = (h.0, AreBytes-append a b h.1 k)
 pub AreBytes-replicate : (n x : ℕ) → x < 256 → AreBytes (replicate n x)
 AreBytes-replicate zero x h = tt
 AreBytes-replicate (suc n) x h = (h, AreBytes-replicate n x h)
+
+-- a number that a test names
+pub exactly : (P : ℕ → Type 0) (n m : ℕ) → (n == m) ≡ true → P m → P n
+exactly P n m h p = subst P (sym (eq_true n m h)) p
+
+-- a test for one of some numbers
+pub one_of_two : (P : ℕ → Type 0) (a b n : ℕ) → (n == a || n == b) ≡ true → P a → P b → P n
+one_of_two P a b n h pa pb = elim (or_cases (n == a) (n == b) h) [ inl z ↦ exactly P n a z pa | inr z ↦ exactly P n b z pb ]
+
+pub one_of_four : (P : ℕ → Type 0) (a b c d n : ℕ) → (n == a || n == b || n == c || n == d) ≡ true → P a → P b → P c → P d → P n
+one_of_four P a b c d n h pa pb pc pd = grind (arith, exactly, one_of_two, or_cases)

@@ -1,22 +1,23 @@
 -- What one more token adds to a response.
-use Rattle.std.proofs.Common.{◌≡◌, ◌∙◌, ℕ, ◌+◌, ◌<◌, Bool, true, false, List, [], ◌∷◌, ◌++◌, length, max, refl, sym, ap, subst, arith, append_assoc}
+use Rattle.std.proofs.Common.{◌≡◌, ◌∙◌, ℕ, ◌+◌, ◌<◌, Bool, true, false, List, [], ◌∷◌, ◌++◌, length, max, refl, sym, ap, arith, append_assoc}
 use Rattle.std.specs.Prelude.{Option, Some, None, nat_lt, map, if◌then◌else◌, option_map}
 use Rattle.std.proofs.lemmas.Bool.Decides.{nat_tests}
-use Rattle.tds_csv.specs.Quoting.{line}
-use Rattle.tds_rows.specs.Cells.{Cell, field}
 use Rattle.tds_columns.specs.Description.{Column}
 use Rattle.tds_columns.specs.View.{columns_of}
+use Rattle.tds_csv.specs.Quoting.{line}
+use Rattle.tds_export.specs.Outcome.{report_of, server_error}
+use Rattle.tds_export.specs.Response.{fixed}
+use Rattle.tds_export.specs.ReturnValue.{ReturnValue}
+use Rattle.tds_export.specs.Steps.{IsDescribed, Tracks, TracksBefore}
+use Rattle.tds_export.specs.TokenBytes.{APassed, Bodied, Fixed}
+use Rattle.tds_export.specs.TokenGrammar.{bodied, is_notice}
+use Rattle.tds_export.specs.Tokens.{Notice, Token, described_after, Metadata, NoMetadata, Row, PassedOver, Error, Info, Returned, Done, DoneInProc, between, encoded_after, first_error, greatest_span, header_line, how_many, is_error, is_final, is_info, is_return, is_row, is_set, return_status_after, text, text_after}
+use Rattle.tds_export.specs.declared.progress.Progress.{Progress}
 use Rattle.tds_export.specs.declared.report.Report.{Report}
 use Rattle.tds_export.specs.declared.report.ServerError.{ServerError}
-use Rattle.tds_export.specs.declared.progress.Progress.{Progress}
-use Rattle.tds_export.specs.ReturnValue.{ReturnValue}
-use Rattle.tds_export.specs.Tokens.{Notice, Token, described_after, Metadata, NoMetadata, Row, PassedOver, Error, Info, Returned, Done, DoneInProc, between, encoded_after, first_error, greatest_span, header_line, how_many, is_error, is_final, is_info, is_return, is_row, is_set, return_status_after, text, text_after}
-use Rattle.tds_export.specs.Response.{fixed}
-use Rattle.tds_export.specs.Outcome.{report_of, server_error}
-use Rattle.tds_export.specs.TokenBytes.{APassed, AnError, AnInfo, Bodied, Fixed, ADone}
-use Rattle.tds_export.specs.TokenGrammar.{bodied, is_notice}
-use Rattle.tds_export.specs.Steps.{IsDescribed, Tracks, TracksBefore}
+use Rattle.tds_rows.specs.Cells.{Cell, field}
 use Rattle.tds_export.proofs.ResponseLaws.{described_after-append}
+use Rattle.tds_packet.proofs.Steps.{add_none}
 
 -- whether a set has begun after these tokens
 abbrev pub begun_after : Bool → List Token → Bool
@@ -45,18 +46,14 @@ begun_where_sets (Metadata bytes columns ∷ ts) = begun_true ts ∙ sym (some_s
 begun_where_sets (t ∷ ts) = begun_where_sets ts
 
 count_if : (b : Bool) (n m : ℕ) → (if b then 1 + (n + m) else n + m) ≡ (if b then 1 + n else n) + m
-count_if true n m = omega arith
-count_if false n m = refl
+count_if b n m = grind arith
 
 pub how_many-snoc : (p : Token → Bool) (ts : List Token) (t : Token) → how_many p (ts ++ t ∷ []) ≡ how_many p ts + how_many p (t ∷ [])
 how_many-snoc p [] t = omega arith
 how_many-snoc p (u ∷ ts) t = ap (λ n. if p u then 1 + n else n) (how_many-snoc p ts t) ∙ count_if (p u) (how_many p ts) (how_many p (t ∷ []))
 
-none : (n : ℕ) → n + 0 ≡ n
-none n = omega arith
-
 pub uncounted : (p : Token → Bool) (ts : List Token) (t : Token) → how_many p (t ∷ []) ≡ 0 → how_many p (ts ++ t ∷ []) ≡ how_many p ts
-uncounted p ts t e = how_many-snoc p ts t ∙ ap (λ n. how_many p ts + n) e ∙ none (how_many p ts)
+uncounted p ts t e = how_many-snoc p ts t ∙ ap (λ n. how_many p ts + n) e ∙ add_none (how_many p ts)
 
 -- without an error there is no first one
 pub no_errors : (ts : List Token) → how_many is_error ts ≡ 0 → first_error ts ≡ None
@@ -126,9 +123,7 @@ report-snoc ts t no_error status = rw (uncounted is_error ts t no_error, unerrin
 -- a token that describes nothing leaves the columns as they are
 same_columns : (described : Bool) (ts : List Token) (t : Token) → encoded_after (encoded_after [] ts) (t ∷ []) ≡ encoded_after [] ts → described_after (described_after None ts) (t ∷ []) ≡ described_after None ts
     → IsDescribed described (encoded_after [] ts) (described_after None ts) → IsDescribed described (encoded_after [] (ts ++ t ∷ [])) (described_after None (ts ++ t ∷ []))
-same_columns described ts t bytes columns k =
-    subst (λ b. IsDescribed described b (described_after None (ts ++ t ∷ []))) (sym (encoded_after-append [] ts (t ∷ []) ∙ bytes))
-    (subst (IsDescribed described (encoded_after [] ts)) (sym (described_after-append None ts (t ∷ []) ∙ columns)) k)
+same_columns described ts t bytes columns k = grind (arith, described_after-append, encoded_after-append)
 
 -- whether a token has no text and describes nothing
 abbrev pub is_bare : Token → Bool
@@ -144,21 +139,15 @@ pub record IsBare (t : Token) : Type 0 where
   pub columns : (before : Option (List Column)) → described_after before (t ∷ []) ≡ before
 
 pub bare : (t : Token) → is_bare t ≡ true → IsBare t
-bare (Metadata bytes columns) h = cc
-bare NoMetadata h = cc
-bare (Row cells) h = cc
-bare t h = record { text = λ _. refl; encoded = λ _. refl; columns = λ _. refl }
+bare t h = grind arith
 
 -- tokens with a body are so
 pub bare_body : (which : Bodied) (body : List ℕ) → is_bare (bodied which body) ≡ true
-bare_body (APassed passed) body = refl
-bare_body AnError body = refl
-bare_body AnInfo body = refl
+bare_body which body = grind arith
 
 -- and those with fields of a fixed length
 pub bare_fixed : (which : Fixed) (fields : List ℕ) → is_bare (fixed which fields) ≡ true
-bare_fixed ADone fields = refl
-bare_fixed which fields = refl
+bare_fixed which fields = grind arith
 
 -- whether the report has nothing of a token
 abbrev is_quiet : Token → Bool
@@ -178,10 +167,7 @@ record IsQuiet (t : Token) : Type 0 where
   status : LeavesStatus t
 
 quiet : (t : Token) → is_quiet t ≡ true → IsQuiet t
-quiet (PassedOver passed body) h = record { bare = refl; sets = refl; rows = refl; errors = refl; infos = refl; returns = refl; status = λ _. refl }
-quiet (Done more) h = record { bare = refl; sets = refl; rows = refl; errors = refl; infos = refl; returns = refl; status = λ _. refl }
-quiet (DoneInProc more) h = record { bare = refl; sets = refl; rows = refl; errors = refl; infos = refl; returns = refl; status = λ _. refl }
-quiet t h = cc
+quiet t h = grind (arith, bare)
 
 -- where a token begins, the tokens before it are known
 pub tracks_begun : (s : Progress) (ts : List Token) → Tracks s ts → TracksBefore (record s { is_final = false }) ts
@@ -189,9 +175,7 @@ tracks_begun s ts k = record { report = k.report; described = k.described; final
 
 -- a token that has no text and describes nothing, by its report
 pub tracks_bare : (s : Progress) (ts : List Token) (t : Token) (report : Report) (final : Bool) → is_bare t ≡ true → record report { written = length (text (ts ++ t ∷ [])) } ≡ report_of (ts ++ t ∷ []) → final ≡ is_final (t ∷ []) → TracksBefore s ts → Tracks (record s { report = report; is_final = final }) (ts ++ t ∷ [])
-tracks_bare s ts t report final is e f k =
-    let b = bare t is in
-    record { report = e; described = same_columns s.described ts t (b.encoded (encoded_after [] ts)) (b.columns (described_after None ts)) k.described; final = f ∙ sym (is_final-snoc ts t) }
+tracks_bare s ts t report final is e f k = grind (arith, bare, is_final-snoc, same_columns)
 
 pub tracks_quiet : (s : Progress) (ts : List Token) (t : Token) (final : Bool) → is_quiet t ≡ true → final ≡ is_final (t ∷ []) → TracksBefore s ts → Tracks (record s { is_final = final }) (ts ++ t ∷ [])
 tracks_quiet s ts t final is e k =
@@ -200,51 +184,23 @@ tracks_quiet s ts t final is e k =
 
 pub tracks_body : (s : Progress) (ts : List Token) (which : Bodied) (body : List ℕ) → is_notice which ≡ false → TracksBefore s ts → Tracks s (ts ++ bodied which body ∷ [])
 tracks_body s ts (APassed passed) body h k = tracks_quiet s ts (PassedOver passed body) s.is_final refl k.final k
-tracks_body s ts AnError body h k = cc
-tracks_body s ts AnInfo body h k = cc
+tracks_body s ts which body h k = cc
 
 pub tracks_none : (s : Progress) (ts : List Token) → TracksBefore s ts → Tracks (record s { described = false }) (ts ++ NoMetadata ∷ [])
-tracks_none s ts k =
-    let t = NoMetadata in
-    record {
-      report = ap (λ (r : Report). record r { written = length (text (ts ++ t ∷ [])) }) k.report ∙ sym (report-snoc ts t refl (λ _. refl) ∙ rw (uncounted is_set ts t refl, uncounted is_row ts t refl, uncounted is_info ts t refl, uncounted is_return ts t refl) refl);
-      described = described_after-append None ts (t ∷ []);
-      final = k.final ∙ sym (is_final-snoc ts t);
-    }
+tracks_none s ts k = grind (arith, described_after-append, is_final-snoc, report-snoc, uncounted)
 
 pub tracks_metadata : (s : Progress) (ts : List Token) (bytes : List ℕ) (columns : List Column) → columns_of bytes ≡ columns → TracksBefore s ts
     → Tracks (record s { report = record s.report { sets = s.report.sets + 1 }; described = true }) (ts ++ Metadata bytes columns ∷ [])
-tracks_metadata s ts bytes columns shown k =
-    let t = Metadata bytes columns in
-    record {
-      report = ap (λ (r : Report). record r { sets = r.sets + 1; written = length (text (ts ++ t ∷ [])) }) k.report ∙ sym (report-snoc ts t refl (λ _. refl) ∙ rw (how_many-snoc is_set ts t, uncounted is_row ts t refl, uncounted is_info ts t refl, uncounted is_return ts t refl) refl);
-      described = described_after-append None ts (t ∷ []) ∙ ap Some (sym shown ∙ ap columns_of (sym (encoded_after-append [] ts (t ∷ []))));
-      final = k.final ∙ sym (is_final-snoc ts t);
-    }
+tracks_metadata s ts bytes columns shown k = grind (arith, described_after-append, encoded_after-append, how_many-snoc, is_final-snoc, report-snoc, uncounted)
 
 pub tracks_row : (s : Progress) (ts : List Token) (cells : List Cell) → TracksBefore s ts → Tracks (record s { report = record s.report { rows = s.report.rows + 1 } }) (ts ++ Row cells ∷ [])
-tracks_row s ts cells k =
-    let t = Row cells in
-    record {
-      report = ap (λ (r : Report). record r { rows = r.rows + 1; written = length (text (ts ++ t ∷ [])) }) k.report ∙ sym (report-snoc ts t refl (λ _. refl) ∙ rw (uncounted is_set ts t refl, how_many-snoc is_row ts t, uncounted is_info ts t refl, uncounted is_return ts t refl) refl);
-      described = same_columns s.described ts t refl refl k.described;
-      final = k.final ∙ sym (is_final-snoc ts t);
-    }
+tracks_row s ts cells k = grind (arith, how_many-snoc, is_final-snoc, report-snoc, same_columns, uncounted)
 
 -- ---- ERROR and INFO
 
 -- the report with one more error, but for what was written
 error_report : (ts : List Token) (n : Notice) → report_of (ts ++ Error n ∷ []) ≡ record (report_of ts) { errors = how_many is_error ts + 1; first_error = option_map server_error (first_error (ts ++ Error n ∷ [])); written = length (text (ts ++ Error n ∷ [])) }
-error_report ts n =
-    let t = Error n in
-    rw (
-      uncounted is_set ts t refl,
-      uncounted is_row ts t refl,
-      how_many-snoc is_error ts t,
-      uncounted is_info ts t refl,
-      uncounted is_return ts t refl,
-      status_after-append None ts (t ∷ []),
-    ) refl
+error_report ts n = grind (arith, how_many-snoc, status_after-append, uncounted)
 
 pub tracks_error : (s : Progress) (ts : List Token) (n : Notice) (first : Option ServerError) → first ≡ option_map server_error (first_error (ts ++ Error n ∷ [])) → TracksBefore s ts
     → Tracks (record s { report = record s.report { errors = s.report.errors + 1; first_error = first } }) (ts ++ Error n ∷ [])

@@ -1,41 +1,50 @@
 -- The tokens, as they are read and their text is put.
-use Rattle.std.proofs.Common.{◌≡◌, ◌∙◌, inl, inr, ℕ, ◌+◌, ◌-◌, ◌%◌, ◌^◌, ◌<◌, ◌≤◌, Bool, true, false, List, [], ◌∷◌, ◌++◌, length, take, max, refl, sym, ap, subst, arith, append-nil, length-take, suc, zero}
-use Rattle.std.specs.Prelude.{Some, nat_lt, ◌==◌, map, slice_index, if◌then◌else◌}
-use Rattle.tds_meter.specs.Space.{Space}
-use Rattle.tds_packet.specs.declared.fault.Fault.TheVariants.{MessageEnded}
-use Rattle.tds_packet.specs.declared.fault.Stop.{Stop}
-use Rattle.tds_packet.specs.Elements.{IsNext, Spelt}
-use Rattle.tds_packet.specs.Seen.{Seen, Takes, Ends, IsBetween, began_at}
-use Rattle.tds_packet.specs.Reading.{StopsReading}
-use Rattle.tds_packet.proofs.ElementLaws.{Spelt-none, Spelt-one, one_state}
-use Rattle.tds_packet.proofs.Steps.{began_is_cut, cut_at_once, stops_after}
-use Rattle.tds_columns.specs.Description.{BeforeCount, Column, DescriptionPart, InColumn, NoDescription, WholeDescription, described_size, description, description_bytes, span}
-use Rattle.tds_columns.specs.Gather.{Describes, StopsDescribing}
+use Rattle.std.proofs.Common.{◌≡◌, ◌∙◌, inl, inr, ℕ, ◌+◌, ◌-◌, ◌%◌, ◌^◌, ◌<◌, ◌≤◌, Bool, true, false, List, [], ◌∷◌, ◌++◌, length, take, max, refl, sym, ap, subst, arith, append-nil, length-take}
+use Rattle.std.specs.Prelude.{Some, nat_lt, ◌==◌, slice_index, if◌then◌else◌}
+use Rattle.std.proofs.lemmas.Bool.Decides.{nat_tests}
+use Rattle.tds_columns.specs.Description.{BeforeCount, Column, DescriptionPart, NoDescription, WholeDescription, described_size, description, description_bytes, span}
 use Rattle.tds_columns.specs.View.{columns_of}
-use Rattle.tds_csv.specs.Quoting.{joined, line}
+use Rattle.tds_csv.proofs.Sinks.{Puts-none}
+use Rattle.tds_csv.specs.Quoting.{joined}
 use Rattle.tds_csv.specs.Sinks.{Breaks, Held, Puts}
 use Rattle.tds_csv.specs.Streaming.{PutsText, Streams}
-use Rattle.tds_csv.proofs.Sinks.{Puts-none}
-use Rattle.tds_rows.specs.declared.Charset.{Charset}
-use Rattle.tds_rows.specs.Cells.{field, shape}
-use Rattle.tds_rows.specs.Rows.{RowPart, Bitmap, InCell, WholeRow, row, row_size, row_so_far, with_field}
-use Rattle.tds_rows.specs.RowSteps.{RowStops}
-use Rattle.tds_export.specs.declared.progress.Progress.{Progress}
-use Rattle.tds_export.specs.declared.report.Report.{Report}
-use Rattle.tds_export.specs.Tokens.{Token, Metadata, NoMetadata, Row, Done, DoneInProc, between, encoded_after, greatest_span, header_line, text, text_after}
-use Rattle.tds_export.specs.Response.{fields_length, fixed, more}
-use Rattle.tds_export.specs.TokenBytes.{Fixed, ADone, ADoneInProc}
-use Rattle.tds_export.specs.TokenGrammar.{Open, Part, Fields, open_text, response, text_so_far, with_described, with_row}
+use Rattle.tds_export.specs.Response.{fields_length, fixed}
 use Rattle.tds_export.specs.Steps.{StepStops, StopsInReading, StopsInWriting, IsHolding, ReadsTokens, Tracks, TracksBefore, behind, in_done, in_done_in_proc, in_fields, in_metadata, in_row}
+use Rattle.tds_export.specs.TokenBytes.{Fixed}
+use Rattle.tds_export.specs.TokenGrammar.{Open, Part, Fields, open_text, response, text_so_far, with_described, with_row}
+use Rattle.tds_export.specs.Tokens.{Token, Metadata, NoMetadata, Row, between, encoded_after, greatest_span, header_line, text, text_after}
+use Rattle.tds_export.specs.declared.progress.Progress.{Progress}
+use Rattle.tds_meter.specs.Space.{Space}
+use Rattle.tds_packet.proofs.ElementLaws.{Spelt-none, Spelt-one, one_state, Spelt-append}
 use Rattle.tds_packet.proofs.Lifts.{last_inside, reads_inside, stops_inside}
+use Rattle.tds_packet.proofs.Steps.{began_is_cut, cut_at_once, stops_after, takes_both}
+use Rattle.tds_packet.specs.Elements.{IsNext, Spelt}
+use Rattle.tds_packet.specs.Reading.{StopsReading}
+use Rattle.tds_packet.specs.Seen.{Seen, Takes, Ends, IsBetween, began_at}
+use Rattle.tds_packet.specs.declared.fault.Fault.TheVariants.{MessageEnded}
+use Rattle.tds_packet.specs.declared.fault.Stop.{Stop}
+use Rattle.tds_rows.specs.Cells.{shape}
+use Rattle.tds_rows.specs.Rows.{RowPart, WholeRow, row, row_size, row_so_far, with_field}
+use Rattle.tds_rows.specs.declared.Charset.{Charset}
+use Rattle.tds_columns.specs.Gather.{Describes, StopsDescribing}
+use Rattle.tds_rows.specs.RowSteps.{RowStops}
 use Rattle.tds_csv.proofs.Streams.{breaks_after, breaks_inside, puts_both, puts_inside, stops_size}
 use Rattle.tds_rows.proofs.RowSteps.{start_quiet}
-use Rattle.tds_export.proofs.ResponseLaws.{description_in_response, row_in_response, some_fields}
+use Rattle.tds_export.proofs.ResponseLaws.{description_in_response, row_in_response, some_fields, description_agrees, row_agrees}
 use Rattle.tds_export.proofs.TokenLaws.{bare, bare_fixed, begun_after, begun_where_sets, encoded_after-append, greatest_span-append, is_bare, text_after-snoc, tracks_metadata, tracks_none, tracks_quiet}
 
 -- nothing more is put for the same text
 pub same_text : (p q : Part) (h : Held) → text_so_far p ≡ text_so_far q → h.delivered ≤ 2 ^ 64 - 1 → PutsText text_so_far p q h h
 same_text p q h e d = ([], append-nil (text_so_far p) ∙ e, Puts-none h d)
+
+-- what is read and put in one call and then in another
+abbrev pub streams_both : (charset : Charset) (room : ℕ) (s t u : Part) (a b c : Seen) (h i k : Held) → Streams (response charset room) text_so_far s a b h i t → Streams (response charset room) text_so_far t b c i k u → Streams (response charset room) text_so_far s a c h k u
+streams_both charset room s t u a b c h i k x y = record {
+  bytes = x.bytes ++ y.bytes;
+  spelt = Spelt-append (response charset room) s x.bytes t y.bytes u x.spelt y.spelt;
+  takes = takes_both a b c x.bytes y.bytes x.takes y.takes;
+  puts = puts_both text_so_far s t u h i k x.puts y.puts;
+}
 
 -- what stops a call stops one that read on before it
 pub stops_further : (charset : Charset) (room : ℕ) (s t : Part) (a b c : Seen) (place : ℕ) (h i k : Held) (area : Space) (failed : Bool) (stop : Stop) → (x : Streams (response charset room) text_so_far s a b h i t)
@@ -54,17 +63,12 @@ stops_further charset room s t a b c place h i k area failed stop x (inr y) =
 
 -- a token that describes nothing leaves the area holding what it held
 pub holds-snoc : (area : Space) (tokens : List Token) (t : Token) → encoded_after (encoded_after [] tokens) (t ∷ []) ≡ encoded_after [] tokens → IsHolding area (behind tokens) → IsHolding area (behind (tokens ++ t ∷ []))
-holds-snoc area tokens t e h = record {
-  bytes = h.bytes ∙ sym (encoded_after-append [] tokens (t ∷ []) ∙ e);
-  peak = omega (arith, h.peak, greatest_span-append tokens (t ∷ []));
-}
+holds-snoc area tokens t e h = grind (arith, encoded_after-append, greatest_span-append)
 
 -- the next element of an open token is cut
 pub token_cut : (charset : Charset) (room : ℕ) (s : Part) (a b : Seen) (place n k : ℕ) (bytes : List ℕ) (own stop : Stop) → (response charset room).size s ≡ n → (response charset room).end_fault s ≡ Some MessageEnded → k < n → length bytes ≡ n
     → Ends a b (take k bytes) own → stop ≡ began_at place own → StopsReading (response charset room) s a b place s stop
-token_cut charset room s a b place n k bytes own stop size end less len ends is =
-    cut_at_once (response charset room) s a b place (take k bytes) own stop (omega (arith, less, len, size, length-take k bytes)) ends
-    (began_is_cut place ((response charset room).end_fault s) own stop end is)
+token_cut charset room s a b place n k bytes own stop size end less len ends is = grind (arith, began_is_cut, cut_at_once, length-take)
 
 -- so is one of which these bytes came
 pub part_cut : (charset : Charset) (room : ℕ) (s : Part) (a b : Seen) (place n : ℕ) (part : List ℕ) (own stop : Stop) → (response charset room).size s ≡ n → (response charset room).end_fault s ≡ Some MessageEnded → length part < n
@@ -75,12 +79,7 @@ part_cut charset room s a b place n part own stop size end fewer ends is =
 -- ---- DONE
 
 final_or_more : (n : ℕ) → (n % 2 == 0) ≡ (if n % 2 == 1 then false else true)
-final_or_more n = go (n % 2) (omega arith)
-  where
-    go : (m : ℕ) → m < 2 → (m == 0) ≡ (if m == 1 then false else true)
-    go zero h = refl
-    go (suc zero) h = refl
-    go (suc (suc m)) h = absurd (omega arith)
+final_or_more n = grind (arith, nat_tests)
 
 -- a token that has no text and describes nothing was read
 abbrev pub bare_reads : (charset : Charset) (room : ℕ) (area : Space) (sink : Held) (tokens : List Token) (t : Token) (from : Open) (progress : Progress) (bytes : List ℕ) (a b : Seen) (place place' : ℕ) → open_text from ≡ [] → is_bare t ≡ true → place' ≡ place + length bytes → sink.delivered ≤ 2 ^ 64 - 1
@@ -113,19 +112,14 @@ fixed_reads charset room area sink tokens which progress fields a b place place'
 pub done_reads : (charset : Charset) (room : ℕ) (area : Space) (sink : Held) (tokens : List Token) (progress : Progress) (fields : List ℕ) (a b : Seen) (place place' : ℕ) → place' ≡ place + length fields → sink.delivered ≤ 2 ^ 64 - 1 → TracksBefore progress tokens → IsHolding area (behind tokens)
     → length fields ≡ 12 → Takes a b fields (length fields)
     → ReadsTokens (response charset room) (in_done tokens) tokens a b place place' sink sink (record progress { is_final = slice_index fields 0 % 2 == 0 }) area
-done_reads charset room area sink tokens progress fields a b place place' at d tracks holds len takes =
-    let final = slice_index fields 0 % 2 == 0 in
-    fixed_reads charset room area sink tokens ADone (record progress { is_final = final }) fields a b place place' at d
-    (tracks_quiet progress tokens (Done (more fields)) final refl (final_or_more (slice_index fields 0)) tracks) holds len takes
+done_reads charset room area sink tokens progress fields a b place place' at d tracks holds len takes = grind (arith, final_or_more, fixed_reads, tracks_quiet)
 
 -- ---- DONEINPROC
 
 pub done_in_proc_reads : (charset : Charset) (room : ℕ) (area : Space) (sink : Held) (tokens : List Token) (progress : Progress) (fields : List ℕ) (a b : Seen) (place place' : ℕ) → place' ≡ place + 12 → sink.delivered ≤ 2 ^ 64 - 1 → TracksBefore progress tokens → IsHolding area (behind tokens)
     → length fields ≡ 12 → Takes a b fields 12
     → ReadsTokens (response charset room) (in_done_in_proc tokens) tokens a b place place' sink sink progress area
-done_in_proc_reads charset room area sink tokens progress fields a b place place' at d tracks holds len takes =
-    fixed_reads charset room area sink tokens ADoneInProc progress fields a b place place' (omega (arith, at, len)) d
-    (tracks_quiet progress tokens (DoneInProc (more fields)) progress.is_final refl tracks.final tracks) holds len (subst (Takes a b fields) (sym len) takes)
+done_in_proc_reads charset room area sink tokens progress fields a b place place' at d tracks holds len takes = grind (arith, fixed_reads, tracks_quiet)
 
 -- ---- ROW
 
@@ -136,9 +130,7 @@ start_text charset (c ∷ cs) tokens some = ap (λ f. text tokens ++ joined (wit
 
 -- a row's text so far in its response
 pub row_text : (tokens : List Token) (part : RowPart) → text_so_far (with_row tokens part) ≡ text tokens ++ row_so_far part
-row_text tokens (WholeRow cells) = ap (λ l. l ++ []) (text_after-snoc false tokens (Row cells)) ∙ append-nil (text tokens ++ (line (map field cells) ++ [])) ∙ ap (λ l. text tokens ++ l) (append-nil (line (map field cells)))
-row_text tokens (InCell cells part ks) = refl
-row_text tokens (Bitmap columns) = refl
+row_text tokens part = grind (arith, append-nil, text_after-snoc)
 
 -- before a row's text stands that of the tokens
 abbrev row_front : (tokens : List Token) (part : RowPart) → text tokens ++ row_so_far part ≡ text_so_far (with_row tokens part)
@@ -147,13 +139,7 @@ row_front tokens part = sym (row_text tokens part)
 -- and while a row is read
 pub row_holds : (area : Space) (tokens : List Token) (part : RowPart) → IsHolding area (behind tokens) → IsHolding area (with_row tokens part)
 row_holds area tokens (WholeRow cells) h = holds-snoc area tokens (Row cells) refl h
-row_holds area tokens (InCell cells part ks) h = record { bytes = h.bytes; peak = h.peak }
-row_holds area tokens (Bitmap columns) h = record { bytes = h.bytes; peak = h.peak }
-
-row_end_is : (charset : Charset) (room : ℕ) (tokens : List Token) (part : RowPart) → 0 < row_size part → (response charset room).end_fault (with_row tokens part) ≡ (row charset).end_fault part
-row_end_is charset room tokens (Bitmap columns) h = refl
-row_end_is charset room tokens (InCell cells part ks) h = refl
-row_end_is charset room tokens (WholeRow cells) h = absurd (omega arith)
+row_holds area tokens part h = record { bytes = h.bytes; peak = h.peak }
 
 -- a row stopped the call
 pub row_stops : (charset : Charset) (room : ℕ) (start : RowPart) (area : Space) (before after : Held) (tokens : List Token) (a b : Seen) (place : ℕ) (failed : Bool) (stop : Stop) → IsHolding area (behind tokens)
@@ -164,7 +150,7 @@ row_stops charset room start area before after tokens a b place failed stop hold
       | inl y ↦ inl (
         record {
           at = with_row tokens x.at;
-          stops = stops_inside (row charset) (response charset room) (with_row tokens) inside start a b place x.at stop (row_end_is charset room tokens x.at (stops_size (row charset) start a b place x.at stop y.0)) y.0;
+          stops = stops_inside (row charset) (response charset room) (with_row tokens) inside start a b place x.at stop (row_agrees charset room tokens x.at (stops_size (row charset) start a b place x.at stop y.0)).3 y.0;
           puts = puts_inside (row charset) (response charset room) (with_row tokens) inside row_so_far text_so_far (text tokens) (row_front tokens) start x.at before after y.1;
           holds = row_holds area tokens x.at holds;
         },
@@ -198,11 +184,7 @@ fill_stops charset room s a b place n to h area failed stop size end len d going
 
 header_text : (progress : Progress) (tokens : List Token) (bytes : List ℕ) (columns : List Column) → TracksBefore progress tokens
     → text_so_far (in_metadata tokens) ++ (between (nat_lt 0 progress.report.sets) ++ header_line columns) ≡ text_so_far (behind (tokens ++ Metadata bytes columns ∷ []))
-header_text progress tokens bytes columns tracks =
-    let begun : nat_lt 0 progress.report.sets ≡ begun_after false tokens = ap (λ (r : Report). nat_lt 0 r.sets) tracks.report ∙ sym (begun_where_sets tokens) in
-    let header = between (begun_after false tokens) ++ header_line columns in
-    ap (λ b. (text tokens ++ []) ++ (between b ++ header_line columns)) begun ∙ ap (λ l. l ++ header) (append-nil (text tokens)) ∙ ap (λ l. text tokens ++ l) (sym (append-nil header))
-    ∙ sym (append-nil (text tokens ++ (header ++ []))) ∙ ap (λ l. l ++ []) (sym (text_after-snoc false tokens (Metadata bytes columns)))
+header_text progress tokens bytes columns tracks = grind (arith, append-nil, begun_after, begun_where_sets, text_after-snoc)
 
 pub none_reads : (charset : Charset) (room : ℕ) (area old_area : Space) (sink : Held) (tokens : List Token) (progress : Progress) (a b : Seen) (place place' : ℕ) → sink.delivered ≤ 2 ^ 64 - 1 → TracksBefore progress tokens → IsHolding old_area (behind tokens)
     → Describes room BeforeCount a b place place' old_area.peak area NoDescription
@@ -226,10 +208,7 @@ none_reads charset room area old_area sink tokens progress a b place place' d tr
     }
 
 metadata_holds : (area old_area : Space) (tokens : List Token) (columns : List Column) (peak : area.peak ≤ max old_area.peak (length area.bytes + 0)) → IsHolding old_area (behind tokens) → IsHolding area (behind (tokens ++ Metadata area.bytes columns ∷ []))
-metadata_holds area old_area tokens columns peak holds = record {
-  bytes = sym (encoded_after-append [] tokens (Metadata area.bytes columns ∷ []));
-  peak = omega (arith, peak, holds.peak, greatest_span-append tokens (Metadata area.bytes columns ∷ []));
-}
+metadata_holds area old_area tokens columns peak holds = grind (arith, encoded_after-append, greatest_span-append)
 
 pub metadata_reads : (charset : Charset) (room : ℕ) (area old_area : Space) (before after : Held) (tokens : List Token) (progress : Progress) (columns : List Column) (a b : Seen) (place place' : ℕ) → TracksBefore progress tokens → IsHolding old_area (behind tokens)
     → columns_of area.bytes ≡ columns → Describes room BeforeCount a b place place' old_area.peak area (WholeDescription area.bytes columns) → Puts before after (between (nat_lt 0 progress.report.sets) ++ header_line (columns_of area.bytes))
@@ -246,10 +225,7 @@ metadata_reads charset room area old_area before after tokens progress columns a
     }
 
 open_text_none : (tokens : List Token) (d : DescriptionPart) → 0 < described_size d → text_so_far (with_described tokens d) ≡ text_so_far (in_metadata tokens)
-open_text_none tokens BeforeCount h = refl
-open_text_none tokens (InColumn bytes count columns place) h = refl
-open_text_none tokens NoDescription h = absurd (omega arith)
-open_text_none tokens (WholeDescription bytes columns) h = absurd (omega arith)
+open_text_none tokens d h = grind arith
 
 some_bytes : (room : ℕ) (area bytes : List ℕ) (columns : List Column) → Spelt (description room) BeforeCount bytes (WholeDescription area columns) → 0 < length bytes
 some_bytes room area [] columns h = absurd (let same : WholeDescription area columns ≡ BeforeCount = one_state (description room) BeforeCount [] (WholeDescription area columns) BeforeCount h (Spelt-none (description room) BeforeCount) in cc)
@@ -282,17 +258,8 @@ metadata_breaks charset room area old_area before after tokens progress columns 
       holds = subst (IsHolding area) (sym l.to_is) (metadata_holds area old_area tokens columns x.bound holds);
     }
 
-end_is : (charset : Charset) (room : ℕ) (tokens : List Token) (d : DescriptionPart) → 0 < described_size d → (response charset room).end_fault (with_described tokens d) ≡ (description room).end_fault d
-end_is charset room tokens BeforeCount h = refl
-end_is charset room tokens (InColumn bytes count columns place) h = refl
-end_is charset room tokens NoDescription h = absurd (omega arith)
-end_is charset room tokens (WholeDescription bytes columns) h = absurd (omega arith)
-
 open_holds : (area : Space) (tokens : List Token) (k : ℕ) (d : DescriptionPart) → 0 < described_size d → area.bytes ≡ description_bytes d → area.peak ≤ max k (span d) → k ≤ max (greatest_span tokens) 0 → IsHolding area (with_described tokens d)
-open_holds area tokens k BeforeCount h e p q = record { bytes = e; peak = omega (arith, p, q) }
-open_holds area tokens k (InColumn bytes count columns place) h e p q = record { bytes = e; peak = omega (arith, p, q) }
-open_holds area tokens k NoDescription h e p q = absurd (omega arith)
-open_holds area tokens k (WholeDescription bytes columns) h e p q = absurd (omega arith)
+open_holds area tokens k d h e p q = grind arith
 
 pub metadata_stops : (charset : Charset) (room : ℕ) (area old_area : Space) (sink : Held) (tokens : List Token) (a b : Seen) (place : ℕ) (stop : Stop) → sink.delivered ≤ 2 ^ 64 - 1 → IsHolding old_area (behind tokens)
     → StopsDescribing room BeforeCount a b place old_area.peak area stop
@@ -302,7 +269,7 @@ metadata_stops charset room area old_area sink tokens a b place stop d holds x =
     let some = stops_size (description room) BeforeCount a b place x.at stop x.stops in
     record {
       at = with_described tokens x.at;
-      stops = stops_inside (description room) (response charset room) (with_described tokens) inside BeforeCount a b place x.at stop (end_is charset room tokens x.at some) x.stops;
+      stops = stops_inside (description room) (response charset room) (with_described tokens) inside BeforeCount a b place x.at stop (description_agrees charset room tokens x.at some).3 x.stops;
       puts = same_text (in_metadata tokens) (with_described tokens x.at) sink (sym (open_text_none tokens x.at some)) d;
       holds = open_holds area tokens old_area.peak x.at some x.kept x.bound holds.peak;
     }

@@ -1,5 +1,5 @@
-use Rattle.std.specs.Int.{cast_signed, cast_unsigned, w32}
 use Rattle.std.proofs.Common.{◌≡◌, ◌∙◌, ◌-◌, length, length-drop, take, take_all, drop, ap, arith, rules}
+use Rattle.std.specs.Int.{cast_signed, cast_unsigned, w32}
 use Rattle.byteorder.specs.Endian.{little_number}
 use Rattle.tds_export.proofs.NoticeReading.{error_is, parts_within}
 use Rattle.tds_export.proofs.notice.error_of.Goals as goal
@@ -11,6 +11,5 @@ returns c =
     let at = c.line_start.result in
     let rest : take (length body - at) (drop at body) ≡ drop at body = take_all (length body - at) (drop at body) (omega (arith, length-drop at body)) in
     let kept : cast_signed w32 (cast_unsigned w32 c.read_i32-line.result) ≡ c.read_i32-line.result = search rules in
-    let line : cast_signed w32 (cast_unsigned w32 c.read_i32-line.result) ≡ cast_signed w32 (little_number 4 (drop at body)) = kept ∙ c.read_i32-line.ensures ∙ ap (λ l. cast_signed w32 (little_number 4 l)) rest in
     error_is c.args.body.now (cast_signed w32 (cast_unsigned w32 c.read_i32-number.result)) (cast_signed w32 (cast_unsigned w32 c.read_i32-line.result)) c.line_start.result c.requires.long c.line_start.ensures (parts_within c.args.body.now c.requires.holds).2
-    (number ∙ c.read_i32-number.ensures) line
+    (number ∙ c.read_i32-number.ensures) (kept ∙ c.read_i32-line.ensures ∙ ap (λ l. cast_signed w32 (little_number 4 l)) rest)

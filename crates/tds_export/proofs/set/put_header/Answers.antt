@@ -1,7 +1,7 @@
 use Rattle.std.proofs.Common.{subst, append_assoc}
+use Rattle.tds_csv.proofs.Puttings.{PutsPiece-passed, PutsPiece-trans}
 use Rattle.tds_csv.specs.Quoting.{joined, line_end}
 use Rattle.tds_csv.specs.Sinks.{PutsPiece}
-use Rattle.tds_csv.proofs.Puttings.{PutsPiece-passed, PutsPiece-trans}
 use Rattle.tds_export.specs.Tokens.{between, names_of}
 use Rattle.tds_export.proofs.set.put_header.Goals as goal
 

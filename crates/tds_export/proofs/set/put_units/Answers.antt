@@ -8,14 +8,11 @@ stop_in-requires g c =
     push_stopped c.in-Err.fault c.new-joiner.result.kept c.push.new.self.kept (held g.W.Write.contents c.args.sink.now) (held g.W.Write.contents c.push.new.sink) c.args.sink.now.failed c.args.units.now c.in-Err.ensures.gives
 
 pub returns-in-Err : goal.returns-in-Err
-returns-in-Err g c = record {
-  ready = search rules;
-  same = search rules;
-  failed = search rules;
-  gives = λ _. push_breaks c.in-Err.fault c.stop_in.result c.new-joiner.result.kept c.push.new.self.kept (held g.W.Write.contents c.args.sink.now) (held g.W.Write.contents c.push.new.sink) c.args.sink.now.failed c.args.units.now
-      c.new-joiner.ensures.withheld c.requires.writing.writing c.requires.even c.in-Err.ensures.gives c.stop_in.ensures;
-  again = search rules;
-}
+returns-in-Err g c = search (
+  rules,
+  push_breaks c.in-Err.fault c.stop_in.result c.new-joiner.result.kept c.push.new.self.kept (held g.W.Write.contents c.args.sink.now) (held g.W.Write.contents c.push.new.sink) c.args.sink.now.failed c.args.units.now
+      c.new-joiner.ensures.withheld c.requires.writing.writing c.requires.even c.in-Err.ensures.gives c.stop_in.ensures,
+)
 
 pub stop_in-requires-in-Err-end : goal.stop_in-requires-in-Err-end
 stop_in-requires-in-Err-end g c =
@@ -23,21 +20,15 @@ stop_in-requires-in-Err-end g c =
     c.new-joiner.ensures.withheld c.requires.even c.in_default.ensures.gives c.in-Err-end.ensures.gives
 
 pub returns-in-Ok : goal.returns-in-Ok
-returns-in-Ok g c = record {
-  ready = search rules;
-  same = search rules;
-  failed = search rules;
-  gives = end_puts c.new-joiner.result.kept c.end.new.self.kept c.push.new.self.kept (held g.W.Write.contents c.args.sink.now) (held g.W.Write.contents c.end.new.sink) (held g.W.Write.contents c.push.new.sink) c.args.units.now
-      c.new-joiner.ensures.withheld c.requires.even c.in_default.ensures.gives c.in-Ok.ensures.gives;
-  again = search rules;
-}
+returns-in-Ok g c = search (
+  rules,
+  end_puts c.new-joiner.result.kept c.end.new.self.kept c.push.new.self.kept (held g.W.Write.contents c.args.sink.now) (held g.W.Write.contents c.end.new.sink) (held g.W.Write.contents c.push.new.sink) c.args.units.now
+      c.new-joiner.ensures.withheld c.requires.even c.in_default.ensures.gives c.in-Ok.ensures.gives,
+)
 
 pub returns-in-Err-end : goal.returns-in-Err-end
-returns-in-Err-end g c = record {
-  ready = search rules;
-  same = search rules;
-  failed = search rules;
-  gives = λ _. end_breaks c.in-Err-end.fault c.stop_in-in-Err-end.result c.new-joiner.result.kept c.end.new.self.kept c.push.new.self.kept (held g.W.Write.contents c.args.sink.now) (held g.W.Write.contents c.end.new.sink) (held g.W.Write.contents c.push.new.sink) c.push.new.sink.failed c.args.units.now
-      c.new-joiner.ensures.withheld c.in_default.ensures.failed c.requires.even c.in_default.ensures.gives c.in-Err-end.ensures.gives c.stop_in-in-Err-end.ensures;
-  again = search rules;
-}
+returns-in-Err-end g c = search (
+  rules,
+  end_breaks c.in-Err-end.fault c.stop_in-in-Err-end.result c.new-joiner.result.kept c.end.new.self.kept c.push.new.self.kept (held g.W.Write.contents c.args.sink.now) (held g.W.Write.contents c.end.new.sink) (held g.W.Write.contents c.push.new.sink) c.push.new.sink.failed c.args.units.now
+      c.new-joiner.ensures.withheld c.in_default.ensures.failed c.requires.even c.in_default.ensures.gives c.in-Err-end.ensures.gives c.stop_in-in-Err-end.ensures,
+)

@@ -1,8 +1,8 @@
 use Rattle.std.proofs.Common.{◌≡◌, ◌∙◌, ◌+◌, ◌<◌, ℕ, List, [], ◌∷◌, ◌++◌, length, take, slice_index, refl, sym, ap, subst, arith, rules}
+use Rattle.tds_packet.proofs.Passing.{passed}
 use Rattle.tds_packet.specs.Payloads.{buffered, seen}
 use Rattle.tds_packet.specs.Seen.{Takes}
 use Rattle.tds_packet.proofs.Futures.{Takes-more, Takes-trans}
-use Rattle.tds_packet.proofs.Passing.{passed}
 use Rattle.tds_export.proofs.tokens.next_byte.Goals as goal
 
 -- the first byte of those that lie ready
@@ -17,14 +17,10 @@ returns-clause-gives g c =
     let d = seen g.R.Read.remaining c.consume.new.self in
     let front = buffered c.at_end.new.self in
     let some : 0 < length front = c.in_ok-at_end.ensures.tells.ready c.if-branch.false in
-    let byte : take 1 front ≡ slice_index c.buffered.result.now 0 ∷ [] = first front some ∙ ap (λ l. slice_index l 0 ∷ []) (sym c.buffered.ensures) in
     let both : Takes a d ([] ++ take 1 front) (0 + 1) = Takes-trans a b d [] (take 1 front) 1 1 (omega arith) c.in_ok-at_end.ensures.gives (Takes-more b d (take 1 front) 0 1 (omega arith) c.consume.ensures.gives) in
     let one : 0 + 1 ≡ 1 = omega arith in
-    record {
-      takes = subst (λ l. Takes a d l 1) byte (subst (Takes a d (take 1 front)) one both);
-      place_is = search rules;
-      between = search rules;
-    }
+    let byte = first front some ∙ ap (λ l. slice_index l 0 ∷ []) (sym c.buffered.ensures) in
+    search (rules, subst (λ l. Takes a d l 1) byte (subst (Takes a d (take 1 front)) one both))
 
 pub returns-in_err-at_end-clause-gives : goal.returns-in_err-at_end-clause-gives
 returns-in_err-at_end-clause-gives g c = passed _ _ _ _ c.from_residual.ensures.1 (c.in_err-at_end.ensures.gives, c.in_err-at_end.ensures.goes_on c.requires.going)

@@ -1,21 +1,19 @@
-use Rattle.std.specs.Int.{cast_signed, cast_unsigned, w32}
 use Rattle.std.specs.Prelude.{ℤ, Some, None}
 use Rattle.std.proofs.Common.{◌≡◌, ◌∙◌, ℕ, List, [], ◌∷◌, ◌++◌, length, refl, sym, ap, rules}
-use Rattle.tds_values.specs.Numbers.{little}
+use Rattle.std.specs.Int.{cast_signed, cast_unsigned, w32}
 use Rattle.byteorder.specs.Endian.{little_number}
-use Rattle.tds_packet.specs.Payloads.{seen}
-use Rattle.tds_csv.specs.Sinks.{held}
+use Rattle.tds_export.specs.Outcome.{report_of, signed}
+use Rattle.tds_export.specs.Steps.{Tracks, TracksBefore}
 use Rattle.tds_export.specs.declared.progress.Progress.{Progress}
 use Rattle.tds_export.specs.declared.report.Report.{Report}
-use Rattle.tds_export.specs.Outcome.{report_of, signed}
-use Rattle.tds_export.specs.Tokens.{Token, ReturnStatus, is_error, is_info, is_return, is_row, is_set, text}
-use Rattle.tds_export.specs.TokenBytes.{AStatus}
-use Rattle.tds_export.specs.Steps.{Tracks, TracksBefore, in_status}
+use Rattle.tds_packet.proofs.Passing.{passed}
+use Rattle.tds_values.specs.Numbers.{little}
 use Rattle.tds_export.proofs.NoticeReading.{signed_is}
 use Rattle.tds_export.proofs.TokenLaws.{status_after-append, tracks_bare, uncounted, unerring}
 use Rattle.tds_export.proofs.TokenSteps.{fill_stops, fixed_reads}
 use Rattle.tds_export.proofs.NoticeSteps.{quietly}
-use Rattle.tds_packet.proofs.Passing.{passed}
+use Rattle.tds_export.specs.TokenBytes.{AStatus}
+use Rattle.tds_export.specs.Tokens.{ReturnStatus, Token, is_error, is_info, is_return, is_row, is_set, text}
 use Rattle.tds_export.proofs.exporter.Exporter.return_status.Goals as goal
 
 -- the report with one more status, but for what was written
@@ -41,26 +39,19 @@ pub returns-in_err-fill : goal.returns-in_err-fill
 returns-in_err-fill g c = record {
   leaves = search rules;
   reads = λ tokens tracks holds noted.
-      let run = c.args.self.now in
       let running = c.requires.running in
       let four : length c.fill.new.to ≡ 4 = search rules in
-      passed _ _ _ _ c.from_residual.ensures.1 (fill_stops run.charset run.description.now.room (in_status tokens) (seen g.R.Read.remaining run.payload.now) (seen g.R.Read.remaining c.fill.new.self) run.payload.now.place 4 c.fill.new.to (held g.W.Write.contents run.sink.now) run.description.now run.sink.now.failed c.in_err-fill.field-0.0
-      refl refl four running.sink.ready.2 running.sink.writing (record { bytes = holds.bytes; peak = holds.peak }) (c.in_err-fill.ensures.part running.payload.going));
+      passed _ _ _ _ c.from_residual.ensures.1 (fill_stops _ _ _ _ _ _ _ _ _ _ _ _ refl refl four running.sink.ready.2 running.sink.writing (record { bytes = holds.bytes; peak = holds.peak }) (c.in_err-fill.ensures.part running.payload.going));
 }
 
 pub returns : goal.returns
 returns g c = record {
   leaves = search rules;
   reads = λ tokens tracks holds noted.
-      let run = c.args.self.now in
-      let a = seen g.R.Read.remaining run.payload.now in
-      let b = seen g.R.Read.remaining c.fill.new.self in
       let fields = c.fill.new.to in
       let four : length fields ≡ 4 = search rules in
       let status : ℤ = cast_signed w32 (cast_unsigned w32 c.read_i32-status.result) in
       let kept : status ≡ c.read_i32-status.result = search rules in
       let is : status ≡ signed (little fields) = kept ∙ c.read_i32-status.ensures ∙ signed_is (little_number 4 fields) ∙ ap (λ n. signed (little_number n fields)) (sym four) in
-      quietly _ _ _ _ _ _ _ _ _ _ _ _ run.notice.now tracks noted refl
-      (fixed_reads run.charset run.description.now.room run.description.now (held g.W.Write.contents run.sink.now) tokens AStatus _ fields a b run.payload.now.place c.fill.new.self.place c.in_ok-fill.ensures.place
-      c.requires.running.sink.ready.2 (tracks_status run.progress tokens (little fields) status is tracks) holds four c.in_ok-fill.ensures.all);
+      quietly _ _ _ _ _ _ _ _ _ _ _ _ c.args.self.now.notice.now tracks noted refl (fixed_reads _ _ _ _ _ AStatus _ _ _ _ _ _ c.in_ok-fill.ensures.place c.requires.running.sink.ready.2 (tracks_status c.args.self.now.progress tokens (little fields) status is tracks) holds four c.in_ok-fill.ensures.all);
 }

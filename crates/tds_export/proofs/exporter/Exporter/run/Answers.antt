@@ -1,7 +1,7 @@
 use Rattle.std.proofs.Common.{◌≡◌, ◌∙◌, inl, inr, false, true, refl, ap, arith, rules}
 use Rattle.tds_csv.specs.Sinks.{held}
-use Rattle.tds_export.proofs.RunSteps.{completes, stops_at_end, stops_end, stops_on, runs_none, runs_on, runs_same}
 use Rattle.tds_packet.proofs.Passing.{passed}
+use Rattle.tds_export.proofs.RunSteps.{completes, stops_at_end, stops_end, stops_on, runs_none, runs_on, runs_same}
 use Rattle.tds_export.proofs.exporter.Exporter.run.Goals as goal
 
 pub tokens-init : goal.tokens-init
@@ -48,8 +48,7 @@ returns-then-not-self-clause-gives g c = λ tracks empty noted.
     let x = runs_same _ _ _ _ _ _ _ _ _ _ _ _ _ c.tokens.self.notice.now c.token.new.self.notice.now y.place (ap (held g.W.Write.contents) y.sink) y.progress y.area y.notice first in
     let open_end : c.token.new.self.progress.is_final ≡ false = search rules in
     let sink = c.in_ok-token.ensures.leaves.running.sink in
-    let stops = stops_end c.args.self.now.charset c.args.self.now.description.now.room _ _ _ _ _ _ _ _ _ x.0 y.takes y.over _ sink.writing sink.ready.2 open_end in
-    rw c.place.ensures (inl stops)
+    rw c.place.ensures (inl (stops_end c.args.self.now.charset c.args.self.now.description.now.room _ _ _ _ _ _ _ _ _ x.0 y.takes y.over _ sink.writing sink.ready.2 open_end))
 
 pub returns-in_err-finish-clause-gives : goal.returns-in_err-finish-clause-gives
 returns-in_err-finish-clause-gives g c = λ tracks empty noted.
@@ -74,26 +73,9 @@ returns-clause-leaves g c =
     let running = c.in_ok-token.ensures.leaves.running in
     record {
       same = search rules;
-      payload = record { sound = running.payload.sound; same = search rules; going = running.payload.going };
-      sink = record { ready = c.in_ok-finish.ensures.ready; same = search rules; writing = c.in_ok-finish.ensures.failed };
-      areas = record {
-        description = c.in_ok-token.ensures.leaves.areas.description ∙ c.tokens.invariant.room;
-        token = record { room = c.in_ok-token.ensures.leaves.areas.token.room ∙ c.tokens.invariant.token; peak = running.token_peak };
-        notice = record { room = c.in_ok-token.ensures.leaves.areas.notice.room ∙ c.tokens.invariant.notice; peak = running.notice_peak };
-        small = record { room = c.in_ok-token.ensures.leaves.areas.small.room ∙ c.tokens.invariant.small; peak = running.small_peak };
-      };
+      payload = search (rules, running);
+      sink = search rules;
+      areas = search (rules, running);
       forward = omega (arith, c.tokens.invariant.forward, c.in_ok-token.ensures.leaves.forward);
-      running = record {
-        payload = running.payload;
-        sink = record { ready = c.in_ok-finish.ensures.ready; writing = c.in_ok-finish.ensures.failed };
-        room = running.room;
-        token = running.token;
-        token_peak = running.token_peak;
-        notice = running.notice;
-        notice_peak = running.notice_peak;
-        small = running.small;
-        small_peak = running.small_peak;
-        counted = running.counted;
-        described = running.described;
-      };
+      running = search (rules, running);
     }
