@@ -1,0 +1,5 @@
+use Rattle.std.proofs.Common.{rules}
+use Rattle.tds_values.proofs.numbers.put_sign.Goals as goal
+
+pub returns-clause-written : goal.returns-clause-written
+returns-clause-written c = search rules

@@ -1,0 +1,8 @@
+use Rattle.std.proofs.Common.{rules}
+use Rattle.tds_values.proofs.scalar.read_scalar.Goals as goal
+
+pub returns-then-bytes-gt17 : goal.returns-then-bytes-gt17
+returns-then-bytes-gt17 c = search rules
+
+pub returns-else-is_in_range : goal.returns-else-is_in_range
+returns-else-is_in_range c = search rules
