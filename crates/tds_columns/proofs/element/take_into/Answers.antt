@@ -25,6 +25,15 @@ cut_back s written n start after full e l at is =
     let peak : after.peak ≡ max s.peak (length (s.bytes ++ written)) = ap (λ (a : Space). a.peak) is ∙ ap (λ (a : Space). a.peak) e in
     (bytes, omega (arith, peak, length-append s.bytes written, l))
 
+pub returns-in-Err-clause-area : goal.returns-in-Err-clause-area
+returns-in-Err-clause-area g c =
+    let bytes = c.fill.new.to in
+    let whole = grown c.args.area.now c.grow_within-lent.result.now bytes c.fill.auto.to in
+    record {
+      room = ap (λ (a : Space). a.room) c.truncate.ensures ∙ ap (λ (a : Space). a.room) whole;
+      kept = cut_back c.args.area.now bytes c.args.n c.len-start.result c.truncate.new.self _ whole (c.fill.auto.to ∙ c.grow_within-lent.ensures.value) c.len-start.ensures.value c.truncate.ensures;
+    }
+
 pub returns-in-Err-clause-gives : goal.returns-in-Err-clause-gives
 returns-in-Err-clause-gives g c = λ going.
     let bytes = c.fill.new.to in
