@@ -1,5 +1,6 @@
 -- One character after the other of text in UTF-16.
 use Rattle.std.proofs.Common.{◌≡◌, ◌∙◌, ◌&&◌, ◌+◌, ◌*◌, ◌<◌, ◌≤◌, ◌%◌, ℕ, Bool, true, false, List, [], ◌∷◌, ◌++◌, length, map, drop, get_or, refl, ap, arith, encode_utf8_all, unwrap_or}
+use Rattle.std.specs.Prelude.{if◌then◌else◌}
 use Rattle.std.proofs.lemmas.List.{drop_more}
 use Rattle.std.proofs.lemmas.Bool.{and_right}
 use Rattle.std.proofs.lemmas.Bool.Decides.{nat_tests}
@@ -113,6 +114,12 @@ spells_held xs some whole e = grind (arith, short, lone_high, and_right, encode_
 -- what isn't a whole unit stays
 pub held_short : (bytes : List ℕ) → length bytes < 2 → rest bytes ≡ bytes
 held_short bytes h = grind (arith)
+
+-- and a high surrogate does before what is no whole unit
+pub held_high : (low high : ℕ) (more : List ℕ) → length more < 2 → is_high low high ≡ true → rest (low ∷ high ∷ more) ≡ low ∷ high ∷ more
+held_high low high [] few h = ap (λ b. if b then low ∷ high ∷ [] else []) h
+held_high low high (odd ∷ []) few h = ap (λ b. if b then low ∷ high ∷ odd ∷ [] else odd ∷ []) h
+held_high low high (odd ∷ next ∷ more) few h = absurd (omega (arith, few))
 
 -- the bytes from a place on, the first ones named
 pub drop_two : (xs : List ℕ) (i : ℕ) → i + 1 < length xs → drop i xs ≡ get_or xs i 0 ∷ get_or xs (i + 1) 0 ∷ drop (i + 2) xs

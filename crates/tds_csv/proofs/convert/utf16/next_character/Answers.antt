@@ -1,7 +1,8 @@
 use Rattle.std.proofs.Common.{◌≡◌, ◌∙◌, ◌+◌, ◌-◌, ◌*◌, ◌∷◌, true, false, drop, get_or, sym, ap, subst, arith, length-drop}
 use Rattle.std.specs.Char.Utf16.{is_high_surrogate, is_low_surrogate}
+use Rattle.tds_csv.specs.Utf16.{rest}
 use Rattle.tds_csv.specs.Utf16Next.{IsNext}
-use Rattle.tds_csv.proofs.Utf16Steps.{drop_two, drop_four, next_one, next_alone, next_pair, held_short, lone_low, lone_other}
+use Rattle.tds_csv.proofs.Utf16Steps.{drop_two, drop_four, next_one, next_alone, next_pair, held_short, held_high, lone_low, lone_other}
 use Rattle.tds_csv.proofs.convert.utf16.next_character.Goals as goal
 
 pub returns-then-bytes-at-lt2-clause-gives : goal.returns-then-bytes-at-lt2-clause-gives
@@ -49,3 +50,10 @@ returns-clause-gives c =
     (subst (λ code. IsNext (get_or xs i 0 ∷ get_or xs (i + 1) 0 ∷ get_or xs (i + 2) 0 ∷ get_or xs (i + 3) 0 ∷ drop (i + 4) xs) code 4)
     (λ k. 65536 + (sym first k - 55296) * 1024 + (second k - 56320))
     (next_pair (get_or xs i 0) (get_or xs (i + 1) 0) (get_or xs (i + 2) 0) (get_or xs (i + 3) 0) (drop (i + 4) xs) high low))
+
+pub returns-then-bytes-at-lt4-clause-gives : goal.returns-then-bytes-at-lt4-clause-gives
+returns-then-bytes-at-lt4-clause-gives c =
+    let xs = c.args.bytes.now in
+    let i = c.args.at in
+    let high : is_high_surrogate (get_or xs i 0 + 256 * get_or xs (i + 1) 0) ≡ true = ap is_high_surrogate (sym c.unit-first.ensures.value) ∙ sym c.if-not-is_high.ensures in
+    subst (λ l. rest l ≡ l) (sym (drop_two xs i (omega arith))) (held_high (get_or xs i 0) (get_or xs (i + 1) 0) (drop (i + 2) xs) (omega (arith, length-drop (i + 2) xs)) high)

@@ -1,8 +1,8 @@
-use Rattle.std.proofs.lemmas.Grind.{common_steps}
-use Rattle.std.proofs.Common.{◌≡◌, ◌∙◌, ◌+◌, ◌-◌, ◌<◌, ◌≤◌, ◌++◌, length, take, drop, sym, ap, subst, arith, rules, length-append, length-take-le}
+use Rattle.std.proofs.Common.{◌≡◌, ◌∙◌, ◌+◌, ◌-◌, ◌<◌, ◌≤◌, ◌++◌, ℕ, [], Ok, length, take, drop, sym, ap, subst, arith, rules, length-append, length-take-le}
 use Rattle.tds_csv.specs.Joining.{Leads, emit}
 use Rattle.tds_csv.specs.Utf16.{rest, text}
 use Rattle.tds_csv.proofs.Utf16Laws.{joins_utf16}
+use Rattle.tds_csv.specs.Sinks.{PutsPiece}
 use Rattle.tds_csv.specs.Utf16Next.{seam}
 use Rattle.tds_csv.proofs.Puttings.{PutsPiece-none}
 use Rattle.tds_csv.proofs.Leading.{Leads-seam}
@@ -11,10 +11,20 @@ use Rattle.tds_csv.proofs.Utf16Steps.{nil_of_length}
 use Rattle.tds_csv.proofs.joiners.utf16.Utf16Joiner.put_kept.Goals as goal
 
 pub returns-then-is_empty-clause-puts : goal.returns-then-is_empty-clause-puts
-returns-then-is_empty-clause-puts g c = grind (arith, common_steps, nil_of_length, emit_none, PutsPiece-none)
+returns-then-is_empty-clause-puts g c =
+    let contents = g.W.Write.contents in
+    let a = c.args.sink.now in
+    let zero : length c.bytes-kept.result.now ≡ 0 = search rules in
+    let none : c.args.self.now.kept ≡ [] = sym c.bytes-kept.ensures.value ∙ nil_of_length c.bytes-kept.result.now zero in
+    subst (λ k. PutsPiece {U = ℕ} contents a a (emit rest text (seam k c.args.piece.now)) (Ok 0)) (sym none)
+    (subst (λ t. PutsPiece {U = ℕ} contents a a t (Ok 0)) (sym emit_none) (PutsPiece-none {U = ℕ} contents a 0 c.requires.writing))
 
 pub returns-then-is_empty-clause-leads : goal.returns-then-is_empty-clause-leads
-returns-then-is_empty-clause-leads g c = grind (arith, common_steps, nil_of_length, Leads-behind)
+returns-then-is_empty-clause-leads g c =
+    let piece = c.args.piece.now in
+    let zero : length c.bytes-kept.result.now ≡ 0 = search rules in
+    let none : c.args.self.now.kept ≡ [] = sym c.bytes-kept.ensures.value ∙ nil_of_length c.bytes-kept.result.now zero in
+    subst (λ k. Leads rest text (k ++ piece) piece (emit rest text (seam k piece))) (sym none) (Leads-behind [] piece)
 
 pub returns-clause-leads : goal.returns-clause-leads
 returns-clause-leads g c =

@@ -1,0 +1,7 @@
+use Rattle.std.proofs.Common.{◌∙◌, None, Some, ap, sym}
+use Rattle.std.specs.Prelude.{if◌then◌else◌}
+use Rattle.tds_csv.specs.Sinks.{held, stop_of}
+use Rattle.tds_csv.proofs.sink.Sink.failure.Goals as goal
+
+pub returns-then-self : goal.returns-then-self
+returns-then-self g c = ap Some c.stop.ensures ∙ sym (ap (λ b. if b then Some (stop_of (held g.W.Write.contents c.args.self.now)) else None) c.if-self.true)

@@ -1,0 +1,7 @@
+use Rattle.std.proofs.Common.{ap}
+use Rattle.tds_meter.specs.Space.{Space}
+use Rattle.tds_csv.specs.Sinks.{fresh}
+use Rattle.tds_csv.proofs.sink.Sink.new.Goals as goal
+
+pub returns-clause-held : goal.returns-clause-held
+returns-clause-held g c = ap (λ (s : Space). record (fresh (g.W.Write.contents c.args.to.now.device) c.args.to.now.failures) { waiting = s.bytes }) c.clear.ensures.value

@@ -1,0 +1,4 @@
+use Rattle.tds_csv.proofs.sink.Sink.open_quoted.Goals as goal
+
+pub returns : goal.returns
+returns g c = c.put.ensures

@@ -1,0 +1,5 @@
+use Rattle.std.proofs.Common.{◌∙◌, ◌-◌, ap}
+use Rattle.tds_csv.proofs.sink.Sink.room.Goals as goal
+
+pub returns : goal.returns
+returns g c = c.saturating_sub.ensures ∙ ap (λ n. 4096 - n) c.len.ensures.value
