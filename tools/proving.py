@@ -13,6 +13,9 @@ ERROR = re.compile(r"error(\[\w+\])?:|\S+: error|note: .*it is not proved that|.
 # What one proof may take, in bytes.
 ROOM = 3_500_000_000
 
+# The most processes that share a proof; more gain nothing.
+MOST_JOBS = 4
+
 
 class Progress:
     """What is shown while crates are proved: a line for each that has ended and, on a terminal, one of those under way."""
@@ -38,7 +41,7 @@ class Progress:
 
 
 def at_once() -> int:
-    """How many proofs run at once, by processors and memory; a proof takes two processors where there are."""
+    """How many proofs run at once, by processors and memory; they share the processors."""
     with open("/proc/meminfo", encoding="utf-8") as lines:
         free = next(1024 * int(line.split()[1]) for line in lines if line.startswith("MemAvailable:"))
     return max(1, min(len(os.sched_getaffinity(0)), free // ROOM))
@@ -50,23 +53,23 @@ def first_error(log: str) -> str:
         return next((line.rstrip() for line in lines if ERROR.match(line)), "no line of the log tells an error")
 
 
-def command_for(name: str) -> list[str]:
+def command_for(name: str, jobs: int) -> list[str]:
     if not repo.is_program(name):
-        return ["rt", "lib"]
+        return ["rt", "lib", "--jobs", str(jobs)]
     args = repo.path_of("crates", name, "args")
     words = open(args, encoding="utf-8").read().splitlines() if os.path.exists(args) else []
-    return ["rt", "run", "--", *words]
+    return ["rt", "run", "--jobs", str(jobs), "--", *words]
 
 
-def prove(name: str, progress: Progress) -> bool:
-    """Proves one crate over what is proved below it, and returns whether it is."""
+def prove(name: str, jobs: int, progress: Progress) -> bool:
+    """Proves one crate over what is proved below it, by so many processes, and returns whether it is."""
     began, found = time.monotonic(), repo.sum_of(name)
     log = repo.path_of("bin", "logs", name + ".log")
     os.makedirs(os.path.dirname(log), exist_ok=True)
 
     progress.begin(name)
     with open(log, "w", encoding="utf-8") as out:
-        status = repo.in_room(name, command_for(name), out.write)
+        status = repo.in_room(name, command_for(name, jobs), out.write)
     if status:
         progress.end(name, f"not proved\n{first_error(log)}\nThe whole log: {os.path.relpath(log)}")
         return False
@@ -86,11 +89,15 @@ def prove_all(asked: list[str]) -> bool:
         return True
     repo.need_rt()
     progress, running = Progress(names), {}
-    with ThreadPoolExecutor(at_once()) as pool:
+    most = at_once()
+    with ThreadPoolExecutor(most) as pool:
         while left or running:
-            for name in [it for it in left if proved.issuperset(repo.below(it))]:
+            ready = [it for it in left if proved.issuperset(repo.below(it))]
+            # each process that helps a proof reads the libraries first, so proofs get no more of them than there are processors
+            jobs = max(1, min(MOST_JOBS, most // max(1, len(running) + len(ready))))
+            for name in ready:
                 left.remove(name)
-                running[pool.submit(prove, name, progress)] = name
+                running[pool.submit(prove, name, jobs, progress)] = name
             done: set[Future[bool]] = wait(running, return_when=FIRST_COMPLETED).done
             for it in done:
                 name = running.pop(it)
