@@ -46,3 +46,6 @@ loop-ended-preserved g c =
           let begun = row_begins _ _ _ _ _ _ _ _ _ _ _ (omega (arith, l.invariant.knows.2, knows.counted)) done.leaves.sink.ready.2 read taken.0 in
           rw (sym taken.1, sym c.take_token.ensures.sink) at begun);
     }
+
+pub nbc_row-requires-clause-awaits : goal.nbc_row-requires-clause-awaits
+nbc_row-requires-clause-awaits g c = search rules

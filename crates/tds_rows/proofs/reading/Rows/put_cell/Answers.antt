@@ -37,6 +37,9 @@ returns-clause-gives g c = λ last next.
     let writes = subst (λ l. WritesWhole (cell_start kind (shape old.table.now.charset kind)) c.args.at.column last (take n l) text) c.buffered.ensures alone.writes.whole in
     put_whole c.put.result _ _ _ _ _ _ _ _ g.W.Write.contents old.sink.now c.put.new.self _ _ c.requires.in_row.sink writes takes at few c.put.ensures
 
+pub returns-clause-leaves : goal.returns-clause-leaves
+returns-clause-leaves g c = record { same = search rules; payload = search rules; sink = search rules; small = record { room = refl; bound = omega arith } }
+
 -- a long value is that of its kind
 long_read : {R W U : Type 0} (remaining : R → Option (List ℕ)) (contents : W → Option (List ℕ)) (charset : Charset) (kind : Kind) (layout is : Layout) (start : CellPart) (column : ℕ) (end last : Bool) (old new : Payload R) (before after : Sink W) (r : Result U Stop)
     → IsLaidOut charset kind layout → layout ≡ is → cell_start kind (shape_of_layout is) ≡ start → end ≡ last → FieldPut remaining contents start column end old new before after r → CellPut remaining contents charset kind column last old new before after r

@@ -32,6 +32,9 @@ returns-in_default-clause-gives g c = λ columns known.
     let whole = rows_end _ _ _ _ _ _ _ _ _ _ _ (c.in_default.ensures.gives columns (rw (sym kept.same.3) at knows) ahead) x in
     rw l.invariant.stays.same.3 at whole
 
+pub returns-in_default-clause-few : goal.returns-in_default-clause-few
+returns-in_default-clause-few g c = omega (arith, c.loop-form.invariant.few, c.put_run-run.ensures.few)
+
 pub returns-in_err-put_cell-clause-gives : goal.returns-in_err-put_cell-clause-gives
 returns-in_err-put_cell-clause-gives g c = λ columns known.
     let l = c.loop-form in

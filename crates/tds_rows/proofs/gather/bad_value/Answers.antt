@@ -1,0 +1,5 @@
+use Rattle.std.proofs.Common.{refl}
+use Rattle.tds_rows.proofs.gather.bad_value.Goals as goal
+
+pub returns : goal.returns
+returns c = refl

@@ -1,0 +1,5 @@
+use Rattle.std.proofs.Common.{refl}
+use Rattle.tds_rows.proofs.run.forms.is_last.Goals as goal
+
+pub returns-then-ends : goal.returns-then-ends
+returns-then-ends c = rw c.if-ends.true refl
