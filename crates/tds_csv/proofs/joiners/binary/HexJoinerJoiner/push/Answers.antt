@@ -1,0 +1,5 @@
+use Rattle.std.proofs.Common.{rules}
+use Rattle.tds_csv.proofs.joiners.binary.HexJoinerJoiner.push.Goals as goal
+
+pub put_text-requires : goal.put_text-requires
+put_text-requires g c = search rules
