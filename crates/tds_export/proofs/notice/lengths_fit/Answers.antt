@@ -1,0 +1,5 @@
+use Rattle.std.proofs.Common.{rules}
+use Rattle.tds_export.proofs.notice.lengths_fit.Goals as goal
+
+pub returns : goal.returns
+returns c = search rules

@@ -1,0 +1,5 @@
+use Rattle.std.proofs.Common.{rules}
+use Rattle.tds_export.proofs.run.stop_at.Goals as goal
+
+pub returns-clause-tidied : goal.returns-clause-tidied
+returns-clause-tidied g c = search rules
