@@ -1,9 +1,12 @@
 """Proves crates in their rooms, several at once, and shows how far it is."""
+import contextlib
+import math
 import os
 import re
 import sys
 import threading
 import time
+from collections.abc import Callable, Iterator
 from concurrent.futures import FIRST_COMPLETED, Future, ThreadPoolExecutor, wait
 
 import repository as repo
@@ -18,7 +21,7 @@ MOST_JOBS = 4
 
 
 class Progress:
-    """What is shown while crates are proved: a line for each that has ended and, on a terminal, one of those under way."""
+    """What is shown while crates are proved: a line for each that has ended and, on a terminal, one of what is under way."""
 
     def __init__(self, names: list[str]) -> None:
         self.names, self.under_way, self.lock, self.shows = names, [], threading.Lock(), sys.stderr.isatty()
@@ -29,14 +32,21 @@ class Progress:
         if self.shows:
             print(f"\r\033[Kproving {', '.join(self.under_way)}" if self.under_way else "", end="", file=sys.stderr, flush=True)
 
-    def begin(self, name: str) -> None:
+    @contextlib.contextmanager
+    def during(self, what: str) -> Iterator[None]:
+        """Shows something as under way for as long as it is."""
         with self.lock:
-            self.under_way.append(name)
+            self.under_way.append(what)
             self.show()
+        try:
+            yield
+        finally:
+            with self.lock:
+                self.under_way.remove(what)
+                self.show()
 
     def end(self, name: str, text: str) -> None:
         with self.lock:
-            self.under_way.remove(name)
             self.show(f"crate {self.names.index(name) + 1} of {len(self.names)}, {name}: {text}")
 
 
@@ -67,8 +77,7 @@ def prove(name: str, jobs: int, progress: Progress) -> bool:
     log = repo.path_of("bin", "logs", name + ".log")
     os.makedirs(os.path.dirname(log), exist_ok=True)
 
-    progress.begin(name)
-    with open(log, "w", encoding="utf-8") as out:
+    with open(log, "w", encoding="utf-8") as out, progress.during(name):
         status = repo.in_room(name, command_for(name, jobs), out.write)
     if status:
         progress.end(name, f"not proved\n{first_error(log)}\nThe whole log: {os.path.relpath(log)}")
@@ -78,26 +87,38 @@ def prove(name: str, jobs: int, progress: Progress) -> bool:
     return True
 
 
-def prove_all(asked: list[str]) -> bool:
-    """Proves the crates asked for and those below them, each once those below it are proved."""
+def prove_all(asked: list[str], test: Callable[[str, int], None] | None = None) -> bool:
+    """Proves the crates asked for and those below them, each once those below it are proved. Where `test` is given, it is
+    called with each crate that has tests, once it is proved, and with how many processes its tests may take."""
     names = [it for it in repo.CRATES if it in asked or any(it in repo.below(one) for one in asked)]
-    left = [it for it in names if not repo.is_done("proved", it)]
+    lacking = [it for it in names if not repo.is_done("proved", it)]
     # a library is built anew where a crate above it needs it and it isn't there
-    left = [it for it in names if it in left or not repo.is_built(it) and any(it in repo.below(one) for one in left)]
+    lacking = [it for it in names if it in lacking or not repo.is_built(it) and any(it in repo.below(one) for one in lacking)]
+    tested = [it for it in names if test and repo.has_tests(it)]
+    left = [it for it in names if it in lacking or it in tested]
     proved = {*names} - {*left}
     if not left:
         return True
     repo.need_rt()
     progress, running = Progress(names), {}
     most = at_once()
+
+    def work(name: str, jobs: int) -> bool:
+        if name in lacking and not prove(name, jobs, progress):
+            return False
+        if name in tested:
+            with progress.during(f"the tests of {name}"):
+                test(name, jobs)
+        return True
+
     with ThreadPoolExecutor(most) as pool:
         while left or running:
             ready = [it for it in left if proved.issuperset(repo.below(it))]
-            # each process that helps a proof reads the libraries first, so proofs get no more of them than there are processors
-            jobs = max(1, min(MOST_JOBS, most // max(1, len(running) + len(ready))))
+            # each process that helps a proof reads the libraries first, so proofs get few more of them than there are processors
+            jobs = min(MOST_JOBS, math.ceil(most / max(1, len(running) + len(ready))))
             for name in ready:
                 left.remove(name)
-                running[pool.submit(prove, name, jobs, progress)] = name
+                running[pool.submit(work, name, jobs)] = name
             done: set[Future[bool]] = wait(running, return_when=FIRST_COMPLETED).done
             for it in done:
                 name = running.pop(it)
