@@ -81,31 +81,59 @@ fn check_area(rt: &impl Abort, what: &str, area: &Area, bytes: &[u8], peak: usiz
     );
 }
 
+// A call of an area.
+enum Call {
+    Append(&'static [u8]),
+    Extend(usize),
+    DropFront(usize),
+    Truncate(usize),
+    Clear,
+}
+
+// A call, whether there is room for what it adds, and what the area holds after it, with its peak.
+const STEPS: [(&str, Call, bool, &[u8], usize); 12] = [
+    ("four bytes", Call::Append(b"abcd"), true, b"abcd", 4),
+    ("three for two", Call::Append(b"efg"), false, b"abcd", 4),
+    ("three zeros for two", Call::Extend(3), false, b"abcd", 4),
+    ("most zeros", Call::Extend(usize::MAX), false, b"abcd", 4),
+    ("two for two", Call::Append(b"ef"), true, b"abcdef", 6),
+    ("none for none", Call::Append(b""), true, b"abcdef", 6),
+    ("one for none", Call::Append(b"g"), false, b"abcdef", 6),
+    ("the front dropped", Call::DropFront(2), true, b"cdef", 6),
+    ("cut behind its end", Call::Truncate(9), true, b"cdef", 6),
+    ("cut to one byte", Call::Truncate(1), true, b"c", 6),
+    ("zeros for others", Call::Extend(2), true, b"c\0\0", 6),
+    ("cleared", Call::Clear, true, b"", 6),
+];
+
+fn perform(area: &mut Area, call: &Call) -> Result<(), Full> {
+    match call {
+        Call::Append(piece) => area.append(piece),
+        Call::Extend(n) => area.extend(*n),
+        Call::DropFront(n) => {
+            area.drop_front((*n).min(area.len()));
+            Ok(())
+        }
+        Call::Truncate(n) => {
+            area.truncate(*n);
+            Ok(())
+        }
+        Call::Clear => {
+            area.clear();
+            Ok(())
+        }
+    }
+}
+
 #[test]
 fn an_area_keeps_its_bytes_and_its_peak(rt: HostRuntime) -> Result<(), Fail> {
     let mut area = Area::new(rt.alloc(), 6)?;
     check_area(&rt, "a new area", &area, b"", 0);
-    assert!(rt; area.append(b"abcd") == Ok(()));
-    check_area(&rt, "four bytes", &area, b"abcd", 4);
-    assert!(rt; area.append(b"efg") == Err(Full));
-    assert!(rt; area.extend(3) == Err(Full));
-    assert!(rt; area.extend(usize::MAX) == Err(Full));
-    check_area(&rt, "one byte too many", &area, b"abcd", 4);
-    assert!(rt; area.append(b"ef") == Ok(()));
-    assert!(rt; area.append(b"") == Ok(()));
-    assert!(rt; area.append(b"g") == Err(Full));
-    check_area(&rt, "a full area", &area, b"abcdef", 6);
-    assert!(rt; area.len() == 6);
-    area.drop_front(2);
-    check_area(&rt, "the front dropped", &area, b"cdef", 6);
-    area.truncate(9);
-    check_area(&rt, "cut behind its end", &area, b"cdef", 6);
-    area.truncate(1);
-    check_area(&rt, "cut to one byte", &area, b"c", 6);
-    assert!(rt; area.extend(2) == Ok(()));
-    check_area(&rt, "zeros where other bytes stood", &area, b"c\0\0", 6);
-    area.clear();
-    check_area(&rt, "cleared", &area, b"", 6);
+    for (what, call, fits, bytes, peak) in &STEPS {
+        let answer = perform(&mut area, call);
+        expect(&rt, what, answer.is_ok() == *fits);
+        check_area(&rt, what, &area, bytes, *peak);
+    }
     Ok(())
 }
 
