@@ -1,5 +1,5 @@
 #!/usr/bin/env python3
-"""Measures examples/query.py with tds_replay beside FreeTDS' tsql and freebcp on tools/stand_in.py, and what each loses.
+"""Measures `gavyreto query` with tds_replay beside FreeTDS' tsql and freebcp on tools/stand_in.py, and what each loses.
 
 usage: peers.py PROGRAM
 
@@ -24,8 +24,8 @@ RESPONSES = {
 }
 # The commands of the shell that put the rows of a response to standard output, or to the file OUT.
 CLIENTS = {
-    "query.py and tds_replay": '$TIMED "$QUERY" --server localhost --port $PORT --user reader --encrypt none '
-                               '--program ./timed --output "$OUT" "SELECT * FROM $NAME" 2> notes',
+    "gavyreto query and tds_replay": '$TIMED $QUERY -S localhost,$PORT -U reader --encrypt none --packet-size 4096 '
+                                     '--program ./timed -o "$OUT" "SELECT * FROM $NAME" 2> notes',
     "tsql": "printf 'SELECT * FROM %s\\ngo\\nexit\\n' $NAME | $TIMED tsql -S here -U reader -P secret -o q -t '|' > \"$OUT\" 2> notes",
     "freebcp": '$TIMED freebcp $NAME out "$OUT" -S here -U reader -P secret -c -t "|" > notes 2>&1',
 }
@@ -44,7 +44,7 @@ def run(client: str, name: str, out: str, folder: str, program: str) -> tuple[in
     costs = os.path.join(folder, "costs")
     timed = f"/usr/bin/time -a -q -o {costs} -f %U\\t%S\\t%M"
     variables = {
-        "QUERY": os.path.join(ROOT, "examples", "query.py"), "PROGRAM": program, "OUT": out, "NAME": name, "TIMED": timed,
+        "QUERY": f"{sys.executable} -m gavyreto query", "PYTHONPATH": os.path.join(ROOT, "python"), "PROGRAM": program, "OUT": out, "NAME": name, "TIMED": timed,
         "FREETDSCONF": os.path.join(folder, "freetds.conf"), "SQLCMDPASSWORD": "secret", "LC_ALL": "C.UTF-8",
     }
     if os.path.exists(costs):
@@ -130,7 +130,7 @@ def main(program: str) -> None:
             with open(os.path.join(folder, name + ".tds"), "wb") as file:
                 subprocess.run([sys.executable, os.path.join(ROOT, "tools", "response.py"), *words], stdout=file, check=True)
         with open(os.path.join(folder, "timed"), "w", encoding="utf-8") as script:
-            script.write('#!/bin/sh\nexec $TIMED "$PROGRAM" "$@"\n')
+            script.write('#!/bin/sh\ntest "$1" = --version || exec $TIMED "$PROGRAM" "$@"\nexec "$PROGRAM" "$@"\n')
         os.chmod(script.name, 0o755)
         table_of_costs(folder, os.path.abspath(program))
         print()

@@ -7,38 +7,39 @@ The client greets, logs in and asks once for each RESPONSE, a file of packets; t
 and each request, on port 1433. The login is encrypted, so each side sends a packet of type 12 (hexadecimal) before it; its
 bytes here are made up. In an answer of three segments or more one is sent twice, and two come in the wrong order. With
 --late the capture begins after the first request."""
+import os
 import struct
 import sys
+from typing import BinaryIO
+
+sys.dont_write_bytecode = True
+sys.path.insert(0, os.path.join(os.path.dirname(os.path.dirname(os.path.realpath(__file__))), "python"))
+from gavyreto import tds  # noqa: E402
 
 CLIENT, SERVER = (bytes([192, 0, 2, 10]), 50123), (bytes([192, 0, 2, 20]), 1433)
 SEGMENT = 1460
 SYN, PUSH, ACK = 2, 8, 16
+Side = tuple[bytes, int]  # address and port
 
 
-def packet(kind, payload):
-    return struct.pack(">BBHHBB", kind, 1, 8 + len(payload), 0, 1, 0) + payload
-
-
-def greeting(kind):
+def greeting(kind: int) -> bytes:
     """One option, the version, and the end of the options."""
-    return packet(kind, bytes([0, 0, 6, 0, 6, 0xFF]) + bytes([16, 0, 0x10, 0, 0, 0]))
+    return tds.packet(kind, bytes([0, 0, 6, 0, 6, 0xFF]) + bytes([16, 0, 0x10, 0, 0, 0]))
 
 
-def tls_record(kind, length):
+def tls_record(kind: int, length: int) -> bytes:
     """A record of TLS 1.2: 0x16 of the handshake, 0x17 of encrypted data."""
     return struct.pack(">BHH", kind, 0x0303, length) + bytes(range(256)) * (length // 256) + bytes(length % 256)
 
 
-def login_answer():
-    name = "Server".encode("utf-16-le")
-    body = b"\x01" + bytes.fromhex("74000004") + bytes([len(name) // 2]) + name + bytes([16, 0, 0x10, 0])
-    return packet(4, b"\xAD" + struct.pack("<H", len(body)) + body + b"\xFD" + bytes(12))
+def login_answer() -> bytes:
+    return tds.packet(tds.PacketType.ANSWER, tds.login_ack("Server") + tds.done())
 
 
-def sum_of(data):
+def sum_of(data: bytes) -> int:
     """The checksum of IPv4 and TCP."""
     data += bytes(len(data) % 2)
-    total = sum(struct.unpack(f">{len(data) // 2}H", data))
+    total = int(sum(struct.unpack(f">{len(data) // 2}H", data)))
     while total >> 16:
         total = (total & 0xFFFF) + (total >> 16)
     return ~total & 0xFFFF
@@ -47,51 +48,52 @@ def sum_of(data):
 class Capture:
     """The frames of a connection; `sent` is how many bytes each side has sent."""
 
-    def __init__(self):
-        self.frames, self.sent = [], {CLIENT: 1000, SERVER: 9000}
+    def __init__(self, client: Side = CLIENT) -> None:
+        self.frames: list[bytes] = []
+        self.client, self.sent = client, {client: 1000, SERVER: 9000}
 
-    def frame(self, source, flags, start, data=b""):
-        target = SERVER if source is CLIENT else CLIENT
+    def frame(self, source: Side, flags: int, start: int, data: bytes = b"") -> None:
+        target = SERVER if source is self.client else self.client
         answered = self.sent[target] if flags & ACK else 0
         tcp = struct.pack(">HHIIBBHHH", source[1], target[1], start, answered, 5 << 4, flags, 64000, 0, 0) + data
         ends = source[0] + target[0]
         tcp = tcp[:16] + struct.pack(">H", sum_of(ends + struct.pack(">HH", 6, len(tcp)) + tcp)) + tcp[18:]
-        ip = struct.pack(">BBHHHBBH", 0x45, 0, 20 + len(tcp), len(self.frames), 0, 64, 6, 0) + ends
+        ip = struct.pack(">BBHHHBBH", 0x45, 0, 20 + len(tcp), len(self.frames) % 65536, 0, 64, 6, 0) + ends
         ip = ip[:10] + struct.pack(">H", sum_of(ip)) + ip[12:]
         self.frames.append(bytes(12) + b"\x08\x00" + ip + tcp)
 
-    def open(self):
-        for source, flags in (CLIENT, SYN), (SERVER, SYN | ACK), (CLIENT, ACK):
+    def open(self) -> None:
+        for source, flags in (self.client, SYN), (SERVER, SYN | ACK), (self.client, ACK):
             self.frame(source, flags, self.sent[source])
             self.sent[source] += flags & SYN != 0
 
-    def send(self, source, data):
-        """In segments; of three or more the first is sent twice, and the second comes behind the third."""
+    def send(self, source: Side, data: bytes, is_disordered: bool = True) -> None:
+        """In segments; if they are disordered, the first of three or more is sent twice, and the second comes after the third."""
         starts = list(range(0, len(data), SEGMENT))
-        if len(starts) > 2:
+        if is_disordered and len(starts) > 2:
             starts[:3] = [starts[0], starts[0], starts[2], starts[1]]
         for start in starts:
             self.frame(source, PUSH | ACK, self.sent[source] + start, data[start:start + SEGMENT])
         self.sent[source] += len(data)
 
-    def write(self, out):
+    def write(self, out: BinaryIO) -> None:
         out.write(struct.pack("<IHHiIII", 0xA1B2C3D4, 2, 4, 0, 0, 65535, 1))
         for number, frame in enumerate(self.frames):
             out.write(struct.pack("<IIII", 1_700_000_000, number * 1000, len(frame), len(frame)) + frame)
 
 
-def main(paths, is_late):
+def main(paths: list[str], is_late: bool) -> None:
     capture = Capture()
     capture.open()
     capture.send(CLIENT, greeting(0x12))
     capture.send(SERVER, greeting(4))
-    capture.send(CLIENT, packet(0x12, tls_record(0x16, 200)))
-    capture.send(SERVER, packet(0x12, tls_record(0x16, 900)))
+    capture.send(CLIENT, tds.packet(0x12, tls_record(0x16, 200)))
+    capture.send(SERVER, tds.packet(0x12, tls_record(0x16, 900)))
     capture.send(CLIENT, tls_record(0x17, 300))
     capture.send(SERVER, login_answer())
     for number, path in enumerate(paths):
         with open(path, "rb") as response:
-            capture.send(CLIENT, packet(1, bytes(22) + "SELECT ..".encode("utf-16-le")))
+            capture.send(CLIENT, tds.packet(tds.PacketType.STATEMENT, tds.statement("SELECT ..")))
             if is_late and number == 0:
                 capture.frames.clear()
             capture.send(SERVER, response.read())

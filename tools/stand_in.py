@@ -7,31 +7,34 @@ It listens on the loopback address alone, at a port that is free, runs COMMAND w
 (the port; a file with its certificate, made on the spot by `openssl`), and ends with the status of COMMAND. It logs any
 client in. A statement with the word NAME is answered with the response in NAME.tds, in packets of the size that the client
 asked for, and one with the words FMTONLY ON too with its first description of columns alone, which `freebcp` asks for before
-it copies; every other statement with a response without rows. It is no database: what else a statement says isn't read.
+it copies; every other statement with a response without rows. A stored response whose last packet isn't marked as the last
+isn't ended before the client sends an attention. It is no database: what else a statement says isn't read.
 
-It stands on the packets of examples/query.py and the tokens of tools/response.py."""
+It stands on the packets and tokens of the package gavyreto, as the client that it tests does, so tests of it are held to
+other programs too: `tsql`, `freebcp` and `pymssql` read it, and `tshark` reads what `--record` keeps."""
 import argparse
+import functools
 import os
 import re
 import socket
 import ssl
-import struct
 import subprocess
 import sys
 import tempfile
 import threading
-from typing import BinaryIO, Iterable, Iterator, NoReturn
+from collections.abc import Iterable, Iterator
+from typing import BinaryIO, NoReturn, Optional
 
 sys.dont_write_bytecode = True
 ROOT = os.path.dirname(os.path.dirname(os.path.realpath(__file__)))
-sys.path[:0] = [os.path.join(ROOT, "examples"), os.path.join(ROOT, "tools")]
-import query  # noqa: E402
+sys.path[:0] = [os.path.join(ROOT, "python"), os.path.join(ROOT, "tools")]
 import response  # noqa: E402
-from query import ANSWER, LOGIN, NOT_SUPPORTED, OFF, ON, REQUIRED, STATEMENT, Channel  # noqa: E402
+from gavyreto import tds  # noqa: E402
+from gavyreto.connection import Channel  # noqa: E402
+from gavyreto.errors import BadAnswer  # noqa: E402
+from gavyreto.tds import Change, Encryption, PacketType  # noqa: E402
 
-ATTENTION = 0x06  # the type of the packet by which a client cancels
-CANCELLED = 0x20  # the status bit of the DONE that answers it
-ENCRYPTIONS = {"none": NOT_SUPPORTED, "login": OFF, "all": ON}
+ENCRYPTIONS = {"none": Encryption.NOT_SUPPORTED, "login": Encryption.OFF, "all": Encryption.ON}
 # What follows the byte of a type in a description, where that isn't nothing: lengths, scales, collations.
 TYPE_INFO_LENGTHS = {
     **dict.fromkeys([0x24, 0x26, 0x29, 0x2A, 0x2B, 0x68, 0x6E, 0x6F], 1), **dict.fromkeys([0xA5, 0xAD], 2),
@@ -39,41 +42,46 @@ TYPE_INFO_LENGTHS = {
 }
 
 
-def body_of(token: int, body: bytes) -> bytes:
-    return struct.pack("<BH", token, len(body)) + body
+class Recorded(Channel):
+    """A channel that keeps what the client sends, decrypted, in a file."""
 
+    def __init__(self, connected: socket.socket, seconds: int, path: Optional[str]) -> None:
+        super().__init__(connected, seconds)
+        self.path = path
 
-def counted(text: str) -> bytes:
-    """One byte that counts UTF-16 units, then the units."""
-    return bytes([len(text.encode("utf-16-le")) // 2]) + text.encode("utf-16-le")
-
-
-def changed(kind: int, new: bytes, old: bytes) -> bytes:
-    return body_of(query.ENV_CHANGE, bytes([kind]) + new + old)
+    def read_packet(self) -> tuple[bytes, bytes]:
+        header, body = super().read_packet()
+        if self.path:
+            with open(self.path, "ab") as file:
+                file.write(header + body)
+        return header, body
 
 
 def login_answer(size: int) -> bytes:
     """The database, the collation and the packet size, the server's version, and the end."""
     collation = bytes([len(response.COLLATION)]) + response.COLLATION
-    version = b"\x01" + bytes.fromhex("74000004") + counted("Stand-in") + bytes([16, 0, 0, 0])
     changes = [
-        changed(1, counted("master"), counted("master")), changed(7, collation, b"\0"),
-        changed(query.PACKET_SIZE_CHANGED, counted(str(size)), counted(str(query.FIRST_PACKET_SIZE))),
+        tds.change(Change.DATABASE, tds.counted("master"), tds.counted("master")), tds.change(Change.COLLATION, collation, b"\0"),
+        tds.change(Change.PACKET_SIZE, tds.counted(str(size)), tds.counted(str(tds.FIRST_PACKET_SIZE))),
     ]
-    return b"".join(changes) + body_of(query.LOGIN_ACK, version) + response.done()
-
-
-def password_of(login: bytes) -> str:
-    """The password of a LOGIN7, where it has one."""
-    place, units = struct.unpack_from("<HH", login, 44)
-    turned = bytes(byte ^ 0xA5 for byte in login[place:place + 2 * units])
-    return bytes(byte >> 4 | byte << 4 & 0xF0 for byte in turned).decode("utf-16-le")
+    return b"".join(changes) + tds.login_ack("Stand-in") + tds.done()
 
 
 def bodies_of(file: BinaryIO) -> Iterator[bytes]:
     """The bodies of the packets of a stored response."""
-    while header := file.read(8):
-        yield file.read(int.from_bytes(header[2:4], "big") - 8)
+    while header := file.read(tds.HEADER):
+        yield file.read(tds.length_of(header) - tds.HEADER)
+
+
+@functools.cache
+def is_ended(path: str) -> bool:
+    """Whether the last packet of a stored response is marked as the last."""
+    is_last = False
+    with open(path, "rb") as file:
+        while header := file.read(tds.HEADER):
+            file.seek(tds.length_of(header) - tds.HEADER, os.SEEK_CUR)
+            is_last = bool(header[1] & tds.LAST)
+    return is_last
 
 
 def description_in(payload: bytes) -> bytes:
@@ -89,9 +97,9 @@ def description_in(payload: bytes) -> bytes:
 class Session:
     """One client's connection, from its greeting to its end."""
 
-    def __init__(self, channel: Channel, asked: argparse.Namespace, context: ssl.SSLContext):
+    def __init__(self, channel: Channel, asked: argparse.Namespace, context: ssl.SSLContext) -> None:
         self.channel, self.asked, self.context = channel, asked, context
-        self.size = query.FIRST_PACKET_SIZE
+        self.size = tds.FIRST_PACKET_SIZE
 
     def run(self) -> None:
         if self.greet() and self.log_in():
@@ -101,71 +109,87 @@ class Session:
     def greet(self) -> bool:
         """Agrees on encryption, as the table of PRELOGIN in MS-TDS has it. Returns whether client and server agree."""
         _, greeting = self.channel.read_message()
-        client, own = query.encryption_of(greeting), ENCRYPTIONS[self.asked.encrypt]
-        if own == ON:
-            answered = ON if client == ON else REQUIRED
-        elif NOT_SUPPORTED in (client, own):
-            answered = NOT_SUPPORTED
+        client, own = tds.encryption_of(greeting), ENCRYPTIONS[self.asked.encrypt]
+        if own == Encryption.ON:
+            answered = Encryption.ON if client == Encryption.ON else Encryption.REQUIRED
+        elif Encryption.NOT_SUPPORTED in (client, own):
+            answered = Encryption.NOT_SUPPORTED
         else:
             answered = client
-        self.channel.write_message(ANSWER, query.prelogin_of(answered))
-        if answered != NOT_SUPPORTED and client != NOT_SUPPORTED:
+        self.channel.write_message(PacketType.ANSWER, tds.prelogin(answered))
+        if answered != Encryption.NOT_SUPPORTED and client != Encryption.NOT_SUPPORTED:
             self.channel.encrypt(self.context, server_side=True)
-        self.login_alone = answered == OFF
-        return answered == NOT_SUPPORTED or client != NOT_SUPPORTED
+        self.login_alone = answered == Encryption.OFF
+        return answered == Encryption.NOT_SUPPORTED or client != Encryption.NOT_SUPPORTED
 
     def log_in(self) -> bool:
-        kind, login = self.channel.read_message()
+        kind, message = self.channel.read_message()
         if self.login_alone:
             self.channel.uncover()
-        if kind != LOGIN:
+        if kind != PacketType.LOGIN:
             return False
-        if self.asked.password is not None and password_of(login) != self.asked.password:
-            refused = response.server_error(18456, "Login failed for this user.", 1)
-            self.channel.write_message(ANSWER, refused + response.done(response.FAILED))
+        login = tds.login_of(message)
+        if self.asked.password is not None and login.password != self.asked.password:
+            refused = tds.server_error(18456, "Login failed for this user.", 1)
+            self.channel.write_message(PacketType.ANSWER, refused + tds.done(tds.FAILED))
             return False
-        self.size = min(max(struct.unpack_from("<I", login, 8)[0], query.LEAST_PACKET_SIZE), query.GREATEST_PACKET_SIZE)
-        self.channel.write_message(ANSWER, login_answer(self.size))
+        if self.asked.route:
+            host, port = self.asked.route.split(",")
+            redirected = tds.login_ack("Stand-in") + tds.routing(host, int(port)) + tds.done()
+            self.channel.write_message(PacketType.ANSWER, redirected)
+            return False
+        self.size = min(max(login.packet_size, tds.LEAST_PACKET_SIZE), tds.GREATEST_PACKET_SIZE)
+        self.channel.write_message(PacketType.ANSWER, login_answer(self.size))
         return True
 
     def answer(self, kind: int, payload: bytes) -> None:
-        if kind == STATEMENT:
-            headers = struct.unpack_from("<I", payload)[0]
-            self.answer_statement(payload[headers:].decode("utf-16-le"))
-        elif kind == ATTENTION:
-            self.send([response.done(CANCELLED)])
+        if kind == PacketType.STATEMENT:
+            self.answer_statement(tds.statement_of(payload))
+        elif kind == PacketType.ATTENTION:
+            self.send([tds.done(tds.CANCELLED)])
         else:
-            refused = response.server_error(50000, f"Messages of type 0x{kind:02x} aren't read here.", 1)
-            self.send([refused + response.done(response.FAILED)])
+            refused = tds.server_error(50000, f"Messages of type 0x{kind:02x} aren't read here.", 1)
+            self.send([refused + tds.done(tds.FAILED)])
 
     def answer_statement(self, statement: str) -> None:
         path = next((self.asked.answers[word] for word in re.findall(r"\w+", statement) if word in self.asked.answers), None)
         if path is None:
-            self.send([response.done()])
+            self.send([tds.done()])
             return
         with open(path, "rb") as stored:
             if re.search(r"\bFMTONLY\s+ON\b", statement, re.IGNORECASE):
-                self.send([description_in(next(bodies_of(stored))), response.done()])
-            else:
+                self.send([description_in(next(bodies_of(stored))), tds.done()])
+            elif is_ended(path):
                 self.send(bodies_of(stored))
+            else:
+                self.hold(bodies_of(stored))
 
     def send(self, bodies: Iterable[bytes]) -> None:
         """An answer in packets of the size agreed; its connection is cut where that was asked for."""
         left = self.asked.cut_after
-        for packet in response.packets(bodies, self.size):
+        for packet in tds.packets(bodies, self.size):
             if left is not None and left < len(packet):
-                self.channel.write(bytes(packet[:left]))
+                self.channel.write(packet[:left])
                 raise EOFError
             left = None if left is None else left - len(packet)
-            self.channel.write(bytes(packet))
+            self.channel.write(packet)
+
+    def hold(self, bodies: Iterable[bytes]) -> None:
+        """An answer that isn't ended before the client sends an attention."""
+        for packet in tds.packets(bodies, self.size):
+            self.channel.write(tds.packet(PacketType.ANSWER, packet[tds.HEADER:], False))
+        kind, _ = self.channel.read_message()
+        if kind != PacketType.ATTENTION:
+            raise EOFError
+        self.send([tds.done(tds.CANCELLED)])
 
 
 def serve(connected: socket.socket, asked: argparse.Namespace, context: ssl.SSLContext) -> None:
     """A session, which ends where the client goes, or does what a client of this protocol doesn't."""
     with connected:
         try:
-            Session(Channel(connected), asked, context).run()
-        except (EOFError, OSError, query.Stopped):
+            Session(Recorded(connected, asked.seconds, asked.record), asked, context).run()
+        except (EOFError, OSError, ValueError, BadAnswer):
             pass
 
 
@@ -173,7 +197,6 @@ def accept(listening: socket.socket, asked: argparse.Namespace, context: ssl.SSL
     """A thread for each of the connections, up to as many as are allowed."""
     for _ in range(asked.connections):
         connected, _ = listening.accept()
-        connected.settimeout(asked.seconds)
         connected.setsockopt(socket.IPPROTO_TCP, socket.TCP_NODELAY, 1)
         threading.Thread(target=serve, args=(connected, asked, context), daemon=True).start()
     listening.close()
@@ -183,7 +206,7 @@ def certificate_in(folder: str, names: str) -> tuple[str, str]:
     """Makes a certificate for these names, and its key."""
     certificate, key = os.path.join(folder, "certificate.pem"), os.path.join(folder, "key.pem")
     subprocess.run(
-        ["openssl", "req", "-x509", "-newkey", "rsa:2048", "-nodes", "-days", "1", "-subj", "/CN=localhost",
+        ["openssl", "req", "-x509", "-newkey", "ec", "-pkeyopt", "ec_paramgen_curve:prime256v1", "-nodes", "-days", "1", "-subj", "/CN=localhost",
          "-addext", "subjectAltName=" + names, "-keyout", key, "-out", certificate],
         check=True, stdin=subprocess.DEVNULL, capture_output=True,
     )
@@ -196,6 +219,8 @@ def arguments() -> argparse.Namespace:
     add("--encrypt", choices=ENCRYPTIONS, default="login", help="what the server encrypts (without it login)")
     add("--names", default="DNS:localhost,IP:127.0.0.1", help="of the certificate, as openssl's subjectAltName has them")
     add("--password", help="any other one is refused")
+    add("--route", metavar="HOST,PORT", help="each client is redirected to another server")
+    add("--record", metavar="FILE", help="keeps the packets that clients send, decrypted")
     add("--cut-after", metavar="N", type=int, help="closes the connection after N bytes of an answer to a statement")
     add("--connections", metavar="N", type=int, default=100, help="the most that are accepted")
     add("--seconds", metavar="N", type=int, default=100, help="the longest that COMMAND may take, or a client be silent")

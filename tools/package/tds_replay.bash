@@ -13,7 +13,7 @@ _tds_replay() {
         --column-room | --max-wire) return ;;
     esac
     if ((COMP_CWORD == 1)) || { ((COMP_CWORD == 2)) && [[ $command == help ]]; }; then
-        mapfile -t COMPREPLY < <(compgen -W "export check recut help --help" -- "$word")
+        mapfile -t COMPREPLY < <(compgen -W "export check recut help --help --version -h -V" -- "$word")
         return
     fi
     local options="--packet-size --max-wire --help"

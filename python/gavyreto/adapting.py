@@ -1,0 +1,246 @@
+"""Responses with columns that tds_replay refuses, rewritten with types that it reads (MS-TDS, Data Type Definitions).
+
+float and real become varchar, with the shortest text that reads back to the same bits; xml and ntext nvarchar(max), text
+varchar(max), image and CLR types varbinary(max); sql_variant nvarchar(max), with the text of its base type. All else stays."""
+from __future__ import annotations
+
+import struct
+from typing import Callable, Iterator, NamedTuple, Optional
+
+from gavyreto import columns, tds
+from gavyreto.columns import FIXED, Described, Type
+from gavyreto.payload import (
+    NBCROW, RETURN_VALUE, ROW, Payload, Read, Write, after_rows, bytes_of_bitmap, cell, head_of_value, rest_of, ways_over,
+)
+from gavyreto.scalars import TEXTS
+
+COLLATION = bytes.fromhex("0904D00034")
+NULL_VALUE, NULL_CHUNKS, NO_MORE = b"\xFF\xFF", b"\xFF" * 8, bytes(4)
+TEXT_OF_FLOAT = 40  # characters at most
+MAX = b"\xFF\xFF"
+Convert = Callable[[Payload, Type], Iterator[bytes]]
+
+
+class Adapted(NamedTuple):
+    """The type that takes a type's place, with its byte, and what makes its values."""
+
+    info: bytes
+    convert: Convert
+
+
+# Values: the bytes of the new one, made while those of the old one are read.
+
+def _float(payload: Payload, type_: Type) -> Iterator[bytes]:
+    length = FIXED[type_.byte] if type_.byte in FIXED else payload.number(1)
+    if length == 0:
+        yield NULL_VALUE
+        return
+    text = TEXTS[columns.FLT8 if length == 8 else columns.FLT4](payload.need(length), 0).encode()
+    yield struct.pack("<H", len(text)) + text
+
+
+def _old(payload: Payload, _: Type) -> Iterator[bytes]:
+    """A value after a pointer and a timestamp, which are left out, as one chunk."""
+    pointer = payload.number(1)
+    if pointer == 0:
+        yield NULL_CHUNKS
+        return
+    payload.skip(pointer + 8)
+    length = payload.number(4)
+    yield struct.pack("<Q", length) + (struct.pack("<I", length) if length else b"")
+    yield from payload.pieces(length)
+    yield NO_MORE
+
+
+def _same(payload: Payload, type_: Type) -> Iterator[bytes]:
+    return cell(payload, type_)
+
+
+def _variant(charset: str) -> Convert:
+    def convert(payload: Payload, _: Type) -> Iterator[bytes]:
+        length = payload.number(4)
+        if length == 0:
+            yield NULL_CHUNKS
+            return
+        base, size = payload.number(1), payload.number(1)
+        properties = payload.need(size)
+        data = variant_text(base, properties, payload.need(length - 2 - size), charset).encode("utf-16-le", "surrogatepass")
+        yield struct.pack("<Q", len(data)) + (struct.pack("<I", len(data)) + data if data else b"") + NO_MORE
+    return convert
+
+
+def variant_text(base: int, properties: bytes, data: bytes, charset: str) -> str:
+    """The text of a value of a sql_variant, by its base type and what that has besides. Raises ValueError if there is none."""
+    if base in TEXTS:
+        return TEXTS[base](data, properties[-1] if properties else 0)
+    if base in (columns.VARBINARY, columns.BINARY):
+        return "0x" + data.hex()
+    if base in (columns.NVARCHAR, columns.NCHAR):
+        return data.decode("utf-16-le", "surrogatepass")
+    if base in (columns.VARCHAR, columns.CHAR):
+        return data.decode("utf-8") if charset == "utf-8" else windows_1252(data)
+    raise ValueError(f"no base type of a sql_variant: 0x{base:02x}")
+
+
+def windows_1252(data: bytes) -> str:
+    """As tds_replay reads it: the five bytes that the code page leaves open stand for themselves."""
+    return "".join(chr(byte) if byte in (0x81, 0x8D, 0x8F, 0x90, 0x9D) else bytes([byte]).decode("cp1252") for byte in data)
+
+
+def adapted(type_: Type, charset: str) -> Optional[Adapted]:
+    """What takes the place of a type, or None if it stays."""
+    if type_.byte in (columns.FLT4, columns.FLT8, columns.FLTN):
+        return Adapted(struct.pack("<BH", columns.VARCHAR, TEXT_OF_FLOAT) + COLLATION, _float)
+    if type_.byte == columns.TEXT:
+        return Adapted(bytes([columns.VARCHAR]) + MAX + type_.info[4:9], _old)
+    if type_.byte == columns.NTEXT:
+        return Adapted(bytes([columns.NVARCHAR]) + MAX + type_.info[4:9], _old)
+    if type_.byte == columns.IMAGE:
+        return Adapted(bytes([columns.VARBINARY]) + MAX, _old)
+    if type_.byte == columns.UDT:
+        return Adapted(bytes([columns.VARBINARY]) + MAX, _same)
+    if type_.byte == columns.XML:
+        return Adapted(bytes([columns.NVARCHAR]) + MAX + COLLATION, _same)
+    return Adapted(bytes([columns.NVARCHAR]) + MAX + COLLATION, _variant(charset)) if type_.byte == columns.VARIANT else None
+
+
+# Packets: those that came, up to the first change; from there on packets of the greatest size that came.
+
+class Output:
+    """Writes a payload of which some bytes are kept and others are put in the place of what came."""
+
+    def __init__(self, write: Write) -> None:
+        self._write = write
+        self._held: list[bytes] = []  # packets that came and weren't written
+        self._kept = 0  # bytes of their bodies that stay
+        self._waiting: Optional[bytearray] = None  # after a change: payload that wasn't written
+        self._size, self._number = tds.LEAST_PACKET_SIZE, 0
+
+    def came(self, packet: bytes) -> None:
+        """A packet was read, of which nothing is decided."""
+        self._size = max(self._size, len(packet))
+        if self._waiting is None:
+            self._held.append(packet)
+
+    def keep(self, data: bytes) -> None:
+        """The next bytes of the payload stay."""
+        if self._waiting is not None:
+            self.put(data)
+            return
+        self._kept += len(data)
+        while len(self._held) > 1 and len(self._held[0]) - tds.HEADER <= self._kept:
+            self._kept -= len(self._held[0]) - tds.HEADER
+            self._write_one(self._held.pop(0))
+
+    def put(self, data: bytes) -> None:
+        """These bytes take the place of what was read and not kept."""
+        if self._waiting is None:
+            self._waiting = bytearray(b"".join(packet[tds.HEADER:] for packet in self._held)[:self._kept])
+        self._waiting += data
+        body = self._size - tds.HEADER
+        while len(self._waiting) > body:
+            self._write_one(tds.packet(tds.PacketType.ANSWER, self._waiting[:body], False, self._number + 1))
+            del self._waiting[:body]
+
+    def _write_one(self, packet: bytes) -> None:
+        self._number += 1
+        self._write(packet)
+
+    def finish(self, is_whole: bool) -> None:
+        """Writes what waits; of a payload that is whole the last packet is marked."""
+        if self._waiting is None:
+            for packet in self._held:
+                self._write_one(packet)
+        else:
+            self._write_one(tds.packet(tds.PacketType.ANSWER, self._waiting, is_whole, self._number + 1))
+
+
+class Adapter:
+    """Rewrites one response, in fixed memory. What can't be followed raises ValueError."""
+
+    def __init__(self, read: Read, write: Write, charset: str) -> None:
+        self._output, self._charset = Output(write), charset
+        self._payload = Payload(read, self._output.came)
+        self._columns: Optional[list[Described]] = None
+        self._adapted: list[Optional[Adapted]] = []  # what takes the place of each column's type
+        self._ways: list[int] = []  # over the values of a row, if none of them changes
+
+    def run(self) -> None:
+        """Reads the response and writes it. Raises `payload.Ended` if its packets end before its last one, and ValueError if it
+        can't be followed; what came before is written then."""
+        is_whole = False
+        try:
+            while self._payload.has(1):
+                self._token(self._payload.number(1))
+            is_whole = True
+        finally:
+            self._output.finish(is_whole)
+
+    def _token(self, byte: int) -> None:
+        if byte == tds.Token.COLUMNS:
+            self._description()
+        elif byte in (ROW, NBCROW):
+            self._row(byte)
+        elif byte == RETURN_VALUE:
+            self._return_value()
+        else:
+            self._output.keep(bytes([byte]))
+            for piece in rest_of(self._payload, byte):
+                self._output.keep(piece)
+
+    def _description(self) -> None:
+        """A description of columns is written once it is whole: as it came, or with other types."""
+        came = bytearray([tds.Token.COLUMNS])
+
+        def need(length: int) -> bytes:
+            data = self._payload.need(length)
+            came.extend(data)
+            return data
+
+        described = columns.read_description(need)
+        self._columns = described
+        self._adapted = [adapted(column.type, self._charset) for column in described or []]
+        self._ways = [] if any(self._adapted) else ways_over(described or [])
+        if any(self._adapted):
+            heads = [self._described(column, new) for column, new in zip(described or [], self._adapted)]
+            self._output.put(bytes(came[:3]) + b"".join(heads))
+        else:
+            self._output.keep(bytes(came))
+
+    def _described(self, column: Described, new: Optional[Adapted]) -> bytes:
+        info = new.info if new else bytes([column.type.byte]) + column.type.info
+        return struct.pack("<IH", column.user_type, column.flags) + info + column.spelt_name
+
+    def _row(self, byte: int) -> None:
+        bitmap = self._payload.need(bytes_of_bitmap(byte, self._columns))
+        self._output.keep(bytes([byte]) + bitmap)
+        bits = int.from_bytes(bitmap, "little")
+        for place, (column, new) in enumerate(zip(self._columns or [], self._adapted)):
+            if not bits >> place & 1:
+                self._value(column.type, new)
+        self._keep_rows()
+
+    def _value(self, type_: Type, new: Optional[Adapted]) -> None:
+        """A value, as it is or converted. What comes of it in pieces is written in pieces."""
+        if new is None:
+            for piece in cell(self._payload, type_):
+                self._output.keep(piece)
+        else:
+            for piece in new.convert(self._payload, type_):
+                self._output.put(piece)
+
+    def _keep_rows(self) -> None:
+        """Keeps the rows that are whole in what was read, if no value of them changes."""
+        start = self._payload.at
+        self._payload.at = after_rows(self._payload.data, start, self._ways)
+        self._output.keep(self._payload.data[start:self._payload.at])
+
+    def _return_value(self) -> None:
+        self._output.keep(bytes([RETURN_VALUE]) + head_of_value(self._payload))
+        type_ = columns.read_type(self._payload.need)
+        new = adapted(type_, self._charset)
+        if new:
+            self._output.put(new.info)
+        else:
+            self._output.keep(bytes([type_.byte]) + type_.info)
+        self._value(type_, new)

@@ -1,0 +1,209 @@
+"""Descriptions of columns: their types as SQL writes them (MS-TDS, COLMETADATA, Data Type Definitions)."""
+from __future__ import annotations
+
+import struct
+from typing import Callable, NamedTuple, Optional, Union
+
+Need = Callable[[int], bytes]  # hands out as many bytes as it is asked for, or raises `payload.Ended`
+
+# Types without a length, and how many bytes a value has.
+FIXED = {0x1F: 0, 0x30: 1, 0x32: 1, 0x34: 2, 0x38: 4, 0x3A: 4, 0x3B: 4, 0x3C: 8, 0x3D: 8, 0x3E: 8, 0x7A: 4, 0x7F: 8}
+# Types with a length of one byte before each value, and how many bytes follow the type's byte.
+COUNTED = {0x24: 1, 0x26: 1, 0x28: 0, 0x29: 1, 0x2A: 1, 0x2B: 1, 0x68: 1, 0x6A: 3, 0x6C: 3, 0x6D: 1, 0x6E: 1, 0x6F: 1}
+# Types with a length of two bytes before each value, or in chunks if they are described as FFFF long.
+LONG = {0xA5: 2, 0xAD: 2, 0xA7: 7, 0xAF: 7, 0xE7: 7, 0xEF: 7}
+GUID, DATE, TIME, DATETIME2, DATETIMEOFFSET, DECIMAL, NUMERIC = 0x24, 0x28, 0x29, 0x2A, 0x2B, 0x6A, 0x6C
+FLT4, FLT8, FLTN, IMAGE, TEXT, NTEXT, VARIANT, UDT, XML = 0x3B, 0x3E, 0x6D, 0x22, 0x23, 0x63, 0x62, 0xF0, 0xF1
+VARBINARY, VARCHAR, BINARY, CHAR, NVARCHAR, NCHAR = 0xA5, 0xA7, 0xAD, 0xAF, 0xE7, 0xEF
+MAX = 0xFFFF
+ROWVERSION = 80  # the user type of a rowversion, which is a binary(8) otherwise
+NULLABLE = 0x0001  # a bit of the flags
+
+NAMES = {
+    0x30: "tinyint", 0x32: "bit", 0x34: "smallint", 0x38: "int", 0x7F: "bigint", 0x3A: "smalldatetime", 0x3D: "datetime",
+    0x7A: "smallmoney", 0x3C: "money", FLT4: "real", FLT8: "float", GUID: "uniqueidentifier", DATE: "date", 0x68: "bit",
+    IMAGE: "image", TEXT: "text", NTEXT: "ntext", VARIANT: "sql_variant", XML: "xml",
+}
+SIZED = {
+    0x26: {1: "tinyint", 2: "smallint", 4: "int", 8: "bigint"}, FLTN: {4: "real", 8: "float"}, 0x6E: {4: "smallmoney", 8: "money"},
+    0x6F: {4: "smalldatetime", 8: "datetime"},
+}
+SCALED = {TIME: "time", DATETIME2: "datetime2", DATETIMEOFFSET: "datetimeoffset"}
+LENGTHY = {VARBINARY: "varbinary", VARCHAR: "varchar", BINARY: "binary", CHAR: "char", NVARCHAR: "nvarchar", NCHAR: "nchar"}
+WHOLE = ("tinyint", "smallint", "int", "bigint")
+
+
+class Type(NamedTuple):
+    """A type: its byte, the bytes of its description after that, and what they say."""
+
+    byte: int
+    info: bytes
+    length: Optional[int] = None  #: bytes of a value at most, as described; FFFF stands for (max)
+    precision: Optional[int] = None
+    scale: Optional[int] = None
+    name: str = ""  #: of a CLR type: database, schema and type
+
+    def is_chunked(self) -> bool:
+        """Whether its values come in chunks."""
+        return self.byte in (XML, UDT) or self.byte in LONG and self.length == MAX
+
+    def sql(self) -> str:
+        """As SQL writes it, for example `decimal(18,4)`. Raises KeyError for a type that no server of today sends."""
+        if self.byte in SIZED:
+            return SIZED[self.byte][self.length or 0]
+        if self.byte in (DECIMAL, NUMERIC):
+            return f"{'decimal' if self.byte == DECIMAL else 'numeric'}({self.precision},{self.scale})"
+        if self.byte in SCALED:
+            return f"{SCALED[self.byte]}({self.scale})"
+        if self.byte in LENGTHY:
+            units = (self.length or 0) // (2 if self.byte in (NVARCHAR, NCHAR) else 1)
+            return f"{LENGTHY[self.byte]}({'max' if self.length == MAX else units})"
+        return self.name if self.byte == UDT else NAMES[self.byte]
+
+
+class Column(NamedTuple):
+    """A column of a result set."""
+
+    name: str
+    type: str  #: as SQL writes it, for example `decimal(18,4)` or `nvarchar(50)`
+    length: Optional[int]  #: the most bytes of a value, or characters of nchar and nvarchar; None if there is no limit, or it is fixed
+    precision: Optional[int]  #: digits of a decimal
+    scale: Optional[int]  #: digits after the point, of a decimal or a second
+    nullable: bool
+
+
+def read_type(need: Need) -> Type:
+    """Reads a type from its byte on. Raises ValueError for one that MS-TDS doesn't have."""
+    byte, = need(1)
+    if byte in FIXED:
+        return Type(byte, b"")
+    if byte in COUNTED:
+        return _counted(byte, need(COUNTED[byte]))
+    if byte in LONG or byte == VARIANT:
+        info = need(LONG.get(byte, 4))
+        return Type(byte, info, int.from_bytes(info[:2] if byte in LONG else info, "little"))
+    if byte in (TEXT, NTEXT, IMAGE):
+        return _old(byte, need)
+    if byte == XML:
+        return _xml(need)
+    if byte == UDT:
+        return _clr(need)
+    raise ValueError(f"no type: 0x{byte:02x}")
+
+
+def _old(byte: int, need: Need) -> Type:
+    """Text, ntext or image: the length, of text the collation, and the name of the table in parts."""
+    info = need(4 if byte == IMAGE else 9)
+    parts = need(1)
+    return Type(byte, info + parts + b"".join(_counted_by_two(need) for _ in range(parts[0])), int.from_bytes(info[:4], "little"))
+
+
+def _xml(need: Need) -> Type:
+    """Whether there is a schema, and its names."""
+    flag = need(1)
+    return Type(XML, flag + b"".join((_counted_by_one(need), _counted_by_one(need), _counted_by_two(need))) if flag[0] else flag)
+
+
+def _clr(need: Need) -> Type:
+    """The length, the names of database, schema and type, and that of the assembly."""
+    length, names = need(2), [_counted_by_one(need) for _ in range(3)]
+    name = ".".join(it[1:].decode("utf-16-le", "replace") for it in names if len(it) > 1)
+    return Type(UDT, length + b"".join(names) + _counted_by_two(need), int.from_bytes(length, "little"), name=name)
+
+
+def _counted(byte: int, info: bytes) -> Type:
+    if byte in (DECIMAL, NUMERIC):
+        return Type(byte, info, *info)
+    if byte in SCALED:
+        return Type(byte, info, scale=info[0])
+    return Type(byte, info, info[0] if info else None)
+
+
+def _counted_by_one(need: Need) -> bytes:
+    count = need(1)
+    return count + need(2 * count[0])
+
+
+def _counted_by_two(need: Need) -> bytes:
+    count = need(2)
+    return count + need(2 * struct.unpack("<H", count)[0])
+
+
+class Described(NamedTuple):
+    """A column as its description has it."""
+
+    user_type: int
+    flags: int
+    type: Type
+    spelt_name: bytes  #: a byte that counts UTF-16 units, then the units
+
+    @property
+    def name(self) -> str:
+        return self.spelt_name[1:].decode("utf-16-le", "replace")
+
+    def column(self) -> Column:
+        type_, sql = self.type, "rowversion" if self.user_type == ROWVERSION and self.type.byte == BINARY else self.type.sql()
+        length = None if type_.byte not in LENGTHY or type_.length in (MAX, None) else type_.length
+        if length is not None and type_.byte in (NVARCHAR, NCHAR):
+            length //= 2
+        return Column(self.name, sql, length, type_.precision, type_.scale, bool(self.flags & NULLABLE))
+
+
+def read_description(need: Need) -> Optional[list[Described]]:
+    """Reads a COLMETADATA after its token byte; None if it has no metadata."""
+    count, = struct.unpack("<H", need(2))
+    if count == 0xFFFF:
+        return None
+    columns = []
+    for _ in range(count):
+        user_type, flags = struct.unpack("<IH", need(6))
+        type_ = read_type(need)
+        columns.append(Described(user_type, flags, type_, _counted_by_one(need)))
+    return columns
+
+
+# Tables that have room for all values of a column, as `gavyreto.export` gives them.
+
+def _whole(type_: str) -> bool:
+    return type_ in WHOLE or type_.startswith(("decimal", "numeric")) and type_.endswith(",0)")
+
+
+def sqlite_type(column: Column) -> str:
+    """The type of a column of SQLite, in which each value is stored as it is: decimals and dates as text, with all digits."""
+    if column.type in ("bit", *WHOLE):
+        return "INTEGER"
+    return "BLOB" if column.type.startswith(("binary", "varbinary", "rowversion")) else "TEXT"
+
+
+def postgresql_type(column: Column) -> str:
+    """The type of a column of PostgreSQL. Times of seven digits stay text, since PostgreSQL has six; a datetimeoffset too, since
+    a timestamptz keeps no offset."""
+    known = {
+        "tinyint": "smallint", "smallint": "smallint", "int": "integer", "bigint": "bigint", "bit": "boolean", "uniqueidentifier": "uuid",
+        "date": "date", "smalldatetime": "timestamp(0)", "datetime": "timestamp(3)", "smallmoney": "numeric(10,4)", "money": "numeric(19,4)",
+    }
+    kind = column.type.partition("(")[0]
+    if column.type in known:
+        return known[column.type]
+    if kind in ("decimal", "numeric"):
+        return f"numeric({column.precision},{column.scale})"
+    if kind in ("time", "datetime2") and column.scale != 7:
+        return f"{'time' if kind == 'time' else 'timestamp'}({column.scale})"
+    return "bytea" if kind in ("binary", "varbinary", "rowversion") else "text"
+
+
+def create_table(table: str, columns: list[Column], type_of: Callable[[Column], str]) -> str:
+    """The statement that creates a table with these columns. Raises ValueError if two have one name, or one has none."""
+    names = [column.name for column in columns]
+    if "" in names or len({name.lower() for name in names}) < len(names):
+        raise ValueError("a column without a name, or two of one name: name them in the query")
+    lines = [f"    {quoted(column.name)} {type_of(column)}{'' if column.nullable else ' NOT NULL'}" for column in columns]
+    return f"CREATE TABLE {quoted(table)} (\n" + ",\n".join(lines) + "\n);\n"
+
+
+def quoted(name: str) -> str:
+    return '"' + name.replace('"', '""') + '"'
+
+
+TABLES: dict[str, Callable[[Column], str]] = {"sqlite": sqlite_type, "postgresql": postgresql_type}
+Description = Union[None, list[Described]]

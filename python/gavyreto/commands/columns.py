@@ -1,0 +1,75 @@
+"""Prints the columns of a recorded response: as CSV, or as statements that create tables for its rows.
+
+Of each result set the columns with name, type as SQL writes it, length, precision, scale, and whether NULL is allowed. With
+--as sqlite or --as postgresql a CREATE TABLE, whose columns have room for all that `gavyreto.export` gives.
+
+The status is 0; 4 if the response ends too early or can't be followed, 5 if it can't be read, 2 if the arguments are refused, or
+a table can't be made of the columns' names."""
+from __future__ import annotations
+
+import argparse
+import sys
+from typing import IO, Union
+
+from gavyreto.commands import BAD_INPUT, FAILED, REFUSED, say
+from gavyreto.columns import TABLES, Column, create_table
+from gavyreto.payload import Ended, Payload, descriptions
+
+HEADER = ("set", "name", "type", "length", "precision", "scale", "nullable")
+
+
+def arguments(words: list[str]) -> argparse.Namespace:
+    parser = argparse.ArgumentParser(prog="gavyreto columns", description=__doc__, formatter_class=argparse.RawDescriptionHelpFormatter)
+    parser.add_argument("--as", dest="form", choices=["csv", *TABLES], default="csv", help="what is printed, without it csv")
+    parser.add_argument("--table", metavar="NAME", help="of the table, without it response; {} is the number of the set, from 1")
+    parser.add_argument("file", metavar="FILE", nargs="?", default="-", help="the response; without it, or if it is -, standard input")
+    return parser.parse_args(words)
+
+
+def line(values: tuple[Union[None, int, str], ...]) -> str:
+    """A line as tds_replay writes it."""
+    return ",".join("NULL" if it is None else str(it) if isinstance(it, int) else '"' + it.replace('"', '""') + '"' for it in values) + "\r\n"
+
+
+def as_csv(sets: list[list[Column]]) -> str:
+    lines = [line(HEADER)]
+    for number, columns in enumerate(sets, 1):
+        lines += [line((number, it.name, it.type, it.length, it.precision, it.scale, int(it.nullable))) for it in columns]
+    return "".join(lines)
+
+
+def as_tables(sets: list[list[Column]], asked: argparse.Namespace) -> str:
+    """Raises ValueError if there is no table for a set."""
+    table = asked.table or ("response" if len(sets) < 2 else "response{}")
+    if len(sets) > 1 and "{}" not in table:
+        raise ValueError(f"{len(sets)} sets, and one table: a name with {{}} gets the number of each")
+    return "".join(create_table(table.replace("{}", str(number)), columns, TABLES[asked.form]) for number, columns in enumerate(sets, 1))
+
+
+def sets_of(file: IO[bytes]) -> list[list[Column]]:
+    return [[column.column() for column in described] for described in descriptions(Payload(file.read))]
+
+
+def run(words: list[str]) -> int:
+    """The command `columns`. Returns its exit status."""
+    asked = arguments(words)
+    try:
+        with open(0 if asked.file == "-" else asked.file, "rb", closefd=asked.file != "-") as file:
+            sets = sets_of(file)
+    except Ended:
+        return said("the response ends before its last packet", BAD_INPUT)
+    except (ValueError, KeyError) as wrong:
+        return said(f"the response can't be followed: {wrong}", BAD_INPUT)
+    except OSError as failure:
+        return said(f"{asked.file}: {failure.strerror}", FAILED)
+    try:
+        text = as_csv(sets) if asked.form == "csv" else as_tables(sets, asked)
+    except ValueError as refused:
+        return said(str(refused), REFUSED)
+    sys.stdout.buffer.write(text.encode("utf-8"))
+    return 0
+
+
+def said(what: str, status: int) -> int:
+    say(what + "\n")
+    return status

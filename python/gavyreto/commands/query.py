@@ -1,0 +1,389 @@
+"""Asks a SQL Server, and writes the rows of its answers as quoted CSV by tds_replay.
+
+Each STATEMENT is sent on one connection, one after the other. Without one they are read from the files of -i, or from
+standard input, where a line GO ends a statement, and a line GO N sends it N times. On standard output an empty line
+separates two texts, as it does two result sets. The login is by SQL authentication; the password is read from the variable
+SQLCMDPASSWORD, or asked for. The server's certificate is verified. Everything is encrypted, unless --encrypt says less.
+
+The lines on standard error are those of tds_replay, and so is the status: 0, 3 if the server reported an error or refused the
+login, 4 if its answer can't be read, 5 if the connection or a write failed; 2 if the arguments are refused, 130 after Ctrl-C.
+The first statement whose status isn't 0 is the last one sent. A transaction has to end in the statement that begins it."""
+from __future__ import annotations
+
+import argparse
+import contextlib
+import os
+import re
+import select
+import signal
+import subprocess
+import sys
+from types import FrameType
+from typing import IO, BinaryIO, Callable, Iterable, Iterator, NamedTuple, Optional, cast
+
+from gavyreto import connection, program, tds
+from gavyreto.commands import BAD_INPUT, FAILED, INTERRUPTED, REFUSED, SERVER_ERROR, say
+from gavyreto.connection import BLOCK, Session
+from gavyreto.errors import BadAnswer, ConnectionFailed, ServerError
+
+STANDARD_OUTPUT = 1
+SEPARATOR = b"\r\n"
+GO = re.compile(r"\s*GO(?:\s+(\d+))?\s*", re.IGNORECASE | re.ASCII)
+
+
+class Stopped(Exception):
+    """A line for standard error, and the status to end with."""
+
+    def __init__(self, line: str, status: int) -> None:
+        super().__init__(line)
+        self.status = status
+
+
+# Statements.
+
+def batches(lines: Iterable[str]) -> Iterator[str]:
+    """The texts before lines that are GO, each as often as its GO says, and what follows the last of these lines."""
+    batch: list[str] = []
+    for line in lines:
+        found = GO.fullmatch(line)
+        if not found:
+            batch.append(line)
+            continue
+        count = int(found[1] or "1")
+        if count == 0:
+            raise Stopped("GO 0: a statement is sent once at least", REFUSED)
+        for _ in range(count):
+            yield "".join(batch)
+        batch.clear()
+    yield "".join(batch)
+
+
+def lines_of(file: BinaryIO, name: str) -> Iterator[str]:
+    """The lines of a file of statements, in UTF-8, with or without a byte order mark."""
+    for number, line in enumerate(file):
+        try:
+            text = line.decode("utf-8-sig" if number == 0 else "utf-8")
+        except UnicodeDecodeError:
+            raise Stopped(f"{name}, line {number + 1}: not UTF-8", REFUSED) from None
+        if "\0" in text:
+            raise Stopped(f"{name}, line {number + 1}: a NUL character; is it UTF-16?", REFUSED)
+        yield text
+
+
+def batches_of(path: str) -> list[str]:
+    try:
+        with open(path, "rb") as file:
+            return list(batches(lines_of(file, path)))
+    except OSError as failure:
+        raise Stopped(f"{path}: {failure.strerror}", FAILED) from None
+
+
+def statements_of(asked: argparse.Namespace) -> Iterator[str]:
+    """The statements to send. Those of arguments and files are read before the first is handed out, and those of standard
+    input too where they go to one file, which has room for one."""
+    if asked.statements:
+        found = asked.statements
+    elif asked.input:
+        found = [batch for path in asked.input for batch in batches_of(path)]
+    else:
+        found = batches(lines_of(sys.stdin.buffer, "standard input"))
+        found = list(found) if asked.output and "{}" not in asked.output else found
+    if isinstance(found, list):
+        found = [statement for statement in found if statement.strip()]
+        check(found, asked)
+    return (statement for statement in found if statement.strip())
+
+
+def check(statements: list[str], asked: argparse.Namespace) -> None:
+    """Refuses what can be known before anything is sent: statements that are no text, and outputs that can't be opened."""
+    for statement in statements:
+        encoded(statement)
+    if asked.output and "{}" not in asked.output and len(statements) > 1:
+        raise Stopped(f"{len(statements)} statements, and one output: a name with {{}} gets the number of each", REFUSED)
+    for number in range(1, len(statements) + 1 if asked.output else 0):
+        path = output_of(asked, number)
+        where = path if os.path.exists(path) else os.path.dirname(path) or "."
+        if os.path.isdir(path) or not os.access(where, os.W_OK):
+            raise Stopped(f"{path}: can't be written", FAILED)
+
+
+def encoded(statement: str) -> bytes:
+    try:
+        return tds.statement(statement)
+    except ValueError as refused:
+        raise Stopped(str(refused), REFUSED) from None
+
+
+# Answers.
+
+def output_of(asked: argparse.Namespace, number: int) -> str:
+    return str(asked.output).replace("{}", str(number))
+
+
+@contextlib.contextmanager
+def opened(asked: argparse.Namespace, number: int) -> Iterator[int]:
+    """The descriptor for the text of a statement's answer."""
+    if not asked.output:
+        yield STANDARD_OUTPUT
+        return
+    path = output_of(asked, number)
+    try:
+        descriptor = os.open(path, os.O_WRONLY | os.O_CREAT | os.O_TRUNC | os.O_CLOEXEC, 0o666)
+    except OSError as failure:
+        raise Stopped(f"{path}: {failure.strerror}", FAILED) from None
+    try:
+        yield descriptor
+    finally:
+        os.close(descriptor)
+
+
+class Interrupt:
+    """What Ctrl-C does: the first within an answer asks the server to stop, any other ends at once."""
+
+    def __init__(self, session: Session) -> None:
+        self.came = False
+        self._session = session
+        if signal.getsignal(signal.SIGINT) != signal.SIG_IGN:  # as it is of what the shell runs in the background
+            signal.signal(signal.SIGINT, self._handle)
+
+    def _handle(self, _: int, __: Optional[FrameType]) -> None:
+        if self.came or self._session.is_ready():
+            raise KeyboardInterrupt
+        self.came = True
+        with contextlib.suppress(ConnectionFailed):  # who waits for the answer finds it too
+            self._session.interrupt()
+
+
+class Ending(NamedTuple):
+    """How the program ended on an answer: its status, its lines, and the bytes of text that it wrote."""
+
+    status: int
+    notes: str
+    written: int
+
+    def line_after(self, line: str) -> str:
+        """One line, of what happened and what the program says to it."""
+        return ": ".join(it for it in (line, self.notes.partition("\n")[0]) if it)
+
+
+class Run:
+    """The program, on one answer. It is there before the statement is sent. A context that ends it.
+
+    Its text goes to the descriptor `out`; if it is to be separated from what is there, it comes through here, and an empty line
+    is put before its first byte."""
+
+    def __init__(self, command: list[str], out: int, is_separated: bool) -> None:
+        self._program = subprocess.Popen(
+            command, bufsize=0, stdin=subprocess.PIPE, stdout=subprocess.PIPE if is_separated else out, stderr=subprocess.PIPE,
+            start_new_session=True)  # so that Ctrl-C doesn't end it before it has written what came
+        self._input, self._text = cast("IO[bytes]", self._program.stdin), self._program.stdout
+        self._out, self._before = out, SEPARATOR
+        program.widen(self._input)
+        self._events = select.poll()
+        if self._text:
+            os.set_blocking(self._input.fileno(), False)
+            self._events.register(self._input, select.POLLOUT)
+            self._events.register(self._text, select.POLLIN)
+
+    def __enter__(self) -> Run:
+        return self
+
+    def __exit__(self, *_: object) -> None:
+        if self._program.poll() is None:
+            self._program.kill()
+        for pipe in (self._input, self._text, self._program.stderr):
+            if pipe:
+                pipe.close()
+        self._program.wait()
+
+    def feed(self, session: Session) -> None:
+        """Hands it an answer as it comes."""
+        try:
+            session.forward(self._exchange if self._text else self._write)
+        except BrokenPipeError:
+            pass  # the program has stopped, and says why
+
+    def _write(self, data: bytes) -> None:
+        program.write_all(self._input.fileno(), data)
+
+    def _exchange(self, data: bytes) -> None:
+        """Writes to the program, and takes the text that it writes meanwhile."""
+        left = memoryview(data)
+        while left:
+            for descriptor, _ in self._events.poll():
+                if descriptor == self._input.fileno():
+                    left = left[os.write(descriptor, left):]
+                elif not self._copy(descriptor):
+                    self._events.unregister(descriptor)
+
+    def _copy(self, text: int) -> bool:
+        """Copies the next bytes of the text. Returns whether there were some."""
+        data = os.read(text, BLOCK)
+        try:
+            program.write_all(self._out, self._before + data if data else b"")
+        except OSError as failure:
+            raise Stopped(f"standard output: {failure.strerror}", FAILED) from None
+        self._before = b"" if data else self._before
+        return bool(data)
+
+    def end(self) -> Ending:
+        """Waits for it, once it isn't fed any more."""
+        self._input.close()
+        while self._text and self._copy(self._text.fileno()):
+            pass
+        notes = cast("IO[bytes]", self._program.stderr).read().decode("utf-8", "replace")
+        return judged(self._program.wait(), notes)
+
+
+def judged(status: int, notes: str) -> Ending:
+    """How the program ended. Raises `Stopped` if it didn't end as it does."""
+    said = program.report_of(notes)
+    if status < 0:
+        raise Stopped(f"tds_replay was ended by the signal {-status}", 128 - status)
+    if said is None:
+        raise Stopped(f"tds_replay ended with status {status}: {notes.strip()}", status or FAILED)
+    return Ending(status, notes, program.written_by(said))
+
+
+def answer(session: Session, statement: str, run: Run, interrupt: Interrupt) -> Ending:
+    """Sends a statement, and runs the program on its answer."""
+    try:
+        session.send(statement)
+        run.feed(session)
+    except ConnectionFailed as failure:
+        raise Stopped(run.end().line_after(str(failure)), FAILED) from None
+    ending = run.end()
+    if interrupt.came:
+        raise Stopped(ending.line_after(finished(session)), INTERRUPTED)
+    return ending
+
+
+def finished(session: Session) -> str:
+    """Waits, after an interrupt, for the server to stop. Returns what there is to say."""
+    try:
+        session.finish()
+    except ConnectionFailed as failure:
+        return f"interrupted, and {failure}"
+    return "interrupted"
+
+
+def ask(asked: argparse.Namespace, statements: Iterator[str], password: str) -> int:
+    """Sends the statements, each once the answer before it is read. Returns the first status that isn't 0, or 0."""
+    is_begun = False  # whether standard output has a text
+    with session_of(asked, password) as session:
+        interrupt = Interrupt(session)
+        command = program.command_of(
+            asked.program, session.packet_size, asked.column_room, program.MAX_WIRE, asked.charset)
+        for number, statement in enumerate(statements, 1):
+            encoded(statement)
+            with opened(asked, number) as out, Run(command, out, is_begun and not asked.output) as run:
+                ending = answer(session, statement, run, interrupt)
+            is_begun = is_begun or ending.written > 0
+            say(ending.notes)
+            if ending.status:
+                return ending.status
+    return 0
+
+
+def session_of(asked: argparse.Namespace, password: str) -> Session:
+    host, port = asked.server
+    try:
+        return connection.log_in_to(
+            host, user=asked.user, password=password, port=port, database=asked.database, encrypt=asked.encrypt,
+            certificates=asked.certificates, trust_server=asked.trust_server, packet_size=asked.packet_size, seconds=asked.seconds)
+    except ValueError as refused:
+        raise Stopped(str(refused), REFUSED) from None
+
+
+# Arguments.
+
+def number_in(least: int, most: int) -> Callable[[str], int]:
+    def number(text: str) -> int:
+        if not re.fullmatch("[0-9]+", text) or not least <= int(text) <= most:
+            raise argparse.ArgumentTypeError(f"{text} is not in {least} to {most}")
+        return int(text)
+    return number
+
+
+def server(text: str) -> tuple[str, int]:
+    """The host and the port of `[tcp:]HOST[,PORT]`."""
+    host, comma, port = text[4 * text.startswith("tcp:"):].partition(",")
+    if not host or "\\" in host:
+        raise argparse.ArgumentTypeError(f"{text} is not HOST or HOST,PORT: a named instance has a port of its own")
+    return host, number_in(1, 65535)(port) if comma else connection.PORT
+
+
+def arguments(words: list[str]) -> argparse.Namespace:
+    parser = argparse.ArgumentParser(
+        prog="gavyreto query", description=__doc__, formatter_class=argparse.RawDescriptionHelpFormatter)
+    add = parser.add_argument
+    add("-S", "--server", metavar="HOST[,PORT]", type=server, required=True, help="the name that its certificate has, or an address")
+    add("-U", "--user", metavar="NAME", required=True)
+    add("-d", "--database", metavar="NAME", default="", help="without it that of the user")
+    add("-i", "--input", metavar="FILE", action="append", help="statements, in UTF-8; more than once for several files")
+    add("-o", "--output", metavar="FILE", help="in place of standard output; {} is the number of the statement, from 1")
+    add("--encrypt", choices=connection.ENCRYPT, default=connection.ENCRYPT[0],
+        help="the least that is encrypted, without it all; a server that asks for more gets it")
+    add("-N", "-Nm", dest="encrypt", action="store_const", const="all", help="as --encrypt all")
+    add("-No", dest="encrypt", action="store_const", const="login", help="as --encrypt login")
+    add("-C", "--trust-server", action="store_true", help="don't verify the certificate: anyone between can read all")
+    add("--certificates", metavar="FILE", help="authorities to trust in place of the system's, in PEM")
+    add("--seconds", metavar="N", type=number_in(1, 86400), default=connection.SECONDS,
+        help=f"the longest that the server may be silent, 1 to 86400, without it {connection.SECONDS}")
+    add("--packet-size", metavar="N", type=number_in(tds.LEAST_PACKET_SIZE, tds.GREATEST_PACKET_SIZE), default=connection.PACKET_SIZE,
+        help=f"bytes asked for, 512 to 32767, without it {connection.PACKET_SIZE}")
+    add("--column-room", metavar="N", type=number_in(10, 67108864), default=program.COLUMN_ROOM, help="as of tds_replay")
+    add("--charset", choices=program.CHARSETS, default=program.CHARSETS[0], help="of char and varchar")
+    add("--program", metavar="FILE", default=program.PROGRAM, help="tds_replay, without it that of the path")
+    add("statements", metavar="STATEMENT", nargs="*")
+    asked = parser.parse_args(words)
+    if asked.statements and asked.input:
+        parser.error("statements are arguments, or in files: not both")
+    return asked
+
+
+def checked_program(name: str) -> str:
+    """The path of the program, which is there and is tds_replay."""
+    try:
+        path = program.path_of(name)
+        if program.is_there(path):
+            return path
+        raise Stopped(f"{path} isn't tds_replay", REFUSED)
+    except OSError as failure:
+        raise Stopped(str(failure.strerror or failure), REFUSED) from None
+
+
+def asked_password(user: str) -> str:
+    """The password, from the terminal."""
+    try:
+        os.close(os.open("/dev/tty", os.O_RDWR | os.O_NOCTTY))
+    except OSError:
+        raise Stopped("no password: SQLCMDPASSWORD isn't set, and there is no terminal to ask at", REFUSED) from None
+    import getpass  # once in a while
+
+    try:
+        return getpass.getpass(f"Password of {user}: ")
+    except EOFError:
+        raise Stopped("no password", REFUSED) from None
+
+
+def run(words: list[str]) -> int:
+    """The command `query`. Returns its exit status."""
+    password = os.environ.pop("SQLCMDPASSWORD", "")  # the processes that are started from here don't get it
+    try:
+        asked = arguments(words)
+        asked.program = checked_program(asked.program)
+        statements = statements_of(asked)
+        return ask(asked, statements, password or asked_password(asked.user))
+    except Stopped as stop:
+        line, status = str(stop), stop.status
+    except ServerError as error:
+        line, status = str(error), SERVER_ERROR
+    except BadAnswer as answered:
+        line, status = str(answered), BAD_INPUT
+    except ConnectionFailed as failure:
+        line, status = str(failure), FAILED
+    except KeyboardInterrupt:
+        line, status = "interrupted", INTERRUPTED
+    say(line + "\n")
+    return status

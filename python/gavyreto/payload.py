@@ -1,0 +1,328 @@
+"""The payload of a response, walked token by token as it comes: where descriptions and rows are, and where each cell ends.
+
+It judges nothing: the program tds_replay does. What it can't follow raises ValueError, and `Ended` where the payload ends."""
+from __future__ import annotations
+
+import threading
+from typing import IO, Callable, Iterator, NamedTuple, Optional
+
+from gavyreto import columns, tds
+from gavyreto.columns import COUNTED, FIXED, LONG, VARIANT, Column, Described, Type
+
+Read = Callable[[int], bytes]
+Write = Callable[[bytes], object]
+
+ROW, NBCROW, RETURN_VALUE = 0xD1, 0xD2, 0xAC
+DONE_PROC, DONE_IN_PROC = 0xFE, 0xFF
+SHORT_NULL = 0xFFFF
+
+
+class Ended(Exception):
+    """The payload ends before what was asked for."""
+
+
+class Payload:
+    """The bodies of the packets of one message, joined, as far as they are asked for. What is read is handed on."""
+
+    def __init__(self, read: Read, hand_on: Optional[Write] = None) -> None:
+        self.data, self.at = b"", 0  #: what was read and not used up begins at this place
+        self.is_over = False  #: whether the last packet was read
+        self._read, self._hand_on = read, hand_on
+
+    def packet(self) -> bool:
+        """Reads a packet. False after the last one. Raises Ended if it isn't whole."""
+        if self.is_over:
+            return False
+        header = tds.read_fully(self._read, tds.HEADER)
+        length = tds.length_of(header) - tds.HEADER
+        body = tds.read_fully(self._read, length) if len(header) == tds.HEADER else b""
+        if self._hand_on:
+            self._hand_on(header + body)
+        if len(header) < tds.HEADER or len(body) != length:
+            raise Ended
+        self.is_over = bool(header[1] & tds.LAST)
+        self.data, self.at = self.data[self.at:] + body, 0
+        return True
+
+    def has(self, length: int) -> bool:
+        """Whether so many bytes are still to come."""
+        while len(self.data) - self.at < length:
+            if not self.packet():
+                return False
+        return True
+
+    def need(self, length: int) -> bytes:
+        """The next bytes. Raises Ended if there are fewer."""
+        if not self.has(length):
+            raise Ended
+        self.at += length
+        return self.data[self.at - length:self.at]
+
+    def number(self, length: int) -> int:
+        return int.from_bytes(self.need(length), "little")
+
+    def pieces(self, length: int) -> Iterator[bytes]:
+        """The next bytes, in the pieces in which they come."""
+        while length:
+            if not self.has(1):
+                raise Ended
+            piece = self.data[self.at:self.at + length]
+            self.at += len(piece)
+            length -= len(piece)
+            yield piece
+
+    def skip(self, length: int) -> None:
+        for _ in self.pieces(length):
+            pass
+
+
+# Tokens, rows and cells.
+
+class Token(NamedTuple):
+    """A token: its byte; of a COLMETADATA the columns, of a row those whose values follow."""
+
+    byte: int
+    columns: Optional[list[Described]] = None
+
+
+def tokens(payload: Payload) -> Iterator[Token]:
+    """The tokens of a response. Whoever takes a row reads its cells before the next token; other tokens are passed over."""
+    described: Optional[list[Described]] = None
+    while payload.has(1):
+        byte = payload.number(1)
+        if byte == tds.Token.COLUMNS:
+            described = columns.read_description(payload.need)
+            yield Token(byte, described)
+        elif byte in (ROW, NBCROW):
+            bitmap = payload.need(bytes_of_bitmap(byte, described))
+            yield Token(byte, present(bitmap, described or []))
+        else:
+            yield Token(byte)
+            for _ in rest_of(payload, byte):
+                pass
+
+
+def bytes_of_bitmap(byte: int, described: Optional[list[Described]]) -> int:
+    """How many bytes a row begins with that say which of its values are NULL. Raises ValueError if there are no columns."""
+    if described is None:
+        raise ValueError("a row without columns")
+    return (len(described) + 7) // 8 if byte == NBCROW else 0
+
+
+def present(bitmap: bytes, described: list[Described]) -> list[Described]:
+    """The columns of a row whose values follow its bitmap: those whose bit is clear."""
+    bits = int.from_bytes(bitmap, "little")
+    return [column for place, column in enumerate(described) if not bits >> place & 1] if bits else described
+
+
+def rest_of(payload: Payload, byte: int) -> Iterator[bytes]:
+    """What follows the byte of a token that is neither a description nor a row. Raises ValueError if there is no such token."""
+    if byte in (tds.Token.ORDER, tds.Token.ERROR, tds.Token.INFO, tds.Token.ENV_CHANGE):
+        yield from _after(payload, payload.need(2))
+    elif byte == tds.Token.RETURN_STATUS:
+        yield payload.need(4)
+    elif byte in (tds.Token.DONE, DONE_PROC, DONE_IN_PROC):
+        yield payload.need(12)
+    elif byte == RETURN_VALUE:
+        yield head_of_value(payload)
+        type_ = columns.read_type(payload.need)
+        yield bytes([type_.byte]) + type_.info
+        yield from cell(payload, type_)
+    else:
+        raise ValueError(f"no token of an answer to a statement: 0x{byte:02x}")
+
+
+def head_of_value(payload: Payload) -> bytes:
+    """Of a RETURNVALUE what comes before its type: ordinal, name, status, user type and flags."""
+    head = payload.need(3)
+    return head + payload.need(2 * head[2] + 7)
+
+
+def pass_over_cell(payload: Payload, type_: Type) -> None:
+    """Passes over the value of a column, NULL or not."""
+    for _ in cell(payload, type_):
+        pass
+
+
+def cell(payload: Payload, type_: Type) -> Iterator[bytes]:
+    """The bytes of a value with all that is before and around them, in pieces."""
+    if type_.byte in FIXED:
+        yield payload.need(FIXED[type_.byte])
+    elif type_.byte in COUNTED:
+        yield from _after(payload, payload.need(1))
+    elif type_.is_chunked():
+        yield from _chunks(payload)
+    elif type_.byte in LONG:
+        length = payload.need(2)
+        yield from (length,) if length == b"\xFF\xFF" else _after(payload, length)
+    elif type_.byte == VARIANT:
+        yield from _after(payload, payload.need(4))
+    else:
+        pointer = payload.need(1)
+        yield pointer
+        if pointer[0]:
+            yield payload.need(pointer[0] + 8)
+            yield from _after(payload, payload.need(4))
+
+
+def _after(payload: Payload, length: bytes) -> Iterator[bytes]:
+    """A length, and as many bytes."""
+    yield length
+    yield from payload.pieces(int.from_bytes(length, "little"))
+
+
+def _chunks(payload: Payload) -> Iterator[bytes]:
+    total = payload.need(8)
+    yield total
+    while total != b"\xFF" * 8:
+        length = payload.need(4)
+        yield from _after(payload, length)
+        if length == bytes(4):
+            return
+
+
+# The descriptions alone, which is what a reader of rows wants to know besides: rows are passed over.
+
+def descriptions(payload: Payload) -> Iterator[list[Described]]:
+    """The descriptions of a response, each with columns, in order."""
+    ways: list[int] = []
+    for token in tokens(payload):
+        if token.byte == tds.Token.COLUMNS:
+            ways = ways_over(token.columns or [])
+            yield from [token.columns] if token.columns else []
+        elif token.columns:
+            for column in token.columns:
+                pass_over_cell(payload, column.type)
+        payload.at = after_rows(payload.data, payload.at, ways)
+
+
+COUNTED_WAY, SHORT_WAY, CHUNKED_WAY, NO_WAY = -1, -2, -3, -4
+
+
+def _way_over(type_: Type) -> int:
+    """How a value is passed over: its length, or what tells it."""
+    if type_.byte in FIXED:
+        return FIXED[type_.byte]
+    if type_.byte in COUNTED:
+        return COUNTED_WAY
+    if type_.is_chunked():
+        return CHUNKED_WAY
+    return SHORT_WAY if type_.byte in LONG else NO_WAY
+
+
+def ways_over(described: list[Described]) -> list[int]:
+    """How the values of a row are passed over."""
+    return [_way_over(column.type) for column in described]
+
+
+def after_rows(data: bytes, at: int, ways: list[int]) -> int:
+    """Where the rows end that are whole in some bytes, from a place on at which a token begins."""
+    if not ways:
+        return at
+    try:
+        while data[at] == ROW or data[at] == NBCROW:
+            end = _after_row(data, at + 1, ways) if data[at] == ROW else _after_row(data, *_present_ways(data, at + 1, ways))
+            if end > len(data):
+                break
+            at = end
+    except IndexError:
+        pass  # this row isn't whole
+    return at
+
+
+def _present_ways(data: bytes, at: int, ways: list[int]) -> tuple[int, list[int]]:
+    """Where the values of an NBCROW begin, and the ways over those that are there."""
+    end = at + (len(ways) + 7) // 8
+    bits = int.from_bytes(data[at:end], "little")
+    return end, [way for place, way in enumerate(ways) if not bits >> place & 1]
+
+
+def _after_row(data: bytes, at: int, ways: list[int]) -> int:
+    """Where the values of a row end. Raises IndexError if they aren't whole, or there is no short way over one of them."""
+    for way in ways:
+        if way >= 0:
+            at += way
+        elif way == COUNTED_WAY:
+            at += 1 + data[at]
+        elif way == SHORT_WAY:
+            length = data[at] | data[at + 1] << 8
+            at += 2 if length == SHORT_NULL else 2 + length
+        elif way == CHUNKED_WAY:
+            at = _after_chunks(data, at)
+        else:
+            raise IndexError
+    return at
+
+
+def _after_chunks(data: bytes, at: int) -> int:
+    """Where a value in chunks ends. Raises IndexError if it isn't whole."""
+    total = data[at:at + 8]
+    at += 8
+    while total != b"\xFF" * 8:
+        length = data[at] | data[at + 1] << 8 | data[at + 2] << 16 | data[at + 3] << 24
+        at += 4 + length
+        if length == 0:
+            break
+    return at
+
+
+class Descriptions:
+    """The columns of each set of a response, whose packets are read by one thread and asked for by another."""
+
+    def __init__(self) -> None:
+        self._found: list[list[Column]] = []
+        self._is_over = False
+        self._changed = threading.Condition()
+
+    def close(self) -> None:
+        """Ends what is still to be read."""
+
+    def of(self, place: int) -> Optional[list[Column]]:
+        """The columns of a set by its place among the sets, once they have come; None if they don't."""
+        with self._changed:
+            self._changed.wait_for(lambda: self._is_over or len(self._found) > place)
+            return self._found[place] if len(self._found) > place else None
+
+    def watch(self, payload: Payload) -> None:
+        """Reads a payload to its end, and notes its descriptions as far as it can be followed."""
+        try:
+            for described in descriptions(payload):
+                with self._changed:
+                    self._found.append([column.column() for column in described])
+                    self._changed.notify_all()
+        except (ValueError, KeyError, Ended):
+            pass  # the program says what is wrong
+        finally:
+            with self._changed:
+                self._is_over = True
+                self._changed.notify_all()
+        try:
+            while payload.packet():
+                payload.at = len(payload.data)
+        except Ended:
+            pass
+
+
+class LateDescriptions(Descriptions):
+    """The same of packets that can be read again: they are read once somebody asks, and no further than needed."""
+
+    def __init__(self, opened: Callable[[], IO[bytes]]) -> None:
+        super().__init__()
+        self._opened = opened
+        self._file: Optional[IO[bytes]] = None
+        self._walk: Optional[Iterator[list[Described]]] = None
+
+    def close(self) -> None:
+        if self._file:
+            self._file.close()
+
+    def of(self, place: int) -> Optional[list[Column]]:
+        if not self._walk:
+            self._file = self._opened()
+            self._walk = descriptions(Payload(self._file.read))
+        try:
+            while len(self._found) <= place:
+                self._found.append([column.column() for column in next(self._walk)])
+        except (StopIteration, ValueError, KeyError, Ended):
+            return None
+        return self._found[place]

@@ -1,0 +1,180 @@
+"""Result sets of a response, while the program reads it."""
+from __future__ import annotations
+
+import io
+import os
+import socket
+import ssl
+import stat
+import subprocess
+import threading
+from typing import IO, Any, Callable, Optional, Protocol, Union, cast
+
+from gavyreto.errors import Error, Fault, ProgramFailed, Report, ServerError
+from gavyreto.program import CHARSETS, COLUMN_ROOM, MAX_WIRE, PACKET_SIZE, PROGRAM, Write, command_of, report_of, widen, write_all
+from gavyreto.payload import Descriptions, LateDescriptions, Payload, Read
+from gavyreto.text import Sets
+
+
+class Readable(Protocol):
+    """An open file, or what is read as one."""
+
+    def read(self, most: int, /) -> bytes: ...
+
+
+Source = Union[str, "os.PathLike[str]", bytes, bytearray, memoryview, int, socket.socket, Readable]
+Copy = Callable[[Write], None]
+
+
+class Feeding:
+    """A thread that hands the packets of one response to the program. What ends it early is in `error`."""
+
+    def __init__(self, copy: Copy, pipe: IO[bytes]) -> None:
+        self.error: Optional[BaseException] = None
+        self._copy, self._pipe = copy, pipe
+        self._thread = threading.Thread(target=self._run, daemon=True)
+        self._thread.start()
+
+    def _run(self) -> None:
+        try:
+            with self._pipe:
+                self._copy(lambda data: write_all(self._pipe.fileno(), data))
+        except BrokenPipeError:
+            pass  # the program needs no more
+        except BaseException as error:
+            self.error = error
+
+    def join(self) -> None:
+        self._thread.join()
+
+
+class Response(Sets):
+    """The result sets of a response, while the program reads it."""
+
+    def __init__(
+        self, program: subprocess.Popen[bytes], dates: bool, copy: Optional[Copy] = None, descriptions: Optional[Descriptions] = None,
+    ) -> None:
+        self.report: Optional[Report] = None  #: once all is read and the server reported no error
+        self.is_whole = False  #: once all is read, whether or not the server reported an error
+        self._program, self._found = program, descriptions
+        self._text = cast("IO[bytes]", program.stdout)
+        self._feeding = Feeding(copy, cast("IO[bytes]", program.stdin)) if copy else None
+        super().__init__(self._read, dates, descriptions)
+
+    def _read(self, most: int) -> bytes:
+        return os.read(self._text.fileno(), most)
+
+    def _release(self) -> None:
+        """Ends the program if it still runs, in the middle of the response then."""
+        if self._found:
+            self._found.close()
+        if self._program.poll() is None:
+            self._program.kill()
+        self._program.wait()
+        self._text.close()
+        cast("IO[bytes]", self._program.stderr).close()
+
+    def _judge_end(self, rest: str) -> None:
+        notes = cast("IO[bytes]", self._program.stderr).read().decode("utf-8", "replace")
+        status = self._program.wait()
+        said = report_of(notes)
+        if isinstance(said, Fault):
+            said.rest = rest
+        if self._feeding and (not isinstance(said, Fault) or said.name == "InputEnded"):
+            self._judge_feeding(self._feeding)
+        self.is_whole = isinstance(said, (Report, ServerError))
+        if isinstance(said, Error):
+            self._raise(said)
+        if status != 0 or said is None or not self._is_text_of(said):
+            self._raise(ProgramFailed(status, notes))
+        self.report = said
+
+    def _judge_feeding(self, feeding: Feeding) -> None:
+        """Raises what ended the feeding of the program before the response was over."""
+        feeding.join()
+        if isinstance(feeding.error, Error):
+            self._raise(feeding.error)
+        if feeding.error:
+            self._release()
+            raise feeding.error
+
+    def _is_text_of(self, report: Report) -> bool:
+        """Whether all of the text came, and was read as the program counts it."""
+        read = self._parser
+        return (report.sets, report.rows, report.written) == (read.sets, read.rows, read.records.length)
+
+
+def started(command: list[str], source: int) -> subprocess.Popen[bytes]:
+    """The program, with its input from a descriptor or, by subprocess.PIPE, from here."""
+    run = subprocess.Popen(command, stdin=source, stdout=subprocess.PIPE, stderr=subprocess.PIPE)
+    for pipe in (run.stdin, run.stdout):
+        if pipe:
+            widen(pipe)
+    return run
+
+
+def export(
+    source: Source, *, dates: bool = False, packet_size: int = PACKET_SIZE, column_room: int = COLUMN_ROOM,
+    max_wire: int = MAX_WIRE, charset: str = CHARSETS[0], program: str = PROGRAM,
+) -> Response:
+    """Runs the program on one response, and returns an iterator over its result sets.
+
+    source       the packets: the path of a file, the bytes themselves, or an open binary file, socket or descriptor, of
+                 which exactly one response is read, from where it is. A descriptor, an unbuffered file and a socket are
+                 handed to the program, so they have to block; of anything else with a method `read`, as a file of `gzip`,
+                 the packets are read here
+    dates        whether dates, times and GUIDs become date, time, datetime and UUID
+    packet_size  the greatest packet that is read, in bytes, 512 to 32767
+    column_room  the room for the encoded description of columns, in bytes, 10 to 67108864
+    max_wire     the most bytes of packets that are read, 8 to 2**56
+    charset      of char and varchar: "windows-1252" or "utf-8"
+    program      its name on the path, or its path
+
+    Raises OSError if the file or the program can't be opened, ValueError if the source is closed or doesn't block, TypeError
+    for another source. While the sets and rows are read, once all that came before is handed out, it raises Fault,
+    ServerError or ProgramFailed, and what a method `read` of the source raised."""
+    command = command_of(program, packet_size, column_room, max_wire, charset)
+    if isinstance(source, (str, os.PathLike)):
+        return _of_path(source, command, dates)
+    if isinstance(source, (bytes, bytearray, memoryview)):
+        data = bytes(source)
+        late = LateDescriptions(lambda: io.BytesIO(data))
+        return Response(started(command, subprocess.PIPE), dates, lambda write: cast(None, write(data)), late)
+    if isinstance(source, (int, io.FileIO, socket.socket)) and not isinstance(source, (bool, ssl.SSLSocket)):
+        return Response(started(command, _descriptor_of(source)), dates)
+    return _fed(_read_of(source), command, dates)
+
+
+def _of_path(path: Union[str, os.PathLike[str]], command: list[str], dates: bool) -> Response:
+    """A response in a file, which is read by the program, and again here for its descriptions; or in a pipe with a name."""
+    file = open(path, "rb", buffering=0)
+    if not stat.S_ISREG(os.fstat(file.fileno()).st_mode):
+        return _fed(lambda most: file.read(most) or b"", command, dates)
+    with file:
+        return Response(started(command, file.fileno()), dates, None, LateDescriptions(lambda: open(path, "rb")))
+
+
+def _fed(read: Read, command: list[str], dates: bool) -> Response:
+    """A response whose packets are read here, and handed to the program."""
+    found = Descriptions()
+    return Response(started(command, subprocess.PIPE), dates, lambda write: found.watch(Payload(read, write)), found)
+
+
+def _descriptor_of(source: Union[int, io.FileIO, socket.socket]) -> int:
+    """The descriptor of an open file or socket, which has to block. Raises ValueError or OSError if it is closed."""
+    descriptor = source if isinstance(source, int) else source.fileno()
+    if descriptor < 0:
+        raise ValueError("the source is closed")
+    if not os.get_blocking(descriptor):
+        raise ValueError("the source doesn't block: use `setblocking(True)` of a socket, or `os.set_blocking`")
+    return descriptor
+
+
+def _read_of(source: Any) -> Callable[[int], bytes]:
+    """The method that reads from an object. Raises TypeError if it has none, or reads text, and ValueError if it is closed."""
+    read = source.recv if isinstance(source, ssl.SSLSocket) else getattr(source, "read", None)
+    if not callable(read) or isinstance(source, io.TextIOBase):
+        raise TypeError(f"a path, bytes, or an open binary file, socket or descriptor is needed, not {type(source).__name__}")
+    if getattr(source, "closed", False):
+        raise ValueError("the source is closed")
+    return cast("Callable[[int], bytes]", read)

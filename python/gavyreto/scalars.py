@@ -1,0 +1,130 @@
+"""The texts of scalar values, as tds_replay writes them (docs/PROTOCOL.md, Texts), for the values of a sql_variant."""
+from __future__ import annotations
+
+import struct
+from datetime import date, timedelta
+from typing import Callable
+from uuid import UUID
+
+FIRST_DAY, DAY_1900 = date(1, 1, 1), date(1900, 1, 1)
+MONEY_SCALE = 4
+
+
+def decimal_text(units: int, scale: int) -> str:
+    """A number of units of 10^-scale, with all digits of the scale."""
+    digits = str(abs(units)).rjust(scale + 1, "0")
+    point = len(digits) - scale
+    return ("-" if units < 0 else "") + digits[:point] + ("." + digits[point:] if scale else "")
+
+
+def _whole(data: bytes, _: int) -> str:
+    return str(int.from_bytes(data, "little", signed=len(data) > 1))
+
+
+def _bit(data: bytes, _: int) -> str:
+    return "1" if any(data) else "0"
+
+
+def _decimal(data: bytes, scale: int) -> str:
+    units = int.from_bytes(data[1:], "little")
+    return decimal_text(units if data[0] else -units, scale)
+
+
+def _money(data: bytes, _: int) -> str:
+    high, low = struct.unpack("<iI", data)
+    return decimal_text((high << 32) + low, MONEY_SCALE)
+
+
+def _small_money(data: bytes, _: int) -> str:
+    return decimal_text(int.from_bytes(data, "little", signed=True), MONEY_SCALE)
+
+
+def _guid(data: bytes, _: int) -> str:
+    return str(UUID(bytes_le=data))
+
+
+def _day(number: int, first: date = FIRST_DAY) -> str:
+    """The date of a number of days since the first. Raises ValueError outside of the years 0001 to 9999."""
+    try:
+        return (first + timedelta(number)).isoformat()
+    except OverflowError:
+        raise ValueError("a date out of its range") from None
+
+
+def _clock(seconds: int) -> str:
+    if seconds >= 86400:
+        raise ValueError("a time out of its range")
+    return f"{seconds // 3600:02}:{seconds // 60 % 60:02}:{seconds % 60:02}"
+
+
+def _time_of(units: int, scale: int) -> str:
+    seconds, fraction = divmod(units, 10**scale)
+    return _clock(seconds) + (f".{fraction:0{scale}}" if scale else "")
+
+
+def _number(data: bytes) -> int:
+    return int.from_bytes(data, "little")
+
+
+def _date(data: bytes, _: int) -> str:
+    return _day(_number(data))
+
+
+def _time(data: bytes, scale: int) -> str:
+    return _time_of(_number(data), scale)
+
+
+def _date_time2(data: bytes, scale: int) -> str:
+    return f"{_day(_number(data[-3:]))} {_time_of(_number(data[:-3]), scale)}"
+
+
+def _date_time_offset(data: bytes, scale: int) -> str:
+    """Time and date in UTC and minutes, as the local time with its offset."""
+    minutes, = struct.unpack("<h", data[-2:])
+    day, units = 86400 * 10**scale, _number(data[:-5])
+    if units >= day:
+        raise ValueError("a time out of its range")
+    days, local = divmod(_number(data[-5:-2]) * day + units + minutes * 60 * 10**scale, day)
+    sign = "-" if minutes < 0 else "+"
+    return f"{_day(days)} {_time_of(local, scale)} {sign}{abs(minutes) // 60:02}:{abs(minutes) % 60:02}"
+
+
+def _small_date_time(data: bytes, _: int) -> str:
+    days, minutes = struct.unpack("<HH", data)
+    return f"{_day(days, DAY_1900)} {_clock(60 * minutes)}"
+
+
+def _old_date_time(data: bytes, _: int) -> str:
+    days, thirds = struct.unpack("<iI", data)
+    return f"{_day(days, DAY_1900)} {_clock(thirds // 300)}.{(10 * (thirds % 300) + 1) // 3:03}"
+
+
+def _double(data: bytes, _: int) -> str:
+    value, = struct.unpack("<d", data)
+    if value != value:
+        raise ValueError("a float that is no number")
+    return repr(float(value))
+
+
+def _single(data: bytes, _: int) -> str:
+    """The shortest text that reads back to the same 32 bits."""
+    value, = struct.unpack("<f", data)
+    if value != value:
+        raise ValueError("a real that is no number")
+    texts = (repr(float(f"{value:.{digits}g}")) for digits in range(1, 10))
+    return next(text for text in texts if _packed(text) == data)
+
+
+def _packed(text: str) -> bytes:
+    """The 32 bits of a number, or nothing if it has none."""
+    try:
+        return struct.pack("<f", float(text))
+    except OverflowError:
+        return b""
+
+
+TEXTS: dict[int, Callable[[bytes, int], str]] = {
+    0x30: _whole, 0x34: _whole, 0x38: _whole, 0x7F: _whole, 0x26: _whole, 0x32: _bit, 0x68: _bit, 0x6A: _decimal, 0x6C: _decimal, 0x3C: _money,
+    0x7A: _small_money, 0x24: _guid, 0x28: _date, 0x29: _time, 0x2A: _date_time2, 0x2B: _date_time_offset, 0x3A: _small_date_time,
+    0x3D: _old_date_time, 0x3E: _double, 0x3B: _single,
+}

@@ -1,0 +1,369 @@
+"""Packets and tokens of TDS 7.4, as a client and a server write and read them. Sections of MS-TDS are cited by title.
+
+It knows what comes before a response (PRELOGIN, LOGIN7, SQLBatch, attention) and the tokens that need no description of
+columns. What the rows of a response mean is for the program tds_replay alone to say."""
+from __future__ import annotations
+
+import re
+import struct
+from enum import IntEnum
+from typing import Callable, Iterable, Iterator, NamedTuple, Optional, Union
+
+Bytes = Union[bytes, bytearray, memoryview]
+
+
+class PacketType(IntEnum):
+    """The first byte of a packet (MS-TDS, Packet Header)."""
+
+    STATEMENT = 0x01
+    ANSWER = 0x04
+    ATTENTION = 0x06
+    LOGIN = 0x10
+    PRELOGIN = 0x12
+
+
+class Encryption(IntEnum):
+    """The option ENCRYPTION of a PRELOGIN (MS-TDS, PRELOGIN)."""
+
+    OFF = 0  # the login alone
+    ON = 1
+    NOT_SUPPORTED = 2
+    REQUIRED = 3
+
+
+class Token(IntEnum):
+    """The first byte of a token that isn't part of a result set (MS-TDS, Packet Data Token Stream Definition)."""
+
+    RETURN_STATUS = 0x79
+    COLUMNS = 0x81
+    ORDER = 0xA9
+    ERROR = 0xAA
+    INFO = 0xAB
+    LOGIN_ACK = 0xAD
+    ENV_CHANGE = 0xE3
+    DONE = 0xFD
+
+
+class Change(IntEnum):
+    """What an ENVCHANGE changes (MS-TDS, ENVCHANGE)."""
+
+    DATABASE = 1
+    PACKET_SIZE = 4
+    COLLATION = 7
+    ROUTING = 20
+
+
+HEADER = 8  # bytes of a packet's header
+LAST = 0x01  # the bit of a packet's status that marks the last one of a message
+MORE, FAILED, CANCELLED = 0x01, 0x02, 0x20  # bits of the status of a DONE
+DONE_LENGTH = 13  # bytes of a DONE with its token byte
+LEAST_PACKET_SIZE, FIRST_PACKET_SIZE, GREATEST_PACKET_SIZE = 512, 4096, 32767  # the second holds until the login's answer
+VERSION = bytes.fromhex("74000004")  # 7.4, in the order of a LOGINACK
+MOST_UNITS = 128  # of a name in a LOGIN7 (MS-TDS, LOGIN7)
+
+
+# Packets (MS-TDS, Packets).
+
+def packets(pieces: Iterable[Bytes], size: int, kind: int = PacketType.ANSWER) -> Iterator[bytes]:
+    """The joined pieces in packets of this size, headers included, the last of them marked."""
+    waiting, body, number = bytearray(), size - HEADER, 1
+    for piece in pieces:
+        waiting += piece
+        while len(waiting) > body:
+            yield packet(kind, waiting[:body], False, number)
+            del waiting[:body]
+            number += 1
+    yield packet(kind, waiting, True, number)
+
+
+def packet(kind: int, body: Bytes, is_last: bool = True, number: int = 1) -> bytes:
+    """One packet with its header."""
+    return struct.pack(">BBHHBB", kind, LAST if is_last else 0, HEADER + len(body), 0, number % 256, 0) + body
+
+
+def length_of(header: Bytes) -> int:
+    """The bytes of a packet by its header, which is a part of them."""
+    return int.from_bytes(header[2:4], "big")
+
+
+def bodies(wire: bytes) -> Iterator[bytes]:
+    """The bodies of the packets of a message that is there whole."""
+    at = 0
+    while at < len(wire):
+        end = at + length_of(wire[at:at + HEADER])
+        yield wire[at + HEADER:end]
+        at = end
+
+
+def copy_message(read: Callable[[int], bytes], write: Callable[[bytes], object]) -> None:
+    """Copies the packets of one message as they come, up to the last one and not a byte further. `read` returns at most as
+    many bytes as it is asked for, and none at the end; a message that is cut, or whose packets are none, is copied as far
+    as it goes."""
+    is_over = False
+    while not is_over:
+        header = read_fully(read, HEADER)
+        write(header)
+        body = read_fully(read, length_of(header) - HEADER) if len(header) == HEADER else b""
+        write(body)
+        is_over = len(header) < HEADER or HEADER + len(body) != length_of(header) or bool(header[1] & LAST)
+
+
+def read_fully(read: Callable[[int], bytes], length: int) -> bytes:
+    """As many bytes as asked for, or fewer where no more come."""
+    data = bytearray()
+    while len(data) < length:
+        piece = read(length - len(data))
+        if not piece:
+            break
+        data += piece
+    return bytes(data)
+
+
+class Framing:
+    """Follows the packets of one answer through blocks that are cut anywhere."""
+
+    def __init__(self) -> None:
+        self.is_over = False  #: after the last packet, or after a header that is none
+        self.is_whole = False  #: after the last packet
+        self.payload = 0  #: bytes of bodies so far
+        self.tail = b""  #: the last of them, as many as a DONE has
+        self._header = b""
+        self._left = 0  # bytes of the body under way that are still to come
+        self._is_last = False
+
+    def take(self, block: bytes) -> int:
+        """How many bytes of the block, from its beginning, belong to the message."""
+        at = 0
+        while at < len(block) and not self.is_over:
+            if self._left:
+                at = self._take_body(block, at)
+            else:
+                at = self._take_header(block, at if self._header else self._take_packets(block, at))
+        return at
+
+    def _take_packets(self, block: bytes, at: int) -> int:
+        """Takes the packets that are whole in the block, and not the last: where the next one begins."""
+        end = at
+        while end + HEADER <= len(block) and block[end] == PacketType.ANSWER and not block[end + 1] & LAST:
+            length = block[end + 2] << 8 | block[end + 3]
+            if length < HEADER + DONE_LENGTH or end + length > len(block):
+                break
+            self.payload += length - HEADER
+            end += length
+        if end > at:
+            self.tail = block[end - DONE_LENGTH:end]
+        return end
+
+    def _take_body(self, block: bytes, at: int) -> int:
+        end = min(at + self._left, len(block))
+        self._left -= end - at
+        self.payload += end - at
+        self.tail = (self.tail + block[max(at, end - DONE_LENGTH):end])[-DONE_LENGTH:]
+        self._end_packet()
+        return end
+
+    def _take_header(self, block: bytes, at: int) -> int:
+        end = min(at + HEADER - len(self._header), len(block))
+        self._header += block[at:end]
+        if len(self._header) == HEADER:
+            self._left = length_of(self._header) - HEADER
+            self._is_last = bool(self._header[1] & LAST)
+            if self._header[0] == PacketType.ANSWER and self._left >= 0:
+                self._end_packet()
+            else:
+                self.is_over = True
+            self._header = b""
+        return end
+
+    def _end_packet(self) -> None:
+        if self._is_last and not self._left:
+            self.is_over = self.is_whole = True
+
+
+# What a client sends (MS-TDS, PRELOGIN, LOGIN7, SQLBatch, Attention).
+
+def prelogin(encryption: Encryption) -> bytes:
+    """The options VERSION and ENCRYPTION: for each its number, place and length, then 0xFF, then their bytes."""
+    return struct.pack(">BHHBHHB", 0, 11, 6, 1, 17, 1, 0xFF) + bytes(6) + bytes([encryption])
+
+
+def encryption_of(payload: bytes) -> Encryption:
+    """The option ENCRYPTION of a PRELOGIN. Raises ValueError or struct.error if it isn't there, or has another value."""
+    at = 0
+    while payload[at:at + 1] not in (b"", b"\xFF"):
+        option, place, length = struct.unpack_from(">BHH", payload, at)
+        if option == 1 and length and place < len(payload):
+            return Encryption(payload[place])
+        at += 5
+    raise ValueError("a PRELOGIN without the option ENCRYPTION")
+
+
+class Login(NamedTuple):
+    """The texts of a LOGIN7, in its order, and the packet size that is asked for, in bytes."""
+
+    host: str
+    user: str
+    password: str
+    program: str
+    server: str
+    library: str
+    language: str
+    database: str
+    packet_size: int
+
+
+def _units(text: str) -> bytes:
+    return text.encode("utf-16-le")
+
+
+def _checked_units(what: str, text: str) -> bytes:
+    """The units of a text. Raises ValueError, which doesn't show the text, if it has half of a surrogate pair, as Python
+    reads bytes that aren't UTF-8."""
+    try:
+        return _units(text)
+    except UnicodeEncodeError:
+        raise ValueError(f"the {what} isn't UTF-8") from None
+
+
+def _disguised(units: bytes) -> bytes:
+    """A password's units as LOGIN7 has them: the halves of each byte change places, then some bits are turned. That isn't
+    encryption."""
+    return bytes((byte >> 4 | byte << 4 & 0xF0) ^ 0xA5 for byte in units)
+
+
+def _bared(units: bytes) -> bytes:
+    turned = bytes(byte ^ 0xA5 for byte in units)
+    return bytes(byte >> 4 | byte << 4 & 0xF0 for byte in turned)
+
+
+# Where the table of places and lengths of a LOGIN7 has its texts: those of `Login`, with an unused one in their middle.
+_PLACES = [36, 40, 44, 48, 52, 60, 64, 68]
+_FIXED = 94  # bytes of a LOGIN7 before its texts
+
+
+def login(asked: Login, process: int) -> bytes:
+    """A LOGIN7 of version 7.4. Raises ValueError if a text is too long, or no Unicode."""
+    table, data = bytearray(_FIXED - 36), b""
+    for place, name, text in zip(_PLACES, asked._fields, asked):
+        units = _checked_units(name, str(text))
+        if len(units) > 2 * MOST_UNITS:
+            raise ValueError(f"the {name} has more than {MOST_UNITS} characters")
+        struct.pack_into("<HH", table, place - 36, _FIXED + len(data), len(units) // 2)
+        data += _disguised(units) if name == "password" else units
+    for place in (56, 78, 82, 86):  # texts that aren't there
+        struct.pack_into("<HH", table, place - 36, _FIXED + len(data), 0)
+    fixed = struct.pack("<I4sIIII", _FIXED + len(data), VERSION[::-1], asked.packet_size, 0, process, 0)
+    flags = struct.pack("<BBBBiI", 0xE0, 0x03, 0, 0, 0, 0x0409)
+    return fixed + flags + bytes(table) + data
+
+
+def login_of(payload: bytes) -> Login:
+    """What a LOGIN7 says."""
+    texts = {}
+    for place, name in zip(_PLACES, Login._fields):
+        start, units = struct.unpack_from("<HH", payload, place)
+        data = payload[start:start + 2 * units]
+        texts[name] = (_bared(data) if name == "password" else data).decode("utf-16-le")
+    return Login(packet_size=struct.unpack_from("<I", payload, 8)[0], **texts)
+
+
+def statement(text: str) -> bytes:
+    """A SQLBatch: its headers (no transaction, one request), and its text. Raises ValueError if that is no Unicode."""
+    return struct.pack("<IIHQI", 22, 18, 2, 0, 1) + _checked_units("statement", text)
+
+
+def statement_of(payload: bytes) -> str:
+    """The text of a SQLBatch."""
+    return payload[struct.unpack_from("<I", payload)[0]:].decode("utf-16-le")
+
+
+# Tokens that a server sends (MS-TDS, DONE, ERROR, ENVCHANGE, LOGINACK).
+
+def done(status: int = 0, command: int = 0xC1) -> bytes:
+    return struct.pack("<BHHQ", Token.DONE, status, command, 0)
+
+
+def is_cancelled(payload: bytes) -> bool:
+    """Whether the end of a message is the DONE that answers an attention."""
+    end = payload[-DONE_LENGTH:]
+    return len(end) == DONE_LENGTH and end[0] == Token.DONE and bool(end[1] & CANCELLED)
+
+
+def counted_body(token: int, body: bytes) -> bytes:
+    """A token whose body has a length of two bytes before it."""
+    return struct.pack("<BH", token, len(body)) + body
+
+
+def counted(text: str) -> bytes:
+    """One byte that counts UTF-16 units, then the units."""
+    return bytes([len(_units(text)) // 2]) + _units(text)
+
+
+def server_error(number: int, message: str, line: int, state: int = 1, severity: int = 16) -> bytes:
+    """An ERROR without names of server and procedure."""
+    body = struct.pack("<iBBH", number, state, severity, len(_units(message)) // 2) + _units(message)
+    return counted_body(Token.ERROR, body + bytes(2) + struct.pack("<i", line))
+
+
+def change(kind: Change, new: bytes, old: bytes) -> bytes:
+    return counted_body(Token.ENV_CHANGE, bytes([kind]) + new + old)
+
+
+def routing(host: str, port: int) -> bytes:
+    """A redirection to another server."""
+    data = struct.pack("<BHH", 0, port, len(_units(host)) // 2) + _units(host)
+    return change(Change.ROUTING, struct.pack("<H", len(data)) + data, bytes(2))
+
+
+def login_ack(program: str) -> bytes:
+    return counted_body(Token.LOGIN_ACK, b"\x01" + VERSION + counted(program) + bytes([16, 0, 0, 0]))
+
+
+class Accepted(NamedTuple):
+    """What a server answers to a login: the packet size from now on, in bytes, and host and port of the server to ask in its
+    place, if there is one."""
+
+    packet_size: int
+    routing: Optional[tuple[str, int]]
+
+
+class Refused(Exception):
+    """A server refused a login. The line is that of its ERROR."""
+
+
+def read_login_answer(payload: bytes) -> Accepted:
+    """Reads the answer to a login. Raises `Refused`; or ValueError, IndexError or struct.error if it is no such answer."""
+    size, routed, acknowledged, at = FIRST_PACKET_SIZE, None, False, 0
+    while True:
+        token, length = struct.unpack_from("<BH", payload, at)
+        body = payload[at + 3:at + 3 + length]
+        if token == Token.DONE and acknowledged and LEAST_PACKET_SIZE <= size <= GREATEST_PACKET_SIZE:
+            return Accepted(size, routed)
+        if token == Token.ERROR:
+            raise Refused(error_line(body))
+        if token == Token.LOGIN_ACK:
+            acknowledged = body[1:5] == VERSION
+        elif token == Token.ENV_CHANGE and body[0] == Change.PACKET_SIZE:
+            size = int(body[2:2 + 2 * body[1]].decode("utf-16-le"))
+        elif token == Token.ENV_CHANGE and body[0] == Change.ROUTING:
+            routed = _routing_of(body)
+        elif token not in (Token.ENV_CHANGE, Token.INFO):
+            raise ValueError(f"no token of an answer to a login: 0x{token:02x}")
+        at += 3 + length
+
+
+def _routing_of(body: bytes) -> tuple[str, int]:
+    protocol, port, units = struct.unpack_from("<BHH", body, 3)
+    if protocol != 0:
+        raise ValueError("a redirection by another protocol than TCP")
+    return body[8:8 + 2 * units].decode("utf-16-le"), port
+
+
+def error_line(body: bytes) -> str:
+    """The line of an ERROR, as tds_replay writes it."""
+    number, state, severity, units = struct.unpack_from("<iBBH", body)
+    server = 8 + 2 * units
+    procedure = server + 1 + 2 * body[server]
+    line, = struct.unpack_from("<i", body, procedure + 1 + 2 * body[procedure])
+    message = re.sub(r"[\0-\x1F\x7F]", " ", body[8:server].decode("utf-16-le", "replace"))
+    return f"server error {number}, state {state}, class {severity}, line {line}: {message}"

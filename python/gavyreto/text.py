@@ -1,0 +1,481 @@
+"""The text that the program writes, read back: sets and their rows."""
+from __future__ import annotations
+
+import io
+import os
+import re
+from operator import length_hint
+from typing import Any, Callable, Iterator, NoReturn, Optional, Protocol, Sequence, TypeVar, Union, cast
+
+from gavyreto.columns import Column
+from gavyreto.errors import Error, MalformedText, NotOneSet, PassedOver, UnfinishedText
+from gavyreto.records import SEPARATOR, LongField, LongRecord, OpenField, Read, Records, end_of_set, record_at
+from gavyreto.values import BINARY, Converter, Value, value_of
+
+MOST_GROUPS = 1000  # columns of a set whose rows are read by one pattern
+SEVERAL = "several sets: split them first, as docs/RECIPES.md has it in \"Several result sets\""
+
+
+Row = list[Value]
+Columns = list[list[Value]]  # the values of some rows, by columns
+Described = tuple[str, str, None, Optional[int], Optional[int], Optional[int], bool]
+
+
+class Describes(Protocol):
+    """What knows the columns of each set of a response."""
+
+    def of(self, place: int) -> Optional[list[Column]]: ...
+
+
+class Parser:
+    """The headers of a text and the rows under each. The end of the text within a row is an EOFError."""
+
+    def __init__(self, read: Read, dates: bool) -> None:
+        self.records = Records(read)
+        self.sets = self.rows = 0  #: so far
+        self.is_over = False  #: nothing is left of the text but `records.rest`
+        self._dates = dates
+        self._converters: list[Converter] = []
+        self._rows: Optional[re.Pattern[str]] = None  # a row, by the shapes of its columns, if they are known
+        self._block, self._at = "", 0  # whole records, and how much of them is used up
+        self._is_long = False  # whether the next record is long
+        self._wrong: Optional[ValueError] = None  # what is wrong after them
+        self._before = ""  # the empty record before a header that hasn't come
+
+    def next_header(self) -> Optional[list[str]]:
+        """The names of the next set, or None at the end of the text. Raises ValueError if something else is there."""
+        if not self._fill():
+            self.records.rest = self._before + self.records.rest
+            return None
+        fields: LongRecord = []
+        if self._is_long:
+            fields = self._long_record()
+        else:
+            fields[:], self._at = record_at(self._block, self._at)
+        self._rows, self._before = None, ""
+        names = [it.value if isinstance(it, LongField) else value_of(it) for it in fields]
+        self._converters = [Converter(name, self._dates) for name in names if isinstance(name, str)]
+        if len(self._converters) != len(fields):
+            raise ValueError("a header has something else than names in quotes")
+        self.sets += 1
+        return [it.name for it in self._converters]
+
+    def next_rows(self) -> Optional[Columns]:
+        """Some rows of the set, perhaps none, or None after the last of them. Raises ValueError if something else is there."""
+        if not self._fill() or self._is_separated():
+            return None
+        if self._is_long:
+            columns = [[value] for value in self._row_of(self._long_record())]
+        else:
+            end = end_of_set(self._block, self._at)
+            columns = self._rows_up_to(end) or self._rows_one_by_one(end)
+        self.rows += len(columns[0])
+        return columns
+
+    def _fill(self) -> bool:
+        """Sees to it that a record is there. False at the end of the text."""
+        if self._is_long or self._at < len(self._block):
+            return True
+        if self._wrong:
+            raise self._wrong
+        found = None if self.is_over else self.records.next()
+        self._block, self._at, self._is_long, self.is_over = found or "", 0, found == "", found is None
+        return not self.is_over
+
+    def _is_separated(self) -> bool:
+        """Whether the set is over, by the empty record before the next one, which is passed over."""
+        is_separated = self._block.startswith(SEPARATOR, self._at)
+        if is_separated:
+            self._at += len(SEPARATOR)
+            self._before = SEPARATOR
+        return is_separated
+
+    def _long_record(self) -> LongRecord:
+        self._is_long = False
+        return self.records.long_record()
+
+    def _rows_up_to(self, end: int) -> Optional[Columns]:
+        """The rows up to a place, if the columns of all of them have the shapes that are known."""
+        rows = self._rows.findall(self._block, self._at, end) if self._rows else []
+        if not rows:
+            return None
+        groups = zip(*rows) if isinstance(rows[0], tuple) else iter([tuple(rows)])
+        columns = [it.values(groups) for it in self._converters]
+        if sum(length for _, length in columns) + len(rows) * (len(columns) + 1) != end - self._at:
+            return None
+        self._at = end
+        return [values for values, _ in columns]
+
+    def _rows_one_by_one(self, end: int) -> Columns:
+        """The rows up to a place, or to the first that is none, after which nothing more comes."""
+        columns: Columns = [[] for _ in self._converters]
+        try:
+            while self._at < end:
+                fields, after = record_at(self._block, self._at)
+                for column, value in zip(columns, self._row_of(fields)):
+                    column.append(value)
+                self._at = after
+        except ValueError as wrong:
+            self._wrong, self._block = wrong, self._block[:self._at]
+        if len(self._converters) <= MOST_GROUPS:
+            self._rows = re.compile(",".join(it.groups() for it in self._converters) + SEPARATOR)
+        return columns
+
+    def _row_of(self, fields: Sequence[Union[str, LongField]]) -> Row:
+        self._check_width(len(fields))
+        return [self._value(converter, field) for converter, field in zip(self._converters, fields)]
+
+    def _check_width(self, width: int) -> None:
+        if width != len(self._converters):
+            raise ValueError(f"a row has {width} fields, and its header {len(self._converters)}")
+
+    def _value(self, converter: Converter, field: Union[str, LongField]) -> Value:
+        if isinstance(field, str):
+            return converter.value(field)
+        converter.accept(field.shape)
+        return field.value
+
+    # A row of which one value is read by somebody else, in pieces.
+
+    def open_row(self, place: int) -> Union[None, str, OpenField]:
+        """Goes to a column of the next row, and returns its field, which has to be read before `close_row`; None after the last
+        row."""
+        if not self._fill() or self._is_separated():
+            return None
+        self.records.put_back(self._block[self._at:])
+        self._block, self._at, self._is_long = "", 0, False
+        for _ in range(place):
+            pass_over(self.records.open_field())
+            if self.records.end_of_field() != ",":
+                raise ValueError("a row has fewer fields than its header")
+        return self.records.open_field()
+
+    def close_row(self, place: int) -> None:
+        """Passes over what is left of a row after the column that was read."""
+        width = place + 1
+        while self.records.end_of_field() == ",":
+            pass_over(self.records.open_field())
+            width += 1
+        self._check_width(width)
+        self.rows += 1
+
+
+def pass_over(field: Union[str, OpenField]) -> None:
+    for _ in field.pieces if isinstance(field, OpenField) else ():
+        pass
+
+
+class ValueFile(io.RawIOBase):
+    """The bytes of a value, read from the text while they come."""
+
+    def __init__(self, sets: Sets, place: int, field: OpenField) -> None:
+        self._sets, self._place, self._pieces = sets, place, field.pieces
+        self._piece = b""
+
+    def readable(self) -> bool:
+        return True
+
+    def readinto(self, buffer: Any) -> int:
+        while not self._piece:
+            piece = self._sets._step(lambda: next(self._pieces, None))
+            if piece is None:
+                return 0
+            self._piece = cast(bytes, piece)
+        length = min(len(buffer), len(self._piece))
+        buffer[:length], self._piece = self._piece[:length], self._piece[length:]
+        return length
+
+    def close(self) -> None:
+        """Passes over what is left of the row."""
+        if not self.closed:
+            super().close()
+            self._sets._close_row(self._place, self._pieces)
+
+
+class TextFile(io.TextIOBase):
+    """The characters of a value, read from the text while they come."""
+
+    def __init__(self, sets: Sets, place: int, field: OpenField) -> None:
+        self._sets, self._place, self._pieces = sets, place, field.pieces
+        self._piece = ""
+
+    def readable(self) -> bool:
+        return True
+
+    def read(self, size: Optional[int] = -1) -> str:
+        """At most so many characters, at least one, or none at the end; all of them without a size."""
+        if size is None or size < 0:
+            return "".join(iter(lambda: self.read(1 << 16), ""))
+        while not self._piece:
+            piece = self._sets._step(lambda: next(self._pieces, None))
+            if piece is None:
+                return ""
+            self._piece = cast(str, piece)
+        text, self._piece = self._piece[:size], self._piece[size:]
+        return text
+
+    def close(self) -> None:
+        """Passes over what is left of the row."""
+        if not self.closed:
+            super().close()
+            self._sets._close_row(self._place, self._pieces)
+
+
+class ResultSet:
+    """An iterator over the rows of one set, each a list with a value for each column.
+
+    It is read from the same text as the set after it: asking for the next set passes over the rows left here, and asking for
+    them after that raises `PassedOver`."""
+
+    def __init__(self, sets: Sets, place: int, names: list[str], is_only: bool) -> None:
+        self.names = names  #: of the columns, as the server gave them: some may be "" or equal
+        self._sets, self._place, self._is_only = sets, place, is_only
+        self._values: Columns = []  # of a block
+        self._first: Iterator[Value] = iter(())  # those of the first column that weren't handed out
+        self._rows: Iterator[Row] = iter(())
+        self._before = 0  # rows of the blocks before
+        self._is_over = self._is_passed_over = False
+
+    @property
+    def columns(self) -> Optional[list[Column]]:
+        """The columns with their types as SQL writes them; None if the packets weren't read here: of a text, or of a descriptor
+        or socket that was handed to the program."""
+        found = self._sets._descriptions.of(self._place) if self._sets._descriptions else None
+        return [column._replace(name=name) for column, name in zip(found, self.names)] if found else None
+
+    @property
+    def description(self) -> Optional[list[Described]]:
+        """The columns as Python's DB-API has them: name, type, no display size, size, precision, scale, and whether NULL is
+        allowed."""
+        columns = self.columns
+        if columns is None:
+            return None
+        return [(it.name, it.type, None, it.length, it.precision, it.scale, it.nullable) for it in columns]
+
+    def __iter__(self) -> Iterator[Row]:
+        yield from self._rows
+        while self._take():
+            yield from self._rows
+        self._check_passed_over()
+
+    def __next__(self) -> Row:
+        return next(iter(self))
+
+    def batches(self, size: int) -> Iterator[Columns]:
+        """The rows by columns: a list for each column, with so many values each time, and fewer at the end."""
+        waiting = [list(values) for values in zip(*self._rows)] or [[] for _ in self.names]
+        is_more = True
+        while is_more:
+            whole = len(waiting[0]) // size * size
+            for start in range(0, whole, size):
+                yield [values[start:start + size] for values in waiting]
+            waiting = [values[whole:] for values in waiting]
+            is_more = self._take()
+            for values, more in zip(waiting, self._values if is_more else ()):
+                values += more
+            self._first, self._rows = iter(()), iter(())
+        if waiting[0]:
+            yield waiting
+        self._check_passed_over()
+
+    def open(self, column: Union[int, str] = 0) -> Union[None, io.BufferedReader, io.BytesIO, io.StringIO, TextFile]:
+        """The value of a column in the next row, as a file of bytes or of text that is read once, in fixed memory however long
+        the value is; None for NULL. Its `close` passes over the rest of the row, and is needed before anything else is read.
+
+        Raises StopIteration after the last row, and ValueError if the value has neither bytes nor text."""
+        place = self.names.index(column) if isinstance(column, str) else range(len(self.names))[column]
+        if length_hint(self._first):
+            return _file_of(next(self)[place])
+        self._check_passed_over()
+        field = None if self._is_over else self._sets._open_row(place, self._is_only)
+        if field is None:
+            self._is_over = True
+            raise StopIteration
+        self._before += 1
+        if isinstance(field, str):
+            self._sets._close_row(place, iter(()))
+            return _file_of(value_of(field))
+        return io.BufferedReader(ValueFile(self._sets, place, field)) if field.shape is BINARY else TextFile(self._sets, place, field)
+
+    def _check_passed_over(self) -> None:
+        if self._is_passed_over:
+            raise PassedOver("the rows of this set were passed over: read them before you ask for the next set")
+
+    def _take(self) -> bool:
+        """Takes the next rows, if none are left of those before. Returns whether there are some."""
+        while not self._is_over:
+            columns = self._sets._next_rows(self._is_only)
+            self._before += len(self._values[0]) if self._values else 0
+            self._values = columns or []
+            self._first = iter(self._values[0] if self._values else ())
+            self._rows = map(list, zip(self._first, *self._values[1:]))
+            self._is_over = columns is None
+            if length_hint(self._first):
+                return True
+        return False
+
+    def _handed_out(self) -> int:
+        """How many rows were handed out."""
+        return self._before + (len(self._values[0]) - length_hint(self._first) if self._values else 0)
+
+    def _pass_over(self) -> None:
+        """Passes over the rows that are left."""
+        handed_out, left = self._handed_out(), length_hint(self._first)
+        while self._take():
+            left += length_hint(self._first)
+        self._before, self._values, self._is_passed_over = handed_out, [], left > 0
+        self._first, self._rows = iter(()), iter(())
+
+
+def _file_of(value: Value) -> Union[None, io.BytesIO, io.StringIO]:
+    if value is None:
+        return None
+    if isinstance(value, bytes):
+        return io.BytesIO(value)
+    if isinstance(value, str):
+        return io.StringIO(value)
+    raise ValueError(f"{value!r} has neither bytes nor text")
+
+
+T = TypeVar("T")
+
+
+class Sets:
+    """An iterator over result sets, and a context that closes what it reads from.
+
+    After an error each further call raises that error again; after `close` before the end it raises ValueError."""
+
+    def __init__(self, read: Read, dates: bool, descriptions: Optional[Describes] = None) -> None:
+        self.sets = 0  #: handed out so far
+        self._descriptions = descriptions
+        self._parser = Parser(read, dates)
+        self._current: Optional[ResultSet] = None
+        self._rows_before = 0  # of the sets before the current one
+        self._failure: Optional[Error] = None
+        self._is_closed = self._is_ended = False
+
+    @property
+    def rows(self) -> int:
+        """How many rows were handed out so far, of all sets."""
+        return self._rows_before + (self._current._handed_out() if self._current else 0)
+
+    def __enter__(self: S) -> S:
+        return self
+
+    def __exit__(self, *_: object) -> None:
+        self.close()
+
+    def __iter__(self) -> Sets:
+        return self
+
+    def __next__(self) -> ResultSet:
+        return self._next_set(False)
+
+    def only(self) -> ResultSet:
+        """The one set that is there. Raises NotOneSet: at once if there is none, after the last row if another set
+        follows."""
+        try:
+            return self._next_set(True)
+        except StopIteration:
+            self._raise(NotOneSet("no result set"))
+
+    def close(self) -> None:
+        """Ends the reading where it is. What is left isn't judged."""
+        self._is_closed = True
+        self._release()
+
+    def _next_set(self, is_only: bool) -> ResultSet:
+        if self._current:
+            self._current._pass_over()
+        names = self._step(self._parser.next_header)
+        if names is None:
+            self._end()
+            raise StopIteration
+        self._rows_before = self.rows
+        self._current = ResultSet(self, self.sets, names, is_only)
+        self.sets += 1
+        return self._current
+
+    def _next_rows(self, is_only: bool) -> Optional[Columns]:
+        columns = self._step(self._parser.next_rows)
+        if columns is None:
+            self._end_set(is_only)
+        return columns
+
+    def _open_row(self, place: int, is_only: bool) -> Union[None, str, OpenField]:
+        field = self._step(lambda: self._parser.open_row(place))
+        if field is None:
+            self._end_set(is_only)
+        return field
+
+    def _close_row(self, place: int, pieces: Iterator[object]) -> None:
+        """Passes over what is left of a value, and of its row. Where the reading was ended, nothing is left."""
+        if not self._failure and not self._is_closed:
+            self._step(lambda: [None for _ in pieces])
+            self._step(lambda: self._parser.close_row(place))
+
+    def _end_set(self, is_only: bool) -> None:
+        """A set is over: so is the text, or another set follows."""
+        if self._parser.is_over:
+            self._end()
+        elif is_only:
+            self._raise(NotOneSet(SEVERAL))
+
+    def _step(self, step: Callable[[], T]) -> T:
+        if self._failure:
+            raise self._failure
+        if self._is_closed and not self._is_ended:
+            raise ValueError("the reading was closed")
+        try:
+            return step()
+        except ValueError as wrong:
+            self._raise(MalformedText(str(wrong)))
+        except EOFError:
+            self._parser.is_over = True
+            self._end()
+            self._raise(UnfinishedText(self._parser.records.rest))
+
+    def _end(self) -> None:
+        """The text is over: raises what is to be told of it."""
+        if not self._is_ended:
+            self._is_ended = True
+            self._judge_end(self._parser.records.rest)
+            self._release()
+
+    def _judge_end(self, rest: str) -> None:
+        if rest:
+            self._raise(UnfinishedText(rest))
+
+    def _raise(self, error: Error) -> NoReturn:
+        error.sets, error.rows = self.sets, self.rows
+        self._failure = error
+        self._release()
+        raise error
+
+    def _release(self) -> None:
+        """Closes what is read from."""
+
+
+S = TypeVar("S", bound=Sets)
+
+
+class Text(Sets):
+    """The result sets of a text in a file."""
+
+    def __init__(self, path: Union[str, os.PathLike[str]], dates: bool) -> None:
+        self._file = open(path, "rb", buffering=0)
+        super().__init__(self._read, dates)
+
+    def _read(self, most: int) -> bytes:
+        return self._file.read(most) or b""
+
+    def _release(self) -> None:
+        self._file.close()
+
+
+def read(text: Union[str, os.PathLike[str]], *, dates: bool = False) -> Sets:
+    """The result sets of a text that the program wrote, by the path of its file.
+
+    Raises OSError if it can't be opened; while the sets and rows are read, once all before is handed out, MalformedText if
+    it isn't such a text, and UnfinishedText if it ends within a row."""
+    return Text(text, dates)

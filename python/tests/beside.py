@@ -1,0 +1,188 @@
+"""What the tests share: responses, the stand-in server, servers that answer what a test says, and the programs of others."""
+from __future__ import annotations
+
+import contextlib
+import os
+import shutil
+import socket
+import subprocess
+import sys
+import tempfile
+import threading
+import unittest
+from collections.abc import Callable, Iterator
+from typing import IO, Any, cast
+
+ROOT = os.path.dirname(os.path.dirname(os.path.dirname(os.path.abspath(__file__))))
+PROGRAM = os.path.abspath(os.environ.get("PROGRAM", os.path.join(ROOT, "bin", "tds_replay")))
+STAND_IN, RESPONSE = (os.path.join(ROOT, "tools", name) for name in ("stand_in.py", "response.py"))
+SECONDS = 100
+sys.path[:0] = [os.path.join(ROOT, "tools")]
+import response as response  # noqa: E402
+
+from gavyreto import tds  # noqa: E402
+from gavyreto.connection import Channel  # noqa: E402
+
+ORDERS = (
+    '"id","customer","total","ordered","note"\r\n'
+    '1,"Ann ""A"" Lee, Zürich",12.50,2024-02-29 12:34:56.1234567,"two\r\nlines"\r\n'
+    '2,"NULL",-0.05,2024-03-01 00:00:00.0000000,""\r\n'
+    '3,"東京",NULL,2024-03-02 23:59:59.9999999,NULL\r\n'
+).encode()
+
+
+def wire(name: str, count: int = 0, size: int = 4096) -> bytes:
+    """A response of tools/response.py in packets."""
+    return b"".join(tds.packets(response.RESPONSES[name](count), size))
+
+
+def answered(*pieces: bytes) -> bytes:
+    """A response of these tokens in one packet."""
+    return b"".join(tds.packets(pieces, 32767))
+
+
+def need(test: unittest.TestCase, *programs: str) -> None:
+    """Skips a test whose programs aren't there; if the variable CI is set, it fails."""
+    lacking = [name for name in programs if not shutil.which(name)]
+    if lacking:
+        skip(test, f"{', '.join(lacking)} isn't there: `make needs` installs it")
+
+
+def skip(test: unittest.TestCase, reason: str) -> None:
+    if os.environ.get("CI"):
+        test.fail(reason)
+    test.skipTest(reason)
+
+
+class StandIn:
+    """A stand-in server that runs until it is closed."""
+
+    def __init__(self, folder: str, options: tuple[str, ...], files: list[str]) -> None:
+        command = [sys.executable, STAND_IN, "--connections", "1000", "--seconds", "1000", *options, *files, "--", "sh", "-c", 'echo "$PORT"; echo "$CERTIFICATE"; cat']
+        self.process = subprocess.Popen(command, cwd=folder, stdin=subprocess.PIPE, stdout=subprocess.PIPE, text=True)
+        port, certificate = (cast(IO[str], self.process.stdout).readline().strip() for _ in range(2))
+        self.variables = {"PORT": port, "CERTIFICATE": certificate, "SERVER": str(self.process.pid)}
+
+    def close(self) -> None:
+        cast(IO[str], self.process.stdin).close()
+        self.process.wait(SECONDS)
+        cast(IO[str], self.process.stdout).close()
+
+
+class Live(unittest.TestCase):
+    """Runs commands beside stand-in servers, in a folder of their own with the stored responses."""
+
+    folder: str
+    files: list[str]
+    servers: dict[tuple[str, ...], StandIn]
+
+    @classmethod
+    def setUpClass(cls) -> None:
+        folder = tempfile.TemporaryDirectory()
+        cls.addClassCleanup(folder.cleanup)
+        cls.folder, cls.servers = folder.name, {}
+        for name, *number in (["kinds"], ["sets"], ["orders"], ["broken", "5000"], ["float"]):
+            cls.store(name, *number)
+        held = tds.packet(tds.PacketType.ANSWER, b"".join(response.order_rows(0)), False)
+        with open(cls.path("held.tds"), "wb") as file:
+            file.write(held)
+        cls.files = sorted(name for name in os.listdir(cls.folder) if name.endswith(".tds"))
+        cls.addClassCleanup(cls.end)
+
+    @classmethod
+    def end(cls) -> None:
+        for server in cls.servers.values():
+            server.close()
+
+    @classmethod
+    def store(cls, name: str, *number: str) -> None:
+        with open(cls.path(name + ".tds"), "wb") as file:
+            subprocess.run([sys.executable, RESPONSE, name, *number], stdout=file, check=True)
+
+    @classmethod
+    def path(cls, name: str) -> str:
+        return os.path.join(cls.folder, name)
+
+    @classmethod
+    def server(cls, options: tuple[str, ...]) -> StandIn:
+        """The stand-in with these options, which is started once."""
+        if options not in cls.servers:
+            cls.servers[options] = StandIn(cls.folder, options, cls.files)
+        return cls.servers[options]
+
+    def text(self, name: str) -> bytes:
+        with open(self.path(name), "rb") as file:
+            return file.read()
+
+    def script(self, name: str, text: str) -> None:
+        """A script of the shell in the folder."""
+        with open(self.path(name), "w", encoding="utf-8") as file:
+            file.write("#!/bin/sh\n" + text)
+        os.chmod(self.path(name), 0o755)
+
+    def setUp(self) -> None:
+        for name in os.listdir(self.folder):
+            if not name.endswith(".tds"):
+                os.remove(self.path(name))
+
+    def beside(self, options: tuple[str, ...], command: str, **variables: str) -> subprocess.CompletedProcess[bytes]:
+        """What a command of the shell gives beside a server with these options. It has no terminal."""
+        own = {"PROGRAM": PROGRAM, "QUERY": f"{sys.executable} -m gavyreto query"}
+        given = started(**own, **self.server(options).variables, **variables)
+        return subprocess.run(["sh", "-euc", command], cwd=self.folder, check=False, capture_output=True, timeout=SECONDS, **given)
+
+    def query(self, words: str, options: tuple[str, ...] = (), before: str = "", **variables: str) -> subprocess.CompletedProcess[bytes]:
+        """What the command `query` gives; TRUSTED stands for trust in the server's certificate."""
+        command = before + 'exec $QUERY -S 127.0.0.1,$PORT -U reader --program "$PROGRAM" ' + words
+        return self.beside(options, command.replace("TRUSTED", '--certificates "$CERTIFICATE"'), **variables)
+
+    def assert_ends(self, came: subprocess.CompletedProcess[bytes], status: int, text: bytes, *lines: str) -> None:
+        self.assertEqual((came.returncode, came.stdout, came.stderr.decode().splitlines()), (status, text, list(lines)))
+
+
+@contextlib.contextmanager
+def listening(serve: Callable[[Channel], None]) -> Iterator[int]:
+    """A server for one connection, which a function serves in a thread. Gives its port; what the function raises is raised."""
+    raised: list[BaseException] = []
+
+    def run() -> None:
+        connected, _ = server.accept()
+        with connected:
+            try:
+                serve(Channel(connected, 10))
+            except (ConnectionError, EOFError):
+                pass  # the client may go first
+            except BaseException as error:
+                raised.append(error)
+
+    with socket.create_server(("127.0.0.1", 0)) as server:
+        thread = threading.Thread(target=run, daemon=True)
+        thread.start()
+        yield server.getsockname()[1]
+        thread.join(SECONDS)
+    if raised:
+        raise raised[0]
+
+
+def log_in(channel: Channel) -> None:
+    """The server's side of a login that isn't encrypted."""
+    channel.read_message()
+    channel.write_message(tds.PacketType.ANSWER, tds.prelogin(tds.Encryption.NOT_SUPPORTED))
+    channel.read_message()
+    channel.write_message(tds.PacketType.ANSWER, tds.login_ack("Test") + tds.done())
+
+
+def ask_port(port: int, *words: str, **options: Any) -> subprocess.CompletedProcess[bytes]:
+    """What the command `query` gives that asks a port of this machine, without encryption."""
+    return subprocess.run(command_for(port, *words), capture_output=True, check=False, **started(), **options)
+
+
+def command_for(port: int, *words: str) -> list[str]:
+    own = ["-S", f"127.0.0.1,{port}", "-U", "reader", "--encrypt", "none", "--program", PROGRAM]
+    return [sys.executable, "-m", "gavyreto", "query", *own, *(words or ("SELECT 1",))]
+
+
+def started(**variables: str) -> dict[str, Any]:
+    """How a command is started: with a password, without a terminal."""
+    own = {"SQLCMDPASSWORD": "secret", "PYTHONPATH": os.path.join(ROOT, "python"), "PYTHONDONTWRITEBYTECODE": "1"} | variables
+    return {"env": os.environ | own, "stdin": subprocess.DEVNULL, "start_new_session": True}

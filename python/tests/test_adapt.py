@@ -1,0 +1,205 @@
+"""Tests of `adapt` and `columns`: responses with columns that the program refuses."""
+from __future__ import annotations
+
+import io
+import os
+import random
+import struct
+import subprocess
+import sys
+import tempfile
+import unittest
+from typing import Any
+
+import gavyreto
+from gavyreto import tds
+from gavyreto.adapting import Adapter
+from gavyreto.payload import Ended
+from tests.beside import PROGRAM, Live, answered, need, response, started, wire
+
+LONG = 200_000_000
+
+
+def adapted(data: bytes, charset: str = "windows-1252") -> bytes:
+    out = io.BytesIO()
+    Adapter(io.BytesIO(data).read, out.write, charset).run()
+    return out.getvalue()
+
+
+def exported(data: bytes, *words: str) -> tuple[int, bytes]:
+    ran = subprocess.run([PROGRAM, "export", "--packet-size", "32767", *words], input=data, capture_output=True, check=False)
+    return ran.returncode, ran.stdout
+
+
+def quoted(value: Any) -> str:
+    return "NULL" if value is None else '"' + str(value).replace('"', '""') + '"'
+
+
+def refused_text() -> bytes:
+    """What the rows of `refused` give: numbers are text, and a sql_variant is the text of its base type."""
+    columns = response.REFUSED
+    lines = [",".join(f'"{column.name}"' for column in columns)]
+    for values, variant in zip(response.REFUSED_ROWS, ("42", "", None)):
+        fields = [quoted(value) if column.name in ("real", "float", "real_or_null", "float_or_null") else column.text_of(value)
+                  for column, value in zip(columns, values)]
+        fields[response.NAMES_OF_REFUSED.index("variant")] = quoted(variant)
+        lines.append(",".join(fields))
+    return "".join(line + "\r\n" for line in lines).encode()
+
+
+class Adapted(unittest.TestCase):
+    def test_what_is_not_refused_stays_byte_for_byte(self) -> None:
+        """Packets and all, also empty ones."""
+        for name in ("kinds", "sets", "orders", "error", "broken"):
+            for size in (512, 4096, 32767):
+                with self.subTest(name=name, size=size):
+                    data = wire(name, 40, size)
+                    self.assertEqual(adapted(data), data)
+        payload = b"".join(response.kinds(0))
+        for size in range(9, 80):
+            data = b"".join(packet + tds.packet(tds.PacketType.ANSWER, b"", False) for packet in list(tds.packets([payload], size))[:-1])
+            data += list(tds.packets([payload], size))[-1]
+            self.assertEqual(adapted(data), data)
+
+    def test_each_refused_kind_in_packets_of_each_size(self) -> None:
+        payload, wanted = b"".join(response.refused(0)), refused_text()
+        for size in (*range(9, 60), 512, 4096):
+            with self.subTest(size=size):
+                self.assertEqual(exported(adapted(b"".join(tds.packets([payload], size)))), (0, wanted))
+
+    def test_each_base_type_of_a_sql_variant(self) -> None:
+        status, text = exported(adapted(wire("variants")))
+        wanted = ['"variant"', *(quoted(text) for _, text in response.VARIANTS), "NULL"]
+        self.assertEqual((status, text.decode()), (0, "".join(line + "\r\n" for line in wanted)))
+
+    def test_text_of_a_sql_variant_by_character_set(self) -> None:
+        column = response.Column("v", "62491F0000", response.variant, response.as_it_is, bytes)
+        data = answered(response.description([column]), response.row([column], [b"\xA7\x07" + response.TEXT_PROPERTIES + "5 €".encode()]), tds.done())
+        self.assertEqual(exported(adapted(data, "utf-8")), (0, '"v"\r\n"5 €"\r\n'.encode()))
+        every = response.row([column], [b"\xA7\x07" + response.TEXT_PROPERTIES + bytes(range(0x80, 0xA0))])
+        narrow = response.Column("v", "A72800", response.long, response.as_it_is, bytes)
+        own = answered(response.description([narrow]), response.row([narrow], [bytes(range(0x80, 0xA0))]), tds.done())
+        self.assertEqual(exported(adapted(answered(response.description([column]), every, tds.done()))), exported(own))
+
+    def test_other_sets_and_returned_values(self) -> None:
+        """Sets before and after, a returned value of float, and what else a response has."""
+        value = b"\xAC\x01\0\x02@\0x\0\x01" + bytes(6) + b"\x6D\x08\x08" + response.double("0.5")
+        pieces = [*response.sets(0)][:-1] + [tds.done(1), *response.refused(0)][:-1] + [tds.done(1), value, *response.order_rows(5), tds.done()]
+        status, text = exported(adapted(b"".join(tds.packets(pieces, 600))))
+        sets = exported(wire("sets"))[1]
+        self.assertEqual((status, text), (0, sets + b"\r\n" + refused_text() + b"\r\n" + exported(wire("orders", 5))[1]))
+
+    def test_floats_read_back_to_the_same_bits(self) -> None:
+        numbers = random.Random(1)
+        for type_info, form, size in (("6D08", "<d", 8), ("6D04", "<f", 4), ("3E", "<d", 8), ("3B", "<f", 4)):
+            cell = response.fixed if len(type_info) == 2 else response.short
+            column = response.Column("x", type_info, cell, response.as_it_is, bytes)
+            values = [it for it in (numbers.randbytes(size) for _ in range(3000)) if struct.unpack(form, it)[0] == struct.unpack(form, it)[0]]
+            rows = b"".join(response.row([column], [value]) for value in values)
+            status, text = exported(adapted(b"".join(tds.packets([response.description([column]), rows, tds.done()], 4096))))
+            came = [float(line.strip('"')) for line in text.decode().split("\r\n")[1:-1]]
+            self.assertEqual((status, [struct.pack(form, it) for it in came]), (0, values))
+
+    def test_responses_that_end_early(self) -> None:
+        """What came before is written, so the program names the same place of the wire or the payload."""
+        data = wire("refused", 0, 512)
+        for length in range(0, len(data), 13):
+            out = io.BytesIO()
+            with self.assertRaises(Ended):
+                Adapter(io.BytesIO(data[:length]).read, out.write, "windows-1252").run()
+            self.assertNotEqual(exported(out.getvalue())[0], 0)
+            self.assertTrue(refused_text().startswith(exported(out.getvalue())[1]))
+
+    def test_what_cannot_be_followed(self) -> None:
+        column = response.Column("x", "6D08", response.short, response.as_it_is, bytes)
+        variant = response.Column("v", "62491F0000", response.variant, response.as_it_is, bytes)
+        for pieces in (
+            [b"\x99"], [b"\xD1"], [b"\x81\x01\0" + bytes(6) + b"\x99"], [response.description([column]), b"\xD1\x08" + b"\xFF" * 8],
+            [response.description([variant]), response.row([variant], [b"\x99\0"])], [response.description([variant]), response.row([variant], [b"\x28\0\xFF\xFF\xFF"])],
+            [response.description([variant]), response.row([variant], [b"\x29\x01\x00\xFF\xFF\xFF"])],
+        ):
+            with self.subTest(pieces=pieces), self.assertRaises(ValueError):
+                adapted(answered(*pieces, tds.done()))
+
+
+class Commands(Live):
+    def run_command(self, *words: str, data: bytes = b"") -> subprocess.CompletedProcess[bytes]:
+        given = started()
+        del given["stdin"]
+        return subprocess.run([sys.executable, "-m", "gavyreto", *words], input=data, cwd=self.folder, capture_output=True, check=False, **given)
+
+    def test_adapt(self) -> None:
+        for name, data in (("float.tds", b""), ("-", wire("float"))):
+            self.assertEqual(exported(self.run_command("adapt", name, data=data).stdout), (0, b'"id","ratio"\r\n1,NULL\r\n'))
+        self.assertEqual(exported(self.run_command("adapt", data=wire("float")).stdout), (0, b'"id","ratio"\r\n1,NULL\r\n'))
+        self.assertEqual(self.run_command("adapt", "-o", "out", "float.tds").returncode, 0)
+        self.assertEqual(exported(self.text("out"))[0], 0)
+        for words, status in ((["nothere"], 5), (["-o", "none/out", "float.tds"], 5), (["--charset", "latin1"], 2), (["."], 5)):
+            self.assertEqual(self.run_command("adapt", *words).returncode, status)
+        for data, line in ((wire("float")[:40], "the response ends before its last packet\n"), (answered(b"\x99"), "the response can't be followed: no token of an answer to a statement: 0x99\n")):
+            came = self.run_command("adapt", data=data)
+            self.assertEqual((came.returncode, came.stderr.decode()), (4, line))
+        full = subprocess.run(["sh", "-c", f"{sys.executable} -m gavyreto adapt float.tds > /dev/full"], cwd=self.folder, capture_output=True, check=False, **started())
+        self.assertEqual((full.returncode, full.stderr.count(b"\n")), (5, 1))
+
+    def test_columns(self) -> None:
+        came = self.run_command("columns", "sets.tds")
+        self.assertEqual(came.stdout.decode(), (
+            '"set","name","type","length","precision","scale","nullable"\r\n1,"id","int",NULL,NULL,NULL,0\r\n'
+            '1,"note","nvarchar(40)",40,NULL,NULL,1\r\n2,"total","decimal(9,2)",NULL,9,2,1\r\n3,"id","int",NULL,NULL,NULL,0\r\n'))
+        came = self.run_command("columns", "--as", "postgresql", "--table", 'a"b{}', "sets.tds")
+        self.assertTrue(came.stdout.startswith(b'CREATE TABLE "a""b1" (\n    "id" integer NOT NULL,\n    "note" text\n);\nCREATE TABLE'))
+        cases: list[tuple[list[str], bytes, int]] = [
+            (["--as", "sqlite", "--table", "t", "sets.tds"], b"", 2), (["nothere"], b"", 5), ([], b"", 4), ([], answered(b"\x99"), 4), (["--as", "x"], b"", 2),
+            (["--as", "sqlite"], answered(response.description([response.Column("", "38", response.fixed, response.whole(4), int)]), tds.done()), 2),
+        ]
+        for words, data, status in cases:
+            came = self.run_command("columns", *words, data=data)
+            with self.subTest(words=words):
+                self.assertEqual((came.returncode, came.stdout), (status, b""))
+
+    def test_a_long_value_in_fixed_memory(self) -> None:
+        need(self, "time")
+        column = response.Column("data", "22" + response.LAST + response.table("t"), response.after_pointer, response.as_it_is, bytes)
+        with open(self.path("image.tds"), "wb") as file:
+            head = response.description([column]) + b"\xD1\x10" + response.POINTER + struct.pack("<I", LONG)
+            for packet in tds.packets((head, *(response.CHUNK for _ in range(LONG // 8000)), tds.done()), 4096):
+                file.write(packet)
+        command = f'/usr/bin/time -f %M -o peak {sys.executable} -m gavyreto adapt image.tds | "$PROGRAM" check'
+        came = subprocess.run(["sh", "-c", command], cwd=self.folder, capture_output=True, check=False, **started(PROGRAM=PROGRAM))
+        self.assertEqual((came.returncode, came.stderr), (0, f"sets 1 rows 1 errors 0 infos 0 written {2 * LONG + 12}\n".encode()))
+        self.assertLess(int(self.text("peak")), 25_000)
+        print(f"adapt of a value of {LONG} bytes: a peak of {self.text('peak').decode().strip()} kilobytes")
+        os.remove(self.path("image.tds"))
+
+    def test_what_tsql_prints(self) -> None:
+        """FreeTDS reads the refused columns themselves: each number has the same bits, each text is the same."""
+        need(self, "tsql")
+        for name in ("refused", "variants"):
+            self.store(name)
+        settings = "[global]\ntds version = 7.4\nclient charset = UTF-8\nencryption = off\n[here]\nhost = 127.0.0.1\nport = %s\n"
+        command = (
+            f"printf '{settings}' $PORT > freetds.conf; printf 'SELECT * FROM refused\\ngo\\nSELECT * FROM variants\\ngo\\nexit\\n' | "
+            "tsql -S here -U reader -P secret -o q -t '|' 2> notes")
+        self.files.extend(["refused.tds", "variants.tds"])
+        came = self.beside(("--encrypt", "none"), command, FREETDSCONF=self.path("freetds.conf")).stdout.decode()
+        first, variants = came.split("\nvariant\n")
+        rows = [line.split("|") for line in first.split("\n")[1:]]
+        (_, ours), = [(one.names, list(one)) for one in gavyreto.export(io.BytesIO(adapted(wire("refused"))), program=PROGRAM)]
+        for theirs, values in zip(rows, ours):
+            self.assert_same("<f", theirs[0], values[0])
+            self.assert_same("<d", theirs[1], values[1])
+            self.assertEqual(theirs[4:6] + theirs[7:8], ["NULL" if it is None else it for it in values[4:6] + values[7:8]])
+            self.assertEqual(theirs[6], values[6].hex() if isinstance(values[6], bytes) else "NULL")
+        texts = [text for _, text in response.VARIANTS]
+        for theirs_, text in zip(variants.split("\n"), texts):
+            if any(it in text for it in ("-02-", "-06-", "-12-", ":", "0x", "0.1", "e+")):
+                continue  # dates and binary values, which tsql prints in other forms or not at all, and floats
+            self.assertEqual(theirs_.lower() if text.count("-") == 4 else theirs_, text)
+
+    def assert_same(self, form: str, theirs: str, ours: Any) -> None:
+        self.assertEqual(struct.pack(form, float(theirs)), struct.pack(form, float(ours)))
+
+
+if __name__ == "__main__":
+    unittest.main()

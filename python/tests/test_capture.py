@@ -1,0 +1,221 @@
+"""Tests of `capture`: connections with lost, doubled and disordered segments, begun in the middle, of two clients."""
+from __future__ import annotations
+
+import csv
+import io
+import os
+import random
+import subprocess
+import sys
+import tempfile
+import unittest
+from typing import Optional
+
+from gavyreto import tds
+from tests.beside import PROGRAM, ROOT, Live, answered, need, response, started, wire
+
+sys.path[:0] = [os.path.join(ROOT, "tools")]
+import capture  # noqa: E402
+
+OTHER = (bytes([192, 0, 2, 11]), 50999)
+STATEMENTS = ["SELECT * FROM kinds", "SELECT * FROM sets WHERE note = 'x' AND  total > 5 ORDER BY\n id, note, total", "SELECT * FROM error"]
+SHOWN = ["SELECT * FROM kinds", "SELECT * FROM sets WHERE note = 'x' AND total > 5 ORDER BY ..", "SELECT * FROM error"]
+RESPONSES = [wire("kinds", 40), wire("sets"), wire("error")]
+
+
+def exported(data: bytes) -> bytes:
+    return subprocess.run([PROGRAM, "export", "--packet-size", "32767"], input=data, capture_output=True, check=False).stdout
+
+
+def conversation(client: capture.Side = capture.CLIENT, encrypted: bool = False) -> capture.Capture:
+    """Greeting, login and three statements with their answers; with the login encrypted, or all that comes after it."""
+    made = capture.Capture(client)
+    made.open()
+    made.send(client, capture.greeting(0x12))
+    made.send(capture.SERVER, capture.greeting(4))
+    made.send(client, tds.packet(0x12, capture.tls_record(0x16, 200)))
+    made.send(capture.SERVER, tds.packet(0x12, capture.tls_record(0x16, 900)))
+    made.send(client, capture.tls_record(0x17, 300))
+    made.send(capture.SERVER, capture.tls_record(0x17, 400) if encrypted else capture.login_answer())
+    for statement, data in zip(STATEMENTS, RESPONSES):
+        made.send(client, b"".join(tds.packets([tds.statement(statement)], 512, tds.PacketType.STATEMENT)))
+        made.send(capture.SERVER, capture.tls_record(0x17, 5000) if encrypted else data)
+    return made
+
+
+class Captures(unittest.TestCase):
+    folder: str
+
+    def setUp(self) -> None:
+        need(self, "tcpflow", "editcap")
+        folder = tempfile.TemporaryDirectory()
+        self.addCleanup(folder.cleanup)
+        self.folder = folder.name
+
+    def run_capture(self, *words: str) -> subprocess.CompletedProcess[bytes]:
+        command = [sys.executable, "-m", "gavyreto", "capture", "--program", PROGRAM, *words]
+        return subprocess.run(command, cwd=self.folder, capture_output=True, check=False, **started())
+
+    def captured(self, frames: list[bytes], form: str = "pcap", *words: str) -> tuple[subprocess.CompletedProcess[bytes], list[dict[str, Optional[str]]]]:
+        """What the command gives of a capture with these frames, and the lines of its table."""
+        written = capture.Capture()
+        written.frames = frames
+        path = os.path.join(self.folder, "capture")
+        with open(path, "wb") as file:
+            written.write(file)
+        if form != "pcap":
+            subprocess.run(["editcap", "-F", form, path, path + ".as"], check=True)
+            os.replace(path + ".as", path)
+        came = self.run_capture(*words, "capture", "out")
+        lines = csv.DictReader(io.StringIO(came.stdout.decode(), newline=""))
+        return came, [{name: None if value == "NULL" else value for name, value in line.items()} for line in lines]
+
+    def texts(self) -> dict[str, bytes]:
+        found = {}
+        for name in sorted(os.listdir(os.path.join(self.folder, "out"))):
+            with open(os.path.join(self.folder, "out", name), "rb") as file:
+                found[name] = file.read()
+            os.remove(os.path.join(self.folder, "out", name))
+        return found
+
+    def names(self, client: str = "192.0.2.10.50123") -> list[str]:
+        return [f"{client}-192.0.2.20.1433.{number}.csv" for number in (1, 2, 3)]
+
+    def test_each_response_of_a_connection(self) -> None:
+        """In each format, with segments that came twice and in the wrong order."""
+        for form in ("pcap", "nsecpcap", "pcapng"):
+            with self.subTest(form=form):
+                came, table = self.captured(conversation().frames, form)
+                self.assertEqual((came.returncode, came.stderr), (3, b""))
+                self.assertEqual(self.texts(), dict(zip(self.names(), map(exported, RESPONSES))))
+                self.assertEqual([(line["text"], line["statement"], line["status"]) for line in table], list(zip(self.names(), SHOWN, "003")))
+                self.assertEqual({(line["client"], line["server"]) for line in table}, {("192.0.2.10.50123", "192.0.2.20.1433")})
+                self.assertTrue(all((line["time"] or "").startswith("2023-11-14 22:13:20.0") for line in table))
+                self.assertEqual(table[2]["line"], "sets 1 rows 1 errors 1 infos 0 written 9")
+
+    def test_two_clients(self) -> None:
+        one, other = conversation(), conversation(OTHER)
+        frames = [frame for pair in zip(one.frames, other.frames) for frame in pair]
+        came, table = self.captured(frames, "pcapng")
+        self.assertEqual(came.returncode, 3)
+        wanted = dict(zip(self.names() + self.names("192.0.2.11.50999"), list(map(exported, RESPONSES)) * 2))
+        self.assertEqual(self.texts(), wanted)
+        self.assertEqual(len(table), 6)
+
+    def test_one_side_alone(self) -> None:
+        server = [frame for frame in conversation().frames if frame[34:36] == (1433).to_bytes(2, "big")]
+        came, table = self.captured(server)
+        self.assertEqual((came.returncode, [line["statement"] for line in table]), (3, [None] * 3))
+        self.assertEqual(list(self.texts().values()), list(map(exported, RESPONSES)))
+
+    def test_segments_that_are_lost(self) -> None:
+        """Whichever is lost: each text is that of a whole response or a part of it, and what is lost is told."""
+        frames = conversation().frames
+        wholes = [exported(data) for data in RESPONSES]
+        for place in range(3, len(frames)):
+            is_server = frames[place][34:36] == (1433).to_bytes(2, "big") and len(frames[place]) > 54
+            came, table = self.captured(frames[:place] + frames[place + 1:])
+            with self.subTest(place=place):
+                for name, text in self.texts().items():
+                    self.assertTrue(text in wholes if name.endswith(".csv") else any(whole.startswith(text) for whole in wholes), name)
+                whole = [line for line in table if (line["text"] or "").endswith(".csv")]
+                if len(whole) < 3:
+                    self.assertEqual((is_server, came.returncode), (True, 4))
+                    self.assertTrue(any(part in (line["line"] or "") for part in ("lacking", "InputEnded", "no answer") for line in table))
+                else:
+                    self.assertIn(came.returncode, (3, 4))
+
+    def test_captures_that_begin_anywhere(self) -> None:
+        frames = conversation().frames
+        wholes = [exported(data) for data in RESPONSES]
+        for place in range(0, len(frames), 3):
+            came, table = self.captured(frames[place:])
+            with self.subTest(place=place):
+                texts = self.texts()
+                self.assertTrue(all(text in wholes for name, text in texts.items() if name.endswith(".csv")))
+                self.assertEqual(sum(name.endswith(".csv") for name in texts), sum(line["status"] in ("0", "3") for line in table))
+
+    def test_an_encrypted_connection(self) -> None:
+        came, table = self.captured(conversation(encrypted=True).frames)
+        self.assertEqual((came.returncode, [line["line"] for line in table]), (4, ["the connection is encrypted"]))
+        self.assertEqual(self.texts(), {})
+
+    def test_what_is_no_answer(self) -> None:
+        """A response that is refused leaves its part; bytes of anything else are told."""
+        for data, line in (
+            (wire("float"), "fault 10 RefusedColumn 1 FLTN at payload 15, written 0, unwritten 0"), (b"HTTP/1.1 200 OK\r\n\r\n", "no packet begins here: 19 bytes are passed over"),
+            (b"\x53\x01" + bytes(14), "several answers at once (MARS), which aren't read"), (answered(b"\x99"), "fault 6 RefusedToken 0x99 at payload 0, written 0, unwritten 0"),
+        ):
+            made = capture.Capture()
+            made.open()
+            made.send(capture.CLIENT, tds.packet(1, tds.statement("SELECT 1")))
+            made.send(capture.SERVER, data)
+            came, table = self.captured(made.frames)
+            with self.subTest(line=line):
+                self.assertEqual((came.returncode, [it["line"] for it in table]), (4, [line]))
+                self.assertFalse(any(name.endswith(".csv") for name in self.texts()))
+
+    def test_random_bytes(self) -> None:
+        """Whatever a server sends: no traceback, and the status isn't 0."""
+        numbers = random.Random(7)
+        for _ in range(30):
+            made = capture.Capture()
+            made.open()
+            made.send(capture.CLIENT, numbers.randbytes(numbers.randint(1, 3000)))
+            made.send(capture.SERVER, bytes([4, 1, 0, numbers.randint(8, 255)]) * (numbers.random() < 0.5) + numbers.randbytes(numbers.randint(1, 9000)))
+            came, _ = self.captured(made.frames)
+            self.assertEqual((came.returncode, came.stderr), (4, b""))
+            self.texts()
+
+    def test_all_that_a_server_sent(self) -> None:
+        """As a proxy keeps it: with answers to greeting and login, whole, cut off, and with something else in it."""
+        login = capture.greeting(4) + tds.packet(0x12, capture.tls_record(0x16, 900)) + capture.login_answer()
+        whole = login + b"".join(RESPONSES)
+        texts = dict(zip((f"answer.{number}.csv" for number in (1, 2, 3)), map(exported, RESPONSES)))
+        for data, status, told, left in (
+            (whole, 3, None, texts), (b"".join(RESPONSES), 3, None, texts),
+            (whole + b"HTTP", 4, "no packet begins here: 4 bytes are passed over", texts),
+            (whole[:-1], 4, "fault 2 InputEnded at wire 0, written 0, unwritten 0", {name: text for name, text in texts.items() if "3" not in name} | {"answer.3.csv.partial": b""}),
+        ):
+            with open(os.path.join(self.folder, "sent"), "wb") as file:
+                file.write(data)
+            came = self.run_capture("sent", "out")
+            with self.subTest(status=status, told=told):
+                lines = list(csv.DictReader(io.StringIO(came.stdout.decode(), newline="")))
+                self.assertEqual((came.returncode, came.stderr, self.texts()), (status, b"", left))
+                self.assertEqual((lines[0]["client"], lines[0]["time"], lines[-1]["line"] if told else None), ("NULL", "NULL", told))
+
+    def test_arguments(self) -> None:
+        self.captured(conversation().frames)
+        again = self.run_capture("capture", "out")
+        self.assertEqual(again.returncode, 2)
+        self.assertIn(b"has texts", again.stderr)
+        for words, status in ((["nothere", "other"], 5), (["--port", "1434", "capture", "other"], 4), ([sys.executable, "other"], 2), (["--port", "0", "capture", "other"], 2)):
+            with self.subTest(words=words):
+                came = self.run_capture(*words)
+                self.assertEqual((came.returncode, came.stdout), (status, b""))
+                self.assertNotIn(b"Traceback", came.stderr)
+
+
+class Dumps(Live):
+    def test_a_dump_of_a_client(self) -> None:
+        """Of `tsql`, encrypted or not."""
+        need(self, "tsql")
+        settings = "[global]\ntds version = 7.4\nclient charset = UTF-8\nencryption = %s\n[here]\nhost = 127.0.0.1\nport = %s\n"
+        for server, encryption in (("none", "off"), ("all", "require")):
+            command = (
+                f"printf '{settings}' {encryption} $PORT > freetds.conf; rm -rf out; printf 'SELECT * FROM orders\\nSELECT 2\\ngo\\nSELECT * FROM broken\\ngo\\nexit\\n' | "
+                'TDSDUMP=$PWD/dump tsql -S here -U reader -P secret > rows 2> notes; exec $CAPTURE --program "$PROGRAM" dump out')
+            came = self.beside(("--encrypt", server), command, FREETDSCONF=self.path("freetds.conf"), CAPTURE=f"{sys.executable} -m gavyreto capture")
+            with self.subTest(server=server):
+                self.assertEqual((came.returncode, came.stderr), (3, b""))
+                lines = list(csv.DictReader(io.StringIO(came.stdout.decode(), newline="")))
+                self.assertEqual([(it["text"], it["statement"], it["status"]) for it in lines], [
+                    ("answer.1.csv", "SELECT * FROM orders SELECT 2", "0"), ("answer.2.csv", "SELECT * FROM broken", "3")])
+                self.assertEqual(self.text(os.path.join("out", "answer.1.csv")), exported(wire("orders")))
+                self.assertEqual(self.text(os.path.join("out", "answer.2.csv")), exported(wire("broken", 5000)))
+            subprocess.run(["rm", "-r", self.path("out")], check=True)
+
+
+if __name__ == "__main__":
+    unittest.main()

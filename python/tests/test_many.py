@@ -1,0 +1,227 @@
+"""Tests of `many`: on this machine and on a Dask cluster, stopped and begun again, with workers and programs that are killed."""
+from __future__ import annotations
+
+import csv
+import io
+import os
+import signal
+import subprocess
+import sys
+import tempfile
+import time
+import unittest
+from collections.abc import Callable
+
+from tests.beside import PROGRAM, ROOT, SECONDS, need, skip, started, wire
+
+sys.path[:0] = [os.path.join(ROOT, "tools")]
+import packages  # noqa: E402
+
+KINDS, ERROR, FLOAT = wire("kinds", 40), wire("error"), wire("float")
+REFUSAL = "fault 10 RefusedColumn 1 FLTN at payload 15, written 0, unwritten 0"
+
+
+class Many(unittest.TestCase):
+    folder: str
+
+    def setUp(self) -> None:
+        folder = tempfile.TemporaryDirectory()
+        self.addCleanup(folder.cleanup)
+        self.folder = folder.name
+        os.mkdir(self.path("in"))
+
+    def path(self, *names: str) -> str:
+        return os.path.join(self.folder, *names)
+
+    def store(self, count: int, **others: bytes) -> list[str]:
+        """Stores good responses and others, and gives their names."""
+        made = {f"{number:03}": KINDS for number in range(count)} | others
+        for name, data in made.items():
+            with open(self.path("in", name), "wb") as file:
+                file.write(data)
+        return sorted(made)
+
+    def script(self, text: str) -> str:
+        """A program in place of tds_replay, which can run it as $PROGRAM."""
+        name = self.path("program")
+        with open(name, "w", encoding="utf-8") as file:
+            file.write(f"#!/bin/sh\nPROGRAM={PROGRAM}\n{text}\n")
+        os.chmod(name, 0o755)
+        return name
+
+    def begin(self, *words: str, python: str = sys.executable) -> subprocess.Popen[bytes]:
+        own = started()
+        own["env"] |= {"PATH": os.path.dirname(PROGRAM) + os.pathsep + packages.path()}
+        command = [python, "-m", "gavyreto", "many", *words]
+        return subprocess.Popen(command, cwd=self.folder, stdout=subprocess.PIPE, stderr=subprocess.PIPE, **own)
+
+    def many(self, *words: str, python: str = sys.executable) -> tuple[int, str]:
+        """The status of the command, and the last line that it says."""
+        with self.begin(*words, python=python) as process:
+            out, said = process.communicate(timeout=SECONDS)
+            self.assertEqual(out, b"")
+            return process.returncode, (said.decode().splitlines() or [""])[-1]
+
+    def interrupted(self, until: int, *words: str) -> tuple[int, str]:
+        """The same of a command that is interrupted once it has so many lines in its table."""
+        with self.begin(*words) as process:
+            self.wait_for(lambda: len(self.table()) >= until)
+            process.send_signal(signal.SIGINT)
+            return process.wait(SECONDS), process.communicate()[1].decode().splitlines()[-1]
+
+    def wait_for(self, holds: Callable[[], bool]) -> None:
+        until = time.monotonic() + SECONDS
+        while not holds():
+            self.assertLess(time.monotonic(), until)
+            time.sleep(0.01)
+
+    def table(self) -> list[tuple[str, int, str]]:
+        """The lines of the table, by the names of their files."""
+        try:
+            with open(self.path("out", "outcomes.csv"), encoding="utf-8", newline="") as file:
+                lines = [line for line in csv.reader(io.StringIO(file.read())) if len(line) == 3][1:]
+        except FileNotFoundError:
+            return []
+        return sorted((os.path.basename(file), int(status), line) for file, status, line in lines)
+
+    def assert_texts(self, good: list[str], *others: str) -> None:
+        """Each of these has the text of an export by hand, and beside the table and the others nothing is there."""
+        self.assertEqual(sorted(os.listdir(self.path("out"))), sorted([*(f"{name}.csv" for name in good), *others, "outcomes.csv"]))
+        wanted = subprocess.run([PROGRAM, "export"], input=KINDS, capture_output=True, check=True).stdout
+        for name in good:
+            with open(self.path("out", f"{name}.csv"), "rb") as file:
+                self.assertEqual(file.read(), wanted, name)
+
+    def runs(self) -> list[str]:
+        """The files that the program in place of tds_replay was run with."""
+        with open(self.path("runs"), encoding="utf-8") as file:
+            return sorted(os.path.basename(line) for line in file.read().split() if line != "--version")
+
+
+class Here(Many):
+    def test_each_response_has_its_text_and_its_line(self) -> None:
+        names = self.store(6, failed=ERROR, refused=FLOAT)
+        self.assertEqual(self.many("--program", PROGRAM, "in", "out"), (4, "8 responses: 6 done, 1 with an error of the server, 1 refused, 0 failed"))
+        self.assert_texts(names[:6], "failed.csv", "refused.csv.partial")
+        statuses = [(name, status) for name, status, _ in self.table()]
+        self.assertEqual(statuses, [*((name, 0) for name in names[:6]), ("failed", 3), ("refused", 4)])
+        self.assertEqual(self.table()[-1][2], REFUSAL)
+
+    def test_a_command_that_was_stopped_goes_on(self) -> None:
+        names = self.store(8)
+        slow = self.script('for file; do :; done; echo "$file" >> runs; sleep 0.1; exec "$PROGRAM" "$@"')
+        status, line = self.interrupted(3, "-j", "1", "--program", slow, "in", "out")
+        self.assertEqual((status, line), (130, "interrupted: begun again it goes on from here"))
+        with open(self.path("out", "outcomes.csv"), "ab") as file:
+            file.write(b'"/torn')  # a line whose writing was stopped
+        whole = len(self.table())
+        self.assertEqual(self.many("-j", "1", "--program", slow, "in", "out")[0], 0)
+        self.assert_texts(names)
+        self.assertEqual([name for name, _, _ in self.table()], names)
+        self.assertLessEqual(len(self.runs()) - len(names), 1, "at most the one that was under way runs again")
+        self.assertGreaterEqual(whole, 3)
+        before = self.runs()
+        self.assertEqual(self.many("--program", slow, "in", "out")[0], 0)
+        self.assertEqual(self.runs(), before)
+
+    def test_what_changed_or_lost_its_text_is_done_again(self) -> None:
+        names = self.store(3)
+        logged = self.script('for file; do :; done; echo "$file" >> runs; exec "$PROGRAM" "$@"')
+        self.many("--program", logged, "in", "out")
+        later = time.time() + 10
+        os.utime(self.path("in", names[0]), (later, later))
+        os.remove(self.path("out", f"{names[1]}.csv"))
+        self.assertEqual(self.many("--program", logged, "in", "out")[0], 0)
+        self.assertEqual(self.runs(), sorted([*names, *names[:2]]))
+        self.assert_texts(names)
+
+    def test_a_program_that_is_killed_costs_its_own_response(self) -> None:
+        names = self.store(4)
+        killed = self.script('case "$*" in */001) test -e again || { echo x; kill -KILL $$; } ;; esac; exec "$PROGRAM" "$@"')
+        self.assertEqual(self.many("--program", killed, "in", "out"), (5, "4 responses: 3 done, 0 with an error of the server, 0 refused, 1 failed"))
+        self.assert_texts([names[0], *names[2:]])
+        self.assertEqual(self.table()[1], ("001", 137, "tds_replay was ended by the signal 9"))
+        open(self.path("again"), "w").close()
+        self.assertEqual(self.many("--program", killed, "in", "out")[0], 0)
+        self.assert_texts(names)
+        self.assertEqual([(name, status) for name, status, _ in self.table()], [(name, 0) for name in names])
+
+    def test_a_program_that_says_less_than_it_wrote_is_not_believed(self) -> None:
+        self.store(1)
+        for text in ('"$PROGRAM" "$@" | head -c 50; echo "sets 1 rows 40 errors 0 infos 0 written 17000" >&2', 'test "$1" = --version || exit 0; exec "$PROGRAM" "$@"'):
+            self.assertEqual(self.many("--program", self.script(text), "in", "out")[0], 5)
+            self.assert_texts([])
+
+    def test_what_cannot_be_used_is_refused_before_anything_runs(self) -> None:
+        self.store(1)
+        os.mkdir(self.path("other"))
+        with open(self.path("other", "000"), "wb") as file:
+            file.write(KINDS)
+        os.mkdir(self.path("foreign"))
+        with open(self.path("foreign", "outcomes.csv"), "w", encoding="utf-8") as table:
+            table.write("a,b\r\n1,2\r\n")
+        cases = [
+            (["in", "other", "out"], f"{self.path('in', '000')} and {self.path('other', '000')} would have one text: export them to two folders"),
+            (["in", "in"], "in is the folder of the texts too: name another one for them"),
+            (["in", "foreign"], f"{self.path('foreign', 'outcomes.csv')} isn't a table of this command"),
+            (["--program", "nothere", "in", "out"], "the program nothere isn't there, or can't be run"),
+        ]
+        for words, line in cases:
+            with self.subTest(line):
+                self.assertEqual(self.many(*words), (2, line))
+                self.assertFalse(os.path.exists(self.path("out", "000.csv")))
+        self.assertEqual(self.many("--program", PROGRAM, "nothere", "out"), (5, "1 responses: 0 done, 0 with an error of the server, 0 refused, 1 failed"))
+
+    def test_two_commands_do_not_share_a_folder(self) -> None:
+        self.store(2)
+        slow = self.script('sleep 0.5; exec "$PROGRAM" "$@"')
+        with self.begin("-j", "1", "--program", slow, "in", "out") as first:
+            self.wait_for(lambda: os.path.exists(self.path("out", "outcomes.csv")))
+            self.assertEqual(self.many("--program", PROGRAM, "in", "out"), (2, f"{self.path('out')}: another command writes its texts there"))
+            self.assertEqual(first.wait(SECONDS), 0)
+            first.communicate()
+
+    def test_a_full_disk_leaves_no_text(self) -> None:
+        self.store(1)
+        status, line = self.many("--program", self.script('ulimit -f 8; exec "$PROGRAM" "$@"'), "in", "out")
+        self.assertEqual((status, line), (5, "1 responses: 0 done, 0 with an error of the server, 0 refused, 1 failed"))
+        self.assert_texts([])
+
+
+class OnCluster(Many):
+    """On a cluster of a scheduler and two workers on this machine."""
+
+    def setUp(self) -> None:
+        super().setUp()
+        need(self, "dask-scheduler", "dask-worker")
+        if not packages.has_module(packages.DEBIAN_PYTHON, "distributed"):
+            skip(self, "Python's module distributed isn't there: `make needs` installs it")
+        self.start("dask-scheduler", "--port", "0", "--no-dashboard")
+        self.workers = [self.start("dask-worker", "--nthreads", "1", "--no-nanny", "--no-dashboard", "--local-directory", name) for name in ("one", "two")]
+
+    def start(self, *words: str) -> subprocess.Popen[bytes]:
+        own = started()
+        own["env"] |= {"PATH": os.path.dirname(PROGRAM) + os.pathsep + packages.path()}
+        command = [*words, "--host", "127.0.0.1", "--scheduler-file", "scheduler.json"]
+        process = subprocess.Popen(command, cwd=self.folder, stdout=subprocess.DEVNULL, stderr=subprocess.DEVNULL, **own)
+        self.addCleanup(process.wait)
+        self.addCleanup(process.kill)
+        return process
+
+    def test_a_worker_that_is_killed_costs_nothing(self) -> None:
+        names = self.store(100, failed=ERROR, refused=FLOAT)
+        words = ["--scheduler", "scheduler.json", "--program", self.script('sleep 0.02; exec "$PROGRAM" "$@"'), "in", "out"]
+        with self.begin(*words, python=packages.DEBIAN_PYTHON) as process:
+            self.wait_for(lambda: len(self.table()) >= 20)
+            self.workers[0].kill()
+            self.wait_for(lambda: len(self.table()) >= 40)
+            process.send_signal(signal.SIGINT)
+            said = process.communicate(timeout=SECONDS)[1].decode().splitlines()
+            self.assertEqual((process.returncode, said[-1:]), (130, ["interrupted: begun again it goes on from here"]))
+        self.assertEqual(self.many(*words, python=packages.DEBIAN_PYTHON), (4, "102 responses: 100 done, 1 with an error of the server, 1 refused, 0 failed"))
+        self.assert_texts(names[:100], "failed.csv", "refused.csv.partial")
+        self.assertEqual([name for name, _, _ in self.table()], names)
+
+
+if __name__ == "__main__":
+    unittest.main()

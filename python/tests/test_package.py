@@ -1,0 +1,92 @@
+"""Tests of the package as it is installed by pip."""
+from __future__ import annotations
+
+import os
+import shutil
+import subprocess
+import tempfile
+import unittest
+
+import gavyreto
+from gavyreto.version import SOURCE
+from tests.beside import PROGRAM, ROOT, skip
+
+DEBIAN = "/usr/bin/python3"
+
+
+def packed(folder: str, into: str) -> tuple[str, bytes]:
+    """The name and the bytes of the package for Debian that a clone of the repository makes."""
+    os.mkdir(os.path.join(folder, into))
+    variables = {name: value for name, value in os.environ.items() if name != "SOURCE_DATE_EPOCH"}
+    words = [os.path.join(folder, "clone", "tools", "deb"), PROGRAM, os.path.join(folder, into)]
+    path = subprocess.run(words, env=variables, check=True, capture_output=True, text=True).stdout.strip()
+    with open(path, "rb") as file:
+        return os.path.basename(path), file.read()
+
+
+class Installed(unittest.TestCase):
+    def test_pip_installs_the_package_and_its_command(self) -> None:
+        """From a copy, since the build leaves files beside its sources. Nothing is asked of the network."""
+        if subprocess.run([DEBIAN, "-c", "import setuptools, wheel, pip"], capture_output=True, check=False).returncode != 0:
+            skip(self, "Python's module pip isn't there: `make needs` installs it")
+        with tempfile.TemporaryDirectory() as folder:
+            shutil.copytree(os.path.join(ROOT, "python"), os.path.join(folder, "python"), ignore=shutil.ignore_patterns("__pycache__", "tests"))
+            os.makedirs(os.path.join(folder, os.path.dirname(SOURCE)))
+            shutil.copy(os.path.join(ROOT, SOURCE), os.path.join(folder, SOURCE))
+            words = ["install", "--quiet", "--no-index", "--no-deps", "--no-build-isolation", "--target", "there", "./python"]
+            subprocess.run([DEBIAN, "-m", "pip", *words], cwd=folder, check=True, capture_output=True)
+            variables = {"PYTHONPATH": os.path.join(folder, "there"), "PATH": os.path.join(folder, "there", "bin") + os.pathsep + os.environ["PATH"]}
+            for command, wanted in (
+                (["gavyreto", "--version"], f"gavyreto {gavyreto.__version__}\n"),
+                ([DEBIAN, "-m", "gavyreto", "--version"], f"gavyreto {gavyreto.__version__}\n"),
+                ([DEBIAN, "-c", "import gavyreto; print(gavyreto.__version__, [len(list(it)) for it in gavyreto.export(*__import__('sys').argv[1:2], program=__import__('sys').argv[2])])",
+                  os.path.join(ROOT, "examples", "first.tds"), PROGRAM], f"{gavyreto.__version__} [1]\n"),
+            ):
+                with self.subTest(command=command[:3]):
+                    came = subprocess.run(command, cwd=folder, env=os.environ | variables, capture_output=True, text=True, check=False)
+                    self.assertEqual((came.returncode, came.stdout), (0, wanted), came.stderr)
+            self.assertTrue(os.path.exists(os.path.join(folder, "there", "gavyreto", "py.typed")))
+
+    def test_the_version_is_that_of_the_program(self) -> None:
+        said = subprocess.run([PROGRAM, "--version"], capture_output=True, text=True, check=True).stdout
+        self.assertEqual(said, f"tds_replay {gavyreto.__version__}\n")
+
+    def test_two_packages_for_debian_of_one_commit_are_equal_and_of_two_commits_are_not(self) -> None:
+        with tempfile.TemporaryDirectory() as folder:
+            subprocess.run(["git", "clone", "--quiet", "--shared", ROOT, os.path.join(folder, "clone")], check=True)
+            first, again = (packed(folder, into) for into in ("one", "two"))
+            own = ["-c", "user.name=A", "-c", "user.email=a@example.org", "commit", "--quiet", "--allow-empty", "--date", "2040-01-01T00:00:00Z", "-m", "Next"]
+            subprocess.run(["git", "-C", os.path.join(folder, "clone"), *own], check=True, env=os.environ | {"GIT_COMMITTER_DATE": "2040-01-01T00:00:00Z"})
+            other = packed(folder, "three")
+            with open(os.path.join(folder, "clone", "README.md"), "a", encoding="utf-8") as file:
+                file.write("\n")
+            modified = packed(folder, "four")
+        self.assertEqual(first, again)
+        self.assertEqual(len({name for name, _ in (first, other, modified)}), 3)
+        self.assertEqual([name.count("+modified") for name, _ in (first, other, modified)], [0, 0, 1])
+
+    def test_completion(self) -> None:
+        """Each command's words complete; the words that help names are held to completion by `tools/docs`."""
+        for program, words, wanted in (
+            ("gavyreto", ["ca"], ["capture"]), ("gavyreto", ["--v"], ["--version"]), ("gavyreto", ["many", "--sch"], ["--scheduler"]), ("gavyreto", ["columns", "--as", "s"], ["sqlite"]),
+            ("tds_replay", ["-V"], ["-V"]), ("tds_replay", ["--v"], ["--version"]), ("tds_replay", ["recut", "--c"], []), ("tds_replay", ["export", "--c"], ["--column-room", "--charset"]),
+        ):
+            path = os.path.join(ROOT, "tools", "package", f"{program}.bash")
+            script = f'. {path}; COMP_WORDS=({program} {" ".join(words)}); COMP_CWORD={len(words)}; _{program}; printf "%s\\n" "${{COMPREPLY[@]}}"'
+            with self.subTest(program=program, words=words):
+                self.assertEqual(subprocess.run(["bash", "-c", script], capture_output=True, text=True, check=True).stdout.split(), wanted)
+
+    def test_names(self) -> None:
+        """Each name that the package promises is there; others aren't."""
+        for name in gavyreto.__all__:
+            self.assertTrue(hasattr(gavyreto, name), name)
+        self.assertLessEqual(set(gavyreto.__all__), set(dir(gavyreto)))
+        with self.assertRaises(AttributeError):
+            getattr(gavyreto, "nothing")
+
+    def test_commands(self) -> None:
+        cases: list[tuple[list[str], int]] = [(["--help"], 0), (["query", "--help"], 0), ([], 2), (["nothing"], 2), (["query"], 2)]
+        for words, status in cases:
+            came = subprocess.run([shutil.which("python3") or DEBIAN, "-m", "gavyreto", *words], cwd=os.path.join(ROOT, "python"), capture_output=True, check=False)
+            with self.subTest(words=words):
+                self.assertEqual((came.returncode, bool(came.stdout), bool(came.stderr)), (status, status == 0, status != 0))

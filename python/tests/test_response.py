@@ -1,0 +1,332 @@
+"""Tests of reading responses by the program: sources, sets, reports and stops."""
+from __future__ import annotations
+
+import bz2
+import gzip
+import io
+import os
+import pickle
+import socket
+import tempfile
+import threading
+import time
+import unittest
+from collections.abc import Iterator
+from decimal import Decimal
+from typing import Any
+
+import gavyreto
+from gavyreto import tds
+from gavyreto.program import report_of
+from tests.beside import PROGRAM, answered, response, wire
+
+
+def export(source: Any, **options: Any) -> gavyreto.Response:
+    return gavyreto.export(source, program=PROGRAM, **options)
+
+
+def all_of(sets: gavyreto.Sets) -> list[tuple[list[str], list[list[gavyreto.Value]]]]:
+    with sets:
+        return [(result_set.names, list(result_set)) for result_set in sets]
+
+
+SETS = [
+    (["id", "note"], [[1, "first\r\n\r\nthird line"], [2, None]]),
+    (["total"], [[Decimal("12.50")]]),
+    (["id"], []),
+]
+
+
+class SetsAndRows(unittest.TestCase):
+    def test_a_value_of_each_kind(self) -> None:
+        for dates in (False, True):
+            (names, rows), = all_of(export(wire("kinds", 900), dates=dates))
+            self.assertEqual((names, len(rows)), (response.NAMES, 900))
+            for column in zip(*rows):
+                self.assertEqual(len({type(value) for value in column if value is not None}), 1)
+        self.assertEqual(repr(all_of(export(wire("kinds")))[0][1]), repr(response.VALUES))
+
+    def test_several_sets_and_one_without_rows(self) -> None:
+        with export(wire("sets")) as came:
+            self.assertEqual([(one.names, list(one)) for one in came], SETS)
+            self.assertEqual(came.report, gavyreto.Report(3, 3, 0, 0, 72))
+            self.assertEqual((came.sets, came.rows), (3, 3))
+
+    def test_sets_that_are_passed_over(self) -> None:
+        with export(wire("sets")) as came:
+            sets = list(came)
+            self.assertEqual([one.names for one in sets], [names for names, _ in SETS])
+            self.assertEqual(came.report, gavyreto.Report(3, 3, 0, 0, 72))
+            with self.assertRaises(gavyreto.PassedOver):
+                list(sets[0])
+
+    def test_a_response_without_sets(self) -> None:
+        came = export(answered(tds.done()))
+        self.assertEqual((list(came), came.report), ([], gavyreto.Report(0, 0, 0, 0, 0)))
+
+    def test_reading_may_be_left_in_the_middle(self) -> None:
+        with export(wire("kinds", 20000)) as came:
+            next(next(came))
+        self.assertIsNone(came.report)
+        with self.assertRaisesRegex(ValueError, "closed"):
+            next(came)
+
+    def test_rows_come_before_the_response_has_ended(self) -> None:
+        data = wire("orders", 5000)
+        for is_buffered in (False, True):
+            reader, writer = os.pipe()
+            with open(writer, "wb", buffering=0) as pipe, open(reader, "rb", buffering=-1 if is_buffered else 0) as source:
+                os.set_blocking(writer, False)
+                sent = pipe.write(data)  # what a pipe takes, without the end of the response
+                self.assertLess(sent or 0, len(data))
+                with export(source) as came:
+                    self.assertEqual(next(came.only())[0], 1)
+                    os.set_blocking(writer, True)
+                    pipe.close()
+
+
+TYPES = (
+    "tinyint smallint int bigint bit smallmoney money smalldatetime datetime tinyint smallint int bigint bit smallmoney money smalldatetime datetime "
+    "decimal(9,2) numeric(38,10) uniqueidentifier date time(7) time(0) datetime2(7) datetimeoffset(3) char(3) varchar(40) varchar(max) nchar(2) "
+    "nvarchar(40) nvarchar(max) binary(4) varbinary(8) varbinary(max)").split()
+
+
+class Columns(unittest.TestCase):
+    def sources(self, name: str, count: int = 0) -> Iterator[Any]:
+        data = wire(name, count, 512)
+        yield data
+        yield io.BytesIO(data)
+        with tempfile.TemporaryDirectory() as folder:
+            path = os.path.join(folder, "response")
+            with open(path, "wb") as file:
+                file.write(data)
+            yield path
+            fifo = os.path.join(folder, "pipe")
+            os.mkfifo(fifo)
+            threading.Thread(target=self.write_to, args=(fifo, data), daemon=True).start()
+            yield fifo
+
+    def write_to(self, path: str, data: bytes) -> None:
+        with open(path, "wb") as file:
+            file.write(data)
+
+    def test_the_type_of_each_kind(self) -> None:
+        for source in self.sources("kinds", 300):
+            with self.subTest(source=type(source).__name__), export(source) as came:
+                kinds = came.only()
+                columns = kinds.columns or []
+                self.assertEqual([(it.name, it.type) for it in columns], list(zip(response.NAMES, TYPES)))
+                self.assertEqual(len(list(kinds)), 300)
+                described = dict((name, rest) for name, *rest in kinds.description or [])
+                self.assertEqual(described["total"], ["numeric(38,10)", None, None, 38, 10, True])
+                self.assertEqual(described["title"], ["nvarchar(40)", None, 40, None, None, True])
+                self.assertEqual(described["story"], ["nvarchar(max)", None, None, None, None, True])
+                self.assertEqual(described["whole"], ["int", None, None, None, None, False])
+
+    def test_each_of_several_sets(self) -> None:
+        wanted = [["int", "nvarchar(40)"], ["decimal(9,2)"], ["int"]]
+        for source in self.sources("sets"):
+            with self.subTest(source=type(source).__name__), export(source) as came:
+                self.assertEqual([[it.type for it in one.columns or []] for one in came], wanted)
+        with export(wire("sets")) as came:
+            sets = list(came)
+            self.assertEqual([it.type for it in sets[2].columns or []], ["int"])
+
+    def test_packets_that_are_not_read_here(self) -> None:
+        ours, theirs = socket.socketpair()
+        with ours, theirs:
+            theirs.sendall(wire("sets"))
+            self.assertEqual([(one.columns, one.description) for one in export(ours)], [(None, None)] * 3)
+
+    def test_a_response_that_cannot_be_followed(self) -> None:
+        payload = b"".join(response.orders(0))
+        for end in (b"", b"\xD1", b"\x99"):
+            with export(io.BytesIO(answered(payload[:-13] + end))) as came, self.assertRaises(gavyreto.Fault):
+                orders = next(came)
+                self.assertEqual(len(orders.columns or []), 5)
+                list(orders)
+
+
+class Sources(unittest.TestCase):
+    def test_files_and_bytes(self) -> None:
+        with tempfile.TemporaryDirectory() as folder:
+            path = os.path.join(folder, "-sets.tds")
+            with open(path, "wb") as file:
+                file.write(wire("sets") + wire("orders"))
+            for buffering in (0, -1):
+                with open(path, "rb", buffering=buffering) as source:
+                    self.assertEqual(all_of(export(source)), SETS)
+                    self.assertEqual(len(all_of(export(source))[0][1]), 3)
+            with open(path, "rb") as source:
+                self.assertEqual(all_of(export(source.fileno())), SETS)
+            self.assertEqual(all_of(export(path)), SETS)
+        for kind in (bytes, bytearray, memoryview):
+            self.assertEqual(all_of(export(kind(wire("sets")))), SETS)
+
+    def test_what_is_read_as_a_file(self) -> None:
+        """Of each exactly one response is read, decompressed where the object does that."""
+        data = wire("sets") + wire("orders") + b"rest"
+        with tempfile.NamedTemporaryFile() as file:
+            file.write(data)
+            file.seek(0)
+            sources: list[Any] = [io.BytesIO(data), gzip.GzipFile(fileobj=io.BytesIO(gzip.compress(data))), bz2.BZ2File(io.BytesIO(bz2.compress(data))), file]
+            with tempfile.NamedTemporaryFile(suffix=".gz") as packed, tempfile.SpooledTemporaryFile() as spooled:
+                packed.write(gzip.compress(data))
+                packed.flush()
+                spooled.write(data)
+                spooled.seek(0)
+                with gzip.open(packed.name) as unpacked:
+                    for source in [*sources, unpacked, spooled]:
+                        with self.subTest(source=type(source).__name__):
+                            self.assertEqual(all_of(export(source)), SETS)
+                            self.assertEqual(len(all_of(export(source))[0][1]), 3)
+                            self.assertEqual(source.read(), b"rest")
+
+    def test_a_read_that_fails(self) -> None:
+        """What a method `read` raises is raised once the rows before it are handed out."""
+        whole = gzip.compress(wire("orders", 3000, 512))
+        rows = []
+        with export(gzip.GzipFile(fileobj=io.BytesIO(whole[:len(whole) // 2]))) as came, self.assertRaises(EOFError):
+            for row in came.only():
+                rows.append(row)
+        self.assertEqual([row[0] for row in rows[:3]], [1, 2, 3])
+
+    def test_a_socket_is_read_up_to_the_response_and_no_further(self) -> None:
+        ours, theirs = socket.socketpair()
+        with ours, theirs:
+            theirs.sendall(wire("sets") + wire("sets") + b"rest")
+            self.assertEqual([all_of(export(ours)), all_of(export(ours))], [SETS, SETS])
+            self.assertEqual(ours.recv(99), b"rest")
+
+    def test_sources_that_are_closed_or_do_not_block(self) -> None:
+        ours, theirs = socket.socketpair()
+        with theirs:
+            ours.settimeout(1)
+            with self.assertRaisesRegex(ValueError, "block"):
+                export(ours)
+            ours.close()
+            sources: list[Any] = [ours, io.BytesIO(), open(os.devnull, "rb"), open(os.devnull, "rb", buffering=0)]
+            for closed in sources:
+                closed.close()
+                with self.subTest(closed=closed), self.assertRaisesRegex(ValueError, "closed"):
+                    export(closed)
+            with self.assertRaisesRegex(ValueError, "closed"):
+                export(-1)
+
+    def test_great_packets(self) -> None:
+        self.assertEqual(all_of(export(wire("sets", size=32767))), SETS)
+        with self.assertRaises(gavyreto.Fault) as stop:
+            all_of(export(wire("kinds", 100, 8000), packet_size=4096))
+        self.assertEqual((stop.exception.name, stop.exception.fields), ("BadPacketLength", ("8000",)))
+
+    def test_what_is_no_source(self) -> None:
+        for source in (["sets.tds"], io.StringIO("text"), None, True, 1.5):
+            with self.subTest(source=source), self.assertRaises(TypeError):
+                export(source)
+        with self.assertRaises(FileNotFoundError):
+            export("no such file")
+        with self.assertRaises(FileNotFoundError):
+            gavyreto.export(b"", program="no such program")
+
+
+class Stops(unittest.TestCase):
+    def stop(self, kind: type[Any], source: Any, **options: Any) -> tuple[Any, list[list[gavyreto.Value]]]:
+        """What ends the reading, at this call and each further one, and the rows before it."""
+        rows = []
+        with export(source, **options) as came, self.assertRaises(kind) as stop:
+            for result_set in came:
+                for row in result_set:
+                    rows.append(row)
+        with self.assertRaises(kind) as again:
+            next(came)
+        self.assertIs(again.exception, stop.exception)
+        self.assertIsNone(came.report)
+        self.assertEqual(stop.exception.rows, len(rows))
+        return stop.exception, rows
+
+    def test_a_server_error_in_the_middle_of_rows(self) -> None:
+        error, rows = self.stop(gavyreto.ServerError, wire("broken", 4))
+        self.assertEqual([row[0] for row in rows], [1, 2, 3, 1])
+        self.assertEqual(
+            (error.number, error.state, error.severity, error.line, error.message, error.sets, error.report.errors),
+            (8134, 1, 16, 1, "Divide by zero error encountered.", 1, 1))
+
+    def test_a_refused_column(self) -> None:
+        fault, rows = self.stop(gavyreto.Fault, wire("float"))
+        self.assertEqual(
+            (rows, fault.number, fault.name, fault.fields, fault.where, fault.place, fault.written, fault.unwritten, fault.rest),
+            ([], 10, "RefusedColumn", ("1", "FLTN"), "payload", 15, 0, 0, ""))
+
+    def test_a_response_that_is_cut_anywhere(self) -> None:
+        data = wire("orders", size=512)
+        _, whole = all_of(export(data))[0]
+        for length in range(0, len(data), 7):
+            fault, rows = self.stop(gavyreto.Fault, data[:length] if length % 2 else io.BytesIO(data[:length]))
+            self.assertEqual((fault.name, rows), ("InputEnded", whole[:len(rows)]))
+
+    def test_a_row_that_is_cut(self) -> None:
+        payload = b"".join(response.orders(0))
+        fault, rows = self.stop(gavyreto.Fault, answered(payload[:-30]))
+        self.assertEqual((len(rows), fault.name, fault.rest), (2, "MessageEnded", '3,"東京",NULL'))
+
+    def test_arguments_that_are_refused(self) -> None:
+        error, _ = self.stop(gavyreto.ProgramFailed, wire("sets"), packet_size=511)
+        self.assertEqual(error.status, 2)
+        self.assertIn("511", str(error))
+
+    def test_a_program_that_is_another_one(self) -> None:
+        for program in ("/bin/true", "/bin/cat", "/bin/false"):
+            with self.subTest(program=program), self.assertRaises((gavyreto.ProgramFailed, gavyreto.MalformedText)):
+                all_of(gavyreto.export(wire("sets"), program=program))
+
+    def test_errors_go_through_pickle(self) -> None:
+        stops: list[tuple[type[Any], bytes, dict[str, Any]]] = [
+            (gavyreto.ServerError, wire("broken", 4), {}), (gavyreto.Fault, wire("float"), {}),
+            (gavyreto.ProgramFailed, wire("sets"), {"packet_size": 511}),
+        ]
+        for kind, source, options in stops:
+            error, _ = self.stop(kind, source, **options)
+            copy = pickle.loads(pickle.dumps(error))
+            self.assertEqual((type(copy), str(copy), copy.args, vars(copy)), (kind, str(error), error.args, vars(error)))
+        for other in (gavyreto.MalformedText("x"), gavyreto.UnfinishedText("rest"), gavyreto.NotOneSet("x"), gavyreto.ConnectionFailed("x")):
+            self.assertEqual(vars(pickle.loads(pickle.dumps(other))), vars(other))
+
+    def test_a_program_that_is_killed(self) -> None:
+        reader, writer = os.pipe()
+        with open(writer, "wb", buffering=0), open(reader, "rb", buffering=0) as source, export(source) as came:
+            threading.Thread(target=self.kill_later, args=(came,), daemon=True).start()
+            with self.assertRaises(gavyreto.ProgramFailed) as stop:
+                next(came)
+        self.assertEqual(stop.exception.status, -9)
+
+    def kill_later(self, came: gavyreto.Response) -> None:
+        time.sleep(0.1)
+        came._program.kill()
+
+
+class Notes(unittest.TestCase):
+    """What the program says is read line by line, so a server's message can't pass for a line of the program."""
+
+    def messages(self) -> Iterator[str]:
+        yield "return status 5"
+        yield "sets 9 rows 9 errors 0 infos 0 written 9"
+        yield "x\nreturn values 7\nreturn status 5\nserver error 1, state 1, class 1, line 1: y"
+        yield "fault 2 InputEnded at wire 0, written 0, unwritten 0"
+        yield "x\x85return status 5\u2028return values 9"
+
+    def test_a_message_that_looks_like_a_line(self) -> None:
+        for message in self.messages():
+            with self.subTest(message=message):
+                data = answered(b"\x79" + bytes([7, 0, 0, 0]), tds.server_error(1, message, 1), tds.done())
+                with self.assertRaises(gavyreto.ServerError) as stop:
+                    all_of(export(data))
+                self.assertEqual(stop.exception.message, message.replace("\n", " "))
+                self.assertEqual(stop.exception.report, gavyreto.Report(0, 0, 1, 0, 0, 0, 7))
+
+    def test_lines_that_are_none(self) -> None:
+        report = "sets 1 rows 3 errors 0 infos 0 written 72\n"
+        self.assertEqual(report_of(report), gavyreto.Report(1, 3, 0, 0, 72))
+        self.assertEqual(report_of(report + "return values 2\nreturn status -1\n"), gavyreto.Report(1, 3, 0, 0, 72, 2, -1))
+        for notes in ("", "\n", report[:-1], "x" + report, report + "x\n", report + report, report + "return status 1\nreturn values 1\n", "want of memory\n"):
+            with self.subTest(notes=notes):
+                self.assertIsNone(report_of(notes))

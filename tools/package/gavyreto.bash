@@ -1,0 +1,29 @@
+# Completion of gavyreto's commands, options and files, for bash.
+_gavyreto() {
+    local word=${COMP_WORDS[COMP_CWORD]} before=${COMP_WORDS[COMP_CWORD - 1]} command=${COMP_WORDS[1]} options
+    COMPREPLY=()
+    case $before in
+        --charset) mapfile -t COMPREPLY < <(compgen -W "windows-1252 utf-8" -- "$word"); return ;;
+        --encrypt) mapfile -t COMPREPLY < <(compgen -W "all login none" -- "$word"); return ;;
+        --as) mapfile -t COMPREPLY < <(compgen -W "csv sqlite postgresql" -- "$word"); return ;;
+        -S | --server | -U | --user | -d | --database | --seconds | --packet-size | --column-room | --port | --table | -j | --jobs) return ;;
+    esac
+    if ((COMP_CWORD == 1)); then
+        mapfile -t COMPREPLY < <(compgen -W "query capture columns adapt many --help --version" -- "$word")
+        return
+    fi
+    case $command in
+        query) options="-S --server -U --user -d --database -i --input -o --output --encrypt -N -Nm -No -C --trust-server --certificates --seconds --packet-size --column-room --charset --program" ;;
+        capture) options="--port --column-room --charset --program" ;;
+        columns) options="--as --table" ;;
+        adapt) options="-o --output --charset" ;;
+        many) options="-j --jobs --scheduler --column-room --charset --program" ;;
+    esac
+    if [[ $word == -* ]]; then
+        mapfile -t COMPREPLY < <(compgen -W "$options -h --help" -- "$word")
+    else
+        compopt -o filenames 2> /dev/null
+        mapfile -t COMPREPLY < <(compgen -f -- "$word")
+    fi
+}
+complete -F _gavyreto gavyreto
