@@ -19,12 +19,32 @@ ROOM = 3_500_000_000
 # The most processes that share a proof; more gain nothing.
 MOST_JOBS = 4
 
+# By how much a proof gets shorter where processes share it, each of which reads the libraries first.
+GAIN = 1.7
+
+# The minutes of a processor that a crate's proof takes, in the table of docs/PROOFS.md.
+MINUTES = re.compile(r"^\| `(\w+)` \| ([\d.]+) \|", re.M)
+
+
+def minutes_of(names: list[str]) -> float:
+    """How many minutes the proofs of these crates take by the clock, by the table of docs/PROOFS.md: all that they take of the
+    processors, or the longest chain of them, of which each waits for the one before."""
+    with open(repo.path_of("docs", "PROOFS.md"), encoding="utf-8") as page:
+        listed = {name: float(minutes) for name, minutes in MINUTES.findall(page.read())}
+    chains: dict[str, float] = {}
+    for name in (it for it in repo.CRATES if it in names):
+        chains[name] = listed.get(name, 0) + max((chains[it] for it in repo.below(name) if it in chains), default=0)
+    processors = at_once()
+    return max(sum(listed.get(it, 0) for it in names) / processors, max(chains.values(), default=0) / min(GAIN, processors))
+
 
 class Progress:
     """What is shown while crates are proved: a line for each that has ended and, on a terminal, one of what is under way."""
 
-    def __init__(self, names: list[str]) -> None:
-        self.names, self.under_way, self.lock, self.shows = names, [], threading.Lock(), sys.stderr.isatty()
+    def __init__(self, names: list[str], lacking: list[str]) -> None:
+        self.names, self.lock, self.shows = names, threading.Lock(), sys.stderr.isatty()
+        self.left = [*lacking]  # the crates that aren't proved
+        self.under_way: list[str] = []
 
     def show(self, line: str = "") -> None:
         if line:
@@ -45,9 +65,17 @@ class Progress:
                 self.under_way.remove(what)
                 self.show()
 
+    def begin(self) -> None:
+        """Shows how long it will take."""
+        if self.left:
+            self.show(f"{len(self.left)} of {len(self.names)} crates to prove, some {math.ceil(minutes_of(self.left))} minutes")
+
     def end(self, name: str, text: str) -> None:
+        """Shows what became of a crate, and how long the others will take."""
         with self.lock:
-            self.show(f"crate {self.names.index(name) + 1} of {len(self.names)}, {name}: {text}")
+            self.left.remove(name)
+            left = f", some {math.ceil(minutes_of(self.left))} minutes left" if self.left else ""
+            self.show(f"crate {self.names.index(name) + 1} of {len(self.names)}, {name}: {text}{left}")
 
 
 def at_once() -> int:
@@ -99,8 +127,11 @@ def prove_all(asked: list[str], test: Callable[[str, int], None] | None = None) 
     proved = {*names} - {*left}
     if not left:
         return True
+    run_tests = test or (lambda name, jobs: None)
     repo.need_rt()
-    progress, running = Progress(names), {}
+    progress = Progress(names, lacking)
+    progress.begin()
+    running: dict[Future[bool], str] = {}
     most = at_once()
 
     def work(name: str, jobs: int) -> bool:
@@ -108,7 +139,7 @@ def prove_all(asked: list[str], test: Callable[[str, int], None] | None = None) 
             return False
         if name in tested:
             with progress.during(f"the tests of {name}"):
-                test(name, jobs)
+                run_tests(name, jobs)
         return True
 
     with ThreadPoolExecutor(most) as pool:

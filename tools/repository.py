@@ -127,7 +127,7 @@ def make_room(name: str) -> str:
     return folder
 
 
-def in_room(name: str, command: list[str], each_line: Callable[[str], None]) -> int:
+def in_room(name: str, command: list[str], each_line: Callable[[str], object]) -> int:
     """Runs a command in a crate's room, hands each line that it prints to `each_line`, and returns its status."""
     folder = make_room(name)
     try:
@@ -136,7 +136,7 @@ def in_room(name: str, command: list[str], each_line: Callable[[str], None]) -> 
             run = subprocess.Popen(
                 command, cwd=folder, stdin=source, stdout=subprocess.PIPE, stderr=subprocess.STDOUT, text=True, errors="replace"
             )
-        for line in run.stdout:
+        for line in run.stdout or ():
             each_line(line)
         return run.wait()
     finally:
@@ -149,6 +149,11 @@ def put_program() -> None:
     os.makedirs(BIN, exist_ok=True)
     if not os.path.exists(program) or os.path.getmtime(made) > os.path.getmtime(program):
         shutil.copy2(made, program)
+
+
+def runner() -> str:
+    """The toolchain's program that runs tests which are built."""
+    return os.path.join(os.path.dirname(os.path.realpath(shutil.which("rt") or "")), "rattle-test")
 
 
 def need_rt() -> None:
