@@ -63,7 +63,7 @@ const fn came_to(answer: Result<Report, Stopped>, text: &[u8]) -> Outcome {
 }
 
 // What is wanted where the writer fails once it took these bytes, and these wait.
-fn broken_behind(taken: &[u8], waiting: &[u8]) -> Outcome {
+fn broken_after(taken: &[u8], waiting: &[u8]) -> Outcome {
     let answer = Err(Stopped {
         fault: Fault::WriteFailed,
         place: Place::Text(taken.len() as u64),
@@ -185,7 +185,7 @@ struct Metered {
     peak: u64,
 }
 
-const METERED: [Metered; 5] = [
+const METERED: [Metered; 6] = [
     Metered {
         what: "a row",
         wire: &WIRE,
@@ -203,6 +203,19 @@ const METERED: [Metered; 5] = [
         text: NOTHING,
         held: 0,
         peak: 0,
+    },
+    // a COLMETADATA without metadata: its Count stood
+    Metered {
+        what: "no metadata",
+        wire: &[
+            0x04, 0x01, 0x00, 0x18, 0x00, 0x00, 0x01, 0x00, 0x81, 0xFF, 0xFF, 0xFD, 0, 0, 0, 0, 0,
+            0, 0, 0, 0, 0, 0, 0,
+        ],
+        rows: (0, 0),
+        stop: None,
+        text: NOTHING,
+        held: 0,
+        peak: 2,
     },
     // a column of nvarchar(max) and a row of NULL
     Metered {
@@ -238,7 +251,7 @@ const METERED: [Metered; 5] = [
     },
     // a row after a COLMETADATA without metadata
     Metered {
-        what: "no metadata behind a set",
+        what: "no metadata after a set",
         wire: &[
             0x04, 0x01, 0x00, 0x19, 0x00, 0x00, 0x01, 0x00, 0x81, 1, 0, 0, 0, 0, 0, 0, 0, 0x38, 1,
             0x61, 0, 0x81, 0xFF, 0xFF, 0xD1,

@@ -124,7 +124,7 @@ fn describe<R: Read>(payload: &mut Payload<R>, area: &mut Area) -> bool
 }
 
 // How many bytes there are, if they end with others.
-fn length_behind(bytes: &[u8], end: &[u8]) -> Option<usize> {
+fn length_after(bytes: &[u8], end: &[u8]) -> Option<usize> {
     if bytes.ends_with(end) {
         Some(bytes.len())
     } else {
@@ -213,7 +213,7 @@ fn run_metered(
     let _ = sink.finish();
     let outcome = Outcome {
         answer,
-        text: length_behind(to.device().kept(), wanted),
+        text: length_after(to.device().kept(), wanted),
         place,
     };
     Ok((outcome, small.peak()))
@@ -253,7 +253,7 @@ struct Reading {
     peak: usize,
 }
 
-// The description of three kinds has 27 bytes and that of a date 10, and the date of three kinds begins 5 bytes behind it.
+// The description of three kinds has 27 bytes and that of a date 10, and the date of three kinds begins 5 bytes after it.
 const READINGS: [Reading; 10] = [
     Reading {
         what: "each cell of a row by itself",
@@ -296,7 +296,7 @@ const READINGS: [Reading; 10] = [
         peak: 0,
     },
     Reading {
-        what: "a bad date behind two values",
+        what: "a bad date after two values",
         token: Token::Row,
         columns: MIXED,
         bytes: &[42, 0, 0, 0, 0, 3, 0xDB, 0xB9, 0x37],
@@ -342,7 +342,7 @@ const READINGS: [Reading; 10] = [
         peak: 1,
     },
     Reading {
-        what: "no cell behind a bitmap that lies whole in its packet",
+        what: "no cell after a bitmap that lies whole in its packet",
         token: Token::NbcRow,
         columns: &[INT4, DATE],
         bytes: &[0x01, 3, 0xDA, 0xB9, 0x37],
@@ -352,7 +352,7 @@ const READINGS: [Reading; 10] = [
         peak: 0,
     },
     Reading {
-        what: "a date behind a bitmap, across the end of a packet",
+        what: "a date after a bitmap, across the end of a packet",
         token: Token::NbcRow,
         columns: &[INT4, DATE],
         bytes: &[0x01, 3, 0xDA, 0xB9, 0x37],
@@ -388,7 +388,7 @@ fn rows_are_read_in_little_room(rt: HostRuntime) -> Result<(), Fail> {
 }
 
 // A row after `waiting` bytes that wait.
-fn write_behind(
+fn write_after(
     alloc: Global,
     columns: &[&[u8]],
     bytes: &[u8],
@@ -405,7 +405,7 @@ fn write_behind(
 fn a_line_lies_across_a_block(rt: HostRuntime) -> Result<(), Fail> {
     for waiting in 4060..=4095 {
         let to = usual_writer();
-        let came = write_behind(rt.alloc(), MIXED, MIXED_ROW, waiting, to, MIXED_TEXT)?;
+        let came = write_after(rt.alloc(), MIXED, MIXED_ROW, waiting, to, MIXED_TEXT)?;
         let want = (Ok(()), Some(waiting + MIXED_TEXT.len()));
         expect_at(&rt, "bytes wait", waiting, came == want);
     }
@@ -429,13 +429,13 @@ fn a_write_fails(rt: HostRuntime) -> Result<(), Fail> {
     for n in 1..=20usize {
         let to = ScriptedWriter::new(1000, Failing::AfterBytes(4000));
         let waiting = 4096 - n;
-        let came = write_behind(rt.alloc(), MIXED, MIXED_ROW, waiting, to, b"")?;
+        let came = write_after(rt.alloc(), MIXED, MIXED_ROW, waiting, to, b"")?;
         expect_at(&rt, "three kinds", n, came == (Err(stop), Some(4000)));
     }
     for n in 1..=8usize {
         let to = ScriptedWriter::new(1000, Failing::AfterBytes(4000));
         let waiting = 4096 - n;
-        let came = write_behind(rt.alloc(), &[NVARCHAR_MAX], FACE, waiting, to, b"")?;
+        let came = write_after(rt.alloc(), &[NVARCHAR_MAX], FACE, waiting, to, b"")?;
         expect_at(&rt, "a long value", n, came == (Err(stop), Some(4000)));
     }
     Ok(())

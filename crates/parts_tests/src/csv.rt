@@ -546,15 +546,15 @@ fn field_of<'a>(content: Content, source: &[u8], n: usize, to: &'a mut [u8]) -> 
     to.get(..made)
 }
 
-// The field of a whole value, alone and before `behind` quotes.
-fn check_whole(alloc: Global, row: &Whole, behind: usize) -> Result<(), Fail> {
+// The field of a whole value, alone and before `following` quotes.
+fn check_whole(alloc: Global, row: &Whole, following: usize) -> Result<(), Fail> {
     let mut source = Vec::new(alloc);
     source.extend_from_slice(row.bytes)?;
-    source.extend_from_slice(&many(alloc, behind, 0x22)?)?;
+    source.extend_from_slice(&many(alloc, following, 0x22)?)?;
     let mut room = [0; 64];
     let came = field_of(row.content, &source, row.bytes.len(), &mut room);
     same(
-        format_args!("{}, {behind} behind", row.what),
+        format_args!("{}, {following} after it", row.what),
         &came,
         &row.field,
     )

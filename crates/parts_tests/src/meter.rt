@@ -100,7 +100,7 @@ const STEPS: [(&str, Call, bool, &[u8], usize); 12] = [
     ("none for none", Call::Append(b""), true, b"abcdef", 6),
     ("one for none", Call::Append(b"g"), false, b"abcdef", 6),
     ("the front dropped", Call::DropFront(2), true, b"cdef", 6),
-    ("cut behind its end", Call::Truncate(9), true, b"cdef", 6),
+    ("cut after its end", Call::Truncate(9), true, b"cdef", 6),
     ("cut to one byte", Call::Truncate(1), true, b"c", 6),
     ("zeros for others", Call::Extend(2), true, b"c\0\0", 6),
     ("cleared", Call::Clear, true, b"", 6),

@@ -295,7 +295,7 @@ fn packets_of_one_byte_are_joined(rt: HostRuntime) -> Result<(), Fail> {
 }
 
 // Passes over `n` bytes, and gives the byte after them, or what stopped it, and the place then.
-fn byte_behind<R: Read>(payload: &mut Payload<'_, R>, n: usize) -> (Result<u8, Stop>, u64)
+fn byte_after<R: Read>(payload: &mut Payload<'_, R>, n: usize) -> (Result<u8, Stop>, u64)
     requires { IsSound payload.old }
 {
     let came = match payload.pass(n) {
@@ -315,7 +315,7 @@ fn pass_single_bytes(
     let mut area = Area::new(alloc, 512)?;
     let mut from = Counted::new(ScriptedReader::new(&wire, 1000));
     let mut payload = Payload::new(&mut from, &mut area, 4096);
-    Ok(byte_behind(&mut payload, n))
+    Ok(byte_after(&mut payload, n))
 }
 
 #[test]
@@ -375,13 +375,13 @@ fn a_piece_lies_at_the_front(rt: HostRuntime) -> Result<(), Fail> {
 }
 
 #[test]
-fn a_failed_read_stops_behind_whole_packets(rt: HostRuntime) -> Result<(), Fail> {
+fn a_failed_read_stops_after_whole_packets(rt: HostRuntime) -> Result<(), Fail> {
     for (what, fails_at, whole) in [
         ("before any byte", 0, 0),
-        ("behind a header", 8, 0),
-        ("behind a packet", 9, 1),
+        ("after a header", 8, 0),
+        ("after a packet", 9, 1),
         ("in the header of the twelfth", 100, 11),
-        ("behind the last header", 278, 30),
+        ("after the last header", 278, 30),
     ] {
         let out = read(rt.alloc(), By::Next, false, 4, fails_at)?;
         let stop = at_wire(Fault::ReadFailed, 9 * whole as u64);

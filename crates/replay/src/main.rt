@@ -14,7 +14,7 @@ use std::io::{BufReader, ErrorKind, Write};
 use std::process::ExitCode;
 use tds_packet::Counted;
 use tds_replay::{
-    Job, Status, Usage, parse, perform, say_unreadable, say_usage, say_want_of_memory,
+    Job, Memory, Status, Usage, parse, perform_in, say_unreadable, say_usage, say_want_of_memory,
 };
 
 /// How many bytes of a FILE are read ahead at most. Standard input isn't read ahead, since another program
@@ -56,10 +56,11 @@ fn path_of(job: &Job) -> Option<&str> {
 fn run<N: Write>(rt: &HostRuntime, job: &Job, notes: &mut Counted<N>) -> u8
     requires { IsInRange job.now }
 {
+    let mut memory = Memory::new(rt.alloc());
     let mut to = Counted::new(rt.stdout());
     let Some(path) = path_of(job) else {
         let mut from = Counted::new(rt.stdin());
-        return perform(rt.alloc(), job, &mut from, &mut to, notes);
+        return perform_in(&mut memory, job.work(), &mut from, &mut to, notes);
     };
     let Ok(file) = File::open(rt, path) else {
         let _ = say_unreadable(notes, path);
@@ -69,7 +70,8 @@ fn run<N: Write>(rt: &HostRuntime, job: &Job, notes: &mut Counted<N>) -> u8
         let _ = say_want_of_memory(notes);
         return Status::WantOfMemory.number();
     };
-    perform(rt.alloc(), job, &mut Counted::new(ahead), &mut to, notes)
+    let mut from = Counted::new(ahead);
+    perform_in(&mut memory, job.work(), &mut from, &mut to, notes)
 }
 
 fn main(rt: HostRuntime) -> ExitCode {

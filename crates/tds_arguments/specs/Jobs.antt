@@ -11,6 +11,8 @@ use Rattle.tds_rows.specs.declared.Charset.{Charset}
 use Rattle.tds_rows.specs.declared.Charset.TheVariants.{Utf8, Windows1252}
 use Rattle.tds_arguments.specs.declared.job.Job.{Job}
 use Rattle.tds_arguments.specs.declared.job.Job.TheVariants.{Export, Check, Recut}
+use Rattle.tds_arguments.specs.declared.job.Work.{Work}
+use Rattle.tds_arguments.specs.declared.job.Work.TheVariants as work
 
 -- the name of a job's file, or none for standard input
 abbrev pub file_of : Job → Option (List ℕ)
@@ -18,11 +20,21 @@ file_of (Export limits charset file) = option_map string_bytes file
 file_of (Check limits charset file) = option_map string_bytes file
 file_of (Recut packet_size max_wire file) = option_map string_bytes file
 
+-- what a job does
+abbrev pub work_of : Job → Work
+work_of (Export limits charset file) = work.Export limits charset
+work_of (Check limits charset file) = work.Check limits charset
+work_of (Recut packet_size max_wire file) = work.Recut packet_size max_wire
+
+-- Each number of the work lies in its range.
+abbrev pub IsWorkInRange : Work → Type 0
+IsWorkInRange (work.Export limits charset) = IsPacketSize limits.packet_size × IsColumnRoom limits.column_room × IsMaxWire limits.max_wire
+IsWorkInRange (work.Check limits charset) = IsPacketSize limits.packet_size × IsColumnRoom limits.column_room × IsMaxWire limits.max_wire
+IsWorkInRange (work.Recut packet_size max_wire) = IsPacketSize packet_size × IsMaxWire max_wire
+
 -- Each number of the job lies in its range.
 abbrev pub IsInRange : Job → Type 0
-IsInRange (Export limits charset file) = IsPacketSize limits.packet_size × IsColumnRoom limits.column_room × IsMaxWire limits.max_wire
-IsInRange (Check limits charset file) = IsPacketSize limits.packet_size × IsColumnRoom limits.column_room × IsMaxWire limits.max_wire
-IsInRange (Recut packet_size max_wire file) = IsPacketSize packet_size × IsMaxWire max_wire
+IsInRange job = IsWorkInRange (work_of job)
 
 -- the values that a parse of a command's arguments found, defaults included
 abbrev pub values_in : ArgMatches → List Row

@@ -1,6 +1,6 @@
 // What the command is to do.
 ghost use Rattle.std.specs.Prelude.{◌≡◌, option_map};
-ghost use Rattle.tds_arguments.specs.Jobs.{file_of};
+ghost use Rattle.tds_arguments.specs.Jobs.{file_of, work_of};
 
 use tds_meter::Limits;
 use tds_rows::Charset;
@@ -29,6 +29,17 @@ pub enum Job {
     },
 }
 
+/// What a job does, without the name of its file.
+#[derive(Clone, Copy)]
+pub enum Work {
+    /// Writes the rows of a response as CSV.
+    Export { limits: Limits, charset: Charset },
+    /// Reads a response as an export does, and counts its text in place of writing it.
+    Check { limits: Limits, charset: Charset },
+    /// Writes the packets of a message in another size. The limit counts the bytes read.
+    Recut { packet_size: u16, max_wire: u64 },
+}
+
 impl Job {
     /// The file that has the packets, or none for standard input.
     pub fn file(&self) -> Option<&str>
@@ -38,6 +49,32 @@ impl Job {
             Job::Export { file, .. } | Job::Check { file, .. } | Job::Recut { file, .. } => {
                 file.as_deref()
             }
+        }
+    }
+
+    /// What it does.
+    pub fn work(&self) -> Work
+        ensures { result ≡ work_of self.now }
+    {
+        match *self {
+            Job::Export {
+                limits,
+                charset,
+                ..
+            } => Work::Export { limits, charset },
+            Job::Check {
+                limits,
+                charset,
+                ..
+            } => Work::Check { limits, charset },
+            Job::Recut {
+                packet_size,
+                max_wire,
+                ..
+            } => Work::Recut {
+                packet_size,
+                max_wire,
+            },
         }
     }
 }

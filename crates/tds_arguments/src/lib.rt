@@ -8,6 +8,6 @@ mod options;
 mod usage;
 mod words;
 
-pub use job::Job;
+pub use job::{Job, Work};
 pub use usage::Usage;
 pub use words::parse;

@@ -191,8 +191,8 @@ fn read_name<R: Read>(
     let start = area.len();
     take_into(payload, area, 1)?;
     let size = 2 * usize::from(area.bytes()[start]);
-    let behind = LEAST_COLUMN * usize::from(count - (index + 1));
-    if let Some(fault) = too_long(area.room(), start + 1, size + behind) {
+    let later = LEAST_COLUMN * usize::from(count - (index + 1));
+    if let Some(fault) = too_long(area.room(), start + 1, size + later) {
         area.truncate(start);
         return Err(Stop {
             fault,

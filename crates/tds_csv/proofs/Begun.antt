@@ -10,11 +10,11 @@ use Rattle.tds_csv.specs.Quoting.{quote, binary_mark}
 use Rattle.tds_csv.specs.Utf16 as utf16
 use Rattle.tds_csv.specs.Utf8 as utf8
 use Rattle.tds_csv.specs.Utf8Scan.{StopsAt}
-use Rattle.tds_csv.specs.Conversion.{Conversion, HexDigits, Utf16Text, Windows1252Text, Utf8Text, Begins, conversion_rest, conversion_text, is_fit, is_quoted, long_field, open_field, closing}
+use Rattle.tds_csv.specs.Conversion.{Conversion, HexDigits, Utf16Text, Windows1252Text, Utf8Text, BeginsData, conversion_rest, conversion_text, is_fit, is_quoted, long_field, open_field, closing}
 use Rattle.tds_csv.proofs.ConversionLaws.{fit_by_test, joins_by_name}
 use Rattle.tds_csv.proofs.Utf16Laws as utf16_laws
 use Rattle.tds_csv.proofs.Utf8Laws as utf8_laws
-use Rattle.tds_csv.proofs.Utf8Pushing.{behind_kept}
+use Rattle.tds_csv.proofs.Utf8Pushing.{after_kept}
 use Rattle.tds_csv.proofs.Utf8Stops.{stops_at}
 use Rattle.tds_csv.proofs.Utf8Test.{none_begins}
 
@@ -22,19 +22,19 @@ use Rattle.tds_csv.proofs.Utf8Test.{none_begins}
 pub record BegunFront (c : Conversion) (old piece : List ℕ) : Type 0 where
   pub taken : ℕ
   pub within : taken ≤ length piece
-  pub begun : Begins c (old ++ take taken piece)
+  pub begun : BeginsData c (old ++ take taken piece)
   pub same : emit (conversion_rest c) (conversion_text c) (old ++ take taken piece) ≡ emit (conversion_rest c) (conversion_text c) (old ++ piece)
 
-all_begun : (c : Conversion) (old piece : List ℕ) → Begins c (old ++ piece) → BegunFront c old piece
+all_begun : (c : Conversion) (old piece : List ℕ) → BeginsData c (old ++ piece) → BegunFront c old piece
 all_begun c old piece begun = grind (arith, take_all)
 
 -- a byte of the piece is bad
 stopped_front : (old piece : List ℕ) (whole good : ℕ) → utf8.Begins old → StopsAt (old ++ piece) whole good → BegunFront Utf8Text old piece
 stopped_front old piece whole good begins stops =
-    let behind : length old ≤ good = behind_kept old piece (old ++ piece) good refl begins stops.bad in
+    let after : length old ≤ good = after_kept old piece (old ++ piece) good refl begins stops.bad in
     let n : ℕ = good - length old in
-    let at : good ≡ length old + n = omega (arith, behind) in
-    grind (arith, behind_kept, take-append-add, length-append)
+    let at : good ≡ length old + n = omega (arith, after) in
+    grind (arith, after_kept, take-append-add, length-append)
 
 utf8_front : (old piece : List ℕ) (fault : Option ℕ) → utf8_error_len (utf8.rest (old ++ piece)) ≡ fault → utf8.Begins old → BegunFront Utf8Text old piece
 utf8_front old piece None is begins = all_begun Utf8Text old piece (none_begins (old ++ piece) is)
@@ -43,7 +43,7 @@ utf8_front old piece (Some k) is begins =
     stopped_front old piece whole _ begins (stops_at (old ++ piece) whole k refl is)
 
 -- after data that begins, the first bytes of any piece begin too and fix all the text that the piece fixes
-pub begun_front : (c : Conversion) (old piece : List ℕ) → Begins c old → BegunFront c old piece
+pub begun_front : (c : Conversion) (old piece : List ℕ) → BeginsData c old → BegunFront c old piece
 begun_front c old piece begins = grind (arith, utf8_front, take_all)
 
 -- an odd byte completes no unit
@@ -83,7 +83,7 @@ unfit_adds_none Utf8Text d x unfit =
     utf8_laws.emit-front (d ++ x ∷ []) ∙ ap utf8.text (unfit_front d x never) ∙ sym (utf8_laws.emit-front d)
 
 -- a piece grows the open field by the text of what was withheld and the piece
-pub open_grows : (c : Conversion) (d e : List ℕ) → Begins c (d ++ e) → open_field c d ++ emit (conversion_rest c) (conversion_text c) (conversion_rest c d ++ e) ≡ open_field c (d ++ e)
+pub open_grows : (c : Conversion) (d e : List ℕ) → BeginsData c (d ++ e) → open_field c d ++ emit (conversion_rest c) (conversion_text c) (conversion_rest c d ++ e) ≡ open_field c (d ++ e)
 open_grows HexDigits d e begins =
     append_assoc binary_mark (emit (conversion_rest HexDigits) (conversion_text HexDigits) d) (emit (conversion_rest HexDigits) (conversion_text HexDigits) (conversion_rest HexDigits d ++ e)) ∙ ap (λ l. binary_mark ++ l) (sym ((joins_by_name HexDigits).emits d e begins))
 open_grows Utf16Text d e begins = ap (λ l. quote ∷ l) (sym ((joins_by_name Utf16Text).emits d e begins))

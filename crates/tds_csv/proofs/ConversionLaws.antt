@@ -7,16 +7,16 @@ use Rattle.tds_csv.specs.Joining.{JoinsPieces}
 use Rattle.tds_csv.proofs.SingleLaws.{joins_binary, joins_windows_1252}
 use Rattle.tds_csv.proofs.Utf16Laws.{joins_utf16}
 use Rattle.tds_csv.proofs.Utf8Laws.{joins_utf8}
-use Rattle.tds_csv.specs.Conversion.{Conversion, HexDigits, Utf16Text, Windows1252Text, Utf8Text, IsFit, Begins, conversion_rest, conversion_text, unit, is_fit, is_begun}
+use Rattle.tds_csv.specs.Conversion.{Conversion, HexDigits, Utf16Text, Windows1252Text, Utf8Text, IsFit, BeginsData, conversion_rest, conversion_text, unit, is_fit, is_begun}
 use Rattle.tds_csv.proofs.Utf8Test.{begins_none, none_begins}
 
 pub fit_by_test : (c : Conversion) (bytes : List ℕ) → (is_fit c bytes ≡ true) ↔ IsFit c bytes
 fit_by_test c bytes = grind (arith, IsUtf8-from_is_utf8, is_utf8-from_IsUtf8, nat_tests)
 
-pub begun_by_test : (c : Conversion) (bytes : List ℕ) → (is_begun c bytes ≡ true) ↔ Begins c bytes
+pub begun_by_test : (c : Conversion) (bytes : List ℕ) → (is_begun c bytes ≡ true) ↔ BeginsData c bytes
 begun_by_test c bytes = grind (arith, none_begins, begins_none)
 
-pub joins_by_name : (c : Conversion) → JoinsPieces (IsFit c) (Begins c) (conversion_rest c) (conversion_text c)
+pub joins_by_name : (c : Conversion) → JoinsPieces (IsFit c) (BeginsData c) (conversion_rest c) (conversion_text c)
 joins_by_name HexDigits = joins_binary
 joins_by_name Utf16Text = joins_utf16
 joins_by_name Windows1252Text = joins_windows_1252

@@ -12,8 +12,8 @@ module _ (h j : Held) (room written : List ℕ) (n : ℕ) (whole : length writte
   before : take n lent ≡ h.waiting
   before = ap (λ k. take k lent) at ∙ spare_before h.waiting room written whole
 
-  behind : drop n lent ≡ written
-  behind = ap (λ k. drop k lent) at ∙ spare_written h.waiting room written whole
+  after : drop n lent ≡ written
+  after = ap (λ k. drop k lent) at ∙ spare_written h.waiting room written whole
 
   abbrev lent_held : Held
   lent_held = record h { waiting = take n lent }
@@ -22,5 +22,5 @@ module _ (h j : Held) (room written : List ℕ) (n : ℕ) (whole : length writte
   same = ap (λ (w : List ℕ). record h { waiting = w }) before
 
   pub kept_piece : {U : Type 0} (r : Result U Stop) (made : ℕ) → take made written ≡ text → MatchResult r (λ _. Puts lent_held j (take made (drop n lent))) (λ stop. Breaks lent_held j (take made (drop n lent)) stop) → MatchResult r (λ _. Puts h j text) (λ stop. failed ≡ false → Breaks h j text stop)
-  kept_piece (Ok u) made is x = subst (λ (l : List ℕ). Puts h j l) is (subst (λ (l : List ℕ). Puts h j (take made l)) behind (subst (λ (k : Held). Puts k j (take made (drop n lent))) same x))
-  kept_piece (Err stop) made is x = λ _. subst (λ (l : List ℕ). Breaks h j l stop) is (subst (λ (l : List ℕ). Breaks h j (take made l) stop) behind (subst (λ (k : Held). Breaks k j (take made (drop n lent)) stop) same x))
+  kept_piece (Ok u) made is x = subst (λ (l : List ℕ). Puts h j l) is (subst (λ (l : List ℕ). Puts h j (take made l)) after (subst (λ (k : Held). Puts k j (take made (drop n lent))) same x))
+  kept_piece (Err stop) made is x = λ _. subst (λ (l : List ℕ). Breaks h j l stop) is (subst (λ (l : List ℕ). Breaks h j (take made l) stop) after (subst (λ (k : Held). Breaks k j (take made (drop n lent)) stop) same x))

@@ -161,8 +161,8 @@ module _ {S T : Type 0} (small : Grammar S Fault) (big : Grammar T Fault) (lift 
   added_between s t more some more_to_come e = ap (λ l. l ++ more) (sym (text_is s some)) ∙ append_assoc front (text s) more ∙ ap (λ l. front ++ l) e ∙ text_is t more_to_come
 
   -- after the small text the big one has a tail
-  pub tail_behind : (s t : S) (more tail : List ℕ) → 0 < small.size s → text s ++ more ≡ text t → (front ++ text t) ++ tail ≡ whole (lift t) → whole (lift s) ++ (more ++ tail) ≡ whole (lift t)
-  tail_behind s t more tail some e end = grind (arith, append_assoc)
+  pub tail_after : (s t : S) (more tail : List ℕ) → 0 < small.size s → text s ++ more ≡ text t → (front ++ text t) ++ tail ≡ whole (lift t) → whole (lift s) ++ (more ++ tail) ≡ whole (lift t)
+  tail_after s t more tail some e end = grind (arith, append_assoc)
 
   -- the small grammar was read to its end, and its text put: of the big one's text only what stands after it is to be put
   abbrev pub nears_inside : (from : S) (a b : Seen) (h i : Held) (to : S) (tail : List ℕ) → (x : Streams small text from a b h i to) → 0 < length x.bytes → IsBetween b → length i.waiting < 4096 → (front ++ text to) ++ tail ≡ whole (lift to)
@@ -189,6 +189,6 @@ module _ {S T : Type 0} (small : Grammar S Fault) (big : Grammar T Fault) (lift 
         few = cut.1;
         puts = (before.0, added_between from l.at before.0 begin l.size before.1, cut.2);
         part = last.0;
-        text_is = tail_behind l.at to last.0 tail l.size closed end;
+        text_is = tail_after l.at to last.0 tail l.size closed end;
         half = cut.3;
       }

@@ -18,8 +18,8 @@ Appends-known : (a : Option (List ℕ)) (bs : List ℕ) → Appends a (append_kn
 Appends-known a bs = grind (arith)
 
 -- the second part of what was appended
-Appends-behind : (a c : Option (List ℕ)) (bs cs : List ℕ) → Appends a c (bs ++ cs) → Appends (append_known a bs) c cs
-Appends-behind a c bs cs p = grind (arith, append_assoc)
+Appends-after : (a c : Option (List ℕ)) (bs cs : List ℕ) → Appends a c (bs ++ cs) → Appends (append_known a bs) c cs
+Appends-after a c bs cs p = grind (arith, append_assoc)
 
 -- what waits and what was delivered once the first part of a piece was put, and what the second part then delivered
 pub record Halves (a b : Held) (p r sent : List ℕ) (blocks : ℕ) : Type 0 where
@@ -61,7 +61,7 @@ halves_at a b p r sent blocks number adds enough below above within =
       whole = size;
       second = second;
       adds_second = (
-        Appends-behind a.had b.had first second (subst (Appends a.had b.had) parts adds.0),
+        Appends-after a.had b.had first second (subst (Appends a.had b.had) parts adds.0),
         sym (drop-append-le k all r below) ∙ ap (drop k) joined ∙ drop-append-le k sent b.waiting in_sent,
         adds.2 ∙ ap (counted a.delivered) sizes ∙ sym (counted-twice a.delivered (length first) (length second)),
       );
@@ -119,8 +119,8 @@ breaks_second a b p q n stop sent blocks h fits below above full is failures =
       failures ∙ ap one_more (sym h.failures),
     )
 
-Breaks_split_behind : (a b : Held) (p q : List ℕ) (stop : Stop) → (x : Breaks a b (p ++ q) stop) → length p < x.2 → (m : Held) × (length m.waiting < 4096) × Puts a m p × Breaks m b q stop × (m.delivered ≤ 2 ^ 64 - 1)
-Breaks_split_behind a b p q stop x lt =
+Breaks_split_after : (a b : Held) (p q : List ℕ) (stop : Stop) → (x : Breaks a b (p ++ q) stop) → length p < x.2 → (m : Held) × (length m.waiting < 4096) × Puts a m p × Breaks m b q stop × (m.delivered ≤ 2 ^ 64 - 1)
+Breaks_split_after a b p q stop x lt =
     let n : ℕ = x.2 - length p in
     let r : List ℕ = take n q in
     let at : length p + n ≡ x.2 = omega (arith, lt) in
@@ -136,7 +136,7 @@ Breaks_split_behind a b p q stop x lt =
 pub Breaks_split : (a b : Held) (p q : List ℕ) (stop : Stop) → Breaks a b (p ++ q) stop → Breaks a b p stop ⊎ ((m : Held) × (length m.waiting < 4096) × Puts a m p × Breaks m b q stop × (m.delivered ≤ 2 ^ 64 - 1))
 Breaks_split a b p q stop x = elim (dec_le x.2 (length p)) [
   | yes le ↦ inl (Breaks_split_at a b p q stop x le)
-  | no above ↦ inr (Breaks_split_behind a b p q stop x (omega (arith, above)))
+  | no above ↦ inr (Breaks_split_after a b p q stop x (omega (arith, above)))
 ]
 
 -- no write fails where nothing is put

@@ -26,8 +26,8 @@ none_before text s t a b c p x = (x.0, x.1, Puts-trans a b c [] x.0 p x.2)
 
 module _ {S : Type 0} (g : Grammar S Fault) (text : S → List ℕ) where
   -- nothing was put before a call whose write fails
-  pub breaks_behind : (s : S) (a b : Seen) (h i j : Held) (at : S) (stop : Stop) → Puts h i [] → BreaksStreaming g text s a b i j at stop → BreaksStreaming g text s a b h j at stop
-  breaks_behind s a b h i j at stop p x = record {
+  pub breaks_after_put : (s : S) (a b : Seen) (h i j : Held) (at : S) (stop : Stop) → Puts h i [] → BreaksStreaming g text s a b i j at stop → BreaksStreaming g text s a b h j at stop
+  breaks_after_put s a b h i j at stop p x = record {
     bytes = x.bytes;
     element = x.element;
     ahead = x.ahead;

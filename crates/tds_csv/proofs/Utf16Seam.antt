@@ -15,10 +15,10 @@ pub seam_some : (kept piece : List ℕ) → 0 < length kept → seam kept piece 
 seam_some kept piece some = grind (arith)
 
 -- where the text goes on after that of the seam
-abbrev pub behind : List ℕ → List ℕ → List ℕ
-behind [] piece = piece
-behind (byte ∷ kept) piece = rest (byte ∷ kept ++ take 3 piece) ++ drop 3 piece
+abbrev pub after : List ℕ → List ℕ → List ℕ
+after [] piece = piece
+after (byte ∷ kept) piece = rest (byte ∷ kept ++ take 3 piece) ++ drop 3 piece
 
-pub Leads-behind : (kept piece : List ℕ) → Leads rest text (kept ++ piece) (behind kept piece) (emit rest text (seam kept piece))
-Leads-behind [] piece = subst (Leads rest text piece piece) (sym emit_none) (Leads-none rest text piece)
-Leads-behind (byte ∷ kept) piece = Leads-seam-front rest text joins_utf16 (byte ∷ kept) piece 3 tt
+pub Leads-after : (kept piece : List ℕ) → Leads rest text (kept ++ piece) (after kept piece) (emit rest text (seam kept piece))
+Leads-after [] piece = subst (Leads rest text piece piece) (sym emit_none) (Leads-none rest text piece)
+Leads-after (byte ∷ kept) piece = Leads-seam-front rest text joins_utf16 (byte ∷ kept) piece 3 tt

@@ -19,11 +19,11 @@ use Rattle.tds_csv.specs.Utf8Scan.{IsScan, StopsAt}
 use Rattle.tds_csv.proofs.Sinks.{Puts-trans, Breaks-after, Breaks-longer}
 
 -- the answer of a push, by where its piece begins in another one
-abbrev pub behind : {V : Type 0} → ℕ → Result V JoinFault → Result V JoinFault
-behind n (Ok v) = Ok v
-behind n (Err (Stopped stop)) = Err (Stopped stop)
-behind n (Err Odd) = Err Odd
-behind n (Err (BadText k)) = Err (BadText (n + k))
+abbrev pub moved_by : {V : Type 0} → ℕ → Result V JoinFault → Result V JoinFault
+moved_by n (Ok v) = Ok v
+moved_by n (Err (Stopped stop)) = Err (Stopped stop)
+moved_by n (Err Odd) = Err Odd
+moved_by n (Err (BadText k)) = Err (BadText (n + k))
 
 -- three bytes hold what is withheld
 scan_short : (bytes : List ℕ) (whole good : ℕ) → whole ≤ good → good ≤ length bytes → drop whole bytes ≡ rest bytes → (good ≡ length bytes → Begins bytes) → (good < length bytes → StopsAt bytes whole good) → good ≤ whole + 3
@@ -47,8 +47,8 @@ begins_part : (xs : List ℕ) (n : ℕ) → Begins xs → Begins (take n xs)
 begins_part xs n h = joins_utf8.front (take n xs) (drop n xs) (subst Begins (sym (take-append-drop n xs)) h)
 
 -- the bad byte is after what is withheld
-pub behind_kept : (kept piece bytes : List ℕ) (k : ℕ) → bytes ≡ kept ++ piece → Begins kept → (Begins (take (k + 1) bytes) → ⊥) → length kept ≤ k
-behind_kept kept piece bytes k is begun bad = elim (cases_lt k (length kept)) [
+pub after_kept : (kept piece bytes : List ℕ) (k : ℕ) → bytes ≡ kept ++ piece → Begins kept → (Begins (take (k + 1) bytes) → ⊥) → length kept ≤ k
+after_kept kept piece bytes k is begun bad = elim (cases_lt k (length kept)) [
   | inl before ↦
       let same : take (k + 1) bytes ≡ take (k + 1) kept = ap (take (k + 1)) is ∙ take-append-le (k + 1) kept piece (omega arith) in
       absurd (bad (subst Begins (sym same) (begins_part kept (k + 1) begun)))
@@ -58,11 +58,11 @@ behind_kept kept piece bytes k is begun bad = elim (cases_lt k (length kept)) [
 -- bytes that are withheld, and a piece, taken as one
 pub up_to_seam : (kept piece bytes new : List ℕ) (a b : Held) (k : ℕ) → bytes ≡ kept ++ piece → Begins kept → TakesUpTo Begins rest text [] new a b bytes k → TakesUpTo Begins rest text kept new a b piece (k - length kept)
 up_to_seam kept piece bytes new a b k is begun x =
-    let past = behind_kept kept piece bytes k is begun x.bad in
+    let past = after_kept kept piece bytes k is begun x.bad in
     let j = k - length kept in
     let split : k ≡ length kept + j = omega arith in
     let after : k + 1 ≡ length kept + (j + 1) = omega arith in
-    grind (arith, behind_kept, take-append-add, length-append)
+    grind (arith, after_kept, take-append-add, length-append)
 
 -- a part of a piece was taken before, and then the next bytes
 pub takes_both : (kept mid new part more : List ℕ) (a b d : Held) → TakesPiece Begins rest text kept mid a b part → TakesPiece Begins rest text [] new b d (mid ++ more) → TakesPiece Begins rest text kept new a d (part ++ more)
@@ -92,7 +92,7 @@ pub up_to_both : (kept mid new part more : List ℕ) (a b d : Held) (j : ℕ) �
 up_to_both kept mid new part more a b d j begun x y = elim (cases_lt (length part) (length mid)) [
   | inl less ↦ inr less
   | inr long ↦
-      let past : length mid ≤ j = behind_kept mid more (mid ++ more) j refl begun y.bad in
+      let past : length mid ≤ j = after_kept mid more (mid ++ more) j refl begun y.bad in
       let n = j - length mid in
       let k = (length part - length mid) + j in
       let at : k ≡ length part + n = omega arith in
@@ -169,8 +169,8 @@ up_to_long kept piece mid new held a b d j long same le begun x y =
     ]
 
 -- an answer is no other stop
-stopped_behind : {V : Type 0} (n : ℕ) (r : Result V JoinFault) → is_stopped (behind n r) ≡ is_stopped r
-stopped_behind n r = grind (arith)
+stopped_after : {V : Type 0} (n : ℕ) (r : Result V JoinFault) → is_stopped (moved_by n r) ≡ is_stopped r
+stopped_after n r = grind (arith)
 
 -- what a push of the first bytes of a piece that failed says of the piece
 first_gives : (U : Type 0) (kept piece new : List ℕ) (n : ℕ) (a b : Held) (failed : Bool) (e : JoinFault) → n ≤ length piece
@@ -183,7 +183,7 @@ first_gives U kept piece new n a b failed (BadText k) long x = up_to_first kept 
 long_gives : {V : Type 0} (kept piece mid new held' : List ℕ) (a b d : Held) (failed failed' : Bool) → failed' ≡ false → (r : Result V JoinFault) → 3 ≤ length piece → held' ≡ mid → length held' ≤ 3 → Begins mid
     → TakesPiece Begins rest text kept mid a b (take 3 piece)
     → Pushes Begins rest text [] new b d failed' (take (length piece - (3 - length held')) (drop (3 - length held') piece)) r
-    → Pushes Begins rest text kept new a d failed piece (behind (3 - length held') r)
+    → Pushes Begins rest text kept new a d failed piece (moved_by (3 - length held') r)
 long_gives kept piece mid new held' a b d failed failed' going (Ok v) long same le begun x y =
     subst (λ l. TakesPiece Begins rest text kept new a d l) (take-append-drop 3 piece)
     (takes_both kept mid new (take 3 piece) (drop 3 piece) a b d x (subst (λ l. TakesPiece Begins rest text [] new b d l) (kept_tail kept piece mid held' same long x.withheld le) y))
@@ -230,11 +230,11 @@ module _ {W : Type 0} (contents : W → Option (List ℕ)) where
   pub pushes_long : {U V : Type 0} (a b d : Sink W) (kept piece mid new held' : List ℕ) (u : U) (r : Result V JoinFault) → 3 ≤ length piece → held' ≡ mid → length held' ≤ 3
       → PushesPiece contents Begins rest text kept mid a b (take 3 piece) (Ok u)
       → PushesPiece contents Begins rest text [] new b d (take (length piece - (3 - length held')) (drop (3 - length held') piece)) r
-      → PushesPiece contents Begins rest text kept new a d piece (behind (3 - length held') r)
+      → PushesPiece contents Begins rest text kept new a d piece (moved_by (3 - length held') r)
   pushes_long a b d kept piece mid new held' u r long same le x y = record {
     ready = y.ready;
     same = same_sink_after a b d x.same y.same;
-    failed = y.failed ∙ sym (stopped_behind (3 - length held') r);
+    failed = y.failed ∙ sym (stopped_after (3 - length held') r);
     gives = long_gives kept piece mid new held' (held contents a) (held contents b) (held contents d) a.failed b.failed x.failed r long same le x.begun x.gives y.gives;
     begun = y.begun;
     again = λ failed. absurd (cc ((x.again failed).0));

@@ -24,11 +24,11 @@ IsFit Windows1252Text bytes = windows_1252.IsFit bytes
 IsFit Utf8Text bytes = utf8.IsFit bytes
 
 -- some whole data begins so
-abbrev pub Begins : Conversion → List ℕ → Type 0
-Begins HexDigits bytes = binary.IsFit bytes
-Begins Utf16Text bytes = Unit {0}
-Begins Windows1252Text bytes = windows_1252.IsFit bytes
-Begins Utf8Text bytes = utf8.Begins bytes
+abbrev pub BeginsData : Conversion → List ℕ → Type 0
+BeginsData HexDigits bytes = binary.IsFit bytes
+BeginsData Utf16Text bytes = Unit {0}
+BeginsData Windows1252Text bytes = windows_1252.IsFit bytes
+BeginsData Utf8Text bytes = utf8.Begins bytes
 
 -- the bytes at the end whose text depends on what follows
 abbrev pub conversion_rest : Conversion → List ℕ → List ℕ
@@ -83,7 +83,7 @@ closing false = []
 -- A joiner with these facts and texts of its data, units and quotes does this conversion.
 pub record Suits (fit begins : List ℕ → Type 0) (rest text : List ℕ → List ℕ) (bytes_of_unit : ℕ) (quoted : Bool) (c : Conversion) : Type 0 where
   pub fit_is : (bytes : List ℕ) → fit bytes ↔ IsFit c bytes
-  pub begins_is : (bytes : List ℕ) → begins bytes ↔ Begins c bytes
+  pub begins_is : (bytes : List ℕ) → begins bytes ↔ BeginsData c bytes
   pub rest_is : (bytes : List ℕ) → rest bytes ≡ conversion_rest c bytes
   pub text_is : (bytes : List ℕ) → text bytes ≡ conversion_text c bytes
   pub unit_is : bytes_of_unit ≡ unit c

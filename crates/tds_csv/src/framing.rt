@@ -1,6 +1,6 @@
 // What is around the fields of a line (RFC 4180, section 2), and NULL.
 ghost use Rattle.std.specs.Prelude.{◌≡◌, ◌+◌, ◌≤◌, ◌++◌, ℕ, List, length, take};
-ghost use Rattle.tds_csv.specs.Quoting.{behind_comma, end_behind, in_line, null_field};
+ghost use Rattle.tds_csv.specs.Quoting.{after_comma, end_after, in_line, null_field};
 
 /// What separates two fields.
 pub const COMMA: u8 = b',';
@@ -26,7 +26,7 @@ pub const NULL_ROOM: usize = 7;
 pub fn write_comma(column: u16, to: &mut [u8]) -> usize
     requires { 1 ≤ length to.old }
     ensures most { result ≤ 1 }
-    ensures text { (text : List ℕ) → take result to.new ++ text ≡ behind_comma column text }
+    ensures text { (text : List ℕ) → take result to.new ++ text ≡ after_comma column text }
 {
     if column == 0 {
         return 0;
@@ -41,7 +41,7 @@ pub fn write_comma(column: u16, to: &mut [u8]) -> usize
 pub fn write_line_end(last: bool, made: usize, to: &mut [u8]) -> usize
     requires { made + 2 ≤ length to.old }
     ensures most { result ≤ made + 2 }
-    ensures text { take result to.new ≡ take made to.old ++ end_behind last }
+    ensures text { take result to.new ≡ take made to.old ++ end_after last }
 {
     if !last {
         return made;

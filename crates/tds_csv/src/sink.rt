@@ -1,6 +1,7 @@
 // Text on its way to a writer.
 ghost use Rattle.std.specs.Borrow.{sem};
-ghost use Rattle.std.specs.Prelude.{◌≡◌, ◌+◌, ◌-◌, ◌<◌, ◌≤◌, [], ◌∷◌, codes, if◌then◌else◌, length, Err, None, Ok, Some};
+ghost use Rattle.std.specs.Prelude.{◌≡◌, ◌+◌, ◌-◌, ◌<◌, ◌≤◌, [], ◌∷◌, codes, if◌then◌else◌, length, true, Err, None, Ok, Some};
+ghost use Rattle.tds_csv.specs.Conversion.{closing};
 ghost use Rattle.tds_csv.specs.Quoting.{binary_mark, line_end, null_field, quote};
 ghost use Rattle.tds_csv.specs.Sinks.{Delivers, FinishesSink, IsReady, IsWriting, PutsPiece, fresh, held, stop_of};
 ghost use Rattle.tds_csv.specs.Spare.{CommitsPiece, IsLent, KeepsPiece, LendsSpare};
@@ -105,12 +106,12 @@ impl<'a, W: Write> Sink<'a, W> {
 
     // Adds a piece for which there is room, and delivers a full chunk.
     #[tactic(auto, using(crate::proofs::Sinks::block_going, std::proofs::lemmas::Grind::common_steps))]
-    fn push(&mut self, piece: &[u8]) -> Result<(), Stop>
+    fn push(&mut self, part: &[u8]) -> Result<(), Stop>
         requires writing { IsWriting self.old }
-        requires fits { length self.old.output.now.bytes + length piece.now ≤ OUTPUT_ROOM }
-        ensures { PutsPiece W.contents self.old self.new piece.now result }
+        requires fits { length self.old.output.now.bytes + length part.now ≤ OUTPUT_ROOM }
+        ensures { PutsPiece W.contents self.old self.new part.now result }
     {
-        let Ok(()) = self.output.append(piece) else {
+        let Ok(()) = self.output.append(part) else {
             unreachable!()
         };
         if self.output.len() == OUTPUT_ROOM {
@@ -161,7 +162,7 @@ impl<'a, W: Write> Sink<'a, W> {
     /// The quote after a field of characters.
     pub fn close_quoted(&mut self) -> Result<(), Stop>
         requires { IsReady self.old }
-        ensures { PutsPiece W.contents self.old self.new (quote ∷ []) result }
+        ensures { PutsPiece W.contents self.old self.new (closing true) result }
     {
         self.put(&[QUOTE])
     }

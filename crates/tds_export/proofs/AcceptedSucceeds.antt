@@ -5,7 +5,7 @@ use Rattle.std.proofs.lemmas.Grind.{flat_map-append}
 use Rattle.tds_export.specs.Moments.{Run}
 use Rattle.tds_export.specs.Outcome.{Outcome, Packets, Stops, SucceedsIfAccepted, grammar, report_of}
 use Rattle.tds_export.specs.Response.{Accepted, Response}
-use Rattle.tds_export.specs.Steps.{behind}
+use Rattle.tds_export.specs.Steps.{after_tokens}
 use Rattle.tds_export.specs.TokenGrammar.{Part, response_start}
 use Rattle.tds_export.specs.Tokens.{Token, error_text, text}
 use Rattle.tds_export.specs.declared.report.Report.{Report}
@@ -14,13 +14,13 @@ use Rattle.tds_meter.specs.Counts.{Rose}
 use Rattle.tds_packet.proofs.Choices.{choose}
 use Rattle.tds_packet.proofs.Feeding.{Reading, feed_all}
 use Rattle.tds_packet.specs.Elements.{IsRefused, Longest}
-use Rattle.tds_packet.specs.Packets.{AreBefore, BeforeBody, BeforeHeader, BehindLast, Message, Packet, WireFault, WirePart, WirePlace, header_length, no_wire, packet_of, payload_of, wire, wire_add, wire_end, wire_of, wire_size, with_packet}
+use Rattle.tds_packet.specs.Packets.{AreBefore, BeforeBody, BeforeHeader, AfterLast, Message, Packet, WireFault, WirePart, WirePlace, header_length, no_wire, packet_of, payload_of, wire, wire_add, wire_end, wire_of, wire_size, with_packet}
 use Rattle.tds_packet.specs.declared.fault.Fault.{Fault}
 use Rattle.tds_packet.specs.declared.fault.Place.TheVariants.{Wire, Payload, Text}
 use Rattle.tds_packet.specs.declared.fault.Place.{Place}
 use Rattle.tds_packet.proofs.ElementLaws.{Told, Spelt-induct, feed-Spelt, feed_all-append, longest_cut, one_longest, read_longest, told}
 use Rattle.tds_packet.proofs.PacketLaws.{before_are_read, before_packet}
-use Rattle.tds_packet.proofs.MessageLaws.{behind as behind_last, one_message, read_to_end}
+use Rattle.tds_packet.proofs.MessageLaws.{after_packets as after_last, one_message, read_to_end}
 use Rattle.tds_export.proofs.ResponseLaws.{one_accepted, refused_response, response_is_read}
 
 -- ---- packets at the front of a message
@@ -36,7 +36,7 @@ pub begins_added : (front packets : List Packet) (place : WirePlace) (element : 
 begins_added front packets BeforeHeader element h =
     choose (λ w. BeginsWith w.packets front) (header_length element == 8) (with_packet packets (packet_of element [])) (record { packets = packets; place = BeforeBody element }) (λ z. begins_more front packets (packet_of element []) h) (λ z. h)
 begins_added front packets (BeforeBody header) element h = begins_more front packets (packet_of header element) h
-begins_added front packets BehindLast element h = h
+begins_added front packets AfterLast element h = h
 
 -- whole packets at the front of an input, none of which is the last, begin the message there
 before_begins : (size limit : ℕ) (front packets : List Packet) (wires rest unread : List ℕ) → AreBefore size front → length (wire_of front) ≤ limit → Message size limit packets wires → wire_of front ++ rest ≡ wires ++ unread → BeginsWith packets front
@@ -45,27 +45,27 @@ before_begins size limit front packets wires rest unread each within m e =
     let g = wire size limit in
     let at = before_packet size limit front in
     let first : feed_all g (Reading no_wire []) (wire_of front) ≡ Reading at [] = feed-Spelt g no_wire (wire_of front) at (before_are_read size limit [] front each within) in
-    let fed : feed_all g (Reading at []) rest ≡ Reading (behind_last size limit packets) unread =
+    let fed : feed_all g (Reading at []) rest ≡ Reading (after_last size limit packets) unread =
     ap (λ p. feed_all g p rest) (sym first) ∙ sym (feed_all-append g (Reading no_wire []) (wire_of front) rest) ∙ ap (feed_all g (Reading no_wire [])) e ∙ read_to_end size limit packets wires unread m in
     let t = subst (λ p. Told g at rest p) fed (told g at rest) in
-    Spelt-induct g (λ w b. BeginsWith w.packets front) (λ w b element h n. begins_added front w.packets w.place element h) at ([], append-nil front) t.0 (behind_last size limit packets) t.2
+    Spelt-induct g (λ w b. BeginsWith w.packets front) (λ w b element h n. begins_added front w.packets w.place element h) at ([], append-nil front) t.0 (after_last size limit packets) t.2
 
 -- the wire of a message has no fault
 no_wire_fault : (size limit : ℕ) (input wires unread : List ℕ) (packets read : List Packet) (fault : Fault) → Message size limit packets wires → input ≡ wires ++ unread → WireFault size limit input read fault → ⊥
 no_wire_fault size limit input wires unread packets read fault m e f =
     let g = wire size limit in
-    let fed : feed_all g (Reading no_wire []) input ≡ Reading (behind_last size limit packets) unread = ap (feed_all g (Reading no_wire [])) e ∙ read_to_end size limit packets wires unread m in
-    let l = read_longest g no_wire input (Reading (behind_last size limit packets) unread) (subst (λ p. Told g no_wire input p) fed (told g no_wire input)) in
-    let same : f.read ≡ behind_last size limit packets = (one_longest g no_wire input f.taken (length l.0) f.read (behind_last size limit packets) f.longest l.2).1 in
+    let fed : feed_all g (Reading no_wire []) input ≡ Reading (after_last size limit packets) unread = ap (feed_all g (Reading no_wire [])) e ∙ read_to_end size limit packets wires unread m in
+    let l = read_longest g no_wire input (Reading (after_last size limit packets) unread) (subst (λ p. Told g no_wire input p) fed (told g no_wire input)) in
+    let same : f.read ≡ after_last size limit packets = (one_longest g no_wire input f.taken (length l.0) f.read (after_last size limit packets) f.longest l.2).1 in
     elim f.first [
       | inl r ↦ omega (arith, r.some, ap (λ (w : WirePart). wire_size w.place) same)
       | inr r ↦ no_end f.read.place (ap (λ (w : WirePart). w.place) same) r.1
     ]
   where
-    no_end : (place : WirePlace) → place ≡ BehindLast → wire_end place ≡ Some fault → ⊥
+    no_end : (place : WirePlace) → place ≡ AfterLast → wire_end place ≡ Some fault → ⊥
     no_end BeforeHeader e h = cc
     no_end (BeforeBody header) e h = cc
-    no_end BehindLast e h = cc
+    no_end AfterLast e h = cc
 
 -- ---- no stop of an accepted response is one of the input
 
@@ -73,8 +73,8 @@ ended_accepted : (run : Run) (tokens : List Token) (payload : List ℕ) (place :
 ended_accepted run tokens payload place part fault r l end =
     let g = grammar run in
     let read = response_is_read run.given.charset run.given.before.areas.limits.column_room tokens payload r in
-    let all = subst (λ v. Longest g response_start v (length payload) (behind tokens)) (append-nil payload) (longest_cut g response_start payload [] (behind tokens) read (omega arith)) in
-    let same : part ≡ behind tokens = (one_longest g response_start payload place (length payload) part (behind tokens) l all).1 in
+    let all = subst (λ v. Longest g response_start v (length payload) (after_tokens tokens)) (append-nil payload) (longest_cut g response_start payload [] (after_tokens tokens) read (omega arith)) in
+    let same : part ≡ after_tokens tokens = (one_longest g response_start payload place (length payload) part (after_tokens tokens) l all).1 in
     grind (arith, response_is_read, append-nil, longest_cut, one_longest)
 
 refused_accepted : (run : Run) (tokens : List Token) (payload more : List ℕ) (place : ℕ) (part : Part) (fault : Fault) → Response run.given.charset run.given.before.areas.limits.column_room tokens (payload ++ more) → Longest (grammar run) response_start payload place part → IsRefused (grammar run) part (drop place payload) fault → ⊥

@@ -4,7 +4,7 @@ use Rattle.std.specs.Prelude.{Some, None, ◌&&◌, not, nat_lt, if◌then◌els
 use Rattle.std.proofs.lemmas.Bool.{ne_eqb}
 use Rattle.byteorder.specs.Endian.{little_number}
 use Rattle.tds_csv.specs.Sinks.{Held}
-use Rattle.tds_export.specs.Steps.{IsHolding, ReadsTokens, StepStops, TracksBefore, behind, in_length}
+use Rattle.tds_export.specs.Steps.{IsHolding, ReadsTokens, StepStops, TracksBefore, after_tokens, in_length}
 use Rattle.tds_export.specs.TokenBytes.{Bodied}
 use Rattle.tds_export.specs.TokenGrammar.{Part, TokenBody, TokenLength, bodied, holds_notice, is_notice, part_fault, response, with_token}
 use Rattle.tds_export.specs.Tokens.{Token}
@@ -36,7 +36,7 @@ module _ (charset : Charset) (room : ℕ) (tokens : List Token) (which : Bodied)
   length_spelt element n two is some = grind (arith, Spelt-step, choose_false, length_free, ne_eqb)
 
   -- the Length and the body were read
-  body_spelt : (element body : List ℕ) → length element ≡ 2 → length body ≡ little element → Spelt (response charset room) (in_length which tokens) (element ++ body) (behind (tokens ++ bodied which body ∷ []))
+  body_spelt : (element body : List ℕ) → length element ≡ 2 → length body ≡ little element → Spelt (response charset room) (in_length which tokens) (element ++ body) (after_tokens (tokens ++ bodied which body ∷ []))
   body_spelt element [] two is = grind (arith, Spelt-step, append-nil, length_free)
   body_spelt element (x ∷ xs) two is =
       let n : ℕ = length (x ∷ xs) in
@@ -45,7 +45,7 @@ module _ (charset : Charset) (room : ℕ) (tokens : List Token) (which : Bodied)
       (Spelt-step (response charset room) (in_body n) (x ∷ xs) to (omega arith) refl (ap (λ v. if v && not (holds_notice (x ∷ xs)) then Some BadNotice else None) quiet) refl)
 
   pub body_reads : (area : Space) (sink : Held) (progress : Progress) (element body : List ℕ) (n : ℕ) (a b c : Seen) (place middle place' : ℕ) → length element ≡ 2 → n ≡ little_number 2 element → length body ≡ n → middle ≡ place + length element → place' ≡ middle + n
-      → sink.delivered ≤ 2 ^ 64 - 1 → TracksBefore progress tokens → IsHolding area (behind tokens) → Takes a b element (length element) → Takes b c body n
+      → sink.delivered ≤ 2 ^ 64 - 1 → TracksBefore progress tokens → IsHolding area (after_tokens tokens) → Takes a b element (length element) → Takes b c body n
       → ReadsTokens (response charset room) (in_length which tokens) tokens a c place place' sink sink progress area
   body_reads area sink progress element body n a b c place middle place' two is len at at' d tracks holds first second =
       let number : n ≡ little element = is ∙ ap (λ k. little_number k element) (sym two) in
@@ -53,7 +53,7 @@ module _ (charset : Charset) (room : ℕ) (tokens : List Token) (which : Bodied)
       (tracks_body progress tokens which body quiet tracks) holds (body_spelt element body two (len ∙ number)) (takes_both a b c element body first (subst (Takes b c body) (sym len) second))
 
   pub body_stops : (area : Space) (sink : Held) (element part : List ℕ) (n : ℕ) (a b c : Seen) (place middle : ℕ) (failed : Bool) (own stop : Stop) → length element ≡ 2 → n ≡ little_number 2 element → middle ≡ place + length element
-      → sink.delivered ≤ 2 ^ 64 - 1 → failed ≡ false → IsHolding area (behind tokens) → Takes a b element (length element) → length part < n → Ends b c part own → stop ≡ began_at middle own
+      → sink.delivered ≤ 2 ^ 64 - 1 → failed ≡ false → IsHolding area (after_tokens tokens) → Takes a b element (length element) → length part < n → Ends b c part own → stop ≡ began_at middle own
       → StepStops (response charset room) (in_length which tokens) a c place sink sink area failed stop
   body_stops area sink element part n a b c place middle failed own stop two is at d going holds first fewer ends stop_is =
       let number : little element ≡ n = ap (λ k. little_number k element) two ∙ sym is in

@@ -5,11 +5,10 @@ use Rattle.std.proofs.lemmas.Bool.Decides.{nat_tests}
 use Rattle.std.proofs.lemmas.List.{length-replicate, replicate-append-replicate}
 use Rattle.tds_columns.specs.Description.{Column, DescriptionPart, WholeDescription, add_described, description}
 use Rattle.tds_export.specs.Completion.{rest_of_description, rest_of_row, rest_of_return, zeros, rest_of_token, done, completion, CanBeCompleted}
-use Rattle.tds_export.specs.Response.{fields_length, fixed}
 use Rattle.tds_export.specs.ReturnValue.{ReturnPart, WholeReturn, return_add, return_value}
 use Rattle.tds_export.specs.TokenBytes.{APassed, AnError, AnInfo, Bodied, ADone, Lead, done_byte, lead_of}
 use Rattle.tds_export.specs.TokenGrammar.{Open, Between, Describing, Fields, InRow, InReturn, TokenLength, TokenBody, Part, response_start, with_token, with_described, with_row, with_return, start_of_row, after_first, holds_notice, bodied, is_notice, part_add, response}
-use Rattle.tds_export.specs.Tokens.{Token, Metadata, Row, Returned, Done, described_after}
+use Rattle.tds_export.specs.Tokens.{Token, Metadata, Row, Returned, Done, described_after, fields_length, fixed}
 use Rattle.tds_packet.proofs.Choices.{choose, eq_false, test_lt, test_le}
 use Rattle.tds_packet.proofs.ElementLaws.{Inside, Spelt-step, Spelt-append, Spelt-none, Spelt-induct, Inside-Spelt, AreBytes-front, AreBytes-back}
 use Rattle.tds_packet.specs.Elements.{Grammar, AreBytes, Spelt, IsNext}

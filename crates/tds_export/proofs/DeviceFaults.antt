@@ -24,9 +24,9 @@ use Rattle.tds_export.proofs.PayloadFaults.{IsOfPayload, element_fault, end_faul
 
 ends_of_wire : (size limit failures : ℕ) (left : Option (List ℕ)) (b : Seen) (bytes : List ℕ) (own : Stop) → Ends (begun size limit left failures) b bytes own → IsOfWire own.fault ⊎ ((own.fault ≡ ReadFailed) × (b.failures ≡ one_more failures))
 ends_of_wire size limit failures left b bytes own (inl x) =
-    inl (subst IsOfWire (ap (λ (c : Coming). c.stop.fault) (x.0.2 [])) (message_of_wire size limit _ 0 0 (x.0.0 ++ [])))
-ends_of_wire size limit failures left b bytes own (inr (inl x)) = inl (subst IsOfWire (ap (λ (c : Coming). c.stop.fault) x.0.3) (message_of_wire size limit _ 0 0 x.0.0))
-ends_of_wire size limit failures left b bytes own (inr (inr x)) = inr (x.0.2, x.1)
+    inl (subst IsOfWire (ap (λ (c : Coming). c.stop.fault) (x.2 [])) (message_of_wire size limit _ 0 0 (x.0 ++ [])))
+ends_of_wire size limit failures left b bytes own (inr (inl x)) = inl (subst IsOfWire (ap (λ (c : Coming). c.stop.fault) x.3) (message_of_wire size limit _ 0 0 x.0))
+ends_of_wire size limit failures left b bytes own (inr (inr x)) = inr (x.2, x.4.0)
 
 -- what stops the reading of a response
 abbrev ReadingFault : ℕ → ℕ → Fault → Type 0

@@ -4,7 +4,7 @@ use Rattle.std.proofs.lemmas.Bool.Decides.{nat_tests}
 use Rattle.tds_csv.specs.Sinks.{FinishFails, Finishes, FinishesSink, Held, held}
 use Rattle.tds_export.specs.Exports.{Reports, IsReader, IsWriter, StopsExport, Tidied, fresh_at, stopped_with}
 use Rattle.tds_export.specs.Moments.{Given, limits_of}
-use Rattle.tds_export.specs.Steps.{Completes, IsNoted, RunStops}
+use Rattle.tds_export.specs.Steps.{CompletesResponse, IsNoted, RunStops}
 use Rattle.tds_export.specs.TokenGrammar.{response, response_start}
 use Rattle.tds_export.specs.declared.report.Report.{Report}
 use Rattle.tds_export.specs.declared.report.Stopped.{Stopped}
@@ -28,7 +28,7 @@ tidies contents old new r x going = tidied (held contents old) (held contents ne
 -- ---- what an export leaves, from what its calls did
 
 pub exports : (given : Given) (a q : Seen) (h k : Held) (size limit room : ℕ) (report : Report) → a ≡ begun size limit given.before.reader.bytes given.before.reader.failures → size ≡ (limits_of given).packet_size → limit ≡ (limits_of given).max_wire → h ≡ fresh_at given → room ≡ (limits_of given).column_room
-    → IsReader given q → IsWriter given k → (c : Completes (response given.charset room) response_start a q h k report given.after.areas.description) × IsNoted given.after.areas.notice c.whole.tokens → Reports given report
+    → IsReader given q → IsWriter given k → (c : CompletesResponse (response given.charset room) response_start a q h k report given.after.areas.description) × IsNoted given.after.areas.notice c.whole.tokens → Reports given report
 exports given a q h k size limit room report e1 e2 e3 e4 e5 reader writer x =
     let y = rw (e1, e2, e3, e4, e5) at x in
     record { seen = q; held = k; reader = reader; writer = writer; completes = y.0; notice = y.1 }

@@ -4,7 +4,7 @@ use Rattle.std.proofs.lemmas.Str.{utf8_valid_len_le}
 use Rattle.std.specs.Prelude.{Option, Some, None, option_map}
 use Rattle.tds_csv.specs.Sinks.{Held}
 use Rattle.tds_export.specs.Outcome.{server_error}
-use Rattle.tds_export.specs.Steps.{IsHolding, IsNoted, ReadsTokens, StepStops, TracksBefore, behind, in_length}
+use Rattle.tds_export.specs.Steps.{IsHolding, IsNoted, ReadsTokens, StepStops, TracksBefore, after_tokens, in_length}
 use Rattle.tds_export.specs.TokenBytes.{AnError, AnInfo, Bodied}
 use Rattle.tds_export.specs.TokenGrammar.{Part, TokenLength, notice_of, response, text_so_far}
 use Rattle.tds_export.specs.Tokens.{Error, Info, Token, first_error, how_many, is_error, message_text}
@@ -33,7 +33,7 @@ quietly g from tokens a b place place' h k s t area notice tracks noted same x =
 pub within_room : (s : Space) (text : List ℕ) → s.bytes ≡ [] → s.peak ≤ s.room → (appended s (whole_within (s.room - length s.bytes) text)).peak ≤ s.room
 within_room s text empty peak = grind (arith, length-append, length-take, utf8_valid_len_le)
 
-module _ (charset : Charset) (room : ℕ) (tokens : List Token) (area : Space) (sink : Held) (d : sink.delivered ≤ 2 ^ 64 - 1) (holds : IsHolding area (behind tokens)) where
+module _ (charset : Charset) (room : ℕ) (tokens : List Token) (area : Space) (sink : Held) (d : sink.delivered ≤ 2 ^ 64 - 1) (holds : IsHolding area (after_tokens tokens)) where
   -- a notice is cut or refused
   pub notice_stops : (which : Bodied) (a b : Seen) (place : ℕ) (failed : Bool) (stop : Stop) → failed ≡ false → StopsInNotice charset room tokens which a b place stop → StepStops (response charset room) (in_length which tokens) a b place sink sink area failed stop
   notice_stops which a b place failed stop going x = inl (

@@ -59,9 +59,9 @@ module _ (charset : Charset) (room : ℕ) (tokens : List Token) (which : Bodied)
   length_spelt element n two is long = grind (arith, Spelt-step, choose_false, is_long, ne_eqb, number_is)
 
   -- what stops the reading of the body
-  behind_length : (element : List ℕ) (n : ℕ) (a b c : Seen) (place middle : ℕ) (stop : Stop) → length element ≡ 2 → n ≡ little_number 2 element → 14 ≤ n → middle ≡ place + length element → Takes a b element (length element)
+  after_length : (element : List ℕ) (n : ℕ) (a b c : Seen) (place middle : ℕ) (stop : Stop) → length element ≡ 2 → n ≡ little_number 2 element → 14 ≤ n → middle ≡ place + length element → Takes a b element (length element)
       → StopsReading (response charset room) (in_body n) b c middle (in_body n) stop → StopsInNotice charset room tokens which a c place stop
-  behind_length element n a b c place middle stop two is long at first stops = record {
+  after_length element n a b c place middle stop two is long at first stops = record {
     at = in_body n;
     stops = stops_after (response charset room) (in_length which tokens) (in_body n) a b c place (in_body n) stop (record { bytes = element; spelt = length_spelt element n two is long; takes = first })
         (subst (λ m. StopsReading (response charset room) (in_body n) b c m (in_body n) stop) at stops);
@@ -72,7 +72,7 @@ module _ (charset : Charset) (room : ℕ) (tokens : List Token) (which : Bodied)
   pub body_cut : (element part : List ℕ) (n : ℕ) (a b c : Seen) (place middle : ℕ) (own stop : Stop) → length element ≡ 2 → n ≡ little_number 2 element → 14 ≤ n → middle ≡ place + length element → Takes a b element (length element) → length part < n → Ends b c part own → stop ≡ began_at middle own
       → StopsInNotice charset room tokens which a c place stop
   body_cut element part n a b c place middle own stop two is long at first fewer ends stop_is =
-      behind_length element n a b c place middle stop two is long at first (part_cut charset room (in_body n) b c middle n part own stop refl refl fewer ends stop_is)
+      after_length element n a b c place middle stop two is long at first (part_cut charset room (in_body n) b c middle n part own stop refl refl fewer ends stop_is)
 
   -- the inner lengths pass the body
   pub body_refused : (element body : List ℕ) (n : ℕ) (a b c : Seen) (place middle : ℕ) → length element ≡ 2 → n ≡ little_number 2 element → 14 ≤ n → middle ≡ place + length element → Takes a b element (length element) → length body ≡ n → Takes b c body n → IsBetween c → holds_notice body ≡ false
@@ -80,7 +80,7 @@ module _ (charset : Charset) (room : ℕ) (tokens : List Token) (which : Bodied)
   body_refused element body n a b c place middle two is long at first len second between passes =
       let why : part_fault room tokens (TokenBody which n) body ≡ Some BadNotice =
       ap (λ v. if v && not (holds_notice body) then Some BadNotice else None) notice ∙ ap (λ v. if not v then Some BadNotice else None) passes in
-      behind_length element n a b c place middle (record { fault = BadNotice; place = Payload middle }) two is long at first
+      after_length element n a b c place middle (record { fault = BadNotice; place = Payload middle }) two is long at first
       (refused_at_once (response charset room) (in_body n) b c middle body BadNotice (omega (arith, len, long)) len why (subst (Takes b c body) (sym len) second) between)
 
   -- the body was read

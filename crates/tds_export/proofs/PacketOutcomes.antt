@@ -10,7 +10,7 @@ use Rattle.tds_export.specs.Tokens.{Token}
 use Rattle.tds_meter.specs.Counts.{Rose, one_more}
 use Rattle.tds_meter.specs.Space.{Space}
 use Rattle.tds_packet.proofs.ElementLaws.{longest_cut, longest_refused}
-use Rattle.tds_packet.proofs.Fronts.{EndsMessage, InLast, StopsBehind, in_last, takes_begins}
+use Rattle.tds_packet.proofs.Fronts.{EndsMessage, InLast, StopsAfterPackets, in_last, takes_begins}
 use Rattle.tds_packet.specs.Elements.{AreBytes, IsRefused, Longest, Spelt}
 use Rattle.tds_packet.specs.Packets.{Packet, payload_of, wire_of}
 use Rattle.tds_packet.specs.Reading.{RefusesNext}
@@ -84,14 +84,14 @@ ended_in_payload run q area part bytes cut own fault side spelt short m end hold
       part = part;
       stands = record { begin = m.begin; each = inl m.each; within = m.within };
       leads = subst (λ p. Longest g response_start p (length bytes) part) (sym m.payload_is) (longest_cut g response_start bytes cut part spelt short);
-      first = inr (m.each, (λ some. subst (λ r. length r < g.size part) (sym (rest_of bytes cut (payload_of m.packets) m.payload_is)) short), end);
+      first = inr (m.each, (omega (arith, short), subst (λ r. length r < g.size part) (sym (rest_of bytes cut (payload_of m.packets) m.payload_is)) short), end);
       written = text;
       kept = subst (λ a. IsKept a part.tokens part.at (drop (length bytes) (payload_of m.packets))) (sym side.description) (kept_at area part.tokens part.at (drop (length bytes) (payload_of m.packets)) holds.bytes);
     }
 
 -- the payload stopped on the wire
 pub stopped_on_wire : (run : Run) (q : Seen) (area : Space) (part : Part) (bytes cut : List ℕ) (stop : Stop) (rose : (f : ℕ) → Rose f (one_more f)) → ReaderSide run q area → Spelt (grammar run) response_start bytes part → length cut < (grammar run).size part
-    → (x : StopsBehind run.given.before.areas.limits.packet_size run.given.before.areas.limits.max_wire run.input run.left (bytes ++ cut) run.given.before.reader.failures q.failures stop) → IsHolding area part
+    → (x : StopsAfterPackets run.given.before.areas.limits.packet_size run.given.before.areas.limits.max_wire run.input run.left (bytes ++ cut) run.given.before.reader.failures q.failures stop) → IsHolding area part
     → run.gained ++ run.given.after.areas.output.bytes ≡ text_so_far part → StopsOnWire run stop.fault (length (wire_of x.packets))
 stopped_on_wire run q area part bytes cut stop rose side spelt short x holds text =
     let g = grammar run in

@@ -6,7 +6,7 @@ use Rattle.std.proofs.lemmas.Grind.{flat_map-append}
 use Rattle.tds_csv.specs.Sinks.{Held}
 use Rattle.tds_export.specs.Moments.{Run}
 use Rattle.tds_export.specs.Outcome.{Bounded, grammar}
-use Rattle.tds_export.specs.Steps.{StopsInWriting, ReadsWhole, behind}
+use Rattle.tds_export.specs.Steps.{StopsInWriting, ReadsWhole, after_tokens}
 use Rattle.tds_export.specs.TokenGrammar.{Part, response, response_start, span_so_far}
 use Rattle.tds_meter.specs.Space.{Space}
 use Rattle.tds_packet.proofs.Feeding.{feed_all}
@@ -20,7 +20,7 @@ use Rattle.tds_packet.specs.declared.fault.Stop.{Stop}
 use Rattle.tds_rows.specs.declared.Charset.{Charset}
 use Rattle.tds_meter.specs.declared.limits.Limits.{Limits}
 use Rattle.tds_packet.proofs.PacketLaws.{before_are_read, before_packet, read_front}
-use Rattle.tds_packet.proofs.MessageLaws.{behind as behind_last, message_is_read}
+use Rattle.tds_packet.proofs.MessageLaws.{after_packets as after_last, message_is_read}
 use Rattle.tds_export.proofs.ReadingGrows.{span_along}
 use Rattle.tds_export.proofs.PacketOutcomes.{start}
 use Rattle.tds_export.proofs.AcceptedSucceeds.{BeginsWith, begins_added}
@@ -60,7 +60,7 @@ begins_of size limit input rest packets s w taken begin spelt begins l =
 
 -- whole packets at the front of an input begin those that are read of it at most
 front_begins : (size limit : ℕ) (input rest : List ℕ) (packets : List Packet) (w : WirePart) (taken : ℕ) → wire_of packets ++ rest ≡ input → (AreMessage size packets ⊎ AreBefore size packets) → length (wire_of packets) ≤ limit → Longest (wire size limit) no_wire input taken w → BeginsWith w.packets packets
-front_begins size limit input rest packets w taken begin (inl each) within l = begins_of size limit input rest packets (behind_last size limit packets) w taken begin (message_is_read size limit [] packets each within) ([], append-nil packets) l
+front_begins size limit input rest packets w taken begin (inl each) within l = begins_of size limit input rest packets (after_last size limit packets) w taken begin (message_is_read size limit [] packets each within) ([], append-nil packets) l
 front_begins size limit input rest packets w taken begin (inr each) within l = begins_of size limit input rest packets (before_packet size limit packets) w taken begin (before_are_read size limit [] packets each within) ([], append-nil packets) l
 
 pub bounded : (run : Run) (at : Part) → AreBytes run.input → Reached run.given.charset run.given.before.areas.limits run.input at → run.given.after.areas.description.peak ≤ span_so_far at → Bounded run
@@ -77,10 +77,10 @@ bounded run at are r peak =
     let least : span_so_far at ≤ span_so_far longest.1 = span_along run.given.charset run.given.before.areas.limits.column_room at longest.1 f.0 f.1 in
     record { packets = front; place = longest.0; part = longest.1; front = read_front size limit run.input l.0 l.1 are l.2; leads = longest.2; description = omega (arith, peak, least) }
 
-taken : (run : Run) (q : Seen) (at : Part) (bytes behind : List ℕ) (n : ℕ) → AreBytes run.input → q.left ≡ Some run.left → Takes (start run) q (bytes ++ behind) n → IsBetween q → Spelt (grammar run) response_start bytes at → Reached run.given.charset run.given.before.areas.limits run.input at
-taken run q at bytes behind n are left t between spelt =
-    let b = takes_begins run.given.before.areas.limits.packet_size run.given.before.areas.limits.max_wire run.given.before.reader.failures run.input run.left q (bytes ++ behind) n are left t between in
-    record { packets = b.packets; rest = run.left; begin = b.begin; each = b.each; within = b.within; bytes = bytes; more = behind ++ (q.future []).bytes; spelt = spelt; payload_is = b.payload_is ∙ append_assoc bytes behind (q.future []).bytes }
+taken : (run : Run) (q : Seen) (at : Part) (bytes later : List ℕ) (n : ℕ) → AreBytes run.input → q.left ≡ Some run.left → Takes (start run) q (bytes ++ later) n → IsBetween q → Spelt (grammar run) response_start bytes at → Reached run.given.charset run.given.before.areas.limits run.input at
+taken run q at bytes later n are left t between spelt =
+    let b = takes_begins run.given.before.areas.limits.packet_size run.given.before.areas.limits.max_wire run.given.before.reader.failures run.input run.left q (bytes ++ later) n are left t between in
+    record { packets = b.packets; rest = run.left; begin = b.begin; each = b.each; within = b.within; bytes = bytes; more = later ++ (q.future []).bytes; spelt = spelt; payload_is = b.payload_is ∙ append_assoc bytes later (q.future []).bytes }
 
 pub reached_stopped : (run : Run) (q : Seen) (at : Part) (stop : Stop) → AreBytes run.input → q.left ≡ Some run.left → StopsReading (grammar run) response_start (start run) q 0 at stop → Reached run.given.charset run.given.before.areas.limits run.input at
 reached_stopped run q at stop are left s = elim s.cause [
@@ -97,7 +97,7 @@ reached_broken run q old new area stop x are left =
     let to = (grammar run).add x.at b.element in
     taken run q to (b.bytes ++ b.element) b.ahead (length (b.bytes ++ b.element)) are left b.takes b.between (Spelt-append (grammar run) response_start b.bytes x.at b.element to b.spelt (Spelt-one (grammar run) x.at b.element b.next))
 
-pub reached_whole : (run : Run) (q : Seen) (old new : Held) (area : Space) (x : ReadsWhole (grammar run) response_start (start run) q old new area) → AreBytes run.input → q.left ≡ Some run.left → Reached run.given.charset run.given.before.areas.limits run.input (behind x.tokens)
+pub reached_whole : (run : Run) (q : Seen) (old new : Held) (area : Space) (x : ReadsWhole (grammar run) response_start (start run) q old new area) → AreBytes run.input → q.left ≡ Some run.left → Reached run.given.charset run.given.before.areas.limits run.input (after_tokens x.tokens)
 reached_whole run q old new area x are left =
     let m = over_front run.given.before.areas.limits.packet_size run.given.before.areas.limits.max_wire run.given.before.reader.failures run.input run.left q x.bytes (length x.bytes + 1) are left x.takes x.over in
     record { packets = m.packets; rest = run.left; begin = m.begin; each = inl m.each; within = m.within; bytes = x.bytes; more = []; spelt = x.spelt; payload_is = m.payload_is ∙ sym (append-nil x.bytes) }

@@ -3,11 +3,10 @@ use Rattle.std.proofs.Common.{◌≡◌, ◌∙◌, ℕ, ◌≤◌, false, List,
 use Rattle.std.specs.Prelude.{Option, Some, None, ◌==◌, slice_index}
 use Rattle.tds_columns.proofs.ColumnMeaning.{known_type, some_kind}
 use Rattle.tds_columns.specs.Description.{Column, DescriptionPart, BeforeCount, NoDescription, WholeDescription, with_column, with_type, add_described, description, span}
-use Rattle.tds_export.specs.Response.{fixed}
 use Rattle.tds_export.specs.ReturnValue.{ReturnPart, WholeReturn, return_add}
 use Rattle.tds_export.specs.TokenBytes.{Lead, lead_of}
 use Rattle.tds_export.specs.TokenGrammar.{Open, Between, Describing, Fields, InRow, InReturn, TokenLength, TokenBody, Part, response, bodied, after_first, open_span, open_text, part_add, span_so_far, start_of_row, text_so_far, with_described, with_return, with_row, with_token}
-use Rattle.tds_export.specs.Tokens.{Token, Metadata, NoMetadata, Returned, described_after, greatest_span, span_of, text, text_after}
+use Rattle.tds_export.specs.Tokens.{Token, Metadata, NoMetadata, Returned, described_after, fixed, greatest_span, span_of, text, text_after}
 use Rattle.tds_packet.proofs.Choices.{choose, eq_true, is_some_value}
 use Rattle.tds_packet.proofs.ElementLaws.{Spelt-induct}
 use Rattle.tds_packet.specs.Elements.{IsNext, Spelt}

@@ -1,16 +1,16 @@
 -- What a response's spelling is read as.
-use Rattle.std.proofs.Common.{◌≡◌, ℕ, ◌+◌, ◌/◌, ◌%◌, ◌<◌, true, false, List, [], ◌∷◌, ◌++◌, length, take, drop, refl, sym, ◌∙◌, ap, subst, inl, inr, append_assoc, append-nil, arith}
+use Rattle.std.proofs.Common.{◌≡◌, ℕ, ◌+◌, ◌/◌, ◌%◌, ◌<◌, Bool, true, false, List, [], ◌∷◌, ◌++◌, length, take, drop, refl, sym, ◌∙◌, ap, subst, inl, inr, append_assoc, append-nil, arith}
 use Rattle.std.specs.Prelude.{Option, Some, None, ◌==◌, ◌&&◌, nat_lt, not, if◌then◌else◌}
 use Rattle.std.proofs.Common.{take-add}
 use Rattle.std.proofs.lemmas.Bool.{ne_eqb, and_right}
 use Rattle.std.proofs.lemmas.Bool.Decides.{nat_tests}
 use Rattle.tds_columns.proofs.ColumnLaws.{description_is_read}
 use Rattle.tds_columns.specs.Description.{Column, DescriptionPart, BeforeCount, WholeDescription, description}
-use Rattle.tds_export.specs.Response.{fields_length, fixed, SpellsBody, SpellsNotice, SpellsRowToken, SpellsToken, SpellsTokens, Response, Accepted}
+use Rattle.tds_export.specs.Response.{StartsToken, IsFirst, SpellsBody, SpellsMore, SpellsNotice, SpellsRowToken, SpellsToken, SpellsTokens, Response, Accepted}
 use Rattle.tds_export.specs.ReturnValue.{ReturnPart, ReturnOrdinal, WholeReturn, return_value}
-use Rattle.tds_export.specs.TokenBytes.{APassed, AnError, AnInfo, Bodied, Fixed, Lead, AMetadata, ARow, AnNbcRow, WithBody, WithFields, AReturn, Begins, is_row_lead}
+use Rattle.tds_export.specs.TokenBytes.{APassed, AnError, AnInfo, Bodied, Fixed, AStatus, ADone, ADoneInProc, Lead, AMetadata, ARow, AnNbcRow, WithBody, WithFields, AReturn, is_row_lead, lead_of}
 use Rattle.tds_export.specs.TokenGrammar.{Open, Between, Describing, Fields, TokenLength, TokenBody, Part, after_first, after_lead, lead_fault, response_start, with_token, with_described, with_row, with_return, start_of_row, row_byte_fault, holds_notice, bodied, is_notice, response}
-use Rattle.tds_export.specs.Tokens.{Notice, Token, Metadata, NoMetadata, Row, PassedOver, Error, Info, Returned, described_after}
+use Rattle.tds_export.specs.Tokens.{Notice, Token, Metadata, NoMetadata, Row, PassedOver, Error, Info, ReturnStatus, Returned, Done, DoneInProc, described_after, fields_length, fixed, more}
 use Rattle.tds_packet.proofs.Choices.{choose_false}
 use Rattle.tds_packet.proofs.ElementLaws.{Inside, Inside-Spelt, Spelt-append, Spelt-none, Spelt-step, one_state, refused_for_good}
 use Rattle.tds_packet.proofs.MessageLaws.{one_message}
@@ -40,6 +40,17 @@ HasColumns (Some columns) = 0 < length columns
 -- there are fields
 pub some_fields : (f : Fixed) → 0 < fields_length f
 some_fields f = grind arith
+
+-- the first byte of a token begins it
+first_leads : (lead : Lead) (byte : ℕ) → IsFirst lead byte → lead_of byte ≡ Some lead
+first_leads lead byte first = grind arith
+
+-- the fields of a DONE say whether more follows
+more_is : (m : Bool) (fields : List ℕ) → SpellsMore m fields → more fields ≡ m
+more_is m fields h = grind (arith, nat_tests)
+
+is_more : (fields : List ℕ) → SpellsMore (more fields) fields
+is_more fields = grind (arith, nat_tests)
 
 -- a byte that begins no row is free
 pub no_row : (current : Option (List Column)) → row_byte_fault false current ≡ None
@@ -74,8 +85,9 @@ module _ (charset : Charset) (room : ℕ) where
   at_part tokens at = record { tokens = tokens; at = at }
 
   -- the first byte of a token, and what follows it
-  lead_then : (tokens : List Token) (lead : Lead) (rest bytes : List ℕ) (to : Part) → Begins lead rest bytes → row_byte_fault (is_row_lead lead) (described_after None tokens) ≡ None → Spelt (response charset room) (after_lead charset tokens lead) rest to → Spelt (response charset room) (between_tokens tokens) bytes to
-  lead_then tokens lead rest bytes to (first, is, begun) free h =
+  lead_then : (tokens : List Token) (lead : Lead) (rest bytes : List ℕ) (to : Part) → StartsToken lead rest bytes → row_byte_fault (is_row_lead lead) (described_after None tokens) ≡ None → Spelt (response charset room) (after_lead charset tokens lead) rest to → Spelt (response charset room) (between_tokens tokens) bytes to
+  lead_then tokens lead rest bytes to (first, is, begins) free h =
+      let begun : lead_of first ≡ Some lead = first_leads lead first begins in
       subst (λ v. Spelt (response charset room) (between_tokens tokens) v to) (sym is)
       (Spelt-append (response charset room) (between_tokens tokens) (first ∷ []) (after_lead charset tokens lead) rest to
       (Spelt-step (response charset room) (between_tokens tokens) (first ∷ []) (after_lead charset tokens lead) (omega arith) refl (ap (λ v. lead_fault (described_after None tokens) first v) begun ∙ free) (ap (λ v. after_first charset tokens v) begun)) h)
@@ -99,18 +111,18 @@ module _ (charset : Charset) (room : ℕ) where
       grind (arith, notice_is_read, nat_tests, body_is_read, choose_false, and_right)
 
   -- so is a notice
-  notice_token_is_read : (tokens : List Token) (b : Bodied) (n : Notice) (t : Token) (body rest bytes : List ℕ) → Begins (WithBody b) rest bytes → SpellsBody body rest → SpellsNotice n body → bodied b body ≡ t → Spelt (response charset room) (between_tokens tokens) bytes (with_token tokens t)
+  notice_token_is_read : (tokens : List Token) (b : Bodied) (n : Notice) (t : Token) (body rest bytes : List ℕ) → StartsToken (WithBody b) rest bytes → SpellsBody body rest → SpellsNotice n body → bodied b body ≡ t → Spelt (response charset room) (between_tokens tokens) bytes (with_token tokens t)
   notice_token_is_read tokens b n t body rest bytes begins s h is =
       lead_then tokens (WithBody b) rest bytes (with_token tokens t) begins (no_row (described_after None tokens)) (subst (λ v. Spelt (response charset room) (at_part tokens (TokenLength b)) rest (with_token tokens v)) is (notice_body tokens b n body rest h s))
 
   -- a token with fields of a fixed length
-  fixed_is_read : (tokens : List Token) (f : Fixed) (t : Token) (fields bytes : List ℕ) → Begins (WithFields f) fields bytes → length fields ≡ fields_length f → fixed f fields ≡ t → Spelt (response charset room) (between_tokens tokens) bytes (with_token tokens t)
+  fixed_is_read : (tokens : List Token) (f : Fixed) (t : Token) (fields bytes : List ℕ) → StartsToken (WithFields f) fields bytes → length fields ≡ fields_length f → fixed f fields ≡ t → Spelt (response charset room) (between_tokens tokens) bytes (with_token tokens t)
   fixed_is_read tokens f t fields bytes begins long is =
       lead_then tokens (WithFields f) fields bytes (with_token tokens t) begins (no_row (described_after None tokens)) (Spelt-step (response charset room) (at_part tokens (Fields f)) fields (with_token tokens t) (subst (λ n. 0 < n) (sym long) (some_fields f)) long refl (ap (λ v. with_token tokens v) is))
 
   -- which its fields spell
-  pub fixed_spelt : (current : Option (List Column)) (f : Fixed) (fields bytes : List ℕ) → Begins (WithFields f) fields bytes → length fields ≡ fields_length f → SpellsToken charset room current (fixed f fields) bytes
-  fixed_spelt current f fields bytes begins long = grind arith
+  pub fixed_spelt : (current : Option (List Column)) (f : Fixed) (fields bytes : List ℕ) → StartsToken (WithFields f) fields bytes → length fields ≡ fields_length f → SpellsToken charset room current (fixed f fields) bytes
+  fixed_spelt current f fields bytes begins long = grind (arith, is_more)
 
   row_token_is_read : (tokens : List Token) (current : Option (List Column)) (cells : List Cell) (bytes : List ℕ) → described_after None tokens ≡ current → HasColumns current → SpellsRowToken charset current cells bytes → Spelt (response charset room) (between_tokens tokens) bytes (with_token tokens (Row cells))
   row_token_is_read tokens None cells bytes is some h = absurd h
@@ -136,7 +148,9 @@ module _ (charset : Charset) (room : ℕ) where
   token_is_read tokens (Returned r) bytes some (rest, begins, h) =
       lead_then tokens AReturn rest bytes (with_token tokens (Returned r)) begins (no_row (described_after None tokens))
       (Inside-Spelt return_value (response charset room) (with_return tokens) (return_in_response tokens) ReturnOrdinal rest (WholeReturn r) (return_is_read r rest h))
-  token_is_read tokens t bytes some h = let is = h.3 in fixed_is_read tokens _ t h.0 bytes h.1 h.2 (cc)
+  token_is_read tokens (Done m) bytes some h = fixed_is_read tokens ADone (Done m) h.0 bytes h.1 h.2 (ap Done (more_is m h.0 h.3))
+  token_is_read tokens (DoneInProc m) bytes some h = fixed_is_read tokens ADoneInProc (DoneInProc m) h.0 bytes h.1 h.2 (ap DoneInProc (more_is m h.0 h.3))
+  token_is_read tokens (ReturnStatus n) bytes some h = fixed_is_read tokens AStatus (ReturnStatus n) h.0 bytes h.1 h.2 (ap ReturnStatus h.3)
 
   next_HasColumns : (current : Option (List Column)) (t : Token) (bytes : List ℕ) → HasColumns current → SpellsToken charset room current t bytes → HasColumns (described_after current (t ∷ []))
   next_HasColumns current t bytes some h = grind arith

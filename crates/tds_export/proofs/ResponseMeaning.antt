@@ -4,11 +4,11 @@ use Rattle.std.specs.Prelude.{Option, Some, None, ◌==◌, ◌&&◌, nat_lt, no
 use Rattle.std.proofs.lemmas.List.{take-append-drop, length-take-le, drop-drop}
 use Rattle.tds_columns.proofs.ColumnMeaning.{DescribedMeans, described_step}
 use Rattle.tds_columns.specs.Description.{Column, SpellsDescription, DescriptionPart, NoDescription, WholeDescription, add_described}
-use Rattle.tds_export.specs.Response.{SpellsBody, SpellsNotice, SpellsRowToken, SpellsToken, SpellsTokens, Response, fixed}
+use Rattle.tds_export.specs.Response.{IsFirst, SpellsBody, SpellsNotice, SpellsRowToken, SpellsToken, SpellsTokens, Response}
 use Rattle.tds_export.specs.ReturnValue.{ReturnPart, WholeReturn, return_add}
-use Rattle.tds_export.specs.TokenBytes.{APassed, Bodied, Lead, AMetadata, ARow, AnNbcRow, WithBody, WithFields, AReturn, lead_of}
-use Rattle.tds_export.specs.TokenGrammar.{Open, Between, Describing, Fields, InRow, InReturn, TokenLength, TokenBody, Part, response_start, with_token, with_described, with_row, with_return, start_of_row, after_first, lead_fault, row_byte_fault, server_at, procedure_at, line_at, holds_notice, notice_of, bodied, is_notice, part_add, response}
-use Rattle.tds_export.specs.Tokens.{Token, Metadata, NoMetadata, Row, Returned, described_after, is_final}
+use Rattle.tds_export.specs.TokenBytes.{APassed, Bodied, Lead, AMetadata, ARow, AnNbcRow, WithBody, WithFields, AReturn, is_row_lead, lead_of}
+use Rattle.tds_export.specs.TokenGrammar.{Open, Between, Describing, Fields, InRow, InReturn, TokenLength, TokenBody, Part, response_start, with_token, with_described, with_row, with_return, start_of_row, after_first, after_lead, lead_fault, row_byte_fault, server_at, procedure_at, line_at, holds_notice, notice_of, bodied, is_notice, part_add, response}
+use Rattle.tds_export.specs.Tokens.{Token, Metadata, NoMetadata, Row, Returned, described_after, fixed, is_final}
 use Rattle.tds_packet.proofs.Choices.{choose, eq_true}
 use Rattle.tds_packet.proofs.ElementLaws.{Spelt-induct, AreBytes-front, AreBytes-back}
 use Rattle.tds_packet.specs.Elements.{AreBytes, Spelt, IsNext}
@@ -92,6 +92,10 @@ notice_spelt body h =
 empty_body : (k : Bodied) → ((if is_notice k && nat_lt 0 14 then Some BadNotice else None) ≡ None) → ((if is_notice k && not (holds_notice []) then Some BadNotice else None) ≡ None)
 empty_body k h = grind arith
 
+-- what a byte begins has it as its first byte
+leads_first : (byte : ℕ) (lead : Lead) → lead_of byte ≡ Some lead → IsFirst lead byte
+leads_first byte lead h = grind (arith, eq_true)
+
 held : (b : Bool) → ((if not b then Some BadNotice else None) ≡ None) → b ≡ true
 held b h = grind arith
 
@@ -101,14 +105,14 @@ module _ (charset : Charset) (room : ℕ) where
   one_more_token current (u ∷ ts) a t e h s = (h.0, h.1 ++ e, ap (λ v. v ++ e) h.2 ∙ append_assoc h.0 h.1 e, h.3, one_more_token (described_after current (u ∷ [])) ts h.1 t e h.4 (subst (λ v. SpellsToken charset room v t e) (described_after-append current (u ∷ []) ts) s))
 
   -- whole tokens, the first byte of such a token, and what is after it
-  pub record Behind (tokens : List Token) (lead : Lead) (P : List ℕ → Type 0) (b : List ℕ) : Type 0 where
+  pub record AfterLead (tokens : List Token) (lead : Lead) (P : List ℕ → Type 0) (b : List ℕ) : Type 0 where
     pub front : List ℕ
     pub first : ℕ
     pub rest : List ℕ
     pub spelt : b ≡ front ++ first ∷ rest
     pub before : SpellsTokens charset room None tokens front
-    pub begins : lead_of first ≡ Some lead
-    pub behind : P rest
+    pub begins : IsFirst lead first
+    pub follows : P rest
 
   abbrev row_lead : Bool → Lead
   row_lead false = ARow
@@ -116,82 +120,86 @@ module _ (charset : Charset) (room : ℕ) where
 
   abbrev OpenMeans : List Token → Open → List ℕ → Type 0
   OpenMeans tokens Between b = SpellsTokens charset room None tokens b
-  OpenMeans tokens (Describing d) b = Behind tokens AMetadata (λ rest. DescribedMeans room d rest) b
-  OpenMeans tokens (InRow part) b = (columns : List Column) × (nbc : Bool) × (described_after None tokens ≡ Some columns) × Behind tokens (row_lead nbc) (λ rest. RowMeans charset columns nbc part rest) b
-  OpenMeans tokens (InReturn part) b = Behind tokens AReturn (λ rest. ReturnMeans part rest) b
-  OpenMeans tokens (TokenLength k) b = Behind tokens (WithBody k) (λ rest. rest ≡ []) b
-  OpenMeans tokens (TokenBody k n) b = Behind tokens (WithBody k) (λ rest. (rest ≡ n % 256 ∷ n / 256 ∷ []) × (n < 65536)) b
-  OpenMeans tokens (Fields f) b = Behind tokens (WithFields f) (λ rest. rest ≡ []) b
+  OpenMeans tokens (Describing d) b = AfterLead tokens AMetadata (λ rest. DescribedMeans room d rest) b
+  OpenMeans tokens (InRow part) b = (columns : List Column) × (nbc : Bool) × (described_after None tokens ≡ Some columns) × AfterLead tokens (row_lead nbc) (λ rest. RowMeans charset columns nbc part rest) b
+  OpenMeans tokens (InReturn part) b = AfterLead tokens AReturn (λ rest. ReturnMeans part rest) b
+  OpenMeans tokens (TokenLength k) b = AfterLead tokens (WithBody k) (λ rest. rest ≡ []) b
+  OpenMeans tokens (TokenBody k n) b = AfterLead tokens (WithBody k) (λ rest. (rest ≡ n % 256 ∷ n / 256 ∷ []) × (n < 65536)) b
+  OpenMeans tokens (Fields f) b = AfterLead tokens (WithFields f) (λ rest. rest ≡ []) b
 
   abbrev PartMeans : Part → List ℕ → Type 0
   PartMeans p b = OpenMeans p.tokens p.at b
 
   -- more bytes of the token that is read
-  further : (tokens : List Token) (lead : Lead) (P Q : List ℕ → Type 0) (b e : List ℕ) → (h : Behind tokens lead P b) → Q (h.rest ++ e) → Behind tokens lead Q (b ++ e)
+  further : (tokens : List Token) (lead : Lead) (P Q : List ℕ → Type 0) (b e : List ℕ) → (h : AfterLead tokens lead P b) → Q (h.rest ++ e) → AfterLead tokens lead Q (b ++ e)
   further tokens lead P Q b e h q = grind (arith, append_assoc)
 
-  token_means : (tokens : List Token) (t : Token) (lead : Lead) (P : List ℕ → Type 0) (b : List ℕ) → (h : Behind tokens lead P b) → SpellsToken charset room (described_after None tokens) t (h.first ∷ h.rest) → PartMeans (with_token tokens t) b
+  token_means : (tokens : List Token) (t : Token) (lead : Lead) (P : List ℕ → Type 0) (b : List ℕ) → (h : AfterLead tokens lead P b) → SpellsToken charset room (described_after None tokens) t (h.first ∷ h.rest) → PartMeans (with_token tokens t) b
   token_means tokens t lead P b h s = subst (λ v. SpellsTokens charset room None (tokens ++ t ∷ []) v) (sym h.spelt) (one_more_token None tokens h.front t (h.first ∷ h.rest) h.before s)
 
-  with_described_means : (tokens : List Token) (d : DescriptionPart) (b : List ℕ) → Behind tokens AMetadata (λ rest. DescribedMeans room d rest) b → PartMeans (with_described tokens d) b
-  with_described_means tokens NoDescription b h = token_means tokens NoMetadata AMetadata (λ rest. DescribedMeans room NoDescription rest) b h (h.first, ap (λ v. h.first ∷ v) h.behind, h.begins)
-  with_described_means tokens (WholeDescription x cs) b h = token_means tokens (Metadata x cs) AMetadata (λ rest. DescribedMeans room (WholeDescription x cs) rest) b h ((h.first, ap (λ v. h.first ∷ v) (sym h.behind.0), h.begins), subst (λ v. SpellsDescription room cs v) (sym h.behind.0) h.behind.1)
+  with_described_means : (tokens : List Token) (d : DescriptionPart) (b : List ℕ) → AfterLead tokens AMetadata (λ rest. DescribedMeans room d rest) b → PartMeans (with_described tokens d) b
+  with_described_means tokens NoDescription b h = token_means tokens NoMetadata AMetadata (λ rest. DescribedMeans room NoDescription rest) b h (h.first, ap (λ v. h.first ∷ v) h.follows, h.begins)
+  with_described_means tokens (WholeDescription x cs) b h = token_means tokens (Metadata x cs) AMetadata (λ rest. DescribedMeans room (WholeDescription x cs) rest) b h ((h.first, ap (λ v. h.first ∷ v) (sym h.follows.0), h.begins), subst (λ v. SpellsDescription room cs v) (sym h.follows.0) h.follows.1)
   with_described_means tokens d b h = h
 
-  row_token : (current : Option (List Column)) (columns : List Column) (nbc : Bool) (cells : List Cell) (first : ℕ) (rest : List ℕ) → current ≡ Some columns → lead_of first ≡ Some (row_lead nbc) → RowMeans charset columns nbc (WholeRow cells) rest → SpellsRowToken charset current cells (first ∷ rest)
+  row_token : (current : Option (List Column)) (columns : List Column) (nbc : Bool) (cells : List Cell) (first : ℕ) (rest : List ℕ) → current ≡ Some columns → IsFirst (row_lead nbc) first → RowMeans charset columns nbc (WholeRow cells) rest → SpellsRowToken charset current cells (first ∷ rest)
   row_token current columns false cells first rest e begins h = subst (λ v. SpellsRowToken charset v cells (first ∷ rest)) (sym e) (rest, inl ((first, refl, begins), h))
   row_token current columns true cells first rest e begins h = subst (λ v. SpellsRowToken charset v cells (first ∷ rest)) (sym e) (rest, inr ((first, refl, begins), record { bitmap = h.0; rest = h.1; spelt = h.2; whole = h.3; each = h.4 }))
 
-  with_row_means : (tokens : List Token) (part : RowPart) (b : List ℕ) (columns : List Column) (nbc : Bool) → described_after None tokens ≡ Some columns → Behind tokens (row_lead nbc) (λ rest. RowMeans charset columns nbc part rest) b → PartMeans (with_row tokens part) b
-  with_row_means tokens (WholeRow cells) b columns nbc e h = token_means tokens (Row cells) (row_lead nbc) (λ rest. RowMeans charset columns nbc (WholeRow cells) rest) b h (row_token (described_after None tokens) columns nbc cells h.first h.rest e h.begins h.behind)
+  with_row_means : (tokens : List Token) (part : RowPart) (b : List ℕ) (columns : List Column) (nbc : Bool) → described_after None tokens ≡ Some columns → AfterLead tokens (row_lead nbc) (λ rest. RowMeans charset columns nbc part rest) b → PartMeans (with_row tokens part) b
+  with_row_means tokens (WholeRow cells) b columns nbc e h = token_means tokens (Row cells) (row_lead nbc) (λ rest. RowMeans charset columns nbc (WholeRow cells) rest) b h (row_token (described_after None tokens) columns nbc cells h.first h.rest e h.begins h.follows)
   with_row_means tokens part b columns nbc e h = (columns, nbc, e, h)
 
-  with_return_means : (tokens : List Token) (part : ReturnPart) (b : List ℕ) → Behind tokens AReturn (λ rest. ReturnMeans part rest) b → PartMeans (with_return tokens part) b
-  with_return_means tokens (WholeReturn r) b h = token_means tokens (Returned r) AReturn (λ rest. ReturnMeans (WholeReturn r) rest) b h (h.rest, (h.first, refl, h.begins), h.behind)
+  with_return_means : (tokens : List Token) (part : ReturnPart) (b : List ℕ) → AfterLead tokens AReturn (λ rest. ReturnMeans part rest) b → PartMeans (with_return tokens part) b
+  with_return_means tokens (WholeReturn r) b h = token_means tokens (Returned r) AReturn (λ rest. ReturnMeans (WholeReturn r) rest) b h (h.rest, (h.first, refl, h.begins), h.follows)
   with_return_means tokens part b h = h
 
   row_begins : (tokens : List Token) (b : List ℕ) (x : ℕ) (current : Option (List Column)) → described_after None tokens ≡ current → row_byte_fault true current ≡ None → SpellsTokens charset room None tokens b → lead_of x ≡ Some ARow → PartMeans (start_of_row tokens (row_start charset) current) (b ++ x ∷ [])
   row_begins tokens b x None e f h begins = cc
-  row_begins tokens b x (Some columns) e f h begins = with_row_means tokens (row_start charset columns) (b ++ x ∷ []) columns false e (record { front = b; first = x; rest = []; spelt = refl; before = h; begins = begins; behind = row_start_means charset columns })
+  row_begins tokens b x (Some columns) e f h begins = with_row_means tokens (row_start charset columns) (b ++ x ∷ []) columns false e (record { front = b; first = x; rest = []; spelt = refl; before = h; begins = leads_first x ARow begins; follows = row_start_means charset columns })
 
   nbc_row_begins : (tokens : List Token) (b : List ℕ) (x : ℕ) (current : Option (List Column)) → described_after None tokens ≡ current → row_byte_fault true current ≡ None → SpellsTokens charset room None tokens b → lead_of x ≡ Some AnNbcRow → PartMeans (start_of_row tokens nbc_row_start current) (b ++ x ∷ [])
-  nbc_row_begins tokens b x current e f h begins = grind arith
+  nbc_row_begins tokens b x current e f h begins = grind (arith, leads_first)
 
   -- the byte begins what it begins
-  byte_step : (tokens : List Token) (b : List ℕ) (x : ℕ) (begun : Option Lead) → lead_of x ≡ begun → SpellsTokens charset room None tokens b → lead_fault (described_after None tokens) x begun ≡ None → PartMeans (after_first charset tokens begun) (b ++ x ∷ [])
-  byte_step tokens b x begun is h free = grind (arith, nbc_row_begins, row_begins)
+  lead_step : (tokens : List Token) (b : List ℕ) (x : ℕ) (lead : Lead) → lead_of x ≡ Some lead → IsFirst lead x → SpellsTokens charset room None tokens b → row_byte_fault (is_row_lead lead) (described_after None tokens) ≡ None → PartMeans (after_lead charset tokens lead) (b ++ x ∷ [])
+  lead_step tokens b x lead begins first h free = grind (arith, nbc_row_begins, row_begins)
 
-  body_means : (tokens : List Token) (k : Bodied) (body b : List ℕ) → (h : Behind tokens (WithBody k) (λ rest. SpellsBody body rest) b) → ((if is_notice k && not (holds_notice body) then Some BadNotice else None) ≡ None) → PartMeans (with_token tokens (bodied k body)) b
+  byte_step : (tokens : List Token) (b : List ℕ) (x : ℕ) (begun : Option Lead) → lead_of x ≡ begun → SpellsTokens charset room None tokens b → lead_fault (described_after None tokens) x begun ≡ None → PartMeans (after_first charset tokens begun) (b ++ x ∷ [])
+  byte_step tokens b x None is h free = cc
+  byte_step tokens b x (Some lead) is h free = lead_step tokens b x lead is (leads_first x lead is) h free
+
+  body_means : (tokens : List Token) (k : Bodied) (body b : List ℕ) → (h : AfterLead tokens (WithBody k) (λ rest. SpellsBody body rest) b) → ((if is_notice k && not (holds_notice body) then Some BadNotice else None) ≡ None) → PartMeans (with_token tokens (bodied k body)) b
   body_means tokens k body b h f = token_means tokens (bodied k body) (WithBody k) (λ rest. SpellsBody body rest) b h (spelt k h.begins f)
     where
-      spelt : (k : Bodied) → lead_of h.first ≡ Some (WithBody k) → ((if is_notice k && not (holds_notice body) then Some BadNotice else None) ≡ None) → SpellsToken charset room (described_after None tokens) (bodied k body) (h.first ∷ h.rest)
-      spelt (APassed passed) begins f = (h.rest, (h.first, refl, begins), h.behind)
-      spelt b begins f = (h.rest, body, (h.first, refl, begins), h.behind, notice_spelt body (held (holds_notice body) f))
+      spelt : (k : Bodied) → IsFirst (WithBody k) h.first → ((if is_notice k && not (holds_notice body) then Some BadNotice else None) ≡ None) → SpellsToken charset room (described_after None tokens) (bodied k body) (h.first ∷ h.rest)
+      spelt (APassed passed) begins f = (h.rest, (h.first, refl, begins), h.follows)
+      spelt b begins f = (h.rest, body, (h.first, refl, begins), h.follows, notice_spelt body (held (holds_notice body) f))
 
   -- each element keeps the meaning
   part_step : (tokens : List Token) (at : Open) (b e : List ℕ) → AreBytes e → OpenMeans tokens at b → IsNext (response charset room) (record { tokens = tokens; at = at }) e → PartMeans (part_add charset tokens at e) (b ++ e)
   part_step tokens Between b e bytes h n = grind (arith, byte_step, one_byte)
   part_step tokens (Describing d) b e bytes h n =
       with_described_means tokens (add_described d e) (b ++ e)
-      (further tokens AMetadata (λ rest. DescribedMeans room d rest) (λ rest. DescribedMeans room (add_described d e) rest) b e h (described_step room d h.rest e bytes h.behind (record { some = n.some; whole = n.whole; free = n.free })))
+      (further tokens AMetadata (λ rest. DescribedMeans room d rest) (λ rest. DescribedMeans room (add_described d e) rest) b e h (described_step room d h.rest e bytes h.follows (record { some = n.some; whole = n.whole; free = n.free })))
   part_step tokens (InRow part) b e bytes (columns, nbc, is, h) n =
       with_row_means tokens (row_add charset part e) (b ++ e) columns nbc is
-      (further tokens (row_lead nbc) (λ rest. RowMeans charset columns nbc part rest) (λ rest. RowMeans charset columns nbc (row_add charset part e) rest) b e h (row_step charset columns nbc part h.rest e bytes h.behind (record { some = n.some; whole = n.whole; free = n.free })))
+      (further tokens (row_lead nbc) (λ rest. RowMeans charset columns nbc part rest) (λ rest. RowMeans charset columns nbc (row_add charset part e) rest) b e h (row_step charset columns nbc part h.rest e bytes h.follows (record { some = n.some; whole = n.whole; free = n.free })))
   part_step tokens (InReturn part) b e bytes h n =
       with_return_means tokens (return_add part e) (b ++ e)
-      (further tokens AReturn (λ rest. ReturnMeans part rest) (λ rest. ReturnMeans (return_add part e) rest) b e h (return_step part h.rest e bytes h.behind (record { some = n.some; whole = n.whole; free = n.free })))
+      (further tokens AReturn (λ rest. ReturnMeans part rest) (λ rest. ReturnMeans (return_add part e) rest) b e h (return_step part h.rest e bytes h.follows (record { some = n.some; whole = n.whole; free = n.free })))
   part_step tokens (TokenLength k) b e bytes h n =
       let t = two_bytes e n.whole bytes in
-      let read : h.rest ++ e ≡ little e % 256 ∷ little e / 256 ∷ [] = ap (λ v. v ++ e) h.behind ∙ t.0 in
+      let read : h.rest ++ e ≡ little e % 256 ∷ little e / 256 ∷ [] = ap (λ v. v ++ e) h.follows ∙ t.0 in
       choose (λ p. PartMeans p (b ++ e)) (little e == 0) (with_token tokens (bodied k [])) (record { tokens = tokens; at = TokenBody k (little e) })
       (λ z. body_means tokens k [] (b ++ e) (further tokens (WithBody k) (λ rest. rest ≡ []) (λ rest. SpellsBody [] rest) b e h (read ∙ ap (λ v. v % 256 ∷ v / 256 ∷ []) (eq_true (little e) 0 z), omega arith)) (empty_body k (subst (λ v. (if is_notice k && nat_lt v 14 then Some BadNotice else None) ≡ None) (eq_true (little e) 0 z) n.free)))
       (λ z. further tokens (WithBody k) (λ rest. rest ≡ []) (λ rest. (rest ≡ little e % 256 ∷ little e / 256 ∷ []) × (little e < 65536)) b e h (read, t.1))
   part_step tokens (TokenBody k m) b e bytes h n =
       let l : length e ≡ m = n.whole in
-      body_means tokens k e (b ++ e) (further tokens (WithBody k) (λ rest. (rest ≡ m % 256 ∷ m / 256 ∷ []) × (m < 65536)) (λ rest. SpellsBody e rest) b e h (ap (λ v. v ++ e) h.behind.0 ∙ ap (λ v. (v % 256 ∷ v / 256 ∷ []) ++ e) (sym l), (let w : m < 65536 = h.behind.1 in omega arith))) n.free
+      body_means tokens k e (b ++ e) (further tokens (WithBody k) (λ rest. (rest ≡ m % 256 ∷ m / 256 ∷ []) × (m < 65536)) (λ rest. SpellsBody e rest) b e h (ap (λ v. v ++ e) h.follows.0 ∙ ap (λ v. (v % 256 ∷ v / 256 ∷ []) ++ e) (sym l), (let w : m < 65536 = h.follows.1 in omega arith))) n.free
   part_step tokens (Fields f) b e bytes h n =
-      let to = further tokens (WithFields f) (λ rest. rest ≡ []) (λ rest. rest ≡ e) b e h (ap (λ v. v ++ e) h.behind) in
-      token_means tokens (fixed f e) (WithFields f) (λ rest. rest ≡ e) (b ++ e) to (fixed_spelt charset room (described_after None tokens) f e (to.first ∷ to.rest) (to.first, ap (λ v. to.first ∷ v) to.behind, to.begins) n.whole)
+      let to = further tokens (WithFields f) (λ rest. rest ≡ []) (λ rest. rest ≡ e) b e h (ap (λ v. v ++ e) h.follows) in
+      token_means tokens (fixed f e) (WithFields f) (λ rest. rest ≡ e) (b ++ e) to (fixed_spelt charset room (described_after None tokens) f e (to.first ∷ to.rest) (to.first, ap (λ v. to.first ∷ v) to.follows, to.begins) n.whole)
 
   -- What is read as a part of a response is spelt so.
   part_keeps : (p : Part) (b e : List ℕ) → (AreBytes b → PartMeans p b) → IsNext (response charset room) p e → AreBytes (b ++ e) → PartMeans (part_add charset p.tokens p.at e) (b ++ e)

@@ -6,7 +6,7 @@ use Rattle.tds_columns.specs.Description.{type_fault}
 use Rattle.tds_columns.specs.ReturnedType.{KnownType, NoType, ReadsType, StopsType, TypeHead, TypePart, TypeRest, return_column, returned_type, with_known}
 use Rattle.tds_csv.specs.Sinks.{Held}
 use Rattle.tds_export.specs.ReturnValue.{ReturnHead, ReturnInfo, ReturnName, ReturnNameCount, ReturnOrdinal, ReturnPart, WholeReturn, return_end, return_size, return_value, with_return_kind, with_return_type, with_return_units, with_value}
-use Rattle.tds_export.specs.Steps.{IsHolding, IsNoted, ReadsTokens, StepStops, TracksBefore, behind, in_return}
+use Rattle.tds_export.specs.Steps.{IsHolding, IsNoted, ReadsTokens, StepStops, TracksBefore, after_tokens, in_return}
 use Rattle.tds_export.specs.TokenGrammar.{InReturn, response, text_so_far, with_return}
 use Rattle.tds_export.specs.Tokens.{Returned, Token}
 use Rattle.tds_export.specs.declared.progress.Progress.{Progress}
@@ -91,25 +91,25 @@ name_read units name a b place place' n is len takes at = record {
 -- ---- the type
 
 -- a type that is read after a name
-abbrev behind_name : List ℕ → TypePart → ReturnPart
-behind_name name TypeHead = ReturnHead name
-behind_name name (TypeRest byte) = ReturnInfo name byte
-behind_name name (KnownType kind) = before_value name kind
-behind_name name NoType = ReturnOrdinal
+abbrev after_name : List ℕ → TypePart → ReturnPart
+after_name name TypeHead = ReturnHead name
+after_name name (TypeRest byte) = ReturnInfo name byte
+after_name name (KnownType kind) = before_value name kind
+after_name name NoType = ReturnOrdinal
 
 -- a type is read in its return value as by itself
-type_agrees : (name : List ℕ) (p : TypePart) → 0 < returned_type.size p → Agrees returned_type return_value (behind_name name) p
+type_agrees : (name : List ℕ) (p : TypePart) → 0 < returned_type.size p → Agrees returned_type return_value (after_name name) p
 type_agrees name = agrees
   where
-    known : (o : Option Kind) → with_return_kind name o ≡ behind_name name (with_known o)
+    known : (o : Option Kind) → with_return_kind name o ≡ after_name name (with_known o)
     known (Some kind) = refl
     known None = refl
 
-    byte_read : (byte rest : ℕ) (z : Bool) → (if z then with_return_kind name (kind_of (byte ∷ [])) else ReturnInfo name byte) ≡ behind_name name (if z then with_known (kind_of (byte ∷ [])) else TypeRest byte)
+    byte_read : (byte rest : ℕ) (z : Bool) → (if z then with_return_kind name (kind_of (byte ∷ [])) else ReturnInfo name byte) ≡ after_name name (if z then with_known (kind_of (byte ∷ [])) else TypeRest byte)
     byte_read byte rest true = known (kind_of (byte ∷ []))
     byte_read byte rest false = refl
 
-    agrees : (p : TypePart) → 0 < returned_type.size p → Agrees returned_type return_value (behind_name name) p
+    agrees : (p : TypePart) → 0 < returned_type.size p → Agrees returned_type return_value (after_name name) p
     agrees TypeHead h = (refl, λ e. refl, λ e. (let rest = unwrap_or (rest_length (slice_index e 7)) 0 in byte_read (slice_index e 7) rest (rest == 0)), refl)
     agrees (TypeRest byte) h = (refl, λ e. refl, λ e. known (kind_of (byte ∷ e)), refl)
     agrees p h = absurd (omega arith)
@@ -117,8 +117,8 @@ type_agrees name = agrees
 -- a type stopped the call
 type_stops : (name : List ℕ) (a b : Seen) (place : ℕ) (stop : Stop) → StopsType a b place stop → StopsReturn (ReturnHead name) a b place stop
 type_stops name a b place stop x = record {
-  at = behind_name name x.at;
-  stops = stops_inside returned_type return_value (behind_name name) (inside returned_type return_value (behind_name name) (type_agrees name)) TypeHead a b place x.at stop (type_agrees name x.at (stops_size returned_type TypeHead a b place x.at stop x.stops)).3 x.stops;
+  at = after_name name x.at;
+  stops = stops_inside returned_type return_value (after_name name) (inside returned_type return_value (after_name name) (type_agrees name)) TypeHead a b place x.at stop (type_agrees name x.at (stops_size returned_type TypeHead a b place x.at stop x.stops)).3 x.stops;
 }
 
 -- the eight bytes and what follows them were read
@@ -162,7 +162,7 @@ value_passed (Err stop) name kind a b c place middle place' x y =
 
 -- ---- in its response
 
-module _ (charset : Charset) (room : ℕ) (tokens : List Token) (area : Space) (sink : Held) (d : sink.delivered ≤ 2 ^ 64 - 1) (holds : IsHolding area (behind tokens)) where
+module _ (charset : Charset) (room : ℕ) (tokens : List Token) (area : Space) (sink : Held) (d : sink.delivered ≤ 2 ^ 64 - 1) (holds : IsHolding area (after_tokens tokens)) where
   no_text : (p : ReturnPart) → 0 < return_size p → text_so_far (in_return tokens) ≡ text_so_far (with_return tokens p)
   no_text p h = grind arith
 

@@ -6,7 +6,7 @@ use Rattle.tds_columns.specs.Description.{Column}
 use Rattle.tds_columns.specs.View.{columns_of}
 use Rattle.tds_csv.specs.Sinks.{Held}
 use Rattle.tds_csv.specs.Streaming.{PutsText, Streams}
-use Rattle.tds_export.specs.Steps.{IsDescribed, IsHolding, ReadsTokens, StepStops, Tracks, TracksBefore, behind}
+use Rattle.tds_export.specs.Steps.{IsDescribed, IsHolding, ReadsTokens, StepStops, Tracks, TracksBefore, after_tokens}
 use Rattle.tds_export.specs.TokenGrammar.{Part, response, text_so_far, with_row}
 use Rattle.tds_export.specs.Tokens.{Row, Token, described_after, encoded_after, text}
 use Rattle.tds_export.specs.declared.progress.Progress.{Progress}
@@ -32,7 +32,7 @@ is_token_byte byte x h = search (arith, h)
 
 -- the token byte of a row begins it, where columns are described
 begins_next : (which : RowToken) (charset : Charset) (room : ℕ) (all : List Column) (tokens : List Token) → described_after None tokens ≡ Some all
-    → IsNext (response charset room) (behind tokens) (token_byte which ∷ []) × ((response charset room).add (behind tokens) (token_byte which ∷ []) ≡ with_row tokens (token_start which charset all))
+    → IsNext (response charset room) (after_tokens tokens) (token_byte which ∷ []) × ((response charset room).add (after_tokens tokens) (token_byte which ∷ []) ≡ with_row tokens (token_start which charset all))
 begins_next which charset room all tokens known = grind (arith, known)
 
 -- what one grammar reads, another reads there, where each element does
@@ -105,9 +105,9 @@ tracks_all s tokens earlier last count counted k =
     go (r ∷ rs) = tracks_rows s tokens r (rs ++ last ∷ []) k
 
 -- the description stays what it was
-rows_hold : (area : Space) (tokens : List Token) (rs : List (List Cell)) → IsHolding area (behind tokens) → IsHolding area (behind (tokens ++ map Row rs))
-rows_hold area tokens [] h = subst (λ ts. IsHolding area (behind ts)) (sym (append-nil tokens)) h
-rows_hold area tokens (r ∷ rs) h = subst (λ ts. IsHolding area (behind ts)) (append_assoc tokens (Row r ∷ []) (map Row rs)) (rows_hold area (tokens ++ Row r ∷ []) rs (holds-snoc area tokens (Row r) refl h))
+rows_hold : (area : Space) (tokens : List Token) (rs : List (List Cell)) → IsHolding area (after_tokens tokens) → IsHolding area (after_tokens (tokens ++ map Row rs))
+rows_hold area tokens [] h = subst (λ ts. IsHolding area (after_tokens ts)) (sym (append-nil tokens)) h
+rows_hold area tokens (r ∷ rs) h = subst (λ ts. IsHolding area (after_tokens ts)) (append_assoc tokens (Row r ∷ []) (map Row rs)) (rows_hold area (tokens ++ Row r ∷ []) rs (holds-snoc area tokens (Row r) refl h))
 
 -- ---- what the call that reads them gives
 
@@ -116,7 +116,7 @@ pub columns_known : (tokens : List Token) (described : Bool) (bytes : List ℕ) 
 columns_known tokens described bytes d is k = subst (λ b. IsDescribed b (encoded_after [] tokens) (described_after None tokens)) d k ∙ ap (λ l. Some (columns_of l)) (sym is)
 
 module _ (which : RowToken) (charset : Charset) (room : ℕ) (columns : List Column) (area : Space) (before after : Held) (tokens : List Token) (a b : Seen) (place : ℕ) (progress : Progress)
-    (described : progress.described ≡ true) (shown : columns ≡ columns_of area.bytes) (tracks : TracksBefore progress tokens) (holds : IsHolding area (behind tokens)) where
+    (described : progress.described ≡ true) (shown : columns ≡ columns_of area.bytes) (tracks : TracksBefore progress tokens) (holds : IsHolding area (after_tokens tokens)) where
   -- the state in a response after the first token byte of the rows
   abbrev in_token : Part
   in_token = with_row tokens (token_start which charset (columns_of area.bytes))
@@ -135,7 +135,7 @@ module _ (which : RowToken) (charset : Charset) (room : ℕ) (columns : List Col
       let x = subst (λ cs. ReadsRows which charset cs count a b place place' before after) shown y in
       let to : Part = in_rows which charset room (columns_of area.bytes) tokens (record { before = x.earlier; at = WholeRow x.last }) in
       let there = rows_stream which charset room (columns_of area.bytes) tokens known (rows_start which charset (columns_of area.bytes)) (record { before = x.earlier; at = WholeRow x.last }) a b before after x.streams in
-      let end : to ≡ behind (tokens ++ map Row (x.earlier ++ x.last ∷ [])) = ap behind (append_assoc tokens (map Row x.earlier) (Row x.last ∷ []) ∙ ap (λ l. tokens ++ l) (sym (map-append Row x.earlier (x.last ∷ [])))) in
+      let end : to ≡ after_tokens (tokens ++ map Row (x.earlier ++ x.last ∷ [])) = ap after_tokens (append_assoc tokens (map Row x.earlier) (Row x.last ∷ []) ∙ ap (λ l. tokens ++ l) (sym (map-append Row x.earlier (x.last ∷ [])))) in
       record {
         more = map Row (x.earlier ++ x.last ∷ []);
         streams = record {

@@ -6,12 +6,11 @@ use Rattle.tds_columns.specs.Description.{Column}
 use Rattle.tds_columns.specs.View.{columns_of}
 use Rattle.tds_csv.specs.Quoting.{line}
 use Rattle.tds_export.specs.Outcome.{report_of, server_error}
-use Rattle.tds_export.specs.Response.{fixed}
 use Rattle.tds_export.specs.ReturnValue.{ReturnValue}
 use Rattle.tds_export.specs.Steps.{IsDescribed, Tracks, TracksBefore}
 use Rattle.tds_export.specs.TokenBytes.{APassed, Bodied, Fixed}
 use Rattle.tds_export.specs.TokenGrammar.{bodied, is_notice}
-use Rattle.tds_export.specs.Tokens.{Notice, Token, described_after, Metadata, NoMetadata, Row, PassedOver, Error, Info, Returned, Done, DoneInProc, between, encoded_after, first_error, greatest_span, header_line, how_many, is_error, is_final, is_info, is_return, is_row, is_set, return_status_after, text, text_after}
+use Rattle.tds_export.specs.Tokens.{Notice, Token, described_after, Metadata, NoMetadata, Row, PassedOver, Error, Info, Returned, Done, DoneInProc, between, encoded_after, first_error, fixed, greatest_span, header_line, how_many, is_error, is_final, is_info, is_return, is_row, is_set, return_status_after, text, text_after}
 use Rattle.tds_export.specs.declared.progress.Progress.{Progress}
 use Rattle.tds_export.specs.declared.report.Report.{Report}
 use Rattle.tds_export.specs.declared.report.ServerError.{ServerError}

@@ -8,11 +8,10 @@ use Rattle.tds_csv.proofs.Sinks.{Puts-none}
 use Rattle.tds_csv.specs.Quoting.{joined}
 use Rattle.tds_csv.specs.Sinks.{Breaks, Held, Puts}
 use Rattle.tds_csv.specs.Streaming.{PutsText, Streams}
-use Rattle.tds_export.specs.Response.{fields_length, fixed}
-use Rattle.tds_export.specs.Steps.{StepStops, StopsInReading, StopsInWriting, IsHolding, ReadsTokens, Tracks, TracksBefore, behind, in_done, in_done_in_proc, in_fields, in_metadata, in_row}
+use Rattle.tds_export.specs.Steps.{StepStops, StopsInReading, StopsInWriting, IsHolding, ReadsTokens, Tracks, TracksBefore, after_tokens, in_done, in_done_in_proc, in_fields, in_metadata, in_row}
 use Rattle.tds_export.specs.TokenBytes.{Fixed}
 use Rattle.tds_export.specs.TokenGrammar.{Open, Part, Fields, open_text, response, text_so_far, with_described, with_row}
-use Rattle.tds_export.specs.Tokens.{Token, Metadata, NoMetadata, Row, between, encoded_after, greatest_span, header_line, text, text_after}
+use Rattle.tds_export.specs.Tokens.{Token, Metadata, NoMetadata, Row, between, encoded_after, fields_length, fixed, greatest_span, header_line, text, text_after}
 use Rattle.tds_export.specs.declared.progress.Progress.{Progress}
 use Rattle.tds_meter.specs.Space.{Space}
 use Rattle.tds_packet.proofs.ElementLaws.{Spelt-none, Spelt-one, one_state, Spelt-append}
@@ -62,7 +61,7 @@ stops_further charset room s t a b c place h i k area failed stop x (inr y) =
     inr (record { at = y.0.at; breaks = breaks_after (response charset room) text_so_far s t a b c h i k y.0.at stop x y.0.breaks; holds = y.0.holds }, y.1)
 
 -- a token that describes nothing leaves the area holding what it held
-pub holds-snoc : (area : Space) (tokens : List Token) (t : Token) → encoded_after (encoded_after [] tokens) (t ∷ []) ≡ encoded_after [] tokens → IsHolding area (behind tokens) → IsHolding area (behind (tokens ++ t ∷ []))
+pub holds-snoc : (area : Space) (tokens : List Token) (t : Token) → encoded_after (encoded_after [] tokens) (t ∷ []) ≡ encoded_after [] tokens → IsHolding area (after_tokens tokens) → IsHolding area (after_tokens (tokens ++ t ∷ []))
 holds-snoc area tokens t e h = grind (arith, encoded_after-append, greatest_span-append)
 
 -- the next element of an open token is cut
@@ -83,7 +82,7 @@ final_or_more n = grind (arith, nat_tests)
 
 -- a token that has no text and describes nothing was read
 abbrev pub bare_reads : (charset : Charset) (room : ℕ) (area : Space) (sink : Held) (tokens : List Token) (t : Token) (from : Open) (progress : Progress) (bytes : List ℕ) (a b : Seen) (place place' : ℕ) → open_text from ≡ [] → is_bare t ≡ true → place' ≡ place + length bytes → sink.delivered ≤ 2 ^ 64 - 1
-    → Tracks progress (tokens ++ t ∷ []) → IsHolding area (behind tokens) → Spelt (response charset room) (record { tokens = tokens; at = from }) bytes (behind (tokens ++ t ∷ [])) → Takes a b bytes (length bytes)
+    → Tracks progress (tokens ++ t ∷ []) → IsHolding area (after_tokens tokens) → Spelt (response charset room) (record { tokens = tokens; at = from }) bytes (after_tokens (tokens ++ t ∷ [])) → Takes a b bytes (length bytes)
     → ReadsTokens (response charset room) (record { tokens = tokens; at = from }) tokens a b place place' sink sink progress area
 bare_reads charset room area sink tokens t from progress bytes a b place place' none is at d tracks holds spelt takes =
     let so = bare t is in
@@ -94,7 +93,7 @@ bare_reads charset room area sink tokens t from progress bytes a b place place' 
         bytes = bytes;
         spelt = spelt;
         takes = takes;
-        puts = same_text (record { tokens = tokens; at = from }) (behind (tokens ++ t ∷ [])) sink (ap (λ l. text tokens ++ l) none ∙ ap (λ l. l ++ []) (sym same)) d;
+        puts = same_text (record { tokens = tokens; at = from }) (after_tokens (tokens ++ t ∷ [])) sink (ap (λ l. text tokens ++ l) none ∙ ap (λ l. l ++ []) (sym same)) d;
       };
       place_is = at;
       tracks = tracks;
@@ -103,20 +102,20 @@ bare_reads charset room area sink tokens t from progress bytes a b place place' 
 
 -- so was one with fields of a fixed length
 pub fixed_reads : (charset : Charset) (room : ℕ) (area : Space) (sink : Held) (tokens : List Token) (which : Fixed) (progress : Progress) (fields : List ℕ) (a b : Seen) (place place' : ℕ) → place' ≡ place + length fields → sink.delivered ≤ 2 ^ 64 - 1
-    → Tracks progress (tokens ++ fixed which fields ∷ []) → IsHolding area (behind tokens) → length fields ≡ fields_length which → Takes a b fields (length fields)
+    → Tracks progress (tokens ++ fixed which fields ∷ []) → IsHolding area (after_tokens tokens) → length fields ≡ fields_length which → Takes a b fields (length fields)
     → ReadsTokens (response charset room) (in_fields which tokens) tokens a b place place' sink sink progress area
 fixed_reads charset room area sink tokens which progress fields a b place place' at d tracks holds len takes =
     bare_reads charset room area sink tokens (fixed which fields) (Fields which) progress fields a b place place' refl (bare_fixed which fields) at d tracks holds
     (Spelt-one (response charset room) (in_fields which tokens) fields (record { some = subst (λ n. 0 < n) (sym len) (some_fields which); whole = len; free = refl })) takes
 
-pub done_reads : (charset : Charset) (room : ℕ) (area : Space) (sink : Held) (tokens : List Token) (progress : Progress) (fields : List ℕ) (a b : Seen) (place place' : ℕ) → place' ≡ place + length fields → sink.delivered ≤ 2 ^ 64 - 1 → TracksBefore progress tokens → IsHolding area (behind tokens)
+pub done_reads : (charset : Charset) (room : ℕ) (area : Space) (sink : Held) (tokens : List Token) (progress : Progress) (fields : List ℕ) (a b : Seen) (place place' : ℕ) → place' ≡ place + length fields → sink.delivered ≤ 2 ^ 64 - 1 → TracksBefore progress tokens → IsHolding area (after_tokens tokens)
     → length fields ≡ 12 → Takes a b fields (length fields)
     → ReadsTokens (response charset room) (in_done tokens) tokens a b place place' sink sink (record progress { is_final = slice_index fields 0 % 2 == 0 }) area
 done_reads charset room area sink tokens progress fields a b place place' at d tracks holds len takes = grind (arith, final_or_more, fixed_reads, tracks_quiet)
 
 -- ---- DONEINPROC
 
-pub done_in_proc_reads : (charset : Charset) (room : ℕ) (area : Space) (sink : Held) (tokens : List Token) (progress : Progress) (fields : List ℕ) (a b : Seen) (place place' : ℕ) → place' ≡ place + 12 → sink.delivered ≤ 2 ^ 64 - 1 → TracksBefore progress tokens → IsHolding area (behind tokens)
+pub done_in_proc_reads : (charset : Charset) (room : ℕ) (area : Space) (sink : Held) (tokens : List Token) (progress : Progress) (fields : List ℕ) (a b : Seen) (place place' : ℕ) → place' ≡ place + 12 → sink.delivered ≤ 2 ^ 64 - 1 → TracksBefore progress tokens → IsHolding area (after_tokens tokens)
     → length fields ≡ 12 → Takes a b fields 12
     → ReadsTokens (response charset room) (in_done_in_proc tokens) tokens a b place place' sink sink progress area
 done_in_proc_reads charset room area sink tokens progress fields a b place place' at d tracks holds len takes = grind (arith, fixed_reads, tracks_quiet)
@@ -137,12 +136,12 @@ abbrev row_front : (tokens : List Token) (part : RowPart) → text tokens ++ row
 row_front tokens part = sym (row_text tokens part)
 
 -- and while a row is read
-pub row_holds : (area : Space) (tokens : List Token) (part : RowPart) → IsHolding area (behind tokens) → IsHolding area (with_row tokens part)
+pub row_holds : (area : Space) (tokens : List Token) (part : RowPart) → IsHolding area (after_tokens tokens) → IsHolding area (with_row tokens part)
 row_holds area tokens (WholeRow cells) h = holds-snoc area tokens (Row cells) refl h
 row_holds area tokens part h = record { bytes = h.bytes; peak = h.peak }
 
 -- a row stopped the call
-pub row_stops : (charset : Charset) (room : ℕ) (start : RowPart) (area : Space) (before after : Held) (tokens : List Token) (a b : Seen) (place : ℕ) (failed : Bool) (stop : Stop) → IsHolding area (behind tokens)
+pub row_stops : (charset : Charset) (room : ℕ) (start : RowPart) (area : Space) (before after : Held) (tokens : List Token) (a b : Seen) (place : ℕ) (failed : Bool) (stop : Stop) → IsHolding area (after_tokens tokens)
     → RowStops charset start a b place before after failed stop → StepStops (response charset room) (with_row tokens start) a b place before after area failed stop
 row_stops charset room start area before after tokens a b place failed stop holds x =
     let inside = row_in_response charset room tokens in
@@ -183,10 +182,10 @@ fill_stops charset room s a b place n to h area failed stop size end len d going
 -- ---- COLMETADATA
 
 header_text : (progress : Progress) (tokens : List Token) (bytes : List ℕ) (columns : List Column) → TracksBefore progress tokens
-    → text_so_far (in_metadata tokens) ++ (between (nat_lt 0 progress.report.sets) ++ header_line columns) ≡ text_so_far (behind (tokens ++ Metadata bytes columns ∷ []))
+    → text_so_far (in_metadata tokens) ++ (between (nat_lt 0 progress.report.sets) ++ header_line columns) ≡ text_so_far (after_tokens (tokens ++ Metadata bytes columns ∷ []))
 header_text progress tokens bytes columns tracks = grind (arith, append-nil, begun_after, begun_where_sets, text_after-snoc)
 
-pub none_reads : (charset : Charset) (room : ℕ) (area old_area : Space) (sink : Held) (tokens : List Token) (progress : Progress) (a b : Seen) (place place' : ℕ) → sink.delivered ≤ 2 ^ 64 - 1 → TracksBefore progress tokens → IsHolding old_area (behind tokens)
+pub none_reads : (charset : Charset) (room : ℕ) (area old_area : Space) (sink : Held) (tokens : List Token) (progress : Progress) (a b : Seen) (place place' : ℕ) → sink.delivered ≤ 2 ^ 64 - 1 → TracksBefore progress tokens → IsHolding old_area (after_tokens tokens)
     → Describes room BeforeCount a b place place' old_area.peak area NoDescription
     → ReadsTokens (response charset room) (in_metadata tokens) tokens a b place place' sink sink (record progress { described = false }) area
 none_reads charset room area old_area sink tokens progress a b place place' d tracks holds x =
@@ -197,7 +196,7 @@ none_reads charset room area old_area sink tokens progress a b place place' d tr
         bytes = r.bytes;
         spelt = r.spelt;
         takes = r.takes;
-        puts = same_text (in_metadata tokens) (behind (tokens ++ NoMetadata ∷ [])) sink (ap (λ l. l ++ []) (sym (text_after-snoc false tokens NoMetadata ∙ append-nil (text tokens)))) d;
+        puts = same_text (in_metadata tokens) (after_tokens (tokens ++ NoMetadata ∷ [])) sink (ap (λ l. l ++ []) (sym (text_after-snoc false tokens NoMetadata ∙ append-nil (text tokens)))) d;
       };
       place_is = x.place_is;
       tracks = tracks_none progress tokens tracks;
@@ -207,10 +206,10 @@ none_reads charset room area old_area sink tokens progress a b place place' d tr
       };
     }
 
-metadata_holds : (area old_area : Space) (tokens : List Token) (columns : List Column) (peak : area.peak ≤ max old_area.peak (length area.bytes + 0)) → IsHolding old_area (behind tokens) → IsHolding area (behind (tokens ++ Metadata area.bytes columns ∷ []))
+metadata_holds : (area old_area : Space) (tokens : List Token) (columns : List Column) (peak : area.peak ≤ max old_area.peak (length area.bytes + 0)) → IsHolding old_area (after_tokens tokens) → IsHolding area (after_tokens (tokens ++ Metadata area.bytes columns ∷ []))
 metadata_holds area old_area tokens columns peak holds = grind (arith, encoded_after-append, greatest_span-append)
 
-pub metadata_reads : (charset : Charset) (room : ℕ) (area old_area : Space) (before after : Held) (tokens : List Token) (progress : Progress) (columns : List Column) (a b : Seen) (place place' : ℕ) → TracksBefore progress tokens → IsHolding old_area (behind tokens)
+pub metadata_reads : (charset : Charset) (room : ℕ) (area old_area : Space) (before after : Held) (tokens : List Token) (progress : Progress) (columns : List Column) (a b : Seen) (place place' : ℕ) → TracksBefore progress tokens → IsHolding old_area (after_tokens tokens)
     → columns_of area.bytes ≡ columns → Describes room BeforeCount a b place place' old_area.peak area (WholeDescription area.bytes columns) → Puts before after (between (nat_lt 0 progress.report.sets) ++ header_line (columns_of area.bytes))
     → ReadsTokens (response charset room) (in_metadata tokens) tokens a b place place' before after (record progress { report = record progress.report { sets = progress.report.sets + 1 }; described = true }) area
 metadata_reads charset room area old_area before after tokens progress columns a b place place' tracks holds shown x puts =
@@ -231,7 +230,7 @@ some_bytes : (room : ℕ) (area bytes : List ℕ) (columns : List Column) → Sp
 some_bytes room area [] columns h = absurd (let same : WholeDescription area columns ≡ BeforeCount = one_state (description room) BeforeCount [] (WholeDescription area columns) BeforeCount h (Spelt-none (description room) BeforeCount) in cc)
 some_bytes room area (x ∷ bytes) columns h = omega arith
 
-pub metadata_breaks : (charset : Charset) (room : ℕ) (area old_area : Space) (before after : Held) (tokens : List Token) (progress : Progress) (columns : List Column) (a b : Seen) (place place' : ℕ) (stop : Stop) → before.delivered ≤ 2 ^ 64 - 1 → length before.waiting < 4096 → TracksBefore progress tokens → IsHolding old_area (behind tokens)
+pub metadata_breaks : (charset : Charset) (room : ℕ) (area old_area : Space) (before after : Held) (tokens : List Token) (progress : Progress) (columns : List Column) (a b : Seen) (place place' : ℕ) (stop : Stop) → before.delivered ≤ 2 ^ 64 - 1 → length before.waiting < 4096 → TracksBefore progress tokens → IsHolding old_area (after_tokens tokens)
     → columns_of area.bytes ≡ columns → Describes room BeforeCount a b place place' old_area.peak area (WholeDescription area.bytes columns) → IsBetween b → Breaks before after (between (nat_lt 0 progress.report.sets) ++ header_line (columns_of area.bytes)) stop
     → StopsInWriting (response charset room) (in_metadata tokens) a b before after area stop
 metadata_breaks charset room area old_area before after tokens progress columns a b place place' stop d few tracks holds shown x between_b breaks =
@@ -261,7 +260,7 @@ metadata_breaks charset room area old_area before after tokens progress columns 
 open_holds : (area : Space) (tokens : List Token) (k : ℕ) (d : DescriptionPart) → 0 < described_size d → area.bytes ≡ description_bytes d → area.peak ≤ max k (span d) → k ≤ max (greatest_span tokens) 0 → IsHolding area (with_described tokens d)
 open_holds area tokens k d h e p q = grind arith
 
-pub metadata_stops : (charset : Charset) (room : ℕ) (area old_area : Space) (sink : Held) (tokens : List Token) (a b : Seen) (place : ℕ) (stop : Stop) → sink.delivered ≤ 2 ^ 64 - 1 → IsHolding old_area (behind tokens)
+pub metadata_stops : (charset : Charset) (room : ℕ) (area old_area : Space) (sink : Held) (tokens : List Token) (a b : Seen) (place : ℕ) (stop : Stop) → sink.delivered ≤ 2 ^ 64 - 1 → IsHolding old_area (after_tokens tokens)
     → StopsDescribing room BeforeCount a b place old_area.peak area stop
     → StopsInReading (response charset room) (in_metadata tokens) a b place sink sink area stop
 metadata_stops charset room area old_area sink tokens a b place stop d holds x =

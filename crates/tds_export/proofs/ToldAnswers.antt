@@ -11,7 +11,7 @@ use Rattle.tds_csv.specs.Sinks.{Adds, Held, Puts}
 use Rattle.tds_csv.specs.Streaming.{BreaksStreaming}
 use Rattle.tds_export.specs.Moments.{Run, FailsToWrite, Given, grammar_of, limits, limits_of, run_of, text_put, waiting}
 use Rattle.tds_export.specs.Response.{Accepted}
-use Rattle.tds_export.specs.Steps.{Completes, StopsAtEnd, StopsInReading, StopsInWriting, IsHolding, ReadsWhole, RunStops, behind}
+use Rattle.tds_export.specs.Steps.{CompletesResponse, StopsAtEnd, StopsInReading, StopsInWriting, IsHolding, ReadsWhole, RunStops, after_tokens}
 use Rattle.tds_export.specs.TokenGrammar.{Part, response, response_start, text_so_far}
 use Rattle.tds_export.specs.Tokens.{Token, error_text, text}
 use Rattle.tds_export.specs.declared.report.Report.{Report}
@@ -31,7 +31,7 @@ use Rattle.tds_packet.specs.declared.fault.Stop.{Stop}
 use Rattle.tds_rows.proofs.Successes.{rose}
 use Rattle.tds_rows.specs.declared.Charset.{Charset}
 use Rattle.tds_packet.specs.declared.fault.Place.{Place}
-use Rattle.tds_export.specs.Outcome.{Reads, AfterStop, Bounded, IsKept, Packets, Reported, Stops, StopsInText, grammar, report_of}
+use Rattle.tds_export.specs.Outcome.{ReadsPart, AfterStop, Bounded, IsKept, Packets, Reported, Stops, StopsInText, grammar, report_of}
 use Rattle.tds_export.specs.Exports.{Tells, Reports, IsReader, IsWriter, StopsExport, Tidied, begun_at, fresh_at, stopped_with}
 use Rattle.tds_export.proofs.SomeBytes.{AreBytes-append}
 use Rattle.tds_export.proofs.ReadingGrows.{text_along}
@@ -214,9 +214,9 @@ record WholeMessage (run : Run) (q : Seen) (area : Space) (tokens : List Token) 
   packets : List Packet
   stands : Packets run packets
   accepted : Accepted run.given.charset run.given.before.areas.limits.packet_size run.given.before.areas.limits.column_room run.given.before.areas.limits.max_wire tokens packets run.input
-  leads : Reads run packets (length (payload_of packets)) (behind tokens)
-  spelt : Spelt (grammar run) response_start (payload_of packets) (behind tokens)
-  kept : IsKept run.given.after.areas.description.bytes tokens (behind tokens).at (drop (length (payload_of packets)) (payload_of packets))
+  leads : ReadsPart run packets (length (payload_of packets)) (after_tokens tokens)
+  spelt : Spelt (grammar run) response_start (payload_of packets) (after_tokens tokens)
+  kept : IsKept run.given.after.areas.description.bytes tokens (after_tokens tokens).at (drop (length (payload_of packets)) (payload_of packets))
 
 whole_message_of : (run : Run) (q : Seen) (area : Space) (old new : Held) → ReaderSide run q area → (x : ReadsWhole (grammar run) response_start (start run) q old new area) → WholeMessage run q area x.tokens
 whole_message_of run q area old new side x =
@@ -225,8 +225,8 @@ whole_message_of run q area old new side x =
     let m = over_front size limit run.given.before.reader.failures run.input run.left q x.bytes (length x.bytes + 1) side.bytes side.left x.takes x.over in
     grind (arith, over_front, payload_bytes, AreBytes-front, response_is_spelt, append-nil, longest_cut, kept_at)
 
-text_behind : (tokens : List Token) → text_so_far (behind tokens) ≡ text tokens
-text_behind tokens = append-nil (text tokens)
+text_after_tokens : (tokens : List Token) → text_so_far (after_tokens tokens) ≡ text tokens
+text_after_tokens tokens = append-nil (text tokens)
 
 -- all of a payload
 take_payload : (l : List ℕ) → take (length l) l ≡ l
@@ -234,7 +234,7 @@ take_payload l = ap (λ v. take (length l) v) (sym (append-nil l)) ∙ take-appe
 
 -- the last delivery failed
 failed_at_end : (run : Run) (q : Seen) (tokens : List Token) → WholeMessage run q run.given.after.areas.description tokens → text_put run ≡ text tokens → FailsToWrite run.given → StopsInText run WriteFailed (length run.gained)
-failed_at_end run q tokens w same fails = grind (arith, append-nil, take_payload, text_behind)
+failed_at_end run q tokens w same fails = grind (arith, append-nil, take_payload, text_after_tokens)
 
 -- ---- what an export answers
 
@@ -248,7 +248,7 @@ reader_side given input left gained q are ql reader = record { bytes = are; left
 
 -- all of the text was put, where the whole response was read
 whole_puts : (g : Grammar Part Fault) (a q : Seen) (h k : Held) (area : Space) → (x : ReadsWhole g response_start a q h k area) → Puts h k (text x.tokens)
-whole_puts g a q h k area x = subst (Puts h k) (x.puts.1 ∙ text_behind x.tokens) x.puts.2
+whole_puts g a q h k area x = subst (Puts h k) (x.puts.1 ∙ text_after_tokens x.tokens) x.puts.2
 
 -- what is told of a stop, with the sink left in this state
 abbrev StopTold : Given → (input left : List ℕ) → Stop → Held → Type 0
@@ -316,7 +316,7 @@ module _ (given : Given) (input left : List ℕ) (q : Seen) (stop : Stop) (are :
       bounded run ((grammar run).add y.0.at y.0.breaks.element) are (reached_broken run q (fresh_at given) k given.after.areas.description stop y.0 are ql) y.0.holds.peak
   stop_bounded gained k failed (inr y) =
       let run = run_of given input left gained in
-      bounded run (behind y.0.whole.tokens) are (reached_whole run q (fresh_at given) y.0.middle given.after.areas.description y.0.whole are ql) y.0.whole.holds.peak
+      bounded run (after_tokens y.0.whole.tokens) are (reached_whole run q (fresh_at given) y.0.middle given.after.areas.description y.0.whole are ql) y.0.whole.holds.peak
 
 -- what a run that stopped read
 stops_read : (g : Grammar Part Fault) (a q : Seen) (h k : Held) (area : Space) (failed : Bool) (stop : Stop) → RunStops g response_start a q 0 h k area failed stop → (read : List ℕ) × Consumes a.left q.left read
@@ -338,7 +338,7 @@ pub report_tells : (given : Given) (report : Report) → Reports given report �
 unfolding Tells
 report_tells given report x = λ input are e.
     let area = given.after.areas.description in
-    let z = subst (λ (a : Seen). (c : Completes (grammar_of given) response_start a x.seen (fresh_at given) x.held report area) × (given.after.areas.notice.bytes ≡ error_text c.whole.tokens)) (begins_run given input e) (x.completes, x.notice) in
+    let z = subst (λ (a : Seen). (c : CompletesResponse (grammar_of given) response_start a x.seen (fresh_at given) x.held report area) × (given.after.areas.notice.bytes ≡ error_text c.whole.tokens)) (begins_run given input e) (x.completes, x.notice) in
     let y = z.0 in
     let tokens = y.whole.tokens in
     let left = known_left input y.whole.takes.0 x.seen.left y.whole.takes.1.0 in
@@ -349,8 +349,8 @@ report_tells given report x = λ input are e.
     let empty : waiting run ≡ [] = sym x.writer.waiting ∙ y.finishes.2 in
     let same : text_put run ≡ text tokens = d.all ∙ append-nil (text tokens) in
     let gained : run.gained ≡ text tokens = sym (append-nil run.gained) ∙ ap (λ w. run.gained ++ w) (sym empty) ∙ same in
-    let few = fits_at run whole.packets left.0 (length (payload_of whole.packets)) (behind tokens) (length (text_put run)) are whole.stands.begin whole.stands.within
-    (subst (λ v. Spelt (grammar run) response_start v (behind tokens)) (sym (take_payload (payload_of whole.packets))) whole.spelt) (omega (arith, ap length same, ap length (text_behind tokens))) in
+    let few = fits_at run whole.packets left.0 (length (payload_of whole.packets)) (after_tokens tokens) (length (text_put run)) are whole.stands.begin whole.stands.within
+    (subst (λ v. Spelt (grammar run) response_start v (after_tokens tokens)) (sym (take_payload (payload_of whole.packets))) whole.spelt) (omega (arith, ap length same, ap length (text_after_tokens tokens))) in
     let written : x.held.delivered ≡ length (text tokens) = exact run x.held.delivered d.delivered few ∙ ap length gained in
     let outcome : Reported run report = record {
       tokens = tokens;
@@ -364,5 +364,5 @@ report_tells given report x = λ input are e.
       kept = whole.kept;
       no_failure = no_failure given report x;
     } in
-    let most = bounded run (behind tokens) are (reached_whole run x.seen (fresh_at given) y.middle area y.whole are left.1) y.whole.holds.peak in
+    let most = bounded run (after_tokens tokens) are (reached_whole run x.seen (fresh_at given) y.middle area y.whole are left.1) y.whole.holds.peak in
     (left.0, d.gained, sym x.reader.left ∙ left.1, d.has, record { outcome = outcome; bounded = most }, outcome_succeeds run (Ok report) outcome)

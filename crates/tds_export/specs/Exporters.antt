@@ -14,7 +14,7 @@ use Rattle.tds_export.specs.declared.progress.Progress.{Progress}
 use Rattle.tds_export.specs.declared.report.Report.{Report}
 use Rattle.tds_export.specs.Lending.{KeepsRooms, Lent, lent}
 use Rattle.tds_export.specs.TokenGrammar.{Part, response, response_start}
-use Rattle.tds_export.specs.Steps.{Completes, StepStops, IsHolding, IsNoted, ReadsTokens, RunStops, Tracks, TracksBefore, behind}
+use Rattle.tds_export.specs.Steps.{CompletesResponse, StepStops, IsHolding, IsNoted, ReadsTokens, RunStops, Tracks, TracksBefore, after_tokens}
 use Rattle.tds_export.specs.Tokens.{Token}
 
 -- what a run reads, writes and keeps, at a moment: its payload and the place there, its sink and whether it failed, and its description and notice areas
@@ -56,8 +56,8 @@ pub record CanBegin {R W : Type 0} (payload : Payload R) (sink : Sink W) (area t
   pub small_peak : small.peak ≤ small.room
 
 -- the sets, rows, errors, messages and returned values of a report
-abbrev pub counted : Report → ℕ
-counted report = report.sets + report.rows + report.errors + report.infos + report.return_values
+abbrev pub things_counted : Report → ℕ
+things_counted report = report.sets + report.rows + report.errors + report.infos + report.return_values
 
 -- The run goes on: its payload and its sink do, its areas have their rooms, no more sets, rows, notices and returned values are counted than bytes were read, and the columns that are described stand in the area.
 pub record IsRunning {R W : Type 0} (e : Exporter R W) : Type 0 where
@@ -70,13 +70,13 @@ pub record IsRunning {R W : Type 0} (e : Exporter R W) : Type 0 where
   pub notice_peak : e.notice.now.peak ≤ e.notice.now.room
   pub small : 128 ≤ e.small.now.room
   pub small_peak : e.small.now.peak ≤ e.small.now.room
-  pub counted : counted e.progress.report ≤ e.payload.now.place
+  pub counted : things_counted e.progress.report ≤ e.payload.now.place
   pub described : e.progress.described ≡ true → IsDescription e.description.now.bytes
 
 -- The run goes on after the first byte of a token that isn't counted yet.
 pub record IsInToken {R W : Type 0} (e : Exporter R W) : Type 0 where
   pub running : IsRunning e
-  pub uncounted : counted e.progress.report < e.payload.now.place
+  pub uncounted : things_counted e.progress.report < e.payload.now.place
 
 -- Two runs are on the same payload, sink and areas, in the same character set.
 abbrev pub IsOnSameRun : {R W : Type 0} → Exporter R W → Exporter R W → Type 0
@@ -123,7 +123,7 @@ pub record FindsEnd {R W : Type 0} (remaining : R → Option (List ℕ)) (old ne
 
 -- A token was read after its first byte, from this state on, and its text put; or that stopped: whatever the tokens before it are.
 abbrev pub BodyRead : {R W U : Type 0} → (R → Option (List ℕ)) → (W → Option (List ℕ)) → (List Token → Part) → Exporter R W → Exporter R W → Result U Stop → Type 0
-BodyRead remaining contents from old new result = (tokens : List Token) → TracksBefore old.progress tokens → IsHolding old.description.now (behind tokens) → IsNoted old.notice.now tokens →
+BodyRead remaining contents from old new result = (tokens : List Token) → TracksBefore old.progress tokens → IsHolding old.description.now (after_tokens tokens) → IsNoted old.notice.now tokens →
     MatchResult result
     (λ _. ReadsNext old.charset (from tokens) tokens (view_of remaining contents old) (view_of remaining contents new) new.progress)
     (λ stop. StopsIn old.charset (from tokens) (view_of remaining contents old) (view_of remaining contents new) stop)
@@ -135,15 +135,15 @@ pub record StepRead {R W U : Type 0} (remaining : R → Option (List ℕ)) (cont
 
 -- The next token was read and its text put, or the message is over; or that stopped: whatever the tokens before it are.
 abbrev pub TokenRead : {R W : Type 0} → (R → Option (List ℕ)) → (W → Option (List ℕ)) → Exporter R W → Exporter R W → Result Bool Stop → Type 0
-TokenRead remaining contents old new result = (tokens : List Token) → Tracks old.progress tokens → IsHolding old.description.now (behind tokens) → IsNoted old.notice.now tokens →
+TokenRead remaining contents old new result = (tokens : List Token) → Tracks old.progress tokens → IsHolding old.description.now (after_tokens tokens) → IsNoted old.notice.now tokens →
     MatchResult result
-    (λ more. MatchBool more (ReadsNext old.charset (behind tokens) tokens (view_of remaining contents old) (view_of remaining contents new) new.progress) (FindsEnd remaining old new))
-    (λ stop. StopsIn old.charset (behind tokens) (view_of remaining contents old) (view_of remaining contents new) stop)
+    (λ more. MatchBool more (ReadsNext old.charset (after_tokens tokens) tokens (view_of remaining contents old) (view_of remaining contents new) new.progress) (FindsEnd remaining old new))
+    (λ stop. StopsIn old.charset (after_tokens tokens) (view_of remaining contents old) (view_of remaining contents new) stop)
 
 -- A response was read whole, its text delivered and its report answered; or that stopped.
 abbrev pub ResponseRead : Charset → View → View → Result Report Stop → Type 0
 ResponseRead charset old new result = MatchResult result
-    (λ report. (x : Completes (response charset old.area.room) response_start old.seen new.seen old.held new.held report new.area) × IsNoted new.notice x.whole.tokens)
+    (λ report. (x : CompletesResponse (response charset old.area.room) response_start old.seen new.seen old.held new.held report new.area) × IsNoted new.notice x.whole.tokens)
     (λ stop. RunStops (response charset old.area.room) response_start old.seen new.seen old.place old.held new.held new.area new.failed stop)
 
 -- A run that had read nothing read a response whole, delivered its text and answered its report; or that stopped.

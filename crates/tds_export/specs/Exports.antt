@@ -13,7 +13,7 @@ use Rattle.tds_export.specs.declared.report.Stopped.{Stopped}
 use Rattle.tds_export.specs.Moments.{FailsToRead, FailsToWrite, Given, Moment, given_of, grammar_of, limits_of, run_of}
 use Rattle.tds_export.specs.Outcome.{Answer, SucceedsIfAccepted}
 use Rattle.tds_export.specs.TokenGrammar.{response_start}
-use Rattle.tds_export.specs.Steps.{Completes, RunStops}
+use Rattle.tds_export.specs.Steps.{CompletesResponse, RunStops}
 use Rattle.tds_export.specs.Tokens.{error_text}
 
 -- the payload of an export before the first packet
@@ -48,7 +48,7 @@ pub record Reports (given : Given) (report : Report) : Type 0 where
   pub reader : IsReader given seen
   pub writer : IsWriter given held
   pub completes : let area = given.after.areas.description in
-      Completes (grammar_of given) response_start (begun_at given) seen (fresh_at given) held report area
+      CompletesResponse (grammar_of given) response_start (begun_at given) seen (fresh_at given) held report area
   pub notice : given.after.areas.notice.bytes ≡ error_text completes.whole.tokens
 
 -- the answer of an export that stopped, where the sink is left in this state

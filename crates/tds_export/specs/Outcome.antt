@@ -52,8 +52,8 @@ abbrev pub grammar : Run → Grammar Part Fault
 grammar run = grammar_of run.given
 
 -- The payload of the packets leads to this part of a response, and no more of it leads further.
-abbrev pub Reads : Run → List Packet → ℕ → Part → Type 0
-Reads run packets place part = Longest (grammar run) response_start (payload_of packets) place part
+abbrev pub ReadsPart : Run → List Packet → ℕ → Part → Type 0
+ReadsPart run packets place part = Longest (grammar run) response_start (payload_of packets) place part
 
 -- So many bytes of the payload of the packets lead to this part of a response.
 pub record Comes (run : Run) (packets : List Packet) (place : ℕ) (part : Part) : Type 0 where
@@ -100,7 +100,7 @@ pub record StopsInPayload (run : Run) (fault : Fault) (place : ℕ) : Type 0 whe
   pub packets : List Packet
   pub part : Part
   pub stands : Packets run packets
-  pub leads : Reads run packets place part
+  pub leads : ReadsPart run packets place part
   pub first :
       (Refuses run packets place part fault × EndsInLast run packets place part)
       ⊎ (AreMessage (limits run).packet_size packets × IsCut (grammar run) part (drop place (payload_of packets))
@@ -127,7 +127,7 @@ pub record StopsOnWire (run : Run) (fault : Fault) (taken : ℕ) : Type 0 where
   pub taken_is : taken ≡ length (wire_of packets)
   pub first : ((fault ≡ ReadFailed) × FailsOnWire run packets)
       ⊎ WireFault (limits run).packet_size (limits run).max_wire run.input packets fault
-  pub leads : Reads run packets place part
+  pub leads : ReadsPart run packets place part
   pub none_refused : (f : Fault) → Refuses run packets place part f → ⊥
   pub written : text_put run ≡ text_so_far part
   pub kept : Keeps run packets place part
@@ -137,7 +137,7 @@ abbrev pub IsNeeded : Run → List Packet → Type 0
 IsNeeded run packets =
     ((tokens : List Token) × IsAccepted run tokens packets × (text_put run ≡ text tokens))
     ⊎ ((before : List Packet) × (last : Packet) × (place : ℕ) × (earlier : Part)
-    × (before ++ last ∷ [] ≡ packets) × Reads run before place earlier
+    × (before ++ last ∷ [] ≡ packets) × ReadsPart run before place earlier
     × (length (text_put run) ≡ 4096 * (length run.gained / 4096 + 1))
     × (length (text_so_far earlier) < length (text_put run)))
 
@@ -148,7 +148,7 @@ pub record StopsInText (run : Run) (fault : Fault) (written : ℕ) : Type 0 wher
   pub part : Part
   pub more : List ℕ
   pub stands : Packets run packets
-  pub leads : Reads run packets place part
+  pub leads : ReadsPart run packets place part
   pub fault_is : fault ≡ WriteFailed
   pub written_is : written ≡ length run.gained
   pub begins : text_put run ++ more ≡ text_so_far part
@@ -181,7 +181,7 @@ pub record Bounded (run : Run) : Type 0 where
   pub place : ℕ
   pub part : Part
   pub front : Front (limits run).packet_size (limits run).max_wire run.input packets
-  pub leads : Reads run packets place part
+  pub leads : ReadsPart run packets place part
   pub description : run.given.after.areas.description.peak ≤ span_so_far part
 
 -- A run answered and left this, and kept the bound on its descriptions.

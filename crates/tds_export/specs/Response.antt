@@ -1,12 +1,12 @@
 -- The grammar of a response, over whole tokens (MS-TDS, Packet Data Token Stream Definition).
-use Rattle.std.specs.Prelude.{◌≡◌, ◌==◌, ◌*◌, ◌%◌, ◌/◌, ◌<◌, ◌⊎◌, ℕ, Bool, true, List, [], ◌∷◌, ◌++◌, length, Option, Some, None, slice_index}
+use Rattle.std.specs.Prelude.{◌≡◌, ◌*◌, ◌%◌, ◌/◌, ◌<◌, ◌⊎◌, ℕ, Bool, true, false, List, [], ◌∷◌, ◌++◌, length, Option, Some, None, slice_index}
 use Rattle.tds_values.specs.Numbers.{little}
 use Rattle.tds_columns.specs.Description.{Column, SpellsDescription}
 use Rattle.tds_rows.specs.declared.Charset.{Charset}
 use Rattle.tds_rows.specs.Cells.{Cell}
 use Rattle.tds_rows.specs.Rows.{SpellsRow, SpellsNbcRow}
 use Rattle.tds_packet.specs.Packets.{Packet, Message, payload_of}
-use Rattle.tds_export.specs.TokenBytes.{APassed, AnError, AnInfo, Fixed, AStatus, ADone, ADoneInProc, AMetadata, ARow, AnNbcRow, AReturn, Begins, WithBody, WithFields}
+use Rattle.tds_export.specs.TokenBytes.{APassed, AnOrder, AnEnvChange, AnError, AnInfo, AStatus, ADone, ADoneInProc, Lead, AMetadata, ARow, AnNbcRow, AReturn, WithBody, WithFields}
 use Rattle.tds_export.specs.ReturnValue.{SpellsReturnValue}
 use Rattle.tds_export.specs.Tokens.{Notice, Token, Metadata, NoMetadata, Row, PassedOver, Error, Info, ReturnStatus, Returned, Done, DoneInProc, described_after, is_final}
 
@@ -29,39 +29,46 @@ pub record SpellsNotice (n : Notice) (body : List ℕ) : Type 0 where
   pub procedures : length procedure % 2 ≡ 0
   pub line : (length last ≡ 4) × (little last ≡ n.line_number)
 
--- the low bit of a DONE's Status
-abbrev pub more : List ℕ → Bool
-more fields = slice_index fields 0 % 2 == 1
+-- The byte is the first of such a token.
+abbrev pub IsFirst : Lead → ℕ → Type 0
+IsFirst AMetadata byte = byte ≡ 0x81
+IsFirst ARow byte = byte ≡ 0xD1
+IsFirst AnNbcRow byte = byte ≡ 0xD2
+IsFirst (WithBody (APassed AnOrder)) byte = byte ≡ 0xA9
+IsFirst (WithBody (APassed AnEnvChange)) byte = byte ≡ 0xE3
+IsFirst (WithBody AnError) byte = byte ≡ 0xAA
+IsFirst (WithBody AnInfo) byte = byte ≡ 0xAB
+IsFirst (WithFields AStatus) byte = byte ≡ 0x79
+IsFirst (WithFields ADone) byte = (byte ≡ 0xFD) ⊎ (byte ≡ 0xFE)
+IsFirst (WithFields ADoneInProc) byte = byte ≡ 0xFF
+IsFirst AReturn byte = byte ≡ 0xAC
 
--- how many bytes the fields of a token have
-abbrev pub fields_length : Fixed → ℕ
-fields_length AStatus = 4
-fields_length ADone = 12
-fields_length ADoneInProc = 12
+-- The bytes are the first of such a token, and the rest.
+abbrev pub StartsToken : Lead → List ℕ → List ℕ → Type 0
+StartsToken lead rest bytes = (first : ℕ) × (bytes ≡ first ∷ rest) × IsFirst lead first
 
--- the token of these fields
-abbrev pub fixed : Fixed → List ℕ → Token
-fixed AStatus fields = ReturnStatus (little fields)
-fixed ADone fields = Done (more fields)
-fixed ADoneInProc fields = DoneInProc (more fields)
+-- The fields of a DONE have its Status first, whose lowest bit says whether more follows.
+abbrev pub SpellsMore : Bool → List ℕ → Type 0
+SpellsMore true fields = slice_index fields 0 % 2 ≡ 1
+SpellsMore false fields = slice_index fields 0 % 2 ≡ 0
 
 -- The bytes spell a row of the columns.
 abbrev pub SpellsRowToken : Charset → Option (List Column) → List Cell → List ℕ → Type 0
 SpellsRowToken charset None cells bytes = ⊥
-SpellsRowToken charset (Some columns) cells bytes = (rest : List ℕ) × ((Begins ARow rest bytes × SpellsRow charset columns cells rest) ⊎ (Begins AnNbcRow rest bytes × SpellsNbcRow charset columns cells rest))
+SpellsRowToken charset (Some columns) cells bytes = (rest : List ℕ) × ((StartsToken ARow rest bytes × SpellsRow charset columns cells rest) ⊎ (StartsToken AnNbcRow rest bytes × SpellsNbcRow charset columns cells rest))
 
 -- The bytes spell the token, where these columns are described.
 abbrev pub SpellsToken : Charset → ℕ → Option (List Column) → Token → List ℕ → Type 0
-SpellsToken charset room current (Metadata encoded columns) bytes = Begins AMetadata encoded bytes × SpellsDescription room columns encoded
-SpellsToken charset room current NoMetadata bytes = Begins AMetadata (255 ∷ 255 ∷ []) bytes
+SpellsToken charset room current (Metadata encoded columns) bytes = StartsToken AMetadata encoded bytes × SpellsDescription room columns encoded
+SpellsToken charset room current NoMetadata bytes = StartsToken AMetadata (255 ∷ 255 ∷ []) bytes
 SpellsToken charset room current (Row cells) bytes = SpellsRowToken charset current cells bytes
-SpellsToken charset room current (PassedOver passed body) bytes = (rest : List ℕ) × Begins (WithBody (APassed passed)) rest bytes × SpellsBody body rest
-SpellsToken charset room current (Error n) bytes = (rest : List ℕ) × (body : List ℕ) × Begins (WithBody AnError) rest bytes × SpellsBody body rest × SpellsNotice n body
-SpellsToken charset room current (Info n) bytes = (rest : List ℕ) × (body : List ℕ) × Begins (WithBody AnInfo) rest bytes × SpellsBody body rest × SpellsNotice n body
-SpellsToken charset room current (ReturnStatus n) bytes = (rest : List ℕ) × Begins (WithFields AStatus) rest bytes × (length rest ≡ 4) × (little rest ≡ n)
-SpellsToken charset room current (Returned r) bytes = (rest : List ℕ) × Begins AReturn rest bytes × SpellsReturnValue r rest
-SpellsToken charset room current (Done m) bytes = (fields : List ℕ) × Begins (WithFields ADone) fields bytes × (length fields ≡ 12) × (more fields ≡ m)
-SpellsToken charset room current (DoneInProc m) bytes = (fields : List ℕ) × Begins (WithFields ADoneInProc) fields bytes × (length fields ≡ 12) × (more fields ≡ m)
+SpellsToken charset room current (PassedOver passed body) bytes = (rest : List ℕ) × StartsToken (WithBody (APassed passed)) rest bytes × SpellsBody body rest
+SpellsToken charset room current (Error n) bytes = (rest : List ℕ) × (body : List ℕ) × StartsToken (WithBody AnError) rest bytes × SpellsBody body rest × SpellsNotice n body
+SpellsToken charset room current (Info n) bytes = (rest : List ℕ) × (body : List ℕ) × StartsToken (WithBody AnInfo) rest bytes × SpellsBody body rest × SpellsNotice n body
+SpellsToken charset room current (ReturnStatus n) bytes = (rest : List ℕ) × StartsToken (WithFields AStatus) rest bytes × (length rest ≡ 4) × (little rest ≡ n)
+SpellsToken charset room current (Returned r) bytes = (rest : List ℕ) × StartsToken AReturn rest bytes × SpellsReturnValue r rest
+SpellsToken charset room current (Done m) bytes = (fields : List ℕ) × StartsToken (WithFields ADone) fields bytes × (length fields ≡ 12) × SpellsMore m fields
+SpellsToken charset room current (DoneInProc m) bytes = (fields : List ℕ) × StartsToken (WithFields ADoneInProc) fields bytes × (length fields ≡ 12) × SpellsMore m fields
 
 -- The bytes spell the tokens one after the other, each row under the nearest description before it.
 abbrev pub SpellsTokens : Charset → ℕ → Option (List Column) → List Token → List ℕ → Type 0

@@ -55,7 +55,7 @@ abbrev pub with_value : List ℕ → Kind → CellPart → ReturnPart
 with_value name kind (WholeCell c) = WholeReturn (record { name = name; kind = kind; value = c })
 with_value name kind part = InReturnCell name kind part
 
--- a return value whose kind is known, or not
+-- a return value whose kind is known; type information of no kind is refused before, so its part is never reached
 abbrev pub with_return_kind : List ℕ → Option Kind → ReturnPart
 with_return_kind name (Some kind) = with_value name kind (cell_start kind (shape return_charset kind))
 with_return_kind name None = ReturnOrdinal

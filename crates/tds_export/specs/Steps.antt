@@ -45,8 +45,8 @@ abbrev pub IsNoted : Space → List Token → Type 0
 IsNoted notice tokens = notice.bytes ≡ error_text tokens
 
 -- between tokens
-abbrev pub behind : List Token → Part
-behind tokens = record { tokens = tokens; at = Between }
+abbrev pub after_tokens : List Token → Part
+after_tokens tokens = record { tokens = tokens; at = Between }
 
 -- What these tokens left is known, the report but for what was written and whether columns are described; and beside it whether the message may end.
 pub record Reflects (progress : Progress) (tokens : List Token) (may_end : Bool) : Type 0 where
@@ -65,10 +65,10 @@ TracksBefore progress tokens = Reflects progress tokens false
 -- One token or more were read whole, and their text put.
 pub record ReadsTokens (g : Grammar Part Fault) (from : Part) (tokens : List Token) (old new : Seen) (place place' : ℕ) (before after : Held) (progress : Progress) (area : Space) : Type 0 where
   pub more : List Token
-  pub streams : Streams g text_so_far from old new before after (behind (tokens ++ more))
+  pub streams : Streams g text_so_far from old new before after (after_tokens (tokens ++ more))
   pub place_is : place' ≡ place + length streams.bytes
   pub tracks : Tracks progress (tokens ++ more)
-  pub holds : IsHolding area (behind (tokens ++ more))
+  pub holds : IsHolding area (after_tokens (tokens ++ more))
 
 -- what the first byte of a token of this kind begins
 abbrev pub lead : TokenKind → Lead
@@ -95,8 +95,8 @@ abbrev pub IsOfKind : Bool → ℕ → TokenKind → Type 0
 IsOfKind described byte kind = (lead_of byte ≡ Some (lead kind)) × IsUnder described (lead kind)
 
 -- The byte is refused with this fault.
-abbrev pub IsRefusal : Bool → ℕ → Fault → Type 0
-IsRefusal described byte fault =
+abbrev pub IsRefusedByte : Bool → ℕ → Fault → Type 0
+IsRefusedByte described byte fault =
     ((fault ≡ RefusedToken byte) × (lead_of byte ≡ None))
     ⊎ ((fault ≡ RowWithoutColumns) × (described ≡ false) × ((byte ≡ row_byte) ⊎ (byte ≡ nbc_row_byte)))
 
@@ -178,15 +178,15 @@ StepStops g from old new place before after area failed stop =
 pub record ReadsWhole (g : Grammar Part Fault) (from : Part) (old new : Seen) (before after : Held) (area : Space) : Type 0 where
   pub tokens : List Token
   pub bytes : List ℕ
-  pub spelt : Spelt g from bytes (behind tokens)
+  pub spelt : Spelt g from bytes (after_tokens tokens)
   pub takes : Takes old new bytes (length bytes + 1)
-  pub puts : PutsText text_so_far from (behind tokens) before after
+  pub puts : PutsText text_so_far from (after_tokens tokens) before after
   pub over : IsOver new
   pub final : is_final tokens ≡ true
-  pub holds : IsHolding area (behind tokens)
+  pub holds : IsHolding area (after_tokens tokens)
 
 -- The whole response was read and all of its text delivered, and this is its report.
-pub record Completes (g : Grammar Part Fault) (from : Part) (old new : Seen) (before after : Held) (report : Report) (area : Space) : Type 0 where
+pub record CompletesResponse (g : Grammar Part Fault) (from : Part) (old new : Seen) (before after : Held) (report : Report) (area : Space) : Type 0 where
   pub middle : Held
   pub whole : ReadsWhole g from old new before middle area
   pub finishes : Finishes middle after

@@ -1,5 +1,5 @@
 -- The first bytes of tokens, and what they begin (MS-TDS, Packet Data Token Stream Definition). Those of a ROW and an NBCROW stand with their cells.
-use Rattle.std.specs.Prelude.{◌≡◌, ◌==◌, ℕ, Bool, true, false, List, ◌∷◌, Option, Some, None, if◌then◌else◌}
+use Rattle.std.specs.Prelude.{◌==◌, ℕ, Bool, true, false, Option, Some, None, if◌then◌else◌}
 use Rattle.tds_rows.specs.Rows.{nbc_row_byte, row_byte}
 
 -- of a COLMETADATA
@@ -91,7 +91,3 @@ abbrev pub is_row_lead : Lead → Bool
 is_row_lead ARow = true
 is_row_lead AnNbcRow = true
 is_row_lead lead = false
-
--- The bytes are one that begins such a token, and the rest.
-abbrev pub Begins : Lead → List ℕ → List ℕ → Type 0
-Begins lead rest bytes = (first : ℕ) × (bytes ≡ first ∷ rest) × (lead_of first ≡ Some lead)

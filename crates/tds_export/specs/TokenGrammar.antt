@@ -10,8 +10,7 @@ use Rattle.tds_packet.specs.declared.fault.Fault.TheVariants.{MessageEnded, EndW
 pub use Rattle.tds_export.specs.TokenBytes.{AnError, AnInfo, Bodied}
 use Rattle.tds_export.specs.TokenBytes.{APassed, Fixed, Lead, AMetadata, ARow, AnNbcRow, WithBody, WithFields, AReturn, lead_of, is_row_lead}
 use Rattle.tds_export.specs.ReturnValue.{ReturnPart, ReturnOrdinal, WholeReturn, return_size, return_fault, return_add}
-use Rattle.tds_export.specs.Tokens.{Notice, Token, Metadata, NoMetadata, Row, PassedOver, Error, Info, Returned, described_after, is_final, text, greatest_span}
-use Rattle.tds_export.specs.Response.{fields_length, fixed}
+use Rattle.tds_export.specs.Tokens.{Notice, Token, Metadata, NoMetadata, Row, PassedOver, Error, Info, Returned, described_after, fields_length, fixed, is_final, text, greatest_span}
 
 -- where a response is read
 pub data Open : Type 0 where

@@ -1,5 +1,6 @@
 -- Tokens of a response, and what they say (MS-TDS, Packet Data Token Stream Definition).
-use Rattle.std.specs.Prelude.{◌+◌, ℕ, Bool, true, false, List, [], ◌∷◌, ◌++◌, length, map, max, Option, Some, None, if◌then◌else◌}
+use Rattle.std.specs.Prelude.{◌==◌, ◌+◌, ◌%◌, ℕ, Bool, true, false, List, [], ◌∷◌, ◌++◌, length, map, max, Option, Some, None, if◌then◌else◌, slice_index}
+use Rattle.tds_values.specs.Numbers.{little}
 use Rattle.tds_csv.specs.Conversion.{Utf16Text, long_field}
 use Rattle.tds_csv.specs.Cutting.{whole_within}
 use Rattle.tds_csv.specs.Quoting.{line, line_end}
@@ -8,7 +9,7 @@ use Rattle.tds_columns.specs.Description.{Column}
 use Rattle.tds_columns.specs.View.{columns_of}
 use Rattle.tds_rows.specs.Cells.{Cell, field}
 use Rattle.tds_export.specs.ReturnValue.{ReturnValue}
-use Rattle.tds_export.specs.TokenBytes.{Passed}
+use Rattle.tds_export.specs.TokenBytes.{Fixed, AStatus, ADone, ADoneInProc, Passed}
 
 -- the body of an ERROR or INFO
 pub record Notice : Type 0 where
@@ -33,6 +34,22 @@ pub data Token : Type 0 where
   -- a DONE or DONEPROC, and whether more follows
   Done : Bool → Token
   DoneInProc : Bool → Token
+
+-- the lowest bit of a DONE's Status, which says that more follows
+abbrev pub more : List ℕ → Bool
+more fields = slice_index fields 0 % 2 == 1
+
+-- how many bytes the fields of a token have
+abbrev pub fields_length : Fixed → ℕ
+fields_length AStatus = 4
+fields_length ADone = 12
+fields_length ADoneInProc = 12
+
+-- the token of these fields
+abbrev pub fixed : Fixed → List ℕ → Token
+fixed AStatus fields = ReturnStatus (little fields)
+fixed ADone fields = Done (more fields)
+fixed ADoneInProc fields = DoneInProc (more fields)
 
 -- a column's name as a field
 abbrev pub name_field : Column → List ℕ

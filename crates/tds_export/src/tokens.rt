@@ -1,6 +1,6 @@
 // The tokens of a response by their first bytes.
 ghost use Rattle.std.specs.Prelude.{MatchResult};
-ghost use Rattle.tds_export.specs.Steps.{ByteRead, IsOfKind, IsRefusal};
+ghost use Rattle.tds_export.specs.Steps.{ByteRead, IsOfKind, IsRefusedByte};
 ghost use Rattle.tds_packet.specs.Payloads.{IsGoing, LeavesPayload};
 
 use crate::token_bytes::{
@@ -28,7 +28,7 @@ pub(crate) enum TokenKind {
 
 /// The kind of a token by its first byte, where columns are described or not; or why it is none.
 pub(crate) fn judge(byte: u8, described: bool) -> Result<TokenKind, Fault>
-    ensures { MatchResult result (IsOfKind described byte) (IsRefusal described byte) }
+    ensures { MatchResult result (IsOfKind described byte) (IsRefusedByte described byte) }
 {
     match byte {
         COLMETADATA => Ok(TokenKind::Metadata),

@@ -20,7 +20,7 @@ use Rattle.tds_packet.proofs.PacketLaws.{before_packet, before_are_read}
 use Rattle.tds_packet.proofs.ComingLaws.{message_agrees, front_message}
 
 -- whole packets at the front of an input, with the rest of it after them; none but the last is marked as the last
-pub record Begins (size limit : ℕ) (input rest payload : List ℕ) : Type 0 where
+pub record BeginsMessage (size limit : ℕ) (input rest payload : List ℕ) : Type 0 where
   pub packets : List Packet
   pub begin : wire_of packets ++ rest ≡ input
   pub each : AreMessage size packets ⊎ AreBefore size packets
@@ -46,7 +46,7 @@ all_packets size limit read payload place c m b r s p = grind (arith, wire_goes_
 
 -- what was taken, right after a packet, came of whole packets at the front of the input
 pub takes_begins : (size limit f : ℕ) (input rest : List ℕ) (q : Seen) (bytes : List ℕ) (n : ℕ) → AreBytes input → q.left ≡ Some rest → Takes (begun size limit (Some input) f) q bytes n → IsBetween q
-    → Begins size limit input rest (bytes ++ (q.future []).bytes)
+    → BeginsMessage size limit input rest (bytes ++ (q.future []).bytes)
 takes_begins size limit f input rest q bytes n are left t b =
     let read = t.0 in
     let split : input ≡ read ++ rest = subst (λ l. Consumes (Some input) l read) left t.1.0 in
@@ -61,13 +61,13 @@ takes_begins size limit f input rest q bytes n are left t b =
 -- ---- how a payload stops
 
 -- a read failed after these packets, all that what was read has whole, and the header after them wasn't refused
-pub record FailsBehind (size limit : ℕ) (input rest : List ℕ) (packets : List Packet) : Type 0 where
+pub record FailsAfterPackets (size limit : ℕ) (input rest : List ℕ) (packets : List Packet) : Type 0 where
   pub read : List ℕ
   pub split : read ++ rest ≡ input
   pub cut : WireFault size limit read packets InputEnded
 
 -- the payload stopped on the wire, after whole packets
-pub record StopsBehind (size limit : ℕ) (input rest payload : List ℕ) (failures failures' : ℕ) (stop : Stop) : Type 0 where
+pub record StopsAfterPackets (size limit : ℕ) (input rest payload : List ℕ) (failures failures' : ℕ) (stop : Stop) : Type 0 where
   pub packets : List Packet
   pub more : List ℕ
   pub begin : wire_of packets ++ more ≡ input
@@ -75,7 +75,7 @@ pub record StopsBehind (size limit : ℕ) (input rest payload : List ℕ) (failu
   pub within : length (wire_of packets) ≤ limit
   pub payload_is : payload_of packets ≡ payload
   pub place : stop.place ≡ Wire (length (wire_of packets))
-  pub cause : ((stop.fault ≡ ReadFailed) × (failures' ≡ one_more failures) × FailsBehind size limit input rest packets) ⊎ (WireFault size limit input packets stop.fault × (failures' ≡ failures))
+  pub cause : ((stop.fault ≡ ReadFailed) × (failures' ≡ one_more failures) × FailsAfterPackets size limit input rest packets) ⊎ (WireFault size limit input packets stop.fault × (failures' ≡ failures))
 
 -- the message ended
 pub record EndsMessage (size limit : ℕ) (input rest payload : List ℕ) (failures failures' : ℕ) (stop : Stop) : Type 0 where
@@ -88,19 +88,19 @@ pub record EndsMessage (size limit : ℕ) (input rest payload : List ℕ) (failu
   pub same : failures' ≡ failures
 
 whole_stop : (size limit f g : ℕ) (input rest payload : List ℕ) (stop : Stop) → AreBytes input → g ≡ f → whole_message size limit input ≡ record { bytes = payload; stop = stop; rest = rest }
-    → EndsMessage size limit input rest payload f g stop ⊎ StopsBehind size limit input rest payload f g stop
+    → EndsMessage size limit input rest payload f g stop ⊎ StopsAfterPackets size limit input rest payload f g stop
 whole_stop size limit f g input rest payload stop are same e =
     let m = front_message size limit input are in
     grind (arith, append-nil)
 
 -- a payload's stop, where its reader tells its bytes
 pub ends_front : (size limit f : ℕ) (input rest : List ℕ) (q : Seen) (payload : List ℕ) (stop : Stop) → AreBytes input → q.left ≡ Some rest → Ends (begun size limit (Some input) f) q payload stop
-    → EndsMessage size limit input rest payload f q.failures stop ⊎ StopsBehind size limit input rest payload f q.failures stop
+    → EndsMessage size limit input rest payload f q.failures stop ⊎ StopsAfterPackets size limit input rest payload f q.failures stop
 ends_front size limit f input rest q payload stop are left (inl x) = grind (arith, whole_stop)
 ends_front size limit f input rest q payload stop are left (inr (inl x)) = grind (arith, append-nil, whole_stop)
 ends_front size limit f input rest q payload stop are left (inr (inr x)) =
-    let split : input ≡ x.0.0 ++ rest = subst (λ l. Consumes (Some input) l x.0.0) left x.0.1 in
-    let m = front_message size limit x.0.0 (AreBytes-front x.0.0 rest (subst AreBytes split are)) in
+    let split : input ≡ x.0 ++ rest = subst (λ l. Consumes (Some input) l x.0) left x.1 in
+    let m = front_message size limit x.0 (AreBytes-front x.0 rest (subst AreBytes split are)) in
     grind (arith, append_assoc)
 
 -- a message of which all was handed out
@@ -151,5 +151,5 @@ in_last_of size limit f n input rest payload q bytes left t (x ∷ xs) begin eac
 
 -- the packets read were needed for n bytes of the payload
 pub in_last : (size limit f n : ℕ) (input rest : List ℕ) (q : Seen) (bytes payload : List ℕ) → q.left ≡ Some rest → Takes (begun size limit (Some input) f) q bytes n
-    → (p : Begins size limit input rest payload) → 0 < length payload → InLast size p.packets n
+    → (p : BeginsMessage size limit input rest payload) → 0 < length payload → InLast size p.packets n
 in_last size limit f n input rest q bytes payload left t p some = in_last_of size limit f n input rest payload q bytes left t p.packets p.begin p.each p.within p.payload_is some

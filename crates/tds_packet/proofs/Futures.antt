@@ -1,21 +1,22 @@
 -- What is still to come, along a payload's steps.
 use Rattle.std.proofs.lemmas.Grind.{common_steps}
-use Rattle.std.proofs.Common.{◌≡◌, ◌∙◌, inl, ℕ, suc, zero, ◌+◌, ◌-◌, ◌<◌, ◌≤◌, List, [], ◌++◌, length, take, drop, Option, Some, None, Ok, Err, Bool, true, false, refl, sym, ap, subst, arith, append_assoc, length-append, length-drop, add-zero}
+use Rattle.std.proofs.Common.{◌≡◌, ◌∙◌, inl, inr, ℕ, suc, zero, ◌+◌, ◌-◌, ◌<◌, ◌≤◌, List, [], ◌++◌, length, take, drop, Option, Some, None, Ok, Err, Bool, true, false, refl, sym, ap, subst, arith, append_assoc, length-append, length-drop, add-zero}
 use Rattle.std.proofs.lemmas.Bool.Decides.{nat_tests}
 use Rattle.std.proofs.lemmas.List.{take-append-drop, drop-drop}
 use Rattle.std.proofs.KnownBytes.{Consumes-nil, Consumes-trans}
 use Rattle.std.proofs.Math.Seq.{take-append-add}
 use Rattle.std.specs.Prelude.{nat_lt}
 use lib.Seq.{take-append-le}
+use Rattle.tds_meter.specs.Counts.{one_more}
 use Rattle.tds_packet.specs.declared.fault.Fault.{Fault}
 use Rattle.tds_packet.specs.declared.fault.Fault.TheVariants.{MessageEnded}
 use Rattle.tds_packet.specs.declared.fault.Place.TheVariants.{Wire, Payload}
 use Rattle.tds_packet.specs.declared.fault.Stop.{Stop}
 use Rattle.tds_packet.specs.declared.packet.Header.{Header}
-use Rattle.tds_packet.specs.Coming.{FrontPacket, WholePacket, NoPacket, Coming, before, stopped_at, front_packet, behind_packet, message, coming_of}
+use Rattle.tds_packet.specs.Coming.{FrontPacket, WholePacket, NoPacket, Coming, before, stopped_at, front_packet, after_packet, message, coming_of}
 use Rattle.tds_packet.specs.Reads.{ReadsPacket}
 use Rattle.tds_packet.specs.Seen.{Seen, Follows, Takes, Needs, Ends, IsOver, IsNotOver, IsBetween, begun}
-use Rattle.tds_packet.proofs.Joins.{Stays-none, Stays-trans, device_of}
+use Rattle.tds_packet.proofs.Joins.{Rises-after, Stays-none, Stays-trans, device_of}
 
 -- ---- a packet is not empty
 
@@ -30,7 +31,7 @@ shorter room max wire xs = grind (arith, nat_tests, length-drop)
 
 -- ---- enough fuel is enough
 
-same_after : (F G : ℕ → ℕ → List ℕ → Coming) (wire place k : ℕ) (p : FrontPacket) → ((w q : ℕ) (ys : List ℕ) → length ys < k → F w q ys ≡ G w q ys) → Shorter p k → behind_packet F wire place p ≡ behind_packet G wire place p
+same_after : (F G : ℕ → ℕ → List ℕ → Coming) (wire place k : ℕ) (p : FrontPacket) → ((w q : ℕ) (ys : List ℕ) → length ys < k → F w q ys ≡ G w q ys) → Shorter p k → after_packet F wire place p ≡ after_packet G wire place p
 unfolding Shorter
 same_after F G wire place k (WholePacket body true n rest) same h = refl
 same_after F G wire place k (WholePacket body false n rest) same h = ap (before body) (same (wire + n) (place + length body) rest h)
@@ -112,7 +113,13 @@ Takes-trans a b c hs bs n m le p q =
     (r ++ s, Follows-trans a b c r s hs bs p.1 q.1, omega (arith, p.2, q.2, length-append r s), (λ j lt. needs_joined a b r s hs n m j (nat_lt j (length r)) refl le p.3 q.3 p.1.1 lt), Stays-trans a.failures b.failures c.failures r s p.4 q.4)
 
 pub Ends-after : (a b c : Seen) (hs bs : List ℕ) (n : ℕ) (e : Stop) → Takes a b hs n → Ends b c bs e → Ends a c (hs ++ bs) e
-Ends-after a b c hs bs n e p y = grind (arith, Consumes-trans, append_assoc)
+Ends-after a b c hs bs n e p (inl y) =
+    let r = p.0 in
+    inl (r ++ y.0, Consumes-trans a.left b.left c.left r y.0 p.1.0 y.1, λ zs. ap a.future (append_assoc r y.0 zs) ∙ p.1.1 (y.0 ++ zs) ∙ ap (before hs) (y.2 zs), Stays-trans a.failures b.failures c.failures r y.0 p.4 y.3)
+Ends-after a b c hs bs n e p (inr (inl y)) =
+    inr (inl (p.0 ++ y.0, Consumes-trans a.left b.left c.left p.0 y.0 p.1.0 y.1, y.2, p.1.1 y.0 ∙ ap (before hs) y.3, (y.4.0 ∙ p.4.0, omega (arith, y.4.1, p.4.0))))
+Ends-after a b c hs bs n e p (inr (inr y)) =
+    inr (inr (p.0 ++ y.0, Consumes-trans a.left b.left c.left p.0 y.0 p.1.0 y.1, y.2, p.1.1 y.0 ∙ ap (before hs) y.3, (y.4.0 ∙ ap one_more p.4.0, Rises-after a.failures b.failures p.0 y.0 p.4 y.4.1)))
 
 -- ---- the ends of `ready`
 
@@ -121,7 +128,7 @@ stopped_as room max wire place last stopped bs s e zs = ap (λ o. coming_of room
 
 pub stopped_ends : (room max wire place : ℕ) (last : Bool) (stopped : Option Stop) (bs : List ℕ) (old : Option (List ℕ)) (f : ℕ) (s : Stop) → stopped ≡ Some s
     → Ends (at room max wire place last stopped bs old f) (at room max wire place last stopped bs old f) [] s
-stopped_ends room max wire place last stopped bs old f s e = inl (([], Consumes-nil old, stopped_as room max wire place last stopped bs s e), refl)
+stopped_ends room max wire place last stopped bs old f s e = inl ([], Consumes-nil old, stopped_as room max wire place last stopped bs s e, Stays-none f)
 
 ended_as : (room max wire place : ℕ) (last : Bool) (stopped : Option Stop) (bs : List ℕ) → last ≡ true → stopped ≡ None → bs ≡ [] → (zs : List ℕ) → coming_of room max wire place last stopped bs zs ≡ stopped_at MessageEnded (Payload place) zs
 unfolding coming_of
@@ -129,7 +136,7 @@ ended_as room max wire place last stopped bs el es eb zs = grind (arith, add-zer
 
 pub ended_ends : (room max wire place : ℕ) (last : Bool) (stopped : Option Stop) (bs : List ℕ) (old : Option (List ℕ)) (f : ℕ) → last ≡ true → stopped ≡ None → bs ≡ []
     → Ends (at room max wire place last stopped bs old f) (at room max wire place last stopped bs old f) [] (record { fault = MessageEnded; place = Payload place })
-ended_ends room max wire place last stopped bs old f el es eb = inl (([], Consumes-nil old, ended_as room max wire place last stopped bs el es eb), refl)
+ended_ends room max wire place last stopped bs old f el es eb = inl ([], Consumes-nil old, ended_as room max wire place last stopped bs el es eb, Stays-none f)
 
 -- ---- the ends of a message
 

@@ -7,7 +7,7 @@ use Rattle.std.proofs.lemmas.Bool.Decides.{nat_tests}
 use Rattle.std.proofs.lemmas.Grind.{flat_map-append}
 use Rattle.tds_packet.specs.Elements.{AreBytes, Spelt, IsNext, Longest}
 use Rattle.tds_packet.proofs.ElementLaws.{Spelt-step, Spelt-append, Spelt-none, Spelt-induct, AreBytes-front, AreBytes-back, one_state}
-use Rattle.tds_packet.specs.Packets.{Packet, packet_length, packet_bytes, wire_of, is_last, IsPacket, AreBefore, AreMessage, IsNextPacket, Front, WirePlace, BeforeHeader, BeforeBody, BehindLast, WirePart, no_wire, header_length, packet_of, with_packet, header_fault, wire}
+use Rattle.tds_packet.specs.Packets.{Packet, packet_length, packet_bytes, wire_of, is_last, IsPacket, AreBefore, AreMessage, IsNextPacket, Front, WirePlace, BeforeHeader, BeforeBody, AfterLast, WirePart, no_wire, header_length, packet_of, with_packet, header_fault, wire}
 use Rattle.tds_packet.proofs.Choices.{choose, eq_true}
 
 one_more : (size : ℕ) (ps : List Packet) (p : Packet) → AreBefore size ps → IsPacket size p → is_last p ≡ false → AreBefore size (ps ++ p ∷ [])
@@ -35,7 +35,7 @@ free_is_good size limit packets header eight bytes free = grind (arith, eq_true,
 abbrev pub WireMeans : ℕ → ℕ → List Packet → WirePlace → List ℕ → Type 0
 WireMeans size limit packets BeforeHeader b = (b ≡ wire_of packets) × AreBefore size packets × (length b ≤ limit)
 WireMeans size limit packets (BeforeBody header) b = (b ≡ wire_of packets ++ header) × AreBefore size packets × Good size limit packets header
-WireMeans size limit packets BehindLast b = (b ≡ wire_of packets) × AreMessage size packets × (length b ≤ limit)
+WireMeans size limit packets AfterLast b = (b ≡ wire_of packets) × AreMessage size packets × (length b ≤ limit)
 
 abbrev pub Means : ℕ → ℕ → WirePart → List ℕ → Type 0
 Means size limit w b = WireMeans size limit w.packets w.place b
@@ -45,7 +45,7 @@ module _ (size limit : ℕ) where
   with_means packets header body before good l = grind (arith, append-nil, flat_map-append, length-append, last_one, one_more)
 
   wire_step : (packets : List Packet) (place : WirePlace) (b e : List ℕ) → AreBytes e → WireMeans size limit packets place b → IsNext (wire size limit) (record { packets = packets; place = place }) e → Means size limit ((wire size limit).add (record { packets = packets; place = place }) e) (b ++ e)
-  wire_step packets BehindLast b e bytes h n = absurd (let l : length e ≡ 0 = n.whole in let s : 0 < length e = n.some in omega arith)
+  wire_step packets AfterLast b e bytes h n = absurd (let l : length e ≡ 0 = n.whole in let s : 0 < length e = n.some in omega arith)
   wire_step packets BeforeHeader b e bytes h n =
       let good : Good size limit packets e = free_is_good size limit packets e n.whole bytes n.free in
       choose (λ w. Means size limit w (b ++ e)) (header_length e == 8) (with_packet packets (packet_of e [])) (record { packets = packets; place = BeforeBody e })
@@ -97,7 +97,7 @@ module _ (size limit : ℕ) where
   before_are_read done (p ∷ packets) h f =
       let la : length (wire_of (done ++ p ∷ packets)) ≡ length (wire_of done) + (length (packet_bytes p) + length (wire_of packets)) = ap (λ v. length v) (flat_map-append packet_bytes done (p ∷ packets)) ∙ length-append (wire_of done) (packet_bytes p ++ wire_of packets) ∙ ap (λ v. length (wire_of done) + v) (length-append (packet_bytes p) (wire_of packets)) in
       let lp : length (packet_bytes p) ≡ packet_length p = length-packet_bytes p h.0 in
-      let one : Spelt (wire size limit) (before_packet done) (packet_bytes p) (before_packet (done ++ p ∷ [])) = subst (λ t. Spelt (wire size limit) (before_packet done) (packet_bytes p) (record { packets = done ++ p ∷ []; place = if t then BehindLast else BeforeHeader })) h.1 (packet_is_read done p h.0 (omega (arith, la, lp))) in
+      let one : Spelt (wire size limit) (before_packet done) (packet_bytes p) (before_packet (done ++ p ∷ [])) = subst (λ t. Spelt (wire size limit) (before_packet done) (packet_bytes p) (record { packets = done ++ p ∷ []; place = if t then AfterLast else BeforeHeader })) h.1 (packet_is_read done p h.0 (omega (arith, la, lp))) in
       let same : (done ++ p ∷ []) ++ packets ≡ done ++ p ∷ packets = append_assoc done (p ∷ []) packets in
       let more : Spelt (wire size limit) (before_packet (done ++ p ∷ [])) (wire_of packets) (before_packet ((done ++ p ∷ []) ++ packets)) = before_are_read (done ++ p ∷ []) packets h.2 (rw same f) in
       Spelt-append (wire size limit) (before_packet done) (packet_bytes p) (before_packet (done ++ p ∷ [])) (wire_of packets) (before_packet (done ++ p ∷ packets)) one (subst (λ v. Spelt (wire size limit) (before_packet (done ++ p ∷ [])) (wire_of packets) (before_packet v)) same more)
@@ -109,7 +109,7 @@ module _ (size limit : ℕ) where
       let lp : length (packet_bytes next) ≡ packet_length next = length-packet_bytes next i in
       Spelt-append (wire size limit) no_wire (wire_of packets) (before_packet packets) (packet_bytes next) (with_packet packets next) (before_are_read [] packets before (omega (arith, la))) (packet_is_read packets next i (omega (arith, la, lp)))
 
-  last_place : (t : Bool) (header : List ℕ) → ◌≡◌ {A = WirePlace} (if t then BehindLast else BeforeHeader) (BeforeBody header) → ⊥
+  last_place : (t : Bool) (header : List ℕ) → ◌≡◌ {A = WirePlace} (if t then AfterLast else BeforeHeader) (BeforeBody header) → ⊥
   last_place t header e = grind (arith)
 
   -- What is read at most of an input are the packets at its front.
@@ -156,5 +156,5 @@ module _ (size limit : ℕ) where
                   last_place (is_last next) header (sym (ap (λ v. v.place) one) ∙ e),
             );
           }
-      go BehindLast e m = let k : WireMeans size limit w.packets BehindLast (take taken input) = subst (λ v. WireMeans size limit w.packets v (take taken input)) e m in
+      go AfterLast e m = let k : WireMeans size limit w.packets AfterLast (take taken input) = subst (λ v. WireMeans size limit w.packets v (take taken input)) e m in
           record { rest = drop taken input; spelt = ap (λ v. v ++ drop taken input) (sym k.0) ∙ take-append-drop taken input; within = subst (λ v. length v ≤ limit) k.0 k.2; stops = inl k.1 }

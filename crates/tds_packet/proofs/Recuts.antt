@@ -59,9 +59,9 @@ some_over remaining p b bytes n e takes over =
     starts_in remaining p (takes.0 ++ []) bytes e (ap (λ (c : Coming). c.bytes) is ∙ append-nil bytes)
 
 pub some_ends : {R : Type 0} (remaining : R → Option (List ℕ)) (p : Payload R) (b : Seen) (bytes : List ℕ) (stop : Stop) → p.stopped ≡ None → Ends (seen remaining p) b bytes stop → length (buffered p) ≤ length bytes
-some_ends remaining p b bytes stop e (inl x) = starts_in remaining p (x.0.0 ++ []) bytes e (ap (λ (c : Coming). c.bytes) (x.0.2 []))
-some_ends remaining p b bytes stop e (inr (inl x)) = starts_in remaining p x.0.0 bytes e (ap (λ (c : Coming). c.bytes) x.0.3)
-some_ends remaining p b bytes stop e (inr (inr x)) = starts_in remaining p x.0.0 bytes e (ap (λ (c : Coming). c.bytes) x.0.3)
+some_ends remaining p b bytes stop e (inl x) = starts_in remaining p (x.0 ++ []) bytes e (ap (λ (c : Coming). c.bytes) (x.2 []))
+some_ends remaining p b bytes stop e (inr (inl x)) = starts_in remaining p x.0 bytes e (ap (λ (c : Coming). c.bytes) x.3)
+some_ends remaining p b bytes stop e (inr (inr x)) = starts_in remaining p x.0 bytes e (ap (λ (c : Coming). c.bytes) x.3)
 
 -- ---- the packets of a payload
 

@@ -8,7 +8,7 @@ use Rattle.tds_packet.specs.declared.fault.Fault.{Fault}
 use Rattle.tds_packet.specs.declared.fault.Fault.TheVariants.{ReadFailed, WriteFailed}
 use Rattle.tds_packet.specs.declared.fault.Stop.{Stop}
 use Rattle.tds_packet.specs.declared.payload.Payload as payloads
-use Rattle.tds_packet.specs.Coming.{Coming, FrontPacket, NoPacket, WholePacket, behind_packet, coming_of, front_packet, message}
+use Rattle.tds_packet.specs.Coming.{Coming, FrontPacket, NoPacket, WholePacket, after_packet, coming_of, front_packet, message}
 use Rattle.tds_packet.specs.Payloads.{buffered, seen}
 use Rattle.tds_packet.specs.Seen.{Ends, Seen}
 
@@ -26,7 +26,7 @@ front_of_wire : (size limit wire : ℕ) (input : List ℕ) → FrontOfWire (fron
 unfolding front_packet
 front_of_wire size limit wire input = grind (arith, common_steps)
 
-packet_of_wire : (more : ℕ → ℕ → List ℕ → Coming) (wire place : ℕ) (p : FrontPacket) → FrontOfWire p → ((w q : ℕ) (l : List ℕ) → IsOfWire (more w q l).stop.fault) → IsOfWire (behind_packet more wire place p).stop.fault
+packet_of_wire : (more : ℕ → ℕ → List ℕ → Coming) (wire place : ℕ) (p : FrontPacket) → FrontOfWire p → ((w q : ℕ) (l : List ℕ) → IsOfWire (more w q l).stop.fault) → IsOfWire (after_packet more wire place p).stop.fault
 packet_of_wire more wire place p h next = grind (arith)
 
 -- what comes of an input stops with such a fault
@@ -54,6 +54,6 @@ ends_blame remaining p b bytes own going ends = go ends
     of_wire h = (λ e. subst IsOfWire e h, λ e. absurd (subst IsOfWire e h))
 
     go : Ends (seen remaining p) b bytes own → (own.fault ≡ WriteFailed → ⊥) × (own.fault ≡ ReadFailed → b.failures ≡ one_more p.from.now.failures)
-    go (inl x) = of_wire (stands (x.0.0 ++ []) [] (x.0.2 []))
-    go (inr (inl x)) = of_wire (stands x.0.0 [] x.0.3)
-    go (inr (inr x)) = (λ e. (let no : ReadFailed ≡ WriteFailed = sym x.0.2 ∙ e in cc), λ e. x.1)
+    go (inl x) = of_wire (stands (x.0 ++ []) [] (x.2 []))
+    go (inr (inl x)) = of_wire (stands x.0 [] x.3)
+    go (inr (inr x)) = (λ e. (let no : ReadFailed ≡ WriteFailed = sym x.2 ∙ e in cc), λ e. x.4.0)

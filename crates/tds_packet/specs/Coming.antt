@@ -27,9 +27,9 @@ pub data FrontPacket : Type 0 where
   NoPacket : Fault → List ℕ → FrontPacket
 
 -- a header is judged, and its body read
-abbrev pub behind_header : List ℕ → List ℕ → Option Fault → FrontPacket
-behind_header header rest (Some fault) = NoPacket fault rest
-behind_header header rest None =
+abbrev pub packet_after_header : List ℕ → List ℕ → Option Fault → FrontPacket
+packet_after_header header rest (Some fault) = NoPacket fault rest
+packet_after_header header rest None =
     if nat_lt (length rest) (header_length header - 8) then NoPacket InputEnded []
     else WholePacket (take (header_length header - 8) rest) (is_last_status (slice_index header 1)) (header_length header) (drop (header_length header - 8) rest)
 
@@ -37,18 +37,18 @@ behind_header header rest None =
 unfoldable pub front_packet : ℕ → ℕ → ℕ → List ℕ → FrontPacket
 front_packet size limit wire input =
     if nat_lt (length input) 8 then NoPacket InputEnded []
-    else behind_header (take 8 input) (drop 8 input) (header_fault size limit wire (take 8 input))
+    else packet_after_header (take 8 input) (drop 8 input) (header_fault size limit wire (take 8 input))
 
 -- what comes of a packet, and of more after it unless it is the last
-abbrev pub behind_packet : (ℕ → ℕ → List ℕ → Coming) → ℕ → ℕ → FrontPacket → Coming
-behind_packet more wire place (WholePacket body true n rest) = before body (stopped_at MessageEnded (Payload (place + length body)) rest)
-behind_packet more wire place (WholePacket body false n rest) = before body (more (wire + n) (place + length body) rest)
-behind_packet more wire place (NoPacket fault rest) = stopped_at fault (Wire wire) rest
+abbrev pub after_packet : (ℕ → ℕ → List ℕ → Coming) → ℕ → ℕ → FrontPacket → Coming
+after_packet more wire place (WholePacket body true n rest) = before body (stopped_at MessageEnded (Payload (place + length body)) rest)
+after_packet more wire place (WholePacket body false n rest) = before body (more (wire + n) (place + length body) rest)
+after_packet more wire place (NoPacket fault rest) = stopped_at fault (Wire wire) rest
 
 -- what comes of an input, after this many bytes of the wire and of the payload; the first number is more than the input's length
 unfoldable pub message : ℕ → ℕ → ℕ → ℕ → ℕ → List ℕ → Coming
 message size limit zero wire place input = stopped_at InputEnded (Wire wire) input
-message size limit (suc fuel) wire place input = behind_packet (message size limit fuel) wire place (front_packet size limit wire input)
+message size limit (suc fuel) wire place input = after_packet (message size limit fuel) wire place (front_packet size limit wire input)
 
 -- what comes of a whole input
 abbrev pub whole_message : ℕ → ℕ → List ℕ → Coming

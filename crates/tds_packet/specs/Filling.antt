@@ -10,23 +10,27 @@ use Rattle.tds_packet.specs.Devices.{Device}
 abbrev pub Stays : ℕ → ℕ → List ℕ → Type 0
 Stays before after moved = (after ≡ before) × (0 < length moved → before < 2 ^ 64 - 1)
 
--- One call of a device succeeded, and the count stayed, which was not the greatest; or it failed, and was counted.
-abbrev pub CountsCall : {U E : Type 0} → ℕ → ℕ → Result U E → Type 0
-CountsCall before after (Ok _) = (after ≡ before) × (before < 2 ^ 64 - 1)
-CountsCall before after (Err _) = after ≡ one_more before
+-- The count of failures rose, and where bytes were moved before it was not the greatest.
+abbrev pub Rises : ℕ → ℕ → List ℕ → Type 0
+Rises before after moved = (after ≡ one_more before) × (0 < length moved → before < 2 ^ 64 - 1)
 
--- Fewer than n bytes were read.
-abbrev pub ReadsFewer : Option (List ℕ) → Option (List ℕ) → ℕ → Type 0
-ReadsFewer old new n = (bytes : List ℕ) × (length bytes < n) × Consumes old new bytes
+-- A device answered without failing: the count stayed, and was not the greatest.
+abbrev pub IsAnswered : ℕ → ℕ → Type 0
+IsAnswered before after = (after ≡ before) × (before < 2 ^ 64 - 1)
+
+-- One call of a device succeeded, or it failed, and was counted.
+abbrev pub CountsCall : {U E : Type 0} → ℕ → ℕ → Result U E → Type 0
+CountsCall before after (Ok _) = IsAnswered before after
+CountsCall before after (Err _) = after ≡ one_more before
 
 -- Fewer than n bytes were read, and none is left.
 abbrev pub RunsOut : Option (List ℕ) → Option (List ℕ) → ℕ → Type 0
-RunsOut old new n = ReadsFewer old new n × IsAtEnd new
+RunsOut old new n = ((bytes : List ℕ) × (length bytes < n) × Consumes old new bytes) × IsAtEnd new
 
--- The input ended before n bytes were read; or a read failed, which was counted.
+-- The input ended before n bytes were read; or a read failed, which was counted, after fewer than n bytes.
 abbrev pub FallsShort : (old new : Device) → ℕ → Short → Type 0
-FallsShort old new n Ended = RunsOut old.bytes new.bytes n × (new.failures ≡ old.failures)
-FallsShort old new n Failed = ReadsFewer old.bytes new.bytes n × (new.failures ≡ one_more old.failures)
+FallsShort old new n Ended = RunsOut old.bytes new.bytes n × IsAnswered old.failures new.failures
+FallsShort old new n Failed = (bytes : List ℕ) × (length bytes < n) × Consumes old.bytes new.bytes bytes × Rises old.failures new.failures bytes
 
 -- All was read, or the call fell short.
 abbrev pub FillsSlice : {U : Type 0} → (old new : Device) → List ℕ → Result U Short → Type 0

@@ -74,7 +74,7 @@ pub record Front (size limit : ℕ) (input : List ℕ) (packets : List Packet) :
 pub data WirePlace : Type 0 where
   BeforeHeader : WirePlace
   BeforeBody : List ℕ → WirePlace
-  BehindLast : WirePlace
+  AfterLast : WirePlace
 
 -- a wire as far as it is read: its whole packets, and what is read of the next one
 pub record WirePart : Type 0 where
@@ -95,7 +95,7 @@ packet_of header body = record { status = slice_index header 1; id = drop 4 head
 
 -- a packet is whole: the wire goes on with the next, or ends here
 abbrev pub with_packet : List Packet → Packet → WirePart
-with_packet packets p = record { packets = packets ++ p ∷ []; place = if is_last p then BehindLast else BeforeHeader }
+with_packet packets p = record { packets = packets ++ p ∷ []; place = if is_last p then AfterLast else BeforeHeader }
 
 -- a header after this many bytes of the wire is judged by its Type, its Length and the limit of the wire, in this order
 abbrev pub header_fault : ℕ → ℕ → ℕ → List ℕ → Option Fault
@@ -109,23 +109,23 @@ header_fault size limit before header =
 abbrev pub wire_size : WirePlace → ℕ
 wire_size BeforeHeader = 8
 wire_size (BeforeBody header) = header_length header - 8
-wire_size BehindLast = 0
+wire_size AfterLast = 0
 
 -- the first fault of an element: only headers are judged
 abbrev pub wire_fault : ℕ → ℕ → List Packet → WirePlace → List ℕ → Option Fault
 wire_fault size limit packets BeforeHeader header = header_fault size limit (length (wire_of packets)) header
 wire_fault size limit packets (BeforeBody header) body = None
-wire_fault size limit packets BehindLast bytes = None
+wire_fault size limit packets AfterLast bytes = None
 
 -- what stands after an element
 abbrev pub wire_add : List Packet → WirePlace → List ℕ → WirePart
 wire_add packets BeforeHeader header = if header_length header == 8 then with_packet packets (packet_of header []) else record { packets = packets; place = BeforeBody header }
 wire_add packets (BeforeBody header) body = with_packet packets (packet_of header body)
-wire_add packets BehindLast bytes = record { packets = packets; place = BehindLast }
+wire_add packets AfterLast bytes = record { packets = packets; place = AfterLast }
 
 -- the fault of an input that ends here
 abbrev pub wire_end : WirePlace → Option Fault
-wire_end BehindLast = None
+wire_end AfterLast = None
 wire_end _ = Some InputEnded
 
 -- How a wire is read: a header of 8 bytes, then the body whole.

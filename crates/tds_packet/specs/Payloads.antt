@@ -71,10 +71,11 @@ pub record NeedsPacket {R : Type 0} (p : Payload R) : Type 0 where
   pub used_up : p.at ≡ length p.packet.now.bytes
   pub more : p.last ≡ false
 
--- A payload at the first byte of its message: nothing was read, and these are its limits.
+-- A payload at the first byte of its message: nothing was read, its area is empty, and these are its limits.
 pub record IsBegun {R : Type 0} (remaining : R → Option (List ℕ)) (p : Payload R) (from : Counted R) (size most : ℕ) : Type 0 where
   pub sound : IsSound p
   pub room : p.packet.now.room ≡ size
+  pub empty : p.packet.now.bytes ≡ []
   pub limit : p.max_wire ≡ most
   pub place : p.place ≡ 0
   pub going : p.stopped ≡ None

@@ -1,10 +1,9 @@
 -- What the read of one packet does.
 use Rattle.std.specs.Prelude.{◌≡◌, ◌⊎◌, ℕ, ◌<◌, ◌≤◌, List, [], ◌++◌, Bool, take, length, slice_index, Option, Some, None, Result, Ok, Err, ⊤}
 use Rattle.std.specs.Io.KnownBytes.{Consumes, IsAtEnd}
-use Rattle.tds_meter.specs.Counts.{one_more}
 use Rattle.tds_meter.specs.Space.{Space}
 use Rattle.tds_packet.specs.Devices.{Device}
-use Rattle.tds_packet.specs.Filling.{FallsShort, FillsSlice, Stays}
+use Rattle.tds_packet.specs.Filling.{FallsShort, FillsSlice, IsAnswered, Rises, Stays}
 use Rattle.tds_packet.specs.declared.counted.Short.TheVariants.{Ended, Failed}
 use Rattle.tds_packet.specs.declared.fault.Fault.{Fault}
 use Rattle.tds_packet.specs.declared.fault.Fault.TheVariants.{ReadFailed, InputEnded, WrongPacketType, BadPacketLength, ResponseTooLong}
@@ -39,18 +38,18 @@ IsFrontPacket size limit wire read body last n = ((zs : List ℕ) → front_pack
 
 -- A header was read that the rules refuse, whatever follows it.
 abbrev pub RefusesHeader : (size limit wire : ℕ) → (old new : Device) → Fault → Type 0
-RefusesHeader size limit wire old new fault = ((read : List ℕ) × Consumes old.bytes new.bytes read
-    × ((zs : List ℕ) → front_packet size limit wire (read ++ zs) ≡ NoPacket fault zs)) × (new.failures ≡ old.failures)
+RefusesHeader size limit wire old new fault = (read : List ℕ) × Consumes old.bytes new.bytes read
+    × ((zs : List ℕ) → front_packet size limit wire (read ++ zs) ≡ NoPacket fault zs) × Stays old.failures new.failures read
 
 -- The input was over before a packet was whole.
 abbrev pub GivesOut : (size limit wire : ℕ) → (old new : Device) → Fault → Type 0
-GivesOut size limit wire old new fault = ((fault ≡ InputEnded) × ((read : List ℕ) × Consumes old.bytes new.bytes read
-    × IsAtEnd new.bytes × (front_packet size limit wire read ≡ NoPacket InputEnded []))) × (new.failures ≡ old.failures)
+GivesOut size limit wire old new fault = (fault ≡ InputEnded) × (read : List ℕ) × Consumes old.bytes new.bytes read
+    × IsAtEnd new.bytes × (front_packet size limit wire read ≡ NoPacket InputEnded []) × IsAnswered old.failures new.failures
 
 -- A read failed, which was counted, before a packet was whole or its header refused.
 abbrev pub FailsInPacket : (size limit wire : ℕ) → (old new : Device) → Fault → Type 0
-FailsInPacket size limit wire old new fault = ((fault ≡ ReadFailed) × ((read : List ℕ) × Consumes old.bytes new.bytes read
-    × (front_packet size limit wire read ≡ NoPacket InputEnded []))) × (new.failures ≡ one_more old.failures)
+FailsInPacket size limit wire old new fault = (fault ≡ ReadFailed) × (read : List ℕ) × Consumes old.bytes new.bytes read
+    × (front_packet size limit wire read ≡ NoPacket InputEnded []) × Rises old.failures new.failures read
 
 -- The first packet was read, or it has a fault, or a read failed.
 abbrev pub ReadsPacket : (size limit wire : ℕ) → (old new : Device) → List ℕ → Result Header Fault → Type 0

@@ -1,13 +1,12 @@
 -- A payload as contracts see it, and what a call takes of it. What is still to come is a function of the input: a call says what it does whatever follows the bytes that it read.
 use Rattle.std.specs.Prelude.{◌≡◌, ◌⊎◌, ℕ, ◌+◌, ◌<◌, List, [], ◌++◌, length, take, Option}
 use Rattle.std.specs.Io.KnownBytes.{Consumes, IsAtEnd}
-use Rattle.tds_meter.specs.Counts.{one_more}
 use Rattle.tds_packet.specs.declared.fault.Fault.{Fault}
 use Rattle.tds_packet.specs.declared.fault.Fault.TheVariants.{ReadFailed, InputEnded, MessageEnded}
 use Rattle.tds_packet.specs.declared.fault.Place.{Place}
 use Rattle.tds_packet.specs.declared.fault.Place.TheVariants.{Wire, Payload}
 use Rattle.tds_packet.specs.declared.fault.Stop.{Stop}
-use Rattle.tds_packet.specs.Filling.{Stays}
+use Rattle.tds_packet.specs.Filling.{IsAnswered, Rises, Stays}
 use Rattle.tds_packet.specs.Coming.{Coming, before, whole_message}
 
 -- what its reader still gives, where that is known; what comes of each such input; the wire bytes of the packets read; the reader's count of failures
@@ -35,16 +34,18 @@ Takes old new bytes n = (read : List ℕ) × Follows old new read bytes × (new.
 
 -- The message stops here once these bytes are handed out, whatever follows the bytes read.
 abbrev pub StopsAfter : Seen → Seen → List ℕ → Stop → Type 0
-StopsAfter old new bytes stop = ((read : List ℕ) × Consumes old.left new.left read × ((zs : List ℕ) → old.future (read ++ zs) ≡ record { bytes = bytes; stop = stop; rest = zs })) × (new.failures ≡ old.failures)
+StopsAfter old new bytes stop = (read : List ℕ) × Consumes old.left new.left read × ((zs : List ℕ) → old.future (read ++ zs) ≡ record { bytes = bytes; stop = stop; rest = zs })
+    × Stays old.failures new.failures read
 
 -- The input is over, and with it the message, once these bytes are handed out.
 abbrev pub RunsOutAfter : Seen → Seen → List ℕ → Stop → Type 0
-RunsOutAfter old new bytes stop = ((read : List ℕ) × Consumes old.left new.left read × IsAtEnd new.left × (old.future read ≡ record { bytes = bytes; stop = stop; rest = [] })) × (new.failures ≡ old.failures)
+RunsOutAfter old new bytes stop = (read : List ℕ) × Consumes old.left new.left read × IsAtEnd new.left × (old.future read ≡ record { bytes = bytes; stop = stop; rest = [] })
+    × IsAnswered old.failures new.failures
 
 -- A read failed, which was counted. These bytes were handed out, and the stop stands, where they would if the input had ended after what was read.
 abbrev pub FailsAfter : Seen → Seen → List ℕ → Stop → Type 0
-FailsAfter old new bytes stop = ((read : List ℕ) × Consumes old.left new.left read × (stop.fault ≡ ReadFailed)
-    × (old.future read ≡ record { bytes = bytes; stop = record { fault = InputEnded; place = stop.place }; rest = [] })) × (new.failures ≡ one_more old.failures)
+FailsAfter old new bytes stop = (read : List ℕ) × Consumes old.left new.left read × (stop.fault ≡ ReadFailed)
+    × (old.future read ≡ record { bytes = bytes; stop = record { fault = InputEnded; place = stop.place }; rest = [] }) × Rises old.failures new.failures read
 
 -- These bytes were handed out, and then the payload stopped.
 abbrev pub Ends : Seen → Seen → List ℕ → Stop → Type 0

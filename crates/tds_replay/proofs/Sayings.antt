@@ -9,10 +9,10 @@ use Rattle.tds_meter.specs.Counts.{Rose}
 use Rattle.tds_packet.specs.declared.counted.Counted.{Counted}
 use Rattle.tds_replay.specs.declared.pieces.Unsaid.{Unsaid}
 use Rattle.tds_replay.specs.Lines.{values_line}
-use Rattle.tds_replay.specs.Saying.{Says, Writes}
+use Rattle.tds_replay.specs.Saying.{Says, WritesText}
 
 -- a text was written, and then another, or not
-pub says_then : {N U : Type 0} (contents : N → Option (List ℕ)) (old mid new : Counted N) (a b : List ℕ) → Writes contents old mid a → (r : Result U Unsaid) → Says contents mid new b r → Says contents old new (a ++ b) r
+pub says_then : {N U : Type 0} (contents : N → Option (List ℕ)) (old mid new : Counted N) (a b : List ℕ) → WritesText contents old mid a → (r : Result U Unsaid) → Says contents mid new b r → Says contents old new (a ++ b) r
 says_then contents old mid new a b first (Ok x) says = (Appends-trans (contents old.device) (contents mid.device) (contents new.device) a b first.0 says.0, says.1 ∙ first.1)
 says_then contents old mid new a b first (Err x) says = subst (λ n. Rose n new.failures) first.1 says
 
@@ -25,7 +25,7 @@ pub four_first : (a b c d e f : List ℕ) → concat (a ∷ b ∷ c ∷ d ∷ []
 four_first a b c d e f = append_assoc a (b ++ (c ++ (d ++ []))) (e ++ f) ∙ ap (λ l. a ++ l) (append_assoc b (c ++ (d ++ [])) (e ++ f) ∙ ap (λ l. b ++ l) (append_assoc c (d ++ []) (e ++ f) ∙ ap (λ l. c ++ (l ++ (e ++ f))) (append-nil d)))
 
 -- nothing is written for no text
-pub nothing_said : {N : Type 0} (contents : N → Option (List ℕ)) (notes : Counted N) (t : List ℕ) → t ≡ [] → Writes contents notes notes t
+pub nothing_said : {N : Type 0} (contents : N → Option (List ℕ)) (notes : Counted N) (t : List ℕ) → t ≡ [] → WritesText contents notes notes t
 nothing_said contents notes t none = (subst (λ l. Appends (contents notes.device) (contents notes.device) l) (sym none) (Appends-nil (contents notes.device)), refl)
 
 pub no_values : (n : ℕ) → n ≡ 0 → values_line n ≡ []

@@ -3,3 +3,4 @@ pub mod Performing
 pub mod Saying
 pub mod Statuses
 pub mod Usages
+pub mod Asking

@@ -1,5 +1,5 @@
 -- The lines on standard error.
-use Rattle.std.specs.Prelude.{ℕ, ℤ, List, [], ◌∷◌, ◌++◌, Option, None, Some, Result, Ok, Err, codes, decimal, map, flat_map, nat_lt, ◌==◌, ◌||◌, if◌then◌else◌}
+use Rattle.std.specs.Prelude.{ℕ, ℤ, List, [], ◌∷◌, ◌++◌, ◌≤◌, Option, None, Some, Result, Ok, Err, codes, decimal, length, map, flat_map, nat_lt, ◌==◌, ◌||◌, if◌then◌else◌}
 use Rattle.std.specs.Fmt.{signed_decimal}
 use Rattle.std.specs.List.{concat}
 use Rattle.hex.specs.Hex.{encode_lower}
@@ -114,6 +114,10 @@ values_line n = if n == 0 then [] else concat (codes "return values " ∷ decima
 unfoldable pub status_line : Option ℤ → List ℕ
 status_line None = []
 status_line (Some n) = concat (codes "return status " ∷ signed_decimal n ∷ codes "\n" ∷ [])
+
+-- A message is no longer than what is kept of one.
+abbrev pub FitsNotice : List ℕ → Type 0
+FitsNotice message = length message ≤ 512
 
 -- a byte of a message as it is printed: a control character is a space
 abbrev pub shown_byte : ℕ → ℕ

@@ -13,9 +13,12 @@ use Rattle.tds_export.specs.declared.report.Stopped.{Stopped}
 use Rattle.tds_export.specs.Exports.{Exports}
 use Rattle.tds_export.specs.Moments.{Moment, moment}
 use Rattle.tds_arguments.specs.declared.job.Job.{Job}
-use Rattle.tds_arguments.specs.declared.job.Job.TheVariants.{Export, Check, Recut}
+use Rattle.tds_arguments.specs.declared.job.Work.{Work}
+use Rattle.tds_arguments.specs.declared.job.Work.TheVariants.{Export, Check, Recut}
+use Rattle.tds_arguments.specs.Jobs.{work_of}
 use Rattle.tds_replay.specs.declared.status.Status.{Status}
 use Rattle.tds_replay.specs.declared.status.Status.TheVariants.{WantOfMemory}
+use Rattle.tds_replay.specs.Asking.{AreMade, KeepsInAreas}
 use Rattle.tds_replay.specs.Lines.{answer_lines, memory_line, recut_lines}
 use Rattle.tds_replay.specs.Saying.{SaysOrFails}
 use Rattle.tds_replay.specs.Statuses.{status_number, status_of, status_of_recut}
@@ -44,15 +47,20 @@ telling remaining contents said = record { remaining = remaining; contents = con
 abbrev pub with_areas : {R W N : Type 0} → Telling R W N → Devices R W N → Areas → Moment
 with_areas tell d areas = moment tell.remaining tell.contents areas d.from d.to
 
--- An export answered, and the status and the lines are those of its answer.
-pub record Performs {R W N : Type 0} (tell : Telling R W N) (charset : Charset) (limits : Limits) (before after : Devices R W N) (status : Status) : Type 0 where
-  pub areas : Areas
-  pub areas' : Areas
-  pub limits_are : areas.limits ≡ limits
+-- An export over these areas answered, with nothing kept beside them, and the status and the lines are those of its answer.
+pub record RunsExport {R W N : Type 0} (tell : Telling R W N) (charset : Charset) (areas areas' : Areas) (before after : Devices R W N) (status : Status) : Type 0 where
+  pub kept : KeepsInAreas areas areas'
   pub answer : Result Report Stopped
   pub exports : Exports charset (with_areas tell before areas) (with_areas tell after areas') answer
   pub status_is : status ≡ status_of answer
   pub lines : SaysOrFails tell.said before.notes after.notes (answer_lines answer areas'.notice.bytes)
+
+-- An export over areas made for these limits answered.
+pub record Performs {R W N : Type 0} (tell : Telling R W N) (charset : Charset) (limits : Limits) (before after : Devices R W N) (status : Status) : Type 0 where
+  pub areas : Areas
+  pub areas' : Areas
+  pub made : AreMade limits areas
+  pub runs : RunsExport tell charset areas areas' before after status
 
 -- There was no memory, and the line of that was written; reader and writer are as they were.
 pub record LacksMemory {R W N : Type 0} (tell : Telling R W N) (before after : Devices R W N) (status : Status) : Type 0 where
@@ -91,12 +99,16 @@ pub record Rewrites {R W N : Type 0} (tell : Telling R W N) (packet_size max_wir
 abbrev pub PerformsRecut : {R W N : Type 0} → Telling R W N → ℕ → ℕ → Devices R W N → Devices R W N → Status → Type 0
 PerformsRecut tell packet_size max_wire before after status = Rewrites tell packet_size max_wire before after status ⊎ LacksMemory tell before after status
 
--- What a job is for was performed, with this status.
-abbrev pub PerformsAs : {R W N : Type 0} → Telling R W N → Job → Devices R W N → Devices R W N → Status → Type 0
-PerformsAs tell (Export limits charset file) before after status = PerformsExport tell charset limits before after status
-PerformsAs tell (Check limits charset file) before after status = PerformsCheck tell charset limits before after status
-PerformsAs tell (Recut packet_size max_wire file) before after status = PerformsRecut tell packet_size max_wire before after status
+-- The work was performed, with this status.
+abbrev pub PerformsAs : {R W N : Type 0} → Telling R W N → Work → Devices R W N → Devices R W N → Status → Type 0
+PerformsAs tell (Export limits charset) before after status = PerformsExport tell charset limits before after status
+PerformsAs tell (Check limits charset) before after status = PerformsCheck tell charset limits before after status
+PerformsAs tell (Recut packet_size max_wire) before after status = PerformsRecut tell packet_size max_wire before after status
+
+-- The work was performed, with this exit status.
+abbrev pub PerformsWork : {R W N : Type 0} → Telling R W N → Work → Devices R W N → Devices R W N → ℕ → Type 0
+PerformsWork tell work before after number = (status : Status) × (number ≡ status_number status) × PerformsAs tell work before after status
 
 -- A job was performed, with this exit status.
 abbrev pub PerformsJob : {R W N : Type 0} → Telling R W N → Job → Devices R W N → Devices R W N → ℕ → Type 0
-PerformsJob tell job before after number = (status : Status) × (number ≡ status_number status) × PerformsAs tell job before after status
+PerformsJob tell job before after number = PerformsWork tell (work_of job) before after number

@@ -6,14 +6,14 @@ use Rattle.tds_packet.specs.declared.counted.Counted.{Counted}
 use Rattle.tds_replay.specs.declared.pieces.Unsaid.{Unsaid}
 
 -- The text was written, and no write failed.
-abbrev pub Writes : {N : Type 0} → (N → Option (List ℕ)) → Counted N → Counted N → List ℕ → Type 0
-Writes contents old new text = Appends (contents old.device) (contents new.device) text × (new.failures ≡ old.failures)
+abbrev pub WritesText : {N : Type 0} → (N → Option (List ℕ)) → Counted N → Counted N → List ℕ → Type 0
+WritesText contents old new text = Appends (contents old.device) (contents new.device) text × (new.failures ≡ old.failures)
 
 -- The text was written; or a write failed, which was counted.
 abbrev pub Says : {N U : Type 0} → (N → Option (List ℕ)) → Counted N → Counted N → List ℕ → Result U Unsaid → Type 0
-Says contents old new text (Ok _) = Writes contents old new text
+Says contents old new text (Ok _) = WritesText contents old new text
 Says contents old new text (Err _) = Rose old.failures new.failures
 
 -- The text was written or a write failed, where the answer isn't passed on.
 abbrev pub SaysOrFails : {N : Type 0} → (N → Option (List ℕ)) → Counted N → Counted N → List ℕ → Type 0
-SaysOrFails contents old new text = Writes contents old new text ⊎ Rose old.failures new.failures
+SaysOrFails contents old new text = WritesText contents old new text ⊎ Rose old.failures new.failures

@@ -3,14 +3,16 @@
 #![tactic(auto)]
 
 mod lines;
+mod memory;
 mod pieces;
 mod running;
 mod status;
 mod usage;
 
 pub use lines::{say_answer, say_unreadable, say_want_of_memory};
+pub use memory::Memory;
 pub use pieces::Unsaid;
-pub use running::perform;
+pub use running::{perform, perform_in};
 pub use status::Status;
-pub use tds_arguments::{Job, Usage, parse};
+pub use tds_arguments::{Job, Usage, Work, parse};
 pub use usage::say_usage;

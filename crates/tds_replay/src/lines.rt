@@ -1,6 +1,6 @@
 // The lines on standard error.
-ghost use Rattle.std.specs.Prelude.{◌≡◌, ◌≤◌, Ok, length, map};
-ghost use Rattle.tds_replay.specs.Lines.{answer_lines, counts_line, error_line, fault_fields, fault_name as name_of_fault, kind_name as name_of_kind, memory_line, place_number, place_unit, recut_line, recut_lines, shown_byte, status_line, stop_line, unreadable_line, values_line};
+ghost use Rattle.std.specs.Prelude.{◌≡◌, Ok, map};
+ghost use Rattle.tds_replay.specs.Lines.{FitsNotice, answer_lines, counts_line, error_line, fault_fields, fault_name as name_of_fault, kind_name as name_of_kind, memory_line, place_number, place_unit, recut_line, recut_lines, shown_byte, status_line, stop_line, unreadable_line, values_line};
 ghost use Rattle.tds_replay.specs.Saying.{Says};
 
 use crate::pieces::{Piece, Unsaid, say};
@@ -196,7 +196,7 @@ fn say_status<W: Write>(notes: &mut Counted<W>, status: Option<i32>) -> Result<(
 
 // A message as it is printed: control characters are spaces.
 fn shown(message: &[u8]) -> ArrayVec<u8, NOTICE_ROOM>
-    requires { length message.now ≤ NOTICE_ROOM }
+    requires { FitsNotice message.now }
     ensures { result.items ≡ map shown_byte message.now }
 {
     let mut text = ArrayVec::new();
@@ -216,7 +216,7 @@ fn say_error<W: Write>(
     error: &Option<ServerError>,
     message: &[u8],
 ) -> Result<(), Unsaid>
-    requires { length message.now ≤ NOTICE_ROOM }
+    requires { FitsNotice message.now }
     ensures { Says W.contents notes.old notes.new (error_line error.now message.now) result }
 {
     let Some(error) = error else {
@@ -247,7 +247,7 @@ fn say_report<W: Write>(
     report: &Report,
     message: &[u8],
 ) -> Result<(), Unsaid>
-    requires { length message.now ≤ NOTICE_ROOM }
+    requires { FitsNotice message.now }
     ensures { Says W.contents notes.old notes.new (answer_lines (Ok report.now) message.now) result }
 {
     say_counts(notes, report)?;
@@ -262,7 +262,7 @@ pub fn say_answer<W: Write>(
     answer: &Result<Report, Stopped>,
     message: &[u8],
 ) -> Result<(), Unsaid>
-    requires { length message.now ≤ NOTICE_ROOM }
+    requires { FitsNotice message.now }
     ensures { Says W.contents notes.old notes.new (answer_lines answer.now message.now) result }
 {
     match answer {

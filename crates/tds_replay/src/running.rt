@@ -1,57 +1,100 @@
-// Runs a job.
-ghost use Rattle.tds_arguments.specs.Jobs.{IsInRange};
+// Runs a job. What reads and writes is lent areas and has no memory to ask for more.
+ghost use Rattle.std.specs.Prelude.{◌≡◌, IsTrue};
+ghost use Rattle.tds_arguments.specs.Jobs.{IsInRange, IsWorkInRange};
 ghost use Rattle.tds_meter.specs.LimitFaults.{IsMaxWire, IsPacketSize};
-ghost use Rattle.tds_replay.specs.Performing.{Checks, PerformsExport, PerformsJob, PerformsRecut, devices, telling};
+ghost use Rattle.tds_meter.specs.Rooms.{is_intact};
+ghost use Rattle.tds_replay.specs.Asking.{Asks, areas_size, memory_of, packets_size};
+ghost use Rattle.tds_replay.specs.Performing.{Checks, PerformsExport, PerformsJob, PerformsRecut, PerformsWork, Rewrites, RunsExport, devices, telling};
 
 use crate::lines::{say_answer, say_recut_answer, say_want_of_memory};
+use crate::memory::Memory;
 use crate::status::{Status, status_of, status_of_recut};
 use std::alloc::Global;
 use std::io;
 use std::io::{Read, Write};
-use tds_arguments::Job;
+use tds_arguments::{Job, Work};
 use tds_export::{Charset, export};
-use tds_meter::{Area, Areas, GREATEST_PACKET_SIZE, Limits};
+use tds_meter::{Area, Areas, Limits};
 use tds_packet::{Counted, recut};
 
-// Runs an export within the limits.
+// Runs an export over areas.
+fn run_export<R: Read, W: Write, N: Write>(
+    areas: &mut Areas,
+    charset: Charset,
+    from: &mut Counted<R>,
+    to: &mut Counted<W>,
+    notes: &mut Counted<N>,
+) -> Status
+    requires { IsTrue (is_intact areas.old) }
+    ensures { let tell = telling R.remaining W.contents N.contents in
+        RunsExport tell charset areas.old areas.new (devices from.old to.old notes.old)
+        (devices from.new to.new notes.new) result }
+{
+    let answer = export(areas, from, to, charset);
+    let _ = say_answer(notes, &answer, areas.error_text());
+    status_of(&answer)
+}
+
+// Writes the packets of a message in another size, that of the output's room.
+fn run_recut<R: Read, W: Write, N: Write>(
+    input: &mut Area,
+    output: &mut Area,
+    max_wire: u64,
+    from: &mut Counted<R>,
+    to: &mut Counted<W>,
+    notes: &mut Counted<N>,
+) -> Status
+    requires input { input.old.room ≡ 32767 }
+    requires output { IsPacketSize output.old.room }
+    requires limit { IsMaxWire max_wire }
+    ensures { let tell = telling R.remaining W.contents N.contents in
+        Rewrites tell output.old.room max_wire (devices from.old to.old notes.old)
+        (devices from.new to.new notes.new) result }
+{
+    let answer = recut(from, to, input, output, max_wire);
+    let _ = say_recut_answer(notes, &answer);
+    status_of_recut(&answer)
+}
+
+// Asks for the areas of an export, and runs it.
 fn perform_export<R: Read, W: Write, N: Write>(
-    alloc: Global,
+    memory: &mut Memory,
     limits: Limits,
     charset: Charset,
     from: &mut Counted<R>,
     to: &mut Counted<W>,
     notes: &mut Counted<N>,
 ) -> Status
-    ensures { let tell = telling R.remaining W.contents N.contents in
+    ensures asks { Asks memory.old memory.new (areas_size limits) }
+    ensures performs { let tell = telling R.remaining W.contents N.contents in
         PerformsExport tell charset limits (devices from.old to.old notes.old)
         (devices from.new to.new notes.new) result }
 {
-    let Ok(mut areas) = Areas::new(alloc, limits) else {
+    let Ok(mut areas) = memory.areas(limits) else {
         let _ = say_want_of_memory(notes);
         return Status::WantOfMemory;
     };
-    let answer = export(&mut areas, from, to, charset);
-    let _ = say_answer(notes, &answer, areas.error_text());
-    status_of(&answer)
+    run_export(&mut areas, charset, from, to, notes)
 }
 
-// Runs an export to a writer of its own.
+// Performs an export to a writer of its own.
 fn perform_check<R: Read, N: Write>(
-    alloc: Global,
+    memory: &mut Memory,
     limits: Limits,
     charset: Charset,
     from: &mut Counted<R>,
     notes: &mut Counted<N>,
 ) -> Status
-    ensures { Checks R.remaining N.contents charset limits from.old from.new notes.old notes.new result }
+    ensures asks { Asks memory.old memory.new (areas_size limits) }
+    ensures checks { Checks R.remaining N.contents charset limits from.old from.new notes.old notes.new result }
 {
     let mut own = Counted::new(io::sink());
-    perform_export(alloc, limits, charset, from, &mut own, notes)
+    perform_export(memory, limits, charset, from, &mut own, notes)
 }
 
-// Writes the packets of a message in another size.
+// Asks for the areas of a recut, and runs it.
 fn perform_recut<R: Read, W: Write, N: Write>(
-    alloc: Global,
+    memory: &mut Memory,
     packet_size: u16,
     max_wire: u64,
     from: &mut Counted<R>,
@@ -60,26 +103,53 @@ fn perform_recut<R: Read, W: Write, N: Write>(
 ) -> Status
     requires size { IsPacketSize packet_size }
     requires limit { IsMaxWire max_wire }
-    ensures { let tell = telling R.remaining W.contents N.contents in
+    ensures asks { Asks memory.old memory.new (packets_size packet_size) }
+    ensures performs { let tell = telling R.remaining W.contents N.contents in
         PerformsRecut tell packet_size max_wire (devices from.old to.old notes.old)
         (devices from.new to.new notes.new) result }
 {
-    let input = Area::new(alloc, usize::from(GREATEST_PACKET_SIZE));
-    let output = Area::new(alloc, usize::from(packet_size));
-    let (Ok(mut input), Ok(mut output)) = (input, output) else {
+    let Ok((mut input, mut output)) = memory.packets(packet_size) else {
         let _ = say_want_of_memory(notes);
         return Status::WantOfMemory;
     };
-    let answer = recut(from, to, &mut input, &mut output, max_wire);
-    let _ = say_recut_answer(notes, &answer);
-    status_of_recut(&answer)
+    run_recut(&mut input, &mut output, max_wire, from, to, notes)
 }
 
-/// Runs a job from the reader to the writer, with its lines to the notes, and answers the exit
+/// Runs a job's work from the reader to the writer, with its lines to the notes, and answers the exit
 /// status: 0 where it is done, 3 where it is done and the server reported an error, 4 after a fault
 /// of the input, 5 after a fault of a device, 6 for want of memory. A check leaves the writer alone.
-/// All memory is taken before the first read. A failed write of the notes changes no status. The
-/// file that the job names is opened by the caller.
+/// A failed write of the notes changes no status.
+///
+/// The areas of the work are asked for before the first read, and nothing else is asked for, whatever
+/// the status: what reads and writes has no allocator. Where they are refused, nothing is read.
+pub fn perform_in<R: Read, W: Write, N: Write>(
+    memory: &mut Memory,
+    work: Work,
+    from: &mut Counted<R>,
+    to: &mut Counted<W>,
+    notes: &mut Counted<N>,
+) -> u8
+    requires { IsWorkInRange work }
+    ensures asks { Asks memory.old memory.new (memory_of work) }
+    ensures performs { let tell = telling R.remaining W.contents N.contents in
+        PerformsWork tell work (devices from.old to.old notes.old) (devices from.new to.new notes.new) result }
+{
+    match work {
+        Work::Export { limits, charset } => {
+            perform_export(memory, limits, charset, from, to, notes).number()
+        }
+        Work::Check { limits, charset } => {
+            perform_check(memory, limits, charset, from, notes).number()
+        }
+        Work::Recut {
+            packet_size,
+            max_wire,
+        } => perform_recut(memory, packet_size, max_wire, from, to, notes).number(),
+    }
+}
+
+/// Runs a job as [`perform_in`] does its work, in memory of this allocator. The file that the job names
+/// is opened by the caller.
 pub fn perform<R: Read, W: Write, N: Write>(
     alloc: Global,
     job: &Job,
@@ -91,21 +161,5 @@ pub fn perform<R: Read, W: Write, N: Write>(
     ensures { let tell = telling R.remaining W.contents N.contents in
         PerformsJob tell job.now (devices from.old to.old notes.old) (devices from.new to.new notes.new) result }
 {
-    match job {
-        Job::Export {
-            limits,
-            charset,
-            ..
-        } => perform_export(alloc, *limits, *charset, from, to, notes).number(),
-        Job::Check {
-            limits,
-            charset,
-            ..
-        } => perform_check(alloc, *limits, *charset, from, notes).number(),
-        Job::Recut {
-            packet_size,
-            max_wire,
-            ..
-        } => perform_recut(alloc, *packet_size, *max_wire, from, to, notes).number(),
-    }
+    perform_in(&mut Memory::new(alloc), job.work(), from, to, notes)
 }

@@ -24,9 +24,10 @@ use Rattle.tds_rows.proofs.CellSteps.{fixed_some, scalar_shape}
 use Rattle.tds_rows.proofs.RowSteps.{ReadsCell, at_once_breaks, at_once_streams}
 use Rattle.tds_rows.specs.declared.Charset.{Charset}
 use Rattle.tds_rows.specs.Cells.{CellPart, Null, ScalarBytes, ScalarCell, ScalarLength, WholeCell, cell, cell_start, shape, shape_of_length, unless, value_part}
-use Rattle.tds_rows.specs.CellSteps.{HasInt4, IsScalarLeft, IsValueText, int4_kind, length_behind, start_behind, value_length, value_start, PutsCell, StopsCell}
+use Rattle.tds_rows.specs.CellSteps.{HasInt4, IsScalarLeft, IsValueText, int4_kind, length_after, start_after, value_length, value_start}
 use Rattle.tds_rows.specs.WholeCells.{WritesCell}
 use Rattle.tds_csv.specs.Quoting.{in_line}
+use Rattle.tds_rows.proofs.CellWords.{PutsCell, StopsCell}
 
 -- a value that is read has a length that is allowed
 read_allowed : (kind : Kind) (bytes : List ℕ) (value : ScalarValue) → read_of kind bytes ≡ Ok value → is_length_allowed kind (length bytes) ≡ true
@@ -104,14 +105,14 @@ module _ (charset : Charset) (kind : Kind) (column : ℕ) (last : Bool) (bytes t
     where
       go : (o : Option ℕ) → fixed_length kind ≡ o → WritesCell (cell_start kind (shape charset kind)) column last (take (start + n) bytes) text
       go (Some m) e =
-          let none : start ≡ 0 = at ∙ ap start_behind e in
-          let all : n ≡ m = many ∙ ap (λ o. length_behind o bytes) e in
+          let none : start ≡ 0 = at ∙ ap start_after e in
+          let all : n ≡ m = many ∙ ap (λ o. length_after o bytes) e in
           subst (λ s. WritesCell (cell_start kind s) column last (take (start + n) bytes) text) (ap shape_of_length (sym e) ∙ sym (scalar_shape charset kind scalar))
           (subst (λ (k : ℕ). WritesCell (ScalarBytes kind m) column last (take k bytes) text) (omega (arith, none, all)) (fixed_written column kind m last bytes text (omega (arith, some, all)) (omega (arith, within, none, all))
           (subst (λ (k : ℕ). IsValueText kind column last (take k bytes) text) all (subst (λ (k : ℕ). IsValueText kind column last (take n (drop k bytes)) text) none is))))
       go None e =
-          let one : start ≡ 1 = at ∙ ap start_behind e in
-          let first : slice_index bytes 0 ≡ n = sym (ap (λ o. length_behind o bytes) e) ∙ sym many in
+          let one : start ≡ 1 = at ∙ ap start_after e in
+          let first : slice_index bytes 0 ≡ n = sym (ap (λ o. length_after o bytes) e) ∙ sym many in
           subst (λ s. WritesCell (cell_start kind s) column last (take (start + n) bytes) text) (ap shape_of_length (sym e) ∙ sym (scalar_shape charset kind scalar))
           (subst (λ (k : ℕ). WritesCell (ScalarLength kind) column last (take k bytes) text) (omega (arith, one)) (counted_written column kind n last bytes text first some (omega (arith, within, one))
           (subst (λ (k : ℕ). IsValueText kind column last (take n (drop k bytes)) text) one is)))
@@ -124,8 +125,8 @@ int4_cell charset start column last bytes text most h x = grind (arith, value_ce
 -- a cell whose value is refused is left
 pub refused_left : (kind : Kind) (bytes : List ℕ) (start n : ℕ) → start ≡ value_start kind → n ≡ value_length kind bytes → n ≢ 0 → is_ok (read_of kind (take ((start + n) - start) (drop start bytes))) ≡ false → IsScalarLeft kind bytes
 refused_left kind bytes start n at many some bad =
-    let behind : (start + n) - start ≡ value_length kind bytes = omega (arith, many) in
-    inr (omega (arith, some, many), subst (λ (m : ℕ). is_ok (read_of kind (take (value_length kind bytes) (drop m bytes))) ≡ false) at (subst (λ (m : ℕ). is_ok (read_of kind (take m (drop start bytes))) ≡ false) behind bad))
+    let after : (start + n) - start ≡ value_length kind bytes = omega (arith, many) in
+    inr (omega (arith, some, many), subst (λ (m : ℕ). is_ok (read_of kind (take (value_length kind bytes) (drop m bytes))) ≡ false) at (subst (λ (m : ℕ). is_ok (read_of kind (take m (drop start bytes))) ≡ false) after bad))
 
 -- bytes that are a cell were read
 pub cell_reads : (from : CellPart) (column : ℕ) (last : Bool) (a b : Seen) (place place' : ℕ) (bytes text : List ℕ) → WritesCell from column last bytes text → Takes a b bytes (length bytes) → IsBetween b → place' ≡ place + length bytes
@@ -142,8 +143,8 @@ module _ (h j : Held) (room written : List ℕ) (n : ℕ) (whole : length writte
   before : take n lent ≡ h.waiting
   before = ap (λ k. take k lent) at ∙ spare_before h.waiting room written whole
 
-  behind : drop n lent ≡ written
-  behind = ap (λ k. drop k lent) at ∙ spare_written h.waiting room written whole
+  after : drop n lent ≡ written
+  after = ap (λ k. drop k lent) at ∙ spare_written h.waiting room written whole
 
   abbrev lent_held : Held
   lent_held = record h { waiting = take n lent }
@@ -153,7 +154,7 @@ module _ (h j : Held) (room written : List ℕ) (n : ℕ) (whole : length writte
 
   -- the text of a cell that was written there was put
   pub kept_text : {U : Type 0} (r : Result U Stop) (made : ℕ) → MatchResult r (λ _. Puts lent_held j (take made (drop n lent))) (λ stop. Breaks lent_held j (take made (drop n lent)) stop) → MatchResult r (λ _. Puts h j (take made written)) (λ stop. Breaks h j (take made written) stop)
-  kept_text r made x = grind (arith, behind, same)
+  kept_text r made x = grind (arith, after, same)
 
 -- a cell whose text comes at once was read, and the text put, or a write of it failed
 pub puts_cell : {U : Type 0} (r : Result U Stop) (charset : Charset) (kind : Kind) (column : ℕ) (last : Bool) (a b : Seen) (place place' : ℕ) (h j : Held) (failed : Bool) (text : List ℕ) → h.delivered ≤ 2 ^ 64 - 1 → length h.waiting < 4096 → failed ≡ (if is_ok r then false else true)

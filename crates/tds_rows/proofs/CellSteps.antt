@@ -20,7 +20,7 @@ use Rattle.tds_columns.specs.Elements.{EndsInto, TakesInto}
 use Rattle.tds_csv.specs.Conversion.{Conversion}
 use Rattle.tds_rows.specs.declared.Charset.{Charset}
 use Rattle.tds_rows.specs.Cells.{CellPart, LongShape, Null, ScalarBytes, ScalarLength, WholeCell, cell, cell_end, cell_size, cell_start, shape, shape_of_length, unless}
-use Rattle.tds_rows.specs.CellSteps.{GathersCell, IsScalarLeft, StallsCell, length_behind, start_behind, value_bytes, value_start}
+use Rattle.tds_rows.specs.CellSteps.{GathersCell, IsScalarLeft, StallsCell, length_after, start_after, value_bytes, value_start}
 
 -- a kind's shape is that of its length, or that of a long one
 abbrev pub ShapeCases : Charset → Kind → Type 0
@@ -61,13 +61,13 @@ value_stalls column kind n a b place bytes some whole bad takes between = cell_s
 pub fixed_gathers : (column : ℕ) (kind : Kind) (n : ℕ) (a b : Seen) (place place' : ℕ) (bytes : List ℕ) → fixed_length kind ≡ Some n → length bytes ≡ n → Takes a b bytes (length bytes) → IsBetween b → place' ≡ place + length bytes
     → GathersCell kind (ScalarBytes kind n) column a b place place' bytes
 fixed_gathers column kind n a b place place' bytes is whole takes between at = record {
-  whole = omega (arith, whole, ap start_behind is, ap (λ o. length_behind o bytes) is);
+  whole = omega (arith, whole, ap start_after is, ap (λ o. length_after o bytes) is);
   takes = takes;
   between = between;
   place_is = at;
   refused = λ some bad.
-      let all : value_bytes kind bytes ≡ bytes = (λ i. take (length_behind (is i) bytes) (drop (start_behind (is i)) bytes)) ∙ take_all n bytes (omega (arith, whole)) in
-      subst (λ (k : ℕ). StallsCell (ScalarBytes kind n) column a b place (record { fault = BadValue column; place = Payload k })) (omega (arith, ap start_behind is))
+      let all : value_bytes kind bytes ≡ bytes = (λ i. take (length_after (is i) bytes) (drop (start_after (is i)) bytes)) ∙ take_all n bytes (omega (arith, whole)) in
+      subst (λ (k : ℕ). StallsCell (ScalarBytes kind n) column a b place (record { fault = BadValue column; place = Payload k })) (omega (arith, ap start_after is))
       (value_stalls column kind n a b place bytes (fixed_some kind n is) whole (ap (λ l. is_ok (read_of kind l)) (sym all) ∙ bad) takes between);
 }
 
@@ -118,13 +118,13 @@ counted_cut column kind n a b d place middle bytes part own stop len is some goo
 pub counted_gathers : (column : ℕ) (kind : Kind) (n : ℕ) (a b d : Seen) (place middle place' : ℕ) (value : List ℕ) → fixed_length kind ≡ None → n ≢ 0 → is_length_allowed kind n ≡ true → Takes a b (n ∷ []) 1 → middle ≡ place + 1
     → length value ≡ n → Takes b d value (length value) → IsBetween d → place' ≡ middle + length value → GathersCell kind (ScalarLength kind) column a d place place' (n ∷ value)
 counted_gathers column kind n a b d place middle place' value is some good first at whole then_takes between there = record {
-  whole = omega (arith, whole, ap start_behind is, ap (λ o. length_behind o (n ∷ value)) is);
+  whole = omega (arith, whole, ap start_after is, ap (λ o. length_after o (n ∷ value)) is);
   takes = takes_both a b d (n ∷ []) value first then_takes;
   between = between;
   place_is = omega (arith, at, there);
   refused = λ more bad.
-      let all : value_bytes kind (n ∷ value) ≡ value = (λ i. take (length_behind (is i) (n ∷ value)) (drop (start_behind (is i)) (n ∷ value))) ∙ take_all n value (omega (arith, whole)) in
-      let here : middle ≡ place + value_start kind = omega (arith, at, ap start_behind is) in
+      let all : value_bytes kind (n ∷ value) ≡ value = (λ i. take (length_after (is i) (n ∷ value)) (drop (start_after (is i)) (n ∷ value))) ∙ take_all n value (omega (arith, whole)) in
+      let here : middle ≡ place + value_start kind = omega (arith, at, ap start_after is) in
       let stop : ℕ → Stop = λ k. record { fault = BadValue column; place = Payload k } in
       let refusal = value_refused column kind n b d (place + 1) value (omega (arith, some)) whole (ap (λ l. is_ok (read_of kind l)) (sym all) ∙ bad) then_takes between in
       subst (λ (k : ℕ). StallsCell (ScalarLength kind) column a d place (stop k)) (omega (arith, at, here)) (length_then column kind n a b d place (n ∷ []) (stop (place + 1)) refl refl some good first refusal);

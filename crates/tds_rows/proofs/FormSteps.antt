@@ -7,18 +7,18 @@ use lib.Seq.{drop-drop}
 use Rattle.tds_values.specs.declared.kind.Kind.{Kind}
 use Rattle.tds_packet.proofs.Choices.{eq_false, eq_true}
 use Rattle.tds_columns.specs.Description.{Column}
-use Rattle.tds_columns.proofs.ViewLaws.{all_behind}
+use Rattle.tds_columns.proofs.ViewLaws.{all_after}
 use Rattle.tds_csv.specs.Conversion.{Conversion}
-use Rattle.tds_csv.specs.Quoting.{behind_comma, end_behind, in_line}
+use Rattle.tds_csv.specs.Quoting.{after_comma, end_after, in_line}
 use Rattle.tds_rows.specs.declared.Charset.{Charset}
 use Rattle.tds_rows.specs.declared.form.Form.{Form}
 use Rattle.tds_rows.specs.Cells.{cell_start, shape}
-use Rattle.tds_rows.specs.CellSteps.{IsLeft, WritesField, WritesKind, is_last, whole_size}
+use Rattle.tds_rows.specs.CellSteps.{IsLeft, WritesField, WritesKind, is_last_column, whole_size}
 use Rattle.tds_rows.specs.FormRuns.{AreNext, FieldsWritten, FirstUsed, FirstWritten, WritesForms}
 use Rattle.tds_rows.specs.MarkedRuns.{WritesColumn, WritesMarked}
 use Rattle.tds_rows.specs.ShortCells.{IsShortLeft}
 use Rattle.tds_rows.specs.WholeCells.{WritesWhole}
-use Rattle.tds_rows.proofs.LineTexts.{behind_some, behind_append}
+use Rattle.tds_rows.proofs.LineTexts.{after_some_column, after_append}
 use Rattle.tds_rows.proofs.RunSteps.{made_more, used_more}
 use Rattle.tds_rows.proofs.TableSteps.{known_kind, last_one}
 use Rattle.std.proofs.lemmas.Bool.Decides.{nat_tests}
@@ -30,7 +30,7 @@ take_front k n l within fits =
     let split : take n l ≡ take (k + (n - k)) l = ap (λ (m : ℕ). take m l) (omega (arith, within)) in
     ap (take k) (split ∙ take-add k (n - k) l) ∙ take-append-le k (take k l) (take (n - k) (drop k l)) (omega (arith, front)) ∙ take_all k (take k l) (omega (arith, front))
 
-not_last : (rest : List Column) → 0 < length rest → false ≡ is_last rest
+not_last : (rest : List Column) → 0 < length rest → false ≡ is_last_column rest
 not_last rest some = grind arith
 
 module _ (forms : List Form) (ends : Bool) (columns : List Column) (next : AreNext forms ends columns) where
@@ -38,10 +38,10 @@ module _ (forms : List Form) (ends : Bool) (columns : List Column) (next : AreNe
   few = omega (arith, sym (length-map forms (λ f. f.kind)) ∙ ap length next.kinds_are ∙ length-map (take (length forms) columns) (λ c. c.kind), length-take (length forms) columns)
 
   -- the column after this many is the last where the forms say so
-  last_of : (k : ℕ) (c : Column) (rest : List Column) → k < length forms → drop k columns ≡ c ∷ rest → (ends && (k + 1 == length forms)) ≡ is_last rest
+  last_of : (k : ℕ) (c : Column) (rest : List Column) → k < length forms → drop k columns ≡ c ∷ rest → (ends && (k + 1 == length forms)) ≡ is_last_column rest
   last_of k c rest within step = go (length forms == length columns) refl
     where
-      go : (b : Bool) → (length forms == length columns) ≡ b → (ends && (k + 1 == length forms)) ≡ is_last rest
+      go : (b : Bool) → (length forms == length columns) ≡ b → (ends && (k + 1 == length forms)) ≡ is_last_column rest
       go true e = ap (λ v. v && (k + 1 == length forms)) (next.ends_are ∙ e) ∙ last_one columns rest c k (length forms) (eq_true (length forms) (length columns) e) step
       go false e = ap (λ v. v && (k + 1 == length forms)) (next.ends_are ∙ e) ∙ not_last rest (more (eq_false (length forms) (length columns) e))
         where
@@ -67,7 +67,7 @@ module _ (forms : List Form) (ends : Bool) (columns : List Column) (next : AreNe
           column = next_column;
           left = left;
           next = ap (λ (n : ℕ). drop n all) (omega arith) ∙ sym (drop-drop k column all) ∙ ap (drop k) (sym is) ∙ step;
-          writes = subst (λ (q : Kind). WritesWhole (cell_start q (shape charset q)) (column + k) (is_last left) bytes text) kind_is a;
+          writes = subst (λ (q : Kind). WritesWhole (cell_start q (shape charset q)) (column + k) (is_last_column left) bytes text) kind_is a;
         }
 
 -- a form that is there, whatever stands for one that isn't
@@ -86,15 +86,15 @@ module _ (charset : Charset) (forms : List Form) (column : ℕ) (ends : Bool) (c
   abbrev closes : ℕ → Bool
   closes n = ends && (n == length forms)
 
-  one_more : (n : ℕ) (bytes text front rest before field : List ℕ) → n + 1 ≤ length forms → bytes ≡ front ++ rest → text ≡ before ++ behind_comma (column + n) field → WritesMarked charset columns (λ k. false) column n front before
-      → ((form : Form) → WritesField charset (get_or forms n form).kind rest field) → WritesMarked charset columns (λ k. false) column (suc n) bytes (text ++ end_behind (closes (n + 1)))
+  one_more : (n : ℕ) (bytes text front rest before field : List ℕ) → n + 1 ≤ length forms → bytes ≡ front ++ rest → text ≡ before ++ after_comma (column + n) field → WritesMarked charset columns (λ k. false) column n front before
+      → ((form : Form) → WritesField charset (get_or forms n form).kind rest field) → WritesMarked charset columns (λ k. false) column (suc n) bytes (text ++ end_after (closes (n + 1)))
   one_more n bytes text front rest before field few b t w x = (
     front,
     rest,
     before,
     in_line (column + n) (closes (n + 1)) field,
     b,
-    ap (λ l. l ++ end_behind (closes (n + 1))) t ∙ append_assoc before (behind_comma (column + n) field) (end_behind (closes (n + 1))),
+    ap (λ l. l ++ end_after (closes (n + 1))) t ∙ append_assoc before (after_comma (column + n) field) (end_after (closes (n + 1))),
     w,
     next_cell forms ends (drop column columns) next n d (omega (arith, few)) charset columns column rest (in_line (column + n) (closes (n + 1)) field) refl (x d (column + n) (closes (n + 1))),
   )
@@ -103,36 +103,36 @@ module _ (charset : Charset) (forms : List Form) (column : ℕ) (ends : Bool) (c
   not_closed n few = grind (arith, nat_tests)
 
   -- the fields of some cells are their text, with the end of their row
-  pub fields_marked : (n : ℕ) (bytes text : List ℕ) → suc n ≤ length forms → WritesForms charset forms column (suc n) bytes text → WritesMarked charset columns (λ k. false) column (suc n) bytes (text ++ end_behind (closes (suc n)))
+  pub fields_marked : (n : ℕ) (bytes text : List ℕ) → suc n ≤ length forms → WritesForms charset forms column (suc n) bytes text → WritesMarked charset columns (λ k. false) column (suc n) bytes (text ++ end_after (closes (suc n)))
   fields_marked zero bytes text few (front, rest, before, field, b, t, x, y) = one_more zero bytes text front rest before field few b t x y
   fields_marked (suc n) bytes text few (front, rest, before, field, b, t, x, y) =
       let inner = fields_marked n front before (omega (arith, few)) x in
-      let unclosed : before ++ end_behind (closes (suc n)) ≡ before = ap (λ v. before ++ end_behind v) (not_closed (suc n) (omega (arith, few))) ∙ append-nil before in
-      subst (λ (m : ℕ). WritesMarked charset columns (λ k. false) column (suc (suc n)) bytes (text ++ end_behind (closes m))) (let m : suc n + 1 ≡ suc (suc n) = omega arith in m)
+      let unclosed : before ++ end_after (closes (suc n)) ≡ before = ap (λ v. before ++ end_after v) (not_closed (suc n) (omega (arith, few))) ∙ append-nil before in
+      subst (λ (m : ℕ). WritesMarked charset columns (λ k. false) column (suc (suc n)) bytes (text ++ end_after (closes m))) (let m : suc n + 1 ≡ suc (suc n) = omega arith in m)
       (one_more (suc n) bytes text front rest before field (omega (arith, few)) b t (subst (λ l. WritesMarked charset columns (λ k. false) column (suc n) front l) unclosed inner) y)
 
 -- the fields of some cells are the text of a run over them
 pub run_marked : (charset : Charset) (forms : List Form) (column : ℕ) (ends : Bool) (columns : List Column) → AreNext forms ends (drop column columns) → (cells : ℕ) (bytes fields : List ℕ) → 0 < cells → cells ≤ length forms
-    → WritesForms charset forms column cells bytes fields → WritesMarked charset columns (λ k. false) column cells bytes (fields ++ end_behind (ends && (cells == length forms)))
+    → WritesForms charset forms column cells bytes fields → WritesMarked charset columns (λ k. false) column cells bytes (fields ++ end_after (ends && (cells == length forms)))
 run_marked charset forms column ends columns next zero bytes fields some few x = absurd (omega (arith, some))
 run_marked charset forms column ends columns next (suc n) bytes fields some few x = fields_marked charset forms column ends columns next (some_first forms (omega (arith, few))).0 n bytes fields few x
 
 -- a comma stands before what follows it
-comma_then : (n : ℕ) (text : List ℕ) → behind_comma n [] ++ text ≡ behind_comma n text
-comma_then n text = sym (behind_append n [] text)
+comma_then : (n : ℕ) (text : List ℕ) → after_comma n [] ++ text ≡ after_comma n text
+comma_then n text = sym (after_append n [] text)
 
 -- what stands before the comma of the next cell
-pub before_comma : (made column : ℕ) (to fields : List ℕ) → 0 < column → made ≤ length to → take made to ≡ fields ++ behind_comma column [] → take (made - 1) to ≡ fields
+pub before_comma : (made column : ℕ) (to fields : List ℕ) → 0 < column → made ≤ length to → take made to ≡ fields ++ after_comma column [] → take (made - 1) to ≡ fields
 before_comma made column to fields some within is =
-    let comma : take made to ≡ fields ++ 44 ∷ [] = is ∙ ap (λ l. fields ++ l) (sym (behind_some column [] (λ e. omega (arith, e, some)))) in
+    let comma : take made to ≡ fields ++ 44 ∷ [] = is ∙ ap (λ l. fields ++ l) (sym (after_some_column column [] (λ e. omega (arith, e, some)))) in
     let counted : length fields ≡ made - 1 = omega (arith, sym (length-take-le made to within) ∙ ap length comma ∙ length-append fields (44 ∷ [])) in
     let less : made - 1 ≤ made = omega arith in
     sym (take_front (made - 1) made to less within) ∙ ap (take (made - 1)) comma ∙ take-append-le (made - 1) fields (44 ∷ []) (omega (arith, counted)) ∙ take_all (made - 1) fields (omega (arith, counted))
 
 module _ (charset : Charset) (forms : List Form) (column : ℕ) (bytes : List ℕ) where
   -- before the first cell
-  pub fields_none : (start : ℕ) (to : List ℕ) → ((text : List ℕ) → take start to ++ text ≡ behind_comma column text) → FieldsWritten charset forms column bytes to (record { cells = 0; used = 0; made = start })
-  fields_none start to x = ([], (refl, refl), sym (append-nil (take start to)) ∙ x [] ∙ ap (λ (n : ℕ). behind_comma n []) (omega arith))
+  pub fields_none : (start : ℕ) (to : List ℕ) → ((text : List ℕ) → take start to ++ text ≡ after_comma column text) → FieldsWritten charset forms column bytes to (record { cells = 0; used = 0; made = start })
+  fields_none start to x = ([], (refl, refl), sym (append-nil (take start to)) ∙ x [] ∙ ap (λ (n : ℕ). after_comma n []) (omega arith))
 
   -- one cell more
   pub fields_more : (to text rest : List ℕ) (k used u made m : ℕ) (d : Form) → made ≤ length to → m < length text → k < length forms → WritesField charset (get_or forms k d).kind (take u (take (length bytes - used) (drop used bytes))) (take m text)
@@ -142,23 +142,23 @@ module _ (charset : Charset) (forms : List Form) (column : ℕ) (bytes : List �
       let field = take m text in
       let all = take made to ++ (text ++ rest) in
       let here : made + m < length all = omega (arith, some, length-append (take made to) (text ++ rest), length-append text rest, length-take-le made to within) in
-      let is' : take (made + m + 1) (slice_set all (made + m) 44) ≡ (fields ++ behind_comma (column + k) field) ++ behind_comma (column + (k + 1)) [] =
-      take_more_set all (made + m) 44 here ∙ ap (λ l. l ++ 44 ∷ []) (made_more made m to text rest within (omega (arith, some)) ∙ ap (λ l. l ++ field) is ∙ append_assoc fields (behind_comma (column + k) []) field ∙ ap (λ l. fields ++ l) (comma_then (column + k) field))
-      ∙ ap (λ l. (fields ++ behind_comma (column + k) field) ++ l) (behind_some (column + (k + 1)) [] (λ e. omega (arith, e))) in
-      let written : WritesForms charset forms column (suc k) (take (used + u) bytes) (fields ++ behind_comma (column + k) field) = (take used bytes, read, fields, field, used_more used u bytes, refl, x, λ form. subst (λ (f : Form). WritesField charset f.kind read field) (same_form forms k d form there) wrote) in
-      (fields ++ behind_comma (column + k) field, subst (λ (n : ℕ). WritesForms charset forms column n (take (used + u) bytes) (fields ++ behind_comma (column + k) field)) (let n : suc k ≡ k + 1 = omega arith in n) written, is')
+      let is' : take (made + m + 1) (slice_set all (made + m) 44) ≡ (fields ++ after_comma (column + k) field) ++ after_comma (column + (k + 1)) [] =
+      take_more_set all (made + m) 44 here ∙ ap (λ l. l ++ 44 ∷ []) (made_more made m to text rest within (omega (arith, some)) ∙ ap (λ l. l ++ field) is ∙ append_assoc fields (after_comma (column + k) []) field ∙ ap (λ l. fields ++ l) (comma_then (column + k) field))
+      ∙ ap (λ l. (fields ++ after_comma (column + k) field) ++ l) (after_some_column (column + (k + 1)) [] (λ e. omega (arith, e))) in
+      let written : WritesForms charset forms column (suc k) (take (used + u) bytes) (fields ++ after_comma (column + k) field) = (take used bytes, read, fields, field, used_more used u bytes, refl, x, λ form. subst (λ (f : Form). WritesField charset f.kind read field) (same_form forms k d form there) wrote) in
+      (fields ++ after_comma (column + k) field, subst (λ (n : ℕ). WritesForms charset forms column n (take (used + u) bytes) (fields ++ after_comma (column + k) field)) (let n : suc k ≡ k + 1 = omega arith in n) written, is')
 
   -- the bytes of the first cell were used
   pub first_used : (used u k : ℕ) (d : Form) → k ≡ 0 → used ≡ 0 → u ≡ whole_size (get_or forms k d).kind (take (length bytes - used) (drop used bytes)) → FirstUsed forms bytes (used + u)
-  first_used used u k d first none size form others are = grind (arith, all_behind)
+  first_used used u k d first none size form others are = grind (arith, all_after)
 
   -- the first alone
-  pub first_alone : (ends : Bool) (to : List ℕ) (used made : ℕ) (fields : List ℕ) → FirstUsed forms bytes used → WritesForms charset forms column 1 (take used bytes) fields → take made to ≡ fields ++ end_behind (ends && (1 == length forms))
+  pub first_alone : (ends : Bool) (to : List ℕ) (used made : ℕ) (fields : List ℕ) → FirstUsed forms bytes used → WritesForms charset forms column 1 (take used bytes) fields → take made to ≡ fields ++ end_after (ends && (1 == length forms))
       → FirstWritten charset forms column ends bytes to (record { cells = 1; used = used; made = made })
   first_alone ends to used made fields size (front, rest, before, field, b, t, x, y) is = λ form others are.
       let last = ends && (1 == length forms) in
       let read : rest ≡ take used bytes = sym (b ∙ ap (λ l. l ++ rest) x.0) in
-      let text : in_line column last field ≡ take made to = ap (λ l. l ++ end_behind last) (ap (λ (n : ℕ). behind_comma n field) (let n : column ≡ column + 0 = omega arith in n) ∙ sym (t ∙ ap (λ l. l ++ behind_comma (column + 0) field) x.1)) ∙ sym is in
+      let text : in_line column last field ≡ take made to = ap (λ l. l ++ end_after last) (ap (λ (n : ℕ). after_comma n field) (let n : column ≡ column + 0 = omega arith in n) ∙ sym (t ∙ ap (λ l. l ++ after_comma (column + 0) field) x.1)) ∙ sym is in
       let kind_is : (get_or forms 0 form).kind ≡ form.kind = ap (λ (l : List Form). (get_or l 0 form).kind) are in
       record {
         size = size form others are;

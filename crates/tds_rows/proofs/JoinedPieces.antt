@@ -9,13 +9,13 @@ use Rattle.tds_packet.specs.declared.fault.Stop.{Stop}
 use Rattle.tds_packet.specs.Seen.{Seen, Takes, IsBetween}
 use Rattle.tds_packet.proofs.Futures.{Takes-more, Takes-none}
 use Rattle.tds_packet.proofs.Steps.{takes_both}
-use Rattle.tds_csv.specs.Conversion.{Begins, Conversion, IsFit, Suits, closing, conversion_rest, conversion_text}
+use Rattle.tds_csv.specs.Conversion.{BeginsData, Conversion, IsFit, Suits, closing, conversion_rest, conversion_text}
 use Rattle.tds_csv.specs.Joining.{emit, settled}
 use Rattle.tds_csv.specs.declared.joiners.JoinFault.{JoinFault}
 use Rattle.tds_csv.specs.declared.joiners.JoinFault.TheVariants.{Odd, Stopped}
 use Rattle.tds_csv.specs.declared.joiners.JoinFault.TheVariants as join_faults
 use Rattle.tds_csv.specs.Pushing.{Completes, EndsBy, LeavesPart, Pushes, TakesPiece, TakesUpTo, is_stopped}
-use Rattle.tds_csv.specs.Quoting.{end_behind}
+use Rattle.tds_csv.specs.Quoting.{end_after}
 use Rattle.tds_csv.specs.declared.sink.Sink.{Sink}
 use Rattle.tds_csv.specs.Sinks.{Breaks, Held, Puts, PutsPiece, held}
 use Rattle.tds_csv.proofs.Begun.{begun_front}
@@ -33,12 +33,12 @@ module _ (fit begins : List ℕ → Type 0) (rest text : List ℕ → List ℕ) 
   emit_suits : (l : List ℕ) → emit rest text l ≡ emit (conversion_rest c) (conversion_text c) l
   emit_suits l = suits.text_is (settled rest l) ∙ ap (λ r. conversion_text c (take (length l - length r) l)) (suits.rest_is l)
 
-  module _ (content old : List ℕ) (is : old ≡ conversion_rest c content) (begun : Begins c content) where
+  module _ (content old : List ℕ) (is : old ≡ conversion_rest c content) (begun : BeginsData c content) where
     added_is : (piece : List ℕ) → emit rest text (old ++ piece) ≡ added_text c content piece
     added_is piece = emit_suits (old ++ piece) ∙ ap (λ o. emit (conversion_rest c) (conversion_text c) (o ++ piece)) is
 
-    begun_with : (piece : List ℕ) → begins (old ++ piece) → Begins c (content ++ piece)
-    begun_with piece h = (joins_by_name c).outward content piece (subst (λ o. Begins c (o ++ piece)) is ((suits.begins_is (old ++ piece)).0 h))
+    begun_with : (piece : List ℕ) → begins (old ++ piece) → BeginsData c (content ++ piece)
+    begun_with piece h = (joins_by_name c).outward content piece (subst (λ o. BeginsData c (o ++ piece)) is ((suits.begins_is (old ++ piece)).0 h))
 
     -- a piece was taken
     pub piece_taken : (new piece : List ℕ) (a b : Seen) (place place' : ℕ) (h i : Held) → 0 < length piece → Takes a b piece 1 → IsBetween b → place' ≡ place + length piece → TakesPiece begins rest text old new h i piece
@@ -78,8 +78,8 @@ module _ (fit begins : List ℕ → Type 0) (rest text : List ℕ → List ℕ) 
           between = between;
           begun = begun_with good x.good.begun;
           no_text = λ so.
-              let inward : Begins c (conversion_rest c content ++ (good ++ bad ∷ [])) = (joins_by_name c).inward content (good ++ bad ∷ []) (subst (Begins c) (append_assoc content good (bad ∷ [])) so) in
-              let there : Begins c (old ++ take (k + 1) piece) = subst (λ l. Begins c (old ++ l)) (sym next) (subst (λ o. Begins c (o ++ (good ++ bad ∷ []))) (sym is) inward) in
+              let inward : BeginsData c (conversion_rest c content ++ (good ++ bad ∷ [])) = (joins_by_name c).inward content (good ++ bad ∷ []) (subst (BeginsData c) (append_assoc content good (bad ∷ [])) so) in
+              let there : BeginsData c (old ++ take (k + 1) piece) = subst (λ l. BeginsData c (old ++ l)) (sym next) (subst (λ o. BeginsData c (o ++ (good ++ bad ∷ []))) (sym is) inward) in
               x.bad ((suits.begins_is (old ++ take (k + 1) piece)).1 there);
           puts = subst (Puts h i) (added_is good) x.good.put;
           stop_is = ap (λ n. record { fault = BadText column; place = Payload (place + n) }) (sym len);
@@ -97,7 +97,7 @@ module _ (fit begins : List ℕ → Type 0) (rest text : List ℕ → List ℕ) 
           within = omega (arith, length-take-le f.taken piece within, within, short);
           takes = subst (λ l. Takes a b l 1) (sym (take-append-drop f.taken piece)) takes;
           between = between;
-          begun = (joins_by_name c).outward content good (subst (λ o. Begins c (o ++ good)) is f.begun);
+          begun = (joins_by_name c).outward content good (subst (λ o. BeginsData c (o ++ good)) is f.begun);
           breaks = subst (λ l. Breaks h i l stop) (emit_suits (old ++ piece) ∙ sym f.same ∙ ap (λ o. emit (conversion_rest c) (conversion_text c) (o ++ good)) is) breaks;
         }
 
@@ -130,7 +130,7 @@ module _ (fit begins : List ℕ → Type 0) (rest text : List ℕ → List ℕ) 
         → StopsEnding c quoted last content column place h i after (join_stop column place fault)
     end_stops new column place unit' last h i before after (Stopped stop) going failed x =
         let y = end_breaks h i stop (x going) in
-        inl (y.0, Breaks-longer h i (conversion_text c (conversion_rest c content)) (closing quoted ++ end_behind last) stop y.1, failed)
+        inl (y.0, Breaks-longer h i (conversion_text c (conversion_rest c content)) (closing quoted ++ end_after last) stop y.1, failed)
     end_stops new column place unit' last h i before after Odd going failed x = inr (end_part new h i x.0, x.0.put, ap (λ n. record { fault = BadText column; place = Payload n }) (omega arith), failed)
     end_stops new column place unit' last h i before after (join_faults.BadText k) going failed x = inr (end_part new h i x.0, x.0.put, ap (λ n. record { fault = BadText column; place = Payload n }) (omega (arith, x.2)), failed)
 
@@ -140,22 +140,22 @@ good_within begins rest text old new h i failed piece fault x = grind arith
 
 -- ---- piece after piece
 
-module _ (c : Conversion) (content : List ℕ) (begun : Begins c content) where
+module _ (c : Conversion) (content : List ℕ) (begun : BeginsData c content) where
   added_none : added_text c content [] ≡ []
   added_none =
       let e = emit (conversion_rest c) (conversion_text c) in
       append_cancel_left (e content) (added_text c content []) []
-      (sym ((joins_by_name c).emits content [] (subst (Begins c) (sym (append-nil content)) begun)) ∙ ap e (append-nil content) ∙ sym (append-nil (e content)))
+      (sym ((joins_by_name c).emits content [] (subst (BeginsData c) (sym (append-nil content)) begun)) ∙ ap e (append-nil content) ∙ sym (append-nil (e content)))
 
-  added_both : (more piece : List ℕ) → Begins c ((content ++ more) ++ piece) → added_text c content more ++ added_text c (content ++ more) piece ≡ added_text c content (more ++ piece)
+  added_both : (more piece : List ℕ) → BeginsData c ((content ++ more) ++ piece) → added_text c content more ++ added_text c (content ++ more) piece ≡ added_text c content (more ++ piece)
   added_both more piece all =
       let e = emit (conversion_rest c) (conversion_text c) in
       let laws = joins_by_name c in
       let regroup : (content ++ more) ++ piece ≡ content ++ (more ++ piece) = append_assoc content more piece in
-      let front : Begins c (content ++ more) = laws.front (content ++ more) piece all in
+      let front : BeginsData c (content ++ more) = laws.front (content ++ more) piece all in
       append_cancel_left (e content) (added_text c content more ++ added_text c (content ++ more) piece) (added_text c content (more ++ piece))
       (sym (append_assoc (e content) (added_text c content more) (added_text c (content ++ more) piece)) ∙ ap (λ l. l ++ added_text c (content ++ more) piece) (sym (laws.emits content more front)) ∙ sym (laws.emits (content ++ more) piece all)
-      ∙ ap e regroup ∙ laws.emits content (more ++ piece) (subst (Begins c) regroup all))
+      ∙ ap e regroup ∙ laws.emits content (more ++ piece) (subst (BeginsData c) regroup all))
 
   -- nothing was read
   pub fills_none : (a : Seen) (place : ℕ) (h : Held) → IsBetween a → length h.waiting < 4096 → h.delivered ≤ 2 ^ 64 - 1 → FillsData c content a a place place h h []
@@ -163,7 +163,7 @@ module _ (c : Conversion) (content : List ℕ) (begun : Begins c content) where
     takes = Takes-none a 0;
     between = between;
     place_is = omega arith;
-    begun = subst (Begins c) (sym (append-nil content)) begun;
+    begun = subst (BeginsData c) (sym (append-nil content)) begun;
     puts = subst (Puts h h) (sym added_none) (Puts-none h delivered);
     few = few;
     delivered = delivered;
@@ -178,7 +178,7 @@ module _ (c : Conversion) (content : List ℕ) (begun : Begins c content) where
         takes = takes_both a b d more x.piece p.takes (Takes-more b d x.piece 1 (length x.piece) (omega (arith, some, x.counted)) x.takes);
         between = x.between;
         place_is = omega (arith, p.place_is, x.place_is, x.counted, length-append more x.piece);
-        begun = subst (Begins c) (append_assoc content more x.piece) x.begun;
+        begun = subst (BeginsData c) (append_assoc content more x.piece) x.begun;
         puts = subst (Puts h j) (added_both more x.piece x.begun) (Puts-trans h i j (added_text c content more) (added_text c (content ++ more) x.piece) p.puts x.puts);
         few = few;
         delivered = delivered;
@@ -191,7 +191,7 @@ pub record Filled (c : Conversion) (content kept : List ℕ) (a b : Seen) (place
   pub counted : length more + left ≡ n
   pub kept_is : kept ≡ conversion_rest c (content ++ more)
 
-module _ (c : Conversion) (content : List ℕ) (begun : Begins c content) (n : ℕ) where
+module _ (c : Conversion) (content : List ℕ) (begun : BeginsData c content) (n : ℕ) where
   pub filled_none : (kept : List ℕ) (a : Seen) (place : ℕ) (h : Held) → kept ≡ conversion_rest c content → IsBetween a → length h.waiting < 4096 → h.delivered ≤ 2 ^ 64 - 1 → Filled c content kept a a place place h h n n
   filled_none kept a place h is between few delivered = record {
     more = [];
@@ -227,6 +227,6 @@ module _ (c : Conversion) (content : List ℕ) (begun : Begins c content) (n : �
 
 -- the end of content that is whole was put, or a write of it failed
 pub end_puts : {W U : Type 0} (contents : W → Option (List ℕ)) (c : Conversion) (quoted last : Bool) (content : List ℕ) (column place : ℕ) (a b d : Sink W) (r : Result U Stop)
-    → IsFit c content × Puts (held contents a) (held contents b) (conversion_text c (conversion_rest c content)) → b.failed ≡ false → PutsPiece contents b d (closing quoted ++ end_behind last) r → EndPut contents c quoted last content column place a d r
-end_puts contents c quoted last content column place a b d (Ok u) x going y = (x.0, Puts-trans (held contents a) (held contents b) (held contents d) (conversion_text c (conversion_rest c content)) (closing quoted ++ end_behind last) x.1 y.gives)
-end_puts contents c quoted last content column place a b d (Err e) x going y = inl (x.0, Breaks-after (held contents a) (held contents b) (held contents d) (conversion_text c (conversion_rest c content)) (closing quoted ++ end_behind last) e x.1 (y.gives going), y.failed)
+    → IsFit c content × Puts (held contents a) (held contents b) (conversion_text c (conversion_rest c content)) → b.failed ≡ false → PutsPiece contents b d (closing quoted ++ end_after last) r → EndPut contents c quoted last content column place a d r
+end_puts contents c quoted last content column place a b d (Ok u) x going y = (x.0, Puts-trans (held contents a) (held contents b) (held contents d) (conversion_text c (conversion_rest c content)) (closing quoted ++ end_after last) x.1 y.gives)
+end_puts contents c quoted last content column place a b d (Err e) x going y = inl (x.0, Breaks-after (held contents a) (held contents b) (held contents d) (conversion_text c (conversion_rest c content)) (closing quoted ++ end_after last) e x.1 (y.gives going), y.failed)

@@ -16,7 +16,7 @@ use Rattle.tds_rows.specs.declared.form.Form.{Form}
 use Rattle.tds_rows.specs.declared.form.Layout.{Layout}
 use Rattle.tds_rows.specs.declared.form.Layout.TheVariants.{Short}
 use Rattle.tds_rows.specs.Cells.{LongShape, shape, shape_of_length}
-use Rattle.tds_rows.specs.CellSteps.{length_behind, scalar_size, start_behind, value_length, value_start, whole_size}
+use Rattle.tds_rows.specs.CellSteps.{length_after, scalar_size, start_after, value_length, value_start, whole_size}
 use Rattle.tds_rows.specs.Forms.{AreLaidOut}
 use Rattle.tds_rows.specs.Layouts.{HasValueAt, IsLaidOut, shape_of_layout}
 use Rattle.tds_rows.specs.ShortCells.{short_size}
@@ -36,7 +36,7 @@ laid_set charset forms k f all within is j d here = go (j == k) refl
 
 -- ---- a value that is there
 
-scalar_value : (l : Layout) (o : Option ℕ) (start n : ℕ) (bytes : List ℕ) → shape_of_length o ≡ shape_of_layout l → HasValueAt l bytes start n → (start ≡ start_behind o) × (n ≡ length_behind o bytes)
+scalar_value : (l : Layout) (o : Option ℕ) (start n : ℕ) (bytes : List ℕ) → shape_of_length o ≡ shape_of_layout l → HasValueAt l bytes start n → (start ≡ start_after o) × (n ≡ length_after o bytes)
 scalar_value l o start n bytes e h = grind arith
 
 long_value : (l : Layout) (c : Conversion) (r : Reach) (start n : ℕ) (bytes : List ℕ) → LongShape c r ≡ shape_of_layout l → HasValueAt l bytes start n → ⊥

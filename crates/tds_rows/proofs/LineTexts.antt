@@ -5,23 +5,23 @@ use Rattle.std.proofs.Math.Seq.{take-append-add}
 use Rattle.std.specs.Prelude.{◌==◌}
 use Rattle.std.proofs.lemmas.Bool.{ne_eqb}
 use Rattle.tds_packet.proofs.Choices.{choose_false}
-use Rattle.tds_csv.specs.Quoting.{behind_comma, end_behind, in_line, joined}
+use Rattle.tds_csv.specs.Quoting.{after_comma, end_after, in_line, joined}
 
 -- a field after a comma
-pub behind_some : (column : ℕ) (text : List ℕ) → column ≢ 0 → 44 ∷ text ≡ behind_comma column text
-behind_some column text h = sym (choose_false (column == 0) text (44 ∷ text) (ne_eqb column 0 h))
+pub after_some_column : (column : ℕ) (text : List ℕ) → column ≢ 0 → 44 ∷ text ≡ after_comma column text
+after_some_column column text h = sym (choose_false (column == 0) text (44 ∷ text) (ne_eqb column 0 h))
 
 -- more after a field
-pub behind_append : (column : ℕ) (a b : List ℕ) → behind_comma column (a ++ b) ≡ behind_comma column a ++ b
-behind_append column a b = grind arith
+pub after_append : (column : ℕ) (a b : List ℕ) → after_comma column (a ++ b) ≡ after_comma column a ++ b
+after_append column a b = grind arith
 
 -- one field more
-pub joined_snoc : (fields : List (List ℕ)) (f : List ℕ) → joined fields ++ behind_comma (length fields) f ≡ joined (fields ++ f ∷ [])
+pub joined_snoc : (fields : List (List ℕ)) (f : List ℕ) → joined fields ++ after_comma (length fields) f ≡ joined (fields ++ f ∷ [])
 joined_snoc [] f = refl
 joined_snoc (g ∷ []) f = sym (append_assoc g (44 ∷ []) f)
-joined_snoc (g ∷ h ∷ gs) f = grind (arith, append_assoc, behind_some, (joined_snoc (h ∷ gs) f))
+joined_snoc (g ∷ h ∷ gs) f = grind (arith, append_assoc, after_some_column, (joined_snoc (h ∷ gs) f))
 
 -- a field is written after its comma, and then the end of the line
-pub value_text : (start made n column : ℕ) (last : Bool) (front value rest to field : List ℕ) → start ≤ length front → made ≤ length value → take made value ≡ field → take start front ++ field ≡ behind_comma column field
-    → take n to ≡ take (start + made) (take start front ++ (value ++ rest)) ++ end_behind last → take n to ≡ in_line column last field
+pub value_text : (start made n column : ℕ) (last : Bool) (front value rest to field : List ℕ) → start ≤ length front → made ≤ length value → take made value ≡ field → take start front ++ field ≡ after_comma column field
+    → take n to ≡ take (start + made) (take start front ++ (value ++ rest)) ++ end_after last → take n to ≡ in_line column last field
 value_text start made n column last front value rest to field within some is comma whole = grind (arith, length-take-le, take-append-add, take-append-le)

@@ -12,8 +12,8 @@ use Rattle.tds_packet.proofs.Choices.{choose_false, choose_true}
 use Rattle.tds_packet.proofs.ElementLaws.{Spelt-none}
 use Rattle.tds_packet.proofs.Futures.{Takes-none}
 use Rattle.tds_packet.proofs.Steps.{refused_at_once}
-use Rattle.tds_csv.specs.Conversion.{Begins, Conversion, IsFit, conversion_rest, is_fit, is_quoted, open_field, unit}
-use Rattle.tds_csv.specs.Quoting.{behind_comma, in_line, null_field}
+use Rattle.tds_csv.specs.Conversion.{BeginsData, Conversion, IsFit, conversion_rest, is_fit, is_quoted, open_field, unit}
+use Rattle.tds_csv.specs.Quoting.{after_comma, in_line, null_field}
 use Rattle.tds_csv.specs.declared.sink.Sink.{Sink}
 use Rattle.tds_csv.specs.Sinks.{Breaks, Held, Puts, PutsPiece, held}
 use Rattle.tds_csv.specs.Streaming.{Streams}
@@ -23,10 +23,10 @@ use Rattle.tds_csv.proofs.Streams.{streams_both}
 use Rattle.tds_rows.specs.Cells.{ChunkData, ChunkLength, DataCell, Null, Total, WholeCell, cell, cell_add, cell_fault, is_total, known_total, null_total, unknown_total, unless, within_total}
 use Rattle.tds_rows.specs.CellSteps.{PutsField, StopsField, cell_so_far}
 use Rattle.tds_rows.specs.LongCells.{CutsNumber, EndsData, ReadsNumber, RefusesNumber, StopsEnding, StopsFilling, chunk_length_fault, ending, opening, total_fault}
-use Rattle.tds_rows.specs.PassedCells.{chunk_left}
 use Rattle.tds_rows.proofs.LongSteps.{chunk_holds, ending_text, ends_streams, filling_stops}
 use Rattle.tds_rows.proofs.LongValues.{field_puts, field_stops, none_begins, not_fit, null_puts, number_breaks, number_cut, number_refused, number_streams, number_whole, open_none}
 use Rattle.tds_rows.proofs.CellLaws.{unless_true}
+use Rattle.tds_rows.proofs.CellWords.{chunk_left}
 
 -- ---- the length of a chunk
 
@@ -79,7 +79,7 @@ module _ (column : ℕ) (last : Bool) (c : Conversion) (size : ℕ) (unit_is : s
   pub record Streamed (kept : List ℕ) (sum : ℕ) (a b : Seen) (place place' : ℕ) (h i : Held) : Type 0 where
     pub content : List ℕ
     pub counted : length content ≡ sum
-    pub begun : Begins c content
+    pub begun : BeginsData c content
     pub kept_is : kept ≡ conversion_rest c content
     pub streams : Streams (cell column) (cell_so_far column last) (ChunkLength c total []) a b h i (ChunkLength c total content)
     pub place_is : place' ≡ place + length streams.bytes
@@ -123,7 +123,7 @@ module _ (column : ℕ) (last : Bool) (c : Conversion) (size : ℕ) (unit_is : s
           let tail = ending c (is_quoted c) last x.content in
           field_stops column last (ChunkLength c total []) (ChunkLength c total x.content) a b d place middle h i j failed stop x.streams x.place_is
           (number_breaks column last (ChunkLength c total x.content) 4 b d middle there n (omega arith) refl y (end_judged x.content sum x.counted y.element n y.number none free ∙ unless_true (is_fit c x.content) (BadText column) good) (WholeCell (DataCell c x.content))
-          (to_end x.content sum x.counted y.element n y.number none) i j tail [] failed stop few delivered z.2 (ap (λ l. behind_comma column (open_field c x.content) ++ l) (append-nil tail) ∙ ending_text column c last x.content good) z.1)
+          (to_end x.content sum x.counted y.element n y.number none) i j tail [] failed stop few delivered z.2 (ap (λ l. after_comma column (open_field c x.content) ++ l) (append-nil tail) ∙ ending_text column c last x.content good) z.1)
       chunks_end_stops j failed stop few delivered none (inr z) =
           let unfit : is_fit c x.content ≡ false = not_fit c x.content (is_fit c x.content) refl z.0 in
           let first = end_judged x.content sum x.counted y.element n y.number none free ∙ no_end unfit in
@@ -153,29 +153,29 @@ module _ (column : ℕ) (last : Bool) (c : Conversion) (size : ℕ) (unit_is : s
         abbrev pub to_chunk : Streams (cell column) (cell_so_far column last) (ChunkLength c total x.content) b d i i (chunk_left c total n x.content)
         to_chunk = number_streams column last (ChunkLength c total x.content) 4 b d middle there n (omega arith) refl y chunk_fault_free (chunk_left c total n x.content) chunk_to i i [] chunk_text (Puts-none i delivered)
 
-        abbrev pub behind_length : Streams (cell column) (cell_so_far column last) (ChunkLength c total []) a d h i (chunk_left c total n x.content)
-        behind_length = streams_both (cell column) (cell_so_far column last) (ChunkLength c total []) (ChunkLength c total x.content) (chunk_left c total n x.content) a b d h i i x.streams to_chunk
+        abbrev pub after_length : Streams (cell column) (cell_so_far column last) (ChunkLength c total []) a d h i (chunk_left c total n x.content)
+        after_length = streams_both (cell column) (cell_so_far column last) (ChunkLength c total []) (ChunkLength c total x.content) (chunk_left c total n x.content) a b d h i i x.streams to_chunk
 
-        pub behind_at : there ≡ place + length (x.streams.bytes ++ y.element)
-        behind_at = omega (arith, x.place_is, y.place_is, y.whole, length-append x.streams.bytes y.element)
+        pub after_at : there ≡ place + length (x.streams.bytes ++ y.element)
+        after_at = omega (arith, x.place_is, y.place_is, y.whole, length-append x.streams.bytes y.element)
 
         -- the content of the chunk stopped
         pub chunk_data_stops : (e : Seen) (j : Held) (failed : Bool) (stop : Stop) → StopsFilling c x.content column n d e there i j failed stop → StopsField (ChunkLength c total []) column last a e place h j failed stop
         chunk_data_stops e j failed stop z =
-            field_stops _ _ _ _ a d e _ _ h i j _ _ behind_length behind_at (filling_stops _ _ c (chunk_left c total) (λ _. Unit {0}) n (chunk_holds _ c _ n) _ n d e _ i j _ _ z)
+            field_stops _ _ _ _ a d e _ _ h i j _ _ after_length after_at (filling_stops _ _ c (chunk_left c total) (λ _. Unit {0}) n (chunk_holds _ c _ n) _ n d e _ i j _ _ z)
 
         -- one chunk more was read
         pub streamed_more : (kept' : List ℕ) (e : Seen) (place' : ℕ) (j : Held) → j.delivered ≤ 2 ^ 64 - 1 → EndsData c x.content kept' d e there place' i j n → Streamed kept' (sum + n) a e place place' h j
         streamed_more kept' e place' j most z =
             let all = (x.content ++ z.front) ++ z.takes.piece in
-            let more = ends_streams column last c (chunk_left c total) (λ _. Unit {0}) n (chunk_holds column c total n) x.content kept' n d e there place' i j z j [] tt (append-nil (behind_comma column (open_field c all))) (Puts-none j most) in
+            let more = ends_streams column last c (chunk_left c total) (λ _. Unit {0}) n (chunk_holds column c total n) x.content kept' n d e there place' i j z j [] tt (append-nil (after_comma column (open_field c all))) (Puts-none j most) in
             record {
               content = all;
               counted = omega (arith, x.counted, z.counted, z.takes.counted, length-append (x.content ++ z.front) z.takes.piece, length-append x.content z.front);
               begun = z.takes.begun;
               kept_is = z.takes.kept_is;
-              streams = streams_both (cell column) (cell_so_far column last) (ChunkLength c total []) (chunk_left c total n x.content) (ChunkLength c total all) a d e h i j behind_length more;
-              place_is = omega (arith, behind_at, z.fills.place_is, z.takes.place_is, z.takes.counted, length-append (x.streams.bytes ++ y.element) (z.front ++ z.takes.piece), length-append z.front z.takes.piece);
+              streams = streams_both (cell column) (cell_so_far column last) (ChunkLength c total []) (chunk_left c total n x.content) (ChunkLength c total all) a d e h i j after_length more;
+              place_is = omega (arith, after_at, z.fills.place_is, z.takes.place_is, z.takes.counted, length-append (x.streams.bytes ++ y.element) (z.front ++ z.takes.piece), length-append z.front z.takes.piece);
             }
 
 -- ---- the total
@@ -205,22 +205,22 @@ module _ (column : ℕ) (last : Bool) (c : Conversion) (size : ℕ) (unit_is : s
     total_null_puts contents null h k r few delivered going puts = null_puts column last contents (Total c) 8 a b place place' n (omega arith) refl x total_free (total_to_null null) refl h k r few delivered going puts
 
     module _ (t : Option ℕ) (some : n ≢ null_total) (known : known_total n ≡ t) where
-      total_text : behind_comma column (opening (is_quoted c)) ≡ cell_so_far column last (ChunkLength c t [])
-      total_text = ap (behind_comma column) (open_none c)
+      total_text : after_comma column (opening (is_quoted c)) ≡ cell_so_far column last (ChunkLength c t [])
+      total_text = ap (after_comma column) (open_none c)
 
       -- a write of what opens the field failed
-      pub total_opening_breaks : (h j : Held) (failed : Bool) (stop : Stop) → length h.waiting < 4096 → h.delivered ≤ 2 ^ 64 - 1 → failed ≡ true → Breaks h j (behind_comma column (opening (is_quoted c))) stop → StopsField (Total c) column last a b place h j failed stop
+      pub total_opening_breaks : (h j : Held) (failed : Bool) (stop : Stop) → length h.waiting < 4096 → h.delivered ≤ 2 ^ 64 - 1 → failed ≡ true → Breaks h j (after_comma column (opening (is_quoted c))) stop → StopsField (Total c) column last a b place h j failed stop
       total_opening_breaks h j failed stop few delivered broken breaks =
-          number_breaks column last (Total c) 8 a b place place' n (omega arith) refl x total_free (ChunkLength c t []) (total_to t some known) h j (behind_comma column (opening (is_quoted c))) [] failed stop few delivered broken
-          (append-nil (behind_comma column (opening (is_quoted c))) ∙ total_text) breaks
+          number_breaks column last (Total c) 8 a b place place' n (omega arith) refl x total_free (ChunkLength c t []) (total_to t some known) h j (after_comma column (opening (is_quoted c))) [] failed stop few delivered broken
+          (append-nil (after_comma column (opening (is_quoted c))) ∙ total_text) breaks
 
       -- the chunks after it were read and put, or stopped
-      pub total_then : {U : Type 0} (d : Seen) (place'' : ℕ) (h i j : Held) (failed : Bool) (r : Result U Stop) → Puts h i (behind_comma column (opening (is_quoted c)))
+      pub total_then : {U : Type 0} (d : Seen) (place'' : ℕ) (h i j : Held) (failed : Bool) (r : Result U Stop) → Puts h i (after_comma column (opening (is_quoted c)))
           → MatchResult r (λ _. PutsField (ChunkLength c t []) column last b d place' place'' i j) (λ stop. StopsField (ChunkLength c t []) column last b d place' i j failed stop)
           → MatchResult r (λ _. PutsField (Total c) column last a d place place'' h j) (λ stop. StopsField (Total c) column last a d place h j failed stop)
       total_then d place'' h i j failed (Ok u) puts y =
-          field_puts column last (Total c) (ChunkLength c t []) a b d place place' place'' h i j (number_streams column last (Total c) 8 a b place place' n (omega arith) refl x total_free (ChunkLength c t []) (total_to t some known) h i (behind_comma column (opening (is_quoted c))) total_text puts)
+          field_puts column last (Total c) (ChunkLength c t []) a b d place place' place'' h i j (number_streams column last (Total c) 8 a b place place' n (omega arith) refl x total_free (ChunkLength c t []) (total_to t some known) h i (after_comma column (opening (is_quoted c))) total_text puts)
           (omega (arith, x.place_is, x.whole)) y
       total_then d place'' h i j failed (Err stop) puts y =
-          field_stops column last (Total c) (ChunkLength c t []) a b d place place' h i j failed stop (number_streams column last (Total c) 8 a b place place' n (omega arith) refl x total_free (ChunkLength c t []) (total_to t some known) h i (behind_comma column (opening (is_quoted c))) total_text puts)
+          field_stops column last (Total c) (ChunkLength c t []) a b d place place' h i j failed stop (number_streams column last (Total c) 8 a b place place' n (omega arith) refl x total_free (ChunkLength c t []) (total_to t some known) h i (after_comma column (opening (is_quoted c))) total_text puts)
           (omega (arith, x.place_is, x.whole)) y

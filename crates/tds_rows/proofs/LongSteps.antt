@@ -12,9 +12,9 @@ use Rattle.tds_packet.proofs.Choices.{test_lt}
 use Rattle.tds_packet.proofs.ElementLaws.{Spelt-none, Spelt-append, Spelt-step}
 use Rattle.tds_packet.proofs.Futures.{Takes-more}
 use Rattle.tds_packet.proofs.Steps.{began_is_cut, cut_at_once}
-use Rattle.tds_csv.specs.Conversion.{Begins, Conversion, conversion_rest, conversion_text, is_begun, is_fit, is_quoted, closing, long_field, open_field}
+use Rattle.tds_csv.specs.Conversion.{BeginsData, Conversion, conversion_rest, conversion_text, is_begun, is_fit, is_quoted, closing, long_field, open_field}
 use Rattle.tds_csv.specs.Joining.{emit}
-use Rattle.tds_csv.specs.Quoting.{behind_comma, end_behind, in_line}
+use Rattle.tds_csv.specs.Quoting.{after_comma, end_after, in_line}
 use Rattle.tds_csv.specs.Sinks.{Breaks, Held, Puts}
 use Rattle.tds_csv.specs.Streaming.{BreaksStreaming, PutsText, StopsStreaming, Streams}
 use Rattle.tds_csv.proofs.Begun.{open_grows, open_closes, unfit_adds_none}
@@ -25,12 +25,12 @@ use Rattle.tds_csv.proofs.Streams.{streaming_after, streams_both}
 use Rattle.tds_rows.specs.Cells.{CellPart, cell, cell_add, cell_end, cell_fault, cell_size, field_so_far, unless}
 use Rattle.tds_rows.specs.CellSteps.{cell_so_far, opened}
 use Rattle.tds_rows.specs.LongCells.{BreaksData, CutsData, EndsData, FillsData, RefusesData, StopsData, StopsFilling, added_text, ending}
-use Rattle.tds_rows.specs.PassedCells.{chunk_left, short_left}
 use Rattle.tds_rows.proofs.NullTexts.{line_grows, opened_text}
 use Rattle.tds_rows.proofs.PassedCells.{chunk_next, short_next}
-use Rattle.tds_rows.proofs.LineTexts.{behind_append}
+use Rattle.tds_rows.proofs.LineTexts.{after_append}
 use Rattle.tds_csv.proofs.Utf16Steps.{nil_of_length}
 use Rattle.tds_rows.proofs.CellLaws.{unless_true}
+use Rattle.tds_rows.proofs.CellWords.{chunk_left, short_left}
 
 -- ---- one element, and its text
 
@@ -65,7 +65,7 @@ pub record HoldsContent (column : ℕ) (c : Conversion) (state : ℕ → List �
   pub free : (r : ℕ) (d : List ℕ) (x : ℕ) → is_begun c (d ++ x ∷ []) ≡ true → (r ≡ 0 → Good (d ++ x ∷ [])) → cell_fault column (state (suc r) d) (x ∷ []) ≡ None
   pub bad : (r : ℕ) (d : List ℕ) (x : ℕ) → is_begun c (d ++ x ∷ []) ≡ false → cell_fault column (state (suc r) d) (x ∷ []) ≡ Some (BadText column)
   pub ends : (d : List ℕ) (x : ℕ) → Good (d ++ x ∷ []) ⊎ (emit (conversion_rest c) (conversion_text c) (d ++ x ∷ []) ≡ emit (conversion_rest c) (conversion_text c) d)
-  pub whole : (last : Bool) (d : List ℕ) → Good d → (more : List ℕ) × (behind_comma column (open_field c d) ++ more ≡ cell_so_far column last (state 0 d))
+  pub whole : (last : Bool) (d : List ℕ) → Good d → (more : List ℕ) × (after_comma column (open_field c d) ++ more ≡ cell_so_far column last (state 0 d))
 
 -- a list that isn't empty has a last number
 snoc_of : (l : List ℕ) → 0 < length l → (p : List ℕ) × (x : ℕ) × (l ≡ p ++ x ∷ [])
@@ -73,22 +73,22 @@ snoc_of [] some = absurd (omega (arith, some))
 snoc_of (x ∷ []) some = ([], x, refl)
 snoc_of (x ∷ y ∷ l) some = let r = snoc_of (y ∷ l) (omega arith) in (x ∷ r.0, r.1, ap (λ t. x ∷ t) r.2)
 
-no_text_false : (c : Conversion) (l : List ℕ) (b : Bool) → is_begun c l ≡ b → (Begins c l → ⊥) → b ≡ false
+no_text_false : (c : Conversion) (l : List ℕ) (b : Bool) → is_begun c l ≡ b → (BeginsData c l → ⊥) → b ≡ false
 no_text_false c l b is h = grind (arith, begun_by_test)
 
 module _ (column : ℕ) (last : Bool) (c : Conversion) (state : ℕ → List ℕ → CellPart) (Good : List ℕ → Type 0) (n : ℕ) (holds : HoldsContent column c state Good n) where
-  pub text_at : (r : ℕ) (d : List ℕ) → cell_so_far column last (state (suc r) d) ≡ behind_comma column (open_field c d)
+  pub text_at : (r : ℕ) (d : List ℕ) → cell_so_far column last (state (suc r) d) ≡ after_comma column (open_field c d)
   text_at r d = sym (opened_text column last (state (suc r) d) (omega (arith, holds.size r d))) ∙ ap (opened column) (holds.text r d)
 
   -- the bytes of some content are elements
-  pub content_spelt : (d bytes : List ℕ) (m r : ℕ) → m ≡ length bytes + r → Begins c (d ++ bytes) → (r ≡ 0 → 0 < length bytes → Good (d ++ bytes)) → Spelt (cell column) (state m d) bytes (state r (d ++ bytes))
+  pub content_spelt : (d bytes : List ℕ) (m r : ℕ) → m ≡ length bytes + r → BeginsData c (d ++ bytes) → (r ≡ 0 → 0 < length bytes → Good (d ++ bytes)) → Spelt (cell column) (state m d) bytes (state r (d ++ bytes))
   content_spelt d [] m r is begun good = grind (arith, Spelt-none, append-nil)
   content_spelt d (x ∷ xs) m r is begun good =
       let k : ℕ = length xs + r in
       let next : m ≡ suc k = omega (arith, is) in
       let regroup : d ++ x ∷ xs ≡ (d ++ x ∷ []) ++ xs = sym (append_assoc d (x ∷ []) xs) in
-      let more_begun : Begins c ((d ++ x ∷ []) ++ xs) = subst (Begins c) regroup begun in
-      let begun_one : Begins c (d ++ x ∷ []) = (joins_by_name c).front (d ++ x ∷ []) xs more_begun in
+      let more_begun : BeginsData c ((d ++ x ∷ []) ++ xs) = subst (BeginsData c) regroup begun in
+      let begun_one : BeginsData c (d ++ x ∷ []) = (joins_by_name c).front (d ++ x ∷ []) xs more_begun in
       let good_one : k ≡ 0 → Good (d ++ x ∷ []) = λ none.
       let empty : xs ≡ [] = nil_of_length xs (omega (arith, none)) in
       subst (λ l. Good (d ++ x ∷ l)) empty (good (omega (arith, none)) (omega arith)) in
@@ -98,11 +98,11 @@ module _ (column : ℕ) (last : Bool) (c : Conversion) (state : ℕ → List ℕ
       (subst (λ l. Spelt (cell column) (state (suc k) d) (x ∷ xs) (state r l)) (append_assoc d (x ∷ []) xs) (Spelt-append (cell column) (state (suc k) d) (x ∷ []) (state k (d ++ x ∷ [])) xs (state r ((d ++ x ∷ []) ++ xs)) one more))
 
   -- what some content adds to the open field
-  text_more : (d more : List ℕ) → Begins c (d ++ more) → behind_comma column (open_field c d) ++ added_text c d more ≡ behind_comma column (open_field c (d ++ more))
-  text_more d more begun = sym (behind_append column (open_field c d) (added_text c d more)) ∙ ap (behind_comma column) (open_grows c d more begun)
+  text_more : (d more : List ℕ) → BeginsData c (d ++ more) → after_comma column (open_field c d) ++ added_text c d more ≡ after_comma column (open_field c (d ++ more))
+  text_more d more begun = sym (after_append column (open_field c d) (added_text c d more)) ∙ ap (after_comma column) (open_grows c d more begun)
 
   -- what some content adds to the text, where more follows
-  pub text_grown : (d more : List ℕ) (r r' : ℕ) → Begins c (d ++ more) → cell_so_far column last (state (suc r) d) ++ added_text c d more ≡ cell_so_far column last (state (suc r') (d ++ more))
+  pub text_grown : (d more : List ℕ) (r r' : ℕ) → BeginsData c (d ++ more) → cell_so_far column last (state (suc r) d) ++ added_text c d more ≡ cell_so_far column last (state (suc r') (d ++ more))
   text_grown d more r r' begun = ap (λ l. l ++ added_text c d more) (text_at r d) ∙ text_more d more begun ∙ sym (text_at r' (d ++ more))
 
   -- bytes were read and their text put, and more follow
@@ -122,12 +122,12 @@ module _ (column : ℕ) (last : Bool) (c : Conversion) (state : ℕ → List ℕ
   puts_none s h delivered = ([], append-nil (cell_so_far column last s), Puts-none h delivered)
 
   -- what the last byte adds to the text, where it isn't good there
-  adds_none : (d p : List ℕ) (x : ℕ) → Begins c (d ++ (p ++ x ∷ [])) → emit (conversion_rest c) (conversion_text c) ((d ++ p) ++ x ∷ []) ≡ emit (conversion_rest c) (conversion_text c) (d ++ p) → added_text c d (p ++ x ∷ []) ≡ added_text c d p
+  adds_none : (d p : List ℕ) (x : ℕ) → BeginsData c (d ++ (p ++ x ∷ [])) → emit (conversion_rest c) (conversion_text c) ((d ++ p) ++ x ∷ []) ≡ emit (conversion_rest c) (conversion_text c) (d ++ p) → added_text c d (p ++ x ∷ []) ≡ added_text c d p
   adds_none d p x begun same =
       let laws = joins_by_name c in
       let e = emit (conversion_rest c) (conversion_text c) in
       let regroup : d ++ (p ++ x ∷ []) ≡ (d ++ p) ++ x ∷ [] = sym (append_assoc d p (x ∷ [])) in
-      let front : Begins c (d ++ p) = laws.front (d ++ p) (x ∷ []) (subst (Begins c) regroup begun) in
+      let front : BeginsData c (d ++ p) = laws.front (d ++ p) (x ∷ []) (subst (BeginsData c) regroup begun) in
       append_cancel_left (e d) (added_text c d (p ++ x ∷ [])) (added_text c d p) (sym (laws.emits d (p ++ x ∷ []) begun) ∙ ap e regroup ∙ same ∙ laws.emits d p front)
 
   module _ (d : List ℕ) (r : ℕ) (a b : Seen) (place : ℕ) (h i : Held) (few : length h.waiting < 4096) (delivered : h.delivered ≤ 2 ^ 64 - 1) where
@@ -186,7 +186,7 @@ module _ (column : ℕ) (last : Bool) (c : Conversion) (state : ℕ → List ℕ
         let split : suc r ≡ length x.good + suc r' = omega (arith, less) in
         broken x.good x.ahead (added_text c d x.good) (state (suc r') (d ++ x.good)) stop (content_spelt d x.good (suc r) (suc r') split x.begun (λ none _. absurd (omega (arith, none)))) x.takes x.between (text_grown d x.good r r' x.begun) x.breaks
 
-    piece_broken_at : (stop : Stop) (good ahead p : List ℕ) (x : ℕ) → good ≡ p ++ x ∷ [] → length good ≡ suc r → Takes a b (good ++ ahead) 1 → IsBetween b → Begins c (d ++ good) → Breaks h i (added_text c d good) stop
+    piece_broken_at : (stop : Stop) (good ahead p : List ℕ) (x : ℕ) → good ≡ p ++ x ∷ [] → length good ≡ suc r → Takes a b (good ++ ahead) 1 → IsBetween b → BeginsData c (d ++ good) → Breaks h i (added_text c d good) stop
         → StopsStreaming (cell column) (cell_so_far column last) (state (suc r) d) a b place h i true stop
     piece_broken_at stop good ahead p x is all takes between begun breaks =
         let same : d ++ good ≡ (d ++ p) ++ x ∷ [] = ap (λ l. d ++ l) is ∙ sym (append_assoc d p (x ∷ [])) in
@@ -198,8 +198,8 @@ module _ (column : ℕ) (last : Bool) (c : Conversion) (state : ℕ → List ℕ
               sym (append_assoc (cell_so_far column last (state (suc r) d)) (added_text c d good) w.0) ∙ ap (λ l. l ++ w.0) (ap (λ l. l ++ added_text c d good) (text_at r d) ∙ text_more d good begun) ∙ w.1 in
               broken good ahead (added_text c d good ++ w.0) (state 0 (d ++ good)) stop (content_spelt d good (suc r) 0 (omega (arith, all)) begun (λ _ _. fine)) takes between text (Breaks-longer h i (added_text c d good) w.0 stop breaks))
           | inr none ↦
-              (let begun_all : Begins c (d ++ (p ++ x ∷ [])) = subst (λ l. Begins c (d ++ l)) is begun in
-              let begun_front : Begins c (d ++ p) = (joins_by_name c).front (d ++ p) (x ∷ []) (subst (Begins c) same begun) in
+              (let begun_all : BeginsData c (d ++ (p ++ x ∷ [])) = subst (λ l. BeginsData c (d ++ l)) is begun in
+              let begun_front : BeginsData c (d ++ p) = (joins_by_name c).front (d ++ p) (x ∷ []) (subst (BeginsData c) same begun) in
               let adds : added_text c d good ≡ added_text c d p = ap (added_text c d) is ∙ adds_none d p x begun_all none in
               let len : length good ≡ length p + 1 = ap length is ∙ length-append p (x ∷ []) in
               let taken : Takes a b (p ++ x ∷ ahead) 1 = subst (λ l. Takes a b l 1) (ap (λ l. l ++ ahead) is ∙ append_assoc p (x ∷ []) ahead) takes in
@@ -252,14 +252,14 @@ module _ (column : ℕ) (last : Bool) (c : Conversion) (state : ℕ → List ℕ
     pub last_spelt : Good all_content → Spelt (cell column) (state (suc last_left) (d ++ x.front)) x.takes.piece (state 0 all_content)
     last_spelt good = content_spelt (d ++ x.front) x.takes.piece (suc last_left) 0 (omega (arith, x.takes.counted, last_split)) x.takes.begun (λ _ _. good)
 
-    pub last_text : (tail : List ℕ) → behind_comma column (open_field c all_content) ++ tail ≡ cell_so_far column last (state 0 all_content)
+    pub last_text : (tail : List ℕ) → after_comma column (open_field c all_content) ++ tail ≡ cell_so_far column last (state 0 all_content)
         → cell_so_far column last (state (suc last_left) (d ++ x.front)) ++ (added_text c (d ++ x.front) x.takes.piece ++ tail) ≡ cell_so_far column last (state 0 all_content)
     last_text tail whole =
         sym (append_assoc (cell_so_far column last (state (suc last_left) (d ++ x.front))) (added_text c (d ++ x.front) x.takes.piece) tail)
         ∙ ap (λ l. l ++ tail) (ap (λ l. l ++ added_text c (d ++ x.front) x.takes.piece) (text_at last_left (d ++ x.front)) ∙ text_more (d ++ x.front) x.takes.piece x.takes.begun) ∙ whole
 
     -- all of it was read and its text put, and what ends it
-    abbrev pub ends_streams : (j : Held) (tail : List ℕ) → Good all_content → behind_comma column (open_field c all_content) ++ tail ≡ cell_so_far column last (state 0 all_content) → Puts i j tail
+    abbrev pub ends_streams : (j : Held) (tail : List ℕ) → Good all_content → after_comma column (open_field c all_content) ++ tail ≡ cell_so_far column last (state 0 all_content) → Puts i j tail
         → Streams (cell column) (cell_so_far column last) (state m d) a b h j (state 0 all_content)
     ends_streams j tail good whole puts =
         streams_both _ _ _ _ _ a _ b h _ j front_streams (record {
@@ -270,7 +270,7 @@ module _ (column : ℕ) (last : Bool) (c : Conversion) (state : ℕ → List ℕ
         })
 
     -- a write of what ends it failed
-    pub ends_break : (j : Held) (p q : List ℕ) (stop : Stop) → Good all_content → behind_comma column (open_field c all_content) ++ (p ++ q) ≡ cell_so_far column last (state 0 all_content) → Breaks i j p stop
+    pub ends_break : (j : Held) (p q : List ℕ) (stop : Stop) → Good all_content → after_comma column (open_field c all_content) ++ (p ++ q) ≡ cell_so_far column last (state 0 all_content) → Breaks i j p stop
         → StopsStreaming (cell column) (cell_so_far column last) (state m d) a b place h j true stop
     ends_break j p q stop good whole breaks =
         let taken : Takes x.middle b (x.takes.piece ++ []) 1 = subst (λ l. Takes x.middle b l 1) (sym (append-nil x.takes.piece)) x.takes.takes in
@@ -290,8 +290,8 @@ module _ (column : ℕ) (last : Bool) (c : Conversion) (state : ℕ → List ℕ
         let len : length x.takes.piece ≡ length p + 1 = ap length is ∙ length-append p (y ∷ []) in
         let same : all_content ≡ (e ++ p) ++ y ∷ [] = ap (λ l. e ++ l) is ∙ sym (append_assoc e p (y ∷ [])) in
         let unfit_here : is_fit c ((e ++ p) ++ y ∷ []) ≡ false = ap (is_fit c) (sym same) ∙ unfit in
-        let begun : Begins c (e ++ p) = (joins_by_name c).front (e ++ p) (y ∷ []) (subst (Begins c) same x.takes.begun) in
-        let adds : added_text c e x.takes.piece ≡ added_text c e p = ap (added_text c e) is ∙ adds_none e p y (subst (λ l. Begins c (e ++ l)) is x.takes.begun) (unfit_adds_none c (e ++ p) y unfit_here) in
+        let begun : BeginsData c (e ++ p) = (joins_by_name c).front (e ++ p) (y ∷ []) (subst (BeginsData c) same x.takes.begun) in
+        let adds : added_text c e x.takes.piece ≡ added_text c e p = ap (added_text c e) is ∙ adds_none e p y (subst (λ l. BeginsData c (e ++ l)) is x.takes.begun) (unfit_adds_none c (e ++ p) y unfit_here) in
         let stands : place' - 1 ≡ (place + length x.front) + length p = omega (arith, x.takes.place_is, x.fills.place_is, x.takes.counted, len) in
         let taken : Takes x.middle b ((p ++ y ∷ []) ++ []) 1 = subst (λ l. Takes x.middle b l 1) (is ∙ sym (append-nil (p ++ y ∷ []))) x.takes.takes in
         streaming_after (cell column) (cell_so_far column last) (state m d) (state (suc last_left) e) a x.middle b h x.between i place false (record { fault = BadText column; place = Payload (place' - 1) }) front_streams
@@ -336,12 +336,12 @@ module _ (column : ℕ) (c : Conversion) where
   fit_or_none d x b is = grind (arith, unfit_adds_none)
 
   -- the end of a value that is whole
-  pub ending_text : (last : Bool) (d : List ℕ) → is_fit c d ≡ true → behind_comma column (open_field c d) ++ ending c (is_quoted c) last d ≡ in_line column last (long_field c d)
+  pub ending_text : (last : Bool) (d : List ℕ) → is_fit c d ≡ true → after_comma column (open_field c d) ++ ending c (is_quoted c) last d ≡ in_line column last (long_field c d)
   ending_text last d fit =
       let rest = conversion_text c (conversion_rest c d) in
       let close = closing (is_quoted c) in
-      ap (λ l. behind_comma column (open_field c d) ++ l) (sym (append_assoc rest close (end_behind last))) ∙ sym (append_assoc (behind_comma column (open_field c d)) (rest ++ close) (end_behind last))
-      ∙ ap (λ l. l ++ end_behind last) (sym (behind_append column (open_field c d) (rest ++ close)) ∙ ap (behind_comma column) (open_closes c d fit))
+      ap (λ l. after_comma column (open_field c d) ++ l) (sym (append_assoc rest close (end_after last))) ∙ sym (append_assoc (after_comma column (open_field c d)) (rest ++ close) (end_after last))
+      ∙ ap (λ l. l ++ end_after last) (sym (after_append column (open_field c d) (rest ++ close)) ∙ ap (after_comma column) (open_closes c d fit))
 
   pub short_holds : (n : ℕ) → HoldsContent column c (short_left c) (λ d. is_fit c d ≡ true) n
   short_holds n = record {

@@ -13,9 +13,9 @@ use Rattle.tds_packet.specs.Seen.{Seen}
 use Rattle.tds_packet.proofs.Choices.{choose_false, choose_true}
 use Rattle.tds_packet.proofs.ElementLaws.{Spelt-one}
 use Rattle.tds_packet.proofs.Steps.{began_is_cut, cut_at_once, refused_at_once}
-use Rattle.tds_csv.specs.Conversion.{Begins, Conversion, HexDigits, IsFit, Utf16Text, Utf8Text, Windows1252Text, conversion_rest, conversion_text, is_fit, is_quoted, open_field, unit}
+use Rattle.tds_csv.specs.Conversion.{BeginsData, Conversion, HexDigits, IsFit, Utf16Text, Utf8Text, Windows1252Text, conversion_rest, conversion_text, is_fit, is_quoted, open_field, unit}
 use Rattle.tds_csv.specs.Joining.{emit}
-use Rattle.tds_csv.specs.Quoting.{behind_comma, binary_mark, in_line, null_field, quote}
+use Rattle.tds_csv.specs.Quoting.{after_comma, binary_mark, in_line, null_field, quote}
 use Rattle.tds_csv.specs.declared.sink.Sink.{Sink}
 use Rattle.tds_csv.specs.Sinks.{Breaks, Held, Puts, PutsPiece, held}
 use Rattle.tds_csv.specs.Streaming.{Streams}
@@ -27,9 +27,9 @@ use Rattle.tds_csv.proofs.Utf16Steps.{text_nil}
 use Rattle.tds_rows.specs.Cells.{Cell, CellPart, DataCell, Null, ShortLength, WholeCell, cell, cell_add, cell_end, cell_fault, cell_size, known_total, null_total, unless}
 use Rattle.tds_rows.specs.CellSteps.{PutsField, StopsField, cell_so_far}
 use Rattle.tds_rows.specs.LongCells.{CutsNumber, EndsData, ReadsNumber, RefusesNumber, StopsEnding, StopsFilling, ending, opening, short_fault, short_length, total_of}
-use Rattle.tds_rows.specs.PassedCells.{short_left}
 use Rattle.tds_rows.proofs.LongSteps.{element_breaks, ending_text, ends_break, ends_refused, ends_streams, all_content, filling_stops, short_holds, short_refused, text_at}
 use Rattle.std.proofs.lemmas.Bool.Decides.{nat_tests}
+use Rattle.tds_rows.proofs.CellWords.{short_left}
 
 -- ---- no content
 
@@ -48,7 +48,7 @@ open_none Utf16Text = ap (λ l. quote ∷ l) (sym (emit_none Utf16Text))
 open_none Windows1252Text = ap (λ l. quote ∷ l) (sym (emit_none Windows1252Text))
 open_none Utf8Text = ap (λ l. quote ∷ l) (sym (emit_none Utf8Text))
 
-pub none_begins : (c : Conversion) → Begins c []
+pub none_begins : (c : Conversion) → BeginsData c []
 none_begins c = (begun_by_test c []).0 (fit_begins c [] [] (no_data_is_fit c))
 
 -- ---- parts of a field, one after the other
@@ -172,15 +172,15 @@ module _ (column : ℕ) (last : Bool) (c : Conversion) (size : ℕ) (unit_is : s
   short_to e n is some = choose_false (little e == 0xFFFF) (WholeCell Null) (short_left c (little e) []) (ap (λ (m : ℕ). m == 0xFFFF) is ∙ ne_eqb n 0xFFFF some) ∙ ap (λ (m : ℕ). short_left c m []) is
 
   -- the text that comes with the length
-  pub short_open : (n : ℕ) → 0 < n → behind_comma column (opening (is_quoted c)) ≡ cell_so_far column last (short_left c n [])
+  pub short_open : (n : ℕ) → 0 < n → after_comma column (opening (is_quoted c)) ≡ cell_so_far column last (short_left c n [])
   short_open n some = grind (arith, open_none, short_holds, text_at)
 
-  pub empty_open : behind_comma column (opening (is_quoted c)) ++ ending c (is_quoted c) last [] ≡ cell_so_far column last (short_left c 0 [])
-  empty_open = ap (λ l. behind_comma column l ++ ending c (is_quoted c) last []) (open_none c) ∙ ending_text column c last [] (no_data_is_fit c)
+  pub empty_open : after_comma column (opening (is_quoted c)) ++ ending c (is_quoted c) last [] ≡ cell_so_far column last (short_left c 0 [])
+  empty_open = ap (λ l. after_comma column l ++ ending c (is_quoted c) last []) (open_none c) ∙ ending_text column c last [] (no_data_is_fit c)
 
-  pub short_text : (n : ℕ) → (q : List ℕ) × (behind_comma column (opening (is_quoted c)) ++ q ≡ cell_so_far column last (short_left c n []))
+  pub short_text : (n : ℕ) → (q : List ℕ) × (after_comma column (opening (is_quoted c)) ++ q ≡ cell_so_far column last (short_left c n []))
   short_text zero = (ending c (is_quoted c) last [], empty_open)
-  short_text (suc n) = ([], append-nil (behind_comma column (opening (is_quoted c))) ∙ short_open (suc n) (omega arith))
+  short_text (suc n) = ([], append-nil (after_comma column (opening (is_quoted c))) ∙ short_open (suc n) (omega arith))
 
   -- the length was read, and more of the value stands after it
   module _ (a b : Seen) (place place' n : ℕ) (x : ReadsNumber 2 a b place place' n) (free : short_fault column size n ≡ None) (some : n ≢ 0xFFFF) where
@@ -191,28 +191,28 @@ module _ (column : ℕ) (last : Bool) (c : Conversion) (size : ℕ) (unit_is : s
     to_here = short_to x.element n x.number some
 
     -- a write of what opens the field failed
-    pub short_opening_breaks : (h j : Held) (failed : Bool) (stop : Stop) → length h.waiting < 4096 → h.delivered ≤ 2 ^ 64 - 1 → failed ≡ true → Breaks h j (behind_comma column (opening (is_quoted c))) stop → StopsField (ShortLength c) column last a b place h j failed stop
+    pub short_opening_breaks : (h j : Held) (failed : Bool) (stop : Stop) → length h.waiting < 4096 → h.delivered ≤ 2 ^ 64 - 1 → failed ≡ true → Breaks h j (after_comma column (opening (is_quoted c))) stop → StopsField (ShortLength c) column last a b place h j failed stop
     short_opening_breaks h j failed stop few delivered broken breaks =
         let q = short_text n in
-        number_breaks column last (ShortLength c) 2 a b place place' n (omega arith) refl x fault_free (short_left c n []) to_here h j (behind_comma column (opening (is_quoted c))) q.0 failed stop few delivered broken q.1 breaks
+        number_breaks column last (ShortLength c) 2 a b place place' n (omega arith) refl x fault_free (short_left c n []) to_here h j (after_comma column (opening (is_quoted c))) q.0 failed stop few delivered broken q.1 breaks
 
     -- the value has no bytes, and its end was put
-    pub empty_puts : (h i j : Held) → n ≡ 0 → Puts h i (behind_comma column (opening (is_quoted c))) → Puts i j (ending c (is_quoted c) last []) → PutsField (ShortLength c) column last a b place place' h j
+    pub empty_puts : (h i j : Held) → n ≡ 0 → Puts h i (after_comma column (opening (is_quoted c))) → Puts i j (ending c (is_quoted c) last []) → PutsField (ShortLength c) column last a b place place' h j
     empty_puts h i j none first then_puts =
         number_whole _ _ _ 2 a b _ _ n (omega arith) refl x fault_free _ (to_here ∙ ap (λ (k : ℕ). short_left c k []) none) h j _ empty_open (Puts-trans h i j _ _ first then_puts)
 
     -- a write of its end failed
-    pub empty_stops : (h i j : Held) (failed : Bool) (stop : Stop) (there : ℕ) → length h.waiting < 4096 → h.delivered ≤ 2 ^ 64 - 1 → n ≡ 0 → Puts h i (behind_comma column (opening (is_quoted c))) → StopsEnding c (is_quoted c) last [] column there i j failed stop
+    pub empty_stops : (h i j : Held) (failed : Bool) (stop : Stop) (there : ℕ) → length h.waiting < 4096 → h.delivered ≤ 2 ^ 64 - 1 → n ≡ 0 → Puts h i (after_comma column (opening (is_quoted c))) → StopsEnding c (is_quoted c) last [] column there i j failed stop
         → StopsField (ShortLength c) column last a b place h j failed stop
     empty_stops h i j failed stop there few delivered none first (inl y) =
-        let open_text = behind_comma column (opening (is_quoted c)) in
+        let open_text = after_comma column (opening (is_quoted c)) in
         let end_text = ending c (is_quoted c) last [] in
         number_breaks column last (ShortLength c) 2 a b place place' n (omega arith) refl x fault_free (WholeCell (DataCell c [])) (to_here ∙ ap (λ (k : ℕ). short_left c k []) none) h j (open_text ++ end_text) [] failed stop few delivered y.2
         (append-nil (open_text ++ end_text) ∙ empty_open) (Breaks-after h i j open_text end_text stop first y.1)
     empty_stops h i j failed stop there few delivered none first (inr y) = absurd (y.0 ((fit_by_test c []).0 (no_data_is_fit c)))
 
-    module _ (d : Seen) (h i j : Held) (opened : Puts h i (behind_comma column (opening (is_quoted c)))) (bytes : 0 < n) where
-      short_open_text : cell_so_far column last (ShortLength c) ++ behind_comma column (opening (is_quoted c)) ≡ cell_so_far column last (short_left c n [])
+    module _ (d : Seen) (h i j : Held) (opened : Puts h i (after_comma column (opening (is_quoted c)))) (bytes : 0 < n) where
+      short_open_text : cell_so_far column last (ShortLength c) ++ after_comma column (opening (is_quoted c)) ≡ cell_so_far column last (short_left c n [])
       short_open_text = short_open n bytes
 
       then_stops_to : (k : Held) (failed : Bool) (stop : Stop) → StopsField (short_left c n []) column last b d place' i k failed stop → StopsField (ShortLength c) column last a d place h k failed stop
@@ -231,7 +231,7 @@ module _ (column : ℕ) (last : Bool) (c : Conversion) (size : ℕ) (unit_is : s
         short_whole fit puts =
             let good : is_fit c short_all ≡ true = (fit_by_test c short_all).1 fit in
             let z = ends_streams column last c (short_left c) (λ l. is_fit c l ≡ true) n (short_holds column c n) [] kept n b d place' place'' i j y k (ending c (is_quoted c) last short_all) good (ending_text column c last short_all good) puts in
-            number_then column last (ShortLength c) 2 a b place place' n (omega arith) refl x fault_free (short_left c n []) to_here d place'' h i k (behind_comma column (opening (is_quoted c))) short_open_text opened
+            number_then column last (ShortLength c) 2 a b place place' n (omega arith) refl x fault_free (short_left c n []) to_here d place'' h i k (after_comma column (opening (is_quoted c))) short_open_text opened
             (record { value = DataCell c short_all; streams = z; place_is = omega (arith, y.takes.place_is, y.fills.place_is, y.takes.counted, length-append y.front y.takes.piece) })
 
         -- its end stopped
@@ -240,7 +240,7 @@ module _ (column : ℕ) (last : Bool) (c : Conversion) (size : ℕ) (unit_is : s
             let good : is_fit c short_all ≡ true = (fit_by_test c short_all).1 z.0 in
             let tail = ending c (is_quoted c) last short_all in
             let broken = ends_break column last c (short_left c) (λ l. is_fit c l ≡ true) n (short_holds column c n) [] kept n b d place' place'' i j y k tail [] stop good
-            (ap (λ l. behind_comma column (open_field c short_all) ++ l) (append-nil tail) ∙ ending_text column c last short_all good) z.1 in
+            (ap (λ l. after_comma column (open_field c short_all) ++ l) (append-nil tail) ∙ ending_text column c last short_all good) z.1 in
             then_stops_to k failed stop (rw (sym z.2) at broken)
         short_end_stops failed stop (inr z) =
             let unfit : is_fit c short_all ≡ false = not_fit c short_all (is_fit c short_all) refl z.0 in

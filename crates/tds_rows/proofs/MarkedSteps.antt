@@ -15,7 +15,7 @@ use Rattle.tds_csv.proofs.Splits.{Puts_split}
 use Rattle.tds_rows.specs.declared.Charset.{Charset}
 use Rattle.tds_rows.specs.declared.table.Ahead.{Ahead}
 use Rattle.tds_rows.specs.declared.table.Table.{Table}
-use Rattle.tds_rows.specs.CellSteps.{PutsCell, is_last}
+use Rattle.tds_rows.specs.CellSteps.{is_last_column}
 use Rattle.tds_rows.specs.MarkedRuns.{PutsMarked, RunsMarked, WritesColumn, WritesMarked, WritesNext}
 use Rattle.tds_rows.specs.Rows.{RowPart, marked, next_cell, row, row_so_far}
 use Rattle.tds_rows.specs.Tables.{IsAhead, TakesColumn}
@@ -23,6 +23,7 @@ use Rattle.tds_rows.proofs.NullSteps.{NearsCells, cell_nears, next_left, null_ne
 use Rattle.tds_rows.proofs.NullTexts.{ends_marked, nulls_ahead}
 use Rattle.tds_rows.proofs.RunSteps.{made_more, used_more, whole_puts}
 use Rattle.tds_rows.proofs.TableSteps.{next_column}
+use Rattle.tds_rows.proofs.CellWords.{PutsCell}
 
 -- ---- a run, cell after cell
 
@@ -32,14 +33,14 @@ module _ (table : Table) (columns : List Column) (nulls : ℕ → Bool) (from : 
   runs_none ahead = record { count = 0; ahead = ahead; further = sym (add-zero from.column); writes = (refl, refl) }
 
   -- one cell more, in the bytes that are left and after what was made
-  pub runs_one : (at behind : Ahead) (kind : Kind) (last : Bool) (used u made m : ℕ) (bytes to new rest : List ℕ) → made ≤ length to → m ≤ length new → TakesColumn table columns at behind kind → last ≡ is_last (drop behind.column columns)
+  pub runs_one : (at after : Ahead) (kind : Kind) (last : Bool) (used u made m : ℕ) (bytes to new rest : List ℕ) → made ≤ length to → m ≤ length new → TakesColumn table columns at after kind → last ≡ is_last_column (drop after.column columns)
       → WritesNext table.charset (nulls at.column) kind at.column last (take u (take (length bytes - used) (drop used bytes))) (take m new) → RunsMarked table columns nulls from at (take used bytes) (take made to)
-      → RunsMarked table columns nulls from behind (take (used + u) bytes) (take (made + m) (take made to ++ (new ++ rest)))
-  runs_one at behind kind last used u made m bytes to new rest within some taken end cell x =
+      → RunsMarked table columns nulls from after (take (used + u) bytes) (take (made + m) (take made to ++ (new ++ rest)))
+  runs_one at after kind last used u made m bytes to new rest within some taken end cell x =
       let wrote = take u (take (length bytes - used) (drop used bytes)) in
       let kind_is = subst (λ (k : Kind). WritesNext table.charset (nulls at.column) k at.column last wrote (take m new)) taken.kind cell in
       let last_is = subst (λ (e : Bool). WritesNext table.charset (nulls at.column) taken.column.kind at.column e wrote (take m new)) end kind_is in
-      let one : WritesColumn table.charset columns nulls at.column wrote (take m new) = record { column = taken.column; left = drop behind.column columns; next = taken.next; writes = last_is } in
+      let one : WritesColumn table.charset columns nulls at.column wrote (take m new) = record { column = taken.column; left = drop after.column columns; next = taken.next; writes = last_is } in
       record {
         count = suc x.count;
         ahead = taken.ahead;
@@ -57,12 +58,12 @@ module _ (table : Table) (columns : List Column) (nulls : ℕ → Bool) (from : 
       }
 
   -- one column more that is NULL by its bit
-  pub runs_null : (at behind : Ahead) (kind : Kind) (last : Bool) (used made m : ℕ) (bytes to new rest : List ℕ) → made ≤ length to → m ≤ length new → TakesColumn table columns at behind kind → last ≡ is_last (drop behind.column columns)
-      → nulls at.column ≡ true → take m new ≡ in_line at.column last null_field → RunsMarked table columns nulls from at (take used bytes) (take made to) → RunsMarked table columns nulls from behind (take used bytes) (take (made + m) (take made to ++ (new ++ rest)))
-  runs_null at behind kind last used made m bytes to new rest within some taken end null line x =
+  pub runs_null : (at after : Ahead) (kind : Kind) (last : Bool) (used made m : ℕ) (bytes to new rest : List ℕ) → made ≤ length to → m ≤ length new → TakesColumn table columns at after kind → last ≡ is_last_column (drop after.column columns)
+      → nulls at.column ≡ true → take m new ≡ in_line at.column last null_field → RunsMarked table columns nulls from at (take used bytes) (take made to) → RunsMarked table columns nulls from after (take used bytes) (take (made + m) (take made to ++ (new ++ rest)))
+  runs_null at after kind last used made m bytes to new rest within some taken end null line x =
       let cell = subst (λ (e : Bool). WritesNext table.charset e kind at.column last [] (take m new)) (sym null) (refl, line) in
-      subst (λ (n : ℕ). RunsMarked table columns nulls from behind (take n bytes) (take (made + m) (take made to ++ (new ++ rest)))) (add-zero used)
-      (runs_one at behind kind last used 0 made m bytes to new rest within some taken end cell x)
+      subst (λ (n : ℕ). RunsMarked table columns nulls from after (take n bytes) (take (made + m) (take made to ++ (new ++ rest)))) (add-zero used)
+      (runs_one at after kind last used 0 made m bytes to new rest within some taken end cell x)
 
 -- text that doesn't fill the block waits
 pub all_waits : (h j : Held) (text : List ℕ) → Puts h j text → length h.waiting + length text < 4096 → length j.waiting ≡ length h.waiting + length text
@@ -128,7 +129,7 @@ module _ (charset : Charset) (start : RowPart) (columns : List Column) (nulls : 
       let next : drop (at + 1) columns ≡ w.left = (next_column columns at w.column w.left w.next).1.1 in
       subst (λ (r : List Column). NearsCells charset start (marked r nulls (at + 1)) a d place place' h j (at + 1)) (sym next) (go (nulls at) refl w.writes)
     where
-      go : (null : Bool) → nulls at ≡ null → WritesNext charset null w.column.kind at (is_last w.left) bytes text → NearsCells charset start (marked w.left nulls (at + 1)) a d place place' h j (at + 1)
+      go : (null : Bool) → nulls at ≡ null → WritesNext charset null w.column.kind at (is_last_column w.left) bytes text → NearsCells charset start (marked w.left nulls (at + 1)) a d place place' h j (at + 1)
       go true is y =
           let ks = marked w.left nulls (at + 1) in
           let put = subst (λ (e : Bool). Puts i j (in_line at e null_field)) (ends_marked w.left nulls (at + 1)) (subst (λ l. Puts i j l) y.1 puts) in
@@ -137,7 +138,7 @@ module _ (charset : Charset) (start : RowPart) (columns : List Column) (nulls : 
           (nears_onward charset start ks a b d place middle h j (at + 1) (subst (λ l. Takes b d l 0) y.0 takes) between z)
       go false is y =
           let ks = marked w.left nulls (at + 1) in
-          let put = whole_puts charset w.column.kind at (is_last w.left) b d middle place' i j bytes text y (Takes-more b d bytes 0 (length bytes) (omega arith) takes) place_is puts in
+          let put = whole_puts charset w.column.kind at (is_last_column w.left) b d middle place' i j bytes text y (Takes-more b d bytes 0 (length bytes) (omega arith) takes) place_is puts in
           cell_nears charset start w.column ks a b d place middle h i j at delivered place' between few (next_left charset start columns w.left w.column nulls false a b place middle h i at w.next is x)
           (subst (λ (e : Bool). PutsCell charset w.column.kind at e b d middle place' i j) (ends_marked w.left nulls (at + 1)) put)
 

@@ -13,9 +13,9 @@ use Rattle.tds_csv.proofs.Sinks.{Puts-none}
 use Rattle.tds_csv.proofs.Streams.{streams_both, streams_inside}
 use Rattle.tds_rows.specs.declared.Charset.{Charset}
 use Rattle.tds_rows.specs.Cells.{Cell}
-use Rattle.tds_rows.specs.Rows.{RowPart, RowToken, WholeRow, row, row_so_far, token_byte, token_start}
+use Rattle.tds_rows.specs.Rows.{PlainRow, RowPart, RowToken, WholeRow, row, row_so_far, token_byte, token_start}
 use Rattle.tds_rows.specs.RowSteps.{ReadsRow, ReadsRows, RowStops, RowsStop}
-use Rattle.tds_rows.specs.Runs.{RowsPart, lines, rows, rows_so_far, rows_start}
+use Rattle.tds_rows.specs.Runs.{RowsPart, RunsRows, lines, rows, rows_so_far, rows_start}
 use Rattle.tds_rows.proofs.RunSteps.{row_among_rows, row_token, writes_streams}
 
 -- Rows were read, this many, and their lines put; and the token byte of one more was read.
@@ -85,3 +85,10 @@ module _ (token : RowToken) (charset : Charset) (columns : List Column) where
         streams = streams_both all rows_so_far from whole begun a b d h i i x.streams next;
         place_is = omega (arith, x.place_is, length-append x.streams.bytes byte);
       }
+
+-- where the next row has begun, its cells are to come
+pub rows_again : (charset : Charset) (columns left : List Column) (column count : ℕ) (a b : Seen) (place place' : ℕ) (h i : Held) → left ≡ columns → column ≡ 0 → BeginsRow PlainRow charset columns count a b place place' h i
+    → RunsRows charset columns [] columns left column count a b place place' h i
+rows_again charset columns left column count a b place place' h i same first x =
+    let y : RunsRows charset columns [] columns columns 0 count a b place place' h i = record { before = x.earlier; more = []; rows_counted = sym x.counted; counted = refl; streams = x.streams; place_is = x.place_is } in
+    subst (λ (n : ℕ). RunsRows charset columns [] columns left n count a b place place' h i) (sym first) (subst (λ (l : List Column). RunsRows charset columns [] columns l 0 count a b place place' h i) (sym same) y)

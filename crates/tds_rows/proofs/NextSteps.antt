@@ -11,7 +11,7 @@ use Rattle.tds_csv.specs.Quoting.{in_line, null_field}
 use Rattle.tds_csv.specs.Sinks.{Breaks, Held, held}
 use Rattle.tds_rows.specs.declared.reading.Rows.{Rows}
 use Rattle.tds_rows.specs.declared.table.Ahead.{Ahead}
-use Rattle.tds_rows.specs.CellSteps.{PutsCell, StopsCell, is_last}
+use Rattle.tds_rows.specs.CellSteps.{is_last_column}
 use Rattle.tds_rows.specs.MarkedRuns.{PutsMarked}
 use Rattle.tds_rows.specs.RowReading.{IsInRow, LeavesRows, NextRead, StaysInRow}
 use Rattle.tds_rows.specs.RowSteps.{RowStops}
@@ -21,6 +21,7 @@ use Rattle.tds_rows.proofs.MarkedSteps.{run_nears}
 use Rattle.tds_rows.proofs.NullSteps.{NearsCells, cell_nears, cell_stops_row, null_breaks, null_nears}
 use Rattle.tds_rows.proofs.NullTexts.{ends_marked}
 use Rattle.tds_rows.proofs.TableSteps.{last_one}
+use Rattle.tds_rows.proofs.CellWords.{PutsCell, StopsCell}
 
 -- the cells of a run are read, and after them the table is the same
 pub run_near : {R W : Type 0} (remaining : R → Option (List ℕ)) (contents : W → Option (List ℕ)) (old new : Rows R W) (columns : List Column) (nulls : ℕ → Bool) (from to : Ahead) (start : RowPart) (a : Seen) (place : ℕ) (h : Held)
@@ -46,7 +47,7 @@ module _ {R W : Type 0} (remaining : R → Option (List ℕ)) (contents : W → 
   abbrev j : Held
   j = held contents new.sink.now
 
-  abbrev is_next : IsNextKind old.table.now at kind (is_last left)
+  abbrev is_next : IsNextKind old.table.now at kind (is_last_column left)
   is_next = record { columns = columns; knows = knows; ahead = ahead; column = c; rest = left; next = next; kind = is; last = refl }
 
   pub next_nears : {U : Type 0} (u : U) (null : Bool) → NearsCells old.table.now.charset start ((c, null) ∷ marked left nulls (at.column + 1)) a b place old.payload.now.place h i at.column
@@ -54,7 +55,7 @@ module _ {R W : Type 0} (remaining : R → Option (List ℕ)) (contents : W → 
       → NearsCells old.table.now.charset start (marked left nulls (at.column + 1)) a d place new.payload.now.place h j (at.column + 1)
   next_nears u true x leaves y = grind (arith, ends_marked, last_one, null_nears)
   next_nears u false x leaves y =
-      let z = subst (λ (k : Kind). PutsCell old.table.now.charset k at.column (is_last left) b d old.payload.now.place new.payload.now.place i j) is (y (is_last left) is_next) in
+      let z = subst (λ (k : Kind). PutsCell old.table.now.charset k at.column (is_last_column left) b d old.payload.now.place new.payload.now.place i j) is (y (is_last_column left) is_next) in
       let w = subst (λ (e : Bool). PutsCell old.table.now.charset c.kind at.column e b d old.payload.now.place new.payload.now.place i j) (ends_marked _ _ _) z in
       cell_nears _ _ c _ a b d _ _ h i j _ in_row.sink.ready.2 _ (between_of remaining new.payload.now leaves.payload.going) (leaves.sink.ready.1 leaves.sink.writing) x w
 
@@ -66,6 +67,6 @@ module _ {R W : Type 0} (remaining : R → Option (List ℕ)) (contents : W → 
       subst (λ p. RowStops old.table.now.charset start a (seen remaining p) place h j new.sink.now.failed stop) (sym y.0)
       (subst (λ (e : Bool). RowStops old.table.now.charset start a b place h j e stop) (sym y.1.failed) (null_breaks _ _ c _ a b _ _ h i _ j _ x breaks))
   next_stops U stop false x y =
-      let z = subst (λ (k : Kind). StopsCell old.table.now.charset k at.column (is_last left) b d old.payload.now.place i j new.sink.now.failed stop) is (y (is_last left) is_next) in
+      let z = subst (λ (k : Kind). StopsCell old.table.now.charset k at.column (is_last_column left) b d old.payload.now.place i j new.sink.now.failed stop) is (y (is_last_column left) is_next) in
       let w = subst (λ (e : Bool). StopsCell old.table.now.charset c.kind at.column e b d old.payload.now.place i j new.sink.now.failed stop) (ends_marked _ _ _) z in
       cell_stops_row _ _ c _ a b d _ _ h i j _ in_row.sink.ready.2 _ _ x w

@@ -14,11 +14,11 @@ use Rattle.tds_columns.specs.Description.{Column}
 use Rattle.tds_csv.specs.Quoting.{in_line, joined, null_field}
 use Rattle.tds_csv.specs.Sinks.{Breaks, Held, Puts}
 use Rattle.tds_csv.specs.Streaming.{BreaksStreaming, PutsText, StopsStreaming, Streams}
-use Rattle.tds_csv.proofs.Nears.{Nears, added_between, last_read, nears_after, nears_breaks, nears_done, nears_from, nears_inside, nears_put, tail_behind}
+use Rattle.tds_csv.proofs.Nears.{Nears, added_between, last_read, nears_after, nears_breaks, nears_done, nears_from, nears_inside, nears_put, tail_after}
 use Rattle.tds_csv.proofs.Sinks.{Breaks-longer, Puts-none}
 use Rattle.tds_rows.specs.declared.Charset.{Charset}
 use Rattle.tds_rows.specs.Cells.{Cell, CellPart, Null, WholeCell, cell, cell_add, cell_size, cell_start, field, shape}
-use Rattle.tds_rows.specs.CellSteps.{PutsCell, StopsCell, cell_so_far}
+use Rattle.tds_rows.specs.CellSteps.{cell_so_far}
 use Rattle.tds_rows.specs.Rows.{Bitmap, InCell, RowPart, bit, bitmap_length, marked, nbc_row_start, next_cell, row, row_so_far, with_cell}
 use Rattle.tds_csv.proofs.Streams.{stops_size, streaming_after}
 use Rattle.tds_rows.specs.RowSteps.{ReadsRow, RowStops}
@@ -26,6 +26,7 @@ use Rattle.tds_rows.proofs.NullTexts.{begun_text, ends, line_grows, nulls_ahead,
 use Rattle.tds_rows.proofs.RowLaws.{begins_open, cell_in_row, shape-HasBytes}
 use Rattle.tds_rows.proofs.RowSteps.{same_end}
 use Rattle.tds_rows.proofs.RunSteps.{cell_some}
+use Rattle.tds_rows.proofs.CellWords.{PutsCell, StopsCell}
 
 -- ---- a cell in its row, with the NULLs after it
 
@@ -66,7 +67,7 @@ module _ (charset : Charset) (cells : List Cell) (ks : List (Column × Bool)) wh
         few = x.few;
         puts = (x.puts.0, added_between small big up is text row_so_far front begun grows from at x.puts.0 some size x.puts.1, x.puts.2);
         more = x.more ++ rest;
-        text_is = tail_behind small big up is text row_so_far front begun grows at to x.more rest size x.text_is (part_text charset cells ks to) ∙ ap row_so_far (sym (is.add at x.element size));
+        text_is = tail_after small big up is text row_so_far front begun grows at to x.more rest size x.text_is (part_text charset cells ks to) ∙ ap row_so_far (sym (is.add at x.element size));
         breaks = Breaks-longer x.middle j x.more rest stop x.breaks;
       }
 

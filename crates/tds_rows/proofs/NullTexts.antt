@@ -6,10 +6,10 @@ use Rattle.tds_packet.specs.Elements.{IsNext}
 use Rattle.tds_packet.proofs.Lifts.{next_some}
 use Rattle.tds_columns.specs.Description.{Column}
 use Rattle.tds_csv.specs.Conversion.{open_field}
-use Rattle.tds_csv.specs.Quoting.{behind_comma, end_behind, in_line, joined, line, null_field}
+use Rattle.tds_csv.specs.Quoting.{after_comma, end_after, in_line, joined, line, null_field}
 use Rattle.tds_rows.specs.declared.Charset.{Charset}
 use Rattle.tds_rows.specs.Cells.{Cell, CellPart, ChunkData, ChunkLength, Null, Shape, ShortData, WholeCell, cell, cell_add, cell_size, cell_start, field, field_so_far}
-use Rattle.tds_rows.specs.CellSteps.{cell_so_far, is_last, opened}
+use Rattle.tds_rows.specs.CellSteps.{cell_so_far, is_last_column, opened}
 use Rattle.tds_rows.specs.Rows.{RowPart, marked, next_cell, row_so_far, with_cell}
 use Rattle.tds_rows.proofs.GrowingTexts.{Grows, OptionGrows, cell_grows, grows_all, grows_by, grows_same, grows_trans, grows_under}
 use Rattle.tds_rows.proofs.CellLaws.{HasBytes}
@@ -21,7 +21,7 @@ ends [] = true
 ends (k ∷ ks) = false
 
 -- so it is where no column is left
-pub ends_marked : (columns : List Column) (nulls : ℕ → Bool) (n : ℕ) → is_last columns ≡ ends (marked columns nulls n)
+pub ends_marked : (columns : List Column) (nulls : ℕ → Bool) (n : ℕ) → is_last_column columns ≡ ends (marked columns nulls n)
 ends_marked columns nulls n = grind arith
 
 -- the text in its line of the first columns, as far as they are NULL by their bit; this many columns lie before them
@@ -31,15 +31,15 @@ nulls_ahead n ((k, true) ∷ ks) = in_line n (ends ks) null_field ++ nulls_ahead
 nulls_ahead n ((k, false) ∷ ks) = []
 
 -- one more whole cell, and what is known of the text after it
-one_more : (cells : List Cell) (v : Cell) (ks : List (Column × Bool)) (text : List ℕ) → (joined (map field (cells ++ v ∷ [])) ++ end_behind (ends ks)) ++ nulls_ahead (length (cells ++ v ∷ [])) ks ≡ text
+one_more : (cells : List Cell) (v : Cell) (ks : List (Column × Bool)) (text : List ℕ) → (joined (map field (cells ++ v ∷ [])) ++ end_after (ends ks)) ++ nulls_ahead (length (cells ++ v ∷ [])) ks ≡ text
     → (joined (map field cells) ++ in_line (length cells) (ends ks) (field v)) ++ nulls_ahead (length cells + 1) ks ≡ text
 one_more cells v ks text is =
-    let begun : joined (map field cells) ++ in_line (length cells) (ends ks) (field v) ≡ joined (map field (cells ++ v ∷ [])) ++ end_behind (ends ks) =
-    sym (append_assoc (joined (map field cells)) (behind_comma (length cells) (field v)) (end_behind (ends ks))) ∙ ap (λ l. l ++ end_behind (ends ks)) (cell_more cells v) in
-    ap (λ l. l ++ nulls_ahead (length cells + 1) ks) begun ∙ ap (λ n. (joined (map field (cells ++ v ∷ [])) ++ end_behind (ends ks)) ++ nulls_ahead n ks) (sym (length-append cells (v ∷ []))) ∙ is
+    let begun : joined (map field cells) ++ in_line (length cells) (ends ks) (field v) ≡ joined (map field (cells ++ v ∷ [])) ++ end_after (ends ks) =
+    sym (append_assoc (joined (map field cells)) (after_comma (length cells) (field v)) (end_after (ends ks))) ∙ ap (λ l. l ++ end_after (ends ks)) (cell_more cells v) in
+    ap (λ l. l ++ nulls_ahead (length cells + 1) ks) begun ∙ ap (λ n. (joined (map field (cells ++ v ∷ [])) ++ end_after (ends ks)) ++ nulls_ahead n ks) (sym (length-append cells (v ∷ []))) ∙ is
 
 -- a row's text so far is that of its whole cells, the end of the line where no column follows, and that of the NULLs to come
-pub nulls_text : (charset : Charset) (cells : List Cell) (ks : List (Column × Bool)) → (joined (map field cells) ++ end_behind (ends ks)) ++ nulls_ahead (length cells) ks ≡ row_so_far (next_cell charset cells ks)
+pub nulls_text : (charset : Charset) (cells : List Cell) (ks : List (Column × Bool)) → (joined (map field cells) ++ end_after (ends ks)) ++ nulls_ahead (length cells) ks ≡ row_so_far (next_cell charset cells ks)
 nulls_text charset cells [] = append-nil (line (map field cells))
 nulls_text charset cells ((k, true) ∷ ks) =
     let tail = nulls_ahead (length cells + 1) ks in
@@ -68,10 +68,10 @@ module _ (column : ℕ) (last : Bool) where
   opened_text p h = grind arith
 
   opened_to : (p : CellPart) → Grows (opened column (field_so_far p)) (cell_so_far column last p)
-  opened_to (ShortData c n d) = grows_same (behind_comma column (open_field c d))
-  opened_to (ChunkLength c t d) = grows_same (behind_comma column (open_field c d))
-  opened_to (ChunkData c t n d) = grows_same (behind_comma column (open_field c d))
-  opened_to (WholeCell v) = grows_by (behind_comma column (field v)) (end_behind last)
+  opened_to (ShortData c n d) = grows_same (after_comma column (open_field c d))
+  opened_to (ChunkLength c t d) = grows_same (after_comma column (open_field c d))
+  opened_to (ChunkData c t n d) = grows_same (after_comma column (open_field c d))
+  opened_to (WholeCell v) = grows_by (after_comma column (field v)) (end_after last)
   opened_to p = grows_all []
 
   -- each element of a cell adds to its text in its line
@@ -96,8 +96,8 @@ module _ (charset : Charset) (cells : List Cell) (ks : List (Column × Bool)) wh
   no_rest : (at : CellPart) → 0 < cell_size at → rest_of at ≡ []
   no_rest at h = grind arith
 
-  open_part : (f : List ℕ) → (joined (map field cells) ++ behind_comma (length cells) f) ++ [] ≡ joined (map field cells ++ f ∷ [])
-  open_part f = append-nil (joined (map field cells) ++ behind_comma (length cells) f) ∙ fields_more cells f
+  open_part : (f : List ℕ) → (joined (map field cells) ++ after_comma (length cells) f) ++ [] ≡ joined (map field cells ++ f ∷ [])
+  open_part f = append-nil (joined (map field cells) ++ after_comma (length cells) f) ∙ fields_more cells f
 
   -- the text so far of the row is that of the whole cells, that of the next one, and that of the NULLs after it
   pub part_text : (at : CellPart) → (joined (map field cells) ++ cell_so_far (length cells) (ends ks) at) ++ rest_of at ≡ row_so_far (up at)

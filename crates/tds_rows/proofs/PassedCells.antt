@@ -23,10 +23,11 @@ use Rattle.tds_rows.specs.Cells.{Cell, CellPart, ChunkData, ChunkLength, DataCel
 use Rattle.tds_rows.specs.CellSteps.{GathersCell, StallsCell, scalar_size, value_bytes, value_length, value_start}
 use Rattle.tds_rows.specs.WholeCells.{WritesCell}
 use Rattle.tds_columns.specs.ReturnedType.{return_column}
-use Rattle.tds_rows.specs.PassedCells.{AnyData, CutsPassing, IsGoodValue, PassesCell, PassesData, StepsOver, StopsPassing, chunk_left, return_cell, short_left}
+use Rattle.tds_rows.specs.PassedCells.{AnyData, CutsPassing, IsGoodValue, PassesCell, PassesData, StepsOver, StopsPassing, return_cell}
 use Rattle.tds_rows.proofs.BufferedCells.{null_cell, value_cell}
 use Rattle.tds_rows.proofs.CellLaws.{unless_true}
 use Rattle.tds_rows.proofs.CellMeaning.{is_ok_value}
+use Rattle.tds_rows.proofs.CellWords.{chunk_left, short_left}
 
 -- ---- elements
 
@@ -55,8 +56,8 @@ steps_both s t u a b d place middle place' x y = record {
   place_is = omega (arith, x.place_is, y.place_is, length-append x.reads.bytes y.reads.bytes);
 }
 
-pub stops_behind : (s t : CellPart) (a b d : Seen) (place middle : ℕ) (stop : Stop) → StepsOver s t a b place middle → StopsPassing t b d middle stop → StopsPassing s a d place stop
-stops_behind s t a b d place middle stop x y = grind (arith, stops_after)
+pub stops_after_steps : (s t : CellPart) (a b d : Seen) (place middle : ℕ) (stop : Stop) → StepsOver s t a b place middle → StopsPassing t b d middle stop → StopsPassing s a d place stop
+stops_after_steps s t a b d place middle stop x y = grind (arith, stops_after)
 
 -- ---- data, byte by byte
 
@@ -191,16 +192,16 @@ scalar_passes charset kind a b place place' bytes scalar x good =
 -- ---- short values
 
 -- a value after what was read of it
-pub cell_behind : (s t : CellPart) (a b d : Seen) (place middle place' : ℕ) → StepsOver s t a b place middle → PassesCell t b d middle place' → PassesCell s a d place place'
-cell_behind s t a b d place middle place' x y = record { value = y.value; steps = steps_both s t (WholeCell y.value) a b d place middle place' x y.steps }
+pub cell_after : (s t : CellPart) (a b d : Seen) (place middle place' : ℕ) → StepsOver s t a b place middle → PassesCell t b d middle place' → PassesCell s a d place place'
+cell_after s t a b d place middle place' x y = record { value = y.value; steps = steps_both s t (WholeCell y.value) a b d place middle place' x y.steps }
 
 -- the data of a short value after its length
 pub short_passes : (c : Conversion) (size n : ℕ) (a b d : Seen) (place middle place' : ℕ) → AnyData c size → n % size ≡ 0 → StepsOver (ShortLength c) (short_left c n []) a b place middle → PassesData n b d middle place' → PassesCell (ShortLength c) a d place place'
 short_passes c size n a b d place middle place' any even x y =
-    cell_behind (ShortLength c) (short_left c n []) a b d place middle place' x (record { value = DataCell c y.bytes; steps = data_steps (short_left c) n (short_runs c size n any even) [] n b d middle place' (omega arith) y })
+    cell_after (ShortLength c) (short_left c n []) a b d place middle place' x (record { value = DataCell c y.bytes; steps = data_steps (short_left c) n (short_runs c size n any even) [] n b d middle place' (omega arith) y })
 
 pub short_cuts : (c : Conversion) (size n : ℕ) (a b d : Seen) (place middle : ℕ) (stop : Stop) → AnyData c size → n % size ≡ 0 → StepsOver (ShortLength c) (short_left c n []) a b place middle → CutsPassing n b d middle stop → StopsPassing (ShortLength c) a d place stop
-short_cuts c size n a b d place middle stop any even x y = stops_behind _ _ a b d _ _ _ x (data_stops (short_left c) n (short_runs c _ n any even) [] n b d _ _ (omega arith) y)
+short_cuts c size n a b d place middle stop any even x y = stops_after_steps _ _ a b d _ _ _ x (data_stops (short_left c) n (short_runs c _ n any even) [] n b d _ _ (omega arith) y)
 
 -- ---- chunks
 
@@ -216,7 +217,7 @@ chunks_none c total a place between = record { content = []; counted = refl; ste
 module _ (c : Conversion) (total : Option ℕ) (sum n : ℕ) (a b d : Seen) (place middle there : ℕ) (x : WalksChunks c total sum a b place middle) where
   -- the length of a chunk is refused or cut
   pub chunks_stop : (stop : Stop) → StopsPassing (ChunkLength c total x.content) b d middle stop → StopsPassing (ChunkLength c total []) a d place stop
-  chunks_stop stop y = stops_behind (ChunkLength c total []) (ChunkLength c total x.content) a b d place middle stop x.steps y
+  chunks_stop stop y = stops_after_steps (ChunkLength c total []) (ChunkLength c total x.content) a b d place middle stop x.steps y
 
   -- the terminator was read
   pub chunks_end : StepsOver (ChunkLength c total x.content) (WholeCell (DataCell c x.content)) b d middle there → PassesCell (ChunkLength c total []) a d place there
@@ -237,7 +238,7 @@ module _ (c : Conversion) (total : Option ℕ) (sum n : ℕ) (a b d : Seen) (pla
   -- the data of a chunk is cut
   pub chunks_cut : (size : ℕ) (e : Seen) (stop : Stop) → AnyData c size → StepsOver (ChunkLength c total x.content) (chunk_left c total n x.content) b d middle there → CutsPassing n d e there stop → StopsPassing (ChunkLength c total []) a e place stop
   chunks_cut size e _ any y z =
-      stops_behind _ _ a d e _ _ _ (steps_both _ _ _ a b d _ _ _ x.steps y) (data_stops (chunk_left c total) _ (chunk_runs c _ _ _ any) _ n d e _ _ refl z)
+      stops_after_steps _ _ a d e _ _ _ (steps_both _ _ _ a b d _ _ _ x.steps y) (data_stops (chunk_left c total) _ (chunk_runs c _ _ _ any) _ n d e _ _ refl z)
 
 -- ---- the data of a RETURNVALUE may be any bytes
 

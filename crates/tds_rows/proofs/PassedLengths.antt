@@ -14,12 +14,13 @@ use Rattle.tds_csv.specs.Conversion.{Conversion, is_fit, unit}
 use Rattle.tds_rows.specs.Cells.{CellPart, ChunkLength, DataCell, Null, ShortLength, Total, WholeCell, cell_add, cell_end, cell_fault, cell_size, is_total, unless}
 use Rattle.tds_rows.specs.LongCells.{CutsNumber, ReadsNumber, RefusesNumber, chunk_length_fault, short_fault, short_length, total_fault, total_of}
 use Rattle.tds_columns.specs.ReturnedType.{return_column}
-use Rattle.tds_rows.specs.PassedCells.{AnyData, PassesCell, StepsOver, StopsPassing, chunk_left, return_cell, short_left}
+use Rattle.tds_rows.specs.PassedCells.{AnyData, PassesCell, StepsOver, StopsPassing, return_cell}
 use Rattle.tds_rows.proofs.CellMeaning.{unless_none}
 use Rattle.tds_rows.proofs.LongChunks.{chunk_first, chunk_free, end_judged, to_data, to_end, total_same, total_to, total_to_null}
 use Rattle.tds_rows.proofs.LongValues.{short_none, short_read, short_same, short_to, short_to_null, total_null, total_some}
 use Rattle.tds_rows.proofs.PassedCells.{step_one, step_refused}
 use Rattle.tds_rows.proofs.CellLaws.{unless_true}
+use Rattle.tds_rows.proofs.CellWords.{chunk_left, short_left}
 
 -- a number was refused, or is cut
 pub number_stops : (s : CellPart) (size : ℕ) (fault : ℕ → Option Fault) (a b : Seen) (place : ℕ) (stop : Stop) → 0 < size → cell_size s ≡ size → cell_end s ≡ Some MessageEnded → ((e : List ℕ) (n : ℕ) (f : Fault) → little e ≡ n → fault n ≡ Some f → cell_fault return_column s e ≡ Some f)

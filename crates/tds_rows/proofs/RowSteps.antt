@@ -17,11 +17,12 @@ use Rattle.tds_csv.proofs.Streams.{streaming_after, streaming_inside, streams_bo
 use Rattle.tds_rows.specs.declared.Charset.{Charset}
 use Rattle.tds_rows.specs.Cells.{Cell, CellPart, Shape, WholeCell, cell, cell_add, cell_end, cell_size, cell_start, field, field_so_far, shape}
 use Rattle.tds_rows.specs.Rows.{InCell, RowPart, marked, next_cell, row, row_so_far, row_start, with_cell}
-use Rattle.tds_rows.specs.CellSteps.{PutsCell, StallsCell, StopsCell, cell_so_far, is_last}
-use Rattle.tds_csv.specs.Quoting.{behind_comma, in_line}
+use Rattle.tds_rows.specs.CellSteps.{StallsCell, cell_so_far, is_last_column}
+use Rattle.tds_csv.specs.Quoting.{after_comma, in_line}
 use Rattle.tds_rows.specs.RowSteps.{ReadsRow, RowStops}
 use Rattle.tds_rows.proofs.LineTexts.{joined_snoc}
 use Rattle.tds_rows.proofs.RowLaws.{begins_open, cell_in_row}
+use Rattle.tds_rows.proofs.CellWords.{PutsCell, StopsCell}
 
 -- A cell was read, of those whose text comes with the last element alone, and this is its text in its line.
 pub record ReadsCell (from : CellPart) (column : ℕ) (last : Bool) (old new : Seen) (place place' : ℕ) (text : List ℕ) : Type 0 where
@@ -98,15 +99,15 @@ module _ (kind : Kind) (s : Shape) (column : ℕ) (last : Bool) where
 
 -- ---- a cell in its row
 
-pub fields_more : (cells : List Cell) (v : List ℕ) → joined (map field cells) ++ behind_comma (length cells) v ≡ joined (map field cells ++ v ∷ [])
-fields_more cells v = ap (λ n. joined (map field cells) ++ behind_comma n v) (sym (length-map cells field)) ∙ joined_snoc (map field cells) v
+pub fields_more : (cells : List Cell) (v : List ℕ) → joined (map field cells) ++ after_comma (length cells) v ≡ joined (map field cells ++ v ∷ [])
+fields_more cells v = ap (λ n. joined (map field cells) ++ after_comma n v) (sym (length-map cells field)) ∙ joined_snoc (map field cells) v
 
-pub cell_more : (cells : List Cell) (v : Cell) → joined (map field cells) ++ behind_comma (length cells) (field v) ≡ joined (map field (cells ++ v ∷ []))
+pub cell_more : (cells : List Cell) (v : Cell) → joined (map field cells) ++ after_comma (length cells) (field v) ≡ joined (map field (cells ++ v ∷ []))
 cell_more cells v = fields_more cells (field v) ∙ ap joined (sym (map-append field cells (v ∷ [])))
 
 -- the text of a row after one more whole cell
-pub next_text : (charset : Charset) (cells : List Cell) (v : Cell) (left : List Column) (n : ℕ) → joined (map field cells) ++ in_line (length cells) (is_last left) (field v) ≡ row_so_far (next_cell charset (cells ++ v ∷ []) (coming left n))
-next_text charset cells v [] n = sym (append_assoc (joined (map field cells)) (behind_comma (length cells) (field v)) line_end) ∙ ap (λ l. l ++ line_end) (cell_more cells v)
+pub next_text : (charset : Charset) (cells : List Cell) (v : Cell) (left : List Column) (n : ℕ) → joined (map field cells) ++ in_line (length cells) (is_last_column left) (field v) ≡ row_so_far (next_cell charset (cells ++ v ∷ []) (coming left n))
+next_text charset cells v [] n = sym (append_assoc (joined (map field cells)) (after_comma (length cells) (field v)) line_end) ∙ ap (λ l. l ++ line_end) (cell_more cells v)
 next_text charset cells v (c ∷ cs) n = grind (arith, append-nil, cell_more, start_quiet)
 
 module _ (charset : Charset) (cells : List Cell) (left : List Column) (n : ℕ) where
@@ -115,7 +116,7 @@ module _ (charset : Charset) (cells : List Cell) (left : List Column) (n : ℕ) 
   lift = with_cell charset cells (coming left n)
 
   -- the text so far of the row is that of the whole cells and then that of the open one
-  pub row_text : (at : CellPart) → joined (map field cells) ++ cell_so_far (length cells) (is_last left) at ≡ row_so_far (lift at)
+  pub row_text : (at : CellPart) → joined (map field cells) ++ cell_so_far (length cells) (is_last_column left) at ≡ row_so_far (lift at)
   row_text at = grind (arith, append-nil, fields_more, next_text)
 
 -- the columns to come, each with whether it is NULL by its bit
@@ -134,7 +135,7 @@ cells_none charset columns a place h d = record {
 }
 
 -- a cell that stops, stops its row
-pub cell_stops : (charset : Charset) (cells : List Cell) (c : Column) (left : List Column) (n : ℕ) (b d : Seen) (place : ℕ) (i j : Held) (failed : Bool) (stop : Stop) → StopsCell charset c.kind (length cells) (is_last left) b d place i j failed stop
+pub cell_stops : (charset : Charset) (cells : List Cell) (c : Column) (left : List Column) (n : ℕ) (b d : Seen) (place : ℕ) (i j : Held) (failed : Bool) (stop : Stop) → StopsCell charset c.kind (length cells) (is_last_column left) b d place i j failed stop
     → RowStops charset (InCell cells (cell_start c.kind (shape charset c.kind)) (coming left n)) b d place i j failed stop
 cell_stops charset cells c left n b d place i j failed stop y =
     let there = streaming_inside _ (row charset) (lift charset cells left n) (cell_in_row _ _ _) _ row_so_far _ (row_text charset cells left n)
@@ -143,12 +144,12 @@ cell_stops charset cells c left n b d place i j failed stop y =
 
 module _ (charset : Charset) (start : RowPart) (c : Column) (left : List Column) (a b d : Seen) (place middle : ℕ) (h i j : Held) (column : ℕ) where
   -- one cell more
-  pub cells_more : (place' : ℕ) → ReadsCells charset start (coming (c ∷ left) column) a b place middle h i column → PutsCell charset c.kind column (is_last left) b d middle place' i j → ReadsCells charset start (coming left (column + 1)) a d place place' h j (column + 1)
+  pub cells_more : (place' : ℕ) → ReadsCells charset start (coming (c ∷ left) column) a b place middle h i column → PutsCell charset c.kind column (is_last_column left) b d middle place' i j → ReadsCells charset start (coming left (column + 1)) a d place place' h j (column + 1)
   cells_more place' x y =
-      let z : PutsCell charset c.kind (length x.cells) (is_last left) b d middle place' i j = subst (λ (n : ℕ). PutsCell charset c.kind n (is_last left) b d middle place' i j) (sym x.counted) y in
+      let z : PutsCell charset c.kind (length x.cells) (is_last_column left) b d middle place' i j = subst (λ (n : ℕ). PutsCell charset c.kind n (is_last_column left) b d middle place' i j) (sym x.counted) y in
       let up = lift charset x.cells left (column + 1) in
       let begin = cell_start c.kind (shape charset c.kind) in
-      let there = streams_inside (cell (length x.cells)) (row charset) up (cell_in_row charset x.cells (coming left (column + 1))) (cell_so_far (length x.cells) (is_last left)) row_so_far (joined (map field x.cells)) (row_text charset x.cells left (column + 1)) begin b d i j (WholeCell z.value) z.streams in
+      let there = streams_inside (cell (length x.cells)) (row charset) up (cell_in_row charset x.cells (coming left (column + 1))) (cell_so_far (length x.cells) (is_last_column left)) row_so_far (joined (map field x.cells)) (row_text charset x.cells left (column + 1)) begin b d i j (WholeCell z.value) z.streams in
       let begins : up begin ≡ InCell x.cells begin (coming left (column + 1)) = begins_open charset x.cells (coming left (column + 1)) c.kind (shape charset c.kind) in
       let first : middle ≡ place + length x.streams.bytes = x.place_is in
       let second : place' ≡ middle + length z.streams.bytes = z.place_is in
@@ -161,9 +162,9 @@ module _ (charset : Charset) (start : RowPart) (c : Column) (left : List Column)
       }
 
   -- the next cell stopped the row
-  pub cells_stop : (failed : Bool) (stop : Stop) → ReadsCells charset start (coming (c ∷ left) column) a b place middle h i column → StopsCell charset c.kind column (is_last left) b d middle i j failed stop → RowStops charset start a d place h j failed stop
+  pub cells_stop : (failed : Bool) (stop : Stop) → ReadsCells charset start (coming (c ∷ left) column) a b place middle h i column → StopsCell charset c.kind column (is_last_column left) b d middle i j failed stop → RowStops charset start a d place h j failed stop
   cells_stop failed stop x y =
-      let z : StopsCell charset c.kind (length x.cells) (is_last left) b d middle i j failed stop = subst (λ (n : ℕ). StopsCell charset c.kind n (is_last left) b d middle i j failed stop) (sym x.counted) y in
+      let z : StopsCell charset c.kind (length x.cells) (is_last_column left) b d middle i j failed stop = subst (λ (n : ℕ). StopsCell charset c.kind n (is_last_column left) b d middle i j failed stop) (sym x.counted) y in
       let from : RowPart = InCell x.cells (cell_start c.kind (shape charset c.kind)) (coming left (column + 1)) in
       let stops : StopsStreaming (row charset) row_so_far from b d (place + length x.streams.bytes) i j failed stop =
       subst (λ (n : ℕ). StopsStreaming (row charset) row_so_far from b d n i j failed stop) x.place_is (cell_stops charset x.cells c left (column + 1) b d middle i j failed stop z) in

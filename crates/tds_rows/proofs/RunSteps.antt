@@ -16,17 +16,17 @@ use Rattle.tds_csv.specs.Sinks.{Breaks, Held, IsWriting, Puts, PutsPiece, held}
 use Rattle.tds_csv.specs.Streaming.{PutsText, Streams}
 use Rattle.tds_packet.proofs.ElementLaws.{Inside, Inside-Spelt, Spelt-append, Spelt-none, Spelt-one}
 use Rattle.tds_columns.specs.Description.{Column}
-use Rattle.tds_columns.proofs.ViewLaws.{all_behind}
+use Rattle.tds_columns.proofs.ViewLaws.{all_after}
 use Rattle.tds_rows.specs.declared.Charset.{Charset}
 use Rattle.tds_rows.specs.Cells.{Cell, CellPart, Shape, WholeCell, cell, cell_start, field, shape}
 use Rattle.tds_rows.specs.Rows.{InCell, NbcRow, PlainRow, RowPart, RowToken, WholeRow, row_start, next_cell, row, row_so_far, token_byte, token_start, with_cell, with_field}
-use Rattle.tds_rows.specs.CellSteps.{HasInt4, int4_kind, IsLeft, IsScalarLeft, IsValueText, PutsCell, StopsCell, WritesKind, cell_so_far, is_last, scalar_size, whole_size}
+use Rattle.tds_rows.specs.CellSteps.{HasInt4, int4_kind, IsLeft, IsScalarLeft, IsValueText, WritesKind, cell_so_far, is_last_column, scalar_size, whole_size}
 use Rattle.tds_rows.specs.WholeCells.{WritesCell, WritesWhole}
 use Rattle.tds_values.specs.Kind.{is_scalar}
 use Rattle.tds_rows.specs.ShortCells.{short_size}
 use Rattle.std.specs.Prelude.{◌==◌, Option, Some, None, Result, Ok, Err, MatchResult, true, if◌then◌else◌}
 use Rattle.tds_rows.proofs.CellSteps.{fixed_some}
-use Rattle.tds_rows.specs.Runs.{RowsPart, RunsRows, Writes, WritesCells, WritesRows, behind_cells, lines, rows, rows_so_far, rows_start}
+use Rattle.tds_rows.specs.Runs.{RowsPart, RunsRows, Writes, WritesRows, after_cells, lines, rows, rows_so_far, rows_start}
 use Rattle.tds_values.specs.declared.kind.Kind.{Kind}
 use Rattle.tds_values.specs.declared.kind.Kind.TheVariants.{IntN}
 use Rattle.tds_rows.proofs.BufferedCells.{int4_cell}
@@ -36,6 +36,7 @@ use Rattle.tds_packet.proofs.Futures.{Takes-none}
 use Rattle.tds_csv.proofs.Sinks.{Puts-none}
 use Rattle.tds_csv.proofs.Streams.{streams_both, streams_inside}
 use Rattle.tds_rows.specs.RowSteps.{ReadsRows, RowStops, RowsStop}
+use Rattle.tds_rows.proofs.CellWords.{PutsCell, StopsCell, WritesCells}
 
 -- ---- over any grammar
 
@@ -73,20 +74,20 @@ spelt_there charset cells c left n bytes at h =
     subst (λ s. Spelt (row charset) s bytes (up at)) (begins_open charset cells (coming left n) c.kind (shape charset c.kind)) (Inside-Spelt (cell (length cells)) (row charset) up (cell_in_row charset cells (coming left n)) (cell_start c.kind (shape charset c.kind)) bytes at h)
 
 -- one cell
-cell_writes : (charset : Charset) (cells : List Cell) (c : Column) (left : List Column) (bytes made : List ℕ) → (x : WritesWhole (cell_start c.kind (shape charset c.kind)) (length cells) (is_last left) bytes made)
-    → Writes (row charset) row_so_far (behind_cells charset cells (c ∷ left)) bytes made (behind_cells charset (cells ++ x.value ∷ []) left)
+cell_writes : (charset : Charset) (cells : List Cell) (c : Column) (left : List Column) (bytes made : List ℕ) → (x : WritesWhole (cell_start c.kind (shape charset c.kind)) (length cells) (is_last_column left) bytes made)
+    → Writes (row charset) row_so_far (after_cells charset cells (c ∷ left)) bytes made (after_cells charset (cells ++ x.value ∷ []) left)
 cell_writes charset cells c left bytes made x =
     let n : length cells + 1 ≡ length (cells ++ x.value ∷ []) = sym (length-append cells (x.value ∷ [])) in
-    subst (λ (k : ℕ). Writes (row charset) row_so_far (behind_cells charset cells (c ∷ left)) bytes made (next_cell charset (cells ++ x.value ∷ []) (coming left k))) n (record {
+    subst (λ (k : ℕ). Writes (row charset) row_so_far (after_cells charset cells (c ∷ left)) bytes made (next_cell charset (cells ++ x.value ∷ []) (coming left k))) n (record {
       spelt = spelt_there charset cells c left (length cells + 1) bytes (WholeCell x.value) x.spelt;
       text_is = (λ i. from_text charset cells c left (length cells + 1) i ++ x.text_is i) ∙ next_text charset cells x.value left (length cells + 1);
     })
 
 -- one more cell of a row
-pub one_cell : (charset : Charset) (c : Column) (left : List Column) (column : ℕ) (bytes made : List ℕ) → WritesWhole (cell_start c.kind (shape charset c.kind)) column (is_last left) bytes made
+pub one_cell : (charset : Charset) (c : Column) (left : List Column) (column : ℕ) (bytes made : List ℕ) → WritesWhole (cell_start c.kind (shape charset c.kind)) column (is_last_column left) bytes made
     → (cells : List Cell) → length cells ≡ column → WritesCells charset cells (c ∷ left) left (column + 1) bytes made
 one_cell charset c left column bytes made x cells is =
-    let y : WritesWhole (cell_start c.kind (shape charset c.kind)) (length cells) (is_last left) bytes made = subst (λ (n : ℕ). WritesWhole (cell_start c.kind (shape charset c.kind)) n (is_last left) bytes made) (sym is) x in
+    let y : WritesWhole (cell_start c.kind (shape charset c.kind)) (length cells) (is_last_column left) bytes made = subst (λ (n : ℕ). WritesWhole (cell_start c.kind (shape charset c.kind)) n (is_last_column left) bytes made) (sym is) x in
     record { more = y.value ∷ []; counted = length-append cells (y.value ∷ []) ∙ ap (λ n. n + 1) is; writes = cell_writes charset cells c left bytes made y }
 
 pub cells_none : (charset : Charset) (columns : List Column) (column : ℕ) (cells : List Cell) → length cells ≡ column → WritesCells charset cells columns columns column [] []
@@ -110,7 +111,7 @@ made_more made m to new rest within some = grind (arith, length-take-le, take-ap
 
 -- what is used after what was used
 pub used_more : (used u : ℕ) (bytes : List ℕ) → take (used + u) bytes ≡ take used bytes ++ take u (take (length bytes - used) (drop used bytes))
-used_more used u bytes = take-add used u bytes ∙ ap (λ l. take used bytes ++ take u l) (sym (all_behind bytes used))
+used_more used u bytes = take-add used u bytes ∙ ap (λ l. take used bytes ++ take u l) (sym (all_after bytes used))
 
 -- what is written after what was made leaves it as it was
 pub made_same : (made : ℕ) (to rest : List ℕ) → made ≤ length to → take made (take made to ++ rest) ≡ take made to
@@ -179,7 +180,7 @@ pub row_token : (token : RowToken) (charset : Charset) (all : List Column) (befo
 row_token token charset all before cells some = grind (arith, Spelt-one, append-nil, lines_snoc, start_text, token_free)
 
 pub rows_none : (charset : Charset) (all : List Column) (cells : List Cell) (columns : List Column) (column : ℕ) → length cells ≡ column → WritesRows charset all cells columns columns column 0 [] []
-rows_none charset all cells columns column h = record { before = []; more = cells; rows_counted = refl; counted = h; writes = writes_none (rows PlainRow charset all) rows_so_far (record { before = []; at = behind_cells charset cells columns }) }
+rows_none charset all cells columns column h = record { before = []; more = cells; rows_counted = refl; counted = h; writes = writes_none (rows PlainRow charset all) rows_so_far (record { before = []; at = after_cells charset cells columns }) }
 
 rows_more : (charset : Charset) (all : List Column) (cells : List Cell) (columns left left' : List Column) (column column' count : ℕ) (a b p q : List ℕ) → WritesRows charset all cells columns left column count a p
     → ((cells : List Cell) → length cells ≡ column → WritesCells charset cells left left' column' b q) → WritesRows charset all cells columns left' column' count (a ++ b) (p ++ q)
@@ -190,21 +191,21 @@ rows_more charset all cells columns left left' column column' count a b p q x f 
       more = x.more ++ y.more;
       rows_counted = x.rows_counted;
       counted = y.counted;
-      writes = writes_both (rows PlainRow charset all) rows_so_far (record { before = []; at = behind_cells charset cells columns }) (record { before = x.before; at = behind_cells charset x.more left }) (record { before = x.before; at = behind_cells charset (x.more ++ y.more) left' }) a b p q x.writes
-          (row_among charset all x.before (behind_cells charset x.more left) (behind_cells charset (x.more ++ y.more) left') b q y.writes);
+      writes = writes_both (rows PlainRow charset all) rows_so_far (record { before = []; at = after_cells charset cells columns }) (record { before = x.before; at = after_cells charset x.more left }) (record { before = x.before; at = after_cells charset (x.more ++ y.more) left' }) a b p q x.writes
+          (row_among charset all x.before (after_cells charset x.more left) (after_cells charset (x.more ++ y.more) left') b q y.writes);
     }
 
 rows_next : (charset : Charset) (all : List Column) (cells : List Cell) (columns left : List Column) (column count : ℕ) (a p : List ℕ) → 0 < length all → left ≡ [] → WritesRows charset all cells columns left column count a p
     → WritesRows charset all cells columns all 0 (count + 1) (a ++ 0xD1 ∷ []) p
 rows_next charset all cells columns left column count a p some none x =
-    let y : Writes (rows PlainRow charset all) rows_so_far (record { before = []; at = behind_cells charset cells columns }) a p (record { before = x.before; at = WholeRow x.more }) =
+    let y : Writes (rows PlainRow charset all) rows_so_far (record { before = []; at = after_cells charset cells columns }) a p (record { before = x.before; at = WholeRow x.more }) =
     rw none at x.writes in
     record {
       before = x.before ++ x.more ∷ [];
       more = [];
       rows_counted = length-append x.before (x.more ∷ []) ∙ ap (λ n. n + 1) x.rows_counted;
       counted = refl;
-      writes = rw (append-nil p) at (writes_both (rows PlainRow charset all) rows_so_far (record { before = []; at = behind_cells charset cells columns }) (record { before = x.before; at = WholeRow x.more }) (record { before = x.before ++ x.more ∷ []; at = row_start charset all }) a (0xD1 ∷ []) p [] y (row_token PlainRow charset all x.before x.more some));
+      writes = rw (append-nil p) at (writes_both (rows PlainRow charset all) rows_so_far (record { before = []; at = after_cells charset cells columns }) (record { before = x.before; at = WholeRow x.more }) (record { before = x.before ++ x.more ∷ []; at = row_start charset all }) a (0xD1 ∷ []) p [] y (row_token PlainRow charset all x.before x.more some));
     }
 
 -- and over the ends of rows
@@ -227,7 +228,7 @@ rows_run charset all cells columns left column count a b place place' h j bytes 
   more = x.more;
   rows_counted = x.rows_counted;
   counted = x.counted;
-  streams = writes_streams (rows PlainRow charset all) rows_so_far (record { before = []; at = behind_cells charset cells columns }) (record { before = x.before; at = behind_cells charset x.more left }) a b h j bytes made x.writes takes puts;
+  streams = writes_streams (rows PlainRow charset all) rows_so_far (record { before = []; at = after_cells charset cells columns }) (record { before = x.before; at = after_cells charset x.more left }) a b h j bytes made x.writes takes puts;
   place_is = at;
 }
 
@@ -239,14 +240,14 @@ lines-append (r ∷ rs) qs = ap (λ l. line (map field r) ++ l) (lines-append rs
 
 module _ (charset : Charset) (all : List Column) (before : List (List Cell)) where
   -- rows after these
-  abbrev behind_rows : RowsPart → RowsPart
-  behind_rows p = record { before = before ++ p.before; at = p.at }
+  abbrev after_rows : RowsPart → RowsPart
+  after_rows p = record { before = before ++ p.before; at = p.at }
 
-  rows_among_rows : Inside (rows PlainRow charset all) (rows PlainRow charset all) behind_rows
+  rows_among_rows : Inside (rows PlainRow charset all) (rows PlainRow charset all) after_rows
   rows_among_rows = grind (arith, append_assoc)
 
-  rows_behind_text : (p : RowsPart) → lines before ++ rows_so_far p ≡ rows_so_far (behind_rows p)
-  rows_behind_text p = sym (append_assoc (lines before) (lines p.before) (row_so_far p.at)) ∙ ap (λ l. l ++ row_so_far p.at) (sym (lines-append before p.before))
+  rows_after_text : (p : RowsPart) → lines before ++ rows_so_far p ≡ rows_so_far (after_rows p)
+  rows_after_text p = sym (append_assoc (lines before) (lines p.before) (row_so_far p.at)) ∙ ap (λ l. l ++ row_so_far p.at) (sym (lines-append before p.before))
 
 module _ (charset : Charset) (all : List Column) (a b d : Seen) (place middle place' : ℕ) (h i j : Held) where
   -- a run after what was read
@@ -254,41 +255,41 @@ module _ (charset : Charset) (all : List Column) (a b d : Seen) (place middle pl
       → ((cells : List Cell) → length cells ≡ column → RunsRows charset all cells left left' column' count' b d middle place' i j) → RunsRows charset all [] all left' column' (count + count') a d place place' h j
   rows_further left left' column column' count count' x f =
       let y : RunsRows charset all x.more left left' column' count' b d middle place' i j = f x.more x.counted in
-      let from : RowsPart = record { before = []; at = behind_cells charset x.more left } in
-      let to : RowsPart = record { before = y.before; at = behind_cells charset y.more left' } in
-      let there = streams_inside (rows PlainRow charset all) (rows PlainRow charset all) (behind_rows charset all x.before) (rows_among_rows charset all x.before) rows_so_far rows_so_far (lines x.before) (rows_behind_text charset all x.before) from b d i j to y.streams in
-      let begins : behind_rows charset all x.before from ≡ record { before = x.before; at = behind_cells charset x.more left } = ap (λ (l : List (List Cell)). record { before = l; at = behind_cells charset x.more left }) (append-nil x.before) in
-      let next : Streams (rows PlainRow charset all) rows_so_far (record { before = x.before; at = behind_cells charset x.more left }) b d i j (behind_rows charset all x.before to) = record {
+      let from : RowsPart = record { before = []; at = after_cells charset x.more left } in
+      let to : RowsPart = record { before = y.before; at = after_cells charset y.more left' } in
+      let there = streams_inside (rows PlainRow charset all) (rows PlainRow charset all) (after_rows charset all x.before) (rows_among_rows charset all x.before) rows_so_far rows_so_far (lines x.before) (rows_after_text charset all x.before) from b d i j to y.streams in
+      let begins : after_rows charset all x.before from ≡ record { before = x.before; at = after_cells charset x.more left } = ap (λ (l : List (List Cell)). record { before = l; at = after_cells charset x.more left }) (append-nil x.before) in
+      let next : Streams (rows PlainRow charset all) rows_so_far (record { before = x.before; at = after_cells charset x.more left }) b d i j (after_rows charset all x.before to) = record {
         bytes = y.streams.bytes;
-        spelt = subst (λ s. Spelt (rows PlainRow charset all) s y.streams.bytes (behind_rows charset all x.before to)) begins there.spelt;
+        spelt = subst (λ s. Spelt (rows PlainRow charset all) s y.streams.bytes (after_rows charset all x.before to)) begins there.spelt;
         takes = y.streams.takes;
-        puts = subst (λ s. PutsText rows_so_far s (behind_rows charset all x.before to) i j) begins there.puts;
+        puts = subst (λ s. PutsText rows_so_far s (after_rows charset all x.before to) i j) begins there.puts;
       } in
       record {
         before = x.before ++ y.before;
         more = y.more;
         rows_counted = omega (arith, length-append x.before y.before, x.rows_counted, y.rows_counted);
         counted = y.counted;
-        streams = streams_both (rows PlainRow charset all) rows_so_far (rows_start PlainRow charset all) (record { before = x.before; at = behind_cells charset x.more left }) (behind_rows charset all x.before to) a b d h i j x.streams next;
+        streams = streams_both (rows PlainRow charset all) rows_so_far (rows_start PlainRow charset all) (record { before = x.before; at = after_cells charset x.more left }) (after_rows charset all x.before to) a b d h i j x.streams next;
         place_is = omega (arith, x.place_is, y.place_is, length-append x.streams.bytes y.streams.bytes);
       }
 
   -- a cell after what was read
-  pub rows_cell : (c : Column) (left : List Column) (column next count : ℕ) → next ≡ column + 1 → RunsRows charset all [] all (c ∷ left) column count a b place middle h i → PutsCell charset c.kind column (is_last left) b d middle place' i j
+  pub rows_cell : (c : Column) (left : List Column) (column next count : ℕ) → next ≡ column + 1 → RunsRows charset all [] all (c ∷ left) column count a b place middle h i → PutsCell charset c.kind column (is_last_column left) b d middle place' i j
       → RunsRows charset all [] all left next count a d place place' h j
   rows_cell c left column next count further x y =
-      let z : PutsCell charset c.kind (length x.more) (is_last left) b d middle place' i j = subst (λ (n : ℕ). PutsCell charset c.kind n (is_last left) b d middle place' i j) (sym x.counted) y in
+      let z : PutsCell charset c.kind (length x.more) (is_last_column left) b d middle place' i j = subst (λ (n : ℕ). PutsCell charset c.kind n (is_last_column left) b d middle place' i j) (sym x.counted) y in
       let n = length x.more + 1 in
       let up = lift charset x.more left n in
       let begin = cell_start c.kind (shape charset c.kind) in
       let whole = x.more ++ z.value ∷ [] in
-      let in_row = streams_inside (cell (length x.more)) (row charset) up (cell_in_row charset x.more (coming left n)) (cell_so_far (length x.more) (is_last left)) row_so_far (joined (map field x.more)) (row_text charset x.more left n) begin b d i j (WholeCell z.value) z.streams in
+      let in_row = streams_inside (cell (length x.more)) (row charset) up (cell_in_row charset x.more (coming left n)) (cell_so_far (length x.more) (is_last_column left)) row_so_far (joined (map field x.more)) (row_text charset x.more left n) begin b d i j (WholeCell z.value) z.streams in
       let in_rows : RowPart → RowsPart = λ p. record { before = x.before; at = p } in
       let there = streams_inside (row charset) (rows PlainRow charset all) in_rows (row_among_rows PlainRow charset all x.before) row_so_far rows_so_far (lines x.before) (λ p. refl) (up begin) b d i j (up (WholeCell z.value)) in_row in
-      let begins : up begin ≡ behind_cells charset x.more (c ∷ left) = begins_open charset x.more (coming left n) c.kind (shape charset c.kind) in
-      let ends : up (WholeCell z.value) ≡ behind_cells charset whole left = ap (λ (k : ℕ). next_cell charset whole (coming left k)) (sym (length-append x.more (z.value ∷ []))) in
-      let from = in_rows (behind_cells charset x.more (c ∷ left)) in
-      let to = in_rows (behind_cells charset whole left) in
+      let begins : up begin ≡ after_cells charset x.more (c ∷ left) = begins_open charset x.more (coming left n) c.kind (shape charset c.kind) in
+      let ends : up (WholeCell z.value) ≡ after_cells charset whole left = ap (λ (k : ℕ). next_cell charset whole (coming left k)) (sym (length-append x.more (z.value ∷ []))) in
+      let from = in_rows (after_cells charset x.more (c ∷ left)) in
+      let to = in_rows (after_cells charset whole left) in
       let one : Streams (rows PlainRow charset all) rows_so_far from b d i j to = record {
         bytes = z.streams.bytes;
         spelt = subst (λ s. Spelt (rows PlainRow charset all) from z.streams.bytes (in_rows s)) ends (subst (λ s. Spelt (rows PlainRow charset all) (in_rows s) z.streams.bytes (in_rows (up (WholeCell z.value)))) begins there.spelt);
@@ -305,17 +306,17 @@ module _ (charset : Charset) (all : List Column) (a b d : Seen) (place middle pl
       }
 
   -- a cell that stops after what was read
-  pub rows_stop : (c : Column) (left : List Column) (column count : ℕ) (failed : Bool) (stop : Stop) → RunsRows charset all [] all (c ∷ left) column count a b place middle h i → StopsCell charset c.kind column (is_last left) b d middle i j failed stop
+  pub rows_stop : (c : Column) (left : List Column) (column count : ℕ) (failed : Bool) (stop : Stop) → RunsRows charset all [] all (c ∷ left) column count a b place middle h i → StopsCell charset c.kind column (is_last_column left) b d middle i j failed stop
       → RowsStop PlainRow charset all a d place h j failed stop
   rows_stop c left column count failed stop x y =
-      let z : StopsCell charset c.kind (length x.more) (is_last left) b d middle i j failed stop = subst (λ (n : ℕ). StopsCell charset c.kind n (is_last left) b d middle i j failed stop) (sym x.counted) y in
+      let z : StopsCell charset c.kind (length x.more) (is_last_column left) b d middle i j failed stop = subst (λ (n : ℕ). StopsCell charset c.kind n (is_last_column left) b d middle i j failed stop) (sym x.counted) y in
       record {
         earlier = x.before;
-        part = behind_cells charset x.more (c ∷ left);
+        part = after_cells charset x.more (c ∷ left);
         middle = b;
         between = i;
         streams = x.streams;
-        stops = subst (λ (n : ℕ). RowStops charset (behind_cells charset x.more (c ∷ left)) b d n i j failed stop) x.place_is (cell_stops charset x.more c left (length x.more + 1) b d middle i j failed stop z);
+        stops = subst (λ (n : ℕ). RowStops charset (after_cells charset x.more (c ∷ left)) b d n i j failed stop) x.place_is (cell_stops charset x.more c left (length x.more + 1) b d middle i j failed stop z);
       }
 
 -- before the first cell
@@ -325,7 +326,7 @@ rows_begin charset all left column a place h d same first = record {
   more = [];
   rows_counted = refl;
   counted = sym first;
-  streams = subst (λ (l : List Column). Streams (rows PlainRow charset all) rows_so_far (rows_start PlainRow charset all) a a h h (record { before = []; at = behind_cells charset [] l })) (sym same)
+  streams = subst (λ (l : List Column). Streams (rows PlainRow charset all) rows_so_far (rows_start PlainRow charset all) a a h h (record { before = []; at = after_cells charset [] l })) (sym same)
       (record { bytes = []; spelt = Spelt-none (rows PlainRow charset all) (rows_start PlainRow charset all); takes = Takes-none a 0; puts = ([], append-nil (rows_so_far (rows_start PlainRow charset all)), Puts-none h d) });
   place_is = subst (λ (l : List Column). place ≡ place + 0) same (omega arith);
 }

@@ -5,12 +5,13 @@ use Rattle.tds_rows.specs.declared.Charset.{Charset}
 use Rattle.tds_rows.specs.declared.table.Ahead.{Ahead}
 use Rattle.tds_rows.specs.declared.table.Table.{Table}
 use Rattle.tds_rows.specs.Cells.{Cell}
-use Rattle.tds_rows.specs.CellSteps.{is_last}
+use Rattle.tds_rows.specs.CellSteps.{is_last_column}
 use Rattle.tds_rows.specs.MarkedRuns.{EndsLeft, RunsMarked, WritesColumn, WritesMarked, WritesNext}
-use Rattle.tds_rows.specs.Runs.{RunEnds, WritesCells}
+use Rattle.tds_rows.specs.Runs.{RunEnds}
 use Rattle.tds_rows.proofs.RunSteps.{cells_more, cells_none, made_more, one_cell, used_more}
 use Rattle.tds_rows.proofs.TableRuns.{CellsBetween}
 use Rattle.tds_rows.proofs.TableSteps.{next_column}
+use Rattle.tds_rows.proofs.CellWords.{WritesCells}
 
 -- no column is NULL by its bit
 abbrev pub none_null : ℕ → Bool
@@ -42,7 +43,7 @@ module _ (charset : Charset) (columns : List Column) where
   marked_clear nulls from (suc n) bytes text clear x =
       let last = x.7 in
       let is : nulls (from + n) ≡ false = clear (from + n) (omega arith) (omega arith) in
-      let writes = subst (λ (e : Bool). WritesNext charset e last.column.kind (from + n) (is_last last.left) x.1 x.3) (sym is) last.writes in
+      let writes = subst (λ (e : Bool). WritesNext charset e last.column.kind (from + n) (is_last_column last.left) x.1 x.3) (sym is) last.writes in
       let one : WritesColumn charset columns nulls (from + n) x.1 x.3 = record { column = last.column; left = last.left; next = last.next; writes = writes } in
       (x.0, x.1, x.2, x.3, x.4, x.5, marked_clear nulls from n x.0 x.2 (λ k least most. clear k least (omega (arith, most))) x.6, one)
 
@@ -57,9 +58,9 @@ module _ (charset : Charset) (columns : List Column) where
       let before = subst (λ (l : List Column). WritesCells charset cells (drop from columns) l at x.0 x.2) last.next (marked_cells from n x.0 x.2 cells is x.6) in
       let both = cells_more charset (drop from columns) (last.column ∷ last.left) last.left at (at + 1) x.0 x.1 x.2 x.3 cells before (λ cs counted. one_cell charset last.column last.left at x.1 x.3 last.writes cs counted) in
       let there = subst (λ (l : List Column). WritesCells charset cells (drop from columns) l (at + 1) (x.0 ++ x.1) (x.2 ++ x.3)) (sym next) both in
-      let behind = subst (λ (k : ℕ). WritesCells charset cells (drop from columns) (drop k columns) k (x.0 ++ x.1) (x.2 ++ x.3)) further there in
+      let after = subst (λ (k : ℕ). WritesCells charset cells (drop from columns) (drop k columns) k (x.0 ++ x.1) (x.2 ++ x.3)) further there in
       subst (λ l. WritesCells charset cells (drop from columns) (drop (from + suc n) columns) (from + suc n) l text) (sym x.4)
-      (subst (λ l. WritesCells charset cells (drop from columns) (drop (from + suc n) columns) (from + suc n) (x.0 ++ x.1) l) (sym x.5) behind)
+      (subst (λ l. WritesCells charset cells (drop from columns) (drop (from + suc n) columns) (from + suc n) (x.0 ++ x.1) l) (sym x.5) after)
 
 module _ (table : Table) (columns : List Column) where
   -- a run over columns whose bits are clear

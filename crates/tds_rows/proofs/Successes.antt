@@ -18,6 +18,7 @@ use Rattle.tds_packet.proofs.ElementLaws.{Inside-Spelt, Spelt-append, longest_at
 use Rattle.tds_packet.proofs.Lifts.{stops_inside}
 use Rattle.tds_packet.proofs.Steps.{stops_after}
 use Rattle.tds_columns.specs.Description.{Column}
+use Rattle.tds_columns.specs.ReturnedType.{return_column}
 use Rattle.tds_csv.specs.declared.sink.Sink.{Sink}
 use Rattle.tds_csv.specs.Conversion.{Conversion}
 use Rattle.tds_csv.specs.Sinks.{Held, held}
@@ -27,14 +28,15 @@ use Rattle.tds_values.specs.declared.kind.Kind.{Kind}
 use Rattle.tds_values.specs.declared.kind.Reach.{Reach}
 use Rattle.tds_values.specs.declared.kind.Reach.TheVariants.{Short, Chunked}
 use Rattle.tds_rows.specs.declared.Charset.{Charset}
-use Rattle.tds_rows.specs.Cells.{Cell, CellPart, LongShape, SpellsCell, WholeCell, cell, long_start}
+use Rattle.tds_rows.specs.Cells.{Cell, CellPart, LongShape, SpellsCell, WholeCell, cell, cell_start, long_start, return_charset, shape}
 use Rattle.tds_rows.specs.CellSteps.{FieldPut, cell_so_far}
+use Rattle.tds_rows.specs.PassedCells.{CellPassed, return_cell}
 use Rattle.tds_rows.specs.RowSteps.{RowPut, RowsRead, RowsStop}
-use Rattle.tds_rows.specs.Rows.{RowPart, RowToken, SpellsToken, WholeRow, row, row_so_far, token_byte, token_start}
+use Rattle.tds_rows.specs.Rows.{RowPart, RowToken, SpellsRowAs, WholeRow, row, row_so_far, token_byte, token_start}
 use Rattle.tds_rows.specs.Runs.{RowsPart, rows, rows_start}
-use Rattle.tds_rows.specs.Successes.{BeginNoRow, Brings, SpellsRows, SucceedsOn}
+use Rattle.tds_rows.specs.Successes.{BeginNoRow, Brings, ReadsOn, SpellsRows, SucceedsOn}
 use Rattle.tds_rows.proofs.CellLaws.{cell_is_read}
-use Rattle.tds_rows.proofs.RowLaws.{nbc_row_is_read, row_is_read, some_bitmap}
+use Rattle.tds_rows.proofs.RowLaws.{nbc_row_is_read, row_is_read, shape-HasBytes, some_bitmap}
 use Rattle.tds_rows.proofs.RunSteps.{row_among_rows, row_token}
 
 rose_from : (f : ℕ) (b : Bool) → nat_lt f (2 ^ 64 - 1) ≡ b → Rose f (one_more f)
@@ -75,14 +77,14 @@ module _ {S : Type 0} (g : Grammar S Fault) (from to : S) (a b : Seen) (front mo
     where
       ends : Ends a b (bytes ++ x.part) x.own → front ++ more ≡ bytes ++ x.part
       ends (inl y) =
-          let l = left_of brings.input y.0.0 b.left (subst (λ o. Consumes o b.left y.0.0) brings.left y.0.1) in
-          sym brings.comes ∙ ap (λ i. (a.future i).bytes) l.2 ∙ ap (λ (c : Coming). c.bytes) (y.0.2 l.0)
+          let l = left_of brings.input y.0 b.left (subst (λ o. Consumes o b.left y.0) brings.left y.1) in
+          sym brings.comes ∙ ap (λ i. (a.future i).bytes) l.2 ∙ ap (λ (c : Coming). c.bytes) (y.2 l.0)
       ends (inr (inl y)) =
-          let read = y.0.0 in
-          let l = left_of brings.input read b.left (subst (λ o. Consumes o b.left read) brings.left y.0.1) in
-          let none : l.0 ≡ [] = subst IsAtEnd l.1 y.0.2 in
-          sym brings.comes ∙ ap (λ i. (a.future i).bytes) (l.2 ∙ ap (λ v. read ++ v) none ∙ append-nil read) ∙ ap (λ (c : Coming). c.bytes) y.0.3
-      ends (inr (inr y)) = absurd (calm (subst (Rose a.failures) (sym y.1) (rose a.failures)))
+          let read = y.0 in
+          let l = left_of brings.input read b.left (subst (λ o. Consumes o b.left read) brings.left y.1) in
+          let none : l.0 ≡ [] = subst IsAtEnd l.1 y.2 in
+          sym brings.comes ∙ ap (λ i. (a.future i).bytes) (l.2 ∙ ap (λ v. read ++ v) none ∙ append-nil read) ∙ ap (λ (c : Coming). c.bytes) y.3
+      ends (inr (inr y)) = absurd (calm (subst (Rose a.failures) (sym y.4.0) (rose a.failures)))
 
   -- a reading that stops does so at the end of what comes
   pub stopped_there : (place : ℕ) (at : S) (stop : Stop) → StopsReading g from a b place at stop → at ≡ to
@@ -97,14 +99,19 @@ longest_end g from to front more spelt none = longest_at g from front more to sp
     some_taken : (d : ℕ) (more : List ℕ) → 0 < d → d ≤ length more → take d more ≡ [] → ⊥
     some_taken d more some within e = omega (arith, ap length e, length-take-le d more within)
 
+-- a call that reads whole elements to a state at which nothing follows doesn't stop in reading
+none_stops_reading : {S : Type 0} (g : Grammar S Fault) (from to : S) (a b : Seen) (place : ℕ) (at : S) (stop : Stop) (front more : List ℕ) → Brings a (front ++ more) → Spelt g from front to → g.size to ≡ 0
+    → (Rose a.failures b.failures → ⊥) → StopsReading g from a b place at stop → ⊥
+none_stops_reading g from to a b place at stop front more brings spelt none reads x =
+    let there : at ≡ to = stopped_there g from to a b front more brings (longest_end g from to front more spelt none) reads place at stop x in
+    let some : 0 < g.size at = stops_size g from a b place at stop x in
+    omega (arith, some, none, ap g.size there)
+
 -- a call that reads whole elements to a state at which nothing follows, and puts their text, doesn't stop
 pub none_stops : {S : Type 0} (g : Grammar S Fault) (text : S → List ℕ) (from to : S) (a b : Seen) (place : ℕ) (h i : Held) (failed : Bool) (stop : Stop) (front more : List ℕ) → Brings a (front ++ more) → Spelt g from front to → g.size to ≡ 0
     → (Rose a.failures b.failures → ⊥) → (Rose h.failures i.failures → ⊥) → StopsStreaming g text from a b place h i failed stop → ⊥
 none_stops g text from to a b place h i failed stop front more brings spelt none reads writes x = elim x.cause [
-  | inl y ↦
-      (let there : x.at ≡ to = stopped_there g from to a b front more brings (longest_end g from to front more spelt none) reads place x.at stop y.0 in
-      let some : 0 < g.size x.at = stops_size g from a b place x.at stop y.0 in
-      omega (arith, some, none, ap g.size there))
+  | inl y ↦ none_stops_reading g from to a b place x.at stop front more brings spelt none reads y.0
   | inr y ↦
       (let z = y.0 in
       let same : z.middle.failures ≡ h.failures = z.puts.2.4 in
@@ -123,6 +130,13 @@ pub field_succeeds : {R W U : Type 0} (remaining : R → Option (List ℕ)) (con
 field_succeeds remaining contents from column last old new before after (Ok x) value bytes more put spelt = λ brings reads writes. refl
 field_succeeds remaining contents from column last old new before after (Err stop) value bytes more put spelt = λ brings reads writes. absurd (none_stops (cell column) (cell_so_far column last) from (WholeCell value) (seen remaining old) (seen remaining new) old.place (held contents before) (held contents after) after.failed stop bytes more brings spelt refl reads writes put)
 
+pub value_passes : {R U : Type 0} (remaining : R → Option (List ℕ)) (kind : Kind) (old new : Payload R) (result : Result U Stop) (value : Cell) (bytes more : List ℕ)
+    → CellPassed remaining (cell_start kind (shape return_charset kind)) old new result → SpellsCell kind (shape return_charset kind) value bytes → ReadsOn remaining old new result (bytes ++ more)
+value_passes remaining kind old new (Ok x) value bytes more passed spelt = λ brings reads. refl
+value_passes remaining kind old new (Err stop) value bytes more passed spelt = λ brings reads.
+    let read = cell_is_read return_column kind (shape return_charset kind) value bytes (shape-HasBytes return_charset kind) spelt in
+    absurd (none_stops_reading return_cell (cell_start kind (shape return_charset kind)) (WholeCell value) (seen remaining old) (seen remaining new) old.place passed.at stop bytes more brings read refl reads passed.stops)
+
 pub long_is_read : (column : ℕ) (kind : Kind) (c : Conversion) (reach : Reach) (value : Cell) (bytes : List ℕ) → SpellsCell kind (LongShape c reach) value bytes → Spelt (cell column) (long_start c reach) bytes (WholeCell value)
 long_is_read column kind c Short value bytes h = cell_is_read column kind (LongShape c Short) value bytes tt h
 long_is_read column kind c Chunked value bytes h = cell_is_read column kind (LongShape c Chunked) value bytes tt h
@@ -130,7 +144,7 @@ long_is_read column kind c Chunked value bytes h = cell_is_read column kind (Lon
 -- ---- rows, one after another
 
 -- what spells a row of some columns is read as it
-token_is_read : (token : RowToken) (charset : Charset) (columns : List Column) (cells : List Cell) (bytes : List ℕ) → 0 < length columns → SpellsToken token charset columns cells bytes → Spelt (row charset) (token_start token charset columns) bytes (WholeRow cells)
+token_is_read : (token : RowToken) (charset : Charset) (columns : List Column) (cells : List Cell) (bytes : List ℕ) → 0 < length columns → SpellsRowAs token charset columns cells bytes → Spelt (row charset) (token_start token charset columns) bytes (WholeRow cells)
 token_is_read token charset columns cells bytes some h = grind (arith, nbc_row_is_read, row_is_read, some_bitmap)
 
 module _ (token : RowToken) (charset : Charset) (columns : List Column) (some_columns : 0 < length columns) where
@@ -143,7 +157,7 @@ module _ (token : RowToken) (charset : Charset) (columns : List Column) (some_co
   abbrev begun_after : List (List Cell) → RowsPart
   begun_after before = among before (token_start token charset columns)
 
-  row_of_rows : (before : List (List Cell)) (cells : List Cell) (bytes : List ℕ) → SpellsToken token charset columns cells bytes → Spelt all_rows (begun_after before) bytes (among before (WholeRow cells))
+  row_of_rows : (before : List (List Cell)) (cells : List Cell) (bytes : List ℕ) → SpellsRowAs token charset columns cells bytes → Spelt all_rows (begun_after before) bytes (among before (WholeRow cells))
   row_of_rows before cells bytes h = Inside-Spelt (row charset) all_rows (among before) (row_among_rows token charset columns before) (token_start token charset columns) bytes (WholeRow cells) (token_is_read token charset columns cells bytes some_columns h)
 
   -- rows that are spelt are read as rows

@@ -7,11 +7,12 @@ use Rattle.tds_rows.specs.declared.Charset.{Charset}
 use Rattle.tds_rows.specs.declared.table.Ahead.{Ahead}
 use Rattle.tds_rows.specs.declared.table.Table.{Table}
 use Rattle.tds_rows.specs.Cells.{Cell}
-use Rattle.tds_rows.specs.CellSteps.{WritesKind, is_last, whole_size}
-use Rattle.tds_rows.specs.Runs.{OneWritten, WritesCells, WritesOne, WritesRows}
+use Rattle.tds_rows.specs.CellSteps.{WritesKind, is_last_column, whole_size}
+use Rattle.tds_rows.specs.Runs.{OneWritten, WritesOne, WritesRows}
 use Rattle.tds_rows.specs.Tables.{IsAhead, Knows, NextColumn, TakesColumn}
 use Rattle.tds_rows.proofs.TableSteps.{last_one}
 use Rattle.tds_rows.proofs.RunSteps.{one_cell, rows_step}
+use Rattle.tds_rows.proofs.CellWords.{WritesCells}
 
 -- Between two places of a row these bytes are its cells, and this is their text.
 abbrev pub CellsBetween : Table → List Column → Ahead → Ahead → List ℕ → List ℕ → Type 0
@@ -35,7 +36,7 @@ module _ (table : Table) (from old new : Ahead) (used u made m : ℕ) (bytes to 
 module _ (table : Table) (columns : List Column) (old new : Ahead) (kind : Kind) (last : Bool) (u m : ℕ) (bytes text : List ℕ) (knows : Knows table columns) (taken : TakesColumn table columns old new kind) (end : last ≡ (old.column + 1 == table.count))
     (wrote : WritesKind table.charset kind old.column last (take u bytes) (take m text)) where
   -- it is the last one where none is left
-  ends : last ≡ is_last (drop new.column columns)
+  ends : last ≡ is_last_column (drop new.column columns)
   ends = end ∙ last_one columns (drop new.column columns) taken.column old.column table.count knows.counted taken.next
 
   -- its column was taken, and it was written

@@ -1,7 +1,7 @@
 -- A table of columns, column by column.
 use Rattle.std.proofs.Common.{◌≡◌, ◌∙◌, ℕ, true, false, ◌+◌, ◌≤◌, ◌<◌, List, [], ◌∷◌, ◌++◌, length, take, drop, get_or, refl, sym, ap, arith}
 use Rattle.std.specs.Prelude.{map, slice_set, ◌==◌}
-use Rattle.tds_rows.specs.CellSteps.{is_last}
+use Rattle.tds_rows.specs.CellSteps.{is_last_column}
 use Rattle.std.proofs.lemmas.Bool.{eq-eqb, ne_eqb}
 use Rattle.std.proofs.lemmas.List.{drop_all, drop_more, get_or-map, get_or-take, length-drop, length-take, map-append, take_more, take_more_set}
 use Rattle.tds_values.specs.declared.kind.Kind.{Kind}
@@ -56,12 +56,12 @@ module _ (table : Table) (columns : List Column) (at : Ahead) (kind : Kind) (kno
 
 module _ (table : Table) (columns : List Column) (old new : Ahead) (knows : Knows table columns) (is : IsAhead table columns old) (further : new.column ≡ old.column + 1) (some : old.column < table.count) where
   -- the place after a column that the table knows
-  pub behind_known : old.column < table.known → columns_left new.walk ≡ columns_left old.walk → IsAhead table columns new
-  behind_known known same = grind arith
+  pub after_known : old.column < table.known → columns_left new.walk ≡ columns_left old.walk → IsAhead table columns new
+  after_known known same = grind arith
 
   -- the place after a column that the walk gives
-  pub behind_walked : table.known ≤ old.column → columns_left new.walk ≡ drop 1 (columns_left old.walk) → IsAhead table columns new
-  behind_walked beyond steps =
+  pub after_walked : table.known ≤ old.column → columns_left new.walk ≡ drop 1 (columns_left old.walk) → IsAhead table columns new
+  after_walked beyond steps =
       record {
         counted = omega (arith, knows.counted, further, some);
         within = λ most. absurd (omega (arith, most, beyond, further));
@@ -69,8 +69,8 @@ module _ (table : Table) (columns : List Column) (old new : Ahead) (knows : Know
       }
 
 -- what a walk leaves after its next column
-pub walk_behind : (walk new : Walk) (column : Option walks.Column) → YieldsFirstBy column_value columns_left walk column new → columns_left new ≡ drop 1 (columns_left walk)
-walk_behind walk new column y = grind arith
+pub walk_after : (walk new : Walk) (column : Option walks.Column) → YieldsFirstBy column_value columns_left walk column new → columns_left new ≡ drop 1 (columns_left walk)
+walk_after walk new column y = grind arith
 
 -- the next column was taken
 pub takes : (table : Table) (columns : List Column) (old new : Ahead) (kind : Kind) → NextColumn columns old kind → new.column ≡ old.column + 1 → IsAhead table columns new → TakesColumn table columns old new kind
@@ -81,7 +81,7 @@ pub not_end : (columns : List Column) (k n : ℕ) → n ≡ length columns → k
 not_end columns k n whole within isnt = grind (arith, eq_false)
 
 -- a column is the last one where as many as there are lie before what is after it
-pub last_one : (columns rest : List Column) (c : Column) (k n : ℕ) → n ≡ length columns → drop k columns ≡ c ∷ rest → (k + 1 == n) ≡ is_last rest
+pub last_one : (columns rest : List Column) (c : Column) (k n : ℕ) → n ≡ length columns → drop k columns ≡ c ∷ rest → (k + 1 == n) ≡ is_last_column rest
 last_one columns [] c k n whole next = eq-eqb (k + 1) n (omega (arith, whole, length-drop k columns, ap length next))
 last_one columns (d ∷ ds) c k n whole next = ne_eqb (k + 1) n (λ e. omega (arith, e, whole, length-drop k columns, ap length next))
 

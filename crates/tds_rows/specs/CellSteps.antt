@@ -15,12 +15,11 @@ use Rattle.tds_packet.specs.Payloads.{IsGoing, LeavesPayload, seen}
 use Rattle.tds_packet.specs.Reading.{StopsReading}
 use Rattle.tds_packet.specs.Seen.{Seen, Takes, IsBetween}
 use Rattle.tds_columns.specs.Description.{Column}
-use Rattle.tds_csv.specs.Quoting.{behind_comma, in_line}
+use Rattle.tds_csv.specs.Quoting.{after_comma, in_line}
 use Rattle.tds_csv.specs.declared.sink.Sink.{Sink}
 use Rattle.tds_csv.specs.Sinks.{Held, held}
 use Rattle.tds_csv.specs.Streaming.{StopsStreaming, Streams}
 use Rattle.tds_rows.specs.declared.Charset.{Charset}
-use Rattle.tds_rows.specs.declared.gather.TheConstants.{LONGEST_CELL}
 use Rattle.tds_rows.specs.declared.run.buffered.Written.{Written}
 use Rattle.tds_rows.specs.ShortCells.{IsShortLeft, short_conversion, short_size}
 use Rattle.tds_rows.specs.WholeCells.{WritesCell, WritesWhole}
@@ -29,12 +28,12 @@ use Rattle.tds_rows.specs.Cells.{Cell, CellPart, WholeCell, cell, cell_start, fi
 -- a field that is open, with the comma before it; nothing where it isn't
 abbrev pub opened : ℕ → Option (List ℕ) → List ℕ
 opened column None = []
-opened column (Some text) = behind_comma column text
+opened column (Some text) = after_comma column text
 
 -- whether no column follows
-abbrev pub is_last : List Column → Bool
-is_last [] = true
-is_last (c ∷ cs) = false
+abbrev pub is_last_column : List Column → Bool
+is_last_column [] = true
+is_last_column (c ∷ cs) = false
 
 -- The text is that of a scalar value of these bytes, in its line.
 abbrev pub IsValueText : Kind → ℕ → Bool → List ℕ → List ℕ → Type 0
@@ -51,22 +50,22 @@ pub record IsScalarKind (kind : Kind) : Type 0 where
   pub scalar : IsTrue (is_scalar kind)
 
 -- where the value of a scalar cell is in its bytes: after a length, unless each value has as many bytes
-abbrev pub start_behind : Option ℕ → ℕ
-start_behind (Some n) = 0
-start_behind None = 1
+abbrev pub start_after : Option ℕ → ℕ
+start_after (Some n) = 0
+start_after None = 1
 
 -- how many bytes it has: always as many, or what the length says
-abbrev pub length_behind : Option ℕ → List ℕ → ℕ
-length_behind (Some n) bytes = n
-length_behind None bytes = slice_index bytes 0
+abbrev pub length_after : Option ℕ → List ℕ → ℕ
+length_after (Some n) bytes = n
+length_after None bytes = slice_index bytes 0
 
 -- where the value of a scalar cell of a kind lies in its bytes
 abbrev pub value_start : Kind → ℕ
-value_start kind = start_behind (fixed_length kind)
+value_start kind = start_after (fixed_length kind)
 
 -- how many bytes the value has of the scalar cell at the front of these bytes; 0 where it is NULL
 abbrev pub value_length : Kind → List ℕ → ℕ
-value_length kind bytes = length_behind (fixed_length kind) bytes
+value_length kind bytes = length_after (fixed_length kind) bytes
 
 -- how many bytes the scalar cell at the front of these bytes has
 abbrev pub scalar_size : Kind → List ℕ → ℕ
@@ -135,14 +134,6 @@ pub record PutsField (from : CellPart) (column : ℕ) (last : Bool) (old new : S
 abbrev pub StopsField : CellPart → ℕ → Bool → Seen → Seen → ℕ → Held → Held → Bool → Stop → Type 0
 StopsField from column last = StopsStreaming (cell column) (cell_so_far column last) from
 
--- A cell of a kind was read, and its text put.
-abbrev pub PutsCell : Charset → Kind → ℕ → Bool → Seen → Seen → ℕ → ℕ → Held → Held → Type 0
-PutsCell charset kind = PutsField (cell_start kind (shape charset kind))
-
--- A cell of a kind stopped so.
-abbrev pub StopsCell : Charset → Kind → ℕ → Bool → Seen → Seen → ℕ → Held → Held → Bool → Stop → Type 0
-StopsCell charset kind = StopsField (cell_start kind (shape charset kind))
-
 -- The bytes of a scalar cell were read, whose length is allowed; and where its value is refused, this is the stop.
 pub record GathersCell (kind : Kind) (from : CellPart) (column : ℕ) (old new : Seen) (place place' : ℕ) (bytes : List ℕ) : Type 0 where
   pub whole : length bytes ≡ scalar_size kind bytes
@@ -152,16 +143,20 @@ pub record GathersCell (kind : Kind) (from : CellPart) (column : ℕ) (old new :
   pub refused : 0 < value_length kind bytes → is_ok (read_of kind (value_bytes kind bytes)) ≡ false
       → StallsCell from column old new place (record { fault = BadValue column; place = Payload (place + value_start kind) })
 
+-- the most bytes that a cell of a scalar kind has: a length and a decimal
+abbrev pub longest_cell : ℕ
+longest_cell = 18
+
 -- A cell is to be gathered: the payload hands out bytes, and this area is empty and has room for the longest.
 pub record IsGathering {R : Type 0} (p : payloads.Payload R) (small : Space) : Type 0 where
   pub payload : IsGoing p
   pub empty : small.bytes ≡ []
-  pub room : LONGEST_CELL ≤ small.room
+  pub room : longest_cell ≤ small.room
 
 -- The area in which cells are gathered has the room that it had, and held no more than before or than a cell.
 pub record LeavesSmall (before after : Space) : Type 0 where
   pub room : after.room ≡ before.room
-  pub bound : after.peak ≤ max before.peak LONGEST_CELL
+  pub bound : after.peak ≤ max before.peak longest_cell
 
 -- A call left the payload sound, on the same reader and area, and going where it answered no error, with no more than a cell gathered in this area.
 pub record LeavesGathering {R U : Type 0} (old new : payloads.Payload R) (before after : Space) (result : Result U Stop) : Type 0 where

@@ -186,7 +186,7 @@ cell_fault column (ChunkLength c total content) element = chunk_fault column c t
 cell_fault column (ChunkData c total left content) element = unless (is_begun c (content ++ element)) (BadText column)
 cell_fault column (WholeCell cell) element = None
 
--- a value was read
+-- a value was read; bytes that have none are refused before, so their part is never reached
 abbrev pub value_part : Result ScalarValue ValueFault → CellPart
 value_part (Ok v) = WholeCell (ScalarCell v)
 value_part (Err fault) = WholeCell Null

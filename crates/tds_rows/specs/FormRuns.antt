@@ -1,7 +1,7 @@
 -- What a run over cells by their forms does, whose columns follow one another in a row.
 use Rattle.std.specs.Prelude.{◌≡◌, ◌==◌, ◌⊎◌, ◌+◌, ◌<◌, ◌≤◌, ◌&&◌, ◌∷◌, ◌++◌, ℕ, zero, suc, Bool, false, List, [], length, map, take, drop, get_or}
 use Rattle.tds_columns.specs.Description.{Column}
-use Rattle.tds_csv.specs.Quoting.{behind_comma}
+use Rattle.tds_csv.specs.Quoting.{after_comma}
 use Rattle.tds_rows.specs.declared.Charset.{Charset}
 use Rattle.tds_rows.specs.declared.form.Form.{Form}
 use Rattle.tds_rows.specs.declared.run.fields.TheConstants.{CELL_ROOM}
@@ -40,12 +40,12 @@ FirstWritten charset forms column ends bytes text run = (form : Form) (rest : Li
 abbrev pub WritesForms : Charset → List Form → ℕ → ℕ → List ℕ → List ℕ → Type 0
 WritesForms charset forms column zero bytes text = (bytes ≡ []) × (text ≡ [])
 WritesForms charset forms column (suc n) bytes text = (front : List ℕ) × (rest : List ℕ) × (before : List ℕ) × (field : List ℕ)
-    × (bytes ≡ front ++ rest) × (text ≡ before ++ behind_comma (column + n) field) × WritesForms charset forms column n front before × ((form : Form) → WritesField charset (get_or forms n form).kind rest field)
+    × (bytes ≡ front ++ rest) × (text ≡ before ++ after_comma (column + n) field) × WritesForms charset forms column n front before × ((form : Form) → WritesField charset (get_or forms n form).kind rest field)
 
 -- A run wrote the fields of the bytes that it used, and the comma of the next one.
 abbrev pub FieldsWritten : Charset → List Form → ℕ → List ℕ → List ℕ → FormsRun → Type 0
 FieldsWritten charset forms column bytes text run = (fields : List ℕ) × WritesForms charset forms column run.cells (take run.used bytes) fields
-    × (take run.made text ≡ fields ++ behind_comma (column + run.cells) [])
+    × (take run.made text ≡ fields ++ after_comma (column + run.cells) [])
 
 -- A run wrote the text of the bytes that it used, which are the next cells.
 abbrev pub FormsWritten : Charset → List Form → ℕ → Bool → List ℕ → List ℕ → FormsRun → Type 0

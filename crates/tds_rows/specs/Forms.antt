@@ -4,6 +4,10 @@ use Rattle.tds_rows.specs.declared.Charset.{Charset}
 use Rattle.tds_rows.specs.declared.form.Form.{Form}
 use Rattle.tds_rows.specs.Layouts.{IsLaidOut}
 
+-- how many columns a table knows by itself
+abbrev pub table_length : ℕ
+table_length = 64
+
 -- The values of each of these forms' kinds are laid out as it says, where single-byte text is in this set.
 abbrev pub AreLaidOut : Charset → List Form → Type 0
 AreLaidOut charset forms = (k : ℕ) (form : Form) → k < length forms → IsLaidOut charset (get_or forms k form).kind (get_or forms k form).layout

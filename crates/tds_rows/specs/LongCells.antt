@@ -8,12 +8,12 @@ use Rattle.tds_packet.specs.declared.fault.Stop.{Stop}
 use Rattle.tds_packet.specs.declared.payload.Payload as payloads
 use Rattle.tds_packet.specs.Payloads.{seen}
 use Rattle.tds_packet.specs.Seen.{Seen, Takes, Ends, IsBetween, began_at}
-use Rattle.tds_csv.specs.Conversion.{Begins, Conversion, IsFit, closing, conversion_rest, conversion_text}
+use Rattle.tds_csv.specs.Conversion.{BeginsData, Conversion, IsFit, closing, conversion_rest, conversion_text}
 use Rattle.tds_csv.specs.Joining.{emit}
 use Rattle.tds_csv.specs.declared.joiners.JoinFault.{JoinFault}
 use Rattle.tds_csv.specs.declared.joiners.JoinFault.TheVariants.{Stopped}
 use Rattle.tds_csv.specs.declared.joiners.JoinFault.TheVariants as join_faults
-use Rattle.tds_csv.specs.Quoting.{binary_mark, end_behind, quote}
+use Rattle.tds_csv.specs.Quoting.{binary_mark, end_after, quote}
 use Rattle.tds_csv.specs.declared.sink.Sink.{Sink}
 use Rattle.tds_csv.specs.Sinks.{Breaks, Held, Puts, held}
 use Rattle.tds_rows.specs.Cells.{is_total, known_total, null_total, unknown_total, unless, within_total}
@@ -100,7 +100,7 @@ pub record TakesData (c : Conversion) (content kept : List ℕ) (old new : Seen)
   pub takes : Takes old new piece 1
   pub between : IsBetween new
   pub place_is : place' ≡ place + n
-  pub begun : Begins c (content ++ piece)
+  pub begun : BeginsData c (content ++ piece)
   pub puts : Puts before after (added_text c content piece)
   pub kept_is : kept ≡ conversion_rest c (content ++ piece)
 
@@ -119,8 +119,8 @@ pub record RefusesData (c : Conversion) (content : List ℕ) (column most : ℕ)
   pub within : length good < most
   pub takes : Takes old new (good ++ bad ∷ ahead) 1
   pub between : IsBetween new
-  pub begun : Begins c (content ++ good)
-  pub no_text : ¬ (Begins c ((content ++ good) ++ bad ∷ []))
+  pub begun : BeginsData c (content ++ good)
+  pub no_text : ¬ (BeginsData c ((content ++ good) ++ bad ∷ []))
   pub puts : Puts before after (added_text c content good)
   pub stop_is : stop ≡ record { fault = BadText column; place = Payload (place + length good) }
 
@@ -131,7 +131,7 @@ pub record BreaksData (c : Conversion) (content : List ℕ) (most : ℕ) (old ne
   pub within : length good ≤ most
   pub takes : Takes old new (good ++ ahead) 1
   pub between : IsBetween new
-  pub begun : Begins c (content ++ good)
+  pub begun : BeginsData c (content ++ good)
   pub breaks : Breaks before after (added_text c content good) stop
 
 -- The next piece of the content stopped, of at most this many bytes.
@@ -152,7 +152,7 @@ pub record FillsData (c : Conversion) (content : List ℕ) (old new : Seen) (pla
   pub takes : Takes old new more (length more)
   pub between : IsBetween new
   pub place_is : place' ≡ place + length more
-  pub begun : Begins c (content ++ more)
+  pub begun : BeginsData c (content ++ more)
   pub puts : Puts before after (added_text c content more)
   pub few : length after.waiting < 4096
   pub delivered : after.delivered ≤ 2 ^ 64 - 1
@@ -198,7 +198,7 @@ join_stop column place fault = record { fault = BadText column; place = Payload 
 
 -- what the end of this content adds to its line
 abbrev pub ending : Conversion → Bool → Bool → List ℕ → List ℕ
-ending c quoted last content = conversion_text c (conversion_rest c content) ++ (closing quoted ++ end_behind last)
+ending c quoted last content = conversion_text c (conversion_rest c content) ++ (closing quoted ++ end_after last)
 
 -- The content is whole, and a write of its end failed; or it isn't, and nothing was put.
 abbrev pub StopsEnding : Conversion → Bool → Bool → List ℕ → ℕ → ℕ → Held → Held → Bool → Stop → Type 0

@@ -14,7 +14,7 @@ use Rattle.tds_rows.specs.declared.run.fields.TheConstants.{CELL_ROOM}
 use Rattle.tds_rows.specs.declared.table.Ahead.{Ahead}
 use Rattle.tds_rows.specs.declared.table.Table.{Table}
 use Rattle.tds_rows.specs.Cells.{cell_start, shape}
-use Rattle.tds_rows.specs.CellSteps.{IsLeft, is_last}
+use Rattle.tds_rows.specs.CellSteps.{IsLeft, is_last_column}
 use Rattle.tds_rows.specs.Tables.{IsAhead, Knows}
 use Rattle.tds_rows.specs.WholeCells.{WritesWhole}
 
@@ -39,7 +39,7 @@ pub record WritesColumn (charset : Charset) (columns : List Column) (nulls : ℕ
   pub column : Column
   pub left : List Column
   pub next : drop at columns ≡ column ∷ left
-  pub writes : WritesNext charset (nulls at) column.kind at (is_last left) bytes text
+  pub writes : WritesNext charset (nulls at) column.kind at (is_last_column left) bytes text
 
 -- The bytes are the cells of this many columns from one on, each but those that are NULL by their bit, and this is their text in their line.
 abbrev pub WritesMarked : Charset → List Column → (ℕ → Bool) → ℕ → ℕ → List ℕ → List ℕ → Type 0

@@ -1,5 +1,5 @@
 -- What passing over the value of a RETURNVALUE does.
-use Rattle.std.specs.Prelude.{◌≡◌, ℕ, ◌+◌, ◌-◌, ◌%◌, ◌<◌, ◌==◌, true, false, is_ok, List, length, Option, Result, MatchResult, if◌then◌else◌}
+use Rattle.std.specs.Prelude.{◌≡◌, ℕ, ◌+◌, ◌%◌, ◌<◌, true, false, is_ok, List, length, Option, Result, MatchResult}
 use Rattle.tds_packet.specs.declared.fault.Fault.{Fault}
 use Rattle.tds_packet.specs.declared.fault.Stop.{Stop}
 use Rattle.tds_packet.specs.Elements.{Grammar}
@@ -12,7 +12,7 @@ use Rattle.tds_csv.specs.Conversion.{Conversion, is_begun, is_fit, unit}
 use Rattle.tds_values.specs.declared.kind.Kind.{Kind}
 use Rattle.tds_values.specs.Scalar.{read_of}
 use Rattle.tds_rows.specs.CellSteps.{value_bytes, value_length}
-use Rattle.tds_rows.specs.Cells.{Cell, CellPart, ChunkData, ChunkLength, DataCell, ShortData, WholeCell, cell}
+use Rattle.tds_rows.specs.Cells.{Cell, CellPart, WholeCell, cell}
 
 -- how such a value is read
 abbrev pub return_cell : Grammar CellPart Fault
@@ -81,11 +81,3 @@ abbrev pub CellPassed : {R U : Type 0} → (R → Option (List ℕ)) → CellPar
 CellPassed remaining from old new result = MatchResult result
     (λ _. PassesCell from (seen remaining old) (seen remaining new) old.place new.place)
     (λ stop. StopsPassing from (seen remaining old) (seen remaining new) old.place stop)
-
--- within a short value: this many bytes follow its data so far
-abbrev pub short_left : Conversion → ℕ → List ℕ → CellPart
-short_left c left content = if left == 0 then WholeCell (DataCell c content) else ShortData c (left - 1) content
-
--- within a chunk: this many bytes follow the data so far
-abbrev pub chunk_left : Conversion → Option ℕ → ℕ → List ℕ → CellPart
-chunk_left c total left content = if left == 0 then ChunkLength c total content else ChunkData c total (left - 1) content

@@ -3,25 +3,25 @@ use Rattle.std.specs.Prelude.{◌≡◌, ◌==◌, ◌+◌, ◌≤◌, ℕ, Bool
 use Rattle.tds_values.specs.declared.kind.Kind.{Kind}
 use Rattle.tds_packet.specs.declared.fault.Stop.{Stop}
 use Rattle.tds_packet.specs.declared.payload.Payload.{Payload}
-use Rattle.tds_packet.specs.Payloads.{IsGoing, IsOnSame, LeavesPayload, seen}
+use Rattle.tds_packet.specs.Payloads.{IsGoing, IsOnSame, LeavesPayload, buffered, seen}
 use Rattle.tds_packet.specs.Seen.{Takes}
 use Rattle.tds_csv.specs.Quoting.{in_line, null_field}
 use Rattle.tds_csv.specs.Sinks.{IsOnSameSink, IsWriting, LeavesSink, PutsPiece}
-use Rattle.tds_rows.specs.declared.gather.TheConstants.{LONGEST_CELL}
 use Rattle.tds_rows.specs.declared.reading.Rows.{Rows}
 use Rattle.tds_rows.specs.declared.table.Ahead.{Ahead}
 use Rattle.tds_rows.specs.Cells.{CellPart}
 use Rattle.tds_meter.specs.Space.{Space}
-use Rattle.tds_rows.specs.CellSteps.{CellPut, FieldPut, LeavesSmall}
-use Rattle.tds_rows.specs.Rows.{RowPart, RowToken, token_byte}
+use Rattle.tds_rows.specs.CellSteps.{CellPut, FieldPut, LeavesSmall, longest_cell}
+use Rattle.tds_rows.specs.Rows.{RowPart, RowToken, longest_bitmap, token_byte}
 use Rattle.tds_rows.specs.RowSteps.{RowPut}
+use Rattle.tds_rows.specs.Successes.{BeginNoRow}
 use Rattle.tds_rows.specs.Tables.{IsNextKind}
 
 -- A row is being read: payload and sink go on, and the small area has room for a cell.
 pub record IsInRow {R W : Type 0} (rows : Rows R W) : Type 0 where
   pub payload : IsGoing rows.payload.now
   pub sink : IsWriting rows.sink.now
-  pub room : LONGEST_CELL ≤ rows.small.now.room
+  pub room : longest_cell ≤ rows.small.now.room
 
 -- Two readings are on the same payload, sink and area, by the same table.
 abbrev pub IsOnSameRows : {R W : Type 0} → Rows R W → Rows R W → Type 0
@@ -65,14 +65,14 @@ NextRead remaining contents at kind false old new result = CellRead remaining co
 -- A bitmap can be read into the area: it is empty, and has room for the longest.
 pub record AwaitsBitmap (bitmap : Space) : Type 0 where
   pub empty : bitmap.bytes ≡ []
-  pub room : 8192 ≤ bitmap.room
+  pub room : longest_bitmap ≤ bitmap.room
   pub peak : bitmap.peak ≤ bitmap.room
 
 -- A row was read from this state on and its line put, or the call stopped.
 abbrev pub RowRead : {R W U : Type 0} → (R → Option (List ℕ)) → (W → Option (List ℕ)) → RowPart → Rows R W → Rows R W → Result U Stop → Type 0
 RowRead remaining contents start old new result = RowPut remaining contents old.table.now.charset start old.payload.now new.payload.now old.sink.now new.sink.now result
 
--- The token byte of one more row was taken, or, where the answer is no, nothing was.
+-- The token byte of one more row was taken; or, where the answer is no, nothing was, and none is next in the packet.
 abbrev pub TokenTaken : {R : Type 0} → (R → Option (List ℕ)) → RowToken → Payload R → Payload R → Bool → Type 0
 TokenTaken remaining token old new true = Takes (seen remaining old) (seen remaining new) (token_byte token ∷ []) 1 × (new.place ≡ old.place + 1)
-TokenTaken remaining token old new false = new ≡ old
+TokenTaken remaining token old new false = (new ≡ old) × BeginNoRow token (buffered new)

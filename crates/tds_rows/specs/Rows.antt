@@ -36,6 +36,10 @@ bit bitmap k = (slice_index bitmap (k / 8) / 2 ^ (k % 8)) % 2 == 1
 abbrev pub bitmap_length : ℕ → ℕ
 bitmap_length columns = (columns + 7) / 8
 
+-- the most bytes of a bitmap: those for 65,535 columns
+abbrev pub longest_bitmap : ℕ
+longest_bitmap = 8192
+
 -- a column and whether it is NULL by its bit
 abbrev pub marked : List Column → (ℕ → Bool) → ℕ → List (Column × Bool)
 marked [] nulls k = []
@@ -62,9 +66,9 @@ pub record SpellsNbcRow (charset : Charset) (columns : List Column) (cells : Lis
   pub each : SpellsMarked charset (marked columns (bit bitmap) 0) cells rest
 
 -- The bytes after the token byte of a row spell its cells.
-abbrev pub SpellsToken : RowToken → Charset → List Column → List Cell → List ℕ → Type 0
-SpellsToken PlainRow charset columns cells bytes = SpellsRow charset columns cells bytes
-SpellsToken NbcRow charset columns cells bytes = SpellsNbcRow charset columns cells bytes
+abbrev pub SpellsRowAs : RowToken → Charset → List Column → List Cell → List ℕ → Type 0
+SpellsRowAs PlainRow charset columns cells bytes = SpellsRow charset columns cells bytes
+SpellsRowAs NbcRow charset columns cells bytes = SpellsNbcRow charset columns cells bytes
 
 -- a row as far as it is read
 pub data RowPart : Type 0 where

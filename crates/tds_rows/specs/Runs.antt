@@ -30,14 +30,8 @@ pub record Writes {S : Type 0} (g : Grammar S Fault) (text : S → List ℕ) (fr
   pub text_is : text from ++ made ≡ text to
 
 -- a row whose first cells are these, and whose other columns are to come
-abbrev pub behind_cells : Charset → List Cell → List Column → RowPart
-behind_cells charset cells left = next_cell charset cells (marked left (λ k. false) (length cells))
-
--- The bytes are more cells of a row after these, of the columns to come but those left, and this is their text in their line.
-pub record WritesCells (charset : Charset) (cells : List Cell) (columns left : List Column) (column : ℕ) (bytes made : List ℕ) : Type 0 where
-  pub more : List Cell
-  pub counted : length (cells ++ more) ≡ column
-  pub writes : Writes (row charset) row_so_far (behind_cells charset cells columns) bytes made (behind_cells charset (cells ++ more) left)
+abbrev pub after_cells : Charset → List Cell → List Column → RowPart
+after_cells charset cells left = next_cell charset cells (marked left (λ k. false) (length cells))
 
 -- ---- over the ends of rows
 
@@ -84,7 +78,7 @@ pub record WritesRows (charset : Charset) (all : List Column) (cells : List Cell
   pub more : List Cell
   pub rows_counted : length before ≡ count
   pub counted : length more ≡ column
-  pub writes : Writes (rows PlainRow charset all) rows_so_far (record { before = []; at = behind_cells charset cells columns }) bytes made (record { before = before; at = behind_cells charset more left })
+  pub writes : Writes (rows PlainRow charset all) rows_so_far (record { before = []; at = after_cells charset cells columns }) bytes made (record { before = before; at = after_cells charset more left })
 
 -- More cells after these were read, over the ends of this many rows, and their text put.
 pub record RunsRows (charset : Charset) (all : List Column) (cells : List Cell) (columns left : List Column) (column count : ℕ) (old new : Seen) (place place' : ℕ) (earlier after : Held) : Type 0 where
@@ -92,7 +86,7 @@ pub record RunsRows (charset : Charset) (all : List Column) (cells : List Cell) 
   pub more : List Cell
   pub rows_counted : length before ≡ count
   pub counted : length more ≡ column
-  pub streams : Streams (rows PlainRow charset all) rows_so_far (record { before = []; at = behind_cells charset cells columns }) old new earlier after (record { before = before; at = behind_cells charset more left })
+  pub streams : Streams (rows PlainRow charset all) rows_so_far (record { before = []; at = after_cells charset cells columns }) old new earlier after (record { before = before; at = after_cells charset more left })
   pub place_is : place' ≡ place + length streams.bytes
 
 -- ---- what a run gives, whatever the columns that its table knows, and whatever the cells before it

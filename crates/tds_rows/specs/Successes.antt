@@ -8,13 +8,17 @@ use Rattle.tds_columns.specs.Description.{Column}
 use Rattle.tds_csv.specs.declared.sink.Sink.{Sink}
 use Rattle.tds_rows.specs.declared.Charset.{Charset}
 use Rattle.tds_rows.specs.Cells.{Cell}
-use Rattle.tds_rows.specs.Rows.{RowToken, SpellsToken, token_byte}
+use Rattle.tds_rows.specs.Rows.{RowToken, SpellsRowAs, token_byte}
 
 -- The reader tells what it has left, and with it these bytes are to come.
 pub record Brings (seen : Seen) (bytes : List ℕ) : Type 0 where
   pub input : List ℕ
   pub left : seen.left ≡ Some input
   pub comes : (seen.future input).bytes ≡ bytes
+
+-- Where these bytes are to come and no read fails, the call succeeds.
+abbrev pub ReadsOn : {R U E : Type 0} → (R → Option (List ℕ)) → Payload R → Payload R → Result U E → List ℕ → Type 0
+ReadsOn remaining old new result bytes = Brings (seen remaining old) bytes → ¬ Rose old.from.now.failures new.from.now.failures → is_ok result ≡ true
 
 -- Where these bytes are to come and no read and no write fails, the call succeeds.
 abbrev pub SucceedsOn : {R W U E : Type 0} → (R → Option (List ℕ)) → Payload R → Payload R → Sink W → Sink W → Result U E → List ℕ → Type 0
@@ -23,9 +27,9 @@ SucceedsOn remaining old new before after result bytes = Brings (seen remaining 
 
 -- The bytes spell these rows, one at least, each further one after its token byte.
 abbrev pub SpellsRows : RowToken → Charset → List Column → List Cell → List (List Cell) → List ℕ → Type 0
-SpellsRows token charset columns first [] bytes = SpellsToken token charset columns first bytes
+SpellsRows token charset columns first [] bytes = SpellsRowAs token charset columns first bytes
 SpellsRows token charset columns first (next ∷ later) bytes = (front : List ℕ) × (rest : List ℕ) × (bytes ≡ front ++ token_byte token ∷ rest)
-    × SpellsToken token charset columns first front × SpellsRows token charset columns next later rest
+    × SpellsRowAs token charset columns first front × SpellsRows token charset columns next later rest
 
 -- The bytes don't begin with a token byte of such a row.
 abbrev pub BeginNoRow : RowToken → List ℕ → Type 0

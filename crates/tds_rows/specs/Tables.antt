@@ -3,7 +3,7 @@ use Rattle.std.specs.Prelude.{◌≡◌, ◌⊎◌, ◌+◌, ◌<◌, ◌≤◌,
 use Rattle.tds_values.specs.declared.kind.Kind.{Kind}
 use Rattle.tds_columns.specs.Description.{Column}
 use Rattle.tds_columns.specs.Walking.{columns_left}
-use Rattle.tds_rows.specs.CellSteps.{is_last}
+use Rattle.tds_rows.specs.CellSteps.{is_last_column}
 use Rattle.tds_rows.specs.Forms.{AreLaidOut}
 use Rattle.tds_rows.specs.declared.table.Ahead.{Ahead}
 use Rattle.tds_rows.specs.declared.form.Form.{Form}
@@ -73,4 +73,4 @@ pub record IsNextKind (table : Table) (at : Ahead) (next_kind : Kind) (is_end : 
   pub rest : List Column
   pub next : drop at.column columns ≡ column ∷ rest
   pub kind : next_kind ≡ column.kind
-  pub last : is_end ≡ is_last rest
+  pub last : is_end ≡ is_last_column rest

@@ -2,7 +2,7 @@
 ghost use Rattle.std.specs.Prelude.{◌≡◌, ◌≤◌, None, Some};
 ghost use Rattle.tds_packet.specs.Payloads.{IsGoing};
 ghost use Rattle.tds_rows.specs.Cells.{ScalarBytes, ScalarLength, cell_start, shape};
-ghost use Rattle.tds_rows.specs.CellSteps.{CellGathered, IsGathering, IsScalarKind, LeavesGathering};
+ghost use Rattle.tds_rows.specs.CellSteps.{CellGathered, IsGathering, IsScalarKind, LeavesGathering, longest_cell};
 ghost use Rattle.tds_rows.specs.declared.Charset as sets;
 ghost use Rattle.tds_values.specs.Kind as kinds;
 
@@ -92,7 +92,7 @@ pub(crate) fn gather_scalar<R: Read>(
 ) -> Result<(), Stop>
     requires going { IsGoing payload.old }
     requires scalar { IsScalarKind kind.now }
-    requires room { LONGEST_CELL ≤ small.old.room }
+    requires room { longest_cell ≤ small.old.room }
     ensures leaves { LeavesGathering payload.old payload.new small.old small.new result }
     ensures gives { (charset : sets.Charset) →
         CellGathered R.remaining kind.now (cell_start kind.now (shape charset kind.now)) column

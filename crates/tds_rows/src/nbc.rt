@@ -3,20 +3,19 @@ ghost use Rattle.std.specs.Prelude.{◌≡◌, ℕ, ◌+◌, ◌*◌, ◌<◌, �
 ghost use Rattle.tds_columns.specs.Description.{Column};
 ghost use Rattle.tds_columns.specs.View.{columns_of};
 ghost use Rattle.tds_csv.specs.Sinks.{IsReady, IsWriting, LeavesSink};
-ghost use Rattle.tds_packet.specs.Payloads.{IsGoing, IsSound, LeavesPayload};
+ghost use Rattle.tds_packet.specs.Payloads.{IsGoing, IsSound, LeavesPayload, buffered};
 ghost use Rattle.tds_packet.specs.Reads.{KeepsRoom};
-ghost use Rattle.tds_rows.specs.RowReading.{AwaitsBitmap, IsInRow, LeavesRows, NextRead, RowRead, StaysInRow, TokenTaken};
+ghost use Rattle.tds_rows.specs.RowReading.{AwaitsBitmap, IsInRow, LeavesRows, NextRead, RowRead};
 ghost use Rattle.tds_rows.specs.RowSteps.{RowPut, RowsRead, StopsAgain};
 ghost use Rattle.tds_rows.specs.Cells.{Cell};
-ghost use Rattle.tds_rows.specs.CellSteps.{LeavesSmall};
+ghost use Rattle.tds_rows.specs.CellSteps.{LeavesSmall, longest_cell};
 ghost use Rattle.tds_rows.specs.Layouts.{IsLaidOut};
-ghost use Rattle.tds_rows.specs.Rows.{NbcRow, SpellsNbcRow, bit, bitmap_length, nbc_row_start};
+ghost use Rattle.tds_rows.specs.Rows.{NbcRow, SpellsNbcRow, bit, bitmap_length, longest_bitmap, nbc_row_start};
 ghost use Rattle.tds_rows.specs.Successes.{BeginNoRow, SpellsRows, SucceedsOn};
 ghost use Rattle.tds_rows.specs.Tables.{Knows, KnowsSome};
 
 use crate::Charset;
 use crate::form::Form;
-use crate::gather::LONGEST_CELL;
 use crate::reading::Rows;
 use crate::run::fields::put_null;
 use crate::run::nulls::is_null;
@@ -30,13 +29,13 @@ use tds_packet::{Payload, Stop};
 /// The token byte of an NBCROW (MS-TDS, NBCROW).
 pub const NBCROW: u8 = 0xD2;
 
-/// The most bytes that a bitmap has.
-const LONGEST_BITMAP: usize = 8192;
+/// The most bytes that a bitmap has. A call that reads NBCROWs needs room for it in the bitmap's area.
+pub const LONGEST_BITMAP: usize = 8192;
 
 // How many bytes the bitmap of `columns` columns has.
 fn bitmap_size(columns: u16) -> usize
     ensures value { result ≡ bitmap_length columns }
-    ensures most { result ≤ LONGEST_BITMAP }
+    ensures most { result ≤ longest_bitmap }
 {
     (columns as usize + 7) / 8
 }
@@ -79,30 +78,16 @@ impl<'r, 't, 'p, 's, 'c, R: Read, W: Write> Rows<'r, 't, 'p, 's, 'c, R, W> {
         }
     }
 
-    // Takes the token byte of one more NBCROW, and answers yes, if it is next in the packet. It reads nothing.
-    fn take_token(&mut self) -> bool
-        requires { IsInRow self.old }
-        ensures stays { StaysInRow self.old self.new }
-        ensures sink { self.new.sink.now ≡ self.old.sink.now }
-        ensures gives { TokenTaken R.remaining NbcRow self.old.payload.now self.new.payload.now result }
-    {
-        let bytes = self.payload.buffered();
-        if bytes.is_empty() || bytes[0] != NBCROW {
-            return false;
-        }
-        self.payload.consume(1);
-        true
-    }
-
     // Reads an NBCROW and those that follow it in its packet, each with its bitmap alone in the area, and puts
     // their lines. Answers how many they are.
     fn nbc_rows(&mut self, bitmap: &mut Area) -> Result<u64, Stop>
         requires in_row { IsInRow self.old }
         requires knows { KnowsSome self.old.table.now }
-        requires room { LONGEST_BITMAP ≤ bitmap.old.room }
+        requires room { longest_bitmap ≤ bitmap.old.room }
         ensures leaves { LeavesRows self.old self.new result }
         ensures bitmap { KeepsRoom bitmap.old bitmap.new }
         ensures few { IfOk result (λ count. self.old.payload.now.place + count ≤ self.new.payload.now.place + 1) }
+        ensures all { IfOk result (λ _. BeginNoRow NbcRow (buffered self.new.payload.now)) }
         ensures gives { (columns : List Column) → Knows self.old.table.now columns →
             RowsRead R.remaining W.contents NbcRow self.old.table.now.charset columns
             self.old.payload.now self.new.payload.now self.old.sink.now self.new.sink.now result }
@@ -112,7 +97,7 @@ impl<'r, 't, 'p, 's, 'c, R: Read, W: Write> Rows<'r, 't, 'p, 's, 'c, R, W> {
             bitmap.clear();
             self.nbc_row(bitmap)?;
             ended += 1;
-            if !self.take_token() {
+            if !self.take_token(NBCROW) {
                 return Ok(ended);
             }
         }
@@ -139,8 +124,8 @@ pub fn nbc_row<R: Read, W: Write>(
 ) -> Result<(), Stop>
     requires sound { IsSound payload.old }
     requires ready { IsReady sink.old }
-    requires room { LONGEST_BITMAP ≤ bitmap.old.room }
-    requires small_room { LONGEST_CELL ≤ small.old.room }
+    requires room { longest_bitmap ≤ bitmap.old.room }
+    requires small_room { longest_cell ≤ small.old.room }
     ensures payload { LeavesPayload payload.old payload.new result }
     ensures sink { LeavesSink sink.old sink.new result }
     ensures bitmap { KeepsRoom bitmap.old bitmap.new }
@@ -185,13 +170,14 @@ pub fn read_nbc_rows<R: Read, W: Write>(
 ) -> Result<u64, Stop>
     requires going { IsGoing payload.old }
     requires writing { IsWriting sink.old }
-    requires room { LONGEST_BITMAP ≤ bitmap.old.room }
-    requires small_room { LONGEST_CELL ≤ small.old.room }
+    requires room { longest_bitmap ≤ bitmap.old.room }
+    requires small_room { longest_cell ≤ small.old.room }
     ensures payload { LeavesPayload payload.old payload.new result }
     ensures sink { LeavesSink sink.old sink.new result }
     ensures bitmap { KeepsRoom bitmap.old bitmap.new }
     ensures small { LeavesSmall small.old small.new }
     ensures few { IfOk result (λ count. payload.old.place + count ≤ payload.new.place + 1) }
+    ensures all { IfOk result (λ _. BeginNoRow NbcRow (buffered payload.new)) }
     ensures gives { RowsRead R.remaining W.contents NbcRow charset (columns_of columns.entry.bytes.now)
         payload.old payload.new sink.old sink.new result }
     ensures succeeds { (first : List Cell) (later : List (List Cell)) (bytes more : List ℕ) →

@@ -1,14 +1,15 @@
 // The value of a RETURNVALUE, which is passed over (MS-TDS, RETURNVALUE).
-ghost use Rattle.std.specs.Prelude.{◌≡◌, ◌≤◌, ◌<◌, true, false, length, None, Err, IfOk, IfSome, IsTrue};
+ghost use Rattle.std.specs.Prelude.{◌≡◌, ◌≤◌, ◌<◌, ◌++◌, ℕ, List, true, false, length, None, Err, IfOk, IfSome, IsTrue};
 ghost use Rattle.tds_csv.specs.Conversion.{Conversion};
 ghost use Rattle.tds_packet.specs.Payloads.{IsGoing, IsSound, LeavesPayload};
-ghost use Rattle.tds_rows.specs.Cells.{LongShape, ShortLength, cell_start, return_charset, shape};
-ghost use Rattle.tds_rows.specs.CellSteps.{IsScalarKind, LeavesGathering, LeavesSmall, scalar_size};
+ghost use Rattle.tds_rows.specs.Cells.{Cell, LongShape, ShortLength, SpellsCell, cell_start, return_charset, shape};
+ghost use Rattle.tds_rows.specs.CellSteps.{IsScalarKind, LeavesGathering, LeavesSmall, longest_cell, scalar_size};
 ghost use Rattle.tds_rows.specs.PassedCells.{AnyData, CellPassed, DataPassed, IsGoodValue, IsRefusedValue, PiecePassed};
+ghost use Rattle.tds_rows.specs.Successes.{ReadsOn};
 ghost use Rattle.tds_values.specs.Kind as kinds;
 ghost use Rattle.tds_values.specs.declared.kind.Kind.{Kind};
 
-use crate::gather::{LONGEST_CELL, bad_value, gather_scalar};
+use crate::gather::{bad_value, gather_scalar};
 use crate::long::chunks::pass_chunked;
 use crate::long::lengths::read_short_length;
 use crate::run::buffered::length_size;
@@ -67,7 +68,7 @@ fn is_refused(kind: &Kind, cell: &[u8]) -> bool
 fn pass_scalar<R: Read>(payload: &mut Payload<R>, kind: &Kind, small: &mut Area) -> Result<(), Stop>
     requires going { IsGoing payload.old }
     requires scalar { IsScalarKind kind.now }
-    requires room { LONGEST_CELL ≤ small.old.room }
+    requires room { longest_cell ≤ small.old.room }
     ensures leaves { LeavesGathering payload.old payload.new small.old small.new result }
     ensures gives { CellPassed R.remaining (cell_start kind.now (shape return_charset kind.now))
         payload.old payload.new result }
@@ -125,12 +126,15 @@ pub fn pass_over<R: Read>(
 ) -> Result<(), Stop>
     requires sound { IsSound payload.old }
     requires valid { IsTrue (kinds.is_valid kind.now) }
-    requires room { LONGEST_CELL ≤ small.old.room }
+    requires room { longest_cell ≤ small.old.room }
     ensures payload { LeavesPayload payload.old payload.new result }
     ensures small { LeavesSmall small.old small.new }
     ensures gives { payload.old.stopped ≡ None →
         CellPassed R.remaining (cell_start kind.now (shape return_charset kind.now))
         payload.old payload.new result }
+    ensures succeeds { payload.old.stopped ≡ None → (value : Cell) (bytes more : List ℕ) →
+        SpellsCell kind.now (shape return_charset kind.now) value bytes →
+        ReadsOn R.remaining payload.old payload.new result (bytes ++ more) }
     ensures again { IfSome payload.old.stopped (λ stop. (result ≡ Err stop) × (payload.new ≡ payload.old)) }
 {
     if let Some(stop) = payload.stopped() {

@@ -1,9 +1,10 @@
 // The reading of a row's cells (MS-TDS, ROW).
-ghost use Rattle.std.specs.Prelude.{◌<◌, IsTrue};
+ghost use Rattle.std.specs.Prelude.{◌≡◌, ◌<◌, IsTrue};
 ghost use Rattle.tds_csv.specs.Fields.{conversion_of};
 ghost use Rattle.tds_rows.specs.Cells.{long_start};
 ghost use Rattle.tds_rows.specs.Layouts.{IsLaidOut};
-ghost use Rattle.tds_rows.specs.RowReading.{CellRead, ContentRead, IsInRow, LeavesRows};
+ghost use Rattle.tds_rows.specs.RowReading.{CellRead, ContentRead, IsInRow, LeavesRows, StaysInRow, TokenTaken};
+ghost use Rattle.tds_rows.specs.Rows.{RowToken, token_byte};
 ghost use Rattle.tds_values.specs.Kind as kinds;
 
 use crate::form::{Form, Layout};
@@ -34,6 +35,22 @@ pub(crate) struct Rows<'r, 't, 'p, 's, 'c, R, W> {
 }
 
 impl<'r, 't, 'p, 's, 'c, R: Read, W: Write> Rows<'r, 't, 'p, 's, 'c, R, W> {
+    /// Takes the token byte of one more row, and answers yes, if it is next in the packet. It reads nothing.
+    pub(crate) fn take_token(&mut self, byte: u8) -> bool
+        requires { IsInRow self.old }
+        ensures stays { StaysInRow self.old self.new }
+        ensures sink { self.new.sink.now ≡ self.old.sink.now }
+        ensures gives { (token : RowToken) → token_byte token ≡ byte →
+            TokenTaken R.remaining token self.old.payload.now self.new.payload.now result }
+    {
+        let bytes = self.payload.buffered();
+        if bytes.is_empty() || bytes[0] != byte {
+            return false;
+        }
+        self.payload.consume(1);
+        true
+    }
+
     // Reads the next cell of a scalar kind, and puts its text: one across the end of a packet or of a block of
     // text, or one that stops the row. Its bytes are gathered in the small area, where it is judged.
     fn put_gathered(&mut self, at: Ahead<'c>, form: &Form) -> Result<(), Stop>

@@ -3,9 +3,9 @@ ghost use Rattle.std.specs.Prelude.{◌≡◌, ℕ, ◌+◌, ◌<◌, ◌≤◌,
 ghost use Rattle.tds_columns.specs.Description.{Column};
 ghost use Rattle.tds_columns.specs.View.{columns_of};
 ghost use Rattle.tds_csv.specs.Sinks.{IsReady, IsWriting, LeavesSink};
-ghost use Rattle.tds_packet.specs.Payloads.{IsGoing, IsSound, LeavesPayload};
+ghost use Rattle.tds_packet.specs.Payloads.{IsGoing, IsSound, LeavesPayload, buffered};
 ghost use Rattle.tds_rows.specs.Cells.{Cell};
-ghost use Rattle.tds_rows.specs.CellSteps.{LeavesSmall};
+ghost use Rattle.tds_rows.specs.CellSteps.{LeavesSmall, longest_cell};
 ghost use Rattle.tds_rows.specs.RowReading.{IsInRow, LeavesRows, RowRead};
 ghost use Rattle.tds_rows.specs.RowSteps.{RowPut, RowsRead, StopsAgain};
 ghost use Rattle.tds_rows.specs.Rows.{PlainRow, SpellsRow, row_start};
@@ -13,8 +13,8 @@ ghost use Rattle.tds_rows.specs.Successes.{BeginNoRow, SpellsRows, SucceedsOn};
 ghost use Rattle.tds_rows.specs.Tables.{Knows, KnowsSome};
 
 use crate::Charset;
-use crate::gather::LONGEST_CELL;
 use crate::reading::Rows;
+use crate::run::ROW;
 use crate::table::Table;
 use std::io::{Read, Write};
 use tds_columns::Columns;
@@ -44,6 +44,7 @@ impl<'r, 't, 'p, 's, 'c, R: Read, W: Write> Rows<'r, 't, 'p, 's, 'c, R, W> {
         requires knows { KnowsSome self.old.table.now }
         ensures leaves { LeavesRows self.old self.new result }
         ensures few { IfOk result (λ count. self.old.payload.now.place + count ≤ self.new.payload.now.place + 1) }
+        ensures all { IfOk result (λ _. BeginNoRow PlainRow (buffered self.new.payload.now)) }
         ensures gives { (columns : List Column) → Knows self.old.table.now columns →
             RowsRead R.remaining W.contents PlainRow self.old.table.now.charset columns
             self.old.payload.now self.new.payload.now self.old.sink.now self.new.sink.now result }
@@ -54,7 +55,12 @@ impl<'r, 't, 'p, 's, 'c, R: Read, W: Write> Rows<'r, 't, 'p, 's, 'c, R, W> {
             let run = self.put_run(ahead);
             ended += run.rows as u64;
             let Some((form, after)) = self.table.next(run.ahead) else {
-                return Ok(ended + 1);
+                if !self.take_token(ROW) {
+                    return Ok(ended + 1);
+                }
+                ended += 1;
+                ahead = self.table.start();
+                continue;
             };
             self.put_cell(run.ahead, &form)?;
             ahead = after;
@@ -80,7 +86,7 @@ pub fn row<R: Read, W: Write>(
 ) -> Result<(), Stop>
     requires sound { IsSound payload.old }
     requires ready { IsReady sink.old }
-    requires room { LONGEST_CELL ≤ small.old.room }
+    requires room { longest_cell ≤ small.old.room }
     ensures payload { LeavesPayload payload.old payload.new result }
     ensures sink { LeavesSink sink.old sink.new result }
     ensures small { LeavesSmall small.old small.new }
@@ -121,11 +127,12 @@ pub fn read_rows<R: Read, W: Write>(
 ) -> Result<u64, Stop>
     requires going { IsGoing payload.old }
     requires writing { IsWriting sink.old }
-    requires room { LONGEST_CELL ≤ small.old.room }
+    requires room { longest_cell ≤ small.old.room }
     ensures payload { LeavesPayload payload.old payload.new result }
     ensures sink { LeavesSink sink.old sink.new result }
     ensures small { LeavesSmall small.old small.new }
     ensures few { IfOk result (λ count. payload.old.place + count ≤ payload.new.place + 1) }
+    ensures all { IfOk result (λ _. BeginNoRow PlainRow (buffered payload.new)) }
     ensures gives { RowsRead R.remaining W.contents PlainRow charset (columns_of columns.entry.bytes.now)
         payload.old payload.new sink.old sink.new result }
     ensures succeeds { (first : List Cell) (later : List (List Cell)) (bytes more : List ℕ) →

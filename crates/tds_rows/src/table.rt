@@ -1,8 +1,7 @@
 // What the cells of a description's columns need of them, known once for all its rows.
-ghost use Rattle.std.specs.Prelude.{◌≡◌, ◌==◌, ◌⊎◌, ◌+◌, ◌<◌, ◌≤◌, get_or, IfSome, List};
-ghost use Rattle.tds_rows.specs.Forms.{AreLaidOut};
+ghost use Rattle.std.specs.Prelude.{◌≡◌, ◌==◌, ◌⊎◌, ◌+◌, ◌<◌, ◌≤◌, get_or, length, IfSome, List};
+ghost use Rattle.tds_rows.specs.Forms.{AreLaidOut, table_length};
 ghost use Rattle.tds_rows.specs.Layouts.{IsLaidOut};
-ghost use Rattle.tds_rows.specs.declared.table.TheConstants.{TABLE_LENGTH};
 
 use crate::Charset;
 use crate::form::{Form, Layout};
@@ -21,7 +20,8 @@ pub(crate) struct Table<'a> {
     count: u16,
     rest: Walk<'a>,
     pub(crate) charset: Charset,
-    ghost most: { known ≤ TABLE_LENGTH },
+    ghost sized: { length forms ≡ table_length },
+    ghost most: { known ≤ table_length },
     ghost few: { known ≤ count },
     ghost fits: { count ≤ 65535 },
     ghost laid: { AreLaidOut charset forms },

@@ -42,8 +42,8 @@ last_digits-add a (suc b) n =
     ∙ append_assoc (last_digits a (n / 10 ^ suc b)) (last_digits b (n / 10)) ((48 + n % 10) ∷ [])
 
 -- the same, of k digits the last b
-pub last_digits_behind : (k b n : ℕ) → b ≤ k → last_digits k n ≡ last_digits (k - b) (n / 10 ^ b) ++ last_digits b (n % 10 ^ b)
-last_digits_behind k b n h = grind (arith, last_digits-add, last_digits-mod)
+pub last_digits_after : (k b n : ℕ) → b ≤ k → last_digits k n ≡ last_digits (k - b) (n / 10 ^ b) ++ last_digits b (n % 10 ^ b)
+last_digits_after k b n h = grind (arith, last_digits-add, last_digits-mod)
 
 tenth : (k n : ℕ) → 10 ^ suc k ≤ n → 10 ^ k ≤ n / 10
 tenth k n h = let e = pow-succ' 10 k in le-div (10 ^ k) n 10 (omega arith) (omega arith)

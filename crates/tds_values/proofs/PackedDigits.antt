@@ -47,9 +47,9 @@ tens_of pairs first second third fourth =
     let b = pairs / 2 ^ 16 % 2 ^ 16 in
     let c = pairs / 2 ^ 32 % 2 ^ 16 in
     let d = pairs / 2 ^ 48 in
-    let behind = ((0 * 2 ^ 16 + d) * 2 ^ 16 + c) * 2 ^ 16 + b in
-    let lanes : pairs ≡ behind * 2 ^ 16 + a = omega arith in
+    let after = ((0 * 2 ^ 16 + d) * 2 ^ 16 + c) * 2 ^ 16 + b in
+    let lanes : pairs ≡ after * 2 ^ 16 + a = omega arith in
     ap (λ m. bit_and (m * 103 / 1024) (((15 * 2 ^ 16 + 15) * 2 ^ 16 + 15) * 2 ^ 16 + 15)) lanes
-    ∙ tenth a behind ((15 * 2 ^ 16 + 15) * 2 ^ 16 + 15) first
+    ∙ tenth a after ((15 * 2 ^ 16 + 15) * 2 ^ 16 + 15) first
     ∙ ap (λ m. m * 2 ^ 16 + a / 10) (tenth b ((0 * 2 ^ 16 + d) * 2 ^ 16 + c) (15 * 2 ^ 16 + 15) second
     ∙ ap (λ m. m * 2 ^ 16 + b / 10) (tenth c (0 * 2 ^ 16 + d) 15 third ∙ ap (λ m. m * 2 ^ 16 + c / 10) (tenth d 0 0 fourth))) ∙ omega arith

@@ -88,7 +88,7 @@ stored old part rest m at k w h e none =
     length-bytes_of (suc m) w = ap suc (length-bytes_of m (w / 256))
 
 -- and nothing stands after them
-pub nothing_behind : (xs : List ℕ) (m at : ℕ) → drop m (take (at + m - at) xs) ≡ []
-nothing_behind xs m at =
+pub nothing_after : (xs : List ℕ) (m at : ℕ) → drop m (take (at + m - at) xs) ≡ []
+nothing_after xs m at =
     let e : at + m - at ≡ m + 0 = omega arith in
     ap (λ n. drop m (take n xs)) e ∙ drop-take m 0 xs

@@ -106,7 +106,7 @@ fn put_word(to: &mut [u8], at: usize, word: u64) -> usize
 
 // The digits of eight that come after some zeros, or after digits that aren't wanted.
 #[inline(always)]
-fn put_behind(to: &mut [u8], at: usize, skipped: usize, n: u32) -> usize
+fn put_after(to: &mut [u8], at: usize, skipped: usize, n: u32) -> usize
     requires room { at + 8 ≤ length to.old }
     requires few { skipped ≤ 7 }
     requires small { n < 100000000 }
@@ -127,7 +127,7 @@ pub(crate) fn put_tail(to: &mut [u8], at: usize, k: usize, n: u32) -> usize
     ensures end { result ≡ at + k }
     ensures written { take result to.new ≡ take at to.old ++ last_digits k n }
 {
-    put_behind(to, at, 8 - k, n)
+    put_after(to, at, 8 - k, n)
 }
 
 // How many of eight digits are needless zeros: their bytes are 0 once each loses 48, and one bit more in the
@@ -151,7 +151,7 @@ fn put_short(to: &mut [u8], at: usize, n: u32) -> usize
     ensures end { result ≤ at + 8 }
     ensures written { take result to.new ≡ take at to.old ++ decimal n }
 {
-    put_behind(to, at, needless(n), n)
+    put_after(to, at, needless(n), n)
 }
 
 // A number below 100 without a needless zero.

@@ -15,7 +15,7 @@ mod write;
 
 pub use kind::{Kind, Reach};
 pub use laws::{one_date, one_type_info, short_texts};
-pub use plain::{ScalarText, scalar_text};
+pub use plain::{ScalarText, scalar_text, text_room};
 pub use scalar::{Scalar, ScalarValue, ValueFault, read_scalar};
 pub use text::{LONGEST_TEXT, TEXT_ROOM};
 pub use write::{INTEGER_ROOM, write_int4, write_scalar};

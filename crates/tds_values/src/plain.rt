@@ -22,6 +22,13 @@ use uuid::Uuid;
 /// Room for the text of any scalar value.
 pub type ScalarText = ArrayVec<u8, TEXT_ROOM>;
 
+/// How many bytes a [`ScalarText`] may hold.
+pub fn text_room() -> usize
+    ensures { result ≡ 64 }
+{
+    ScalarText::new().capacity()
+}
+
 // Some bytes.
 fn push_text(text: &mut ScalarText, piece: &[u8])
     requires { array_vec_len text.old + length piece.now ≤ TEXT_ROOM }

@@ -257,7 +257,7 @@ fn check_writer(
     let from = ScriptedReader::new(wire, 1000);
     let to = ScriptedWriter::new(4, failing);
     let out = run(areas, from, to, charset, taken);
-    let want = broken_behind(taken, waiting);
+    let want = broken_after(taken, waiting);
     same(n, &(out, areas.waiting()), &(Some(want), waiting))
 }
 
@@ -286,7 +286,7 @@ fn check_response(
 }
 
 #[test]
-fn devices_fail_behind_each_byte(rt: HostRuntime) -> Result<(), Fail> {
+fn devices_fail_after_each_byte(rt: HostRuntime) -> Result<(), Fail> {
     let mut areas = make_areas(rt.alloc(), PACKET_SIZE)?;
     for (elements, charset) in responses() {
         check_response(rt.alloc(), &mut areas, elements, charset)?;

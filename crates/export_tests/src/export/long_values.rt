@@ -84,7 +84,7 @@ fn a_vast_value_is_read_no_further_than_written(rt: HostRuntime) -> Result<(), F
     let out = run(&mut areas, from, to, Charset::Windows1252, &text);
     let want = Outcome {
         left: 7 * 512,
-        ..broken_behind(&text, waiting)
+        ..broken_after(&text, waiting)
     };
     same("a block", &(out, areas.waiting()), &(Some(want), waiting))
 }

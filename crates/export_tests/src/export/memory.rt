@@ -59,7 +59,8 @@ const NOT_FOUND: ServerError = ServerError {
     line: 1,
 };
 
-// A response in two slices, its sets, rows and text, and the message of its error, which comes with an INFO.
+// A response in two slices, its sets, rows and text, the message of its error, which comes with an INFO, and how many bytes
+// the description has in the end.
 struct Worked {
     what: &'static str,
     first: &'static [u8],
@@ -68,6 +69,7 @@ struct Worked {
     rows: u64,
     text: &'static [u8],
     message: &'static [u8],
+    held: u64,
 }
 
 const WORKED: [Worked; 4] = [
@@ -79,6 +81,7 @@ const WORKED: [Worked; 4] = [
         rows: 1,
         text: TEXT,
         message: NOTHING,
+        held: 12,
     },
     Worked {
         what: "nine NULLs",
@@ -88,6 +91,7 @@ const WORKED: [Worked; 4] = [
         rows: 1,
         text: NINE_TEXT,
         message: NOTHING,
+        held: 83,
     },
     Worked {
         what: "a value in chunks",
@@ -97,6 +101,7 @@ const WORKED: [Worked; 4] = [
         rows: 1,
         text: CHUNKS_TEXT,
         message: NOTHING,
+        held: 19,
     },
     Worked {
         what: "an INFO and an ERROR",
@@ -106,6 +111,7 @@ const WORKED: [Worked; 4] = [
         rows: 3,
         text: TWO_SETS_TEXT,
         message: b"no",
+        held: 12,
     },
 ];
 
@@ -135,7 +141,8 @@ fn check_worked(areas: &mut Areas, row: &Worked) -> Result<(), Fail> {
         row.what,
         &(came, said),
         &(Some(want), Some(row.message.len())),
-    )
+    )?;
+    same(row.what, &areas.description_held(), &row.held)
 }
 
 // Areas that are asked for once more where a request for their memory was refused.

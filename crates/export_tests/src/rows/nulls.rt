@@ -41,7 +41,7 @@ const ROWS: [Good; 7] = [
         text: b"42,NULL\r\n",
     },
     Good {
-        what: "bits behind the last column",
+        what: "bits after the last column",
         columns: TWO,
         bytes: &[0xFC, 0x2A, 0x00, 0x00, 0x00, 0x00],
         text: b"42,NULL\r\n",
@@ -65,7 +65,7 @@ const ROWS: [Good; 7] = [
         text: b"NULL,NULL,NULL,NULL,NULL,NULL,NULL,NULL,42\r\n",
     },
     Good {
-        what: "NULLs before and behind data",
+        what: "NULLs before and after data",
         columns: FOUR,
         bytes: FOUR_ROW,
         text: FOUR_TEXT,
@@ -159,7 +159,7 @@ fn a_write_of_nulls_fails(rt: HostRuntime) -> Result<(), Fail> {
         let came = (out.answer, out.text);
         expect_at(
             &rt,
-            "a block ends behind",
+            "a block ends after",
             n,
             came == (Err(stop), Some(4000)),
         );

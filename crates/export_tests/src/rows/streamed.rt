@@ -2,7 +2,7 @@
 ghost use Rattle.std.specs.Prelude.{◌≡◌, [], false};
 ghost use Rattle.tds_csv.specs.Binary as binary;
 
-use super::{in_packets, length_behind, usual_writer};
+use super::{in_packets, length_after, usual_writer};
 use std::alloc::Global;
 use std::io::Write;
 use std::test::Fail;
@@ -34,7 +34,7 @@ fn stream<J: Joiner + Drop>(
     let mut sink = Sink::new(&mut to, &mut output);
     let answer = stream_value(&mut payload, reach, column, joiner, &mut sink);
     let _ = sink.finish();
-    Ok((answer, length_behind(to.device().kept(), wanted)))
+    Ok((answer, length_after(to.device().kept(), wanted)))
 }
 
 // The two bytes 41 and 80 as a value of column 3, by a joiner of each kind: the second begins no character of UTF-8.

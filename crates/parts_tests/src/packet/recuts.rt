@@ -130,7 +130,7 @@ fn cut_at(wire: &[u8], cut: usize, fault: Fault) -> ScriptedReader<'_> {
 
 // A stop after whole packets, of 109 bytes each where they were read. One was written where 505
 // bytes of the payload were read, and two where 1,010 were.
-fn stopped_behind(fault: Fault, cut: usize) -> RecutOutcome {
+fn stopped_after(fault: Fault, cut: usize) -> RecutOutcome {
     let whole = cut / 109;
     let stands = match whole {
         0..=4 => 0,
@@ -161,7 +161,7 @@ fn whole_packets_stand_where_the_input_stops(rt: HostRuntime) -> Result<(), Fail
                 let writer = ScriptedWriter::new(1000, failing);
                 let reader = cut_at(&wire, cut, fault);
                 let (out, _) = recut_wire(alloc, 512, reader, writer, &wanted)?;
-                expect_at(&rt, "cut at", cut, out == stopped_behind(fault, cut));
+                expect_at(&rt, "cut at", cut, out == stopped_after(fault, cut));
             }
         }
     }

@@ -78,8 +78,8 @@ pub(crate) fn next_character(bytes: &[u8], at: usize) -> Option<Character>
 pub(crate) fn character_at(bytes: &[u8], at: usize) -> Character
     requires some { at + 2 ≤ length bytes.now }
     requires whole { (length bytes.now - at) % 2 ≡ 0 }
-    ensures spells { let behind = drop (at + result.len) bytes.now in
-        utf16.characters (drop at bytes.now) ≡ encode_utf8 result.code ++ utf16.characters behind }
+    ensures spells { let later = drop (at + result.len) bytes.now in
+        utf16.characters (drop at bytes.now) ≡ encode_utf8 result.code ++ utf16.characters later }
     ensures character { IsCharacter result.code result.len }
     ensures within { at + result.len ≤ length bytes.now }
 {

@@ -1,7 +1,7 @@
 // The data of long values, by pieces in the packet.
 ghost use Rattle.std.specs.Prelude.{◌≡◌, ◌<◌, ◌+◌, ◌^◌, ◌++◌, ℕ, List, IfOk};
-ghost use Rattle.tds_csv.specs.Conversion.{Begins, Conversion, Suits, closing, conversion_rest};
-ghost use Rattle.tds_csv.specs.Quoting.{behind_comma, end_behind};
+ghost use Rattle.tds_csv.specs.Conversion.{BeginsData, Conversion, Suits, closing, conversion_rest};
+ghost use Rattle.tds_csv.specs.Quoting.{after_comma, end_after};
 ghost use Rattle.tds_csv.specs.Sinks.{IsWriting, LeavesSink, PutsPiece};
 ghost use Rattle.tds_rows.specs.Blames.{Blames, failures_of, failures_with};
 ghost use Rattle.tds_rows.specs.LongCells.{DataTaken, EndPut, PieceTaken, good_of, join_stop, opening};
@@ -38,7 +38,7 @@ pub(crate) fn put_opening<W: Write>(
     sink: &mut Sink<W>,
 ) -> Result<(), Stop>
     requires { IsWriting sink.old }
-    ensures { PutsPiece W.contents sink.old sink.new (behind_comma column (opening quoted)) result }
+    ensures { PutsPiece W.contents sink.old sink.new (after_comma column (opening quoted)) result }
 {
     let mut comma = [0u8; 1];
     let made = write_comma(column, &mut comma);
@@ -56,7 +56,7 @@ pub(crate) fn put_closing<W: Write>(
     sink: &mut Sink<W>,
 ) -> Result<(), Stop>
     requires { IsWriting sink.old }
-    ensures { PutsPiece W.contents sink.old sink.new (closing quoted ++ end_behind last) result }
+    ensures { PutsPiece W.contents sink.old sink.new (closing quoted ++ end_after last) result }
 {
     let mut end = [0u8; 2];
     let made = write_line_end(last, 0, &mut end);
@@ -83,7 +83,7 @@ fn push_piece<J: Joiner, R: Read, W: Write>(
     ensures further { IfOk result (λ n. IsFurther most payload.old payload.new n) }
     ensures blames { Blames (failures_of payload.old sink.old) (failures_of payload.new sink.new) result }
     ensures gives { (c : Conversion) (content : List ℕ) → Suits J.fit J.begins J.rest J.text J.UNIT J.QUOTED c →
-        J.withheld joiner.old ≡ conversion_rest c content → Begins c content →
+        J.withheld joiner.old ≡ conversion_rest c content → BeginsData c content →
         PieceTaken R.remaining W.contents c content (J.withheld joiner.new) column most
         payload.old payload.new sink.old sink.new result }
 {
@@ -110,7 +110,7 @@ pub(crate) fn push_data<J: Joiner, R: Read, W: Write>(
     ensures place { IfOk result (λ _. payload.new.place ≡ payload.old.place + n) }
     ensures blames { Blames (failures_of payload.old sink.old) (failures_of payload.new sink.new) result }
     ensures gives { (c : Conversion) (content : List ℕ) → Suits J.fit J.begins J.rest J.text J.UNIT J.QUOTED c →
-        J.withheld joiner.old ≡ conversion_rest c content → Begins c content →
+        J.withheld joiner.old ≡ conversion_rest c content → BeginsData c content →
         DataTaken R.remaining W.contents c content (J.withheld joiner.new) column n
         payload.old payload.new sink.old sink.new result }
 {
@@ -136,7 +136,7 @@ pub(crate) fn put_end<J: Joiner, W: Write>(
     ensures sink { LeavesSink sink.old sink.new result }
     ensures blames { (reads : ℕ) → Blames (failures_with reads sink.old) (failures_with reads sink.new) result }
     ensures gives { (c : Conversion) (content : List ℕ) → Suits J.fit J.begins J.rest J.text J.UNIT J.QUOTED c →
-        J.withheld joiner.old ≡ conversion_rest c content → Begins c content →
+        J.withheld joiner.old ≡ conversion_rest c content → BeginsData c content →
         EndPut W.contents c J.QUOTED last content column place sink.old sink.new result }
 {
     match joiner.end(sink) {

@@ -1,4 +1,4 @@
-use Rattle.tds_columns.specs.Description.{WholeDescription}
+use Rattle.tds_columns.proofs.Words.{WholeDescription}
 use Rattle.tds_columns.proofs.ColumnLaws.{description_is_read}
 use Rattle.tds_columns.proofs.GatherMeaning.{described_means}
 use Rattle.tds_columns.proofs.laws.read_as_spelt.Goals as goal

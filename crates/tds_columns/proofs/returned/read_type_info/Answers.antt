@@ -1,45 +1,42 @@
-use Rattle.std.proofs.Common.{◌≡◌, ◌∙◌, ◌-◌, ℕ, List, ◌∷◌, length, take, drop, get_or, sym, ap, rules, arith}
-use Rattle.tds_packet.specs.Payloads.{seen}
-use Rattle.tds_values.specs.TypeInfo.{kind_of}
-use Rattle.tds_columns.proofs.TypeSteps.{head_kept, type_bad, type_cut, type_refused, type_rest, type_whole}
-use Rattle.tds_columns.proofs.ViewLaws.{all_behind}
-use Rattle.tds_packet.proofs.Passing.{passed}
+use Rattle.tds_columns.proofs.Words.{◌≡◌, ◌∙◌, ◌∷◌, refl, sym, rules, arith, slice_index, None, kind_of, passed, refused_at_once, TypeHead, returned_type}
+use Rattle.tds_columns.proofs.ElementSteps.{shrunk, cut_into, element_at, refused_into}
+use Rattle.tds_columns.proofs.TypeSteps.{no_kind, stops_after_steps, type_whole}
 use Rattle.tds_columns.proofs.returned.read_type_info.Goals as goal
 
 pub returns-in-Err-clause-gives : goal.returns-in-Err-clause-gives
 returns-in-Err-clause-gives g c = λ before taken.
-    rw c.place-place.ensures (type_refused before (seen g.R.Read.remaining c.args.payload.now) c.args.small.now.bytes (get_or c.bytes.result.now 7 0) (c.args.payload.now.place - 8) c.in-Err.fault taken c.requires.head.eight
-    (ap (λ l. get_or l 7 0) c.bytes.ensures.value) c.in-Err.ensures.gives)
+    let first = rw c.bytes.ensures.value at c.in-Err.ensures.gives in
+    rw c.place-place.ensures (record { at = TypeHead; stops = refused_at_once returned_type TypeHead _ _ _ c.args.small.now.bytes _ (omega (arith, c.requires.head.eight)) c.requires.head.eight first (rw c.requires.head.eight taken.0) taken.1 })
 
 pub returns-in_err-take_into-clause-gives : goal.returns-in_err-take_into-clause-gives
 returns-in_err-take_into-clause-gives g c = λ before taken.
-    passed _ _ _ _ c.from_residual.ensures.1 (type_cut before (seen g.R.Read.remaining c.args.payload.now) (seen g.R.Read.remaining c.take_into.new.payload) c.args.small.now c.take_into.new.area (get_or c.bytes.result.now 7 0) c.in-Ok.rest c.args.payload.now.place c.in_err-take_into.field-0.0
-    taken c.requires.head.eight (ap (λ l. get_or l 7 0) c.bytes.ensures.value) c.in-Ok.ensures.gives c.requires.head.place (c.in_err-take_into.ensures.gives c.requires.going.going))
-
--- all bytes after the eight
-behind : (byte : ℕ) (bytes : List ℕ) → kind_of (byte ∷ drop 8 bytes) ≡ kind_of (byte ∷ take (length bytes - 8) (drop 8 bytes))
-behind byte bytes = ap (λ l. kind_of (byte ∷ l)) (sym (all_behind bytes 8))
+    let known = rw c.bytes.ensures.value at c.in-Ok.ensures.gives in
+    let e = c.in_err-take_into.ensures.gives c.requires.going.going in
+    passed _ _ _ _ c.from_residual.ensures.1 (stops_after_steps c.args.small.now.bytes taken c.requires.head.eight c.in-Ok.rest known (λ z. omega (arith, z, e.fewer)) c.requires.head.place (cut_into e (rw known) refl))
 
 pub returns-in-Some-clause-kind : goal.returns-in-Some-clause-kind
 returns-in-Some-clause-kind g c =
-    let byte : ℕ = get_or c.bytes.result.now 7 0 in
-    type_rest (seen g.R.Read.remaining c.args.payload.now) (seen g.R.Read.remaining c.take_into.new.payload) c.args.small.now c.take_into.new.area byte c.in-Ok.rest c.args.payload.now.place c.take_into.new.payload.place (drop 8 c.bytes-2.result.now) c.in-Some.kind
-    c.requires.head.eight (ap (λ l. get_or l 7 0) c.bytes.ensures.value) c.in_ok-take_into.ensures.gives (ap (drop 8) c.bytes-2.ensures.value) (behind byte c.bytes-2.result.now ∙ sym c.kind_of.ensures ∙ c.in-Some.is) c.in_ok-take_into.ensures.place
+    let t = c.in_ok-take_into.ensures.gives in
+    let same = element_at t c.bytes-2.result.now 8 c.bytes-2.ensures.value (sym c.requires.head.eight) in
+    record { rest = t.element; info = rw (← same, ← c.bytes.ensures.value) (sym c.kind_of.ensures ∙ c.in-Some.is); takes = rw t.whole t.takes; place_is = rw t.whole c.in_ok-take_into.ensures.place }
 
 pub returns-in-Some-clause-gives : goal.returns-in-Some-clause-gives
 returns-in-Some-clause-gives g c = λ before taken.
-    let byte : ℕ = get_or c.bytes.result.now 7 0 in
-    type_whole before (seen g.R.Read.remaining c.args.payload.now) (seen g.R.Read.remaining c.take_into.new.payload) c.args.small.now c.take_into.new.area byte c.in-Ok.rest (drop 8 c.bytes-2.result.now) c.in-Some.kind
-    taken c.requires.head.eight (ap (λ l. get_or l 7 0) c.bytes.ensures.value) c.in-Ok.ensures.gives c.in_ok-take_into.ensures.gives (ap (drop 8) c.bytes-2.ensures.value) (behind byte c.bytes-2.result.now ∙ sym c.kind_of.ensures ∙ c.in-Some.is)
+    let t = c.in_ok-take_into.ensures.gives in
+    let same = element_at t c.bytes-2.result.now 8 c.bytes-2.ensures.value (sym c.requires.head.eight) in
+    type_whole c.args.small.now.bytes taken c.requires.head.eight c.in-Ok.rest (rw c.bytes.ensures.value at c.in-Ok.ensures.gives) t (rw (same, c.bytes.ensures.value) at (sym c.kind_of.ensures ∙ c.in-Some.is))
 
 pub returns-in-None-clause-area : goal.returns-in-None-clause-area
 returns-in-None-clause-area g c =
     let t = c.in_ok-take_into.ensures.gives in
-    let kept = head_kept c.args.small.now t.element c.take_into.new.area c.truncate.new.self c.requires.head.eight (omega (arith, t.whole, c.in-Ok.ensures.bound)) t.stands c.truncate.ensures in
-    record { room = search rules; bound = kept.1; kept = kept.0 }
+    let kept = shrunk _ t.element _ c.truncate.new.self 8 _ t.stands t.whole (sym c.requires.head.eight) c.truncate.ensures in
+    record { room = search rules; bound = omega (arith, kept.1, c.requires.head.eight, c.in-Ok.ensures.bound); kept = kept.0 }
 
 pub returns-in-None-clause-gives : goal.returns-in-None-clause-gives
 returns-in-None-clause-gives g c = λ before taken.
-    let byte : ℕ = get_or c.bytes.result.now 7 0 in
-    rw c.place-place.ensures (type_bad before (seen g.R.Read.remaining c.args.payload.now) (seen g.R.Read.remaining c.take_into.new.payload) c.args.small.now c.take_into.new.area byte c.in-Ok.rest c.args.payload.now.place (drop 8 c.bytes-2.result.now)
-    taken c.requires.head.eight (ap (λ l. get_or l 7 0) c.bytes.ensures.value) c.in-Ok.ensures.gives c.requires.head.place c.in_ok-take_into.ensures.gives (ap (drop 8) c.bytes-2.ensures.value) (behind byte c.bytes-2.result.now ∙ sym c.kind_of.ensures ∙ c.in-None.is))
+    let t = c.in_ok-take_into.ensures.gives in
+    let known = rw c.bytes.ensures.value at c.in-Ok.ensures.gives in
+    let same = element_at t c.bytes-2.result.now 8 c.bytes-2.ensures.value (sym c.requires.head.eight) in
+    let none : kind_of (slice_index c.args.small.now.bytes 7 ∷ t.element) ≡ None = rw (same, c.bytes.ensures.value) at (sym c.kind_of.ensures ∙ c.in-None.is) in
+    let some = no_kind (slice_index c.args.small.now.bytes 7) t.element known t.whole none in
+    rw c.place-place.ensures (stops_after_steps c.args.small.now.bytes taken c.requires.head.eight c.in-Ok.rest known some c.requires.head.place (refused_into t (omega (arith, some)) (rw known) (rw none)))

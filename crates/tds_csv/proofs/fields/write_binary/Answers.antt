@@ -12,8 +12,8 @@ marked (a ∷ []) h = absurd (omega arith)
 marked (a ∷ b ∷ to) h = refl
 
 -- the digits stand after the mark
-behind_mark : (to digits : List ℕ) (n m : ℕ) → 2 ≤ length to → length digits ≡ n → take (2 + n) (put_mid 2 m (slice_set (slice_set to 0 48) 1 120) digits) ≡ 48 ∷ 120 ∷ digits
-behind_mark to digits n m some whole = grind (arith, common_steps, post_of, marked, take-append-add, take-append-le, take_all)
+after_mark : (to digits : List ℕ) (n m : ℕ) → 2 ≤ length to → length digits ≡ n → take (2 + n) (put_mid 2 m (slice_set (slice_set to 0 48) 1 120) digits) ≡ 48 ∷ 120 ∷ digits
+after_mark to digits n m some whole = grind (arith, common_steps, post_of, marked, take-append-add, take-append-le, take_all)
 
 pub returns-clause-field : goal.returns-clause-field
-returns-clause-field c = grind (arith, common_steps, behind_mark)
+returns-clause-field c = grind (arith, common_steps, after_mark)

@@ -1,9 +1,9 @@
 use Rattle.std.proofs.Common.{◌≡◌, ℕ, ◌≤◌, List, [], ◌∷◌, ◌++◌, length, take, sym, arith, slice_set, cond, ap}
 use Rattle.std.proofs.lemmas.Bool.{ne_eqb}
-use Rattle.tds_csv.specs.Quoting.{behind_comma}
+use Rattle.tds_csv.specs.Quoting.{after_comma}
 use Rattle.tds_csv.proofs.framing.write_comma.Goals as goal
 
-comma_text : (column : ℕ) (to text : List ℕ) → (column ≡ 0 → ⊥) → 1 ≤ length to → take 1 (slice_set to 0 44) ++ text ≡ behind_comma column text
+comma_text : (column : ℕ) (to text : List ℕ) → (column ≡ 0 → ⊥) → 1 ≤ length to → take 1 (slice_set to 0 44) ++ text ≡ after_comma column text
 comma_text column [] text h some = absurd (omega (arith, some))
 comma_text column (x ∷ xs) text h some = sym (ap (λ b. cond b text (44 ∷ text)) (ne_eqb column 0 h))
 

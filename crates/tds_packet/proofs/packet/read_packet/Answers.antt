@@ -10,12 +10,12 @@ returns-in_err-fill-clause-read g c = passed_on _ _ (ReadsPacket c.args.packet.n
 
 pub returns-in_err-head-clause-read : goal.returns-in_err-head-clause-read
 returns-in_err-head-clause-read g c =
-    passed_on _ _ (ReadsPacket c.args.packet.now.room c.args.max_wire c.args.wire (device g.R.Read.remaining c.args.from.now) (device g.R.Read.remaining c.fill.new.from) c.args.packet.now.bytes) c.from_residual-in_err-head.ensures.1 (header_err _ _ _ _ _ _ _ c.fill.new.to c.args.packet.now.bytes _ (search rules) c.in_ok-fill.ensures.read.0 c.in_ok-fill.ensures.read.1.0
+    passed_on _ _ (ReadsPacket c.args.packet.now.room c.args.max_wire c.args.wire (device g.R.Read.remaining c.args.from.now) (device g.R.Read.remaining c.fill.new.from) c.args.packet.now.bytes) c.from_residual-in_err-head.ensures.1 (header_err _ _ _ _ _ _ _ c.fill.new.to c.args.packet.now.bytes _ (search rules) c.in_ok-fill.ensures.read.0 c.in_ok-fill.ensures.read.1
     (rw (← c.room-room.ensures) (sym c.in_err-head.ensures.value)))
 
 pub returns-in_err-read_body-clause-read : goal.returns-in_err-read_body-clause-read
 returns-in_err-read_body-clause-read g c =
-    passed_on _ _ (ReadsPacket c.args.packet.now.room c.args.max_wire c.args.wire (device g.R.Read.remaining c.args.from.now) (device g.R.Read.remaining c.read_body.new.from) c.read_body.new.packet.bytes) c.from_residual-in_err-read_body.ensures.1 (body_err _ _ _ _ (g.R.Read.remaining c.fill.new.from.device) _ _ c.fill.new.from.failures _ c.fill.new.to _ c.in_ok-head.head _ (search rules) (omega (arith, c.in_err-read_body.ensures.len, c.in_ok-head.ensures.fits)) c.in_ok-fill.ensures.read.0 c.in_ok-fill.ensures.read.1.0
+    passed_on _ _ (ReadsPacket c.args.packet.now.room c.args.max_wire c.args.wire (device g.R.Read.remaining c.args.from.now) (device g.R.Read.remaining c.read_body.new.from) c.read_body.new.packet.bytes) c.from_residual-in_err-read_body.ensures.1 (body_err _ _ _ _ (g.R.Read.remaining c.fill.new.from.device) _ _ c.fill.new.from.failures _ c.fill.new.to _ c.in_ok-head.head _ (search rules) (omega (arith, c.in_err-read_body.ensures.len, c.in_ok-head.ensures.fits)) c.in_ok-fill.ensures.read.0 c.in_ok-fill.ensures.read.1
     (rw (← c.room-room.ensures) (sym c.in_ok-head.ensures.value)) c.in_err-read_body.ensures.bytes)
 
 pub returns-clause-read : goal.returns-clause-read

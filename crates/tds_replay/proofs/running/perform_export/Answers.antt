@@ -1,17 +1,10 @@
-use Rattle.std.proofs.Common.{arith, inl, rules}
-use Rattle.std.proofs.lemmas.Bool.Decides.{nat_tests}
+use Rattle.std.proofs.Common.{inl}
 use Rattle.tds_replay.proofs.running.perform_export.Goals as goal
 
-pub say_answer-requires : goal.say_answer-requires
-say_answer-requires g c = grind (arith, nat_tests, c.error_text.ensures.value, c.error_text.ensures.fits, c.export-answer.ensures.intact)
-
-pub returns : goal.returns
-returns g c = inl (record {
+pub returns-clause-performs : goal.returns-clause-performs
+returns-clause-performs g c = inl (record {
   areas = c.in-Ok.areas;
-  areas' = c.export-answer.new.areas;
-  limits_are = c.in-Ok.ensures.limits;
-  answer = c.export-answer.result;
-  exports = c.export-answer.ensures.exports;
-  status_is = c.status_of.ensures;
-  lines = rw (← c.error_text.ensures.value) (search rules);
+  areas' = c.run_export.new.areas;
+  made = c.in-Ok.ensures.made;
+  runs = c.run_export.ensures;
 })

@@ -1,6 +1,6 @@
 use Rattle.std.proofs.Common.{inl, List, [], ◌∷◌, rules, arith, sym, ap, subst, ◌≡◌, ◌∙◌, ◌+◌, ◌-◌, ◌<◌, ◌≤◌, ℕ, length, take, drop, length-take, length-drop}
 use Rattle.tds_rows.specs.CellSteps.{HasInt4}
-use Rattle.tds_columns.proofs.ViewLaws.{all_behind}
+use Rattle.tds_columns.proofs.ViewLaws.{all_after}
 use Rattle.tds_rows.specs.Runs.{RunEnds, WritesRows}
 use Rattle.tds_rows.specs.Tables.{one_on}
 use Rattle.tds_rows.proofs.RunSteps.{made_same, rows_none, rows_onward, writes_int4}
@@ -41,7 +41,7 @@ loop-to-preserved-then-is_end c =
 pub loop-to-preserved-in-loop-to : goal.loop-to-preserved-in-loop-to
 loop-to-preserved-in-loop-to c =
     let l = c.loop-to in
-    let behind = one_on l.ahead in
+    let after = one_on l.ahead in
     let has : HasInt4 c.in-Some.start (take (length c.args.bytes.now - l.used) (drop l.used c.args.bytes.now)) = c.has_int4.ensures.so c.if-has_int4.true in
     let wrote = writes_int4 _ _ _ _ _ _ _ c.in-Some.ensures.most (omega arith) has c.write_int4_field-made.ensures.gives in
     let within : c.write_int4_field-made.result ≤ length c.write_int4_field-made.new.to = search (arith, rules) in
@@ -90,7 +90,7 @@ returns-clause-ends c = λ columns column left knows ahead step.
       | then-loop-to-test+in_default+else-is_end+then-cells-eq0 w ↦ (let lent = take (length l.to - l.made) (drop l.made l.to) in
           let room : length lent ≡ length c.args.to.now - l.made = omega (arith, l.auto.to, length-take (length l.to - l.made) (drop l.made l.to), length-drop l.made l.to) in
           subst (λ (n : ℕ). RunEnds c.args.table.now l.ahead (drop l.used bytes) n) room
-          (subst (λ (b : List ℕ). RunEnds c.args.table.now l.ahead b (length lent)) (all_behind bytes l.used) (w.run_cells-cells.ensures.ends w.if-cells-eq0.true (omega (arith, w.count.ensures, not_end _ _ _ knows.counted ahead.counted (sym w.is_end.ensures ∙ w.if-is_end.false)))))
+          (subst (λ (b : List ℕ). RunEnds c.args.table.now l.ahead b (length lent)) (all_after bytes l.used) (w.run_cells-cells.ensures.ends w.if-cells-eq0.true (omega (arith, w.count.ensures, not_end _ _ _ knows.counted ahead.counted (sym w.is_end.ensures ∙ w.if-is_end.false)))))
           columns column left knows ahead step)
     ]
 

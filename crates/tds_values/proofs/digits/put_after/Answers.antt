@@ -5,7 +5,7 @@ use Rattle.std.proofs.Math.Seq.{take-append-add}
 use Rattle.std.proofs.lemmas.List.{take-take, length-take-le}
 use Rattle.tds_values.specs.ScalarText.{last_digits}
 use Rattle.tds_values.proofs.WordLemmas.{bytes_of, eight_digits, shifted_digits, take-bytes_of, whole_word, word_of}
-use Rattle.tds_values.proofs.digits.put_behind.Goals as goal
+use Rattle.tds_values.proofs.digits.put_after.Goals as goal
 
 eighth_power : (k : ℕ) → 2 ^ (8 * k) ≡ 256 ^ k
 eighth_power zero = refl
@@ -25,9 +25,9 @@ first_of old new at k w room few e =
     ∙ ap (λ n. take (n + k) (take at old ++ bytes_of 8 w)) (sym long) ∙ take-append-add (take at old) (bytes_of 8 w) k
     ∙ ap (λ t. take at old ++ t) (ap (λ m. take k (bytes_of m w)) (sym eight) ∙ take-bytes_of k (8 - k) w)
 
-behind_of : (old new : List ℕ) (at s n w r : ℕ) → at ≤ length old → s ≤ 7 → w ≡ word_of (last_digits 8 n) → r ≡ at + 8
+after_of : (old new : List ℕ) (at s n w r : ℕ) → at ≤ length old → s ≤ 7 → w ≡ word_of (last_digits 8 n) → r ≡ at + 8
     → take r new ≡ take at old ++ bytes_of 8 (w / 2 ^ (8 * s)) → take (at + (8 - s)) new ≡ take at old ++ last_digits (8 - s) n
-behind_of old new at s n w r room few ew er e =
+after_of old new at s n w r room few ew er e =
     let eight : s + (8 - s) ≡ 8 = omega arith in
     first_of old new at (8 - s) (w / 2 ^ (8 * s)) room (omega arith) (ap (λ m. take m new) (sym er) ∙ e)
     ∙ ap (λ t. take at old ++ t) (ap (bytes_of (8 - s)) (shift w s) ∙ ap (λ m. bytes_of (8 - s) (m / 256 ^ s)) (ew ∙ ap (λ m. word_of (last_digits m n)) (sym eight))
@@ -35,4 +35,4 @@ behind_of old new at s n w r room few ew er e =
 
 pub returns-clause-written : goal.returns-clause-written
 returns-clause-written c =
-    behind_of c.args.to.now c.put_word.new.to c.args.at c.args.skipped c.args.n c.word.result c.put_word.result (omega arith) c.requires.few (c.word.ensures ∙ eight_digits c.args.n) c.put_word.ensures.end (c.put_word.ensures.written ∙ ap (λ t. take c.args.at c.args.to.now ++ t) (whole_word 8 _))
+    after_of c.args.to.now c.put_word.new.to c.args.at c.args.skipped c.args.n c.word.result c.put_word.result (omega arith) c.requires.few (c.word.ensures ∙ eight_digits c.args.n) c.put_word.ensures.end (c.put_word.ensures.written ∙ ap (λ t. take c.args.at c.args.to.now ++ t) (whole_word 8 _))

@@ -7,4 +7,4 @@ kept k h = omega arith
 
 pub returns-clause-written : goal.returns-clause-written
 returns-clause-written c =
-    c.put_behind.ensures.written ∙ ap (λ m. take c.args.at c.args.to.now ++ last_digits m c.args.n) (kept c.args.k c.requires.few)
+    c.put_after.ensures.written ∙ ap (λ m. take c.args.at c.args.to.now ++ last_digits m c.args.n) (kept c.args.k c.requires.few)

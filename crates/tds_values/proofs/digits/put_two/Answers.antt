@@ -2,7 +2,7 @@ use Rattle.std.proofs.Common.{◌≡◌, ℕ, ◌+◌, ◌*◌, ◌/◌, ◌%◌
 use Rattle.tds_values.proofs.WordLemmas.{bytes_of}
 use Rattle.tds_values.specs.ScalarText.{last_digits}
 use Rattle.tds_values.proofs.TableLemmas.{digits_at}
-use Rattle.tds_values.proofs.WordLemmas.{stored, nothing_behind}
+use Rattle.tds_values.proofs.WordLemmas.{stored, nothing_after}
 use Rattle.tds_values.proofs.digits.put_two.Goals as goal
 
 spelt : (n w : ℕ) → n < 100 → w ≡ 48 + n / 10 + 256 * (48 + n % 10) → bytes_of 2 w ≡ last_digits 2 n
@@ -13,5 +13,5 @@ spelt n w h e =
 
 pub returns-clause-written : goal.returns-clause-written
 returns-clause-written c =
-    stored c.args.to.now c.write_u16.new.buf _ 2 c.args.at _ _ (omega arith) c.write_u16.ensures (nothing_behind (drop c.args.at c.args.to.now) 2 c.args.at)
+    stored c.args.to.now c.write_u16.new.buf _ 2 c.args.at _ _ (omega arith) c.write_u16.ensures (nothing_after (drop c.args.at c.args.to.now) 2 c.args.at)
     ∙ ap (λ t. take c.args.at c.args.to.now ++ t) (spelt c.args.n _ c.requires.small (digits_at c.args.n c.requires.small).word)

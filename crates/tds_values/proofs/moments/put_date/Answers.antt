@@ -3,7 +3,7 @@ use Rattle.std.proofs.lemmas.Int.{to_z-of_z}
 use Rattle.jiff_core.proofs.SignedLemmas.{signed_arith}
 use Rattle.tds_values.specs.Calendar.{CivilDate, date_of}
 use Rattle.tds_values.specs.ScalarText.{last_digits, date_text}
-use Rattle.tds_values.proofs.DigitLemmas.{last_digits_behind}
+use Rattle.tds_values.proofs.DigitLemmas.{last_digits_after}
 use Rattle.tds_values.proofs.JiffDates.{date_since_min}
 use Rattle.tds_values.proofs.Joining.{joined}
 use Rattle.tds_values.proofs.moments.put_date.Goals as goal
@@ -16,7 +16,7 @@ date_pieces : (n y m d : ℕ) (t x1 x2 x3 x4 x5 x6 : List ℕ) → date_of n ≡
 unfolding spelt
 date_pieces n y m d t x1 x2 x3 x4 x5 x6 e e1 e2 e3 e4 e5 e6 =
     let year = last_digits 4 y in
-    let one = joined t (last_digits 2 (y / 100)) (last_digits 2 (y % 100)) year x1 x2 e1 e2 (last_digits_behind 4 2 y (omega arith)) in
+    let one = joined t (last_digits 2 (y / 100)) (last_digits 2 (y % 100)) year x1 x2 e1 e2 (last_digits_after 4 2 y (omega arith)) in
     let two = joined t year (45 ∷ []) (year ++ 45 ∷ []) x2 x3 one e3 (λ i. year ++ 45 ∷ []) in
     let three = joined t (year ++ 45 ∷ []) (last_digits 2 m) (year ++ 45 ∷ [] ++ last_digits 2 m) x3 x4 two e4 (λ i. year ++ 45 ∷ [] ++ last_digits 2 m) in
     let four = joined t (year ++ 45 ∷ [] ++ last_digits 2 m) (45 ∷ []) (year ++ 45 ∷ [] ++ last_digits 2 m ++ 45 ∷ []) x4 x5 three e5 (λ i. year ++ 45 ∷ [] ++ last_digits 2 m ++ 45 ∷ []) in

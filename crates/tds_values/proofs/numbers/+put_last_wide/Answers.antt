@@ -1,7 +1,7 @@
 use Rattle.std.proofs.Common.{◌≡◌, ℕ, ◌-◌, ◌*◌, ◌/◌, ◌%◌, ◌++◌, take, ap, sym, ◌∙◌, arith}
 use Rattle.std.proofs.Math.Nat.{mod-eq-sub-div-mul}
 use Rattle.tds_values.specs.ScalarText.{last_digits}
-use Rattle.tds_values.proofs.DigitLemmas.{last_digits-below, last_digits_behind}
+use Rattle.tds_values.proofs.DigitLemmas.{last_digits-below, last_digits_after}
 use Rattle.tds_values.proofs.Joining.{joined}
 use Rattle.tds_values.proofs.numbers.+put_last_wide.Goals as goal
 
@@ -16,4 +16,4 @@ returns-then-k-le16-clause-written t c =
 pub returns-clause-written : goal.returns-clause-written
 returns-clause-written t c =
     joined _ _ _ _ _ _ c.put_last_wide-at.ensures.written c.put_sixteen.ensures.written
-    (last_digits_behind c.args.k 16 c.args.n (omega arith) ∙ ap (λ m. last_digits (c.args.k - 16) (c.args.n / 10000000000000000) ++ last_digits 16 m) (sym (low c.args.n)))
+    (last_digits_after c.args.k 16 c.args.n (omega arith) ∙ ap (λ m. last_digits (c.args.k - 16) (c.args.n / 10000000000000000) ++ last_digits 16 m) (sym (low c.args.n)))

@@ -27,8 +27,8 @@ ended : (bytes to new : List ℕ) (at : ℕ) → at ≤ length bytes → length 
     → put_mid (2 * at) (length to - 2 * at) to new ≡ encode_lower bytes
 ended bytes to new at within room front back =
     let k = length to - 2 * at in
-    let behind = post_of (2 * at) k to in
-    let none : behind ≡ [] = nil_of_length behind (omega (arith, length-drop k (drop (2 * at) to), length-drop (2 * at) to)) in
+    let after = post_of (2 * at) k to in
+    let none : after ≡ [] = nil_of_length after (omega (arith, length-drop k (drop (2 * at) to), length-drop (2 * at) to)) in
     ap (λ l. take (2 * at) to ++ (new ++ l)) none ∙ ap (λ l. take (2 * at) to ++ l) (append-nil new) ∙ (λ i. front i ++ back i) ∙ sym (hex-append lower_digits (take at bytes) (drop at bytes)) ∙ ap encode_lower (take-append-drop at bytes)
 
 pub returns : goal.returns

@@ -26,4 +26,4 @@ pub returns-in-Err : goal.returns-in-Err
 returns-in-Err g c =
     let from = c.loop-at.at in
     let same : length (put_mid from (length c.loop-at.to - from) c.loop-at.to c.read.new.to) ≡ length c.args.to.now = search rules in
-    ((take c.loop-at.at c.loop-at.to, omega (arith, same, c.loop-at.auto.to, length-take-le c.loop-at.at c.loop-at.to c.loop-at.invariant.within), Consumes-kept _ _ _ _ c.loop-at.invariant.read c.in-Err.ensures.err), c.in-Err.ensures.counts ∙ ap one_more c.loop-at.invariant.stays.0)
+    (take c.loop-at.at c.loop-at.to, omega (arith, same, c.loop-at.auto.to, length-take-le c.loop-at.at c.loop-at.to c.loop-at.invariant.within), Consumes-kept _ _ _ _ c.loop-at.invariant.read c.in-Err.ensures.err, (c.in-Err.ensures.counts ∙ ap one_more c.loop-at.invariant.stays.0, c.loop-at.invariant.stays.1))

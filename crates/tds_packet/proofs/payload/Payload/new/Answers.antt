@@ -6,6 +6,7 @@ pub returns-clause-begun : goal.returns-clause-begun
 returns-clause-begun g c = record {
   sound = search rules;
   room = search rules;
+  empty = search rules;
   limit = refl;
   place = refl;
   going = refl;

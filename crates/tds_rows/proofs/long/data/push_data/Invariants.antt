@@ -1,5 +1,5 @@
 use Rattle.std.proofs.Common.{◌≡◌, ◌<◌, ◌+◌, List, ℕ}
-use Rattle.tds_csv.specs.Conversion.{Begins, Conversion, Suits, conversion_rest}
+use Rattle.tds_csv.specs.Conversion.{BeginsData, Conversion, Suits, conversion_rest}
 use Rattle.tds_csv.specs.Sinks.{IsOnSameSink, IsWriting, held}
 use Rattle.tds_packet.specs.Payloads.{IsGoing, IsOnSame, seen}
 use Rattle.tds_rows.proofs.JoinedPieces.{Filled}
@@ -16,7 +16,7 @@ invariant-loop-left g l = record {
   some : 0 < l.left;
   calm : failures_of l.payload l.sink ≡ failures_of l.initial.payload l.initial.sink;
   place : l.payload.place + l.left ≡ l.initial.payload.place + l.n;
-  filled : (c : Conversion) (content : List ℕ) → Suits g.J.Joiner.fit g.J.Joiner.begins g.J.Joiner.rest g.J.Joiner.text g.J.Joiner.UNIT g.J.Joiner.QUOTED c → g.J.Joiner.withheld l.initial.joiner ≡ conversion_rest c content → Begins c content
+  filled : (c : Conversion) (content : List ℕ) → Suits g.J.Joiner.fit g.J.Joiner.begins g.J.Joiner.rest g.J.Joiner.text g.J.Joiner.UNIT g.J.Joiner.QUOTED c → g.J.Joiner.withheld l.initial.joiner ≡ conversion_rest c content → BeginsData c content
       → Filled c content (g.J.Joiner.withheld l.joiner) (seen g.R.Read.remaining l.initial.payload) (seen g.R.Read.remaining l.payload) l.initial.payload.place l.payload.place (held g.W.Write.contents l.initial.sink) (held g.W.Write.contents l.sink) l.n l.left;
 }
 

@@ -1,16 +1,16 @@
 use Rattle.std.proofs.Common.{◌∙◌, true, false, ap, sym, subst}
 use Rattle.tds_csv.proofs.Puttings.{PutsPiece-trans}
-use Rattle.tds_csv.specs.Quoting.{behind_comma}
+use Rattle.tds_csv.specs.Quoting.{after_comma}
 use Rattle.tds_csv.specs.Sinks.{PutsPiece}
 use Rattle.tds_rows.specs.LongCells.{opening}
 use Rattle.tds_rows.proofs.long.data.put_opening.Goals as goal
 
 pub returns-then-quoted : goal.returns-then-quoted
 returns-then-quoted g c =
-    let text = c.write_comma-made.ensures.text (opening true) ∙ ap (λ q. behind_comma c.args.column (opening q)) (sym c.if-quoted.true) in
+    let text = c.write_comma-made.ensures.text (opening true) ∙ ap (λ q. after_comma c.args.column (opening q)) (sym c.if-quoted.true) in
     subst (λ l. PutsPiece g.W.Write.contents c.args.sink.now c.open_quoted.new.self l c.open_quoted.result) text (PutsPiece-trans _ _ _ _ _ _ _ _ c.in_ok-put.ensures c.open_quoted.ensures)
 
 pub returns : goal.returns
 returns g c =
-    let text = c.write_comma-made.ensures.text (opening false) ∙ ap (λ q. behind_comma c.args.column (opening q)) (sym c.if-quoted.false) in
+    let text = c.write_comma-made.ensures.text (opening false) ∙ ap (λ q. after_comma c.args.column (opening q)) (sym c.if-quoted.false) in
     subst (λ l. PutsPiece g.W.Write.contents c.args.sink.now c.open_binary.new.self l c.open_binary.result) text (PutsPiece-trans _ _ _ _ _ _ _ _ c.in_ok-put.ensures c.open_binary.ensures)

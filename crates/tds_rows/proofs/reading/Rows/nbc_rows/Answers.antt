@@ -1,5 +1,6 @@
-use Rattle.std.proofs.Common.{◌∙◌, refl, sym, arith, rules}
+use Rattle.std.proofs.Common.{◌∙◌, refl, sym, ap, arith, rules}
 use Rattle.tds_packet.proofs.Passing.{passed}
+use Rattle.tds_rows.specs.Rows.{NbcRow}
 use Rattle.tds_rows.proofs.NextRows.{row_begins, row_first, row_more, row_stops}
 use Rattle.tds_rows.proofs.RowReading.{stays, stays_after, stays_on}
 use Rattle.tds_rows.proofs.reading.Rows.nbc_rows.Goals as goal
@@ -26,7 +27,16 @@ returns-then-not-take_token-clause-gives g c = λ columns known.
     let knows = rw (sym l.invariant.stays.same.3) at known in
     let read = row_more _ _ _ _ _ _ _ _ _ _ _ _ (l.invariant.reads columns knows) _ (c.in_ok-nbc_row.ensures.gives columns knows) in
     let there = rw l.invariant.stays.same.3 at read in
-    rw (sym c.if-not-take_token.ensures.gives, sym c.take_token.ensures.sink) at there
+    rw (sym (c.if-not-take_token.ensures.gives NbcRow refl).0, sym c.take_token.ensures.sink) at there
+
+pub returns-then-not-take_token-clause-few : goal.returns-then-not-take_token-clause-few
+returns-then-not-take_token-clause-few g c =
+    let l = c.loop-ended in
+    let known = l.invariant.knows in
+    omega (arith, l.invariant.few, (c.in_ok-nbc_row.ensures.gives known.0 known.1).place_is, ap (λ p. p.place) (c.if-not-take_token.ensures.gives NbcRow refl).0)
+
+pub returns-then-not-take_token-clause-all : goal.returns-then-not-take_token-clause-all
+returns-then-not-take_token-clause-all g c = (c.if-not-take_token.ensures.gives NbcRow refl).1
 
 pub loop-ended-preserved : goal.loop-ended-preserved
 loop-ended-preserved g c =
@@ -34,7 +44,7 @@ loop-ended-preserved g c =
     let done = c.in_ok-nbc_row.ensures in
     let kept = c.take_token.ensures.stays in
     let same = kept.same.3 ∙ done.leaves.same.3 in
-    let taken = c.if-not-take_token.ensures.gives in
+    let taken = c.if-not-take_token.ensures.gives NbcRow refl in
     let known = l.invariant.knows in
     record {
       stays = stays_on _ _ _ (stays_on _ _ _ l.invariant.stays (stays_after _ _ _ l.invariant.stays.in_row done.leaves)) kept;
@@ -49,3 +59,12 @@ loop-ended-preserved g c =
 
 pub nbc_row-requires-clause-awaits : goal.nbc_row-requires-clause-awaits
 nbc_row-requires-clause-awaits g c = search rules
+
+pub loop-ended-smaller : goal.loop-ended-smaller
+loop-ended-smaller g c =
+    let l = c.loop-ended in
+    let done = c.in_ok-nbc_row.ensures in
+    let kept = c.take_token.ensures.stays in
+    let taken = c.if-not-take_token.ensures.gives NbcRow refl in
+    let known = l.invariant.knows in
+    omega (arith, (done.gives known.0 known.1).place_is, taken.1, kept.in_row.payload.sound.place, kept.in_row.payload.sound.wire, kept.payload.3, done.leaves.payload.same.3)

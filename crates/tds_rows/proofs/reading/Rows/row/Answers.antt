@@ -1,6 +1,6 @@
 use Rattle.std.proofs.Common.{drop, refl, sym}
 use Rattle.tds_packet.proofs.Passing.{passed}
-use Rattle.tds_rows.specs.CellSteps.{is_last}
+use Rattle.tds_rows.specs.CellSteps.{is_last_column}
 use Rattle.tds_rows.specs.Tables.{IsNextKind}
 use Rattle.tds_rows.proofs.RowSteps.{cells_all, cells_more, cells_none, cells_stop}
 use Rattle.tds_rows.proofs.RowReading.{stays, stays_after, stays_on}
@@ -19,9 +19,9 @@ returns-in_err-put_cell-clause-gives g c = λ columns known.
     let reads = l.invariant.reads columns knows in
     let taken = c.in-Some.ensures.gives columns knows reads.0 in
     let left = drop c.in-Some.after.column columns in
-    let next : IsNextKind l.self.table.now l.at c.in-Some.form.kind (is_last left) = record { columns = columns; knows = knows; ahead = reads.0; column = taken.column; rest = left; next = taken.next; kind = taken.kind; last = refl } in
+    let next : IsNextKind l.self.table.now l.at c.in-Some.form.kind (is_last_column left) = record { columns = columns; knows = knows; ahead = reads.0; column = taken.column; rest = left; next = taken.next; kind = taken.kind; last = refl } in
     let x = rw taken.next at reads.1 in
-    let y = rw taken.kind at (c.in_err-put_cell.ensures.gives (is_last left) next) in
+    let y = rw taken.kind at (c.in_err-put_cell.ensures.gives (is_last_column left) next) in
     let stops = cells_stop _ _ _ _ _ _ _ _ _ _ _ _ _ _ _ x y in
     passed _ _ _ _ c.from_residual.ensures.1 (rw l.invariant.stays.same.3 at stops)
 
@@ -35,9 +35,9 @@ loop-form-preserved g c =
           let reads = l.invariant.reads columns knows in
           let taken = c.in-Some.ensures.gives columns knows reads.0 in
           let left = drop c.in-Some.after.column columns in
-          let next : IsNextKind l.self.table.now l.at c.in-Some.form.kind (is_last left) = record { columns = columns; knows = knows; ahead = reads.0; column = taken.column; rest = left; next = taken.next; kind = taken.kind; last = refl } in
+          let next : IsNextKind l.self.table.now l.at c.in-Some.form.kind (is_last_column left) = record { columns = columns; knows = knows; ahead = reads.0; column = taken.column; rest = left; next = taken.next; kind = taken.kind; last = refl } in
           let x = rw taken.next at reads.1 in
-          let y = rw taken.kind at (done.gives (is_last left) next) in
+          let y = rw taken.kind at (done.gives (is_last_column left) next) in
           (taken.ahead, rw (sym taken.further) at (cells_more _ _ _ _ _ _ _ _ _ _ _ _ _ _ x y)));
     }
 

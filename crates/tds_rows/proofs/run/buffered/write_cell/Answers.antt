@@ -24,11 +24,11 @@ returns-in-Ok-clause-gives c = λ column last.
     let at = value_there _ _ _ _ _ _ c.requires.laid c.in-Some.ensures in
     let start = c.in-Some.start in
     let text = in_line column last (take c.in-Ok.made c.write_scalar.new.to) in
-    let behind : (start + c.in-Some.n) - start ≡ c.in-Some.n = omega arith in
+    let after : (start + c.in-Some.n) - start ≡ c.in-Some.n = omega arith in
     let x = c.in-Ok.ensures.written in
     let is : IsValueText kind column last (take ((start + c.in-Some.n) - start) (drop start c.args.bytes.now)) text = (x.0, x.1.0, ap (in_line column last) x.1.1.0) in
     writes_scalar _ _ _ _ _ _ (λ charset.
-    value_cell _ _ _ _ _ _ at.0 _ _ at.1.0 at.1.1 c.if-n-eq0.false (search (arith, rules)) (rw behind at is))
+    value_cell _ _ _ _ _ _ at.0 _ _ at.1.0 at.1.1 c.if-n-eq0.false (search (arith, rules)) (rw after at is))
 
 pub returns-in-Err-clause-gives : goal.returns-in-Err-clause-gives
 returns-in-Err-clause-gives c =

@@ -1,6 +1,6 @@
 use Rattle.std.proofs.Common.{ℕ, ◌≡◌, ◌∙◌, ◌-◌, ◌<◌, ◌++◌, length, take, sym, ap, subst, arith, rules}
 use Rattle.std.specs.Prelude.{◌==◌, ◌&&◌}
-use Rattle.tds_csv.specs.Quoting.{end_behind}
+use Rattle.tds_csv.specs.Quoting.{end_after}
 use Rattle.tds_rows.specs.FormRuns.{WritesForms}
 use Rattle.tds_rows.proofs.FormSteps.{before_comma, first_alone, run_marked}
 use Rattle.tds_rows.proofs.run.forms.run_forms.Goals as goal
@@ -20,12 +20,12 @@ returns-clause-one c = λ alone.
     let run = c.write_fields-run in
     let x = run.ensures.gives in
     let one = subst (λ (n : ℕ). WritesForms c.args.charset c.args.forms.now c.args.column n (take run.result.used c.args.bytes.now) x.0) alone x.1 in
-    let text = c.write_line_end-made.ensures.text ∙ (λ i. before_end c i ++ end_behind (c.is_last-last.ensures i)) ∙ ap (λ (n : ℕ). x.0 ++ end_behind (c.args.ends && (n == length c.args.forms.now))) alone in
+    let text = c.write_line_end-made.ensures.text ∙ (λ i. before_end c i ++ end_after (c.is_last-last.ensures i)) ∙ ap (λ (n : ℕ). x.0 ++ end_after (c.args.ends && (n == length c.args.forms.now))) alone in
     first_alone _ _ _ _ _ _ _ _ _ (run.ensures.one alone) one text
 
 pub returns-clause-gives : goal.returns-clause-gives
 returns-clause-gives c = λ columns next.
     let run = c.write_fields-run in
     let some : 0 < run.result.cells = omega (arith, c.if-run-eq0.false) in
-    let text = c.write_line_end-made.ensures.text ∙ (λ i. before_end c i ++ end_behind (c.is_last-last.ensures i)) in
+    let text = c.write_line_end-made.ensures.text ∙ (λ i. before_end c i ++ end_after (c.is_last-last.ensures i)) in
     rw (sym text) at (run_marked _ _ _ _ _ next _ _ _ some run.ensures.within.cells run.ensures.gives.1)

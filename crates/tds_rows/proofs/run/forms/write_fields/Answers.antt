@@ -1,5 +1,5 @@
 use Rattle.std.proofs.Common.{inr, ◌≡◌, ◌∙◌, ◌+◌, ◌-◌, ◌<◌, ◌≤◌, ℕ, List, length, take, drop, get_or, refl, ap, subst, arith, rules, length-take, length-drop}
-use Rattle.tds_columns.proofs.ViewLaws.{all_behind}
+use Rattle.tds_columns.proofs.ViewLaws.{all_after}
 use Rattle.tds_rows.specs.declared.form.Form.{Form}
 use Rattle.tds_rows.specs.CellSteps.{WritesField, whole_size}
 use Rattle.tds_rows.proofs.FormSteps.{fields_more, fields_none, first_used, left_less}
@@ -54,7 +54,7 @@ returns-in_default-write_cell-clause-ends c = λ first form others are.
     let room : length c.args.to.now ≤ length lent + 1 = omega (arith, begun.1, l.auto.to, length-take (length l.to - l.made) (drop l.made l.to), length-drop l.made l.to) in
     let there : d ≡ get_or c.args.forms.now l.cells d = search (arith, rules) in
     let form_is : d ≡ form = there ∙ ap (λ (n : ℕ). get_or c.args.forms.now n d) first ∙ ap (λ (f : List Form). get_or f 0 d) are in
-    let bytes_are : (take (length bytes - l.used) (drop l.used bytes)) ≡ bytes = all_behind bytes l.used ∙ ap (λ n. drop n bytes) begun.0 in
+    let bytes_are : (take (length bytes - l.used) (drop l.used bytes)) ≡ bytes = all_after bytes l.used ∙ ap (λ n. drop n bytes) begun.0 in
     inr (left_less _ _ _ _ _ room (rw bytes_are at (rw form_is at c.in_default-write_cell.ensures.gives)))
 
 pub returns-in_default-write_cell-clause-gives : goal.returns-in_default-write_cell-clause-gives

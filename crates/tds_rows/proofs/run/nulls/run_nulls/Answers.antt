@@ -1,8 +1,8 @@
 use Rattle.std.proofs.Common.{inl, ℕ, ◌≡◌, ◌∙◌, ◌+◌, ◌-◌, ◌<◌, ◌≤◌, Bool, [], ◌∷◌, refl, sym, ap, length, take, drop, subst, arith, rules, length-take, length-drop}
 use Rattle.std.specs.Prelude.{true, false}
-use Rattle.tds_columns.proofs.ViewLaws.{all_behind}
+use Rattle.tds_columns.proofs.ViewLaws.{all_after}
 use Rattle.tds_csv.specs.Quoting.{in_line, null_field}
-use Rattle.tds_rows.specs.CellSteps.{HasInt4, int4_kind, is_last}
+use Rattle.tds_rows.specs.CellSteps.{HasInt4, int4_kind, is_last_column}
 use Rattle.tds_rows.specs.MarkedRuns.{WritesNext}
 use Rattle.tds_rows.specs.Tables.{one_on}
 use Rattle.tds_rows.specs.Rows.{bit}
@@ -35,7 +35,7 @@ loop-to-preserved-then-end-ahead c =
           let taken = takes _ _ _ _ _ one.1 c.after-ahead.ensures.further (c.after-ahead.ensures.gives columns knows ran.ahead) in
           let left = drop c.after-ahead.result.column columns in
           let last = c.is_last.ensures ∙ last_one _ _ _ _ _ knows.counted taken.next in
-          let line : take made text ≡ in_line l.ahead.column (is_last left) null_field = c.write_null-made.ensures.text ∙ ap (λ (k : ℕ). in_line k c.is_last.result null_field) at ∙ ap (λ (e : Bool). in_line l.ahead.column e null_field) last in
+          let line : take made text ≡ in_line l.ahead.column (is_last_column left) null_field = c.write_null-made.ensures.text ∙ ap (λ (k : ℕ). in_line k c.is_last.result null_field) at ∙ ap (λ (e : Bool). in_line l.ahead.column e null_field) last in
           runs_null _ _ _ _ _ _ _ _ _ _ _ _ _ _ _ l.invariant.made within taken refl null line ran;
     }
 
@@ -45,7 +45,7 @@ loop-to-preserved-in-loop-to c =
     let l = c.loop-to in
     let table = c.args.table.now in
     let end = c.clear_end-end in
-    let behind = one_on l.ahead in
+    let after = one_on l.ahead in
     let start = c.in-Some.start in
     let kind = int4_kind start in
     let last = c.is_last-last in
@@ -102,6 +102,6 @@ returns-clause-ends c = λ columns column left knows ahead step.
       | then-loop-to-test+then-ahead-count+else-end-ahead+in_default+then-cells-eq0 w ↦ (let lent = take (length l.to - l.made) (drop l.made l.to) in
           let room : length lent ≡ length c.args.to.now - l.made = omega (arith, l.auto.to, length-take (length l.to - l.made) (drop l.made l.to), length-drop l.made l.to) in
           let before : l.ahead.column < w.clear_end-end.result = omega (arith, w.clear_end-end.ensures.least, w.if-end-ahead.false) in
-          let run = rw room at (rw (all_behind bytes l.used) at (w.run_cells-cells.ensures.ends w.if-cells-eq0.true before)) in
+          let run = rw room at (rw (all_after bytes l.used) at (w.run_cells-cells.ensures.ends w.if-cells-eq0.true before)) in
           ends_clear _ bits _ _ _ (w.clear_end-end.ensures.clear l.ahead.column (omega arith) before) run columns column left knows ahead step)
     ]

@@ -22,7 +22,7 @@ returns-clause-gives c = λ column last.
     let made = c.in-Some.made in
     let wrote = c.in-Some.ensures.gives in
     let value = take n (drop 2 bytes) in
-    let behind : take n (take (length bytes - 2) (drop 2 bytes)) ≡ value = ap (take n) (take_rest bytes 2) in
-    let fit : is_fit conversion value ≡ true = ap (is_fit conversion) (sym behind) ∙ wrote.0 in
-    let field : take made c.write_field.new.to ≡ long_field conversion value = wrote.1 ∙ ap (long_field conversion) behind in
+    let after : take n (take (length bytes - 2) (drop 2 bytes)) ≡ value = ap (take n) (take_rest bytes 2) in
+    let fit : is_fit conversion value ≡ true = ap (is_fit conversion) (sym after) ∙ wrote.0 in
+    let field : take made c.write_field.new.to ≡ long_field conversion value = wrote.1 ∙ ap (long_field conversion) after in
     short_value column (Wide Short) conversion last bytes (in_line column last (take made c.write_field.new.to)) (omega (arith, c.if-bytes-lt2.false)) (c.type_inv.bytes 0).fits (c.type_inv.bytes 1).fits n refl c.if-n.false (search (arith, rules)) fit (ap (in_line column last) field)

@@ -6,7 +6,7 @@ use Rattle.tds_csv.specs.Utf16.{rest, text}
 use Rattle.tds_csv.specs.Utf16Next.{seam}
 use Rattle.tds_csv.proofs.Leading.{puts_part, puts_whole}
 use Rattle.tds_csv.proofs.Pushings.{pushes_stopped, pushes_taken}
-use Rattle.tds_csv.proofs.Utf16Seam.{Leads-behind}
+use Rattle.tds_csv.proofs.Utf16Seam.{Leads-after}
 use Rattle.tds_csv.proofs.joiners.utf16.Utf16Joiner.push_long.Goals as goal
 
 pub returns-in_err-from : goal.returns-in_err-from
@@ -17,7 +17,7 @@ returns-in_err-from g c =
     let a = c.args.sink.now in
     let b = c.put_kept.new.sink in
     let e = c.in_err-from.field-0.0 in
-    let put = puts_part rest text contents a b (kept ++ piece) _ (emit rest text (seam kept piece)) e (Leads-behind kept piece) c.in_err-from.ensures.puts in
+    let put = puts_part rest text contents a b (kept ++ piece) _ (emit rest text (seam kept piece)) e (Leads-after kept piece) c.in_err-from.ensures.puts in
     pushes_stopped contents (λ _. ⊤) rest text kept kept a b (emit rest text (kept ++ piece)) piece e c.from_residual.result c.requires.writing.writing tt refl put c.from_residual.ensures.1
 
 pub returns-in_err-at : goal.returns-in_err-at

@@ -23,8 +23,8 @@ returns g c =
     let last = c.bytes-4.result.now in
     let is : bytes ≡ kept ++ piece = c.bytes-2.ensures.value ∙ c.extend-2.ensures ∙ ap (λ l. l ++ piece) (c.extend.ensures ∙ ap (λ l. l ++ c.bytes.result.now) c.new-seam.ensures ∙ c.bytes.ensures.value) in
     let same : last ≡ bytes = c.bytes-4.ensures.value ∙ sym c.bytes-2.ensures.value in
-    let behind : c.extend-3.new.self ≡ drop used last =
+    let after : c.extend-3.new.self ≡ drop used last =
     c.extend-3.ensures ∙ ap (λ l. l ++ take (length last - used) (drop used last)) c.clear.ensures ∙ take_all (length last - used) (drop used last) (omega (arith, length-drop used last)) in
-    let withheld : c.extend-3.new.self ≡ rest (kept ++ piece) = behind ∙ ap (drop used) same ∙ c.in_ok-used.ensures.used.rest ∙ ap rest is in
+    let withheld : c.extend-3.new.self ≡ rest (kept ++ piece) = after ∙ ap (drop used) same ∙ c.in_ok-used.ensures.used.rest ∙ ap rest is in
     pushes_taken g.W.Write.contents (λ _. ⊤) rest text kept c.extend-3.new.self c.args.sink.now c.put_chunk.new.sink (emit rest text bytes) piece used (tt {0}) c.requires.writing.writing tt tt
     (ap (emit rest text) is) withheld c.in_ok-used.ensures.puts

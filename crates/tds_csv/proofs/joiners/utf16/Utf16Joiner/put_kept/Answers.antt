@@ -6,7 +6,7 @@ use Rattle.tds_csv.specs.Sinks.{PutsPiece}
 use Rattle.tds_csv.specs.Utf16Next.{seam}
 use Rattle.tds_csv.proofs.Puttings.{PutsPiece-none}
 use Rattle.tds_csv.proofs.Leading.{Leads-seam}
-use Rattle.tds_csv.proofs.Utf16Seam.{Leads-behind, emit_none, seam_some}
+use Rattle.tds_csv.proofs.Utf16Seam.{Leads-after, emit_none, seam_some}
 use Rattle.tds_csv.proofs.Utf16Steps.{nil_of_length}
 use Rattle.tds_csv.proofs.joiners.utf16.Utf16Joiner.put_kept.Goals as goal
 
@@ -24,7 +24,7 @@ returns-then-is_empty-clause-leads g c =
     let piece = c.args.piece.now in
     let zero : length c.bytes-kept.result.now ≡ 0 = search rules in
     let none : c.args.self.now.kept ≡ [] = sym c.bytes-kept.ensures.value ∙ nil_of_length c.bytes-kept.result.now zero in
-    subst (λ k. Leads rest text (k ++ piece) piece (emit rest text (seam k piece))) (sym none) (Leads-behind [] piece)
+    subst (λ k. Leads rest text (k ++ piece) piece (emit rest text (seam k piece))) (sym none) (Leads-after [] piece)
 
 pub returns-clause-leads : goal.returns-clause-leads
 returns-clause-leads g c =
