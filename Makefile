@@ -9,20 +9,32 @@ PREFIX ?= /usr/local
 # Where the benchmarks are built: outside of the repository, whose gate refuses files that no crate of crates.txt has.
 BENCH = $(or $(TMPDIR),/tmp)/gavyreto-bench
 
-.PHONY: help build install deb export test gate slowest recipes python-tests worked cuttings generated docs changing refused-memory refused-borrow check bench-text bench-values bench-export bench-peers
+# What is installed or packed: PROGRAM if it is named, else what is proved and built here.
+BUILT = $(if $(PROGRAM),,build)
+INSTALLED = $(addprefix $(DESTDIR)$(PREFIX)/,bin/tds_replay share/man/man1/tds_replay.1 share/bash-completion/completions/tds_replay)
+
+.PHONY: help try try-test build install uninstall deb export needs test gate slowest recipes python-tests type-check lintian worked cuttings generated wrong-rules docs changing edits-by-search refused-memory refused-borrow check bench-text bench-values bench-export bench-peers
 
 help:
+	@echo "make try FILE=F        exports the response in F, a minute after a fresh clone: before anything is proved"
+	@echo "make try-test          runs every test and worked row before anything is proved"
 	@echo "make build             proves and builds the program, bin/tds_replay"
-	@echo "make install PREFIX=P  builds it, and puts it into P/bin and its man page into P/share/man/man1"
-	@echo "make deb               builds it, and makes a Debian package of it, bin/gavyreto_*.deb"
+	@echo "make install PREFIX=P  builds it, and puts it, its man page and completion for bash into P, /usr/local without it"
+	@echo "make uninstall         takes them out of P again"
+	@echo "make deb               builds it, and makes a Debian package of it, bin/gavyreto_*.deb; PROGRAM=F packs (or installs) F"
 	@echo "make export FILE=F     exports the response in F: text to standard output, report to standard error"
+	@echo "make needs             installs the Debian packages that tests and recipes need, and says which"
 	@echo "make test              proves what isn't proved yet, runs every test, the programs and the examples"
 	@echo "make gate              what a merge needs: every proof from nothing, each must-fail edit, each test and script"
 	@echo "make recipes           runs the commands of docs/RECIPES.md with bin/tds_replay, or with PROGRAM=P"
-	@echo "make python-tests      tests the Python module, and examples/query.py on a stand-in server, with bin/tds_replay or PROGRAM=P"
+	@echo "make python-tests      tests the Python package, beside a stand-in server too, with bin/tds_replay or PROGRAM=P"
+	@echo "make type-check        the types of the Python package, its tests and the tools"
+	@echo "make lintian           makes the Debian package, and looks for what Debian doesn't allow"
 	@echo "make worked            the program answers the worked rows of examples/worked.txt, with bin/tds_replay or PROGRAM=P"
 	@echo "make cuttings          responses in packets of every size, and of random sizes, have one text"
-	@echo "make generated         a thousand generated responses agree with a plain reading of them"
+	@echo "make generated         responses built on purpose, and a thousand at random, agree with a plain reading of them"
+	@echo "make wrong-rules       each rule of the plain reading is turned into wrong ones, and a generated response shows it"
+	@echo "make edits-by-search   tries the must-fail edits, of one crate by CRATE=C, without the answers that only hasten a refusal"
 	@echo "make refused-memory    the program, and tests that ask again, with each request for memory refused in turn"
 	@echo "make refused-borrow    code that keeps a column while its area is emptied"
 	@echo "make docs              checks links, names, counts and ranges in the pages against the sources"
@@ -34,33 +46,42 @@ help:
 	@echo "make bench-export      what a cell of a whole export costs, beside a native reader"
 	@echo "make bench-peers       what a live query costs and loses, beside tsql and freebcp"
 
+# `rt try` compiles the crates and checks while they run what it can; it proves nothing.
+try:
+	@echo "nothing of this is proved: make export FILE=$(FILE) proves the program, builds it and runs it" >&2
+	@cd crates/replay && rt try -- export "$(abspath $(FILE))"
+
 build:
 	@tools/prove replay
 
-install: build
-	install -d "$(DESTDIR)$(PREFIX)/bin" "$(DESTDIR)$(PREFIX)/share/man/man1"
-	install -m 755 bin/tds_replay "$(DESTDIR)$(PREFIX)/bin/tds_replay"
-	install -m 644 docs/tds_replay.1 "$(DESTDIR)$(PREFIX)/share/man/man1/tds_replay.1"
+install: $(BUILT)
+	install -d $(dir $(INSTALLED))
+	install -m 755 "$(or $(PROGRAM),bin/tds_replay)" "$(word 1,$(INSTALLED))"
+	install -m 644 docs/tds_replay.1 "$(word 2,$(INSTALLED))"
+	install -m 644 tools/package/tds_replay.bash "$(word 3,$(INSTALLED))"
 
-deb: build
-	@tools/deb bin/tds_replay bin
+uninstall:
+	rm -f $(INSTALLED)
+
+deb: $(BUILT)
+	@mkdir -p bin
+	@tools/deb "$(or $(PROGRAM),bin/tds_replay)" bin
 
 export: build
 	@bin/tds_replay export "$(FILE)"
 
-# It builds nothing: `make build` does. Where a recipe needs a program that isn't there, it is skipped and named.
+# It builds nothing: `make build` does. If what a recipe needs isn't there, it is skipped and named, and fails if CI is set.
 recipes:
 	@tools/recipes $(or $(PROGRAM),bin/tds_replay)
 
 # As the recipes do, these take the program as it is.
 python-tests:
-	@PROGRAM=$(or $(PROGRAM),bin/tds_replay) python/test_gavyreto.py
-	@PROGRAM=$(or $(PROGRAM),bin/tds_replay) tools/test_query.py
+	@cd python && PROGRAM=$(abspath $(or $(PROGRAM),bin/tds_replay)) python3 -B -m tests
 
-worked cuttings:
+worked cuttings lintian:
 	@tools/$@ $(or $(PROGRAM),bin/tds_replay)
 
-docs changing generated refused-memory refused-borrow:
+try-test needs type-check docs changing generated wrong-rules refused-memory refused-borrow:
 	@tools/$@
 
 test:
@@ -69,8 +90,8 @@ test:
 gate:
 	@tools/gate
 
-slowest:
-	@tools/slowest $(CRATE)
+slowest edits-by-search:
+	@tools/$@ $(CRATE)
 
 check:
 	rt all check
