@@ -79,7 +79,7 @@ SHORT_KINDS = [
 
 
 def short_cells(row):
-    """The eight cells of a row of numbers and short values, each behind its length."""
+    """The eight cells of a row of numbers and short values, each after its length."""
     narrow = TEXT.encode("cp1252", "replace")
     start = row % 7
     wide = TEXT[start:].encode("utf-16-le")

@@ -77,7 +77,7 @@ with_column bytes count columns column =
     if length columns + 1 == count then WholeDescription bytes (columns ++ column ∷ [])
     else InColumn bytes count (columns ++ column ∷ []) ColumnHead
 
--- its kind is known
+-- its kind is known; type information of no kind is refused before, so its part is never reached
 abbrev pub with_kind : List ℕ → ℕ → List Column → Option Kind → DescriptionPart
 with_kind bytes count columns (Some kind) = InColumn bytes count columns (NameCount kind)
 with_kind bytes count columns None = BeforeCount

@@ -57,7 +57,7 @@ abbrev pub with_return : List Token → ReturnPart → Part
 with_return tokens (WholeReturn r) = with_token tokens (Returned r)
 with_return tokens part = record { tokens = tokens; at = InReturn part }
 
--- a row that begins under the columns that are described, if there are any
+-- a row that begins under the columns that are described; its byte is refused where there are none, so that part is never reached
 abbrev pub start_of_row : List Token → (List Column → RowPart) → Option (List Column) → Part
 start_of_row tokens start None = record { tokens = tokens; at = Between }
 start_of_row tokens start (Some columns) = with_row tokens (start columns)
@@ -71,7 +71,7 @@ after_lead charset tokens (WithBody b) = record { tokens = tokens; at = TokenLen
 after_lead charset tokens (WithFields f) = record { tokens = tokens; at = Fields f }
 after_lead charset tokens AReturn = record { tokens = tokens; at = InReturn ReturnOrdinal }
 
--- the same, where there may be none
+-- the same; the first byte of no token is refused before, so its part is never reached
 abbrev pub after_first : Charset → List Token → Option Lead → Part
 after_first charset tokens (Some lead) = after_lead charset tokens lead
 after_first charset tokens None = record { tokens = tokens; at = Between }

@@ -187,15 +187,29 @@ fn responses() -> [(&'static [Element], Charset); 6] {
     ]
 }
 
-// The elements' bytes in packets of one byte each.
-fn wire_of(alloc: Global, elements: &[Element]) -> Result<Vec<u8>, AllocError> {
+// A packet without a body.
+const EMPTY: &[u8] = &[0x04, 0x00, 0x00, 0x08, 0x00, 0x00, 0x01, 0x00];
+
+// The elements' bytes in packets of one byte each, and what is put between each two of them.
+fn wire_of(alloc: Global, elements: &[Element], between: &[u8]) -> Result<Vec<u8>, AllocError> {
     let mut wire = Vec::new(alloc);
     for Element(bytes, _) in elements {
         for byte in *bytes {
+            if !wire.is_empty() {
+                wire.extend_from_slice(between)?;
+            }
             wire.extend_from_slice(&[0x04, 0x00, 0x00, 0x09, 0x00, 0x00, 0x01, 0x00, *byte])?;
         }
     }
     Ok(wire)
+}
+
+// Marks the last packet, of one byte, as the message's last.
+fn mark_last(wire: &mut Vec<u8>) {
+    let last = wire.len().saturating_sub(8);
+    if let Some(status) = wire.get_mut(last) {
+        *status = 0x01;
+    }
 }
 
 fn text_of(alloc: Global, elements: &[Element]) -> Result<Vec<u8>, AllocError> {
@@ -267,17 +281,13 @@ fn check_response(
     elements: &[Element],
     charset: Charset,
 ) -> Result<(), Fail> {
-    let mut wire = wire_of(alloc, elements)?;
+    let mut wire = wire_of(alloc, elements, &[])?;
     let text = text_of(alloc, elements)?;
     for length in 0..wire.len() {
         let text = front(&text, written_within(elements, length / 9));
         check_wire(areas, charset, &wire, length, text)?;
     }
-    // the last packet is marked as such
-    let last = wire.len().saturating_sub(8);
-    if let Some(status) = wire.get_mut(last) {
-        *status = 0x01;
-    }
+    mark_last(&mut wire);
     for n in 0..text.len() {
         check_writer(areas, charset, &wire, &text, n, Failing::AfterBytes(n))?;
         check_writer(areas, charset, &wire, &text, n, Failing::ZeroAfterBytes(n))?;
@@ -290,6 +300,21 @@ fn devices_fail_after_each_byte(rt: HostRuntime) -> Result<(), Fail> {
     let mut areas = make_areas(rt.alloc(), PACKET_SIZE)?;
     for (elements, charset) in responses() {
         check_response(rt.alloc(), &mut areas, elements, charset)?;
+    }
+    Ok(())
+}
+
+// Read and written one byte at a time.
+#[test]
+fn packets_of_one_byte_have_one_text(rt: HostRuntime) -> Result<(), Fail> {
+    let mut areas = make_areas(rt.alloc(), PACKET_SIZE)?;
+    for (what, between) in [("alone", NOTHING), ("among empty ones", EMPTY)] {
+        let mut wire = wire_of(rt.alloc(), &ONE_INT, between)?;
+        mark_last(&mut wire);
+        let from = ScriptedReader::new(&wire, 1);
+        let to = ScriptedWriter::new(1, Failing::Never);
+        let out = run(&mut areas, from, to, Charset::Windows1252, TEXT);
+        same(what, &out, &Some(came_to(Ok(report(1, 1, 9)), TEXT)))?;
     }
     Ok(())
 }
