@@ -2,7 +2,7 @@
 use Rattle.std.specs.Prelude.{◌≡◌, ◌++◌, ℕ, List, Option, Some}
 use Rattle.tds_meter.specs.declared.limits.Limits.{Limits}
 use Rattle.tds_packet.specs.Packets.{Packet}
-use Rattle.tds_rows.specs.declared.Charset.TheVariants.{Windows1252}
+use Rattle.tds_values.specs.declared.charset.Charset.TheVariants.{Windows1252}
 use Rattle.tds_export.specs.declared.report.Report.{Report}
 use Rattle.tds_export.specs.Outcome.{report_of}
 use Rattle.tds_export.specs.Response.{Accepted}

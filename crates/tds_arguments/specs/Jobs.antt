@@ -7,8 +7,8 @@ use Rattle.std.specs.Str.Parse.{IsNumeral, digits_value}
 use Rattle.clap.specs.Words.{Row, first_of, found_of, rows_of}
 use Rattle.clap.specs.declared.parser.matches.ArgMatches.{ArgMatches}
 use Rattle.tds_meter.specs.LimitFaults.{IsColumnRoom, IsMaxWire, IsPacketSize}
-use Rattle.tds_rows.specs.declared.Charset.{Charset}
-use Rattle.tds_rows.specs.declared.Charset.TheVariants.{Utf8, Windows1252}
+use Rattle.tds_values.specs.declared.charset.Charset.{Charset}
+use Rattle.tds_values.specs.declared.charset.Charset.TheVariants.{Utf8, Windows1252}
 use Rattle.tds_arguments.specs.declared.job.Job.{Job}
 use Rattle.tds_arguments.specs.declared.job.Job.TheVariants.{Export, Check, Recut}
 use Rattle.tds_arguments.specs.declared.job.Work.{Work}

@@ -3,7 +3,7 @@ ghost use Rattle.std.specs.Prelude.{◌≡◌, option_map};
 ghost use Rattle.tds_arguments.specs.Jobs.{file_of, work_of};
 
 use tds_meter::Limits;
-use tds_rows::Charset;
+use tds_values::Charset;
 
 /// What the command is to do. The file is the one that has the packets, or none for standard
 /// input. Nothing here opens it: the caller passes the reader.

@@ -19,7 +19,7 @@ use clap::{ArgMatches, Command, Error};
 use std::alloc::{AllocError, Global};
 use std::str::FromStr;
 use tds_meter::{LEAST_COLUMN_ROOM, LimitFault, Limits};
-use tds_rows::Charset;
+use tds_values::Charset;
 
 // What clap says of arguments that are no job: why they are refused, help, or the version.
 fn usage_of(alloc: Global, error: &Error) -> Usage

@@ -1,9 +1,6 @@
 -- The bytes of a character in UTF-8, alone and with a quote doubled.
-use Rattle.std.proofs.Common.{◌≡◌, ◌≢◌, ℕ, ◌+◌, ◌/◌, ◌%◌, ◌<◌, ◌≤◌, List, [], ◌∷◌, ◌++◌, length, refl, arith}
-use Rattle.std.proofs.lemmas.Bool.Decides.{nat_tests}
-use Rattle.std.proofs.lemmas.Bool.{cases_lt, cases_eq}
+use Rattle.tds_csv.proofs.Words.{◌≡◌, ◌≢◌, ℕ, ◌+◌, ◌/◌, ◌%◌, ◌<◌, ◌≤◌, [], ◌∷◌, length, arith, nat_tests, cases_lt, cases_eq, doubled}
 use Rattle.std.specs.Char.{encode_utf8}
-use Rattle.tds_csv.specs.Quoting.{doubled, doubled_byte}
 
 pub of_one : (c : ℕ) → c < 128 → encode_utf8 c ≡ c ∷ []
 unfolding encode_utf8
@@ -21,12 +18,6 @@ pub of_four : (c : ℕ) → 65536 ≤ c → encode_utf8 c ≡ (240 + c / 262144)
 unfolding encode_utf8
 of_four c l = grind (arith, nat_tests)
 
-other : (b : ℕ) → b ≢ 34 → doubled_byte b ≡ b ∷ []
-other b h = grind (arith, nat_tests)
-
-one_more : (b : ℕ) (bs : List ℕ) → b ≢ 34 → doubled bs ≡ bs → doubled (b ∷ bs) ≡ b ∷ bs
-one_more b bs h e = (λ i. other b h i ++ e i)
-
 -- a character that isn't a quote has no byte that is one
 pub doubled_character : (c : ℕ) → c ≢ 34 → doubled (encode_utf8 c) ≡ encode_utf8 c
 doubled_character c ne = grind (arith, cases_lt, of_one, of_two, of_three, of_four, nat_tests)
@@ -37,4 +28,4 @@ doubled_length c = grind (arith, cases_eq, of_one, doubled_character, cases_lt, 
 
 -- one byte that isn't a quote
 pub doubled_one : (b : ℕ) → b ≢ 34 → doubled (b ∷ []) ≡ b ∷ []
-doubled_one b ne = one_more b [] ne refl
+doubled_one b ne = grind (arith, nat_tests)

@@ -1,18 +1,6 @@
 -- Text that is cut to a room, a character after the other.
-use Rattle.std.proofs.Common.{◌≡◌, ◌∙◌, ℕ, ◌+◌, ◌-◌, ◌<◌, ◌≤◌, List, [], ◌∷◌, ◌++◌, length, take, drop, inl, inr, sym, ap, subst, arith, IsUtf8, append_assoc, append-nil, length-append, length-drop, length-take-le, encode_utf8_all}
-use Rattle.std.specs.Char.{encode_utf8}
-use Rattle.std.specs.Str.Lossy.{utf8_valid_len}
-use Rattle.std.proofs.lemmas.Bool.{cases_lt}
-use Rattle.std.proofs.lemmas.List.{take-append-drop, take-take, take-append-le, take_all, take_at}
-use Rattle.std.proofs.Math.Seq.{take-append-add}
-use Rattle.std.proofs.lemmas.Str.{encode_same, utf8_valid_len_le, utf8_valid_len-IsUtf8}
-use Rattle.tds_meter.specs.Space.{Space, appended}
-use Rattle.tds_csv.specs.Cutting.{whole_within}
-use Rattle.tds_csv.proofs.Utf8Laws.{front, front_is, valid_len-past}
-
--- two pieces, one after the other
-pub appended_twice : (s : Space) (x y : List ℕ) → appended (appended s x) y ≡ appended s (x ++ y)
-appended_twice s x y = grind (arith, append_assoc, length-append)
+use Rattle.tds_csv.proofs.Words.{◌≡◌, ◌∙◌, ℕ, ◌+◌, ◌-◌, ◌<◌, ◌≤◌, List, [], ◌∷◌, ◌++◌, length, take, drop, sym, ap, arith, IsUtf8, append_assoc, append-nil, length-append, length-drop, length-take-le, encode_utf8_all, encode_utf8, utf8_valid_len, take-append-drop, take-take, take-append-le, take_all, take_at, take-append-add, encode_same, utf8_valid_len-IsUtf8, Space, appended, whole_within, IsUtf8-append, IsUtf8-encode, refl, IsScalar, scalar, IsUtf8-nil}
+use Rattle.tds_csv.proofs.Utf8Laws.{valid_len-past, valid_len_is}
 
 -- a beginning of a character is no text
 part_is_no_text : (c n : ℕ) → 0 < n → n < length (encode_utf8 c) → IsUtf8 (take n (encode_utf8 c)) → ⊥
@@ -23,16 +11,9 @@ part_is_no_text c n some short (d ∷ cs, u) =
     grind (arith, encode_utf8_all, append-nil, take-append-drop, append_assoc, encode_same, length-append, length-drop)
 
 part_has_none : (c k : ℕ) → k < length (encode_utf8 c) → utf8_valid_len (take k (encode_utf8 c)) ≡ 0
-unfolding front
 part_has_none c k short =
-    let x = take k (encode_utf8 c) in
-    let n = utf8_valid_len x in
     let len = length-take-le k (encode_utf8 c) (omega arith) in
-    let most : n ≤ k = omega (arith, utf8_valid_len_le x) in
-    elim (cases_lt 0 n) [
-      | inl some ↦ absurd (part_is_no_text c n some (omega arith) (subst IsUtf8 (take-take n k (encode_utf8 c) most) (front_is x)))
-      | inr none ↦ omega arith
-    ]
+    valid_len_is (take k (encode_utf8 c)) 0 (omega arith) IsUtf8-nil (λ m some within u. part_is_no_text c m some (omega arith) (rw (take-take m k (encode_utf8 c) (omega arith)) at u))
 
 -- the next character doesn't fit
 pub cut_before : (room c : ℕ) (out more : List ℕ) → IsUtf8 out → length out ≤ room → room < length out + length (encode_utf8 c) → whole_within room (out ++ (encode_utf8 c ++ more)) ≡ out
@@ -45,11 +26,29 @@ cut_before room c out more u fits full =
 pub cut_none : (room : ℕ) (out : List ℕ) → IsUtf8 out → length out ≤ room → whole_within room out ≡ out
 cut_none room out u fits = grind (arith, take_all, utf8_valid_len-IsUtf8)
 
--- the area stands as the longest beginning that fits leaves it, where the next character doesn't fit
-pub stays_cut : (s to : Space) (out piece text more : List ℕ) (c : ℕ) → to ≡ appended s out → piece ≡ encode_utf8 c → text ≡ out ++ (encode_utf8 c ++ more) → IsUtf8 out → length s.bytes + length out ≤ s.room
-    → to.room < length to.bytes + length piece → to ≡ appended s (whole_within (s.room - length s.bytes) text)
-stays_cut s to out piece text more c is one all u fits full = grind (arith, length-append, cut_before)
+-- The first characters of a text were added to an area, and these are left.
+pub record Added (s to : Space) (text left : List ℕ) : Type 0 where
+  pub out : List ℕ
+  pub stands : to ≡ appended s out
+  pub text_is : text ≡ out ++ left
+  pub whole : IsUtf8 out
+  pub fits : length s.bytes + length out ≤ s.room
 
--- and where all fits
-pub stays_whole : (s to : Space) (out text more : List ℕ) → to ≡ appended s out → text ≡ out ++ more → more ≡ [] → IsUtf8 out → length s.bytes + length out ≤ s.room → to ≡ appended s (whole_within (s.room - length s.bytes) text)
-stays_whole s to out text more is all none u fits = grind (arith, append-nil, cut_none)
+module _ {s to : Space} {text left : List ℕ} (x : Added s to text left) where
+  -- one more character was added
+  pub added_more : (c : ℕ) {piece more : List ℕ} {after : Space} → left ≡ encode_utf8 c ++ more → piece ≡ encode_utf8 c → IsScalar c → after ≡ appended to piece → length to.bytes + length piece ≤ to.room → Added s after text more
+  added_more c next is scalar grown fits = record {
+    out = x.out ++ encode_utf8 c;
+    stands = rw (grown, x.stands, is) (grind (arith, append_assoc, length-append));
+    text_is = rw (x.text_is, next, append_assoc) refl;
+    whole = IsUtf8-append x.out (encode_utf8 c) x.whole (IsUtf8-encode c scalar);
+    fits = let at = x.stands in grind (arith, length-append);
+  }
+
+  -- the next one doesn't fit: the area stands as the longest beginning that fits leaves it
+  pub stays_cut : (c : ℕ) (more : List ℕ) {piece : List ℕ} → left ≡ encode_utf8 c ++ more → piece ≡ encode_utf8 c → to.room < length to.bytes + length piece → to ≡ appended s (whole_within (s.room - length s.bytes) text)
+  stays_cut c more next is full = grind (arith, length-append, cut_before)
+
+  -- all fits
+  pub stays_whole : left ≡ [] → to ≡ appended s (whole_within (s.room - length s.bytes) text)
+  stays_whole none = grind (arith, append-nil, cut_none)

@@ -1,11 +1,5 @@
 -- Bytes that were written to a place, one after the other or many at once.
-use Rattle.std.proofs.Common.{◌≡◌, ◌∙◌, ◌+◌, ◌≤◌, ◌∷◌, ◌++◌, [], ℕ, List, length, take, ap, sym, append_assoc, arith, length-take-le}
-use Rattle.std.proofs.lemmas.Simd.{put_chunk_is}
-use Rattle.std.proofs.Math.Seq.{take-append-add}
-use lib.Lanes.{put_chunk}
-use lib.Seq.{take-append-le}
-use Rattle.std.specs.Char.{encode_utf8}
-use Rattle.tds_csv.specs.Quoting.{doubled}
+use Rattle.tds_csv.proofs.Words.{◌≡◌, ◌∙◌, ◌+◌, ◌≤◌, ◌∷◌, ◌++◌, [], ℕ, List, length, take, ap, sym, append_assoc, arith, length-take-le, put_chunk_is, take-append-add, put_chunk, take-append-le, encode_utf8, doubled}
 use Rattle.tds_csv.proofs.Characters.{doubled_character}
 
 -- two bytes

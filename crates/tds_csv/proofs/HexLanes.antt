@@ -1,10 +1,6 @@
 -- Hexadecimal digits that are looked up 16 at a time.
-use Rattle.std.proofs.Common.{◌≡◌, ◌∙◌, ℕ, ◌+◌, ◌/◌, ◌%◌, ◌<◌, ◌≤◌, suc, List, [], ◌∷◌, ◌++◌, map, length, get_or, drop, refl, sym, ap, subst, arith, length-drop, w8, Fits}
-use Rattle.std.proofs.lemmas.Bool.Decides.{nat_tests}
-use Rattle.std.proofs.lemmas.Simd.{swz_l}
-use lib.Lanes.{Each1}
-use Rattle.hex.specs.Hex.{encode_with, lower_digits, encode_lower}
-use Rattle.tds_csv.specs.Plain.{digit}
+use Rattle.tds_csv.proofs.Words.{◌≡◌, ℕ, ◌+◌, ◌/◌, ◌%◌, ◌<◌, ◌≤◌, suc, List, [], ◌∷◌, ◌++◌, map, length, get_or, drop, refl, sym, subst, arith, length-drop, w8, Fits, nat_tests, swz_l, Each1, lower_digits, encode_lower, digit}
+use Rattle.hex.specs.Hex.{encode_with}
 use Rattle.tds_csv.proofs.Utf16Steps.{drop_four, nil_of_length}
 
 pub looked_up : (i : ℕ) (js : List ℕ) → i + length js ≤ 16 → Each1 (λ j. j < 16) js → swz_l w8 16 lower_digits i js ≡ map digit js
@@ -16,14 +12,12 @@ sixteen : (v : List ℕ) → length v ≡ 16
     → v ≡ get_or v 0 0 ∷ get_or v 1 0 ∷ get_or v 2 0 ∷ get_or v 3 0 ∷ get_or v 4 0 ∷ get_or v 5 0 ∷ get_or v 6 0 ∷ get_or v 7 0
     ∷ get_or v 8 0 ∷ get_or v 9 0 ∷ get_or v 10 0 ∷ get_or v 11 0 ∷ get_or v 12 0 ∷ get_or v 13 0 ∷ get_or v 14 0 ∷ get_or v 15 0 ∷ []
 sixteen v long =
-    drop_four v 0 (omega arith)
-    ∙ ap (λ l. get_or v 0 0 ∷ get_or v 1 0 ∷ get_or v 2 0 ∷ get_or v 3 0 ∷ l) (drop_four v 4 (omega arith))
-    ∙ ap (λ l. get_or v 0 0 ∷ get_or v 1 0 ∷ get_or v 2 0 ∷ get_or v 3 0 ∷ get_or v 4 0 ∷ get_or v 5 0 ∷ get_or v 6 0 ∷ get_or v 7 0 ∷ l) (drop_four v 8 (omega arith))
-    ∙ ap (λ l. get_or v 0 0 ∷ get_or v 1 0 ∷ get_or v 2 0 ∷ get_or v 3 0 ∷ get_or v 4 0 ∷ get_or v 5 0 ∷ get_or v 6 0 ∷ get_or v 7 0
-    ∷ get_or v 8 0 ∷ get_or v 9 0 ∷ get_or v 10 0 ∷ get_or v 11 0 ∷ l) (drop_four v 12 (omega arith))
-    ∙ ap (λ l. get_or v 0 0 ∷ get_or v 1 0 ∷ get_or v 2 0 ∷ get_or v 3 0 ∷ get_or v 4 0 ∷ get_or v 5 0 ∷ get_or v 6 0 ∷ get_or v 7 0
-    ∷ get_or v 8 0 ∷ get_or v 9 0 ∷ get_or v 10 0 ∷ get_or v 11 0 ∷ get_or v 12 0 ∷ get_or v 13 0 ∷ get_or v 14 0 ∷ get_or v 15 0 ∷ l)
-    (nil_of_length (drop 16 v) (omega (arith, length-drop 16 v, long)))
+    let first = drop_four v 0 (omega arith) in
+    let second = drop_four v 4 (omega arith) in
+    let third = drop_four v 8 (omega arith) in
+    let last = drop_four v 12 (omega arith) in
+    let none = nil_of_length (drop 16 v) (omega (arith, length-drop 16 v)) in
+    cc
 
 -- the lanes of two vectors in turn
 abbrev pub woven : List ℕ → List ℕ → List ℕ

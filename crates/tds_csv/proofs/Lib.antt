@@ -29,4 +29,4 @@ pub mod Utf8Laws
 pub mod Utf16Laws
 pub mod SingleLaws
 pub mod JoiningLemmas
-pub mod Kept
+pub mod Words

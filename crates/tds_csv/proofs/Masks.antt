@@ -1,28 +1,5 @@
 -- From the mask of one load to the bytes before the first that stops.
-use Rattle.std.proofs.Common.{◌≡◌, ℕ, ◌+◌, ◌%◌, ◌^◌, ◌≤◌, Bool, true, not, cond, ◌-◌, List, [], ◌∷◌, map, length, take, drop, get_or, replicate, Fits, w8, refl, sym, ap, ap₂, ◌∙◌, arith}
-use Rattle.std.proofs.lemmas.Bool.{agree_below, agree_below_at}
-use Rattle.std.proofs.lemmas.Simd.{map-map, mask_l-mod, length-chunk, chunk-fits, first_set_mask_l}
-use Rattle.std.proofs.lemmas.List.{drop-take, length-map, take-take}
-use Rattle.std.specs.List.{prefix_len}
-use Rattle.std.proofs.lemmas.List.Sums.{prefix_len-le-length}
-use lib.Lanes.{Each1, chunk, zip2, mask_l, top}
-use Rattle.tds_csv.specs.Plain.{LiesIn, first_set}
-
-zip2-map : (h : ℕ → ℕ → ℕ) (f g : ℕ → ℕ) (xs : List ℕ) → zip2 h (map f xs) (map g xs) ≡ map (λ x. h (f x) (g x)) xs
-zip2-map h f g [] = refl
-zip2-map h f g (x ∷ xs) = ap (λ r. h (f x) (g x) ∷ r) (zip2-map h f g xs)
-
--- an operation on two vectors that were computed lane by lane from v
-pub joined : (h : ℕ → ℕ → ℕ) (f g : ℕ → ℕ) (v : List ℕ) {a b : List ℕ} → a ≡ map f v → b ≡ map g v → zip2 h a b ≡ map (λ x. h (f x) (g x)) v
-joined h f g v p q = ap₂ (zip2 h) p q ∙ zip2-map h f g v
-
-pub splat_is : (v : List ℕ) (n y : ℕ) → length v ≡ n → replicate n y ≡ map (λ _. y) v
-splat_is [] n y e = ap (λ k. replicate k y) (sym e)
-splat_is (x ∷ xs) n y e = ap (λ k. replicate k y) (sym e) ∙ ap (λ r. y ∷ r) (splat_is xs (length xs) y refl)
-
-pub itself : (v : List ℕ) → v ≡ map (λ x. x) v
-itself [] = refl
-itself (x ∷ xs) = ap (λ r. x ∷ r) (itself xs)
+use Rattle.tds_csv.proofs.Words.{◌≡◌, ℕ, ◌+◌, ◌%◌, ◌^◌, ◌≤◌, Bool, true, not, cond, ◌-◌, List, [], ◌∷◌, map, length, take, drop, get_or, Fits, w8, refl, sym, ap, ap₂, ◌∙◌, arith, agree_below, agree_below_at, map-map, mask_l-mod, length-chunk, chunk-fits, first_set_mask_l, drop-take, length-map, take-take, prefix_len, prefix_len-le-length, Each1, chunk, mask_l, top, LiesIn, first_set}
 
 same_prefix : (p q : ℕ → Bool) → agree_below p q 256 ≡ true → (xs : List ℕ) → Each1 (Fits w8) xs → prefix_len p xs ≡ prefix_len q xs
 same_prefix p q all [] fits = refl

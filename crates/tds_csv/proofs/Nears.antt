@@ -1,19 +1,7 @@
 -- Calls that put the text of an element part after part.
-use Rattle.std.proofs.Common.{◌≡◌, ◌∙◌, ℕ, ◌-◌, ◌^◌, ◌<◌, ◌≤◌, List, [], ◌∷◌, ◌++◌, length, refl, sym, ap, subst, arith, append_assoc, append-nil}
-use Rattle.std.specs.List.{concat}
-use Rattle.std.proofs.lemmas.List.{append_cancel_left}
-use Rattle.tds_packet.specs.declared.fault.Fault.{Fault}
-use Rattle.tds_packet.specs.declared.fault.Stop.{Stop}
-use Rattle.tds_packet.specs.Elements.{Grammar, IsNext, Leads, Spelt}
-use Rattle.tds_packet.specs.Seen.{Seen, Takes, IsBetween}
-use Rattle.tds_packet.proofs.ElementLaws.{Inside, Inside-Spelt, Spelt-append, Spelt-one}
-use Rattle.tds_packet.proofs.Lifts.{LastInside, last_inside, next_inside, next_some}
-use Rattle.tds_packet.proofs.Steps.{takes_both}
-use Rattle.tds_csv.specs.Sinks.{Held, Puts, Breaks}
-use Rattle.tds_csv.specs.Streaming.{BreaksStreaming, PutsText, Streams}
-use Rattle.tds_csv.proofs.Sinks.{Breaks-after, Breaks-longer, Puts-none, Puts-trans}
-use Rattle.tds_csv.proofs.Streams.{puts_both}
-use Rattle.tds_csv.proofs.Splits.{Puts_split}
+use Rattle.tds_csv.proofs.Words.{◌≡◌, ◌∙◌, ℕ, ◌-◌, ◌^◌, ◌<◌, ◌≤◌, List, [], ◌∷◌, ◌++◌, length, refl, sym, ap, subst, arith, append_assoc, append-nil, concat, append_cancel_left, Fault, Stop, Grammar, IsNext, Spelt, Seen, Takes, IsBetween, Inside, Inside-Spelt, Spelt-append, Spelt-one, LastInside, last_inside, next_inside, next_some, takes_both, Held, Puts, Breaks, BreaksStreaming, PutsText, Streams}
+use Rattle.tds_packet.specs.Elements.{Leads}
+use Rattle.tds_csv.proofs.{Sinks.Breaks-after, Sinks.Breaks-longer, Sinks.Puts-none, Sinks.Puts-trans, Streams.puts_both, Splits.Puts_split}
 
 -- Whole elements were read, which lead from one state to another. The text of all but the last was put, and that of the last but for its tail.
 pub record Nears {S : Type 0} (g : Grammar S Fault) (text : S → List ℕ) (from : S) (old new : Seen) (before after : Held) (to : S) (tail : List ℕ) : Type 0 where
@@ -127,15 +115,12 @@ module _ {S : Type 0} (g : Grammar S Fault) (text : S → List ℕ) where
   }
 
   -- the text of what is read later stands after that of what is read before
-  grown : Grows g text → (s : S) (es : List (List ℕ)) (t : S) → Leads g s es t → (more : List ℕ) × (text s ++ more ≡ text t)
-  grown grows s [] t leads = ([], append-nil (text s) ∙ ap text leads)
-  grown grows s (e ∷ es) t leads = grind (arith, append_assoc, grown grows (g.add s e) es t leads.1)
-
   pub grown_leads : Grows g text → (s : S) (es : List (List ℕ)) (t : S) → Leads g s es t → (more : List ℕ) × (text s ++ more ≡ text t)
-  grown_leads grows s es t leads = grown grows s es t leads
+  grown_leads grows s [] t leads = ([], append-nil (text s) ∙ ap text leads)
+  grown_leads grows s (e ∷ es) t leads = grind (arith, append_assoc, grown_leads grows (g.add s e) es t leads.1)
 
   pub grown_spelt : Grows g text → (s : S) (bytes : List ℕ) (t : S) → Spelt g s bytes t → (more : List ℕ) × (text s ++ more ≡ text t)
-  grown_spelt grows s bytes t spelt = grown grows s spelt.elements t spelt.leads
+  grown_spelt grows s bytes t spelt = grown_leads grows s spelt.elements t spelt.leads
 
 module _ {S : Type 0} (g : Grammar S Fault) where
   -- what reads some bytes has a next element before them
@@ -173,9 +158,8 @@ module _ {S T : Type 0} (small : Grammar S Fault) (big : Grammar T Fault) (lift 
       let before : (more : List ℕ) × (text from ++ more ≡ text l.at) = grown_spelt small text grows from l.front l.at l.spelt in
       let last : (more : List ℕ) × (text l.at ++ more ≡ text (small.add l.at l.element)) = grows l.at l.element l.next in
       let closed : text l.at ++ last.0 ≡ text to = last.1 ∙ ap text l.to_is in
-      let added : text from ++ x.puts.0 ≡ text from ++ (before.0 ++ last.0) = x.puts.1 ∙ sym closed ∙ ap (λ t. t ++ last.0) (sym before.1) ∙ append_assoc (text from) before.0 last.0 in
-      let parts : x.puts.0 ≡ before.0 ++ last.0 = append_cancel_left (text from) x.puts.0 (before.0 ++ last.0) added in
-      let cut : (m : Held) × (length m.waiting < 4096) × Puts h m before.0 × Puts m i last.0 × (m.delivered ≤ 2 ^ 64 - 1) = Puts_split h i before.0 last.0 few (subst (Puts h i) parts x.puts.2) in
+      let parts : x.puts.0 ≡ before.0 ++ last.0 = append_cancel_left (text from) x.puts.0 (before.0 ++ last.0) (rw (← append_assoc (text from) before.0 last.0, before.1, closed) x.puts.1) in
+      let cut : (m : Held) × (length m.waiting < 4096) × Puts h m before.0 × Puts m i last.0 × (m.delivered ≤ 2 ^ 64 - 1) = Puts_split h i before.0 last.0 few (rw parts at x.puts.2) in
       record {
         bytes = l.front;
         element = l.element;

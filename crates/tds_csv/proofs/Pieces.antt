@@ -1,20 +1,7 @@
 -- A piece that was lent is many elements: where a write of their text fails, it fails in that of one of them.
-use Rattle.std.proofs.lemmas.Grind.{common_steps}
-use Rattle.std.proofs.Common.{◌≡◌, ◌∙◌, inl, inr, ℕ, ◌-◌, ◌^◌, ◌<◌, ◌≤◌, List, [], ◌∷◌, ◌++◌, length, sym, ap, subst, arith, append_assoc, append-nil, length-append}
-use Rattle.std.specs.List.{concat}
-use Rattle.std.proofs.lemmas.List.{append_cancel_left}
-use Rattle.tds_packet.specs.declared.fault.Fault.{Fault}
-use Rattle.tds_packet.specs.declared.fault.Stop.{Stop}
-use Rattle.tds_packet.specs.Elements.{Grammar, IsNext, Leads, Spelt}
-use Rattle.tds_packet.specs.Seen.{Seen, Takes, IsBetween}
-use Rattle.tds_packet.proofs.ElementLaws.{Spelt-append, Spelt-none, Spelt-one}
-use Rattle.tds_packet.proofs.Futures.{Takes-more}
-use Rattle.tds_csv.specs.Sinks.{Held, Breaks}
-use Rattle.tds_csv.specs.Streaming.{BreaksStreaming, PutsText}
-use Rattle.tds_csv.proofs.Sinks.{Puts-none}
-use Rattle.tds_csv.proofs.Streams.{puts_both}
-use Rattle.tds_csv.proofs.Splits.{Breaks_none, Breaks_split}
-use Rattle.tds_csv.proofs.Nears.{Grows, grown_leads}
+use Rattle.tds_csv.proofs.Words.{common_steps, ◌≡◌, inl, inr, ℕ, ◌-◌, ◌^◌, ◌<◌, ◌≤◌, List, [], ◌∷◌, ◌++◌, length, sym, subst, arith, append_assoc, append-nil, length-append, concat, append_cancel_left, Fault, Stop, Grammar, IsNext, Spelt, Seen, Takes, IsBetween, Spelt-append, Spelt-none, Spelt-one, Takes-more, Held, Breaks, BreaksStreaming, PutsText}
+use Rattle.tds_packet.specs.Elements.{Leads}
+use Rattle.tds_csv.proofs.{Sinks.Puts-none, Streams.puts_both, Splits.Breaks_none, Splits.Breaks_split, Nears.Grows, Nears.grown_leads}
 
 module _ {S : Type 0} (g : Grammar S Fault) (text : S → List ℕ) (grows : Grows g text) (s : S) (a b : Seen) (h j : Held) (stop : Stop) (between : IsBetween b) where
   -- a write failed in the text of this element, and so much of the piece lies ahead
@@ -44,12 +31,10 @@ module _ {S : Type 0} (g : Grammar S Fault) (text : S → List ℕ) (grows : Gro
       let next : IsNext g at e = leads.0 in
       let more : (x : List ℕ) × (text at ++ x ≡ text (g.add at e)) = grows at e next in
       let later : (x : List ℕ) × (text (g.add at e) ++ x ≡ text t) = grown_leads g text grows (g.add at e) es t leads.1 in
-      let both : text at ++ (more.0 ++ later.0) ≡ text t = sym (append_assoc (text at) more.0 later.0) ∙ ap (λ l. l ++ later.0) more.1 ∙ later.1 in
-      let parts : added ≡ more.0 ++ later.0 = append_cancel_left (text at) added (more.0 ++ later.0) (text_is ∙ sym both) in
-      let joined : (bytes ++ concat (e ∷ es)) ++ rest ≡ ((bytes ++ e) ++ concat es) ++ rest = ap (λ l. l ++ rest) (sym (append_assoc bytes e (concat es))) in
-      let taken : Takes a b (((bytes ++ e) ++ concat es) ++ rest) 1 = subst (λ l. Takes a b l 1) joined takes in
-      elim (Breaks_split m j more.0 later.0 stop (subst (λ l. Breaks m j l stop) parts breaks)) [
-        | inl broken ↦ (at, breaks_here at bytes e (concat es ++ rest) m more.0 spelt next (subst (λ l. Takes a b l 1) (append_assoc (bytes ++ e) (concat es) rest) taken) puts few more.1 broken)
+      let parts : added ≡ more.0 ++ later.0 = append_cancel_left (text at) added (more.0 ++ later.0) (rw (← append_assoc (text at) more.0 later.0, more.1, later.1) text_is) in
+      let taken = rw (← append_assoc bytes e (concat es)) at takes in
+      elim (Breaks_split m j more.0 later.0 stop (rw parts at breaks)) [
+        | inl broken ↦ (at, breaks_here at bytes e (concat es ++ rest) m more.0 spelt next (rw (append_assoc (bytes ++ e) (concat es) rest) at taken) puts few more.1 broken)
         | inr x ↦
             breaks_from (g.add at e) t es (bytes ++ e) rest x.0 later.0 (Spelt-append g s bytes at e (g.add at e) spelt (Spelt-one g at e next)) leads.1 taken (puts_both text s at (g.add at e) h m x.0 puts (more.0, more.1, x.2)) x.1 later.1 x.3
       ]

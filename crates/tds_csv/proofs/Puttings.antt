@@ -1,12 +1,5 @@
 -- Calls that put texts, one after another.
-use Rattle.std.proofs.lemmas.Grind.{common_steps}
-use Rattle.std.proofs.Common.{arith}
-use Rattle.std.proofs.Common.{◌≡◌, ◌∙◌, ℕ, List, [], ◌++◌, Option, Result, Ok, Err, refl}
-use Rattle.std.specs.Result.{IsErrAnd}
-use Rattle.std.proofs.lemmas.Result.{err_from_is_err_and}
-use Rattle.tds_packet.specs.declared.fault.Stop.{Stop}
-use Rattle.tds_csv.specs.declared.sink.Sink.{Sink}
-use Rattle.tds_csv.specs.Sinks.{IsWriting, IsOnSameSink, PutsPiece, held}
+use Rattle.tds_csv.proofs.Words.{common_steps, arith, ◌≡◌, ◌∙◌, ℕ, List, [], ◌++◌, Option, Result, Ok, Err, IsErrAnd, err_from_is_err_and, Stop, Sink, IsWriting, IsOnSameSink, PutsPiece, held}
 use Rattle.tds_csv.proofs.Sinks.{Breaks-after, Breaks-longer, Puts-none, Puts-trans}
 
 pub same_sink_after : {W : Type 0} (a b c : Sink W) → IsOnSameSink a b → IsOnSameSink b c → IsOnSameSink a c
@@ -14,34 +7,20 @@ same_sink_after a b c x y = (y.0 ∙ x.0, y.1 ∙ x.1, y.2 ∙ x.2)
 
 -- nothing is put
 pub PutsPiece-none : {W U : Type 0} (contents : W → Option (List ℕ)) (a : Sink W) (u : U) → IsWriting a → PutsPiece contents a a [] (Ok u)
-PutsPiece-none contents a u going = record {
-  ready = going.ready;
-  same = (refl, refl, refl);
-  failed = going.writing;
-  gives = Puts-none (held contents a) going.ready.2;
-  again = λ failed. absurd (cc (failed, going.writing));
-}
+PutsPiece-none contents a u going = let puts = Puts-none (held contents a) going.ready.2 in grind arith
 
 -- a text, and then what the next call puts
 pub PutsPiece-trans : {W U V : Type 0} (contents : W → Option (List ℕ)) (a b c : Sink W) (u : U) (p q : List ℕ) (r : Result V Stop) → PutsPiece contents a b p (Ok u) → PutsPiece contents b c q r → PutsPiece contents a c (p ++ q) r
-PutsPiece-trans contents a b c u p q (Ok v) x y = record {
-  ready = y.ready;
-  same = same_sink_after a b c x.same y.same;
-  failed = y.failed;
-  gives = Puts-trans (held contents a) (held contents b) (held contents c) p q x.gives y.gives;
-  again = λ failed. absurd (cc ((x.again failed).0));
-}
-PutsPiece-trans contents a b c u p q (Err e) x y = record {
-  ready = y.ready;
-  same = same_sink_after a b c x.same y.same;
-  failed = y.failed;
-  gives = λ going. Breaks-after (held contents a) (held contents b) (held contents c) p q e x.gives (y.gives x.failed);
-  again = λ failed. absurd (cc ((x.again failed).0));
-}
+PutsPiece-trans contents a b c u p q (Ok v) x y =
+    let puts = Puts-trans (held contents a) (held contents b) (held contents c) p q x.gives y.gives in
+    grind (arith, common_steps, same_sink_after)
+PutsPiece-trans contents a b c u p q (Err e) x y =
+    let breaks = Breaks-after (held contents a) (held contents b) (held contents c) p q e x.gives (y.gives x.failed) in
+    grind (arith, common_steps, same_sink_after)
 
 -- the value of a success says nothing
 pub PutsPiece-ok : {W U V : Type 0} (contents : W → Option (List ℕ)) (a b : Sink W) (p : List ℕ) (u : U) (v : V) → PutsPiece contents a b p (Ok u) → PutsPiece contents a b p (Ok v)
-PutsPiece-ok contents a b p u v x = record { ready = x.ready; same = x.same; failed = x.failed; gives = x.gives; again = λ failed. absurd (cc ((x.again failed).0)) }
+PutsPiece-ok contents a b p u v x = grind (arith, common_steps)
 
 -- a call that failed, of a longer text
 pub PutsPiece-longer : {W U V : Type 0} (contents : W → Option (List ℕ)) (a b : Sink W) (p more : List ℕ) (e : Stop) → PutsPiece {U = U} contents a b p (Err e) → PutsPiece {U = V} contents a b (p ++ more) (Err e)

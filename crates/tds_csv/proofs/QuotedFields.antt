@@ -1,9 +1,5 @@
 -- A field between quotes, as it is written to a slice.
-use Rattle.std.proofs.Common.{◌≡◌, ℕ, ◌+◌, ◌≤◌, List, [], ◌∷◌, ◌++◌, length, take, refl, arith}
-use Rattle.std.specs.Prelude.{slice_set}
-use Rattle.std.proofs.lemmas.List.{take-append-le}
-use Rattle.std.proofs.Math.Seq.{take-append-add}
-use Rattle.tds_csv.specs.Quoting.{quote, quoted_field}
+use Rattle.tds_csv.proofs.Words.{◌≡◌, ℕ, ◌+◌, ◌≤◌, List, [], ◌∷◌, ◌++◌, length, take, refl, arith, slice_set, take-append-le, take-append-add, quote, quoted_field}
 
 opened : (to : List ℕ) → 1 ≤ length to → take 1 (slice_set to 0 quote) ≡ quote ∷ []
 opened [] h = absurd (omega arith)

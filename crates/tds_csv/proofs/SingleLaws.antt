@@ -1,10 +1,6 @@
 -- The laws of the conversions in which each byte stands alone.
-use Rattle.std.proofs.Common.{◌≡◌, ℕ, ◌/◌, ◌%◌, List, [], ◌∷◌, ◌++◌, refl, ap, arith, encode_utf8_all, slice_index}
-use Rattle.std.specs.Prelude.{⊤}
-use Rattle.std.proofs.lemmas.List.{map-append, append-nil}
-use Rattle.std.proofs.lemmas.Str.{encodes-append}
-use Rattle.hex.specs.Hex.{encode_with, lower_digits, encode_lower}
-use Rattle.tds_csv.specs.Joining.{JoinsPieces}
+use Rattle.tds_csv.proofs.Words.{◌≡◌, ℕ, ◌/◌, ◌%◌, List, [], ◌∷◌, ◌++◌, refl, ap, arith, encode_utf8_all, slice_index, ⊤, map-append, append-nil, encodes-append, lower_digits, encode_lower, JoinsPieces}
+use Rattle.hex.specs.Hex.{encode_with}
 use Rattle.tds_csv.specs.Binary as binary
 use Rattle.tds_csv.specs.Windows1252 as windows_1252
 use Rattle.tds_csv.proofs.JoiningLemmas.{doubled-append, settled_all}

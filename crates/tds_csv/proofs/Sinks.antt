@@ -1,11 +1,5 @@
 -- What was put into a sink, call after call.
-use Rattle.std.proofs.Common.{◌≡◌, ◌∙◌, Bool, false, ℕ, ◌+◌, ◌-◌, ◌^◌, ◌<◌, ◌≤◌, List, [], ◌++◌, length, take, Result, Ok, Err, OnErr, MatchResult, refl, sym, ap, subst, arith, append-nil, append_assoc, length-append, le_refl, take_all}
-use Rattle.std.proofs.Math.Seq.{take-append-add}
-use lib.Seq.{take-append-le}
-use Rattle.std.proofs.KnownBytes.{Appends-nil, Appends-trans}
-use Rattle.tds_meter.specs.Counts.{counted, one_more}
-use Rattle.tds_packet.specs.declared.fault.Stop.{Stop}
-use Rattle.tds_csv.specs.Sinks.{Held, Adds, Puts, Breaks, Sends, FinishFails}
+use Rattle.tds_csv.proofs.Words.{◌≡◌, ◌∙◌, Bool, false, ℕ, ◌+◌, ◌-◌, ◌^◌, ◌<◌, ◌≤◌, List, [], ◌++◌, length, Result, Ok, Err, OnErr, MatchResult, refl, arith, append-nil, append_assoc, length-append, le_refl, take_all, take-append-add, take-append-le, Appends-nil, Appends-trans, counted, Stop, Held, Adds, Puts, Breaks, Sends, FinishFails, ap, one_more, take}
 
 pub counted-none : (n : ℕ) → n ≤ 2 ^ 64 - 1 → n ≡ counted n 0
 counted-none n h = omega (arith, h)
@@ -27,22 +21,9 @@ Puts-trans a b c p q x y = (x.0 ++ y.0, x.1 + y.1, Adds-trans a b c x.0 y.0 p q 
 
 pub Breaks-after : (a b c : Held) (p q : List ℕ) (e : Stop) → Puts a b p → Breaks b c q e → Breaks a c (p ++ q) e
 Breaks-after a b c p q e x y =
-    let d = x.0 ++ y.0 in
-    let i = x.1 + y.1 in
-    let n = length p + y.2 in
     let len = length-append x.0 y.0 in
-    let cut : p ++ take y.2 q ≡ take n (p ++ q) = sym (take-append-add p q y.2) in (
-      d,
-      i,
-      n,
-      subst (Adds a c d) cut (Adds-trans a b c x.0 y.0 p (take y.2 q) x.2 y.3),
-      omega (arith, length-append p q, y.4),
-      omega (arith, len, x.3, y.5),
-      omega (arith, len, x.3, y.6),
-      omega (arith, len, x.3, y.7),
-      y.8,
-      y.9 ∙ ap one_more x.4,
-    )
+    let adds = rw (← take-append-add p q y.2) at (Adds-trans a b c x.0 y.0 p (take y.2 q) x.2 y.3) in
+    (x.0 ++ y.0, x.1 + y.1, length p + y.2, adds, omega (arith, length-append p q, y.4), omega (arith, x.3, y.5), omega (arith, x.3, y.6), omega (arith, x.3, y.7), y.8, y.9 ∙ ap one_more x.4)
 
 pub Breaks-longer : (a b : Held) (p more : List ℕ) (e : Stop) → Breaks a b p e → Breaks a b (p ++ more) e
 Breaks-longer a b p more e x = grind (arith, take-append-le, length-append)

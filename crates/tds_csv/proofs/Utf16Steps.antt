@@ -1,17 +1,9 @@
 -- One character after the other of text in UTF-16.
-use Rattle.std.proofs.Common.{◌≡◌, ◌∙◌, ◌&&◌, ◌+◌, ◌*◌, ◌<◌, ◌≤◌, ◌%◌, ℕ, Bool, true, false, List, [], ◌∷◌, ◌++◌, length, map, drop, get_or, refl, ap, arith, encode_utf8_all, unwrap_or}
-use Rattle.std.specs.Prelude.{if◌then◌else◌}
-use Rattle.std.proofs.lemmas.List.{drop_more}
-use Rattle.std.proofs.lemmas.Bool.{and_right}
-use Rattle.std.proofs.lemmas.Bool.Decides.{nat_tests}
-use Rattle.std.specs.Char.{encode_utf8}
-use Rattle.std.specs.Char.Utf16.{utf16_chars, utf16_lossy_chars, is_high_surrogate, is_low_surrogate, surrogate_pair_char, lone_unit_char}
-use Rattle.tds_csv.specs.Joining.{emit}
-use Rattle.tds_csv.specs.Quoting.{doubled}
+use Rattle.tds_csv.proofs.Words.{◌≡◌, ◌∙◌, ◌&&◌, ◌+◌, ◌*◌, ◌<◌, ◌≤◌, ◌%◌, ℕ, true, false, List, [], ◌∷◌, ◌++◌, length, map, drop, get_or, refl, ap, arith, encode_utf8_all, unwrap_or, drop_more, and_right, nat_tests, encode_utf8, utf16_lossy_chars, is_high_surrogate, is_low_surrogate, surrogate_pair_char, lone_unit_char, emit, doubled, length-drop, Leads, common_steps, drop-drop, nil_from_length}
+use Rattle.std.specs.Char.Utf16.{utf16_chars}
 use Rattle.tds_csv.specs.Utf16.{units, is_high, characters, rest, text}
-use Rattle.tds_csv.proofs.Utf16Laws.{starts_low, chars-apart, front, front_step, rest_step, emit-front, short}
+use Rattle.tds_csv.proofs.{Utf16Laws.starts_low, Utf16Laws.chars-apart, Utf16Laws.front, Utf16Laws.front_step, Utf16Laws.rest_step, Utf16Laws.emit-front, Utf16Laws.short, JoiningLemmas.doubled-append}
 use Rattle.tds_csv.specs.Utf16Next.{IsNext}
-use Rattle.tds_csv.proofs.JoiningLemmas.{doubled-append}
 
 pub text_nil : text [] ≡ []
 unfolding utf16_chars
@@ -22,49 +14,32 @@ unfolding utf16_chars
 characters_nil = refl
 
 pub nil_of_length : (xs : List ℕ) → length xs ≡ 0 → xs ≡ []
-nil_of_length [] e = refl
-nil_of_length (x ∷ xs) e = absurd (omega arith)
+nil_of_length xs e = nil_from_length xs e
 
 -- a unit that isn't the first of a pair
 chars_one : (u : ℕ) (us : List ℕ) → (is_high_surrogate u && starts_low us) ≡ false → utf16_lossy_chars (u ∷ us) ≡ unwrap_or (lone_unit_char u) 0xFFFD ∷ utf16_lossy_chars us
 unfolding utf16_chars
 chars_one u us h = ap (map (λ o. unwrap_or o 0xFFFD)) (chars-apart (u ∷ []) us h)
 
-chars_pair : (u v : ℕ) (us : List ℕ) → (is_high_surrogate u && is_low_surrogate v) ≡ true → utf16_lossy_chars (u ∷ v ∷ us) ≡ surrogate_pair_char u v ∷ utf16_lossy_chars us
-unfolding utf16_chars
-chars_pair u v us h = simp h
-
-spells_one : (low high : ℕ) (bytes : List ℕ) (code : ℕ) → unwrap_or (lone_unit_char (low + 256 * high)) 0xFFFD ≡ code → (is_high low high && starts_low (units bytes)) ≡ false
-    → characters (low ∷ high ∷ bytes) ≡ encode_utf8 code ++ characters bytes
+spells_one : (low high : ℕ) (bytes : List ℕ) (code : ℕ) → unwrap_or (lone_unit_char (low + 256 * high)) 0xFFFD ≡ code → (is_high low high ≡ true → starts_low (units bytes) ≡ false) → characters (low ∷ high ∷ bytes) ≡ encode_utf8 code ++ characters bytes
 spells_one low high bytes code e h = grind (arith, encode_utf8_all, chars_one)
 
-spells_pair : (low high low' high' : ℕ) (bytes : List ℕ) → (is_high low high && is_low_surrogate (low' + 256 * high')) ≡ true
+spells_pair : (low high low' high' : ℕ) (bytes : List ℕ) → is_high low high ≡ true → is_low_surrogate (low' + 256 * high') ≡ true
     → characters (low ∷ high ∷ low' ∷ high' ∷ bytes) ≡ encode_utf8 (surrogate_pair_char (low + 256 * high) (low' + 256 * high')) ++ characters bytes
-spells_pair low high low' high' bytes h = ap encode_utf8_all (chars_pair (low + 256 * high) (low' + 256 * high') (units bytes) h)
+unfolding utf16_chars
+spells_pair low high low' high' bytes h l = simp (h, l)
 
 -- the text of a front, from its characters
 emits_by : (bytes more : List ℕ) (code : ℕ) → characters (front bytes) ≡ encode_utf8 code ++ characters (front more) → emit rest text bytes ≡ doubled (encode_utf8 code) ++ emit rest text more
 emits_by bytes more code e = grind (arith, emit-front, doubled-append, front)
 
-not_high : (low high : ℕ) (b : Bool) → is_high low high ≡ false → (is_high low high && b) ≡ false
-not_high low high b h = ap (λ t. t && b) h
-
 -- a unit that is no high surrogate
 pub next_one : (low high : ℕ) (bytes : List ℕ) (code : ℕ) → is_high low high ≡ false → unwrap_or (lone_unit_char (low + 256 * high)) 0xFFFD ≡ code → IsNext (low ∷ high ∷ bytes) code 2
 next_one low high bytes code h e = record {
-  emits = emits_by (low ∷ high ∷ bytes) bytes code (ap characters (front_step low high bytes h) ∙ spells_one low high (front bytes) code e (not_high low high (starts_low (units (front bytes))) h));
+  emits = emits_by (low ∷ high ∷ bytes) bytes code (rw (front_step low high bytes h) (spells_one low high (front bytes) code e (λ t. cc)));
   keeps = rest_step low high bytes h;
-  spells = spells_one low high bytes code e (not_high low high (starts_low (units bytes)) h);
+  spells = spells_one low high bytes code e (λ t. cc);
 }
-
--- no low surrogate stands first in a front either
-starts_low-front : (low high : ℕ) (bytes : List ℕ) → is_low_surrogate (low + 256 * high) ≡ false → starts_low (units (front (low ∷ high ∷ bytes))) ≡ false
-unfolding starts_low
-starts_low-front low high bytes h = grind (arith, starts_low)
-
-starts_low-units : (low high : ℕ) (bytes : List ℕ) → is_low_surrogate (low + 256 * high) ≡ false → starts_low (units (low ∷ high ∷ bytes)) ≡ false
-unfolding starts_low
-starts_low-units low high bytes h = h
 
 pub lone_low : (u : ℕ) → is_low_surrogate u ≡ true → unwrap_or (lone_unit_char u) 0xFFFD ≡ 0xFFFD
 lone_low u h = grind (arith, nat_tests)
@@ -77,34 +52,33 @@ lone_high u h = grind (arith, nat_tests)
 
 -- a high surrogate before a unit that is no low one
 pub next_alone : (low high low' high' : ℕ) (bytes : List ℕ) → is_high low high ≡ true → is_low_surrogate (low' + 256 * high') ≡ false → IsNext (low ∷ high ∷ low' ∷ high' ∷ bytes) 0xFFFD 2
+unfolding starts_low
 next_alone low high low' high' bytes h l =
     let lone = lone_high (low + 256 * high) h in
+    let first : starts_low (units (front (low' ∷ high' ∷ bytes))) ≡ false = grind (arith) in
     record {
-      emits = emits_by (low ∷ high ∷ low' ∷ high' ∷ bytes) (low' ∷ high' ∷ bytes) 0xFFFD
-          (spells_one low high (front (low' ∷ high' ∷ bytes)) 0xFFFD lone (and_right (is_high low high) (starts_low (units (front (low' ∷ high' ∷ bytes)))) (starts_low-front low' high' bytes l)));
+      emits = emits_by (low ∷ high ∷ low' ∷ high' ∷ bytes) (low' ∷ high' ∷ bytes) 0xFFFD (spells_one low high (front (low' ∷ high' ∷ bytes)) 0xFFFD lone (λ _. first));
       keeps = refl;
-      spells = spells_one low high (low' ∷ high' ∷ bytes) 0xFFFD lone (and_right (is_high low high) (starts_low (units (low' ∷ high' ∷ bytes))) (starts_low-units low' high' bytes l));
+      spells = spells_one low high (low' ∷ high' ∷ bytes) 0xFFFD lone (λ _. l);
     }
 
 low_is_not_high : (u : ℕ) → is_low_surrogate u ≡ true → is_high_surrogate u ≡ false
 low_is_not_high u h = grind (arith, nat_tests)
-
-both : (a b : Bool) → a ≡ true → b ≡ true → (a && b) ≡ true
-both a b p q = (λ i. p i && q i)
 
 -- a pair
 pub next_pair : (low high low' high' : ℕ) (bytes : List ℕ) → is_high low high ≡ true → is_low_surrogate (low' + 256 * high') ≡ true
     → IsNext (low ∷ high ∷ low' ∷ high' ∷ bytes) (surrogate_pair_char (low + 256 * high) (low' + 256 * high')) 4
 next_pair low high low' high' bytes h l =
     let second = low_is_not_high (low' + 256 * high') l in
-    let pair = both (is_high low high) (is_low_surrogate (low' + 256 * high')) h l in
-    let code = surrogate_pair_char (low + 256 * high) (low' + 256 * high') in
     record {
-      emits = emits_by (low ∷ high ∷ low' ∷ high' ∷ bytes) bytes code
-          (ap (λ f. characters (low ∷ high ∷ f)) (front_step low' high' bytes second) ∙ spells_pair low high low' high' (front bytes) pair);
+      emits = emits_by (low ∷ high ∷ low' ∷ high' ∷ bytes) bytes (surrogate_pair_char (low + 256 * high) (low' + 256 * high')) (rw (front_step low' high' bytes second) (spells_pair low high low' high' (front bytes) h l));
       keeps = rest_step low' high' bytes second;
-      spells = spells_pair low high low' high' bytes pair;
+      spells = spells_pair low high low' high' bytes h l;
     }
+
+-- a character leads on to what follows it
+pub leads_next : (bytes : List ℕ) (at code len : ℕ) → IsNext (drop at bytes) code len → Leads rest text (drop at bytes) (drop (at + len) bytes) (doubled (encode_utf8 code))
+leads_next bytes at code len next = grind (arith, common_steps, drop-drop)
 
 -- whole data of which all is withheld is a high surrogate
 pub spells_held : (xs : List ℕ) → 2 ≤ length xs → length xs % 2 ≡ 0 → rest xs ≡ xs → characters xs ≡ encode_utf8 0xFFFD ++ characters (drop 2 xs)
@@ -117,9 +91,7 @@ held_short bytes h = grind (arith)
 
 -- and a high surrogate does before what is no whole unit
 pub held_high : (low high : ℕ) (more : List ℕ) → length more < 2 → is_high low high ≡ true → rest (low ∷ high ∷ more) ≡ low ∷ high ∷ more
-held_high low high [] few h = ap (λ b. if b then low ∷ high ∷ [] else []) h
-held_high low high (odd ∷ []) few h = ap (λ b. if b then low ∷ high ∷ odd ∷ [] else odd ∷ []) h
-held_high low high (odd ∷ next ∷ more) few h = absurd (omega (arith, few))
+held_high low high more few h = grind (arith)
 
 -- the bytes from a place on, the first ones named
 pub drop_two : (xs : List ℕ) (i : ℕ) → i + 1 < length xs → drop i xs ≡ get_or xs i 0 ∷ get_or xs (i + 1) 0 ∷ drop (i + 2) xs
@@ -127,3 +99,21 @@ drop_two xs i h = grind (arith, drop_more)
 
 pub drop_four : (xs : List ℕ) (i : ℕ) → i + 3 < length xs → drop i xs ≡ get_or xs i 0 ∷ get_or xs (i + 1) 0 ∷ get_or xs (i + 2) 0 ∷ get_or xs (i + 3) 0 ∷ drop (i + 4) xs
 drop_four xs i h = grind (arith, drop_two)
+
+-- ---- the steps from a place on, by the units that stand there
+
+pub held_at : (xs : List ℕ) (i : ℕ) {u : ℕ} → i + 1 < length xs → length xs < i + 4 → u ≡ get_or xs i 0 + 256 * get_or xs (i + 1) 0 → is_high_surrogate u ≡ true → rest (drop i xs) ≡ drop i xs
+held_at xs i within few is h = rw (drop_two xs i within) (held_high (get_or xs i 0) (get_or xs (i + 1) 0) (drop (i + 2) xs) (omega (arith, length-drop (i + 2) xs)) (rw is at h))
+
+pub one_at : (xs : List ℕ) (i : ℕ) {u code : ℕ} → i + 1 < length xs → u ≡ get_or xs i 0 + 256 * get_or xs (i + 1) 0 → is_high_surrogate u ≡ false → unwrap_or (lone_unit_char u) 0xFFFD ≡ code → IsNext (drop i xs) code 2
+one_at xs i {code = code} within is h e = rw (drop_two xs i within) (next_one (get_or xs i 0) (get_or xs (i + 1) 0) (drop (i + 2) xs) code (rw is at h) (rw is at e))
+
+module _ (xs : List ℕ) (i : ℕ) {u v : ℕ} (within : i + 3 < length xs) (first : u ≡ get_or xs i 0 + 256 * get_or xs (i + 1) 0) (second : v ≡ get_or xs (i + 2) 0 + 256 * get_or xs (i + 2 + 1) 0) (high : is_high_surrogate u ≡ true) where
+  second_is : v ≡ get_or xs (i + 2) 0 + 256 * get_or xs (i + 3) 0
+  second_is = second ∙ ap (λ k. get_or xs (i + 2) 0 + 256 * get_or xs k 0) {x = i + 2 + 1} {y = i + 3} (omega arith)
+
+  pub alone_at : is_low_surrogate v ≡ false → IsNext (drop i xs) 0xFFFD 2
+  alone_at low = rw (drop_four xs i within) (next_alone (get_or xs i 0) (get_or xs (i + 1) 0) (get_or xs (i + 2) 0) (get_or xs (i + 3) 0) (drop (i + 4) xs) (rw first at high) (rw second_is at low))
+
+  pub pair_at : is_low_surrogate v ≡ true → IsNext (drop i xs) (surrogate_pair_char u v) 4
+  pair_at low = rw (drop_four xs i within, first, second_is) (next_pair (get_or xs i 0) (get_or xs (i + 1) 0) (get_or xs (i + 2) 0) (get_or xs (i + 3) 0) (drop (i + 4) xs) (rw first at high) (rw second_is at low))

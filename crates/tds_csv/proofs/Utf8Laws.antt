@@ -1,12 +1,6 @@
 -- The laws of UTF-8 in pieces.
-use Rattle.std.proofs.Common.{◌≡◌, ℕ, zero, suc, ◌+◌, ◌-◌, ◌≤◌, ◌<◌, ⊎_elim, true, false, cond, List, [], ◌∷◌, ◌++◌, length, take, drop, refl, sym, ap, subst, ◌∙◌, arith, IsUtf8, encode_utf8, encode_utf8_all}
-use Rattle.std.proofs.lemmas.List.{append_assoc, length-append, take_at, drop_at, length-take-le, take-append-drop, take_all, take-append-le}
-use Rattle.std.proofs.lemmas.Str.{IsUtf8-append, IsUtf8-nil, IsUtf8-drop, IsUtf8-encode, IsCharBoundary-from_take, is_utf8-from_IsUtf8, IsUtf8-from_is_utf8, utf8_valid_len_le, utf8_valid_len-IsUtf8, utf8_valid_len-IsValidUpTo, length-encode, len_utf8_bounds}
-use Rattle.std.proofs.lemmas.Bool.{and_parts, cases_lt}
-use Rattle.std.specs.Str.{is_utf8, all_scalars}
-use lib.Utf8.{scalar}
-use Rattle.std.specs.Str.Lossy.{valid_len_up_to, utf8_valid_len}
-use Rattle.tds_csv.specs.Joining.{JoinsPieces, emit}
+use Rattle.tds_csv.proofs.Words.{◌≡◌, ℕ, zero, suc, ◌+◌, ◌-◌, ◌≤◌, ◌<◌, true, false, cond, List, [], ◌∷◌, ◌++◌, length, take, refl, sym, ap, subst, ◌∙◌, arith, IsUtf8, encode_utf8, encode_utf8_all, append_assoc, length-append, take_at, drop_at, length-take-le, take-append-drop, take-append-le, IsUtf8-append, IsUtf8-nil, IsUtf8-drop, IsUtf8-encode, IsCharBoundary-from_take, is_utf8-from_IsUtf8, IsUtf8-from_is_utf8, utf8_valid_len_le, length-encode, len_utf8_bounds, and_parts, cases_lt, is_utf8, all_scalars, scalar, valid_len_up_to, JoinsPieces, emit, drop-append-add, inl, inr, nil_from_length, take-append-add, ◌⊎◌}
+use Rattle.std.specs.Str.Lossy.{utf8_valid_len}
 use Rattle.tds_csv.specs.Utf8.{IsFit, Begins, rest, text}
 use Rattle.tds_csv.proofs.JoiningLemmas.{doubled-append, settled_front}
 
@@ -23,11 +17,10 @@ longest_up_to bs (suc n) m below within u =
     let passed = is_utf8-from_IsUtf8 (take m bs) u in
     elim (is_utf8 (take (suc n) bs)) as (λ t. is_utf8 (take (suc n) bs) ≡ t → cond t (suc n) (valid_len_up_to bs n) < m → ⊥) [
       | true ↦ λ e below. omega arith
-      | false ↦ λ e below. ⊎_elim
-          (λ small. let le : m ≤ n = omega arith in longest_up_to bs n m below le u)
-          (λ large. let same : m ≡ suc n = omega arith in
-          let wrong : true ≡ false = sym passed ∙ ap (λ k. is_utf8 (take k bs)) same ∙ e in cc)
-          (cases_lt m (suc n))
+      | false ↦ λ e below. elim (cases_lt m (suc n)) [
+        | inl less ↦ longest_up_to bs n m below (omega arith) u
+        | inr whole ↦ let same = ap (λ k. is_utf8 (take k bs)) {x = m} {y = suc n} (omega arith) in cc
+      ]
     ] refl below
 
 -- the whole characters at the front
@@ -58,62 +51,41 @@ after_text w z u whole =
     let edge = IsCharBoundary-from_take (w ++ z) (length w) whole le (subst IsUtf8 (sym at) u) in
     subst IsUtf8 (drop_at w z (length w) refl) (IsUtf8-drop (w ++ z) (length w) whole edge)
 
--- the first m bytes of two lists
-pub take-past : (w y : List ℕ) (k : ℕ) → take (length w + k) (w ++ y) ≡ w ++ take k y
-take-past [] y k = let e : 0 + k ≡ k = omega arith in ap (λ n. take n y) e
-take-past (x ∷ w) y k =
-    let e : suc (length w) + k ≡ suc (length w + k) = omega arith in
-    ap (λ n. take n (x ∷ w ++ y)) e ∙ ap (λ t. x ∷ t) (take-past w y k)
-
-drop-past : (w y : List ℕ) (k : ℕ) → drop (length w + k) (w ++ y) ≡ drop k y
-drop-past [] y k = let e : 0 + k ≡ k = omega arith in ap (λ n. drop n y) e
-drop-past (x ∷ w) y k =
-    let e : suc (length w) + k ≡ suc (length w + k) = omega arith in
-    ap (λ n. drop n (x ∷ w ++ y)) e ∙ drop-past w y k
+-- a text at the front than which no longer one stands there
+pub valid_len_is : (bs : List ℕ) (n : ℕ) → n ≤ length bs → IsUtf8 (take n bs) → ((m : ℕ) → n < m → m ≤ length bs → IsUtf8 (take m bs) → ⊥) → utf8_valid_len bs ≡ n
+unfolding front
+valid_len_is bs n within u longest = elim (cases_lt (utf8_valid_len bs) n) [
+  | inl less ↦ absurd (longest_is bs n less within u)
+  | inr most ↦ elim (cases_lt n (utf8_valid_len bs)) [
+    | inl more ↦ absurd (longest (utf8_valid_len bs) more (utf8_valid_len_le bs) (front_is bs))
+    | inr least ↦ omega arith
+  ]
+]
 
 -- the longest text at the front, after a text
 pub valid_len-past : (w y : List ℕ) → IsUtf8 w → utf8_valid_len (w ++ y) ≡ length w + utf8_valid_len y
 unfolding front
 valid_len-past w y u =
     let k = utf8_valid_len y in
-    let within = utf8_valid_len_le y in
     let sum = length-append w y in
-    ⊎_elim
-    (λ less.
-    let longest : (m : ℕ) → length w + k < m → IsUtf8 (take m (w ++ y)) → ⊥ = λ m more whole.
-    let split : m ≡ length w + (m - length w) = omega arith in
-    let cut : take m (w ++ y) ≡ w ++ take (m - length w) y = ap (λ n. take n (w ++ y)) split ∙ take-past w y (m - length w) in
-    let part : IsUtf8 (take (m - length w) y) = after_text w (take (m - length w) y) u (subst IsUtf8 cut whole) in
-    ⊎_elim
-    (λ far. let all : IsUtf8 (take (length y) y) = subst IsUtf8 (take_all (m - length w) y (omega arith) ∙ sym (take_all (length y) y (omega arith))) part in
-    longest_is y (length y) less (omega arith) all)
-    (λ near. longest_is y (m - length w) (omega arith) near part)
-    (cases_lt (length y) (m - length w)) in
-    utf8_valid_len-IsValidUpTo (w ++ y) (length w + k) (record {
-      short = omega arith;
-      front = subst IsUtf8 (sym (take-past w y k)) (IsUtf8-append w (take k y) u (front_is y));
-      longest = longest;
-    }))
-    (λ all.
-    let same : k ≡ length y = omega arith in
-    let whole : IsUtf8 y = subst IsUtf8 (take_all k y all) (front_is y) in
-    utf8_valid_len-IsUtf8 (w ++ y) (IsUtf8-append w y u whole) ∙ sum ∙ ap (λ n. length w + n) (sym same))
-    (cases_lt k (length y))
-
--- the front of two pieces, and their rest
-valid_len-append : (a b : List ℕ) → utf8_valid_len (a ++ b) ≡ length (front a) + utf8_valid_len (rest a ++ b)
-valid_len-append a b =
-    ap utf8_valid_len (ap (λ t. t ++ b) (front-rest a) ∙ append_assoc (front a) (rest a) b) ∙ valid_len-past (front a) (rest a ++ b) (front_is a)
+    valid_len_is (w ++ y) (length w + k) (omega (arith, utf8_valid_len_le y)) (rw (take-append-add w y k) (IsUtf8-append w (take k y) u (front_is y))) (λ m more within whole.
+    let n = m - length w in
+    let split : m ≡ length w + n = omega arith in
+    longest_is y n (omega arith) (omega arith) (after_text w (take n y) u (rw (split, take-append-add w y n) at whole)))
 
 pub regrouped : (a b : List ℕ) → a ++ b ≡ front a ++ (rest a ++ b)
 regrouped a b = ap (λ t. t ++ b) (front-rest a) ∙ append_assoc (front a) (rest a) b
 
+-- the front of two pieces, and their rest
+valid_len-append : (a b : List ℕ) → utf8_valid_len (a ++ b) ≡ length (front a) + utf8_valid_len (rest a ++ b)
+valid_len-append a b = ap utf8_valid_len (regrouped a b) ∙ valid_len-past (front a) (rest a ++ b) (front_is a)
+
 front-append : (a b : List ℕ) → front (a ++ b) ≡ front a ++ front (rest a ++ b)
 unfolding front
-front-append a b = grind (arith, valid_len-append, regrouped, take-past)
+front-append a b = grind (arith, valid_len-append, regrouped, take-append-add)
 
 pub rest-append : (a b : List ℕ) → rest (a ++ b) ≡ rest (rest a ++ b)
-rest-append a b = grind (arith, valid_len-append, regrouped, drop-past)
+rest-append a b = grind (arith, valid_len-append, regrouped, drop-append-add)
 
 pub emit-front : (a : List ℕ) → emit rest text a ≡ text (front a)
 emit-front a = ap text (settled_front rest a (front a) (front-rest a))
@@ -124,53 +96,40 @@ emits a b = grind (arith, emit-front, front-append, doubled-append)
 ends : (a : List ℕ) → text a ≡ emit rest text a ++ text (rest a)
 ends a = ap text (front-rest a) ∙ doubled-append (front a) (rest a) ∙ ap (λ t. t ++ text (rest a)) (sym (emit-front a))
 
--- no whole character stands in a rest
-pub no_char : (a r : List ℕ) (c : ℕ) → IsUtf8 (encode_utf8 c) → 0 < length (encode_utf8 c) → rest a ≡ encode_utf8 c ++ r → ⊥
-no_char a r c u some e =
-    let parts : a ≡ front a ++ (encode_utf8 c ++ r) = front-rest a ∙ ap (λ t. front a ++ t) e in
-    let n = length-front a in
-    let cut : take (length (front a) + length (encode_utf8 c)) a ≡ front a ++ encode_utf8 c =
-    ap (take (length (front a) + length (encode_utf8 c))) parts
-    ∙ take-past (front a) (encode_utf8 c ++ r) (length (encode_utf8 c)) ∙ ap (λ t. front a ++ t) (take_at (encode_utf8 c) r (length (encode_utf8 c)) refl) in
-    let within : length (front a) + length (encode_utf8 c) ≤ length a =
-    omega (arith, ap length parts, length-append (front a) (encode_utf8 c ++ r), length-append (encode_utf8 c) r) in
-    longest_is a (length (front a) + length (encode_utf8 c)) (omega arith) within
-    (subst IsUtf8 (sym cut) (IsUtf8-append (front a) (encode_utf8 c) (front_is a) u))
+-- no front of the list is a text
+unfoldable pub NoText : List ℕ → Type 0
+NoText r = (n : ℕ) → 0 < n → n ≤ length r → IsUtf8 (take n r) → ⊥
 
--- a list that two others begin
-pub shorter : (p q x y : List ℕ) → p ++ x ≡ q ++ y → length p ≤ length q → (r : List ℕ) × (q ≡ p ++ r)
-shorter p q x y e le =
-    let front_of : p ≡ take (length p) q = sym (take_at p x (length p) refl) ∙ ap (take (length p)) e ∙ take-append-le (length p) q y le in
-    (drop (length p) q, sym (take-append-drop (length p) q) ∙ ap (λ t. t ++ drop (length p) q) (sym front_of))
+-- the rest of bytes has no text at its front
+pub no_text : (bytes : List ℕ) → NoText (rest bytes)
+unfolding NoText
+no_text bytes n some within u =
+    let cut : take (length (front bytes) + n) bytes ≡ front bytes ++ take n (rest bytes) = ap (take (length (front bytes) + n)) (front-rest bytes) ∙ take-append-add (front bytes) (rest bytes) n in
+    longest_is bytes (length (front bytes) + n) (omega (arith, length-front bytes)) (omega (arith, ap length (front-rest bytes), length-append (front bytes) (rest bytes))) (rw cut (IsUtf8-append (front bytes) (take n (rest bytes)) (front_is bytes) u))
 
-short_if : (a more : List ℕ) (cs : List ℕ) → all_scalars cs ≡ true → encode_utf8_all cs ≡ rest a ++ more → length (rest a) ≤ 3
-short_if a more [] valid e = let n = ap length e in omega (arith, n, length-append (rest a) more)
-short_if a more (c ∷ cs) valid e =
-    let first = and_parts (scalar c) (all_scalars cs) valid in
-    let width = length-encode c in
-    let bounds = len_utf8_bounds c in
-    ⊎_elim
-    (λ few. omega arith)
-    (λ many.
-    let found = shorter (encode_utf8 c) (rest a) (encode_utf8_all cs) more e (omega arith) in
-    absurd (no_char a found.0 c (IsUtf8-encode c first.0) (omega arith) found.1))
-    (cases_lt (length (rest a)) 4)
+-- the rest of what begins a text is empty, or a beginning of a character
+pub begun_rest : (a : List ℕ) → (b : Begins a) → (rest a ≡ []) ⊎ ((c : ℕ) × (tail : List ℕ) × (scalar c ≡ true) × (encode_utf8 c ++ tail ≡ rest a ++ b.0) × (length (rest a) < length (encode_utf8 c)))
+unfolding NoText
+begun_rest a b =
+    let whole = after_text (front a) (rest a ++ b.0) (front_is a) (subst IsUtf8 (regrouped a b.0) b.1) in
+    go whole.0 whole.1.0 whole.1.1
+  where
+    go : (cs : List ℕ) → all_scalars cs ≡ true → encode_utf8_all cs ≡ rest a ++ b.0 → (rest a ≡ []) ⊎ ((c : ℕ) × (tail : List ℕ) × (scalar c ≡ true) × (encode_utf8 c ++ tail ≡ rest a ++ b.0) × (length (rest a) < length (encode_utf8 c)))
+    go [] valid e = inl (nil_from_length (rest a) (omega (arith, ap length e, length-append (rest a) b.0)))
+    go (c ∷ cs) valid e = elim (cases_lt (length (rest a)) (length (encode_utf8 c))) [
+      | inl less ↦ inr (c, encode_utf8_all cs, (and_parts (scalar c) (all_scalars cs) valid).0, e, less)
+      | inr more ↦
+          let k = length (encode_utf8 c) in
+          let found : take k (rest a) ≡ encode_utf8 c = sym (take-append-le k (rest a) b.0 more) ∙ ap (take k) (sym e) ∙ take_at (encode_utf8 c) (encode_utf8_all cs) k refl in
+          absurd (no_text a k (omega (arith, length-encode c, len_utf8_bounds c)) more (rw found (IsUtf8-encode c (and_parts (scalar c) (all_scalars cs) valid).0)))
+    ]
 
 short : (a : List ℕ) → Begins a → length (rest a) ≤ 3
-short a begins =
-    let whole : IsUtf8 (front a ++ (rest a ++ begins.0)) = subst IsUtf8 (regrouped a begins.0) begins.1 in
-    let tail = after_text (front a) (rest a ++ begins.0) (front_is a) whole in
-    short_if a begins.0 tail.0 tail.1.0 tail.1.1
+short a begins = elim (begun_rest a begins) [ inl none ↦ omega (arith, ap length none) | inr part ↦ omega (arith, part.4, length-encode part.0, len_utf8_bounds part.0) ]
 
 -- what follows, seen from the front
 seam : (a b more : List ℕ) → (a ++ b) ++ more ≡ front a ++ ((rest a ++ b) ++ more)
 seam a b more = ap (λ t. t ++ more) (regrouped a b) ∙ append_assoc (front a) (rest a ++ b) more
-
-inward : (a b : List ℕ) → Begins (a ++ b) → Begins (rest a ++ b)
-inward a b h = (h.0, after_text (front a) ((rest a ++ b) ++ h.0) (front_is a) (subst IsUtf8 (seam a b h.0) h.1))
-
-outward : (a b : List ℕ) → Begins (rest a ++ b) → Begins (a ++ b)
-outward a b h = (h.0, subst IsUtf8 (sym (seam a b h.0)) (IsUtf8-append (front a) ((rest a ++ b) ++ h.0) (front_is a) h.1))
 
 -- text in UTF-8 may come in pieces
 pub joins_utf8 : JoinsPieces IsFit Begins rest text
@@ -182,6 +141,6 @@ joins_utf8 = record {
   fit_rest = λ bytes u. after_text (front bytes) (rest bytes) (front_is bytes) (subst IsUtf8 (front-rest bytes) u);
   fit_whole = λ bytes _ u. subst IsUtf8 (sym (front-rest bytes)) (IsUtf8-append (front bytes) (rest bytes) (front_is bytes) u);
   front = λ a b h. (b ++ h.0, subst IsUtf8 (append_assoc a b h.0) h.1);
-  inward = inward;
-  outward = outward;
+  inward = λ a b h. (h.0, after_text (front a) ((rest a ++ b) ++ h.0) (front_is a) (subst IsUtf8 (seam a b h.0) h.1));
+  outward = λ a b h. (h.0, subst IsUtf8 (sym (seam a b h.0)) (IsUtf8-append (front a) ((rest a ++ b) ++ h.0) (front_is a) h.1));
 }

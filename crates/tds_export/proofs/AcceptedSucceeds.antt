@@ -1,26 +1,5 @@
 -- What an export answers of an accepted response: it succeeds, but for a device that fails.
-use Rattle.std.proofs.Common.{◌≡◌, ◌∙◌, inl, inr, ℕ, ◌+◌, ◌≤◌, List, [], ◌∷◌, ◌++◌, length, take, drop, refl, sym, ap, subst, arith, append_assoc, append-nil, take-append-drop}
-use Rattle.std.specs.Prelude.{◌==◌, Some, Result, Ok, Err}
-use Rattle.std.proofs.lemmas.Grind.{flat_map-append}
-use Rattle.tds_export.specs.Moments.{Run}
-use Rattle.tds_export.specs.Outcome.{Outcome, Packets, Stops, SucceedsIfAccepted, grammar, report_of}
-use Rattle.tds_export.specs.Response.{Accepted, Response}
-use Rattle.tds_export.specs.Steps.{after_tokens}
-use Rattle.tds_export.specs.TokenGrammar.{Part, response_start}
-use Rattle.tds_export.specs.Tokens.{Token, error_text, text}
-use Rattle.tds_export.specs.declared.report.Report.{Report}
-use Rattle.tds_export.specs.declared.report.Stopped.{Stopped}
-use Rattle.tds_meter.specs.Counts.{Rose}
-use Rattle.tds_packet.proofs.Choices.{choose}
-use Rattle.tds_packet.proofs.Feeding.{Reading, feed_all}
-use Rattle.tds_packet.specs.Elements.{IsRefused, Longest}
-use Rattle.tds_packet.specs.Packets.{AreBefore, BeforeBody, BeforeHeader, AfterLast, Message, Packet, WireFault, WirePart, WirePlace, header_length, no_wire, packet_of, payload_of, wire, wire_add, wire_end, wire_of, wire_size, with_packet}
-use Rattle.tds_packet.specs.declared.fault.Fault.{Fault}
-use Rattle.tds_packet.specs.declared.fault.Place.TheVariants.{Wire, Payload, Text}
-use Rattle.tds_packet.specs.declared.fault.Place.{Place}
-use Rattle.tds_packet.proofs.ElementLaws.{Told, Spelt-induct, feed-Spelt, feed_all-append, longest_cut, one_longest, read_longest, told}
-use Rattle.tds_packet.proofs.PacketLaws.{before_are_read, before_packet}
-use Rattle.tds_packet.proofs.MessageLaws.{after_packets as after_last, one_message, read_to_end}
+use Rattle.tds_export.proofs.Words.{Accepted, AfterLast, AreBefore, BeforeBody, BeforeHeader, Err, Fault, IsRefused, List, Longest, Message, Ok, Outcome, Packet, Packets, Part, Payload, Place, Reading, Report, Response, Result, Rose, Run, Some, Spelt-induct, Stopped, Stops, SucceedsIfAccepted, Text, Token, Told, Wire, WireFault, WirePart, WirePlace, [], after_last, after_tokens, ap, append-nil, append_assoc, arith, before_are_read, before_packet, choose, drop, error_text, feed-Spelt, feed_all, feed_all-append, flat_map-append, grammar, header_length, inl, inr, length, longest_cut, more, no_wire, one_longest, one_message, packet_of, payload_of, read, read_longest, read_to_end, refl, report_of, response_start, subst, sym, take, take-append-drop, text, told, wire, wire_add, wire_end, wire_of, wire_size, with_packet, ℕ, ◌++◌, ◌+◌, ◌==◌, ◌∙◌, ◌∷◌, ◌≡◌, ◌≤◌}
 use Rattle.tds_export.proofs.ResponseLaws.{one_accepted, refused_response, response_is_read}
 
 -- ---- packets at the front of a message

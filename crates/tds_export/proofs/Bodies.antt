@@ -1,70 +1,54 @@
--- Tokens with a Length and a body of which nothing is kept.
-use Rattle.std.proofs.Common.{◌≡◌, ◌∙◌, inl, ℕ, ◌+◌, ◌-◌, ◌^◌, ◌<◌, ◌≤◌, Bool, false, List, [], ◌∷◌, ◌++◌, length, refl, sym, ap, subst, arith, append-nil, length-append}
-use Rattle.std.specs.Prelude.{Some, None, ◌&&◌, not, nat_lt, if◌then◌else◌}
-use Rattle.std.proofs.lemmas.Bool.{ne_eqb}
-use Rattle.byteorder.specs.Endian.{little_number}
-use Rattle.tds_csv.specs.Sinks.{Held}
-use Rattle.tds_export.specs.Steps.{IsHolding, ReadsTokens, StepStops, TracksBefore, after_tokens, in_length}
-use Rattle.tds_export.specs.TokenBytes.{Bodied}
-use Rattle.tds_export.specs.TokenGrammar.{Part, TokenBody, TokenLength, bodied, holds_notice, is_notice, part_fault, response, with_token}
-use Rattle.tds_export.specs.Tokens.{Token}
-use Rattle.tds_export.specs.declared.progress.Progress.{Progress}
-use Rattle.tds_meter.specs.Space.{Space}
-use Rattle.tds_packet.proofs.Choices.{choose_false}
-use Rattle.tds_packet.proofs.ElementLaws.{Spelt-append, Spelt-step}
-use Rattle.tds_packet.proofs.Steps.{stops_after, takes_both}
-use Rattle.tds_packet.specs.Elements.{Spelt}
-use Rattle.tds_packet.specs.Reading.{StopsReading}
-use Rattle.tds_packet.specs.Seen.{Seen, Takes, Ends, began_at}
-use Rattle.tds_packet.specs.declared.fault.Fault.TheVariants.{BadNotice}
-use Rattle.tds_packet.specs.declared.fault.Stop.{Stop}
-use Rattle.tds_rows.specs.declared.Charset.{Charset}
-use Rattle.tds_values.specs.Numbers.{little}
+-- Tokens with a Length and a body, as they are read.
+use Rattle.tds_export.proofs.Words.{Bodied, Bool, Charset, Ends, Held, IsNoted, List, Part, Progress, Reads, ReadsTokens, Seen, Space, StepStops, Stop, StopsReading, Takes, Token, TokenBody, [], ap, arith, began_at, bodied, choose_false, false, holds_notice, in_length, is_notice, length, length-append, little, little_number, ne_eqb, reads_one, refl, response, stops_after, sym, takes_both, true, with_token, ℕ, ◌++◌, ◌+◌, ◌<◌, ◌==◌, ◌∙◌, ◌≡◌, ◌≤◌}
+use Rattle.tds_export.proofs.TokenSteps.{Begun, bare_reads, quietly, stops_quietly}
 use Rattle.tds_export.proofs.TokenLaws.{bare_body, tracks_body}
-use Rattle.tds_export.proofs.TokenSteps.{bare_reads, part_cut, same_text}
+use Rattle.tds_export.proofs.ResponseLaws.{body_free, body_is_read, length_free}
+use Rattle.tds_export.proofs.Cuts.{part_cut}
 
-module _ (charset : Charset) (room : ℕ) (tokens : List Token) (which : Bodied) (quiet : is_notice which ≡ false) where
-  -- before the body
-  abbrev in_body : ℕ → Part
-  in_body n = record { tokens = tokens; at = TokenBody which n }
+-- before the body of a token
+abbrev pub in_body : Bodied → List Token → ℕ → Part
+in_body which tokens n = record { tokens = tokens; at = TokenBody which n }
 
-  length_free : (element : List ℕ) → part_fault room tokens (TokenLength which) element ≡ None
-  length_free element = ap (λ v. if v && nat_lt (little element) 14 then Some BadNotice else None) quiet
+-- The Length of a body was read.
+pub record LengthRead (element : List ℕ) (n : ℕ) (a b : Seen) (place middle : ℕ) : Type 0 where
+  pub two : length element ≡ 2
+  pub is : n ≡ little_number 2 element
+  pub takes : Takes a b element (length element)
+  pub at : middle ≡ place + length element
 
-  -- the Length was read, and a body follows
-  length_spelt : (element : List ℕ) (n : ℕ) → length element ≡ 2 → little element ≡ n → 0 < n → Spelt (response charset room) (in_length which tokens) element (in_body n)
-  length_spelt element n two is some = grind (arith, Spelt-step, choose_false, length_free, ne_eqb)
+-- the Length as a number
+pub number_is : {element : List ℕ} {n place middle : ℕ} {a b : Seen} → LengthRead element n a b place middle → little element ≡ n
+number_is {element = element} l = rw l.is (ap (λ k. little_number k element) l.two)
 
-  -- the Length and the body were read
-  body_spelt : (element body : List ℕ) → length element ≡ 2 → length body ≡ little element → Spelt (response charset room) (in_length which tokens) (element ++ body) (after_tokens (tokens ++ bodied which body ∷ []))
-  body_spelt element [] two is = grind (arith, Spelt-step, append-nil, length_free)
-  body_spelt element (x ∷ xs) two is =
-      let n : ℕ = length (x ∷ xs) in
-      let to = with_token tokens (bodied which (x ∷ xs)) in
-      Spelt-append (response charset room) (in_length which tokens) element (in_body n) (x ∷ xs) to (length_spelt element n two (sym is) (omega arith))
-      (Spelt-step (response charset room) (in_body n) (x ∷ xs) to (omega arith) refl (ap (λ v. if v && not (holds_notice (x ∷ xs)) then Some BadNotice else None) quiet) refl)
+module _ (charset : Charset) (room : ℕ) {n place middle : ℕ} {tokens : List Token} {which : Bodied} {element : List ℕ} {a b c : Seen} (l : LengthRead element n a b place middle) (long : is_notice which ≡ true → 14 ≤ n) where
+  -- what stops the reading of the body
+  pub after_length : {stop : Stop} → 0 < n → StopsReading (response charset room) (in_body which tokens n) b c middle (in_body which tokens n) stop → StopsReading (response charset room) (in_length which tokens) a c place (in_body which tokens n) stop
+  after_length {stop = stop} some stops =
+      let to : (response charset room).add (in_length which tokens) element ≡ in_body which tokens n = rw (number_is l) (choose_false (n == 0) (with_token tokens (bodied which [])) (in_body which tokens n) (ne_eqb n 0 (λ z. omega (arith, some, z)))) in
+      let one = reads_one (response charset room) (in_length which tokens) a b element (in_body which tokens n) (record { some = omega (arith, l.two); whole = l.two; free = length_free room n tokens which element long (number_is l) }) l.takes to in
+      stops_after (response charset room) (in_length which tokens) (in_body which tokens n) a b c place (in_body which tokens n) stop one (rw l.at at stops)
 
-  pub body_reads : (area : Space) (sink : Held) (progress : Progress) (element body : List ℕ) (n : ℕ) (a b c : Seen) (place middle place' : ℕ) → length element ≡ 2 → n ≡ little_number 2 element → length body ≡ n → middle ≡ place + length element → place' ≡ middle + n
-      → sink.delivered ≤ 2 ^ 64 - 1 → TracksBefore progress tokens → IsHolding area (after_tokens tokens) → Takes a b element (length element) → Takes b c body n
-      → ReadsTokens (response charset room) (in_length which tokens) tokens a c place place' sink sink progress area
-  body_reads area sink progress element body n a b c place middle place' two is len at at' d tracks holds first second =
-      let number : n ≡ little element = is ∙ ap (λ k. little_number k element) (sym two) in
-      bare_reads charset room area sink tokens (bodied which body) (TokenLength which) progress (element ++ body) a c place place' refl (bare_body which body) (omega (arith, at, at', len, length-append element body)) d
-      (tracks_body progress tokens which body quiet tracks) holds (body_spelt element body two (len ∙ number)) (takes_both a b c element body first (subst (Takes b c body) (sym len) second))
+  -- the body was read
+  abbrev pub body_reads : (body : List ℕ) → length body ≡ n → Takes b c body n → (is_notice which ≡ true → holds_notice body ≡ true) → Reads (response charset room) (in_length which tokens) a c (with_token tokens (bodied which body))
+  body_reads body len takes holds = record {
+    bytes = element ++ body;
+    spelt = body_is_read charset room tokens which element body l.two (number_is l ∙ sym len) (length_free room n tokens which element long (number_is l)) (body_free which body holds);
+    takes = takes_both a b c element body l.takes (rw len takes);
+  }
 
-  pub body_stops : (area : Space) (sink : Held) (element part : List ℕ) (n : ℕ) (a b c : Seen) (place middle : ℕ) (failed : Bool) (own stop : Stop) → length element ≡ 2 → n ≡ little_number 2 element → middle ≡ place + length element
-      → sink.delivered ≤ 2 ^ 64 - 1 → failed ≡ false → IsHolding area (after_tokens tokens) → Takes a b element (length element) → length part < n → Ends b c part own → stop ≡ began_at middle own
-      → StepStops (response charset room) (in_length which tokens) a c place sink sink area failed stop
-  body_stops area sink element part n a b c place middle failed own stop two is at d going holds first fewer ends stop_is =
-      let number : little element ≡ n = ap (λ k. little_number k element) two ∙ sym is in
-      let cut = part_cut charset room (in_body n) b c middle n part own stop refl refl fewer ends stop_is in
-      inl (
-        record {
-          at = in_body n;
-          stops = stops_after (response charset room) (in_length which tokens) (in_body n) a b c place (in_body n) stop (record { bytes = element; spelt = length_spelt element n two number (omega (arith, fewer)); takes = first })
-              (subst (λ m. StopsReading (response charset room) (in_body n) b c m (in_body n) stop) at cut);
-          puts = same_text (in_length which tokens) (in_body n) sink refl d;
-          holds = record { bytes = holds.bytes; peak = holds.peak };
-        },
-        going,
-      )
+-- no token is a notice and isn't one
+no_notice : {P : Type 0} (which : Bodied) → is_notice which ≡ false → is_notice which ≡ true → P
+no_notice which quiet loud = absurd (let both : false ≡ true = sym quiet ∙ loud in cc)
+
+module _ (charset : Charset) (room : ℕ) {n place middle : ℕ} {tokens : List Token} {which : Bodied} {element : List ℕ} {a b c : Seen} {s : Progress} {area notice : Space} {sink : Held} {failed : Bool} (begun : Begun tokens s area notice sink failed) (quiet : is_notice which ≡ false) (l : LengthRead element n a b place middle) where
+  -- a body of which nothing is kept was read
+  pub quiet_reads : {place' : ℕ} (body : List ℕ) → length body ≡ n → Takes b c body n → place' ≡ middle + n → (x : ReadsTokens (response charset room) (in_length which tokens) tokens a c place place' sink sink s area) × IsNoted notice (tokens ++ x.more)
+  quiet_reads body len takes at =
+      let r = body_reads charset room l (no_notice which quiet) body len takes (no_notice which quiet) in
+      quietly begun refl (bare_reads begun (bodied which body) r (omega (arith, at, l.at, len, length-append element body)) refl (bare_body which body) (tracks_body s tokens which body quiet begun.tracks))
+
+  -- it was cut
+  pub quiet_stops : {own stop : Stop} (part : List ℕ) → length part < n → Ends b c part own → stop ≡ began_at middle own → StepStops (response charset room) (in_length which tokens) a c place sink sink area failed stop
+  quiet_stops part fewer ends is =
+      stops_quietly refl (record { bytes = begun.holds.bytes; peak = begun.holds.peak }) begun.delivered begun.going
+      (after_length charset room l (no_notice which quiet) (omega (arith, fewer)) (part_cut part refl refl fewer ends is))

@@ -1,26 +1,7 @@
 -- What completes a cell is read as its rest.
-use Rattle.std.proofs.Common.{◌≡◌, ◌≢◌, ℕ, zero, suc, ◌+◌, ◌-◌, ◌%◌, ◌^◌, ◌<◌, ◌≤◌, Bool, true, false, List, [], ◌∷◌, ◌++◌, length, replicate, refl, sym, ◌∙◌, ap, subst, arith, add-one, length-append, append_assoc}
-use Rattle.std.specs.Prelude.{Option, Some, None, ◌==◌, ◌&&◌, ◌||◌, nat_lt, nat_le, Result, Ok, is_ok, if◌then◌else◌, unwrap_or}
-use Rattle.std.proofs.lemmas.Bool.{and_parts, or_cases, eq-eqb, ne_eqb}
-use Rattle.std.proofs.lemmas.List.{length-replicate}
-use Rattle.tds_csv.specs.Conversion.{Conversion, Utf8Text, unit, is_fit, is_begun}
-use Rattle.tds_export.specs.Completion.{zeros, zero_chunks, one_zero, terminator, rest_of_chunks, rest_of_cell}
-use Rattle.tds_packet.proofs.Choices.{choose, choose_false, eq_true, eq_false, le_true, test_le, test_lt}
-use Rattle.tds_packet.proofs.ElementLaws.{Spelt-step, Spelt-append, Spelt-none}
-use Rattle.tds_packet.specs.Elements.{AreBytes, Spelt, IsNext}
-use Rattle.tds_packet.specs.declared.fault.Fault.TheVariants.{BadValue, BadText, OddText, PlpLength}
-use Rattle.tds_rows.proofs.CellMeaning.{unless_none}
-use Rattle.tds_rows.specs.Cells.{Cell, Null, ScalarCell, DataCell, shape, shape_of_length, CellPart, ScalarBytes, ScalarLength, ShortLength, ShortData, Total, ChunkLength, ChunkData, WholeCell, cell_start, cell_add, cell, unless, within_total, is_total, value_part, known_total, unknown_total, null_total}
-use Rattle.tds_rows.specs.declared.Charset.TheVariants.{Windows1252}
-use Rattle.tds_values.specs.Kind.{is_scalar, is_valid, fixed_length, is_length_allowed, is_decimal_length}
-use Rattle.tds_values.specs.Scalar.{read_of, checked, value_of}
-use Rattle.tds_values.specs.declared.kind.Kind.{Kind}
-use Rattle.tds_values.specs.declared.kind.Kind.TheVariants.{IntN, BitN, MoneyN, DateTimeN, Guid, Decimal, Date, Time, DateTime2, DateTimeOffset, Binary, Narrow, Wide}
-use Rattle.tds_values.specs.declared.scalar.ScalarValue.{ScalarValue}
-use Rattle.tds_values.specs.declared.scalar.ValueFault.{ValueFault}
-use Rattle.tds_rows.proofs.CellSteps.{fixed_some}
+use Rattle.tds_export.proofs.Words.{AreBytes, BadValue, Binary, BitN, Bool, Cell, CellPart, ChunkData, ChunkLength, Conversion, DataCell, Date, DateTime2, DateTimeN, DateTimeOffset, Decimal, Guid, IntN, IsNext, Kind, List, MoneyN, Narrow, None, Null, Ok, Option, Result, ScalarBytes, ScalarCell, ScalarLength, ScalarValue, ShortData, ShortLength, Some, Spelt, Spelt-none, Time, Total, Utf8Text, ValueFault, WholeCell, Wide, Windows1252, [], add-one, and_parts, ap, append_assoc, arith, cell, cell_add, cell_start, checked, choose, choose_false, eq-eqb, eq_false, eq_true, false, fixed_length, fixed_some, is_begun, is_decimal_length, is_fit, is_length_allowed, is_ok, is_scalar, is_total, is_valid, le_true, length, length-append, length-replicate, nat_le, nat_tests, or_cases, read_of, refl, replicate, rest_of_cell, rest_of_chunks, shape, subst, suc, sym, terminator, test_le, test_lt, time_length, true, unit, unless, unless_none, unwrap_or, value_of, value_part, within_total, zero, zero_chunks, zeros, ℕ, ◌%◌, ◌&&◌, ◌++◌, ◌+◌, ◌<◌, ◌∙◌, ◌∷◌, ◌≡◌, ◌≤◌}
 use Rattle.tds_export.proofs.SomeBytes.{exactly, little_below, one_of_four, one_of_two}
-use Rattle.tds_values.specs.TimeOfDay.{time_length}
+use Rattle.tds_export.proofs.Cuts.{spelt_both, spelt_one}
 
 -- the conversions that Windows-1252 names: none judges data before its end
 abbrev pub is_plain : Conversion → Bool
@@ -48,10 +29,6 @@ CellReached (Total c) = is_plain c ≡ true
 CellReached (ChunkLength c total content) = (is_plain c ≡ true) × HoldsTotal c total (length content)
 CellReached (ChunkData c total left content) = (is_plain c ≡ true) × HoldsTotal c total (length content + (left + 1))
 CellReached (WholeCell x) = Unit {0}
-
--- the second of two, where the first isn't
-if_not_first : (p q : Bool) → p ≡ false → (p || q) ≡ true → q ≡ true
-if_not_first p q a h = grind arith
 
 -- numbers up to 7
 below_eight : (P : ℕ → Type 0) → P 0 → P 1 → P 2 → P 3 → P 4 → P 5 → P 6 → P 7 → (s : ℕ) → s ≤ 7 → P s
@@ -93,8 +70,8 @@ zeros_are_a_value (Narrow r) n v s h = cc
 zeros_are_a_value (Wide r) n v s h = cc
 zeros_are_a_value kind n v s h = exactly (ZerosAre kind) n (unwrap_or (fixed_length kind) 0) h (_, refl)
 
-zeros_more : (n : ℕ) → zeros (n + 1) ≡ 0 ∷ zeros n
-zeros_more n = ap (λ v. replicate v 0) (add-one n)
+zeros_next : (n : ℕ) → 0 ∷ zeros (n + 1) ≡ zeros (suc n + 1)
+zeros_next n = ap (λ v. 0 ∷ zeros v) (add-one n) ∙ sym (ap (λ v. replicate v 0) (add-one (suc n)))
 
 -- a sum that stays below that of a known total may still become it
 within : (total : Option ℕ) (m k : ℕ) → is_total total m ≡ true → k ≤ m → within_total total k ≡ true
@@ -108,57 +85,35 @@ module _ (column : ℕ) where
   -- the rest of a short value
   short_ends : (c : Conversion) (left : ℕ) (content : List ℕ) → CellReached (ShortData c left content) → (x : Cell) × Spelt (cell column) (ShortData c left content) (zeros (left + 1)) (WholeCell x)
   short_ends c zero content (plain, even) =
-      let begun : is_begun c (content ++ 0 ∷ []) ≡ true = plain_begun c (content ++ 0 ∷ []) plain in
-      let fit : is_fit c (content ++ 0 ∷ []) ≡ true = plain_fit c (content ++ 0 ∷ []) plain (ap (λ v. v % unit c) (length-append content (0 ∷ [])) ∙ even) in
-      (DataCell c (content ++ 0 ∷ []), Spelt-step (cell column) (ShortData c 0 content) (0 ∷ []) (WholeCell (DataCell c (content ++ 0 ∷ []))) (omega arith) refl (λ i. unless (begun i && fit i) (BadText column)) refl)
+      let fit = plain_fit c (content ++ 0 ∷ []) plain (ap (λ v. v % unit c) (length-append content (0 ∷ [])) ∙ even) in
+      (DataCell c (content ++ 0 ∷ []), spelt_one (omega arith) refl (rw (plain_begun c (content ++ 0 ∷ []) plain, fit) refl) refl)
   short_ends c (suc left) content (plain, even) =
-      let l : length (content ++ 0 ∷ []) ≡ length content + 1 = length-append content (0 ∷ []) in
-      let begun : is_begun c (content ++ 0 ∷ []) ≡ true = plain_begun c (content ++ 0 ∷ []) plain in
-      let some : nat_lt 0 (suc left) ≡ true = test_lt 0 (suc left) (omega arith) in
-      let to : cell_add (ShortData c (suc left) content) (0 ∷ []) ≡ ShortData c left (content ++ 0 ∷ []) =
-      choose_false (suc left == 0) (WholeCell (DataCell c (content ++ 0 ∷ []))) (ShortData c (suc left - 1) (content ++ 0 ∷ [])) (ne_eqb (suc left) 0 (λ q. omega arith)) ∙ ap (λ v. ShortData c v (content ++ 0 ∷ [])) (omega arith) in
-      let one : Spelt (cell column) (ShortData c (suc left) content) (0 ∷ []) (ShortData c left (content ++ 0 ∷ [])) = Spelt-step (cell column) (ShortData c (suc left) content) (0 ∷ []) (ShortData c left (content ++ 0 ∷ [])) (omega arith) refl (λ i. unless (begun i && (some i || is_fit c (content ++ 0 ∷ []))) (BadText column)) to in
-      let same : length (content ++ 0 ∷ []) + (left + 1) ≡ length content + (suc left + 1) = omega (arith, l) in
+      let to : cell_add (ShortData c (suc left) content) (0 ∷ []) ≡ ShortData c left (content ++ 0 ∷ []) = grind (arith, nat_tests) in
+      let one : Spelt (cell column) (ShortData c (suc left) content) (0 ∷ []) (ShortData c left (content ++ 0 ∷ [])) = spelt_one (omega arith) refl (rw (plain_begun c (content ++ 0 ∷ []) plain, test_lt 0 (suc left) (omega arith)) refl) to in
+      let same : length (content ++ 0 ∷ []) + (left + 1) ≡ length content + (suc left + 1) = omega (arith, length-append content (0 ∷ [])) in
       let more = short_ends c left (content ++ 0 ∷ []) (plain, ap (λ v. v % unit c) same ∙ even) in
-      let bytes : 0 ∷ zeros (left + 1) ≡ zeros (suc left + 1) = ap (λ v. 0 ∷ zeros v) (add-one left) ∙ sym (zeros_more (suc left)) in
-      (more.0, subst (λ v. Spelt (cell column) (ShortData c (suc left) content) v (WholeCell more.0)) bytes (Spelt-append (cell column) (ShortData c (suc left) content) (0 ∷ []) (ShortData c left (content ++ 0 ∷ [])) (zeros (left + 1)) (WholeCell more.0) one more.1))
+      (more.0, rw (← zeros_next left) (spelt_both one more.1))
 
   -- the rest of a chunk
   chunk_ends : (c : Conversion) (total : Option ℕ) (left : ℕ) (content : List ℕ) → is_plain c ≡ true → Spelt (cell column) (ChunkData c total left content) (zeros (left + 1)) (ChunkLength c total (content ++ zeros (left + 1)))
-  chunk_ends c total zero content plain =
-      let begun : is_begun c (content ++ 0 ∷ []) ≡ true = plain_begun c (content ++ 0 ∷ []) plain in
-      Spelt-step (cell column) (ChunkData c total 0 content) (0 ∷ []) (ChunkLength c total (content ++ 0 ∷ [])) (omega arith) refl (λ i. unless (begun i) (BadText column)) refl
+  chunk_ends c total zero content plain = spelt_one (omega arith) refl (rw (plain_begun c (content ++ 0 ∷ []) plain) refl) refl
   chunk_ends c total (suc left) content plain =
-      let begun : is_begun c (content ++ 0 ∷ []) ≡ true = plain_begun c (content ++ 0 ∷ []) plain in
-      let to : cell_add (ChunkData c total (suc left) content) (0 ∷ []) ≡ ChunkData c total left (content ++ 0 ∷ []) =
-      choose_false (suc left == 0) (ChunkLength c total (content ++ 0 ∷ [])) (ChunkData c total (suc left - 1) (content ++ 0 ∷ [])) (ne_eqb (suc left) 0 (λ q. omega arith)) ∙ ap (λ v. ChunkData c total v (content ++ 0 ∷ [])) (omega arith) in
-      let one : Spelt (cell column) (ChunkData c total (suc left) content) (0 ∷ []) (ChunkData c total left (content ++ 0 ∷ [])) = Spelt-step (cell column) (ChunkData c total (suc left) content) (0 ∷ []) (ChunkData c total left (content ++ 0 ∷ [])) (omega arith) refl (λ i. unless (begun i) (BadText column)) to in
-      let bytes : 0 ∷ zeros (left + 1) ≡ zeros (suc left + 1) = ap (λ v. 0 ∷ zeros v) (add-one left) ∙ sym (zeros_more (suc left)) in
-      subst (λ v. Spelt (cell column) (ChunkData c total (suc left) content) v (ChunkLength c total (content ++ v))) bytes
-      (subst (λ v. Spelt (cell column) (ChunkData c total (suc left) content) (0 ∷ zeros (left + 1)) (ChunkLength c total v)) (append_assoc content (0 ∷ []) (zeros (left + 1)))
-      (Spelt-append (cell column) (ChunkData c total (suc left) content) (0 ∷ []) (ChunkData c total left (content ++ 0 ∷ [])) (zeros (left + 1)) (ChunkLength c total ((content ++ 0 ∷ []) ++ zeros (left + 1))) one (chunk_ends c total left (content ++ 0 ∷ []) plain)))
+      let to : cell_add (ChunkData c total (suc left) content) (0 ∷ []) ≡ ChunkData c total left (content ++ 0 ∷ []) = grind (arith, nat_tests) in
+      let one : Spelt (cell column) (ChunkData c total (suc left) content) (0 ∷ []) (ChunkData c total left (content ++ 0 ∷ [])) = spelt_one (omega arith) refl (rw (plain_begun c (content ++ 0 ∷ []) plain) refl) to in
+      rw (← zeros_next left, ← append_assoc content (0 ∷ []) (zeros (left + 1))) (spelt_both one (chunk_ends c total left (content ++ 0 ∷ []) plain))
 
-  -- a chunk of one zero byte
-  one_chunk : (c : Conversion) (total : Option ℕ) (content : List ℕ) → is_plain c ≡ true → within_total total (length content + 1) ≡ true → Spelt (cell column) (ChunkLength c total content) one_zero (ChunkLength c total (content ++ 0 ∷ []))
-  one_chunk c total content plain fits =
-      Spelt-append (cell column) (ChunkLength c total content) (1 ∷ 0 ∷ 0 ∷ 0 ∷ []) (ChunkData c total 0 content) (0 ∷ []) (ChunkLength c total (content ++ 0 ∷ []))
-      (Spelt-step (cell column) (ChunkLength c total content) (1 ∷ 0 ∷ 0 ∷ 0 ∷ []) (ChunkData c total 0 content) (omega arith) refl (ap (λ b. unless b (PlpLength column)) fits) refl)
-      (chunk_ends c total 0 content plain)
-
-  -- so many of them, and the terminator
+  -- so many chunks of one zero byte, and the terminator
   chunks_end : (c : Conversion) (total : Option ℕ) (n : ℕ) (content : List ℕ) → is_plain c ≡ true → is_total total (length content + n) ≡ true → (length content + n) % unit c ≡ 0 → (x : Cell) × Spelt (cell column) (ChunkLength c total content) (zero_chunks n ++ terminator) (WholeCell x)
   chunks_end c total zero content plain all even =
       let same : length content + 0 ≡ length content = omega arith in
-      let t : is_total total (length content) ≡ true = subst (λ v. is_total total v ≡ true) same all in
-      let p : (length content % unit c == 0) ≡ true = ap (λ v. v == 0) (ap (λ v. v % unit c) (sym same) ∙ even) in
-      let f : is_fit c content ≡ true = plain_fit c content plain (ap (λ v. v % unit c) (sym same) ∙ even) in
-      (DataCell c content, Spelt-step (cell column) (ChunkLength c total content) (0 ∷ 0 ∷ 0 ∷ 0 ∷ []) (WholeCell (DataCell c content)) (omega arith) refl (λ i. (if t i then (if p i then unless (f i) (BadText column) else Some (OddText column)) else Some (PlpLength column))) refl)
+      let sum = ap (λ v. v % unit c) (sym same) ∙ even in
+      (DataCell c content, spelt_one (omega arith) refl (rw (rw same at all, sum, plain_fit c content plain sum) refl) refl)
   chunks_end c total (suc n) content plain all even =
-      let l : length (content ++ 0 ∷ []) ≡ length content + 1 = length-append content (0 ∷ []) in
-      let same : length content + suc n ≡ length (content ++ 0 ∷ []) + n = omega (arith, l) in
-      let one = one_chunk c total content plain (within total (length content + suc n) (length content + 1) all (omega arith)) in
-      let more = chunks_end c total n (content ++ 0 ∷ []) plain (subst (λ v. is_total total v ≡ true) same all) (subst (λ v. v % unit c ≡ 0) same even) in
-      (more.0, Spelt-append (cell column) (ChunkLength c total content) one_zero (ChunkLength c total (content ++ 0 ∷ [])) (zero_chunks n ++ terminator) (WholeCell more.0) one more.1)
+      let same : length content + suc n ≡ length (content ++ 0 ∷ []) + n = omega (arith, length-append content (0 ∷ [])) in
+      let fits = within total (length content + suc n) (length content + 1) all (omega arith) in
+      let one : Spelt (cell column) (ChunkLength c total content) (1 ∷ 0 ∷ 0 ∷ 0 ∷ []) (ChunkData c total 0 content) = spelt_one (omega arith) refl (rw fits refl) refl in
+      let more = chunks_end c total n (content ++ 0 ∷ []) plain (rw same at all) (rw same at even) in
+      (more.0, spelt_both (spelt_both one (chunk_ends c total 0 content plain)) more.1)
 
   -- the rest of the chunks
   length_ends : (c : Conversion) (total : Option ℕ) (content : List ℕ) → is_plain c ≡ true → HoldsTotal c total (length content) → (x : Cell) × Spelt (cell column) (ChunkLength c total content) (rest_of_chunks c total (length content)) (WholeCell x)
@@ -170,47 +125,32 @@ module _ (column : ℕ) where
   cell_ends (ScalarBytes kind n) (some, valid, scalar, allowed) =
       let v = zeros_are_a_value kind n valid scalar allowed in
       let l : length (zeros n) ≡ n = length-replicate n 0 in
-      (ScalarCell v.0, Spelt-step (cell column) (ScalarBytes kind n) (zeros n) (WholeCell (ScalarCell v.0)) (omega (arith, l)) l (ap (λ r. unless (is_ok r) (BadValue column)) v.1) (ap value_part v.1))
-  cell_ends (ScalarLength kind) h = (Null, Spelt-step (cell column) (ScalarLength kind) (0 ∷ []) (WholeCell Null) (omega arith) refl refl refl)
-  cell_ends (ShortLength c) h = (Null, Spelt-step (cell column) (ShortLength c) (255 ∷ 255 ∷ []) (WholeCell Null) (omega arith) refl refl refl)
+      (ScalarCell v.0, spelt_one (omega (arith, l)) l (ap (λ r. unless (is_ok r) (BadValue column)) v.1) (ap value_part v.1))
+  cell_ends (ScalarLength kind) h = (Null, spelt_one (omega arith) refl refl refl)
+  cell_ends (ShortLength c) h = (Null, spelt_one (omega arith) refl refl refl)
   cell_ends (ShortData c left content) h = short_ends c left content h
-  cell_ends (Total c) h = (Null, Spelt-step (cell column) (Total c) (replicate 8 255) (WholeCell Null) (omega arith) refl refl refl)
+  cell_ends (Total c) h = (Null, spelt_one (omega arith) refl refl refl)
   cell_ends (ChunkLength c total content) (plain, h) = length_ends c total content plain h
   cell_ends (ChunkData c total left content) (plain, h) =
-      let now : List ℕ = content ++ zeros (left + 1) in
-      let l : length now ≡ length content + (left + 1) = length-append content (zeros (left + 1)) ∙ ap (λ v. length content + v) (length-replicate (left + 1) 0) in
-      let more = length_ends c total now plain (subst (λ v. HoldsTotal c total v) (sym l) h) in
-      (more.0, Spelt-append (cell column) (ChunkData c total left content) (zeros (left + 1)) (ChunkLength c total now) (rest_of_chunks c total (length content + (left + 1))) (WholeCell more.0) (chunk_ends c total left content plain) (subst (λ v. Spelt (cell column) (ChunkLength c total now) (rest_of_chunks c total v) (WholeCell more.0)) l more.1))
+      let l : length (content ++ zeros (left + 1)) ≡ length content + (left + 1) = length-append content (zeros (left + 1)) ∙ ap (λ v. length content + v) (length-replicate (left + 1) 0) in
+      let more = length_ends c total (content ++ zeros (left + 1)) plain (subst (λ v. HoldsTotal c total v) (sym l) h) in
+      (more.0, spelt_both (chunk_ends c total left content plain) (subst (λ v. Spelt (cell column) (ChunkLength c total (content ++ zeros (left + 1))) (rest_of_chunks c total v) (WholeCell more.0)) l more.1))
   cell_ends (WholeCell x) h = (x, Spelt-none (cell column) (WholeCell x))
 
   value_reached : (r : Result ScalarValue ValueFault) → CellReached (value_part r)
   value_reached r = grind arith
 
-  total_reached : (c : Conversion) (n : ℕ) → n < 2 ^ 64 → n ≢ null_total → (nat_le unknown_total n || (n % unit c == 0)) ≡ true → HoldsTotal c (known_total n) 0
-  total_reached c n small other h = grind (arith, choose, eq_false, eq_true, le_true, or_cases)
-
-  within_reached : (c : Conversion) (total : Option ℕ) (sum more n : ℕ) → more ≡ sum + n → HoldsTotal c total sum → within_total total (sum + n) ≡ true → HoldsTotal c total more
-  within_reached c total sum more n e h w = grind (arith, le_true)
-
   -- Each element keeps what is known.
   pub cell_keeps : (p : CellPart) (e : List ℕ) → AreBytes e → CellReached p → IsNext (cell column) p e → CellReached (cell_add p e)
   cell_keeps (ScalarBytes kind m) e are h n = value_reached (read_of kind e)
-  cell_keeps (ScalarLength kind) e are (valid, scalar) n = grind (arith, choose, eq_false, if_not_first, unless_none)
-  cell_keeps (ShortLength c) e are plain n = grind (arith, choose, eq_false, eq_true, if_not_first, unless_none)
+  cell_keeps (ScalarLength kind) e are (valid, scalar) n = grind (arith, choose, eq_false, unless_none)
+  cell_keeps (ShortLength c) e are plain n = grind (arith, choose, eq_false, eq_true, unless_none)
   cell_keeps (ShortData c left content) e are (plain, even) n = grind (arith, choose, eq_false, length-append)
-  cell_keeps (Total c) e are plain n = grind (arith, choose, eq_false, little_below, total_reached, unless_none)
-  cell_keeps (ChunkLength c total content) e are (plain, h) n = grind (arith, choose, choose_false, eq_false, unless_none, within_reached)
+  cell_keeps (Total c) e are plain n = grind (arith, choose, eq_false, little_below, eq_true, le_true, or_cases, unless_none)
+  cell_keeps (ChunkLength c total content) e are (plain, h) n = grind (arith, choose, choose_false, eq_false, unless_none, le_true)
   cell_keeps (ChunkData c total left content) e are (plain, h) n = grind (arith, choose, eq_false, eq_true, length-append)
   cell_keeps (WholeCell x) e are h n = tt
 
--- a value of a kind with a fixed length has that length
-fixed_allowed : (kind : Kind) (n : ℕ) → fixed_length kind ≡ Some n → is_length_allowed kind n ≡ true
-fixed_allowed kind n h = grind arith
-
--- the cell of a scalar begins so
-scalar_reached : (kind : Kind) (o : Option ℕ) → fixed_length kind ≡ o → is_valid kind ≡ true → is_scalar kind ≡ true → CellReached (cell_start kind (shape_of_length o))
-scalar_reached kind o is v s = grind (arith, fixed_allowed, fixed_some)
-
 -- A cell of a valid kind begins so.
 pub start_reached : (kind : Kind) → is_valid kind ≡ true → CellReached (cell_start kind (shape Windows1252 kind))
-start_reached kind v = grind (arith, scalar_reached)
+start_reached kind v = grind (arith, fixed_some)

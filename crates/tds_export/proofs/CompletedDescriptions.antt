@@ -1,23 +1,9 @@
 -- What completes a description is read as its rest.
-use Rattle.std.proofs.Common.{◌≡◌, ℕ, zero, suc, ◌+◌, ◌-◌, ◌*◌, ◌<◌, ◌≤◌, true, List, [], ◌∷◌, ◌++◌, length, replicate, refl, sym, ◌∙◌, ap, subst, append_assoc, arith, length-append}
-use Rattle.std.specs.Prelude.{Some, None, ◌==◌, is_some, unwrap_or, if◌then◌else◌}
-use Rattle.std.proofs.lemmas.Bool.Decides.{nat_tests}
-use Rattle.std.proofs.lemmas.List.{length-replicate}
-use Rattle.tds_columns.proofs.ColumnLaws.{fits_in, columns_are_read}
-use Rattle.tds_columns.proofs.ColumnMeaning.{not_long, not_zero, room_for, known_type, some_kind}
-use Rattle.tds_columns.specs.Description.{Column, SpellsColumn, SpellsColumns, ColumnPlace, ColumnHead, ColumnInfo, NameCount, NameUnits, DescriptionPart, BeforeCount, NoDescription, InColumn, WholeDescription, with_column, with_kind, with_type, add_described, too_long, description}
-use Rattle.tds_export.specs.Completion.{zeros, int_column, int_columns, least_info, rest_of_description}
-use Rattle.tds_packet.proofs.Choices.{choose, choose_true, eq_true, eq_false, is_some_value}
-use Rattle.tds_packet.proofs.ElementLaws.{Spelt-step, Spelt-append, Spelt-none}
-use Rattle.tds_packet.specs.Elements.{AreBytes, Spelt, IsNext}
-use Rattle.tds_packet.specs.declared.fault.Fault.TheVariants.{BadTypeInfo}
-use Rattle.tds_values.proofs.TypeInfoLemmas.{bare_type, valid_of}
-use Rattle.tds_values.specs.Kind.{is_valid}
-use Rattle.tds_values.specs.declared.kind.Kind.{Kind}
-use Rattle.tds_values.specs.declared.kind.Kind.TheVariants.{Int4}
-use Rattle.tds_values.specs.TypeInfo.{rest_length, named_kind}
-use Rattle.tds_export.proofs.LeastTypes.{least_type}
+use Rattle.tds_export.proofs.Words.{AreBytes, BadTypeInfo, BeforeCount, Column, ColumnHead, ColumnInfo, ColumnPlace, DescriptionPart, InColumn, Int4, IsNext, Kind, List, NameCount, NameUnits, NoDescription, None, Some, SpellsColumn, SpellsColumns, Spelt, Spelt-none, WholeDescription, [], add_described, ap, append_assoc, arith, bare_type, choose, choose_false, choose_true, columns_are_read, description, eq_false, eq_true, fits_in, if◌then◌else◌, int_column, int_columns, is_some, is_some_value, is_valid, known_type, least_info, length, length-append, length-replicate, more, named_kind, nat_tests, ne_eqb, not_long, not_zero, refl, replicate, rest_length, rest_of_description, room_for, suc, sym, true, unwrap_or, valid_of, with_column, with_kind, zero, zeros, ℕ, ◌*◌, ◌++◌, ◌+◌, ◌-◌, ◌<◌, ◌==◌, ◌∙◌, ◌∷◌, ◌≡◌, ◌≤◌}
 use Rattle.tds_export.proofs.CompletedRows.{AreValid}
+use Rattle.tds_export.proofs.LeastTypes.{least_type}
+use Rattle.tds_export.proofs.ReturnLaws.{some_kind}
+use Rattle.tds_export.proofs.Cuts.{spelt_both, spelt_one}
 
 -- what is known of the place in a column after these bytes, with so many columns to follow: the room is enough for what must still come
 abbrev pub PlaceReached : ℕ → List ℕ → ℕ → ColumnPlace → Type 0
@@ -47,21 +33,9 @@ module _ (room : ℕ) where
   column_reached : (bytes : List ℕ) (count : ℕ) (cols : List Column) (c : Column) → length cols < count → AreValid cols → is_valid c.kind ≡ true → length bytes + 8 * (count - (length cols + 1)) ≤ room → DescribedReached room (with_column bytes count cols c)
   column_reached bytes count cols c fewer valid v fits = grind (arith, AreValid-append, choose, eq_false, length-append)
 
-  type_reached : (bytes : List ℕ) (count : ℕ) (cols : List Column) (byte n : ℕ) → length cols < count → AreValid cols → rest_length byte ≡ Some n → length bytes + ((n + 1) + 8 * (count - (length cols + 1))) ≤ room → DescribedReached room (with_type bytes count cols byte n)
-  type_reached bytes count cols byte n fewer valid known fits = grind (arith, bare_type, choose, eq_false, eq_true, valid_of)
-
-  head_keeps : (bytes : List ℕ) (count : ℕ) (cols : List Column) (e : List ℕ) → DescribedReached room (InColumn bytes count cols ColumnHead) → IsNext (description room) (InColumn bytes count cols ColumnHead) e → DescribedReached room (add_described (InColumn bytes count cols ColumnHead) e)
-  head_keeps bytes count cols e (fewer, valid, fits) n = grind (arith, known_type, length-append, not_long, type_reached)
-
-  info_keeps : (bytes : List ℕ) (count : ℕ) (cols : List Column) (byte : ℕ) (e : List ℕ) → DescribedReached room (InColumn bytes count cols (ColumnInfo byte)) → IsNext (description room) (InColumn bytes count cols (ColumnInfo byte)) e → DescribedReached room (add_described (InColumn bytes count cols (ColumnInfo byte)) e)
-  info_keeps bytes count cols byte e (fewer, valid, (m, known, some, fits)) n = grind (arith, is_some_value, length-append, some_kind, valid_of)
-
-  units_keep : (bytes : List ℕ) (count : ℕ) (cols : List Column) (kind : Kind) (e : List ℕ) → DescribedReached room (InColumn bytes count cols (NameCount kind)) → IsNext (description room) (InColumn bytes count cols (NameCount kind)) e → DescribedReached room (add_described (InColumn bytes count cols (NameCount kind)) e)
-  units_keep bytes count cols kind e (fewer, valid, (v, fits)) n = grind (arith, choose, column_reached, eq_false, length-append, not_long)
-
   -- Each element keeps what is known.
   pub described_keeps : (d : DescriptionPart) (e : List ℕ) → AreBytes e → DescribedReached room d → IsNext (description room) d e → DescribedReached room (add_described d e)
-  described_keeps d e are h n = grind (arith, choose, column_reached, eq_false, head_keeps, info_keeps, length-append, not_zero, room_for, units_keep)
+  described_keeps d e are h n = grind (arith, choose, column_reached, eq_false, known_type, bare_type, eq_true, is_some_value, some_kind, valid_of, length-append, not_zero, room_for, not_long)
 
 -- the column that int_column describes
 abbrev int : Column
@@ -95,50 +69,38 @@ module _ (room : ℕ) where
   column_ends : (bytes : List ℕ) (count : ℕ) (cols : List Column) (c : Column) (n : ℕ) → count ≡ length cols + (1 + n) → length bytes + 8 * n ≤ room → Ends room (with_column bytes count cols c) (int_columns n)
   column_ends bytes count cols c zero e fits =
       let to : with_column bytes count cols c ≡ WholeDescription bytes (cols ++ c ∷ []) = choose_true (length cols + 1 == count) (WholeDescription bytes (cols ++ c ∷ [])) (InColumn bytes count (cols ++ c ∷ []) ColumnHead) (grind (arith, nat_tests)) in
-      (bytes, cols ++ c ∷ [], subst (λ d. Spelt (description room) d [] (WholeDescription bytes (cols ++ c ∷ []))) (sym to) (Spelt-none (description room) (WholeDescription bytes (cols ++ c ∷ []))))
+      (bytes, cols ++ c ∷ [], rw to (Spelt-none (description room) (WholeDescription bytes (cols ++ c ∷ []))))
   column_ends bytes count cols c (suc n) e fits =
-      choose (λ d. Ends room d (int_columns (suc n))) (length cols + 1 == count) (WholeDescription bytes (cols ++ c ∷ [])) (InColumn bytes count (cols ++ c ∷ []) ColumnHead)
-      (λ z. absurd (let same : length cols + 1 ≡ count = eq_true (length cols + 1) count z in omega arith))
-      (λ z. ints_end bytes count (cols ++ c ∷ []) n (omega (arith, length-append cols (c ∷ []))) (omega arith))
+      let to : with_column bytes count cols c ≡ InColumn bytes count (cols ++ c ∷ []) ColumnHead = choose_false (length cols + 1 == count) (WholeDescription bytes (cols ++ c ∷ [])) (InColumn bytes count (cols ++ c ∷ []) ColumnHead) (ne_eqb (length cols + 1) count (λ q. omega arith)) in
+      rw to (ints_end bytes count (cols ++ c ∷ []) n (omega (arith, length-append cols (c ∷ []))) (omega arith))
 
   -- an element, and what follows it
-  then_ends : (d to : DescriptionPart) (e rest : List ℕ) → Spelt (description room) d e to → Ends room to rest → Ends room d (e ++ rest)
-  then_ends d to e rest one (bytes, cols, more) = (bytes, cols, Spelt-append (description room) d e to rest (WholeDescription bytes cols) one more)
+  then_ends : {d to : DescriptionPart} {e rest : List ℕ} → Spelt (description room) d e to → Ends room to rest → Ends room d (e ++ rest)
+  then_ends one (bytes, cols, more) = (bytes, cols, spelt_both one more)
 
   count_ends : (bytes : List ℕ) (count : ℕ) (cols : List Column) (kind : Kind) (n : ℕ) → n ≡ count - (length cols + 1) → length cols < count → length bytes + (1 + 8 * n) ≤ room → Ends room (InColumn bytes count cols (NameCount kind)) (0 ∷ int_columns n)
   count_ends bytes count cols kind n is fewer fits =
-      let c : Column = record { kind = kind; name = [] } in
-      let free : too_long room (length bytes + 1) (2 * 0 + 8 * (count - (length cols + 1))) ≡ None = fits_in room (length bytes + 1) (2 * 0 + 8 * (count - (length cols + 1))) (omega arith) in
-      then_ends (InColumn bytes count cols (NameCount kind)) (with_column (bytes ++ 0 ∷ []) count cols c) (0 ∷ []) (int_columns n)
-      (Spelt-step (description room) (InColumn bytes count cols (NameCount kind)) (0 ∷ []) (with_column (bytes ++ 0 ∷ []) count cols c) (omega arith) refl free refl)
-      (column_ends (bytes ++ 0 ∷ []) count cols c n (omega arith) (omega (arith, length-append bytes (0 ∷ []))))
+      let free = fits_in room (length bytes + 1) (2 * 0 + 8 * (count - (length cols + 1))) (omega arith) in
+      then_ends {e = 0 ∷ []} (spelt_one (omega arith) refl free refl) (column_ends (bytes ++ 0 ∷ []) count cols (record { kind = kind; name = [] }) n (omega arith) (omega (arith, length-append bytes (0 ∷ []))))
 
   info_ends : (bytes : List ℕ) (count : ℕ) (cols : List Column) (byte : ℕ) (n : ℕ) → n ≡ count - (length cols + 1) → length cols < count → PlaceReached room bytes n (ColumnInfo byte) → Ends room (InColumn bytes count cols (ColumnInfo byte)) (least_info byte ++ (0 ∷ int_columns n))
   info_ends bytes count cols byte n is fewer (m, known, some, fits) =
       let least = least_type byte m known in
-      let rest : List ℕ = least_info byte in
-      let lr : length rest ≡ m = least.whole in
-      then_ends (InColumn bytes count cols (ColumnInfo byte)) (InColumn (bytes ++ rest) count cols (NameCount least.kind)) rest (0 ∷ int_columns n)
-      (Spelt-step (description room) (InColumn bytes count cols (ColumnInfo byte)) rest (InColumn (bytes ++ rest) count cols (NameCount least.kind)) (omega (arith, lr)) (lr ∙ sym (ap (λ o. unwrap_or o 0) known))
-      (ap (λ o. (if is_some o then None else Some (BadTypeInfo (length cols)))) least.described)
-      (ap (λ o. with_kind (bytes ++ rest) count cols o) least.described))
-      (count_ends (bytes ++ rest) count cols least.kind n is fewer (omega (arith, length-append bytes rest ∙ ap (λ v. length bytes + v) lr)))
+      let free = ap (λ o. (if is_some o then None else Some (BadTypeInfo (length cols)))) least.described in
+      let to = ap (λ o. with_kind (bytes ++ least_info byte) count cols o) least.described in
+      then_ends {e = least_info byte} (spelt_one (omega (arith, least.whole)) (least.whole ∙ sym (ap (λ o. unwrap_or o 0) known)) free to)
+      (count_ends (bytes ++ least_info byte) count cols least.kind n is fewer (omega (arith, length-append bytes (least_info byte) ∙ ap (λ v. length bytes + v) least.whole)))
 
   -- A part of a description that isn't all of it, followed by what completes it, is a whole one.
   pub described_ends : 10 ≤ room → (d : DescriptionPart) → IsOpenDescription d → DescribedReached room d → Ends room d (rest_of_description d)
   described_ends ten BeforeCount o h =
-      then_ends BeforeCount (InColumn (1 ∷ 0 ∷ []) 1 [] ColumnHead) (1 ∷ 0 ∷ []) int_column
-      (Spelt-step (description room) BeforeCount (1 ∷ 0 ∷ []) (InColumn (1 ∷ 0 ∷ []) 1 [] ColumnHead) (omega arith) refl (fits_in room 2 8 (omega arith)) refl)
-      (ints_end (1 ∷ 0 ∷ []) 1 [] 0 refl (omega arith))
+      let one : Spelt (description room) BeforeCount (1 ∷ 0 ∷ []) (InColumn (1 ∷ 0 ∷ []) 1 [] ColumnHead) = spelt_one (omega arith) refl (fits_in room 2 8 (omega arith)) refl in
+      then_ends one (ints_end (1 ∷ 0 ∷ []) 1 [] 0 refl (omega arith))
   described_ends ten (InColumn bytes count cols ColumnHead) o (fewer, valid, fits) = ints_end bytes count cols (count - (length cols + 1)) (omega arith) fits
-  described_ends ten (InColumn bytes count cols (ColumnInfo byte)) o (fewer, valid, fits) =
-      subst (λ v. Ends room (InColumn bytes count cols (ColumnInfo byte)) v) (sym (append_assoc (least_info byte) (0 ∷ []) (int_columns (count - (length cols + 1)))))
-      (info_ends bytes count cols byte (count - (length cols + 1)) refl fewer fits)
+  described_ends ten (InColumn bytes count cols (ColumnInfo byte)) o (fewer, valid, fits) = rw append_assoc (info_ends bytes count cols byte (count - (length cols + 1)) refl fewer fits)
   described_ends ten (InColumn bytes count cols (NameCount kind)) o (fewer, valid, (v, fits)) = count_ends bytes count cols kind (count - (length cols + 1)) refl fewer fits
   described_ends ten (InColumn bytes count cols (NameUnits kind m)) o (fewer, valid, (v, some, fits)) =
-      let lz : length (zeros m) ≡ m = length-replicate m 0 in
-      let c : Column = record { kind = kind; name = zeros m } in
-      then_ends (InColumn bytes count cols (NameUnits kind m)) (with_column (bytes ++ zeros m) count cols c) (zeros m) (int_columns (count - (length cols + 1)))
-      (Spelt-step (description room) (InColumn bytes count cols (NameUnits kind m)) (zeros m) (with_column (bytes ++ zeros m) count cols c) (omega (arith, lz)) lz refl refl)
-      (column_ends (bytes ++ zeros m) count cols c (count - (length cols + 1)) (omega arith) (omega (arith, length-append bytes (zeros m) ∙ ap (λ v. length bytes + v) lz, fits)))
+      let l : length (zeros m) ≡ m = length-replicate m 0 in
+      then_ends {e = zeros m} (spelt_one (omega (arith, l)) l refl refl)
+      (column_ends (bytes ++ zeros m) count cols (record { kind = kind; name = zeros m }) (count - (length cols + 1)) (omega arith) (omega (arith, length-append bytes (zeros m) ∙ ap (λ v. length bytes + v) l, fits)))
   described_ends ten d o h = absurd o

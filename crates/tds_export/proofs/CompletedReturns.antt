@@ -1,24 +1,10 @@
 -- What completes a return value is read as its rest.
-use Rattle.std.proofs.Common.{◌≡◌, ℕ, ◌<◌, true, List, [], ◌∷◌, ◌++◌, length, refl, sym, ◌∙◌, ap, subst, arith}
-use Rattle.std.specs.Prelude.{Option, Some, None, is_some, unwrap_or, if◌then◌else◌}
-use Rattle.std.proofs.lemmas.List.{length-replicate}
-use Rattle.tds_columns.specs.ReturnedType.{return_column}
-use Rattle.tds_export.specs.Completion.{zeros, least_info, rest_of_cell, rest_of_return_head, rest_of_value, rest_of_return}
-use Rattle.tds_export.specs.ReturnValue.{ReturnValue, ReturnPart, ReturnOrdinal, ReturnNameCount, ReturnName, ReturnHead, ReturnInfo, InReturnCell, WholeReturn, with_value, with_return_kind, return_add, return_value}
-use Rattle.tds_packet.proofs.Choices.{choose, eq_true, eq_false, is_some_value}
-use Rattle.tds_packet.proofs.ElementLaws.{Spelt-step, Spelt-append, Spelt-none, Inside-Spelt}
-use Rattle.tds_packet.specs.Elements.{AreBytes, Spelt, IsNext}
-use Rattle.tds_packet.specs.declared.fault.Fault.TheVariants.{BadTypeInfo}
-use Rattle.tds_rows.specs.Cells.{Null, shape, CellPart, ScalarLength, WholeCell, cell_start, cell_add, cell, return_charset}
-use Rattle.tds_values.proofs.TypeInfoLemmas.{bare_type, valid_of}
-use Rattle.tds_values.specs.Kind.{is_valid}
-use Rattle.tds_values.specs.declared.kind.Kind.{Kind}
-use Rattle.tds_values.specs.declared.kind.Kind.TheVariants.{Guid}
-use Rattle.tds_values.specs.TypeInfo.{rest_length, named_kind, kind_of}
-use Rattle.tds_export.proofs.ReturnLaws.{value_in_return, accepted, some_kind}
-use Rattle.tds_export.proofs.LeastTypes.{least_type}
+use Rattle.tds_export.proofs.Words.{AreBytes, BadTypeInfo, CellPart, Guid, InReturnCell, Inside-Spelt, IsNext, Kind, List, None, Null, Option, ReturnHead, ReturnInfo, ReturnName, ReturnNameCount, ReturnOrdinal, ReturnPart, ReturnValue, ScalarLength, Some, Spelt, Spelt-none, WholeCell, WholeReturn, [], ap, arith, bare_type, begun, cell, cell_add, cell_start, choose, eq_false, eq_true, if◌then◌else◌, is_some, is_some_value, is_valid, kind_of, least_info, length, length-replicate, more, named_kind, refl, rest_length, rest_of_cell, rest_of_return, rest_of_return_head, rest_of_value, return_add, return_charset, return_column, return_value, shape, subst, sym, true, unwrap_or, valid_of, with_return_kind, with_value, zeros, ℕ, ◌++◌, ◌<◌, ◌∙◌, ◌∷◌, ◌≡◌}
 use Rattle.tds_export.proofs.CompletedCells.{CellReached, cell_ends, cell_keeps, start_reached}
 use Rattle.tds_export.proofs.CompletedRows.{IsOpenCell}
+use Rattle.tds_export.proofs.ReturnLaws.{accepted, some_kind, value_in_return}
+use Rattle.tds_export.proofs.LeastTypes.{least_type}
+use Rattle.tds_export.proofs.Cuts.{spelt_both, spelt_one}
 
 -- what is known of a part of a return value that bytes led to
 abbrev pub ReturnReached : ReturnPart → Type 0
@@ -46,8 +32,8 @@ abbrev Ends : ReturnPart → List ℕ → Type 0
 Ends p rest = (r : ReturnValue) × Spelt return_value p rest (WholeReturn r)
 
 -- an element, and what follows it
-then_ends : (p to : ReturnPart) (e rest : List ℕ) → Spelt return_value p e to → Ends to rest → Ends p (e ++ rest)
-then_ends p to e rest one (r, more) = (r, Spelt-append return_value p e to rest (WholeReturn r) one more)
+then_ends : {p to : ReturnPart} {e rest : List ℕ} → Spelt return_value p e to → Ends to rest → Ends p (e ++ rest)
+then_ends one (r, more) = (r, spelt_both one more)
 
 value_ends : (name : List ℕ) (kind : Kind) (part : CellPart) → CellReached part → Ends (with_value name kind part) (rest_of_cell part)
 value_ends name kind part h =
@@ -63,29 +49,26 @@ stays_open name kind part h = grind arith
 head_ends : (name : List ℕ) → Ends (ReturnHead name) rest_of_return_head
 unfolding rest_length named_kind
 head_ends name =
+    let type : Spelt return_value (ReturnHead name) (zeros 7 ++ 0x24 ∷ []) (ReturnInfo name 0x24) = spelt_one (omega arith) refl refl refl in
+    let info : Spelt return_value (ReturnInfo name 0x24) (16 ∷ []) (InReturnCell name Guid (ScalarLength Guid)) = spelt_one (omega arith) refl refl refl in
     let null : ReturnValue = record { name = name; kind = Guid; value = Null } in
-    then_ends (ReturnHead name) (ReturnInfo name 0x24) (zeros 7 ++ 0x24 ∷ []) (16 ∷ 0 ∷ []) (Spelt-step return_value (ReturnHead name) (zeros 7 ++ 0x24 ∷ []) (ReturnInfo name 0x24) (omega arith) refl refl refl)
-    (then_ends (ReturnInfo name 0x24) (InReturnCell name Guid (ScalarLength Guid)) (16 ∷ []) (0 ∷ []) (Spelt-step return_value (ReturnInfo name 0x24) (16 ∷ []) (InReturnCell name Guid (ScalarLength Guid)) (omega arith) refl refl refl)
-    (null, Spelt-step return_value (InReturnCell name Guid (ScalarLength Guid)) (0 ∷ []) (WholeReturn null) (omega arith) refl refl refl))
+    (null, spelt_both type (spelt_both info (spelt_one (omega arith) refl refl refl)))
 
 count_ends : Ends ReturnNameCount (0 ∷ rest_of_return_head)
-count_ends = then_ends ReturnNameCount (ReturnHead []) (0 ∷ []) rest_of_return_head (Spelt-step return_value ReturnNameCount (0 ∷ []) (ReturnHead []) (omega arith) refl refl refl) (head_ends [])
+count_ends = let one : Spelt return_value ReturnNameCount (0 ∷ []) (ReturnHead []) = spelt_one (omega arith) refl refl refl in then_ends one (head_ends [])
 
 -- A part of a return value followed by what completes it is a whole one.
 pub return_ends : (p : ReturnPart) → ReturnReached p → (r : ReturnValue) × Spelt return_value p (rest_of_return p) (WholeReturn r)
-return_ends ReturnOrdinal h = then_ends ReturnOrdinal ReturnNameCount (zeros 2) (0 ∷ rest_of_return_head) (Spelt-step return_value ReturnOrdinal (zeros 2) ReturnNameCount (omega arith) refl refl refl) count_ends
+return_ends ReturnOrdinal h = let one : Spelt return_value ReturnOrdinal (zeros 2) ReturnNameCount = spelt_one (omega arith) refl refl refl in then_ends one count_ends
 return_ends ReturnNameCount h = count_ends
 return_ends (ReturnName n) h =
-    let l = length-replicate n 0 in
-    then_ends (ReturnName n) (ReturnHead (zeros n)) (zeros n) rest_of_return_head (Spelt-step return_value (ReturnName n) (zeros n) (ReturnHead (zeros n)) (omega (arith, l)) l refl refl) (head_ends (zeros n))
+    let l : length (zeros n) ≡ n = length-replicate n 0 in
+    let one : Spelt return_value (ReturnName n) (zeros n) (ReturnHead (zeros n)) = spelt_one (omega (arith, l)) l refl refl in
+    then_ends one (head_ends (zeros n))
 return_ends (ReturnHead name) h = head_ends name
 return_ends (ReturnInfo name byte) (n, known, some) =
     let least = least_type byte n known in
-    let rest : List ℕ = least_info byte in
-    let l : length rest ≡ n = least.whole in
-    then_ends (ReturnInfo name byte) (with_return_kind name (kind_of (byte ∷ rest))) rest (rest_of_value (kind_of (byte ∷ rest)))
-    (Spelt-step return_value (ReturnInfo name byte) rest (with_return_kind name (kind_of (byte ∷ rest))) (omega (arith, l)) (l ∙ sym (ap (λ o. unwrap_or o 0) known))
-    (ap (λ o. (if is_some o then None else Some (BadTypeInfo return_column))) least.described) refl)
-    (kind_ends name least.kind (kind_of (byte ∷ rest)) least.described (valid_of least.kind (byte ∷ rest) least.described))
-return_ends (InReturnCell name kind part) (begun, h) = subst (λ p. Ends p (rest_of_cell part)) (stays_open name kind part begun) (value_ends name kind part h)
+    let free = ap (λ o. (if is_some o then None else Some (BadTypeInfo return_column))) least.described in
+    then_ends {e = least_info byte} (spelt_one (omega (arith, least.whole)) (least.whole ∙ sym (ap (λ o. unwrap_or o 0) known)) free refl) (kind_ends name least.kind (kind_of (byte ∷ least_info byte)) least.described (valid_of least.kind (byte ∷ least_info byte) least.described))
+return_ends (InReturnCell name kind part) (begun, h) = rw (← stays_open name kind part begun) (value_ends name kind part h)
 return_ends (WholeReturn r) h = (r, Spelt-none return_value (WholeReturn r))

@@ -1,19 +1,7 @@
 -- What completes a row is read as its rest.
-use Rattle.std.proofs.Common.{◌≡◌, ℕ, zero, suc, ◌+◌, ◌<◌, Bool, true, false, List, [], ◌∷◌, ◌++◌, length, refl, subst, arith}
-use Rattle.std.specs.Prelude.{slice_index}
-use Rattle.std.proofs.Math.Nat.{one-le-pow, div-eq_of_lt}
-use Rattle.std.proofs.lemmas.List.{length-replicate}
-use Rattle.tds_columns.specs.Description.{Column}
-use Rattle.tds_export.specs.Completion.{zeros, rest_of_cell, rest_of_cells, all_clear, rest_of_row}
-use Rattle.tds_packet.proofs.ElementLaws.{Spelt-step, Spelt-append, Spelt-none, Inside-Spelt}
-use Rattle.tds_packet.specs.Elements.{AreBytes, Spelt, IsNext}
-use Rattle.tds_rows.proofs.RowLaws.{cell_in_row, begins_open, some_bitmap}
-use Rattle.tds_rows.specs.Cells.{Cell, Null, Shape, shape, CellPart, WholeCell, cell_start, cell}
-use Rattle.tds_rows.specs.Rows.{marked, bit, bitmap_length, RowPart, Bitmap, InCell, WholeRow, next_cell, with_cell, row_add, row}
-use Rattle.tds_rows.specs.declared.Charset.TheVariants.{Windows1252}
-use Rattle.tds_values.specs.Kind.{is_valid}
-use Rattle.tds_values.specs.declared.kind.Kind.{Kind}
+use Rattle.tds_export.proofs.Words.{AreBytes, Bitmap, Bool, Cell, CellPart, Column, InCell, Inside-Spelt, IsNext, Kind, List, Null, RowPart, Shape, Spelt, Spelt-none, WholeCell, WholeRow, Windows1252, [], all_clear, arith, before, begins_open, begun, bit, bitmap_length, cell, cell_in_row, cell_start, div-eq_of_lt, false, is_valid, length, length-replicate, marked, next_cell, one-le-pow, refl, rest_of_cell, rest_of_cells, rest_of_row, row, row_add, shape, slice_index, some_bitmap, subst, suc, true, with_cell, zero, zeros, ℕ, ◌++◌, ◌+◌, ◌<◌, ◌∷◌, ◌≡◌}
 use Rattle.tds_export.proofs.CompletedCells.{CellReached, cell_ends, cell_keeps, start_reached}
+use Rattle.tds_export.proofs.Cuts.{spelt_both, spelt_one}
 
 -- the kinds of the columns are valid
 abbrev pub AreValid : List Column → Type 0
@@ -48,29 +36,22 @@ next_reached cells [] h = tt
 next_reached cells ((k, true) ∷ ks) (v, h) = next_reached (cells ++ Null ∷ []) ks h
 next_reached cells ((k, false) ∷ ks) (v, h) = (starts_open k.kind (shape Windows1252 k.kind), start_reached k.kind v, h)
 
-with_reached : (cells : List Cell) (ks : List (Column × Bool)) (part : CellPart) → CellReached part → AreMarkedValid ks → RowReached (with_cell Windows1252 cells ks part)
-with_reached cells ks part h m = grind (arith, next_reached)
-
 -- Each element keeps what is known.
 pub row_keeps : (p : RowPart) (e : List ℕ) → AreBytes e → RowReached p → IsNext (row Windows1252) p e → RowReached (row_add Windows1252 p e)
-row_keeps p e are h3 n = grind (arith, cell_keeps, marked_valid, next_reached, with_reached)
+row_keeps p e are h3 n = grind (arith, cell_keeps, marked_valid, next_reached)
 
 -- the cell that is read, and those to come
 part_ends : (before : List Cell) (part : CellPart) (ks : List (Column × Bool)) → CellReached part → ((b : List Cell) → (cells : List Cell) × Spelt (row Windows1252) (next_cell Windows1252 b ks) (rest_of_cells ks) (WholeRow cells)) → (cells : List Cell) × Spelt (row Windows1252) (with_cell Windows1252 before ks part) (rest_of_cell part ++ rest_of_cells ks) (WholeRow cells)
 part_ends before part ks h next =
     let one = cell_ends (length before) part h in
-    let there : Spelt (row Windows1252) (with_cell Windows1252 before ks part) (rest_of_cell part) (next_cell Windows1252 (before ++ one.0 ∷ []) ks) = Inside-Spelt (cell (length before)) (row Windows1252) (with_cell Windows1252 before ks) (cell_in_row Windows1252 before ks) part (rest_of_cell part) (WholeCell one.0) one.1 in
     let more = next (before ++ one.0 ∷ []) in
-    (more.0, Spelt-append (row Windows1252) (with_cell Windows1252 before ks part) (rest_of_cell part) (next_cell Windows1252 (before ++ one.0 ∷ []) ks) (rest_of_cells ks) (WholeRow more.0) there more.1)
+    (more.0, spelt_both (Inside-Spelt (cell (length before)) (row Windows1252) (with_cell Windows1252 before ks) (cell_in_row Windows1252 before ks) part (rest_of_cell part) (WholeCell one.0) one.1) more.1)
 
 -- the cells to come
 cells_end : (before : List Cell) (ks : List (Column × Bool)) → AreMarkedValid ks → (cells : List Cell) × Spelt (row Windows1252) (next_cell Windows1252 before ks) (rest_of_cells ks) (WholeRow cells)
 cells_end before [] h = (before, Spelt-none (row Windows1252) (WholeRow before))
 cells_end before ((k, true) ∷ ks) (v, h) = cells_end (before ++ Null ∷ []) ks h
-cells_end before ((k, false) ∷ ks) (v, h) =
-    let start : CellPart = cell_start k.kind (shape Windows1252 k.kind) in
-    let all = part_ends before start ks (start_reached k.kind v) (λ b. cells_end b ks h) in
-    (all.0, subst (λ p. Spelt (row Windows1252) p (rest_of_cell start ++ rest_of_cells ks) (WholeRow all.0)) (begins_open Windows1252 before ks k.kind (shape Windows1252 k.kind)) all.1)
+cells_end before ((k, false) ∷ ks) (v, h) = rw (← begins_open Windows1252 before ks k.kind (shape Windows1252 k.kind)) (part_ends before (cell_start k.kind (shape Windows1252 k.kind)) ks (start_reached k.kind v) (λ b. cells_end b ks h))
 
 pub stays_open : (cells : List Cell) (ks : List (Column × Bool)) (part : CellPart) → IsOpenCell part → with_cell Windows1252 cells ks part ≡ InCell cells part ks
 stays_open cells ks part h = grind arith
@@ -93,12 +74,9 @@ pub row_ends : (p : RowPart) → RowReached p → (cells : List Cell) × Spelt (
 row_ends (Bitmap columns) (some, h) =
     let n : ℕ = bitmap_length (length columns) in
     let l : length (zeros n) ≡ n = length-replicate n 0 in
-    let less : 0 < n = some_bitmap columns some in
-    let one : Spelt (row Windows1252) (Bitmap columns) (zeros n) (next_cell Windows1252 [] (marked columns (bit (zeros n)) 0)) = Spelt-step (row Windows1252) (Bitmap columns) (zeros n) (next_cell Windows1252 [] (marked columns (bit (zeros n)) 0)) (omega (arith, l, less)) l refl refl in
+    let one : Spelt (row Windows1252) (Bitmap columns) (zeros n) (next_cell Windows1252 [] (marked columns (bit (zeros n)) 0)) = spelt_one (omega (arith, l, some_bitmap columns some)) l refl refl in
     let clear : marked columns (bit (zeros n)) 0 ≡ all_clear columns = marked_clear columns (bit (zeros n)) 0 (clear_at n) in
     let more = cells_end [] (all_clear columns) (subst (λ ks. AreMarkedValid ks) clear (marked_valid columns (bit (zeros n)) 0 h)) in
-    (more.0, Spelt-append (row Windows1252) (Bitmap columns) (zeros n) (next_cell Windows1252 [] (all_clear columns)) (rest_of_cells (all_clear columns)) (WholeRow more.0) (subst (λ ks. Spelt (row Windows1252) (Bitmap columns) (zeros n) (next_cell Windows1252 [] ks)) clear one) more.1)
-row_ends (InCell cells part ks) (begun, h, m) =
-    let all = part_ends cells part ks h (λ b. cells_end b ks m) in
-    (all.0, subst (λ p. Spelt (row Windows1252) p (rest_of_cell part ++ rest_of_cells ks) (WholeRow all.0)) (stays_open cells ks part begun) all.1)
+    (more.0, spelt_both (rw clear at one) more.1)
+row_ends (InCell cells part ks) (begun, h, m) = rw (← stays_open cells ks part begun) (part_ends cells part ks h (λ b. cells_end b ks m))
 row_ends (WholeRow cells) h = (cells, Spelt-none (row Windows1252) (WholeRow cells))

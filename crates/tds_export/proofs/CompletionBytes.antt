@@ -1,23 +1,10 @@
 -- What completes a response are bytes.
-use Rattle.std.proofs.Common.{◌≡◌, ℕ, zero, suc, ◌<◌, ◌≤◌, Bool, true, false, List, [], ◌∷◌, arith}
-use Rattle.std.specs.Prelude.{Option}
-use Rattle.tds_columns.specs.Description.{Column, ColumnPlace, DescriptionPart}
-use Rattle.tds_csv.specs.Conversion.{Conversion}
-use Rattle.tds_export.specs.Completion.{zeros, int_column, int_columns, least_info, rest_of_column, rest_of_description, zero_chunks, rest_of_chunks, rest_of_cell, rest_of_cells, rest_of_row, rest_of_return_head, rest_of_value, rest_of_return, least_body, rest_of_token, done, completion}
-use Rattle.tds_export.specs.ReturnValue.{ReturnPart, ReturnOrdinal, ReturnNameCount, ReturnName, ReturnHead, ReturnInfo, InReturnCell, WholeReturn}
-use Rattle.tds_export.specs.TokenBytes.{Bodied}
-use Rattle.tds_export.specs.TokenGrammar.{Open, Describing, InRow, InReturn, TokenBody, Part, is_notice}
-use Rattle.tds_packet.specs.Elements.{AreBytes}
-use Rattle.tds_rows.specs.Cells.{CellPart, cell_start, shape}
-use Rattle.tds_rows.specs.Rows.{RowPart, WholeRow}
-use Rattle.tds_rows.specs.declared.Charset.TheVariants.{Windows1252}
-use Rattle.tds_values.specs.TypeInfo.{kind_of}
-use Rattle.tds_values.specs.declared.kind.Kind.{Kind}
+use Rattle.tds_export.proofs.Words.{AreBytes, Bool, CellPart, Column, Describing, InReturn, InReturnCell, InRow, Kind, List, Open, Option, Part, ReturnHead, ReturnInfo, ReturnName, ReturnNameCount, ReturnOrdinal, ReturnPart, RowPart, TokenBody, WholeReturn, WholeRow, Windows1252, [], arith, cell_start, completion, done, false, int_column, int_columns, is_notice, kind_of, least_info, rest_of_cell, rest_of_cells, rest_of_return, rest_of_return_head, rest_of_token, rest_of_value, shape, suc, true, zero, zero_chunks, zeros, ℕ, ◌<◌, ◌∷◌, ◌≡◌, ◌≤◌}
 use Rattle.tds_export.proofs.SomeBytes.{AreBytes-append, AreBytes-replicate}
-use Rattle.tds_export.proofs.LeastTypes.{least_type}
-use Rattle.tds_export.proofs.CompletedRows.{RowReached}
-use Rattle.tds_export.proofs.CompletedDescriptions.{PlaceReached, DescribedReached, IsOpenDescription}
+use Rattle.tds_export.proofs.CompletedDescriptions.{DescribedReached, IsOpenDescription}
 use Rattle.tds_export.proofs.CompletedReturns.{ReturnReached}
+use Rattle.tds_export.proofs.CompletedRows.{RowReached}
+use Rattle.tds_export.proofs.LeastTypes.{least_type}
 
 -- a row, and a return value, that isn't whole
 abbrev pub IsOpenRow : RowPart → Type 0
@@ -46,29 +33,17 @@ AreBytes-ints : (n : ℕ) → AreBytes (int_columns n)
 AreBytes-ints zero = tt
 AreBytes-ints (suc n) = AreBytes-append int_column (int_columns n) AreBytes-int (AreBytes-ints n)
 
-AreBytes-column : (room : ℕ) (bytes : List ℕ) (left : ℕ) (place : ColumnPlace) → PlaceReached room bytes left place → AreBytes (rest_of_column place)
-AreBytes-column room bytes left place h = grind (arith, AreBytes-append, AreBytes-int, AreBytes-zeros, least_type)
-
-AreBytes-description : (room : ℕ) (d : DescriptionPart) → DescribedReached room d → AreBytes (rest_of_description d)
-AreBytes-description room d h = grind (arith, AreBytes-append, AreBytes-column, AreBytes-int, AreBytes-ints)
-
 AreBytes-zero_chunks : (n : ℕ) → AreBytes (zero_chunks n)
 AreBytes-zero_chunks zero = tt
 AreBytes-zero_chunks (suc n) = (omega arith, AreBytes-append (zeros 4) (zero_chunks n) (AreBytes-zeros 4) (AreBytes-zero_chunks n))
 
-AreBytes-chunks : (c : Conversion) (total : Option ℕ) (sum : ℕ) → AreBytes (rest_of_chunks c total sum)
-AreBytes-chunks c total sum = grind (arith, AreBytes-append, AreBytes-zero_chunks, AreBytes-zeros)
-
 AreBytes-cell : (p : CellPart) → AreBytes (rest_of_cell p)
-AreBytes-cell p = grind (arith, AreBytes-append, AreBytes-chunks, AreBytes-replicate, AreBytes-zeros)
+AreBytes-cell p = grind (arith, AreBytes-append, AreBytes-zero_chunks, AreBytes-replicate, AreBytes-zeros)
 
 AreBytes-cells : (ks : List (Column × Bool)) → AreBytes (rest_of_cells ks)
 AreBytes-cells [] = tt
 AreBytes-cells ((k, true) ∷ ks) = AreBytes-cells ks
 AreBytes-cells ((k, false) ∷ ks) = AreBytes-append (rest_of_cell (cell_start k.kind (shape Windows1252 k.kind))) (rest_of_cells ks) (AreBytes-cell (cell_start k.kind (shape Windows1252 k.kind))) (AreBytes-cells ks)
-
-AreBytes-row : (p : RowPart) → AreBytes (rest_of_row p)
-AreBytes-row p = grind (arith, AreBytes-append, AreBytes-cell, AreBytes-cells, AreBytes-zeros)
 
 AreBytes-head : AreBytes rest_of_return_head
 AreBytes-head = AreBytes-append (zeros 7) (0x24 ∷ 16 ∷ 0 ∷ []) (AreBytes-zeros 7) (omega arith, (omega arith, (omega arith, tt)))
@@ -85,11 +60,8 @@ AreBytes-return (ReturnInfo name byte) (n, known, some) = AreBytes-append (least
 AreBytes-return (InReturnCell name kind part) h = AreBytes-cell part
 AreBytes-return (WholeReturn r) h = tt
 
-AreBytes-body : (b : Bodied) → AreBytes (least_body b)
-AreBytes-body b = grind (arith, AreBytes-zeros)
-
 AreBytes-token : (room : ℕ) (at : Open) → OpenReached room at → AreBytes (rest_of_token at)
-AreBytes-token room at h = grind (arith, AreBytes-body, AreBytes-description, AreBytes-return, AreBytes-row, AreBytes-zeros)
+AreBytes-token room at h = grind (arith, least_type, AreBytes-int, AreBytes-ints, AreBytes-return, AreBytes-append, AreBytes-cell, AreBytes-cells, AreBytes-zeros)
 
 -- What completes a part that bytes led to are bytes.
 pub AreBytes-completion : (room : ℕ) (p : Part) → OpenReached room p.at → AreBytes (completion p)

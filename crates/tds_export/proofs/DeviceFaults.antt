@@ -1,23 +1,5 @@
 -- Where an export stops with the fault of a device, the device's count of failures rose.
-use Rattle.std.proofs.Common.{◌≡◌, ◌∙◌, ◌⊎◌, inl, inr, ℕ, true, List, [], ◌++◌, sym, ap, subst, ◌-◌, ◌^◌, ◌<◌, ◌∷◌, length, arith}
-use Rattle.std.specs.Prelude.{Option}
-use Rattle.tds_csv.specs.Sinks.{Held}
-use Rattle.tds_export.specs.Exports.{StopsExport, begun_at, fresh_at, Reports}
-use Rattle.tds_export.specs.Moments.{Given, grammar_of}
-use Rattle.tds_export.specs.Steps.{RunStops}
-use Rattle.tds_export.specs.TokenGrammar.{Part, response, response_start}
-use Rattle.tds_export.specs.declared.report.Report.{Report}
-use Rattle.tds_export.specs.declared.report.Stopped.{Stopped}
-use Rattle.tds_meter.specs.Counts.{Rose, one_more}
-use Rattle.tds_packet.specs.Reading.{StopsReading}
-use Rattle.tds_packet.specs.Seen.{Seen, Ends, begun, IsOver, Takes}
-use Rattle.tds_packet.specs.declared.fault.Fault.{Fault}
-use Rattle.tds_packet.specs.declared.fault.Fault.TheVariants.{ReadFailed, WriteFailed, InputEnded, MessageEnded}
-use Rattle.tds_packet.specs.declared.fault.Stop.{Stop}
-use Rattle.tds_rows.proofs.Successes.{rose}
-use Rattle.tds_rows.specs.declared.Charset.{Charset}
-use Rattle.tds_packet.specs.Coming.{Coming, before, front_packet, message, whole_message}
-use Rattle.tds_packet.proofs.WireFaults.{IsOfWire, message_of_wire}
+use Rattle.tds_export.proofs.Words.{Charset, Coming, Ends, Fault, Given, Held, InputEnded, IsOfWire, IsOver, List, MessageEnded, Option, Part, ReadFailed, Report, Reports, Rose, RunStops, Seen, Stop, Stopped, StopsExport, StopsReading, Takes, WriteFailed, [], ap, arith, before, begun, begun_at, fresh_at, front_packet, grammar_of, inl, inr, length, message, message_of_wire, one_more, read, response, response_start, rose, subst, sym, true, whole_message, ℕ, ◌++◌, ◌<◌, ◌∙◌, ◌∷◌, ◌≡◌, ◌⊎◌}
 use Rattle.tds_export.proofs.PayloadFaults.{IsOfPayload, element_fault, end_fault}
 
 -- ---- a payload that has just begun
@@ -92,12 +74,8 @@ some_read size limit failures left q bytes n t o = go t.0 t.1.1
     go [] f = absurd (no_message size limit (before bytes (q.future [])) (ap (λ (c : Coming). c.stop.fault) (o.2 []) ∙ o.1) (f []))
     go (x ∷ read) f = omega arith
 
--- a count below the greatest that is the same didn't rise
-not_rose : (before after : ℕ) → before < 2 ^ 64 - 1 → after ≡ before → Rose before after → ⊥
-not_rose before after h e h4 = grind arith
-
 pub no_failure : (given : Given) (report : Report) → Reports given report → (Rose given.before.reader.failures given.after.reader.failures → ⊥) × (Rose given.before.writer.failures given.after.writer.failures → ⊥)
 no_failure given report x =
     let t = x.completes.whole.takes in
     let moved = some_read given.before.areas.limits.packet_size given.before.areas.limits.max_wire given.before.reader.failures given.before.reader.bytes x.seen x.completes.whole.bytes _ t x.completes.whole.over in
-    grind (arith, some_read, not_rose)
+    grind (arith, some_read)

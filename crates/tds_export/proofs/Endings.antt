@@ -1,21 +1,5 @@
 -- How an export ends, from what its calls did.
-use Rattle.std.proofs.Common.{◌≡◌, ℕ, Bool, true, false, List, [], Option, Result, MatchResult, ◌∙◌, ap, arith}
-use Rattle.std.proofs.lemmas.Bool.Decides.{nat_tests}
-use Rattle.tds_csv.specs.Sinks.{FinishFails, Finishes, FinishesSink, Held, held}
-use Rattle.tds_export.specs.Exports.{Reports, IsReader, IsWriter, StopsExport, Tidied, fresh_at, stopped_with}
-use Rattle.tds_export.specs.Moments.{Given, limits_of}
-use Rattle.tds_export.specs.Steps.{CompletesResponse, IsNoted, RunStops}
-use Rattle.tds_export.specs.TokenGrammar.{response, response_start}
-use Rattle.tds_export.specs.declared.report.Report.{Report}
-use Rattle.tds_export.specs.declared.report.Stopped.{Stopped}
-use Rattle.tds_meter.specs.Space.{Space}
-use Rattle.tds_packet.specs.Seen.{Seen, begun}
-use Rattle.tds_packet.specs.declared.fault.Stop.{Stop}
-use Rattle.tds_rows.proofs.Successes.{rose}
-use Rattle.tds_csv.specs.declared.sink.Sink.{Sink}
-use Rattle.std.specs.Prelude.{IsTrue}
-use Rattle.tds_meter.specs.declared.areas.Areas.{Areas}
-use Rattle.tds_meter.specs.Rooms.{AreEmptied, is_intact}
+use Rattle.tds_export.proofs.Words.{AreEmptied, Areas, Bool, CompletesResponse, FinishFails, Finishes, FinishesSink, Given, Held, IsNoted, IsReader, IsTrue, IsWriter, List, MatchResult, Option, Report, Reports, Result, RunStops, Seen, Sink, Space, Stop, Stopped, StopsExport, Tidied, [], ap, arith, begun, false, fresh_at, held, is_intact, limits_of, nat_tests, response, response_start, rose, stopped_with, true, ℕ, ◌∙◌, ◌≡◌}
 
 -- however the last delivery ended
 tidied : {U : Type 0} (h k : Held) (failed : Bool) (r : Result U Stop) → failed ≡ false → MatchResult r (λ _. Finishes h k) (λ stop. failed ≡ false → FinishFails h k stop) → Tidied h k
@@ -41,8 +25,8 @@ stops_export given a q h k l size limit room place failed stop stopped e1 e2 e3 
 
 -- ---- the rooms of areas that were intact and are emptied
 
-pub packet_room : (old new : Areas) → IsTrue (is_intact old) → AreEmptied old new → new.packet.room ≡ old.limits.packet_size
-packet_room old new h e = ap (λ (s : Space). s.room) e.packet ∙ (let full : old.packet.room ≡ old.limits.packet_size = grind (arith, nat_tests) in full)
-
-pub description_room : (old new : Areas) → IsTrue (is_intact old) → AreEmptied old new → new.description.room ≡ old.limits.column_room
-description_room old new h e = ap (λ (s : Space). s.room) e.description ∙ (let full : old.description.room ≡ old.limits.column_room = grind (arith, nat_tests) in full)
+pub rooms : (old new : Areas) → IsTrue (is_intact old) → AreEmptied old new → (new.packet.room ≡ old.limits.packet_size) × (new.description.room ≡ old.limits.column_room)
+rooms old new h e =
+    let packet : old.packet.room ≡ old.limits.packet_size = grind (arith, nat_tests) in
+    let description : old.description.room ≡ old.limits.column_room = grind (arith, nat_tests) in
+    (ap (λ (s : Space). s.room) e.packet ∙ packet, ap (λ (s : Space). s.room) e.description ∙ description)

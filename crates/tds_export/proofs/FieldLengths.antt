@@ -1,30 +1,6 @@
 -- How long the text of so many bytes is at most.
-use Rattle.std.proofs.Common.{◌≡◌, ℕ, ◌+◌, ◌-◌, ◌*◌, ◌^◌, ◌<◌, ◌≤◌, true, List, [], ◌∷◌, ◌++◌, length, take, drop, arith, length-append, unsigned_abs}
-use Rattle.std.specs.Prelude.{Option, Some, None, ◌==◌, nat_le, encode_utf8_all, Result, Ok, Err}
-use Rattle.std.specs.Char.Utf16.{utf16_chars}
-use Rattle.hex.proofs.HexLemmas.{length-encode_with}
-use Rattle.std.proofs.lemmas.Bool.{and_parts}
-use Rattle.std.proofs.lemmas.Bool.Decides.{nat_tests}
-use Rattle.std.proofs.lemmas.List.{length-take, length-map}
-use Rattle.std.specs.Int.{cast_signed, w16, w32, w64}
-use Rattle.byteorder.specs.Endian.{little_number}
-use Rattle.tds_csv.specs.Conversion.{Conversion, HexDigits, conversion_rest, conversion_text, is_fit, is_begun, long_field, open_field}
-use Rattle.tds_csv.specs.Quoting.{doubled, doubled_byte, quote}
-use Rattle.tds_packet.proofs.Choices.{choose}
-use Rattle.tds_packet.specs.Elements.{AreBytes}
-use Rattle.tds_values.specs.Kind.{is_length_allowed, is_decimal_length}
-use Rattle.tds_values.specs.Numbers.{integer_of, money_of}
-use Rattle.tds_values.specs.Scalar.{value_of, checked, read_of, datetime_of}
-use Rattle.tds_values.specs.declared.kind.Kind.{Kind}
-use Rattle.tds_values.specs.declared.scalar.ScalarValue.{ScalarValue}
-use Rattle.tds_values.specs.declared.scalar.ValueFault.{ValueFault}
-use Rattle.tds_csv.specs.Joining.{emit}
-use Rattle.tds_csv.proofs.JoiningLemmas.{doubled-append}
-use Rattle.tds_csv.proofs.Characters.{doubled_length}
-use Rattle.tds_csv.proofs.ConversionLaws.{joins_by_name, fit_by_test, begun_by_test}
-use Rattle.tds_values.specs.ScalarText.{text_of, FitsWidths}
-use Rattle.tds_values.proofs.TextLengths.{length-text_of}
-use Rattle.tds_export.proofs.SomeBytes.{byte_below, little_below, one_of_four, AreBytes-drop}
+use Rattle.tds_export.proofs.Words.{AreBytes, Conversion, Err, FitsWidths, HexDigits, Kind, List, None, Ok, Option, Result, ScalarValue, Some, ValueFault, [], and_parts, arith, begun_by_test, cast_signed, checked, choose, conversion_rest, conversion_text, datetime_of, doubled, doubled-append, doubled_byte, doubled_length, drop, emit, encode_utf8_all, fit_by_test, integer_of, is_begun, is_decimal_length, is_fit, is_length_allowed, joins_by_name, length, length-append, length-encode_with, length-map, length-take, length-text_of, little_number, long_field, money_of, nat_le, nat_tests, open_field, quote, read_of, take, text_of, true, unsigned_abs, utf16_chars, value_of, w16, w32, w64, ℕ, ◌*◌, ◌++◌, ◌+◌, ◌-◌, ◌<◌, ◌==◌, ◌^◌, ◌∷◌, ◌≡◌, ◌≤◌}
+use Rattle.tds_export.proofs.SomeBytes.{AreBytes-drop, byte_below, little_below, one_of_four}
 use Rattle.tds_csv.specs.Utf16 as utf16
 use Rattle.tds_values.specs.declared.kind.Kind.TheVariants as kinds
 use Rattle.tds_values.specs.declared.scalar.ScalarValue.TheVariants as values

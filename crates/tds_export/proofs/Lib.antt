@@ -1,3 +1,4 @@
+pub mod Words
 pub mod CompletionVectors
 pub mod NoticeLaws
 pub mod ResponseLaws
@@ -6,6 +7,8 @@ pub mod ReturnLaws
 pub mod Vectors
 pub mod HeaderTexts
 pub mod TokenLaws
+pub mod Cuts
+pub mod StepReads
 pub mod TokenSteps
 pub mod TokenBytes
 pub mod NoticeReading

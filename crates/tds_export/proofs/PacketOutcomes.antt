@@ -1,22 +1,5 @@
 -- How an export ended, by the packets of its input.
-use Rattle.std.proofs.Common.{◌≡◌, ◌∙◌, inl, inr, ℕ, ◌<◌, ◌≤◌, List, [], ◌++◌, length, take, drop, refl, sym, ap, subst, arith, append_assoc, length-append}
-use Rattle.std.specs.Prelude.{Some}
-use Rattle.std.proofs.Math.Seq.{take-append_seam, drop-append_seam}
-use Rattle.tds_export.specs.Moments.{Run}
-use Rattle.tds_export.specs.Outcome.{EndsInLast, IsKept, StopsInPayload, StopsOnWire, grammar}
-use Rattle.tds_export.specs.Steps.{IsHolding, description_of}
-use Rattle.tds_export.specs.TokenGrammar.{Describing, Open, Part, response_start, text_so_far}
-use Rattle.tds_export.specs.Tokens.{Token}
-use Rattle.tds_meter.specs.Counts.{Rose, one_more}
-use Rattle.tds_meter.specs.Space.{Space}
-use Rattle.tds_packet.proofs.ElementLaws.{longest_cut, longest_refused}
-use Rattle.tds_packet.proofs.Fronts.{EndsMessage, InLast, StopsAfterPackets, in_last, takes_begins}
-use Rattle.tds_packet.specs.Elements.{AreBytes, IsRefused, Longest, Spelt}
-use Rattle.tds_packet.specs.Packets.{Packet, payload_of, wire_of}
-use Rattle.tds_packet.specs.Reading.{RefusesNext}
-use Rattle.tds_packet.specs.Seen.{Seen, begun}
-use Rattle.tds_packet.specs.declared.fault.Fault.{Fault}
-use Rattle.tds_packet.specs.declared.fault.Stop.{Stop}
+use Rattle.tds_export.proofs.Words.{AreBytes, Describing, EndsInLast, EndsMessage, Fault, InLast, IsHolding, IsKept, IsRefused, List, Longest, Open, Packet, Part, RefusesNext, Rose, Run, Seen, Some, Space, Spelt, Stop, StopsAfterPackets, StopsInPayload, StopsOnWire, Token, [], ap, append_assoc, arith, begun, description_of, drop, drop-append_seam, grammar, in_last, inl, inr, length, length-append, longest_cut, longest_refused, more, one_more, payload_of, refl, response_start, rose, subst, sym, take, take-append_seam, takes_begins, text, text_so_far, wire_of, ℕ, ◌++◌, ◌<◌, ◌∙◌, ◌≡◌, ◌≤◌}
 
 -- what the area holds at a part is kept, whatever follows
 pub kept_at : (area : Space) (tokens : List Token) (at : Open) (rest : List ℕ) → area.bytes ≡ description_of tokens at → IsKept area.bytes tokens at rest
@@ -51,20 +34,18 @@ refused_in_payload run q area part bytes fault side spelt x holds text =
     let n = length (bytes ++ e) in
     let b = takes_begins run.given.before.areas.limits.packet_size run.given.before.areas.limits.max_wire run.given.before.reader.failures run.input run.left q ((bytes ++ e) ++ x.ahead) n side.bytes side.left x.takes x.between in
     let s = split_payload bytes e more (payload_of b.packets) (b.payload_is ∙ append_assoc (bytes ++ e) x.ahead (q.future []).bytes) in
-    let some : 0 < length e = x.some in
-    let whole : length e ≡ g.size part = x.whole in
-    let l = in_last run.given.before.areas.limits.packet_size run.given.before.areas.limits.max_wire run.given.before.reader.failures n run.input run.left q ((bytes ++ e) ++ x.ahead) (((bytes ++ e) ++ x.ahead) ++ (q.future []).bytes) side.left x.takes b (omega (arith, some, length-append ((bytes ++ e) ++ x.ahead) (q.future []).bytes, length-append (bytes ++ e) x.ahead, length-append bytes e)) in
+    let l = in_last run.given.before.areas.limits.packet_size run.given.before.areas.limits.max_wire run.given.before.reader.failures n run.input run.left q ((bytes ++ e) ++ x.ahead) (((bytes ++ e) ++ x.ahead) ++ (q.future []).bytes) side.left x.takes b (omega (arith, x.some, length-append ((bytes ++ e) ++ x.ahead) (q.future []).bytes, length-append (bytes ++ e) x.ahead, length-append bytes e)) in
     let refused : IsRefused g part (e ++ more) fault = record {
-      some = omega (arith, some, whole);
-      whole = omega (arith, whole, length-append e more);
-      first = ap (λ k. g.fault part (take k (e ++ more))) (sym whole) ∙ ap (g.fault part) (take-append_seam e more) ∙ x.first;
+      some = omega (arith, x.some, x.whole);
+      whole = omega (arith, x.whole, length-append e more);
+      first = ap (λ k. g.fault part (take k (e ++ more))) (sym x.whole) ∙ ap (g.fault part) (take-append_seam e more) ∙ x.first;
     } in
     record {
       packets = b.packets;
       part = part;
       stands = record { begin = b.begin; each = b.each; within = b.within };
       leads = subst (λ p. Longest g response_start p (length bytes) part) (sym s.0) (longest_refused g response_start bytes (e ++ more) part fault spelt refused);
-      first = inl (subst (λ r. IsRefused g part r fault) (sym s.1) refused, ends_in_last run part b.packets bytes e whole l);
+      first = inl (subst (λ r. IsRefused g part r fault) (sym s.1) refused, ends_in_last run part b.packets bytes e x.whole l);
       written = text;
       kept = subst (λ a. IsKept a part.tokens part.at (drop (length bytes) (payload_of b.packets))) (sym side.description) (kept_at area part.tokens part.at (drop (length bytes) (payload_of b.packets)) holds.bytes);
     }

@@ -1,30 +1,8 @@
 -- How much of a description was held in an export: no more than the span of one at the front of the input.
-use Rattle.std.proofs.Common.{◌≡◌, ◌∙◌, ◌⊎◌, inl, inr, ℕ, ◌+◌, ◌-◌, ◌≤◌, List, [], ◌++◌, length, take, sym, ap, subst, arith, append_assoc, append-nil, length-append}
-use Rattle.std.specs.Prelude.{Some}
-use Rattle.std.proofs.Math.Seq.{take-append_seam, take-append-add}
-use Rattle.std.proofs.lemmas.Grind.{flat_map-append}
-use Rattle.tds_csv.specs.Sinks.{Held}
-use Rattle.tds_export.specs.Moments.{Run}
-use Rattle.tds_export.specs.Outcome.{Bounded, grammar}
-use Rattle.tds_export.specs.Steps.{StopsInWriting, ReadsWhole, after_tokens}
-use Rattle.tds_export.specs.TokenGrammar.{Part, response, response_start, span_so_far}
-use Rattle.tds_meter.specs.Space.{Space}
-use Rattle.tds_packet.proofs.Feeding.{feed_all}
-use Rattle.tds_packet.proofs.Fronts.{ends_front, over_front, takes_begins}
-use Rattle.tds_packet.specs.Elements.{AreBytes, Grammar, Longest, Spelt}
-use Rattle.tds_packet.specs.Packets.{AreBefore, AreMessage, Packet, WirePart, no_wire, payload_of, wire, wire_of}
-use Rattle.tds_packet.specs.Reading.{StopsReading}
-use Rattle.tds_packet.specs.Seen.{Seen, Takes, IsBetween}
-use Rattle.tds_packet.specs.declared.fault.Fault.{Fault}
-use Rattle.tds_packet.specs.declared.fault.Stop.{Stop}
-use Rattle.tds_rows.specs.declared.Charset.{Charset}
-use Rattle.tds_meter.specs.declared.limits.Limits.{Limits}
-use Rattle.tds_packet.proofs.PacketLaws.{before_are_read, before_packet, read_front}
-use Rattle.tds_packet.proofs.MessageLaws.{after_packets as after_last, message_is_read}
+use Rattle.tds_export.proofs.Words.{AreBefore, AreBytes, AreMessage, Bounded, Charset, Fault, Grammar, Held, IsBetween, Limits, List, Longest, Packet, Part, ReadsWhole, Run, Seen, Some, Space, Spelt, Spelt-append, Spelt-induct, Spelt-one, Stop, StopsInWriting, StopsReading, Takes, Told, WirePart, [], after_last, after_tokens, ap, append-nil, append_assoc, arith, before_are_read, before_packet, between, ends_front, feed-Spelt, feed_all, feed_all-append, flat_map-append, grammar, inl, inr, length, length-append, message_is_read, more, no_wire, over_front, payload_of, read_front, response, response_start, some_longest, span_so_far, subst, sym, take, take-append-add, take-append_seam, takes_begins, told, wire, wire_of, ℕ, ◌++◌, ◌+◌, ◌-◌, ◌∙◌, ◌≡◌, ◌≤◌, ◌⊎◌}
+use Rattle.tds_export.proofs.AcceptedSucceeds.{BeginsWith, begins_added}
 use Rattle.tds_export.proofs.ReadingGrows.{span_along}
 use Rattle.tds_export.proofs.PacketOutcomes.{start}
-use Rattle.tds_export.proofs.AcceptedSucceeds.{BeginsWith, begins_added}
-use Rattle.tds_packet.proofs.ElementLaws.{Told, Spelt-append, Spelt-induct, Spelt-one, some_longest, feed-Spelt, feed_all-append, told}
 
 -- a part of a response was read from whole packets at the front of an input
 pub record Reached (charset : Charset) (limits : Limits) (input : List ℕ) (at : Part) : Type 0 where

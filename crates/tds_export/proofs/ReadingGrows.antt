@@ -1,22 +1,7 @@
 -- What is read grows by each element: the text so far, and the greatest span.
-use Rattle.std.proofs.Common.{◌≡◌, ◌∙◌, ℕ, ◌≤◌, false, List, [], ◌∷◌, ◌++◌, length, max, sym, ap, subst, append-nil, arith, length-append}
-use Rattle.std.specs.Prelude.{Option, Some, None, ◌==◌, slice_index}
-use Rattle.tds_columns.proofs.ColumnMeaning.{known_type, some_kind}
-use Rattle.tds_columns.specs.Description.{Column, DescriptionPart, BeforeCount, NoDescription, WholeDescription, with_column, with_type, add_described, description, span}
-use Rattle.tds_export.specs.ReturnValue.{ReturnPart, WholeReturn, return_add}
-use Rattle.tds_export.specs.TokenBytes.{Lead, lead_of}
-use Rattle.tds_export.specs.TokenGrammar.{Open, Between, Describing, Fields, InRow, InReturn, TokenLength, TokenBody, Part, response, bodied, after_first, open_span, open_text, part_add, span_so_far, start_of_row, text_so_far, with_described, with_return, with_row, with_token}
-use Rattle.tds_export.specs.Tokens.{Token, Metadata, NoMetadata, Returned, described_after, fixed, greatest_span, span_of, text, text_after}
-use Rattle.tds_packet.proofs.Choices.{choose, eq_true, is_some_value}
-use Rattle.tds_packet.proofs.ElementLaws.{Spelt-induct}
-use Rattle.tds_packet.specs.Elements.{IsNext, Spelt}
-use Rattle.tds_rows.proofs.GrowingTexts.{Grows, grows_all, grows_same, grows_trans, grows_under, row_grows}
-use Rattle.tds_rows.specs.Rows.{RowPart, row_start, nbc_row_start, row_add, row_so_far}
-use Rattle.tds_rows.specs.declared.Charset.{Charset}
-use Rattle.tds_values.proofs.TypeInfoLemmas.{bare_type}
-use Rattle.tds_values.specs.Numbers.{little}
-use Rattle.tds_values.specs.TypeInfo.{rest_length}
+use Rattle.tds_export.proofs.Words.{BeforeCount, Between, Charset, Column, Describing, DescriptionPart, Fields, Grows, InReturn, InRow, IsNext, Lead, List, Metadata, NoDescription, NoMetadata, None, Open, Option, Part, ReturnPart, Returned, RowPart, Some, Spelt, Spelt-induct, Token, TokenBody, TokenLength, WholeDescription, WholeReturn, [], add_described, after_first, ap, append-nil, arith, bare_type, begun, bodied, choose, described_after, description, eq_true, false, fixed, greatest_span, grows_all, grows_same, grows_trans, grows_under, is_some_value, known_type, lead_of, length-append, little, max, nbc_row_start, open_span, open_text, part_add, response, return_add, row, row_add, row_grows, row_so_far, row_start, slice_index, span, span_so_far, start_of_row, subst, sym, text, text_after, text_so_far, with_described, with_return, with_row, with_token, ℕ, ◌++◌, ◌==◌, ◌∙◌, ◌∷◌, ◌≡◌, ◌≤◌}
 use Rattle.tds_export.proofs.TokenLaws.{begun_after, greatest_span-append, text_after-snoc}
+use Rattle.tds_export.proofs.ReturnLaws.{some_kind}
 
 -- a part by its tokens and where it is read
 abbrev pub part_at : List Token → Open → Part
@@ -70,38 +55,10 @@ with_return_grows tokens part = grows_same (text tokens ++ [])
 
 -- ---- the span
 
--- a token that is whole
-token_span : (tokens : List Token) (t : Token) (n : ℕ) → n ≤ span_of t → max (greatest_span tokens) n ≤ span_so_far (with_token tokens t)
-token_span tokens t n h = omega (arith, greatest_span-append tokens (t ∷ []))
-
--- a row in its response
-with_row_span : (tokens : List Token) (part : RowPart) → max (greatest_span tokens) 0 ≤ span_so_far (with_row tokens part)
-with_row_span tokens part = grind (arith, token_span)
-
--- a row that begins
-start_span : (tokens : List Token) (start : List Column → RowPart) (current : Option (List Column)) → max (greatest_span tokens) 0 ≤ span_so_far (start_of_row tokens start current)
-start_span tokens start current = grind (arith, with_row_span)
-
--- a description in its response
-with_described_span : (tokens : List Token) (d : DescriptionPart) → max (greatest_span tokens) (span d) ≤ span_so_far (with_described tokens d)
-with_described_span tokens d = grind (arith, token_span)
-
--- a return value in its response
-with_return_span : (tokens : List Token) (part : ReturnPart) → max (greatest_span tokens) 0 ≤ span_so_far (with_return tokens part)
-with_return_span tokens part = grind (arith, token_span)
-
--- a column that is whole
-with_column_span : (bytes : List ℕ) (count : ℕ) (columns : List Column) (c : Column) → length bytes ≤ span (with_column bytes count columns c)
-with_column_span bytes count columns c = grind (arith, choose)
-
--- a type byte
-type_span : (bytes : List ℕ) (count : ℕ) (columns : List Column) (byte n : ℕ) → rest_length byte ≡ Some n → length bytes ≤ span (with_type bytes count columns byte n)
-type_span bytes count columns byte n known = grind (arith, bare_type, choose, eq_true)
-
 module _ (room : ℕ) where
   -- each element of a description adds to its span
   description_span : (d : DescriptionPart) (e : List ℕ) → IsNext (description room) d e → span d ≤ span (add_described d e)
-  description_span d e n = grind (arith, choose, is_some_value, known_type, length-append, some_kind, type_span, with_column_span)
+  description_span d e n = grind (arith, choose, is_some_value, known_type, length-append, some_kind, bare_type, eq_true)
 
 module _ (charset : Charset) (room : ℕ) where
   -- each element adds to the text, by where it is read
@@ -119,7 +76,7 @@ module _ (charset : Charset) (room : ℕ) where
 
   -- each element adds to the span, by where it is read
   part_span : (tokens : List Token) (at : Open) (e : List ℕ) → IsNext (response charset room) (part_at tokens at) e → max (greatest_span tokens) (open_span at) ≤ span_so_far (part_add charset tokens at e)
-  part_span tokens at e n = grind (arith, choose, description_span, lead_cases, start_span, token_span, with_described_span, with_return_span, with_row_span)
+  part_span tokens at e n = grind (arith, choose, description_span, lead_cases, greatest_span-append)
 
   -- all elements between two states add to the text
   pub text_along : (p q : Part) (bytes : List ℕ) → Spelt (response charset room) p bytes q → (more : List ℕ) × (text_so_far p ++ more ≡ text_so_far q)

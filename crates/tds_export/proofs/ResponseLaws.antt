@@ -1,30 +1,8 @@
 -- What a response's spelling is read as.
-use Rattle.std.proofs.Common.{◌≡◌, ℕ, ◌+◌, ◌/◌, ◌%◌, ◌<◌, Bool, true, false, List, [], ◌∷◌, ◌++◌, length, take, drop, refl, sym, ◌∙◌, ap, subst, inl, inr, append_assoc, append-nil, arith}
-use Rattle.std.specs.Prelude.{Option, Some, None, ◌==◌, ◌&&◌, nat_lt, not, if◌then◌else◌}
-use Rattle.std.proofs.Common.{take-add}
-use Rattle.std.proofs.lemmas.Bool.{ne_eqb, and_right}
-use Rattle.std.proofs.lemmas.Bool.Decides.{nat_tests}
-use Rattle.tds_columns.proofs.ColumnLaws.{description_is_read}
-use Rattle.tds_columns.specs.Description.{Column, DescriptionPart, BeforeCount, WholeDescription, description}
-use Rattle.tds_export.specs.Response.{StartsToken, IsFirst, SpellsBody, SpellsMore, SpellsNotice, SpellsRowToken, SpellsToken, SpellsTokens, Response, Accepted}
-use Rattle.tds_export.specs.ReturnValue.{ReturnPart, ReturnOrdinal, WholeReturn, return_value}
-use Rattle.tds_export.specs.TokenBytes.{APassed, AnError, AnInfo, Bodied, Fixed, AStatus, ADone, ADoneInProc, Lead, AMetadata, ARow, AnNbcRow, WithBody, WithFields, AReturn, is_row_lead, lead_of}
-use Rattle.tds_export.specs.TokenGrammar.{Open, Between, Describing, Fields, TokenLength, TokenBody, Part, after_first, after_lead, lead_fault, response_start, with_token, with_described, with_row, with_return, start_of_row, row_byte_fault, holds_notice, bodied, is_notice, response}
-use Rattle.tds_export.specs.Tokens.{Notice, Token, Metadata, NoMetadata, Row, PassedOver, Error, Info, ReturnStatus, Returned, Done, DoneInProc, described_after, fields_length, fixed, more}
-use Rattle.tds_packet.proofs.Choices.{choose_false}
-use Rattle.tds_packet.proofs.ElementLaws.{Inside, Inside-Spelt, Spelt-append, Spelt-none, Spelt-step, one_state, refused_for_good}
-use Rattle.tds_packet.proofs.MessageLaws.{one_message}
-use Rattle.tds_packet.specs.Elements.{Spelt, IsRefused, Longest}
-use Rattle.tds_packet.specs.Packets.{Packet, payload_of}
-use Rattle.tds_packet.specs.declared.fault.Fault.{Fault}
-use Rattle.tds_packet.specs.declared.fault.Fault.TheVariants.{BadNotice}
-use Rattle.tds_rows.proofs.RowLaws.{row_is_read, nbc_row_is_read}
-use Rattle.tds_rows.specs.Cells.{Cell}
-use Rattle.tds_rows.specs.Rows.{RowPart, WholeRow, row_start, nbc_row_start, row}
-use Rattle.tds_rows.specs.declared.Charset.{Charset}
-use Rattle.tds_values.specs.Numbers.{little}
-use Rattle.tds_export.proofs.ReturnLaws.{return_is_read, Agrees, inside}
+use Rattle.tds_export.proofs.Words.{ADone, ADoneInProc, AMetadata, APassed, AReturn, ARow, AStatus, Accepted, AnError, AnInfo, AnNbcRow, BadNotice, BeforeCount, Between, Bodied, Bool, Cell, Charset, Column, Describing, DescriptionPart, Done, DoneInProc, Error, Fault, Fields, Fixed, Info, Inside, Inside-Spelt, IsFirst, IsRefused, Lead, List, Longest, Metadata, NoMetadata, None, Notice, Open, Option, Packet, Part, PassedOver, Response, ReturnOrdinal, ReturnPart, ReturnStatus, Returned, Row, RowPart, Some, SpellsBody, SpellsMore, SpellsNotice, SpellsRowToken, SpellsToken, SpellsTokens, Spelt, Spelt-append, Spelt-none, Spelt-step, StartsToken, Token, TokenBody, TokenLength, WholeDescription, WholeReturn, WholeRow, WithBody, WithFields, [], after_first, after_lead, ap, append-nil, append_assoc, arith, before, bodied, choose_false, described_after, description, description_is_read, drop, false, fields_length, fixed, holds_notice, if◌then◌else◌, inl, inr, is_notice, is_row_lead, lead, lead_fault, lead_of, length, little, more, nat_tests, nbc_row_is_read, nbc_row_start, ne_eqb, not, one_message, one_state, part_fault, passed, payload_of, refl, refused_for_good, response, response_start, return_value, row, row_byte_fault, row_is_read, row_start, subst, sym, take, take-add, true, with_described, with_return, with_row, with_token, ℕ, ◌%◌, ◌&&◌, ◌++◌, ◌+◌, ◌/◌, ◌<◌, ◌==◌, ◌∙◌, ◌∷◌, ◌≡◌, ◌≤◌}
+use Rattle.tds_export.proofs.ReturnLaws.{Agrees, inside, return_is_read}
 use Rattle.tds_export.proofs.NoticeLaws.{notice_is_read}
+use Rattle.tds_export.proofs.Cuts.{spelt_both, spelt_one}
 
 pub described_after-append : (before : Option (List Column)) (a b : List Token) → described_after before (a ++ b) ≡ described_after (described_after before a) b
 described_after-append before [] b = refl
@@ -49,12 +27,17 @@ first_leads lead byte first = grind arith
 more_is : (m : Bool) (fields : List ℕ) → SpellsMore m fields → more fields ≡ m
 more_is m fields h = grind (arith, nat_tests)
 
-is_more : (fields : List ℕ) → SpellsMore (more fields) fields
-is_more fields = grind (arith, nat_tests)
-
 -- a byte that begins no row is free
 pub no_row : (current : Option (List Column)) → row_byte_fault false current ≡ None
 no_row current = grind arith
+
+-- no fault of a notice's Length, where it is long enough
+pub length_free : (room n : ℕ) (tokens : List Token) (which : Bodied) (element : List ℕ) → (is_notice which ≡ true → 14 ≤ n) → little element ≡ n → part_fault room tokens (TokenLength which) element ≡ None
+length_free room n tokens which element long number = grind (arith, nat_tests)
+
+-- nor of its body, where that holds its inner lengths
+pub body_free : (which : Bodied) (body : List ℕ) → (is_notice which ≡ true → holds_notice body ≡ true) → (if is_notice which && not (holds_notice body) then Some BadNotice else None) ≡ None
+body_free which body holds = grind arith
 
 module _ (charset : Charset) (room : ℕ) where
   -- a description is read in its response as by itself
@@ -88,32 +71,30 @@ module _ (charset : Charset) (room : ℕ) where
   lead_then : (tokens : List Token) (lead : Lead) (rest bytes : List ℕ) (to : Part) → StartsToken lead rest bytes → row_byte_fault (is_row_lead lead) (described_after None tokens) ≡ None → Spelt (response charset room) (after_lead charset tokens lead) rest to → Spelt (response charset room) (between_tokens tokens) bytes to
   lead_then tokens lead rest bytes to (first, is, begins) free h =
       let begun : lead_of first ≡ Some lead = first_leads lead first begins in
-      subst (λ v. Spelt (response charset room) (between_tokens tokens) v to) (sym is)
-      (Spelt-append (response charset room) (between_tokens tokens) (first ∷ []) (after_lead charset tokens lead) rest to
-      (Spelt-step (response charset room) (between_tokens tokens) (first ∷ []) (after_lead charset tokens lead) (omega arith) refl (ap (λ v. lead_fault (described_after None tokens) first v) begun ∙ free) (ap (λ v. after_first charset tokens v) begun)) h)
+      let one : Spelt (response charset room) (between_tokens tokens) (first ∷ []) (after_lead charset tokens lead) = spelt_one (omega arith) refl (ap (λ v. lead_fault (described_after None tokens) first v) begun ∙ free) (ap (λ v. after_first charset tokens v) begun) in
+      rw is (spelt_both one h)
 
-  body_is_read : (tokens : List Token) (b : Bodied) (body bytes : List ℕ) → ((if is_notice b && nat_lt (length body) 14 then Some BadNotice else None) ≡ None) → ((if is_notice b && not (holds_notice body) then Some BadNotice else None) ≡ None) → SpellsBody body bytes → Spelt (response charset room) (at_part tokens (TokenLength b)) bytes (with_token tokens (bodied b body))
-  body_is_read tokens b [] bytes f g h = subst (λ v. Spelt (response charset room) (at_part tokens (TokenLength b)) v (with_token tokens (bodied b []))) (sym h.0) (Spelt-step (response charset room) (at_part tokens (TokenLength b)) (0 ∷ 0 ∷ []) (with_token tokens (bodied b [])) (omega arith) refl f refl)
-  body_is_read tokens b (x ∷ xs) bytes f g h =
+  -- so are a Length and the body after it
+  pub body_is_read : (tokens : List Token) (b : Bodied) (element body : List ℕ) → length element ≡ 2 → little element ≡ length body → part_fault room tokens (TokenLength b) element ≡ None → ((if is_notice b && not (holds_notice body) then Some BadNotice else None) ≡ None)
+      → Spelt (response charset room) (at_part tokens (TokenLength b)) (element ++ body) (with_token tokens (bodied b body))
+  body_is_read tokens b element [] two is f g = grind (arith, Spelt-step, append-nil)
+  body_is_read tokens b element (x ∷ xs) two is f g =
       let n : ℕ = length (x ∷ xs) in
-      let two : little (n % 256 ∷ n / 256 ∷ []) ≡ n = omega arith in
-      let one : Spelt (response charset room) (at_part tokens (TokenLength b)) (n % 256 ∷ n / 256 ∷ []) (at_part tokens (TokenBody b n)) =
-      Spelt-step (response charset room) (at_part tokens (TokenLength b)) (n % 256 ∷ n / 256 ∷ []) (at_part tokens (TokenBody b n)) (omega arith) refl
-      (ap (λ v. (if is_notice b && nat_lt v 14 then Some BadNotice else None)) two ∙ f)
-      (ap (λ v. (if v == 0 then with_token tokens (bodied b []) else at_part tokens (TokenBody b v))) two ∙ choose_false (n == 0) (with_token tokens (bodied b [])) (at_part tokens (TokenBody b n)) (ne_eqb n 0 (λ q. omega arith))) in
-      let more : Spelt (response charset room) (at_part tokens (TokenBody b n)) (x ∷ xs) (with_token tokens (bodied b (x ∷ xs))) = Spelt-step (response charset room) (at_part tokens (TokenBody b n)) (x ∷ xs) (with_token tokens (bodied b (x ∷ xs))) (omega arith) refl g refl in
-      subst (λ v. Spelt (response charset room) (at_part tokens (TokenLength b)) v (with_token tokens (bodied b (x ∷ xs)))) (sym h.0)
-      (Spelt-append (response charset room) (at_part tokens (TokenLength b)) (n % 256 ∷ n / 256 ∷ []) (at_part tokens (TokenBody b n)) (x ∷ xs) (with_token tokens (bodied b (x ∷ xs))) one more)
+      let to : (response charset room).add (at_part tokens (TokenLength b)) element ≡ at_part tokens (TokenBody b n) = rw is (choose_false (n == 0) (with_token tokens (bodied b [])) (at_part tokens (TokenBody b n)) (ne_eqb n 0 (λ q. omega arith))) in
+      spelt_both (spelt_one (omega (arith, two)) two f to) (spelt_one (omega arith) refl g refl)
 
-  notice_body : (tokens : List Token) (b : Bodied) (n : Notice) (body bytes : List ℕ) → SpellsNotice n body → SpellsBody body bytes → Spelt (response charset room) (at_part tokens (TokenLength b)) bytes (with_token tokens (bodied b body))
-  notice_body tokens b n body bytes h s =
-      let r = notice_is_read n body h in
-      grind (arith, notice_is_read, nat_tests, body_is_read, choose_false, and_right)
+  -- the same by what spells a body
+  spelt_body : (tokens : List Token) (b : Bodied) (body bytes : List ℕ) → (is_notice b ≡ true → 14 ≤ length body) → (is_notice b ≡ true → holds_notice body ≡ true) → SpellsBody body bytes → Spelt (response charset room) (at_part tokens (TokenLength b)) bytes (with_token tokens (bodied b body))
+  spelt_body tokens b body bytes long holds h =
+      let n = length body in
+      let two : little (n % 256 ∷ n / 256 ∷ []) ≡ n = omega (arith, h.1) in
+      rw h.0 (body_is_read tokens b (n % 256 ∷ n / 256 ∷ []) body refl two (length_free room n tokens b (n % 256 ∷ n / 256 ∷ []) long two) (body_free b body holds))
 
   -- so is a notice
   notice_token_is_read : (tokens : List Token) (b : Bodied) (n : Notice) (t : Token) (body rest bytes : List ℕ) → StartsToken (WithBody b) rest bytes → SpellsBody body rest → SpellsNotice n body → bodied b body ≡ t → Spelt (response charset room) (between_tokens tokens) bytes (with_token tokens t)
   notice_token_is_read tokens b n t body rest bytes begins s h is =
-      lead_then tokens (WithBody b) rest bytes (with_token tokens t) begins (no_row (described_after None tokens)) (subst (λ v. Spelt (response charset room) (at_part tokens (TokenLength b)) rest (with_token tokens v)) is (notice_body tokens b n body rest h s))
+      let r = notice_is_read n body h in
+      lead_then tokens (WithBody b) rest bytes (with_token tokens t) begins (no_row (described_after None tokens)) (subst (λ v. Spelt (response charset room) (at_part tokens (TokenLength b)) rest (with_token tokens v)) is (spelt_body tokens b body rest (λ e. r.0) (λ e. r.1) s))
 
   -- a token with fields of a fixed length
   fixed_is_read : (tokens : List Token) (f : Fixed) (t : Token) (fields bytes : List ℕ) → StartsToken (WithFields f) fields bytes → length fields ≡ fields_length f → fixed f fields ≡ t → Spelt (response charset room) (between_tokens tokens) bytes (with_token tokens t)
@@ -122,16 +103,16 @@ module _ (charset : Charset) (room : ℕ) where
 
   -- which its fields spell
   pub fixed_spelt : (current : Option (List Column)) (f : Fixed) (fields bytes : List ℕ) → StartsToken (WithFields f) fields bytes → length fields ≡ fields_length f → SpellsToken charset room current (fixed f fields) bytes
-  fixed_spelt current f fields bytes begins long = grind (arith, is_more)
+  fixed_spelt current f fields bytes begins long = grind (arith, nat_tests)
 
   row_token_is_read : (tokens : List Token) (current : Option (List Column)) (cells : List Cell) (bytes : List ℕ) → described_after None tokens ≡ current → HasColumns current → SpellsRowToken charset current cells bytes → Spelt (response charset room) (between_tokens tokens) bytes (with_token tokens (Row cells))
   row_token_is_read tokens None cells bytes is some h = absurd h
   row_token_is_read tokens (Some columns) cells bytes is some (rest, inl h) =
-      let read : Spelt (response charset room) (with_row tokens (row_start charset columns)) rest (with_token tokens (Row cells)) = Inside-Spelt (row charset) (response charset room) (with_row tokens) (row_in_response tokens) (row_start charset columns) rest (WholeRow cells) (row_is_read charset columns cells rest h.1) in
-      lead_then tokens ARow rest bytes (with_token tokens (Row cells)) h.0 (ap (λ v. row_byte_fault true v) is) (subst (λ v. Spelt (response charset room) (start_of_row tokens (row_start charset) v) rest (with_token tokens (Row cells))) (sym is) read)
+      let read = Inside-Spelt (row charset) (response charset room) (with_row tokens) (row_in_response tokens) (row_start charset columns) rest (WholeRow cells) (row_is_read charset columns cells rest h.1) in
+      lead_then tokens ARow rest bytes (with_token tokens (Row cells)) h.0 (ap (λ v. row_byte_fault true v) is) (rw is read)
   row_token_is_read tokens (Some columns) cells bytes is some (rest, inr h) =
-      let read : Spelt (response charset room) (with_row tokens (nbc_row_start columns)) rest (with_token tokens (Row cells)) = Inside-Spelt (row charset) (response charset room) (with_row tokens) (row_in_response tokens) (nbc_row_start columns) rest (WholeRow cells) (nbc_row_is_read charset columns cells rest (omega arith) h.1) in
-      lead_then tokens AnNbcRow rest bytes (with_token tokens (Row cells)) h.0 (ap (λ v. row_byte_fault true v) is) (subst (λ v. Spelt (response charset room) (start_of_row tokens nbc_row_start v) rest (with_token tokens (Row cells))) (sym is) read)
+      let read = Inside-Spelt (row charset) (response charset room) (with_row tokens) (row_in_response tokens) (nbc_row_start columns) rest (WholeRow cells) (nbc_row_is_read charset columns cells rest (omega arith) h.1) in
+      lead_then tokens AnNbcRow rest bytes (with_token tokens (Row cells)) h.0 (ap (λ v. row_byte_fault true v) is) (rw is read)
 
   -- what spells a token is read as it
   token_is_read : (tokens : List Token) (t : Token) (bytes : List ℕ) → HasColumns (described_after None tokens) → SpellsToken charset room (described_after None tokens) t bytes → Spelt (response charset room) (between_tokens tokens) bytes (with_token tokens t)
@@ -142,7 +123,7 @@ module _ (charset : Charset) (room : ℕ) where
       lead_then tokens AMetadata (255 ∷ 255 ∷ []) bytes (with_token tokens NoMetadata) h (no_row (described_after None tokens))
       (Spelt-step (response charset room) (at_part tokens (Describing BeforeCount)) (255 ∷ 255 ∷ []) (with_token tokens NoMetadata) (omega arith) refl refl refl)
   token_is_read tokens (Row cells) bytes some h = row_token_is_read tokens (described_after None tokens) cells bytes refl some h
-  token_is_read tokens (PassedOver passed body) bytes some (rest, begins, s) = lead_then tokens (WithBody (APassed passed)) rest bytes (with_token tokens (PassedOver passed body)) begins (no_row (described_after None tokens)) (body_is_read tokens (APassed passed) body rest refl refl s)
+  token_is_read tokens (PassedOver passed body) bytes some (rest, begins, s) = lead_then tokens (WithBody (APassed passed)) rest bytes (with_token tokens (PassedOver passed body)) begins (no_row (described_after None tokens)) (spelt_body tokens (APassed passed) body rest (λ e. cc) (λ e. cc) s)
   token_is_read tokens (Error n) bytes some (rest, body, begins, s, h) = notice_token_is_read tokens AnError n (Error n) body rest bytes begins s h (ap Error (notice_is_read n body h).2)
   token_is_read tokens (Info n) bytes some (rest, body, begins, s, h) = notice_token_is_read tokens AnInfo n (Info n) body rest bytes begins s h (ap Info (notice_is_read n body h).2)
   token_is_read tokens (Returned r) bytes some (rest, begins, h) =

@@ -1,41 +1,27 @@
 -- What the bytes that lead to a part of a response spell.
-use Rattle.std.proofs.Common.{◌≡◌, ℕ, ◌+◌, ◌-◌, ◌*◌, ◌/◌, ◌%◌, ◌<◌, ◌≤◌, Bool, true, false, List, [], ◌∷◌, ◌++◌, length, take, drop, refl, sym, ◌∙◌, ap, subst, inl, inr, append_assoc, append-nil, arith, length-drop, drop-cons, add-one}
-use Rattle.std.specs.Prelude.{Option, Some, None, ◌==◌, ◌&&◌, nat_lt, not, slice_index, if◌then◌else◌}
-use Rattle.std.proofs.lemmas.List.{take-append-drop, length-take-le, drop-drop}
-use Rattle.tds_columns.proofs.ColumnMeaning.{DescribedMeans, described_step}
-use Rattle.tds_columns.specs.Description.{Column, SpellsDescription, DescriptionPart, NoDescription, WholeDescription, add_described}
-use Rattle.tds_export.specs.Response.{IsFirst, SpellsBody, SpellsNotice, SpellsRowToken, SpellsToken, SpellsTokens, Response}
-use Rattle.tds_export.specs.ReturnValue.{ReturnPart, WholeReturn, return_add}
-use Rattle.tds_export.specs.TokenBytes.{APassed, Bodied, Lead, AMetadata, ARow, AnNbcRow, WithBody, WithFields, AReturn, is_row_lead, lead_of}
-use Rattle.tds_export.specs.TokenGrammar.{Open, Between, Describing, Fields, InRow, InReturn, TokenLength, TokenBody, Part, response_start, with_token, with_described, with_row, with_return, start_of_row, after_first, after_lead, lead_fault, row_byte_fault, server_at, procedure_at, line_at, holds_notice, notice_of, bodied, is_notice, part_add, response}
-use Rattle.tds_export.specs.Tokens.{Token, Metadata, NoMetadata, Row, Returned, described_after, fixed, is_final}
-use Rattle.tds_packet.proofs.Choices.{choose, eq_true}
-use Rattle.tds_packet.proofs.ElementLaws.{Spelt-induct, AreBytes-front, AreBytes-back}
-use Rattle.tds_packet.specs.Elements.{AreBytes, Spelt, IsNext}
-use Rattle.tds_packet.specs.declared.fault.Fault.TheVariants.{BadNotice}
-use Rattle.tds_rows.specs.Cells.{Cell}
-use Rattle.tds_rows.specs.Rows.{RowPart, WholeRow, row_start, nbc_row_start, row_add}
-use Rattle.tds_rows.specs.declared.Charset.{Charset}
-use Rattle.tds_values.specs.Numbers.{little}
-use Rattle.tds_rows.proofs.RowMeaning.{RowMeans, row_step, row_start_means}
+use Rattle.tds_export.proofs.Words.{AMetadata, APassed, AReturn, ARow, AnNbcRow, AreBytes, AreBytes-back, AreBytes-front, BadNotice, Between, Bodied, Bool, Cell, Charset, Column, DescribedMeans, Describing, DescriptionPart, Fields, InReturn, InRow, IsFirst, IsNext, Lead, List, Metadata, NoDescription, NoMetadata, None, Open, Option, Part, Response, ReturnPart, Returned, Row, RowMeans, RowPart, Some, SpellsBody, SpellsDescription, SpellsNotice, SpellsRowToken, SpellsToken, SpellsTokens, Spelt, Spelt-induct, Token, TokenBody, TokenLength, WholeDescription, WholeReturn, WholeRow, WithBody, WithFields, [], add-one, add_described, after_first, after_lead, ap, append-nil, append_assoc, arith, bodied, choose, described_after, described_step, drop, drop-cons, drop-drop, eq_true, false, fixed, holds_notice, if◌then◌else◌, inl, inr, is_final, is_notice, is_row_lead, lead, lead_fault, lead_of, length, length-drop, length-take-le, line_at, little, message, nat_lt, not, notice_of, one_byte, part_add, passed, procedure_at, refl, response, response_start, return_add, row_add, row_byte_fault, row_start, row_start_means, row_step, server_at, slice_index, start_of_row, subst, sym, take, take-append-drop, true, two_bytes, with_described, with_return, with_row, with_token, ℕ, ◌%◌, ◌&&◌, ◌*◌, ◌++◌, ◌+◌, ◌-◌, ◌/◌, ◌<◌, ◌==◌, ◌∙◌, ◌∷◌, ◌≡◌, ◌≤◌}
 use Rattle.tds_export.proofs.ReturnLaws.{ReturnMeans, return_step}
 use Rattle.tds_export.proofs.ResponseLaws.{described_after-append, fixed_spelt}
-use Rattle.tds_columns.proofs.ByteLemmas.{one_byte, two_bytes}
 use Rattle.tds_export.proofs.NoticeReading.{parts_within}
 
--- the next k bytes after the first n
-cut : (body : List ℕ) (n k m : ℕ) → n + k ≡ m → drop n body ≡ take k (drop n body) ++ drop m body
-cut body n k m e = sym (take-append-drop k (drop n body)) ∙ ap (λ v. take k (drop n body) ++ v) (drop-drop k n body ∙ ap (λ v. drop v body) e)
+-- so many of the bytes after the first n, and those after them
+piece : (body : List ℕ) (n k m : ℕ) {r : List ℕ} → n + k ≡ m → drop m body ≡ r → drop n body ≡ take k (drop n body) ++ r
+piece body n k m e is = sym (take-append-drop k (drop n body)) ∙ ap (λ v. take k (drop n body) ++ v) (drop-drop k n body ∙ ap (λ v. drop v body) e ∙ is)
 
--- the byte after the first n
-first_of : (body : List ℕ) (n : ℕ) → n < length body → drop n body ≡ slice_index body n ∷ drop (n + 1) body
-first_of body n h = rw (add-one, drop-cons body n 0)
+-- the byte after the first n, and those after it
+byte_at : (body : List ℕ) (n : ℕ) {r : List ℕ} → n < length body → drop (n + 1) body ≡ r → drop n body ≡ slice_index body n ∷ r
+byte_at body n h is = let first : drop n body ≡ slice_index body n ∷ drop (n + 1) body = rw (add-one, drop-cons body n 0) in first ∙ ap (λ v. slice_index body n ∷ v) is
+
+-- a byte that counts units, these, and the bytes after them
+counted_at : (body : List ℕ) (n m : ℕ) {r : List ℕ} → n < length body → (n + 1) + 2 * slice_index body n ≡ m → drop m body ≡ r → drop n body ≡ slice_index body n ∷ (take (2 * slice_index body n) (drop (n + 1) body) ++ r)
+counted_at body n m h e is = byte_at body n h (piece body (n + 1) (2 * slice_index body n) m e is)
 
 long : (body : List ℕ) (n k : ℕ) → n + k ≤ length body → length (take k (drop n body)) ≡ k
 long body n k h = let l : length (drop n body) ≡ length body - n = length-drop n body in length-take-le k (drop n body) (omega (arith, l))
 
-regroup : (head : List ℕ) (st cl : ℕ) (units message : List ℕ) (s : ℕ) (server : List ℕ) (p : ℕ) (procedure last rest : List ℕ) → head ++ (st ∷ cl ∷ (units ++ (message ++ (s ∷ (server ++ (p ∷ (procedure ++ (last ++ rest)))))))) ≡ ((((((head ++ st ∷ cl ∷ []) ++ units) ++ message) ++ (s ∷ server)) ++ (p ∷ procedure)) ++ last) ++ rest
-regroup head st cl units message s server p procedure last rest = sym (simp append_assoc)
+regroup : (head : List ℕ) (st cl : ℕ) (units message : List ℕ) (s : ℕ) (server : List ℕ) (p : ℕ) (procedure last rest body : List ℕ) → body ≡ head ++ (st ∷ cl ∷ (units ++ (message ++ (s ∷ (server ++ (p ∷ (procedure ++ (last ++ rest)))))))) → s ≡ length server / 2 → p ≡ length procedure / 2
+    → body ≡ ((((((head ++ st ∷ cl ∷ []) ++ units) ++ message) ++ (length server / 2 ∷ server)) ++ (length procedure / 2 ∷ procedure)) ++ last) ++ rest
+regroup head st cl units message s server p procedure last rest body e a b = rw (← a, ← b) (e ∙ sym (simp append_assoc))
 
 notice_spelt : (body : List ℕ) → holds_notice body ≡ true → SpellsNotice (notice_of body) body
 notice_spelt body h =
@@ -46,47 +32,26 @@ notice_spelt body h =
     let s : ℕ = slice_index body sa in
     let p : ℕ = slice_index body pa in
     let t = parts_within body h in
-    let a : sa < length body = t.0 in
-    let b : pa < length body = t.1 in
-    let c : la + 4 ≤ length body = t.2 in
-    let server : List ℕ = take (2 * s) (drop (sa + 1) body) in
-    let procedure : List ℕ = take (2 * p) (drop (pa + 1) body) in
-    let rest : List ℕ = drop (la + 4) body in
-    let ls : length server ≡ 2 * s = long body (sa + 1) (2 * s) (omega arith) in
-    let lp : length procedure ≡ 2 * p = long body (pa + 1) (2 * p) (omega arith) in
-    let long_enough : 14 ≤ length body = omega arith in
-    let head : List ℕ = take 4 body in
-    let st : ℕ = slice_index body 4 in
-    let cl : ℕ = slice_index body 5 in
-    let units : List ℕ = take 2 (drop 6 body) in
-    let message : List ℕ = take (2 * u) (drop 8 body) in
-    let last : List ℕ = take 4 (drop la body) in
-    let e1 : drop 4 body ≡ st ∷ (cl ∷ drop 6 body) = first_of body 4 (omega arith) ∙ ap (λ v. st ∷ v) (first_of body 5 (omega arith)) in
-    let e2 : drop 6 body ≡ units ++ drop 8 body = cut body 6 2 8 refl in
-    let e3 : drop 8 body ≡ message ++ drop sa body = cut body 8 (2 * u) sa refl in
-    let e4 : drop sa body ≡ s ∷ drop (sa + 1) body = first_of body sa a in
-    let e6 : drop pa body ≡ p ∷ drop (pa + 1) body = first_of body pa b in
-    let e8 : drop la body ≡ last ++ rest = cut body la 4 (la + 4) refl in
-    let f7 : drop pa body ≡ p ∷ (procedure ++ (last ++ rest)) = e6 ∙ ap (λ v. p ∷ v) (cut body (pa + 1) (2 * p) la refl ∙ ap (λ v. procedure ++ v) e8) in
-    let f5 : drop sa body ≡ s ∷ (server ++ (p ∷ (procedure ++ (last ++ rest)))) = e4 ∙ ap (λ v. s ∷ v) (cut body (sa + 1) (2 * s) pa refl ∙ ap (λ v. server ++ v) f7) in
-    let f3 : drop 6 body ≡ units ++ (message ++ (s ∷ (server ++ (p ∷ (procedure ++ (last ++ rest)))))) = e2 ∙ ap (λ v. units ++ v) (e3 ∙ ap (λ v. message ++ v) f5) in
-    let all : body ≡ ((((((head ++ st ∷ cl ∷ []) ++ units) ++ message) ++ (s ∷ server)) ++ (p ∷ procedure)) ++ last) ++ rest =
-    sym (take-append-drop 4 body) ∙ ap (λ v. head ++ v) (e1 ∙ ap (λ v. st ∷ cl ∷ v) f3) ∙ regroup head st cl units message s server p procedure last rest in
-    let s_is : s ≡ length server / 2 = omega (arith, ls) in
-    let p_is : p ≡ length procedure / 2 = omega (arith, lp) in
+    let ls = long body (sa + 1) (2 * s) (omega (arith, t.1)) in
+    let lp = long body (pa + 1) (2 * p) (omega (arith, t.2)) in
+    let after : drop 6 body ≡ take 2 (drop 6 body) ++ (take (2 * u) (drop 8 body) ++ (s ∷ (take (2 * s) (drop (sa + 1) body) ++ (p ∷ (take (2 * p) (drop (pa + 1) body) ++ (take 4 (drop la body) ++ drop (la + 4) body)))))) =
+    piece body 6 2 8 refl (piece body 8 (2 * u) sa refl (counted_at body sa pa t.0 refl (counted_at body pa la t.1 refl (piece body la 4 (la + 4) refl refl)))) in
+    let all = sym (take-append-drop 4 body) ∙ ap (λ v. take 4 body ++ v) (byte_at body 4 (omega (arith, t.0)) (byte_at body 5 (omega (arith, t.0)) after)) in
+    let s_is : s ≡ length (take (2 * s) (drop (sa + 1) body)) / 2 = omega (arith, ls) in
+    let p_is : p ≡ length (take (2 * p) (drop (pa + 1) body)) / 2 = omega (arith, lp) in
     record {
-      head = head;
-      units = units;
-      server = server;
-      procedure = procedure;
-      last = last;
-      ignored = rest;
-      spelt = all ∙ ap (λ v. ((((((head ++ st ∷ cl ∷ []) ++ units) ++ message) ++ (v ∷ server)) ++ (p ∷ procedure)) ++ last) ++ rest) s_is ∙ ap (λ v. ((((((head ++ st ∷ cl ∷ []) ++ units) ++ message) ++ (length server / 2 ∷ server)) ++ (v ∷ procedure)) ++ last) ++ rest) p_is;
-      number = (length-take-le 4 body (omega arith), refl);
-      message = (long body 6 2 (omega arith), long body 8 (2 * u) (omega arith));
+      head = take 4 body;
+      units = take 2 (drop 6 body);
+      server = take (2 * s) (drop (sa + 1) body);
+      procedure = take (2 * p) (drop (pa + 1) body);
+      last = take 4 (drop la body);
+      ignored = drop (la + 4) body;
+      spelt = regroup (take 4 body) (slice_index body 4) (slice_index body 5) (take 2 (drop 6 body)) (take (2 * u) (drop 8 body)) s (take (2 * s) (drop (sa + 1) body)) p (take (2 * p) (drop (pa + 1) body)) (take 4 (drop la body)) (drop (la + 4) body) body all s_is p_is;
+      number = (length-take-le 4 body (omega (arith, t.2)), refl);
+      message = (long body 6 2 (omega (arith, t.2)), long body 8 (2 * u) (omega (arith, t.0)));
       servers = omega (arith, ls);
       procedures = omega (arith, lp);
-      line = (long body la 4 (omega arith), refl);
+      line = (long body la 4 t.2, refl);
     }
 
 empty_body : (k : Bodied) → ((if is_notice k && nat_lt 0 14 then Some BadNotice else None) ≡ None) → ((if is_notice k && not (holds_notice []) then Some BadNotice else None) ≡ None)
@@ -158,12 +123,9 @@ module _ (charset : Charset) (room : ℕ) where
   row_begins tokens b x None e f h begins = cc
   row_begins tokens b x (Some columns) e f h begins = with_row_means tokens (row_start charset columns) (b ++ x ∷ []) columns false e (record { front = b; first = x; rest = []; spelt = refl; before = h; begins = leads_first x ARow begins; follows = row_start_means charset columns })
 
-  nbc_row_begins : (tokens : List Token) (b : List ℕ) (x : ℕ) (current : Option (List Column)) → described_after None tokens ≡ current → row_byte_fault true current ≡ None → SpellsTokens charset room None tokens b → lead_of x ≡ Some AnNbcRow → PartMeans (start_of_row tokens nbc_row_start current) (b ++ x ∷ [])
-  nbc_row_begins tokens b x current e f h begins = grind (arith, leads_first)
-
   -- the byte begins what it begins
   lead_step : (tokens : List Token) (b : List ℕ) (x : ℕ) (lead : Lead) → lead_of x ≡ Some lead → IsFirst lead x → SpellsTokens charset room None tokens b → row_byte_fault (is_row_lead lead) (described_after None tokens) ≡ None → PartMeans (after_lead charset tokens lead) (b ++ x ∷ [])
-  lead_step tokens b x lead begins first h free = grind (arith, nbc_row_begins, row_begins)
+  lead_step tokens b x lead begins first h free = grind (arith, leads_first, row_begins)
 
   byte_step : (tokens : List Token) (b : List ℕ) (x : ℕ) (begun : Option Lead) → lead_of x ≡ begun → SpellsTokens charset room None tokens b → lead_fault (described_after None tokens) x begun ≡ None → PartMeans (after_first charset tokens begun) (b ++ x ∷ [])
   byte_step tokens b x None is h free = cc

@@ -1,26 +1,6 @@
 -- What a return value's spelling is read as, and what the bytes that lead to a part of it spell.
-use Rattle.std.proofs.Common.{◌≡◌, ℕ, ◌*◌, ◌<◌, true, List, [], ◌∷◌, ◌++◌, length, refl, sym, ◌∙◌, ap, subst, append_assoc, append-nil, arith, length-append}
-use Rattle.std.specs.Prelude.{Option, Some, None, ◌==◌, is_some, if◌then◌else◌}
-use Rattle.std.proofs.Math.Seq.{get_or-append_seam}
-use Rattle.std.proofs.lemmas.Bool.{ne_eqb}
-use Rattle.std.proofs.lemmas.Bool.Decides.{nat_tests}
-use Rattle.tds_columns.proofs.ColumnLaws.{byte_and_rest}
-use Rattle.tds_columns.specs.Description.{type_fault}
-use Rattle.tds_columns.specs.ReturnedType.{return_column}
-use Rattle.tds_export.specs.ReturnValue.{ReturnValue, SpellsReturnName, SpellsReturnValue, ReturnPart, ReturnOrdinal, ReturnNameCount, ReturnName, ReturnHead, ReturnInfo, InReturnCell, WholeReturn, with_value, with_return_kind, with_return_type, with_return_units, return_add, return_value}
-use Rattle.tds_packet.proofs.Choices.{choose, choose_false, choose_true, eq_true, is_some_value}
-use Rattle.tds_packet.proofs.ElementLaws.{Inside, Inside-Spelt, Spelt-append, Spelt-none, Spelt-step}
-use Rattle.tds_packet.specs.Elements.{Grammar, AreBytes, Spelt, IsNext}
-use Rattle.tds_packet.specs.declared.fault.Fault.{Fault}
-use Rattle.tds_packet.specs.declared.fault.Fault.TheVariants.{BadTypeInfo}
-use Rattle.tds_rows.proofs.CellMeaning.{CellMeans, cell_step, start_means}
-use Rattle.tds_rows.proofs.RowLaws.{shape-HasBytes}
-use Rattle.tds_rows.specs.Cells.{shape, CellPart, WholeCell, cell_start, cell, cell_add, return_charset}
-use Rattle.tds_values.proofs.TypeInfoLemmas.{bare_type}
-use Rattle.tds_values.specs.TypeInfo.{IsTypeInfo, rest_length, kind_of}
-use Rattle.tds_values.specs.declared.kind.Kind.{Kind}
-use Rattle.tds_columns.proofs.ByteLemmas.{split_last, one_byte}
-use Rattle.tds_rows.proofs.CellLaws.{cell_is_read}
+use Rattle.tds_export.proofs.Words.{AreBytes, BadTypeInfo, CellMeans, CellPart, Fault, Grammar, InReturnCell, Inside, Inside-Spelt, IsNext, IsTypeInfo, Kind, List, None, Option, ReturnHead, ReturnInfo, ReturnName, ReturnNameCount, ReturnOrdinal, ReturnPart, ReturnValue, Some, SpellsReturnName, SpellsReturnValue, Spelt, Spelt-none, Spelt-step, WholeCell, WholeReturn, [], ap, append-nil, append_assoc, arith, bare_type, byte_and_rest, cell, cell_add, cell_is_read, cell_start, cell_step, choose, choose_false, choose_true, eq_true, get_or-append_seam, if◌then◌else◌, is_some, is_some_value, kind_of, length, length-append, nat_tests, ne_eqb, one_byte, refl, rest_length, return_add, return_charset, return_column, return_value, shape, shape-HasBytes, split_last, start_means, subst, sym, true, type_fault, with_return_kind, with_return_type, with_return_units, with_value, ℕ, ◌*◌, ◌++◌, ◌<◌, ◌==◌, ◌∙◌, ◌∷◌, ◌≡◌}
+use Rattle.tds_export.proofs.Cuts.{spelt_both, spelt_one}
 
 -- a state of a small grammar stands in a big one: the next element is the same there, and so is the fault of an end
 abbrev pub Agrees : {S T : Type 0} → Grammar S Fault → Grammar T Fault → (S → T) → S → Type 0
@@ -44,10 +24,9 @@ return_name_is_read units (x ∷ xs) l = grind (arith, Spelt-step, choose_false,
 
 front_is_read : (name front : List ℕ) → SpellsReturnName name front → Spelt return_value ReturnOrdinal front (ReturnHead name)
 front_is_read name front h =
-    let one : Spelt return_value ReturnOrdinal h.ordinal ReturnNameCount = Spelt-step return_value ReturnOrdinal h.ordinal ReturnNameCount (omega arith) h.two refl refl in
-    let next : Spelt return_value ReturnNameCount (h.units ∷ []) (with_return_units h.units) = Spelt-step return_value ReturnNameCount (h.units ∷ []) (with_return_units h.units) (omega arith) refl refl refl in
-    let rest : Spelt return_value ReturnNameCount (h.units ∷ name) (ReturnHead name) = Spelt-append return_value ReturnNameCount (h.units ∷ []) (with_return_units h.units) name (ReturnHead name) next (return_name_is_read h.units name h.counted) in
-    subst (λ v. Spelt return_value ReturnOrdinal v (ReturnHead name)) (sym h.spelt) (Spelt-append return_value ReturnOrdinal h.ordinal ReturnNameCount (h.units ∷ name) (ReturnHead name) one rest)
+    let one : Spelt return_value ReturnOrdinal h.ordinal ReturnNameCount = spelt_one (omega (arith, h.two)) h.two refl refl in
+    let next : Spelt return_value ReturnNameCount (h.units ∷ []) (with_return_units h.units) = spelt_one (omega arith) refl refl refl in
+    rw h.spelt (spelt_both one (spelt_both next (return_name_is_read h.units name h.counted)))
 
 head_is_read : (name ignored : List ℕ) (byte n : ℕ) → length ignored ≡ 7 → rest_length byte ≡ Some n → Spelt return_value (ReturnHead name) (ignored ++ byte ∷ []) (with_return_type name byte n)
 head_is_read name ignored byte n seven known = grind (arith, Spelt-step, get_or-append_seam, length-append)
@@ -60,15 +39,10 @@ info_is_read name byte (x ∷ xs) kind n k = grind (arith, Spelt-step, choose_fa
 pub return_is_read : (r : ReturnValue) (bytes : List ℕ) → SpellsReturnValue r bytes → Spelt return_value ReturnOrdinal bytes (WholeReturn r)
 return_is_read r bytes h =
     let info = byte_and_rest r.kind h.info h.type in
-    let start : ReturnPart = with_return_kind r.name (Some r.kind) in
-    let two : Spelt return_value (ReturnHead r.name) (h.ignored ++ info.byte ∷ []) (with_return_type r.name info.byte (length info.rest)) = head_is_read r.name h.ignored info.byte (length info.rest) h.seven info.whole in
-    let three : Spelt return_value (with_return_type r.name info.byte (length info.rest)) info.rest start = info_is_read r.name info.byte info.rest r.kind info.whole info.allowed in
-    let four : Spelt return_value start h.value (WholeReturn r) = Inside-Spelt (cell return_column) return_value (with_value r.name r.kind) (value_in_return r.name r.kind) (cell_start r.kind (shape return_charset r.kind)) h.value (WholeCell r.value) (cell_is_read return_column r.kind (shape return_charset r.kind) r.value h.value (shape-HasBytes return_charset r.kind) h.cell) in
+    let type = spelt_both (head_is_read r.name h.ignored info.byte (length info.rest) h.seven info.whole) (info_is_read r.name info.byte info.rest r.kind info.whole info.allowed) in
     let same : (h.ignored ++ info.byte ∷ []) ++ info.rest ≡ h.ignored ++ h.info = append_assoc h.ignored (info.byte ∷ []) info.rest ∙ ap (λ v. h.ignored ++ v) (sym info.spelt) in
-    let five : Spelt return_value (ReturnHead r.name) (h.ignored ++ h.info) start = subst (λ v. Spelt return_value (ReturnHead r.name) v start) same (Spelt-append return_value (ReturnHead r.name) (h.ignored ++ info.byte ∷ []) (with_return_type r.name info.byte (length info.rest)) info.rest start two three) in
-    subst (λ v. Spelt return_value ReturnOrdinal v (WholeReturn r)) (sym h.spelt)
-    (Spelt-append return_value ReturnOrdinal h.front (ReturnHead r.name) ((h.ignored ++ h.info) ++ h.value) (WholeReturn r) (front_is_read r.name h.front h.named)
-    (Spelt-append return_value (ReturnHead r.name) (h.ignored ++ h.info) start h.value (WholeReturn r) five four))
+    let value = Inside-Spelt (cell return_column) return_value (with_value r.name r.kind) (value_in_return r.name r.kind) (cell_start r.kind (shape return_charset r.kind)) h.value (WholeCell r.value) (cell_is_read return_column r.kind (shape return_charset r.kind) r.value h.value (shape-HasBytes return_charset r.kind) h.cell) in
+    rw h.spelt (spelt_both (front_is_read r.name h.front h.named) (spelt_both (rw same at type) value))
 
 -- the bytes up to the value's, and what is read of it
 pub record ValueMeans (name : List ℕ) (kind : Kind) (part : CellPart) (b : List ℕ) : Type 0 where

@@ -1,39 +1,12 @@
 -- Rows of one token after one another, in their response.
-use Rattle.std.proofs.Common.{◌≡◌, ◌∙◌, ℕ, ◌+◌, ◌<◌, Bool, true, List, [], ◌∷◌, ◌++◌, length, refl, sym, ap, subst, arith, append_assoc, append-nil, length-append}
-use Rattle.std.specs.Prelude.{Option, Some, None, ◌==◌, map, if◌then◌else◌}
-use Rattle.std.proofs.lemmas.List.{map-append}
-use Rattle.tds_columns.specs.Description.{Column}
-use Rattle.tds_columns.specs.View.{columns_of}
-use Rattle.tds_csv.specs.Sinks.{Held}
-use Rattle.tds_csv.specs.Streaming.{PutsText, Streams}
-use Rattle.tds_export.specs.Steps.{IsDescribed, IsHolding, ReadsTokens, StepStops, Tracks, TracksBefore, after_tokens}
-use Rattle.tds_export.specs.TokenGrammar.{Part, response, text_so_far, with_row}
-use Rattle.tds_export.specs.Tokens.{Row, Token, described_after, encoded_after, text}
-use Rattle.tds_export.specs.declared.progress.Progress.{Progress}
-use Rattle.tds_meter.specs.Space.{Space}
-use Rattle.tds_packet.proofs.Lifts.{next_inside, next_some}
-use Rattle.tds_packet.specs.Elements.{Grammar, IsNext, Leads, Spelt}
-use Rattle.tds_packet.specs.Seen.{Seen}
-use Rattle.tds_packet.specs.declared.fault.Fault.{Fault}
-use Rattle.tds_packet.specs.declared.fault.Fault.TheVariants.{RefusedToken}
-use Rattle.tds_packet.specs.declared.fault.Stop.{Stop}
-use Rattle.tds_rows.specs.Cells.{Cell}
-use Rattle.tds_rows.specs.Rows.{RowPart, RowToken, WholeRow, row, row_so_far, token_byte, token_start}
-use Rattle.tds_rows.specs.declared.Charset.{Charset}
-use Rattle.tds_rows.specs.RowSteps.{ReadsRows, RowsStop}
-use Rattle.tds_rows.specs.Runs.{RowsPart, lines, rows, rows_so_far, rows_start}
+use Rattle.tds_export.proofs.Words.{Bool, Cell, Charset, Column, Fault, Grammar, Held, IsDescribed, IsHolding, IsNext, IsNoted, Leads, List, None, Option, Part, Progress, PutsText, ReadsRows, ReadsTokens, RefusedToken, Row, RowPart, RowToken, RowsPart, RowsStop, Seen, Some, Space, Spelt, StepStops, Stop, Streams, Token, Tracks, TracksBefore, WholeRow, [], after_tokens, ap, append-nil, append_assoc, arith, before, columns_of, counted, described_after, encoded_after, if◌then◌else◌, length, length-append, lines, map, map-append, next_inside, next_some, refl, response, row, row_so_far, rows, rows_so_far, rows_start, subst, sym, text, text_so_far, token_byte, token_start, true, with_row, ℕ, ◌++◌, ◌+◌, ◌<◌, ◌==◌, ◌∙◌, ◌∷◌, ◌≡◌}
+use Rattle.tds_export.proofs.TokenSteps.{Begun, holds-snoc, quietly, row_stops, row_text, stops_further}
 use Rattle.tds_export.proofs.ResponseLaws.{described_after-append, row_in_response}
 use Rattle.tds_export.proofs.TokenLaws.{text_after-snoc, tracks_row}
-use Rattle.tds_export.proofs.TokenSteps.{holds-snoc, row_stops, row_text, stops_further}
 
 -- a byte that is no other token's
 is_token_byte : (byte x : ℕ) → (if x == byte then None else Some (RefusedToken x)) ≡ None → x ≡ byte
 is_token_byte byte x h = search (arith, h)
-
--- the token byte of a row begins it, where columns are described
-begins_next : (which : RowToken) (charset : Charset) (room : ℕ) (all : List Column) (tokens : List Token) → described_after None tokens ≡ Some all
-    → IsNext (response charset room) (after_tokens tokens) (token_byte which ∷ []) × ((response charset room).add (after_tokens tokens) (token_byte which ∷ []) ≡ with_row tokens (token_start which charset all))
-begins_next which charset room all tokens known = grind (arith, known)
 
 -- what one grammar reads, another reads there, where each element does
 module _ {S T : Type 0} (small : Grammar S Fault) (big : Grammar T Fault) (lift : S → T) (is : (s : S) (e : List ℕ) → IsNext small s e → IsNext big (lift s) e × (big.add (lift s) e ≡ lift (small.add s e))) where
@@ -64,7 +37,7 @@ module _ (which : RowToken) (charset : Charset) (room : ℕ) (all : List Column)
 
   module _ (known : described_after None tokens ≡ Some all) where
     token_next : (before : List (List Cell)) (cells : List Cell) → IsNext (response charset room) (in_rows (record { before = before; at = WholeRow cells })) (token_byte which ∷ []) × ((response charset room).add (in_rows (record { before = before; at = WholeRow cells })) (token_byte which ∷ []) ≡ in_rows (record { before = before ++ cells ∷ []; at = token_start which charset all }))
-    token_next before cells = grind (arith, append_assoc, begins_next, described_after-append, known, map-append, rows_describe)
+    token_next before cells = grind (arith, append_assoc, described_after-append, known, map-append, rows_describe)
 
     row_next : (ts : List Token) (at : RowPart) (e : List ℕ) → IsNext (row charset) at e → IsNext (response charset room) (with_row ts at) e × ((response charset room).add (with_row ts at) e ≡ with_row ts ((row charset).add at e))
     row_next ts at e n = grind (arith, next_inside, next_some, row_in_response)
@@ -77,14 +50,14 @@ module _ (which : RowToken) (charset : Charset) (room : ℕ) (all : List Column)
     element_next before (WholeRow cells) (x ∷ y ∷ r) n = absurd (let w : length (x ∷ y ∷ r) ≡ 1 = n.whole in omega arith)
     element_next before p e n = row_next (tokens ++ map Row before) p e (record { some = n.some; whole = n.whole; free = n.free })
 
-    -- what is read of rows and put, is read of the response and put
-    abbrev rows_stream : (s t : RowsPart) (a b : Seen) (h j : Held) → Streams (rows which charset all) rows_so_far s a b h j t → Streams (response charset room) text_so_far (in_rows s) a b h j (in_rows t)
-    rows_stream s t a b h j x = record {
-      bytes = x.bytes;
-      spelt = lifted_spelt (rows which charset all) (response charset room) in_rows (λ p e n. element_next p.before p.at e n) s x.bytes t x.spelt;
-      takes = x.takes;
-      puts = (x.puts.0, ap (λ l. l ++ x.puts.0) (in_rows_text s) ∙ append_assoc (text tokens) (rows_so_far s) x.puts.0 ∙ ap (λ l. text tokens ++ l) x.puts.1 ∙ sym (in_rows_text t), x.puts.2);
-    }
+    -- what is read of rows from their start on and put, is read of the response and put
+    abbrev rows_stream : {t : RowsPart} {a b : Seen} {h j : Held} → Streams (rows which charset all) rows_so_far (rows_start which charset all) a b h j t → Streams (response charset room) text_so_far (with_row tokens (token_start which charset all)) a b h j (in_rows t)
+    rows_stream {t = t} x =
+        let s = rows_start which charset all in
+        let begins : in_rows s ≡ with_row tokens (token_start which charset all) = ap (λ ts. with_row ts (token_start which charset all)) (append-nil tokens) in
+        let same = ap (λ l. l ++ x.puts.0) (ap text_so_far (sym begins) ∙ in_rows_text s) ∙ append_assoc (text tokens) (rows_so_far s) x.puts.0 ∙ ap (λ l. text tokens ++ l) x.puts.1 ∙ sym (in_rows_text t) in
+        let spelt = lifted_spelt (rows which charset all) (response charset room) in_rows (λ p e n. element_next p.before p.at e n) s x.bytes t x.spelt in
+        record { bytes = x.bytes; spelt = subst (λ (v : Part). Spelt (response charset room) v x.bytes (in_rows t)) begins spelt; takes = x.takes; puts = (x.puts.0, same, x.puts.2) }
 
 -- so many rows more are counted
 tracks_rows : (s : Progress) (tokens : List Token) (r : List Cell) (rs : List (List Cell)) → TracksBefore s tokens → Tracks (record s { report = record s.report { rows = s.report.rows + length (r ∷ rs) } }) (tokens ++ map Row (r ∷ rs))
@@ -115,47 +88,27 @@ rows_hold area tokens (r ∷ rs) h = subst (λ ts. IsHolding area (after_tokens 
 pub columns_known : (tokens : List Token) (described : Bool) (bytes : List ℕ) → described ≡ true → bytes ≡ encoded_after [] tokens → IsDescribed described (encoded_after [] tokens) (described_after None tokens) → described_after None tokens ≡ Some (columns_of bytes)
 columns_known tokens described bytes d is k = subst (λ b. IsDescribed b (encoded_after [] tokens) (described_after None tokens)) d k ∙ ap (λ l. Some (columns_of l)) (sym is)
 
-module _ (which : RowToken) (charset : Charset) (room : ℕ) (columns : List Column) (area : Space) (before after : Held) (tokens : List Token) (a b : Seen) (place : ℕ) (progress : Progress)
-    (described : progress.described ≡ true) (shown : columns ≡ columns_of area.bytes) (tracks : TracksBefore progress tokens) (holds : IsHolding area (after_tokens tokens)) where
-  -- the state in a response after the first token byte of the rows
-  abbrev in_token : Part
-  in_token = with_row tokens (token_start which charset (columns_of area.bytes))
-
-  known : described_after None tokens ≡ Some (columns_of area.bytes)
-  known = columns_known tokens progress.described area.bytes described holds.bytes tracks.described
-
-  -- it is that before the first element of rows
-  begins : in_rows which charset room (columns_of area.bytes) tokens (rows_start which charset (columns_of area.bytes)) ≡ in_token
-  begins = ap (λ (ts : List Token). with_row ts (token_start which charset (columns_of area.bytes))) (append-nil tokens)
-
+module _ (which : RowToken) (charset : Charset) (room : ℕ) {place : ℕ} {columns : List Column} {area notice : Space} {before after : Held} {tokens : List Token} {a b : Seen} {s : Progress} {failed : Bool}
+    (described : s.described ≡ true) (shown : columns ≡ columns_of area.bytes) (begun : Begun tokens s area notice before failed) where
   -- rows were read, and their lines put
-  pub rows_read : (place' count : ℕ) → ReadsRows which charset columns count a b place place' before after
-      → ReadsTokens (response charset room) in_token tokens a b place place' before after (record progress { report = record progress.report { rows = progress.report.rows + count } }) area
-  rows_read place' count y =
+  pub rows_read : {place' count : ℕ} → ReadsRows which charset columns count a b place place' before after
+      → (x : ReadsTokens (response charset room) (with_row tokens (token_start which charset (columns_of area.bytes))) tokens a b place place' before after (record s { report = record s.report { rows = s.report.rows + count } }) area) × IsNoted notice (tokens ++ x.more)
+  rows_read {place' = place'} {count = count} y =
       let x = subst (λ cs. ReadsRows which charset cs count a b place place' before after) shown y in
-      let to : Part = in_rows which charset room (columns_of area.bytes) tokens (record { before = x.earlier; at = WholeRow x.last }) in
-      let there = rows_stream which charset room (columns_of area.bytes) tokens known (rows_start which charset (columns_of area.bytes)) (record { before = x.earlier; at = WholeRow x.last }) a b before after x.streams in
-      let end : to ≡ after_tokens (tokens ++ map Row (x.earlier ++ x.last ∷ [])) = ap after_tokens (append_assoc tokens (map Row x.earlier) (Row x.last ∷ []) ∙ ap (λ l. tokens ++ l) (sym (map-append Row x.earlier (x.last ∷ [])))) in
-      record {
+      let known = columns_known tokens s.described area.bytes described begun.holds.bytes begun.tracks.described in
+      let there = rows_stream which charset room (columns_of area.bytes) tokens known x.streams in
+      let end : with_row (tokens ++ map Row x.earlier) (WholeRow x.last) ≡ after_tokens (tokens ++ map Row (x.earlier ++ x.last ∷ [])) = ap after_tokens (append_assoc tokens (map Row x.earlier) (Row x.last ∷ []) ∙ ap (λ l. tokens ++ l) (sym (map-append Row x.earlier (x.last ∷ [])))) in
+      quietly begun refl (record {
         more = map Row (x.earlier ++ x.last ∷ []);
-        streams = record {
-          bytes = x.streams.bytes;
-          spelt = subst (λ (v : Part). Spelt (response charset room) in_token x.streams.bytes v) end (subst (λ (v : Part). Spelt (response charset room) v x.streams.bytes to) begins there.spelt);
-          takes = x.streams.takes;
-          puts = subst (λ (v : Part). PutsText text_so_far in_token v before after) end (subst (λ (v : Part). PutsText text_so_far v to before after) begins there.puts);
-        };
+        streams = record { bytes = x.streams.bytes; spelt = rw (← end) there.spelt; takes = x.streams.takes; puts = subst (λ (v : Part). PutsText text_so_far (with_row tokens (token_start which charset (columns_of area.bytes))) v before after) end there.puts };
         place_is = x.place_is;
-        tracks = tracks_all progress tokens x.earlier x.last count x.counted tracks;
-        holds = rows_hold area tokens (x.earlier ++ x.last ∷ []) holds;
-      }
+        tracks = tracks_all s tokens x.earlier x.last count x.counted begun.tracks;
+        holds = rows_hold area tokens (x.earlier ++ x.last ∷ []) begun.holds;
+      })
 
   -- their reading stopped
-  pub rows_stop : (failed : Bool) (stop : Stop) → RowsStop which charset columns a b place before after failed stop → StepStops (response charset room) in_token a b place before after area failed stop
-  rows_stop failed stop y =
-      let x = subst (λ cs. RowsStop which charset cs a b place before after failed stop) shown y in
-      let from = in_rows which charset room (columns_of area.bytes) tokens (rows_start which charset (columns_of area.bytes)) in
-      let to : Part = in_rows which charset room (columns_of area.bytes) tokens (record { before = x.earlier; at = x.part }) in
-      let there = rows_stream which charset room (columns_of area.bytes) tokens known (rows_start which charset (columns_of area.bytes)) (record { before = x.earlier; at = x.part }) a x.middle before x.between x.streams in
-      let stops = row_stops charset room x.part area x.between after (tokens ++ map Row x.earlier) x.middle b (place + length x.streams.bytes) failed stop (rows_hold area tokens x.earlier holds) x.stops in
-      subst (λ (v : Part). StepStops (response charset room) v a b place before after area failed stop) begins
-      (stops_further charset room from to a x.middle b place before x.between after area failed stop there stops)
+  pub rows_stop : {failed' : Bool} {stop : Stop} → RowsStop which charset columns a b place before after failed' stop → StepStops (response charset room) (with_row tokens (token_start which charset (columns_of area.bytes))) a b place before after area failed' stop
+  rows_stop {failed' = failed'} {stop = stop} y =
+      let x = subst (λ cs. RowsStop which charset cs a b place before after failed' stop) shown y in
+      let known = columns_known tokens s.described area.bytes described begun.holds.bytes begun.tracks.described in
+      stops_further (rows_stream which charset room (columns_of area.bytes) tokens known x.streams) refl (row_stops charset room (tokens ++ map Row x.earlier) (rows_hold area tokens x.earlier begun.holds) x.stops)

@@ -1,11 +1,5 @@
 -- Lists of bytes.
-use Rattle.std.proofs.Common.{ℕ, zero, suc, ◌^◌, ◌<◌, ◌≡◌, inl, inr, true, List, [], ◌∷◌, ◌++◌, drop, replicate, sym, subst, arith}
-use Rattle.std.specs.Prelude.{slice_index, ◌==◌, ◌||◌}
-use Rattle.std.proofs.Math.Nat.{pow-suc}
-use Rattle.std.proofs.lemmas.Bool.{or_cases}
-use Rattle.byteorder.specs.Endian.{little_from}
-use Rattle.tds_packet.proofs.Choices.{eq_true}
-use Rattle.tds_packet.specs.Elements.{AreBytes}
+use Rattle.tds_export.proofs.Words.{AreBytes, List, [], arith, drop, eq_true, inl, inr, little_from, or_cases, pow-suc, replicate, slice_index, subst, suc, sym, true, zero, ℕ, ◌++◌, ◌<◌, ◌==◌, ◌^◌, ◌||◌, ◌∷◌, ◌≡◌}
 
 -- each of some bytes is below 256
 pub byte_below : (xs : List ℕ) (i : ℕ) → AreBytes xs → slice_index xs i < 256

@@ -1,32 +1,8 @@
 -- The text so far is no longer than 64 bytes for each byte read.
-use Rattle.std.proofs.Common.{◌≡◌, ℕ, suc, ◌+◌, ◌-◌, ◌*◌, ◌≤◌, Bool, true, false, List, [], ◌∷◌, ◌++◌, length, refl, sym, ap, subst, append-nil, arith, length-append}
-use Rattle.std.specs.Prelude.{Option, Some, None, ◌==◌, map, codes, slice_index, Result}
-use Rattle.std.proofs.lemmas.Bool.{and_parts}
-use Rattle.std.proofs.lemmas.List.{map-append}
-use Rattle.tds_columns.specs.Description.{Column, DescriptionPart, InColumn, WholeDescription, with_column, with_kind, add_described, description}
-use Rattle.tds_csv.specs.Conversion.{Utf16Text, is_fit, long_field, open_field}
-use Rattle.tds_csv.specs.Quoting.{joined, line, line_end}
-use Rattle.tds_export.specs.ReturnValue.{ReturnPart}
-use Rattle.tds_export.specs.TokenGrammar.{Open, Describing, InRow, Part, response, response_start, open_text, part_add, start_of_row, text_so_far, with_described, with_return, with_row, with_token}
-use Rattle.tds_export.specs.Tokens.{Token, Metadata, header_line, text, text_after}
-use Rattle.tds_packet.proofs.Choices.{choose}
-use Rattle.tds_packet.proofs.ElementLaws.{Spelt-induct, AreBytes-front, AreBytes-back}
-use Rattle.tds_packet.specs.Elements.{AreBytes, IsNext, Spelt}
-use Rattle.tds_rows.proofs.CellMeaning.{unless_none}
-use Rattle.tds_rows.proofs.GrowingTexts.{last_fit, end_fit}
-use Rattle.tds_rows.specs.Cells.{Cell, Null, DataCell, field, shape, CellPart, ScalarBytes, ScalarLength, ShortLength, ShortData, Total, ChunkLength, ChunkData, WholeCell, cell_add, cell, field_so_far, value_part}
-use Rattle.tds_rows.specs.Rows.{RowPart, InCell, marked, next_cell, with_cell, row_start, row_add, row, with_field, row_so_far}
-use Rattle.tds_rows.specs.declared.Charset.{Charset}
-use Rattle.tds_values.specs.Numbers.{little}
-use Rattle.tds_values.specs.Scalar.{read_of}
-use Rattle.tds_values.specs.declared.kind.Kind.{Kind}
-use Rattle.tds_values.specs.declared.scalar.ScalarValue.{ScalarValue}
-use Rattle.tds_values.specs.declared.scalar.ValueFault.{ValueFault}
-use Rattle.tds_csv.proofs.ConversionLaws.{fit_begins}
-use Rattle.tds_rows.proofs.RowSteps.{start_quiet}
-use Rattle.tds_export.proofs.FieldLengths.{open_length, long_length, open_more, long_more, ReadShort, read_short}
-use Rattle.tds_export.proofs.TokenLaws.{bare, bare_body, bare_fixed, begun_after, is_bare, text_after-snoc}
-use Rattle.tds_export.proofs.ReadingGrows.{IsFresh, part_at, lead_cases}
+use Rattle.tds_export.proofs.Words.{AreBytes, AreBytes-back, AreBytes-front, Bool, Cell, CellPart, Charset, ChunkData, ChunkLength, Column, DataCell, Describing, DescriptionPart, InCell, InColumn, InRow, IsNext, List, None, Null, Open, Option, Part, Result, ReturnPart, RowPart, ScalarBytes, ScalarLength, ScalarValue, ShortData, ShortLength, Some, Spelt, Spelt-induct, Token, Total, Utf16Text, ValueFault, WholeCell, WholeDescription, [], add_described, and_parts, ap, append-nil, arith, cell, cell_add, choose, codes, description, end_fit, false, field, field_so_far, fit_begins, header_line, is_fit, joined, last_fit, length, length-append, line, line_end, little, long_field, map, map-append, marked, next_cell, open_field, open_text, part_add, read_of, refl, response, response_start, row_so_far, row_start, shape, slice_index, start_quiet, subst, suc, sym, text, text_so_far, true, unless_none, value_part, with_field, with_return, with_row, ℕ, ◌*◌, ◌++◌, ◌+◌, ◌-◌, ◌==◌, ◌∷◌, ◌≡◌, ◌≤◌}
+use Rattle.tds_export.proofs.ReadingGrows.{IsFresh, lead_cases, part_at}
+use Rattle.tds_export.proofs.FieldLengths.{ReadShort, long_length, long_more, open_length, open_more, read_short}
+use Rattle.tds_export.proofs.TokenLaws.{bare, bare_body, bare_fixed, begun_after, text_after-snoc}
 
 -- ---- fields
 
@@ -60,10 +36,6 @@ FieldMore None None = Unit {0}
 FieldMore None (Some b) = length b ≤ 48
 FieldMore (Some a) None = ⊥
 FieldMore (Some a) (Some b) = length b ≤ length a + 48
-
--- the field that is read adds as much to the row
-with_field_more : (cells : List Cell) (a b : Option (List ℕ)) → FieldMore a b → length (joined (with_field cells b)) ≤ length (joined (with_field cells a)) + 49
-with_field_more cells a b h = grind (arith, last_length, one_more_length)
 
 -- ---- a cell
 
@@ -124,14 +96,6 @@ module _ (charset : Charset) where
   next_length cells ((k, true) ∷ ks) = omega (arith, next_length (cells ++ Null ∷ []) ks, one_more_cell cells Null)
   next_length cells ((k, false) ∷ ks) = subst (λ o. length (joined (with_field cells o)) + 5 * how_many_null ks ≤ length (joined (map field cells)) + 5 * how_many_null ks + 2) (sym (start_quiet k.kind (shape charset k.kind))) (omega arith)
 
-  -- a cell in its row
-  with_cell_length : (cells : List Cell) (ks : List (Column × Bool)) (p : CellPart) → row_length (with_cell charset cells ks p) ≤ length (joined (with_field cells (field_so_far p))) + 5 * how_many_null ks + 2
-  with_cell_length cells ks p = grind (arith, map-append, next_length)
-
-  -- each element of a row pays for what it adds
-  row_more : (p : RowPart) (e : List ℕ) → AreBytes e → IsNext (row charset) p e → row_length (row_add charset p e) ≤ row_length p + 64 * length e
-  row_more p e bytes n = grind (arith, cell_more, next_length, null_most, with_cell_length, with_field_more)
-
 -- ---- a description, whose columns pay for its header
 
 -- the header of the columns so far, and the line before it
@@ -148,18 +112,10 @@ header_more columns c =
     let e : map (λ k. long_field Utf16Text k.name) (columns ++ c ∷ []) ≡ fs ++ f ∷ [] = map-append (λ k. long_field Utf16Text k.name) columns (c ∷ []) in
     omega (arith, one_more_length fs f, long_length Utf16Text c.name, ap (λ v. length (line v)) e, length-append (joined (fs ++ f ∷ [])) line_end, length-append (joined fs) line_end)
 
--- a column that is whole
-column_pending : (bytes : List ℕ) (count : ℕ) (columns : List Column) (c : Column) → described_pending (with_column bytes count columns c) ≤ 2 + length (header_line columns) + 3 + 4 * length c.name
-column_pending bytes count columns c = grind (arith, choose, header_more)
-
--- a column whose kind is known
-kind_pending : (bytes : List ℕ) (count : ℕ) (columns : List Column) (o : Option Kind) → described_pending (with_kind bytes count columns o) ≤ 2 + length (header_line columns)
-kind_pending bytes count columns o = grind arith
-
 module _ (room : ℕ) where
   -- each element of a description pays for what it adds
   described_more : (d : DescriptionPart) (e : List ℕ) → IsNext (description room) d e → described_pending (add_described d e) ≤ described_pending d + 64 * length e
-  described_more d e n = grind (arith, choose, column_pending, kind_pending)
+  described_more d e n = grind (arith, choose, header_more)
 
 -- ---- a response
 
@@ -173,37 +129,13 @@ pending at = 0
 abbrev grown : Part → ℕ
 grown p = length (text_so_far p) + pending p.at
 
--- the length with one more token
-token_length : (tokens : List Token) (t : Token) → length (text_so_far (with_token tokens t)) ≡ length (text tokens) + length (text_after (begun_after false tokens) (t ∷ []))
-token_length tokens t = grind (arith, append-nil, begun_after, length-append, text_after-snoc)
-
--- a token without a text
-silent_grown : (tokens : List Token) (t : Token) → text_after (begun_after false tokens) (t ∷ []) ≡ [] → grown (with_token tokens t) ≤ length (text tokens)
-silent_grown tokens t e = let l : length (text_after (begun_after false tokens) (t ∷ [])) ≡ 0 = ap length e in omega (arith, token_length tokens t)
-
--- a token that has no text and describes nothing
-bare_grown : (tokens : List Token) (t : Token) → is_bare t ≡ true → grown (with_token tokens t) ≤ length (text tokens)
-bare_grown tokens t is = silent_grown tokens t ((bare t is).text (begun_after false tokens))
-
--- the header and the line before it
-metadata_length : (begun : Bool) (bytes : List ℕ) (columns : List Column) → length (text_after begun (Metadata bytes columns ∷ [])) ≤ 2 + length (header_line columns)
-metadata_length begun bytes columns = grind (arith, length-append)
-
--- a description in its response
-with_described_grown : (tokens : List Token) (d : DescriptionPart) → grown (with_described tokens d) ≤ length (text tokens) + described_pending d
-with_described_grown tokens d = grind (arith, begun_after, length-append, metadata_length, silent_grown, token_length)
-
 -- a row in its response
 with_row_grown : (tokens : List Token) (part : RowPart) → grown (with_row tokens part) ≤ length (text tokens) + row_length part
-with_row_grown tokens part = grind (arith, length-append, token_length)
+with_row_grown tokens part = grind (arith, length-append, append-nil, begun_after, text_after-snoc)
 
 -- a return value in its response
 with_return_grown : (tokens : List Token) (part : ReturnPart) → grown (with_return tokens part) ≤ length (text tokens)
-with_return_grown tokens part = grind (arith, bare_grown, length-append)
-
--- a row that begins
-start_grown : (tokens : List Token) (start : List Column → RowPart) (current : Option (List Column)) → ((columns : List Column) → row_length (start columns) ≤ 2) → grown (start_of_row tokens start current) ≤ length (text tokens) + 2
-start_grown tokens start current h = grind (arith, length-append, with_row_grown)
+with_return_grown tokens part = grind (arith, append-nil, text_after-snoc, bare, begun_after, length-append)
 
 module _ (charset : Charset) (room : ℕ) where
   -- a row that begins has at most the end of its line
@@ -216,7 +148,7 @@ module _ (charset : Charset) (room : ℕ) where
 
   -- each element of bytes pays for what it adds
   part_grown : (tokens : List Token) (at : Open) (e : List ℕ) → AreBytes e → IsNext (response charset room) (part_at tokens at) e → grown (part_add charset tokens at e) ≤ length (text tokens) + length (open_text at) + pending at + 64 * length e
-  part_grown tokens at e bytes n = grind (arith, bare_body, bare_fixed, bare_grown, choose, described_more, fresh_grown, lead_cases, length-append, part_at, row_more, row_starts, start_grown, with_described_grown, with_return_grown, with_row_grown)
+  part_grown tokens at e bytes n = grind (arith, bare_body, bare_fixed, bare, choose, described_more, fresh_grown, lead_cases, length-append, part_at, cell_more, next_length, null_most, map-append, last_length, one_more_length, row_starts, begun_after, append-nil, text_after-snoc, with_return_grown, with_row_grown)
 
   -- each element pays for what it adds
   grown_more : (p : Part) (e : List ℕ) → AreBytes e → IsNext (response charset room) p e → grown ((response charset room).add p e) ≤ grown p + 64 * length e

@@ -1,29 +1,8 @@
 -- Tokens by their first bytes.
-use Rattle.std.proofs.Common.{◌≡◌, ◌∙◌, inl, inr, ℕ, ◌+◌, ◌<◌, ◌≤◌, ◌^◌, ◌-◌, Bool, true, false, List, [], ◌∷◌, ◌++◌, length, refl, sym, ap, subst, arith, length-append}
-use Rattle.std.specs.Prelude.{Some, None}
-use Rattle.tds_columns.specs.View.{IsDescription, columns_of}
-use Rattle.tds_csv.specs.Sinks.{Held}
-use Rattle.tds_csv.specs.Streaming.{Streams}
-use Rattle.tds_export.specs.Steps.{StepStops, IsDescribed, IsHolding, IsOfKind, IsRefusedByte, IsUnder, ReadsTokens, after_tokens, in_kind, in_lead, lead}
-use Rattle.tds_export.specs.TokenBytes.{Lead, lead_of}
-use Rattle.tds_export.specs.TokenGrammar.{Part, lead_fault, response, row_byte_fault, text_so_far}
-use Rattle.tds_export.specs.Tokens.{Token, described_after, encoded_after}
-use Rattle.tds_export.specs.declared.progress.Progress.{Progress}
-use Rattle.tds_meter.specs.Space.{Space}
-use Rattle.tds_packet.proofs.Steps.{cut_at_once, reads_one, refused_at_once}
-use Rattle.tds_packet.specs.Elements.{IsNext}
-use Rattle.tds_packet.specs.Reading.{StopsReading}
-use Rattle.tds_packet.specs.Seen.{Seen, Takes, Ends, IsBetween}
-use Rattle.tds_packet.specs.declared.fault.Fault.{Fault}
-use Rattle.tds_packet.specs.declared.fault.Fault.TheVariants.{MessageEnded}
-use Rattle.tds_packet.specs.declared.fault.Place.TheVariants.{Payload}
-use Rattle.tds_packet.specs.declared.fault.Stop.{Stop}
-use Rattle.tds_rows.specs.declared.Charset.{Charset}
-use Rattle.tds_columns.proofs.ViewLaws.{description_shows}
-use Rattle.tds_export.specs.declared.tokens.TokenKind.{TokenKind}
-use Rattle.tds_export.proofs.ResponseLaws.{no_row}
+use Rattle.tds_export.proofs.Words.{Bool, Charset, Ends, Fault, Held, IsBetween, IsDescribed, IsDescription, IsHolding, IsNext, IsOfKind, IsRefusedByte, IsUnder, Lead, List, MessageEnded, None, Part, Payload, Progress, ReadsTokens, Seen, Some, Space, StepStops, Stop, StopsReading, Streams, Takes, Token, TokenKind, [], after_tokens, ap, arith, begun, between, columns_of, cut_at_once, described_after, description_shows, encoded_after, false, in_kind, in_lead, inl, inr, lead, lead_fault, lead_of, length, length-append, reads_one, refl, refused_at_once, response, row_byte_fault, subst, sym, text_so_far, true, ℕ, ◌+◌, ◌-◌, ◌<◌, ◌^◌, ◌∙◌, ◌∷◌, ◌≡◌, ◌≤◌}
 use Rattle.tds_export.proofs.RowRuns.{columns_known}
-use Rattle.tds_export.proofs.TokenSteps.{same_text, start_text, stops_further, streams_both}
+use Rattle.tds_export.proofs.ResponseLaws.{no_row}
+use Rattle.tds_export.proofs.TokenSteps.{same_text, start_text, stops_further, stops_quietly, streams_both}
 
 -- a token byte that is accepted
 pub record BeginsToken (charset : Charset) (room : ℕ) (tokens : List Token) (byte : ℕ) (to : Part) : Type 0 where
@@ -43,34 +22,31 @@ pub begins_kind : (charset : Charset) (room : ℕ) (tokens : List Token) (byte :
     → IsDescribed described (encoded_after [] tokens) (described_after None tokens) → BeginsToken charset room tokens byte (in_kind charset (columns_of bytes) kind tokens)
 begins_kind charset room tokens byte described bytes kind h is d k = begins_lead charset room tokens byte described bytes (lead kind) h.0 h.1 is d k
 
-module _ (charset : Charset) (room : ℕ) (tokens : List Token) (byte : ℕ) (to : Part) (begins : BeginsToken charset room tokens byte to) where
-  -- the first byte of a token is read, and nothing put for it
-  abbrev first : (a b : Seen) (h : Held) → h.delivered ≤ 2 ^ 64 - 1 → Takes a b (byte ∷ []) 1 → Streams (response charset room) text_so_far (after_tokens tokens) a b h h to
-  first a b h d t = record {
-    bytes = byte ∷ [];
-    spelt = (reads_one (response charset room) (after_tokens tokens) a b (byte ∷ []) to begins.next t begins.to_is).spelt;
-    takes = t;
-    puts = same_text (after_tokens tokens) to h begins.text_is d;
-  }
+-- the first byte of a token is read, and nothing put for it
+abbrev first : {charset : Charset} {room byte : ℕ} {tokens : List Token} {to : Part} {a b : Seen} {h : Held} → BeginsToken charset room tokens byte to → h.delivered ≤ 2 ^ 64 - 1 → Takes a b (byte ∷ []) 1 → Streams (response charset room) text_so_far (after_tokens tokens) a b h h to
+first {charset = charset} {room = room} {byte = byte} {tokens = tokens} {to = to} {a = a} {b = b} {h = h} begins d t = record {
+  bytes = byte ∷ [];
+  spelt = (reads_one (response charset room) (after_tokens tokens) a b (byte ∷ []) to begins.next t begins.to_is).spelt;
+  takes = t;
+  puts = same_text (after_tokens tokens) to h begins.text_is d;
+}
 
+module _ {charset : Charset} {room byte : ℕ} {tokens : List Token} {to : Part} {a : Seen} (b : Seen) {c : Seen} {place middle : ℕ} {h k : Held} {area : Space} (begins : BeginsToken charset room tokens byte to) (d : h.delivered ≤ 2 ^ 64 - 1) (t : Takes a b (byte ∷ []) 1) (at : middle ≡ place + 1) where
   -- a token is read after its first byte
-  abbrev pub reads_after_byte : (a b c : Seen) (place middle place' : ℕ) (h k : Held) (progress : Progress) (area : Space) → h.delivered ≤ 2 ^ 64 - 1 → Takes a b (byte ∷ []) 1 → middle ≡ place + 1
-      → ReadsTokens (response charset room) to tokens b c middle place' h k progress area → ReadsTokens (response charset room) (after_tokens tokens) tokens a c place place' h k progress area
-  reads_after_byte a b c place middle place' h k progress area d t at r = record {
+  abbrev pub reads_after_byte : {place' : ℕ} {progress : Progress} → ReadsTokens (response charset room) to tokens b c middle place' h k progress area → ReadsTokens (response charset room) (after_tokens tokens) tokens a c place place' h k progress area
+  reads_after_byte r = record {
     more = r.more;
-    streams = streams_both charset room (after_tokens tokens) to (after_tokens (tokens ++ r.more)) a b c h h k (first a b h d t) r.streams;
+    streams = streams_both (first begins d t) r.streams;
     place_is = r.place_is ∙ omega (arith, at, length-append (byte ∷ []) r.streams.bytes);
     tracks = r.tracks;
     holds = r.holds;
   }
 
   -- and so it stops
-  pub stops_after_byte : (a b c : Seen) (place middle : ℕ) (h k : Held) (area : Space) (failed : Bool) (stop : Stop) → h.delivered ≤ 2 ^ 64 - 1 → Takes a b (byte ∷ []) 1 → middle ≡ place + 1 → StepStops (response charset room) to b c middle h k area failed stop
-      → StepStops (response charset room) (after_tokens tokens) a c place h k area failed stop
-  stops_after_byte a b c place middle h k area failed stop d t at x =
-      stops_further charset room (after_tokens tokens) to a b c place h h k area failed stop (first a b h d t) (subst (λ n. StepStops (response charset room) to b c n h k area failed stop) at x)
+  pub stops_after_byte : {failed : Bool} {stop : Stop} → StepStops (response charset room) to b c middle h k area failed stop → StepStops (response charset room) (after_tokens tokens) a c place h k area failed stop
+  stops_after_byte x = stops_further (first begins d t) at x
 
--- ---- a byte that begins no token
+-- ---- between tokens
 
 refused : (charset : Charset) (room : ℕ) (tokens : List Token) (a b : Seen) (place byte : ℕ) (described : Bool) (fault : Fault) → IsDescribed described (encoded_after [] tokens) (described_after None tokens) → IsRefusedByte described byte fault → Takes a b (byte ∷ []) 1 → IsBetween b
     → StopsReading (response charset room) (after_tokens tokens) a b place (after_tokens tokens) (record { fault = fault; place = Payload place })
@@ -85,22 +61,12 @@ refused charset room tokens a b place byte described fault k (inr x) t between =
     ] in
     refused_at_once (response charset room) (after_tokens tokens) a b place (byte ∷ []) fault (omega arith) refl first t between
 
-pub stops_at_byte : (charset : Charset) (room : ℕ) (tokens : List Token) (a b : Seen) (place byte : ℕ) (described : Bool) (fault : Fault) (h : Held) (area : Space) (failed : Bool) → h.delivered ≤ 2 ^ 64 - 1 → failed ≡ false → IsHolding area (after_tokens tokens)
-    → IsDescribed described (encoded_after [] tokens) (described_after None tokens) → IsRefusedByte described byte fault → Takes a b (byte ∷ []) 1 → IsBetween b → StepStops (response charset room) (after_tokens tokens) a b place h h area failed (record { fault = fault; place = Payload place })
-stops_at_byte charset room tokens a b place byte described fault h area failed d going holds k why t between =
-    inl (record { at = after_tokens tokens; stops = refused charset room tokens a b place byte described fault k why t between; puts = same_text (after_tokens tokens) (after_tokens tokens) h refl d; holds = holds }, going)
+module _ (charset : Charset) (room : ℕ) {place : ℕ} {tokens : List Token} {a b : Seen} {h : Held} {area : Space} {failed : Bool} (d : h.delivered ≤ 2 ^ 64 - 1) (going : failed ≡ false) (holds : IsHolding area (after_tokens tokens)) where
+  -- a byte begins no token
+  pub stops_at_byte : {byte : ℕ} {described : Bool} {fault : Fault} → IsDescribed described (encoded_after [] tokens) (described_after None tokens) → IsRefusedByte described byte fault → Takes a b (byte ∷ []) 1 → IsBetween b
+      → StepStops (response charset room) (after_tokens tokens) a b place h h area failed (record { fault = fault; place = Payload place })
+  stops_at_byte {byte = byte} {described = described} {fault = fault} k why t between = stops_quietly refl holds d going (refused charset room tokens a b place byte described fault k why t between)
 
--- ---- the payload stopped between tokens
-
-pub stops_between : (charset : Charset) (room : ℕ) (tokens : List Token) (a b : Seen) (place : ℕ) (stop : Stop) (h : Held) (area : Space) (failed : Bool) → h.delivered ≤ 2 ^ 64 - 1 → failed ≡ false → IsHolding area (after_tokens tokens)
-    → Ends a b [] stop → (stop.fault ≡ MessageEnded → ⊥) → StepStops (response charset room) (after_tokens tokens) a b place h h area failed stop
-stops_between charset room tokens a b place stop h area failed d going holds ends other =
-    inl (
-      record {
-        at = after_tokens tokens;
-        stops = cut_at_once (response charset room) (after_tokens tokens) a b place [] stop stop (omega arith) ends (inr (other, refl));
-        puts = same_text (after_tokens tokens) (after_tokens tokens) h refl d;
-        holds = holds;
-      },
-      going,
-    )
+  -- the payload stopped
+  pub stops_between : {stop : Stop} → Ends a b [] stop → (stop.fault ≡ MessageEnded → ⊥) → StepStops (response charset room) (after_tokens tokens) a b place h h area failed stop
+  stops_between {stop = stop} ends other = stops_quietly refl holds d going (cut_at_once (response charset room) (after_tokens tokens) a b place [] stop stop (omega arith) ends (inr (other, refl)))

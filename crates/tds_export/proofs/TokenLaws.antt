@@ -1,22 +1,6 @@
 -- What one more token adds to a response.
-use Rattle.std.proofs.Common.{◌≡◌, ◌∙◌, ℕ, ◌+◌, ◌<◌, Bool, true, false, List, [], ◌∷◌, ◌++◌, length, max, refl, sym, ap, arith, append_assoc}
-use Rattle.std.specs.Prelude.{Option, Some, None, nat_lt, map, if◌then◌else◌, option_map}
-use Rattle.std.proofs.lemmas.Bool.Decides.{nat_tests}
-use Rattle.tds_columns.specs.Description.{Column}
-use Rattle.tds_columns.specs.View.{columns_of}
-use Rattle.tds_csv.specs.Quoting.{line}
-use Rattle.tds_export.specs.Outcome.{report_of, server_error}
-use Rattle.tds_export.specs.ReturnValue.{ReturnValue}
-use Rattle.tds_export.specs.Steps.{IsDescribed, Tracks, TracksBefore}
-use Rattle.tds_export.specs.TokenBytes.{APassed, Bodied, Fixed}
-use Rattle.tds_export.specs.TokenGrammar.{bodied, is_notice}
-use Rattle.tds_export.specs.Tokens.{Notice, Token, described_after, Metadata, NoMetadata, Row, PassedOver, Error, Info, Returned, Done, DoneInProc, between, encoded_after, first_error, fixed, greatest_span, header_line, how_many, is_error, is_final, is_info, is_return, is_row, is_set, return_status_after, text, text_after}
-use Rattle.tds_export.specs.declared.progress.Progress.{Progress}
-use Rattle.tds_export.specs.declared.report.Report.{Report}
-use Rattle.tds_export.specs.declared.report.ServerError.{ServerError}
-use Rattle.tds_rows.specs.Cells.{Cell, field}
+use Rattle.tds_export.proofs.Words.{APassed, Bodied, Bool, Cell, Column, Done, DoneInProc, Error, Fixed, Info, List, Metadata, NoMetadata, None, Notice, Option, PassedOver, Progress, ReturnValue, Returned, Row, ServerError, Some, Token, Tracks, TracksBefore, [], add_none, ap, append_assoc, arith, before, begun, between, bodied, columns_of, described_after, encoded_after, false, field, first_error, fixed, greatest_span, header_line, how_many, is_error, is_final, is_notice, is_set, line, map, max, more, nat_lt, option_map, passed, refl, return_status_after, server_error, sym, test_lt, text_after, true, ℕ, ◌++◌, ◌+◌, ◌<◌, ◌∙◌, ◌∷◌, ◌≡◌}
 use Rattle.tds_export.proofs.ResponseLaws.{described_after-append}
-use Rattle.tds_packet.proofs.Steps.{add_none}
 
 -- whether a set has begun after these tokens
 abbrev pub begun_after : Bool → List Token → Bool
@@ -35,21 +19,15 @@ begun_true [] = refl
 begun_true (Metadata bytes columns ∷ ts) = begun_true ts
 begun_true (u ∷ ts) = begun_true ts
 
-some_sets : (n : ℕ) → nat_lt 0 (1 + n) ≡ true
-some_sets n = grind (arith, nat_tests)
-
 -- a set has begun where there is one
 pub begun_where_sets : (ts : List Token) → begun_after false ts ≡ nat_lt 0 (how_many is_set ts)
 begun_where_sets [] = refl
-begun_where_sets (Metadata bytes columns ∷ ts) = begun_true ts ∙ sym (some_sets (how_many is_set ts))
+begun_where_sets (Metadata bytes columns ∷ ts) = begun_true ts ∙ sym (test_lt 0 (1 + how_many is_set ts) (omega arith))
 begun_where_sets (t ∷ ts) = begun_where_sets ts
-
-count_if : (b : Bool) (n m : ℕ) → (if b then 1 + (n + m) else n + m) ≡ (if b then 1 + n else n) + m
-count_if b n m = grind arith
 
 pub how_many-snoc : (p : Token → Bool) (ts : List Token) (t : Token) → how_many p (ts ++ t ∷ []) ≡ how_many p ts + how_many p (t ∷ [])
 how_many-snoc p [] t = omega arith
-how_many-snoc p (u ∷ ts) t = ap (λ n. if p u then 1 + n else n) (how_many-snoc p ts t) ∙ count_if (p u) (how_many p ts) (how_many p (t ∷ []))
+how_many-snoc p (u ∷ ts) t = grind (arith, how_many-snoc p ts t)
 
 pub uncounted : (p : Token → Bool) (ts : List Token) (t : Token) → how_many p (t ∷ []) ≡ 0 → how_many p (ts ++ t ∷ []) ≡ how_many p ts
 uncounted p ts t e = how_many-snoc p ts t ∙ ap (λ n. how_many p ts + n) e ∙ add_none (how_many p ts)
@@ -78,10 +56,6 @@ same_first [] us h = no_errors us h
 same_first (Error n ∷ ts) us h = refl
 same_first (u ∷ ts) us h = same_first ts us h
 
--- nor does another token change it
-pub unerring : (ts : List Token) (t : Token) → how_many is_error (t ∷ []) ≡ 0 → first_error (ts ++ t ∷ []) ≡ first_error ts
-unerring ts t e = same_first ts (t ∷ []) (uncounted is_error ts t e)
-
 -- the last status of a procedure after more tokens
 pub status_after-append : (before : Option ℕ) (a b : List Token) → return_status_after before (a ++ b) ≡ return_status_after (return_status_after before a) b
 status_after-append before [] b = refl
@@ -103,26 +77,7 @@ is_final-snoc [] t = refl
 is_final-snoc (u ∷ []) t = refl
 is_final-snoc (u ∷ v ∷ ts) t = is_final-snoc (v ∷ ts) t
 
--- whether a token leaves the status that came last
-abbrev LeavesStatus : Token → Type 0
-LeavesStatus t = (before : Option ℕ) → return_status_after before (t ∷ []) ≡ before
-
--- the report with one more token that is no error and leaves the status, but for what was written
-report-snoc : (ts : List Token) (t : Token) → how_many is_error (t ∷ []) ≡ 0 → LeavesStatus t → report_of (ts ++ t ∷ []) ≡ record (report_of ts) {
-  sets = how_many is_set (ts ++ t ∷ []);
-  rows = how_many is_row (ts ++ t ∷ []);
-  infos = how_many is_info (ts ++ t ∷ []);
-  written = length (text (ts ++ t ∷ []));
-  return_values = how_many is_return (ts ++ t ∷ []);
-}
-report-snoc ts t no_error status = rw (uncounted is_error ts t no_error, unerring ts t no_error, status_after-append None ts (t ∷ []) ∙ status (return_status_after None ts)) refl
-
 -- ---- what is tracked, with one more token
-
--- a token that describes nothing leaves the columns as they are
-same_columns : (described : Bool) (ts : List Token) (t : Token) → encoded_after (encoded_after [] ts) (t ∷ []) ≡ encoded_after [] ts → described_after (described_after None ts) (t ∷ []) ≡ described_after None ts
-    → IsDescribed described (encoded_after [] ts) (described_after None ts) → IsDescribed described (encoded_after [] (ts ++ t ∷ [])) (described_after None (ts ++ t ∷ []))
-same_columns described ts t bytes columns k = grind (arith, described_after-append, encoded_after-append)
 
 -- whether a token has no text and describes nothing
 abbrev pub is_bare : Token → Bool
@@ -155,66 +110,37 @@ is_quiet (Done more) = true
 is_quiet (DoneInProc more) = true
 is_quiet t = false
 
--- A token of which the report has nothing.
-record IsQuiet (t : Token) : Type 0 where
-  bare : is_bare t ≡ true
-  sets : how_many is_set (t ∷ []) ≡ 0
-  rows : how_many is_row (t ∷ []) ≡ 0
-  errors : how_many is_error (t ∷ []) ≡ 0
-  infos : how_many is_info (t ∷ []) ≡ 0
-  returns : how_many is_return (t ∷ []) ≡ 0
-  status : LeavesStatus t
-
-quiet : (t : Token) → is_quiet t ≡ true → IsQuiet t
-quiet t h = grind (arith, bare)
-
 -- where a token begins, the tokens before it are known
 pub tracks_begun : (s : Progress) (ts : List Token) → Tracks s ts → TracksBefore (record s { is_final = false }) ts
 tracks_begun s ts k = record { report = k.report; described = k.described; final = refl }
 
--- a token that has no text and describes nothing, by its report
-pub tracks_bare : (s : Progress) (ts : List Token) (t : Token) (report : Report) (final : Bool) → is_bare t ≡ true → record report { written = length (text (ts ++ t ∷ [])) } ≡ report_of (ts ++ t ∷ []) → final ≡ is_final (t ∷ []) → TracksBefore s ts → Tracks (record s { report = report; is_final = final }) (ts ++ t ∷ [])
-tracks_bare s ts t report final is e f k = grind (arith, bare, is_final-snoc, same_columns)
-
 pub tracks_quiet : (s : Progress) (ts : List Token) (t : Token) (final : Bool) → is_quiet t ≡ true → final ≡ is_final (t ∷ []) → TracksBefore s ts → Tracks (record s { is_final = final }) (ts ++ t ∷ [])
-tracks_quiet s ts t final is e k =
-    let q = quiet t is in
-    tracks_bare s ts t s.report final q.bare (ap (λ (r : Report). record r { written = length (text (ts ++ t ∷ [])) }) k.report ∙ sym (report-snoc ts t q.errors q.status ∙ rw (uncounted is_set ts t q.sets, uncounted is_row ts t q.rows, uncounted is_info ts t q.infos, uncounted is_return ts t q.returns) refl)) e k
+tracks_quiet s ts t final is e k = grind (arith, described_after-append, encoded_after-append, is_final-snoc, same_first, status_after-append, uncounted)
 
 pub tracks_body : (s : Progress) (ts : List Token) (which : Bodied) (body : List ℕ) → is_notice which ≡ false → TracksBefore s ts → Tracks s (ts ++ bodied which body ∷ [])
 tracks_body s ts (APassed passed) body h k = tracks_quiet s ts (PassedOver passed body) s.is_final refl k.final k
 tracks_body s ts which body h k = cc
 
 pub tracks_none : (s : Progress) (ts : List Token) → TracksBefore s ts → Tracks (record s { described = false }) (ts ++ NoMetadata ∷ [])
-tracks_none s ts k = grind (arith, described_after-append, is_final-snoc, report-snoc, uncounted)
+tracks_none s ts k = grind (arith, described_after-append, is_final-snoc, same_first, status_after-append, uncounted)
 
 pub tracks_metadata : (s : Progress) (ts : List Token) (bytes : List ℕ) (columns : List Column) → columns_of bytes ≡ columns → TracksBefore s ts
     → Tracks (record s { report = record s.report { sets = s.report.sets + 1 }; described = true }) (ts ++ Metadata bytes columns ∷ [])
-tracks_metadata s ts bytes columns shown k = grind (arith, described_after-append, encoded_after-append, how_many-snoc, is_final-snoc, report-snoc, uncounted)
+tracks_metadata s ts bytes columns shown k = grind (arith, described_after-append, encoded_after-append, how_many-snoc, is_final-snoc, same_first, status_after-append, uncounted)
 
 pub tracks_row : (s : Progress) (ts : List Token) (cells : List Cell) → TracksBefore s ts → Tracks (record s { report = record s.report { rows = s.report.rows + 1 } }) (ts ++ Row cells ∷ [])
-tracks_row s ts cells k = grind (arith, how_many-snoc, is_final-snoc, report-snoc, same_columns, uncounted)
+tracks_row s ts cells k = grind (arith, how_many-snoc, is_final-snoc, same_first, status_after-append, described_after-append, encoded_after-append, uncounted)
 
 -- ---- ERROR and INFO
 
--- the report with one more error, but for what was written
-error_report : (ts : List Token) (n : Notice) → report_of (ts ++ Error n ∷ []) ≡ record (report_of ts) { errors = how_many is_error ts + 1; first_error = option_map server_error (first_error (ts ++ Error n ∷ [])); written = length (text (ts ++ Error n ∷ [])) }
-error_report ts n = grind (arith, how_many-snoc, status_after-append, uncounted)
-
 pub tracks_error : (s : Progress) (ts : List Token) (n : Notice) (first : Option ServerError) → first ≡ option_map server_error (first_error (ts ++ Error n ∷ [])) → TracksBefore s ts
     → Tracks (record s { report = record s.report { errors = s.report.errors + 1; first_error = first } }) (ts ++ Error n ∷ [])
-tracks_error s ts n first e k =
-    let t = Error n in
-    tracks_bare s ts t (record s.report { errors = s.report.errors + 1; first_error = first }) s.is_final refl (ap (λ (r : Report). record r { errors = r.errors + 1; first_error = first; written = length (text (ts ++ t ∷ [])) }) k.report ∙ ap (λ f. record (report_of ts) { errors = how_many is_error ts + 1; first_error = f; written = length (text (ts ++ t ∷ [])) }) e ∙ sym (error_report ts n)) k.final k
+tracks_error s ts n first e k = grind (arith, described_after-append, encoded_after-append, how_many-snoc, status_after-append, uncounted, is_final-snoc)
 
 pub tracks_info : (s : Progress) (ts : List Token) (n : Notice) → TracksBefore s ts → Tracks (record s { report = record s.report { infos = s.report.infos + 1 } }) (ts ++ Info n ∷ [])
-tracks_info s ts n k =
-    let t = Info n in
-    tracks_bare s ts t (record s.report { infos = s.report.infos + 1 }) s.is_final refl (ap (λ (r : Report). record r { infos = r.infos + 1; written = length (text (ts ++ t ∷ [])) }) k.report ∙ sym (report-snoc ts t refl (λ _. refl) ∙ rw (uncounted is_set ts t refl, uncounted is_row ts t refl, how_many-snoc is_info ts t, uncounted is_return ts t refl) refl)) k.final k
+tracks_info s ts n k = grind (arith, described_after-append, encoded_after-append, how_many-snoc, is_final-snoc, same_first, status_after-append, uncounted)
 
 -- ---- RETURNVALUE
 
 pub tracks_returned : (s : Progress) (ts : List Token) (v : ReturnValue) → TracksBefore s ts → Tracks (record s { report = record s.report { return_values = s.report.return_values + 1 } }) (ts ++ Returned v ∷ [])
-tracks_returned s ts v k =
-    let t = Returned v in
-    tracks_bare s ts t (record s.report { return_values = s.report.return_values + 1 }) s.is_final refl (ap (λ (r : Report). record r { return_values = r.return_values + 1; written = length (text (ts ++ t ∷ [])) }) k.report ∙ sym (report-snoc ts t refl (λ _. refl) ∙ rw (uncounted is_set ts t refl, uncounted is_row ts t refl, uncounted is_info ts t refl, how_many-snoc is_return ts t) refl)) k.final k
+tracks_returned s ts v k = grind (arith, described_after-append, encoded_after-append, how_many-snoc, is_final-snoc, same_first, status_after-append, uncounted)

@@ -1,46 +1,15 @@
 -- What an export answers, where its reader and writer tell their bytes.
-use Rattle.std.proofs.Common.{◌≡◌, ◌∙◌, inl, inr, ℕ, ◌+◌, ◌*◌, ◌-◌, ◌/◌, ◌%◌, ◌<◌, ◌≤◌, Bool, true, false, List, [], ◌∷◌, ◌++◌, length, take, drop, refl, sym, ap, subst, arith, append_assoc, append-nil, length-append, length-take-le, take-append-drop}
-use Rattle.std.specs.Prelude.{Option, Some, Ok, Err}
-use native.Mathlib.Decide.{dec_le}
-use Rattle.std.specs.Io.KnownBytes.{Appends, Consumes}
-use Rattle.std.proofs.Math.Seq.{take-append_seam, take-append-add}
-use Rattle.std.proofs.lemmas.Grind.{flat_map-append}
-use Rattle.std.proofs.lemmas.List.{take-append-le}
-use Rattle.tds_csv.proofs.Sinks.{Adds-trans}
-use Rattle.tds_csv.specs.Sinks.{Adds, Held, Puts}
-use Rattle.tds_csv.specs.Streaming.{BreaksStreaming}
-use Rattle.tds_export.specs.Moments.{Run, FailsToWrite, Given, grammar_of, limits, limits_of, run_of, text_put, waiting}
-use Rattle.tds_export.specs.Response.{Accepted}
-use Rattle.tds_export.specs.Steps.{CompletesResponse, StopsAtEnd, StopsInReading, StopsInWriting, IsHolding, ReadsWhole, RunStops, after_tokens}
-use Rattle.tds_export.specs.TokenGrammar.{Part, response, response_start, text_so_far}
-use Rattle.tds_export.specs.Tokens.{Token, error_text, text}
-use Rattle.tds_export.specs.declared.report.Report.{Report}
-use Rattle.tds_export.specs.declared.report.Stopped.{Stopped}
-use Rattle.tds_meter.specs.Counts.{Rose, counted, one_more}
-use Rattle.tds_meter.specs.Space.{Space}
-use Rattle.tds_packet.proofs.ElementLaws.{AreBytes-back, AreBytes-front, Spelt-append, Spelt-one, longest_cut, no_further, some_longest}
-use Rattle.tds_packet.proofs.Fronts.{ends_front, in_last, over_front, takes_begins, wire_goes_on}
-use Rattle.tds_packet.specs.Elements.{AreBytes, Grammar, Longest, Spelt}
-use Rattle.tds_packet.specs.Packets.{Packet, packet_bytes, payload_of, wire_of}
-use Rattle.tds_packet.specs.Reading.{CutsNext, StopsReading}
-use Rattle.tds_packet.specs.Seen.{Ends, Seen, begun}
-use Rattle.tds_packet.specs.declared.fault.Fault.{Fault}
-use Rattle.tds_packet.specs.declared.fault.Fault.TheVariants.{MessageEnded, ReadFailed, WriteFailed}
-use Rattle.tds_packet.specs.declared.fault.Place.TheVariants.{Payload, Text}
-use Rattle.tds_packet.specs.declared.fault.Stop.{Stop}
-use Rattle.tds_rows.proofs.Successes.{rose}
-use Rattle.tds_rows.specs.declared.Charset.{Charset}
-use Rattle.tds_packet.specs.declared.fault.Place.{Place}
-use Rattle.tds_export.specs.Outcome.{ReadsPart, AfterStop, Bounded, IsKept, Packets, Reported, Stops, StopsInText, grammar, report_of}
-use Rattle.tds_export.specs.Exports.{Tells, Reports, IsReader, IsWriter, StopsExport, Tidied, begun_at, fresh_at, stopped_with}
+use Rattle.tds_export.proofs.Words.{Accepted, Adds, Adds-trans, AfterStop, Appends, AreBytes, AreBytes-back, AreBytes-front, Bool, Bounded, BreaksStreaming, Charset, Comes, CompletesResponse, Consumes, CutsNext, Err, FailsToWrite, Fault, Given, Grammar, Held, IsHolding, IsKept, IsReader, IsWriter, List, Longest, MessageEnded, Ok, Option, Packet, Packets, Part, Payload, Place, Puts, ReadFailed, ReadsPart, ReadsWhole, Report, Reported, Reports, Rose, Run, RunStops, Seen, Some, Space, Spelt, Spelt-one, Stop, Stopped, Stops, StopsAtEnd, StopsExport, StopsInReading, StopsInText, StopsInWriting, StopsReading, Tells, Text, Tidied, Token, WriteFailed, [], after_tokens, ap, append-nil, append_assoc, arith, begun, begun_at, counted, drop, ends_front, error_text, false, flat_map-append, fresh_at, grammar, grammar_of, in_last, inl, inr, length, length-append, length-take-le, limits, limits_of, longest_cut, more, no_further, one_more, over_front, packet_bytes, payload_of, read, refl, report_of, response, response_start, rose, run_of, some_longest, stopped_with, subst, sym, take, take-append-add, take-append-drop, take-append-le, take-append_seam, takes_begins, text, text_put, text_so_far, true, waiting, wire_goes_on, wire_of, ℕ, ◌%◌, ◌*◌, ◌++◌, ◌+◌, ◌-◌, ◌/◌, ◌<◌, ◌∙◌, ◌∷◌, ◌≡◌, ◌≤◌}
 use Rattle.tds_export.proofs.SomeBytes.{AreBytes-append}
-use Rattle.tds_export.proofs.ReadingGrows.{text_along}
-use Rattle.tds_export.proofs.TextBound.{bounded_along}
-use Rattle.tds_export.proofs.ResponseMeaning.{response_is_spelt}
 use Rattle.tds_export.proofs.PacketOutcomes.{ReaderSide, ended_in_payload, kept_at, refused_in_payload, start, stopped_on_wire}
+use Rattle.tds_export.proofs.Peaks.{bounded, further, reached_broken, reached_stopped, reached_whole, rest_leads}
+use Rattle.tds_export.proofs.TextBound.{bounded_along}
 use Rattle.tds_export.proofs.DeviceFaults.{no_failure}
-use Rattle.tds_export.proofs.Peaks.{bounded, further, rest_leads, reached_broken, reached_stopped, reached_whole}
 use Rattle.tds_export.proofs.AcceptedSucceeds.{outcome_succeeds}
+use Rattle.tds_export.proofs.ResponseMeaning.{response_is_spelt}
+use Rattle.tds_export.proofs.Cuts.{spelt_both}
+use Rattle.tds_export.proofs.ReadingGrows.{text_along}
+use native.Mathlib.Decide.{dec_le}
 
 -- ---- how a run that read stops
 
@@ -122,12 +91,6 @@ exact run delivered e few = let most = run.given.before.areas.limits.max_wire_in
 
 -- ---- where the reader stands
 
-ends_read : (p q : Seen) (bytes : List ℕ) (stop : Stop) → Ends p q bytes stop → (read : List ℕ) × Consumes p.left q.left read
-ends_read p q bytes stop h4 = grind arith
-
-stopped_read : (g : Grammar Part Fault) (from : Part) (p q : Seen) (place : ℕ) (at : Part) (stop : Stop) → StopsReading g from p q place at stop → (read : List ℕ) × Consumes p.left q.left read
-stopped_read g from p q place at stop s = elim s.cause [ inl r ↦ (r.0.takes.0, r.0.takes.1.0) | inr c ↦ ends_read p q (s.bytes ++ c.part) c.own c.ends ]
-
 -- ---- a run that stopped in writing
 
 -- the longest part of a payload that begins with these bytes has their text, and more of it
@@ -162,31 +125,26 @@ broken run q k at stop side writer x holds gained all =
     let p = subst (Puts (fresh_at run.given) x.middle) x.puts.1 x.puts.2 in
     let y = x.breaks in
     let to = g.add at x.element in
-    let spelt : Spelt g response_start be to = Spelt-append g response_start x.bytes at x.element to x.spelt (Spelt-one g at x.element x.next) in
-    let more = x.ahead ++ (q.future []).bytes in
+    let spelt : Spelt g response_start be to = spelt_both x.spelt (Spelt-one g at x.element x.next) in
     let b = takes_begins l.packet_size l.max_wire f run.input run.left q (be ++ x.ahead) (length be) side.bytes side.left x.takes x.between in
-    let payload_is : payload_of b.packets ≡ be ++ more = b.payload_is ∙ append_assoc be x.ahead (q.future []).bytes in
+    let more = x.ahead ++ (q.future []).bytes in
     let payload = payload_of b.packets in
+    let payload_is : payload ≡ be ++ more = b.payload_is ∙ append_assoc be x.ahead (q.future []).bytes in
     let longest = some_longest g response_start payload in
     let beyond = longest_text run.given.charset l.column_room be more to longest.1 longest.0 spelt (subst (λ v. Longest g response_start v longest.0 longest.1) payload_is longest.2) in
-    let element_some : 0 < length x.element = x.next.some in
-    let element_whole : length x.element ≡ g.size at = x.next.whole in
-    let some : 0 < length be = omega (arith, element_some, length-append x.bytes x.element) in
+    let some : 0 < length be = omega (arith, x.next.some, length-append x.bytes x.element) in
     let last = in_last l.packet_size l.max_wire f (length be) run.input run.left q (be ++ x.ahead) ((be ++ x.ahead) ++ (q.future []).bytes) side.left x.takes b (omega (arith, some, length-append (be ++ x.ahead) (q.future []).bytes, length-append be x.ahead)) in
     let early = some_longest g response_start (payload_of last.before) in
-    let within : early.0 ≤ length (payload_of last.before) = early.2.within in
-    let fewer : length (payload_of last.before) < length be = last.earlier in
     let joined : payload ≡ payload_of last.before ++ payload_of (last.last ∷ []) = ap payload_of (sym last.split) ∙ flat_map-append (λ (v : Packet). v.body) last.before (last.last ∷ []) in
-    let front : take early.0 (payload_of last.before) ≡ take early.0 be = sym (take-append-le early.0 (payload_of last.before) (payload_of (last.last ∷ [])) within) ∙ ap (take early.0) (sym joined ∙ payload_is) ∙ take-append-le early.0 be more (omega (arith, within, fewer)) in
-    let short = earlier_text run.given.charset l.column_room x.bytes x.element at early.1 early.0 x.spelt element_whole (omega (arith, within, fewer)) (subst (λ v. Spelt g response_start v early.1) front early.2.spelt) in
-    let blocks = p.1 + y.1 in
-    let lens = length-append p.0 y.0 in
-    let total : length (text_put run) ≡ 4096 * (blocks + 1) = omega (arith, ap length gained, ap length writer.waiting, length-append run.gained (waiting run), lens, p.3, y.7) in
-    let chunks : length (text_put run) ≡ 4096 * (length run.gained / 4096 + 1) = omega (arith, total, ap length gained, lens, p.3, y.5, y.6) in
-    let before_len : length (text_so_far at) ≡ length p.0 + length x.middle.waiting = ap length p.2.1 ∙ length-append p.0 x.middle.waiting in
-    let passes : length (text_so_far at) < length (text_put run) = omega (arith, before_len, p.3, x.few, total) in
+    let fewer : early.0 < length be = omega (arith, early.2.within, last.earlier) in
+    let front : take early.0 (payload_of last.before) ≡ take early.0 be = sym (take-append-le early.0 (payload_of last.before) (payload_of (last.last ∷ [])) early.2.within) ∙ ap (take early.0) (sym joined ∙ payload_is) ∙ take-append-le early.0 be more (omega (arith, fewer)) in
+    let short = earlier_text run.given.charset l.column_room x.bytes x.element at early.1 early.0 x.spelt x.next.whole fewer (subst (λ v. Spelt g response_start v early.1) front early.2.spelt) in
+    let total : length (text_put run) ≡ 4096 * (p.1 + y.1 + 1) = omega (arith, ap length gained, ap length writer.waiting, length-append run.gained (waiting run), length-append p.0 y.0, p.3, y.7) in
+    let chunks : length (text_put run) ≡ 4096 * (length run.gained / 4096 + 1) = omega (arith, total, ap length gained, length-append p.0 y.0, p.3, y.5, y.6) in
+    let passes : length (text_so_far at) < length (text_put run) = omega (arith, ap length p.2.1, length-append p.0 x.middle.waiting, p.3, x.few, total) in
     let text_more : (text_put run) ++ (drop y.2 x.more ++ beyond.0) ≡ text_so_far longest.1 =
     sym (append_assoc (text_put run) (drop y.2 x.more) beyond.0) ∙ ap (λ v. (v ++ drop y.2 x.more) ++ beyond.0) all ∙ ap (λ v. v ++ beyond.0) (append_assoc (text_so_far at) (take y.2 x.more) (drop y.2 x.more) ∙ ap (λ v. text_so_far at ++ v) (take-append-drop y.2 x.more) ∙ x.text_is) ∙ beyond.1 in
+    let comes : Comes run b.packets (length be) to = record { within = omega (arith, ap length payload_is, length-append be more); spelt = rw (ap (take (length be)) payload_is ∙ take-append_seam be more) spelt } in
     record {
       packets = b.packets;
       place = longest.0;
@@ -199,12 +157,7 @@ broken run q k at stop side writer x holds gained all =
       begins = text_more;
       needed = inr (last.before, last.last, early.0, early.1, last.split, early.2, chunks, omega (arith, short, passes));
       failed = subst (Rose run.given.before.writer.failures) (sym (y.9 ∙ ap one_more p.4) ∙ writer.failures) (rose run.given.before.writer.failures);
-      kept = (
-        length be,
-        to,
-        record { within = omega (arith, ap length payload_is, length-append be more); spelt = subst (λ v. Spelt g response_start v to) (sym (ap (take (length be)) payload_is ∙ take-append_seam be more)) spelt },
-        subst (λ a. IsKept a to.tokens to.at (drop (length be) payload)) (sym side.description) (kept_at run.given.after.areas.description to.tokens to.at (drop (length be) payload) holds.bytes),
-      );
+      kept = (length be, to, comes, rw side.description (kept_at run.given.after.areas.description to.tokens to.at (drop (length be) payload) holds.bytes));
     }
 
 -- ---- a run that read the whole response
@@ -320,7 +273,7 @@ module _ (given : Given) (input left : List ℕ) (q : Seen) (stop : Stop) (are :
 
 -- what a run that stopped read
 stops_read : (g : Grammar Part Fault) (a q : Seen) (h k : Held) (area : Space) (failed : Bool) (stop : Stop) → RunStops g response_start a q 0 h k area failed stop → (read : List ℕ) × Consumes a.left q.left read
-stops_read g a q h k area failed stop h8 = grind (arith, stopped_read)
+stops_read g a q h k area failed stop h8 = grind arith
 
 pub stop_tells : (given : Given) (stopped : Stopped) → StopsExport given stopped → Tells given (Err stopped)
 unfolding Tells
@@ -348,7 +301,7 @@ report_tells given report x = λ input are e.
     let whole = whole_message_of run x.seen area (fresh_at given) y.middle (reader_side given input left.0 d.gained x.seen are left.1 x.reader) y.whole in
     let empty : waiting run ≡ [] = sym x.writer.waiting ∙ y.finishes.2 in
     let same : text_put run ≡ text tokens = d.all ∙ append-nil (text tokens) in
-    let gained : run.gained ≡ text tokens = sym (append-nil run.gained) ∙ ap (λ w. run.gained ++ w) (sym empty) ∙ same in
+    let gained = sym (append-nil run.gained) ∙ ap (λ w. run.gained ++ w) (sym empty) ∙ same in
     let few = fits_at run whole.packets left.0 (length (payload_of whole.packets)) (after_tokens tokens) (length (text_put run)) are whole.stands.begin whole.stands.within
     (subst (λ v. Spelt (grammar run) response_start v (after_tokens tokens)) (sym (take_payload (payload_of whole.packets))) whole.spelt) (omega (arith, ap length same, ap length (text_after_tokens tokens))) in
     let written : x.held.delivered ≡ length (text tokens) = exact run x.held.delivered d.delivered few ∙ ap length gained in

@@ -1,24 +1,6 @@
 -- Worked payloads.
-use Rattle.std.proofs.Common.{◌≡◌, ℕ, ◌-◌, List, [], ◌∷◌, ◌++◌, length, refl}
-use Rattle.std.specs.Prelude.{Option, Some, None, map, replicate}
-use Rattle.std.specs.Char.{encode_utf8}
-use Rattle.std.specs.Char.Utf16.{utf16_chars}
-use Rattle.std.specs.Fmt.{digits}
-use Rattle.std.specs.Str.{is_utf8, chars}
-use Rattle.std.specs.Str.Lossy.{utf8_valid_len, utf8_error_len}
-use Rattle.uuid.proofs.OnLiterals.{uuid_on_literals}
-use Rattle.hex.specs.Hex.{encode_with}
-use Rattle.tds_export.specs.TokenGrammar.{Part, response, response_start, text_so_far}
-use Rattle.tds_export.specs.Tokens.{is_return, how_many}
-use Rattle.tds_packet.specs.declared.fault.Fault.{Fault}
-use Rattle.tds_packet.specs.declared.fault.Fault.TheVariants.{BadNotice, BadTypeInfo, BadValue, BadValueLength, DescriptionTooLong, EndWithoutDone, MessageEnded, NoColumns, OddText, PlpLength, RefusedColumn, RefusedToken, RowWithoutColumns, UnknownType, BadText}
-use Rattle.tds_rows.specs.declared.Charset.{Charset}
-use Rattle.tds_rows.specs.declared.Charset.TheVariants.{Windows1252, Utf8}
-use Rattle.tds_values.specs.Calendar.{date_of}
-use Rattle.tds_values.specs.TypeInfo.{rest_length, named_kind}
-use Rattle.tds_columns.specs.Description.{refused_kind}
-use Rattle.tds_packet.specs.declared.fault.RefusedKind.TheVariants.{Flt8, FltN}
-use Rattle.tds_packet.proofs.Feeding.{Progress, read, state_of, rest_of, fault_of}
+use Rattle.tds_export.proofs.Words.{BadNotice, BadText, BadTypeInfo, BadValue, BadValueLength, Charset, DescriptionTooLong, EndWithoutDone, Fault, Flt8, FltN, List, MessageEnded, NoColumns, None, OddText, Option, Part, PlpLength, RefusedColumn, RefusedToken, RowWithoutColumns, Some, UnknownType, Utf8, Windows1252, [], chars, date_of, digits, encode_utf8, encode_with, fault_of, how_many, is_return, is_utf8, length, map, named_kind, read, refl, refused_kind, replicate, response, response_start, rest_length, rest_of, rows, state_of, text_so_far, utf16_chars, utf8_error_len, utf8_valid_len, uuid_on_literals, ℕ, ◌++◌, ◌-◌, ◌∷◌, ◌≡◌}
+use Rattle.tds_packet.proofs.Feeding.{Progress}
 
 -- how far a payload is read, its text so far, and its fault where the message ends there
 abbrev pub Answer : Type 0

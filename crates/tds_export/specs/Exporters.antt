@@ -8,7 +8,7 @@ use Rattle.tds_packet.specs.Seen.{Seen, Takes, IsOver}
 use Rattle.tds_columns.specs.View.{IsDescription}
 use Rattle.tds_csv.specs.declared.sink.Sink.{Sink}
 use Rattle.tds_csv.specs.Sinks.{Held, IsWriting, LeavesSink, held}
-use Rattle.tds_rows.specs.declared.Charset.{Charset}
+use Rattle.tds_values.specs.declared.charset.Charset.{Charset}
 use Rattle.tds_export.specs.declared.exporter.Exporter.{Exporter}
 use Rattle.tds_export.specs.declared.progress.Progress.{Progress}
 use Rattle.tds_export.specs.declared.report.Report.{Report}

@@ -7,7 +7,7 @@ use Rattle.tds_packet.specs.declared.fault.Stop.{Stop}
 use Rattle.tds_packet.specs.Elements.{AreBytes}
 use Rattle.tds_packet.specs.Seen.{Seen, begun}
 use Rattle.tds_csv.specs.Sinks.{Adds, Held, fresh}
-use Rattle.tds_rows.specs.declared.Charset.{Charset}
+use Rattle.tds_values.specs.declared.charset.Charset.{Charset}
 use Rattle.tds_export.specs.declared.report.Report.{Report}
 use Rattle.tds_export.specs.declared.report.Stopped.{Stopped}
 use Rattle.tds_export.specs.Moments.{FailsToRead, FailsToWrite, Given, Moment, given_of, grammar_of, limits_of, run_of}

@@ -2,7 +2,7 @@
 use Rattle.std.specs.Prelude.{◌≡◌, ◌↔◌, ◌+◌, ℕ, true, List, ◌++◌, take, drop}
 use Rattle.tds_packet.specs.declared.fault.Fault.{Fault}
 use Rattle.tds_packet.specs.Elements.{AreBytes, Spelt, Longest, IsRefused}
-use Rattle.tds_rows.specs.declared.Charset.{Charset}
+use Rattle.tds_values.specs.declared.charset.Charset.{Charset}
 use Rattle.tds_export.specs.Tokens.{Token, is_final}
 use Rattle.tds_packet.specs.Packets.{Packet}
 use Rattle.tds_export.specs.Response.{Response, Accepted}

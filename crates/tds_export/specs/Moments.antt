@@ -7,7 +7,7 @@ use Rattle.tds_packet.specs.declared.counted.Counted.{Counted}
 use Rattle.tds_packet.specs.declared.fault.Fault.{Fault}
 use Rattle.tds_packet.specs.Devices.{Device, device}
 use Rattle.tds_packet.specs.Elements.{Grammar}
-use Rattle.tds_rows.specs.declared.Charset.{Charset}
+use Rattle.tds_values.specs.declared.charset.Charset.{Charset}
 use Rattle.tds_export.specs.TokenGrammar.{Part, response}
 
 -- what an export has to do with, at a moment

@@ -5,7 +5,7 @@ use Rattle.tds_packet.specs.declared.payload.Payload.{Payload}
 use Rattle.tds_packet.specs.Payloads.{seen}
 use Rattle.tds_packet.specs.Reading.{Reads, StopsReading}
 use Rattle.tds_packet.specs.Seen.{Seen}
-use Rattle.tds_rows.specs.declared.Charset.{Charset}
+use Rattle.tds_values.specs.declared.charset.Charset.{Charset}
 use Rattle.tds_export.specs.Steps.{in_length}
 use Rattle.tds_export.specs.TokenBytes.{Bodied}
 use Rattle.tds_export.specs.TokenGrammar.{Part, TokenBody, bodied, is_notice, response, with_token}

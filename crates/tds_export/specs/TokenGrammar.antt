@@ -2,7 +2,7 @@
 use Rattle.std.specs.Prelude.{◌≡◌, ◌==◌, ◌&&◌, ◌+◌, ◌*◌, ◌≤◌, ℕ, Bool, true, false, not, List, [], ◌∷◌, ◌++◌, length, take, drop, max, Option, Some, None, if◌then◌else◌, nat_lt, nat_le, slice_index}
 use Rattle.tds_values.specs.Numbers.{little}
 use Rattle.tds_columns.specs.Description.{Column, DescriptionPart, BeforeCount, NoDescription, WholeDescription, described_size, described_fault, add_described, span}
-use Rattle.tds_rows.specs.declared.Charset.{Charset}
+use Rattle.tds_values.specs.declared.charset.Charset.{Charset}
 use Rattle.tds_rows.specs.Rows.{RowPart, WholeRow, row_start, nbc_row_start, row_size, row_fault, row_add, row_so_far}
 use Rattle.tds_packet.specs.Elements.{Grammar}
 use Rattle.tds_packet.specs.declared.fault.Fault.{Fault}

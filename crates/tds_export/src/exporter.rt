@@ -21,7 +21,8 @@ use tds_columns::{Columns, Described, gather};
 use tds_csv::{Sink, utf16_into};
 use tds_meter::Area;
 use tds_packet::{Fault, Payload, Place, Stop};
-use tds_rows::{Charset, read_nbc_rows, read_rows};
+use tds_rows::{read_nbc_rows, read_rows};
+use tds_values::Charset;
 
 /// How many bytes follow the token byte of a DONE, DONEPROC or DONEINPROC: Status, CurCmd and DoneRowCount.
 const DONE_FIELDS: usize = 12;

@@ -72,4 +72,4 @@ mod tokens;
 
 pub use report::{Report, ServerError, Stopped};
 pub use run::export;
-pub use tds_rows::Charset;
+pub use tds_values::Charset;

@@ -42,7 +42,7 @@ pub fn export<R: Read, W: Write>(
     areas: &mut Areas,
     from: &mut Counted<R>,
     to: &mut Counted<W>,
-    charset: tds_rows::Charset,
+    charset: tds_values::Charset,
 ) -> Result<Report, Stopped>
     requires { IsTrue (is_intact areas.old) }
     ensures intact { IsTrue (is_intact areas.new) }

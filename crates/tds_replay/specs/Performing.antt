@@ -7,7 +7,7 @@ use Rattle.tds_packet.specs.declared.answer.Recut.{Recut as Recutting}
 use Rattle.tds_packet.specs.declared.answer.RecutStop.{RecutStop}
 use Rattle.tds_packet.specs.declared.counted.Counted.{Counted}
 use Rattle.tds_packet.specs.Recutting.{Recuts}
-use Rattle.tds_rows.specs.declared.Charset.{Charset}
+use Rattle.tds_values.specs.declared.charset.Charset.{Charset}
 use Rattle.tds_export.specs.declared.report.Report.{Report}
 use Rattle.tds_export.specs.declared.report.Stopped.{Stopped}
 use Rattle.tds_export.specs.Exports.{Exports}

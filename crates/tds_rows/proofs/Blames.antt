@@ -1,21 +1,6 @@
 -- Where a call stops with the fault of a device, that device failed in it.
-use Rattle.std.proofs.Common.{arith, ◌≡◌, ◌∙◌, ◌⊎◌, inl, inr, ℕ, ◌%◌, Bool, false, List, sym, ap, subst}
-use Rattle.std.specs.Prelude.{◌==◌, ◌||◌, nat_le, Option, Some, None, Result, Err, IfErr, ⊤, if◌then◌else◌}
-use Rattle.tds_meter.specs.Counts.{one_more}
-use Rattle.tds_packet.specs.declared.fault.Fault.{Fault}
-use Rattle.tds_packet.specs.declared.fault.Fault.TheVariants.{BadText, OddText, PlpLength, ReadFailed, WriteFailed}
-use Rattle.tds_packet.specs.declared.fault.Stop.{Stop}
+use Rattle.tds_rows.proofs.Words.{arith, ◌≡◌, ◌∙◌, ◌⊎◌, inl, inr, ℕ, Bool, false, List, sym, ap, subst, Result, Err, Option, Some, None, IfErr, ⊤, one_more, Fault, BadText, ReadFailed, WriteFailed, Stop, seen, Seen, ends_blame, JoinFault, Sink, EndsBy, Pushes, Breaks, Held, PutsPiece, Blames, Failures, StopBlames, failures_with, CutsNumber, RefusesNumber, chunk_length_fault, end_fault, join_stop, short_fault, total_fault}
 use Rattle.tds_packet.specs.declared.payload.Payload.{Payload}
-use Rattle.tds_packet.specs.Payloads.{seen}
-use Rattle.tds_packet.specs.Seen.{Seen}
-use Rattle.tds_packet.proofs.WireFaults.{ends_blame}
-use Rattle.tds_csv.specs.declared.joiners.JoinFault.{JoinFault}
-use Rattle.tds_csv.specs.declared.sink.Sink.{Sink}
-use Rattle.tds_csv.specs.Pushing.{EndsBy, Pushes}
-use Rattle.tds_csv.specs.Sinks.{Breaks, Held, PutsPiece}
-use Rattle.tds_rows.specs.Blames.{Blames, Failures, StopBlames, failures_with}
-use Rattle.tds_rows.specs.Cells.{is_total, unknown_total, unless}
-use Rattle.tds_rows.specs.LongCells.{CutsNumber, RefusesNumber, chunk_length_fault, end_fault, join_stop, short_fault, total_fault}
 
 pub same_failures : (a b c d : ℕ) → a ≡ c → b ≡ d → ◌≡◌ {A = Failures} (record { reads = a; writes = b }) (record { reads = c; writes = d })
 same_failures a b c d e f = λ i. record { reads = e i; writes = f i }
@@ -41,29 +26,17 @@ abbrev NoDevice : Option Fault → Type 0
 NoDevice None = ⊤
 NoDevice (Some fault) = (fault ≡ WriteFailed → ⊥) × (fault ≡ ReadFailed → ⊥)
 
-odd : (column : ℕ) → NoDevice (Some (OddText column))
-odd column = (λ e. cc, λ e. cc)
-
-past : (column : ℕ) → NoDevice (Some (PlpLength column))
-past column = (λ e. cc, λ e. cc)
-
-if_none : (b : Bool) (x y : Option Fault) → NoDevice x → NoDevice y → NoDevice (if b then x else y)
-if_none b x y h k = grind arith
-
-unless_none : (b : Bool) (fault : Fault) → NoDevice (Some fault) → NoDevice (unless b fault)
-unless_none b fault h = grind arith
-
 pub short_none : (column size n : ℕ) → NoDevice (short_fault column size n)
-short_none column size n = unless_none ((n == 0xFFFF) || (n % size == 0)) (OddText column) (odd column)
+short_none column size n = grind arith
 
 pub total_none : (column size n : ℕ) → NoDevice (total_fault column size n)
-total_none column size n = unless_none (nat_le unknown_total n || (n % size == 0)) (OddText column) (odd column)
+total_none column size n = grind arith
 
 end_none : (column size : ℕ) (total : Option ℕ) (sum : ℕ) → NoDevice (end_fault column size total sum)
-end_none column size total sum = if_none (is_total total sum) (unless (sum % size == 0) (OddText column)) (Some (PlpLength column)) (unless_none (sum % size == 0) (OddText column) (odd column)) (past column)
+end_none column size total sum = grind arith
 
 pub chunk_none : (column size : ℕ) (total : Option ℕ) (sum n : ℕ) → NoDevice (chunk_length_fault column size total sum n)
-chunk_none column size total sum n = grind (arith, end_none, if_none, past, unless_none)
+chunk_none column size total sum n = grind (arith, end_none)
 
 -- a length that was refused or cut
 pub length_blames : {R : Type 0} (remaining : R → Option (List ℕ)) (size : ℕ) (fault : ℕ → Option Fault) (old : Payload R) (b : Seen) (stop : Stop) → old.stopped ≡ None → ((n : ℕ) → NoDevice (fault n))
@@ -85,7 +58,7 @@ piece_blames contents reads old new text r going p = grind (arith, write_stops)
 
 -- a fault of the text names no device
 bad_text : (old new : Failures) (column : ℕ) (stop : Stop) → stop.fault ≡ BadText column → StopBlames old new stop
-bad_text old new column stop is = (λ e. absurd (let no : BadText column ≡ ReadFailed = sym is ∙ e in cc), λ e. absurd (let no : BadText column ≡ WriteFailed = sym is ∙ e in cc))
+bad_text old new column stop is = grind arith
 
 pub push_blames : (begins : List ℕ → Type 0) (rest text : List ℕ → List ℕ) (w w' : List ℕ) (h i : Held) (failed : Bool) (piece : List ℕ) (column place : ℕ) (reads reads' : ℕ) (fault : JoinFault) → failed ≡ false
     → Pushes {U = Unit {0}} begins rest text w w' h i failed piece (Err fault) → StopBlames (record { reads = reads; writes = h.failures }) (record { reads = reads'; writes = i.failures }) (join_stop column place fault)

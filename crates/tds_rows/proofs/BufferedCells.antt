@@ -1,33 +1,6 @@
 -- Cells whose bytes lie together, and the room that a sink lends for their text.
-use Rattle.std.proofs.Common.{◌≡◌, ◌≢◌, ◌∙◌, ℕ, ◌+◌, ◌-◌, ◌^◌, ◌<◌, ◌≤◌, Bool, true, false, List, [], ◌++◌, length, take, drop, Result, Ok, Err, MatchResult, inr, refl, sym, ap, subst, arith, length-take, length-drop}
-use Rattle.std.specs.Prelude.{None, Some, Option, ◌==◌, ◌||◌, is_ok, slice_index, if◌then◌else◌}
-use Rattle.std.proofs.lemmas.Bool.{ne_eqb}
-use Rattle.std.proofs.lemmas.List.{length-take-le}
-use lib.Seq.{take-add}
-use Rattle.tds_values.specs.declared.kind.Kind.{Kind}
-use Rattle.tds_values.specs.declared.kind.Kind.TheVariants.{IntN}
-use Rattle.tds_values.specs.declared.scalar.ScalarValue.{ScalarValue}
-use Rattle.tds_values.specs.Kind.{fixed_length, is_length_allowed, is_scalar}
-use Rattle.tds_values.specs.Scalar.{read_of}
-use Rattle.tds_packet.specs.declared.fault.Fault.TheVariants.{BadValue, BadValueLength}
-use Rattle.tds_packet.specs.declared.fault.Stop.{Stop}
-use Rattle.tds_packet.specs.Elements.{IsNext, Spelt}
-use Rattle.tds_packet.specs.Seen.{Seen, Takes, IsBetween}
-use Rattle.tds_packet.proofs.Choices.{choose_false}
-use Rattle.tds_packet.proofs.ElementLaws.{Spelt-none, Spelt-one}
-use Rattle.tds_csv.specs.Quoting.{null_field}
-use Rattle.tds_meter.specs.Lent.{overwritten}
-use Rattle.tds_csv.specs.declared.sink.Sink.{Sink}
-use Rattle.tds_csv.specs.Sinks.{Breaks, Held, IsWriting, Puts, PutsPiece, held}
-use Rattle.tds_csv.proofs.Spares.{spare_before, spare_written}
-use Rattle.tds_rows.proofs.CellSteps.{fixed_some, scalar_shape}
-use Rattle.tds_rows.proofs.RowSteps.{ReadsCell, at_once_breaks, at_once_streams}
-use Rattle.tds_rows.specs.declared.Charset.{Charset}
-use Rattle.tds_rows.specs.Cells.{CellPart, Null, ScalarBytes, ScalarCell, ScalarLength, WholeCell, cell, cell_start, shape, shape_of_length, unless, value_part}
-use Rattle.tds_rows.specs.CellSteps.{HasInt4, IsScalarLeft, IsValueText, int4_kind, length_after, start_after, value_length, value_start}
-use Rattle.tds_rows.specs.WholeCells.{WritesCell}
-use Rattle.tds_csv.specs.Quoting.{in_line}
-use Rattle.tds_rows.proofs.CellWords.{PutsCell, StopsCell}
+use Rattle.tds_rows.proofs.Words.{◌≡◌, ◌≢◌, ◌∙◌, ℕ, ◌+◌, ◌-◌, ◌<◌, ◌≤◌, Bool, true, false, List, [], ◌++◌, length, take, drop, Result, Ok, Err, MatchResult, inr, refl, sym, ap, arith, ◌∷◌, length-take, length-drop, length-take-le, None, Some, Option, ◌==◌, ◌||◌, is_ok, slice_index, ne_eqb, Kind, IntN, ScalarValue, fixed_length, is_length_allowed, is_scalar, read_of, BadValue, BadValueLength, Stop, IsNext, Seen, Takes, IsBetween, choose_false, Spelt-none, Spelt-one, null_field, in_line, overwritten, Sink, Breaks, Held, IsWriting, Puts, PutsPiece, held, spare_before, spare_written, Charset, CellPart, Null, ScalarBytes, ScalarCell, ScalarLength, WholeCell, cell, cell_start, shape, unless, value_part, HasInt4, IsScalarLeft, IsValueText, int4_kind, length_after, start_after, value_length, value_start, WritesCell, take-add}
+use Rattle.tds_rows.proofs.{CellSteps.fixed_some, CellSteps.scalar_shape, RowSteps.ReadsCell, RowSteps.at_once_breaks, RowSteps.at_once_streams, CellWords.PutsCell, CellWords.StopsCell}
 
 -- a value that is read has a length that is allowed
 read_allowed : (kind : Kind) (bytes : List ℕ) (value : ScalarValue) → read_of kind bytes ≡ Ok value → is_length_allowed kind (length bytes) ≡ true
@@ -50,43 +23,37 @@ fixed_written column kind n last bytes text some within x = record {
   text_is = x.2;
 }
 
-first_of : (bytes : List ℕ) → 1 ≤ length bytes → slice_index (take 1 bytes) 0 ≡ slice_index bytes 0
-first_of bytes h = grind arith
+first_of : (bytes : List ℕ) (n : ℕ) → 1 ≤ length bytes → slice_index bytes 0 ≡ n → take 1 bytes ≡ n ∷ []
+first_of bytes n h is = grind arith
 
 pub null_written : (column : ℕ) (kind : Kind) (last : Bool) (bytes text : List ℕ) → 1 ≤ length bytes → slice_index bytes 0 ≡ 0 → text ≡ in_line column last null_field → WritesCell (ScalarLength kind) column last (take 1 bytes) text
-null_written column kind last bytes text within is text_is =
-    let len : length (take 1 bytes) ≡ 1 = length-take-le 1 bytes within in
-    let zero : slice_index (take 1 bytes) 0 ≡ 0 = first_of bytes within ∙ is in
-    record {
-      value = Null;
-      front = [];
-      at = ScalarLength kind;
-      element = take 1 bytes;
-      joined = refl;
-      spelt = Spelt-none (cell column) (ScalarLength kind);
-      next = record { some = omega (arith, len); whole = len; free = ap (λ (m : ℕ). unless ((m == 0) || is_length_allowed kind m) (BadValueLength column)) zero };
-      whole = ap (λ (m : ℕ). if m == 0 then WholeCell Null else ScalarBytes kind m) zero;
-      quiet = refl;
-      text_is = text_is;
-    }
+null_written column kind last bytes text within is text_is = rw (first_of bytes 0 within is) (record {
+  value = Null;
+  front = [];
+  at = ScalarLength kind;
+  element = 0 ∷ [];
+  joined = refl;
+  spelt = Spelt-none (cell column) (ScalarLength kind);
+  next = record { some = omega arith; whole = refl; free = refl };
+  whole = refl;
+  quiet = refl;
+  text_is = text_is;
+})
 
 pub counted_written : (column : ℕ) (kind : Kind) (n : ℕ) (last : Bool) (bytes text : List ℕ) → slice_index bytes 0 ≡ n → n ≢ 0 → 1 + n ≤ length bytes → IsValueText kind column last (take n (drop 1 bytes)) text
     → WritesCell (ScalarLength kind) column last (take (1 + n) bytes) text
 counted_written column kind n last bytes text is some within x =
-    let len : length (take 1 bytes) ≡ 1 = length-take-le 1 bytes (omega (arith, within)) in
     let whole : length (take n (drop 1 bytes)) ≡ n = omega (arith, within, length-take n (drop 1 bytes), length-drop 1 bytes) in
-    let first : slice_index (take 1 bytes) 0 ≡ n = first_of bytes (omega (arith, within)) ∙ is in
     let good : is_length_allowed kind n ≡ true = ap (is_length_allowed kind) (sym whole) ∙ read_allowed kind (take n (drop 1 bytes)) x.0 x.1 in
     let yes : ((n == 0) || is_length_allowed kind n) ≡ true = ap (λ v. v || is_length_allowed kind n) (ne_eqb n 0 some) ∙ good in
-    let free : (cell column).fault (ScalarLength kind) (take 1 bytes) ≡ None = ap (λ (m : ℕ). unless ((m == 0) || is_length_allowed kind m) (BadValueLength column)) first ∙ ap (λ v. unless v (BadValueLength column)) yes in
-    let to : (cell column).add (ScalarLength kind) (take 1 bytes) ≡ ScalarBytes kind n = ap (λ (m : ℕ). if m == 0 then WholeCell Null else ScalarBytes kind m) first ∙ choose_false (n == 0) (WholeCell Null) (ScalarBytes kind n) (ne_eqb n 0 some) in
+    let to : (cell column).add (ScalarLength kind) (n ∷ []) ≡ ScalarBytes kind n = choose_false (n == 0) (WholeCell Null) (ScalarBytes kind n) (ne_eqb n 0 some) in
     record {
       value = ScalarCell x.0;
-      front = take 1 bytes;
+      front = n ∷ [];
       at = ScalarBytes kind n;
       element = take n (drop 1 bytes);
-      joined = sym (take-add 1 n bytes);
-      spelt = subst (λ v. Spelt (cell column) (ScalarLength kind) (take 1 bytes) v) to (Spelt-one (cell column) (ScalarLength kind) (take 1 bytes) (record { some = omega (arith, len); whole = len; free = free }));
+      joined = sym (take-add 1 n bytes ∙ ap (λ l. l ++ take n (drop 1 bytes)) (first_of bytes n (omega (arith, within)) is));
+      spelt = rw to at (Spelt-one (cell column) (ScalarLength kind) (n ∷ []) (record { some = omega arith; whole = refl; free = ap (λ v. unless v (BadValueLength column)) yes }));
       next = value_next column kind n (take n (drop 1 bytes)) x.0 (omega (arith, some)) whole x.1;
       whole = ap (λ r. value_part r) x.1;
       quiet = refl;
@@ -107,15 +74,12 @@ module _ (charset : Charset) (kind : Kind) (column : ℕ) (last : Bool) (bytes t
       go (Some m) e =
           let none : start ≡ 0 = at ∙ ap start_after e in
           let all : n ≡ m = many ∙ ap (λ o. length_after o bytes) e in
-          subst (λ s. WritesCell (cell_start kind s) column last (take (start + n) bytes) text) (ap shape_of_length (sym e) ∙ sym (scalar_shape charset kind scalar))
-          (subst (λ (k : ℕ). WritesCell (ScalarBytes kind m) column last (take k bytes) text) (omega (arith, none, all)) (fixed_written column kind m last bytes text (omega (arith, some, all)) (omega (arith, within, none, all))
-          (subst (λ (k : ℕ). IsValueText kind column last (take k bytes) text) all (subst (λ (k : ℕ). IsValueText kind column last (take n (drop k bytes)) text) none is))))
+          let whole : start + n ≡ m = omega (arith, none, all) in
+          rw (scalar_shape charset kind scalar, e, whole) (fixed_written column kind m last bytes text (omega (arith, some, all)) (omega (arith, within, none, all)) (rw (none, all) at is))
       go None e =
           let one : start ≡ 1 = at ∙ ap start_after e in
           let first : slice_index bytes 0 ≡ n = sym (ap (λ o. length_after o bytes) e) ∙ sym many in
-          subst (λ s. WritesCell (cell_start kind s) column last (take (start + n) bytes) text) (ap shape_of_length (sym e) ∙ sym (scalar_shape charset kind scalar))
-          (subst (λ (k : ℕ). WritesCell (ScalarLength kind) column last (take k bytes) text) (omega (arith, one)) (counted_written column kind n last bytes text first some (omega (arith, within, one))
-          (subst (λ (k : ℕ). IsValueText kind column last (take n (drop k bytes)) text) one is)))
+          rw (scalar_shape charset kind scalar, e, one) (counted_written column kind n last bytes text first some (omega (arith, within, one)) (rw one at is))
 
 -- a whole number of four bytes there
 pub int4_cell : (charset : Charset) (start column : ℕ) (last : Bool) (bytes text : List ℕ) → start ≤ 1 → HasInt4 start bytes → IsValueText (IntN 4) column last (take 4 (drop start bytes)) text
@@ -126,7 +90,7 @@ int4_cell charset start column last bytes text most h x = grind (arith, value_ce
 pub refused_left : (kind : Kind) (bytes : List ℕ) (start n : ℕ) → start ≡ value_start kind → n ≡ value_length kind bytes → n ≢ 0 → is_ok (read_of kind (take ((start + n) - start) (drop start bytes))) ≡ false → IsScalarLeft kind bytes
 refused_left kind bytes start n at many some bad =
     let after : (start + n) - start ≡ value_length kind bytes = omega (arith, many) in
-    inr (omega (arith, some, many), subst (λ (m : ℕ). is_ok (read_of kind (take (value_length kind bytes) (drop m bytes))) ≡ false) at (subst (λ (m : ℕ). is_ok (read_of kind (take m (drop start bytes))) ≡ false) after bad))
+    inr (omega (arith, some, many), rw (after, at) at bad)
 
 -- bytes that are a cell were read
 pub cell_reads : (from : CellPart) (column : ℕ) (last : Bool) (a b : Seen) (place place' : ℕ) (bytes text : List ℕ) → WritesCell from column last bytes text → Takes a b bytes (length bytes) → IsBetween b → place' ≡ place + length bytes
@@ -156,18 +120,12 @@ module _ (h j : Held) (room written : List ℕ) (n : ℕ) (whole : length writte
   pub kept_text : {U : Type 0} (r : Result U Stop) (made : ℕ) → MatchResult r (λ _. Puts lent_held j (take made (drop n lent))) (λ stop. Breaks lent_held j (take made (drop n lent)) stop) → MatchResult r (λ _. Puts h j (take made written)) (λ stop. Breaks h j (take made written) stop)
   kept_text r made x = grind (arith, after, same)
 
--- a cell whose text comes at once was read, and the text put, or a write of it failed
-pub puts_cell : {U : Type 0} (r : Result U Stop) (charset : Charset) (kind : Kind) (column : ℕ) (last : Bool) (a b : Seen) (place place' : ℕ) (h j : Held) (failed : Bool) (text : List ℕ) → h.delivered ≤ 2 ^ 64 - 1 → length h.waiting < 4096 → failed ≡ (if is_ok r then false else true)
-    → ReadsCell (cell_start kind (shape charset kind)) column last a b place place' text → MatchResult r (λ _. Puts h j text) (λ stop. Breaks h j text stop)
-    → MatchResult r (λ _. PutsCell charset kind column last a b place place' h j) (λ stop. StopsCell charset kind column last a b place h j failed stop)
-puts_cell (Ok u) charset kind column last a b place place' h j failed text d few is y x = record { value = y.value; streams = at_once_streams kind (shape charset kind) column last a b place place' h j text y x; place_is = y.place_is }
-puts_cell (Err stop) charset kind column last a b place place' h j failed text d few is y x = record { at = y.at; cause = inr (at_once_breaks kind (shape charset kind) column last a b place place' h j text stop d few y x, is) }
-
--- so it was, by one call of the sink
+-- a cell whose text comes at once was read, and the text put by one call of the sink, or a write of it failed
 pub put_cell : {W U : Type 0} (r : Result U Stop) (charset : Charset) (kind : Kind) (column : ℕ) (last : Bool) (a b : Seen) (place place' : ℕ) (contents : W → Option (List ℕ)) (old new : Sink W) (text : List ℕ) → IsWriting old
     → ReadsCell (cell_start kind (shape charset kind)) column last a b place place' text → PutsPiece contents old new text r
     → MatchResult r (λ _. PutsCell charset kind column last a b place place' (held contents old) (held contents new)) (λ stop. StopsCell charset kind column last a b place (held contents old) (held contents new) new.failed stop)
 put_cell (Ok u) charset kind column last a b place place' contents old new text going y x =
-    puts_cell (Ok u) charset kind column last a b place place' (held contents old) (held contents new) new.failed text going.ready.2 (going.ready.1 going.writing) x.failed y x.gives
-put_cell {U = U} (Err stop) charset kind column last a b place place' contents old new text going y x =
-    puts_cell {U = U} (Err stop) charset kind column last a b place place' (held contents old) (held contents new) new.failed text going.ready.2 (going.ready.1 going.writing) x.failed y (x.gives going.writing)
+    record { value = y.value; streams = at_once_streams kind (shape charset kind) column last a b place place' (held contents old) (held contents new) text y x.gives; place_is = y.place_is }
+put_cell (Err stop) charset kind column last a b place place' contents old new text going y x =
+    let breaks = at_once_breaks kind (shape charset kind) column last a b place place' (held contents old) (held contents new) text stop going.ready.2 (going.ready.1 going.writing) y (x.gives going.writing) in
+    record { at = y.at; cause = inr (breaks, x.failed) }

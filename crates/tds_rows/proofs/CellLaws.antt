@@ -1,24 +1,5 @@
 -- What a cell's spelling is read as.
-use Rattle.std.proofs.Common.{◌≡◌, ◌⊎◌, ℕ, suc, ◌+◌, ◌-◌, ◌/◌, ◌%◌, ◌<◌, ◌≤◌, Bool, true, List, [], ◌∷◌, ◌++◌, length, replicate, refl, sym, ◌∙◌, ap, subst, inl, inr, append_assoc, append-nil, arith, rules, length-append}
-use Rattle.std.specs.Prelude.{Option, Some, None, ◌==◌, ◌&&◌, ◌||◌, nat_le, nat_lt, Ok, is_ok, if◌then◌else◌}
-use Rattle.std.specs.List.{concat}
-use Rattle.std.proofs.lemmas.Bool.Decides.{nat_tests}
-use Rattle.std.proofs.lemmas.Bool.{ne_eqb, and_from, or_left, or_right}
-use Rattle.tds_values.specs.declared.kind.Kind.{Kind}
-use Rattle.tds_values.specs.declared.kind.Reach.TheVariants.{Short, Chunked}
-use Rattle.tds_values.specs.declared.scalar.ScalarValue.{ScalarValue}
-use Rattle.tds_values.specs.Numbers.{little}
-use Rattle.tds_values.specs.Kind.{is_length_allowed}
-use Rattle.tds_values.specs.Scalar.{read_of}
-use Rattle.tds_csv.specs.Conversion.{Conversion, unit, is_fit, is_begun}
-use Rattle.tds_csv.proofs.ConversionLaws.{fit_units, fit_begins}
-use Rattle.tds_packet.specs.Elements.{Spelt}
-use Rattle.tds_packet.specs.declared.fault.Fault.{Fault}
-use Rattle.tds_packet.specs.declared.fault.Fault.TheVariants.{BadValue, BadValueLength, BadText, OddText, PlpLength}
-use Rattle.tds_packet.proofs.ElementLaws.{Spelt-step, Spelt-append}
-use Rattle.tds_rows.specs.Cells.{Cell, Null, ScalarCell, DataCell, Shape, FixedShape, CountedShape, LongShape, SpellsChunk, SpellsChunks, SpellsChunked, SpellsShort, SpellsCell, ScalarBytes, ScalarLength, ShortLength, ShortData, Total, ChunkLength, ChunkData, WholeCell, cell_start, cell, unless, within_total, is_total, end_of_chunks, value_part, known_total, unknown_total, null_total}
-use Rattle.tds_packet.proofs.Choices.{choose_false, choose_true, test_lt}
-use Rattle.tds_columns.proofs.ByteLemmas.{little-two}
+use Rattle.tds_rows.proofs.Words.{◌≡◌, ◌⊎◌, ℕ, suc, ◌+◌, ◌-◌, ◌/◌, ◌%◌, ◌<◌, ◌≤◌, Bool, true, List, [], ◌∷◌, ◌++◌, length, replicate, refl, sym, ◌∙◌, ap, subst, inl, inr, append_assoc, append-nil, arith, rules, length-append, Ok, Option, Some, None, ◌==◌, ◌&&◌, ◌||◌, nat_le, nat_lt, is_ok, if◌then◌else◌, concat, nat_tests, ne_eqb, and_from, or_left, or_right, Kind, Short, Chunked, ScalarValue, little, is_length_allowed, read_of, Conversion, unit, is_fit, is_begun, fit_units, fit_begins, Spelt, Fault, BadValue, BadValueLength, BadText, OddText, PlpLength, Spelt-step, Spelt-append, Cell, Null, ScalarCell, DataCell, Shape, FixedShape, CountedShape, LongShape, SpellsChunk, SpellsChunks, SpellsChunked, SpellsShort, SpellsCell, ScalarBytes, ScalarLength, ShortLength, ShortData, Total, ChunkLength, ChunkData, WholeCell, cell_start, cell, unless, within_total, is_total, end_of_chunks, value_part, known_total, unknown_total, null_total, choose_false, choose_true, test_lt, little-two}
 
 -- a fixed shape has bytes
 abbrev pub HasBytes : Shape → Type 0
@@ -95,21 +76,18 @@ module _ (column : ℕ) where
   -- the chunks and the terminator
   chunks_cell : (c : Conversion) (total : Option ℕ) (d : List ℕ) (ds : List (List ℕ)) (bytes : List ℕ) → ((n : ℕ) → n ≤ length (d ++ concat ds) → within_total total n ≡ true) → is_total total (length (d ++ concat ds)) ≡ true → is_fit c (d ++ concat ds) ≡ true → SpellsChunks ds bytes → Spelt (cell column) (ChunkLength c total d) bytes (WholeCell (DataCell c (d ++ concat ds)))
   chunks_cell c total d [] bytes w t f s =
-      let e : d ++ [] ≡ d = append-nil d in
-      let tt' : is_total total (length d) ≡ true = rw e at t in
-      let ff : is_fit c d ≡ true = rw e at f in
+      let whole : is_total total (length d) ≡ true = rw (append-nil d) at t in
+      let fit : is_fit c d ≡ true = rw (append-nil d) at f in
       let end : end_of_chunks column c total d ≡ None =
-      choose_true _ (if length d % unit c == 0 then unless (is_fit c d) (BadText column) else Some (OddText column)) (Some (PlpLength column)) tt'
-      ∙ choose_true _ (unless (is_fit c d) (BadText column)) (Some (OddText column)) (ap (λ n. n == 0) (fit_units c d ff)) ∙ unless_true _ _ ff in
-      let last : Spelt (cell column) (ChunkLength c total d) (0 ∷ 0 ∷ 0 ∷ 0 ∷ []) (WholeCell (DataCell c d)) = Spelt-step (cell column) _ _ _ (omega arith) refl end refl in
-      subst (λ v. Spelt (cell column) (ChunkLength c total d) v (WholeCell (DataCell c (d ++ [])))) (sym s) (subst (λ v. Spelt (cell column) (ChunkLength c total d) (0 ∷ 0 ∷ 0 ∷ 0 ∷ []) (WholeCell (DataCell c v))) (sym e) last)
+      choose_true _ (if length d % unit c == 0 then unless (is_fit c d) (BadText column) else Some (OddText column)) (Some (PlpLength column)) whole
+      ∙ choose_true _ (unless (is_fit c d) (BadText column)) (Some (OddText column)) (ap (λ n. n == 0) (fit_units c d fit)) ∙ unless_true _ _ fit in
+      rw (s, append-nil d) (Spelt-step (cell column) (ChunkLength c total d) (0 ∷ 0 ∷ 0 ∷ 0 ∷ []) (WholeCell (DataCell c d)) (omega arith) refl end refl)
   chunks_cell c total d (x ∷ xs) bytes w t f s =
       let a : (d ++ x) ++ concat xs ≡ d ++ (x ++ concat xs) = append_assoc d x (concat xs) in
       let l : length (d ++ (x ++ concat xs)) ≡ length d + (length x + length (concat xs)) = rw length-append (rw length-append refl) in
-      let one : Spelt (cell column) (ChunkLength c total d) s.0 (ChunkLength c total (d ++ x)) = chunk_cell c total d x s.0 (concat xs) (rw a f) (w (length d + length x) (omega (arith, l))) s.3 in
-      let more : Spelt (cell column) (ChunkLength c total (d ++ x)) s.1 (WholeCell (DataCell c ((d ++ x) ++ concat xs))) = chunks_cell c _ _ xs s.1 (rw a w) (rw a t) (rw a f) s.4 in
-      subst (λ v. Spelt (cell column) (ChunkLength c total d) v (WholeCell (DataCell c (d ++ (x ++ concat xs))))) (sym s.2)
-      (Spelt-append (cell column) _ s.0 _ s.1 _ one (subst (λ v. Spelt (cell column) (ChunkLength c total (d ++ x)) s.1 (WholeCell (DataCell c v))) a more))
+      let one = chunk_cell c total d x s.0 (concat xs) (rw a f) (w (length d + length x) (omega (arith, l))) s.3 in
+      let more = rw a at (chunks_cell c total (d ++ x) xs s.1 (rw a w) (rw a t) (rw a f) s.4) in
+      rw s.2 (Spelt-append (cell column) (ChunkLength c total d) s.0 (ChunkLength c total (d ++ x)) s.1 (WholeCell (DataCell c (d ++ (x ++ concat xs)))) one more)
 
   -- the total
   total_cell : (c : Conversion) (total : List ℕ) → length total ≡ 8 → little total < null_total → (nat_le unknown_total (little total) || (little total % unit c == 0)) ≡ true → Spelt (cell column) (Total c) total (ChunkLength c (known_total (little total)) [])
@@ -117,20 +95,19 @@ module _ (column : ℕ) where
       (unless_true _ _ even) (choose_false _ (WholeCell Null) (ChunkLength c (known_total (little total)) []) (ne_eqb (little total) null_total (λ e. omega arith)))
 
   chunked_cell : (c : Conversion) (d bytes : List ℕ) → is_fit c d ≡ true → SpellsChunked d bytes → Spelt (cell column) (Total c) bytes (WholeCell (DataCell c d))
-  chunked_cell c d bytes f s = subst (λ v. Spelt (cell column) (Total c) v (WholeCell (DataCell c d))) (sym s.spelt) (go s.known)
+  chunked_cell c d bytes f s = rw s.spelt (go s.known)
     where
+      from : (t : Option ℕ) → known_total (little s.total) ≡ t → little s.total < null_total → (nat_le unknown_total (little s.total) || (little s.total % unit c == 0)) ≡ true → ((n : ℕ) → n ≤ length d → within_total t n ≡ true) → is_total t (length d) ≡ true → Spelt (cell column) (Total c) (s.total ++ s.rest) (WholeCell (DataCell c d))
+      from t known less even within whole =
+          let head = rw known at (total_cell c s.total s.eight less even) in
+          let more = rw s.all at (chunks_cell c t [] s.chunks s.rest (rw s.all within) (rw s.all whole) (rw s.all f) s.each) in
+          Spelt-append (cell column) (Total c) s.total (ChunkLength c t []) s.rest (WholeCell (DataCell c d)) head more
+
       go : (little s.total ≡ unknown_total) ⊎ ((little s.total ≡ length d) × (length d < unknown_total)) → Spelt (cell column) (Total c) (s.total ++ s.rest) (WholeCell (DataCell c d))
-      go (inl u) =
-          let none : known_total (little s.total) ≡ None = ap (λ n. known_total n) u in
-          let head : Spelt (cell column) (Total c) s.total (ChunkLength c None []) = subst (λ v. Spelt (cell column) (Total c) s.total (ChunkLength c v [])) none (total_cell c s.total s.eight (omega arith) (rw u refl)) in
-          let more : Spelt (cell column) (ChunkLength c None []) s.rest (WholeCell (DataCell c (concat s.chunks))) = chunks_cell c None [] s.chunks s.rest (λ n h. refl) refl (rw s.all f) s.each in
-          Spelt-append (cell column) (Total c) s.total (ChunkLength c None []) s.rest (WholeCell (DataCell c d)) head (subst (λ v. Spelt (cell column) (ChunkLength c None []) s.rest (WholeCell (DataCell c v))) s.all more)
+      go (inl u) = from None (ap (λ n. known_total n) u) (omega arith) (rw u refl) (λ n h. refl) refl
       go (inr k) =
-          let known : known_total (little s.total) ≡ Some (length d) = ap (λ n. known_total n) k.0 ∙ is_known (length d) k.1 in
           let even : (little s.total % unit c == 0) ≡ true = ap (λ n. n % unit c == 0) k.0 ∙ ap (λ n. n == 0) (fit_units c d f) in
-          let head : Spelt (cell column) (Total c) s.total (ChunkLength c (Some (length d)) []) = subst (λ v. Spelt (cell column) (Total c) s.total (ChunkLength c v [])) known (total_cell c s.total s.eight (omega arith) (or_right (nat_le unknown_total (little s.total)) (little s.total % unit c == 0) even)) in
-          let more : Spelt (cell column) (ChunkLength c (Some (length d)) []) s.rest (WholeCell (DataCell c (concat s.chunks))) = chunks_cell c (Some (length d)) [] s.chunks s.rest (λ n h. within_known (length d) n (rw s.all at h)) (rw s.all (is_total_known (length d))) (rw s.all f) s.each in
-          Spelt-append (cell column) (Total c) s.total (ChunkLength c (Some (length d)) []) s.rest (WholeCell (DataCell c d)) head (subst (λ v. Spelt (cell column) (ChunkLength c (Some (length d)) []) s.rest (WholeCell (DataCell c v))) s.all more)
+          from (Some (length d)) (ap (λ n. known_total n) k.0 ∙ is_known (length d) k.1) (omega arith) (or_right (nat_le unknown_total (little s.total)) (little s.total % unit c == 0) even) (within_known (length d)) (is_total_known (length d))
 
   -- What spells a cell is read as that cell.
   pub cell_is_read : (kind : Kind) (sh : Shape) (x : Cell) (bytes : List ℕ) → HasBytes sh → SpellsCell kind sh x bytes → Spelt (cell column) (cell_start kind sh) bytes (WholeCell x)

@@ -1,26 +1,5 @@
 -- What the bytes that lead to a part of a cell spell.
-use Rattle.std.proofs.Common.{◌≡◌, ◌≢◌, ◌⊎◌, ℕ, ◌+◌, ◌-◌, ◌/◌, ◌%◌, ◌^◌, ◌<◌, Bool, true, List, [], ◌∷◌, ◌++◌, length, replicate, refl, sym, ◌∙◌, ap, subst, append_assoc, append-nil, arith, length-append}
-use Rattle.std.specs.Prelude.{Option, Some, None, ◌==◌, ◌&&◌, ◌||◌, nat_lt, Result, Ok, is_ok, slice_index, if◌then◌else◌}
-use Rattle.std.specs.List.{concat}
-use Rattle.std.proofs.lemmas.List.Folds.{concat-append}
-use Rattle.std.proofs.lemmas.Bool.Decides.{nat_tests}
-use Rattle.tds_values.specs.declared.kind.Kind.{Kind}
-use Rattle.tds_values.specs.declared.kind.Reach.TheVariants.{Short, Chunked}
-use Rattle.tds_values.specs.declared.scalar.ScalarValue.{ScalarValue}
-use Rattle.tds_values.specs.declared.scalar.ValueFault.{ValueFault}
-use Rattle.tds_values.specs.Numbers.{little}
-use Rattle.tds_values.specs.Kind.{is_length_allowed}
-use Rattle.tds_values.specs.Scalar.{read_of}
-use Rattle.tds_csv.specs.Conversion.{Conversion, unit, is_fit, is_begun}
-use Rattle.tds_csv.proofs.ConversionLaws.{no_data_is_fit}
-use Rattle.tds_packet.specs.Elements.{AreBytes, Spelt, IsNext}
-use Rattle.tds_packet.proofs.ElementLaws.{Spelt-induct, AreBytes-front, AreBytes-back}
-use Rattle.tds_packet.specs.declared.fault.Fault.{Fault}
-use Rattle.tds_packet.specs.declared.fault.Fault.TheVariants.{BadText, OddText, PlpLength}
-use Rattle.tds_rows.specs.Cells.{Cell, Null, ScalarCell, DataCell, Shape, FixedShape, CountedShape, LongShape, SpellsChunk, SpellsChunks, SpellsCell, CellPart, ScalarBytes, ScalarLength, ShortLength, ShortData, Total, ChunkLength, ChunkData, WholeCell, cell_start, cell_add, cell, unless, within_total, is_total, end_of_chunks, chunk_fault, value_part, known_total, unknown_total, null_total}
-use Rattle.std.proofs.lemmas.Bool.{and_parts}
-use Rattle.tds_packet.proofs.Choices.{choose, eq_true, eq_false}
-use Rattle.tds_columns.proofs.ByteLemmas.{one_byte, two_bytes}
+use Rattle.tds_rows.proofs.Words.{◌≡◌, ◌≢◌, ◌⊎◌, ℕ, ◌+◌, ◌-◌, ◌/◌, ◌%◌, ◌^◌, ◌<◌, Bool, true, List, [], ◌∷◌, ◌++◌, length, replicate, refl, sym, ◌∙◌, ap, subst, append_assoc, append-nil, arith, length-append, Result, Ok, Option, Some, None, ◌==◌, ◌&&◌, ◌||◌, nat_lt, is_ok, slice_index, if◌then◌else◌, concat, concat-append, nat_tests, Kind, Short, Chunked, ScalarValue, ValueFault, little, is_length_allowed, read_of, Conversion, unit, is_fit, is_begun, no_data_is_fit, AreBytes, Spelt, IsNext, Spelt-induct, AreBytes-front, AreBytes-back, Fault, BadText, OddText, PlpLength, Cell, Null, ScalarCell, DataCell, Shape, FixedShape, CountedShape, LongShape, SpellsChunk, SpellsChunks, SpellsCell, CellPart, ScalarBytes, ScalarLength, ShortLength, ShortData, Total, ChunkLength, ChunkData, WholeCell, cell_start, cell_add, cell, unless, within_total, is_total, end_of_chunks, chunk_fault, value_part, known_total, unknown_total, null_total, and_parts, choose, eq_true, eq_false, one_byte, two_bytes}
 
 -- a test that gave no fault passed
 pub unless_none : (b : Bool) (f : Fault) → unless b f ≡ None → b ≡ true

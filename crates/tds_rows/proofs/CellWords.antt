@@ -1,16 +1,5 @@
 -- Words on cells that only proofs use.
-use Rattle.std.specs.Prelude.{◌≡◌, ◌==◌, ◌-◌, ◌++◌, ℕ, Bool, List, length, Option, if◌then◌else◌}
-use Rattle.tds_values.specs.declared.kind.Kind.{Kind}
-use Rattle.tds_packet.specs.declared.fault.Stop.{Stop}
-use Rattle.tds_packet.specs.Seen.{Seen}
-use Rattle.tds_columns.specs.Description.{Column}
-use Rattle.tds_csv.specs.Conversion.{Conversion}
-use Rattle.tds_csv.specs.Sinks.{Held}
-use Rattle.tds_rows.specs.declared.Charset.{Charset}
-use Rattle.tds_rows.specs.Cells.{Cell, CellPart, ChunkData, ChunkLength, DataCell, ShortData, WholeCell, cell_start, shape}
-use Rattle.tds_rows.specs.CellSteps.{PutsField, StopsField}
-use Rattle.tds_rows.specs.Rows.{row, row_so_far}
-use Rattle.tds_rows.specs.Runs.{Writes, after_cells}
+use Rattle.tds_rows.proofs.Words.{◌≡◌, ◌-◌, ◌++◌, ℕ, Bool, List, length, ◌==◌, Option, if◌then◌else◌, Kind, Stop, Seen, Column, Conversion, Held, Charset, Cell, CellPart, ChunkData, ChunkLength, DataCell, ShortData, WholeCell, cell_start, shape, PutsField, StopsField, row, row_so_far, Writes, after_cells}
 
 -- A cell of a kind was read, and its text put.
 abbrev pub PutsCell : Charset → Kind → ℕ → Bool → Seen → Seen → ℕ → ℕ → Held → Held → Type 0

@@ -1,34 +1,6 @@
 -- Runs over cells by their forms, a cell after those that were written.
-use Rattle.std.proofs.Common.{◌≡◌, ◌≢◌, ◌∙◌, ℕ, zero, suc, ◌+◌, ◌-◌, ◌<◌, ◌≤◌, Bool, true, false, List, [], ◌∷◌, ◌++◌, length, take, drop, get_or, refl, sym, ap, subst, arith, append-nil, append_assoc, length-append}
-use Rattle.std.specs.Prelude.{◌==◌, ◌&&◌, Option, map, slice_set}
-use Rattle.std.proofs.lemmas.List.{drop_more, length-drop, length-map, length-take, length-take-le, take-append-le, take_all, take_more_set}
-use Rattle.std.proofs.Math.Seq.{take-add}
-use lib.Seq.{drop-drop}
-use Rattle.tds_values.specs.declared.kind.Kind.{Kind}
-use Rattle.tds_packet.proofs.Choices.{eq_false, eq_true}
-use Rattle.tds_columns.specs.Description.{Column}
-use Rattle.tds_columns.proofs.ViewLaws.{all_after}
-use Rattle.tds_csv.specs.Conversion.{Conversion}
-use Rattle.tds_csv.specs.Quoting.{after_comma, end_after, in_line}
-use Rattle.tds_rows.specs.declared.Charset.{Charset}
-use Rattle.tds_rows.specs.declared.form.Form.{Form}
-use Rattle.tds_rows.specs.Cells.{cell_start, shape}
-use Rattle.tds_rows.specs.CellSteps.{IsLeft, WritesField, WritesKind, is_last_column, whole_size}
-use Rattle.tds_rows.specs.FormRuns.{AreNext, FieldsWritten, FirstUsed, FirstWritten, WritesForms}
-use Rattle.tds_rows.specs.MarkedRuns.{WritesColumn, WritesMarked}
-use Rattle.tds_rows.specs.ShortCells.{IsShortLeft}
-use Rattle.tds_rows.specs.WholeCells.{WritesWhole}
-use Rattle.tds_rows.proofs.LineTexts.{after_some_column, after_append}
-use Rattle.tds_rows.proofs.RunSteps.{made_more, used_more}
-use Rattle.tds_rows.proofs.TableSteps.{known_kind, last_one}
-use Rattle.std.proofs.lemmas.Bool.Decides.{nat_tests}
-
--- the first of the first
-pub take_front : {A : Type 0} (k n : ℕ) (l : List A) → k ≤ n → n ≤ length l → take k (take n l) ≡ take k l
-take_front k n l within fits =
-    let front : length (take k l) ≡ k = length-take-le k l (omega (arith, within, fits)) in
-    let split : take n l ≡ take (k + (n - k)) l = ap (λ (m : ℕ). take m l) (omega (arith, within)) in
-    ap (take k) (split ∙ take-add k (n - k) l) ∙ take-append-le k (take k l) (take (n - k) (drop k l)) (omega (arith, front)) ∙ take_all k (take k l) (omega (arith, front))
+use Rattle.tds_rows.proofs.Words.{◌≡◌, ◌≢◌, ◌∙◌, ℕ, zero, suc, ◌+◌, ◌-◌, ◌<◌, ◌≤◌, Bool, true, false, List, [], ◌∷◌, ◌++◌, length, take, drop, get_or, refl, sym, ap, subst, arith, append-nil, append_assoc, length-append, ◌==◌, ◌&&◌, Option, map, slice_set, drop_more, length-map, length-take-le, take-append-le, take_all, take_more_set, get_or_default, length-drop, length-take, take-take, drop-drop, Kind, eq_false, eq_true, Column, all_after, Conversion, after_comma, end_after, in_line, Charset, Form, IsLeft, WritesField, WritesKind, is_last_column, whole_size, AreNext, FieldsWritten, FirstUsed, FirstWritten, WritesForms, WritesColumn, WritesMarked, IsShortLeft, nat_tests}
+use Rattle.tds_rows.proofs.{LineTexts.after_some_column, LineTexts.after_append, RunSteps.made_more, RunSteps.used_more, TableSteps.known_kind, TableSteps.last_one}
 
 not_last : (rest : List Column) → 0 < length rest → false ≡ is_last_column rest
 not_last rest some = grind arith
@@ -60,21 +32,12 @@ module _ (forms : List Form) (ends : Bool) (columns : List Column) (next : AreNe
 
     -- the cell after this many
     next_cell : (charset : Charset) (all : List Column) (column : ℕ) (bytes text : List ℕ) → columns ≡ drop column all → WritesKind charset (get_or forms k d).kind (column + k) (ends && (k + 1 == length forms)) bytes text → WritesColumn charset all (λ k. false) (column + k) bytes text
-    next_cell charset all column bytes text is x =
-        let left = drop (k + 1) columns in
-        let a = subst (λ (v : Bool). WritesWhole (cell_start (get_or forms k d).kind (shape charset (get_or forms k d).kind)) (column + k) v bytes text) (last_of k next_column left within step) x.whole in
-        record {
-          column = next_column;
-          left = left;
-          next = ap (λ (n : ℕ). drop n all) (omega arith) ∙ sym (drop-drop k column all) ∙ ap (drop k) (sym is) ∙ step;
-          writes = subst (λ (q : Kind). WritesWhole (cell_start q (shape charset q)) (column + k) (is_last_column left) bytes text) kind_is a;
-        }
-
--- a form that is there, whatever stands for one that isn't
-same_form : (forms : List Form) (k : ℕ) (d e : Form) → k < length forms → get_or forms k d ≡ get_or forms k e
-same_form [] k d e there = absurd (omega (arith, there))
-same_form (f ∷ fs) zero d e there = refl
-same_form (f ∷ fs) (suc k) d e there = same_form fs k d e (omega (arith, there))
+    next_cell charset all column bytes text is x = record {
+      column = next_column;
+      left = drop (k + 1) columns;
+      next = ap (λ (n : ℕ). drop n all) (omega arith) ∙ sym (drop-drop k column all) ∙ ap (drop k) (sym is) ∙ step;
+      writes = rw (kind_is, last_of k next_column (drop (k + 1) columns) within step) at x.whole;
+    }
 
 -- some forms have a first
 pub some_first : (forms : List Form) → 0 < length forms → (form : Form) × (rest : List Form) × (forms ≡ form ∷ rest)
@@ -117,17 +80,12 @@ pub run_marked : (charset : Charset) (forms : List Form) (column : ℕ) (ends : 
 run_marked charset forms column ends columns next zero bytes fields some few x = absurd (omega (arith, some))
 run_marked charset forms column ends columns next (suc n) bytes fields some few x = fields_marked charset forms column ends columns next (some_first forms (omega (arith, few))).0 n bytes fields few x
 
--- a comma stands before what follows it
-comma_then : (n : ℕ) (text : List ℕ) → after_comma n [] ++ text ≡ after_comma n text
-comma_then n text = sym (after_append n [] text)
-
 -- what stands before the comma of the next cell
 pub before_comma : (made column : ℕ) (to fields : List ℕ) → 0 < column → made ≤ length to → take made to ≡ fields ++ after_comma column [] → take (made - 1) to ≡ fields
 before_comma made column to fields some within is =
     let comma : take made to ≡ fields ++ 44 ∷ [] = is ∙ ap (λ l. fields ++ l) (sym (after_some_column column [] (λ e. omega (arith, e, some)))) in
     let counted : length fields ≡ made - 1 = omega (arith, sym (length-take-le made to within) ∙ ap length comma ∙ length-append fields (44 ∷ [])) in
-    let less : made - 1 ≤ made = omega arith in
-    sym (take_front (made - 1) made to less within) ∙ ap (take (made - 1)) comma ∙ take-append-le (made - 1) fields (44 ∷ []) (omega (arith, counted)) ∙ take_all (made - 1) fields (omega (arith, counted))
+    sym (take-take (made - 1) made to (omega arith)) ∙ ap (take (made - 1)) comma ∙ take-append-le (made - 1) fields (44 ∷ []) (omega (arith, counted)) ∙ take_all (made - 1) fields (omega (arith, counted))
 
 module _ (charset : Charset) (forms : List Form) (column : ℕ) (bytes : List ℕ) where
   -- before the first cell
@@ -143,9 +101,9 @@ module _ (charset : Charset) (forms : List Form) (column : ℕ) (bytes : List �
       let all = take made to ++ (text ++ rest) in
       let here : made + m < length all = omega (arith, some, length-append (take made to) (text ++ rest), length-append text rest, length-take-le made to within) in
       let is' : take (made + m + 1) (slice_set all (made + m) 44) ≡ (fields ++ after_comma (column + k) field) ++ after_comma (column + (k + 1)) [] =
-      take_more_set all (made + m) 44 here ∙ ap (λ l. l ++ 44 ∷ []) (made_more made m to text rest within (omega (arith, some)) ∙ ap (λ l. l ++ field) is ∙ append_assoc fields (after_comma (column + k) []) field ∙ ap (λ l. fields ++ l) (comma_then (column + k) field))
+      take_more_set all (made + m) 44 here ∙ ap (λ l. l ++ 44 ∷ []) (made_more made m to text rest within (omega (arith, some)) ∙ ap (λ l. l ++ field) is ∙ append_assoc fields (after_comma (column + k) []) field ∙ ap (λ l. fields ++ l) (sym (after_append (column + k) [] field)))
       ∙ ap (λ l. (fields ++ after_comma (column + k) field) ++ l) (after_some_column (column + (k + 1)) [] (λ e. omega (arith, e))) in
-      let written : WritesForms charset forms column (suc k) (take (used + u) bytes) (fields ++ after_comma (column + k) field) = (take used bytes, read, fields, field, used_more used u bytes, refl, x, λ form. subst (λ (f : Form). WritesField charset f.kind read field) (same_form forms k d form there) wrote) in
+      let written : WritesForms charset forms column (suc k) (take (used + u) bytes) (fields ++ after_comma (column + k) field) = (take used bytes, read, fields, field, used_more used u bytes, refl, x, λ form. subst (λ (f : Form). WritesField charset f.kind read field) (get_or_default forms k d form there) wrote) in
       (fields ++ after_comma (column + k) field, subst (λ (n : ℕ). WritesForms charset forms column n (take (used + u) bytes) (fields ++ after_comma (column + k) field)) (let n : suc k ≡ k + 1 = omega arith in n) written, is')
 
   -- the bytes of the first cell were used

@@ -1,21 +1,6 @@
 -- What a text that grows is, and what the cells and rows that are read add to it.
-use Rattle.std.proofs.Common.{◌≡◌, ℕ, ◌-◌, Bool, true, false, List, [], ◌∷◌, ◌++◌, length, refl, sym, ◌∙◌, ap, subst, append_assoc, append-nil, arith}
-use Rattle.std.specs.Prelude.{Option, Some, None, ◌==◌, ◌||◌, nat_lt, map, codes, if◌then◌else◌}
-use Rattle.std.proofs.lemmas.List.{map-append}
-use Rattle.tds_csv.specs.Joining.{emit}
-use Rattle.tds_csv.specs.Quoting.{joined, null_field}
-use Rattle.tds_csv.specs.Conversion.{Conversion, closing, conversion_rest, conversion_text, is_fit, is_begun, is_quoted, long_field, open_field}
-use Rattle.tds_csv.proofs.Begun.{open_closes, open_grows}
-use Rattle.tds_csv.proofs.ConversionLaws.{begun_by_test}
-use Rattle.tds_packet.specs.Elements.{IsNext}
-use Rattle.tds_packet.specs.declared.fault.Fault.{Fault}
-use Rattle.std.proofs.lemmas.Bool.{and_parts, or_cases}
-use Rattle.tds_packet.proofs.Choices.{choose, eq_true, lt_true}
-use Rattle.tds_columns.specs.Description.{Column}
+use Rattle.tds_rows.proofs.Words.{◌≡◌, ℕ, ◌-◌, Bool, true, false, List, [], ◌∷◌, ◌++◌, length, refl, sym, ◌∙◌, ap, subst, append_assoc, append-nil, arith, Option, Some, None, ◌==◌, ◌||◌, nat_lt, map, codes, map-append, emit, joined, null_field, Conversion, closing, conversion_rest, conversion_text, is_fit, is_begun, is_quoted, long_field, open_field, open_closes, open_grows, begun_by_test, IsNext, and_parts, or_cases, choose, eq_true, lt_true, Column, Charset, Cell, Null, DataCell, field, shape, CellPart, ShortData, ChunkLength, ChunkData, WholeCell, cell_start, cell_add, cell, field_so_far, chunk_fault, RowPart, Bitmap, InCell, WholeRow, next_cell, with_cell, row_add, row, with_field, row_so_far}
 use Rattle.tds_rows.proofs.CellMeaning.{guard_none, unless_none}
-use Rattle.tds_rows.specs.declared.Charset.{Charset}
-use Rattle.tds_rows.specs.Cells.{Cell, Null, DataCell, field, shape, CellPart, ShortData, ChunkLength, ChunkData, WholeCell, cell_start, cell_add, cell, field_so_far, chunk_fault}
-use Rattle.tds_rows.specs.Rows.{RowPart, Bitmap, InCell, WholeRow, next_cell, with_cell, row_add, row, with_field, row_so_far}
 
 -- the second text begins with the first
 abbrev pub Grows : List ℕ → List ℕ → Type 0
@@ -41,15 +26,11 @@ grows_under x a b h = (h.0, append_assoc x a h.0 ∙ ap (λ v. x ++ v) h.1)
 pub grows_by : (a b : List ℕ) → Grows a (a ++ b)
 grows_by a b = (b, refl)
 
--- a comma and more after a field
-comma : (f rest : List ℕ) → Grows f ((f ++ codes ",") ++ rest)
-comma f rest = (codes "," ++ rest, sym (append_assoc f (codes ",") rest))
-
 -- more fields
 pub joined_more : (fs gs : List (List ℕ)) → Grows (joined fs) (joined (fs ++ gs))
 joined_more [] gs = grows_all (joined gs)
 joined_more (f ∷ []) [] = grows_same f
-joined_more (f ∷ []) (g ∷ gs) = comma f (joined (g ∷ gs))
+joined_more (f ∷ []) (g ∷ gs) = (codes "," ++ joined (g ∷ gs), sym (append_assoc f (codes ",") (joined (g ∷ gs))))
 joined_more (f ∷ h ∷ fs) gs = grows_under (f ++ codes ",") (joined (h ∷ fs)) (joined (h ∷ (fs ++ gs))) (joined_more (h ∷ fs) gs)
 
 -- more of the last field
@@ -83,17 +64,13 @@ long_grows c a h = (conversion_text c (conversion_rest c a) ++ closing (is_quote
 
 -- ---- a cell
 
--- what is chosen by a test that holds gave no fault
-first_none : (b : Bool) (o p : Option Fault) → b ≡ true → (if b then o else p) ≡ None → o ≡ None
-first_none b o p z h = grind arith
-
 -- the last byte of a short value leaves it fit
 pub last_fit : (left : ℕ) (b : Bool) → (nat_lt 0 left || b) ≡ true → (left == 0) ≡ true → b ≡ true
 last_fit left b h z = grind (arith, eq_true, lt_true, or_cases)
 
 -- what ends the chunks leaves the data fit
 pub end_fit : (column : ℕ) (c : Conversion) (total : Option ℕ) (content : List ℕ) (n : ℕ) → chunk_fault column c total content n ≡ None → (n == 0) ≡ true → is_fit c content ≡ true
-end_fit column c total content n h z = grind (arith, first_none, guard_none, unless_none)
+end_fit column c total content n h z = grind (arith, guard_none, unless_none)
 
 module _ (column : ℕ) where
   -- each element of a cell adds to its text
@@ -110,21 +87,17 @@ module _ (column : ℕ) where
 
 -- ---- a row
 
--- one more cell is one more field
-one_more_field : (cells : List Cell) (c : Cell) → map field (cells ++ c ∷ []) ≡ map field cells ++ field c ∷ []
-one_more_field cells c = map-append field cells (c ∷ [])
-
 module _ (charset : Charset) where
   -- the cells to come begin
   next_grows : (cells : List Cell) (ks : List (Column × Bool)) → Grows (joined (map field cells)) (row_so_far (next_cell charset cells ks))
   next_grows cells [] = grows_by _ _
   next_grows cells ((k, true) ∷ ks) =
-      grows_trans _ _ _ (rw (sym (one_more_field cells Null)) at (joined_more (map field cells) (null_field ∷ []))) (next_grows _ ks)
+      grows_trans _ _ _ (rw (sym (map-append field cells (Null ∷ []))) at (joined_more (map field cells) (null_field ∷ []))) (next_grows _ ks)
   next_grows cells ((k, false) ∷ ks) = with_field_grows _ None (field_so_far (cell_start k.kind (shape charset k.kind))) tt
 
   -- a cell in its row
   with_cell_grows : (cells : List Cell) (ks : List (Column × Bool)) (p : CellPart) → Grows (joined (with_field cells (field_so_far p))) (row_so_far (with_cell charset cells ks p))
-  with_cell_grows cells ks (WholeCell c) = subst (λ v. Grows (joined v) (row_so_far (next_cell charset (cells ++ c ∷ []) ks))) (one_more_field cells c) (next_grows (cells ++ c ∷ []) ks)
+  with_cell_grows cells ks (WholeCell c) = subst (λ v. Grows (joined v) (row_so_far (next_cell charset (cells ++ c ∷ []) ks))) (map-append field cells (c ∷ [])) (next_grows (cells ++ c ∷ []) ks)
   with_cell_grows cells ks (ShortData c left content) = grows_same (joined (map field cells ++ open_field c content ∷ []))
   with_cell_grows cells ks (ChunkLength c total content) = grows_same (joined (map field cells ++ open_field c content ∷ []))
   with_cell_grows cells ks (ChunkData c total left content) = grows_same (joined (map field cells ++ open_field c content ∷ []))

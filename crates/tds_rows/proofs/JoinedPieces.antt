@@ -1,39 +1,13 @@
 -- What joiners do with the pieces of some content, in the words of their conversion.
-use Rattle.std.proofs.Common.{◌≡◌, ◌∙◌, ℕ, suc, zero, ◌+◌, ◌-◌, ◌^◌, ◌<◌, ◌≤◌, Bool, false, List, [], ◌∷◌, ◌++◌, length, take, drop, inl, inr, refl, sym, ap, subst, arith, append_assoc, append-nil, length-append}
-use Rattle.std.specs.Prelude.{Option, Result, Ok, Err}
-use Rattle.std.proofs.lemmas.List.{append_cancel_left, length-take-le, take-append-drop}
-use Rattle.std.proofs.Math.Seq.{take-append-add}
-use Rattle.tds_packet.specs.declared.fault.Fault.TheVariants.{BadText}
-use Rattle.tds_packet.specs.declared.fault.Place.TheVariants.{Payload}
-use Rattle.tds_packet.specs.declared.fault.Stop.{Stop}
-use Rattle.tds_packet.specs.Seen.{Seen, Takes, IsBetween}
-use Rattle.tds_packet.proofs.Futures.{Takes-more, Takes-none}
-use Rattle.tds_packet.proofs.Steps.{takes_both}
-use Rattle.tds_csv.specs.Conversion.{BeginsData, Conversion, IsFit, Suits, closing, conversion_rest, conversion_text}
-use Rattle.tds_csv.specs.Joining.{emit, settled}
-use Rattle.tds_csv.specs.declared.joiners.JoinFault.{JoinFault}
-use Rattle.tds_csv.specs.declared.joiners.JoinFault.TheVariants.{Odd, Stopped}
+use Rattle.tds_rows.proofs.Words.{◌≡◌, ◌∙◌, ℕ, ◌+◌, ◌-◌, ◌^◌, ◌<◌, ◌≤◌, Bool, false, List, [], ◌∷◌, ◌++◌, length, take, drop, inl, inr, refl, sym, ap, subst, arith, append_assoc, append-nil, length-append, Result, Ok, Err, get_or, Option, append_cancel_left, length-take-le, take-append-drop, drop_more, take_more, BadText, Stop, Seen, Takes, IsBetween, Takes-more, Takes-none, takes_both, BeginsData, Conversion, IsFit, Suits, closing, conversion_rest, conversion_text, emit, settled, JoinFault, Odd, Stopped, Completes, EndsBy, LeavesPart, Pushes, TakesPiece, TakesUpTo, is_stopped, end_after, Sink, Breaks, Held, Puts, PutsPiece, held, begun_front, joins_by_name, Breaks-after, Breaks-longer, Puts-none, Puts-trans, BreaksData, EndPut, EndsData, FillsData, RefusesData, StopsData, StopsEnding, StopsFilling, TakesData, added_text, good_of, join_stop, Payload}
 use Rattle.tds_csv.specs.declared.joiners.JoinFault.TheVariants as join_faults
-use Rattle.tds_csv.specs.Pushing.{Completes, EndsBy, LeavesPart, Pushes, TakesPiece, TakesUpTo, is_stopped}
-use Rattle.tds_csv.specs.Quoting.{end_after}
-use Rattle.tds_csv.specs.declared.sink.Sink.{Sink}
-use Rattle.tds_csv.specs.Sinks.{Breaks, Held, Puts, PutsPiece, held}
-use Rattle.tds_csv.proofs.Begun.{begun_front}
-use Rattle.tds_csv.proofs.ConversionLaws.{joins_by_name}
-use Rattle.tds_csv.proofs.Sinks.{Breaks-after, Breaks-longer, Puts-none, Puts-trans}
-use Rattle.tds_rows.specs.LongCells.{BreaksData, EndPut, EndsData, FillsData, RefusesData, StopsData, StopsEnding, StopsFilling, TakesData, added_text, good_of, join_stop}
+use Rattle.tds_rows.proofs.Paths.{At}
 
--- a list as long as this has a number there
-drop_some : (k : ℕ) (l : List ℕ) → k < length l → (x : ℕ) × (rest : List ℕ) × (drop k l ≡ x ∷ rest)
-drop_some k [] h = absurd (omega (arith, h))
-drop_some zero (x ∷ l) h = (x, l, refl)
-drop_some (suc k) (x ∷ l) h = drop_some k l (omega (arith, h))
-
-module _ (fit begins : List ℕ → Type 0) (rest text : List ℕ → List ℕ) (size : ℕ) (quoted : Bool) (c : Conversion) (suits : Suits fit begins rest text size quoted c) where
+module _ {fit begins : List ℕ → Type 0} {rest text : List ℕ → List ℕ} {size : ℕ} {quoted : Bool} {c : Conversion} (suits : Suits fit begins rest text size quoted c) where
   emit_suits : (l : List ℕ) → emit rest text l ≡ emit (conversion_rest c) (conversion_text c) l
   emit_suits l = suits.text_is (settled rest l) ∙ ap (λ r. conversion_text c (take (length l - length r) l)) (suits.rest_is l)
 
-  module _ (content old : List ℕ) (is : old ≡ conversion_rest c content) (begun : BeginsData c content) where
+  module _ (content : List ℕ) {old : List ℕ} (is : old ≡ conversion_rest c content) (begun : BeginsData c content) where
     added_is : (piece : List ℕ) → emit rest text (old ++ piece) ≡ added_text c content piece
     added_is piece = emit_suits (old ++ piece) ∙ ap (λ o. emit (conversion_rest c) (conversion_text c) (o ++ piece)) is
 
@@ -41,9 +15,9 @@ module _ (fit begins : List ℕ → Type 0) (rest text : List ℕ → List ℕ) 
     begun_with piece h = (joins_by_name c).outward content piece (subst (λ o. BeginsData c (o ++ piece)) is ((suits.begins_is (old ++ piece)).0 h))
 
     -- a piece was taken
-    pub piece_taken : (new piece : List ℕ) (a b : Seen) (place place' : ℕ) (h i : Held) → 0 < length piece → Takes a b piece 1 → IsBetween b → place' ≡ place + length piece → TakesPiece begins rest text old new h i piece
-        → TakesData c content new a b place place' h i (length piece)
-    piece_taken new piece a b place place' h i some takes between at x =
+    pub piece_taken : {new piece : List ℕ} {p q : At} → 0 < length piece → Takes p.seen q.seen piece 1 → IsBetween q.seen → q.place ≡ p.place + length piece → TakesPiece begins rest text old new p.held q.held piece
+        → TakesData c content new p.seen q.seen p.place q.place p.held q.held (length piece)
+    piece_taken {piece = piece} {p = p} {q = q} some takes between at x =
         let all = begun_with piece x.begun in
         record {
           piece = piece;
@@ -53,7 +27,7 @@ module _ (fit begins : List ℕ → Type 0) (rest text : List ℕ → List ℕ) 
           between = between;
           place_is = at;
           begun = all;
-          puts = subst (Puts h i) (added_is piece) x.put;
+          puts = subst (Puts p.held q.held) (added_is piece) x.put;
           kept_is = x.withheld ∙ suits.rest_is (old ++ piece) ∙ ap (λ o. conversion_rest c (o ++ piece)) is ∙ sym ((joins_by_name c).keeps content piece all);
         }
 
@@ -63,24 +37,20 @@ module _ (fit begins : List ℕ → Type 0) (rest text : List ℕ → List ℕ) 
     piece_bad new piece column most k a b place h i short takes between x =
         let within : k < length piece = x.within in
         let good = take k piece in
+        let bad = get_or piece k 0 in
         let len : length good ≡ k = length-take-le k piece (omega (arith, within)) in
-        let s = drop_some k piece within in
-        let bad = s.0 in
-        let split : piece ≡ good ++ bad ∷ s.1 = sym (take-append-drop k piece) ∙ ap (λ l. good ++ l) s.2 in
-        let next : take (k + 1) piece ≡ good ++ bad ∷ [] =
-        ap (take (k + 1)) split ∙ ap (λ n. take (n + 1) (good ++ bad ∷ s.1)) (sym len) ∙ take-append-add good (bad ∷ s.1) 1 in
+        let split : piece ≡ good ++ bad ∷ drop (k + 1) piece = sym (take-append-drop k piece) ∙ ap (λ l. good ++ l) (drop_more piece k 0 within) in
         record {
           good = good;
           bad = bad;
-          ahead = s.1;
+          ahead = drop (k + 1) piece;
           within = omega (arith, len, within, short);
           takes = subst (λ l. Takes a b l 1) split takes;
           between = between;
           begun = begun_with good x.good.begun;
           no_text = λ so.
               let inward : BeginsData c (conversion_rest c content ++ (good ++ bad ∷ [])) = (joins_by_name c).inward content (good ++ bad ∷ []) (subst (BeginsData c) (append_assoc content good (bad ∷ [])) so) in
-              let there : BeginsData c (old ++ take (k + 1) piece) = subst (λ l. BeginsData c (old ++ l)) (sym next) (subst (λ o. BeginsData c (o ++ (good ++ bad ∷ []))) (sym is) inward) in
-              x.bad ((suits.begins_is (old ++ take (k + 1) piece)).1 there);
+              x.bad ((suits.begins_is (old ++ take (k + 1) piece)).1 (rw (is, take_more piece k 0 within) inward));
           puts = subst (Puts h i) (added_is good) x.good.put;
           stop_is = ap (λ n. record { fault = BadText column; place = Payload (place + n) }) (sym len);
         }
@@ -117,10 +87,6 @@ module _ (fit begins : List ℕ → Type 0) (rest text : List ℕ → List ℕ) 
     pub end_whole : (new : List ℕ) (h i : Held) → Completes fit text old new h i → IsFit c content × Puts h i (conversion_text c (conversion_rest c content))
     end_whole new h i x = (fit_whole x.whole, subst (Puts h i) (suits.text_is old ∙ ap (conversion_text c) is) x.put)
 
-    -- it is, and a write of its text failed
-    pub end_breaks : (h i : Held) (stop : Stop) → fit old × Breaks h i (text old) stop → IsFit c content × Breaks h i (conversion_text c (conversion_rest c content)) stop
-    end_breaks h i stop x = (fit_whole x.0, subst (λ l. Breaks h i l stop) (suits.text_is old ∙ ap (conversion_text c) is) x.1)
-
     -- it isn't
     pub end_part : (new : List ℕ) (h i : Held) → LeavesPart fit old new h i → IsFit c content → ⊥
     end_part new h i x whole = x.part ((suits.fit_is old).1 (subst (IsFit c) (sym is) ((joins_by_name c).fit_rest content whole)))
@@ -129,8 +95,8 @@ module _ (fit begins : List ℕ → Type 0) (rest text : List ℕ → List ℕ) 
     pub end_stops : (new : List ℕ) (column place unit' : ℕ) (last : Bool) (h i : Held) (before after : Bool) (fault : JoinFault) → before ≡ false → after ≡ is_stopped {U = Unit {0}} (Err fault) → EndsBy {U = Unit {0}} unit' fit text old new h i before (Err fault)
         → StopsEnding c quoted last content column place h i after (join_stop column place fault)
     end_stops new column place unit' last h i before after (Stopped stop) going failed x =
-        let y = end_breaks h i stop (x going) in
-        inl (y.0, Breaks-longer h i (conversion_text c (conversion_rest c content)) (closing quoted ++ end_after last) stop y.1, failed)
+        let breaks = subst (λ l. Breaks h i l stop) (suits.text_is old ∙ ap (conversion_text c) is) (x going).1 in
+        inl (fit_whole (x going).0, Breaks-longer h i (conversion_text c (conversion_rest c content)) (closing quoted ++ end_after last) stop breaks, failed)
     end_stops new column place unit' last h i before after Odd going failed x = inr (end_part new h i x.0, x.0.put, ap (λ n. record { fault = BadText column; place = Payload n }) (omega arith), failed)
     end_stops new column place unit' last h i before after (join_faults.BadText k) going failed x = inr (end_part new h i x.0, x.0.put, ap (λ n. record { fault = BadText column; place = Payload n }) (omega (arith, x.2)), failed)
 
@@ -158,72 +124,66 @@ module _ (c : Conversion) (content : List ℕ) (begun : BeginsData c content) wh
       ∙ ap e regroup ∙ laws.emits content (more ++ piece) (subst (BeginsData c) regroup all))
 
   -- nothing was read
-  pub fills_none : (a : Seen) (place : ℕ) (h : Held) → IsBetween a → length h.waiting < 4096 → h.delivered ≤ 2 ^ 64 - 1 → FillsData c content a a place place h h []
-  fills_none a place h between few delivered = record {
-    takes = Takes-none a 0;
+  fills_none : {p : At} → IsBetween p.seen → length p.held.waiting < 4096 → p.held.delivered ≤ 2 ^ 64 - 1 → FillsData c content p.seen p.seen p.place p.place p.held p.held []
+  fills_none {p = p} between few delivered = record {
+    takes = Takes-none p.seen 0;
     between = between;
     place_is = omega arith;
-    begun = subst (BeginsData c) (sym (append-nil content)) begun;
-    puts = subst (Puts h h) (sym added_none) (Puts-none h delivered);
+    begun = rw (sym (append-nil content)) at begun;
+    puts = rw added_none (Puts-none p.held delivered);
     few = few;
     delivered = delivered;
   }
 
   -- a piece more was read
-  pub fills_more : (kept more : List ℕ) (n : ℕ) (a b d : Seen) (place middle place' : ℕ) (h i j : Held) → length j.waiting < 4096 → j.delivered ≤ 2 ^ 64 - 1 → FillsData c content a b place middle h i more → (x : TakesData c (content ++ more) kept b d middle place' i j n)
-      → FillsData c content a d place place' h j (more ++ x.piece)
-  fills_more kept more n a b d place middle place' h i j few delivered p x =
+  fills_more : {kept more : List ℕ} {n : ℕ} {p q r : At} → length r.held.waiting < 4096 → r.held.delivered ≤ 2 ^ 64 - 1 → FillsData c content p.seen q.seen p.place q.place p.held q.held more → (x : TakesData c (content ++ more) kept q.seen r.seen q.place r.place q.held r.held n)
+      → FillsData c content p.seen r.seen p.place r.place p.held r.held (more ++ x.piece)
+  fills_more {more = more} {n = n} {p = p} {q = q} {r = r} few delivered y x =
       let some : 0 < n = x.some in
       record {
-        takes = takes_both a b d more x.piece p.takes (Takes-more b d x.piece 1 (length x.piece) (omega (arith, some, x.counted)) x.takes);
+        takes = takes_both p.seen q.seen r.seen more x.piece y.takes (Takes-more q.seen r.seen x.piece 1 (length x.piece) (omega (arith, some, x.counted)) x.takes);
         between = x.between;
-        place_is = omega (arith, p.place_is, x.place_is, x.counted, length-append more x.piece);
-        begun = subst (BeginsData c) (append_assoc content more x.piece) x.begun;
-        puts = subst (Puts h j) (added_both more x.piece x.begun) (Puts-trans h i j (added_text c content more) (added_text c (content ++ more) x.piece) p.puts x.puts);
+        place_is = omega (arith, y.place_is, x.place_is, x.counted, length-append more x.piece);
+        begun = rw (append_assoc content more x.piece) at x.begun;
+        puts = rw (added_both more x.piece x.begun) at (Puts-trans p.held q.held r.held (added_text c content more) (added_text c (content ++ more) x.piece) y.puts x.puts);
         few = few;
         delivered = delivered;
       }
 
 -- Some of the content was read, piece by piece, and so much of it is left.
-pub record Filled (c : Conversion) (content kept : List ℕ) (a b : Seen) (place place' : ℕ) (h i : Held) (n left : ℕ) : Type 0 where
+pub record Filled (c : Conversion) (content kept : List ℕ) (p q : At) (n left : ℕ) : Type 0 where
   pub more : List ℕ
-  pub fills : FillsData c content a b place place' h i more
+  pub fills : FillsData c content p.seen q.seen p.place q.place p.held q.held more
   pub counted : length more + left ≡ n
   pub kept_is : kept ≡ conversion_rest c (content ++ more)
 
-module _ (c : Conversion) (content : List ℕ) (begun : BeginsData c content) (n : ℕ) where
-  pub filled_none : (kept : List ℕ) (a : Seen) (place : ℕ) (h : Held) → kept ≡ conversion_rest c content → IsBetween a → length h.waiting < 4096 → h.delivered ≤ 2 ^ 64 - 1 → Filled c content kept a a place place h h n n
-  filled_none kept a place h is between few delivered = record {
-    more = [];
-    fills = fills_none c content begun a place h between few delivered;
-    counted = omega arith;
-    kept_is = is ∙ ap (conversion_rest c) (sym (append-nil content));
+pub filled_none : {c : Conversion} {content kept : List ℕ} {n : ℕ} {p : At} → BeginsData c content → kept ≡ conversion_rest c content → IsBetween p.seen → length p.held.waiting < 4096 → p.held.delivered ≤ 2 ^ 64 - 1 → Filled c content kept p p n n
+filled_none {c = c} {content = content} begun is between few delivered = record { more = []; fills = fills_none c content begun between few delivered; counted = omega arith; kept_is = rw (append-nil content) is }
+
+module _ {c : Conversion} {content kept : List ℕ} {p q : At} {n left : ℕ} (begun : BeginsData c content) (x : Filled c content kept p q n left) where
+  pub filled_more : {kept' : List ℕ} {r : At} (k : ℕ) → k ≤ left → length r.held.waiting < 4096 → r.held.delivered ≤ 2 ^ 64 - 1 → TakesData c (content ++ x.more) kept' q.seen r.seen q.place r.place q.held r.held k → Filled c content kept' p r n (left - k)
+  filled_more k most few delivered y = record {
+    more = x.more ++ y.piece;
+    fills = fills_more c content begun few delivered x.fills y;
+    counted = omega (arith, x.counted, y.counted, most, length-append x.more y.piece);
+    kept_is = y.kept_is ∙ ap (conversion_rest c) (append_assoc content x.more y.piece);
   }
 
-  module _ (kept kept' : List ℕ) (left : ℕ) (a b d : Seen) (place middle place' : ℕ) (h i j : Held) (p : Filled c content kept a b place middle h i n left) where
-    pub filled_more : (k : ℕ) → k ≤ left → length j.waiting < 4096 → j.delivered ≤ 2 ^ 64 - 1 → TakesData c (content ++ p.more) kept' b d middle place' i j k → Filled c content kept' a d place place' h j n (left - k)
-    filled_more k most few delivered x = record {
-      more = p.more ++ x.piece;
-      fills = fills_more c content begun kept' p.more k a b d place middle place' h i j few delivered p.fills x;
-      counted = omega (arith, p.counted, x.counted, most, length-append p.more x.piece);
-      kept_is = x.kept_is ∙ ap (conversion_rest c) (append_assoc content p.more x.piece);
-    }
+  pub filled_ends : {kept' : List ℕ} {r : At} (k : ℕ) → left ≡ k → TakesData c (content ++ x.more) kept' q.seen r.seen q.place r.place q.held r.held k → EndsData c content kept' p.seen r.seen p.place r.place p.held r.held n
+  filled_ends k all y = grind arith
 
-    pub filled_ends : (k : ℕ) → left ≡ k → TakesData c (content ++ p.more) kept' b d middle place' i j k → EndsData c content kept' a d place place' h j n
-    filled_ends k all x = grind arith
-
-    pub filled_stops : (column : ℕ) (failed : Bool) (stop : Stop) → 0 < left → StopsData c (content ++ p.more) column left b d middle i j failed stop → StopsFilling c content column n a d place h j failed stop
-    filled_stops column failed stop some x =
-        let rest : left ≡ n - length p.more = omega (arith, p.counted) in
-        record {
-          front = p.more;
-          middle = b;
-          there = middle;
-          between = i;
-          fewer = omega (arith, p.counted, some);
-          fills = p.fills;
-          stops = subst (λ (k : ℕ). StopsData c (content ++ p.more) column k b d middle i j failed stop) rest x;
-        }
+  pub filled_stops : {column : ℕ} {d : Seen} {j : Held} {failed : Bool} {stop : Stop} → 0 < left → StopsData c (content ++ x.more) column left q.seen d q.place q.held j failed stop → StopsFilling c content column n p.seen d p.place p.held j failed stop
+  filled_stops {column = column} {d = d} {j = j} {failed = failed} {stop = stop} some y =
+      let rest : left ≡ n - length x.more = omega (arith, x.counted) in
+      record {
+        front = x.more;
+        middle = q.seen;
+        there = q.place;
+        between = q.held;
+        fewer = omega (arith, x.counted, some);
+        fills = x.fills;
+        stops = subst (λ (k : ℕ). StopsData c (content ++ x.more) column k q.seen d q.place q.held j failed stop) rest y;
+      }
 
 -- the end of content that is whole was put, or a write of it failed
 pub end_puts : {W U : Type 0} (contents : W → Option (List ℕ)) (c : Conversion) (quoted last : Bool) (content : List ℕ) (column place : ℕ) (a b d : Sink W) (r : Result U Stop)

@@ -1,25 +1,6 @@
 -- Cells by how their values are laid out.
-use Rattle.std.proofs.Common.{◌≡◌, ℕ, ◌<◌, Bool, true, false, List, length, replicate, get_or, refl, sym, ap, subst, arith}
-use Rattle.std.specs.Prelude.{◌==◌, slice_set, Option, if◌then◌else◌}
-use Rattle.std.proofs.lemmas.Grind.{get_or-set_at}
-use Rattle.std.proofs.lemmas.List.{get_or-replicate, get_or-set_other, length-replicate, length-set}
-use Rattle.tds_values.specs.declared.kind.Kind.{Kind}
-use Rattle.tds_values.specs.declared.kind.Reach.{Reach}
-use Rattle.tds_values.specs.declared.kind.Reach.TheVariants as reach
-use Rattle.tds_values.specs.Kind.{is_scalar}
-use Rattle.tds_packet.proofs.Choices.{eq_false, eq_true}
-use Rattle.tds_csv.specs.declared.fields.Content.{Content}
-use Rattle.tds_csv.specs.Conversion.{Conversion}
-use Rattle.tds_csv.specs.Fields.{conversion_of}
-use Rattle.tds_rows.specs.declared.Charset.{Charset}
-use Rattle.tds_rows.specs.declared.form.Form.{Form}
-use Rattle.tds_rows.specs.declared.form.Layout.{Layout}
+use Rattle.tds_rows.proofs.Words.{◌≡◌, ℕ, ◌<◌, Bool, true, false, List, length, replicate, get_or, refl, sym, subst, arith, ◌==◌, slice_set, Option, get_or-set_at, get_or-replicate, get_or-set_other, length-replicate, length-set, Kind, Reach, is_scalar, eq_false, eq_true, Content, Conversion, Charset, Form, Layout, LongShape, shape, shape_of_length, length_after, start_after, value_length, value_start, whole_size, AreLaidOut, HasValueAt, IsLaidOut, shape_of_layout, short_size}
 use Rattle.tds_rows.specs.declared.form.Layout.TheVariants.{Short}
-use Rattle.tds_rows.specs.Cells.{LongShape, shape, shape_of_length}
-use Rattle.tds_rows.specs.CellSteps.{length_after, scalar_size, start_after, value_length, value_start, whole_size}
-use Rattle.tds_rows.specs.Forms.{AreLaidOut}
-use Rattle.tds_rows.specs.Layouts.{HasValueAt, IsLaidOut, shape_of_layout}
-use Rattle.tds_rows.specs.ShortCells.{short_size}
 use Rattle.tds_rows.proofs.CellSteps.{shape_cases}
 
 -- the same form many times
@@ -58,4 +39,4 @@ module _ (charset : Charset) (kind : Kind) where
 
   -- how many bytes its cell has
   pub short_whole : (content : Content) (bytes : List ℕ) → IsLaidOut charset kind (Short content) → short_size bytes ≡ whole_size kind bytes
-  short_whole content bytes laid = sym (ap (λ b. if b then scalar_size kind bytes else short_size bytes) (is_long_kind (conversion_of content) reach.Short laid.shape_is))
+  short_whole content bytes laid = grind (arith, is_long_kind)

@@ -1,11 +1,5 @@
 -- Fields in their line, as they are written.
-use Rattle.std.proofs.Common.{◌≡◌, ◌≢◌, ℕ, ◌+◌, ◌≤◌, Bool, List, [], ◌∷◌, ◌++◌, length, take, refl, sym, arith, append_assoc}
-use Rattle.std.proofs.lemmas.List.{length-take-le, take-append-le}
-use Rattle.std.proofs.Math.Seq.{take-append-add}
-use Rattle.std.specs.Prelude.{◌==◌}
-use Rattle.std.proofs.lemmas.Bool.{ne_eqb}
-use Rattle.tds_packet.proofs.Choices.{choose_false}
-use Rattle.tds_csv.specs.Quoting.{after_comma, end_after, in_line, joined}
+use Rattle.tds_rows.proofs.Words.{◌≡◌, ◌≢◌, ℕ, ◌+◌, ◌≤◌, Bool, List, [], ◌∷◌, ◌++◌, length, take, refl, sym, arith, append_assoc, length-take-le, take-append-le, take-append-add, ◌==◌, ne_eqb, choose_false, after_comma, end_after, in_line, joined}
 
 -- a field after a comma
 pub after_some_column : (column : ℕ) (text : List ℕ) → column ≢ 0 → 44 ∷ text ≡ after_comma column text

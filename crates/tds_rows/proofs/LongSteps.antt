@@ -1,63 +1,11 @@
 -- Long values, in the grammar of a cell: the text of its parts, and the pieces of its content.
-use Rattle.std.proofs.Common.{◌≡◌, ◌∙◌, ◌⊎◌, inl, inr, ℕ, suc, ◌+◌, ◌-◌, ◌^◌, ◌<◌, ◌≤◌, Bool, true, false, List, [], ◌∷◌, ◌++◌, length, refl, sym, ap, subst, arith, append_assoc, append-nil, length-append}
-use Rattle.std.specs.Prelude.{Option, Some, None, ◌&&◌, ◌||◌, nat_lt}
-use Rattle.std.proofs.lemmas.Bool.{and_from, cases_lt, or_left, or_right}
-use Rattle.std.proofs.lemmas.List.{append_cancel_left}
-use Rattle.tds_packet.specs.declared.fault.Fault.TheVariants.{BadText, MessageEnded}
-use Rattle.tds_packet.specs.declared.fault.Place.TheVariants.{Payload}
-use Rattle.tds_packet.specs.declared.fault.Stop.{Stop}
-use Rattle.tds_packet.specs.Elements.{IsNext, Spelt}
-use Rattle.tds_packet.specs.Seen.{Seen, Takes, IsBetween}
-use Rattle.tds_packet.proofs.Choices.{test_lt}
-use Rattle.tds_packet.proofs.ElementLaws.{Spelt-none, Spelt-append, Spelt-step}
-use Rattle.tds_packet.proofs.Futures.{Takes-more}
-use Rattle.tds_packet.proofs.Steps.{began_is_cut, cut_at_once}
-use Rattle.tds_csv.specs.Conversion.{BeginsData, Conversion, conversion_rest, conversion_text, is_begun, is_fit, is_quoted, closing, long_field, open_field}
-use Rattle.tds_csv.specs.Joining.{emit}
-use Rattle.tds_csv.specs.Quoting.{after_comma, end_after, in_line}
-use Rattle.tds_csv.specs.Sinks.{Breaks, Held, Puts}
-use Rattle.tds_csv.specs.Streaming.{BreaksStreaming, PutsText, StopsStreaming, Streams}
-use Rattle.tds_csv.proofs.Begun.{open_grows, open_closes, unfit_adds_none}
-use Rattle.tds_csv.proofs.ConversionLaws.{begun_by_test, joins_by_name}
-use Rattle.tds_csv.proofs.Pieces.{breaks_somewhere}
-use Rattle.tds_csv.proofs.Sinks.{Breaks-after, Breaks-longer, Puts-none, Puts-trans}
-use Rattle.tds_csv.proofs.Streams.{streaming_after, streams_both}
-use Rattle.tds_rows.specs.Cells.{CellPart, cell, cell_add, cell_end, cell_fault, cell_size, field_so_far, unless}
-use Rattle.tds_rows.specs.CellSteps.{cell_so_far, opened}
-use Rattle.tds_rows.specs.LongCells.{BreaksData, CutsData, EndsData, FillsData, RefusesData, StopsData, StopsFilling, added_text, ending}
-use Rattle.tds_rows.proofs.NullTexts.{line_grows, opened_text}
-use Rattle.tds_rows.proofs.PassedCells.{chunk_next, short_next}
-use Rattle.tds_rows.proofs.LineTexts.{after_append}
-use Rattle.tds_csv.proofs.Utf16Steps.{nil_of_length}
-use Rattle.tds_rows.proofs.CellLaws.{unless_true}
-use Rattle.tds_rows.proofs.CellWords.{chunk_left, short_left}
-
--- ---- one element, and its text
-
-module _ (column : ℕ) (last : Bool) (s : CellPart) (a b : Seen) (e : List ℕ) (next : IsNext (cell column) s e) (takes : Takes a b e (length e)) where
-  -- a write of its text failed
-  pub element_breaks : (h j : Held) (p q : List ℕ) (stop : Stop) → IsBetween b → length h.waiting < 4096 → h.delivered ≤ 2 ^ 64 - 1 → cell_so_far column last s ++ (p ++ q) ≡ cell_so_far column last (cell_add s e) → Breaks h j p stop
-      → BreaksStreaming (cell column) (cell_so_far column last) s a b h j s stop
-  element_breaks h j p q stop between few delivered text_is breaks = record {
-    bytes = [];
-    element = e;
-    ahead = [];
-    spelt = Spelt-none (cell column) s;
-    next = next;
-    takes = subst (λ l. Takes a b l (length e)) (sym (append-nil e)) takes;
-    between = between;
-    middle = h;
-    few = few;
-    puts = ([], append-nil (cell_so_far column last s), Puts-none h delivered);
-    more = p ++ q;
-    text_is = text_is;
-    breaks = Breaks-longer h j p q stop breaks;
-  }
+use Rattle.tds_rows.proofs.Words.{◌≡◌, ◌∙◌, ◌⊎◌, inl, inr, ℕ, suc, ◌+◌, ◌-◌, ◌^◌, ◌<◌, ◌≤◌, Bool, true, false, List, [], ◌∷◌, ◌++◌, length, refl, sym, ap, subst, arith, append_assoc, append-nil, length-append, Option, Some, None, ◌==◌, ◌&&◌, ◌||◌, nat_lt, and_from, cases_lt, ne_eqb, or_left, or_right, append_cancel_left, BadText, MessageEnded, Stop, Spelt, Seen, Takes, IsBetween, choose_false, test_lt, Spelt-none, Spelt-append, Spelt-step, Takes-more, began_is_cut, cut_at_once, BeginsData, Conversion, conversion_rest, conversion_text, is_begun, is_fit, is_quoted, closing, long_field, open_field, emit, after_comma, end_after, in_line, Breaks, Held, Puts, StopsStreaming, open_grows, open_closes, unfit_adds_none, begun_by_test, joins_by_name, breaks_somewhere, Breaks-after, Breaks-longer, Puts-none, Puts-trans, CellPart, ChunkData, ChunkLength, DataCell, ShortData, WholeCell, cell, cell_add, cell_end, cell_fault, cell_size, field_so_far, unless, cell_so_far, opened, BreaksData, CutsData, EndsData, FillsData, RefusesData, StopsData, StopsFilling, added_text, ending, nil_of_length, Payload}
+use Rattle.tds_rows.proofs.{Paths.At, Paths.Path, Paths.path_both, Paths.path_stops, NullTexts.line_grows, NullTexts.opened_text, LineTexts.after_append, CellLaws.unless_true, CellWords.chunk_left, CellWords.short_left}
 
 -- ---- content, byte by byte
 
--- The states of n bytes of content, by how many follow and what was read: each next byte is an element, and free of faults where text begins so, and where the content is good at its end.
-pub record HoldsContent (column : ℕ) (c : Conversion) (state : ℕ → List ℕ → CellPart) (Good : List ℕ → Type 0) (n : ℕ) : Type 0 where
+-- The states of the bytes of some content, by how many follow and what was read: each next byte is an element, and free of faults where text begins so, and where the content is good at its end.
+pub record HoldsContent (column : ℕ) (c : Conversion) (state : ℕ → List ℕ → CellPart) (Good : List ℕ → Type 0) : Type 0 where
   pub size : (r : ℕ) (d : List ℕ) → cell_size (state (suc r) d) ≡ 1
   pub end : (r : ℕ) (d : List ℕ) → cell_end (state (suc r) d) ≡ Some MessageEnded
   pub text : (r : ℕ) (d : List ℕ) → field_so_far (state (suc r) d) ≡ Some (open_field c d)
@@ -76,7 +24,7 @@ snoc_of (x ∷ y ∷ l) some = let r = snoc_of (y ∷ l) (omega arith) in (x ∷
 no_text_false : (c : Conversion) (l : List ℕ) (b : Bool) → is_begun c l ≡ b → (BeginsData c l → ⊥) → b ≡ false
 no_text_false c l b is h = grind (arith, begun_by_test)
 
-module _ (column : ℕ) (last : Bool) (c : Conversion) (state : ℕ → List ℕ → CellPart) (Good : List ℕ → Type 0) (n : ℕ) (holds : HoldsContent column c state Good n) where
+module _ {column : ℕ} {c : Conversion} {state : ℕ → List ℕ → CellPart} {Good : List ℕ → Type 0} (last : Bool) (holds : HoldsContent column c state Good) where
   pub text_at : (r : ℕ) (d : List ℕ) → cell_so_far column last (state (suc r) d) ≡ after_comma column (open_field c d)
   text_at r d = sym (opened_text column last (state (suc r) d) (omega (arith, holds.size r d))) ∙ ap (opened column) (holds.text r d)
 
@@ -88,14 +36,15 @@ module _ (column : ℕ) (last : Bool) (c : Conversion) (state : ℕ → List ℕ
       let next : m ≡ suc k = omega (arith, is) in
       let regroup : d ++ x ∷ xs ≡ (d ++ x ∷ []) ++ xs = sym (append_assoc d (x ∷ []) xs) in
       let more_begun : BeginsData c ((d ++ x ∷ []) ++ xs) = subst (BeginsData c) regroup begun in
-      let begun_one : BeginsData c (d ++ x ∷ []) = (joins_by_name c).front (d ++ x ∷ []) xs more_begun in
-      let good_one : k ≡ 0 → Good (d ++ x ∷ []) = λ none.
-      let empty : xs ≡ [] = nil_of_length xs (omega (arith, none)) in
-      subst (λ l. Good (d ++ x ∷ l)) empty (good (omega (arith, none)) (omega arith)) in
-      let one : Spelt (cell column) (state (suc k) d) (x ∷ []) (state k (d ++ x ∷ [])) = Spelt-step (cell column) (state (suc k) d) (x ∷ []) (state k (d ++ x ∷ [])) (omega arith) (sym (holds.size k d)) (holds.free k d x ((begun_by_test c (d ++ x ∷ [])).1 begun_one) good_one) (holds.add k d x) in
-      let more : Spelt (cell column) (state k (d ++ x ∷ [])) xs (state r ((d ++ x ∷ []) ++ xs)) = content_spelt (d ++ x ∷ []) xs k r refl more_begun (λ none some. subst Good regroup (good none (omega arith))) in
-      subst (λ (j : ℕ). Spelt (cell column) (state j d) (x ∷ xs) (state r (d ++ x ∷ xs))) (sym next)
-      (subst (λ l. Spelt (cell column) (state (suc k) d) (x ∷ xs) (state r l)) (append_assoc d (x ∷ []) xs) (Spelt-append (cell column) (state (suc k) d) (x ∷ []) (state k (d ++ x ∷ [])) xs (state r ((d ++ x ∷ []) ++ xs)) one more))
+      let begun_one = (begun_by_test c (d ++ x ∷ [])).1 ((joins_by_name c).front (d ++ x ∷ []) xs more_begun) in
+      let good_one : k ≡ 0 → Good (d ++ x ∷ []) = λ none. subst (λ l. Good (d ++ x ∷ l)) (nil_of_length xs (omega (arith, none))) (good (omega (arith, none)) (omega arith)) in
+      let one = Spelt-step (cell column) (state (suc k) d) (x ∷ []) (state k (d ++ x ∷ [])) (omega arith) (sym (holds.size k d)) (holds.free k d x begun_one good_one) (holds.add k d x) in
+      let more = content_spelt (d ++ x ∷ []) xs k r refl more_begun (λ none some. subst Good regroup (good none (omega arith))) in
+      rw (next, regroup) (Spelt-append (cell column) (state (suc k) d) (x ∷ []) (state k (d ++ x ∷ [])) xs (state r ((d ++ x ∷ []) ++ xs)) one more)
+
+  -- and where more follow
+  front_spelt : {m : ℕ} (d bytes : List ℕ) (r : ℕ) → m ≡ length bytes + suc r → BeginsData c (d ++ bytes) → Spelt (cell column) (state m d) bytes (state (suc r) (d ++ bytes))
+  front_spelt {m = m} d bytes r is begun = content_spelt d bytes m (suc r) is begun (λ none _. absurd (omega (arith, none)))
 
   -- what some content adds to the open field
   text_more : (d more : List ℕ) → BeginsData c (d ++ more) → after_comma column (open_field c d) ++ added_text c d more ≡ after_comma column (open_field c (d ++ more))
@@ -105,21 +54,22 @@ module _ (column : ℕ) (last : Bool) (c : Conversion) (state : ℕ → List ℕ
   pub text_grown : (d more : List ℕ) (r r' : ℕ) → BeginsData c (d ++ more) → cell_so_far column last (state (suc r) d) ++ added_text c d more ≡ cell_so_far column last (state (suc r') (d ++ more))
   text_grown d more r r' begun = ap (λ l. l ++ added_text c d more) (text_at r d) ∙ text_more d more begun ∙ sym (text_at r' (d ++ more))
 
+  -- and where none does
+  text_closed : (d more tail : List ℕ) (r : ℕ) → BeginsData c (d ++ more) → after_comma column (open_field c (d ++ more)) ++ tail ≡ cell_so_far column last (state 0 (d ++ more)) → cell_so_far column last (state (suc r) d) ++ (added_text c d more ++ tail) ≡ cell_so_far column last (state 0 (d ++ more))
+  text_closed d more tail r begun whole = sym (append_assoc (cell_so_far column last (state (suc r) d)) (added_text c d more) tail) ∙ ap (λ l. (l ++ added_text c d more) ++ tail) (text_at r d) ∙ ap (λ l. l ++ tail) (text_more d more begun) ∙ whole
+
   -- bytes were read and their text put, and more follow
-  abbrev pub fills_streams : (d more : List ℕ) (m r : ℕ) (a b : Seen) (place place' : ℕ) (h i : Held) → m ≡ length more + suc r → FillsData c d a b place place' h i more → Streams (cell column) (cell_so_far column last) (state m d) a b h i (state (suc r) (d ++ more))
-  fills_streams d more m r a b place place' h i is x =
-      let k : ℕ = length more + r in
-      let next : suc k ≡ m = omega (arith, is) in
+  fills_path : {d more : List ℕ} {p q : At} (m r : ℕ) → m ≡ length more + suc r → FillsData c d p.seen q.seen p.place q.place p.held q.held more → Path (cell column) (cell_so_far column last) (state m d) p q (state (suc r) (d ++ more))
+  fills_path {d = d} {more = more} m r is x =
+      let next : suc (length more + r) ≡ m = omega (arith, is) in
       record {
         bytes = more;
-        spelt = content_spelt d more m (suc r) is x.begun (λ none _. absurd (omega (arith, none)));
+        made = added_text c d more;
+        writes = record { spelt = front_spelt d more r is x.begun; text_is = rw next at (text_grown d more (length more + r) r x.begun) };
         takes = x.takes;
-        puts = (added_text c d more, subst (λ (j : ℕ). cell_so_far column last (state j d) ++ added_text c d more ≡ cell_so_far column last (state (suc r) (d ++ more))) next (text_grown d more k r x.begun), x.puts);
+        puts = x.puts;
+        place_is = x.place_is;
       }
-
-  -- nothing was put
-  puts_none : (s : CellPart) (h : Held) → h.delivered ≤ 2 ^ 64 - 1 → PutsText (cell_so_far column last) s s h h
-  puts_none s h delivered = ([], append-nil (cell_so_far column last s), Puts-none h delivered)
 
   -- what the last byte adds to the text, where it isn't good there
   adds_none : (d p : List ℕ) (x : ℕ) → BeginsData c (d ++ (p ++ x ∷ [])) → emit (conversion_rest c) (conversion_text c) ((d ++ p) ++ x ∷ []) ≡ emit (conversion_rest c) (conversion_text c) (d ++ p) → added_text c d (p ++ x ∷ []) ≡ added_text c d p
@@ -130,48 +80,48 @@ module _ (column : ℕ) (last : Bool) (c : Conversion) (state : ℕ → List ℕ
       let front : BeginsData c (d ++ p) = laws.front (d ++ p) (x ∷ []) (subst (BeginsData c) regroup begun) in
       append_cancel_left (e d) (added_text c d (p ++ x ∷ [])) (added_text c d p) (sym (laws.emits d (p ++ x ∷ []) begun) ∙ ap e regroup ∙ same ∙ laws.emits d p front)
 
+  -- the byte after some that are good is refused
+  byte_refused : {a b : Seen} {h i : Held} {m : ℕ} (d good ahead : List ℕ) (y r place : ℕ) → m ≡ length good + suc r → BeginsData c (d ++ good) → cell_fault column (state (suc r) (d ++ good)) (y ∷ []) ≡ Some (BadText column) → Takes a b (good ++ y ∷ ahead) 1 → IsBetween b → Puts h i (added_text c d good)
+      → StopsStreaming (cell column) (cell_so_far column last) (state m d) a b place h i false (record { fault = BadText column; place = Payload (place + length good) })
+  byte_refused {a = a} {b = b} {m = m} d good ahead y r place is begun bad takes between puts =
+      let all = (good ++ y ∷ []) ++ ahead in
+      let next : suc (length good + r) ≡ m = omega (arith, is) in
+      record {
+        at = state (suc r) (d ++ good);
+        cause = inl (
+          record {
+            bytes = good;
+            spelt = front_spelt d good r is begun;
+            cause = inl (
+              record {
+                element = y ∷ [];
+                ahead = ahead;
+                some = omega arith;
+                whole = sym (holds.size r (d ++ good));
+                first = bad;
+                takes = Takes-more a b all 1 (length (good ++ y ∷ [])) (omega (arith, length-append good (y ∷ []))) (rw (append_assoc good (y ∷ []) ahead) takes);
+                between = between;
+              },
+              refl,
+            );
+          },
+          (added_text c d good, rw next at (text_grown d good (length good + r) r begun), puts),
+          refl,
+        );
+      }
+
   module _ (d : List ℕ) (r : ℕ) (a b : Seen) (place : ℕ) (h i : Held) (few : length h.waiting < 4096) (delivered : h.delivered ≤ 2 ^ 64 - 1) where
     piece_cut : (stop : Stop) → CutsData a b place h i stop → StopsStreaming (cell column) (cell_so_far column last) (state (suc r) d) a b place h i false stop
-    piece_cut stop x = record {
-      at = state (suc r) d;
-      cause = inl (
-        cut_at_once (cell column) (state (suc r) d) a b place [] x.own stop (omega (arith, holds.size r d)) x.ends (began_is_cut place (cell_end (state (suc r) d)) x.own stop (holds.end r d) x.stop_is),
-        subst (PutsText (cell_so_far column last) (state (suc r) d) (state (suc r) d) h) (sym x.same) (puts_none (state (suc r) d) h delivered),
-        refl,
-      );
-    }
+    piece_cut stop x =
+        let at = state (suc r) d in
+        let stops = cut_at_once (cell column) at a b place [] x.own stop (omega (arith, holds.size r d)) x.ends (began_is_cut place (cell_end at) x.own stop (holds.end r d) x.stop_is) in
+        rw x.same (record { at = at; cause = inl (stops, ([], append-nil (cell_so_far column last at), Puts-none h delivered), refl) })
 
     piece_refused : (stop : Stop) → RefusesData c d column (suc r) a b place h i stop → StopsStreaming (cell column) (cell_so_far column last) (state (suc r) d) a b place h i false stop
     piece_refused stop x =
         let within : length x.good < suc r = x.within in
-        let r' : ℕ = r - length x.good in
-        let split : suc r ≡ length x.good + suc r' = omega (arith, within) in
-        let at : CellPart = state (suc r') (d ++ x.good) in
-        let no : is_begun c ((d ++ x.good) ++ x.bad ∷ []) ≡ false = no_text_false c ((d ++ x.good) ++ x.bad ∷ []) (is_begun c ((d ++ x.good) ++ x.bad ∷ [])) refl x.no_text in
-        let taken : Takes a b ((x.good ++ x.bad ∷ []) ++ x.ahead) 1 = subst (λ l. Takes a b l 1) (sym (append_assoc x.good (x.bad ∷ []) x.ahead)) x.takes in
-        subst (λ t. StopsStreaming (cell column) (cell_so_far column last) (state (suc r) d) a b place h i false t) (sym x.stop_is) (record {
-          at = at;
-          cause = inl (
-            record {
-              bytes = x.good;
-              spelt = content_spelt d x.good (suc r) (suc r') split x.begun (λ none _. absurd (omega (arith, none)));
-              cause = inl (
-                record {
-                  element = x.bad ∷ [];
-                  ahead = x.ahead;
-                  some = omega arith;
-                  whole = sym (holds.size r' (d ++ x.good));
-                  first = holds.bad r' (d ++ x.good) x.bad no;
-                  takes = Takes-more a b ((x.good ++ x.bad ∷ []) ++ x.ahead) 1 (length (x.good ++ x.bad ∷ [])) (omega (arith, length-append x.good (x.bad ∷ []))) taken;
-                  between = x.between;
-                },
-                refl,
-              );
-            },
-            (added_text c d x.good, text_grown d x.good r r' x.begun, x.puts),
-            refl,
-          );
-        })
+        let no = no_text_false c ((d ++ x.good) ++ x.bad ∷ []) (is_begun c ((d ++ x.good) ++ x.bad ∷ [])) refl x.no_text in
+        rw x.stop_is (byte_refused d x.good x.ahead x.bad (r - length x.good) place (omega (arith, within)) x.begun (holds.bad (r - length x.good) (d ++ x.good) x.bad no) x.takes x.between x.puts)
 
     -- a write of the text of a piece failed, whose bytes lead to a state
     broken : (good ahead added : List ℕ) (to : CellPart) (stop : Stop) → Spelt (cell column) (state (suc r) d) good to → Takes a b (good ++ ahead) 1 → IsBetween b → cell_so_far column last (state (suc r) d) ++ added ≡ cell_so_far column last to → Breaks h i added stop
@@ -180,40 +130,31 @@ module _ (column : ℕ) (last : Bool) (c : Conversion) (state : ℕ → List ℕ
         let x = breaks_somewhere (cell column) (cell_so_far column last) (line_grows column last) (state (suc r) d) a b h i stop between to good ahead added spelt takes few delivered text_is breaks in
         record { at = x.0; cause = inr (x.1, refl) }
 
-    piece_broken_before : (stop : Stop) (x : BreaksData c d (suc r) a b h i stop) → length x.good < suc r → StopsStreaming (cell column) (cell_so_far column last) (state (suc r) d) a b place h i true stop
-    piece_broken_before stop x less =
-        let r' : ℕ = r - length x.good in
-        let split : suc r ≡ length x.good + suc r' = omega (arith, less) in
-        broken x.good x.ahead (added_text c d x.good) (state (suc r') (d ++ x.good)) stop (content_spelt d x.good (suc r) (suc r') split x.begun (λ none _. absurd (omega (arith, none)))) x.takes x.between (text_grown d x.good r r' x.begun) x.breaks
-
-    piece_broken_at : (stop : Stop) (good ahead p : List ℕ) (x : ℕ) → good ≡ p ++ x ∷ [] → length good ≡ suc r → Takes a b (good ++ ahead) 1 → IsBetween b → BeginsData c (d ++ good) → Breaks h i (added_text c d good) stop
+    piece_broken_at : (stop : Stop) (ahead p : List ℕ) (x : ℕ) → length (p ++ x ∷ []) ≡ suc r → Takes a b ((p ++ x ∷ []) ++ ahead) 1 → IsBetween b → BeginsData c (d ++ (p ++ x ∷ [])) → Breaks h i (added_text c d (p ++ x ∷ [])) stop
         → StopsStreaming (cell column) (cell_so_far column last) (state (suc r) d) a b place h i true stop
-    piece_broken_at stop good ahead p x is all takes between begun breaks =
-        let same : d ++ good ≡ (d ++ p) ++ x ∷ [] = ap (λ l. d ++ l) is ∙ sym (append_assoc d p (x ∷ [])) in
+    piece_broken_at stop ahead p x all takes between begun breaks =
+        let good = p ++ x ∷ [] in
+        let same : d ++ good ≡ (d ++ p) ++ x ∷ [] = sym (append_assoc d p (x ∷ [])) in
         elim (holds.ends (d ++ p) x) [
-          | inl good_then ↦
-              (let fine : Good (d ++ good) = subst Good (sym same) good_then in
+          | inl whole ↦
+              (let fine : Good (d ++ good) = subst Good (sym same) whole in
               let w = holds.whole last (d ++ good) fine in
-              let text : cell_so_far column last (state (suc r) d) ++ (added_text c d good ++ w.0) ≡ cell_so_far column last (state 0 (d ++ good)) =
-              sym (append_assoc (cell_so_far column last (state (suc r) d)) (added_text c d good) w.0) ∙ ap (λ l. l ++ w.0) (ap (λ l. l ++ added_text c d good) (text_at r d) ∙ text_more d good begun) ∙ w.1 in
-              broken good ahead (added_text c d good ++ w.0) (state 0 (d ++ good)) stop (content_spelt d good (suc r) 0 (omega (arith, all)) begun (λ _ _. fine)) takes between text (Breaks-longer h i (added_text c d good) w.0 stop breaks))
+              broken good ahead (added_text c d good ++ w.0) (state 0 (d ++ good)) stop (content_spelt d good (suc r) 0 (omega (arith, all)) begun (λ _ _. fine)) takes between (text_closed d good w.0 r begun w.1) (Breaks-longer h i (added_text c d good) w.0 stop breaks))
           | inr none ↦
-              (let begun_all : BeginsData c (d ++ (p ++ x ∷ [])) = subst (λ l. BeginsData c (d ++ l)) is begun in
-              let begun_front : BeginsData c (d ++ p) = (joins_by_name c).front (d ++ p) (x ∷ []) (subst (BeginsData c) same begun) in
-              let adds : added_text c d good ≡ added_text c d p = ap (added_text c d) is ∙ adds_none d p x begun_all none in
-              let len : length good ≡ length p + 1 = ap length is ∙ length-append p (x ∷ []) in
-              let taken : Takes a b (p ++ x ∷ ahead) 1 = subst (λ l. Takes a b l 1) (ap (λ l. l ++ ahead) is ∙ append_assoc p (x ∷ []) ahead) takes in
-              broken p (x ∷ ahead) (added_text c d p) (state 1 (d ++ p)) stop (content_spelt d p (suc r) 1 (omega (arith, all, len)) begun_front (λ e _. absurd (omega (arith, e)))) taken between (text_grown d p r 0 begun_front) (subst (λ l. Breaks h i l stop) adds breaks))
+              (let front = (joins_by_name c).front (d ++ p) (x ∷ []) (subst (BeginsData c) same begun) in
+              let adds = adds_none d p x begun none in
+              broken p (x ∷ ahead) (added_text c d p) (state 1 (d ++ p)) stop (front_spelt d p 0 (omega (arith, all, length-append p (x ∷ []))) front) (rw (append_assoc p (x ∷ []) ahead) at takes) between (text_grown d p r 0 front) (rw adds at breaks))
         ]
 
     piece_broken : (stop : Stop) → BreaksData c d (suc r) a b h i stop → StopsStreaming (cell column) (cell_so_far column last) (state (suc r) d) a b place h i true stop
     piece_broken stop x =
         elim (cases_lt (length x.good) (suc r)) [
-          | inl less ↦ piece_broken_before stop x less
+          | inl less ↦ broken x.good x.ahead _ _ stop (front_spelt d x.good (r - length x.good) (omega (arith, less)) x.begun) x.takes x.between (text_grown d x.good r (r - length x.good) x.begun) x.breaks
           | inr more ↦
               (let within : length x.good ≤ suc r = x.within in
+              let all : length x.good ≡ suc r = omega (arith, more, within) in
               let s = snoc_of x.good (omega (arith, more)) in
-              piece_broken_at stop x.good x.ahead s.0 s.1 s.2 (omega (arith, more, within)) x.takes x.between x.begun x.breaks)
+              piece_broken_at stop x.ahead s.0 s.1 (rw s.2 at all) (rw s.2 at x.takes) x.between (rw s.2 at x.begun) (rw s.2 at x.breaks))
         ]
 
     -- the next piece stopped
@@ -221,113 +162,83 @@ module _ (column : ℕ) (last : Bool) (c : Conversion) (state : ℕ → List ℕ
     piece_stops failed stop x = grind (arith, piece_broken, piece_cut, piece_refused)
 
   -- the content stopped in one of its pieces
-  pub filling_stops : (d : List ℕ) (m : ℕ) (a b : Seen) (place : ℕ) (h i : Held) (failed : Bool) (stop : Stop) → StopsFilling c d column m a b place h i failed stop
-      → StopsStreaming (cell column) (cell_so_far column last) (state m d) a b place h i failed stop
-  filling_stops d m a b place h i failed stop x =
+  pub filling_stops : {d : List ℕ} {m : ℕ} {p : At} {b : Seen} {i : Held} {failed : Bool} {stop : Stop} → StopsFilling c d column m p.seen b p.place p.held i failed stop → StopsStreaming (cell column) (cell_so_far column last) (state m d) p.seen b p.place p.held i failed stop
+  filling_stops {m = m} {b = b} {i = i} x =
       let fewer : length x.front < m = x.fewer in
-      let r : ℕ = m - length x.front - 1 in
-      let split : m ≡ length x.front + suc r = omega (arith, fewer) in
-      let there : x.there ≡ place + length x.front = x.fills.place_is in
+      let r = m - length x.front - 1 in
       let left : m - length x.front ≡ suc r = omega (arith, fewer) in
-      let stops : StopsData c (d ++ x.front) column (suc r) x.middle b (place + length x.front) x.between i failed stop =
-      rw left at (rw there at x.stops) in
-      streaming_after _ _ _ _ a _ b h _ i _ _ _ (fills_streams d _ m _ a _ _ _ h _ split x.fills) (piece_stops _ _ _ b _ _ i x.fills.few x.fills.delivered _ _ stops)
+      path_stops (fills_path m r (omega (arith, fewer)) x.fills) (piece_stops _ _ _ b x.there x.between i x.fills.few x.fills.delivered _ _ (rw left at x.stops))
 
   -- ---- the last piece
 
-  module _ (d kept : List ℕ) (m : ℕ) (a b : Seen) (place place' : ℕ) (h i : Held) (x : EndsData c d kept a b place place' h i m) where
+  module _ {d kept : List ℕ} {m : ℕ} {p q : At} (x : EndsData c d kept p.seen q.seen p.place q.place p.held q.held m) where
     -- all of the content
-    abbrev pub all_content : List ℕ
+    abbrev all_content : List ℕ
     all_content = (d ++ x.front) ++ x.takes.piece
 
-    abbrev pub last_left : ℕ
+    abbrev last_left : ℕ
     last_left = x.last - 1
 
-    pub last_split : x.last ≡ suc last_left
+    last_split : x.last ≡ suc last_left
     last_split = let some : 0 < x.last = x.takes.some in omega (arith, some)
 
-    abbrev pub front_streams : Streams (cell column) (cell_so_far column last) (state m d) a x.middle h x.between (state (suc last_left) (d ++ x.front))
-    front_streams = fills_streams d x.front m last_left a x.middle place x.there h x.between (omega (arith, x.counted, last_split)) x.fills
+    front_path : Path (cell column) (cell_so_far column last) (state m d) p (record { seen = x.middle; place = x.there; held = x.between }) (state (suc last_left) (d ++ x.front))
+    front_path = fills_path m last_left (omega (arith, x.counted, last_split)) x.fills
 
-    pub last_spelt : Good all_content → Spelt (cell column) (state (suc last_left) (d ++ x.front)) x.takes.piece (state 0 all_content)
+    last_spelt : Good all_content → Spelt (cell column) (state (suc last_left) (d ++ x.front)) x.takes.piece (state 0 all_content)
     last_spelt good = content_spelt (d ++ x.front) x.takes.piece (suc last_left) 0 (omega (arith, x.takes.counted, last_split)) x.takes.begun (λ _ _. good)
 
-    pub last_text : (tail : List ℕ) → after_comma column (open_field c all_content) ++ tail ≡ cell_so_far column last (state 0 all_content)
-        → cell_so_far column last (state (suc last_left) (d ++ x.front)) ++ (added_text c (d ++ x.front) x.takes.piece ++ tail) ≡ cell_so_far column last (state 0 all_content)
-    last_text tail whole =
-        sym (append_assoc (cell_so_far column last (state (suc last_left) (d ++ x.front))) (added_text c (d ++ x.front) x.takes.piece) tail)
-        ∙ ap (λ l. l ++ tail) (ap (λ l. l ++ added_text c (d ++ x.front) x.takes.piece) (text_at last_left (d ++ x.front)) ∙ text_more (d ++ x.front) x.takes.piece x.takes.begun) ∙ whole
-
     -- all of it was read and its text put, and what ends it
-    abbrev pub ends_streams : (j : Held) (tail : List ℕ) → Good all_content → after_comma column (open_field c all_content) ++ tail ≡ cell_so_far column last (state 0 all_content) → Puts i j tail
-        → Streams (cell column) (cell_so_far column last) (state m d) a b h j (state 0 all_content)
-    ends_streams j tail good whole puts =
-        streams_both _ _ _ _ _ a _ b h _ j front_streams (record {
+    pub ends_path : {j : Held} (tail : List ℕ) → Good all_content → after_comma column (open_field c all_content) ++ tail ≡ cell_so_far column last (state 0 all_content) → Puts q.held j tail
+        → Path (cell column) (cell_so_far column last) (state m d) p (record q { held = j }) (state 0 all_content)
+    ends_path {j = j} tail good whole puts =
+        path_both front_path (record {
           bytes = x.takes.piece;
-          spelt = last_spelt good;
-          takes = Takes-more x.middle b _ 1 _ (let some : 0 < x.last = x.takes.some in omega (arith, some, x.takes.counted)) x.takes.takes;
-          puts = (added_text c (d ++ x.front) x.takes.piece ++ tail, last_text _ whole, Puts-trans _ i j _ _ x.takes.puts puts);
+          made = added_text c (d ++ x.front) x.takes.piece ++ tail;
+          writes = record { spelt = last_spelt good; text_is = text_closed (d ++ x.front) x.takes.piece tail last_left x.takes.begun whole };
+          takes = Takes-more x.middle q.seen _ 1 _ (let some : 0 < x.last = x.takes.some in omega (arith, some, x.takes.counted)) x.takes.takes;
+          puts = Puts-trans _ q.held j _ _ x.takes.puts puts;
+          place_is = omega (arith, x.takes.place_is, x.takes.counted);
         })
 
     -- a write of what ends it failed
-    pub ends_break : (j : Held) (p q : List ℕ) (stop : Stop) → Good all_content → after_comma column (open_field c all_content) ++ (p ++ q) ≡ cell_so_far column last (state 0 all_content) → Breaks i j p stop
-        → StopsStreaming (cell column) (cell_so_far column last) (state m d) a b place h j true stop
-    ends_break j p q stop good whole breaks =
-        let taken : Takes x.middle b (x.takes.piece ++ []) 1 = subst (λ l. Takes x.middle b l 1) (sym (append-nil x.takes.piece)) x.takes.takes in
-        streaming_after _ _ _ _ a _ b h _ j _ _ _ front_streams (broken _ _ _ b _ _ j x.fills.few x.fills.delivered _ [] _ _ _ (last_spelt good) taken x.takes.between
-        (last_text _ whole) (Breaks-after _ i j _ _ _ x.takes.puts (Breaks-longer i j p q _ breaks)))
+    pub ends_break : {j : Held} {stop : Stop} (tail : List ℕ) → Good all_content → after_comma column (open_field c all_content) ++ tail ≡ cell_so_far column last (state 0 all_content) → Breaks q.held j tail stop
+        → StopsStreaming (cell column) (cell_so_far column last) (state m d) p.seen q.seen p.place p.held j true stop
+    ends_break {j = j} tail good whole breaks =
+        let taken = rw (sym (append-nil x.takes.piece)) at x.takes.takes in
+        path_stops front_path (broken _ _ _ q.seen x.there _ j x.fills.few x.fills.delivered _ [] _ _ _ (last_spelt good) taken x.takes.between (text_closed (d ++ x.front) x.takes.piece tail last_left x.takes.begun whole) (Breaks-after _ q.held j _ _ _ x.takes.puts breaks))
 
     -- where the content isn't whole, its last byte is refused
     pub ends_refused : ((e : List ℕ) (y : ℕ) → is_fit c (e ++ y ∷ []) ≡ false → cell_fault column (state 1 e) (y ∷ []) ≡ Some (BadText column)) → is_fit c all_content ≡ false
-        → StopsStreaming (cell column) (cell_so_far column last) (state m d) a b place h i false (record { fault = BadText column; place = Payload (place' - 1) })
+        → StopsStreaming (cell column) (cell_so_far column last) (state m d) p.seen q.seen p.place p.held q.held false (record { fault = BadText column; place = Payload (q.place - 1) })
     ends_refused bad unfit =
         let some : 0 < x.last = x.takes.some in
         let s = snoc_of x.takes.piece (omega (arith, some, x.takes.counted)) in
         let e = d ++ x.front in
-        let p = s.0 in
+        let f = s.0 in
         let y = s.1 in
-        let is : x.takes.piece ≡ p ++ y ∷ [] = s.2 in
-        let len : length x.takes.piece ≡ length p + 1 = ap length is ∙ length-append p (y ∷ []) in
-        let same : all_content ≡ (e ++ p) ++ y ∷ [] = ap (λ l. e ++ l) is ∙ sym (append_assoc e p (y ∷ [])) in
-        let unfit_here : is_fit c ((e ++ p) ++ y ∷ []) ≡ false = ap (is_fit c) (sym same) ∙ unfit in
-        let begun : BeginsData c (e ++ p) = (joins_by_name c).front (e ++ p) (y ∷ []) (subst (BeginsData c) same x.takes.begun) in
-        let adds : added_text c e x.takes.piece ≡ added_text c e p = ap (added_text c e) is ∙ adds_none e p y (subst (λ l. BeginsData c (e ++ l)) is x.takes.begun) (unfit_adds_none c (e ++ p) y unfit_here) in
-        let stands : place' - 1 ≡ (place + length x.front) + length p = omega (arith, x.takes.place_is, x.fills.place_is, x.takes.counted, len) in
-        let taken : Takes x.middle b ((p ++ y ∷ []) ++ []) 1 = subst (λ l. Takes x.middle b l 1) (is ∙ sym (append-nil (p ++ y ∷ []))) x.takes.takes in
-        streaming_after (cell column) (cell_so_far column last) (state m d) (state (suc last_left) e) a x.middle b h x.between i place false (record { fault = BadText column; place = Payload (place' - 1) }) front_streams
-        (subst (λ (k : ℕ). StopsStreaming (cell column) (cell_so_far column last) (state (suc last_left) e) x.middle b (place + length x.front) x.between i false (record { fault = BadText column; place = Payload k })) (sym stands)
-        (record {
-          at = state 1 (e ++ p);
-          cause = inl (
-            record {
-              bytes = p;
-              spelt = content_spelt e p (suc last_left) 1 (omega (arith, x.takes.counted, last_split, len)) begun (λ none _. absurd (omega (arith, none)));
-              cause = inl (
-                record {
-                  element = y ∷ [];
-                  ahead = [];
-                  some = omega arith;
-                  whole = sym (holds.size 0 (e ++ p));
-                  first = bad (e ++ p) y unfit_here;
-                  takes = Takes-more x.middle b ((p ++ y ∷ []) ++ []) 1 (length (p ++ y ∷ [])) (omega (arith, length-append p (y ∷ []))) taken;
-                  between = x.takes.between;
-                },
-                refl,
-              );
-            },
-            (added_text c e p, text_grown e p last_left 0 begun, subst (Puts x.between i) adds x.takes.puts),
-            refl,
-          );
-        }))
+        let len : length x.takes.piece ≡ length f + 1 = ap length s.2 ∙ length-append f (y ∷ []) in
+        let same : e ++ (f ++ y ∷ []) ≡ (e ++ f) ++ y ∷ [] = sym (append_assoc e f (y ∷ [])) in
+        let begun = rw s.2 at x.takes.begun in
+        let unfit_here : is_fit c ((e ++ f) ++ y ∷ []) ≡ false = rw (s.2, same) at unfit in
+        let adds = adds_none e f y begun (unfit_adds_none c (e ++ f) y unfit_here) in
+        let stands : x.there + length f ≡ q.place - 1 = omega (arith, x.takes.place_is, x.takes.counted, len) in
+        path_stops front_path (rw stands at (byte_refused {a = x.middle} {b = q.seen} {h = x.between} {i = q.held} {m = suc last_left} e f [] y 0 x.there (omega (arith, x.takes.counted, last_split, len)) ((joins_by_name c).front (e ++ f) (y ∷ []) (rw same at begun)) (bad (e ++ f) y unfit_here) (rw s.2 at x.takes.takes) x.takes.between (rw (s.2, adds) at x.takes.puts)))
 
 -- ---- the content of a short value, and of a chunk
+
+short_next : (c : Conversion) (r : ℕ) (d : List ℕ) → short_left c (suc r) d ≡ ShortData c r d
+short_next c r d = choose_false (suc r == 0) (WholeCell (DataCell c d)) (ShortData c (suc r - 1) d) (ne_eqb (suc r) 0 (λ e. omega (arith, e))) ∙ ap (λ (k : ℕ). ShortData c k d) (omega arith)
+
+chunk_next : (c : Conversion) (total : Option ℕ) (r : ℕ) (d : List ℕ) → chunk_left c total (suc r) d ≡ ChunkData c total r d
+chunk_next c total r d = choose_false (suc r == 0) (ChunkLength c total d) (ChunkData c total (suc r - 1) d) (ne_eqb (suc r) 0 (λ e. omega (arith, e))) ∙ ap (λ (k : ℕ). ChunkData c total k d) (omega arith)
 
 module _ (column : ℕ) (c : Conversion) where
   short_free : (r : ℕ) (d : List ℕ) (x : ℕ) → is_begun c (d ++ x ∷ []) ≡ true → (r ≡ 0 → is_fit c (d ++ x ∷ []) ≡ true) → (is_begun c (d ++ x ∷ []) && (nat_lt 0 r || is_fit c (d ++ x ∷ []))) ≡ true
   short_free r d x begun fit = grind (arith, and_from, or_left, or_right, test_lt)
 
-  no_begun : (b k : Bool) → b ≡ false → unless (b && k) (BadText column) ≡ Some (BadText column)
-  no_begun b k h = rw h
+  begun_or : (b : Bool) → b ≡ false → unless b (BadText column) ≡ Some (BadText column)
+  begun_or b h = rw h
 
   no_fit : (b k : Bool) → k ≡ false → unless (b && (nat_lt 0 0 || k)) (BadText column) ≡ Some (BadText column)
   no_fit b k h = grind arith
@@ -343,14 +254,14 @@ module _ (column : ℕ) (c : Conversion) where
       ap (λ l. after_comma column (open_field c d) ++ l) (sym (append_assoc rest close (end_after last))) ∙ sym (append_assoc (after_comma column (open_field c d)) (rest ++ close) (end_after last))
       ∙ ap (λ l. l ++ end_after last) (sym (after_append column (open_field c d) (rest ++ close)) ∙ ap (after_comma column) (open_closes c d fit))
 
-  pub short_holds : (n : ℕ) → HoldsContent column c (short_left c) (λ d. is_fit c d ≡ true) n
-  short_holds n = record {
+  pub short_holds : HoldsContent column c (short_left c) (λ d. is_fit c d ≡ true)
+  short_holds = record {
     size = λ r d. ap cell_size (short_next c r d);
     end = λ r d. ap cell_end (short_next c r d);
     text = λ r d. ap field_so_far (short_next c r d);
     add = λ r d x. ap (λ s. cell_add s (x ∷ [])) (short_next c r d);
     free = λ r d x begun fit. ap (λ s. cell_fault column s (x ∷ [])) (short_next c r d) ∙ unless_true (is_begun c (d ++ x ∷ []) && (nat_lt 0 r || is_fit c (d ++ x ∷ []))) (BadText column) (short_free r d x begun fit);
-    bad = λ r d x no. ap (λ s. cell_fault column s (x ∷ [])) (short_next c r d) ∙ no_begun (is_begun c (d ++ x ∷ [])) (nat_lt 0 r || is_fit c (d ++ x ∷ [])) no;
+    bad = λ r d x no. ap (λ s. cell_fault column s (x ∷ [])) (short_next c r d) ∙ begun_or (is_begun c (d ++ x ∷ []) && (nat_lt 0 r || is_fit c (d ++ x ∷ []))) (ap (λ v. v && (nat_lt 0 r || is_fit c (d ++ x ∷ []))) no);
     ends = λ d x. fit_or_none d x (is_fit c (d ++ x ∷ [])) refl;
     whole = λ last d fit. (ending c (is_quoted c) last d, ending_text last d fit);
   }
@@ -359,8 +270,5 @@ module _ (column : ℕ) (c : Conversion) where
   pub short_refused : (e : List ℕ) (y : ℕ) → is_fit c (e ++ y ∷ []) ≡ false → cell_fault column (short_left c 1 e) (y ∷ []) ≡ Some (BadText column)
   short_refused e y unfit = ap (λ s. cell_fault column s (y ∷ [])) (short_next c 0 e) ∙ no_fit (is_begun c (e ++ y ∷ [])) (is_fit c (e ++ y ∷ [])) unfit
 
-  begun_or : (b : Bool) → b ≡ false → unless b (BadText column) ≡ Some (BadText column)
-  begun_or b h = rw h
-
-  pub chunk_holds : (total : Option ℕ) (n : ℕ) → HoldsContent column c (chunk_left c total) (λ _. Unit {0}) n
-  chunk_holds total n = grind (arith, append-nil, begun_or, chunk_next, unless_true)
+  pub chunk_holds : (total : Option ℕ) → HoldsContent column c (chunk_left c total) (λ _. Unit {0})
+  chunk_holds total = grind (arith, append-nil, begun_or, chunk_next, unless_true)

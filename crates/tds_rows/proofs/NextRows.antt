@@ -1,94 +1,95 @@
--- Rows one after another, each read by itself: one more after those that were read.
-use Rattle.std.proofs.Common.{◌≡◌, ◌∙◌, ℕ, ◌+◌, ◌-◌, ◌^◌, ◌<◌, ◌≤◌, Bool, List, [], ◌∷◌, ◌++◌, length, refl, sym, subst, arith, append-nil, length-append}
-use Rattle.tds_packet.specs.declared.fault.Fault.{Fault}
-use Rattle.tds_packet.specs.declared.fault.Stop.{Stop}
-use Rattle.tds_packet.specs.Elements.{Grammar}
-use Rattle.tds_packet.specs.Seen.{Seen, Takes}
-use Rattle.tds_packet.proofs.ElementLaws.{Spelt-none}
-use Rattle.tds_packet.proofs.Futures.{Takes-none}
-use Rattle.tds_columns.specs.Description.{Column}
-use Rattle.tds_csv.specs.Sinks.{Held}
-use Rattle.tds_csv.specs.Streaming.{Streams}
-use Rattle.tds_csv.proofs.Sinks.{Puts-none}
-use Rattle.tds_csv.proofs.Streams.{streams_both, streams_inside}
-use Rattle.tds_rows.specs.declared.Charset.{Charset}
-use Rattle.tds_rows.specs.Cells.{Cell}
-use Rattle.tds_rows.specs.Rows.{PlainRow, RowPart, RowToken, WholeRow, row, row_so_far, token_byte, token_start}
-use Rattle.tds_rows.specs.RowSteps.{ReadsRow, ReadsRows, RowStops, RowsStop}
-use Rattle.tds_rows.specs.Runs.{RowsPart, RunsRows, lines, rows, rows_so_far, rows_start}
-use Rattle.tds_rows.proofs.RunSteps.{row_among_rows, row_token, writes_streams}
+-- Rows one after another: what was read of them, and what is read after that.
+use Rattle.tds_rows.proofs.Words.{◌≡◌, ◌∙◌, ℕ, ◌+◌, ◌-◌, ◌^◌, ◌<◌, ◌≤◌, Bool, false, List, [], ◌∷◌, ◌++◌, length, drop, refl, sym, ap, arith, append_assoc, append-nil, length-append, Option, Stop, Seen, Takes, Inside, Column, Held, Puts-none, Charset, Rows, RowsRun, Ahead, Cell, StaysInRow, PlainRow, RowPart, RowToken, WholeRow, next_cell, row, row_so_far, token_byte, token_start, ReadsRow, ReadsRows, RowStops, RowsStop, RowsPart, RowsPut, RunsRows, Writes, lines, rows, rows_so_far, rows_start, IsAhead, Knows}
+use Rattle.tds_rows.proofs.{NullSteps.cell_path, NullSteps.marked_stops, NullTexts.coming, NullTexts.ends, NullTexts.nulls_ahead, Paths.At, Paths.Path, Paths.here, Paths.path_both, Paths.path_map, Paths.path_none, Paths.path_of, Paths.streams_of, Paths.writes_inside, RowSteps.PutsAt, RowSteps.StopsAt, RunSteps.lines-append, RunSteps.row_among, RunSteps.row_token}
 
--- Rows were read, this many, and their lines put; and the token byte of one more was read.
-pub record BeginsRow (token : RowToken) (charset : Charset) (columns : List Column) (count : ℕ) (old new : Seen) (place place' : ℕ) (before after : Held) : Type 0 where
-  pub earlier : List (List Cell)
-  pub counted : count ≡ length earlier
-  pub streams : Streams (rows token charset columns) rows_so_far (rows_start token charset columns) old new before after (record { before = earlier; at = token_start token charset columns })
-  pub place_is : place' ≡ place + length streams.bytes
+-- Rows of a token were read and their lines put: so many whole ones, and this part of the next.
+pub record RowsAt (token : RowToken) (charset : Charset) (all : List Column) (p q : At) (count : ℕ) (part : RowPart) : Type 0 where
+  pub before : List (List Cell)
+  pub counted : length before ≡ count
+  pub path : Path (rows token charset all) rows_so_far (rows_start token charset all) p q (record { before = before; at = part })
 
-module _ (token : RowToken) (charset : Charset) (columns : List Column) where
-  abbrev all : Grammar RowsPart Fault
-  all = rows token charset columns
+pub rows_first : {token : RowToken} {charset : Charset} {all : List Column} {p : At} → p.held.delivered ≤ 2 ^ 64 - 1 → RowsAt token charset all p p 0 (token_start token charset all)
+rows_first d = record { before = []; counted = refl; path = path_none d }
 
-  abbrev from : RowsPart
-  from = rows_start token charset columns
+module _ {token : RowToken} {charset : Charset} {all : List Column} {p q : At} {count : ℕ} where
+  -- more of the next one
+  pub rows_on : {part more : RowPart} {r : At} → RowsAt token charset all p q count part → Path (row charset) row_so_far part q r more → RowsAt token charset all p r count more
+  rows_on x y = record { before = x.before; counted = x.counted; path = path_both x.path (path_map (λ a m. row_among token charset all x.before) y) }
 
-  abbrev start : RowPart
-  start = token_start token charset columns
+  -- it stopped
+  pub rows_stop : {part : RowPart} {d : Seen} {j : Held} {failed : Bool} {stop : Stop} → RowsAt token charset all p q count part → RowStops charset part q.seen d q.place q.held j failed stop → RowsStop token charset all p.seen d p.place p.held j failed stop
+  rows_stop {part = part} x y = record { earlier = x.before; part = part; middle = q.seen; between = q.held; streams = streams_of x.path; stops = rw x.path.place_is at y }
 
-  abbrev among : List (List Cell) → RowPart → RowsPart
-  among before part = record { before = before; at = part }
+  -- all of it
+  pub rows_whole : {cells : List Cell} → RowsAt token charset all p q count (WholeRow cells) → ReadsRows token charset all (count + 1) p.seen q.seen p.place q.place p.held q.held
+  rows_whole {cells = cells} x = record { earlier = x.before; last = cells; counted = omega (arith, x.counted); streams = streams_of x.path; place_is = x.path.place_is }
 
-  -- before the first row
-  pub row_first : (a : Seen) (place : ℕ) (h : Held) → h.delivered ≤ 2 ^ 64 - 1 → BeginsRow token charset columns 0 a a place place h h
-  row_first a place h d = record {
-    earlier = [];
-    counted = refl;
-    streams = record { bytes = []; spelt = Spelt-none all from; takes = Takes-none a 0; puts = ([], append-nil (rows_so_far from), Puts-none h d) };
-    place_is = omega arith;
-  }
+-- a whole row that was read by itself
+pub rows_row : {token : RowToken} {charset : Charset} {all : List Column} {p : At} {count : ℕ} {part : RowPart} {b d : Seen} {middle place' : ℕ} {i j : Held} → RowsAt token charset all p (record { seen = b; place = middle; held = i }) count part → ReadsRow charset part b d middle place' i j
+    → ReadsRows token charset all (count + 1) p.seen d p.place place' p.held j
+rows_row x y = rows_whole (rows_on x (path_of y.streams y.place_is))
 
-  module _ (count : ℕ) (a b d : Seen) (place middle : ℕ) (h i j : Held) (x : BeginsRow token charset columns count a b place middle h i) where
-    -- the next row was read
-    pub row_more : (place' : ℕ) → ReadsRow charset start b d middle place' i j → ReadsRows token charset columns (count + 1) a d place place' h j
-    row_more place' y =
-        let there = streams_inside (row charset) all (among x.earlier) (row_among_rows token charset columns x.earlier) row_so_far rows_so_far (lines x.earlier) (λ p. refl) start b d i j (WholeRow y.cells) y.streams in
-        record {
-          earlier = x.earlier;
-          last = y.cells;
-          counted = omega (arith, x.counted);
-          streams = streams_both all rows_so_far from (among x.earlier start) (among x.earlier (WholeRow y.cells)) a b d h i j x.streams there;
-          place_is = omega (arith, x.place_is, y.place_is, length-append x.streams.bytes y.streams.bytes);
-        }
+-- the token byte of the next row was read
+pub rows_token : {token : RowToken} {charset : Charset} {all : List Column} {a b d : Seen} {place middle count : ℕ} {h i : Held} → 0 < length all → i.delivered ≤ 2 ^ 64 - 1 → ReadsRows token charset all count a b place middle h i → Takes b d (token_byte token ∷ []) 1
+    → RowsAt token charset all (record { seen = a; place = place; held = h }) (record { seen = d; place = middle + 1; held = i }) count (token_start token charset all)
+rows_token {token = token} {charset = charset} {all = all} {i = i} some delivered x takes = record {
+  before = x.earlier ++ x.last ∷ [];
+  counted = omega (arith, x.counted, length-append x.earlier (x.last ∷ []));
+  path = path_both (path_of x.streams x.place_is) (record { bytes = token_byte token ∷ []; made = []; writes = row_token token charset all x.earlier x.last some; takes = takes; puts = Puts-none i delivered; place_is = refl });
+}
 
-    -- it stopped
-    pub row_stops : (failed : Bool) (stop : Stop) → RowStops charset start b d middle i j failed stop → RowsStop token charset columns a d place h j failed stop
-    row_stops failed stop y = record {
-      earlier = x.earlier;
-      part = start;
-      middle = b;
-      between = i;
-      streams = x.streams;
-      stops = subst (λ (n : ℕ). RowStops charset start b d n i j failed stop) x.place_is y;
-    }
+-- ---- ROWs, run after run and cell after cell
 
-  -- the token byte of the next row was read
-  pub row_begins : (count : ℕ) (a b d : Seen) (place middle : ℕ) (h i : Held) → 0 < length columns → i.delivered ≤ 2 ^ 64 - 1 → ReadsRows token charset columns count a b place middle h i → Takes b d (token_byte token ∷ []) 1
-      → BeginsRow token charset columns count a d place (middle + 1) h i
-  row_begins count a b d place middle h i some delivered x takes =
-      let byte = token_byte token ∷ [] in
-      let whole = among x.earlier (WholeRow x.last) in
-      let begun = among (x.earlier ++ x.last ∷ []) start in
-      let next = writes_streams all rows_so_far whole begun b d i i byte [] (row_token token charset columns x.earlier x.last some) takes (Puts-none i delivered) in
-      record {
-        earlier = x.earlier ++ x.last ∷ [];
-        counted = x.counted ∙ sym (length-append x.earlier (x.last ∷ []));
-        streams = streams_both all rows_so_far from whole begun a b d h i i x.streams next;
-        place_is = omega (arith, x.place_is, length-append x.streams.bytes byte);
-      }
+module _ (charset : Charset) (all : List Column) (before : List (List Cell)) where
+  -- rows after these
+  abbrev after_rows : RowsPart → RowsPart
+  after_rows p = record { before = before ++ p.before; at = p.at }
 
--- where the next row has begun, its cells are to come
-pub rows_again : (charset : Charset) (columns left : List Column) (column count : ℕ) (a b : Seen) (place place' : ℕ) (h i : Held) → left ≡ columns → column ≡ 0 → BeginsRow PlainRow charset columns count a b place place' h i
-    → RunsRows charset columns [] columns left column count a b place place' h i
-rows_again charset columns left column count a b place place' h i same first x =
-    let y : RunsRows charset columns [] columns columns 0 count a b place place' h i = record { before = x.earlier; more = []; rows_counted = sym x.counted; counted = refl; streams = x.streams; place_is = x.place_is } in
-    subst (λ (n : ℕ). RunsRows charset columns [] columns left n count a b place place' h i) (sym first) (subst (λ (l : List Column). RunsRows charset columns [] columns l 0 count a b place place' h i) (sym same) y)
+  rows_among_rows : Inside (rows PlainRow charset all) (rows PlainRow charset all) after_rows
+  rows_among_rows = grind (arith, append_assoc)
+
+  rows_after_text : (p : RowsPart) → lines before ++ rows_so_far p ≡ rows_so_far (after_rows p)
+  rows_after_text p = sym (append_assoc (lines before) (lines p.before) (row_so_far p.at)) ∙ ap (λ l. l ++ row_so_far p.at) (sym (lines-append before p.before))
+
+  rows_after : {p q : RowsPart} {bytes made : List ℕ} → Writes (rows PlainRow charset all) rows_so_far p bytes made q → Writes (rows PlainRow charset all) rows_so_far (after_rows p) bytes made (after_rows q)
+  rows_after x = writes_inside {text = rows_so_far} {whole = rows_so_far} (lines before) rows_among_rows rows_after_text x
+
+-- ROWs were read and their lines put, so many whole ones and the first cells of the next, whose other columns are left.
+pub record Rowing (charset : Charset) (all : List Column) (left : List (Column × Bool)) (p q : At) (column count : ℕ) : Type 0 where
+  pub cells : List Cell
+  pub counted : length cells ≡ column
+  pub rows : RowsAt PlainRow charset all p q count (next_cell charset cells left)
+
+module _ {charset : Charset} {all : List Column} {p q : At} {column count : ℕ} where
+  -- a run
+  pub rowing_run : {left left' : List Column} {column' count' : ℕ} {r : At} → Rowing charset all (coming left column) p q column count → ((cells : List Cell) → length cells ≡ column → RunsRows charset all cells left left' column' count' q.seen r.seen q.place r.place q.held r.held)
+      → Rowing charset all (coming left' column') p r column' (count + count')
+  rowing_run x f =
+      let y = f x.cells x.counted in
+      let run = path_map (λ a m. rows_after charset all x.rows.before) (path_of y.streams y.place_is) in
+      let there = rw (append-nil x.rows.before, x.counted, y.counted) at run in
+      record { cells = y.more; counted = y.counted; rows = record { before = x.rows.before ++ y.before; counted = omega (arith, length-append x.rows.before y.before, x.rows.counted, y.rows_counted); path = path_both x.rows.path there } }
+
+  module _ {c : Column} {ks : List (Column × Bool)} where
+    -- a cell
+    pub rowing_cell : {r : At} → nulls_ahead (column + 1) ks ≡ [] → Rowing charset all ((c, false) ∷ ks) p q column count → PutsAt charset c.kind column (ends ks) q r → Rowing charset all ks p r (column + 1) count
+    rowing_cell none x y =
+        let one = cell_path charset c x.cells x.counted none y in
+        record { cells = x.cells ++ one.0 ∷ []; counted = omega (arith, x.counted, length-append x.cells (one.0 ∷ [])); rows = rows_on x.rows one.1 }
+
+    -- a cell that stopped
+    pub rowing_stop : {d : Seen} {j : Held} {failed : Bool} {stop : Stop} → Rowing charset all ((c, false) ∷ ks) p q column count → StopsAt charset c.kind column (ends ks) q d j failed stop → RowsStop PlainRow charset all p.seen d p.place p.held j failed stop
+    rowing_stop x y = rows_stop x.rows (marked_stops charset x.cells ks c _ _ _ _ _ _ _ (rw (sym x.counted) at y))
+
+-- The reading of ROWs stands at this place of the last one.
+abbrev pub RowsHere : {R W : Type 0} → (R → Option (List ℕ)) → (W → Option (List ℕ)) → List Column → At → Rows R W → Ahead → ℕ → Type 0
+RowsHere remaining contents columns p rows at count =
+    IsAhead rows.table.now columns at × Rowing rows.table.now.charset columns (coming (drop at.column columns) at.column) p (here remaining contents rows) at.column count
+
+-- after a run
+pub rows_ran : {R W : Type 0} (remaining : R → Option (List ℕ)) (contents : W → Option (List ℕ)) (columns : List Column) (p : At) (old new : Rows R W) (from : Ahead) (count : ℕ) (run : RowsRun) → StaysInRow old new → Knows old.table.now columns
+    → RowsPut remaining contents old.table.now from old.payload.now new.payload.now old.sink.now new.sink.now run → RowsHere remaining contents columns p old from count → RowsHere remaining contents columns p new run.ahead (count + run.rows)
+rows_ran remaining contents columns p old new from count run kept knows put x =
+    let ran = put columns knows x.0 in
+    let there = rowing_run x.1 (λ cells is. ran.1 old.table.now.charset cells refl is) in
+    rw kept.same.3 (ran.0, there)

@@ -1,32 +1,6 @@
 -- Rows with NULLs by their bit, column after column, as they are read and their text is put.
-use Rattle.std.proofs.Common.{◌≡◌, ◌∙◌, inl, inr, ℕ, ◌+◌, ◌-◌, ◌^◌, ◌<◌, ◌≤◌, Bool, true, false, List, [], ◌∷◌, ◌++◌, length, drop, refl, sym, ap, subst, arith, length-append}
-use Rattle.std.specs.Prelude.{map, Some}
-use Rattle.tds_packet.specs.declared.fault.Fault.{Fault}
-use Rattle.tds_packet.specs.declared.fault.Fault.TheVariants.{MessageEnded}
-use Rattle.tds_packet.specs.declared.fault.Stop.{Stop}
-use Rattle.tds_packet.specs.Elements.{Grammar, IsNext, Spelt}
-use Rattle.tds_packet.specs.Seen.{Ends, IsBetween, Seen, Takes, began_at}
-use Rattle.tds_packet.proofs.ElementLaws.{Inside-Spelt, Spelt-none}
-use Rattle.tds_packet.proofs.Futures.{Takes-none}
-use Rattle.tds_packet.proofs.Lifts.{next_inside, next_some, stops_inside}
-use Rattle.tds_packet.proofs.Steps.{began_is_cut, cut_at_once}
-use Rattle.tds_columns.specs.Description.{Column}
-use Rattle.tds_csv.specs.Quoting.{in_line, joined, null_field}
-use Rattle.tds_csv.specs.Sinks.{Breaks, Held, Puts}
-use Rattle.tds_csv.specs.Streaming.{BreaksStreaming, PutsText, StopsStreaming, Streams}
-use Rattle.tds_csv.proofs.Nears.{Nears, added_between, last_read, nears_after, nears_breaks, nears_done, nears_from, nears_inside, nears_put, tail_after}
-use Rattle.tds_csv.proofs.Sinks.{Breaks-longer, Puts-none}
-use Rattle.tds_rows.specs.declared.Charset.{Charset}
-use Rattle.tds_rows.specs.Cells.{Cell, CellPart, Null, WholeCell, cell, cell_add, cell_size, cell_start, field, shape}
-use Rattle.tds_rows.specs.CellSteps.{cell_so_far}
-use Rattle.tds_rows.specs.Rows.{Bitmap, InCell, RowPart, bit, bitmap_length, marked, nbc_row_start, next_cell, row, row_so_far, with_cell}
-use Rattle.tds_csv.proofs.Streams.{stops_size, streaming_after}
-use Rattle.tds_rows.specs.RowSteps.{ReadsRow, RowStops}
-use Rattle.tds_rows.proofs.NullTexts.{begun_text, ends, line_grows, nulls_ahead, nulls_text, part_text, rest_of, start_size}
-use Rattle.tds_rows.proofs.RowLaws.{begins_open, cell_in_row, shape-HasBytes}
-use Rattle.tds_rows.proofs.RowSteps.{same_end}
-use Rattle.tds_rows.proofs.RunSteps.{cell_some}
-use Rattle.tds_rows.proofs.CellWords.{PutsCell, StopsCell}
+use Rattle.tds_rows.proofs.Words.{◌≡◌, ◌∙◌, inl, inr, ℕ, ◌+◌, ◌-◌, ◌^◌, ◌<◌, ◌≤◌, Bool, true, false, List, [], ◌∷◌, ◌++◌, length, refl, sym, ap, subst, arith, length-append, map, Some, Fault, MessageEnded, Stop, Grammar, IsNext, Ends, IsBetween, Seen, Takes, began_at, Inside-Spelt, next_inside, next_some, stops_inside, began_is_cut, cut_at_once, Column, in_line, joined, null_field, Breaks, Held, Puts, BreaksStreaming, StopsStreaming, Nears, added_between, last_read, nears_after, nears_breaks, nears_done, nears_from, nears_inside, nears_put, tail_after, Breaks-longer, Puts-none, Charset, Cell, CellPart, Null, WholeCell, cell, cell_add, cell_size, cell_start, field, shape, cell_so_far, Bitmap, InCell, RowPart, bit, bitmap_length, marked, nbc_row_start, next_cell, row, row_so_far, row_start, with_cell, stops_size, ReadsRow, RowStops, Writes}
+use Rattle.tds_rows.proofs.{NullTexts.begun_text, NullTexts.coming, NullTexts.ends, NullTexts.line_grows, NullTexts.nulls_ahead, NullTexts.nulls_text, NullTexts.part_text, NullTexts.rest_of, NullTexts.start_size, NullTexts.whole_text, RowLaws.begins_open, RowLaws.cell_in_row, RowLaws.shape-HasBytes, Paths.At, Paths.Path, Paths.path_both, Paths.path_map, Paths.path_none, Paths.path_of, Paths.path_stops, Paths.streams_of, Paths.writes_inside, RowSteps.PutsAt, RowSteps.StopsAt, RowSteps.cell_some, RowSteps.same_end, CellWords.StopsCell}
 
 -- ---- a cell in its row, with the NULLs after it
 
@@ -97,19 +71,25 @@ module _ (charset : Charset) (cells : List Cell) (ks : List (Column × Bool)) wh
   marked_stops c b d place i j failed stop x =
       subst (λ v. StopsStreaming big row_so_far v b d place i j failed stop) (begins_open charset cells ks c.kind (shape charset c.kind)) (stops_there (cell_start c.kind (shape charset c.kind)) b d place i j failed stop (begin_size c) x)
 
+  -- a cell in its row, with no NULL by its bit after it
+  pub row_cell : (c : Column) → nulls_ahead (length cells + 1) ks ≡ [] → {bytes made : List ℕ} {v : Cell} → Writes (cell (length cells)) (cell_so_far (length cells) (ends ks)) (cell_start c.kind (shape charset c.kind)) bytes made (WholeCell v)
+      → Writes (row charset) row_so_far (next_cell charset cells ((c, false) ∷ ks)) bytes made (next_cell charset (cells ++ v ∷ []) ks)
+  row_cell c none x = rw (begins_open charset cells ks c.kind (shape charset c.kind)) at (writes_inside {text = text} {whole = row_so_far} front (cell_in_row charset cells ks) (whole_text charset cells ks none) x)
+
 -- ---- column after column
 
--- The first cells of a row were read, and their text put but for that of the NULLs by their bit at the front of the columns that are left.
-pub record NearsCells (charset : Charset) (start : RowPart) (left : List (Column × Bool)) (old new : Seen) (place place' : ℕ) (before after : Held) (column : ℕ) : Type 0 where
+-- The first cells of a row were read and their text put, and these columns are left.
+pub record Reads (charset : Charset) (start : RowPart) (left : List (Column × Bool)) (p q : At) (column : ℕ) : Type 0 where
   pub cells : List Cell
   pub counted : length cells ≡ column
-  pub nears : Nears (row charset) row_so_far start old new before after (next_cell charset cells left) (nulls_ahead column left)
-  pub place_is : place' ≡ place + length (nears.bytes ++ nears.element)
+  pub path : Path (row charset) row_so_far start p q (next_cell charset cells left)
 
--- the next column is left, and this is its bit
-pub next_left : (charset : Charset) (start : RowPart) (columns left : List Column) (c : Column) (nulls : ℕ → Bool) (null : Bool) (a b : Seen) (place middle : ℕ) (h i : Held) (n : ℕ) → drop n columns ≡ c ∷ left → nulls n ≡ null → NearsCells charset start (marked (drop n columns) nulls n) a b place middle h i n
-    → NearsCells charset start ((c, null) ∷ marked left nulls (n + 1)) a b place middle h i n
-next_left charset start columns left c nulls null a b place middle h i n next is x = rw is at (rw next at x)
+-- The first cells of a row were read, and their text put but for that of the NULLs by their bit at the front of the columns that are left.
+pub record NearsCells (charset : Charset) (start : RowPart) (left : List (Column × Bool)) (p q : At) (column : ℕ) : Type 0 where
+  pub cells : List Cell
+  pub counted : length cells ≡ column
+  pub nears : Nears (row charset) row_so_far start p.seen q.seen p.held q.held (next_cell charset cells left) (nulls_ahead column left)
+  pub place_is : q.place ≡ p.place + length (nears.bytes ++ nears.element)
 
 -- some columns are left, so the line doesn't end there
 all_ahead : (charset : Charset) (columns : List Column) (nulls : ℕ → Bool) → 0 < length columns → nulls_ahead 0 (marked columns nulls 0) ≡ row_so_far (next_cell charset [] (marked columns nulls 0))
@@ -117,15 +97,15 @@ all_ahead charset [] nulls some = absurd (omega arith)
 all_ahead charset (c ∷ cs) nulls some = nulls_text charset [] ((c, nulls 0) ∷ marked cs nulls 1)
 
 -- the bitmap was read
-pub bitmap_nears : (charset : Charset) (columns : List Column) (a b : Seen) (place place' : ℕ) (h : Held) (bitmap : List ℕ) → 0 < length columns → length bitmap ≡ bitmap_length (length columns) → Takes a b bitmap (length bitmap) → IsBetween b → length h.waiting < 4096 → h.delivered ≤ 2 ^ 64 - 1
-    → place' ≡ place + length bitmap → NearsCells charset (nbc_row_start columns) (marked columns (bit bitmap) 0) a b place place' h h 0
-bitmap_nears charset columns a b place place' h bitmap some whole takes between few d at =
-    let begun : Streams (row charset) row_so_far (Bitmap columns) a a h h (Bitmap columns) = record { bytes = []; spelt = Spelt-none (row charset) (Bitmap columns); takes = Takes-none a 0; puts = ([], refl, Puts-none h d) } in
+pub bitmap_nears : {charset : Charset} {p : At} {b : Seen} {place' : ℕ} (columns : List Column) (bitmap : List ℕ) → 0 < length columns → length bitmap ≡ bitmap_length (length columns) → Takes p.seen b bitmap (length bitmap) → IsBetween b → length p.held.waiting < 4096 → p.held.delivered ≤ 2 ^ 64 - 1
+    → place' ≡ p.place + length bitmap → NearsCells charset (nbc_row_start columns) (marked columns (bit bitmap) 0) p (record { seen = b; place = place'; held = p.held }) 0
+bitmap_nears {charset = charset} {p = p} {b = b} columns bitmap some whole takes between few d at =
+    let begun = streams_of (path_none {g = row charset} {text = row_so_far} {s = Bitmap columns} {p = p} d) in
     let next : IsNext (row charset) (Bitmap columns) bitmap = record { some = omega (arith, some, whole); whole = whole; free = refl } in
     record {
       cells = [];
       counted = refl;
-      nears = nears_from (row charset) row_so_far (Bitmap columns) (Bitmap columns) a a b h h bitmap (nulls_ahead 0 (marked columns (bit bitmap) 0)) begun next takes between few d (all_ahead charset columns (bit bitmap) some);
+      nears = nears_from (row charset) row_so_far (Bitmap columns) (Bitmap columns) p.seen p.seen b p.held p.held bitmap (nulls_ahead 0 (marked columns (bit bitmap) 0)) begun next takes between few d (all_ahead charset columns (bit bitmap) some);
       place_is = at;
     }
 
@@ -137,62 +117,72 @@ bitmap_cut charset columns a b place h part own stop fewer ended is d = record {
   cause = inl (cut_at_once (row charset) (Bitmap columns) a b place part own stop fewer ended (began_is_cut place (Some MessageEnded) own stop refl is), ([], refl, Puts-none h d), refl);
 }
 
-module _ (charset : Charset) (start : RowPart) (c : Column) (ks : List (Column × Bool)) (a b : Seen) (place middle : ℕ) (h i : Held) (column : ℕ) where
+-- a cell was read and its text put, in its row, and no NULL by its bit is after it
+pub cell_path : {ks : List (Column × Bool)} {column : ℕ} {p q : At} (charset : Charset) (c : Column) (cells : List Cell) → length cells ≡ column → nulls_ahead (column + 1) ks ≡ [] → PutsAt charset c.kind column (ends ks) p q
+    → (v : Cell) × Path (row charset) row_so_far (next_cell charset cells ((c, false) ∷ ks)) p q (next_cell charset (cells ++ v ∷ []) ks)
+cell_path {ks = ks} charset c cells counted none y =
+    let z = rw (sym counted) at y in
+    (z.value, path_map (λ a m. row_cell charset cells ks c (rw counted none)) (path_of z.streams z.place_is))
+
+further : (a b e l : List ℕ) (m n k : ℕ) → b ++ e ≡ l → n ≡ m + length a → k ≡ n + length l → k ≡ m + length ((a ++ b) ++ e)
+further a b e l m n k joined first second = simp length-append (omega (arith, length-append b e, ap length joined))
+
+module _ {charset : Charset} {start : RowPart} {c : Column} {ks : List (Column × Bool)} {p q : At} {column : ℕ} where
   -- a NULL by its bit was put
-  pub null_nears : (j : Held) → NearsCells charset start ((c, true) ∷ ks) a b place middle h i column → Puts i j (in_line column (ends ks) null_field) → NearsCells charset start ks a b place middle h j (column + 1)
-  null_nears j x puts = record {
+  pub null_nears : {j : Held} → NearsCells charset start ((c, true) ∷ ks) p q column → Puts q.held j (in_line column (ends ks) null_field) → NearsCells charset start ks p (record q { held = j }) (column + 1)
+  null_nears {j = j} x puts = record {
     cells = x.cells ++ Null ∷ [];
     counted = omega (arith, x.counted, length-append x.cells (Null ∷ []));
-    nears = nears_put (row charset) row_so_far start a b h i j (next_cell charset (x.cells ++ Null ∷ []) ks) (in_line column (ends ks) null_field) (nulls_ahead (column + 1) ks) x.nears puts;
+    nears = nears_put (row charset) row_so_far start p.seen q.seen p.held q.held j (next_cell charset (x.cells ++ Null ∷ []) ks) (in_line column (ends ks) null_field) (nulls_ahead (column + 1) ks) x.nears puts;
     place_is = x.place_is;
   }
 
   -- a write of it failed
-  pub null_breaks : (j : Held) (stop : Stop) → NearsCells charset start ((c, true) ∷ ks) a b place middle h i column → Breaks i j (in_line column (ends ks) null_field) stop → RowStops charset start a b place h j true stop
-  null_breaks j stop x breaks =
-      let broken = nears_breaks _ _ _ a b h i j _ _ _ _ _ x.nears refl breaks in
+  pub null_breaks : {j : Held} {stop : Stop} → NearsCells charset start ((c, true) ∷ ks) p q column → Breaks q.held j (in_line column (ends ks) null_field) stop → RowStops charset start p.seen q.seen p.place p.held j true stop
+  null_breaks {j = j} x breaks =
+      let broken = nears_breaks _ _ _ p.seen q.seen p.held q.held j _ _ _ _ _ x.nears refl breaks in
       record { at = broken.0; cause = inr (broken.1, refl) }
 
--- no NULL by its bit is next, so all text was put
-abbrev pub all_put : (charset : Charset) (start : RowPart) (left : List (Column × Bool)) (a b : Seen) (place middle : ℕ) (h i : Held) (column : ℕ) → nulls_ahead column left ≡ [] → i.delivered ≤ 2 ^ 64 - 1 → (x : NearsCells charset start left a b place middle h i column)
-    → Streams (row charset) row_so_far start a b h i (next_cell charset x.cells left)
-all_put charset start left a b place middle h i column none d x = nears_done (row charset) row_so_far start a b h i i (next_cell charset x.cells left) (nulls_ahead column left) x.nears (subst (λ l. Puts i i l) (sym none) (Puts-none i d))
-
-module _ (charset : Charset) (start : RowPart) (c : Column) (ks : List (Column × Bool)) (a b d : Seen) (place middle : ℕ) (h i j : Held) (column : ℕ) (delivered : i.delivered ≤ 2 ^ 64 - 1) where
-  -- a cell was read, and its text put
-  pub cell_nears : (place' : ℕ) → IsBetween d → length j.waiting < 4096 → NearsCells charset start ((c, false) ∷ ks) a b place middle h i column → PutsCell charset c.kind column (ends ks) b d middle place' i j → NearsCells charset start ks a d place place' h j (column + 1)
-  cell_nears place' between few x y =
-      let z : PutsCell charset c.kind (length x.cells) (ends ks) b d middle place' i j = subst (λ (n : ℕ). PutsCell charset c.kind n (ends ks) b d middle place' i j) (sym x.counted) y in
-      let one = cell (length x.cells) in
-      let so_far = cell_so_far (length x.cells) (ends ks) in
-      let lift = with_cell charset x.cells ks in
-      let begin = cell_start c.kind (shape charset c.kind) in
-      let begins : lift begin ≡ InCell x.cells begin ks = begins_open charset x.cells ks c.kind (shape charset c.kind) in
-      let ended : Streams (row charset) row_so_far start a b h i (InCell x.cells begin ks) = all_put charset start ((c, false) ∷ ks) a b place middle h i column refl delivered x in
-      let begun : Streams (row charset) row_so_far start a b h i (lift begin) = record { bytes = ended.bytes; spelt = subst (λ v. Spelt (row charset) start ended.bytes v) (sym begins) ended.spelt; takes = ended.takes; puts = subst (λ v. PutsText row_so_far start v h i) (sym begins) ended.puts } in
-      let tail = nulls_ahead (length x.cells + 1) ks in
-      let at : place' ≡ middle + length z.streams.bytes = z.place_is in
-      let some : 0 < length z.streams.bytes = (let further : middle < place' = cell_some charset c.kind (length x.cells) (ends ks) b d middle place' i j z in omega (arith, at)) in
-      let whole : Nears (row charset) row_so_far (lift begin) b d i j (next_cell charset (x.cells ++ z.value ∷ []) ks) tail =
-      nears_inside one (row charset) lift (cell_in_row charset x.cells ks) so_far row_so_far (joined (map field x.cells)) (begun_text charset x.cells ks) (line_grows (length x.cells) (ends ks)) begin b d i j (WholeCell z.value) tail z.streams some between few (part_text charset x.cells ks (WholeCell z.value)) in
-      let both : Nears (row charset) row_so_far start a d h j (next_cell charset (x.cells ++ z.value ∷ []) ks) tail = nears_after (row charset) row_so_far start (lift begin) a b d h i j (next_cell charset (x.cells ++ z.value ∷ []) ks) tail begun whole in
-      let before : middle ≡ place + length ended.bytes = x.place_is in
-      let parts : whole.bytes ++ whole.element ≡ z.streams.bytes = (last_read one begin z.streams.bytes (WholeCell z.value) z.streams.spelt some).joined in
-      subst (λ (n : ℕ). NearsCells charset start ks a d place place' h j (n + 1)) x.counted (record {
-        cells = x.cells ++ z.value ∷ [];
-        counted = length-append x.cells (z.value ∷ []);
-        nears = both;
-        place_is = omega (arith, at, before, ap length parts, length-append whole.bytes whole.element, length-append (ended.bytes ++ whole.bytes) whole.element, length-append ended.bytes whole.bytes);
-      })
+  -- a cell was read and its text put, and no NULL by its bit is after it
+  pub cell_reads : {r : At} → nulls_ahead (column + 1) ks ≡ [] → Reads charset start ((c, false) ∷ ks) p q column → PutsAt charset c.kind column (ends ks) q r → Reads charset start ks p r (column + 1)
+  cell_reads none x y =
+      let one = cell_path charset c x.cells x.counted none y in
+      record { cells = x.cells ++ one.0 ∷ []; counted = omega (arith, x.counted, length-append x.cells (one.0 ∷ [])); path = path_both x.path one.1 }
 
   -- it stopped the row
-  pub cell_stops_row : (failed : Bool) (stop : Stop) → NearsCells charset start ((c, false) ∷ ks) a b place middle h i column → StopsCell charset c.kind column (ends ks) b d middle i j failed stop → RowStops charset start a d place h j failed stop
-  cell_stops_row failed stop x y =
-      let z : StopsCell charset c.kind (length x.cells) (ends ks) b d middle i j failed stop = subst (λ (n : ℕ). StopsCell charset c.kind n (ends ks) b d middle i j failed stop) (sym x.counted) y in
-      let begin = InCell x.cells (cell_start c.kind (shape charset c.kind)) ks in
-      let begun : Streams (row charset) row_so_far start a b h i begin = all_put _ _ _ a b _ _ h i _ refl delivered x in
-      streaming_after _ _ _ _ a b d h i j _ _ _ begun (subst (λ (n : ℕ). RowStops charset begin b d n i j failed stop) x.place_is (marked_stops _ _ ks c b d _ i j _ _ z))
+  pub cell_stops : {d : Seen} {j : Held} {failed : Bool} {stop : Stop} → Reads charset start ((c, false) ∷ ks) p q column → StopsAt charset c.kind column (ends ks) q d j failed stop → RowStops charset start p.seen d p.place p.held j failed stop
+  cell_stops x y = path_stops x.path (marked_stops charset x.cells ks c _ _ _ _ _ _ _ (rw (sym x.counted) at y))
 
--- after the last column
-pub row_ends : (charset : Charset) (start : RowPart) (a b : Seen) (place place' : ℕ) (h i : Held) (column : ℕ) → i.delivered ≤ 2 ^ 64 - 1 → NearsCells charset start [] a b place place' h i column → ReadsRow charset start a b place place' h i
-row_ends charset start a b place place' h i column d x = record { cells = x.cells; streams = all_put charset start [] a b place place' h i column refl d x; place_is = x.place_is }
+  -- a cell was read and its text put, and NULLs may be after it
+  pub cell_nears : {r : At} → IsBetween r.seen → length r.held.waiting < 4096 → Reads charset start ((c, false) ∷ ks) p q column → PutsAt charset c.kind column (ends ks) q r → NearsCells charset start ks p r (column + 1)
+  cell_nears {r = r} between few x y =
+      let n = length x.cells in
+      let z : PutsAt charset c.kind n (ends ks) q r = rw (sym x.counted) at y in
+      let begin = cell_start c.kind (shape charset c.kind) in
+      let tail = nulls_ahead (n + 1) ks in
+      let some : 0 < length z.streams.bytes = omega (arith, cell_some charset c.kind z, z.place_is) in
+      let whole : Nears (row charset) row_so_far (with_cell charset x.cells ks begin) q.seen r.seen q.held r.held (next_cell charset (x.cells ++ z.value ∷ []) ks) tail =
+      nears_inside (cell n) (row charset) _ (cell_in_row charset x.cells ks) _ row_so_far _ (begun_text charset x.cells ks) (line_grows n (ends ks)) begin _ _ _ _ (WholeCell z.value) tail z.streams some between few (part_text charset x.cells ks (WholeCell z.value)) in
+      let begun : Path (row charset) row_so_far start p q (with_cell charset x.cells ks begin) = rw (sym (begins_open charset x.cells ks c.kind (shape charset c.kind))) at x.path in
+      let parts = (last_read (cell n) begin z.streams.bytes (WholeCell z.value) z.streams.spelt some).joined in
+      let near : NearsCells charset start ks p r (n + 1) = record {
+        cells = x.cells ++ z.value ∷ [];
+        counted = length-append x.cells (z.value ∷ []);
+        nears = nears_after (row charset) row_so_far start _ p.seen q.seen r.seen p.held q.held r.held _ tail (streams_of begun) whole;
+        place_is = further begun.bytes whole.bytes whole.element z.streams.bytes p.place q.place r.place parts begun.place_is z.place_is;
+      } in
+      rw x.counted at near
+
+module _ {charset : Charset} {start : RowPart} {ks : List (Column × Bool)} {p q : At} {column : ℕ} where
+  -- no NULL by its bit is next, so all text was put
+  pub all_put : nulls_ahead column ks ≡ [] → q.held.delivered ≤ 2 ^ 64 - 1 → NearsCells charset start ks p q column → Reads charset start ks p q column
+  all_put none d x =
+      let last : Puts q.held q.held (nulls_ahead column ks) = rw none (Puts-none q.held d) in
+      record { cells = x.cells; counted = x.counted; path = path_of (nears_done (row charset) row_so_far start p.seen q.seen p.held q.held q.held (next_cell charset x.cells ks) (nulls_ahead column ks) x.nears last) x.place_is }
+
+-- before the first column of a ROW, and after the last one of a row
+pub row_begins : {charset : Charset} {p : At} (columns : List Column) → p.held.delivered ≤ 2 ^ 64 - 1 → Reads charset (row_start charset columns) (coming columns 0) p p 0
+row_begins columns d = record { cells = []; counted = refl; path = path_none d }
+
+pub row_ends : {charset : Charset} {start : RowPart} {p q : At} {column : ℕ} → Reads charset start [] p q column → ReadsRow charset start p.seen q.seen p.place q.place p.held q.held
+row_ends x = record { cells = x.cells; streams = streams_of x.path; place_is = x.path.place_is }

@@ -1,19 +1,6 @@
 -- Columns that are NULL by their bit: their text stands after that of the element that is read before them.
-use Rattle.std.proofs.Common.{◌≡◌, ◌∙◌, ℕ, ◌+◌, ◌<◌, Bool, true, false, List, [], ◌∷◌, ◌++◌, length, sym, ap, arith, append_assoc, append-nil, length-append}
-use Rattle.std.specs.Prelude.{◌==◌, Option, Some, None, if◌then◌else◌, map}
-use Rattle.tds_values.specs.declared.kind.Kind.{Kind}
-use Rattle.tds_packet.specs.Elements.{IsNext}
-use Rattle.tds_packet.proofs.Lifts.{next_some}
-use Rattle.tds_columns.specs.Description.{Column}
-use Rattle.tds_csv.specs.Conversion.{open_field}
-use Rattle.tds_csv.specs.Quoting.{after_comma, end_after, in_line, joined, line, null_field}
-use Rattle.tds_rows.specs.declared.Charset.{Charset}
-use Rattle.tds_rows.specs.Cells.{Cell, CellPart, ChunkData, ChunkLength, Null, Shape, ShortData, WholeCell, cell, cell_add, cell_size, cell_start, field, field_so_far}
-use Rattle.tds_rows.specs.CellSteps.{cell_so_far, is_last_column, opened}
-use Rattle.tds_rows.specs.Rows.{RowPart, marked, next_cell, row_so_far, with_cell}
-use Rattle.tds_rows.proofs.GrowingTexts.{Grows, OptionGrows, cell_grows, grows_all, grows_by, grows_same, grows_trans, grows_under}
-use Rattle.tds_rows.proofs.CellLaws.{HasBytes}
-use Rattle.tds_rows.proofs.RowSteps.{cell_more, fields_more, start_quiet}
+use Rattle.tds_rows.proofs.Words.{◌≡◌, ◌∙◌, ℕ, ◌+◌, ◌<◌, Bool, true, false, List, [], ◌∷◌, ◌++◌, length, refl, sym, ap, arith, append_assoc, append-nil, length-append, ◌==◌, Option, Some, None, if◌then◌else◌, map, Kind, IsNext, next_some, Column, open_field, after_comma, end_after, in_line, joined, line, null_field, Charset, Cell, CellPart, ChunkData, ChunkLength, Null, Shape, ShortData, WholeCell, cell, cell_add, cell_size, cell_start, field, field_so_far, cell_so_far, is_last_column, opened, RowPart, marked, next_cell, row_so_far, with_cell}
+use Rattle.tds_rows.proofs.{GrowingTexts.Grows, GrowingTexts.OptionGrows, GrowingTexts.cell_grows, GrowingTexts.grows_all, GrowingTexts.grows_by, GrowingTexts.grows_same, GrowingTexts.grows_trans, GrowingTexts.grows_under, CellLaws.HasBytes, RowSteps.cell_more, RowSteps.fields_more, RowSteps.start_quiet}
 
 -- whether no column follows
 abbrev pub ends : List (Column × Bool) → Bool
@@ -24,11 +11,19 @@ ends (k ∷ ks) = false
 pub ends_marked : (columns : List Column) (nulls : ℕ → Bool) (n : ℕ) → is_last_column columns ≡ ends (marked columns nulls n)
 ends_marked columns nulls n = grind arith
 
+-- no column is NULL by its bit
+abbrev pub coming : List Column → ℕ → List (Column × Bool)
+coming left n = marked left (λ k. false) n
+
 -- the text in its line of the first columns, as far as they are NULL by their bit; this many columns lie before them
 abbrev pub nulls_ahead : ℕ → List (Column × Bool) → List ℕ
 nulls_ahead n [] = []
 nulls_ahead n ((k, true) ∷ ks) = in_line n (ends ks) null_field ++ nulls_ahead (n + 1) ks
 nulls_ahead n ((k, false) ∷ ks) = []
+
+pub none_ahead : (left : List Column) (n : ℕ) → nulls_ahead n (coming left n) ≡ []
+none_ahead [] n = refl
+none_ahead (c ∷ cs) n = refl
 
 -- one more whole cell, and what is known of the text after it
 one_more : (cells : List Cell) (v : Cell) (ks : List (Column × Bool)) (text : List ℕ) → (joined (map field (cells ++ v ∷ [])) ++ end_after (ends ks)) ++ nulls_ahead (length (cells ++ v ∷ [])) ks ≡ text
@@ -93,9 +88,6 @@ module _ (charset : Charset) (cells : List Cell) (ks : List (Column × Bool)) wh
   rest_of (WholeCell v) = nulls_ahead (length cells + 1) ks
   rest_of part = []
 
-  no_rest : (at : CellPart) → 0 < cell_size at → rest_of at ≡ []
-  no_rest at h = grind arith
-
   open_part : (f : List ℕ) → (joined (map field cells) ++ after_comma (length cells) f) ++ [] ≡ joined (map field cells ++ f ∷ [])
   open_part f = append-nil (joined (map field cells) ++ after_comma (length cells) f) ∙ fields_more cells f
 
@@ -105,6 +97,8 @@ module _ (charset : Charset) (cells : List Cell) (ks : List (Column × Bool)) wh
 
   -- there are none after it while it is open
   pub begun_text : (at : CellPart) → 0 < cell_size at → joined (map field cells) ++ cell_so_far (length cells) (ends ks) at ≡ row_so_far (up at)
-  begun_text at some =
-      let front = joined (map field cells) ++ cell_so_far (length cells) (ends ks) at in
-      sym (append-nil front) ∙ ap (λ l. front ++ l) (sym (no_rest at some)) ∙ part_text at
+  begun_text at some = grind (arith, append-nil, (part_text at))
+
+  -- nor where no NULL by its bit follows
+  pub whole_text : nulls_ahead (length cells + 1) ks ≡ [] → (at : CellPart) → joined (map field cells) ++ cell_so_far (length cells) (ends ks) at ≡ row_so_far (up at)
+  whole_text none at = grind (arith, append-nil, (part_text at))

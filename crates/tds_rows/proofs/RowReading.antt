@@ -1,18 +1,5 @@
 -- A reading of rows goes on from call to call.
-use Rattle.std.proofs.Common.{◌≡◌, ◌∙◌, subst, arith}
-use Rattle.std.specs.Prelude.{Ok, Result}
-use Rattle.tds_packet.specs.declared.fault.Stop.{Stop}
-use Rattle.tds_rows.specs.declared.reading.Rows.{Rows}
-use Rattle.tds_meter.specs.Space.{Space}
-use Rattle.tds_rows.specs.CellSteps.{LeavesSmall}
-use Rattle.tds_rows.specs.RowReading.{IsInRow, IsOnSameRows, LeavesRows, StaysInRow}
-
--- two steps on the same devices and area, by the same table
-same_again : {R W : Type 0} (a b c : Rows R W) → IsOnSameRows a b → IsOnSameRows b c → IsOnSameRows a c
-same_again a b c x y = (y.0 ∙ x.0, y.1 ∙ x.1, y.2 ∙ x.2, y.3 ∙ x.3)
-
-small_again : (a b c : Space) → LeavesSmall a b → LeavesSmall b c → LeavesSmall a c
-small_again a b c x y = record { room = y.room ∙ x.room; bound = omega (arith, x.bound, y.bound) }
+use Rattle.tds_rows.proofs.Words.{◌≡◌, subst, arith, Ok, Result, Stop, Rows, IsInRow, LeavesRows, StaysInRow}
 
 -- before the first step
 pub stays : {R W : Type 0} (a : Rows R W) → IsInRow a → StaysInRow a a
@@ -20,7 +7,7 @@ stays a x = grind arith
 
 -- after a run
 pub stays_on : {R W : Type 0} (a b c : Rows R W) → StaysInRow a b → StaysInRow b c → StaysInRow a c
-stays_on a b c x y = grind (arith, same_again, small_again)
+stays_on a b c x y = grind arith
 
 -- after a cell
 pub stays_after : {R W U : Type 0} (a b : Rows R W) (u : U) → IsInRow a → LeavesRows a b (Ok u) → StaysInRow a b
@@ -28,7 +15,7 @@ stays_after a b u x y = grind arith
 
 -- where a call after some steps leaves it
 pub leaves_after : {R W U : Type 0} (a b c : Rows R W) (result : Result U Stop) → StaysInRow a b → LeavesRows b c result → LeavesRows a c result
-leaves_after a b c result x y = grind (arith, same_again, small_again)
+leaves_after a b c result x y = grind arith
 
 -- what is said of a payload and a sink is said of those that they are
 pub said_of : {A B : Type 0} (P : A → B → Type 0) (a a' : A) (b b' : B) → a ≡ a' → b ≡ b' → P a b → P a' b'

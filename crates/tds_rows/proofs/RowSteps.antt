@@ -1,28 +1,6 @@
 -- The cells of a row, as they are read one after another and their text is put.
-use Rattle.std.proofs.Common.{◌≡◌, ◌∙◌, inl, ℕ, ◌+◌, ◌^◌, ◌-◌, ◌<◌, ◌≤◌, Bool, false, List, [], ◌∷◌, ◌++◌, length, refl, sym, ap, subst, arith, append_assoc, append-nil, length-append}
-use Rattle.std.specs.Prelude.{None, map}
-use Rattle.std.proofs.lemmas.List.{length-map, map-append}
-use Rattle.tds_values.specs.declared.kind.Kind.{Kind}
-use Rattle.tds_packet.specs.declared.fault.Stop.{Stop}
-use Rattle.tds_packet.specs.Elements.{IsNext, Spelt}
-use Rattle.tds_packet.specs.Seen.{IsBetween, Seen, Takes}
-use Rattle.tds_packet.proofs.ElementLaws.{Spelt-append, Spelt-none, Spelt-one}
-use Rattle.tds_packet.proofs.Futures.{Takes-none}
-use Rattle.tds_columns.specs.Description.{Column}
-use Rattle.tds_csv.specs.Quoting.{joined, line_end}
-use Rattle.tds_csv.specs.Sinks.{Breaks, Held, Puts}
-use Rattle.tds_csv.specs.Streaming.{BreaksStreaming, PutsText, StopsStreaming, Streams}
-use Rattle.tds_csv.proofs.Sinks.{Puts-none}
-use Rattle.tds_csv.proofs.Streams.{streaming_after, streaming_inside, streams_both, streams_inside}
-use Rattle.tds_rows.specs.declared.Charset.{Charset}
-use Rattle.tds_rows.specs.Cells.{Cell, CellPart, Shape, WholeCell, cell, cell_add, cell_end, cell_size, cell_start, field, field_so_far, shape}
-use Rattle.tds_rows.specs.Rows.{InCell, RowPart, marked, next_cell, row, row_so_far, row_start, with_cell}
-use Rattle.tds_rows.specs.CellSteps.{StallsCell, cell_so_far, is_last_column}
-use Rattle.tds_csv.specs.Quoting.{after_comma, in_line}
-use Rattle.tds_rows.specs.RowSteps.{ReadsRow, RowStops}
-use Rattle.tds_rows.proofs.LineTexts.{joined_snoc}
-use Rattle.tds_rows.proofs.RowLaws.{begins_open, cell_in_row}
-use Rattle.tds_rows.proofs.CellWords.{PutsCell, StopsCell}
+use Rattle.tds_rows.proofs.Words.{◌≡◌, ◌∙◌, inl, ℕ, ◌+◌, ◌^◌, ◌-◌, ◌<◌, ◌≤◌, Bool, false, List, [], ◌∷◌, ◌++◌, length, refl, sym, ap, subst, arith, append-nil, length-append, None, map, length-map, map-append, Kind, Stop, IsNext, Leads, Spelt, concat, IsBetween, Seen, Takes, Spelt-append, Spelt-one, Column, joined, after_comma, in_line, Breaks, Held, Puts, BreaksStreaming, PutsText, StopsStreaming, Streams, Puts-none, Charset, Cell, CellPart, Shape, WholeCell, cell, cell_add, cell_end, cell_size, cell_start, field, field_so_far, shape, row, with_cell, StallsCell, cell_so_far}
+use Rattle.tds_rows.proofs.{Paths.At, LineTexts.joined_snoc, CellWords.PutsCell, CellWords.StopsCell}
 
 -- A cell was read, of those whose text comes with the last element alone, and this is its text in its line.
 pub record ReadsCell (from : CellPart) (column : ℕ) (last : Bool) (old new : Seen) (place place' : ℕ) (text : List ℕ) : Type 0 where
@@ -39,16 +17,12 @@ pub record ReadsCell (from : CellPart) (column : ℕ) (last : Bool) (old new : S
   pub place_is : place' ≡ place + length (front ++ element)
   pub text_is : text ≡ in_line column last (field value)
 
--- The first cells of a row were read and their text put, and these columns are still to come, each with whether it is NULL by its bit.
-pub record ReadsCells (charset : Charset) (start : RowPart) (left : List (Column × Bool)) (old new : Seen) (place place' : ℕ) (before after : Held) (column : ℕ) : Type 0 where
-  pub cells : List Cell
-  pub counted : length cells ≡ column
-  pub streams : Streams (row charset) row_so_far start old new before after (next_cell charset cells left)
-  pub place_is : place' ≡ place + length streams.bytes
+-- A cell of a kind was read and its text put, from one place to another; or it stopped so.
+abbrev pub PutsAt : Charset → Kind → ℕ → Bool → At → At → Type 0
+PutsAt charset kind column last p q = PutsCell charset kind column last p.seen q.seen p.place q.place p.held q.held
 
--- no column is NULL by its bit
-abbrev pub coming : List Column → ℕ → List (Column × Bool)
-coming left n = marked left (λ k. false) n
+abbrev pub StopsAt : Charset → Kind → ℕ → Bool → At → Seen → Held → Bool → Stop → Type 0
+StopsAt charset kind column last p d j failed stop = StopsCell charset kind column last p.seen d p.place p.held j failed stop
 
 -- ---- a cell whose text comes with its last element alone
 
@@ -105,71 +79,23 @@ fields_more cells v = ap (λ n. joined (map field cells) ++ after_comma n v) (sy
 pub cell_more : (cells : List Cell) (v : Cell) → joined (map field cells) ++ after_comma (length cells) (field v) ≡ joined (map field (cells ++ v ∷ []))
 cell_more cells v = fields_more cells (field v) ∙ ap joined (sym (map-append field cells (v ∷ [])))
 
--- the text of a row after one more whole cell
-pub next_text : (charset : Charset) (cells : List Cell) (v : Cell) (left : List Column) (n : ℕ) → joined (map field cells) ++ in_line (length cells) (is_last_column left) (field v) ≡ row_so_far (next_cell charset (cells ++ v ∷ []) (coming left n))
-next_text charset cells v [] n = sym (append_assoc (joined (map field cells)) (after_comma (length cells) (field v)) line_end) ∙ ap (λ l. l ++ line_end) (cell_more cells v)
-next_text charset cells v (c ∷ cs) n = grind (arith, append-nil, cell_more, start_quiet)
-
-module _ (charset : Charset) (cells : List Cell) (left : List Column) (n : ℕ) where
-  -- a cell's states in its row
-  abbrev pub lift : CellPart → RowPart
-  lift = with_cell charset cells (coming left n)
-
-  -- the text so far of the row is that of the whole cells and then that of the open one
-  pub row_text : (at : CellPart) → joined (map field cells) ++ cell_so_far (length cells) (is_last_column left) at ≡ row_so_far (lift at)
-  row_text at = grind (arith, append-nil, fields_more, next_text)
-
 -- the columns to come, each with whether it is NULL by its bit
 module _ (charset : Charset) (cells : List Cell) (ks : List (Column × Bool)) where
   -- a row ends as its open cell does
   pub same_end : (at : CellPart) → 0 < cell_size at → (row charset).end_fault (with_cell charset cells ks at) ≡ cell_end at
   same_end at h = grind arith
 
--- before the first cell of a ROW
-pub cells_none : (charset : Charset) (columns : List Column) (a : Seen) (place : ℕ) (h : Held) → h.delivered ≤ 2 ^ 64 - 1 → ReadsCells charset (row_start charset columns) (coming columns 0) a a place place h h 0
-cells_none charset columns a place h d = record {
-  cells = [];
-  counted = refl;
-  streams = record { bytes = []; spelt = Spelt-none (row charset) (row_start charset columns); takes = Takes-none a 0; puts = ([], append-nil (row_so_far (row_start charset columns)), Puts-none h d) };
-  place_is = omega arith;
-}
+-- nothing but the end of a cell is whole
+not_whole : (kind : Kind) (s : Shape) (v : Cell) → cell_start kind s ≡ WholeCell v → ⊥
+not_whole kind s v h = grind arith
 
--- a cell that stops, stops its row
-pub cell_stops : (charset : Charset) (cells : List Cell) (c : Column) (left : List Column) (n : ℕ) (b d : Seen) (place : ℕ) (i j : Held) (failed : Bool) (stop : Stop) → StopsCell charset c.kind (length cells) (is_last_column left) b d place i j failed stop
-    → RowStops charset (InCell cells (cell_start c.kind (shape charset c.kind)) (coming left n)) b d place i j failed stop
-cell_stops charset cells c left n b d place i j failed stop y =
-    let there = streaming_inside _ (row charset) (lift charset cells left n) (cell_in_row _ _ _) _ row_so_far _ (row_text charset cells left n)
-    (same_end charset cells (coming left n)) _ b d _ i j _ _ y in
-    subst (λ v. StopsStreaming (row charset) row_so_far v b d place i j failed stop) (begins_open _ _ _ _ _) there
+some_bytes : (column : ℕ) (from : CellPart) (v : Cell) (es : List (List ℕ)) → (from ≡ WholeCell v → ⊥) → Leads (cell column) from es (WholeCell v) → 0 < length (concat es)
+some_bytes column from v [] before h = absurd (before h)
+some_bytes column from v (e ∷ es) before h = omega (arith, h.0.some, length-append e (concat es))
 
-module _ (charset : Charset) (start : RowPart) (c : Column) (left : List Column) (a b d : Seen) (place middle : ℕ) (h i j : Held) (column : ℕ) where
-  -- one cell more
-  pub cells_more : (place' : ℕ) → ReadsCells charset start (coming (c ∷ left) column) a b place middle h i column → PutsCell charset c.kind column (is_last_column left) b d middle place' i j → ReadsCells charset start (coming left (column + 1)) a d place place' h j (column + 1)
-  cells_more place' x y =
-      let z : PutsCell charset c.kind (length x.cells) (is_last_column left) b d middle place' i j = subst (λ (n : ℕ). PutsCell charset c.kind n (is_last_column left) b d middle place' i j) (sym x.counted) y in
-      let up = lift charset x.cells left (column + 1) in
-      let begin = cell_start c.kind (shape charset c.kind) in
-      let there = streams_inside (cell (length x.cells)) (row charset) up (cell_in_row charset x.cells (coming left (column + 1))) (cell_so_far (length x.cells) (is_last_column left)) row_so_far (joined (map field x.cells)) (row_text charset x.cells left (column + 1)) begin b d i j (WholeCell z.value) z.streams in
-      let begins : up begin ≡ InCell x.cells begin (coming left (column + 1)) = begins_open charset x.cells (coming left (column + 1)) c.kind (shape charset c.kind) in
-      let first : middle ≡ place + length x.streams.bytes = x.place_is in
-      let second : place' ≡ middle + length z.streams.bytes = z.place_is in
-      let so_far : Streams (row charset) row_so_far start a b h i (up begin) = record { bytes = x.streams.bytes; spelt = subst (λ v. Spelt (row charset) start x.streams.bytes v) (sym begins) x.streams.spelt; takes = x.streams.takes; puts = subst (λ v. PutsText row_so_far start v h i) (sym begins) x.streams.puts } in
-      record {
-        cells = x.cells ++ z.value ∷ [];
-        counted = omega (arith, x.counted, length-append x.cells (z.value ∷ []));
-        streams = streams_both (row charset) row_so_far start (up begin) (up (WholeCell z.value)) a b d h i j so_far there;
-        place_is = omega (arith, first, second, length-append x.streams.bytes z.streams.bytes);
-      }
-
-  -- the next cell stopped the row
-  pub cells_stop : (failed : Bool) (stop : Stop) → ReadsCells charset start (coming (c ∷ left) column) a b place middle h i column → StopsCell charset c.kind column (is_last_column left) b d middle i j failed stop → RowStops charset start a d place h j failed stop
-  cells_stop failed stop x y =
-      let z : StopsCell charset c.kind (length x.cells) (is_last_column left) b d middle i j failed stop = subst (λ (n : ℕ). StopsCell charset c.kind n (is_last_column left) b d middle i j failed stop) (sym x.counted) y in
-      let from : RowPart = InCell x.cells (cell_start c.kind (shape charset c.kind)) (coming left (column + 1)) in
-      let stops : StopsStreaming (row charset) row_so_far from b d (place + length x.streams.bytes) i j failed stop =
-      subst (λ (n : ℕ). StopsStreaming (row charset) row_so_far from b d n i j failed stop) x.place_is (cell_stops charset x.cells c left (column + 1) b d middle i j failed stop z) in
-      streaming_after (row charset) row_so_far start from a b d h i j place failed stop x.streams stops
-
--- after the last cell
-pub cells_all : (charset : Charset) (start : RowPart) (a b : Seen) (place place' : ℕ) (h i : Held) (column : ℕ) → ReadsCells charset start [] a b place place' h i column → ReadsRow charset start a b place place' h i
-cells_all charset start a b place place' h i column x = record { cells = x.cells; streams = x.streams; place_is = x.place_is }
+-- a cell that was read has some bytes
+pub cell_some : {column : ℕ} {last : Bool} {p q : At} (charset : Charset) (kind : Kind) → PutsAt charset kind column last p q → p.place < q.place
+cell_some {column = column} charset kind y =
+    let spelt = y.streams.spelt in
+    let some : 0 < length (concat spelt.elements) = some_bytes column (cell_start kind (shape charset kind)) y.value spelt.elements (not_whole kind (shape charset kind) y.value) spelt.leads in
+    omega (arith, some, y.place_is, ap length spelt.joined)

@@ -1,15 +1,5 @@
 -- Cells of short values whose bytes lie together.
-use Rattle.std.proofs.Common.{◌≡◌, ◌≢◌, ◌∙◌, ℕ, ◌+◌, ◌/◌, ◌%◌, ◌<◌, ◌≤◌, Bool, true, List, [], ◌∷◌, ◌++◌, length, take, drop, refl, ap, arith, length-drop}
-use Rattle.std.specs.Prelude.{slice_index}
-use Rattle.std.proofs.lemmas.List.{length-take-le}
-use lib.Seq.{take-add}
-use Rattle.tds_values.specs.declared.kind.Kind.{Kind}
-use Rattle.tds_values.specs.declared.kind.Reach.TheVariants.{Short}
-use Rattle.tds_csv.specs.Conversion.{Conversion, is_fit, long_field}
-use Rattle.tds_csv.specs.Quoting.{in_line, null_field}
-use Rattle.tds_rows.specs.Cells.{DataCell, LongShape, Null, ShortLength, SpellsShort}
-use Rattle.tds_rows.specs.ShortCells.{stated_length}
-use Rattle.tds_rows.specs.WholeCells.{WritesWhole}
+use Rattle.tds_rows.proofs.Words.{◌≡◌, ◌≢◌, ◌∙◌, ℕ, ◌+◌, ◌/◌, ◌%◌, ◌<◌, ◌≤◌, Bool, true, List, [], ◌∷◌, ◌++◌, length, take, drop, refl, ap, arith, length-drop, length-take-le, slice_index, Kind, Short, Conversion, is_fit, long_field, in_line, null_field, DataCell, LongShape, Null, ShortLength, SpellsShort, stated_length, WritesWhole, take-add}
 use Rattle.tds_rows.proofs.CellLaws.{cell_is_read}
 
 two_of : (bytes : List ℕ) → 2 ≤ length bytes → take 2 bytes ≡ slice_index bytes 0 ∷ slice_index bytes 1 ∷ []

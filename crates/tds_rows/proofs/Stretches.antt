@@ -1,17 +1,6 @@
--- Stretches of columns that aren't NULL by their bit, within the cells of an NBCROW and of a ROW.
-use Rattle.std.proofs.Common.{inl, inr, ◌≡◌, ◌∙◌, ℕ, zero, suc, ◌+◌, ◌-◌, ◌≤◌, ◌<◌, Bool, false, List, ◌∷◌, ◌++◌, length, take, drop, sym, ap, subst, arith, append_assoc, append-nil, add-zero}
-use Rattle.tds_columns.specs.Description.{Column}
-use Rattle.tds_rows.specs.declared.Charset.{Charset}
-use Rattle.tds_rows.specs.declared.table.Ahead.{Ahead}
-use Rattle.tds_rows.specs.declared.table.Table.{Table}
-use Rattle.tds_rows.specs.Cells.{Cell}
-use Rattle.tds_rows.specs.CellSteps.{is_last_column}
-use Rattle.tds_rows.specs.MarkedRuns.{EndsLeft, RunsMarked, WritesColumn, WritesMarked, WritesNext}
-use Rattle.tds_rows.specs.Runs.{RunEnds}
-use Rattle.tds_rows.proofs.RunSteps.{cells_more, cells_none, made_more, one_cell, used_more}
-use Rattle.tds_rows.proofs.TableRuns.{CellsBetween}
-use Rattle.tds_rows.proofs.TableSteps.{next_column}
-use Rattle.tds_rows.proofs.CellWords.{WritesCells}
+-- Runs over the cells of a row: before the first, one alone, one run after another, and one over columns that aren't NULL by their bit.
+use Rattle.tds_rows.proofs.Words.{inl, inr, ◌≡◌, ◌∙◌, ℕ, zero, suc, ◌+◌, ◌-◌, ◌≤◌, ◌<◌, Bool, false, List, [], ◌++◌, length, take, drop, refl, sym, ap, subst, arith, append_assoc, append-nil, add-zero, Column, Charset, Ahead, Table, is_last_column, EndsLeft, RunsMarked, WritesColumn, WritesMarked, WritesNext, RunEnds, IsAhead, TakesColumn, Kind}
+use Rattle.tds_rows.proofs.RunSteps.{made_more, used_more}
 
 -- no column is NULL by its bit
 abbrev pub none_null : ℕ → Bool
@@ -24,8 +13,7 @@ module _ (charset : Charset) (columns : List Column) where
   marked_both nulls from n (suc m) a b p q x y =
       let at : (from + n) + m ≡ from + (n + m) = omega arith in
       let counted : suc (n + m) ≡ n + suc m = omega arith in
-      let last = subst (λ (k : ℕ). WritesColumn charset columns nulls k y.1 y.3) at y.7 in
-      let both : WritesMarked charset columns nulls from (suc (n + m)) (a ++ b) (p ++ q) = (
+      rw (sym counted) (
         a ++ y.0,
         y.1,
         p ++ y.2,
@@ -33,9 +21,8 @@ module _ (charset : Charset) (columns : List Column) where
         ap (λ l. a ++ l) y.4 ∙ sym (append_assoc a y.0 y.1),
         ap (λ l. p ++ l) y.5 ∙ sym (append_assoc p y.2 y.3),
         marked_both nulls from n m a y.0 p y.2 x y.6,
-        last,
-      ) in
-      subst (λ (k : ℕ). WritesMarked charset columns nulls from k (a ++ b) (p ++ q)) counted both
+        rw at at y.7,
+      )
 
   -- columns whose bits are clear
   pub marked_clear : (nulls : ℕ → Bool) (from n : ℕ) (bytes text : List ℕ) → ((k : ℕ) → from ≤ k → k < from + n → nulls k ≡ false) → WritesMarked charset columns none_null from n bytes text → WritesMarked charset columns nulls from n bytes text
@@ -47,42 +34,31 @@ module _ (charset : Charset) (columns : List Column) where
       let one : WritesColumn charset columns nulls (from + n) x.1 x.3 = record { column = last.column; left = last.left; next = last.next; writes = writes } in
       (x.0, x.1, x.2, x.3, x.4, x.5, marked_clear nulls from n x.0 x.2 (λ k least most. clear k least (omega (arith, most))) x.6, one)
 
-  -- as cells of a ROW
-  marked_cells : (from n : ℕ) (bytes text : List ℕ) (cells : List Cell) → length cells ≡ from → WritesMarked charset columns none_null from n bytes text → WritesCells charset cells (drop from columns) (drop (from + n) columns) (from + n) bytes text
-  marked_cells from zero bytes text cells is x = grind (arith, add-zero, cells_none)
-  marked_cells from (suc n) bytes text cells is x =
-      let at = from + n in
-      let last = x.7 in
-      let further : at + 1 ≡ from + suc n = omega arith in
-      let next : drop (at + 1) columns ≡ last.left = (next_column columns at last.column last.left last.next).1.1 in
-      let before = subst (λ (l : List Column). WritesCells charset cells (drop from columns) l at x.0 x.2) last.next (marked_cells from n x.0 x.2 cells is x.6) in
-      let both = cells_more charset (drop from columns) (last.column ∷ last.left) last.left at (at + 1) x.0 x.1 x.2 x.3 cells before (λ cs counted. one_cell charset last.column last.left at x.1 x.3 last.writes cs counted) in
-      let there = subst (λ (l : List Column). WritesCells charset cells (drop from columns) l (at + 1) (x.0 ++ x.1) (x.2 ++ x.3)) (sym next) both in
-      let after = subst (λ (k : ℕ). WritesCells charset cells (drop from columns) (drop k columns) k (x.0 ++ x.1) (x.2 ++ x.3)) further there in
-      subst (λ l. WritesCells charset cells (drop from columns) (drop (from + suc n) columns) (from + suc n) l text) (sym x.4)
-      (subst (λ l. WritesCells charset cells (drop from columns) (drop (from + suc n) columns) (from + suc n) (x.0 ++ x.1) l) (sym x.5) after)
+module _ {table : Table} {columns : List Column} {nulls : ℕ → Bool} {at : Ahead} where
+  -- before the first cell
+  pub runs_none : IsAhead table columns at → RunsMarked table columns nulls at at [] []
+  runs_none ahead = record { count = 0; ahead = ahead; further = sym (add-zero at.column); writes = (refl, refl) }
 
-module _ (table : Table) (columns : List Column) where
+  -- one cell
+  pub runs_column : {after : Ahead} {kind : Kind} {last : Bool} {bytes text : List ℕ} → TakesColumn table columns at after kind → last ≡ is_last_column (drop after.column columns) → WritesNext table.charset (nulls at.column) kind at.column last bytes text → RunsMarked table columns nulls at after bytes text
+  runs_column {after = after} {bytes = bytes} {text = text} taken end cell =
+      let one : WritesColumn table.charset columns nulls at.column bytes text = record { column = taken.column; left = drop after.column columns; next = taken.next; writes = rw (taken.kind, end) at cell } in
+      record { count = 1; ahead = taken.ahead; further = taken.further; writes = ([], bytes, [], text, refl, refl, (refl, refl), rw (sym (add-zero at.column)) at one) }
+
+module _ {table : Table} {columns : List Column} {nulls : ℕ → Bool} {from to : Ahead} where
   -- a run over columns whose bits are clear
-  pub runs_clear : (nulls : ℕ → Bool) (from to : Ahead) (bytes text : List ℕ) → ((k : ℕ) → from.column ≤ k → k < to.column → nulls k ≡ false) → RunsMarked table columns none_null from to bytes text → RunsMarked table columns nulls from to bytes text
-  runs_clear nulls from to bytes text clear x = grind (arith, marked_clear)
+  pub runs_clear : {bytes text : List ℕ} → ((k : ℕ) → from.column ≤ k → k < to.column → nulls k ≡ false) → RunsMarked table columns none_null from to bytes text → RunsMarked table columns nulls from to bytes text
+  runs_clear clear x = grind (arith, marked_clear)
 
   -- more cells, in the bytes that are left and after what was made
-  pub runs_more : (nulls : ℕ → Bool) (from at to : Ahead) (used u made m : ℕ) (bytes text new rest : List ℕ) → made ≤ length text → m ≤ length new → RunsMarked table columns nulls from at (take used bytes) (take made text)
+  pub runs_more : (at : Ahead) (used u made m : ℕ) (bytes text new rest : List ℕ) → made ≤ length text → m ≤ length new → RunsMarked table columns nulls from at (take used bytes) (take made text)
       → RunsMarked table columns nulls at to (take u (take (length bytes - used) (drop used bytes))) (take m new) → RunsMarked table columns nulls from to (take (used + u) bytes) (take (made + m) (take made text ++ (new ++ rest)))
-  runs_more nulls from at to used u made m bytes text new rest within some x y =
-      let next = rw x.further at y.writes in
-      let both = marked_both _ _ _ _ _ _ _ _ _ _ x.writes next in
-      record {
-        count = x.count + y.count;
-        ahead = y.ahead;
-        further = omega (arith, x.further, y.further);
-        writes = rw (sym (used_more used u bytes)) at (rw (sym (made_more made m text new rest within some)) at both);
-      }
-
-  -- a run within a ROW
-  pub runs_cells : (from to : Ahead) (bytes text : List ℕ) → RunsMarked table columns none_null from to bytes text → CellsBetween table columns from to bytes text
-  runs_cells from to bytes text x = grind (arith, marked_cells)
+  runs_more at used u made m bytes text new rest within some x y = record {
+    count = x.count + y.count;
+    ahead = y.ahead;
+    further = omega (arith, x.further, y.further);
+    writes = rw (used_more used u bytes, made_more made m text new rest within some) (marked_both _ _ _ _ _ _ _ _ _ _ x.writes (rw x.further at y.writes));
+  }
 
 -- a run ended before a column whose bit is clear
 pub ends_clear : (table : Table) (nulls : ℕ → Bool) (at : Ahead) (bytes : List ℕ) (room : ℕ) → nulls at.column ≡ false → RunEnds table at bytes room → EndsLeft table nulls at bytes room

@@ -1,50 +1,11 @@
 -- A call that reads what comes whole stops only where a device fails.
-use Rattle.std.proofs.Common.{◌≡◌, ◌∙◌, inl, inr, ℕ, ◌+◌, ◌-◌, ◌^◌, ◌<◌, ◌≤◌, Bool, List, [], ◌∷◌, ◌++◌, length, take, refl, sym, ap, subst, arith, append_assoc, append-nil, length-append, length-take-le}
-use Rattle.std.specs.Prelude.{nat_lt, Option, Some, None, Result, Ok, Err, if◌then◌else◌}
-use Rattle.std.proofs.Math.Seq.{take-append_seam}
-use Rattle.std.proofs.lemmas.Bool.Decides.{nat_tests}
-use Rattle.std.specs.Io.KnownBytes.{Consumes, IsAtEnd}
-use Rattle.tds_meter.specs.Counts.{Rose, one_more}
-use Rattle.tds_packet.specs.declared.fault.Fault.{Fault}
-use Rattle.tds_packet.specs.declared.fault.Fault.TheVariants.{RefusedToken}
-use Rattle.tds_packet.specs.declared.fault.Stop.{Stop}
+use Rattle.tds_rows.proofs.Words.{◌≡◌, ◌∙◌, inl, inr, ℕ, ◌+◌, ◌<◌, Bool, List, [], ◌∷◌, ◌++◌, length, take, refl, sym, ap, subst, arith, append_assoc, append-nil, length-append, Result, Ok, Err, Option, Some, None, if◌then◌else◌, take-append_seam, nat_tests, Consumes, Rose, one_more, Fault, RefusedToken, Stop, Coming, before, Grammar, IsRefused, Longest, Spelt, CutsNext, RefusesNext, StopsReading, seen, Ends, Seen, Inside-Spelt, Spelt-append, longest_at, longest_cut, longest_refused, no_further, one_longest, stops_inside, stops_after, Column, return_column, Sink, Conversion, Held, held, StopsStreaming, stops_size, Kind, Reach, Short, Chunked, Charset, Cell, CellPart, LongShape, SpellsCell, WholeCell, cell, cell_start, long_start, return_charset, shape, FieldPut, cell_so_far, CellPassed, return_cell, RowPut, RowsRead, RowsStop, RowPart, RowToken, SpellsRowAs, WholeRow, row, row_so_far, token_byte, token_start, RowsPart, rows, rows_start, BeginNoRow, Brings, ReadsOn, SpellsRows, SucceedsOn, length-take-le}
 use Rattle.tds_packet.specs.declared.payload.Payload.{Payload}
-use Rattle.tds_packet.specs.Coming.{Coming, before}
-use Rattle.tds_packet.specs.Elements.{Grammar, IsRefused, Longest, Spelt}
-use Rattle.tds_packet.specs.Reading.{CutsNext, RefusesNext, StopsReading}
-use Rattle.tds_packet.specs.Payloads.{seen}
-use Rattle.tds_packet.specs.Seen.{Ends, Seen}
-use Rattle.tds_packet.proofs.ElementLaws.{Inside-Spelt, Spelt-append, longest_at, longest_cut, longest_refused, no_further, one_longest}
-use Rattle.tds_packet.proofs.Lifts.{stops_inside}
-use Rattle.tds_packet.proofs.Steps.{stops_after}
-use Rattle.tds_columns.specs.Description.{Column}
-use Rattle.tds_columns.specs.ReturnedType.{return_column}
-use Rattle.tds_csv.specs.declared.sink.Sink.{Sink}
-use Rattle.tds_csv.specs.Conversion.{Conversion}
-use Rattle.tds_csv.specs.Sinks.{Held, held}
-use Rattle.tds_csv.specs.Streaming.{StopsStreaming}
-use Rattle.tds_csv.proofs.Streams.{stops_size}
-use Rattle.tds_values.specs.declared.kind.Kind.{Kind}
-use Rattle.tds_values.specs.declared.kind.Reach.{Reach}
-use Rattle.tds_values.specs.declared.kind.Reach.TheVariants.{Short, Chunked}
-use Rattle.tds_rows.specs.declared.Charset.{Charset}
-use Rattle.tds_rows.specs.Cells.{Cell, CellPart, LongShape, SpellsCell, WholeCell, cell, cell_start, long_start, return_charset, shape}
-use Rattle.tds_rows.specs.CellSteps.{FieldPut, cell_so_far}
-use Rattle.tds_rows.specs.PassedCells.{CellPassed, return_cell}
-use Rattle.tds_rows.specs.RowSteps.{RowPut, RowsRead, RowsStop}
-use Rattle.tds_rows.specs.Rows.{RowPart, RowToken, SpellsRowAs, WholeRow, row, row_so_far, token_byte, token_start}
-use Rattle.tds_rows.specs.Runs.{RowsPart, rows, rows_start}
-use Rattle.tds_rows.specs.Successes.{BeginNoRow, Brings, ReadsOn, SpellsRows, SucceedsOn}
-use Rattle.tds_rows.proofs.CellLaws.{cell_is_read}
-use Rattle.tds_rows.proofs.RowLaws.{nbc_row_is_read, row_is_read, shape-HasBytes, some_bitmap}
-use Rattle.tds_rows.proofs.RunSteps.{row_among_rows, row_token}
-
-rose_from : (f : ℕ) (b : Bool) → nat_lt f (2 ^ 64 - 1) ≡ b → Rose f (one_more f)
-rose_from f b e = grind (arith, nat_tests)
+use Rattle.tds_rows.proofs.{CellLaws.cell_is_read, RowLaws.nbc_row_is_read, RowLaws.row_is_read, RowLaws.shape-HasBytes, RowLaws.some_bitmap, RunSteps.row_among_rows, RunSteps.row_token}
 
 -- a call that fails raises the count
 pub rose : (f : ℕ) → Rose f (one_more f)
-rose f = rose_from f (nat_lt f (2 ^ 64 - 1)) refl
+rose f = grind (arith, nat_tests)
 
 -- ---- the reading of what comes whole
 
@@ -76,15 +37,7 @@ module _ {S : Type 0} (g : Grammar S Fault) (from to : S) (a b : Seen) (front mo
   cut_there at bytes place stop spelt x = (one_longest g from (front ++ more) (length bytes) (length front) at to (subst (λ v. Longest g from v (length bytes) at) (sym (ends x.ends)) (longest_cut g from bytes x.part at spelt x.cut)) last).1
     where
       ends : Ends a b (bytes ++ x.part) x.own → front ++ more ≡ bytes ++ x.part
-      ends (inl y) =
-          let l = left_of brings.input y.0 b.left (subst (λ o. Consumes o b.left y.0) brings.left y.1) in
-          sym brings.comes ∙ ap (λ i. (a.future i).bytes) l.2 ∙ ap (λ (c : Coming). c.bytes) (y.2 l.0)
-      ends (inr (inl y)) =
-          let read = y.0 in
-          let l = left_of brings.input read b.left (subst (λ o. Consumes o b.left read) brings.left y.1) in
-          let none : l.0 ≡ [] = subst IsAtEnd l.1 y.2 in
-          sym brings.comes ∙ ap (λ i. (a.future i).bytes) (l.2 ∙ ap (λ v. read ++ v) none ∙ append-nil read) ∙ ap (λ (c : Coming). c.bytes) y.3
-      ends (inr (inr y)) = absurd (calm (subst (Rose a.failures) (sym y.4.0) (rose a.failures)))
+      ends y = grind (arith, append-nil, left_of, rose)
 
   -- a reading that stops does so at the end of what comes
   pub stopped_there : (place : ℕ) (at : S) (stop : Stop) → StopsReading g from a b place at stop → at ≡ to
@@ -94,10 +47,7 @@ module _ {S : Type 0} (g : Grammar S Fault) (from to : S) (a b : Seen) (front mo
 pub longest_end : {S : Type 0} (g : Grammar S Fault) (from to : S) (front more : List ℕ) → Spelt g from front to → g.size to ≡ 0 → Longest g from (front ++ more) (length front) to
 longest_end g from to front more spelt none = longest_at g from front more to spelt (λ d other some within k.
     let e : take d more ≡ [] = no_further g from front to (take d more) other spelt (λ i a b. omega (arith, none)) k in
-    some_taken d more some within e)
-  where
-    some_taken : (d : ℕ) (more : List ℕ) → 0 < d → d ≤ length more → take d more ≡ [] → ⊥
-    some_taken d more some within e = omega (arith, ap length e, length-take-le d more within)
+    omega (arith, some, ap length e, length-take-le d more within))
 
 -- a call that reads whole elements to a state at which nothing follows doesn't stop in reading
 none_stops_reading : {S : Type 0} (g : Grammar S Fault) (from to : S) (a b : Seen) (place : ℕ) (at : S) (stop : Stop) (front more : List ℕ) → Brings a (front ++ more) → Spelt g from front to → g.size to ≡ 0

@@ -1,24 +1,6 @@
 -- The forms of the next columns of a row, as a table gives them.
-use Rattle.std.proofs.Common.{◌≡◌, ◌∙◌, inl, inr, ℕ, ◌+◌, ◌<◌, ◌≤◌, Bool, true, false, List, ◌∷◌, length, take, drop, get_or, refl, sym, ap, subst, arith}
-use Rattle.std.specs.Prelude.{◌⊎◌, ◌==◌, ◌&&◌, map}
-use Rattle.std.proofs.lemmas.List.{drop-map, drop-take, drop_more, get_or-drop, get_or-take, length-drop, length-take-le, take-map}
-use Rattle.tds_values.specs.declared.kind.Kind.{Kind}
-use Rattle.tds_columns.specs.Description.{Column}
-use Rattle.tds_rows.specs.declared.Charset.{Charset}
-use Rattle.tds_rows.specs.declared.form.Form.{Form}
-use Rattle.tds_rows.specs.declared.run.fields.TheConstants.{CELL_ROOM}
-use Rattle.tds_rows.specs.declared.run.forms.FormsRun.{FormsRun}
-use Rattle.tds_rows.specs.declared.table.Ahead.{Ahead}
-use Rattle.tds_rows.specs.declared.table.Table.{Table}
-use Rattle.tds_rows.specs.CellSteps.{IsLeft}
-use Rattle.tds_rows.specs.FormRuns.{AreNext, FirstLeft, FirstWritten, FormsWritten}
-use Rattle.tds_rows.specs.Forms.{AreLaidOut}
-use Rattle.tds_rows.specs.MarkedRuns.{RunsMarked}
-use Rattle.tds_rows.specs.Runs.{OneWritten}
-use Rattle.tds_rows.specs.Tables.{AreAhead, IsAhead, Knows, NextColumn, kinds}
-use Rattle.tds_rows.proofs.FormSteps.{some_first, take_front}
-use Rattle.tds_rows.proofs.TableRuns.{one_next}
-use Rattle.std.proofs.lemmas.Bool.Decides.{nat_tests}
+use Rattle.tds_rows.proofs.Words.{◌≡◌, ◌∙◌, inl, inr, ℕ, ◌+◌, ◌<◌, ◌≤◌, Bool, true, false, List, ◌∷◌, length, take, drop, get_or, refl, sym, ap, arith, ◌⊎◌, ◌==◌, ◌&&◌, map, drop-map, drop-take, drop_more, get_or-drop, get_or-take, length-take-le, take-map, length-drop, take-take, Column, Charset, Form, CELL_ROOM, FormsRun, Ahead, Table, IsLeft, AreNext, FirstLeft, FirstWritten, FormsWritten, AreLaidOut, RunsMarked, OneWritten, AreAhead, IsAhead, Knows, NextColumn, kinds, nat_tests}
+use Rattle.tds_rows.proofs.{FormSteps.some_first, TableRuns.one_next}
 
 -- two numbers are equal where two others are
 same_test : (a b c d : ℕ) → (a ≡ b → c ≡ d) → (c ≡ d → a ≡ b) → (a == b) ≡ (c == d)
@@ -43,8 +25,8 @@ known_ahead table at end n laid fits some within known few =
       known = inl (omega (arith, len, known));
       next = λ columns knows ahead.
           let first : map (λ f. f.kind) (take (k + n) table.forms) ≡ kinds (take (k + n) columns) =
-          ap (map (λ f. f.kind)) (sym (take_front (k + n) table.known table.forms known fits)) ∙ sym (take-map (λ f. f.kind) (k + n) (take table.known table.forms)) ∙ ap (take (k + n)) knows.first
-          ∙ take-map (λ c. c.kind) (k + n) (take table.known columns) ∙ ap kinds (take_front (k + n) table.known columns known (omega (arith, few, knows.counted))) in
+          ap (map (λ f. f.kind)) (sym (take-take (k + n) table.known table.forms known)) ∙ sym (take-map (λ f. f.kind) (k + n) (take table.known table.forms)) ∙ ap (take (k + n)) knows.first
+          ∙ take-map (λ c. c.kind) (k + n) (take table.known columns) ∙ ap kinds (take-take (k + n) table.known columns known) in
           let forms_are : map (λ f. f.kind) (take n (drop k table.forms)) ≡ kinds (take n (drop k columns)) =
           ap (map (λ f. f.kind)) (sym (drop-take k n table.forms)) ∙ sym (drop-map (λ f. f.kind) k (take (k + n) table.forms)) ∙ ap (drop k) first ∙ drop-map (λ c. c.kind) k (take (k + n) columns) ∙ ap kinds (drop-take k n columns) in
           forms_are ∙ ap (λ (m : ℕ). kinds (take m (drop k columns))) (sym len);
@@ -90,16 +72,8 @@ module _ (table : Table) (from : Ahead) (end : ℕ) (forms : List Form) (within 
   -- the first was left
   pub first_left : (bytes : List ℕ) (room : ℕ) → FirstLeft table.charset forms bytes room → (columns : List Column) (column : Column) (left : List Column) → Knows table columns → IsAhead table columns from → drop from.column columns ≡ column ∷ left
       → (room < CELL_ROOM) ⊎ ((false ≡ false) × IsLeft table.charset column.kind bytes room)
-  first_left bytes room x columns column left knows is step = go (x form first.1 first.2)
-    where
-      first : (form : Form) × (rest : List Form) × (forms ≡ form ∷ rest)
-      first = some_first forms ahead.some
-
-      form : Form
-      form = first.0
-
-      go : (room < CELL_ROOM) ⊎ IsLeft table.charset form.kind bytes room → (room < CELL_ROOM) ⊎ ((false ≡ false) × IsLeft table.charset column.kind bytes room)
-      go (inl few) = inl few
-      go (inr y) =
-          let n = first_next form first.1 first.2 columns knows is in
-          inr (refl, subst (λ (k : Kind). IsLeft table.charset k bytes room) (n.kind ∙ ap (λ (r : List Column). (get_or r 0 column).kind) (sym n.next ∙ step)) y)
+  first_left bytes room x columns column left knows is step =
+      let first = some_first forms ahead.some in
+      let n = first_next first.0 first.1 first.2 columns knows is in
+      let kind_is : first.0.kind ≡ column.kind = n.kind ∙ ap (λ (r : List Column). (get_or r 0 column).kind) (sym n.next ∙ step) in
+      elim (x first.0 first.1 first.2) [ inl few ↦ inl few | inr y ↦ inr (refl, rw kind_is at y) ]

@@ -1,23 +1,6 @@
 -- A table of columns, column by column.
-use Rattle.std.proofs.Common.{◌≡◌, ◌∙◌, ℕ, true, false, ◌+◌, ◌≤◌, ◌<◌, List, [], ◌∷◌, ◌++◌, length, take, drop, get_or, refl, sym, ap, arith}
-use Rattle.std.specs.Prelude.{map, slice_set, ◌==◌}
-use Rattle.tds_rows.specs.CellSteps.{is_last_column}
-use Rattle.std.proofs.lemmas.Bool.{eq-eqb, ne_eqb}
-use Rattle.std.proofs.lemmas.List.{drop_all, drop_more, get_or-map, get_or-take, length-drop, length-take, map-append, take_more, take_more_set}
-use Rattle.tds_values.specs.declared.kind.Kind.{Kind}
-use Rattle.tds_values.specs.declared.kind.Kind.TheVariants.{Int4}
-use Rattle.tds_columns.specs.Description.{Column}
-use Rattle.std.specs.Prelude.{Option}
-use Rattle.std.specs.Iterator.{YieldsFirstBy}
-use lib.Seq.{drop-drop}
-use Rattle.tds_packet.proofs.Choices.{eq_false, eq_true}
+use Rattle.tds_rows.proofs.Words.{◌≡◌, ◌∙◌, ℕ, true, false, ◌+◌, ◌≤◌, ◌<◌, List, [], ◌∷◌, ◌++◌, length, take, drop, get_or, refl, sym, ap, arith, map, slice_set, ◌==◌, Option, is_last_column, eq-eqb, ne_eqb, drop_all, drop_more, get_or-map, get_or-take, map-append, take_more, take_more_set, length-drop, length-take, drop-drop, Kind, Int4, Column, YieldsFirstBy, eq_false, eq_true, Walk, column_value, columns_left, Ahead, Form, Table, IsAhead, Knows, NextColumn, TakesColumn, kinds}
 use Rattle.tds_columns.specs.declared.walk.Column as walks
-use Rattle.tds_columns.specs.declared.walk.Walk.{Walk}
-use Rattle.tds_columns.specs.Walking.{column_value, columns_left}
-use Rattle.tds_rows.specs.declared.table.Ahead.{Ahead}
-use Rattle.tds_rows.specs.declared.form.Form.{Form}
-use Rattle.tds_rows.specs.declared.table.Table.{Table}
-use Rattle.tds_rows.specs.Tables.{IsAhead, Knows, NextColumn, TakesColumn, kinds}
 
 -- what is ahead begins with the next column
 pub next_column : (columns : List Column) (k : ℕ) (c : Column) (rest : List Column) → drop k columns ≡ c ∷ rest → (k < length columns) × ((get_or columns k c ≡ c) × (drop (k + 1) columns ≡ rest))

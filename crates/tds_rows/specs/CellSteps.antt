@@ -19,7 +19,7 @@ use Rattle.tds_csv.specs.Quoting.{after_comma, in_line}
 use Rattle.tds_csv.specs.declared.sink.Sink.{Sink}
 use Rattle.tds_csv.specs.Sinks.{Held, held}
 use Rattle.tds_csv.specs.Streaming.{StopsStreaming, Streams}
-use Rattle.tds_rows.specs.declared.Charset.{Charset}
+use Rattle.tds_values.specs.declared.charset.Charset.{Charset}
 use Rattle.tds_rows.specs.declared.run.buffered.Written.{Written}
 use Rattle.tds_rows.specs.ShortCells.{IsShortLeft, short_conversion, short_size}
 use Rattle.tds_rows.specs.WholeCells.{WritesCell, WritesWhole}

@@ -16,8 +16,8 @@ use Rattle.tds_csv.specs.Quoting.{null_field}
 use Rattle.tds_packet.specs.Elements.{Grammar}
 use Rattle.tds_packet.specs.declared.fault.Fault.{Fault}
 use Rattle.tds_packet.specs.declared.fault.Fault.TheVariants.{MessageEnded, BadValueLength, BadValue, OddText, PlpLength, BadText}
-use Rattle.tds_rows.specs.declared.Charset.{Charset}
-use Rattle.tds_rows.specs.declared.Charset.TheVariants as sets
+use Rattle.tds_values.specs.declared.charset.Charset.{Charset}
+use Rattle.tds_values.specs.declared.charset.Charset.TheVariants as sets
 
 -- a value of a column
 pub data Cell : Type 0 where

@@ -1,6 +1,6 @@
 -- The forms that a table knows.
 use Rattle.std.specs.Prelude.{◌<◌, ℕ, List, length, get_or}
-use Rattle.tds_rows.specs.declared.Charset.{Charset}
+use Rattle.tds_values.specs.declared.charset.Charset.{Charset}
 use Rattle.tds_rows.specs.declared.form.Form.{Form}
 use Rattle.tds_rows.specs.Layouts.{IsLaidOut}
 

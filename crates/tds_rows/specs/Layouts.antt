@@ -3,7 +3,7 @@ use Rattle.std.specs.Prelude.{◌≡◌, ℕ, ⊤, List, [], Option, Some, None,
 use Rattle.tds_values.specs.declared.kind.Kind.{Kind}
 use Rattle.tds_values.specs.declared.kind.Reach.TheVariants as reach
 use Rattle.tds_csv.specs.Fields.{conversion_of}
-use Rattle.tds_rows.specs.declared.Charset.{Charset}
+use Rattle.tds_values.specs.declared.charset.Charset.{Charset}
 use Rattle.tds_rows.specs.declared.form.Layout.{Layout}
 use Rattle.tds_rows.specs.declared.form.Layout.TheVariants.{Int4, CountedInt4, Fixed, Counted, Short, Chunked}
 use Rattle.tds_rows.specs.Cells.{Shape, FixedShape, CountedShape, LongShape, shape}

@@ -8,7 +8,7 @@ use Rattle.tds_columns.specs.Description.{Column}
 use Rattle.tds_csv.specs.Quoting.{in_line, null_field}
 use Rattle.tds_csv.specs.declared.sink.Sink.{Sink}
 use Rattle.tds_csv.specs.Sinks.{Held, Puts, held}
-use Rattle.tds_rows.specs.declared.Charset.{Charset}
+use Rattle.tds_values.specs.declared.charset.Charset.{Charset}
 use Rattle.tds_rows.specs.declared.run.CellRun.{CellRun}
 use Rattle.tds_rows.specs.declared.run.fields.TheConstants.{CELL_ROOM}
 use Rattle.tds_rows.specs.declared.table.Ahead.{Ahead}

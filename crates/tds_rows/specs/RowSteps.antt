@@ -8,7 +8,7 @@ use Rattle.tds_columns.specs.Description.{Column}
 use Rattle.tds_csv.specs.declared.sink.Sink.{Sink}
 use Rattle.tds_csv.specs.Sinks.{Held, held, stop_of}
 use Rattle.tds_csv.specs.Streaming.{StopsStreaming, Streams}
-use Rattle.tds_rows.specs.declared.Charset.{Charset}
+use Rattle.tds_values.specs.declared.charset.Charset.{Charset}
 use Rattle.tds_rows.specs.Cells.{Cell}
 use Rattle.tds_rows.specs.Rows.{RowPart, RowToken, WholeRow, row, row_so_far}
 use Rattle.tds_rows.specs.Runs.{rows, rows_so_far, rows_start}

@@ -5,7 +5,7 @@ use Rattle.tds_packet.specs.declared.fault.Fault.{Fault}
 use Rattle.tds_packet.specs.declared.fault.Fault.TheVariants.{MessageEnded}
 use Rattle.tds_columns.specs.Description.{Column}
 use Rattle.tds_csv.specs.Quoting.{joined, line}
-use Rattle.tds_rows.specs.declared.Charset.{Charset}
+use Rattle.tds_values.specs.declared.charset.Charset.{Charset}
 use Rattle.tds_rows.specs.Cells.{Cell, Null, field, shape, SpellsCell, CellPart, WholeCell, cell_start, cell_size, cell_fault, cell_add, field_so_far}
 
 -- the first byte of a ROW (MS-TDS, ROW)

@@ -6,7 +6,7 @@ use Rattle.tds_packet.specs.Payloads.{seen}
 use Rattle.tds_packet.specs.Seen.{Seen}
 use Rattle.tds_columns.specs.Description.{Column}
 use Rattle.tds_csv.specs.declared.sink.Sink.{Sink}
-use Rattle.tds_rows.specs.declared.Charset.{Charset}
+use Rattle.tds_values.specs.declared.charset.Charset.{Charset}
 use Rattle.tds_rows.specs.Cells.{Cell}
 use Rattle.tds_rows.specs.Rows.{RowToken, SpellsRowAs, token_byte}
 

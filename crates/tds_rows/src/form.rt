@@ -4,13 +4,12 @@ ghost use Rattle.tds_csv.specs.Fields.{conversion_of};
 ghost use Rattle.tds_rows.specs.Cells.{LongShape, narrow, shape};
 ghost use Rattle.tds_rows.specs.CellSteps.{int4_start_of};
 ghost use Rattle.tds_rows.specs.Layouts.{IsLaidOut};
-ghost use Rattle.tds_rows.specs.declared.Charset.{Charset};
+ghost use Rattle.tds_values.specs.declared.charset.Charset.{Charset};
 ghost use Rattle.tds_values.specs.declared.kind.Kind.{Kind};
 ghost use Rattle.tds_values.specs.Kind.{is_valid};
 
-use crate::Charset;
 use tds_csv::Content;
-use tds_values::{Kind, Reach};
+use tds_values::{Charset, Kind, Reach};
 
 /// How the value of a cell is laid out in it, and what a long one holds.
 #[derive(Clone, Copy)]

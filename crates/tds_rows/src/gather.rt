@@ -3,7 +3,7 @@ ghost use Rattle.std.specs.Prelude.{◌≡◌, ◌≤◌, None, Some};
 ghost use Rattle.tds_packet.specs.Payloads.{IsGoing};
 ghost use Rattle.tds_rows.specs.Cells.{ScalarBytes, ScalarLength, cell_start, shape};
 ghost use Rattle.tds_rows.specs.CellSteps.{CellGathered, IsGathering, IsScalarKind, LeavesGathering, longest_cell};
-ghost use Rattle.tds_rows.specs.declared.Charset as sets;
+ghost use Rattle.tds_values.specs.declared.charset.Charset as sets;
 ghost use Rattle.tds_values.specs.Kind as kinds;
 
 use std::io::Read;

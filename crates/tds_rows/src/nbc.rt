@@ -14,7 +14,6 @@ ghost use Rattle.tds_rows.specs.Rows.{NbcRow, SpellsNbcRow, bit, bitmap_length, 
 ghost use Rattle.tds_rows.specs.Successes.{BeginNoRow, SpellsRows, SucceedsOn};
 ghost use Rattle.tds_rows.specs.Tables.{Knows, KnowsSome};
 
-use crate::Charset;
 use crate::form::Form;
 use crate::reading::Rows;
 use crate::run::fields::put_null;
@@ -25,6 +24,7 @@ use tds_columns::{Columns, take_into};
 use tds_csv::Sink;
 use tds_meter::Area;
 use tds_packet::{Payload, Stop};
+use tds_values::Charset;
 
 /// The token byte of an NBCROW (MS-TDS, NBCROW).
 pub const NBCROW: u8 = 0xD2;

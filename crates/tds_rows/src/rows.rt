@@ -12,7 +12,6 @@ ghost use Rattle.tds_rows.specs.Rows.{PlainRow, SpellsRow, row_start};
 ghost use Rattle.tds_rows.specs.Successes.{BeginNoRow, SpellsRows, SucceedsOn};
 ghost use Rattle.tds_rows.specs.Tables.{Knows, KnowsSome};
 
-use crate::Charset;
 use crate::reading::Rows;
 use crate::run::ROW;
 use crate::table::Table;
@@ -21,6 +20,7 @@ use tds_columns::Columns;
 use tds_csv::Sink;
 use tds_meter::Area;
 use tds_packet::{Payload, Stop};
+use tds_values::Charset;
 
 impl<'r, 't, 'p, 's, 'c, R: Read, W: Write> Rows<'r, 't, 'p, 's, 'c, R, W> {
     // Reads a row cell after cell, and puts its line.

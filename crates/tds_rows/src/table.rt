@@ -3,10 +3,9 @@ ghost use Rattle.std.specs.Prelude.{◌≡◌, ◌==◌, ◌⊎◌, ◌+◌, ◌
 ghost use Rattle.tds_rows.specs.Forms.{AreLaidOut, table_length};
 ghost use Rattle.tds_rows.specs.Layouts.{IsLaidOut};
 
-use crate::Charset;
 use crate::form::{Form, Layout};
 use tds_columns::{Columns, Walk};
-use tds_values::Kind;
+use tds_values::{Charset, Kind};
 
 /// How many columns a table knows by itself. It takes 6 bytes for each, in a local variable.
 const TABLE_LENGTH: usize = 64;

@@ -1,8 +1,5 @@
 -- Decimal digits, some at a time.
-use Rattle.std.proofs.Common.{◌≡◌, ◌⊎◌, ℕ, zero, suc, ◌+◌, ◌-◌, ◌*◌, ◌/◌, ◌%◌, ◌^◌, ◌<◌, ◌≤◌, List, [], ◌∷◌, ◌++◌, refl, sym, ap, subst, ◌∙◌, arith, inr, ⊎_elim, decimal, append_assoc}
-use Rattle.std.proofs.lemmas.Fmt.{decimal_digit, decimal_step_wide}
-use Rattle.std.proofs.Math.Nat.{one-le-pow, pow-succ', div-div-eq-div-mul, div-one, div-add-mod}
-use Rattle.std.proofs.lemmas.Nat.{le-div, div_below, pow-add}
+use Rattle.tds_values.proofs.Words.{◌≡◌, ◌⊎◌, ℕ, zero, suc, ◌+◌, ◌-◌, ◌*◌, ◌/◌, ◌%◌, ◌^◌, ◌<◌, ◌≤◌, List, [], ◌∷◌, ◌++◌, refl, sym, ap, subst, ◌∙◌, arith, inr, ⊎_elim, decimal, append_assoc, decimal_digit, decimal_step_wide, one-le-pow, pow-succ', div-div-eq-div-mul, div-one, div-add-mod, le-div, div_below, pow-add}
 use Rattle.tds_values.specs.ScalarText.{last_digits}
 
 append-none : (xs : List ℕ) → xs ++ [] ≡ xs

@@ -1,7 +1,5 @@
 -- The table of hexadecimal digits.
-use Rattle.std.proofs.Common.{◌≡◌, ℕ, zero, suc, ◌+◌, ◌-◌, ◌*◌, ◌/◌, ◌%◌, ◌<◌, Bool, true, T, eqb, eqb→eq, eq-zero-or-pos, ◌&&◌, get_or, inl, inr, arith}
-use lib.Ieee.Fits.{and_l, and_r}
-use Rattle.uuid.specs.Text.{hex_digit, lower}
+use Rattle.tds_values.proofs.Words.{◌≡◌, ℕ, zero, suc, ◌+◌, ◌-◌, ◌*◌, ◌/◌, ◌%◌, ◌<◌, Bool, true, T, eqb, eqb→eq, eq-zero-or-pos, ◌&&◌, get_or, inl, inr, arith, and_l, and_r, hex_digit, lower}
 use Rattle.tds_values.specs.declared.guid.TheConstants.{HEX}
 
 -- the entries below n are the digits of their byte

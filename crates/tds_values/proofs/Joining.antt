@@ -1,6 +1,5 @@
 -- What is written piece by piece stands joined.
-use Rattle.std.proofs.Common.{◌≡◌, ℕ, ◌+◌, ◌≤◌, List, ◌++◌, take, length, ap, sym, ◌∙◌, append_assoc, length-append}
-use Rattle.std.proofs.lemmas.List.{length-take-le}
+use Rattle.tds_values.proofs.Words.{◌≡◌, ℕ, ◌+◌, ◌≤◌, List, ◌++◌, take, length, ap, sym, ◌∙◌, append_assoc, length-append, length-take-le}
 
 pub joined : (t a b d x y : List ℕ) → x ≡ t ++ a → y ≡ x ++ b → d ≡ a ++ b → y ≡ t ++ d
 joined t a b d x y ex ey ed = ey ∙ ap (λ s. s ++ b) ex ∙ append_assoc t a b ∙ ap (λ s. t ++ s) (sym ed)

@@ -12,3 +12,4 @@ pub mod TypeInfoLemmas
 pub mod WordLemmas
 pub mod WrittenLemmas
 pub mod ZeroLemmas
+pub mod Words

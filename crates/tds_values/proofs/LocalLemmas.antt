@@ -1,10 +1,5 @@
 -- Local times by their whole seconds.
-use Rattle.std.proofs.Common.{◌≡◌, ℕ, ◌+◌, ◌-◌, ◌*◌, ◌/◌, ◌%◌, ◌^◌, ◌<◌, ◌≤◌, [], ◌++◌, Bool, true, false, cond, nat_eq, nat_le, nat_lt, ℤ, pos, int_lt, unsigned_abs, Some, None, codes, refl, ap, ◌∙◌, ⊎_elim, arith}
-use Rattle.std.specs.Prelude.{is_some}
-use Rattle.std.proofs.Math.Nat.{one-le-pow, div-add-mod}
-use Rattle.std.proofs.lemmas.Nat.{mul-le, div-mul-add, mod-mul-add, mod_below}
-use Rattle.std.proofs.lemmas.Bool.{cases_lt}
-use Rattle.std.proofs.lemmas.Bool.Decides.{nat_tests}
+use Rattle.tds_values.proofs.Words.{◌≡◌, ℕ, ◌+◌, ◌-◌, ◌*◌, ◌/◌, ◌%◌, ◌^◌, ◌<◌, ◌≤◌, [], ◌++◌, Bool, true, false, cond, nat_eq, nat_le, nat_lt, ℤ, pos, int_lt, unsigned_abs, Some, None, codes, refl, ap, ◌∙◌, ⊎_elim, arith, is_some, one-le-pow, div-add-mod, mul-le, div-mul-add, mod-mul-add, mod_below, cases_lt, nat_tests}
 use Rattle.tds_values.specs.LocalTime.{local_units, is_local, local_seconds}
 use Rattle.tds_values.specs.ScalarText.{last_digits, fraction_text, seconds_text, time_text, local_text, date_and_time}
 use Rattle.tds_values.proofs.DigitLemmas.{last_digits-above, last_digits-mod}

@@ -1,7 +1,5 @@
 -- Several numbers in one, each in bits of its own, divided at once.
-use Rattle.std.proofs.Common.{◌≡◌, ℕ, ◌+◌, ◌-◌, ◌*◌, ◌/◌, ◌%◌, ◌^◌, ◌<◌, ap, ◌∙◌, arith}
-use Rattle.std.specs.Int.Bits.{bit_and}
-use Rattle.std.proofs.lemmas.Nat.{and_block, and_mask}
+use Rattle.tds_values.proofs.Words.{◌≡◌, ℕ, ◌+◌, ◌-◌, ◌*◌, ◌/◌, ◌%◌, ◌^◌, ◌<◌, ap, ◌∙◌, arith, bit_and, and_block, and_mask}
 
 -- a mask keeps the low j bits of the lowest w, and does to those above what it does alone
 kept : (w j high mask low q : ℕ) → low < 2 ^ w → 2 ^ j - 1 < 2 ^ w → low % 2 ^ j ≡ q

@@ -1,6 +1,5 @@
 -- The tables of digits.
-use Rattle.std.proofs.Common.{◌≡◌, ℕ, zero, suc, ◌+◌, ◌-◌, ◌*◌, ◌/◌, ◌%◌, ◌<◌, Bool, true, T, eqb, eqb→eq, eq-zero-or-pos, ◌&&◌, get_or, inl, inr, arith}
-use lib.Ieee.Fits.{and_l, and_r}
+use Rattle.tds_values.proofs.Words.{◌≡◌, ℕ, zero, suc, ◌+◌, ◌-◌, ◌*◌, ◌/◌, ◌%◌, ◌<◌, Bool, true, T, eqb, eqb→eq, eq-zero-or-pos, ◌&&◌, get_or, inl, inr, arith, and_l, and_r}
 use Rattle.tds_values.specs.declared.digits.TheConstants.{PAIRS, WORDS}
 
 -- the entries below n are the digits of their place

@@ -1,14 +1,6 @@
 -- No text has more than 41 bytes.
-use Rattle.std.proofs.Common.{◌≡◌, ℕ, zero, suc, ◌+◌, ◌-◌, ◌*◌, ◌/◌, ◌^◌, ◌<◌, ◌≤◌, List, ◌++◌, Bool, true, false, cond, nat_le, refl, sym, ap, ◌∙◌, arith, ℤ, pos, negsuc, length, unsigned_abs, int_lt, decimal, codes}
-use Rattle.std.specs.Prelude.{IsTrue}
-use Rattle.std.specs.Fmt.{signed_decimal}
-use Rattle.std.proofs.lemmas.Bool.{and_parts}
-use Rattle.std.proofs.lemmas.Bool.Decides.{nat_tests}
+use Rattle.tds_values.proofs.Words.{◌≡◌, ℕ, zero, suc, ◌+◌, ◌-◌, ◌*◌, ◌/◌, ◌^◌, ◌<◌, ◌≤◌, List, ◌++◌, Bool, true, false, cond, nat_le, refl, sym, ap, ◌∙◌, arith, ℤ, pos, negsuc, length, unsigned_abs, int_lt, decimal, codes, IsTrue, signed_decimal, and_parts, nat_tests, pow-add, div_below, length-decimal-le, length-decimal-le_wide, one-le-pow, div-le_self, by_index_length}
 use Rattle.std.proofs.lemmas.List.{length-append}
-use Rattle.std.proofs.lemmas.Nat.{pow-add, div_below}
-use Rattle.std.proofs.lemmas.Fmt.{length-decimal-le, length-decimal-le_wide}
-use Rattle.std.proofs.Math.Nat.{one-le-pow, div-le_self}
-use Rattle.uuid.proofs.TextLemmas.{by_index_length}
 use Rattle.tds_values.specs.declared.scalar.ScalarValue.{ScalarValue}
 use Rattle.tds_values.specs.declared.scalar.ScalarValue.TheVariants as values
 use Rattle.tds_values.specs.ScalarRange.{is_in_range}

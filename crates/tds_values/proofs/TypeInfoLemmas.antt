@@ -1,8 +1,6 @@
 -- The type byte decides how many bytes a TYPE_INFO has, so none begins another, and each describes one kind.
-use Rattle.std.proofs.Common.{◌≡◌, ℕ, true, false, cond, nat_eq, List, [], ◌∷◌, ◌++◌, length, take, Option, Some, None, refl, sym, ap, ◌∙◌, arith, rules}
-use Rattle.std.specs.Prelude.{option_and_then, is_some, ◌==◌, ◌||◌, Bool}
-use Rattle.std.proofs.lemmas.Bool.Decides.{nat_tests}
-use Rattle.std.proofs.lemmas.List.{take_at}
+use Rattle.tds_values.proofs.Words.{◌≡◌, ℕ, true, false, cond, nat_eq, List, [], ◌∷◌, ◌++◌, length, take, Option, Some, None, refl, sym, ap, ◌∙◌, arith, rules, option_and_then, is_some, ◌==◌, ◌||◌, nat_tests, take_at}
+use Rattle.std.specs.Prelude.{Bool}
 use Rattle.tds_values.specs.declared.kind.Kind.{Kind}
 use Rattle.tds_values.specs.Kind.{is_valid}
 use Rattle.tds_values.specs.TypeInfo.{bare_kind, is_decimal_type, rest_length, named_kind, valid_kind, kind_after, kind_of, IsTypeInfo}

@@ -1,14 +1,6 @@
 -- Digits as the bytes of one number.
-use Rattle.std.proofs.Common.{◌≡◌, ℕ, zero, suc, ◌+◌, ◌-◌, ◌*◌, ◌/◌, ◌%◌, ◌^◌, ◌<◌, ◌≤◌, List, [], ◌∷◌, ◌++◌, refl, sym, ap, ◌∙◌, arith, take, drop, length}
-use Rattle.std.proofs.Math.Nat.{pow-succ', pow-suc, div-div-eq-div-mul}
-use Rattle.std.specs.Int.{bytes_low_first}
-use Rattle.std.specs.Prelude.{All}
-use Rattle.std.proofs.lemmas.List.Elements.{All-head, All-nil, All-push, All-tail}
-use Rattle.std.proofs.lemmas.Slice.{take-put_mid}
-use Rattle.std.proofs.lemmas.List.{append-nil, drop-take}
-use borrow.Rule.Slice.PartMut.{put_mid}
+use Rattle.tds_values.proofs.Words.{◌≡◌, ℕ, zero, suc, ◌+◌, ◌-◌, ◌*◌, ◌/◌, ◌%◌, ◌^◌, ◌<◌, ◌≤◌, List, [], ◌∷◌, ◌++◌, refl, sym, ap, ◌∙◌, arith, take, drop, length, pow-succ', pow-suc, div-div-eq-div-mul, bytes_low_first, All, All-head, All-nil, All-push, All-tail, take-put_mid, append-nil, drop-take, put_mid, little_number}
 use Rattle.tds_values.specs.ScalarText.{last_digits}
-use Rattle.byteorder.specs.Endian.{little_number}
 use Rattle.tds_values.proofs.DigitLemmas.{last_digits-add}
 use Rattle.tds_values.proofs.TextLengths.{length-last_digits}
 

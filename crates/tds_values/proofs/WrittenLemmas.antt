@@ -1,10 +1,5 @@
 -- What the bytes of a kind spell is written, or its fault answered.
-use Rattle.std.proofs.Common.{◌≡◌, ℕ, ◌+◌, ◌*◌, ◌/◌, ◌%◌, ◌^◌, ◌<◌, ◌≤◌, List, ◌++◌, true, false, nat_eq, nat_le, nat_lt, ◌⊎◌, take, drop, length, ℤ, unsigned_abs, codes, Some, None, Ok, Err, refl, sym, ap, subst, ◌∙◌, ⊎_elim, arith}
-use Rattle.std.proofs.Math.Nat.{one-le-pow}
-use Rattle.std.proofs.lemmas.Nat.{div_below, le-div}
-use Rattle.std.proofs.lemmas.Bool.{and_from, and_parts, and_right, cases_lt}
-use Rattle.std.proofs.lemmas.Bool.Decides.{nat_tests}
-use Rattle.byteorder.specs.Endian.{little_number}
+use Rattle.tds_values.proofs.Words.{◌≡◌, ℕ, ◌+◌, ◌*◌, ◌/◌, ◌%◌, ◌^◌, ◌<◌, ◌≤◌, List, ◌++◌, true, false, nat_eq, nat_le, nat_lt, ◌⊎◌, take, drop, length, ℤ, unsigned_abs, codes, Some, None, Ok, Err, refl, sym, ap, subst, ◌∙◌, ⊎_elim, arith, one-le-pow, div_below, le-div, and_from, and_parts, and_right, cases_lt, nat_tests, little_number, IfOk, IfErr}
 use Rattle.tds_values.specs.declared.kind.Kind.{Kind}
 use Rattle.tds_values.specs.declared.kind.Kind.TheVariants as kinds
 use Rattle.tds_values.specs.declared.scalar.ScalarValue.{ScalarValue}
@@ -16,7 +11,7 @@ use Rattle.tds_values.specs.ScalarRange.{is_in_range}
 use Rattle.tds_values.specs.ScalarText.{text_of, seconds_text, fraction_text, date_and_time, offset_text, local_text}
 use Rattle.tds_values.specs.LocalTime.{local_seconds}
 use Rattle.tds_values.proofs.LocalLemmas.{local_by_seconds, units_of_seconds, text_of_seconds}
-use Rattle.std.specs.Prelude.{IfOk, IfErr, Result}
+use Rattle.std.specs.Prelude.{Result}
 use Rattle.tds_values.specs.declared.scalar.ValueFault.{ValueFault}
 use Rattle.tds_values.specs.TimeOfDay.{is_time, time_length}
 use Rattle.tds_values.specs.Written.{IsText, IsWritten}

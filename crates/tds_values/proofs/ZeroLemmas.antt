@@ -1,9 +1,6 @@
 -- The zeros before a number's digits, counted as the zero bits of one number.
-use Rattle.std.proofs.Common.{◌≡◌, ◌⊎◌, inl, inr, ℕ, zero, suc, ◌+◌, ◌-◌, ◌*◌, ◌/◌, ◌%◌, ◌^◌, ◌<◌, ◌≤◌, refl, sym, ap, subst, ◌∙◌, arith, ⊎_elim}
-use Rattle.std.proofs.Math.Nat.{pow-succ', one-le-pow, div-eq_of_lt}
-use Rattle.std.proofs.lemmas.Nat.{div_below, le-div}
-use Rattle.std.proofs.lemmas.Bool.{cases_lt}
-use lib.Count.{count_trailing_zeros, under}
+use Rattle.tds_values.proofs.Words.{◌≡◌, ◌⊎◌, inl, inr, ℕ, zero, suc, ◌+◌, ◌-◌, ◌*◌, ◌/◌, ◌%◌, ◌^◌, ◌<◌, ◌≤◌, refl, sym, ap, subst, ◌∙◌, arith, ⊎_elim, pow-succ', one-le-pow, div-eq_of_lt, div_below, le-div, cases_lt, under}
+use lib.Count.{count_trailing_zeros}
 use Rattle.tds_values.specs.ScalarText.{last_digits}
 use Rattle.tds_values.proofs.WordLemmas.{word_of}
 use Rattle.tds_values.proofs.DigitLemmas.{last_digits-add}

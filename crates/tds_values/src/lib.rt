@@ -1,6 +1,8 @@
-//! The kinds of column of a TDS 7.4 result, and the values and texts of the scalar kinds.
+//! The kinds of column of a TDS 7.4 result, the character sets of their text, and the values and texts of
+//! the scalar kinds.
 #![tactic(auto)]
 
+mod charset;
 mod digits;
 mod guid;
 mod kind;
@@ -13,6 +15,7 @@ mod scalar;
 mod text;
 mod write;
 
+pub use charset::Charset;
 pub use kind::{Kind, Reach};
 pub use laws::{one_date, one_type_info, short_texts};
 pub use plain::{ScalarText, scalar_text, text_room};

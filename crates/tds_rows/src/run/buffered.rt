@@ -4,12 +4,11 @@ ghost use Rattle.tds_rows.specs.CellSteps.{CellWritten, HasInt4, value_start, wh
 ghost use Rattle.tds_rows.specs.Layouts.{HasNoValue, HasValueAt, IsLaidOut};
 ghost use Rattle.tds_values.specs.Kind as kinds;
 
-use crate::Charset;
 use crate::form::{Form, Layout};
 use crate::run::fields::VALUE_ROOM;
 use crate::run::short::write_short;
 use tds_csv::write_null;
-use tds_values::{Kind, write_scalar};
+use tds_values::{Charset, Kind, write_scalar};
 
 // How many bytes a cell has, and how many its text in its line.
 #[derive(Clone, Copy)]

@@ -3,11 +3,11 @@ ghost use Rattle.std.specs.Prelude.{◌≡◌, ◌==◌, ◌&&◌, ◌<◌, ◌�
 ghost use Rattle.tds_rows.specs.FormRuns.{FieldsWritten, FirstLeft, FirstUsed, FirstWritten, FormsWritten, IsWithin};
 ghost use Rattle.tds_rows.specs.Forms.{AreLaidOut};
 
-use crate::Charset;
 use crate::form::{Form, Layout};
 use crate::run::buffered::write_cell;
 use crate::run::fields::{CELL_ROOM, VALUE_ROOM};
 use tds_csv::{COMMA, write_comma, write_line_end};
+use tds_values::Charset;
 
 /// How many cells a run wrote, how many bytes they have, and how many their text has.
 #[derive(Clone, Copy)]

@@ -1,5 +1,4 @@
-use Rattle.std.proofs.Common.{sym, ap}
-use Rattle.tds_csv.specs.Fields.{conversion_of, field_room}
+use Rattle.tds_csv.proofs.Words.{sym, ap, conversion_of, field_room}
 use Rattle.tds_csv.proofs.fields.field_room.Goals as goal
 
 pub returns-in-Windows1252 : goal.returns-in-Windows1252

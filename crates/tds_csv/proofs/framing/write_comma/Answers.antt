@@ -1,6 +1,4 @@
-use Rattle.std.proofs.Common.{◌≡◌, ℕ, ◌≤◌, List, [], ◌∷◌, ◌++◌, length, take, sym, arith, slice_set, cond, ap}
-use Rattle.std.proofs.lemmas.Bool.{ne_eqb}
-use Rattle.tds_csv.specs.Quoting.{after_comma}
+use Rattle.tds_csv.proofs.Words.{◌≡◌, ℕ, ◌≤◌, List, [], ◌∷◌, ◌++◌, length, take, sym, arith, slice_set, cond, ap, ne_eqb, after_comma}
 use Rattle.tds_csv.proofs.framing.write_comma.Goals as goal
 
 comma_text : (column : ℕ) (to text : List ℕ) → (column ≡ 0 → ⊥) → 1 ≤ length to → take 1 (slice_set to 0 44) ++ text ≡ after_comma column text

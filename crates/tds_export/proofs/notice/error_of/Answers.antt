@@ -1,6 +1,4 @@
-use Rattle.std.proofs.Common.{◌≡◌, ◌∙◌, ◌-◌, length, length-drop, take, take_all, drop, ap, arith, rules}
-use Rattle.std.specs.Int.{cast_signed, cast_unsigned, w32}
-use Rattle.byteorder.specs.Endian.{little_number}
+use Rattle.tds_export.proofs.Words.{ap, arith, cast_signed, cast_unsigned, drop, length, length-drop, little_number, rules, take, take_all, w32, ◌-◌, ◌∙◌, ◌≡◌}
 use Rattle.tds_export.proofs.NoticeReading.{error_is, parts_within}
 use Rattle.tds_export.proofs.notice.error_of.Goals as goal
 

@@ -1,14 +1,13 @@
-use Rattle.tds_packet.proofs.Passing.{passed}
+use Rattle.tds_export.proofs.Words.{passed}
 use Rattle.tds_export.proofs.ReturnSteps.{return_reads_after, return_stops_after, value_passed}
 use Rattle.tds_export.proofs.returned.pass_return.Goals as goal
 
 pub returns-in_err-kind-clause-gives : goal.returns-in_err-kind-clause-gives
 returns-in_err-kind-clause-gives g c =
     let x = c.in_ok-pass_name.ensures.gives in
-    passed _ _ _ _ c.from_residual-in_err-kind.ensures.1 (return_stops_after _ _ _ _ _ _ _ _ x.steps (c.in_err-kind.ensures.gives x.name))
+    passed _ _ _ _ c.from_residual-in_err-kind.ensures.1 (return_stops_after x.steps (c.in_err-kind.ensures.gives x.name))
 
 pub returns-clause-gives : goal.returns-clause-gives
 returns-clause-gives g c =
     let x = c.in_ok-pass_name.ensures.gives in
-    let front = return_reads_after _ _ _ _ _ _ _ _ _ x.steps (c.in_ok-kind.ensures.gives x.name) in
-    value_passed c.pass_over.result x.name c.in_ok-kind.kind _ _ _ _ _ _ front (c.pass_over.ensures.gives c.in_ok-kind.ensures.leaves.payload.going)
+    value_passed c.pass_over.result x.name c.in_ok-kind.kind _ _ (return_reads_after x.steps (c.in_ok-kind.ensures.gives x.name)) (c.pass_over.ensures.gives c.in_ok-kind.ensures.leaves.payload.going)

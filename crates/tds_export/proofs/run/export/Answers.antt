@@ -1,12 +1,7 @@
-use Rattle.std.proofs.Common.{◌≡◌, refl, ap, rules, arith}
-use Rattle.tds_csv.specs.Sinks.{held}
-use Rattle.tds_export.specs.Exports.{Reports, StopsExport}
-use Rattle.tds_export.specs.Moments.{Given, moment}
-use Rattle.tds_meter.specs.Space.{Space}
-use Rattle.tds_packet.specs.Payloads.{seen}
-use Rattle.tds_export.proofs.ToldAnswers.{report_tells, stop_tells}
-use Rattle.tds_export.proofs.Endings.{description_room, exports, packet_room, stops_export}
+use Rattle.tds_export.proofs.Words.{Given, Reports, Space, StopsExport, ap, arith, held, moment, refl, rules, seen, ◌≡◌}
 use Rattle.tds_export.proofs.DeviceFaults.{blamed, no_failure}
+use Rattle.tds_export.proofs.Endings.{exports, rooms, stops_export}
+use Rattle.tds_export.proofs.ToldAnswers.{report_tells, stop_tells}
 use Rattle.tds_export.proofs.run.export.Given.{Over}
 use Rattle.tds_export.proofs.run.export.Goals as goal
 
@@ -23,10 +18,10 @@ reported g c = let at = moment g.R.Read.remaining g.W.Write.contents in record {
 
 all_read : (g : Over) (c : goal.In-Ok g) → Reports (reported g c) c.in-Ok.report
 all_read g c =
-    let emptied = c.restart.ensures.emptied in
+    let emptied = rooms c.args.areas.now c.restart.new.self c.requires c.restart.ensures.emptied in
     let limit : c.max_wire-max_wire.result ≡ c.args.areas.now.limits.max_wire = search rules in
     exports (reported g c) (seen g.R.Read.remaining c.new-payload.result) (seen g.R.Read.remaining c.read_response.new.payload) (held g.W.Write.contents c.new-sink.result) (held g.W.Write.contents c.read_response.new.sink) _ _ _ c.in-Ok.report
-    c.new-payload.ensures.begun.begins (packet_room c.args.areas.now c.restart.new.self c.requires emptied) limit c.new-sink.ensures.held (description_room c.args.areas.now c.restart.new.self c.requires emptied)
+    c.new-payload.ensures.begun.begins emptied.0 limit c.new-sink.ensures.held emptied.1
     (record { left = refl; failures = refl }) (record { has = refl; waiting = refl; failures = refl }) c.in-Ok.ensures.gives
 
 pub returns-in-Ok-clause-exports : goal.returns-in-Ok-clause-exports
@@ -49,10 +44,10 @@ stopped g c = let at = moment g.R.Read.remaining g.W.Write.contents in record {
 
 read_so_far : (g : Over) (c : goal.After-to-in-Err-1 g) → StopsExport (stopped g c) c.stop_at.result
 read_so_far g c =
-    let emptied = c.restart.ensures.emptied in
+    let emptied = rooms c.args.areas.now c.restart.new.self c.requires c.restart.ensures.emptied in
     let limit : c.max_wire-max_wire.result ≡ c.args.areas.now.limits.max_wire = search rules in
     stops_export (stopped g c) (seen g.R.Read.remaining c.new-payload.result) (seen g.R.Read.remaining c.read_response.new.payload) (held g.W.Write.contents c.new-sink.result) (held g.W.Write.contents c.read_response.new.sink) (held g.W.Write.contents c.stop_at.new.sink) _ _ _ _ _ _ _
-    c.new-payload.ensures.begun.begins (packet_room c.args.areas.now c.restart.new.self c.requires emptied) limit c.new-sink.ensures.held (description_room c.args.areas.now c.restart.new.self c.requires emptied) c.new-payload.ensures.begun.place
+    c.new-payload.ensures.begun.begins emptied.0 limit c.new-sink.ensures.held emptied.1 c.new-payload.ensures.begun.place
     (record { left = refl; failures = refl }) (record { has = refl; waiting = refl; failures = refl }) c.in-Err.ensures.gives c.stop_at.ensures.tidied (λ failed. ap (held g.W.Write.contents) (c.stop_at.ensures.failed failed)) c.stop_at.ensures.stop (ap (λ (s : Space). s.bytes) c.clear.ensures.value)
 
 pub returns-in-Err-clause-exports : goal.returns-in-Err-clause-exports

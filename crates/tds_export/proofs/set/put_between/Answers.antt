@@ -1,4 +1,4 @@
-use Rattle.tds_csv.proofs.Puttings.{PutsPiece-none}
+use Rattle.tds_export.proofs.Words.{PutsPiece-none}
 use Rattle.tds_export.proofs.set.put_between.Goals as goal
 
 pub returns-else-begun : goal.returns-else-begun

@@ -1,4 +1,4 @@
-use Rattle.tds_csv.proofs.Puttings.{PutsPiece-none}
+use Rattle.tds_export.proofs.Words.{PutsPiece-none}
 use Rattle.tds_export.proofs.set.put_comma.Goals as goal
 
 pub returns-then-first : goal.returns-then-first

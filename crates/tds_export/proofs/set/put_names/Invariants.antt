@@ -1,5 +1,4 @@
-use Rattle.tds_columns.specs.View.{columns_of}
-use Rattle.tds_columns.specs.Walking.{columns_left}
+use Rattle.tds_export.proofs.Words.{columns_left, columns_of}
 use Rattle.tds_export.proofs.NameTexts.{NamesPut}
 use Rattle.tds_export.proofs.set.put_names.Given as goal
 

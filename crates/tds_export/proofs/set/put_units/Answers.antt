@@ -1,5 +1,4 @@
-use Rattle.std.proofs.Common.{rules}
-use Rattle.tds_csv.specs.Sinks.{held}
+use Rattle.tds_export.proofs.Words.{held, rules}
 use Rattle.tds_export.proofs.HeaderTexts.{end_breaks, end_puts, end_stopped, push_breaks, push_stopped}
 use Rattle.tds_export.proofs.set.put_units.Goals as goal
 

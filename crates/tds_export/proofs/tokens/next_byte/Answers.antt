@@ -1,8 +1,4 @@
-use Rattle.std.proofs.Common.{◌≡◌, ◌∙◌, ◌+◌, ◌<◌, ℕ, List, [], ◌∷◌, ◌++◌, length, take, slice_index, refl, sym, ap, subst, arith, rules}
-use Rattle.tds_packet.proofs.Passing.{passed}
-use Rattle.tds_packet.specs.Payloads.{buffered, seen}
-use Rattle.tds_packet.specs.Seen.{Takes}
-use Rattle.tds_packet.proofs.Futures.{Takes-more, Takes-trans}
+use Rattle.tds_export.proofs.Words.{List, Takes, Takes-more, Takes-trans, [], ap, arith, buffered, length, passed, refl, rules, seen, slice_index, subst, sym, take, ℕ, ◌++◌, ◌+◌, ◌<◌, ◌∙◌, ◌∷◌, ◌≡◌}
 use Rattle.tds_export.proofs.tokens.next_byte.Goals as goal
 
 -- the first byte of those that lie ready

@@ -1,6 +1,4 @@
-use Rattle.std.proofs.Common.{◌∙◌, ap, sym}
-use Rattle.tds_rows.specs.Cells.{LongShape, shape}
-use Rattle.tds_rows.specs.CellSteps.{int4_start_of}
+use Rattle.tds_rows.proofs.Words.{◌∙◌, ap, sym, LongShape, shape, int4_start_of}
 use Rattle.tds_rows.proofs.form.lay_out.Goals as goal
 
 pub returns-in-Binary : goal.returns-in-Binary

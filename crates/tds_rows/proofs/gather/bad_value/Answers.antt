@@ -1,4 +1,4 @@
-use Rattle.std.proofs.Common.{refl}
+use Rattle.tds_rows.proofs.Words.{refl}
 use Rattle.tds_rows.proofs.gather.bad_value.Goals as goal
 
 pub returns : goal.returns

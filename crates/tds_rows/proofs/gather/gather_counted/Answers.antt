@@ -1,34 +1,27 @@
-use Rattle.std.proofs.Common.{◌∙◌, ◌∷◌, [], get_or, refl, sym, ap, subst}
-use Rattle.tds_packet.specs.Payloads.{seen}
-use Rattle.tds_packet.proofs.Passing.{passed}
-use Rattle.tds_rows.specs.Cells.{ScalarLength}
-use Rattle.tds_rows.specs.CellSteps.{GathersCell}
-use Rattle.tds_rows.proofs.CellSteps.{counted_taken, length_cut, length_refused, length_taken, null_gathers}
+use Rattle.tds_rows.proofs.Words.{◌∙◌, get_or, refl, sym, ap, passed}
+use Rattle.tds_rows.proofs.CellSteps.{cell_cut, counted_taken, length_refused, length_taken, null_gathers}
 use Rattle.tds_rows.proofs.gather.gather_counted.Goals as goal
 
 pub returns-in_err-take_into-clause-gives : goal.returns-in_err-take_into-clause-gives
 returns-in_err-take_into-clause-gives g c =
     let e = c.in_err-take_into.ensures.gives c.requires.gathering.payload.going in
-    passed _ _ _ _ c.from_residual.ensures.1 (length_cut _ _ _ _ _ _ _ _ e.fewer e.ends e.stop_is)
+    passed _ _ _ _ c.from_residual.ensures.1 (cell_cut {n = 1} e.part e.own refl refl refl e.fewer e.ends e.stop_is)
 
 pub returns-then-n-eq0-clause-gives : goal.returns-then-n-eq0-clause-gives
 returns-then-n-eq0-clause-gives g c =
-    let a = seen g.R.Read.remaining c.args.payload.now in
-    let b = seen g.R.Read.remaining c.take_into.new.payload in
     let x = c.in_ok-take_into.ensures.gives in
-    let taken = length_taken _ _ _ _ _ c.requires.gathering.empty (ap (λ l. get_or l 0 0) (sym c.bytes.ensures.value)) x in
-    subst (GathersCell c.args.kind.now (ScalarLength c.args.kind.now) c.args.column a b c.args.payload.now.place c.take_into.new.payload.place) (sym taken.0)
-    (null_gathers _ _ _ _ _ _ _ c.requires.counted refl c.if-n-eq0.true taken.1 x.between c.in_ok-take_into.ensures.place)
+    let taken = length_taken c.requires.gathering.empty (ap (λ l. get_or l 0 0) (sym c.bytes.ensures.value)) x in
+    rw taken.0 (null_gathers c.requires.counted refl c.if-n-eq0.true taken.1 x.between c.in_ok-take_into.ensures.place)
 
 pub returns-then-not-length_allowed-clause-gives : goal.returns-then-not-length_allowed-clause-gives
 returns-then-not-length_allowed-clause-gives g c =
     let x = c.in_ok-take_into.ensures.gives in
-    let taken = length_taken _ _ _ _ _ c.requires.gathering.empty (ap (λ l. get_or l 0 0) (sym c.bytes.ensures.value)) x in
+    let taken = length_taken c.requires.gathering.empty (ap (λ l. get_or l 0 0) (sym c.bytes.ensures.value)) x in
     rw (c.bad_length.ensures, c.place-place.ensures)
-    (length_refused _ _ _ _ _ _ ((get_or c.bytes.result.now 0 0) ∷ []) refl refl c.if-n-eq0.false (sym c.length_allowed.ensures ∙ c.if-not-length_allowed.true) taken.1 x.between)
+    (length_refused c.if-n-eq0.false (sym c.length_allowed.ensures ∙ c.if-not-length_allowed.true) taken.1 x.between)
 
 pub returns-clause-gives : goal.returns-clause-gives
 returns-clause-gives g c =
-    let taken = length_taken _ _ _ _ _ c.requires.gathering.empty (ap (λ l. get_or l 0 0) (sym c.bytes.ensures.value)) c.in_ok-take_into.ensures.gives in
+    let taken = length_taken c.requires.gathering.empty (ap (λ l. get_or l 0 0) (sym c.bytes.ensures.value)) c.in_ok-take_into.ensures.gives in
     counted_taken c.take_into-2.result _ _ _ _ _ _ _ _ _ _ _ _
     c.requires.counted taken.0 c.if-n-eq0.false (sym c.length_allowed.ensures ∙ c.if-not-length_allowed.false) taken.1 c.in_ok-take_into.ensures.place c.in_ok-take_into.ensures.payload.going c.take_into-2.ensures.place c.take_into-2.ensures.gives

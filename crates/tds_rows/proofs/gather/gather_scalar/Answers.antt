@@ -1,6 +1,4 @@
-use Rattle.std.proofs.Common.{◌∙◌, sym, subst, rules}
-use Rattle.tds_rows.specs.Cells.{CellPart}
-use Rattle.tds_rows.specs.CellSteps.{CellGathered}
+use Rattle.tds_rows.proofs.Words.{◌∙◌, sym, subst, rules, CellPart, CellGathered}
 use Rattle.tds_rows.proofs.CellSteps.{scalar_start}
 use Rattle.tds_rows.proofs.gather.gather_scalar.Goals as goal
 

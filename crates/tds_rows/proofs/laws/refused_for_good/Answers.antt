@@ -1,8 +1,5 @@
-use Rattle.tds_packet.proofs.ElementLaws.{refused_for_good}
-use Rattle.tds_rows.specs.Cells.{cell}
-use Rattle.tds_rows.specs.Rows.{row}
-use Rattle.tds_rows.proofs.CellLaws.{cell_is_read}
-use Rattle.tds_rows.proofs.RowLaws.{shape-HasBytes, row_is_read, refused_nbc_row}
+use Rattle.tds_rows.proofs.Words.{refused_for_good, cell, row}
+use Rattle.tds_rows.proofs.{CellLaws.cell_is_read, RowLaws.shape-HasBytes, RowLaws.row_is_read, RowLaws.refused_nbc_row}
 use Rattle.tds_rows.proofs.laws.refused_for_good.Goals as goal
 
 pub returns-clause-cell : goal.returns-clause-cell

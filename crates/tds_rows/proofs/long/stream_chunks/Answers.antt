@@ -1,10 +1,5 @@
-use Rattle.std.proofs.Common.{◌≡◌, ◌∙◌, arith, refl, rules, sym}
-use Rattle.std.proofs.lemmas.Result.{MatchResult-weaker}
-use Rattle.tds_packet.proofs.Passing.{passed}
-use Rattle.tds_rows.specs.LongCells.{chunk_length_fault}
-use Rattle.tds_rows.proofs.LongChunks.{chunk_data_stops, chunk_stops, chunks_end_stops, chunks_whole, streamed_more, streamed_none}
-use Rattle.tds_rows.proofs.LongValues.{rest_none}
-use Rattle.tds_rows.proofs.Blames.{blames_after, chunk_none, length_blames, read_stops, same_failures, stops_after}
+use Rattle.tds_rows.proofs.Words.{◌≡◌, ◌∙◌, arith, refl, rules, sym, MatchResult-weaker, passed, chunk_length_fault}
+use Rattle.tds_rows.proofs.{LongChunks.chunk_path, LongChunks.chunks_end_stops, LongChunks.chunks_whole, LongChunks.streamed_more, LongChunks.streamed_none, LongSteps.chunk_holds, LongSteps.filling_stops, Numbers.chunk_stops, Paths.path_stops, LongValues.reading_stops, LongValues.rest_none, Blames.blames_after, Blames.chunk_none, Blames.length_blames, Blames.read_stops, Blames.same_failures, Blames.stops_after}
 use Rattle.tds_rows.proofs.long.stream_chunks.Goals as goal
 
 pub loop-n-init : goal.loop-n-init
@@ -17,15 +12,16 @@ loop-n-init g c = record {
   few = omega arith;
   calm = refl;
   streamed = λ conversion suits.
-      streamed_none _ _ _ _ suits.unit_is _ _ _ _ _ (c.requires.withheld ∙ sym (rest_none _)) c.requires.joining.sink.ready.2;
+      streamed_none (c.requires.withheld ∙ sym (rest_none _)) c.requires.joining.sink.ready.2;
 }
 
 pub returns-in_err-n-clause-gives : goal.returns-in_err-n-clause-gives
 returns-in_err-n-clause-gives g c = λ conversion suits.
     let l = c.loop-n in
+    let x = l.invariant.streamed conversion suits in
     let y = rw c.UNIT.ensures at c.in_err-n.ensures.gives in
-    passed _ _ _ _ c.from_residual.ensures.1 (chunk_stops _ _ _ _ suits.unit_is _ _ _ _ _ _ _ _ c.read_chunk_length.new.payload.place
-    _ _ (l.invariant.streamed conversion suits) _ _ l.invariant.writing.ready.2 l.invariant.writing.writing y)
+    let stops = reading_stops c.args.last l.invariant.writing.ready.2 l.invariant.writing.writing (chunk_stops _ _ _ suits.unit_is _ _ _ x.counted y) in
+    passed _ _ _ _ c.from_residual.ensures.1 (path_stops x.path stops)
 
 pub returns-then-n-eq0-clause-gives : goal.returns-then-n-eq0-clause-gives
 returns-then-n-eq0-clause-gives g c = λ conversion suits.
@@ -35,9 +31,8 @@ returns-then-n-eq0-clause-gives g c = λ conversion suits.
     let none : r.0 ≡ 0 = sym r.3 ∙ c.if-n-eq0.true in
     let free = rw c.UNIT.ensures at r.2 in
     let ended = rw c.place-place.ensures at (rw suits.quoted_is at (c.put_end.ensures.gives conversion x.content suits x.kept_is x.begun)) in
-    MatchResult-weaker c.put_end.result ended (λ _ y. chunks_whole _ _ _ _ suits.unit_is _ _ _ _ _ _ _ _ _ _ _ x _ r.1 free _ none y.0 y.1)
-    (λ stop y. chunks_end_stops _ _ _ _ suits.unit_is _ _ _ _ _ _ _ _ _ _ _ x _ r.1 free _ _ _
-    (l.invariant.writing.ready.1 l.invariant.writing.writing) l.invariant.writing.ready.2 none y)
+    MatchResult-weaker c.put_end.result ended (λ _ y. chunks_whole _ suits.unit_is x r.1 free none y.0 y.1)
+    (λ stop y. chunks_end_stops _ suits.unit_is x r.1 free (l.invariant.writing.ready.1 l.invariant.writing.writing) l.invariant.writing.ready.2 none y)
 
 pub returns-in_err-push_data-clause-gives : goal.returns-in_err-push_data-clause-gives
 returns-in_err-push_data-clause-gives g c = λ conversion suits.
@@ -46,8 +41,8 @@ returns-in_err-push_data-clause-gives g c = λ conversion suits.
     let r = c.in_ok-n.ensures.gives in
     let reads = rw (sym r.3) at r.1 in
     let free = rw (sym r.3) at (rw c.UNIT.ensures at r.2) in
-    passed _ _ _ _ c.from_residual-in_err-push_data.ensures.1 (chunk_data_stops _ _ _ _ suits.unit_is _ _ _ _ _ _ _ _ _
-    _ _ x _ reads free c.if-n-eq0.false l.invariant.writing.ready.2 _ _ _ _ (c.in_err-push_data.ensures.gives conversion x.content suits x.kept_is x.begun))
+    let read = chunk_path _ suits.unit_is x reads free c.if-n-eq0.false l.invariant.writing.ready.2 in
+    passed _ _ _ _ c.from_residual-in_err-push_data.ensures.1 (path_stops read (filling_stops _ (chunk_holds _ conversion _) (c.in_err-push_data.ensures.gives conversion x.content suits x.kept_is x.begun)))
 
 pub loop-n-preserved : goal.loop-n-preserved
 loop-n-preserved g c =
@@ -66,8 +61,7 @@ loop-n-preserved g c =
           let r = c.in_ok-n.ensures.gives in
           let reads = rw (sym r.3) at r.1 in
           let free = rw (sym r.3) at (rw c.UNIT.ensures at r.2) in
-          streamed_more _ _ _ _ suits.unit_is _ _ _ _ _ _ _ _ _ _ _ x _ reads free c.if-n-eq0.false l.invariant.writing.ready.2 _ _ _ _
-          done.leaves.sink.ready.2 (done.gives conversion x.content suits x.kept_is x.begun);
+          streamed_more _ suits.unit_is x reads free c.if-n-eq0.false l.invariant.writing.ready.2 done.leaves.sink.ready.2 (done.gives conversion x.content suits x.kept_is x.begun);
     }
 
 pub returns-in_err-n-clause-blames : goal.returns-in_err-n-clause-blames

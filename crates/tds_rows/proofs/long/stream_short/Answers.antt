@@ -1,63 +1,55 @@
-use Rattle.std.proofs.Common.{◌∙◌, ◌<◌, ◌++◌, ℕ, [], List, arith, refl, rules, sym}
-use Rattle.std.proofs.lemmas.Result.{MatchResult-weaker}
-use Rattle.tds_packet.proofs.Passing.{passed}
-use Rattle.tds_rows.proofs.LongValues.{empty_puts, empty_stops, none_begins, rest_none, short_data_stops, short_end_stops, short_length_stops, short_null_puts, short_opening_breaks, short_read, short_whole}
-use Rattle.tds_rows.specs.LongCells.{short_fault}
-use Rattle.tds_rows.proofs.Blames.{blames_after, length_blames, piece_blames, read_stops, same_failures, short_none, stops_after, write_stops}
+use Rattle.tds_rows.proofs.Words.{◌∙◌, ◌<◌, ◌++◌, ℕ, [], List, arith, refl, rules, sym, MatchResult-weaker, passed, short_fault}
+use Rattle.tds_rows.proofs.Blames.{blames_after, length_blames, piece_blames, read_stops, same_failures, short_none as short_blames, stops_after, write_stops}
+use Rattle.tds_rows.proofs.{LongValues.empty_puts, LongValues.empty_stops, LongValues.field_puts, LongValues.next_breaks, LongValues.next_path, LongValues.none_begins, LongValues.null_puts, LongValues.reading_stops, LongValues.rest_none, LongValues.short_end_stops, LongValues.short_open, LongValues.short_text, LongValues.short_whole, LongSteps.filling_stops, LongSteps.short_holds, Numbers.short_none, Numbers.short_start, Numbers.short_stops, Paths.path_stops}
 use Rattle.tds_rows.proofs.long.stream_short.Goals as goal
 
 pub returns-in_err-n-clause-gives : goal.returns-in_err-n-clause-gives
 returns-in_err-n-clause-gives g c = λ conversion suits.
-    passed _ _ _ _ c.from_residual.ensures.1 (short_length_stops _ _ _ _ (c.UNIT.ensures ∙ suits.unit_is) _ _ _
-    _ _ _ c.requires.joining.sink.ready.2 c.requires.joining.sink.writing c.in_err-n.ensures.gives)
+    passed _ _ _ _ c.from_residual.ensures.1 (reading_stops _ c.requires.joining.sink.ready.2 c.requires.joining.sink.writing (short_stops _ _ _ (c.UNIT.ensures ∙ suits.unit_is) c.in_err-n.ensures.gives))
 
 pub returns-in_default-clause-gives : goal.returns-in_default-clause-gives
 returns-in_default-clause-gives g c = λ conversion suits.
-    short_null_puts g.W.Write.contents _ _ _ _ (c.UNIT.ensures ∙ suits.unit_is) _ _ _ _
-    _ c.in_ok-n.ensures.gives c.in_default.is c.args.sink.now c.put_null.new.sink c.put_null.result (c.requires.joining.sink.ready.1 c.requires.joining.sink.writing) c.requires.joining.sink.ready.2 c.requires.joining.sink.writing c.put_null.ensures
+    null_puts c.args.last g.W.Write.contents c.args.sink.now c.put_null.new.sink c.put_null.result (short_none _ conversion _ (c.UNIT.ensures ∙ suits.unit_is) c.in_ok-n.ensures.gives c.in_default.is) refl c.requires.joining.sink c.put_null.ensures
 
 pub returns-in_err-put_opening-clause-gives : goal.returns-in_err-put_opening-clause-gives
 returns-in_err-put_opening-clause-gives g c = λ conversion suits.
-    let x = short_read _ _ _ _ _ _ _ _ c.in_ok-n.ensures.gives c.in-Some.is in
-    let breaks = rw (c.QUOTED.ensures ∙ suits.quoted_is) at (c.in_err-put_opening.ensures.gives c.requires.joining.sink.writing) in
-    passed _ _ _ _ c.from_residual-in_err-put_opening.ensures.1 (short_opening_breaks _ _ _ _ (c.UNIT.ensures ∙ suits.unit_is) _ _ _ _ _ x.reads x.free x.some _ _ _ _
-    (c.requires.joining.sink.ready.1 c.requires.joining.sink.writing) c.requires.joining.sink.ready.2 c.in_err-put_opening.ensures.failed breaks)
+    let sink = c.requires.joining.sink in
+    let x = short_start _ _ _ (c.UNIT.ensures ∙ suits.unit_is) c.in_ok-n.ensures.gives c.in-Some.is in
+    let breaks = rw (c.QUOTED.ensures ∙ suits.quoted_is) at (c.in_err-put_opening.ensures.gives sink.writing) in
+    let rest = short_text c.args.column c.args.last conversion c.in-Some.n in
+    passed _ _ _ _ c.from_residual-in_err-put_opening.ensures.1 (next_breaks _ x _ rest.0 (sink.ready.1 sink.writing) sink.ready.2 c.in_err-put_opening.ensures.failed rest.1 breaks)
 
 pub returns-then-n-eq0-clause-gives : goal.returns-then-n-eq0-clause-gives
 returns-then-n-eq0-clause-gives g c = λ conversion suits.
-    let unit_is = c.UNIT.ensures ∙ suits.unit_is in
-    let x = short_read _ _ _ _ _ _ _ _ c.in_ok-n.ensures.gives c.in-Some.is in
+    let sink = c.requires.joining.sink in
+    let x = short_start _ _ _ (c.UNIT.ensures ∙ suits.unit_is) c.in_ok-n.ensures.gives c.in-Some.is in
     let opened = rw (c.QUOTED.ensures ∙ suits.quoted_is) at c.in_ok-put_opening.ensures.gives in
     let ended = rw suits.quoted_is at (c.put_end.ensures.gives conversion [] suits (c.requires.withheld ∙ sym (rest_none _)) (none_begins _)) in
-    MatchResult-weaker c.put_end.result ended (λ _ y. empty_puts _ _ _ _ unit_is _ _ _ _ _ x.reads x.free x.some _ _ _ c.if-n-eq0.true opened y.1)
-    (λ stop y. empty_stops _ _ _ _ unit_is _ _ _ _ _ x.reads x.free x.some _ _ _ _ _ _
-    (c.requires.joining.sink.ready.1 c.requires.joining.sink.writing) c.requires.joining.sink.ready.2 c.if-n-eq0.true opened y)
+    MatchResult-weaker c.put_end.result ended (λ _ y. empty_puts _ _ _ _ x c.if-n-eq0.true opened y.1) (λ stop y. empty_stops _ _ _ _ _ x c.if-n-eq0.true opened (sink.ready.1 sink.writing) sink.ready.2 y)
 
 pub returns-in_err-push_data-clause-gives : goal.returns-in_err-push_data-clause-gives
 returns-in_err-push_data-clause-gives g c = λ conversion suits.
-    let x = short_read _ _ _ _ _ _ _ _ c.in_ok-n.ensures.gives c.in-Some.is in
+    let x = short_start _ _ _ (c.UNIT.ensures ∙ suits.unit_is) c.in_ok-n.ensures.gives c.in-Some.is in
     let opened = rw (c.QUOTED.ensures ∙ suits.quoted_is) at c.in_ok-put_opening.ensures.gives in
+    let some : 0 < c.in-Some.n = search (arith, rules) in
     let stops = c.in_err-push_data.ensures.gives conversion [] suits (c.requires.withheld ∙ sym (rest_none _)) (none_begins _) in
-    passed _ _ _ _ c.from_residual-in_err-push_data.ensures.1 (short_data_stops _ _ _ _ (c.UNIT.ensures ∙ suits.unit_is) _ _ _ _ _ x.reads x.free x.some _ _ _ _ opened (search (arith, rules))
-    _ _ stops)
+    passed _ _ _ _ c.from_residual-in_err-push_data.ensures.1 (path_stops (next_path c.args.last x _ (short_open c.args.column c.args.last conversion _ some) opened) (filling_stops _ (short_holds _ conversion) stops))
 
 pub returns-clause-gives : goal.returns-clause-gives
 returns-clause-gives g c = λ conversion suits.
-    let kept = g.J.Joiner.withheld c.push_data.new.joiner in
-    let unit_is = c.UNIT.ensures ∙ suits.unit_is in
-    let x = short_read _ _ _ _ _ _ _ _ c.in_ok-n.ensures.gives c.in-Some.is in
-    let some : 0 < c.in-Some.n = search (arith, rules) in
+    let x = short_start _ _ _ (c.UNIT.ensures ∙ suits.unit_is) c.in_ok-n.ensures.gives c.in-Some.is in
     let opened = rw (c.QUOTED.ensures ∙ suits.quoted_is) at c.in_ok-put_opening.ensures.gives in
+    let some : 0 < c.in-Some.n = search (arith, rules) in
+    let start = next_path c.args.last x _ (short_open c.args.column c.args.last conversion _ some) opened in
     let y = c.in_ok-push_data.ensures.gives conversion [] suits (c.requires.withheld ∙ sym (rest_none _)) (none_begins _) in
     let all : List ℕ = y.front ++ y.takes.piece in
     let ended = rw suits.quoted_is at (rw c.place-2.ensures at (c.put_end-2.ensures.gives conversion all suits y.takes.kept_is y.takes.begun)) in
-    MatchResult-weaker c.put_end-2.result ended (λ _ z. short_whole _ _ _ _ unit_is _ _ _ _ _ x.reads x.free x.some _ _ _ _ opened some _ _ _ y z.0 z.1)
-    (λ stop z. short_end_stops _ _ _ _ unit_is _ _ _ _ _ x.reads x.free x.some _ _ _ _ opened some _ _ _ y _ _ z)
+    MatchResult-weaker c.put_end-2.result ended (λ _ z. field_puts start (short_whole _ _ _ y z.0 z.1)) (λ stop z. path_stops start (short_end_stops _ _ _ y z))
 
 pub returns-in_err-n-clause-blames : goal.returns-in_err-n-clause-blames
 returns-in_err-n-clause-blames g c =
     passed _ _ _ _ c.from_residual.ensures.1 (read_stops _ _ c.in_err-n.field-0.0
-    (length_blames g.R.Read.remaining _ (short_fault c.args.column c.UNIT.result) c.args.payload.now _ _ c.requires.joining.payload.going (short_none c.args.column c.UNIT.result) c.in_err-n.ensures.gives))
+    (length_blames g.R.Read.remaining _ (short_fault c.args.column c.UNIT.result) c.args.payload.now _ _ c.requires.joining.payload.going (short_blames c.args.column c.UNIT.result) c.in_err-n.ensures.gives))
 
 pub returns-in_default-clause-blames : goal.returns-in_default-clause-blames
 returns-in_default-clause-blames g c =

@@ -1,10 +1,5 @@
-use Rattle.std.proofs.Common.{rules}
-use Rattle.tds_columns.specs.View.{columns_of}
-use Rattle.tds_rows.specs.RowSteps.{RowPut}
-use Rattle.tds_rows.specs.Rows.{nbc_row_start}
-use Rattle.tds_rows.proofs.RowLaws.{nbc_row_is_read, some_bitmap}
-use Rattle.tds_rows.proofs.RowReading.{said_of}
-use Rattle.tds_rows.proofs.Successes.{row_succeeds}
+use Rattle.tds_rows.proofs.Words.{rules, columns_of, RowPut, nbc_row_start}
+use Rattle.tds_rows.proofs.{RowLaws.nbc_row_is_read, RowLaws.some_bitmap, RowReading.said_of, Successes.row_succeeds}
 use Rattle.tds_rows.proofs.nbc.nbc_row.Goals as goal
 
 pub returns-clause-gives : goal.returns-clause-gives

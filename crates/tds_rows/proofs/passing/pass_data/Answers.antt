@@ -1,6 +1,4 @@
-use Rattle.std.proofs.Common.{arith, rules}
-use Rattle.tds_packet.proofs.Passing.{passed}
-use Rattle.tds_packet.proofs.PayloadLaws.{between_of}
+use Rattle.tds_rows.proofs.Words.{arith, rules, passed, between_of}
 use Rattle.tds_rows.proofs.PassedCells.{cuts_more, passes_more, passes_none}
 use Rattle.tds_rows.proofs.passing.pass_data.Goals as goal
 

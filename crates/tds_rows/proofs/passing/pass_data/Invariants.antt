@@ -1,6 +1,4 @@
-use Rattle.std.proofs.Common.{◌-◌, ◌≤◌}
-use Rattle.tds_packet.specs.Payloads.{IsGoing, IsOnSame, seen}
-use Rattle.tds_rows.specs.PassedCells.{PassesData}
+use Rattle.tds_rows.proofs.Words.{◌-◌, ◌≤◌, IsGoing, IsOnSame, seen, PassesData}
 use Rattle.tds_rows.proofs.passing.pass_data.Given as goal
 
 abbrev pub invariant-loop-left : goal.invariant-loop-left

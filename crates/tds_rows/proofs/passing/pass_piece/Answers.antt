@@ -1,6 +1,4 @@
-use Rattle.std.proofs.Common.{take, arith, rules, length-take-le}
-use Rattle.tds_packet.specs.Payloads.{buffered, seen}
-use Rattle.tds_packet.proofs.Futures.{Takes-more}
+use Rattle.tds_rows.proofs.Words.{take, arith, rules, buffered, seen, Takes-more, length-take-le}
 use Rattle.tds_rows.proofs.passing.pass_piece.Goals as goal
 
 pub returns-clause-gives : goal.returns-clause-gives

@@ -1,9 +1,4 @@
-use Rattle.std.proofs.Common.{sym, subst, rules}
-use Rattle.tds_packet.specs.Payloads.{seen}
-use Rattle.tds_packet.proofs.Passing.{passed}
-use Rattle.tds_rows.specs.Cells.{cell_start, return_charset, shape}
-use Rattle.tds_rows.specs.CellSteps.{GathersCell}
-use Rattle.tds_rows.specs.declared.passing.TheConstants.{RETURN_COLUMN}
+use Rattle.tds_rows.proofs.Words.{sym, rules, passed, return_charset}
 use Rattle.tds_rows.proofs.PassedCells.{scalar_passes, scalar_stops}
 use Rattle.tds_rows.proofs.passing.pass_scalar.Goals as goal
 
@@ -16,19 +11,11 @@ is_refused-requires-clause-whole g c = rw c.bytes.ensures.value (c.in_ok-gather_
 
 pub returns-then-is_refused-clause-gives : goal.returns-then-is_refused-clause-gives
 returns-then-is_refused-clause-gives g c =
-    let kind = c.args.kind.now in
-    let a = seen g.R.Read.remaining c.args.payload.now in
-    let b = seen g.R.Read.remaining c.gather_scalar.new.payload in
     let bad = c.is_refused.ensures.refused c.if-is_refused.true in
-    let x = subst (GathersCell kind (cell_start kind (shape return_charset kind)) RETURN_COLUMN a b c.args.payload.now.place c.gather_scalar.new.payload.place) (sym c.bytes.ensures.value) (c.in_ok-gather_scalar.ensures.gives return_charset) in
+    let x = rw (sym c.bytes.ensures.value) at (c.in_ok-gather_scalar.ensures.gives return_charset) in
     rw (c.bad_value.ensures, c.place-place.ensures, c.length_size.ensures.value) (scalar_stops return_charset _ _ _ _ _ (x.refused bad.0 bad.1))
 
 pub returns-clause-gives : goal.returns-clause-gives
 returns-clause-gives g c =
-    let kind = c.args.kind.now in
-    let a = seen g.R.Read.remaining c.args.payload.now in
-    let b = seen g.R.Read.remaining c.gather_scalar.new.payload in
-    let place = c.args.payload.now.place in
-    let place' = c.gather_scalar.new.payload.place in
-    let x = subst (GathersCell kind (cell_start kind (shape return_charset kind)) RETURN_COLUMN a b place place') (sym c.bytes.ensures.value) (c.in_ok-gather_scalar.ensures.gives return_charset) in
+    let x = rw (sym c.bytes.ensures.value) at (c.in_ok-gather_scalar.ensures.gives return_charset) in
     scalar_passes return_charset _ _ _ _ _ _ (search rules) x (c.is_refused.ensures.good c.if-is_refused.false)

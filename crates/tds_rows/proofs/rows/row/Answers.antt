@@ -1,10 +1,5 @@
-use Rattle.std.proofs.Common.{rules}
-use Rattle.tds_columns.specs.View.{columns_of}
-use Rattle.tds_rows.specs.RowSteps.{RowPut}
-use Rattle.tds_rows.specs.Rows.{row_start}
-use Rattle.tds_rows.proofs.RowLaws.{row_is_read}
-use Rattle.tds_rows.proofs.RowReading.{said_of}
-use Rattle.tds_rows.proofs.Successes.{row_succeeds}
+use Rattle.tds_rows.proofs.Words.{rules, columns_of, RowPut, row_start}
+use Rattle.tds_rows.proofs.{RowLaws.row_is_read, RowReading.said_of, Successes.row_succeeds}
 use Rattle.tds_rows.proofs.rows.row.Goals as goal
 
 pub returns-clause-gives : goal.returns-clause-gives

@@ -1,4 +1,4 @@
-use Rattle.std.proofs.Common.{arith, rules}
+use Rattle.tds_rows.proofs.Words.{arith, rules}
 use Rattle.tds_rows.proofs.TableForms.{alone_written, first_left, forms_between, none_written, one_written, some_written}
 use Rattle.tds_rows.proofs.run.run_cells.Goals as goal
 

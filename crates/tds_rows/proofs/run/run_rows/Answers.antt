@@ -1,13 +1,6 @@
-use Rattle.std.proofs.Common.{inl, List, [], ◌∷◌, rules, arith, sym, ap, subst, ◌≡◌, ◌∙◌, ◌+◌, ◌-◌, ◌<◌, ◌≤◌, ℕ, length, take, drop, length-take, length-drop}
-use Rattle.tds_rows.specs.CellSteps.{HasInt4}
-use Rattle.tds_columns.proofs.ViewLaws.{all_after}
-use Rattle.tds_rows.specs.Runs.{RunEnds, WritesRows}
-use Rattle.tds_rows.specs.Tables.{one_on}
-use Rattle.tds_rows.proofs.RunSteps.{made_same, rows_none, rows_onward, writes_int4}
-use Rattle.tds_rows.proofs.Stretches.{runs_cells}
-use Rattle.tds_rows.proofs.TableRuns.{more_in_rows, one_between}
-use Rattle.tds_rows.proofs.TableSteps.{at_end, not_end}
+use Rattle.tds_rows.proofs.Words.{inl, [], ◌∷◌, rules, arith, sym, ap, subst, ◌≡◌, ◌∙◌, ◌-◌, ◌<◌, ◌≤◌, length, take, drop, length-take, length-drop, HasInt4, all_after, WritesRows, one_on}
 use Rattle.tds_rows.proofs.run.run_rows.Goals.{else-loop-to-test, then-loop-to-test+in_default+then-is_end+then-used-bytes, then-loop-to-test+in_default+else-is_end+then-cells-eq0}
+use Rattle.tds_rows.proofs.{RunSteps.made_same, RunSteps.rows_none, RunSteps.rows_onward, RunSteps.writes_int4, Stretches.runs_column, TableRuns.more_in_rows, TableSteps.at_end, TableSteps.last_one, TableSteps.not_end}
 use Rattle.tds_rows.proofs.run.run_rows.Goals as goal
 
 pub loop-to-init : goal.loop-to-init
@@ -15,7 +8,7 @@ loop-to-init c = record {
   used = omega arith;
   made = omega arith;
   few = omega arith;
-  writes = λ columns knows ahead. (ahead, λ charset cells set is. rows_none _ _ _ _ _ is);
+  writes = λ columns knows ahead. (ahead, λ charset cells set is. rows_none is);
 }
 
 pub loop-to-preserved-then-is_end : goal.loop-to-preserved-then-is_end
@@ -33,8 +26,7 @@ loop-to-preserved-then-is_end c =
           let some : 0 < length columns = omega (arith, c.requires, knows.counted) in (
             c.start-ahead.ensures.ahead columns knows,
             λ charset cells set is.
-                subst (λ (k : ℕ). WritesRows charset columns cells (drop c.args.from.column columns) (drop k columns) k (l.rows + 1) (take (l.used + 1) bytes) (take l.made l.to)) (sym c.start-ahead.ensures.first)
-                (rows_onward _ _ _ _ _ _ _ _ _ _ some none within c.if-bytes-used.false (inv.1 charset cells set is)),
+                rw c.start-ahead.ensures.first (rows_onward l.used bytes some none within c.if-bytes-used.false (inv.1 charset cells set is)),
           );
     }
 
@@ -51,8 +43,8 @@ loop-to-preserved-in-loop-to c =
       few = omega (arith, l.invariant.few);
       writes = λ columns knows ahead.
           let x = l.invariant.writes columns knows ahead in
-          more_in_rows _ c.args.from _ _ _ _ _ _ _ _ _ _ l.invariant.made within _ _ x
-          (one_between _ _ _ _ _ _ _ _ _ _ knows (c.in-Some.ensures.gives columns knows x.0) c.is_last-last.ensures wrote);
+          let taken = c.in-Some.ensures.gives columns knows x.0 in
+          more_in_rows c.args.from _ _ _ _ _ _ _ _ l.invariant.made within x (runs_column taken (c.is_last-last.ensures ∙ last_one _ _ _ _ _ knows.counted taken.next) wrote.whole);
     }
 
 pub loop-to-preserved : goal.loop-to-preserved
@@ -68,7 +60,7 @@ loop-to-preserved c =
       few = omega (arith, l.invariant.few);
       writes = λ columns knows ahead.
           let x = l.invariant.writes columns knows ahead in
-          more_in_rows _ c.args.from _ _ _ _ _ _ _ _ _ _ l.invariant.made within _ _ x (runs_cells _ _ _ _ _ _ (cells.ensures.gives columns knows x.0));
+          more_in_rows c.args.from _ _ _ _ _ _ _ _ l.invariant.made within x (cells.ensures.gives columns knows x.0);
     }
 
 -- what was made before the last step stands
@@ -89,9 +81,8 @@ returns-clause-ends c = λ columns column left knows ahead step.
       | then-loop-to-test+in_default+then-is_end+then-used-bytes w ↦ absurd (let e : column ∷ left ≡ [] = sym step ∙ at_end _ _ _ knows.counted (sym w.is_end.ensures ∙ w.if-is_end.true) in omega (arith, ap length e))
       | then-loop-to-test+in_default+else-is_end+then-cells-eq0 w ↦ (let lent = take (length l.to - l.made) (drop l.made l.to) in
           let room : length lent ≡ length c.args.to.now - l.made = omega (arith, l.auto.to, length-take (length l.to - l.made) (drop l.made l.to), length-drop l.made l.to) in
-          subst (λ (n : ℕ). RunEnds c.args.table.now l.ahead (drop l.used bytes) n) room
-          (subst (λ (b : List ℕ). RunEnds c.args.table.now l.ahead b (length lent)) (all_after bytes l.used) (w.run_cells-cells.ensures.ends w.if-cells-eq0.true (omega (arith, w.count.ensures, not_end _ _ _ knows.counted ahead.counted (sym w.is_end.ensures ∙ w.if-is_end.false)))))
-          columns column left knows ahead step)
+          let before = not_end _ _ _ knows.counted ahead.counted (sym w.is_end.ensures ∙ w.if-is_end.false) in
+          rw room at (rw (all_after bytes l.used) at (w.run_cells-cells.ensures.ends w.if-cells-eq0.true (omega (arith, w.count.ensures, before)))) columns column left knows ahead step)
     ]
 
 pub returns-clause-gives : goal.returns-clause-gives

@@ -1,6 +1,4 @@
-use Rattle.std.proofs.Common.{◌-◌, ◌≤◌, List, length, take}
-use Rattle.tds_columns.specs.Description.{Column}
-use Rattle.tds_rows.specs.Tables.{IsAhead, Knows}
+use Rattle.tds_rows.proofs.Words.{◌-◌, ◌≤◌, List, length, take, Column, IsAhead, Knows}
 use Rattle.tds_rows.proofs.TableRuns.{RowsBetween}
 use Rattle.tds_rows.proofs.run.run_rows.Given as goal
 

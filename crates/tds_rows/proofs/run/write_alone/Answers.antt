@@ -1,7 +1,4 @@
-use Rattle.std.proofs.Common.{◌≡◌, ◌⊎◌, ◌<◌, ◌≤◌, ℕ, refl, inl, inr, false, arith, sym, subst, length}
-use Rattle.tds_values.specs.declared.kind.Kind.{Kind}
-use Rattle.tds_rows.specs.declared.run.fields.TheConstants.{CELL_ROOM}
-use Rattle.tds_rows.specs.CellSteps.{IsLeft}
+use Rattle.tds_rows.proofs.Words.{◌≡◌, ◌⊎◌, ◌<◌, ◌≤◌, ℕ, refl, inl, inr, false, arith, sym, subst, length, Kind, CELL_ROOM, IsLeft}
 use Rattle.tds_rows.proofs.run.write_alone.Goals as goal
 
 -- with room for it, the cell is left

@@ -1,4 +1,4 @@
-use Rattle.std.proofs.Common.{◌∙◌}
+use Rattle.tds_values.proofs.Words.{◌∙◌}
 use Rattle.tds_values.proofs.WordLemmas.{eight_digits}
 use Rattle.tds_values.proofs.ZeroLemmas.{zeros_of}
 use Rattle.tds_values.proofs.digits.needless.Goals as goal

@@ -1,8 +1,4 @@
-use Rattle.std.proofs.Common.{◌≡◌, ℕ, zero, suc, refl, ◌+◌, ◌-◌, ◌*◌, ◌/◌, ◌^◌, ◌≤◌, List, ◌++◌, take, length, ap, sym, ◌∙◌, arith}
-use Rattle.std.proofs.Math.Nat.{pow-succ'}
-use Rattle.std.proofs.lemmas.Nat.{pow-add}
-use Rattle.std.proofs.Math.Seq.{take-append-add}
-use Rattle.std.proofs.lemmas.List.{take-take, length-take-le}
+use Rattle.tds_values.proofs.Words.{◌≡◌, ℕ, zero, suc, refl, ◌+◌, ◌-◌, ◌*◌, ◌/◌, ◌^◌, ◌≤◌, List, ◌++◌, take, length, ap, sym, ◌∙◌, arith, pow-succ', pow-add, take-append-add, take-take, length-take-le}
 use Rattle.tds_values.specs.ScalarText.{last_digits}
 use Rattle.tds_values.proofs.WordLemmas.{bytes_of, eight_digits, shifted_digits, take-bytes_of, whole_word, word_of}
 use Rattle.tds_values.proofs.digits.put_after.Goals as goal

@@ -1,6 +1,4 @@
-use Rattle.std.proofs.Common.{◌≡◌, ℕ, ◌+◌, ◌/◌, ◌%◌, ◌<◌, ◌≤◌, [], ◌∷◌, ◌++◌, true, false, cond, nat_le, inl, inr, refl, sym, ap, ◌∙◌, ⊎_elim, arith, decimal}
-use Rattle.std.proofs.lemmas.Bool.{cases_lt}
-use Rattle.std.proofs.lemmas.Bool.Decides.{nat_tests}
+use Rattle.tds_values.proofs.Words.{◌≡◌, ℕ, ◌+◌, ◌/◌, ◌%◌, ◌<◌, ◌≤◌, [], ◌∷◌, ◌++◌, true, false, cond, nat_le, inl, inr, refl, sym, ap, ◌∙◌, ⊎_elim, arith, decimal, cases_lt, nat_tests}
 use Rattle.tds_values.proofs.DigitLemmas.{decimal_last}
 use Rattle.tds_values.proofs.Joining.{joined}
 use Rattle.tds_values.proofs.TableLemmas.{digits_at}

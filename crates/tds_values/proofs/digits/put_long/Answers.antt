@@ -1,4 +1,4 @@
-use Rattle.std.proofs.Common.{arith}
+use Rattle.tds_values.proofs.Words.{arith}
 use Rattle.tds_values.proofs.DigitLemmas.{decimal_eight}
 use Rattle.tds_values.proofs.Joining.{joined}
 use Rattle.tds_values.proofs.digits.put_long.Goals as goal

@@ -1,4 +1,4 @@
-use Rattle.std.proofs.Common.{arith}
+use Rattle.tds_values.proofs.Words.{arith}
 use Rattle.tds_values.proofs.DigitLemmas.{decimal_eight, decimal_sixteen}
 use Rattle.tds_values.proofs.Joining.{joined, joined_three}
 use Rattle.tds_values.proofs.digits.put_number.Goals as goal

@@ -1,4 +1,4 @@
-use Rattle.std.proofs.Common.{◌≡◌, ◌⊎◌, ℕ, ◌-◌, ◌^◌, ◌<◌, ◌≤◌, ◌++◌, take, inl, inr, ap, subst, sym, ◌∙◌, ⊎_elim, arith, decimal}
+use Rattle.tds_values.proofs.Words.{◌≡◌, ◌⊎◌, ℕ, ◌-◌, ◌^◌, ◌<◌, ◌≤◌, ◌++◌, take, inl, inr, ap, subst, sym, ◌∙◌, ⊎_elim, arith, decimal}
 use Rattle.tds_values.specs.ScalarText.{last_digits}
 use Rattle.tds_values.proofs.DigitLemmas.{decimal_last}
 use Rattle.tds_values.proofs.digits.put_short.Goals as goal

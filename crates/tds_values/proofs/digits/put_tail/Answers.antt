@@ -1,4 +1,4 @@
-use Rattle.std.proofs.Common.{◌≡◌, ℕ, ◌-◌, ◌≤◌, ◌++◌, take, ap, ◌∙◌, arith}
+use Rattle.tds_values.proofs.Words.{◌≡◌, ℕ, ◌-◌, ◌≤◌, ◌++◌, take, ap, ◌∙◌, arith}
 use Rattle.tds_values.specs.ScalarText.{last_digits}
 use Rattle.tds_values.proofs.digits.put_tail.Goals as goal
 

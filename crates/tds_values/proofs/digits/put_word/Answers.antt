@@ -1,4 +1,4 @@
-use Rattle.std.proofs.Common.{◌++◌, ◌∙◌, ap, sym, take, drop, arith}
+use Rattle.tds_values.proofs.Words.{◌++◌, ◌∙◌, ap, sym, take, drop, arith}
 use Rattle.tds_values.proofs.WordLemmas.{stored, nothing_after, whole_word}
 use Rattle.tds_values.proofs.digits.put_word.Goals as goal
 

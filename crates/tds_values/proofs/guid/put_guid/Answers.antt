@@ -1,4 +1,4 @@
-use Rattle.std.proofs.Common.{◌≡◌, ℕ, List, ◌++◌, take, ap, sym, ◌∙◌, arith}
+use Rattle.tds_values.proofs.Words.{◌≡◌, ℕ, List, ◌++◌, take, ap, sym, ◌∙◌, arith}
 use Rattle.uuid.specs.Text.{by_index}
 use Rattle.tds_values.proofs.guid.put_guid.Goals as goal
 

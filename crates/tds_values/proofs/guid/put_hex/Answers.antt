@@ -1,4 +1,4 @@
-use Rattle.std.proofs.Common.{◌≡◌, ℕ, List, [], ◌∷◌, ◌++◌, ap, ◌∙◌, append_assoc, arith}
+use Rattle.tds_values.proofs.Words.{◌≡◌, ℕ, List, [], ◌∷◌, ◌++◌, ap, ◌∙◌, append_assoc, arith}
 use Rattle.tds_values.proofs.HexLemmas.{hex_at}
 use Rattle.tds_values.proofs.guid.put_hex.Goals as goal
 

@@ -1,6 +1,5 @@
-use Rattle.std.proofs.Common.{◌≡◌, ℕ, List, [], ◌∷◌, ◌++◌, take, get_or, ap, sym, ◌∙◌, arith}
-use Rattle.uuid.specs.Text.{by_index, hyphenated_text, lower}
-use Rattle.uuid.specs.Parts.{swap_fields}
+use Rattle.tds_values.proofs.Words.{◌≡◌, ℕ, List, [], ◌∷◌, ◌++◌, take, get_or, ap, sym, ◌∙◌, arith, hyphenated_text, lower, swap_fields}
+use Rattle.uuid.specs.Text.{by_index}
 use Rattle.tds_values.specs.Hex.{hex_of}
 use Rattle.tds_values.proofs.guid.put_numbers.Goals as goal
 

@@ -1,5 +1,4 @@
-use Rattle.std.proofs.Common.{◌≡◌, ℕ, false, cond, nat_eq, List, [], ◌∷◌, ◌++◌, take, ap, ◌∙◌, arith}
-use Rattle.std.proofs.lemmas.Bool.Decides.{nat_tests}
+use Rattle.tds_values.proofs.Words.{◌≡◌, ℕ, false, cond, nat_eq, List, [], ◌∷◌, ◌++◌, take, ap, ◌∙◌, arith, nat_tests}
 use Rattle.tds_values.specs.ScalarText.{last_digits, fraction_text}
 use Rattle.tds_values.proofs.DigitLemmas.{last_digits-below}
 use Rattle.tds_values.proofs.Joining.{joined}

@@ -1,6 +1,4 @@
-use Rattle.std.proofs.Common.{◌≡◌, ℕ, ◌-◌, ◌*◌, ◌/◌, ◌≤◌, ◌<◌, ◌^◌, ◌++◌, length, decimal, ap, sym, ◌∙◌, arith, length-append}
-use Rattle.std.proofs.Math.Nat.{mod-eq-sub-div-mul}
-use Rattle.std.proofs.lemmas.Fmt.{length-decimal-le_wide}
+use Rattle.tds_values.proofs.Words.{◌≡◌, ℕ, ◌-◌, ◌*◌, ◌/◌, ◌≤◌, ◌<◌, ◌^◌, ◌++◌, length, decimal, ap, sym, ◌∙◌, arith, length-append, mod-eq-sub-div-mul, length-decimal-le_wide}
 use Rattle.tds_values.specs.ScalarText.{last_digits}
 use Rattle.tds_values.proofs.DigitLemmas.{decimal_split, last_digits-mod}
 use Rattle.tds_values.proofs.Joining.{joined, end_of}

@@ -1,4 +1,4 @@
-use Rattle.std.proofs.Common.{length, decimal, ap, arith}
+use Rattle.tds_values.proofs.Words.{length, decimal, ap, arith}
 use Rattle.tds_values.proofs.Joining.{end_of}
 use Rattle.tds_values.proofs.TextLengths.{length-whole}
 use Rattle.tds_values.proofs.numbers.put_decimal.Goals as goal

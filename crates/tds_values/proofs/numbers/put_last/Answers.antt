@@ -1,4 +1,4 @@
-use Rattle.std.proofs.Common.{◌≡◌, ℕ, ◌-◌, ◌/◌, ◌%◌, ◌≤◌, ◌++◌, take, ap, sym, ◌∙◌, arith}
+use Rattle.tds_values.proofs.Words.{◌≡◌, ℕ, ◌-◌, ◌/◌, ◌%◌, ◌≤◌, ◌++◌, take, ap, sym, ◌∙◌, arith}
 use Rattle.tds_values.specs.ScalarText.{last_digits}
 use Rattle.tds_values.proofs.DigitLemmas.{last_digits-below, last_digits_after}
 use Rattle.tds_values.proofs.Joining.{joined, joined_three}

@@ -1,4 +1,4 @@
-use Rattle.std.proofs.Common.{rules}
+use Rattle.tds_values.proofs.Words.{rules}
 use Rattle.tds_values.proofs.numbers.put_sign.Goals as goal
 
 pub returns-clause-written : goal.returns-clause-written

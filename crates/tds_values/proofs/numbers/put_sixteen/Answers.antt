@@ -1,4 +1,4 @@
-use Rattle.std.proofs.Common.{arith}
+use Rattle.tds_values.proofs.Words.{arith}
 use Rattle.tds_values.proofs.DigitLemmas.{last_digits_after}
 use Rattle.tds_values.proofs.Joining.{joined}
 use Rattle.tds_values.proofs.numbers.put_sixteen.Goals as goal

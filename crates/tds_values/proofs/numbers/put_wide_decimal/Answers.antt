@@ -1,5 +1,4 @@
-use Rattle.std.proofs.Common.{◌^◌, ◌/◌, ◌≤◌, length, decimal, arith, ap}
-use Rattle.std.proofs.Math.Nat.{one-le-pow, pow-le-pow_right}
+use Rattle.tds_values.proofs.Words.{◌^◌, ◌/◌, ◌≤◌, length, decimal, arith, ap, one-le-pow, pow-le-pow_right}
 use Rattle.tds_values.proofs.TextLengths.{length-whole}
 use Rattle.tds_values.proofs.numbers.put_wide_decimal.Goals as goal
 

@@ -1,5 +1,4 @@
-use Rattle.std.proofs.Common.{◌≡◌, ℕ, ◌/◌, ◌^◌, ◌<◌, ◌≤◌, sym, arith}
-use Rattle.std.proofs.Math.Nat.{div-eq_of_lt, pow-le-pow_right}
+use Rattle.tds_values.proofs.Words.{◌≡◌, ℕ, ◌/◌, ◌^◌, ◌<◌, ◌≤◌, sym, arith, div-eq_of_lt, pow-le-pow_right}
 use Rattle.tds_values.proofs.numbers.whole.Goals as goal
 
 nothing_whole : (scale n : ℕ) → 20 ≤ scale → n < 2 ^ 64 → 0 ≡ n / 10 ^ scale

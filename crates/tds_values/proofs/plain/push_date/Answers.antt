@@ -1,7 +1,5 @@
-use Rattle.std.proofs.Common.{◌≡◌, ◌++◌, ℕ, List, [], ◌∷◌, ap, sym, ◌∙◌, unsigned_abs, FitsSigned, w16, arith}
-use Rattle.std.proofs.lemmas.Int.{to_z-of_z}
+use Rattle.tds_values.proofs.Words.{◌≡◌, ◌++◌, ℕ, List, [], ◌∷◌, ap, sym, ◌∙◌, unsigned_abs, FitsSigned, w16, arith, to_z-of_z, signed_arith}
 use Rattle.std.proofs.lemmas.List.{append_assoc}
-use Rattle.jiff_core.proofs.SignedLemmas.{signed_arith}
 use Rattle.tds_values.specs.Calendar.{CivilDate, date_of}
 use Rattle.tds_values.specs.ScalarText.{last_digits, date_text}
 use Rattle.tds_values.proofs.JiffDates.{date_since_min}

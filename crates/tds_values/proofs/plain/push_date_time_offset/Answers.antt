@@ -1,5 +1,4 @@
-use Rattle.std.proofs.Common.{◌≡◌, ◌∙◌, ◌++◌, ◌/◌, ◌%◌, ◌^◌, ℕ, ℤ, List, [], ◌∷◌, sym, FitsSigned, w16, Option, Some}
-use Rattle.std.proofs.lemmas.Int.{to_z-of_z}
+use Rattle.tds_values.proofs.Words.{◌≡◌, ◌∙◌, ◌++◌, ◌/◌, ◌%◌, ◌^◌, ℕ, ℤ, List, [], ◌∷◌, sym, FitsSigned, w16, Option, Some, to_z-of_z}
 use Rattle.tds_values.specs.declared.scalar.ScalarValue.TheVariants as values
 use Rattle.tds_values.specs.LocalTime.{local_seconds}
 use Rattle.tds_values.specs.ScalarText.{seconds_text, fraction_text, date_and_time, offset_text, text_of}

@@ -1,5 +1,4 @@
-use Rattle.std.proofs.lemmas.Grind.{common_steps}
-use Rattle.std.proofs.Common.{arith}
+use Rattle.tds_values.proofs.Words.{common_steps, arith}
 use Rattle.tds_values.proofs.plain.push_decimal.Goals as goal
 
 pub returns-clause-items : goal.returns-clause-items

@@ -1,6 +1,4 @@
-use Rattle.std.proofs.Common.{◌≡◌, ℕ, List, length, ap, ◌∙◌, arith}
-use Rattle.uuid.specs.Text.{hyphenated_text, lower}
-use Rattle.uuid.proofs.TextLemmas.{by_index_length}
+use Rattle.tds_values.proofs.Words.{◌≡◌, ℕ, List, length, ap, ◌∙◌, arith, hyphenated_text, lower, by_index_length}
 use Rattle.tds_values.proofs.plain.push_guid.Goals as goal
 
 long : (text bytes : List ℕ) → text ≡ hyphenated_text lower bytes → length text ≡ 36

@@ -1,4 +1,4 @@
-use Rattle.std.proofs.Common.{◌≡◌, ℕ, List, [], ◌∷◌, ◌++◌, ◌/◌, ◌%◌, refl}
+use Rattle.tds_values.proofs.Words.{◌≡◌, ℕ, List, [], ◌∷◌, ◌++◌, ◌/◌, ◌%◌, refl}
 use Rattle.tds_values.specs.ScalarText.{date_text, seconds_text, fraction_text, date_and_time}
 use Rattle.tds_values.proofs.Joining.{joined, joined_three}
 use Rattle.tds_values.proofs.plain.push_local.Goals as goal

@@ -1,4 +1,4 @@
-use Rattle.std.proofs.Common.{◌/◌, ◌++◌, ap, ◌∙◌}
+use Rattle.tds_values.proofs.Words.{◌/◌, ◌++◌, ap, ◌∙◌}
 use Rattle.std.proofs.lemmas.List.{append_assoc}
 use Rattle.tds_values.specs.ScalarText.{seconds_text, fraction_text, milliseconds_of}
 use Rattle.tds_values.proofs.plain.push_ticks.Goals as goal

@@ -1,4 +1,4 @@
-use Rattle.std.proofs.Common.{ap, ◌∙◌, nat_lt}
+use Rattle.tds_values.proofs.Words.{ap, ◌∙◌, nat_lt}
 use Rattle.tds_values.proofs.WrittenLemmas.{time_by_seconds}
 use Rattle.tds_values.proofs.ranges.is_time.Goals as goal
 

@@ -1,4 +1,4 @@
-use Rattle.std.proofs.Common.{rules}
+use Rattle.tds_values.proofs.Words.{rules}
 use Rattle.tds_values.proofs.scalar.is_in_range.Goals as goal
 
 pub returns-in-Date : goal.returns-in-Date

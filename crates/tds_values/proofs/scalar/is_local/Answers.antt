@@ -1,6 +1,4 @@
-use Rattle.std.proofs.Common.{ap, sym, ◌∙◌, FitsSigned, w16}
-use Rattle.std.specs.Prelude.{is_some}
-use Rattle.std.proofs.lemmas.Int.{to_z-of_z}
+use Rattle.tds_values.proofs.Words.{ap, sym, ◌∙◌, FitsSigned, w16, is_some, to_z-of_z}
 use Rattle.tds_values.specs.LocalTime.{local_seconds}
 use Rattle.tds_values.proofs.LocalLemmas.{local_by_seconds}
 use Rattle.tds_values.proofs.scalar.is_local.Goals as goal

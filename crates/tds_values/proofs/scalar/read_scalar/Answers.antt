@@ -1,4 +1,4 @@
-use Rattle.std.proofs.Common.{rules}
+use Rattle.tds_values.proofs.Words.{rules}
 use Rattle.tds_values.proofs.scalar.read_scalar.Goals as goal
 
 pub returns-then-bytes-gt17 : goal.returns-then-bytes-gt17

@@ -1,4 +1,4 @@
-use Rattle.std.proofs.Common.{subst, sym}
+use Rattle.tds_values.proofs.Words.{subst, sym}
 use Rattle.tds_values.specs.Scalar.{read_of}
 use Rattle.tds_values.specs.Written.{IsWritten}
 use Rattle.tds_values.proofs.write.write_any.Goals as goal

@@ -1,5 +1,4 @@
-use Rattle.std.proofs.Common.{◌+◌, ◌<◌, ◌≤◌, ◌⊎◌, ◌∙◌, ap, inl, inr, drop, arith}
-use Rattle.byteorder.specs.Endian.{little_number}
+use Rattle.tds_values.proofs.Words.{◌+◌, ◌<◌, ◌≤◌, ◌⊎◌, ◌∙◌, ap, inl, inr, drop, arith, little_number}
 use Rattle.tds_values.proofs.WrittenLemmas.{date_time_written, date_time_refused}
 use Rattle.tds_values.proofs.write.write_date_time2.Goals as goal
 use Rattle.tds_values.proofs.write.write_date_time2.Goals.{then-seconds-ge-SECONDS_A_DAY-via-then-seconds-ge-SECONDS_A_DAY, then-seconds-ge-SECONDS_A_DAY-via-else-seconds-ge-SECONDS_A_DAY+then-day-gt-LAST_DAY}

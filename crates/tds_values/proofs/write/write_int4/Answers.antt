@@ -1,4 +1,4 @@
-use Rattle.std.proofs.Common.{rules}
+use Rattle.tds_values.proofs.Words.{rules}
 use Rattle.tds_values.proofs.write.write_int4.Goals as goal
 
 pub returns-clause-text : goal.returns-clause-text

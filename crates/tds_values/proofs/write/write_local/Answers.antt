@@ -1,5 +1,4 @@
-use Rattle.std.proofs.Common.{◌∙◌, sym, FitsSigned, w16, arith}
-use Rattle.std.proofs.lemmas.Int.{to_z-of_z}
+use Rattle.tds_values.proofs.Words.{◌∙◌, sym, FitsSigned, w16, arith, to_z-of_z}
 use Rattle.tds_values.proofs.WrittenLemmas.{local_refused, local_written}
 use Rattle.tds_values.proofs.write.write_local.Goals as goal
 

@@ -1,4 +1,4 @@
-use Rattle.std.proofs.Common.{◌∙◌, arith}
+use Rattle.tds_values.proofs.Words.{◌∙◌, arith}
 use Rattle.tds_values.proofs.WrittenLemmas.{time_written, time_refused}
 use Rattle.tds_values.proofs.write.write_time.Goals as goal
 

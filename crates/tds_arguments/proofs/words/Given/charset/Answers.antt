@@ -3,7 +3,7 @@ use Rattle.std.specs.Borrow.{Bor}
 use Rattle.std.specs.Str.{bytes_eq}
 use Rattle.clap.specs.Words.{found_of}
 use Rattle.clap.proofs.WalkLemmas.{first_value-rows}
-use Rattle.tds_rows.specs.declared.Charset.TheVariants.{Utf8, Windows1252}
+use Rattle.tds_values.specs.declared.charset.Charset.TheVariants.{Utf8, Windows1252}
 use Rattle.tds_arguments.specs.Jobs.{charset_named}
 use Rattle.tds_arguments.proofs.words.Given.charset.Goals as goal
 

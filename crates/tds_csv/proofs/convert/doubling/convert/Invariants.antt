@@ -1,5 +1,4 @@
-use Rattle.std.proofs.Common.{◌≡◌, ◌*◌, ◌-◌, ◌≤◌, ◌+◌, length, take}
-use Rattle.tds_csv.specs.Quoting.{doubled}
+use Rattle.tds_csv.proofs.Words.{◌≡◌, ◌*◌, ◌-◌, ◌≤◌, ◌+◌, length, take, doubled}
 use Rattle.tds_csv.proofs.convert.doubling.convert.Given as goal
 
 -- the text so far is that of the bytes so far

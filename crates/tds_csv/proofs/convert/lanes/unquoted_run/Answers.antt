@@ -1,7 +1,4 @@
-use Rattle.std.proofs.Common.{◌∙◌, refl}
-use Rattle.std.proofs.lemmas.Simd.{zip2_splat, length-chunk}
-use lib.Lanes.{chunk}
-use Rattle.tds_csv.specs.Plain.{is_unquoted}
+use Rattle.tds_csv.proofs.Words.{◌∙◌, refl, zip2_splat, length-chunk, chunk, is_unquoted}
 use Rattle.tds_csv.proofs.Masks.{run_in}
 use Rattle.tds_csv.proofs.convert.lanes.unquoted_run.Goals as goal
 

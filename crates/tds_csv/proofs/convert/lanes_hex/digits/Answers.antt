@@ -1,5 +1,4 @@
-use Rattle.std.proofs.Common.{refl, arith, w8}
-use Rattle.std.proofs.lemmas.Simd.{SwzOk-from_below}
+use Rattle.tds_csv.proofs.Words.{refl, arith, w8, SwzOk-from_below}
 use Rattle.tds_csv.proofs.HexLanes.{looked_up}
 use Rattle.tds_csv.proofs.convert.lanes_hex.digits.Goals as goal
 

@@ -1,5 +1,4 @@
-use Rattle.std.proofs.Common.{◌≡◌, ◌*◌, ◌-◌, ◌≤◌, length, take}
-use Rattle.hex.specs.Hex.{encode_lower}
+use Rattle.tds_csv.proofs.Words.{◌≡◌, ◌*◌, ◌-◌, ◌≤◌, length, take, encode_lower}
 use Rattle.tds_csv.proofs.convert.lanes_hex.encode.Given as goal
 
 -- the digits of the bytes so far stand there

@@ -1,8 +1,4 @@
-use Rattle.std.proofs.Common.{◌≡◌, ◌∙◌, ◌/◌, ◌%◌, ◌<◌, map, length, ap, ap₂, subst, sym, arith}
-use Rattle.std.proofs.lemmas.Simd.{zip2_splat, Each2-splat, Each1-all}
-use Rattle.std.proofs.lemmas.List.{length-map}
-use lib.Lanes.{Each1}
-use Rattle.tds_csv.specs.Plain.{digit}
+use Rattle.tds_csv.proofs.Words.{◌≡◌, ◌∙◌, ◌/◌, ◌%◌, ◌<◌, map, length, ap, ap₂, subst, sym, arith, zip2_splat, Each2-splat, Each1-all, length-map, Each1, digit}
 use Rattle.tds_csv.proofs.HexLanes.{high_small, low_small, woven, woven_digits}
 use Rattle.tds_csv.proofs.convert.lanes_hex.hex_lanes.Goals as goal
 

@@ -1,4 +1,4 @@
-use Rattle.std.proofs.Common.{◌∙◌}
+use Rattle.tds_csv.proofs.Words.{◌∙◌}
 use Rattle.tds_csv.proofs.Units.{lanes_are, units_run}
 use Rattle.tds_csv.proofs.convert.lanes_utf16.plain_units.Goals as goal
 

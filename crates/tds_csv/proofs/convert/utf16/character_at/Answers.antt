@@ -1,6 +1,4 @@
-use Rattle.std.proofs.Common.{◌∙◌, ◌++◌, ◌%◌, drop, ap, arith, length-drop}
-use lib.Seq.{drop-drop}
-use Rattle.std.specs.Char.{encode_utf8}
+use Rattle.tds_csv.proofs.Words.{◌∙◌, ◌++◌, ◌%◌, drop, ap, arith, length-drop, drop-drop, encode_utf8}
 use Rattle.tds_csv.specs.Utf16 as utf16
 use Rattle.tds_csv.proofs.Utf16Steps.{spells_held}
 use Rattle.tds_csv.proofs.convert.utf16.character_at.Goals as goal

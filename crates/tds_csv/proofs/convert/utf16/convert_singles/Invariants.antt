@@ -1,5 +1,4 @@
-use Rattle.std.proofs.Common.{◌+◌, ◌≤◌, ◌*◌, ◌-◌, length, take, drop}
-use Rattle.tds_csv.specs.Joining.{Leads}
+use Rattle.tds_csv.proofs.Words.{◌+◌, ◌≤◌, ◌*◌, ◌-◌, length, take, drop, Leads}
 use Rattle.tds_csv.specs.Utf16 as utf16
 use Rattle.tds_csv.proofs.convert.utf16.convert_singles.Given as goal
 

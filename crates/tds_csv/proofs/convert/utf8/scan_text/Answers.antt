@@ -1,13 +1,5 @@
-use Rattle.std.proofs.lemmas.Grind.{common_steps}
-use Rattle.std.proofs.Common.{◌≡◌, ◌∙◌, ◌+◌, ℕ, List, cond, length, drop, get_or, Some, sym, ap, subst, arith}
-use Rattle.std.proofs.lemmas.List.{get_or-drop}
-use Rattle.std.proofs.lemmas.Str.{utf8_valid_len-IsUtf8}
-use Rattle.std.specs.Int.{is_in_range}
-use Rattle.std.specs.Str.Lossy.{utf8_error_len, utf8_valid_len}
-use Rattle.tds_csv.specs.Utf8Scan.{StopsAt}
-use Rattle.tds_csv.proofs.Utf8Pushing.{is_scan}
-use Rattle.tds_csv.proofs.Utf8Test.{none_begins}
-use Rattle.tds_csv.proofs.Utf8Stops.{emit_take, stops_at}
+use Rattle.tds_csv.proofs.Words.{common_steps, ◌≡◌, ◌∙◌, ◌+◌, ℕ, List, cond, length, drop, get_or, Some, sym, ap, subst, arith, get_or-drop, utf8_valid_len-IsUtf8, is_in_range, utf8_error_len, utf8_valid_len, StopsAt}
+use Rattle.tds_csv.proofs.{Utf8Pushing.is_scan, Utf8Test.none_begins, Utf8Stops.emit_take, Utf8Stops.stops_at}
 use Rattle.tds_csv.proofs.convert.utf8.scan_text.Goals as goal
 
 pub returns-in-Ok-clause-text : goal.returns-in-Ok-clause-text

@@ -1,4 +1,4 @@
-use Rattle.std.proofs.Common.{rules}
+use Rattle.tds_csv.proofs.Words.{rules}
 use Rattle.tds_csv.proofs.convert.windows_1252.character.Goals as goal
 
 pub returns-then-byte-lt160-clause-value : goal.returns-then-byte-lt160-clause-value

@@ -1,19 +1,12 @@
-use Rattle.std.proofs.Common.{◌∙◌, take, arith, rules}
+use Rattle.tds_csv.proofs.Words.{arith, rules}
 use Rattle.tds_csv.specs.Windows1252 as windows_1252
-use Rattle.tds_csv.proofs.SingleLaws.{windows_1252-append}
-use Rattle.tds_csv.proofs.Singles.{text_more}
+use Rattle.tds_csv.proofs.{SingleLaws.windows_1252-append, Singles.text_taken}
 use Rattle.tds_csv.proofs.convert.windows_1252.convert.Goals as goal
 
 pub convert_by_hand-made-requires-clause-before : goal.convert_by_hand-made-requires-clause-before
-convert_by_hand-made-requires-clause-before c = record {
-  room = omega (arith, c.loop-at.invariant.room);
-  text = c.take_plain-n.ensures.taken ∙ text_more windows_1252.text windows_1252-append (take c.loop-at.made c.loop-at.to) c.args.bytes.now c.loop-at.at c.take_plain-n.result c.loop-at.invariant.text;
-}
+convert_by_hand-made-requires-clause-before c =
+    record { room = omega (arith, c.loop-at.invariant.room); text = text_taken windows_1252.text windows_1252-append c.args.bytes.now c.loop-at.at c.take_plain-n.result c.take_plain-n.ensures.taken c.loop-at.invariant.text }
 
 pub loop-at-preserved-then-n-eq-LANES : goal.loop-at-preserved-then-n-eq-LANES
-loop-at-preserved-then-n-eq-LANES c = record {
-  within = c.take_plain-n.ensures.within;
-  long = search rules;
-  room = omega (arith, c.loop-at.invariant.room);
-  text = c.take_plain-n.ensures.taken ∙ text_more windows_1252.text windows_1252-append (take c.loop-at.made c.loop-at.to) c.args.bytes.now c.loop-at.at c.take_plain-n.result c.loop-at.invariant.text;
-}
+loop-at-preserved-then-n-eq-LANES c =
+    record { within = c.take_plain-n.ensures.within; long = search rules; room = omega (arith, c.loop-at.invariant.room); text = text_taken windows_1252.text windows_1252-append c.args.bytes.now c.loop-at.at c.take_plain-n.result c.take_plain-n.ensures.taken c.loop-at.invariant.text }

@@ -1,9 +1,5 @@
-use Rattle.std.proofs.lemmas.Grind.{common_steps}
-use Rattle.std.proofs.Common.{arith}
-use Rattle.tds_csv.proofs.SingleLaws.{windows_1252-append}
-use Rattle.tds_csv.proofs.Characters.{doubled_length}
-use Rattle.tds_csv.proofs.PlainText.{text_one}
-use Rattle.tds_csv.proofs.Singles.{text_next}
+use Rattle.tds_csv.proofs.Words.{common_steps, arith}
+use Rattle.tds_csv.proofs.{SingleLaws.windows_1252-append, Characters.doubled_length, PlainText.text_one, Singles.text_next}
 use Rattle.tds_csv.proofs.convert.windows_1252.convert_by_hand.Goals as goal
 
 pub loop-at-preserved : goal.loop-at-preserved

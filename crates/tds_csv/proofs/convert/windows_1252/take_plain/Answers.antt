@@ -1,8 +1,5 @@
-use Rattle.std.proofs.lemmas.Grind.{common_steps}
-use Rattle.std.proofs.Common.{◌+◌, ◌≤◌, length, arith, rules}
-use Rattle.tds_csv.specs.Plain.{is_plain}
-use Rattle.tds_csv.proofs.Masks.{alike, run_most}
-use Rattle.tds_csv.proofs.PlainText.{plain_lanes}
+use Rattle.tds_csv.proofs.Words.{common_steps, ◌+◌, ◌≤◌, length, arith, rules, is_plain}
+use Rattle.tds_csv.proofs.{Masks.alike, Masks.run_most, PlainText.plain_lanes}
 use Rattle.tds_csv.proofs.convert.windows_1252.take_plain.Goals as goal
 
 pub returns-clause-taken : goal.returns-clause-taken

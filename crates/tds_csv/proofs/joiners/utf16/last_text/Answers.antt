@@ -1,5 +1,4 @@
-use Rattle.std.proofs.lemmas.Grind.{common_steps}
-use Rattle.std.proofs.Common.{◌∙◌, sym, ap, arith, length-drop, append-nil}
+use Rattle.tds_csv.proofs.Words.{common_steps, ◌∙◌, sym, ap, arith, length-drop, append-nil}
 use Rattle.tds_csv.specs.Utf16 as utf16
 use Rattle.tds_csv.proofs.Utf16Steps.{text_nil, characters_nil, nil_of_length}
 use Rattle.tds_csv.proofs.joiners.utf16.last_text.Goals as goal

@@ -1,6 +1,4 @@
-use Rattle.std.proofs.Common.{◌-◌, ◌≤◌, ℕ, List, Ok, length, drop}
-use Rattle.tds_csv.specs.Joining.{Leads}
-use Rattle.tds_csv.specs.Sinks.{PutsPiece}
+use Rattle.tds_csv.proofs.Words.{◌-◌, ◌≤◌, ℕ, List, Ok, length, drop, Leads, PutsPiece}
 use Rattle.tds_csv.specs.Utf16 as utf16
 use Rattle.tds_csv.proofs.joiners.utf16.put_from.Given as goal
 

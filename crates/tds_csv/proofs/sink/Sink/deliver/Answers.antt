@@ -1,6 +1,4 @@
-use Rattle.std.proofs.Common.{◌≡◌, ◌∙◌, ◌++◌, length, take, drop, refl, sym, ap, arith, rules, append-nil, length-drop}
-use Rattle.std.proofs.lemmas.List.{take-append-drop}
-use Rattle.tds_meter.specs.Space.{Space}
+use Rattle.tds_csv.proofs.Words.{◌≡◌, ◌∙◌, ◌++◌, length, take, drop, refl, sym, ap, arith, rules, append-nil, length-drop, take-append-drop, Space}
 use Rattle.tds_csv.proofs.sink.Sink.deliver.Goals as goal
 
 pub returns-in-Err : goal.returns-in-Err

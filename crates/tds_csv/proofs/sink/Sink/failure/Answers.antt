@@ -1,6 +1,4 @@
-use Rattle.std.proofs.Common.{◌∙◌, None, Some, ap, sym}
-use Rattle.std.specs.Prelude.{if◌then◌else◌}
-use Rattle.tds_csv.specs.Sinks.{held, stop_of}
+use Rattle.tds_csv.proofs.Words.{◌∙◌, None, Some, ap, sym, if◌then◌else◌, held, stop_of}
 use Rattle.tds_csv.proofs.sink.Sink.failure.Goals as goal
 
 pub returns-then-self : goal.returns-then-self

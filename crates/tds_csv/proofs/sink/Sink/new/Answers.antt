@@ -1,6 +1,4 @@
-use Rattle.std.proofs.Common.{ap}
-use Rattle.tds_meter.specs.Space.{Space}
-use Rattle.tds_csv.specs.Sinks.{fresh}
+use Rattle.tds_csv.proofs.Words.{ap, Space, fresh}
 use Rattle.tds_csv.proofs.sink.Sink.new.Goals as goal
 
 pub returns-clause-held : goal.returns-clause-held

@@ -1,5 +1,4 @@
-use Rattle.std.proofs.Common.{◌-◌, ◌≤◌, Ok, length, take}
-use Rattle.tds_csv.specs.Sinks.{PutsPiece}
+use Rattle.tds_csv.proofs.Words.{◌-◌, ◌≤◌, Ok, length, take, PutsPiece}
 use Rattle.tds_csv.proofs.sink.Sink.put.Given as goal
 
 abbrev pub invariant-loop-taken : goal.invariant-loop-taken

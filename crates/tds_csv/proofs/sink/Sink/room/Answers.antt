@@ -1,4 +1,4 @@
-use Rattle.std.proofs.Common.{◌∙◌, ◌-◌, ap}
+use Rattle.tds_csv.proofs.Words.{◌∙◌, ◌-◌, ap}
 use Rattle.tds_csv.proofs.sink.Sink.room.Goals as goal
 
 pub returns : goal.returns

@@ -1,4 +1,4 @@
-use Rattle.std.proofs.Common.{refl}
+use Rattle.tds_csv.proofs.Words.{refl}
 use Rattle.tds_csv.proofs.sink.Sink.spare.Goals as goal
 
 pub returns : goal.returns

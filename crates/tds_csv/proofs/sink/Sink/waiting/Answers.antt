@@ -1,4 +1,4 @@
-use Rattle.std.proofs.Common.{length, ap}
+use Rattle.tds_csv.proofs.Words.{length, ap}
 use Rattle.tds_csv.proofs.sink.Sink.waiting.Goals as goal
 
 pub returns : goal.returns

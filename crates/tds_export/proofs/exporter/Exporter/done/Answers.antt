@@ -1,22 +1,13 @@
-use Rattle.std.proofs.Common.{◌≡◌, length, refl, rules}
-use Rattle.tds_packet.proofs.Passing.{passed}
-use Rattle.tds_export.proofs.TokenSteps.{done_reads, fill_stops}
-use Rattle.tds_export.proofs.NoticeSteps.{quietly}
+use Rattle.tds_export.proofs.Words.{length, passed, refl, rules, ◌≡◌}
+use Rattle.tds_export.proofs.TokenSteps.{done_reads, stops_first}
+use Rattle.tds_export.proofs.Cuts.{fill_cut}
+use Rattle.tds_export.proofs.StepReads.{step_read}
 use Rattle.tds_export.proofs.exporter.Exporter.done.Goals as goal
 
 pub returns-in_err-fill : goal.returns-in_err-fill
-returns-in_err-fill g c = record {
-  leaves = search rules;
-  reads = λ tokens tracks holds noted.
-      let running = c.requires.running in
-      let twelve : length c.fill.new.to ≡ 12 = search rules in
-      passed _ _ _ _ c.from_residual.ensures.1 (fill_stops _ _ _ _ _ _ _ _ _ _ _ _ refl refl twelve running.sink.ready.2 running.sink.writing (record { bytes = holds.bytes; peak = holds.peak }) (c.in_err-fill.ensures.part running.payload.going));
-}
+returns-in_err-fill g c = step_read c.requires.running (search rules) (λ tokens begun.
+    let twelve : length c.fill.new.to ≡ 12 = search rules in
+    passed _ _ _ _ c.from_residual.ensures.1 (stops_first begun refl refl (fill_cut refl refl twelve (c.in_err-fill.ensures.part c.requires.running.payload.going))))
 
 pub returns : goal.returns
-returns g c = record {
-  leaves = search rules;
-  reads = λ tokens tracks holds noted.
-      let twelve : length c.fill.new.to ≡ 12 = search rules in
-      quietly _ _ _ _ _ _ _ _ _ _ _ _ c.args.self.now.notice.now tracks noted refl (done_reads _ _ _ _ _ _ _ _ _ _ _ c.in_ok-fill.ensures.place c.requires.running.sink.ready.2 tracks holds twelve c.in_ok-fill.ensures.all);
-}
+returns g c = step_read c.requires.running (search rules) (λ tokens begun. done_reads _ _ begun c.fill.new.to c.in_ok-fill.ensures.place (search rules) c.in_ok-fill.ensures.all)

@@ -1,10 +1,4 @@
-use Rattle.std.proofs.Common.{◌≡◌, ◌-◌, ◌≤◌, []}
-use Rattle.tds_csv.specs.Sinks.{IsOnSameSink, held}
-use Rattle.tds_export.specs.Steps.{IsNoted, Tracks}
-use Rattle.tds_export.specs.TokenGrammar.{response}
-use Rattle.tds_meter.specs.Space.{empty}
-use Rattle.tds_packet.specs.Payloads.{IsOnSame, seen}
-use Rattle.tds_export.specs.Exporters.{IsOnSameRun, IsRunning}
+use Rattle.tds_export.proofs.Words.{IsNoted, IsOnSame, IsOnSameRun, IsOnSameSink, IsRunning, Tracks, [], empty, held, response, seen, ◌-◌, ◌≡◌, ◌≤◌}
 use Rattle.tds_export.proofs.RunSteps.{Runs}
 use Rattle.tds_export.proofs.exporter.Exporter.run.Given as goal
 

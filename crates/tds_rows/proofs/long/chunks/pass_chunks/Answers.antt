@@ -1,8 +1,5 @@
-use Rattle.std.proofs.Common.{arith, rules}
-use Rattle.tds_packet.proofs.Passing.{passed}
-use Rattle.tds_packet.proofs.PayloadLaws.{between_of}
-use Rattle.tds_rows.proofs.PassedCells.{chunks_cut, chunks_end, chunks_more, chunks_none, chunks_stop}
-use Rattle.tds_rows.proofs.PassedLengths.{chunk_length_stops, chunk_steps, end_steps}
+use Rattle.tds_rows.proofs.Words.{arith, rules, sym, passed, between_of}
+use Rattle.tds_rows.proofs.{PassedCells.chunks_cut, PassedCells.chunks_end, PassedCells.chunks_more, PassedCells.chunks_none, PassedCells.stops_after_steps, PassedLengths.chunk_steps, PassedLengths.end_steps, Numbers.chunk_stops}
 use Rattle.tds_rows.proofs.long.chunks.pass_chunks.Goals as goal
 
 pub loop-n-init : goal.loop-n-init
@@ -10,27 +7,26 @@ loop-n-init g c = record {
   going = c.requires.going;
   same = search rules;
   few = omega arith;
-  walks = λ conversion any. chunks_none _ _ _ _ (between_of g.R.Read.remaining c.args.payload.now c.requires.going.going);
+  walks = λ conversion any. chunks_none (between_of g.R.Read.remaining c.args.payload.now c.requires.going.going);
 }
 
 pub returns-in_err-n-clause-gives : goal.returns-in_err-n-clause-gives
 returns-in_err-n-clause-gives g c = λ conversion any.
     let x = c.loop-n.invariant.walks conversion any in
-    passed _ _ _ _ c.from_residual.ensures.1 (chunks_stop _ _ _ 0 _ _ _ _ _ c.read_chunk_length.new.payload.place x _
-    (chunk_length_stops _ _ any _ _ _ x.counted _ _ _ c.read_chunk_length.new.payload.place _ c.in_err-n.ensures.gives))
+    passed _ _ _ _ c.from_residual.ensures.1 (stops_after_steps x.steps (record { at = _; stops = chunk_stops _ _ _ (sym any.unit_is) _ _ _ x.counted c.in_err-n.ensures.gives }))
 
 pub returns-then-n-eq0-clause-gives : goal.returns-then-n-eq0-clause-gives
 returns-then-n-eq0-clause-gives g c = λ conversion any.
     let x = c.loop-n.invariant.walks conversion any in
     let r = c.in_ok-n.ensures.gives in
-    chunks_end _ _ _ c.in_ok-n.n _ _ _ _ _ _ x (end_steps _ _ any _ _ _ x.counted _ _ _ _ _ _ r.1 r.2 r.3 c.if-n-eq0.true)
+    chunks_end x (end_steps any x.counted r.1 r.2 r.3 c.if-n-eq0.true)
 
 pub returns-in_err-pass_data-clause-gives : goal.returns-in_err-pass_data-clause-gives
 returns-in_err-pass_data-clause-gives g c = λ conversion any.
     let x = c.loop-n.invariant.walks conversion any in
     let r = c.in_ok-n.ensures.gives in
-    let y = chunk_steps _ _ any _ _ _ x.counted _ _ _ _ _ _ r.1 r.2 r.3 c.if-n-eq0.false in
-    passed _ _ _ _ c.from_residual-in_err-pass_data.ensures.1 (chunks_cut _ _ _ _ _ _ _ _ _ _ x _ _ _ any y c.in_err-pass_data.ensures.gives)
+    let y = chunk_steps any x.counted r.1 r.2 r.3 c.if-n-eq0.false in
+    passed _ _ _ _ c.from_residual-in_err-pass_data.ensures.1 (chunks_cut x any y c.in_err-pass_data.ensures.gives)
 
 pub loop-n-preserved : goal.loop-n-preserved
 loop-n-preserved g c =
@@ -43,5 +39,5 @@ loop-n-preserved g c =
       few = omega (arith, l.invariant.few, r.1.place_is, done.gives.place_is);
       walks = λ conversion any.
           let x = l.invariant.walks conversion any in
-          chunks_more _ _ _ _ _ _ _ _ _ _ x _ _ _ any (chunk_steps _ _ any _ _ _ x.counted _ _ _ _ _ _ r.1 r.2 r.3 c.if-n-eq0.false) done.gives;
+          chunks_more x any (chunk_steps any x.counted r.1 r.2 r.3 c.if-n-eq0.false) done.gives;
     }

@@ -1,7 +1,4 @@
-use Rattle.std.proofs.Common.{◌-◌, ◌≤◌}
-use Rattle.tds_csv.specs.Conversion.{Conversion}
-use Rattle.tds_packet.specs.Payloads.{IsGoing, IsOnSame, seen}
-use Rattle.tds_rows.specs.PassedCells.{AnyData}
+use Rattle.tds_rows.proofs.Words.{◌-◌, ◌≤◌, Conversion, IsGoing, IsOnSame, seen, AnyData}
 use Rattle.tds_rows.proofs.PassedCells.{WalksChunks}
 use Rattle.tds_rows.proofs.long.chunks.pass_chunks.Given as goal
 

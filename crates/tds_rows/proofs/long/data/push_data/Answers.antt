@@ -1,8 +1,5 @@
-use Rattle.std.proofs.Common.{◌∙◌, arith, refl, rules}
-use Rattle.tds_packet.proofs.Passing.{passed}
-use Rattle.tds_packet.proofs.PayloadLaws.{between_of}
-use Rattle.tds_rows.proofs.JoinedPieces.{filled_ends, filled_more, filled_none, filled_stops}
-use Rattle.tds_rows.proofs.Blames.{stops_after}
+use Rattle.tds_rows.proofs.Words.{◌∙◌, arith, refl, rules, passed, between_of}
+use Rattle.tds_rows.proofs.{JoinedPieces.filled_ends, JoinedPieces.filled_more, JoinedPieces.filled_none, JoinedPieces.filled_stops, Blames.stops_after}
 use Rattle.tds_rows.proofs.long.data.push_data.Goals as goal
 
 pub loop-left-init : goal.loop-left-init
@@ -16,23 +13,21 @@ loop-left-init g c = record {
   place = search rules;
   calm = refl;
   filled = λ conversion content suits is begun.
-      filled_none _ _ begun _ _ _ _ _ is
-      (between_of g.R.Read.remaining c.args.payload.now c.requires.joining.payload.going) (c.requires.joining.sink.ready.1 c.requires.joining.sink.writing) c.requires.joining.sink.ready.2;
+      filled_none begun is (between_of g.R.Read.remaining c.args.payload.now c.requires.joining.payload.going) (c.requires.joining.sink.ready.1 c.requires.joining.sink.writing) c.requires.joining.sink.ready.2;
 }
 
 pub returns-in_err-left-clause-gives : goal.returns-in_err-left-clause-gives
 returns-in_err-left-clause-gives g c = λ conversion content suits is begun.
     let l = c.loop-left in
-    let w = g.J.Joiner.withheld in
     let p = l.invariant.filled conversion content suits is begun in
     let x = c.in_err-left.ensures.gives conversion _ suits p.kept_is p.fills.begun in
-    passed _ _ _ _ c.from_residual.ensures.1 (filled_stops _ _ begun _ _ (w c.push_piece.new.joiner) _ _ _ _ _ _ c.push_piece.new.payload.place _ _ _ p _ _ _ l.invariant.some x)
+    passed _ _ _ _ c.from_residual.ensures.1 (filled_stops begun p l.invariant.some x)
 
 pub returns-then-left-eq0-clause-gives : goal.returns-then-left-eq0-clause-gives
 returns-then-left-eq0-clause-gives g c = λ conversion content suits is begun.
     let p = c.loop-left.invariant.filled conversion content suits is begun in
     let x = c.in_ok-left.ensures.gives conversion _ suits p.kept_is p.fills.begun in
-    filled_ends _ _ begun _ _ _ _ _ _ _ _ _ _ _ _ _ p _ (omega (arith, c.in_ok-left.ensures.further.within, c.if-left-eq0.true)) x
+    filled_ends begun p _ (omega (arith, c.in_ok-left.ensures.further.within, c.if-left-eq0.true)) x
 
 pub loop-left-preserved : goal.loop-left-preserved
 loop-left-preserved g c =
@@ -50,7 +45,7 @@ loop-left-preserved g c =
       filled = λ conversion content suits is begun.
           let p = l.invariant.filled conversion content suits is begun in
           let x = done.gives conversion _ suits p.kept_is p.fills.begun in
-          filled_more _ _ begun _ _ _ _ _ _ _ _ _ _ _ _ _ p _ done.further.within (done.leaves.sink.ready.1 done.leaves.sink.writing) done.leaves.sink.ready.2 x;
+          filled_more begun p _ done.further.within (done.leaves.sink.ready.1 done.leaves.sink.writing) done.leaves.sink.ready.2 x;
     }
 
 pub returns-in_err-left-clause-blames : goal.returns-in_err-left-clause-blames

@@ -1,9 +1,5 @@
-use Rattle.std.proofs.Common.{◌≡◌, ◌<◌, ◌+◌, List, ℕ}
-use Rattle.tds_csv.specs.Conversion.{BeginsData, Conversion, Suits, conversion_rest}
-use Rattle.tds_csv.specs.Sinks.{IsOnSameSink, IsWriting, held}
-use Rattle.tds_packet.specs.Payloads.{IsGoing, IsOnSame, seen}
-use Rattle.tds_rows.proofs.JoinedPieces.{Filled}
-use Rattle.tds_rows.specs.Blames.{failures_of}
+use Rattle.tds_rows.proofs.Words.{◌≡◌, ◌<◌, ◌+◌, List, ℕ, BeginsData, Conversion, Suits, conversion_rest, IsOnSameSink, IsWriting, IsGoing, IsOnSame, failures_of}
+use Rattle.tds_rows.proofs.{JoinedPieces.Filled, Paths.at_of}
 use Rattle.tds_rows.proofs.long.data.push_data.Given as goal
 
 abbrev pub invariant-loop-left : goal.invariant-loop-left
@@ -17,7 +13,7 @@ invariant-loop-left g l = record {
   calm : failures_of l.payload l.sink ≡ failures_of l.initial.payload l.initial.sink;
   place : l.payload.place + l.left ≡ l.initial.payload.place + l.n;
   filled : (c : Conversion) (content : List ℕ) → Suits g.J.Joiner.fit g.J.Joiner.begins g.J.Joiner.rest g.J.Joiner.text g.J.Joiner.UNIT g.J.Joiner.QUOTED c → g.J.Joiner.withheld l.initial.joiner ≡ conversion_rest c content → BeginsData c content
-      → Filled c content (g.J.Joiner.withheld l.joiner) (seen g.R.Read.remaining l.initial.payload) (seen g.R.Read.remaining l.payload) l.initial.payload.place l.payload.place (held g.W.Write.contents l.initial.sink) (held g.W.Write.contents l.sink) l.n l.left;
+      → Filled c content (g.J.Joiner.withheld l.joiner) (at_of g.R.Read.remaining g.W.Write.contents l.initial.payload l.initial.sink) (at_of g.R.Read.remaining g.W.Write.contents l.payload l.sink) l.n l.left;
 }
 
 abbrev pub decreases-loop-left : goal.decreases-loop-left

@@ -1,12 +1,5 @@
-use Rattle.std.proofs.Common.{inl, refl, arith}
-use Rattle.tds_packet.specs.Payloads.{seen}
-use Rattle.tds_packet.proofs.Passing.{passed}
-use Rattle.tds_packet.proofs.PayloadLaws.{at_err, at_ok}
-use Rattle.tds_packet.proofs.Places.{stops_here}
-use Rattle.tds_csv.specs.Sinks.{held}
-use Rattle.tds_rows.proofs.JoinedPieces.{good_within, piece_taken, push_stops}
-use Rattle.tds_packet.proofs.WireFaults.{ends_blame}
-use Rattle.tds_rows.proofs.Blames.{push_blames, read_stops, same_failures}
+use Rattle.tds_rows.proofs.Words.{inl, refl, arith, seen, passed, at_err, at_ok, stops_here, held, ends_blame}
+use Rattle.tds_rows.proofs.{JoinedPieces.good_within, JoinedPieces.piece_taken, JoinedPieces.push_stops, Blames.push_blames, Blames.read_stops, Blames.same_failures}
 use Rattle.tds_rows.proofs.long.data.push_piece.Goals as goal
 
 pub returns-in_err-piece-clause-gives : goal.returns-in_err-piece-clause-gives
@@ -18,7 +11,7 @@ returns-in_err-piece-clause-gives g c = λ conversion content suits is begun.
 pub returns-in-Ok-clause-gives : goal.returns-in-Ok-clause-gives
 returns-in-Ok-clause-gives g c = λ conversion content suits is begun.
     let k = at_ok _ _ _ _ c.in_ok-piece.was c.piece.follows.holds-at-none.2 in
-    piece_taken _ _ _ _ _ _ _ suits _ _ is begun _ _ _ _ _ _ _ _ c.in_ok-piece.ensures.len.0 k.0 k.1 k.2 c.in-Ok.ensures.gives
+    piece_taken suits _ is begun c.in_ok-piece.ensures.len.0 k.0 k.1 k.2 c.in-Ok.ensures.gives
 
 pub returns-in-Ok-clause-further : goal.returns-in-Ok-clause-further
 returns-in-Ok-clause-further g c = record {
@@ -37,7 +30,7 @@ join_stop-requires g c =
 pub returns-in-Err-clause-gives : goal.returns-in-Err-clause-gives
 returns-in-Err-clause-gives g c = λ conversion content suits is begun.
     let k = at_ok _ _ _ _ c.in_ok-piece.was c.piece.follows.holds-at-none.2 in
-    rw (c.join_stop.ensures, c.place-place.ensures) (push_stops _ _ _ _ _ _ _ suits _ _ is begun _ _ _ _ _ _ _ _ _ _ _ c.in-Err.fault
+    rw (c.join_stop.ensures, c.place-place.ensures) (push_stops suits _ is begun _ _ _ _ _ _ _ _ _ _ _ c.in-Err.fault
     (omega (arith, c.in_ok-piece.ensures.len.1, c.min.ensures)) k.0 k.1 c.requires.joining.begun c.requires.joining.sink.writing c.in-Err.ensures.failed c.in-Err.ensures.gives)
 
 pub returns-in_err-piece-clause-blames : goal.returns-in_err-piece-clause-blames

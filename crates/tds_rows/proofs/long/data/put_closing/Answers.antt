@@ -1,8 +1,4 @@
-use Rattle.std.proofs.Common.{◌∙◌, ◌++◌, true, ap, sym, subst}
-use Rattle.tds_csv.proofs.Puttings.{PutsPiece-trans}
-use Rattle.tds_csv.specs.Conversion.{closing}
-use Rattle.tds_csv.specs.Quoting.{end_after}
-use Rattle.tds_csv.specs.Sinks.{PutsPiece}
+use Rattle.tds_rows.proofs.Words.{◌∙◌, ◌++◌, true, ap, sym, subst, PutsPiece-trans, closing, end_after, PutsPiece}
 use Rattle.tds_rows.proofs.long.data.put_closing.Goals as goal
 
 pub returns : goal.returns

@@ -1,8 +1,4 @@
-use Rattle.std.proofs.Common.{◌∙◌, true, false, ap, sym, subst}
-use Rattle.tds_csv.proofs.Puttings.{PutsPiece-trans}
-use Rattle.tds_csv.specs.Quoting.{after_comma}
-use Rattle.tds_csv.specs.Sinks.{PutsPiece}
-use Rattle.tds_rows.specs.LongCells.{opening}
+use Rattle.tds_rows.proofs.Words.{◌∙◌, true, false, ap, sym, subst, PutsPiece-trans, after_comma, PutsPiece, opening}
 use Rattle.tds_rows.proofs.long.data.put_opening.Goals as goal
 
 pub returns-then-quoted : goal.returns-then-quoted

@@ -1,4 +1,4 @@
-use Rattle.std.proofs.Common.{rules}
+use Rattle.tds_rows.proofs.Words.{rules}
 use Rattle.tds_rows.proofs.long.lengths.chunk_length_fault.Goals as goal
 
 pub returns-in_default : goal.returns-in_default

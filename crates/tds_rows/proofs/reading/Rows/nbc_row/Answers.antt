@@ -1,11 +1,5 @@
-use Rattle.std.proofs.Common.{ℕ, ◌<◌, List, length, refl, sym, arith, rules, ◌∙◌, ◌≡◌, ap, ◌++◌}
-use Rattle.tds_packet.proofs.Passing.{passed, passed_on}
-use Rattle.tds_meter.specs.Space.{Space}
-use Rattle.tds_rows.specs.RowReading.{LeavesRows}
-use Rattle.tds_rows.specs.Rows.{bit, bitmap_length}
-use Rattle.tds_rows.proofs.NextSteps.{next_nears, next_stops, run_near}
-use Rattle.tds_rows.proofs.NullSteps.{bitmap_cut, bitmap_nears, next_left, row_ends}
-use Rattle.tds_rows.proofs.RowReading.{leaves_after, stays_after, stays_on}
+use Rattle.tds_rows.proofs.Words.{ℕ, ◌<◌, List, length, refl, sym, arith, rules, ◌∙◌, ◌≡◌, ap, ◌++◌, passed, passed_on, Space, LeavesRows, bitmap_length}
+use Rattle.tds_rows.proofs.{NextSteps.next_nears, NextSteps.next_stops, NextSteps.run_near, NullSteps.all_put, NullSteps.bitmap_cut, NullSteps.bitmap_nears, NullSteps.row_ends, RowReading.leaves_after, RowReading.stays_after, RowReading.stays_on}
 use Rattle.tds_rows.proofs.reading.Rows.nbc_row.Goals as goal
 
 pub returns-in_err-take_into-clause-gives : goal.returns-in_err-take_into-clause-gives
@@ -38,7 +32,7 @@ loop-form-init g c =
           let whole : length x.element ≡ bitmap_length (length columns) = x.whole ∙ c.bitmap_size.ensures.value ∙ ap bitmap_length (c.count.ensures ∙ knows.counted) in
           let some : 0 < length columns = omega (arith, c.requires.knows.2, knows.counted) in
           let taken = rw (sym x.whole) at x.takes in
-          let near = bitmap_nears old.table.now.charset columns _ _ _ _ _ _ some whole taken x.between (sink.ready.1 sink.writing) sink.ready.2 (omega (arith, x.whole, c.in_ok-take_into.ensures.place)) in
+          let near = bitmap_nears columns x.element some whole taken x.between (sink.ready.1 sink.writing) sink.ready.2 (omega (arith, x.whole, c.in_ok-take_into.ensures.place)) in
           (c.start-ahead.ensures.ahead columns knows, rw (c.start-ahead.ensures.first, bytes) near);
     }
 
@@ -46,17 +40,13 @@ pub returns-in_err-put_next-clause-gives : goal.returns-in_err-put_next-clause-g
 returns-in_err-put_next-clause-gives g c = λ columns known.
     let l = c.loop-form in
     let run = c.put_nulls-at in
-    let at = run.result in
     let kept = run.ensures.stays in
     let knows = rw (sym l.invariant.stays.same.3) at known in
     let there = rw (sym kept.same.3) at knows in
-    let reads = l.invariant.reads columns knows in
-    let put = rw c.bytes.ensures.value at (run.ensures.gives columns knows reads.0) in
-    let ahead = rw (sym kept.same.3) at put.runs.ahead in
-    let near = run_near g.R.Read.remaining g.W.Write.contents l.self run.new.self _ _ _ _ _ _ _ _ l.invariant.stays.in_row kept put reads.1 in
-    let taken = c.in-Some.ensures.gives columns there ahead in
-    let x = next_left _ _ _ _ _ _ _ _ _ _ _ _ _ _ taken.next (ap (λ (l : List ℕ). bit l at.column) (sym c.bytes-in-loop-form.ensures.value) ∙ sym c.is_null-null.ensures) near in
-    let stops = next_stops g.R.Read.remaining g.W.Write.contents run.new.self c.put_next.new.self _ _ _ _ _ _ _ _ _ _ kept.in_row there ahead taken.next taken.kind _ _ _ x c.in_err-put_next.ensures.gives in
+    let near = run_near g.R.Read.remaining g.W.Write.contents columns _ _ _ l.self run.new.self _ _ l.invariant.stays.in_row kept knows (rw c.bytes.ensures.value at run.ensures.gives) (l.invariant.reads columns knows) in
+    let taken = c.in-Some.ensures.gives columns there near.0 in
+    let is = rw c.bytes-in-loop-form.ensures.value at (sym c.is_null-null.ensures) in
+    let stops = next_stops g.R.Read.remaining g.W.Write.contents run.new.self c.put_next.new.self columns _ _ _ _ there taken _ _ kept.in_row near _ _ _ is c.in_err-put_next.ensures.gives in
     passed _ _ _ _ c.from_residual-in_err-put_next.ensures.1 (rw (kept.same.3 ∙ l.invariant.stays.same.3) at stops)
 
 pub returns-in_err-put_next-clause-leaves : goal.returns-in_err-put_next-clause-leaves
@@ -67,41 +57,31 @@ pub loop-form-preserved : goal.loop-form-preserved
 loop-form-preserved g c =
     let l = c.loop-form in
     let run = c.put_nulls-at in
-    let at = run.result in
     let kept = run.ensures.stays in
     let done = c.in_ok-put_next.ensures in
-    let bits = bit c.take_into.new.area.bytes in
     let same = done.leaves.same.3 ∙ kept.same.3 in
     record {
       stays = stays_on _ _ _ (stays_on _ _ _ l.invariant.stays kept) (stays_after _ _ _ kept.in_row done.leaves);
       knows = rw (sym same) at l.invariant.knows;
       fits = search (arith, rules);
-      reads = rw done.leaves.same.3 (λ columns there.
+      reads = λ columns known.
+          let there = rw done.leaves.same.3 at known in
           let knows = rw kept.same.3 at there in
-          let reads = l.invariant.reads columns knows in
-          let put = rw c.bytes.ensures.value at (run.ensures.gives columns knows reads.0) in
-          let ahead = rw (sym kept.same.3) at put.runs.ahead in
-          let near = run_near g.R.Read.remaining g.W.Write.contents l.self run.new.self _ _ _ _ _ _ _ _ l.invariant.stays.in_row kept put reads.1 in
-          let taken = c.in-Some.ensures.gives columns there ahead in
-          let is : bits at.column ≡ c.is_null-null.result = ap (λ (l : List ℕ). bit l at.column) (sym c.bytes-in-loop-form.ensures.value) ∙ sym c.is_null-null.ensures in
-          let x = next_left _ _ _ _ _ _ _ _ _ _ _ _ _ _ taken.next is near in
-          let y = next_nears g.R.Read.remaining g.W.Write.contents run.new.self c.put_next.new.self _ _ _ _ _ _ _ _ _ _ kept.in_row there ahead taken.next taken.kind _ _ x done.leaves done.gives in
-          (taken.ahead, rw (sym taken.further) at y));
+          let near = run_near g.R.Read.remaining g.W.Write.contents columns _ _ _ l.self run.new.self _ _ l.invariant.stays.in_row kept knows (rw c.bytes.ensures.value at run.ensures.gives) (l.invariant.reads columns knows) in
+          let taken = c.in-Some.ensures.gives columns there near.0 in
+          let is = rw c.bytes-in-loop-form.ensures.value at (sym c.is_null-null.ensures) in
+          next_nears g.R.Read.remaining g.W.Write.contents run.new.self c.put_next.new.self columns _ _ _ _ there taken _ _ kept.in_row near _ _ is done.leaves done.gives;
     }
 
 pub returns-in_default-clause-gives : goal.returns-in_default-clause-gives
 returns-in_default-clause-gives g c = λ columns known.
     let l = c.loop-form in
     let run = c.put_nulls-at in
-    let at = run.result in
     let kept = run.ensures.stays in
     let knows = rw (sym l.invariant.stays.same.3) at known in
-    let reads = l.invariant.reads columns knows in
-    let put = rw c.bytes.ensures.value at (run.ensures.gives columns knows reads.0) in
-    let ahead = rw (sym kept.same.3) at put.runs.ahead in
-    let near = run_near g.R.Read.remaining g.W.Write.contents l.self run.new.self _ _ _ _ _ _ _ _ l.invariant.stays.in_row kept put reads.1 in
-    let none = c.in_default.ensures.gives columns (rw (sym kept.same.3) at knows) ahead in
-    rw (kept.same.3 ∙ l.invariant.stays.same.3) at (row_ends _ _ _ _ _ _ _ _ _ kept.in_row.sink.ready.2 (rw none at near))
+    let near = run_near g.R.Read.remaining g.W.Write.contents columns _ _ _ l.self run.new.self _ _ l.invariant.stays.in_row kept knows (rw c.bytes.ensures.value at run.ensures.gives) (l.invariant.reads columns knows) in
+    let none = c.in_default.ensures.gives columns (rw (sym kept.same.3) at knows) near.0 in
+    rw (kept.same.3 ∙ l.invariant.stays.same.3) at (row_ends (all_put refl kept.in_row.sink.ready.2 (rw none at near.1)))
 
 pub loop-form-smaller : goal.loop-form-smaller
 loop-form-smaller g c =

@@ -1,8 +1,5 @@
-use Rattle.std.proofs.Common.{◌∙◌, refl, sym, ap, arith, rules}
-use Rattle.tds_packet.proofs.Passing.{passed}
-use Rattle.tds_rows.specs.Rows.{NbcRow}
-use Rattle.tds_rows.proofs.NextRows.{row_begins, row_first, row_more, row_stops}
-use Rattle.tds_rows.proofs.RowReading.{stays, stays_after, stays_on}
+use Rattle.tds_rows.proofs.Words.{NbcRow, ◌∙◌, refl, sym, ap, arith, rules, passed}
+use Rattle.tds_rows.proofs.{NextRows.rows_first, NextRows.rows_row, NextRows.rows_stop, NextRows.rows_token, RowReading.stays, RowReading.stays_after, RowReading.stays_on}
 use Rattle.tds_rows.proofs.reading.Rows.nbc_rows.Goals as goal
 
 pub loop-ended-init : goal.loop-ended-init
@@ -11,21 +8,21 @@ loop-ended-init g c = record {
   knows = c.requires.knows;
   room = refl;
   few = omega arith;
-  reads = λ columns knows. row_first _ _ _ _ _ _ c.requires.in_row.sink.ready.2;
+  reads = λ columns knows. rows_first c.requires.in_row.sink.ready.2;
 }
 
 pub returns-in_err-nbc_row-clause-gives : goal.returns-in_err-nbc_row-clause-gives
 returns-in_err-nbc_row-clause-gives g c = λ columns known.
     let l = c.loop-ended in
     let knows = rw (sym l.invariant.stays.same.3) at known in
-    let stops = row_stops _ _ _ _ _ _ _ _ _ _ _ _ (l.invariant.reads columns knows) _ _ (c.in_err-nbc_row.ensures.gives columns knows) in
+    let stops = rows_stop (l.invariant.reads columns knows) (c.in_err-nbc_row.ensures.gives columns knows) in
     passed _ _ _ _ c.from_residual.ensures.1 (rw l.invariant.stays.same.3 at stops)
 
 pub returns-then-not-take_token-clause-gives : goal.returns-then-not-take_token-clause-gives
 returns-then-not-take_token-clause-gives g c = λ columns known.
     let l = c.loop-ended in
     let knows = rw (sym l.invariant.stays.same.3) at known in
-    let read = row_more _ _ _ _ _ _ _ _ _ _ _ _ (l.invariant.reads columns knows) _ (c.in_ok-nbc_row.ensures.gives columns knows) in
+    let read = rows_row (l.invariant.reads columns knows) (c.in_ok-nbc_row.ensures.gives columns knows) in
     let there = rw l.invariant.stays.same.3 at read in
     rw (sym (c.if-not-take_token.ensures.gives NbcRow refl).0, sym c.take_token.ensures.sink) at there
 
@@ -52,8 +49,8 @@ loop-ended-preserved g c =
       room = search (arith, rules);
       few = omega (arith, l.invariant.few, (done.gives known.0 known.1).place_is, taken.1);
       reads = rw same (λ columns knows.
-          let read = row_more _ _ _ _ _ _ _ _ _ _ _ _ (l.invariant.reads columns knows) _ (done.gives columns knows) in
-          let begun = row_begins _ _ _ _ _ _ _ _ _ _ _ (omega (arith, l.invariant.knows.2, knows.counted)) done.leaves.sink.ready.2 read taken.0 in
+          let read = rows_row (l.invariant.reads columns knows) (done.gives columns knows) in
+          let begun = rows_token (omega (arith, l.invariant.knows.2, knows.counted)) done.leaves.sink.ready.2 read taken.0 in
           rw (sym taken.1, sym c.take_token.ensures.sink) at begun);
     }
 

@@ -1,4 +1,4 @@
-use Rattle.tds_csv.specs.Conversion.{HexDigits, Utf16Text, Utf8Text, Windows1252Text}
+use Rattle.tds_rows.proofs.Words.{HexDigits, Utf16Text, Utf8Text, Windows1252Text}
 use Rattle.tds_rows.proofs.reading.Rows.put_joined.Goals as goal
 
 pub returns-in-Binary-clause-gives : goal.returns-in-Binary-clause-gives

@@ -1,11 +1,5 @@
-use Rattle.std.proofs.Common.{◌≡◌, ◌∙◌, ap, sym, drop, ◌-◌, ◌+◌, ◌≤◌, ℕ, List, Ok, length, take, subst, arith, rules, length-take}
-use Rattle.std.proofs.lemmas.List.{drop-drop}
-use Rattle.tds_packet.specs.Payloads.{buffered}
-use Rattle.tds_csv.specs.Sinks.{held}
-use Rattle.tds_rows.specs.MarkedRuns.{EndsLeft, RunsMarked}
-use Rattle.tds_rows.specs.Rows.{bit}
-use Rattle.tds_rows.proofs.BufferedCells.{kept_text}
-use Rattle.tds_rows.proofs.MarkedSteps.{all_waits}
+use Rattle.tds_rows.proofs.Words.{◌≡◌, ◌∙◌, ap, sym, drop, ◌-◌, ◌+◌, ◌≤◌, ℕ, List, Ok, length, take, subst, arith, rules, length-take, drop-drop, buffered, held, RunsMarked, bit}
+use Rattle.tds_rows.proofs.{BufferedCells.kept_text, MarkedSteps.all_waits}
 use Rattle.tds_rows.proofs.reading.Rows.put_nulls.Goals as goal
 
 pub returns-clause-ends : goal.returns-clause-ends
@@ -23,8 +17,7 @@ returns-clause-ends g c =
     let waits = all_waits h j (take run.made written) puts (omega (arith, block, text, c.run_nulls-run.ensures.made)) in
     let room : length lent - run.made ≡ 4095 - length j.waiting = omega (arith, block, text, waits, c.run_nulls-run.ensures.made) in
     let rest : drop run.used (buffered old) ≡ buffered c.consume.new.self = drop-drop run.used old.at old.packet.now.bytes ∙ ap buffered (sym c.consume.ensures.rest) in
-    let left_there : EndsLeft c.args.self.now.table.now (bit c.args.bitmap.now) run.ahead (drop run.used (buffered old)) (length lent - run.made) = subst (λ (l : List ℕ). EndsLeft c.args.self.now.table.now (bit c.args.bitmap.now) run.ahead (drop run.used l) (length lent - run.made)) c.buffered.ensures c.run_nulls-run.ensures.ends in
-    subst (λ (n : ℕ). EndsLeft c.args.self.now.table.now (bit c.args.bitmap.now) run.ahead (buffered c.consume.new.self) n) room (subst (λ (l : List ℕ). EndsLeft c.args.self.now.table.now (bit c.args.bitmap.now) run.ahead l (length lent - run.made)) rest left_there)
+    rw room at (rw rest at (rw c.buffered.ensures at c.run_nulls-run.ensures.ends))
 
 pub returns-clause-gives : goal.returns-clause-gives
 returns-clause-gives g c = λ columns knows ahead.

@@ -1,12 +1,6 @@
-use Rattle.std.proofs.Common.{◌∙◌, ℕ, List, drop, refl, sym, ap, subst, arith}
-use Rattle.tds_packet.proofs.Passing.{passed}
-use Rattle.tds_columns.specs.Description.{Column}
-use Rattle.tds_rows.specs.CellSteps.{is_last_column}
-use Rattle.tds_rows.specs.Tables.{IsAhead, IsNextKind, Knows}
-use Rattle.tds_rows.specs.Rows.{PlainRow}
-use Rattle.tds_rows.proofs.NextRows.{row_begins, rows_again}
-use Rattle.tds_rows.proofs.RunSteps.{cell_some, rows_begin, rows_cell, rows_end, rows_further, rows_stop}
-use Rattle.tds_rows.proofs.RowReading.{stays, stays_after, stays_on}
+use Rattle.tds_rows.proofs.Words.{◌∙◌, ◌+◌, ◌<◌, [], Err, List, Ok, drop, false, refl, sym, ap, arith, passed, Column, PlainRow, Knows}
+use Rattle.tds_rows.proofs.reading.Rows.rows.Given.{Over}
+use Rattle.tds_rows.proofs.{NextRows.RowsHere, NextRows.rowing_cell, NextRows.rowing_stop, NextRows.rows_first, NextRows.rows_ran, NextRows.rows_token, NextRows.rows_whole, NextSteps.cell_read, NullTexts.none_ahead, Paths.here, RowReading.stays, RowReading.stays_after, RowReading.stays_on, RowSteps.cell_some}
 use Rattle.tds_rows.proofs.reading.Rows.rows.Goals as goal
 
 pub loop-form-init : goal.loop-form-init
@@ -15,11 +9,7 @@ loop-form-init g c =
       stays = stays _ c.requires.in_row;
       knows = c.requires.knows;
       few = omega arith;
-      reads = λ columns knows. (
-        c.start-ahead.ensures.ahead columns knows,
-        rows_begin _ _ _ _ _ _ _ c.requires.in_row.sink.ready.2
-            (ap (λ (n : ℕ). drop n columns) c.start-ahead.ensures.first) c.start-ahead.ensures.first,
-      );
+      reads = λ columns knows. (c.start-ahead.ensures.ahead columns knows, rw c.start-ahead.ensures.first (record { cells = []; counted = refl; rows = rows_first c.requires.in_row.sink.ready.2 }));
     }
 
 pub returns-then-not-take_token-clause-gives : goal.returns-then-not-take_token-clause-gives
@@ -27,12 +17,9 @@ returns-then-not-take_token-clause-gives g c = λ columns known.
     let l = c.loop-form in
     let kept = c.put_run-run.ensures.stays in
     let knows = rw (sym l.invariant.stays.same.3) at known in
-    let reads = l.invariant.reads columns knows in
-    let ran = c.put_run-run.ensures.gives columns knows reads.0 in
-    let x = rows_further _ _ _ _ _ _ _ _ _ _ _ _ _ _ _ _ _ reads.1 (λ cells. ran.1 _ cells refl) in
-    let ahead = rw (sym kept.same.3) at ran.0 in
-    let whole = rows_end _ _ _ _ _ _ _ _ _ _ _ (c.in_default.ensures.gives columns (rw (sym kept.same.3) at knows) ahead) x in
-    let there = rw l.invariant.stays.same.3 at whole in
+    let x = rows_ran g.R.Read.remaining g.W.Write.contents columns _ l.self c.put_run-run.new.self _ _ c.put_run-run.result kept knows c.put_run-run.ensures.gives (l.invariant.reads columns knows) in
+    let none = c.in_default.ensures.gives columns (rw (sym kept.same.3) at knows) x.0 in
+    let there = rw (kept.same.3 ∙ l.invariant.stays.same.3) at (rows_whole (rw none at x.1).rows) in
     rw (sym (c.if-not-take_token.ensures.gives PlainRow refl).0, sym c.take_token.ensures.sink) at there
 
 pub returns-then-not-take_token-clause-few : goal.returns-then-not-take_token-clause-few
@@ -46,57 +33,38 @@ pub returns-in_err-put_cell-clause-gives : goal.returns-in_err-put_cell-clause-g
 returns-in_err-put_cell-clause-gives g c = λ columns known.
     let l = c.loop-form in
     let kept = c.put_run-run.ensures.stays in
-    let run = c.put_run-run.result in
     let knows = rw (sym l.invariant.stays.same.3) at known in
-    let reads = l.invariant.reads columns knows in
-    let ran = c.put_run-run.ensures.gives columns knows reads.0 in
-    let x = rows_further _ _ _ _ _ _ _ _ _ _ _ _ _ _ _ _ _ reads.1 (λ cells. ran.1 l.self.table.now.charset cells refl) in
     let there = rw (sym kept.same.3) at knows in
-    let ahead = rw (sym kept.same.3) at ran.0 in
-    let taken = c.in-Some.ensures.gives columns there ahead in
-    let left = drop c.in-Some.after.column columns in
-    let next : IsNextKind c.put_run-run.new.self.table.now run.ahead c.in-Some.form.kind (is_last_column left) = record { columns = columns; knows = there; ahead = ahead; column = taken.column; rest = left; next = taken.next; kind = taken.kind; last = refl } in
-    let y = rw taken.next at x in
-    let z = rw kept.same.3 at (c.in_err-put_cell.ensures.gives (is_last_column left) next) in
-    let w = rw taken.kind at z in
-    let stops = rows_stop _ _ _ _ _ _ _ c.put_cell.new.self.payload.now.place _ _ _ _ _ _ _ _ _ y w in
-    passed _ _ _ _ c.from_residual.ensures.1 (rw l.invariant.stays.same.3 at stops)
+    let x = rows_ran g.R.Read.remaining g.W.Write.contents columns _ l.self c.put_run-run.new.self _ _ c.put_run-run.result kept knows c.put_run-run.ensures.gives (l.invariant.reads columns knows) in
+    let taken = c.in-Some.ensures.gives columns there x.0 in
+    let y = cell_read g.R.Read.remaining g.W.Write.contents c.put_run-run.new.self c.put_cell.new.self columns (λ k. false) _ _ _ there taken {U = Unit {0}} (Err _) x.0 c.in_err-put_cell.ensures.gives in
+    passed _ _ _ _ c.from_residual.ensures.1 (rw (kept.same.3 ∙ l.invariant.stays.same.3) at (rowing_stop (rw taken.next at x.1) y))
+
+-- where a run and then a cell were read
+step : (g : Over) (c : goal.In_ok-put_cell g) (columns : List Column) → Knows c.loop-form.self.table.now columns
+    → (c.put_run-run.new.self.payload.now.place < c.put_cell.new.self.payload.now.place) × RowsHere g.R.Read.remaining g.W.Write.contents columns (here g.R.Read.remaining g.W.Write.contents c.args.self.now) c.put_cell.new.self c.in-Some.after (c.loop-form.ended + c.put_run-run.result.rows)
+step g c columns knows =
+    let l = c.loop-form in
+    let kept = c.put_run-run.ensures.stays in
+    let done = c.in_ok-put_cell.ensures in
+    let there = rw (sym kept.same.3) at knows in
+    let x = rows_ran g.R.Read.remaining g.W.Write.contents columns _ l.self c.put_run-run.new.self _ _ c.put_run-run.result kept knows c.put_run-run.ensures.gives (l.invariant.reads columns knows) in
+    let taken = c.in-Some.ensures.gives columns there x.0 in
+    let y = cell_read g.R.Read.remaining g.W.Write.contents c.put_run-run.new.self c.put_cell.new.self columns (λ k. false) _ _ _ there taken {U = Unit {0}} (Ok tt) x.0 done.gives in
+    (cell_some _ _ y, rw done.leaves.same.3 (taken.ahead, rw (sym taken.further) at (rowing_cell (none_ahead (drop c.in-Some.after.column columns) _) (rw taken.next at x.1) y)))
 
 pub loop-form-preserved : goal.loop-form-preserved
 loop-form-preserved g c =
     let l = c.loop-form in
     let kept = c.put_run-run.ensures.stays in
     let done = c.in_ok-put_cell.ensures in
-    let run = c.put_run-run.result in
     let same = done.leaves.same.3 ∙ kept.same.3 in
-    let cell = λ (columns : List Column) (there : Knows c.put_run-run.new.self.table.now columns) (ahead : IsAhead c.put_run-run.new.self.table.now columns run.ahead).
-    let taken = c.in-Some.ensures.gives columns there ahead in
-    let left = drop c.in-Some.after.column columns in
-    let next : IsNextKind c.put_run-run.new.self.table.now run.ahead c.in-Some.form.kind (is_last_column left) = record { columns = columns; knows = there; ahead = ahead; column = taken.column; rest = left; next = taken.next; kind = taken.kind; last = refl } in
-    let z = rw kept.same.3 at (done.gives (is_last_column left) next) in
-    rw taken.kind at z in
-    let some =
     let known = l.invariant.knows in
-    let ran = c.put_run-run.ensures.gives known.0 known.1 (l.invariant.reads known.0 known.1).0 in
-    let there = rw (sym kept.same.3) at known.1 in
-    let ahead = rw (sym kept.same.3) at ran.0 in
-    let taken = c.in-Some.ensures.gives known.0 there ahead in
-    cell_some _ _ _ _ _ _ _ _ _ _ (cell known.0 there ahead) in
     record {
       stays = stays_on _ _ _ (stays_on _ _ _ l.invariant.stays kept) (stays_after _ _ _ kept.in_row done.leaves);
-      knows = rw (sym same) at l.invariant.knows;
-      few = omega (arith, l.invariant.few, c.put_run-run.ensures.few, some);
-      reads = rw same (λ columns knows.
-          let reads = l.invariant.reads columns knows in
-          let ran = c.put_run-run.ensures.gives columns knows reads.0 in
-          let x = rows_further _ _ _ _ _ _ _ _ _ _ _ _ _ _ _ _ _ reads.1 (λ cells. ran.1 l.self.table.now.charset cells refl) in
-          let there = rw (sym kept.same.3) at knows in
-          let ahead = rw (sym kept.same.3) at ran.0 in
-          let taken = c.in-Some.ensures.gives columns there ahead in
-          let y = rw taken.next at x in (
-            rw kept.same.3 at taken.ahead,
-            rows_cell _ _ _ _ _ _ _ _ _ _ _ _ _ _ _ _ taken.further y (cell columns there ahead),
-          ));
+      knows = rw (sym same) at known;
+      few = omega (arith, l.invariant.few, c.put_run-run.ensures.few, (step g c known.0 known.1).0);
+      reads = λ columns knows. (step g c columns (rw same at knows)).1;
     }
 
 pub loop-form-preserved-in_default : goal.loop-form-preserved-in_default
@@ -112,18 +80,13 @@ loop-form-preserved-in_default g c =
       knows = rw (sym same) at l.invariant.knows;
       few = omega (arith, l.invariant.few, c.put_run-run.ensures.few, taken.1);
       reads = rw same (λ columns knows.
-          let reads = l.invariant.reads columns knows in
-          let ran = c.put_run-run.ensures.gives columns knows reads.0 in
-          let x = rows_further _ _ _ _ _ _ _ _ _ _ _ _ _ _ _ _ _ reads.1 (λ cells. ran.1 l.self.table.now.charset cells refl) in
-          let there = rw (sym kept.same.3) at knows in
-          let ahead = rw (sym kept.same.3) at ran.0 in
-          let whole = rows_end _ _ _ _ _ _ _ _ _ _ _ (c.in_default.ensures.gives columns there ahead) x in
-          let begun = row_begins _ _ columns _ _ _ _ _ _ _ _ (omega (arith, l.invariant.knows.2, knows.counted)) kept.in_row.sink.ready.2 whole taken.0 in
+          let x = rows_ran g.R.Read.remaining g.W.Write.contents columns _ l.self c.put_run-run.new.self _ _ c.put_run-run.result kept knows c.put_run-run.ensures.gives (l.invariant.reads columns knows) in
+          let none = c.in_default.ensures.gives columns (rw (sym kept.same.3) at knows) x.0 in
+          let whole = rw kept.same.3 at (rows_whole (rw none at x.1).rows) in
+          let begun = rows_token (omega (arith, l.invariant.knows.2, knows.counted)) kept.in_row.sink.ready.2 whole taken.0 in
           let next = rw (sym taken.1, sym took.sink) at begun in
-          let begins = start.ahead columns (rw (sym same) at knows) in (
-            rw same at begins,
-            rows_again _ _ _ _ _ _ _ _ _ _ _ (ap (λ (n : ℕ). drop n columns) start.first) start.first next,
-          ));
+          let begins = start.ahead columns (rw (sym same) at knows) in
+          (rw same at begins, rw start.first (record { cells = []; counted = refl; rows = next })));
     }
 
 pub loop-form-smaller-in_default : goal.loop-form-smaller-in_default
@@ -135,16 +98,7 @@ loop-form-smaller-in_default g c =
 
 pub loop-form-smaller : goal.loop-form-smaller
 loop-form-smaller g c =
-    let l = c.loop-form in
+    let known = c.loop-form.invariant.knows in
     let kept = c.put_run-run.ensures.stays in
     let done = c.in_ok-put_cell.ensures in
-    let run = c.put_run-run.result in
-    let known = l.invariant.knows in
-    let ran = c.put_run-run.ensures.gives known.0 known.1 (l.invariant.reads known.0 known.1).0 in
-    let there = subst (λ t. Knows t.now known.0) (sym kept.same.3) known.1 in
-    let ahead = subst (λ t. IsAhead t.now known.0 run.ahead) (sym kept.same.3) ran.0 in
-    let taken = c.in-Some.ensures.gives known.0 there ahead in
-    let left = drop c.in-Some.after.column known.0 in
-    let next : IsNextKind c.put_run-run.new.self.table.now run.ahead c.in-Some.form.kind (is_last_column left) = record { columns = known.0; knows = there; ahead = ahead; column = taken.column; rest = left; next = taken.next; kind = taken.kind; last = refl } in
-    let some = cell_some _ _ _ _ _ _ _ _ _ _ (done.gives (is_last_column left) next) in
-    omega (arith, some, c.put_run-run.ensures.few, done.leaves.payload.sound.place, done.leaves.payload.sound.wire, done.leaves.payload.same.3, kept.payload.3)
+    omega (arith, (step g c known.0 known.1).0, c.put_run-run.ensures.few, done.leaves.payload.sound.place, done.leaves.payload.sound.wire, done.leaves.payload.same.3, kept.payload.3)

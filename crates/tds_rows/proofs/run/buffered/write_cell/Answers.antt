@@ -1,12 +1,5 @@
-use Rattle.std.proofs.Common.{inl, ◌≡◌, ◌∙◌, ◌+◌, ◌-◌, ℕ, take, drop, sym, ap, subst, arith, rules}
-use Rattle.std.specs.Prelude.{is_ok}
-use Rattle.tds_csv.specs.Quoting.{in_line}
-use Rattle.tds_rows.specs.Cells.{cell_start, shape}
-use Rattle.tds_rows.specs.CellSteps.{IsValueText}
-use Rattle.tds_rows.specs.WholeCells.{WritesCell}
-use Rattle.tds_rows.proofs.BufferedCells.{null_cell, refused_left, value_cell}
-use Rattle.tds_rows.proofs.LaidOut.{value_there}
-use Rattle.tds_rows.proofs.RunSteps.{writes_scalar}
+use Rattle.tds_rows.proofs.Words.{inl, ◌≡◌, ◌∙◌, ◌+◌, ◌-◌, ℕ, take, drop, sym, ap, subst, arith, rules, is_ok, in_line, cell_start, shape, IsValueText, WritesCell}
+use Rattle.tds_rows.proofs.{BufferedCells.null_cell, BufferedCells.refused_left, BufferedCells.value_cell, LaidOut.value_there, RunSteps.writes_scalar}
 use Rattle.tds_rows.proofs.run.buffered.write_cell.Goals as goal
 
 pub returns-then-n-eq0-clause-gives : goal.returns-then-n-eq0-clause-gives

@@ -1,6 +1,4 @@
-use Rattle.std.proofs.Common.{◌≤◌, Ok, length, arith, rules}
-use Rattle.tds_values.proofs.WrittenLemmas.{answered}
-use Rattle.tds_values.specs.ScalarText.{text_of}
+use Rattle.tds_rows.proofs.Words.{◌≤◌, Ok, length, arith, rules, answered, text_of}
 use Rattle.tds_rows.proofs.LineTexts.{value_text}
 use Rattle.tds_rows.proofs.run.fields.write_int4_field.Goals as goal
 

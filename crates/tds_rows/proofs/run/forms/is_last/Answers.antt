@@ -1,4 +1,4 @@
-use Rattle.std.proofs.Common.{refl}
+use Rattle.tds_rows.proofs.Words.{refl}
 use Rattle.tds_rows.proofs.run.forms.is_last.Goals as goal
 
 pub returns-then-ends : goal.returns-then-ends

@@ -1,7 +1,4 @@
-use Rattle.std.proofs.Common.{ℕ, ◌≡◌, ◌∙◌, ◌-◌, ◌<◌, ◌++◌, length, take, sym, ap, subst, arith, rules}
-use Rattle.std.specs.Prelude.{◌==◌, ◌&&◌}
-use Rattle.tds_csv.specs.Quoting.{end_after}
-use Rattle.tds_rows.specs.FormRuns.{WritesForms}
+use Rattle.tds_rows.proofs.Words.{ℕ, ◌≡◌, ◌∙◌, ◌-◌, ◌<◌, ◌++◌, length, take, sym, ap, subst, arith, rules, ◌==◌, ◌&&◌, end_after, WritesForms}
 use Rattle.tds_rows.proofs.FormSteps.{before_comma, first_alone, run_marked}
 use Rattle.tds_rows.proofs.run.forms.run_forms.Goals as goal
 

@@ -1,9 +1,5 @@
-use Rattle.std.proofs.Common.{inr, ◌≡◌, ◌∙◌, ◌+◌, ◌-◌, ◌<◌, ◌≤◌, ℕ, List, length, take, drop, get_or, refl, ap, subst, arith, rules, length-take, length-drop}
-use Rattle.tds_columns.proofs.ViewLaws.{all_after}
-use Rattle.tds_rows.specs.declared.form.Form.{Form}
-use Rattle.tds_rows.specs.CellSteps.{WritesField, whole_size}
-use Rattle.tds_rows.proofs.FormSteps.{fields_more, fields_none, first_used, left_less}
-use Rattle.tds_rows.proofs.RunSteps.{made_same, whole_some}
+use Rattle.tds_rows.proofs.Words.{inr, ◌≡◌, ◌∙◌, ◌+◌, ◌-◌, ◌<◌, ◌≤◌, ℕ, List, length, take, drop, get_or, refl, ap, arith, rules, length-take, length-drop, all_after, Form, whole_size}
+use Rattle.tds_rows.proofs.{FormSteps.fields_more, FormSteps.fields_none, FormSteps.first_used, FormSteps.left_less, RunSteps.made_same, RunSteps.whole_some}
 use Rattle.tds_rows.proofs.run.forms.write_fields.Goals as goal
 
 pub loop-cells-init : goal.loop-cells-init
@@ -32,7 +28,7 @@ loop-cells-preserved c =
     let some : written.made < length text = search (arith, rules) in
     let form_is : form ≡ get_or forms l.cells form = search (arith, rules) in
     let whole = c.in-Some.ensures.whole in
-    let wrote = subst (λ (f : Form). WritesField c.args.charset f.kind (take written.used rest) (take written.made text)) form_is c.in-Some.ensures.gives in
+    let wrote = rw form_is at c.in-Some.ensures.gives in
     record {
       cells = omega (arith, c.loop-cells-test.true);
       used = search (arith, rules);

@@ -1,5 +1,4 @@
-use Rattle.std.proofs.Common.{length, ◌-◌, ◌≡◌, ◌<◌, ◌≤◌}
-use Rattle.tds_rows.specs.FormRuns.{FieldsWritten, FirstUsed}
+use Rattle.tds_rows.proofs.Words.{length, ◌-◌, ◌≡◌, ◌<◌, ◌≤◌, FieldsWritten, FirstUsed}
 use Rattle.tds_rows.proofs.run.forms.write_fields.Given as goal
 
 abbrev pub invariant-loop-cells : goal.invariant-loop-cells

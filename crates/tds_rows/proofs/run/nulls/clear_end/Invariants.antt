@@ -1,6 +1,4 @@
-use Rattle.std.proofs.Common.{◌-◌, ◌≤◌}
-use Rattle.tds_rows.specs.MarkedRuns.{AreClear}
-use Rattle.tds_rows.specs.Rows.{bit}
+use Rattle.tds_rows.proofs.Words.{◌-◌, ◌≤◌, AreClear, bit}
 use Rattle.tds_rows.proofs.run.nulls.clear_end.Given as goal
 
 abbrev pub invariant-loop-at : goal.invariant-loop-at

@@ -1,16 +1,6 @@
-use Rattle.std.proofs.Common.{inl, ℕ, ◌≡◌, ◌∙◌, ◌+◌, ◌-◌, ◌<◌, ◌≤◌, Bool, [], ◌∷◌, refl, sym, ap, length, take, drop, subst, arith, rules, length-take, length-drop}
-use Rattle.std.specs.Prelude.{true, false}
-use Rattle.tds_columns.proofs.ViewLaws.{all_after}
-use Rattle.tds_csv.specs.Quoting.{in_line, null_field}
-use Rattle.tds_rows.specs.CellSteps.{HasInt4, int4_kind, is_last_column}
-use Rattle.tds_rows.specs.MarkedRuns.{WritesNext}
-use Rattle.tds_rows.specs.Tables.{one_on}
-use Rattle.tds_rows.specs.Rows.{bit}
-use Rattle.tds_rows.proofs.MarkedSteps.{runs_null, runs_one}
-use Rattle.tds_rows.proofs.RunSteps.{writes_int4}
-use Rattle.tds_rows.proofs.Stretches.{ends_clear, runs_clear, runs_more}
-use Rattle.tds_rows.proofs.TableSteps.{last_one, next_any, none_next, takes}
+use Rattle.tds_rows.proofs.Words.{add-zero, inl, ℕ, ◌≡◌, ◌∙◌, ◌-◌, ◌<◌, ◌≤◌, Bool, [], ◌∷◌, refl, sym, ap, length, take, drop, subst, arith, rules, true, false, length-take, length-drop, all_after, in_line, null_field, HasInt4, int4_kind, is_last_column, one_on, bit}
 use Rattle.tds_rows.proofs.run.nulls.run_nulls.Goals.{else-loop-to-test, then-loop-to-test+else-ahead-count, then-loop-to-test+then-ahead-count+else-end-ahead+in_default+then-cells-eq0}
+use Rattle.tds_rows.proofs.{RunSteps.writes_int4, Stretches.ends_clear, Stretches.runs_clear, Stretches.runs_column, Stretches.runs_more, TableSteps.last_one, TableSteps.next_any, TableSteps.none_next, TableSteps.takes}
 use Rattle.tds_rows.proofs.run.nulls.run_nulls.Goals as goal
 
 -- a column that is NULL by its bit
@@ -31,12 +21,13 @@ loop-to-preserved-then-end-ahead c =
       clear = λ k least most. absurd (omega (arith, least, most, at, c.after-ahead.ensures.further));
       writes = λ columns knows ahead.
           let ran = l.invariant.writes columns knows ahead in
-          let one = next_any _ _ _ knows.counted (omega (arith, c.count.ensures, c.if-ahead-count.true)) in
+          let some : l.ahead.column < c.args.table.now.count = omega (arith, c.count.ensures, c.if-ahead-count.true) in
+          let one = next_any _ _ _ knows.counted some in
           let taken = takes _ _ _ _ _ one.1 c.after-ahead.ensures.further (c.after-ahead.ensures.gives columns knows ran.ahead) in
           let left = drop c.after-ahead.result.column columns in
           let last = c.is_last.ensures ∙ last_one _ _ _ _ _ knows.counted taken.next in
           let line : take made text ≡ in_line l.ahead.column (is_last_column left) null_field = c.write_null-made.ensures.text ∙ ap (λ (k : ℕ). in_line k c.is_last.result null_field) at ∙ ap (λ (e : Bool). in_line l.ahead.column e null_field) last in
-          runs_null _ _ _ _ _ _ _ _ _ _ _ _ _ _ _ l.invariant.made within taken refl null line ran;
+          rw (sym (add-zero l.used)) (runs_more _ _ _ _ _ _ _ _ _ l.invariant.made within ran (runs_column taken refl (rw null (refl, line))));
     }
 
 -- a whole number of four bytes
@@ -66,8 +57,7 @@ loop-to-preserved-in-loop-to c =
       writes = λ columns knows ahead.
           let x = l.invariant.writes columns knows ahead in
           let taken = c.in-Some.ensures.gives columns knows x.ahead in
-          let cell = subst (λ (e : Bool). WritesNext table.charset e kind l.ahead.column last.result (take (start + 4) there) (take made text)) (sym clear) wrote.whole in
-          runs_one _ _ _ _ _ _ _ _ _ _ _ _ _ _ _ _ l.invariant.made within taken (last.ensures ∙ last_one _ _ _ _ _ knows.counted taken.next) cell x;
+          runs_more _ _ _ _ _ _ _ _ _ l.invariant.made within x (runs_column taken (last.ensures ∙ last_one _ _ _ _ _ knows.counted taken.next) (rw clear wrote.whole));
     }
 
 -- a run over columns that aren't
@@ -87,8 +77,8 @@ loop-to-preserved c =
       clear = λ k least most. end.ensures.clear k (omega (arith, further, least)) most;
       writes = λ columns knows ahead.
           let x = l.invariant.writes columns knows ahead in
-          let y = runs_clear _ _ _ _ _ _ _ (λ k least most. end.ensures.clear k least (omega (arith, most, within))) (ran.ensures.gives columns knows x.ahead) in
-          runs_more _ _ _ _ _ _ _ _ _ _ _ _ _ _ l.invariant.made some x y;
+          let y = runs_clear (λ k least most. end.ensures.clear k least (omega (arith, most, within))) (ran.ensures.gives columns knows x.ahead) in
+          runs_more _ _ _ _ _ _ _ _ _ l.invariant.made some x y;
     }
 
 pub returns-clause-ends : goal.returns-clause-ends

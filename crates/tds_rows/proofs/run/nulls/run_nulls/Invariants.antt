@@ -1,8 +1,4 @@
-use Rattle.std.proofs.Common.{◌-◌, ◌≤◌, List, length, take}
-use Rattle.tds_columns.specs.Description.{Column}
-use Rattle.tds_rows.specs.MarkedRuns.{AreClear, RunsMarked}
-use Rattle.tds_rows.specs.Rows.{bit}
-use Rattle.tds_rows.specs.Tables.{IsAhead, Knows}
+use Rattle.tds_rows.proofs.Words.{◌-◌, ◌≤◌, List, length, take, Column, AreClear, RunsMarked, bit, IsAhead, Knows}
 use Rattle.tds_rows.proofs.run.nulls.run_nulls.Given as goal
 
 abbrev pub invariant-loop-to : goal.invariant-loop-to

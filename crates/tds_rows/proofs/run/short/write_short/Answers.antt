@@ -1,11 +1,4 @@
-use Rattle.std.proofs.Common.{◌≡◌, ◌∙◌, ◌+◌, ◌*◌, ◌-◌, length, take, drop, refl, sym, ap, arith, rules}
-use Rattle.std.proofs.lemmas.List.{take_rest}
-use Rattle.std.specs.Prelude.{true, slice_index}
-use Rattle.tds_values.specs.declared.kind.Kind.TheVariants.{Wide}
-use Rattle.tds_values.specs.declared.kind.Reach.TheVariants.{Short}
-use Rattle.tds_csv.specs.Conversion.{is_fit, long_field}
-use Rattle.tds_csv.specs.Fields.{conversion_of}
-use Rattle.tds_csv.specs.Quoting.{in_line}
+use Rattle.tds_rows.proofs.Words.{◌≡◌, ◌∙◌, ◌+◌, ◌*◌, ◌-◌, length, take, drop, refl, sym, ap, arith, rules, true, take_rest, slice_index, Wide, Short, is_fit, long_field, conversion_of, in_line}
 use Rattle.tds_rows.proofs.ShortCells.{short_null, short_value}
 use Rattle.tds_rows.proofs.run.short.write_short.Goals as goal
 

@@ -1,7 +1,6 @@
-use Rattle.std.proofs.Common.{◌∙◌, ap, refl, arith}
-use Rattle.tds_columns.specs.Walking.{columns_left}
-use Rattle.tds_rows.proofs.TableSteps.{after_known, after_walked, walk_after}
+use Rattle.tds_rows.proofs.Words.{◌∙◌, ap, refl, arith, columns_left}
 use Rattle.tds_rows.proofs.table.Table.after.Goals.{else-at-self, then-at-self}
+use Rattle.tds_rows.proofs.TableSteps.{after_known, after_walked, walk_after}
 use Rattle.tds_rows.proofs.table.Table.after.Goals as goal
 
 pub returns-clause-gives : goal.returns-clause-gives

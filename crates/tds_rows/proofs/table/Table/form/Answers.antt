@@ -1,4 +1,4 @@
-use Rattle.std.proofs.Common.{refl, arith, rules}
+use Rattle.tds_rows.proofs.Words.{refl, arith, rules}
 use Rattle.tds_rows.proofs.TableSteps.{next_known}
 use Rattle.tds_rows.proofs.table.Table.form.Goals as goal
 

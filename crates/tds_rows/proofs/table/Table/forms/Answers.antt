@@ -1,4 +1,4 @@
-use Rattle.std.proofs.Common.{arith, rules}
+use Rattle.tds_rows.proofs.Words.{arith, rules}
 use Rattle.tds_rows.proofs.TableForms.{known_ahead}
 use Rattle.tds_rows.proofs.table.Table.forms.Goals as goal
 

@@ -1,6 +1,4 @@
-use Rattle.std.proofs.Common.{refl, arith, rules}
-use Rattle.tds_values.specs.declared.kind.Kind.TheVariants.{Int4, IntN}
-use Rattle.tds_rows.specs.Tables.{NextColumn, one_on}
+use Rattle.tds_rows.proofs.Words.{refl, arith, rules, Int4, IntN, NextColumn, one_on}
 use Rattle.tds_rows.proofs.TableSteps.{after_known, next_known, takes}
 use Rattle.tds_rows.proofs.table.Table.int4_start.Goals as goal
 

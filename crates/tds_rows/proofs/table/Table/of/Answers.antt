@@ -1,8 +1,5 @@
-use Rattle.std.proofs.Common.{◌∙◌, sym, arith, rules}
-use Rattle.tds_columns.specs.Walking.{column_value, columns_left}
-use Rattle.tds_columns.specs.View.{columns_of}
-use Rattle.tds_rows.proofs.LaidOut.{laid_all, laid_set}
-use Rattle.tds_rows.proofs.TableSteps.{first_more, next_column}
+use Rattle.tds_rows.proofs.Words.{◌∙◌, sym, arith, rules, column_value, columns_left, columns_of}
+use Rattle.tds_rows.proofs.{LaidOut.laid_all, LaidOut.laid_set, TableSteps.first_more, TableSteps.next_column}
 use Rattle.tds_rows.proofs.table.Table.of.Goals as goal
 
 pub loop-known-init : goal.loop-known-init

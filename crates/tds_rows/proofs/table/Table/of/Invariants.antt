@@ -1,9 +1,4 @@
-use Rattle.std.proofs.Common.{◌≡◌, ◌-◌, ◌≤◌, length, take, drop}
-use Rattle.std.specs.Prelude.{map}
-use Rattle.tds_columns.specs.View.{columns_of}
-use Rattle.tds_columns.specs.Walking.{columns_left}
-use Rattle.tds_rows.specs.Forms.{AreLaidOut}
-use Rattle.tds_rows.specs.Tables.{kinds}
+use Rattle.tds_rows.proofs.Words.{◌≡◌, ◌-◌, ◌≤◌, length, take, drop, map, columns_of, columns_left, AreLaidOut, kinds}
 use Rattle.tds_rows.proofs.table.Table.of.Given as goal
 
 abbrev pub invariant-loop-known : goal.invariant-loop-known

@@ -1,4 +1,4 @@
-use Rattle.std.proofs.Common.{rules}
+use Rattle.tds_values.proofs.Words.{rules}
 use Rattle.tds_values.proofs.kind.Kind.length_allowed.Goals as goal
 
 pub returns-then-is_decimal_length : goal.returns-then-is_decimal_length

@@ -1,4 +1,4 @@
-use Rattle.hex.specs.Hex.{lower_digits}
+use Rattle.tds_csv.proofs.Words.{lower_digits}
 use Rattle.tds_csv.proofs.SingleLaws.{hex-append, hex-nil}
 use Rattle.tds_csv.proofs.joiners.binary.HexJoinerBytewise.laws.Goals as goal
 

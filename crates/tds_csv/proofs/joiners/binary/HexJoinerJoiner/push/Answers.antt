@@ -1,4 +1,4 @@
-use Rattle.std.proofs.Common.{rules}
+use Rattle.tds_csv.proofs.Words.{rules}
 use Rattle.tds_csv.proofs.joiners.binary.HexJoinerJoiner.push.Goals as goal
 
 pub put_text-requires : goal.put_text-requires

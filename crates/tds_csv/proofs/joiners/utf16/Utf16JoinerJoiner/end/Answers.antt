@@ -1,4 +1,4 @@
-use Rattle.std.proofs.Common.{◌≡◌, ◌∙◌, ◌%◌, false, length, refl, sym, ap, arith}
+use Rattle.tds_csv.proofs.Words.{◌≡◌, ◌∙◌, ◌%◌, false, length, refl, sym, ap, arith}
 use Rattle.tds_csv.proofs.Pushings.{passes}
 use Rattle.tds_csv.proofs.joiners.utf16.Utf16JoinerJoiner.end.Goals as goal
 

@@ -1,0 +1,124 @@
+-- The numbers of a long value, its length or total and those of its chunks, as elements of its cell: how each is judged, and where it leads.
+use Rattle.tds_rows.proofs.Words.{◌≡◌, ◌≢◌, ◌∙◌, ◌⊎◌, inl, inr, ℕ, ◌+◌, ◌%◌, ◌<◌, true, false, List, [], length, refl, sym, ap, subst, arith, Option, Some, None, ◌==◌, ◌||◌, nat_le, ne_eqb, nat_tests, little, Fault, BadText, MessageEnded, OddText, Stop, IsNext, StopsReading, IsBetween, Seen, Takes, choose_false, choose_true, began_is_cut, cut_at_once, refused_at_once, Conversion, is_fit, unit, CellPart, ChunkLength, DataCell, Null, ShortLength, Total, WholeCell, cell, cell_add, cell_end, cell_fault, cell_size, known_total, null_total, unknown_total, unless, CutsNumber, ReadsNumber, RefusesNumber, chunk_length_fault, short_fault, short_length, total_fault, total_of, Payload}
+use Rattle.tds_rows.proofs.{CellLaws.unless_true, CellWords.chunk_left, CellWords.short_left}
+
+-- An element of a cell was read, which leads from one state to another.
+pub record Next (column : ℕ) (s : CellPart) (a b : Seen) (place place' : ℕ) (t : CellPart) : Type 0 where
+  pub element : List ℕ
+  pub next : IsNext (cell column) s element
+  pub to : cell_add s element ≡ t
+  pub takes : Takes a b element (length element)
+  pub between : IsBetween b
+  pub place_is : place' ≡ place + length element
+
+-- a number was read, where one of so many bytes is next
+next_by : {column size place place' n : ℕ} {s t : CellPart} {a b : Seen} → 0 < size → cell_size s ≡ size → (x : ReadsNumber size a b place place' n) → cell_fault column s x.element ≡ None → cell_add s x.element ≡ t → Next column s a b place place' t
+next_by some is x free to = record {
+  element = x.element;
+  next = record { some = omega (arith, x.whole, some); whole = x.whole ∙ sym is; free = free };
+  to = to;
+  takes = x.takes;
+  between = x.between;
+  place_is = omega (arith, x.place_is, x.whole);
+}
+
+-- it was refused, or is cut
+number_stops : {column size place : ℕ} {s : CellPart} {fault : ℕ → Option Fault} {a b : Seen} {stop : Stop} → 0 < size → cell_size s ≡ size → cell_end s ≡ Some MessageEnded → ((e : List ℕ) (n : ℕ) (f : Fault) → little e ≡ n → fault n ≡ Some f → cell_fault column s e ≡ Some f)
+    → RefusesNumber size fault a b place stop ⊎ CutsNumber size a b place stop → StopsReading (cell column) s a b place s stop
+number_stops {column = column} {place = place} {s = s} {a = a} {b = b} {stop = stop} some is end first (inl x) =
+    let r = x.reads in
+    let told : record { fault = stop.fault; place = Payload place } ≡ stop = ap (λ q. record { fault = stop.fault; place = q }) (sym x.stands) in
+    subst (λ t. StopsReading (cell column) s a b place s t) told (refused_at_once (cell column) s a b place r.element stop.fault (omega (arith, r.whole, some)) (r.whole ∙ sym is) (first r.element x.n stop.fault r.number x.first) r.takes r.between)
+number_stops {column = column} {size = size} {place = place} {s = s} {a = a} {b = b} {stop = stop} some is end first (inr x) =
+    cut_at_once (cell column) s a b place x.part x.own stop (let few : length x.part < size = x.fewer in omega (arith, few, is)) x.ends (began_is_cut place (cell_end s) x.own stop end x.stop_is)
+
+-- ---- the length of a short value
+
+module _ (column : ℕ) (c : Conversion) (size : ℕ) (unit_is : size ≡ unit c) where
+  short_same : (e : List ℕ) (n : ℕ) → little e ≡ n → cell_fault column (ShortLength c) e ≡ short_fault column size n
+  short_same e n is = λ i. unless ((is i == 0xFFFF) || (is i % (sym unit_is i) == 0)) (OddText column)
+
+  pub short_stops : {a b : Seen} {place : ℕ} {stop : Stop} → RefusesNumber 2 (short_fault column size) a b place stop ⊎ CutsNumber 2 a b place stop → StopsReading (cell column) (ShortLength c) a b place (ShortLength c) stop
+  short_stops x = number_stops (omega arith) refl refl (λ e n f is first. short_same e n is ∙ first) x
+
+  -- as a call read it
+  module _ {a b : Seen} {place place' : ℕ} {answer : Option ℕ} (x : (n : ℕ) × ReadsNumber 2 a b place place' n × (short_fault column size n ≡ None) × (answer ≡ short_length n)) where
+    pub short_none : answer ≡ None → Next column (ShortLength c) a b place place' (WholeCell Null)
+    short_none is =
+        let told : None ≡ short_length x.0 = sym is ∙ x.3 in
+        let null : x.0 ≡ 0xFFFF = grind (arith, nat_tests) in
+        next_by (omega arith) refl x.1 (short_same x.1.element x.0 x.1.number ∙ x.2) (choose_true (little x.1.element == 0xFFFF) _ _ (ap (λ (m : ℕ). m == 0xFFFF) (x.1.number ∙ null)))
+
+    pub short_some : {k : ℕ} → answer ≡ Some k → (x.0 ≡ k) × (x.0 ≢ 0xFFFF)
+    short_some {k} is = let told : Some k ≡ short_length x.0 = sym is ∙ x.3 in (grind (arith, nat_tests), λ e. grind (arith, nat_tests))
+
+    pub short_start : {k : ℕ} → answer ≡ Some k → Next column (ShortLength c) a b place place' (short_left c k [])
+    short_start is =
+        let k = short_some is in
+        let start : Next column (ShortLength c) a b place place' (short_left c x.0 []) = next_by (omega arith) refl x.1 (short_same x.1.element x.0 x.1.number ∙ x.2)
+        (choose_false (little x.1.element == 0xFFFF) (WholeCell Null) (short_left c (little x.1.element) []) (ap (λ (m : ℕ). m == 0xFFFF) x.1.number ∙ ne_eqb x.0 0xFFFF k.1) ∙ ap (λ (m : ℕ). short_left c m []) x.1.number) in
+        rw k.0 at start
+
+-- ---- the total
+
+module _ (column : ℕ) (c : Conversion) (size : ℕ) (unit_is : size ≡ unit c) where
+  total_same : (e : List ℕ) (n : ℕ) → little e ≡ n → cell_fault column (Total c) e ≡ total_fault column size n
+  total_same e n is = λ i. unless (nat_le unknown_total (is i) || (is i % (sym unit_is i) == 0)) (OddText column)
+
+  pub total_stops : {a b : Seen} {place : ℕ} {stop : Stop} → RefusesNumber 8 (total_fault column size) a b place stop ⊎ CutsNumber 8 a b place stop → StopsReading (cell column) (Total c) a b place (Total c) stop
+  total_stops x = number_stops (omega arith) refl refl (λ e n f is first. total_same e n is ∙ first) x
+
+  module _ {a b : Seen} {place place' : ℕ} {answer : Option (Option ℕ)} (x : (n : ℕ) × ReadsNumber 8 a b place place' n × (total_fault column size n ≡ None) × (answer ≡ total_of n)) where
+    pub total_none : answer ≡ None → Next column (Total c) a b place place' (WholeCell Null)
+    total_none is =
+        let told : None ≡ total_of x.0 = sym is ∙ x.3 in
+        let null : x.0 ≡ null_total = grind (arith, nat_tests) in
+        next_by (omega arith) refl x.1 (total_same x.1.element x.0 x.1.number ∙ x.2) (choose_true (little x.1.element == null_total) _ _ (ap (λ (m : ℕ). m == null_total) (x.1.number ∙ null)))
+
+    pub total_start : {t : Option ℕ} → answer ≡ Some t → Next column (Total c) a b place place' (ChunkLength c t [])
+    total_start {t} is =
+        let told : Some t ≡ total_of x.0 = sym is ∙ x.3 in
+        let some : x.0 ≢ null_total = λ e. grind (arith, nat_tests) in
+        let known : known_total x.0 ≡ t = grind (arith, nat_tests) in
+        let to : cell_add (Total c) x.1.element ≡ ChunkLength c t [] = let number : little x.1.element ≡ x.0 = x.1.number in grind (arith, choose_false, ne_eqb) in
+        next_by (omega arith) refl x.1 (total_same x.1.element x.0 x.1.number ∙ x.2) to
+
+-- ---- the length of a chunk
+
+module _ (column : ℕ) (c : Conversion) (size : ℕ) (unit_is : size ≡ unit c) (total : Option ℕ) where
+  module _ (content : List ℕ) (sum : ℕ) (counted : length content ≡ sum) (e : List ℕ) (n : ℕ) (is : little e ≡ n) where
+    -- a fault but for what the content itself has is a fault
+    chunk_first : (f : Fault) → chunk_length_fault column size total sum n ≡ Some f → cell_fault column (ChunkLength c total content) e ≡ Some f
+    chunk_first f h = grind arith
+
+    -- no fault of a length that isn't 0
+    chunk_free : n ≢ 0 → chunk_length_fault column size total sum n ≡ None → cell_fault column (ChunkLength c total content) e ≡ None
+    chunk_free some h = grind (arith, ne_eqb)
+
+    -- at the terminator the content is judged last
+    end_judged : n ≡ 0 → chunk_length_fault column size total sum n ≡ None → cell_fault column (ChunkLength c total content) e ≡ unless (is_fit c content) (BadText column)
+    end_judged none h = grind arith
+
+    to_end : n ≡ 0 → cell_add (ChunkLength c total content) e ≡ WholeCell (DataCell c content)
+    to_end none = grind (arith, choose_true)
+
+    to_data : n ≢ 0 → cell_add (ChunkLength c total content) e ≡ chunk_left c total n content
+    to_data some = grind (arith, choose_false, ne_eqb)
+
+  module _ (content : List ℕ) (sum : ℕ) (counted : length content ≡ sum) {a b : Seen} {place : ℕ} where
+    pub chunk_stops : {stop : Stop} → RefusesNumber 4 (λ n. chunk_length_fault column size total sum n) a b place stop ⊎ CutsNumber 4 a b place stop → StopsReading (cell column) (ChunkLength c total content) a b place (ChunkLength c total content) stop
+    chunk_stops x = number_stops (omega arith) refl refl (λ e n f is first. chunk_first content sum counted e n is f first) x
+
+    module _ {n place' : ℕ} (x : ReadsNumber 4 a b place place' n) (free : chunk_length_fault column size total sum n ≡ None) where
+      -- the terminator was read, after content that is whole
+      pub chunk_end : n ≡ 0 → is_fit c content ≡ true → Next column (ChunkLength c total content) a b place place' (WholeCell (DataCell c content))
+      chunk_end none fit = next_by (omega arith) refl x (end_judged content sum counted x.element n x.number none free ∙ unless_true (is_fit c content) (BadText column) fit) (to_end content sum counted x.element n x.number none)
+
+      -- after content that isn't, it is refused
+      pub chunk_unfit : n ≡ 0 → is_fit c content ≡ false → StopsReading (cell column) (ChunkLength c total content) a b place (ChunkLength c total content) (record { fault = BadText column; place = Payload place })
+      chunk_unfit none unfit =
+          refused_at_once (cell column) (ChunkLength c total content) a b place x.element (BadText column) (omega (arith, x.whole)) x.whole (end_judged content sum counted x.element n x.number none free ∙ ap (λ f. unless f (BadText column)) unfit) x.takes x.between
+
+      -- the length of a chunk was read
+      pub chunk_start : n ≢ 0 → Next column (ChunkLength c total content) a b place place' (chunk_left c total n content)
+      chunk_start some = next_by (omega arith) refl x (chunk_free content sum counted x.element n x.number some free) (to_data content sum counted x.element n x.number some)
