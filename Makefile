@@ -26,7 +26,7 @@ help:
 	@echo "make needs             installs the Debian packages that tests and recipes need, and says which"
 	@echo "make test              proves what isn't proved yet, runs every test, the programs and the examples"
 	@echo "make gate              what a merge needs: every proof from nothing, each must-fail edit, each test and script"
-	@echo "make recipes           runs the commands of docs/RECIPES.md with bin/tds_replay, or with PROGRAM=P"
+	@echo "make recipes           runs the recipes of docs/RECIPES.md and examples/recipes with bin/tds_replay, or PROGRAM=P"
 	@echo "make python-tests      tests the Python package, beside a stand-in server too, with bin/tds_replay or PROGRAM=P"
 	@echo "make type-check        the types of the Python package, its tests and the tools"
 	@echo "make lintian           makes the Debian package, and looks for what Debian doesn't allow"
