@@ -1,9 +1,10 @@
-"""The crates of the repository, as the scripts beside this file see them: what each stands on, what is proved of it, and a
-room in which it is proved beside others.
+"""What the scripts beside this file share: the crates of the repository, what is proved of each, a room in which it is proved
+beside others, and the arguments of a script.
 
 `rt` works in one crate at a time and in those below it. A room is a folder with copies of a crate and of those below,
-so crates that don't stand on one another are proved at once. What `rt` keeps of a crate, its `out/`, is moved into its room
-and back."""
+so crates that don't use one another are proved at once. What `rt` keeps of a crate, its `out/`, is moved into its room and
+back. After an import of this module Python finds the package in `python/`, and writes no compiled modules."""
+import argparse
 import functools
 import hashlib
 import os
@@ -11,16 +12,57 @@ import shutil
 import subprocess
 import sys
 from collections.abc import Callable, Iterator
+from typing import NoReturn
 
 ROOT = os.path.dirname(os.path.dirname(os.path.abspath(__file__)))
 BIN = os.path.join(ROOT, "bin")
 PARTS = ("src", "specs", "proofs")
 STORED = ("stdin", "stdout", "args", "status", "data")
 
+sys.dont_write_bytecode = True
+sys.path.append(os.path.join(ROOT, "python"))
+
 
 def path_of(*names: str) -> str:
     """A path below the repository's top."""
     return os.path.join(ROOT, *names)
+
+
+def arguments(about: str | None) -> argparse.ArgumentParser:
+    """The parser of a script's arguments; help is the script's docstring."""
+    return argparse.ArgumentParser(description=about, formatter_class=argparse.RawDescriptionHelpFormatter)
+
+
+def add_program(parser: argparse.ArgumentParser) -> None:
+    """The argument PROGRAM, which has to be there."""
+    parser.add_argument(
+        "program", nargs="?", type=program_at, default=os.path.join(BIN, "tds_replay"), metavar="PROGRAM", help="bin/tds_replay if none is named")
+
+
+def program_at(path: str) -> str:
+    """The whole path of a program; if it isn't there, the script ends with one line."""
+    if not os.access(path, os.X_OK):
+        sys.exit(f"{path} isn't there: build it by `make build`, or name another program by PROGRAM=")
+    return os.path.abspath(path)
+
+
+def skip(what: str, reason: str) -> NoReturn:
+    """Says that a check is skipped, and ends it: as failed if the variable CI is set."""
+    print(f"{what}: skipped, since {reason}: `make needs` installs it")
+    sys.exit(1 if os.environ.get("CI") else 0)
+
+
+def text_of(*names: str) -> str:
+    """The text of a file of the repository."""
+    with open(path_of(*names), encoding="utf-8") as file:
+        return file.read()
+
+
+def files() -> list[str]:
+    """The files under version control, and those that will be, by their paths in the repository."""
+    words = ["git", "ls-files", "--cached", "--others", "--exclude-standard"]
+    listed = subprocess.run(words, cwd=ROOT, capture_output=True, text=True, check=True).stdout.split("\n")
+    return [name for name in listed if name and os.path.isfile(path_of(name))]
 
 
 def listed() -> dict[str, list[str]]:
@@ -35,7 +77,7 @@ CRATES = listed()
 
 @functools.cache
 def below(name: str) -> list[str]:
-    """The crates of the repository that a crate stands on, lowest first."""
+    """The crates of the repository that a crate uses, lowest first."""
     named = [it for it in CRATES[name] if it in CRATES]
     return [it for it in CRATES if any(it == one or it in below(one) for one in named)]
 
@@ -89,7 +131,7 @@ def set_done(what: str, name: str, found: str) -> None:
 
 
 def is_built(name: str) -> bool:
-    """Whether a library lies ready for the crates above it."""
+    """Whether a library is ready for the crates above it."""
     return os.path.isfile(path_of("crates", name, "out", "rlib", "stamp"))
 
 

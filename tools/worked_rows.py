@@ -4,7 +4,6 @@ tools/worked runs the program over them, and tools/generated holds the plain rea
 from __future__ import annotations
 
 import csv
-import os
 import re
 import shlex
 import sys
@@ -13,10 +12,11 @@ from dataclasses import dataclass, field
 from fractions import Fraction
 from typing import NamedTuple
 
-from cases.spelling import COLLATION, DONE, INT, columns_of, in_packets, little, nbc_row, packet, short
+import repository as repo
+from cases.spelling import COLLATION, DONE, INT, columns_of, little, nbc_row, short
+from packing import in_packets, packet
 
-ROOT = os.path.dirname(os.path.dirname(os.path.abspath(__file__)))
-ROWS = os.path.join(ROOT, "examples", "worked.txt")
+ROWS = repo.path_of("examples", "worked.txt")
 NAMES = {"then any byte": "is_refused", "cut anywhere": "is_cut", "split anywhere": "is_split", "wire": "is_wire"}
 TOKEN = re.compile(r"((?:[0-9A-F]{2})+|([0-9A-F]{2})\.\.([0-9A-F]{2}))(?:\*(\d+))?")
 Part = tuple[bool, bytes, bytes]

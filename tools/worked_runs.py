@@ -8,7 +8,7 @@ from collections.abc import Iterator
 from dataclasses import dataclass
 from typing import Optional
 
-from cases.spelling import in_packets, packet
+from packing import headers_of, in_packets, in_single_bytes, packet
 from worked_rows import Row, reached, size_of
 
 
@@ -23,20 +23,6 @@ class Run:
     said: str
     status: int
     left: Optional[int] = None
-
-
-def in_single_bytes(payload: bytes, between: bytes = b"") -> bytes:
-    """A payload in packets of one byte, with others between them."""
-    bodies = [payload[at:at + 1] for at in range(len(payload))] or [b""]
-    return between.join(packet(body, number == len(bodies)) for number, body in enumerate(bodies, 1))
-
-
-def headers_of(wire: bytes) -> list[bytes]:
-    found, at = [], 0
-    while at < len(wire):
-        found.append(wire[at:at + 8])
-        at += int.from_bytes(wire[at + 2:at + 4], "big")
-    return found
 
 
 def split_runs(row: Row) -> Iterator[Run]:

@@ -78,7 +78,12 @@ def packets(pieces: Iterable[Bytes], size: int, kind: int = PacketType.ANSWER) -
 
 def packet(kind: int, body: Bytes, is_last: bool = True, number: int = 1) -> bytes:
     """One packet with its header."""
-    return struct.pack(">BBHHBB", kind, LAST if is_last else 0, HEADER + len(body), 0, number % 256, 0) + body
+    return header(kind, HEADER + len(body), is_last, number) + body
+
+
+def header(kind: int, length: int, is_last: bool, number: int) -> bytes:
+    """The header of a packet that has this length with its header."""
+    return struct.pack(">BBHHBB", kind, LAST if is_last else 0, length, 0, number % 256, 0)
 
 
 def length_of(header: Bytes) -> int:

@@ -15,10 +15,11 @@ from typing import IO, Any, cast
 
 ROOT = os.path.dirname(os.path.dirname(os.path.dirname(os.path.abspath(__file__))))
 PROGRAM = os.path.abspath(os.environ.get("PROGRAM", os.path.join(ROOT, "bin", "tds_replay")))
-STAND_IN, RESPONSE = (os.path.join(ROOT, "tools", name) for name in ("stand_in.py", "response.py"))
+STAND_IN, RESPONSE = (os.path.join(ROOT, "tools", name) for name in ("stand-in", "response"))
 SECONDS = 100
 sys.path[:0] = [os.path.join(ROOT, "tools")]
-import response as response  # noqa: E402
+import packing  # noqa: E402
+import responses as responses  # noqa: E402
 
 from gavyreto import tds  # noqa: E402
 from gavyreto.connection import Channel  # noqa: E402
@@ -32,13 +33,13 @@ ORDERS = (
 
 
 def wire(name: str, count: int = 0, size: int = 4096) -> bytes:
-    """A response of tools/response.py in packets."""
-    return b"".join(tds.packets(response.RESPONSES[name](count), size))
+    """A response of tools/responses.py in packets."""
+    return packing.in_packets(b"".join(responses.RESPONSES[name](count)), size)
 
 
 def answered(*pieces: bytes) -> bytes:
     """A response of these tokens in one packet."""
-    return b"".join(tds.packets(pieces, 32767))
+    return packing.in_packets(b"".join(pieces), 32767)
 
 
 def need(test: unittest.TestCase, *programs: str) -> None:
@@ -83,7 +84,7 @@ class Live(unittest.TestCase):
         cls.folder, cls.servers = folder.name, {}
         for name, *number in (["kinds"], ["sets"], ["orders"], ["broken", "5000"], ["float"]):
             cls.store(name, *number)
-        held = tds.packet(tds.PacketType.ANSWER, b"".join(response.order_rows(0)), False)
+        held = tds.packet(tds.PacketType.ANSWER, b"".join(responses.order_rows(0)), False)
         with open(cls.path("held.tds"), "wb") as file:
             file.write(held)
         cls.files = sorted(name for name in os.listdir(cls.folder) if name.endswith(".tds"))

@@ -15,7 +15,7 @@ import gavyreto
 from gavyreto import tds
 from gavyreto.adapting import Adapter
 from gavyreto.payload import Ended
-from tests.beside import PROGRAM, Live, answered, need, response, started, wire
+from tests.beside import PROGRAM, Live, answered, need, responses, started, wire
 
 LONG = 200_000_000
 
@@ -37,12 +37,12 @@ def quoted(value: Any) -> str:
 
 def refused_text() -> bytes:
     """What the rows of `refused` give: numbers are text, and a sql_variant is the text of its base type."""
-    columns = response.REFUSED
+    columns = responses.REFUSED
     lines = [",".join(f'"{column.name}"' for column in columns)]
-    for values, variant in zip(response.REFUSED_ROWS, ("42", "", None)):
+    for values, variant in zip(responses.REFUSED_ROWS, ("42", "", None)):
         fields = [quoted(value) if column.name in ("real", "float", "real_or_null", "float_or_null") else column.text_of(value)
                   for column, value in zip(columns, values)]
-        fields[response.NAMES_OF_REFUSED.index("variant")] = quoted(variant)
+        fields[responses.NAMES_OF_REFUSED.index("variant")] = quoted(variant)
         lines.append(",".join(fields))
     return "".join(line + "\r\n" for line in lines).encode()
 
@@ -55,36 +55,36 @@ class Adapted(unittest.TestCase):
                 with self.subTest(name=name, size=size):
                     data = wire(name, 40, size)
                     self.assertEqual(adapted(data), data)
-        payload = b"".join(response.kinds(0))
+        payload = b"".join(responses.kinds(0))
         for size in range(9, 80):
             data = b"".join(packet + tds.packet(tds.PacketType.ANSWER, b"", False) for packet in list(tds.packets([payload], size))[:-1])
             data += list(tds.packets([payload], size))[-1]
             self.assertEqual(adapted(data), data)
 
     def test_each_refused_kind_in_packets_of_each_size(self) -> None:
-        payload, wanted = b"".join(response.refused(0)), refused_text()
+        payload, wanted = b"".join(responses.refused(0)), refused_text()
         for size in (*range(9, 60), 512, 4096):
             with self.subTest(size=size):
                 self.assertEqual(exported(adapted(b"".join(tds.packets([payload], size)))), (0, wanted))
 
     def test_each_base_type_of_a_sql_variant(self) -> None:
         status, text = exported(adapted(wire("variants")))
-        wanted = ['"variant"', *(quoted(text) for _, text in response.VARIANTS), "NULL"]
+        wanted = ['"variant"', *(quoted(text) for _, text in responses.VARIANTS), "NULL"]
         self.assertEqual((status, text.decode()), (0, "".join(line + "\r\n" for line in wanted)))
 
     def test_text_of_a_sql_variant_by_character_set(self) -> None:
-        column = response.Column("v", "62491F0000", response.variant, response.as_it_is, bytes)
-        data = answered(response.description([column]), response.row([column], [b"\xA7\x07" + response.TEXT_PROPERTIES + "5 €".encode()]), tds.done())
+        column = responses.Column("v", "62491F0000", responses.variant, responses.as_it_is, bytes)
+        data = answered(responses.description([column]), responses.row([column], [b"\xA7\x07" + responses.TEXT_PROPERTIES + "5 €".encode()]), tds.done())
         self.assertEqual(exported(adapted(data, "utf-8")), (0, '"v"\r\n"5 €"\r\n'.encode()))
-        every = response.row([column], [b"\xA7\x07" + response.TEXT_PROPERTIES + bytes(range(0x80, 0xA0))])
-        narrow = response.Column("v", "A72800", response.long, response.as_it_is, bytes)
-        own = answered(response.description([narrow]), response.row([narrow], [bytes(range(0x80, 0xA0))]), tds.done())
-        self.assertEqual(exported(adapted(answered(response.description([column]), every, tds.done()))), exported(own))
+        every = responses.row([column], [b"\xA7\x07" + responses.TEXT_PROPERTIES + bytes(range(0x80, 0xA0))])
+        narrow = responses.Column("v", "A72800", responses.long, responses.as_it_is, bytes)
+        own = answered(responses.description([narrow]), responses.row([narrow], [bytes(range(0x80, 0xA0))]), tds.done())
+        self.assertEqual(exported(adapted(answered(responses.description([column]), every, tds.done()))), exported(own))
 
     def test_other_sets_and_returned_values(self) -> None:
         """Sets before and after, a returned value of float, and what else a response has."""
-        value = b"\xAC\x01\0\x02@\0x\0\x01" + bytes(6) + b"\x6D\x08\x08" + response.double("0.5")
-        pieces = [*response.sets(0)][:-1] + [tds.done(1), *response.refused(0)][:-1] + [tds.done(1), value, *response.order_rows(5), tds.done()]
+        value = b"\xAC\x01\0\x02@\0x\0\x01" + bytes(6) + b"\x6D\x08\x08" + responses.double("0.5")
+        pieces = [*responses.sets(0)][:-1] + [tds.done(1), *responses.refused(0)][:-1] + [tds.done(1), value, *responses.order_rows(5), tds.done()]
         status, text = exported(adapted(b"".join(tds.packets(pieces, 600))))
         sets = exported(wire("sets"))[1]
         self.assertEqual((status, text), (0, sets + b"\r\n" + refused_text() + b"\r\n" + exported(wire("orders", 5))[1]))
@@ -92,11 +92,11 @@ class Adapted(unittest.TestCase):
     def test_floats_read_back_to_the_same_bits(self) -> None:
         numbers = random.Random(1)
         for type_info, form, size in (("6D08", "<d", 8), ("6D04", "<f", 4), ("3E", "<d", 8), ("3B", "<f", 4)):
-            cell = response.fixed if len(type_info) == 2 else response.short
-            column = response.Column("x", type_info, cell, response.as_it_is, bytes)
+            cell = responses.fixed if len(type_info) == 2 else responses.short
+            column = responses.Column("x", type_info, cell, responses.as_it_is, bytes)
             values = [it for it in (numbers.randbytes(size) for _ in range(3000)) if struct.unpack(form, it)[0] == struct.unpack(form, it)[0]]
-            rows = b"".join(response.row([column], [value]) for value in values)
-            status, text = exported(adapted(b"".join(tds.packets([response.description([column]), rows, tds.done()], 4096))))
+            rows = b"".join(responses.row([column], [value]) for value in values)
+            status, text = exported(adapted(b"".join(tds.packets([responses.description([column]), rows, tds.done()], 4096))))
             came = [float(line.strip('"')) for line in text.decode().split("\r\n")[1:-1]]
             self.assertEqual((status, [struct.pack(form, it) for it in came]), (0, values))
 
@@ -111,12 +111,12 @@ class Adapted(unittest.TestCase):
             self.assertTrue(refused_text().startswith(exported(out.getvalue())[1]))
 
     def test_what_cannot_be_followed(self) -> None:
-        column = response.Column("x", "6D08", response.short, response.as_it_is, bytes)
-        variant = response.Column("v", "62491F0000", response.variant, response.as_it_is, bytes)
+        column = responses.Column("x", "6D08", responses.short, responses.as_it_is, bytes)
+        variant = responses.Column("v", "62491F0000", responses.variant, responses.as_it_is, bytes)
         for pieces in (
-            [b"\x99"], [b"\xD1"], [b"\x81\x01\0" + bytes(6) + b"\x99"], [response.description([column]), b"\xD1\x08" + b"\xFF" * 8],
-            [response.description([variant]), response.row([variant], [b"\x99\0"])], [response.description([variant]), response.row([variant], [b"\x28\0\xFF\xFF\xFF"])],
-            [response.description([variant]), response.row([variant], [b"\x29\x01\x00\xFF\xFF\xFF"])],
+            [b"\x99"], [b"\xD1"], [b"\x81\x01\0" + bytes(6) + b"\x99"], [responses.description([column]), b"\xD1\x08" + b"\xFF" * 8],
+            [responses.description([variant]), responses.row([variant], [b"\x99\0"])], [responses.description([variant]), responses.row([variant], [b"\x28\0\xFF\xFF\xFF"])],
+            [responses.description([variant]), responses.row([variant], [b"\x29\x01\x00\xFF\xFF\xFF"])],
         ):
             with self.subTest(pieces=pieces), self.assertRaises(ValueError):
                 adapted(answered(*pieces, tds.done()))
@@ -151,7 +151,7 @@ class Commands(Live):
         self.assertTrue(came.stdout.startswith(b'CREATE TABLE "a""b1" (\n    "id" integer NOT NULL,\n    "note" text\n);\nCREATE TABLE'))
         cases: list[tuple[list[str], bytes, int]] = [
             (["--as", "sqlite", "--table", "t", "sets.tds"], b"", 2), (["nothere"], b"", 5), ([], b"", 4), ([], answered(b"\x99"), 4), (["--as", "x"], b"", 2),
-            (["--as", "sqlite"], answered(response.description([response.Column("", "38", response.fixed, response.whole(4), int)]), tds.done()), 2),
+            (["--as", "sqlite"], answered(responses.description([responses.Column("", "38", responses.fixed, responses.whole(4), int)]), tds.done()), 2),
         ]
         for words, data, status in cases:
             came = self.run_command("columns", *words, data=data)
@@ -160,10 +160,10 @@ class Commands(Live):
 
     def test_a_long_value_in_fixed_memory(self) -> None:
         need(self, "time")
-        column = response.Column("data", "22" + response.LAST + response.table("t"), response.after_pointer, response.as_it_is, bytes)
+        column = responses.Column("data", "22" + responses.LAST + responses.table("t"), responses.after_pointer, responses.as_it_is, bytes)
         with open(self.path("image.tds"), "wb") as file:
-            head = response.description([column]) + b"\xD1\x10" + response.POINTER + struct.pack("<I", LONG)
-            for packet in tds.packets((head, *(response.CHUNK for _ in range(LONG // 8000)), tds.done()), 4096):
+            head = responses.description([column]) + b"\xD1\x10" + responses.POINTER + struct.pack("<I", LONG)
+            for packet in tds.packets((head, *(responses.CHUNK for _ in range(LONG // 8000)), tds.done()), 4096):
                 file.write(packet)
         command = f'/usr/bin/time -f %M -o peak {sys.executable} -m gavyreto adapt image.tds | "$PROGRAM" check'
         came = subprocess.run(["sh", "-c", command], cwd=self.folder, capture_output=True, check=False, **started(PROGRAM=PROGRAM))
@@ -191,7 +191,7 @@ class Commands(Live):
             self.assert_same("<d", theirs[1], values[1])
             self.assertEqual(theirs[4:6] + theirs[7:8], ["NULL" if it is None else it for it in values[4:6] + values[7:8]])
             self.assertEqual(theirs[6], values[6].hex() if isinstance(values[6], bytes) else "NULL")
-        texts = [text for _, text in response.VARIANTS]
+        texts = [text for _, text in responses.VARIANTS]
         for theirs_, text in zip(variants.split("\n"), texts):
             if any(it in text for it in ("-02-", "-06-", "-12-", ":", "0x", "0.1", "e+")):
                 continue  # dates and binary values, which tsql prints in other forms or not at all, and floats

@@ -12,10 +12,10 @@ import unittest
 from typing import Optional
 
 from gavyreto import tds
-from tests.beside import PROGRAM, ROOT, Live, answered, need, response, started, wire
+from tests.beside import PROGRAM, ROOT, Live, answered, need, responses, started, wire
 
 sys.path[:0] = [os.path.join(ROOT, "tools")]
-import capture  # noqa: E402
+import captures  # noqa: E402
 
 OTHER = (bytes([192, 0, 2, 11]), 50999)
 STATEMENTS = ["SELECT * FROM kinds", "SELECT * FROM sets WHERE note = 'x' AND  total > 5 ORDER BY\n id, note, total", "SELECT * FROM error"]
@@ -27,19 +27,19 @@ def exported(data: bytes) -> bytes:
     return subprocess.run([PROGRAM, "export", "--packet-size", "32767"], input=data, capture_output=True, check=False).stdout
 
 
-def conversation(client: capture.Side = capture.CLIENT, encrypted: bool = False) -> capture.Capture:
+def conversation(client: captures.Side = captures.CLIENT, encrypted: bool = False) -> captures.Capture:
     """Greeting, login and three statements with their answers; with the login encrypted, or all that comes after it."""
-    made = capture.Capture(client)
+    made = captures.Capture(client)
     made.open()
-    made.send(client, capture.greeting(0x12))
-    made.send(capture.SERVER, capture.greeting(4))
-    made.send(client, tds.packet(0x12, capture.tls_record(0x16, 200)))
-    made.send(capture.SERVER, tds.packet(0x12, capture.tls_record(0x16, 900)))
-    made.send(client, capture.tls_record(0x17, 300))
-    made.send(capture.SERVER, capture.tls_record(0x17, 400) if encrypted else capture.login_answer())
+    made.send(client, captures.greeting(0x12))
+    made.send(captures.SERVER, captures.greeting(4))
+    made.send(client, tds.packet(0x12, captures.tls_record(0x16, 200)))
+    made.send(captures.SERVER, tds.packet(0x12, captures.tls_record(0x16, 900)))
+    made.send(client, captures.tls_record(0x17, 300))
+    made.send(captures.SERVER, captures.tls_record(0x17, 400) if encrypted else captures.login_answer())
     for statement, data in zip(STATEMENTS, RESPONSES):
         made.send(client, b"".join(tds.packets([tds.statement(statement)], 512, tds.PacketType.STATEMENT)))
-        made.send(capture.SERVER, capture.tls_record(0x17, 5000) if encrypted else data)
+        made.send(captures.SERVER, captures.tls_record(0x17, 5000) if encrypted else data)
     return made
 
 
@@ -58,7 +58,7 @@ class Captures(unittest.TestCase):
 
     def captured(self, frames: list[bytes], form: str = "pcap", *words: str) -> tuple[subprocess.CompletedProcess[bytes], list[dict[str, Optional[str]]]]:
         """What the command gives of a capture with these frames, and the lines of its table."""
-        written = capture.Capture()
+        written = captures.Capture()
         written.frames = frames
         path = os.path.join(self.folder, "capture")
         with open(path, "wb") as file:
@@ -146,10 +146,10 @@ class Captures(unittest.TestCase):
             (wire("float"), "fault 10 RefusedColumn 1 FLTN at payload 15, written 0, unwritten 0"), (b"HTTP/1.1 200 OK\r\n\r\n", "no packet begins here: 19 bytes are passed over"),
             (b"\x53\x01" + bytes(14), "several answers at once (MARS), which aren't read"), (answered(b"\x99"), "fault 6 RefusedToken 0x99 at payload 0, written 0, unwritten 0"),
         ):
-            made = capture.Capture()
+            made = captures.Capture()
             made.open()
-            made.send(capture.CLIENT, tds.packet(1, tds.statement("SELECT 1")))
-            made.send(capture.SERVER, data)
+            made.send(captures.CLIENT, tds.packet(1, tds.statement("SELECT 1")))
+            made.send(captures.SERVER, data)
             came, table = self.captured(made.frames)
             with self.subTest(line=line):
                 self.assertEqual((came.returncode, [it["line"] for it in table]), (4, [line]))
@@ -159,17 +159,17 @@ class Captures(unittest.TestCase):
         """Whatever a server sends: no traceback, and the status isn't 0."""
         numbers = random.Random(7)
         for _ in range(30):
-            made = capture.Capture()
+            made = captures.Capture()
             made.open()
-            made.send(capture.CLIENT, numbers.randbytes(numbers.randint(1, 3000)))
-            made.send(capture.SERVER, bytes([4, 1, 0, numbers.randint(8, 255)]) * (numbers.random() < 0.5) + numbers.randbytes(numbers.randint(1, 9000)))
+            made.send(captures.CLIENT, numbers.randbytes(numbers.randint(1, 3000)))
+            made.send(captures.SERVER, bytes([4, 1, 0, numbers.randint(8, 255)]) * (numbers.random() < 0.5) + numbers.randbytes(numbers.randint(1, 9000)))
             came, _ = self.captured(made.frames)
             self.assertEqual((came.returncode, came.stderr), (4, b""))
             self.texts()
 
     def test_all_that_a_server_sent(self) -> None:
         """As a proxy keeps it: with answers to greeting and login, whole, cut off, and with something else in it."""
-        login = capture.greeting(4) + tds.packet(0x12, capture.tls_record(0x16, 900)) + capture.login_answer()
+        login = captures.greeting(4) + tds.packet(0x12, captures.tls_record(0x16, 900)) + captures.login_answer()
         whole = login + b"".join(RESPONSES)
         texts = dict(zip((f"answer.{number}.csv" for number in (1, 2, 3)), map(exported, RESPONSES)))
         for data, status, told, left in (

@@ -15,7 +15,7 @@ from typing import Any
 import gavyreto
 from gavyreto.columns import Column, create_table, postgresql_type, quoted, sqlite_type
 from gavyreto.values import Value
-from tests.beside import PROGRAM, ROOT, response, skip, wire
+from tests.beside import PROGRAM, ROOT, responses, skip, wire
 
 sys.path[:0] = [os.path.join(ROOT, "tools")]
 import packages  # noqa: E402
@@ -56,7 +56,7 @@ def read_back(type_: str, text: str, sent: Value) -> Value:
 class Loads(unittest.TestCase):
     def test_sqlite(self) -> None:
         columns, sent = kinds()
-        self.assertEqual(sent, [list(row) for row in response.VALUES])
+        self.assertEqual(sent, [list(row) for row in responses.VALUES])
         with sqlite3.connect(":memory:") as database:
             database.execute(create_table("kinds", columns, sqlite_type))
             stored = [[f"{value:f}" if isinstance(value, Decimal) else value for value in row] for row in sent]

@@ -11,7 +11,7 @@ import unittest
 from tests.beside import ORDERS, ROOT, Live, need, skip
 
 sys.path[:0] = [os.path.join(ROOT, "tools")]
-import capture  # noqa: E402
+import captures  # noqa: E402
 
 DEBIAN = "/usr/bin/python3"
 LOGIN = {
@@ -26,9 +26,9 @@ class Sent(Live):
 
     def fields(self, wire: bytes, shown: str, *names: str) -> list[list[str]]:
         """The fields of the messages of a client that have a field, by the dissector for TDS."""
-        written = capture.Capture()
+        written = captures.Capture()
         written.open()
-        written.send(capture.CLIENT, wire, is_disordered=False)
+        written.send(captures.CLIENT, wire, is_disordered=False)
         with open(self.path("sent.pcap"), "wb") as file:
             written.write(file)
         command = ["tshark", "-r", file.name, "-2", "-Y", shown, "-T", "fields", "-E", "separator=/t", "-E", "aggregator=;"]

@@ -18,7 +18,7 @@ import gavyreto
 from gavyreto import tds
 from gavyreto.connection import Channel
 from gavyreto.tds import PacketType
-from tests.beside import ORDERS, PROGRAM, SECONDS, Live, StandIn, ask_port, command_for, listening, log_in, need, response, started
+from tests.beside import ORDERS, PROGRAM, SECONDS, Live, StandIn, ask_port, command_for, listening, log_in, need, responses, started
 
 LONG = 200_000_000
 MODES = [("none", "none"), ("login", "none"), ("all", "none"), ("login", "login"), ("all", "login"), ("login", "all"), ("all", "all")]
@@ -44,7 +44,7 @@ class Answers(Live):
         for size in (512, 8000, 32767):
             with self.subTest(size=size):
                 came = self.query(f"TRUSTED --packet-size {size} 'SELECT * FROM kinds'")
-                self.assertEqual((came.returncode, came.stdout), (0, response.expected()))
+                self.assertEqual((came.returncode, came.stdout), (0, responses.expected()))
 
     def test_a_long_statement_goes_in_several_packets(self) -> None:
         came = self.query('TRUSTED "$(head -c 20000 /dev/zero | tr "\\0" " ") SELECT * FROM orders"')
@@ -111,8 +111,8 @@ class Answers(Live):
         need(self, "time")
         self.store("long", str(LONG))
         wanted = hashlib.sha256(b'"data"\r\n0x')
-        piece = response.CHUNK.hex().encode()
-        for _ in range(LONG // len(response.CHUNK)):
+        piece = responses.CHUNK.hex().encode()
+        for _ in range(LONG // len(responses.CHUNK)):
             wanted.update(piece)
         wanted.update(b"\r\n")
         self.script("timed", 'exec /usr/bin/time -o peak.program -f %M "$TIMED" "$@"\n')
@@ -282,7 +282,7 @@ class Refusals(Live):
         command = '$QUERY -S 127.0.0.1,$PORT -U reader --certificates "$CERTIFICATE" --program "$PROGRAM" "SELECT * FROM orders" "SELECT * FROM kinds" "SELECT * FROM sets" > small || echo "status $?"'
         came = self.beside((), limited + command)
         self.assertEqual((came.stdout, came.stderr.decode().splitlines()), (b"status 5\n", [REPORT, "standard output: File too large"]))
-        self.assertTrue((ORDERS + b"\r\n" + response.expected()).startswith(self.text("small")))
+        self.assertTrue((ORDERS + b"\r\n" + responses.expected()).startswith(self.text("small")))
 
 
 class Silence(Live):
@@ -450,7 +450,7 @@ class Signals(Live):
         def serve(channel: Channel) -> None:
             log_in(channel)
             channel.read_message()
-            channel.write(tds.packet(PacketType.ANSWER, b"".join(response.order_rows(0)), False))
+            channel.write(tds.packet(PacketType.ANSWER, b"".join(responses.order_rows(0)), False))
             asked.set()
             self.assertEqual(channel.read_message(), (PacketType.ATTENTION, b""))
             channel.write(tds.packet(PacketType.ANSWER, tds.done(tds.FAILED)))
@@ -500,7 +500,7 @@ class Signals(Live):
             def serve(channel: Channel, asked: threading.Event = asked) -> None:
                 log_in(channel)
                 channel.read_message()
-                channel.write(tds.packet(PacketType.ANSWER, b"".join(response.order_rows(0)), False))
+                channel.write(tds.packet(PacketType.ANSWER, b"".join(responses.order_rows(0)), False))
                 asked.set()
                 channel.wait()
                 channel.receive()
@@ -571,7 +571,7 @@ class FromPython(Live):
         def serve(channel: Channel) -> None:
             log_in(channel)
             channel.read_message()
-            channel.write(tds.packet(PacketType.ANSWER, b"".join(response.order_rows(0)), False))
+            channel.write(tds.packet(PacketType.ANSWER, b"".join(responses.order_rows(0)), False))
             channel.wait()
             channel.receive()
 

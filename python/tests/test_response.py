@@ -18,7 +18,7 @@ from typing import Any
 import gavyreto
 from gavyreto import tds
 from gavyreto.program import report_of
-from tests.beside import PROGRAM, answered, response, wire
+from tests.beside import PROGRAM, answered, responses, wire
 
 
 def export(source: Any, **options: Any) -> gavyreto.Response:
@@ -41,10 +41,10 @@ class SetsAndRows(unittest.TestCase):
     def test_a_value_of_each_kind(self) -> None:
         for dates in (False, True):
             (names, rows), = all_of(export(wire("kinds", 900), dates=dates))
-            self.assertEqual((names, len(rows)), (response.NAMES, 900))
+            self.assertEqual((names, len(rows)), (responses.NAMES, 900))
             for column in zip(*rows):
                 self.assertEqual(len({type(value) for value in column if value is not None}), 1)
-        self.assertEqual(repr(all_of(export(wire("kinds")))[0][1]), repr(response.VALUES))
+        self.assertEqual(repr(all_of(export(wire("kinds")))[0][1]), repr(responses.VALUES))
 
     def test_several_sets_and_one_without_rows(self) -> None:
         with export(wire("sets")) as came:
@@ -115,7 +115,7 @@ class Columns(unittest.TestCase):
             with self.subTest(source=type(source).__name__), export(source) as came:
                 kinds = came.only()
                 columns = kinds.columns or []
-                self.assertEqual([(it.name, it.type) for it in columns], list(zip(response.NAMES, TYPES)))
+                self.assertEqual([(it.name, it.type) for it in columns], list(zip(responses.NAMES, TYPES)))
                 self.assertEqual(len(list(kinds)), 300)
                 described = dict((name, rest) for name, *rest in kinds.description or [])
                 self.assertEqual(described["total"], ["numeric(38,10)", None, None, 38, 10, True])
@@ -139,7 +139,7 @@ class Columns(unittest.TestCase):
             self.assertEqual([(one.columns, one.description) for one in export(ours)], [(None, None)] * 3)
 
     def test_a_response_that_cannot_be_followed(self) -> None:
-        payload = b"".join(response.orders(0))
+        payload = b"".join(responses.orders(0))
         for end in (b"", b"\xD1", b"\x99"):
             with export(io.BytesIO(answered(payload[:-13] + end))) as came, self.assertRaises(gavyreto.Fault):
                 orders = next(came)
@@ -265,7 +265,7 @@ class Stops(unittest.TestCase):
             self.assertEqual((fault.name, rows), ("InputEnded", whole[:len(rows)]))
 
     def test_a_row_that_is_cut(self) -> None:
-        payload = b"".join(response.orders(0))
+        payload = b"".join(responses.orders(0))
         fault, rows = self.stop(gavyreto.Fault, answered(payload[:-30]))
         self.assertEqual((len(rows), fault.name, fault.rest), (2, "MessageEnded", '3,"東京",NULL'))
 

@@ -14,7 +14,7 @@ from uuid import UUID
 import gavyreto
 from gavyreto.records import LONGEST
 from gavyreto.text import Parser, Sets
-from tests.beside import response
+from tests.beside import responses
 
 
 def sets_of(data: bytes, step: int = 1 << 20, dates: bool = False) -> Sets:
@@ -59,11 +59,11 @@ class Values(unittest.TestCase):
 
 class Pieces(unittest.TestCase):
     def test_a_text_is_the_same_in_pieces_of_any_size(self) -> None:
-        names = response.NAMES
+        names = responses.NAMES
         for step in (1, 2, 3, 7, 64, 5000):
             with self.subTest(step=step):
-                (came, rows), = all_of(sets_of(response.expected(), step))
-                self.assertEqual((came, repr(rows)), (names, repr(response.VALUES)))
+                (came, rows), = all_of(sets_of(responses.expected(), step))
+                self.assertEqual((came, repr(rows)), (names, repr(responses.VALUES)))
 
     def test_sets_in_pieces_of_any_size(self) -> None:
         data = b'"a","b"\r\n1,"x\r\n\r\ny"\r\n\r\n"a"\r\n\r\n""\r\nNULL\r\n"\r\n\r\n"\r\n'
@@ -196,10 +196,10 @@ class Malformed(unittest.TestCase):
 class Files(unittest.TestCase):
     def test_a_text_in_a_file(self) -> None:
         with tempfile.NamedTemporaryFile(suffix=".csv") as file:
-            file.write(response.expected())
+            file.write(responses.expected())
             file.flush()
             (names, rows), = all_of(gavyreto.read(file.name))
-            self.assertEqual((names, repr(rows)), (response.NAMES, repr(response.VALUES)))
+            self.assertEqual((names, repr(rows)), (responses.NAMES, repr(responses.VALUES)))
         with self.assertRaises(FileNotFoundError):
             gavyreto.read("no such file")
 

@@ -3,9 +3,11 @@ from __future__ import annotations
 
 from collections.abc import Iterator
 
+from packing import in_packets, joined, pieces
+
 from .spelling import (
     CHUNKED_NULL, COLLATION, DONE, INT, SHORT_NULL, TINYINT, UTF8, Case, case_of, chunked, column, columns_of, counted,
-    description, done, in_packets, joined, known, little, name_of, nbc_row, notice, pieces, returned, row, short, sized,
+    description, done, known, little, name_of, nbc_row, notice, returned, row, short, sized,
 )
 
 EURO, FACE = "€".encode(), "\U0001F600".encode("utf-16-le")

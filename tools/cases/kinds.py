@@ -4,8 +4,10 @@ from __future__ import annotations
 from collections.abc import Iterator
 from typing import NamedTuple
 
+from packing import in_packets
+
 from .spelling import (
-    DONE, INT, TINYINT, Case, case_of, columns_of, counted, in_packets, little, nbc_row, returned, row,
+    DONE, INT, TINYINT, Case, case_of, columns_of, counted, little, nbc_row, returned, row,
 )
 
 FIRST_1900, LAST_DAY = 693_595, 3_652_058

@@ -3,8 +3,10 @@ from __future__ import annotations
 
 from collections.abc import Iterator
 
+from packing import header, in_packets, joined, packet, pieces
+
 from .spelling import (
-    DONE, INT, NO_METADATA, Case, column, description, header, in_packets, joined, little, name_of, packet, pieces, row, sized,
+    DONE, INT, NO_METADATA, Case, column, description, little, name_of, row, sized,
 )
 
 EMPTY, EMPTY_LAST = header(8, False), header(8, True)

@@ -4,9 +4,10 @@ from __future__ import annotations
 import random
 
 import plain_reader as plain
+from packing import joined, random_pieces
 
 from .spelling import (
-    CHUNKED_NULL, DONE, NO_METADATA, SHORT_NULL, UNKNOWN, Case, chunked, counted, description, joined, little, nbc_row, row,
+    CHUNKED_NULL, DONE, NO_METADATA, SHORT_NULL, UNKNOWN, Case, chunked, counted, description, little, nbc_row, row,
     sized, units_name,
 )
 
@@ -169,11 +170,7 @@ class Maker:
     def packets(self, payload: bytes) -> bytes:
         """A payload in packets of random sizes; a long one isn't put into thousands of them."""
         most = self.random.choice([7, 60, 500, 4_088, 32_759] if len(payload) < 20_000 else [500, 4_088, 32_759])
-        bodies: list[bytes] = []
-        while payload or not bodies:
-            bodies.append(payload[:self.random.randint(0, most)])
-            payload = payload[len(bodies[-1]):]
-        return joined(bodies)
+        return joined(random_pieces(payload, most, self.random))
 
     def options(self, wire: bytes) -> tuple[str, ...]:
         """Options, some of them with limits that few responses keep."""

@@ -1,8 +1,10 @@
-"""Spells packets, tokens, columns and values as bytes, and says what a case is."""
+"""Spells tokens, columns and values as bytes, and says what a case is."""
 from __future__ import annotations
 
 from collections.abc import Iterable
 from typing import NamedTuple
+
+from packing import in_packets
 
 COLLATION = bytes.fromhex("0904D00034")
 DONE = b"\xFD" + bytes(12)
@@ -22,32 +24,6 @@ class Case(NamedTuple):
 def little(number: int, size: int) -> bytes:
     """A number's lowest bytes, little-endian; a negative one as two's complement."""
     return (number % (1 << 8 * size)).to_bytes(size, "little")
-
-
-# Packets
-
-def header(length: int, is_last: bool, number: int = 1) -> bytes:
-    return bytes([4, is_last]) + length.to_bytes(2, "big") + bytes([0, 0, number % 256, 0])
-
-
-def packet(body: bytes, is_last: bool, number: int = 1) -> bytes:
-    return header(8 + len(body), is_last, number) + body
-
-
-def joined(bodies: Iterable[bytes]) -> bytes:
-    """Packets with these bodies, the last of which ends the message."""
-    listed = list(bodies)
-    return b"".join(packet(body, number == len(listed), number) for number, body in enumerate(listed, 1))
-
-
-def pieces(data: bytes, size: int) -> list[bytes]:
-    """Data in pieces of a size, with the rest in the last; no data is one empty piece."""
-    return [data[at:at + size] for at in range(0, len(data), size)] or [b""]
-
-
-def in_packets(payload: bytes, size: int) -> bytes:
-    """A payload in packets of a size, header included: all full but the last, and one at least."""
-    return joined(pieces(payload, size - 8))
 
 
 def case_of(name: str, payload: bytes, *options: str) -> Case:

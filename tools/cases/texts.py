@@ -4,9 +4,11 @@ from __future__ import annotations
 from collections.abc import Iterator
 from typing import NamedTuple
 
+from packing import in_packets, joined, pieces
+
 from .spelling import (
     CHUNKED_NULL, COLLATION, DONE, INT, NO_MORE, SHORT_NULL, TINYINT, UNKNOWN, UTF8, WINDOWS_1252, Case, case_of, chunk,
-    chunked, columns_of, in_packets, joined, known, little, nbc_row, pieces, returned, row, short,
+    chunked, columns_of, known, little, nbc_row, returned, row, short,
 )
 
 CHARSETS = (WINDOWS_1252, UTF8)

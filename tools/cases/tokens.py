@@ -4,8 +4,8 @@ from __future__ import annotations
 from collections.abc import Iterator
 
 from .spelling import (
-    COLLATION, DONE, INT, NO_METADATA, TINYINT, Case, case_of, chunked, column, columns_of, counted, description, done, little,
-    name_of, nbc_row, notice, returned, row, short, sized, units_name,
+    COLLATION, DONE, INT, NO_METADATA, TINYINT, Case, case_of, chunked, column, columns_of, counted, description, done,
+    little, name_of, nbc_row, notice, returned, row, short, sized, units_name,
 )
 
 READ = {0x81, 0xD1, 0xD2, 0xA9, 0xAA, 0xAB, 0xAC, 0xE3, 0x79, 0xFD, 0xFE, 0xFF}

@@ -1,20 +1,9 @@
-#!/usr/bin/env python3
-"""Writes a capture of one TCP connection to standard output (pcap, Ethernet, IPv4), for the recipe of docs/RECIPES.md.
-
-capture.py [--late] RESPONSE...
-
-The client greets, logs in and asks once for each RESPONSE, a file of packets; the server answers the greeting, the login
-and each request, on port 1433. The login is encrypted, so each side sends a packet of type 12 (hexadecimal) before it; its
-bytes here are made up. In an answer of three segments or more one is sent twice, and two come in the wrong order. With
---late the capture begins after the first request."""
-import os
+"""A capture of one TCP connection as a file of pcap (Ethernet, IPv4), and the messages that come before its statements."""
 import struct
-import sys
 from typing import BinaryIO
 
-sys.dont_write_bytecode = True
-sys.path.insert(0, os.path.join(os.path.dirname(os.path.dirname(os.path.realpath(__file__))), "python"))
-from gavyreto import tds  # noqa: E402
+import repository  # noqa: F401  after it the Python package is on the path
+from gavyreto import tds
 
 CLIENT, SERVER = (bytes([192, 0, 2, 10]), 50123), (bytes([192, 0, 2, 20]), 1433)
 SEGMENT = 1460
@@ -80,26 +69,3 @@ class Capture:
         out.write(struct.pack("<IHHiIII", 0xA1B2C3D4, 2, 4, 0, 0, 65535, 1))
         for number, frame in enumerate(self.frames):
             out.write(struct.pack("<IIII", 1_700_000_000, number * 1000, len(frame), len(frame)) + frame)
-
-
-def main(paths: list[str], is_late: bool) -> None:
-    capture = Capture()
-    capture.open()
-    capture.send(CLIENT, greeting(0x12))
-    capture.send(SERVER, greeting(4))
-    capture.send(CLIENT, tds.packet(0x12, tls_record(0x16, 200)))
-    capture.send(SERVER, tds.packet(0x12, tls_record(0x16, 900)))
-    capture.send(CLIENT, tls_record(0x17, 300))
-    capture.send(SERVER, login_answer())
-    for number, path in enumerate(paths):
-        with open(path, "rb") as response:
-            capture.send(CLIENT, tds.packet(tds.PacketType.STATEMENT, tds.statement("SELECT ..")))
-            if is_late and number == 0:
-                capture.frames.clear()
-            capture.send(SERVER, response.read())
-    capture.write(sys.stdout.buffer)
-
-
-if __name__ == "__main__":
-    late = sys.argv[1:2] == ["--late"]
-    main(sys.argv[2:] if late else sys.argv[1:], late)

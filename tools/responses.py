@@ -1,31 +1,13 @@
-#!/usr/bin/env python3
-"""Writes a response of SQL Server to standard output, in packets, for the recipes of docs/RECIPES.md.
-
-kinds [N]   one set with a column of each kind, and N rows: its three rows again and again (three where N isn't given)
-expected    the text that the three rows of kinds have
-sets        three sets: one with an empty line inside a value, one of numbers, one without rows
-error       a row, and then an error of the server
-orders [N]  one set that every client can read, and N rows: its three rows again and again (three where N isn't given)
-broken [N]  the rows of orders, an error of the server among them, and no more rows
-float       a column of float, which is refused
-refused     a column of each kind that is refused, and rows of usual values, of empty and extreme ones, and of NULL
-variants    a column of sql_variant, and a row with each base type
-long N      one row with a value of varbinary(max), of N bytes rounded up to chunks of 8,000
-value N     that value alone, without a response
-"""
-import argparse
-import os
+"""Responses of SQL Server for recipes, tests and benchmarks: columns of each kind, their values and texts, and tokens."""
 import struct
-import sys
-from collections.abc import Callable, Iterable, Iterator, Sequence
+from collections.abc import Callable, Iterator, Sequence
 from datetime import date, datetime, timedelta
 from decimal import Decimal
 from typing import Any, Optional, Union
 from uuid import UUID
 
-sys.dont_write_bytecode = True
-sys.path.insert(0, os.path.join(os.path.dirname(os.path.dirname(os.path.realpath(__file__))), "python"))
-from gavyreto.tds import FAILED, MORE, done, packets, server_error  # noqa: E402
+import repository  # noqa: F401  after it the Python package is on the path
+from gavyreto.tds import FAILED, MORE, done, server_error
 
 Written = Union[None, str, bytes]  # a value as SQL writes it, as it is on the wire, or NULL
 
@@ -404,24 +386,3 @@ RESPONSES = {
     "kinds": kinds, "sets": sets, "error": error, "orders": orders, "broken": broken, "float": refused_float, "refused": refused,
     "variants": variants, "long": long_value,
 }
-
-
-def main() -> None:
-    words = argparse.ArgumentParser(description=__doc__, formatter_class=argparse.RawDescriptionHelpFormatter)
-    words.add_argument("what", choices=[*RESPONSES, "expected", "value"])
-    words.add_argument("number", nargs="?", type=int, default=0)
-    words.add_argument("--packet-size", type=int, default=4096)
-    asked = words.parse_args()
-    pieces: Iterable[bytes]
-    if asked.what == "expected":
-        pieces = [expected()]
-    elif asked.what == "value":
-        pieces = (CHUNK for _ in range(-(-asked.number // len(CHUNK))))
-    else:
-        pieces = packets(RESPONSES[asked.what](asked.number), asked.packet_size)
-    for piece in pieces:
-        sys.stdout.buffer.write(piece)
-
-
-if __name__ == "__main__":
-    main()

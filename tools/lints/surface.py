@@ -1,0 +1,277 @@
+"""The command's surface: options, ranges, defaults and statuses as docs/COMMAND.md has them, which code, man pages, help and
+completion are held to; what a user may see; and the commands of the Python package with their options."""
+from __future__ import annotations
+
+import functools
+import glob
+import os
+import re
+import subprocess
+import sys
+from collections.abc import Iterator
+from dataclasses import dataclass
+
+import repository as repo
+from lints.counts import number
+from lints.pages import PAGES
+
+PAGE, MANUAL, HELP = "docs/COMMAND.md", "docs/tds_replay.1", "crates/tds_arguments/src/help.rt"
+PROGRAM = repo.path_of("bin", "tds_replay")
+COMPLETIONS = {name: f"tools/package/{name}.bash" for name in ("tds_replay", "gavyreto")}
+LINES, COLUMNS = 24, 80  # of a terminal
+
+
+@dataclass
+class Option:
+    """A row of COMMAND's table of options."""
+
+    names: list[str]
+    commands: list[str]  # of which it is an option; all that list it if none is named
+    range: str
+    default: str
+
+
+def section(heading: str) -> str:
+    """A section of COMMAND."""
+    return repo.text_of(PAGE).split(f"\n{heading}\n")[1].split("\n## ")[0]
+
+
+def cells(table: str) -> list[list[str]]:
+    """The rows of a table without its head."""
+    rows = [[cell.strip() for cell in line.split("|")[1:-1]] for line in table.split("\n") if line.startswith("| ")]
+    return rows[1:]
+
+
+@functools.cache
+def usages() -> dict[str, list[str]]:
+    """The options of each command, in the order of COMMAND's table of commands."""
+    rows = cells(repo.text_of(PAGE).split("\n## ")[0])
+    return {row[0].strip("`").split()[0]: re.findall(r"--[a-z-]+", row[0]) for row in rows}
+
+
+@functools.cache
+def options() -> list[Option]:
+    """COMMAND's table of options."""
+    found = []
+    for row in cells(section("## Options")):
+        names = [name.split()[0] for name in re.findall(r"`(--?[^`]+)`", row[0])]
+        found.append(Option(names, [it for it in re.findall(r"`(\w+)`", row[0]) if it in usages()], row[3].replace("`", ""), row[4].replace("`", "")))
+    return found
+
+
+def statuses() -> dict[str, str]:
+    """COMMAND's exit statuses and their meanings."""
+    return {row[0]: row[1].replace("`", "") for row in cells(section("## Exit statuses"))}
+
+
+def manual() -> str:
+    """The man page of the program without the marks of roff within its lines."""
+    return re.sub(r"\\f[BIR]", "", repo.text_of(MANUAL).replace("\\-", "-"))
+
+
+# The code
+
+@functools.cache
+def limits() -> dict[str, tuple[int, int]]:
+    """The ranges of the limits in the code, by the names of their options."""
+    text = repo.text_of("crates/tds_meter/src/area.rt") + repo.text_of("crates/tds_meter/src/limits.rt")
+    found: dict[str, int] = {}
+    for name, value in re.findall(r"const (\w+): \w+ = ([\w ]+);", text):
+        found[name] = number(value) if re.fullmatch(r"[\d_]+", value) else found[value.split()[0]]
+    ends = [name[len("LEAST_"):] for name in found if name.startswith("LEAST_")]
+    return {"--" + name.lower().replace("_", "-"): (found["LEAST_" + name], found["GREATEST_" + name]) for name in ends if "GREATEST_" + name in found}
+
+
+def wrong_code() -> Iterator[str]:
+    """Options, ranges, defaults and statuses of COMMAND that the code doesn't have."""
+    code = repo.text_of("crates/tds_arguments/src/options.rt")
+    defaults = dict(re.findall(r'(?s)number\(alloc, (\w+),[^;]*?default_value\("(\d+)"\)', code))
+    names = {f"--{name}" for name in re.findall(r'(?m)^pub\(crate\) const [A-Z_]+: &str = "([a-z-]+-[a-z]+|charset)";$', code) if name != "utf-8"}
+    listed = {name for option in options() for name in option.names}
+    if listed != {*names, "-h", "--help", "-V", "--version"}:
+        yield f"{PAGE}: options {sorted(listed)}, in the code {sorted(names)}"
+    for option in options():
+        least_greatest = limits().get(option.names[0])
+        default = defaults.get(option.names[0][2:].upper().replace("-", "_"))
+        if least_greatest and option.range != "{} to {}".format(*least_greatest):
+            yield f"{PAGE}: {option.names[0]} is {option.range}, in the code {least_greatest}"
+        if default and option.default not in (default, "the line is refused"):
+            yield f"{PAGE}: {option.names[0]} is {option.default} if it isn't given, in the code {default}"
+    code_statuses = set(re.findall(r"Status::\w+ => (\d),", repo.text_of("crates/tds_replay/src/status.rt")))
+    if {*statuses()} != code_statuses:
+        yield f"{PAGE}: statuses {sorted(statuses())}, in the code {sorted(code_statuses)}"
+
+
+# The man page
+
+def wrong_manual() -> Iterator[str]:
+    """Options, ranges, defaults and statuses that the man page tells otherwise than COMMAND, or not at all."""
+    text = manual()
+    synopsis = text.split(".SH SYNOPSIS")[1].split(".SH ")[0].split(".br\n")
+    for command, wanted in usages().items():
+        lines = next((it for it in synopsis if f"tds_replay {command}" in it), "")
+        if re.findall(r"--[a-z-]+", lines) != wanted:
+            yield f"{MANUAL}: {command} has {' '.join(wanted)} in {PAGE}, not {' '.join(re.findall(r'--[a-z-]+', lines)) or 'nothing'}"
+    paragraphs = text.split(".SH OPTIONS")[1].split(".SH ")[0].split(".TP\n")
+    heads = {paragraph.split("\n")[0]: paragraph for paragraph in paragraphs[1:]}
+    for option in options():
+        paragraph = next((it for head, it in heads.items() if all(re.search(rf"(?<![\w-]){name}(?![\w-])", head) for name in option.names)), "")
+        if not paragraph:
+            yield f"{MANUAL}: no {', '.join(option.names)}"
+        if option.range and not all(it in paragraph for it in option.range.split(", ")):
+            yield f"{MANUAL}: {option.names[0]} isn't {option.range}"
+        if option.default and option.default != "the line is refused" and not re.search(rf"Without it\n?[ .BR]*{re.escape(option.default)}\b", paragraph):
+            yield f"{MANUAL}: {option.names[0]} isn't {option.default} if it isn't given"
+    for head in heads:
+        for name in re.findall(r"--[a-z-]+", head):
+            if not any(name in option.names for option in options()):
+                yield f"{MANUAL}: {PAGE} has no {name}"
+    section_of = text.split('.SH "EXIT STATUS"')[1].split(".SH ")[0].split(".PP")[0]
+    found = {status: " ".join(meaning.split()).rstrip(".") for status, meaning in re.findall(r"(?s)\.TP\n\.B (\d)\n(.*?)(?=\.TP|\Z)", section_of)}
+    for status, meaning in statuses().items():
+        if found.get(status) != meaning:
+            yield f"{MANUAL}: status {status} is {found.get(status)!r}, in {PAGE} {meaning!r}"
+    if {*found} - {*statuses()}:
+        yield f"{MANUAL}: {PAGE} has no status {', '.join(sorted({*found} - {*statuses()}))}"
+
+
+def wrong_remedies() -> Iterator[str]:
+    """What a user may see that is in only one of COMMAND's table and the man page."""
+    rows = [row[0].replace("`", "") for row in cells(repo.text_of(PAGE).split("\n## What you see")[1].split("\n## ")[0])]
+    listed = re.findall(r'(?m)^\.B "(.*)"$', repo.text_of(MANUAL).split('.SH "WHAT YOU SEE')[1].split("\n.SH")[0])
+    yield from (f"{PAGE} and {MANUAL}: not in both: {it}" for it in sorted({*rows} ^ {*listed}))
+
+
+# Help
+
+def help_of(*words: str) -> str:
+    """What the program prints for these words."""
+    return subprocess.run([PROGRAM, *words], capture_output=True, text=True, check=False).stdout
+
+
+def wrong_help_texts() -> Iterator[str]:
+    """Ranges and statuses of the help's texts that aren't COMMAND's."""
+    texts = dict(re.findall(r'(?s)pub\(crate\) const (\w+): [^=]* =(.*?);\n', repo.text_of(HELP)))
+    for option in options():
+        name = option.names[0][2:].upper().replace("-", "_")
+        constants = [("NEW_" if "recut" in option.commands else "") + name] if name in texts else []
+        for constant in constants:
+            found = re.findall(r"from (\d+) to (\d+)", texts[constant])
+            if option.range[:1].isdigit() and {" to ".join(it) for it in found} != {option.range}:
+                yield f"{HELP}: {constant} has {found}, and {option.names[0]} is {option.range}"
+            if not option.range[:1].isdigit() and not all(word in texts[constant] for word in option.range.split(", ")):
+                yield f"{HELP}: {constant} lacks a value of {option.range}"
+    known = {*statuses()}
+    for constant, wanted in (("PROGRAM_END", known), ("EXPORT", known), ("CHECK", known), ("RECUT", known - {"3"})):
+        found_statuses = set(re.findall(r"(?<![\w-])(\d)(?=\s+[a-z])", texts[constant].split("Exit statuses:")[-1].split("\n\n")[0]))
+        if found_statuses != wanted:
+            yield f"{HELP}: {constant} has the statuses {' '.join(sorted(found_statuses))}, not {' '.join(sorted(wanted))}"
+
+
+def wrong_help() -> Iterator[str]:
+    """Help, if the program is built, that lacks an option, or doesn't fit a terminal."""
+    if not os.path.exists(PROGRAM):
+        return
+    for command, wanted in usages().items():
+        found = set(re.findall(r"(?m)^\s+(?:-\w, )?(--[a-z-]+)", help_of(command, "--help")))
+        if found != {*wanted, "--help"}:
+            yield f"help of {command}: {sorted(found)}, not {sorted({*wanted, '--help'})}"
+    calls = [[*words, option] for words in ([], *([command] for command in usages())) for option in ("--help", "-h")]
+    for words in calls:
+        lines = help_of(*words).rstrip("\n").split("\n")
+        yield from (f"help of {' '.join(words)} has a line of {len(line)} columns: {line}" for line in lines if len(line) > COLUMNS)
+        if len(lines) > LINES and (words[-1] == "-h" or len(words) == 1):
+            yield f"help of {' '.join(words)} has {len(lines)} lines"
+
+
+# Completion
+
+def completed(program: str, *words: str) -> list[str]:
+    """What completion offers after these words."""
+    quoted = " ".join(f"'{word}'" for word in words)
+    script = f'. {repo.path_of(COMPLETIONS[program])}; COMP_WORDS=({program} {quoted}); COMP_CWORD={len(words)}; _{program}; printf "%s\\n" "${{COMPREPLY[@]}}"'
+    return subprocess.run(["bash", "-c", script], capture_output=True, text=True, check=True).stdout.split()
+
+
+def unlike(what: str, found: list[str], wanted: set[str]) -> Iterator[str]:
+    """What completion lacks, and what it has beside that."""
+    if wanted - {*found}:
+        yield f"{what}: no {', '.join(sorted(wanted - {*found}))}"
+    if {*found} - wanted:
+        yield f"{what}: {', '.join(sorted({*found} - wanted))} isn't there to be completed"
+
+
+def wrong_completion() -> Iterator[str]:
+    """Commands, options and values that completion doesn't offer as COMMAND has them."""
+    path = COMPLETIONS["tds_replay"]
+    general = {name for option in options() if not option.range for name in option.names}
+    yield from unlike(path, completed("tds_replay", ""), {*usages(), "help", *general})
+    for command, wanted in usages().items():
+        yield from unlike(f"{path}: {command}", completed("tds_replay", command, "-"), {*wanted, "-h", "--help"})
+    for option in options():
+        name, values = option.names[0], completed("tds_replay", "export", option.names[0], "")
+        if option.range[:1].isdigit():
+            least, greatest = map(int, option.range.split(" to "))
+            yield from (f"{path}: {name} {value} isn't in its range" for value in values if not least <= int(value) <= greatest)
+        elif option.range:
+            yield from unlike(f"{path}: {name}", values, {*option.range.split(", ")})
+
+
+# The Python package
+
+def package_options(command: str) -> set[str]:
+    """The options that the help of a command of the Python package names."""
+    environment = os.environ | {"PYTHONPATH": repo.path_of("python"), "PYTHONDONTWRITEBYTECODE": "1", "COLUMNS": "120"}
+    said = subprocess.run([sys.executable, "-m", "gavyreto", command, "--help"], env=environment, capture_output=True, text=True, check=True).stdout
+    return set(re.findall(r"(?<![\w-])(--?[a-zA-Z][a-z-]*)\b", said.split("options:")[-1]))
+
+
+def wrong_package() -> Iterator[str]:
+    """Commands of the Python package, and options of them, that its man page or completion doesn't have."""
+    text, path = repo.text_of("docs/gavyreto.1").replace("\\-", "-"), COMPLETIONS["gavyreto"]
+    files = os.listdir(repo.path_of("python", "gavyreto", "commands"))
+    commands = sorted(name[:-len(".py")] for name in files if name[0] != "_" and name.endswith(".py"))
+    yield from unlike(path, completed("gavyreto", ""), {*commands, "--help", "--version"})
+    for command in commands:
+        wanted = package_options(command)
+        yield from unlike(f"{path}: {command}", completed("gavyreto", command, "-"), wanted)
+        for name in sorted({command, *wanted}):
+            if not re.search(rf"(?<![\w-]){name}(?![\w-])", text):
+                yield f"docs/gavyreto.1: no {name}"
+
+
+# Ranges and examples
+
+def wrong_ranges() -> Iterator[str]:
+    """Ranges in pages, help, completion and the Python package that begin or end as a limit does, and aren't its range."""
+    known = {*limits().values()}
+    ends = {greatest for _, greatest in known} | {least for least, _ in known if least > 10}
+    sources = [os.path.relpath(it, repo.ROOT) for it in glob.glob(repo.path_of("python", "gavyreto", "**", "*.py"), recursive=True)]
+    for page in (*PAGES, MANUAL, "docs/gavyreto.1", HELP, *COMPLETIONS.values(), *sources):
+        for least, greatest in re.findall(r"\b(\d[\d,]*)(?: to |\.\.=?)(\d[\d,]*\d|\d)", repo.text_of(page)):
+            pair = number(least), number(greatest)
+            if pair not in known and (pair[0] in ends or pair[1] in ends):
+                yield f"{page}: {least} to {greatest} is no range of a limit"
+
+
+def wrong_examples() -> Iterator[str]:
+    """Commands of COMMAND, if the program is built, that print something else than is below them."""
+    if not os.path.exists(PROGRAM):
+        return
+    environment = {**os.environ, "PATH": os.path.dirname(PROGRAM) + os.pathsep + os.environ["PATH"]}
+    for command, wanted in re.findall(r"(?ms)^```\n\$ (tds_replay [^\n]*)\n(.*?)^```$", repo.text_of(PAGE)):
+        if "response.tds" in command:
+            continue
+        ran = subprocess.run(["sh", "-c", command], cwd=repo.ROOT, env=environment, capture_output=True, text=True, check=False)
+        came = ran.stdout or ran.stderr
+        if wanted and came.replace("\r", "").strip() != wanted.strip():
+            yield f"{PAGE}: `{command}` prints {came!r}"
+
+
+def findings() -> Iterator[str]:
+    """What isn't so of the command's surface."""
+    checks = (
+        wrong_code, wrong_manual, wrong_remedies, wrong_help_texts, wrong_help, wrong_completion, wrong_package, wrong_ranges, wrong_examples,
+    )
+    for check in checks:
+        yield from check()
