@@ -1,9 +1,10 @@
-#!/usr/bin/env python3
-"""Times bin/tds_replay on made-up responses, beside the native reader where one is given, and prints what a cell costs,
-and what a byte of a long value does.
+"""Times the program on made-up responses, beside the native reader if one is given, and prints what a cell costs, and what a
+byte of a long value does.
 
-usage: export.py PROGRAM [NATIVE]. The response is named as a FILE. Both texts are compared, and a difference ends the
-run. Where valgrind is there, the instructions are counted too."""
+The response is named as a FILE. Both texts are compared, and a difference ends the run. If valgrind is there, the instructions are
+counted too."""
+from __future__ import annotations
+
 import dataclasses
 import hashlib
 import os
@@ -15,6 +16,9 @@ import subprocess
 import sys
 import tempfile
 from collections.abc import Callable
+from typing import IO, cast
+
+from packing import in_packets
 
 PACKET_SIZE = 4096
 CHUNK = 8000
@@ -22,22 +26,13 @@ RUNS = 5
 DONE = b"\xFD" + bytes(12)
 
 
-def packets_of(payload):
-    """The payload in packets of the usual size, the last of them marked."""
-    body = PACKET_SIZE - 8
-    for start in range(0, len(payload), body):
-        part = payload[start:start + body]
-        status = 1 if start + body >= len(payload) else 0
-        yield struct.pack(">BBHHBB", 4, status, 8 + len(part), 0, 1, 0) + part
-
-
-def description_of(columns):
+def description_of(columns: list[tuple[bytes, str]]) -> bytes:
     """A COLMETADATA of these pairs of type information and name."""
     described = b"".join(bytes(6) + kind + bytes([len(name)]) + name.encode("utf-16-le") for kind, name in columns)
     return b"\x81" + struct.pack("<H", len(columns)) + described
 
 
-def ints(columns, rows):
+def ints(columns: int, rows: int) -> bytes:
     """Rows of four-byte numbers of up to ten digits."""
     spread = [104729 * i for i in range(columns)]
     payload = bytearray(description_of([(b"\x38", f"column {i}") for i in range(columns)]))
@@ -47,7 +42,7 @@ def ints(columns, rows):
     return bytes(payload + DONE)
 
 
-def mixed(rows):
+def mixed(rows: int) -> bytes:
     """Rows of eight kinds, with NULL in two of them at times."""
     kinds = [b"\x38", b"\x26\x08", b"\x6A\x09\x12\x04", b"\x2A\x07", b"\x68\x01", b"\x24\x10", b"\x6E\x08", b"\x28"]
     payload = bytearray(description_of([(kind, f"column {i}") for i, kind in enumerate(kinds)]))
@@ -78,7 +73,7 @@ SHORT_KINDS = [
 ]
 
 
-def short_cells(row):
+def short_cells(row: int) -> list[bytes]:
     """The eight cells of a row of numbers and short values, each after its length."""
     narrow = TEXT.encode("cp1252", "replace")
     start = row % 7
@@ -96,12 +91,12 @@ def short_cells(row):
     ]
 
 
-def described_short():
+def described_short() -> bytes:
     """The description of those columns."""
     return description_of([(kind, f"column {i}") for i, kind in enumerate(SHORT_KINDS)])
 
 
-def short_rows(rows):
+def short_rows(rows: int) -> bytes:
     """Rows of numbers and short values without NULL."""
     payload = bytearray(described_short())
     for row in range(rows):
@@ -109,7 +104,7 @@ def short_rows(rows):
     return bytes(payload + DONE)
 
 
-def null_rows(rows):
+def null_rows(rows: int) -> bytes:
     """The same as NBCROW, a quarter of the cells NULL."""
     payload = bytearray(described_short())
     for row in range(rows):
@@ -119,31 +114,31 @@ def null_rows(rows):
     return bytes(payload + DONE)
 
 
-def chunked(kind, data, chunks):
+def chunked(kind: bytes, data: bytes, chunks: int) -> bytes:
     """One row with one value in chunks."""
     payload = bytearray(description_of([(kind, "value")]) + b"\xD1" + struct.pack("<Q", CHUNK * chunks))
     chunk = struct.pack("<I", CHUNK) + (data * (CHUNK // len(data) + 1))[:CHUNK]
     return bytes(payload + chunk * chunks + bytes(4) + DONE)
 
 
-def long_narrow(chunks):
+def long_narrow(chunks: int) -> bytes:
     """A value of varchar(max): text with each hundredth byte a quote or beyond ASCII."""
     data = b"".join(b"plain text of ninety-nine bytes".ljust(99, b".") + care for care in [b'"', b"\xe9", b"\x80", b"\xa7"])
     return chunked(b"\xA7\xff\xff" + COLLATION, data, chunks)
 
 
-def long_wide(chunks):
+def long_wide(chunks: int) -> bytes:
     """A value of nvarchar(max): text with each tenth character a quote or beyond ASCII."""
     data = "".join("ninechars" + care for care in "é東€\"").encode("utf-16-le")
     return chunked(b"\xE7\xff\xff" + COLLATION, data, chunks)
 
 
-def long_binary(chunks):
+def long_binary(chunks: int) -> bytes:
     """A value of varbinary(max)."""
     return chunked(b"\xA5\xff\xff", bytes(range(250)), chunks)
 
 
-def seconds_of(command, path):
+def seconds_of(command: list[str], path: str) -> float:
     """The processor time of one run, in the program and in the system."""
     before = resource.getrusage(resource.RUSAGE_CHILDREN)
     subprocess.run([*command, path], stdout=subprocess.DEVNULL, stderr=subprocess.DEVNULL, check=True)
@@ -151,23 +146,23 @@ def seconds_of(command, path):
     return after.ru_utime - before.ru_utime + after.ru_stime - before.ru_stime
 
 
-def text_of(command, path):
+def text_of(command: list[str], path: str) -> str:
     """A digest of what a program writes."""
     digest = hashlib.sha256()
     run = subprocess.Popen([*command, path], stdout=subprocess.PIPE, stderr=subprocess.DEVNULL)
-    while piece := run.stdout.read(1 << 20):
+    while piece := cast(IO[bytes], run.stdout).read(1 << 20):
         digest.update(piece)
     run.wait()
     return digest.hexdigest()
 
 
-def instructions_of(command, path):
+def instructions_of(command: list[str], path: str) -> int:
     """How many instructions a run takes, which is the same on every machine."""
     said = subprocess.run(
         ["valgrind", "--tool=callgrind", "--callgrind-out-file=/dev/null", *command, path],
         stdout=subprocess.DEVNULL, stderr=subprocess.PIPE, text=True, check=True,
     ).stderr
-    return int(re.search(r"Collected : (\d+)", said).group(1))
+    return int(re.findall(r"Collected : (\d+)", said)[0])
 
 
 @dataclasses.dataclass
@@ -178,13 +173,13 @@ class Response:
     unit: str
     units: int
     count: int
-    made: Callable
+    made: Callable[[int], bytes]
 
-    def file(self, folder, count):
-        """A file with so many rows or chunks of it in packets."""
+    def file(self, folder: str, count: int) -> str:
+        """A file with this number of rows or chunks of it, in packets of the usual size."""
         path = os.path.join(folder, "response.tds")
         with open(path, "wb") as file:
-            file.writelines(packets_of(self.made(count)))
+            file.write(in_packets(self.made(count), PACKET_SIZE))
         return path
 
 
@@ -200,7 +195,7 @@ RESPONSES = [
 ]
 
 
-def least_seconds(commands, path):
+def least_seconds(commands: dict[str, list[str]], path: str) -> dict[str, float]:
     """The least time of each program, run in turn."""
     best = dict.fromkeys(commands, float("inf"))
     for _ in range(RUNS):
@@ -209,14 +204,14 @@ def least_seconds(commands, path):
     return best
 
 
-def instructions_a_unit(command, folder, response):
+def instructions_a_unit(command: list[str], folder: str, response: Response) -> float:
     """What a cell or a byte costs, without what the start of the program does: the difference of two responses."""
     few, more = (100, 5_100) if response.unit == "cell" else (10, 510)
     counts = [instructions_of(command, response.file(folder, count)) for count in (few, more)]
     return (counts[1] - counts[0]) / ((more - few) * response.units)
 
 
-def measure(folder, commands, response, counts):
+def measure(folder: str, commands: dict[str, list[str]], response: Response, counts: bool) -> None:
     """One line of the table for each program."""
     path = response.file(folder, response.count)
     if len({text_of(command, path) for command in commands.values()}) > 1:
@@ -226,16 +221,17 @@ def measure(folder, commands, response, counts):
     size = os.path.getsize(path) / 1e6
     for who, seconds in best.items():
         ratio = f"{seconds / best['native']:.2f}" if "native" in best else ""
-        cost = instructions_a_unit(commands[who], folder, response) if counts else ""
+        cost = instructions_a_unit(commands[who], folder, response) if counts else 0
         shown = f"{cost:.2f}" if counts and response.unit == "byte" else f"{cost:.0f}" if counts else ""
         nanoseconds = f"{seconds / units * 1e9:.2f}" if response.unit == "byte" else f"{seconds / units * 1e9:.1f}"
         print(f"| {response.name} | {who} | {size:.1f} | {seconds:.3f} | {nanoseconds} | {shown} | {ratio} |", flush=True)
 
 
-def main():
-    commands = {"gavyreto": [sys.argv[1], "export"]}
-    if len(sys.argv) > 2:
-        commands["native"] = [sys.argv[2]]
+def run(program: str, native: str | None) -> None:
+    """Prints the table of the program and, if there is one, the native reader."""
+    commands = {"gavyreto": [program, "export"]}
+    if native:
+        commands["native"] = [native]
     counts = shutil.which("valgrind") is not None
     with tempfile.TemporaryDirectory() as folder:
         print("| response | program | MB | seconds | nanoseconds a cell or byte | instructions a cell or byte | to native |")
@@ -244,6 +240,3 @@ def main():
             measure(folder, commands, response, counts)
     if not counts:
         print("instructions: valgrind isn't there")
-
-
-main()

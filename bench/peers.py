@@ -1,27 +1,32 @@
-#!/usr/bin/env python3
-"""Measures `gavyreto query` with tds_replay beside FreeTDS' tsql and freebcp on tools/stand_in.py, and what each loses.
-
-usage: peers.py PROGRAM
+"""Measures `gavyreto query` with tds_replay beside tsql and freebcp of FreeTDS on tools/stand-in, and what each loses.
 
 Each client asks for the same stored responses on a connection of its own, unencrypted, in packets of 4,096 bytes. Counted
 are the processor's seconds of the client, those in the system included, the least of three runs, and its peak of resident
-memory, as /usr/bin/time tells them; the server's aren't."""
+memory, as /usr/bin/time tells them; the server's aren't. Two pictures are drawn of the costs: bench/draw says how."""
+from __future__ import annotations
+
+import json
 import os
 import shutil
 import subprocess
 import sys
 import tempfile
-from typing import Callable, NamedTuple
+from collections.abc import Callable
+from typing import NamedTuple
 
-ROOT = os.path.dirname(os.path.dirname(os.path.realpath(__file__)))
+import packages
+import repository as repo
+
 RUNS = 3
 ROWS = 300_000
-LONG = 200_000_000
+# The sizes of a value, in MB; the table has the last of them, and a picture all.
+SIZES = [1, 25, 50, 100, 200]
 NEEDED = {"/usr/bin/time": "time", "tsql": "freetds-bin", "freebcp": "freetds-bin", "openssl": "openssl"}
 RESPONSES = {
-    "rows": ["orders", str(ROWS)], "value": ["long", str(LONG)], "orders": ["orders"], "first": ["kinds", "1"], "kinds": ["kinds"],
-    "sets": ["sets"],
+    "rows": ["orders", str(ROWS)], **{f"value{size}": ["long", str(size * 1_000_000)] for size in SIZES}, "orders": ["orders"],
+    "first": ["kinds", "1"], "kinds": ["kinds"], "sets": ["sets"],
 }
+PICTURES = repo.path_of("docs", "pictures")
 # The commands of the shell that put the rows of a response to standard output, or to the file OUT.
 CLIENTS = {
     "gavyreto query and tds_replay": '$TIMED $QUERY -S localhost,$PORT -U reader --encrypt none --packet-size 4096 '
@@ -44,7 +49,7 @@ def run(client: str, name: str, out: str, folder: str, program: str) -> tuple[in
     costs = os.path.join(folder, "costs")
     timed = f"/usr/bin/time -a -q -o {costs} -f %U\\t%S\\t%M"
     variables = {
-        "QUERY": f"{sys.executable} -m gavyreto query", "PYTHONPATH": os.path.join(ROOT, "python"), "PROGRAM": program, "OUT": out, "NAME": name, "TIMED": timed,
+        "QUERY": f"{sys.executable} -m gavyreto query", "PYTHONPATH": repo.path_of("python"), "PROGRAM": program, "OUT": out, "NAME": name, "TIMED": timed,
         "FREETDSCONF": os.path.join(folder, "freetds.conf"), "SQLCMDPASSWORD": "secret", "LC_ALL": "C.UTF-8",
     }
     if os.path.exists(costs):
@@ -52,7 +57,7 @@ def run(client: str, name: str, out: str, folder: str, program: str) -> tuple[in
     files = [name + ".tds" for name in RESPONSES]
     settings = f"printf '{SETTINGS}' $PORT > freetds.conf; "
     done = subprocess.run(
-        [sys.executable, os.path.join(ROOT, "tools", "stand_in.py"), "--encrypt", "none", *files, "--", "sh", "-uc", settings + CLIENTS[client]],
+        [repo.path_of("tools", "stand-in"), "--encrypt", "none", *files, "--", "sh", "-uc", settings + CLIENTS[client]],
         cwd=folder, env=os.environ | variables, stdin=subprocess.DEVNULL, check=False,
     )
     with open(costs, encoding="utf-8") as lines:
@@ -60,15 +65,26 @@ def run(client: str, name: str, out: str, folder: str, program: str) -> tuple[in
     return done.returncode, [Cost(float(user) + float(system), int(peak)) for user, system, peak in found]
 
 
-def measured(client: str, name: str, folder: str, program: str) -> str:
-    """The cells of a client in the table of costs: the least seconds of some runs, and the greatest peak."""
+class Measured(NamedTuple):
+    """The least seconds of some runs, and the greatest peak of each process, in megabytes."""
+
+    seconds: float
+    peaks: list[float]
+
+    def cells(self) -> str:
+        """The cells in the table of costs."""
+        return f"{self.seconds:.2f} | " + " + ".join(f"{peak:.1f}" for peak in self.peaks)
+
+
+def measured(client: str, name: str, folder: str, program: str) -> Measured:
+    """What a client costs that asks for a response."""
     runs = [run(client, name, "/dev/null", folder, program) for _ in range(RUNS)]
     seconds = min(max(cost.seconds for cost in costs) for _, costs in runs)
-    peaks = [max(costs[place].peak for _, costs in runs) for place in range(len(runs[0][1]))]
-    return f"{seconds:.2f} | " + " + ".join(f"{peak / 1024:.1f}" for peak in peaks)
+    return Measured(seconds, [max(costs[place].peak for _, costs in runs) / 1024 for place in range(len(runs[0][1]))])
 
 
 def text_of(client: str, name: str, folder: str, program: str) -> tuple[int, str]:
+    """The status of a client, and the text that it writes."""
     out = os.path.join(folder, "out")
     status, _ = run(client, name, out, folder, program)
     with open(out, encoding="utf-8", errors="replace", newline="") as file:
@@ -103,15 +119,28 @@ PROBES = [
 ]
 
 
-def table_of_costs(folder: str, program: str) -> None:
-    print(f"| client | {ROWS:,} rows of five columns: seconds | peak, MB | one value of {LONG // 10**6} MB: seconds | peak, MB |")
+def table_of_costs(costs: dict[str, dict[str, Measured]]) -> None:
+    """Prints what the rows and the largest value cost each client."""
+    print(f"| client | {ROWS:,} rows of five columns: seconds | peak, MB | one value of {SIZES[-1]} MB: seconds | peak, MB |")
     print("|---|---:|---:|---:|---:|")
-    for client in CLIENTS:
-        cells = " | ".join(measured(client, name, folder, program) for name in ("rows", "value"))
-        print(f"| {client} | {cells} |", flush=True)
+    for client, found in costs.items():
+        print(f"| {client} | {found['rows'].cells()} | {found[f'value{SIZES[-1]}'].cells()} |", flush=True)
+
+
+def draw(costs: dict[str, dict[str, Measured]]) -> None:
+    """Draws the pictures, if Debian's Python has what bench/draw needs."""
+    if not packages.has_module(packages.DEBIAN_PYTHON, "matplotlib"):
+        print("no pictures: Python's matplotlib isn't there, `make needs` installs it", file=sys.stderr)
+        return
+    told = {
+        "rows": ROWS, "seconds": {client: found["rows"].seconds for client, found in costs.items()}, "sizes": SIZES,
+        "peaks": {client: [sum(found[f"value{size}"].peaks) for size in SIZES] for client, found in costs.items()},
+    }
+    subprocess.run([packages.DEBIAN_PYTHON, repo.path_of("bench", "draw"), PICTURES], input=json.dumps(told), text=True, check=True)
 
 
 def table_of_losses(folder: str, program: str) -> None:
+    """Prints what each client keeps of the values."""
     print("| what is kept | " + " | ".join(CLIENTS) + " |")
     print("|---|" + "---|" * len(CLIENTS))
     texts = {(client, name): text_of(client, name, folder, program)
@@ -121,23 +150,21 @@ def table_of_losses(folder: str, program: str) -> None:
         print(f"| {probe.name} | " + " | ".join(kept) + " |")
 
 
-def main(program: str) -> None:
+def compare(program: str) -> None:
+    """Prints both tables, and draws the pictures."""
     absent = sorted({package for name, package in NEEDED.items() if not shutil.which(name)})
     if absent:
         sys.exit(f"Debian's packages of these are needed: {' '.join(absent)}")
     with tempfile.TemporaryDirectory() as folder:
         for name, words in RESPONSES.items():
             with open(os.path.join(folder, name + ".tds"), "wb") as file:
-                subprocess.run([sys.executable, os.path.join(ROOT, "tools", "response.py"), *words], stdout=file, check=True)
+                subprocess.run([repo.path_of("tools", "response"), *words], stdout=file, check=True)
         with open(os.path.join(folder, "timed"), "w", encoding="utf-8") as script:
             script.write('#!/bin/sh\ntest "$1" = --version || exec $TIMED "$PROGRAM" "$@"\nexec "$PROGRAM" "$@"\n')
         os.chmod(script.name, 0o755)
-        table_of_costs(folder, os.path.abspath(program))
+        names = ["rows", *(f"value{size}" for size in SIZES)]
+        costs = {client: {name: measured(client, name, folder, program) for name in names} for client in CLIENTS}
+        table_of_costs(costs)
         print()
-        table_of_losses(folder, os.path.abspath(program))
-
-
-if __name__ == "__main__":
-    if len(sys.argv) != 2:
-        sys.exit("usage: peers.py PROGRAM")
-    main(sys.argv[1])
+        table_of_losses(folder, program)
+        draw(costs)

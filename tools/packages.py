@@ -1,4 +1,4 @@
-"""Which of Debian's packages have the programs and Python modules that tests and recipes need."""
+"""Which of Debian's packages have the programs and Python modules that tests, recipes and pictures need."""
 import glob
 import os
 import shutil
@@ -13,7 +13,7 @@ PROGRAMS = {
     "dask-worker": "python3-distributed", "time": "time", "mypy": "mypy", "lintian": "lintian", "cc": "gcc",
     "tcpflow": "tcpflow-nox", "editcap": "wireshark-common",
 }
-MODULES = {"pandas": "python3-pandas", "distributed": "python3-distributed", "pymssql": "python3-pymssql", "pip": "python3-pip"}
+MODULES = {"pandas": "python3-pandas", "distributed": "python3-distributed", "pymssql": "python3-pymssql", "pip": "python3-pip", "matplotlib": "python3-matplotlib"}
 
 
 def path() -> str:

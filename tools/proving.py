@@ -19,7 +19,7 @@ ROOM = 3_500_000_000
 # The most processes that share a proof; more gain nothing.
 MOST_JOBS = 4
 
-# By how much a proof gets shorter where processes share it, each of which reads the libraries first.
+# By how much a proof gets shorter if processes share it, each of which reads the libraries first.
 GAIN = 1.7
 
 # The minutes of a processor that a crate's proof takes, in the table of docs/PROOFS.md.
@@ -100,7 +100,7 @@ def command_for(name: str, jobs: int) -> list[str]:
 
 
 def prove(name: str, jobs: int, progress: Progress) -> bool:
-    """Proves one crate over what is proved below it, by so many processes, and returns whether it is."""
+    """Proves one crate over what is proved below it, by this many processes, and returns whether it is."""
     began, found = time.monotonic(), repo.sum_of(name)
     log = repo.path_of("bin", "logs", name + ".log")
     os.makedirs(os.path.dirname(log), exist_ok=True)
@@ -115,16 +115,24 @@ def prove(name: str, jobs: int, progress: Progress) -> bool:
     return True
 
 
+def need_programs(names: list[str]) -> None:
+    """Ends with one line if a program that bin/ calls proved isn't there any more."""
+    for name in filter(repo.is_program, names):
+        if not os.path.isfile(repo.path_of("crates", name, "out", name)):
+            sys.exit(f"crates/{name}/out/{name} isn't there, and bin/ calls it proved: remove bin/proved/{name}, and it is proved again")
+
+
 def prove_all(asked: list[str], test: Callable[[str, int], None] | None = None) -> bool:
-    """Proves the crates asked for and those below them, each once those below it are proved. Where `test` is given, it is
+    """Proves the crates asked for and those below them, each once those below it are proved. `test`, if it is given, is
     called with each crate that has tests, once it is proved, and with how many processes its tests may take."""
     names = [it for it in repo.CRATES if it in asked or any(it in repo.below(one) for one in asked)]
     lacking = [it for it in names if not repo.is_done("proved", it)]
-    # a library is built anew where a crate above it needs it and it isn't there
+    # a library is built anew if a crate above it needs it and it isn't there
     lacking = [it for it in names if it in lacking or not repo.is_built(it) and any(it in repo.below(one) for one in lacking)]
     tested = [it for it in names if test and repo.has_tests(it)]
     left = [it for it in names if it in lacking or it in tested]
     proved = {*names} - {*left}
+    need_programs([it for it in names if it not in lacking])
     if not left:
         return True
     run_tests = test or (lambda name, jobs: None)

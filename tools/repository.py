@@ -199,6 +199,6 @@ def runner() -> str:
 
 
 def need_rt() -> None:
-    """Ends with one line where the toolchain isn't there."""
+    """Ends with one line if the toolchain isn't there."""
     if shutil.which("rt") is None:
-        sys.exit("rt isn't there: proving and building need the Rattle kit (README, \"What a machine needs\")")
+        sys.exit("rt isn't there: proving and building need the Rattle kit (README.md says where it comes from)")

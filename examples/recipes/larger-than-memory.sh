@@ -28,8 +28,8 @@ measure="python3 peak.py"
 if /usr/bin/time -a -o peak -f %M true 2> /dev/null; then measure="/usr/bin/time -a -o peak -f %M"; fi
 rm -f peak
 for length in 2000000 200000000; do
-    tools/response.py long $length | $measure tds_replay export 2> long.notes | python3 examples/recipes/binary_value.py | sha256sum > came
-    tools/response.py value $length | sha256sum | cmp - came
+    tools/response long $length | $measure tds_replay export 2> long.notes | python3 examples/recipes/binary_value.py | sha256sum > came
+    tools/response value $length | sha256sum | cmp - came
     echo "a value of $length bytes: peak $(tail -n 1 peak) kilobytes"
 done
 test $(($(tail -n 1 peak) - $(head -n 1 peak))) -lt 1024

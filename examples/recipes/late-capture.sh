@@ -3,17 +3,17 @@
 #
 # Needs: `python3`, `tcpflow`.
 #
-# tools/capture.py makes two captures of one connection with two requests: one from the connection's beginning, and one that
+# tools/capture makes two captures of one connection with two requests: one from the connection's beginning, and one that
 # begins between the first request and its answer. Their texts are the same. With a capture of your own, the line of `gavyreto`
 # is enough.
 #
 # It prints the status of `gavyreto capture` for each: 3, since the second response has an error of the server.
 set -eu
 
-tools/response.py kinds 100 > first.tds
-tools/response.py error > second.tds
-tools/capture.py first.tds second.tds > whole.pcap
-tools/capture.py --late first.tds second.tds > late.pcap
+tools/response kinds 100 > first.tds
+tools/response error > second.tds
+tools/capture first.tds second.tds > whole.pcap
+tools/capture --late first.tds second.tds > late.pcap
 for name in whole late; do
     rm -rf "captured-$name"
     python3 -m gavyreto capture "$name.pcap" "captured-$name" > "$name.table" || echo "$name: status $?"

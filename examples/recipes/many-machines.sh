@@ -19,9 +19,9 @@ set -eu
 rm -rf machines
 mkdir -p machines/farm
 cd machines
-../tools/response.py kinds 300 > good
-../tools/response.py float > refused
-../tools/response.py error > failed
+../tools/response kinds 300 > good
+../tools/response float > refused
+../tools/response error > failed
 for number in $(seq 1000 1999); do
     case $number in *50) cp refused farm/$number ;; *99) cp failed farm/$number ;; *) cp good farm/$number ;; esac
 done

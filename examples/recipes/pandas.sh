@@ -10,7 +10,7 @@
 # nanoseconds from 1677 to 2262: keep the text for dates outside of these years.
 set -eu
 
-tools/response.py kinds > kinds.tds
+tools/response kinds > kinds.tds
 PYTHONPATH="examples/recipes:${PYTHONPATH-}" python3 - <<'PYTHON'
 import pandas
 from pandas_frame import frame

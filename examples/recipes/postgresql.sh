@@ -15,7 +15,7 @@
 # It prints eight columns of three rows.
 set -eu
 
-tools/response.py kinds > kinds.tds
+tools/response kinds > kinds.tds
 python3 -m gavyreto columns --as postgresql --table kinds kinds.tds > kinds.sql
 python3 examples/recipes/postgresql_copy.py kinds.tds > kinds.copy
 cat >> kinds.sql <<'SQL'

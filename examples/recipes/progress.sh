@@ -10,5 +10,5 @@
 # It prints the report of the export, below the progress where standard error is a terminal.
 set -eu
 
-tools/response.py long 50000000 > long.tds
+tools/response long 50000000 > long.tds
 pv long.tds | tds_replay export > long.csv

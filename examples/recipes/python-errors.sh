@@ -9,8 +9,8 @@
 # It prints the rows before an error of the server, that error, and the fault of a response that was cut.
 set -eu
 
-tools/response.py orders > orders.tds
-tools/response.py broken 2 > broken.tds
+tools/response orders > orders.tds
+tools/response broken 2 > broken.tds
 head -c 100 orders.tds > cut.tds
 python3 - <<'PYTHON'
 import gavyreto

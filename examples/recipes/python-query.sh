@@ -6,14 +6,14 @@
 # `gavyreto.query` yields the sets of the answer; `gavyreto.connect` keeps a connection for several statements, of which each
 # answer is read to its end before the next statement.
 #
-# The server here is tools/stand_in.py, with its port and its certificate in the environment. With your own, put its name, port,
+# The server here is tools/stand-in, with its port and its certificate in the environment. With your own, put its name, port,
 # user and password into `server`; `certificates` is for authorities that the system doesn't trust.
 #
 # It prints three rows, and how many rows two statements on one connection have.
 set -eu
 
-tools/response.py orders > orders.tds
-tools/response.py kinds > kinds.tds
+tools/response orders > orders.tds
+tools/response kinds > kinds.tds
 cat > asking.py <<'PYTHON'
 import os
 import gavyreto
@@ -26,4 +26,4 @@ with gavyreto.connect(**server) as connection:
     for name in "orders", "kinds":
         print(name, len(list(connection.query(f"SELECT * FROM {name}").only())), "rows")
 PYTHON
-tools/stand_in.py orders.tds kinds.tds -- python3 asking.py
+tools/stand-in orders.tds kinds.tds -- python3 asking.py

@@ -11,7 +11,7 @@
 # It prints a line for each of the two ways, six values with `dates=True`, and two columns of three rows by `csv`.
 set -eu
 
-tools/response.py kinds > kinds.tds
+tools/response kinds > kinds.tds
 tds_replay export kinds.tds > kinds.csv 2> kinds.notes
 
 # All values of all kinds come back as they were sent.
@@ -19,12 +19,12 @@ python3 - <<'PYTHON'
 import sys
 sys.path.insert(0, "tools")
 import gavyreto
-import response
+import responses
 
 for sets in gavyreto.export("kinds.tds"), gavyreto.read("kinds.csv"):
     kinds = sets.only()
     values = list(kinds)
-    assert kinds.names == response.NAMES and repr(values) == repr(response.VALUES)
+    assert kinds.names == responses.NAMES and repr(values) == repr(responses.VALUES)
     print(len(values), "rows of", len(kinds.names), "columns")
 PYTHON
 

@@ -3,7 +3,7 @@
 #
 # Needs: `python3`, `openssl`.
 #
-# The server here is tools/stand_in.py, with its port and its certificate in the environment, and a password of its own. With a
+# The server here is tools/stand-in, with its port and its certificate in the environment, and a password of its own. With a
 # server of yours, take a line of `query` with its name and your user.
 #
 # It prints the line and the status of four queries: the first finds a certificate that isn't trusted, the second is refused the
@@ -11,9 +11,9 @@
 # came before that error is in broken.csv.
 set -eu
 
-tools/response.py broken > broken.tds
+tools/response broken > broken.tds
 export SQLCMDPASSWORD=secret
-tools/stand_in.py --password another broken.tds -- sh -u <<'SESSION' || echo "status $?"
+tools/stand-in --password another broken.tds -- sh -u <<'SESSION' || echo "status $?"
 query="python3 -m gavyreto query -S localhost,$PORT -U reader"
 $query "SELECT 1" || echo "status $?"
 $query --certificates "$CERTIFICATE" "SELECT 1" || echo "status $?"

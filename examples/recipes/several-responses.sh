@@ -24,7 +24,7 @@
 # the first is refused.
 set -eu
 
-{ tools/response.py kinds; tools/response.py error; tools/response.py sets; } > stream.bin
+{ tools/response kinds; tools/response error; tools/response sets; } > stream.bin
 number=0
 while :; do
     status=0
@@ -37,7 +37,7 @@ while :; do
 done < stream.bin
 echo "end: status $status, $(cat answer.$number.notes)"
 
-{ tools/response.py float; tools/response.py sets; } > stream.bin
+{ tools/response float; tools/response sets; } > stream.bin
 while tds_replay recut --packet-size 4096 > next.tds 2> next.notes; do
     tds_replay export next.tds > next.csv || echo "status $?"
 done < stream.bin

@@ -9,8 +9,8 @@
 # It prints five columns of three rows, the line of the response that is refused, and the tables that are there in the end.
 set -eu
 
-tools/response.py kinds > kinds.tds
-tools/response.py sets > sets.tds
+tools/response kinds > kinds.tds
+tools/response sets > sets.tds
 rm -f kinds.db
 python3 examples/recipes/sqlite_table.py kinds.tds kinds.db kinds
 sqlite3 kinds.db "SELECT quote(whole_or_null), quote(total), quote(day), quote(name), quote(hash) FROM kinds"

@@ -66,7 +66,7 @@ class Installed(unittest.TestCase):
         self.assertEqual([name.count("+modified") for name, _ in (first, other, modified)], [0, 0, 1])
 
     def test_completion(self) -> None:
-        """Each command's words complete; the words that help names are held to completion by `tools/docs`."""
+        """Each command's words complete; the words that help names are held to completion by `tools/lint`."""
         for program, words, wanted in (
             ("gavyreto", ["ca"], ["capture"]), ("gavyreto", ["--v"], ["--version"]), ("gavyreto", ["many", "--sch"], ["--scheduler"]), ("gavyreto", ["columns", "--as", "s"], ["sqlite"]),
             ("tds_replay", ["-V"], ["-V"]), ("tds_replay", ["--v"], ["--version"]), ("tds_replay", ["recut", "--c"], []), ("tds_replay", ["export", "--c"], ["--column-room", "--charset"]),

@@ -176,8 +176,8 @@ def wrong_help() -> Iterator[str]:
         found = set(re.findall(r"(?m)^\s+(?:-\w, )?(--[a-z-]+)", help_of(command, "--help")))
         if found != {*wanted, "--help"}:
             yield f"help of {command}: {sorted(found)}, not {sorted({*wanted, '--help'})}"
-    calls = [[*words, option] for words in ([], *([command] for command in usages())) for option in ("--help", "-h")]
-    for words in calls:
+    before: list[list[str]] = [[], *([command] for command in usages())]
+    for words in ([*words, option] for words in before for option in ("--help", "-h")):
         lines = help_of(*words).rstrip("\n").split("\n")
         yield from (f"help of {' '.join(words)} has a line of {len(line)} columns: {line}" for line in lines if len(line) > COLUMNS)
         if len(lines) > LINES and (words[-1] == "-h" or len(words) == 1):
