@@ -16,7 +16,7 @@ _tds_replay() {
         mapfile -t COMPREPLY < <(compgen -W "export check recut help --help --version -h -V" -- "$word")
         return
     fi
-    local options="--packet-size --max-wire --help"
+    local options="--packet-size --max-wire -h --help"
     [[ $command == recut ]] || options+=" --column-room --charset"
     if [[ $word == -* ]]; then
         mapfile -t COMPREPLY < <(compgen -W "$options" -- "$word")

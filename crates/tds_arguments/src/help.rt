@@ -18,33 +18,25 @@ pub(crate) const VERSION: &str = "1.0.0";
 /// What the program does.
 pub(crate) const PROGRAM: &str =
     "Reads the raw packets of one response of SQL Server (TDS 7.4) and writes its
-rows as quoted CSV, in memory that is taken before the first byte is read.
-Standard input is read where no file is named. Text goes to standard output,
-and what is reported to standard error.";
+rows as quoted CSV. One response is read; what follows it is ignored.";
 
 /// How the program ends, and two lines that call it.
-pub(crate) const PROGRAM_END: &str = "Exit statuses:
-  0  done, or help was asked for
-  2  the arguments were refused
-  3  done, and the server reported an error
-  4  the input is refused: a fault, named with its place on standard error
-  5  a read or a write failed, or the file can't be opened
-  6  want of memory
+pub(crate) const PROGRAM_END: &str = "Exit statuses: 0 done, 2 refused arguments, 3 done and the server reported an
+error, 4 a fault of the input, 5 a failed read or write or a file that can't be
+opened, 6 want of memory. The man page tds_replay(1) says what to do then.
 
 Examples:
   tds_replay export response.tds > rows.csv
-  tds_replay check --packet-size 8000 response.tds
-
-The man page and docs/COMMAND.md list what you may see and what to do.";
+  tds_replay check --packet-size 8000 response.tds";
 
 /// The command `export`.
 pub(crate) const EXPORT: Help = Help {
     about: "Writes the rows of a response as CSV",
     long_about: "Reads the packets of one response and writes the rows of its result sets to
 standard output, as quoted CSV in UTF-8: a line of column names, then a line for
-each row, and an empty line between two sets. Lines end with CR LF. Nothing
-after the last packet is read. On standard error stand the counts of what was
-read, or the first fault with its place.",
+each row, and an empty line between two sets. Lines end with CR LF. All memory
+is taken before the first byte is read. Counts of what was read, or the first
+fault with its place, go to standard error.",
     after_help: "Exit statuses: 0 done, 2 refused arguments, 3 done and the server reported an
 error, 4 a fault of the input, 5 a failed read or write or a file that can't be
 opened, 6 want of memory.
@@ -58,8 +50,8 @@ Examples:
 pub(crate) const CHECK: Help = Help {
     about: "Reads a response as export does, and writes no rows",
     long_about: "Reads the packets of one response as export does, and counts its text in place
-of writing it: standard output stays empty. On standard error stand the lines of
-export, and the exit status is that of export.",
+of writing it: standard output stays empty. The lines on standard error and the
+exit status are those of export.",
     after_help: "Exit statuses: 0 done, 2 refused arguments, 3 done and the server reported an
 error, 4 a fault of the input, 5 a failed read or a file that can't be opened,
 6 want of memory.
@@ -74,9 +66,8 @@ pub(crate) const RECUT: Help = Help {
     about: "Writes the packets of a message in another size",
     long_about: "Reads the packets of one message, of up to 32767 bytes each, and writes its
 payload to standard output in packets of the new size, the last of which may be
-shorter. The payload isn't looked at. Nothing after the last packet is read. On
-standard error stand the numbers of packets and of payload bytes, or the first
-fault with its place.",
+shorter. The payload isn't looked at. The numbers of packets and of payload
+bytes, or the first fault with its place, go to standard error.",
     after_help: "Exit statuses: 0 done, 2 refused arguments, 4 a fault of the input, 5 a failed
 read or write or a file that can't be opened, 6 want of memory.
 
@@ -120,6 +111,8 @@ pub(crate) const CHARSET: (&str, &str) = (
 
 /// The file.
 pub(crate) const FILE: (&str, &str) = (
-    "The file of the packets; standard input without it",
-    "The file that the packets stand in; standard input without it",
+    "A response; what follows it is ignored. Standard input without FILE",
+    "The file with the packets; standard input if it isn't given, or is -.
+One response is read; what follows it is ignored: in a file it is
+left out, and on standard input it isn't read.",
 );
