@@ -42,7 +42,7 @@ def wrong_edits() -> Iterator[str]:
     """Edits that PROOFS names and that aren't there, and counts of edits that aren't so."""
     known = edits()
     page = repo.text_of(PROOFS)
-    tables = re.findall(r"(?m)^\| .*\|$", page.split("## Must-fail edits")[1].split("## What no contract")[0])
+    tables = re.findall(r"(?m)^\| .*\|$", page.split("## Laws")[1].split("## What no contract")[0])
     named = {name for row in tables for name in re.findall(r"`(\w+_\w+_\w+\w*)`", row)}
     for name in sorted(named - set().union(*known.values()) - functions("*")):
         if not name.startswith("tds_"):
