@@ -41,9 +41,7 @@ def told(what: str, count: int, pattern: str, *pages: str) -> Iterator[str]:
 def wrong_edits() -> Iterator[str]:
     """Edits that PROOFS names and that aren't there, and counts of edits that aren't so."""
     known = edits()
-    page = repo.text_of(PROOFS)
-    tables = re.findall(r"(?m)^\| .*\|$", page.split("## Laws")[1].split("## What no contract")[0])
-    named = {name for row in tables for name in re.findall(r"`(\w+_\w+_\w+\w*)`", row)}
+    named = set(re.findall(r"`(\w+_\w+_\w+\w*)`", repo.text_of(PROOFS).split("## Laws")[1].split("## What no contract")[0]))
     for name in sorted(named - set().union(*known.values()) - functions("*")):
         if not name.startswith("tds_"):
             yield f"{PROOFS}: no edit {name}"
