@@ -7,7 +7,7 @@
 # take. With your own data, put your file in place of long.tds. Of a live query only the text can be counted, since nobody knows
 # its length before its end: `gavyreto query .. | pv > rows.csv` shows the bytes and their rate, and `pv --line-mode` the lines.
 #
-# It prints the report of the export, below the progress where standard error is a terminal.
+# It prints the report of the export, below the progress if standard error is a terminal.
 set -eu
 
 tools/response long 50000000 > long.tds
