@@ -63,7 +63,7 @@ def in_random_packets(payload: bytes, seed: int) -> bytes:
 
 
 def packings(payload: bytes, count: int) -> Iterator[tuple[str, bytes]]:
-    """A payload in packets of each size from 9 to 80 bytes, and so many times in packets of random sizes."""
+    """A payload in packets of each size from 9 to 80 bytes, and a number of times in packets of random sizes."""
     for size in range(tds.HEADER + 1, 81):
         yield f"packets of {size} bytes", in_packets(payload, size)
     for seed in range(count):

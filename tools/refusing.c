@@ -1,6 +1,6 @@
 /* Loaded before the C library by tools/refused-memory: refuses one request for memory, the one whose number, counted from 1,
-   stands in the variable REFUSED. Without it nothing is refused. Where REFUSED_IN names a program, it is a request of that
-   program alone. Where TOLD_IN names a file, a line is added to it for each of these calls: `asked N BYTES`, with `refused` in
+   is in the variable REFUSED. Without it nothing is refused. If REFUSED_IN names a program, it is a request of only that
+   program. If TOLD_IN names a file, a line is added to it for each of these calls: `asked N BYTES`, with `refused` in
    place of `asked` where it was, `held BLOCK BYTES` of a request that was granted, `freed BLOCK`, and `read` of a read. */
 #define _GNU_SOURCE
 #include <errno.h>

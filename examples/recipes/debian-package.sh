@@ -3,9 +3,9 @@
 #
 # Needs: `dpkg-deb`, `dpkg`, `strip`.
 #
-# `make deb` proves and builds the program where that is needed, or takes the one that PROGRAM=F names, and makes a package: the
+# `make deb` proves and builds the program if that is needed, or takes the one that PROGRAM=F names, and makes a package: the
 # program, the Python package with its command `gavyreto`, their man pages and completion for bash, and the documentation. It
-# needs libc and Python alone, so a machine without the toolchain can run what another one has proved. The same program and the
+# needs only libc and Python, so a machine without the toolchain can run what another one has proved. The same program and the
 # same commit, or SOURCE_DATE_EPOCH, give the same bytes.
 #
 # For your own machine, `make deb` in the repository is enough, and then `apt install ./gavyreto_VERSION_ARCHITECTURE.deb`;

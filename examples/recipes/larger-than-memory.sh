@@ -7,7 +7,7 @@
 # much for 200 megabytes as for two. What reads the text after it has to go by pieces too, as binary_value.py, beside this script,
 # does; a CSV reader would hold the whole field. With your own data, the line of `tds_replay` is enough.
 #
-# The peak of resident memory is told by /usr/bin/time. Where that isn't there, Python tells it; its figure then holds what
+# The peak of resident memory is told by /usr/bin/time. If that isn't there, Python tells it; its figure then holds what
 # Python itself had when it started the program.
 #
 # It prints the peaks for two lengths, and fails if that of the longer value is a megabyte above that of the shorter one.
