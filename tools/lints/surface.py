@@ -104,35 +104,52 @@ def wrong_code() -> Iterator[str]:
 
 # The man page
 
-def wrong_manual() -> Iterator[str]:
-    """Options, ranges, defaults and statuses that the man page tells otherwise than COMMAND, or not at all."""
-    text = manual()
-    synopsis = text.split(".SH SYNOPSIS")[1].split(".SH ")[0].split(".br\n")
+def wrong_synopsis() -> Iterator[str]:
+    """Options of a command that the synopsis of the man page doesn't have as COMMAND has them."""
+    parts = manual().split(".SH SYNOPSIS")[1].split(".SH ")[0].split(".br\n")
     for command, wanted in usages().items():
-        lines = next((it for it in synopsis if f"tds_replay {command}" in it), "")
-        if re.findall(r"--[a-z-]+", lines) != wanted:
-            yield f"{MANUAL}: {command} has {' '.join(wanted)} in {PAGE}, not {' '.join(re.findall(r'--[a-z-]+', lines)) or 'nothing'}"
-    paragraphs = text.split(".SH OPTIONS")[1].split(".SH ")[0].split(".TP\n")
-    heads = {paragraph.split("\n")[0]: paragraph for paragraph in paragraphs[1:]}
+        found = re.findall(r"--[a-z-]+", next((it for it in parts if f"tds_replay {command}" in it), ""))
+        if found != wanted:
+            yield f"{MANUAL}: {command} has {' '.join(wanted)} in {PAGE}, not {' '.join(found) or 'nothing'}"
+
+
+def paragraphs(heading: str) -> dict[str, str]:
+    """The paragraphs of a section of the man page, by their first lines."""
+    parts = manual().split(f".SH {heading}\n")[1].split(".SH ")[0].split(".PP\n.B recut")[0].split(".TP\n")[1:]
+    return dict(part.split("\n", 1) for part in parts)
+
+
+def wrong_paragraph(option: Option) -> Iterator[str]:
+    """What the man page's paragraph of an option tells otherwise than COMMAND; there has to be one."""
+    names = [rf"(?<![\w-]){name}(?![\w-])" for name in option.names]
+    text = next((text for head, text in paragraphs("OPTIONS").items() if all(re.search(name, head) for name in names)), None)
+    if text is None:
+        yield f"{MANUAL}: no {', '.join(option.names)}"
+        return
+    wanted = [option.range] if option.range[:1].isdigit() else option.range.split(", ")
+    found = re.findall(r"\d+ to \d+", text) or [it for it in wanted if it in text]
+    if {*found} != {*wanted}:
+        yield f"{MANUAL}: {option.names[0]} is {', '.join(found) or 'nothing'}, in {PAGE} {option.range}"
+    if option.default and option.default != "the line is refused" and not re.search(rf"Without it\n?[ .BR]*{re.escape(option.default)}\b", text):
+        yield f"{MANUAL}: {option.names[0]} isn't {option.default} if it isn't given"
+
+
+def wrong_options() -> Iterator[str]:
+    """Options, ranges and defaults that the man page tells otherwise than COMMAND, or only one of them has."""
     for option in options():
-        paragraph = next((it for head, it in heads.items() if all(re.search(rf"(?<![\w-]){name}(?![\w-])", head) for name in option.names)), "")
-        if not paragraph:
-            yield f"{MANUAL}: no {', '.join(option.names)}"
-        if option.range and not all(it in paragraph for it in option.range.split(", ")):
-            yield f"{MANUAL}: {option.names[0]} isn't {option.range}"
-        if option.default and option.default != "the line is refused" and not re.search(rf"Without it\n?[ .BR]*{re.escape(option.default)}\b", paragraph):
-            yield f"{MANUAL}: {option.names[0]} isn't {option.default} if it isn't given"
-    for head in heads:
-        for name in re.findall(r"--[a-z-]+", head):
-            if not any(name in option.names for option in options()):
-                yield f"{MANUAL}: {PAGE} has no {name}"
-    section_of = text.split('.SH "EXIT STATUS"')[1].split(".SH ")[0].split(".PP")[0]
-    found = {status: " ".join(meaning.split()).rstrip(".") for status, meaning in re.findall(r"(?s)\.TP\n\.B (\d)\n(.*?)(?=\.TP|\Z)", section_of)}
-    for status, meaning in statuses().items():
-        if found.get(status) != meaning:
-            yield f"{MANUAL}: status {status} is {found.get(status)!r}, in {PAGE} {meaning!r}"
-    if {*found} - {*statuses()}:
-        yield f"{MANUAL}: {PAGE} has no status {', '.join(sorted({*found} - {*statuses()}))}"
+        yield from wrong_paragraph(option)
+    listed = {name for option in options() for name in option.names}
+    for name in re.findall(r"--[a-z-]+", " ".join(paragraphs("OPTIONS"))):
+        if name not in listed:
+            yield f"{MANUAL}: {PAGE} has no {name}"
+
+
+def wrong_statuses() -> Iterator[str]:
+    """Statuses that the man page tells otherwise than COMMAND, or only one of them has."""
+    found = {head.removeprefix(".B "): " ".join(text.split()) for head, text in paragraphs('"EXIT STATUS"').items()}
+    for status in sorted({*found} | {*statuses()}):
+        if found.get(status) != statuses().get(status):
+            yield f"{MANUAL}: status {status} is {found.get(status)!r}, in {PAGE} {statuses().get(status)!r}"
 
 
 def wrong_remedies() -> Iterator[str]:
@@ -271,7 +288,7 @@ def wrong_examples() -> Iterator[str]:
 def findings() -> Iterator[str]:
     """What isn't so of the command's surface."""
     checks = (
-        wrong_code, wrong_manual, wrong_remedies, wrong_help_texts, wrong_help, wrong_completion, wrong_package, wrong_ranges, wrong_examples,
+        wrong_code, wrong_synopsis, wrong_options, wrong_statuses, wrong_remedies, wrong_help_texts, wrong_help, wrong_completion, wrong_package, wrong_ranges, wrong_examples,
     )
     for check in checks:
         yield from check()
