@@ -1,7 +1,7 @@
 """Measures `gavyreto query` with tds_replay beside tsql and freebcp of FreeTDS on tools/stand-in, and what each loses.
 
 Each client asks for the same stored responses on a connection of its own, unencrypted, in packets of 4,096 bytes. Counted
-are the processor's seconds of the client, those in the system included, the least of three runs, and its peak of resident
+are the processor's seconds of the client, those in the system included, the least of seven runs, and its peak of resident
 memory, as /usr/bin/time tells them; the server's aren't. Two pictures are drawn of the costs: bench/draw says how."""
 from __future__ import annotations
 
@@ -17,7 +17,7 @@ from typing import NamedTuple
 import packages
 import repository as repo
 
-RUNS = 3
+RUNS = 7
 ROWS = 300_000
 # The sizes of a value, in MB; the table has the last of them, and a picture all.
 SIZES = [1, 25, 50, 100, 200]

@@ -22,6 +22,7 @@ def tls_record(kind: int, length: int) -> bytes:
 
 
 def login_answer() -> bytes:
+    """The answer to a login."""
     return tds.packet(tds.PacketType.ANSWER, tds.login_ack("Server") + tds.done())
 
 
@@ -42,6 +43,7 @@ class Capture:
         self.client, self.sent = client, {client: 1000, SERVER: 9000}
 
     def frame(self, source: Side, flags: int, start: int, data: bytes = b"") -> None:
+        """Adds a frame of a side, with flags of TCP and data."""
         target = SERVER if source is self.client else self.client
         answered = self.sent[target] if flags & ACK else 0
         tcp = struct.pack(">HHIIBBHHH", source[1], target[1], start, answered, 5 << 4, flags, 64000, 0, 0) + data
@@ -52,6 +54,7 @@ class Capture:
         self.frames.append(bytes(12) + b"\x08\x00" + ip + tcp)
 
     def open(self) -> None:
+        """Adds the three frames that open a connection."""
         for source, flags in (self.client, SYN), (SERVER, SYN | ACK), (self.client, ACK):
             self.frame(source, flags, self.sent[source])
             self.sent[source] += flags & SYN != 0
@@ -66,6 +69,7 @@ class Capture:
         self.sent[source] += len(data)
 
     def write(self, out: BinaryIO) -> None:
+        """Writes the capture."""
         out.write(struct.pack("<IHHiIII", 0xA1B2C3D4, 2, 4, 0, 0, 65535, 1))
         for number, frame in enumerate(self.frames):
             out.write(struct.pack("<IIII", 1_700_000_000, number * 1000, len(frame), len(frame)) + frame)

@@ -22,10 +22,12 @@ def path() -> str:
 
 
 def has_program(name: str) -> bool:
+    """Whether a program is on the path."""
     return shutil.which(name, path=path()) is not None
 
 
 def has_module(python: str, name: str) -> bool:
+    """Whether a Python has a module."""
     return subprocess.run([python, "-c", f"import {name}"], capture_output=True, check=False).returncode == 0
 
 

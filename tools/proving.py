@@ -47,6 +47,7 @@ class Progress:
         self.under_way: list[str] = []
 
     def show(self, line: str = "") -> None:
+        """Shows a line, and what is under way."""
         if line:
             print(f"\r\033[K{line}" if self.shows else line, file=sys.stderr, flush=True)
         if self.shows:
@@ -92,6 +93,7 @@ def first_error(log: str) -> str:
 
 
 def command_for(name: str, jobs: int) -> list[str]:
+    """The command that proves a crate, and runs it if it is a program."""
     if not repo.is_program(name):
         return ["rt", "lib", "--jobs", str(jobs)]
     args = repo.path_of("crates", name, "args")
@@ -143,6 +145,7 @@ def prove_all(asked: list[str], test: Callable[[str, int], None] | None = None) 
     most = at_once()
 
     def work(name: str, jobs: int) -> bool:
+        """Proves a crate if it isn't proved, and runs its tests."""
         if name in lacking and not prove(name, jobs, progress):
             return False
         if name in tested:

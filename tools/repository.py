@@ -83,6 +83,7 @@ def below(name: str) -> list[str]:
 
 
 def is_program(name: str) -> bool:
+    """Whether a crate is a program."""
     return os.path.exists(path_of("crates", name, "src", "main.rt"))
 
 
@@ -95,6 +96,7 @@ def sources(name: str) -> Iterator[str]:
 
 
 def has_tests(name: str) -> bool:
+    """Whether a crate has tests."""
     return any("#[test]" in open(file, encoding="utf-8").read() for file in sources(name) if file.endswith(".rt"))
 
 
@@ -125,6 +127,7 @@ def is_done(what: str, name: str) -> bool:
 
 
 def set_done(what: str, name: str, found: str) -> None:
+    """Notes in bin/ that this was done to the crate as it was."""
     os.makedirs(os.path.join(BIN, what), exist_ok=True)
     with open(os.path.join(BIN, what, name), "w", encoding="utf-8") as it:
         it.write(found)

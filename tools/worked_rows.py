@@ -41,9 +41,11 @@ class Row:
     is_split: bool = False
 
     def input(self) -> bytes:
+        """The bytes of all parts."""
         return b"".join(data for _, data, _ in self.parts)
 
     def text(self) -> bytes:
+        """The text of all parts."""
         return b"".join(text for _, _, text in self.parts)
 
 
@@ -103,6 +105,7 @@ def take(row: Row, line: str) -> None:
 
 
 def read_rows(path: str) -> list[Row]:
+    """The rows of a file."""
     rows: list[Row] = []
     with open(path, encoding="utf-8") as lines:
         for number, line in enumerate(lines, 1):
@@ -124,6 +127,7 @@ def read_rows(path: str) -> list[Row]:
 # Rows that are too long for the file
 
 def made_rows() -> list[Row]:
+    """The rows that are too long for the file."""
     return [longest_row(), null_row(), thirds_row(), careful_row("windows-1252", "cp1252"), careful_row("utf-8", "utf-8")]
 
 
@@ -187,6 +191,7 @@ def careful_row(charset: str, codec: str) -> Row:
 
 
 def all_rows() -> list[Row]:
+    """The rows of examples/worked.txt, and those that are too long for it."""
     return [*read_rows(ROWS), *made_rows()]
 
 

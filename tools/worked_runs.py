@@ -80,6 +80,7 @@ def response_runs(row: Row) -> Iterator[Run]:
 
 
 def runs_of(row: Row) -> Iterator[Run]:
+    """All runs of a row."""
     data = row.input()
     if row.shown:
         yield Run("arguments", row.words, b"\x04", None, "", row.status, 1)

@@ -1,4 +1,4 @@
-"""The texts of scalar values, as tds_replay writes them (docs/PROTOCOL.md, Texts), for the values of a sql_variant."""
+"""The texts of scalar values, as tds_replay writes them (docs/PROTOCOL.md, Text), for the values of a sql_variant."""
 from __future__ import annotations
 
 import struct
