@@ -17,20 +17,21 @@ NEED_RT = command -v rt > /dev/null || { echo "rt isn't there: proving and build
 .PHONY: help try build export install uninstall deb needs test gate lint worked generated recipes python-tests bench try-test refused-memory check
 
 help:
-	@echo "make try FILE=F        exports the response in F, a minute after a fresh clone: before anything is proved"
+	@echo "make try FILE=F        exports the response in F before anything is proved"
 	@echo "make build             proves and builds the program, bin/tds_replay"
-	@echo "make export FILE=F     builds it, and exports the response in F: text to standard output, report to standard error"
-	@echo "make install PREFIX=P  builds it, and puts it, its man page and completion for bash into P; uninstall takes them out"
-	@echo "make deb               builds it, and makes a Debian package of it and of all other commands, bin/gavyreto_*.deb"
-	@echo "make needs             installs the Debian packages that tests and recipes need, and says which"
-	@echo "make test              proves what isn't proved yet, and runs every test, program, example and worked row"
-	@echo "make gate              what a merge needs: every proof from nothing, each must-fail edit, each test and script"
-	@echo "make lint              holds pages, man pages, help and completion to the sources, and checks types"
-	@echo "make worked            runs the program over the worked rows of examples/worked.txt"
-	@echo "make generated         holds the program to a plain reading of 8,000 responses, and to one text in any packets"
-	@echo "make recipes           runs the commands of the pages, and the scripts of examples/recipes"
+	@echo "make export FILE=F     builds it, and exports the response in F"
+	@echo "make install PREFIX=P  puts it and its man page into P; uninstall takes them out"
+	@echo "make deb               makes a Debian package of it and of all other commands"
+	@echo "make needs             installs what tests, recipes and pictures need, as root"
+	@echo "make test              proves what isn't proved yet, and runs every test"
+	@echo "make gate              what a merge needs: each proof, edit, test and script"
+	@echo "make lint              holds pages, help and completion to the sources; types"
+	@echo "make worked            runs the program over the worked rows"
+	@echo "make generated         holds it to a plain reading of 8,000 responses"
+	@echo "make recipes           runs the commands of the pages and of examples/recipes"
 	@echo "make python-tests      tests the Python package, beside a stand-in server too"
-	@echo "make bench WHAT=W      measures text, values, export or peers: docs/PERFORMANCE.md"
+	@echo "make bench WHAT=W      measures text, values, export or peers"
+	@echo "PROGRAM=F takes the program F in place of the one that is built here."
 
 # `rt try` compiles the crates and checks while they run what it can; it proves nothing.
 try:
