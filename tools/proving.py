@@ -124,48 +124,64 @@ def need_programs(names: list[str]) -> None:
             sys.exit(f"crates/{name}/out/{name} isn't there, and bin/ calls it proved: remove bin/proved/{name}, and it is proved again")
 
 
+class Proving:
+    """Crates under way: each is proved once those below it are, and tested, if `test` is given, once it is proved."""
+
+    def __init__(self, names: list[str], lacking: list[str], test: Callable[[str, int], None] | None) -> None:
+        self.lacking, self.test = lacking, test
+        self.tested = [it for it in names if test and repo.has_tests(it)]
+        self.left = [it for it in names if it in lacking or it in self.tested]
+        self.proved = {*names} - {*self.left}
+        self.progress, self.most = Progress(names, lacking), at_once()
+        self.running: dict[Future[bool], str] = {}
+
+    def work(self, name: str, jobs: int) -> bool:
+        """Proves a crate if it isn't proved, and runs its tests."""
+        if name in self.lacking and not prove(name, jobs, self.progress):
+            return False
+        if name in self.tested and self.test:
+            with self.progress.during(f"the tests of {name}"):
+                self.test(name, jobs)
+        return True
+
+    def start(self, pool: ThreadPoolExecutor) -> None:
+        """Starts what is ready. Each process that helps a proof reads the libraries first, so proofs get few more of them than
+        there are processors."""
+        ready = [it for it in self.left if self.proved.issuperset(repo.below(it))]
+        jobs = min(MOST_JOBS, math.ceil(self.most / max(1, len(self.running) + len(ready))))
+        for name in ready:
+            self.left.remove(name)
+            self.running[pool.submit(self.work, name, jobs)] = name
+
+    def take(self) -> None:
+        """Waits until something ends. What is above a crate that isn't proved is given up."""
+        done: set[Future[bool]] = wait(self.running, return_when=FIRST_COMPLETED).done
+        for it in done:
+            name = self.running.pop(it)
+            if it.result():
+                self.proved.add(name)
+            else:
+                self.left = [one for one in self.left if name not in repo.below(one)]
+
+    def run(self) -> None:
+        """Proves and tests all that is left."""
+        self.progress.begin()
+        with ThreadPoolExecutor(self.most) as pool:
+            while self.left or self.running:
+                self.start(pool)
+                self.take()
+
+
 def prove_all(asked: list[str], test: Callable[[str, int], None] | None = None) -> bool:
-    """Proves the crates asked for and those below them, each once those below it are proved. `test`, if it is given, is
-    called with each crate that has tests, once it is proved, and with how many processes its tests may take."""
+    """Proves the crates asked for and those below them. `test`, if it is given, is called with each crate that has tests, once it
+    is proved, and with how many processes its tests may take."""
     names = [it for it in repo.CRATES if it in asked or any(it in repo.below(one) for one in asked)]
     lacking = [it for it in names if not repo.is_done("proved", it)]
     # a library is built anew if a crate above it needs it and it isn't there
     lacking = [it for it in names if it in lacking or not repo.is_built(it) and any(it in repo.below(one) for one in lacking)]
-    tested = [it for it in names if test and repo.has_tests(it)]
-    left = [it for it in names if it in lacking or it in tested]
-    proved = {*names} - {*left}
     need_programs([it for it in names if it not in lacking])
-    if not left:
-        return True
-    run_tests = test or (lambda name, jobs: None)
-    repo.need_rt()
-    progress = Progress(names, lacking)
-    progress.begin()
-    running: dict[Future[bool], str] = {}
-    most = at_once()
-
-    def work(name: str, jobs: int) -> bool:
-        """Proves a crate if it isn't proved, and runs its tests."""
-        if name in lacking and not prove(name, jobs, progress):
-            return False
-        if name in tested:
-            with progress.during(f"the tests of {name}"):
-                run_tests(name, jobs)
-        return True
-
-    with ThreadPoolExecutor(most) as pool:
-        while left or running:
-            ready = [it for it in left if proved.issuperset(repo.below(it))]
-            # each process that helps a proof reads the libraries first, so proofs get few more of them than there are processors
-            jobs = min(MOST_JOBS, math.ceil(most / max(1, len(running) + len(ready))))
-            for name in ready:
-                left.remove(name)
-                running[pool.submit(work, name, jobs)] = name
-            done: set[Future[bool]] = wait(running, return_when=FIRST_COMPLETED).done
-            for it in done:
-                name = running.pop(it)
-                if it.result():
-                    proved.add(name)
-                else:
-                    left = [one for one in left if name not in repo.below(one)]
-    return proved.issuperset(names)
+    proving = Proving(names, lacking, test)
+    if proving.left:
+        repo.need_rt()
+        proving.run()
+    return proving.proved.issuperset(names)
