@@ -21,7 +21,8 @@ pub(crate) const PROGRAM: &str =
 rows as quoted CSV. One response is read; what follows it is ignored.";
 
 /// How the program ends, and two lines that call it.
-pub(crate) const PROGRAM_END: &str = "Exit statuses: 0 done, 2 refused arguments, 3 done and the server reported an
+pub(crate) const PROGRAM_END: &str =
+    "Exit statuses: 0 done, 2 refused arguments, 3 done and the server reported an
 error, 4 a fault of the input, 5 a failed read or write or a file that can't be
 opened, 6 want of memory. The man page tds_replay(1) says what to do then.
 
