@@ -138,6 +138,28 @@ def long_binary(chunks: int) -> bytes:
     return chunked(b"\xA5\xff\xff", bytes(range(250)), chunks)
 
 
+def long_text(words: str, chunks: int) -> bytes:
+    """A value of nvarchar(max) of these words, again and again."""
+    return chunked(b"\xE7\xff\xff" + COLLATION, words.encode("utf-16-le"), chunks)
+
+
+PEOPLE = ["Zoë Müller-Łukasz, née Fröhlich", "Анна Ивановна Соколова", "山田太郎と鈴木花子", "Ana Núñez – 12,50 €"]
+
+
+def people(rows: int) -> bytes:
+    """Rows of names in three scripts and in Windows-1252, a number and a decimal of 17 bytes, all of many lengths."""
+    kinds = [b"\xE7\x78\x00" + COLLATION] * 3 + [b"\xA7\x3C\x00" + COLLATION, b"\x26\x04", b"\x6A\x11\x26\x0A"]
+    payload = bytearray(description_of([(kind, f"column {i}") for i, kind in enumerate(kinds)]))
+    for row in range(rows):
+        payload += b"\xD1"
+        for i, text in enumerate(PEOPLE):
+            value = (text * 2)[row * (i + 3) % 11:][:3 + row * (i + 7) % 29].encode("cp1252" if i == 3 else "utf-16-le")
+            payload += struct.pack("<H", len(value)) + value
+        payload += b"\x04" + struct.pack("<i", row)
+        payload += b"\x11\x01" + (row * 0x9E3779B97F4A7C15F39CC0605CED % 2**116).to_bytes(16, "little")
+    return bytes(payload + DONE)
+
+
 def seconds_of(command: list[str], path: str) -> float:
     """The processor time of one run, in the program and in the system."""
     before = resource.getrusage(resource.RUSAGE_CHILDREN)
@@ -146,14 +168,15 @@ def seconds_of(command: list[str], path: str) -> float:
     return after.ru_utime - before.ru_utime + after.ru_stime - before.ru_stime
 
 
-def text_of(command: list[str], path: str) -> str:
-    """A digest of what a program writes."""
-    digest = hashlib.sha256()
+def text_of(command: list[str], path: str) -> tuple[str, int]:
+    """A digest of what a program writes, and how many bytes that is."""
+    digest, length = hashlib.sha256(), 0
     run = subprocess.Popen([*command, path], stdout=subprocess.PIPE, stderr=subprocess.DEVNULL)
     while piece := cast(IO[bytes], run.stdout).read(1 << 20):
         digest.update(piece)
+        length += len(piece)
     run.wait()
-    return digest.hexdigest()
+    return digest.hexdigest(), length
 
 
 def instructions_of(command: list[str], path: str) -> int:
@@ -189,8 +212,11 @@ RESPONSES = [
     Response("8 columns of eight kinds", "cell", 8, 600_000, mixed),
     Response("8 columns of numbers and short values", "cell", 8, 300_000, short_rows),
     Response("the same as NBCROW, with NULL", "cell", 8, 300_000, null_rows),
+    Response("6 columns of names in three scripts", "cell", 6, 200_000, people),
     Response("varchar(max)", "byte", CHUNK, 25_000, long_narrow),
     Response("nvarchar(max)", "byte", CHUNK, 25_000, long_wide),
+    Response("nvarchar(max), Cyrillic", "byte", CHUNK, 25_000, lambda chunks: long_text("вот слова на каждый день ", chunks)),
+    Response("nvarchar(max), Chinese", "byte", CHUNK, 25_000, lambda chunks: long_text("每天都有新的字和话，", chunks)),
     Response("varbinary(max)", "byte", CHUNK, 25_000, long_binary),
 ]
 
@@ -211,32 +237,39 @@ def instructions_a_unit(command: list[str], folder: str, response: Response) -> 
     return (counts[1] - counts[0]) / ((more - few) * response.units)
 
 
-def measure(folder: str, commands: dict[str, list[str]], response: Response, counts: bool) -> None:
-    """One line of the table for each program."""
+def line_of(who: str, response: Response, size: float, seconds: float, cost: float | None, ratios: list[str]) -> str:
+    """One line of the table."""
+    each = seconds / (response.count * response.units) * 1e9
+    shown = "" if cost is None else f"{cost:.2f}" if response.unit == "byte" else f"{cost:.0f}"
+    nanoseconds = f"{each:.2f}" if response.unit == "byte" else f"{each:.1f}"
+    return f"| {' | '.join([response.name, who, f'{size:.1f}', f'{seconds:.3f}', nanoseconds, shown, *ratios])} |"
+
+
+def measure(folder: str, commands: dict[str, list[str]], floor: str | None, response: Response, counts: bool) -> None:
+    """One line of the table for each program, and for the least that any program does."""
     path = response.file(folder, response.count)
-    if len({text_of(command, path) for command in commands.values()}) > 1:
+    texts = {text_of(command, path) for command in commands.values()}
+    if len(texts) > 1:
         sys.exit(f"{response.name}: the texts differ")
-    best = least_seconds(commands, path)
-    units = response.count * response.units
+    timed = commands | ({"floor": [floor, str(texts.pop()[1])]} if floor else {})
+    best = least_seconds(timed, path)
     size = os.path.getsize(path) / 1e6
     for who, seconds in best.items():
-        ratio = f"{seconds / best['native']:.2f}" if "native" in best else ""
-        cost = instructions_a_unit(commands[who], folder, response) if counts else 0
-        shown = f"{cost:.2f}" if counts and response.unit == "byte" else f"{cost:.0f}" if counts else ""
-        nanoseconds = f"{seconds / units * 1e9:.2f}" if response.unit == "byte" else f"{seconds / units * 1e9:.1f}"
-        print(f"| {response.name} | {who} | {size:.1f} | {seconds:.3f} | {nanoseconds} | {shown} | {ratio} |", flush=True)
+        ratios = [f"{seconds / best[other]:.2f}" if other in best and other != who else "" for other in ("native", "floor")]
+        cost = instructions_a_unit(commands[who], folder, response) if counts and who in commands else None
+        print(line_of(who, response, size, seconds, cost, ratios), flush=True)
 
 
-def run(program: str, native: str | None) -> None:
-    """Prints the table of the program and, if there is one, the native reader."""
+def run(program: str, native: str | None, floor: str | None) -> None:
+    """Prints the table of the program and, if there are such, the native reader and the least that any program does."""
     commands = {"gavyreto": [program, "export"]}
     if native:
         commands["native"] = [native]
     counts = shutil.which("valgrind") is not None
     with tempfile.TemporaryDirectory() as folder:
-        print("| response | program | MB | seconds | nanoseconds a cell or byte | instructions a cell or byte | to native |")
-        print("|---|---|---:|---:|---:|---:|---:|")
+        print("| response | program | MB | seconds | nanoseconds | instructions | to the native reader | to the floor |")
+        print("|---|---|---:|---:|---:|---:|---:|---:|")
         for response in RESPONSES:
-            measure(folder, commands, response, counts)
+            measure(folder, commands, floor, response, counts)
     if not counts:
         print("instructions: valgrind isn't there")
