@@ -1,5 +1,5 @@
 -- The type byte decides how many bytes a TYPE_INFO has, so none begins another, and each describes one kind.
-use Rattle.tds_values.proofs.Words.{◌≡◌, ℕ, true, false, cond, nat_eq, List, [], ◌∷◌, ◌++◌, length, take, Option, Some, None, refl, sym, ap, ◌∙◌, arith, rules, option_and_then, is_some, ◌==◌, ◌||◌, nat_tests, take_at}
+use Rattle.tds_values.proofs.Words.{common_steps, ◌≡◌, ℕ, true, false, cond, nat_eq, List, [], ◌∷◌, ◌++◌, length, take, Option, Some, None, refl, sym, ap, ◌∙◌, arith, rules, option_and_then, is_some, ◌==◌, ◌||◌, nat_tests, take_at}
 use Rattle.std.specs.Prelude.{Bool}
 use Rattle.tds_values.specs.declared.kind.Kind.{Kind}
 use Rattle.tds_values.specs.Kind.{is_valid}
@@ -71,7 +71,4 @@ bare_valid byte = search (rules, one_more) depth 14
 -- a type byte after which nothing follows describes a kind
 pub bare_type : (byte : ℕ) → rest_length byte ≡ Some 0 → (k : Kind) × (kind_of (byte ∷ []) ≡ Some k)
 unfolding rest_length named_kind
-bare_type byte h =
-    let p = (byte == 0x24 || byte == 0x26 || byte == 0x68 || byte == 0x6E || byte == 0x6F || byte == 0x29 || byte == 0x2A || byte == 0x2B) in let q = (is_decimal_type byte) in let r = (byte == 0xA5 || byte == 0xAD) in let s = (byte == 0xA7 || byte == 0xAF || byte == 0xE7 || byte == 0xEF) in
-    let found = bare_rest (bare_kind byte) (cond {A = Option ℕ} p (Some 1) (cond {A = Option ℕ} q (Some 3) (cond {A = Option ℕ} r (Some 2) (cond {A = Option ℕ} s (Some 7) None)))) (some_rest p q r s) h in
-    (found.0, ap (λ o. kind_after byte [] o) h ∙ bare_valid byte ∙ found.1)
+bare_type byte h = grind (arith, common_steps, is_decimal_type, bare_rest, bare_kind, some_rest, kind_after, bare_valid)

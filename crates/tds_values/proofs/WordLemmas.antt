@@ -1,5 +1,5 @@
 -- Digits as the bytes of one number.
-use Rattle.tds_values.proofs.Words.{◌≡◌, ℕ, zero, suc, ◌+◌, ◌-◌, ◌*◌, ◌/◌, ◌%◌, ◌^◌, ◌<◌, ◌≤◌, List, [], ◌∷◌, ◌++◌, refl, sym, ap, ◌∙◌, arith, take, drop, length, pow-succ', pow-suc, div-div-eq-div-mul, bytes_low_first, All, All-head, All-nil, All-push, All-tail, take-put_mid, append-nil, drop-take, put_mid, little_number}
+use Rattle.tds_values.proofs.Words.{common_steps, ◌≡◌, ℕ, zero, suc, ◌+◌, ◌-◌, ◌*◌, ◌/◌, ◌%◌, ◌^◌, ◌<◌, ◌≤◌, List, [], ◌∷◌, ◌++◌, refl, sym, ap, ◌∙◌, arith, take, drop, length, pow-succ', pow-suc, div-div-eq-div-mul, bytes_low_first, All, All-head, All-nil, All-push, All-tail, take-put_mid, append-nil, drop-take, put_mid, little_number}
 use Rattle.tds_values.specs.ScalarText.{last_digits}
 use Rattle.tds_values.proofs.DigitLemmas.{last_digits-add}
 use Rattle.tds_values.proofs.TextLengths.{length-last_digits}
@@ -24,9 +24,7 @@ IsByte n = n < 256
 
 digits_are_bytes : (k n : ℕ) → All IsByte (last_digits k n)
 digits_are_bytes zero n = All-nil IsByte
-digits_are_bytes (suc k) n =
-    let digit : 48 + n % 10 < 256 = omega arith in
-    All-push IsByte (last_digits k (n / 10)) (48 + n % 10) (digits_are_bytes k (n / 10)) digit
+digits_are_bytes (suc k) n = grind (arith, common_steps, All-push, last_digits, (digits_are_bytes k (n / 10)))
 
 -- the low bytes of a number give back what it was made of
 bytes_of-word_of : (xs : List ℕ) → All IsByte xs → bytes_of (length xs) (word_of xs) ≡ xs
@@ -81,6 +79,4 @@ stored old part rest m at k w h e none =
 
 -- and nothing stands after them
 pub nothing_after : (xs : List ℕ) (m at : ℕ) → drop m (take (at + m - at) xs) ≡ []
-nothing_after xs m at =
-    let e : at + m - at ≡ m + 0 = omega arith in
-    ap (λ n. drop m (take n xs)) e ∙ drop-take m 0 xs
+nothing_after xs m at = grind (arith, common_steps, drop-take)

@@ -1,5 +1,5 @@
 -- What the bytes of a kind spell is written, or its fault answered.
-use Rattle.tds_values.proofs.Words.{◌≡◌, ℕ, ◌+◌, ◌*◌, ◌/◌, ◌%◌, ◌^◌, ◌<◌, ◌≤◌, List, ◌++◌, true, false, nat_eq, nat_le, nat_lt, ◌⊎◌, take, drop, length, ℤ, unsigned_abs, codes, Some, None, Ok, Err, refl, sym, ap, subst, ◌∙◌, ⊎_elim, arith, one-le-pow, div_below, le-div, and_from, and_parts, and_right, cases_lt, nat_tests, little_number, IfOk, IfErr}
+use Rattle.tds_values.proofs.Words.{common_steps, ◌≡◌, ℕ, ◌+◌, ◌*◌, ◌/◌, ◌%◌, ◌^◌, ◌<◌, ◌≤◌, List, ◌++◌, true, false, nat_eq, nat_le, nat_lt, ◌⊎◌, take, drop, length, ℤ, unsigned_abs, codes, Some, None, Ok, Err, refl, sym, ap, subst, ◌∙◌, ⊎_elim, arith, one-le-pow, div_below, le-div, and_from, and_parts, and_right, cases_lt, nat_tests, little_number, IfOk, IfErr}
 use Rattle.tds_values.specs.declared.kind.Kind.{Kind}
 use Rattle.tds_values.specs.declared.kind.Kind.TheVariants as kinds
 use Rattle.tds_values.specs.declared.scalar.ScalarValue.{ScalarValue}
@@ -32,17 +32,14 @@ written kind bytes new value n long is range text short = grind (arith, read_ok)
 -- a value out of its range is refused
 pub refused : (kind : Kind) (bytes new : List ℕ) (value : ScalarValue) → is_length_allowed kind (length bytes) ≡ true → value_of kind bytes ≡ Some value → is_in_range value ≡ false
     → IsWritten (read_of kind bytes) (Err faults.Value) new
-refused kind bytes new value long is range = subst (λ r. IsWritten r (Err faults.Value) new) (sym (read_bad kind bytes value long is range)) refl
+refused kind bytes new value long is range = grind (arith, common_steps, IsWritten, read_bad)
 
 equal : (a b : ℕ) → a ≡ b → nat_eq a b ≡ true
 equal a b e = grind (arith, nat_tests)
 
 -- a time of day by its whole seconds
 pub time_in : (scale units : ℕ) → scale ≤ 7 → units / 10 ^ scale < 86400 → is_time scale units ≡ true
-time_in scale units s less =
-    let positive : 1 ≤ 10 ^ scale = one-le-pow scale 10 (omega arith) in
-    let below : units < 86400 * 10 ^ scale = ⊎_elim (λ l. l) (λ ge. let more = le-div 86400 units (10 ^ scale) (omega arith) ge in absurd (omega arith)) (cases_lt units (86400 * 10 ^ scale)) in
-    grind (arith, nat_tests)
+time_in scale units s less = grind (arith, common_steps, one-le-pow, ⊎_elim, le-div, cases_lt, nat_tests)
 
 pub time_out : (scale units : ℕ) → 86400 ≤ units / 10 ^ scale → is_time scale units ≡ false
 time_out scale units more = grind (arith, and_right, cases_lt, div_below, nat_tests, one-le-pow)

@@ -1,4 +1,4 @@
-use Rattle.tds_values.proofs.Words.{◌≡◌, ℕ, ◌+◌, ◌/◌, ◌%◌, ◌<◌, ◌≤◌, [], ◌∷◌, ◌++◌, true, false, cond, nat_le, inl, inr, refl, sym, ap, ◌∙◌, ⊎_elim, arith, decimal, cases_lt, nat_tests}
+use Rattle.tds_values.proofs.Words.{common_steps, ◌≡◌, ℕ, ◌+◌, ◌/◌, ◌%◌, ◌<◌, ◌≤◌, [], ◌∷◌, ◌++◌, true, false, cond, nat_le, inl, inr, refl, sym, ap, ◌∙◌, ⊎_elim, arith, decimal, cases_lt, nat_tests}
 use Rattle.tds_values.proofs.DigitLemmas.{decimal_last}
 use Rattle.tds_values.proofs.Joining.{joined}
 use Rattle.tds_values.proofs.TableLemmas.{digits_at}
@@ -19,6 +19,4 @@ text : (n p q : ℕ) → n < 100 → p ≡ 48 + n / 10 → q ≡ 48 + n % 10 →
 text n p q h ep eq = ⊎_elim (λ less. one n p q less eq) (λ more. two n p q more h ep eq) (cases_lt n 10)
 
 pub returns-clause-written : goal.returns-clause-written
-returns-clause-written c =
-    let d = digits_at c.args.n c.requires.small in
-    joined _ _ _ _ _ _ c.put_kept-at.ensures.written c.put_byte.ensures.written (text c.args.n _ _ c.requires.small d.first d.second)
+returns-clause-written c = grind (arith, common_steps, digits_at, joined, text)

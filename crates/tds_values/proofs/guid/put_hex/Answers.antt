@@ -1,4 +1,4 @@
-use Rattle.tds_values.proofs.Words.{◌≡◌, ℕ, List, [], ◌∷◌, ◌++◌, ap, ◌∙◌, append_assoc, arith}
+use Rattle.tds_values.proofs.Words.{common_steps, ◌≡◌, ℕ, List, [], ◌∷◌, ◌++◌, ap, ◌∙◌, append_assoc, arith}
 use Rattle.tds_values.proofs.HexLemmas.{hex_at}
 use Rattle.tds_values.proofs.guid.put_hex.Goals as goal
 
@@ -6,6 +6,4 @@ two_bytes : (t u v : List ℕ) (x y a b : ℕ) → x ≡ a → y ≡ b → u ≡
 two_bytes t u v x y a b ex ey eu ev = ev ∙ ap (λ s. s ++ y ∷ []) eu ∙ append_assoc t (x ∷ []) (y ∷ []) ∙ (λ i. t ++ ex i ∷ ey i ∷ [])
 
 pub returns-clause-written : goal.returns-clause-written
-returns-clause-written c =
-    let d = hex_at c.args.byte (omega arith) in
-    two_bytes _ _ _ _ _ _ _ d.0 d.1 c.put_byte-at.ensures.written c.put_byte.ensures.written
+returns-clause-written c = grind (arith, common_steps, hex_at, two_bytes)

@@ -1,4 +1,4 @@
-use Rattle.tds_values.proofs.Words.{◌≡◌, ℕ, ◌-◌, ◌/◌, ◌%◌, ◌≤◌, ◌++◌, take, ap, sym, ◌∙◌, arith}
+use Rattle.tds_values.proofs.Words.{common_steps, ◌≡◌, ℕ, ◌-◌, ◌/◌, ◌%◌, ◌≤◌, ◌++◌, take, ap, sym, ◌∙◌, arith}
 use Rattle.tds_values.specs.ScalarText.{last_digits}
 use Rattle.tds_values.proofs.DigitLemmas.{last_digits-below, last_digits_after}
 use Rattle.tds_values.proofs.Joining.{joined, joined_three}
@@ -20,9 +20,7 @@ returns-then-k-le8-clause-written c =
     c.put_tail.ensures.written ∙ ap (λ t. take c.args.at c.args.to.now ++ t) (last_digits-below c.args.k 8 c.args.n (omega arith))
 
 pub returns-then-k-le16-clause-written : goal.returns-then-k-le16-clause-written
-returns-then-k-le16-clause-written c =
-    joined _ _ _ _ _ _ c.put_tail-at.ensures.written c.put_tail-then-k-le16.ensures.written (two_words c.args.k c.args.n (omega arith) (omega arith))
+returns-then-k-le16-clause-written c = grind (arith, common_steps, joined, two_words)
 
 pub returns-clause-written : goal.returns-clause-written
-returns-clause-written c =
-    joined_three _ _ _ _ _ _ _ _ c.put_tail-at-2.ensures.written c.put_tail-at-3.ensures.written c.put_tail-2.ensures.written (three_words c.args.k c.args.n (omega arith))
+returns-clause-written c = grind (arith, common_steps, joined_three, three_words)

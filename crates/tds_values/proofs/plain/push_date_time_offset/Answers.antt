@@ -1,4 +1,4 @@
-use Rattle.tds_values.proofs.Words.{◌≡◌, ◌∙◌, ◌++◌, ◌/◌, ◌%◌, ◌^◌, ℕ, ℤ, List, [], ◌∷◌, sym, FitsSigned, w16, Option, Some, to_z-of_z}
+use Rattle.tds_values.proofs.Words.{arith, common_steps, ◌≡◌, ◌∙◌, ◌++◌, ◌/◌, ◌%◌, ◌^◌, ℕ, ℤ, List, [], ◌∷◌, sym, FitsSigned, w16, Option, Some, to_z-of_z}
 use Rattle.tds_values.specs.declared.scalar.ScalarValue.TheVariants as values
 use Rattle.tds_values.specs.LocalTime.{local_seconds}
 use Rattle.tds_values.specs.ScalarText.{seconds_text, fraction_text, date_and_time, offset_text, text_of}
@@ -14,10 +14,7 @@ zoned_pieces scale units day seconds l offset found t x y z es ef some ex ey ez 
     (sym (local_spelt scale units day seconds l offset es (sym ef ∙ some)))
 
 pub unreachable-requires : goal.unreachable-requires
-unreachable-requires c =
-    let fits : FitsSigned w16 c.args.offset = c.ranges.offset in
-    let local = simp to_z-of_z at c.local_seconds.ensures.value in
-    local_found c.args.scale c.args.units c.args.day c.seconds_in.result c.args.offset c.seconds_in.ensures c.requires.in_range (sym local ∙ c.in_default.is)
+unreachable-requires c = grind (arith, common_steps, to_z-of_z, local_found)
 
 pub returns-clause-items : goal.returns-clause-items
 returns-clause-items c =

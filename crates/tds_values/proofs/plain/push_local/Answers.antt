@@ -1,11 +1,10 @@
-use Rattle.tds_values.proofs.Words.{◌≡◌, ℕ, List, [], ◌∷◌, ◌++◌, ◌/◌, ◌%◌, refl}
+use Rattle.tds_values.proofs.Words.{arith, common_steps, ◌≡◌, ℕ, List, [], ◌∷◌, ◌++◌, ◌/◌, ◌%◌, refl}
 use Rattle.tds_values.specs.ScalarText.{date_text, seconds_text, fraction_text, date_and_time}
 use Rattle.tds_values.proofs.Joining.{joined, joined_three}
 use Rattle.tds_values.proofs.plain.push_local.Goals as goal
 
 moment_pieces : (n : ℕ) (t s f w x y z : List ℕ) → w ≡ t ++ date_text n → x ≡ w ++ 32 ∷ [] → y ≡ x ++ s → z ≡ y ++ f → z ≡ t ++ date_and_time n (s ++ f)
-moment_pieces n t s f w x y z ew ex ey ez =
-    joined_three t (date_text n) (32 ∷ []) (s ++ f) (date_and_time n (s ++ f)) w x z ew ex (joined x s f (s ++ f) y z ey ez refl) refl
+moment_pieces n t s f w x y z ew ex ey ez = grind (arith, common_steps, joined_three, date_text, date_and_time, joined)
 
 pub returns-clause-items : goal.returns-clause-items
 returns-clause-items c =
