@@ -1,6 +1,5 @@
 pub mod CalendarLemmas
 pub mod DigitLemmas
-pub mod HexLemmas
 pub mod JiffDates
 pub mod Joining
 pub mod LocalLemmas

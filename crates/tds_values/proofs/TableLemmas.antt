@@ -1,29 +1,20 @@
 -- The tables of digits.
-use Rattle.tds_values.proofs.Words.{◌≡◌, ℕ, zero, suc, ◌+◌, ◌-◌, ◌*◌, ◌/◌, ◌%◌, ◌<◌, Bool, true, T, eqb, eqb→eq, eq-zero-or-pos, ◌&&◌, get_or, inl, inr, arith, and_l, and_r}
-use Rattle.tds_values.specs.declared.digits.TheConstants.{PAIRS, WORDS}
+use Rattle.tds_values.proofs.Words.{◌≡◌, ℕ, ◌+◌, ◌*◌, ◌/◌, ◌%◌, ◌<◌, true, refl, get_or, ◌==◌, agree_below, agree_below_at, eqb-true, hex_digit, lower}
+use Rattle.tds_values.specs.declared.{digits.TheConstants.PAIRS, digits.TheConstants.WORDS, guid.TheConstants.HEX}
 
--- the entries below n are the digits of their place
-abbrev are_digits : ℕ → Bool
-are_digits zero = true
-are_digits (suc p) =
-    (eqb (get_or PAIRS (p * 2) 0) (48 + p / 10) && eqb (get_or PAIRS (p * 2 + 1) 0) (48 + p % 10))
-    && eqb (get_or WORDS p 0) (48 + p / 10 + 256 * (48 + p % 10)) && are_digits p
+-- functions agree below n that do so where they are computed
+pub each_below : (f g : ℕ → ℕ) (n : ℕ) → agree_below (λ k. f k == g k) (λ _. true) n ≡ true → (k : ℕ) → k < n → f k ≡ g k
+each_below f g n all k h = eqb-true (f k) (g k) (agree_below_at (λ k. f k == g k) (λ _. true) n k all h)
 
-pub record Digits (p : ℕ) : Type 0 where
-  pub first : get_or PAIRS (p * 2) 0 ≡ 48 + p / 10
-  pub second : get_or PAIRS (p * 2 + 1) 0 ≡ 48 + p % 10
-  pub word : get_or WORDS p 0 ≡ 48 + p / 10 + 256 * (48 + p % 10)
+-- the two digits of a number, as bytes and as one number
+pub pair_at : (p : ℕ) → p < 100 → (get_or PAIRS (p * 2) 0 ≡ 48 + p / 10) × (get_or PAIRS (p * 2 + 1) 0 ≡ 48 + p % 10)
+pair_at p h =
+    (each_below (λ p. get_or PAIRS (p * 2) 0) (λ p. 48 + p / 10) 100 refl p h, each_below (λ p. get_or PAIRS (p * 2 + 1) 0) (λ p. 48 + p % 10) 100 refl p h)
 
-below : (n p : ℕ) → T (are_digits n) → p < n → Digits p
-below zero p t h = absurd (omega arith)
-below (suc n) p t h =
-    elim (eq-zero-or-pos (n - p)) [
-      | inl z ↦ let e : p ≡ n = omega arith in
-          let entries = and_l _ (are_digits n) t in
-          let pair = and_l _ _ entries in
-          rw e (record { first = eqb→eq _ _ (and_l _ _ pair); second = eqb→eq _ _ (and_r _ _ pair); word = eqb→eq _ _ (and_r _ _ entries) })
-      | inr g ↦ below n p (and_r _ (are_digits n) t) (omega arith)
-    ]
+pub word_at : (p : ℕ) → p < 100 → get_or WORDS p 0 ≡ 48 + p / 10 + 256 * (48 + p % 10)
+word_at p h = each_below (λ p. get_or WORDS p 0) (λ p. 48 + p / 10 + 256 * (48 + p % 10)) 100 refl p h
 
-pub digits_at : (p : ℕ) → p < 100 → Digits p
-digits_at p h = below 100 p tt h
+-- the two hexadecimal digits of a byte
+pub hex_at : (b : ℕ) → b < 256 → (get_or HEX (b * 2) 0 ≡ hex_digit lower (b / 16 % 16)) × (get_or HEX (b * 2 + 1) 0 ≡ hex_digit lower (b % 16))
+hex_at b h =
+    (each_below (λ b. get_or HEX (b * 2) 0) (λ b. hex_digit lower (b / 16 % 16)) 256 refl b h, each_below (λ b. get_or HEX (b * 2 + 1) 0) (λ b. hex_digit lower (b % 16)) 256 refl b h)

@@ -18,44 +18,34 @@ bytes_of (suc k) n = n % 256 ∷ bytes_of k (n / 256)
 pub eight_digits : (n : ℕ) → little_number 8 (last_digits 8 n) ≡ word_of (last_digits 8 n)
 eight_digits n = refl
 
--- a number that a byte can be
-abbrev IsByte : ℕ → Type 0
-IsByte n = n < 256
-
-digits_are_bytes : (k n : ℕ) → All IsByte (last_digits k n)
-digits_are_bytes zero n = All-nil IsByte
-digits_are_bytes (suc k) n = grind (arith, common_steps, All-push, last_digits, (digits_are_bytes k (n / 10)))
+digits_are_bytes : (k n : ℕ) → All (λ b. b < 256) (last_digits k n)
+digits_are_bytes zero n = All-nil (λ b. b < 256)
+digits_are_bytes (suc k) n = All-push (λ b. b < 256) (last_digits k (n / 10)) (48 + n % 10) (digits_are_bytes k (n / 10)) (omega arith)
 
 -- the low bytes of a number give back what it was made of
-bytes_of-word_of : (xs : List ℕ) → All IsByte xs → bytes_of (length xs) (word_of xs) ≡ xs
+bytes_of-word_of : (xs : List ℕ) → All (λ b. b < 256) xs → bytes_of (length xs) (word_of xs) ≡ xs
 bytes_of-word_of [] h = refl
-bytes_of-word_of (x ∷ xs) h = grind (arith, All-head, All-tail, (bytes_of-word_of xs (All-tail IsByte x xs h)))
+bytes_of-word_of (x ∷ xs) h = grind (arith, All-head, All-tail, (bytes_of-word_of xs (All-tail (λ b. b < 256) x xs h)))
 
 -- a shift takes the first bytes away
-word_of-shift : (xs ys : List ℕ) → All IsByte xs → word_of (xs ++ ys) / 256 ^ length xs ≡ word_of ys
-word_of-shift [] ys h = let e : word_of ys / 1 ≡ word_of ys = omega arith in e
+word_of-shift : (xs ys : List ℕ) → All (λ b. b < 256) xs → word_of (xs ++ ys) / 256 ^ length xs ≡ word_of ys
+word_of-shift [] ys h = omega arith
 word_of-shift (x ∷ xs) ys h =
-    let b : x < 256 = All-head IsByte x xs h in
+    let b : x < 256 = All-head (λ b. b < 256) x xs h in
     let high : (x + 256 * word_of (xs ++ ys)) / 256 ≡ word_of (xs ++ ys) = omega arith in
-    ap (λ p. (x + 256 * word_of (xs ++ ys)) / p) (pow-succ' 256 (length xs)) ∙ sym (div-div-eq-div-mul (x + 256 * word_of (xs ++ ys)) 256 (256 ^ length xs))
-    ∙ ap (λ m. m / 256 ^ length xs) high ∙ word_of-shift xs ys (All-tail IsByte x xs h)
+    rw (pow-succ' 256 (length xs), ← div-div-eq-div-mul (x + 256 * word_of (xs ++ ys)) 256 (256 ^ length xs), high) (word_of-shift xs ys (All-tail (λ b. b < 256) x xs h))
+
+shifted : (xs ys : List ℕ) → All (λ b. b < 256) xs → All (λ b. b < 256) ys → bytes_of (length ys) (word_of (xs ++ ys) / 256 ^ length xs) ≡ ys
+shifted xs ys h g = rw (word_of-shift xs ys h) (bytes_of-word_of ys g)
 
 -- of a digits in a word, a shift leaves the last k
 pub shifted_digits : (a k n : ℕ) → bytes_of k (word_of (last_digits (a + k) n) / 256 ^ a) ≡ last_digits k n
 shifted_digits a k n =
-    let first = last_digits a (n / 10 ^ k) in
-    let last = last_digits k n in
-    ap (λ t. bytes_of k (word_of t / 256 ^ a)) (last_digits-add a k n)
-    ∙ ap (λ m. bytes_of k (word_of (first ++ last) / 256 ^ m)) (sym (length-last_digits a (n / 10 ^ k)))
-    ∙ ap (bytes_of k) (word_of-shift first last (digits_are_bytes a (n / 10 ^ k)))
-    ∙ ap (λ m. bytes_of m (word_of last)) (sym (length-last_digits k n))
-    ∙ bytes_of-word_of last (digits_are_bytes k n)
+    rw (last_digits-add a k n) (rw (length-last_digits k n, length-last_digits a (n / 10 ^ k)) at (shifted (last_digits a (n / 10 ^ k)) (last_digits k n) (digits_are_bytes a (n / 10 ^ k)) (digits_are_bytes k n)))
 
 pub take-bytes_of : (k j w : ℕ) → take k (bytes_of (k + j) w) ≡ bytes_of k w
 take-bytes_of zero j w = refl
-take-bytes_of (suc k) j w =
-    let e : suc k + j ≡ suc (k + j) = omega arith in
-    ap (λ m. take (suc k) (bytes_of m w)) e ∙ ap (λ t. w % 256 ∷ t) (take-bytes_of k j (w / 256))
+take-bytes_of (suc k) j w = let e : suc k + j ≡ suc (k + j) = omega arith in rw (e, take-bytes_of k j (w / 256))
 
 low_bytes : (i k n : ℕ) → bytes_low_first i k n ≡ bytes_of k (n / 256 ^ i)
 low_bytes i zero n = refl
@@ -63,20 +53,14 @@ low_bytes i (suc k) n = grind (arith, div-div-eq-div-mul, pow-suc, (low_bytes (s
 
 -- the bytes of a whole number
 pub whole_word : (m w : ℕ) → bytes_low_first 0 m w ≡ bytes_of m w
-whole_word m w = low_bytes 0 m w ∙ (let one : w / 256 ^ 0 ≡ w = omega arith in ap (bytes_of m) one)
+whole_word m w = let one : w / 256 ^ 0 ≡ w = omega arith in rw one at (low_bytes 0 m w)
+
+length-bytes_of : (m w : ℕ) → length (bytes_of m w) ≡ m
+length-bytes_of zero w = refl
+length-bytes_of (suc m) w = ap suc (length-bytes_of m (w / 256))
 
 -- the m bytes of a word, stored after `at`
-pub stored : (old part rest : List ℕ) (m at k w : ℕ) → at ≤ length old → part ≡ bytes_low_first 0 m w ++ rest → rest ≡ []
-    → take (at + m) (put_mid at k old part) ≡ take at old ++ bytes_of m w
-stored old part rest m at k w h e none =
-    let bytes : part ≡ bytes_of m w = e ∙ ap (λ r. bytes_low_first 0 m w ++ r) none ∙ append-nil _ ∙ whole_word m w in
-    let long : at + m ≡ at + length (bytes_of m w) = ap (λ j. at + j) (sym (length-bytes_of m w)) in
-    ap (λ p. take (at + m) (put_mid at k old p)) bytes ∙ take-put_mid at k old (bytes_of m w) (at + m) long h
-  where
-    length-bytes_of : (m w : ℕ) → length (bytes_of m w) ≡ m
-    length-bytes_of zero w = refl
-    length-bytes_of (suc m) w = ap suc (length-bytes_of m (w / 256))
-
--- and nothing stands after them
-pub nothing_after : (xs : List ℕ) (m at : ℕ) → drop m (take (at + m - at) xs) ≡ []
-nothing_after xs m at = grind (arith, common_steps, drop-take)
+pub stored : (old part : List ℕ) (m at k w : ℕ) → at ≤ length old → part ≡ bytes_low_first 0 m w ++ drop m (take (at + m - at) (drop at old)) → take (at + m) (put_mid at k old part) ≡ take at old ++ bytes_of m w
+stored old part m at k w h e =
+    let none : at + m - at ≡ m + 0 = omega arith in
+    rw (e, none, drop-take m 0 (drop at old), append-nil, whole_word) (take-put_mid at k old (bytes_of m w) (at + m) (omega (arith, length-bytes_of m w)) h)

@@ -1,6 +1,6 @@
 use Rattle.tds_values.proofs.Words.{common_steps, ◌++◌, ◌∙◌, ap, sym, take, drop, arith}
-use Rattle.tds_values.proofs.WordLemmas.{stored, nothing_after, whole_word}
+use Rattle.tds_values.proofs.WordLemmas.{stored, whole_word}
 use Rattle.tds_values.proofs.digits.put_word.Goals as goal
 
 pub returns-clause-written : goal.returns-clause-written
-returns-clause-written c = grind (arith, common_steps, stored, nothing_after, whole_word)
+returns-clause-written c = grind (arith, common_steps, stored, whole_word)

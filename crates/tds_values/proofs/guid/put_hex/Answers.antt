@@ -1,5 +1,5 @@
 use Rattle.tds_values.proofs.Words.{common_steps, ◌≡◌, ℕ, List, [], ◌∷◌, ◌++◌, ap, ◌∙◌, append_assoc, arith}
-use Rattle.tds_values.proofs.HexLemmas.{hex_at}
+use Rattle.tds_values.proofs.TableLemmas.{hex_at}
 use Rattle.tds_values.proofs.guid.put_hex.Goals as goal
 
 two_bytes : (t u v : List ℕ) (x y a b : ℕ) → x ≡ a → y ≡ b → u ≡ t ++ x ∷ [] → v ≡ u ++ y ∷ [] → v ≡ t ++ a ∷ b ∷ []
