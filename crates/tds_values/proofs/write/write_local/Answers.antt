@@ -1,9 +1,10 @@
-use Rattle.tds_values.proofs.Words.{common_steps, ◌∙◌, sym, FitsSigned, w16, arith, to_z-of_z}
-use Rattle.tds_values.proofs.WrittenLemmas.{local_refused, local_written}
+use Rattle.tds_values.proofs.Words.{arith, common_steps, to_z-of_z}
+use Rattle.tds_values.proofs.LocalLemmas.{local_by_seconds}
+use Rattle.tds_values.proofs.WrittenLemmas.{time_in, local_spelt, at_most}
 use Rattle.tds_values.proofs.write.write_local.Goals as goal
 
 pub returns-in_default : goal.returns-in_default
-returns-in_default c = grind (arith, common_steps, to_z-of_z, local_refused)
+returns-in_default c = grind (arith, to_z-of_z, local_by_seconds)
 
 pub returns : goal.returns
-returns c = grind (arith, common_steps, to_z-of_z, local_written)
+returns c = grind (arith, to_z-of_z, at_most, local_by_seconds, local_spelt, time_in)
