@@ -1,5 +1,5 @@
 -- Decimal digits, some at a time.
-use Rattle.tds_values.proofs.Words.{append-nil, common_steps, ◌≡◌, ◌⊎◌, ℕ, zero, suc, ◌+◌, ◌-◌, ◌*◌, ◌/◌, ◌%◌, ◌^◌, ◌<◌, ◌≤◌, List, [], ◌∷◌, ◌++◌, refl, sym, ap, subst, ◌∙◌, arith, inl, inr, decimal, append_assoc, decimal_digit, decimal_step_wide, one-le-pow, pow-succ', div-div-eq-div-mul, div-one, div-add-mod, le-div, div_below, pow-add}
+use Rattle.tds_values.proofs.Words.{add-suc, append-nil, common_steps, ◌≡◌, ◌⊎◌, ℕ, zero, suc, ◌+◌, ◌-◌, ◌*◌, ◌/◌, ◌%◌, ◌^◌, ◌<◌, ◌≤◌, List, [], ◌∷◌, ◌++◌, refl, sym, ap, subst, ◌∙◌, arith, inl, inr, decimal, append_assoc, decimal_digit, decimal_step_wide, one-le-pow, pow-succ', div-div-eq-div-mul, div-one, div-add-mod, le-div, div_below, pow-add}
 use Rattle.tds_values.specs.ScalarText.{last_digits}
 
 -- what lies above the last digits doesn't change them
@@ -24,10 +24,7 @@ last_digits-below k m n h =
 -- the last a + b digits are the last a of what lies above the last b, and these
 pub last_digits-add : (a b n : ℕ) → last_digits (a + b) n ≡ last_digits a (n / 10 ^ b) ++ last_digits b n
 last_digits-add a zero n = grind (arith, append-nil, div-one)
-last_digits-add a (suc b) n = rw (add-suc', last_digits-add a b (n / 10), div-div-eq-div-mul n 10 (10 ^ b), ← pow-succ' 10 b, append_assoc)
-  where
-    add-suc' : a + suc b ≡ suc (a + b)
-    add-suc' = omega arith
+last_digits-add a (suc b) n = rw (add-suc, last_digits-add a b (n / 10), div-div-eq-div-mul n 10 (10 ^ b), ← pow-succ' 10 b, append_assoc)
 
 -- the same, of k digits the last b
 pub last_digits_after : (k b n : ℕ) → b ≤ k → last_digits k n ≡ last_digits (k - b) (n / 10 ^ b) ++ last_digits b (n % 10 ^ b)
@@ -54,8 +51,3 @@ decimal_last (suc k) n (inr low) fits small =
 -- eight digits after the text of the rest
 pub decimal_eight : (n : ℕ) → 100000000 ≤ n → n < 10 ^ 64 → decimal n ≡ decimal (n / 100000000) ++ last_digits 8 (n % 100000000)
 decimal_eight n h small = rw (last_digits-mod 8 n) (decimal_split 8 n h small)
-
--- sixteen digits after the text of the rest
-pub decimal_sixteen : (n : ℕ) → 10000000000000000 ≤ n → n < 10 ^ 64
-    → decimal n ≡ (decimal (n / 10000000000000000) ++ last_digits 8 (n / 100000000 % 100000000)) ++ last_digits 8 (n % 100000000)
-decimal_sixteen n h small = grind (arith, decimal_eight)

@@ -4,9 +4,6 @@ use Rattle.tds_values.proofs.Words.{◌≡◌, ℕ, ◌+◌, ◌≤◌, List, �
 pub joined : (t a b d x y : List ℕ) → x ≡ t ++ a → y ≡ x ++ b → d ≡ a ++ b → y ≡ t ++ d
 joined t a b d x y ex ey ed = rw (ey, ex, ed, append_assoc)
 
-pub joined_three : (t a b e d x y z : List ℕ) → x ≡ t ++ a → y ≡ x ++ b → z ≡ y ++ e → d ≡ (a ++ b) ++ e → z ≡ t ++ d
-joined_three t a b e d x y z ex ey ez ed = rw (ez, ey, ex, ed) (simp append_assoc)
-
 -- where a piece ends
 pub end_of : (old new piece : List ℕ) (at r : ℕ) → at ≤ length old → r ≤ length new → take r new ≡ take at old ++ piece → r ≡ at + length piece
 end_of old new piece at r ho hn e = omega (arith, ap length e, length-append {A = ℕ}, length-take-le r new hn, length-take-le at old ho)

@@ -16,11 +16,8 @@ local_by_seconds scale units day offset =
     let t = day * 86400 + units / p in
     grind (arith, (div-add-mod units p), (more p o t (units % p) small), (mul-le o p t p), (more p 315537897600 (t + o) (units % p) small), (mul-le 315537897600 p (t + o) p))
 
-back : (p f o t l : ℕ) → o ≤ t → t - o ≡ l → t * p + f - o * p ≡ l * p + f
-back p f o t l h e = let sum : l + o ≡ t = omega arith in omega (arith, ap (λ k. k * p) sum)
-
-forth : (p o t l : ℕ) → t + o ≡ l → t * p + o * p ≡ l * p
-forth p o t l e = omega (arith, ap (λ k. k * p) e)
+scaled_sum : (p s o t : ℕ) → s + o ≡ t → s * p + o * p ≡ t * p
+scaled_sum p s o t e = omega (arith, ap (λ k. k * p) e)
 
 -- and its units are those seconds and the fraction
 pub units_of_seconds : (scale units day l : ℕ) (offset : ℤ) → local_seconds (units / 10 ^ scale) day offset ≡ Some l
@@ -29,13 +26,13 @@ units_of_seconds scale units day l offset h =
     let p = 10 ^ scale in
     let o = unsigned_abs offset * 60 in
     let t = day * 86400 + units / p in
-    grind (arith, (div-add-mod units p), (back p (units % p) o t l), (forth p o t l))
+    grind (arith, (div-add-mod units p), (scaled_sum p t o l), (scaled_sum p l o t))
 
 fraction-above : (scale x f : ℕ) → fraction_text scale (x * 10 ^ scale + f) ≡ fraction_text scale f
 fraction-above scale x f = let turned : x * 10 ^ scale ≡ 10 ^ scale * x = omega arith in rw (turned, last_digits-above)
 
-parts_1 : (p l f : ℕ) → f < p → ((l * p + f) / (86400 * p) ≡ l / 86400) × ((l * p + f) % (86400 * p) ≡ l % 86400 * p + f)
-parts_1 p l f small =
+day_parts : (p l f : ℕ) → f < p → ((l * p + f) / (86400 * p) ≡ l / 86400) × ((l * p + f) % (86400 * p) ≡ l % 86400 * p + f)
+day_parts p l f small =
     let short : l % 86400 * p + f < 86400 * p = more p 86400 (l % 86400) f small (omega arith) in
     let whole : l * p + f ≡ l / 86400 * (86400 * p) + (l % 86400 * p + f) = omega (arith, ap (λ k. k * p) (div-add-mod l 86400)) in
     rw whole (div-mul-add (l / 86400) (86400 * p) (l % 86400 * p + f) short, mod-mul-add (l / 86400) (86400 * p) (l % 86400 * p + f) short)
@@ -45,5 +42,5 @@ pub text_of_seconds : (scale l units : ℕ)
     → local_text scale (l * 10 ^ scale + units % 10 ^ scale) ≡ date_and_time (l / 86400) (seconds_text (l % 86400) ++ fraction_text scale units)
 text_of_seconds scale l units =
     let small : units % 10 ^ scale < 10 ^ scale = mod_below units (10 ^ scale) (one-le-pow scale 10 (omega arith)) in
-    let p = parts_1 (10 ^ scale) l (units % 10 ^ scale) small in
+    let p = day_parts (10 ^ scale) l (units % 10 ^ scale) small in
     rw (p.0, p.1, div-mul-add (l % 86400) (10 ^ scale) (units % 10 ^ scale) small, fraction-above scale (l % 86400) (units % 10 ^ scale), last_digits-mod scale units)

@@ -1,5 +1,5 @@
 -- Digits as the bytes of one number.
-use Rattle.tds_values.proofs.Words.{common_steps, ◌≡◌, ℕ, zero, suc, ◌+◌, ◌-◌, ◌*◌, ◌/◌, ◌%◌, ◌^◌, ◌<◌, ◌≤◌, List, [], ◌∷◌, ◌++◌, refl, sym, ap, ◌∙◌, arith, take, drop, length, pow-succ', pow-suc, div-div-eq-div-mul, bytes_low_first, All, All-head, All-nil, All-push, All-tail, take-put_mid, append-nil, drop-take, put_mid, little_number}
+use Rattle.tds_values.proofs.Words.{add-suc, common_steps, ◌≡◌, ℕ, zero, suc, ◌+◌, ◌-◌, ◌*◌, ◌/◌, ◌%◌, ◌^◌, ◌<◌, ◌≤◌, List, [], ◌∷◌, ◌++◌, refl, sym, ap, ◌∙◌, arith, take, drop, length, pow-succ', pow-suc, div-div-eq-div-mul, bytes_low_first, All, All-head, All-nil, All-push, All-tail, take-put_mid, append-nil, drop-take, put_mid, little_number}
 use Rattle.tds_values.specs.ScalarText.{last_digits}
 use Rattle.tds_values.proofs.DigitLemmas.{last_digits-add}
 use Rattle.tds_values.proofs.TextLengths.{length-last_digits}
@@ -43,9 +43,9 @@ pub shifted_digits : (a k n : ℕ) → bytes_of k (word_of (last_digits (a + k) 
 shifted_digits a k n =
     rw (last_digits-add a k n) (rw (length-last_digits k n, length-last_digits a (n / 10 ^ k)) at (shifted (last_digits a (n / 10 ^ k)) (last_digits k n) (digits_are_bytes a (n / 10 ^ k)) (digits_are_bytes k n)))
 
-pub take-bytes_of : (k j w : ℕ) → take k (bytes_of (k + j) w) ≡ bytes_of k w
-take-bytes_of zero j w = refl
-take-bytes_of (suc k) j w = let e : suc k + j ≡ suc (k + j) = omega arith in rw (e, take-bytes_of k j (w / 256))
+pub take-bytes_of : (j k w : ℕ) → take k (bytes_of (j + k) w) ≡ bytes_of k w
+take-bytes_of j zero w = refl
+take-bytes_of j (suc k) w = rw (add-suc, take-bytes_of j k (w / 256))
 
 low_bytes : (i k n : ℕ) → bytes_low_first i k n ≡ bytes_of k (n / 256 ^ i)
 low_bytes i zero n = refl

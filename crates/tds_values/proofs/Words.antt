@@ -4,7 +4,7 @@ pub use Rattle.jiff_core.proofs.{CalendarLemmas.day_count-lt_year, CalendarLemma
 pub use Rattle.jiff_core.specs.{Date.epoch_day}
 pub use Rattle.jiff_core.specs.declared.{civil.date.Date.Date}
 pub use Rattle.std.proofs.Common.{add-zero, zero-add, Bool, Err, FitsSigned, List, None, Ok, Option, Result, Some, T, [], ap, append_assoc, arith, codes, cond, decimal, drop, eq-zero-or-pos, eqb, eqb→eq, false, get_or, inl, inr, int_lt, length, length-append, map, min, nat_eq, nat_le, nat_lt, negsuc, pos, refl, rules, subst, suc, sum, sym, take, true, unsigned_abs, w16, zero, ℕ, ℤ, ⊎_elim, ◌%◌, ◌&&◌, ◌*◌, ◌++◌, ◌+ℤ◌, ◌+◌, ◌-ℤ◌, ◌-◌, ◌/◌, ◌<ℤ◌, ◌<◌, ◌^◌, ◌∙◌, ◌∷◌, ◌≡◌, ◌≤◌, ◌⊎◌}
-pub use Rattle.std.proofs.Math.Nat.{div-add-mod, div-div-eq-div-mul, div-eq_of_lt, div-le_self, div-one, mod-eq-sub-div-mul, one-le-pow, pow-le-pow_right, pow-suc, pow-succ'}
+pub use Rattle.std.proofs.Math.Nat.{add-suc, suc-add, div-add-mod, div-div-eq-div-mul, div-eq_of_lt, div-le_self, div-one, mod-eq-sub-div-mul, one-le-pow, pow-le-pow_right, pow-suc, pow-succ'}
 pub use Rattle.std.proofs.Math.Seq.{take-append-add}
 pub use Rattle.std.proofs.lemmas.{Bool.Decides.nat_tests, Bool.agree_below, Bool.agree_below_at, Bool.and_from, Bool.and_parts, Bool.and_right, Bool.cases_lt, Bool.eqb-true, Fmt.decimal_digit, Fmt.decimal_step_wide, Fmt.length-decimal-le, Fmt.length-decimal-le_wide, Grind.common_steps, Int.to_z-of_z, List.Elements.All-head, List.Elements.All-nil, List.Elements.All-push, List.Elements.All-tail, List.Sums.sum_by-cons, List.Sums.sum_by_more_le, List.append-nil, List.drop-take, List.get_or-take, List.length-take, List.length-take-le, List.take-take, List.take_at, Nat.and_block, Nat.and_mask, Nat.div-mul-add, Nat.div_below, Nat.le-div, Nat.mod-mul-add, Nat.mod_below, Nat.mul-le, Nat.pow-add, Slice.take-put_mid}
 pub use Rattle.std.specs.Fmt.{signed_decimal}

@@ -44,6 +44,3 @@ local_spelt scale units day seconds l offset es some =
 pub answered : (read : Result ScalarValue ValueFault) (answer : Result ℕ ValueFault) (new : List ℕ) → IsWritten read answer new
     → IfOk answer (λ n. (value : ScalarValue) × ((read ≡ Ok value) × IsText value n new))
 answered read answer new h = grind arith
-
-pub faulted : (read : Result ScalarValue ValueFault) (answer : Result ℕ ValueFault) (new : List ℕ) → IsWritten read answer new → IfErr answer (λ fault. read ≡ Err fault)
-faulted read answer new h = grind arith

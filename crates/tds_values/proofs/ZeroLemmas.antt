@@ -1,5 +1,5 @@
 -- The zeros before a number's digits, counted as the zero bits of one number.
-use Rattle.tds_values.proofs.Words.{add-zero, zero-add, ◌≡◌, ◌⊎◌, inl, inr, ℕ, zero, suc, ◌+◌, ◌-◌, ◌*◌, ◌/◌, ◌%◌, ◌^◌, ◌<◌, ◌≤◌, refl, sym, ap, subst, ◌∙◌, arith, ⊎_elim, pow-succ', one-le-pow, div-eq_of_lt, div_below, le-div, cases_lt, under}
+use Rattle.tds_values.proofs.Words.{suc-add, add-zero, zero-add, ◌≡◌, ◌⊎◌, inl, inr, ℕ, zero, suc, ◌+◌, ◌-◌, ◌*◌, ◌/◌, ◌%◌, ◌^◌, ◌<◌, ◌≤◌, refl, sym, ap, subst, ◌∙◌, arith, ⊎_elim, pow-succ', one-le-pow, div-eq_of_lt, div_below, le-div, cases_lt, under}
 use lib.Count.{count_trailing_zeros}
 use Rattle.tds_values.specs.ScalarText.{last_digits}
 use Rattle.tds_values.proofs.WordLemmas.{word_of}
@@ -32,8 +32,7 @@ low_bit zero r d m some few = absurd (omega arith)
 low_bit (suc a) r d m some few =
     let half : (d + 2 ^ suc a * m) / 2 ≡ d / 2 + 2 ^ a * m = rw (pow-succ' 2 a) (omega arith) in
     let same : (d + 2 ^ suc a * m) % 2 ≡ d % 2 = rw (pow-succ' 2 a) (omega arith) in
-    let width : suc a + r ≡ suc (a + r) = omega arith in
-    rw (width, half, same) (step (d % 2) _ a (λ even. low_bit a r (d / 2) m (omega arith) (omega arith)))
+    rw (suc-add, half, same) (step (d % 2) _ a (λ even. low_bit a r (d / 2) m (omega arith) (omega arith)))
 
 -- and a digits that aren't set all count
 low_zeros : (a r m : ℕ) → count_trailing_zeros (a + r) (2 ^ a * m) ≡ a + count_trailing_zeros r m
@@ -42,8 +41,7 @@ low_zeros zero r m = grind arith
 low_zeros (suc a) r m =
     let half : 2 ^ suc a * m / 2 ≡ 2 ^ a * m = rw (pow-succ' 2 a) (omega arith) in
     let even : 2 ^ suc a * m % 2 ≡ 0 = rw (pow-succ' 2 a) (omega arith) in
-    let width : suc a + r ≡ suc (a + r) = omega arith in
-    rw (width, half, even, low_zeros a r m) (omega arith)
+    rw (suc-add, half, even, low_zeros a r m) (omega arith)
 
 -- of k + 1 digits the first t are needless
 abbrev IsNeedless : ℕ → ℕ → ℕ → Type 0

@@ -1,4 +1,4 @@
-use Rattle.tds_values.proofs.Words.{common_steps, arith, by_index_length}
+use Rattle.tds_values.proofs.Words.{arith, by_index_length}
 use Rattle.tds_values.proofs.plain.push_guid.Goals as goal
 
 pub push_text-requires : goal.push_text-requires

@@ -1,6 +1,6 @@
-use Rattle.tds_values.proofs.Words.{arith, common_steps, ap, ◌∙◌, nat_lt}
+use Rattle.tds_values.proofs.Words.{arith}
 use Rattle.tds_values.proofs.WrittenLemmas.{time_by_seconds}
 use Rattle.tds_values.proofs.ranges.is_time.Goals as goal
 
 pub returns-then-scale-le7 : goal.returns-then-scale-le7
-returns-then-scale-le7 c = grind (arith, common_steps, time_by_seconds)
+returns-then-scale-le7 c = grind (arith, time_by_seconds)
