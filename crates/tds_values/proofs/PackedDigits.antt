@@ -1,5 +1,5 @@
 -- Several numbers in one, each in bits of its own, divided at once.
-use Rattle.tds_values.proofs.Words.{◌≡◌, ℕ, ◌+◌, ◌-◌, ◌*◌, ◌/◌, ◌%◌, ◌^◌, ◌<◌, ap, ◌∙◌, arith, bit_and, and_block, and_mask}
+use Rattle.tds_values.proofs.Words.{◌≡◌, ℕ, ◌+◌, ◌-◌, ◌*◌, ◌/◌, ◌%◌, ◌^◌, ◌<◌, arith, bit_and, and_block, and_mask}
 
 -- a mask keeps the low j bits of the lowest w, and does to those above what it does alone
 kept : (w j high mask low q n : ℕ) → n ≡ high * 2 ^ w + low → low < 2 ^ w → 2 ^ j - 1 < 2 ^ w → low % 2 ^ j ≡ q → bit_and n (mask * 2 ^ w + (2 ^ j - 1)) ≡ bit_and high mask * 2 ^ w + q

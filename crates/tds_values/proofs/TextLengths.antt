@@ -1,5 +1,5 @@
 -- No text has more than 41 bytes.
-use Rattle.tds_values.proofs.Words.{length-append, ◌≡◌, ℕ, zero, suc, ◌+◌, ◌-◌, ◌*◌, ◌/◌, ◌^◌, ◌<◌, ◌≤◌, List, ◌++◌, Bool, true, false, cond, nat_le, refl, sym, ap, ◌∙◌, arith, ℤ, pos, negsuc, length, unsigned_abs, int_lt, decimal, codes, IsTrue, signed_decimal, and_parts, nat_tests, pow-add, div_below, length-decimal-le, length-decimal-le_wide, one-le-pow, div-le_self, by_index_length}
+use Rattle.tds_values.proofs.Words.{length-append, ◌≡◌, ℕ, zero, suc, ◌+◌, ◌-◌, ◌/◌, ◌^◌, ◌<◌, ◌≤◌, List, ◌++◌, Bool, true, nat_le, refl, arith, ℤ, pos, length, unsigned_abs, int_lt, decimal, codes, IsTrue, signed_decimal, nat_tests, pow-add, div_below, length-decimal-le, length-decimal-le_wide, one-le-pow, div-le_self, by_index_length}
 use Rattle.tds_values.specs.declared.scalar.ScalarValue.{ScalarValue}
 use Rattle.tds_values.specs.declared.scalar.ScalarValue.TheVariants as values
 use Rattle.tds_values.specs.ScalarRange.{is_in_range}

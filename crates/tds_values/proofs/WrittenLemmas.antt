@@ -1,19 +1,13 @@
 -- What the bytes of a kind spell is written, or its fault answered.
-use Rattle.tds_values.proofs.Words.{common_steps, ◌≡◌, ℕ, ◌+◌, ◌*◌, ◌/◌, ◌%◌, ◌^◌, ◌<◌, ◌≤◌, List, ◌++◌, true, false, nat_eq, nat_le, nat_lt, ◌⊎◌, take, drop, length, ℤ, unsigned_abs, codes, Some, None, Ok, Err, refl, sym, ap, subst, ◌∙◌, ⊎_elim, arith, one-le-pow, div_below, le-div, and_from, and_parts, and_right, cases_lt, nat_tests, little_number, IfOk, IfErr}
-use Rattle.tds_values.specs.declared.kind.Kind.{Kind}
-use Rattle.tds_values.specs.declared.kind.Kind.TheVariants as kinds
+use Rattle.tds_values.proofs.Words.{◌≡◌, ℕ, ◌/◌, ◌%◌, ◌^◌, ◌<◌, ◌≤◌, List, ◌++◌, true, false, nat_eq, nat_le, nat_lt, ℤ, codes, Some, Ok, arith, one-le-pow, div_below, le-div, nat_tests, IfOk}
 use Rattle.tds_values.specs.declared.scalar.ScalarValue.{ScalarValue}
 use Rattle.tds_values.specs.declared.scalar.ScalarValue.TheVariants as values
-use Rattle.tds_values.specs.declared.scalar.ValueFault.TheVariants as faults
-use Rattle.tds_values.specs.Kind.{is_length_allowed}
-use Rattle.tds_values.specs.Scalar.{value_of, checked, read_of}
-use Rattle.tds_values.specs.ScalarRange.{is_in_range}
-use Rattle.tds_values.specs.ScalarText.{text_of, seconds_text, fraction_text, date_and_time, offset_text, local_text}
+use Rattle.tds_values.specs.ScalarText.{text_of, seconds_text, fraction_text, date_and_time, offset_text}
 use Rattle.tds_values.specs.LocalTime.{local_seconds}
-use Rattle.tds_values.proofs.LocalLemmas.{local_by_seconds, units_of_seconds, text_of_seconds}
+use Rattle.tds_values.proofs.LocalLemmas.{units_of_seconds, text_of_seconds}
 use Rattle.std.specs.Prelude.{Result}
 use Rattle.tds_values.specs.declared.scalar.ValueFault.{ValueFault}
-use Rattle.tds_values.specs.TimeOfDay.{is_time, time_length}
+use Rattle.tds_values.specs.TimeOfDay.{is_time}
 use Rattle.tds_values.specs.Written.{IsText, IsWritten}
 
 pub equal : (a b : ℕ) → a ≡ b → nat_eq a b ≡ true

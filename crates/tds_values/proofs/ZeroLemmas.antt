@@ -1,5 +1,5 @@
 -- The zeros before a number's digits, counted as the zero bits of one number.
-use Rattle.tds_values.proofs.Words.{suc-add, add-zero, zero-add, ◌≡◌, ◌⊎◌, inl, inr, ℕ, zero, suc, ◌+◌, ◌-◌, ◌*◌, ◌/◌, ◌%◌, ◌^◌, ◌<◌, ◌≤◌, refl, sym, ap, subst, ◌∙◌, arith, ⊎_elim, pow-succ', one-le-pow, div-eq_of_lt, div_below, le-div, cases_lt, under}
+use Rattle.tds_values.proofs.Words.{suc-add, add-zero, zero-add, ◌≡◌, ◌⊎◌, inl, inr, ℕ, zero, suc, ◌+◌, ◌-◌, ◌*◌, ◌/◌, ◌%◌, ◌^◌, ◌<◌, ◌≤◌, refl, ap, arith, ⊎_elim, pow-succ', one-le-pow, div-eq_of_lt, div_below, le-div, cases_lt, under}
 use lib.Count.{count_trailing_zeros}
 use Rattle.tds_values.specs.ScalarText.{last_digits}
 use Rattle.tds_values.proofs.WordLemmas.{word_of}

@@ -1,4 +1,4 @@
-use Rattle.tds_values.proofs.Words.{common_steps, ◌≡◌, ℕ, ◌+◌, ◌*◌, ◌/◌, ◌%◌, ◌<◌, [], ◌∷◌, ◌++◌, take, drop, ap, ◌∙◌, arith}
+use Rattle.tds_values.proofs.Words.{common_steps, ◌≡◌, ℕ, ◌+◌, ◌*◌, ◌/◌, ◌%◌, ◌<◌, arith}
 use Rattle.tds_values.proofs.WordLemmas.{bytes_of}
 use Rattle.tds_values.specs.ScalarText.{last_digits}
 use Rattle.tds_values.proofs.TableLemmas.{word_at}

@@ -1,4 +1,4 @@
-use Rattle.tds_values.proofs.Words.{common_steps, ◌++◌, ◌∙◌, ap, sym, take, drop, arith}
+use Rattle.tds_values.proofs.Words.{common_steps, arith}
 use Rattle.tds_values.proofs.WordLemmas.{stored, whole_word}
 use Rattle.tds_values.proofs.digits.put_word.Goals as goal
 

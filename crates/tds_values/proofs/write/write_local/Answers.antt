@@ -1,4 +1,4 @@
-use Rattle.tds_values.proofs.Words.{arith, common_steps, to_z-of_z}
+use Rattle.tds_values.proofs.Words.{arith, to_z-of_z}
 use Rattle.tds_values.proofs.LocalLemmas.{local_by_seconds}
 use Rattle.tds_values.proofs.WrittenLemmas.{time_in, local_spelt, at_most}
 use Rattle.tds_values.proofs.write.write_local.Goals as goal
