@@ -1,6 +1,5 @@
 -- Decimal digits, some at a time.
-use Rattle.tds_values.proofs.Words.{add-suc, append-nil, common_steps, ◌≡◌, ◌⊎◌, ℕ, zero, suc, ◌+◌, ◌-◌, ◌*◌, ◌/◌, ◌%◌, ◌^◌, ◌<◌, ◌≤◌, ◌++◌, refl, ap, arith, inl, inr, decimal, append_assoc, decimal_digit, decimal_step_wide, one-le-pow, pow-succ', div-div-eq-div-mul, div-one, div-add-mod, le-div, pow-add}
-use Rattle.tds_values.specs.ScalarText.{last_digits}
+use Rattle.tds_values.proofs.Words.{add-suc, append-nil, common_steps, ◌≡◌, ◌⊎◌, ℕ, zero, suc, ◌+◌, ◌-◌, ◌*◌, ◌/◌, ◌%◌, ◌^◌, ◌<◌, ◌≤◌, ◌++◌, refl, ap, arith, inl, inr, decimal, append_assoc, decimal_digit, decimal_step_wide, one-le-pow, pow-succ', div-div-eq-div-mul, div-one, div-add-mod, le-div, pow-add, last_digits}
 
 -- what lies above the last digits doesn't change them
 pub last_digits-above : (k q n : ℕ) → last_digits k (10 ^ k * q + n) ≡ last_digits k n

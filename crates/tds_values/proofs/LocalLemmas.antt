@@ -1,7 +1,5 @@
 -- Local times by their whole seconds.
-use Rattle.tds_values.proofs.Words.{◌≡◌, ℕ, ◌+◌, ◌*◌, ◌/◌, ◌%◌, ◌^◌, ◌<◌, ◌++◌, ℤ, unsigned_abs, Some, ap, arith, is_some, one-le-pow, div-add-mod, mul-le, div-mul-add, mod-mul-add, mod_below}
-use Rattle.tds_values.specs.LocalTime.{local_units, is_local, local_seconds}
-use Rattle.tds_values.specs.ScalarText.{fraction_text, seconds_text, local_text, date_and_time}
+use Rattle.tds_values.proofs.Words.{◌≡◌, ℕ, ◌+◌, ◌*◌, ◌/◌, ◌%◌, ◌^◌, ◌<◌, ◌++◌, ℤ, unsigned_abs, Some, ap, arith, is_some, one-le-pow, div-add-mod, mul-le, div-mul-add, mod-mul-add, mod_below, local_units, is_local, local_seconds, fraction_text, seconds_text, local_text, date_and_time}
 use Rattle.tds_values.proofs.DigitLemmas.{last_digits-above, last_digits-mod}
 
 more : (p x t f : ℕ) → f < p → t < x → t * p + f < x * p

@@ -1,6 +1,5 @@
 -- The tables of digits.
-use Rattle.tds_values.proofs.Words.{◌≡◌, ℕ, ◌+◌, ◌*◌, ◌/◌, ◌%◌, ◌<◌, true, refl, get_or, ◌==◌, agree_below, agree_below_at, eqb-true, hex_digit, lower}
-use Rattle.tds_values.specs.declared.{digits.TheConstants.PAIRS, digits.TheConstants.WORDS, guid.TheConstants.HEX}
+use Rattle.tds_values.proofs.Words.{◌≡◌, ℕ, ◌+◌, ◌*◌, ◌/◌, ◌%◌, ◌<◌, true, refl, get_or, ◌==◌, agree_below, agree_below_at, eqb-true, hex_digit, lower, PAIRS, WORDS, HEX}
 
 -- functions agree below n that do so where they are computed
 pub each_below : (f g : ℕ → ℕ) (n : ℕ) → agree_below (λ k. f k == g k) (λ _. true) n ≡ true → (k : ℕ) → k < n → f k ≡ g k

@@ -1,10 +1,6 @@
 -- No text has more than 41 bytes.
-use Rattle.tds_values.proofs.Words.{length-append, ◌≡◌, ℕ, zero, suc, ◌+◌, ◌-◌, ◌/◌, ◌^◌, ◌<◌, ◌≤◌, List, ◌++◌, Bool, true, nat_le, refl, arith, ℤ, pos, length, unsigned_abs, int_lt, decimal, codes, IsTrue, signed_decimal, nat_tests, pow-add, div_below, length-decimal-le, length-decimal-le_wide, one-le-pow, div-le_self, by_index_length}
-use Rattle.tds_values.specs.declared.scalar.ScalarValue.{ScalarValue}
+use Rattle.tds_values.proofs.Words.{length-append, ◌≡◌, ℕ, zero, suc, ◌+◌, ◌-◌, ◌/◌, ◌^◌, ◌<◌, ◌≤◌, List, ◌++◌, Bool, true, nat_le, refl, arith, ℤ, pos, length, unsigned_abs, int_lt, decimal, codes, IsTrue, signed_decimal, nat_tests, pow-add, div_below, length-decimal-le, length-decimal-le_wide, one-le-pow, div-le_self, by_index_length, ScalarValue, is_in_range, is_time, last_digits, fraction_text, minus_if, decimal_text, date_text, minutes_text, seconds_text, time_text, date_and_time, offset_text, local_text, ticks_text, text_of, FitsWidths}
 use Rattle.tds_values.specs.declared.scalar.ScalarValue.TheVariants as values
-use Rattle.tds_values.specs.ScalarRange.{is_in_range}
-use Rattle.tds_values.specs.TimeOfDay.{is_time}
-use Rattle.tds_values.specs.ScalarText.{last_digits, fraction_text, minus_if, decimal_text, date_text, minutes_text, seconds_text, time_text, date_and_time, offset_text, local_text, ticks_text, text_of, FitsWidths}
 
 pub length-last_digits : (k n : ℕ) → length (last_digits k n) ≡ k
 length-last_digits zero n = refl

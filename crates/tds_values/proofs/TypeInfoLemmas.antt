@@ -1,8 +1,6 @@
 -- The type byte decides how many bytes a TYPE_INFO has, so none begins another, and each describes one kind.
-use Rattle.tds_values.proofs.Words.{Bool, ◌≡◌, ℕ, true, cond, nat_eq, List, [], ◌∷◌, ◌++◌, length, Option, Some, None, refl, sym, ap, ◌∙◌, arith, rules, option_and_then, is_some, take_at, eqb-true}
-use Rattle.tds_values.specs.declared.kind.Kind.{Kind}
-use Rattle.tds_values.specs.Kind.{is_valid}
-use Rattle.tds_values.specs.TypeInfo.{bare_kind, rest_length, named_kind, valid_kind, kind_after, kind_of, IsTypeInfo}
+use Rattle.tds_values.proofs.Words.{Bool, ◌≡◌, ℕ, true, cond, nat_eq, List, [], ◌∷◌, ◌++◌, length, Option, Some, None, refl, sym, ap, ◌∙◌, arith, rules, option_and_then, is_some, take_at, eqb-true, Kind, is_valid, bare_kind, valid_kind, kind_after, kind_of, IsTypeInfo}
+use Rattle.tds_values.specs.TypeInfo.{rest_length, named_kind}
 
 and_then_valid : (k : Kind) (o : Option Kind) → option_and_then valid_kind o ≡ Some k → is_valid k ≡ true
 and_then_valid k o h = grind arith

@@ -1,8 +1,6 @@
 -- Digits as the bytes of one number.
-use Rattle.tds_values.proofs.Words.{add-suc, ◌≡◌, ℕ, zero, suc, ◌+◌, ◌-◌, ◌*◌, ◌/◌, ◌%◌, ◌^◌, ◌<◌, ◌≤◌, List, [], ◌∷◌, ◌++◌, refl, ap, arith, take, drop, length, pow-succ', pow-suc, div-div-eq-div-mul, bytes_low_first, All, All-head, All-nil, All-push, All-tail, take-put_mid, append-nil, drop-take, put_mid, little_number}
-use Rattle.tds_values.specs.ScalarText.{last_digits}
-use Rattle.tds_values.proofs.DigitLemmas.{last_digits-add}
-use Rattle.tds_values.proofs.TextLengths.{length-last_digits}
+use Rattle.tds_values.proofs.Words.{add-suc, ◌≡◌, ℕ, zero, suc, ◌+◌, ◌-◌, ◌*◌, ◌/◌, ◌%◌, ◌^◌, ◌<◌, ◌≤◌, List, [], ◌∷◌, ◌++◌, refl, ap, arith, take, drop, length, pow-succ', pow-suc, div-div-eq-div-mul, bytes_low_first, All, All-head, All-nil, All-push, All-tail, take-put_mid, append-nil, drop-take, put_mid, little_number, last_digits}
+use Rattle.tds_values.proofs.{DigitLemmas.last_digits-add, TextLengths.length-last_digits}
 
 -- the number whose bytes these are, the first the lowest
 abbrev pub word_of : List ℕ → ℕ

@@ -11,6 +11,8 @@ pub use Rattle.std.specs.Fmt.{signed_decimal}
 pub use Rattle.std.specs.Int.{bytes_low_first}
 pub use Rattle.std.specs.Int.Bits.{bit_and}
 pub use Rattle.std.specs.Prelude.{All, IfErr, IfOk, IsTrue, if◌then◌else◌, is_some, option_and_then, ◌==◌, ◌||◌}
+pub use Rattle.tds_values.specs.{Calendar.CivilDate, Calendar.IsCivilDate, Calendar.IsDateOf, Calendar.date_in_year, Calendar.date_of, Calendar.day_number, Calendar.days_before_month, Calendar.days_before_year, Calendar.is_leap_year, Calendar.month_and_day, Calendar.month_lengths, Kind.is_valid, LocalTime.is_local, LocalTime.local_seconds, LocalTime.local_units, Scalar.read_of, ScalarRange.is_in_range, ScalarText.FitsWidths, ScalarText.date_and_time, ScalarText.date_text, ScalarText.decimal_text, ScalarText.fraction_text, ScalarText.last_digits, ScalarText.local_text, ScalarText.minus_if, ScalarText.minutes_text, ScalarText.offset_text, ScalarText.seconds_text, ScalarText.text_of, ScalarText.ticks_text, ScalarText.time_text, TimeOfDay.is_time, TypeInfo.IsTypeInfo, TypeInfo.bare_kind, TypeInfo.kind_after, TypeInfo.kind_of, TypeInfo.valid_kind, Written.IsText, Written.IsWritten}
+pub use Rattle.tds_values.specs.declared.{digits.TheConstants.PAIRS, digits.TheConstants.WORDS, guid.TheConstants.HEX, kind.Kind.Kind, kind.Reach.TheVariants.Chunked, kind.Reach.TheVariants.Short, scalar.ScalarValue.ScalarValue, scalar.ValueFault.ValueFault}
 pub use Rattle.uuid.proofs.{TextLemmas.by_index_length}
 pub use Rattle.uuid.specs.{Parts.swap_fields, Text.hex_digit, Text.hyphenated_text, Text.lower}
 pub use borrow.Rule.Slice.PartMut.{put_mid}

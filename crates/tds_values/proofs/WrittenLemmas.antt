@@ -1,14 +1,8 @@
 -- What the bytes of a kind spell is written, or its fault answered.
-use Rattle.tds_values.proofs.Words.{◌≡◌, ℕ, ◌/◌, ◌%◌, ◌^◌, ◌<◌, ◌≤◌, List, ◌++◌, true, false, nat_eq, nat_le, nat_lt, ℤ, codes, Some, Ok, arith, one-le-pow, div_below, le-div, nat_tests, IfOk}
-use Rattle.tds_values.specs.declared.scalar.ScalarValue.{ScalarValue}
-use Rattle.tds_values.specs.declared.scalar.ScalarValue.TheVariants as values
-use Rattle.tds_values.specs.ScalarText.{text_of, seconds_text, fraction_text, date_and_time, offset_text}
-use Rattle.tds_values.specs.LocalTime.{local_seconds}
+use Rattle.tds_values.proofs.Words.{◌≡◌, ℕ, ◌/◌, ◌%◌, ◌^◌, ◌<◌, ◌≤◌, List, ◌++◌, true, false, nat_eq, nat_le, nat_lt, ℤ, codes, Some, Ok, arith, one-le-pow, div_below, le-div, nat_tests, IfOk, ScalarValue, text_of, seconds_text, fraction_text, date_and_time, offset_text, local_seconds, ValueFault, is_time, IsText, IsWritten}
 use Rattle.tds_values.proofs.LocalLemmas.{units_of_seconds, text_of_seconds}
+use Rattle.tds_values.specs.declared.scalar.ScalarValue.TheVariants as values
 use Rattle.std.specs.Prelude.{Result}
-use Rattle.tds_values.specs.declared.scalar.ValueFault.{ValueFault}
-use Rattle.tds_values.specs.TimeOfDay.{is_time}
-use Rattle.tds_values.specs.Written.{IsText, IsWritten}
 
 pub equal : (a b : ℕ) → a ≡ b → nat_eq a b ≡ true
 equal a b e = grind (arith, nat_tests)

@@ -1,6 +1,5 @@
 use Rattle.tds_values.proofs.Words.{◌∙◌}
-use Rattle.tds_values.proofs.WordLemmas.{eight_digits}
-use Rattle.tds_values.proofs.ZeroLemmas.{zeros_of}
+use Rattle.tds_values.proofs.{WordLemmas.eight_digits, ZeroLemmas.zeros_of}
 use Rattle.tds_values.proofs.digits.needless.Goals as goal
 
 pub returns-clause-few : goal.returns-clause-few

@@ -1,5 +1,4 @@
-use Rattle.tds_values.proofs.Words.{◌≡◌, ℕ, zero, suc, refl, ◌+◌, ◌-◌, ◌*◌, ◌/◌, ◌^◌, List, ◌++◌, take, length, arith, pow-succ', pow-add, take-append-add, take-take, length-take-le, bytes_low_first}
-use Rattle.tds_values.specs.ScalarText.{last_digits}
+use Rattle.tds_values.proofs.Words.{◌≡◌, ℕ, zero, suc, refl, ◌+◌, ◌-◌, ◌*◌, ◌/◌, ◌^◌, List, ◌++◌, take, length, arith, pow-succ', pow-add, take-append-add, take-take, length-take-le, bytes_low_first, last_digits}
 use Rattle.tds_values.proofs.WordLemmas.{bytes_of, eight_digits, shifted_digits, take-bytes_of, whole_word, word_of}
 use Rattle.tds_values.proofs.digits.put_after.Goals as goal
 

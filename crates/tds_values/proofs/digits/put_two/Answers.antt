@@ -1,8 +1,5 @@
-use Rattle.tds_values.proofs.Words.{common_steps, ◌≡◌, ℕ, ◌+◌, ◌*◌, ◌/◌, ◌%◌, ◌<◌, arith}
-use Rattle.tds_values.proofs.WordLemmas.{bytes_of}
-use Rattle.tds_values.specs.ScalarText.{last_digits}
-use Rattle.tds_values.proofs.TableLemmas.{word_at}
-use Rattle.tds_values.proofs.WordLemmas.{stored}
+use Rattle.tds_values.proofs.Words.{common_steps, ◌≡◌, ℕ, ◌+◌, ◌*◌, ◌/◌, ◌%◌, ◌<◌, arith, last_digits}
+use Rattle.tds_values.proofs.{TableLemmas.word_at, WordLemmas.bytes_of, WordLemmas.stored}
 use Rattle.tds_values.proofs.digits.put_two.Goals as goal
 
 spelt : (n w : ℕ) → n < 100 → w ≡ 48 + n / 10 + 256 * (48 + n % 10) → bytes_of 2 w ≡ last_digits 2 n

@@ -1,6 +1,5 @@
 use Rattle.tds_values.proofs.Words.{arith, append_assoc, to_z-of_z, signed_arith}
-use Rattle.tds_values.proofs.DigitLemmas.{last_digits_after}
-use Rattle.tds_values.proofs.JiffDates.{date_since_min}
+use Rattle.tds_values.proofs.{DigitLemmas.last_digits_after, JiffDates.date_since_min}
 use Rattle.tds_values.proofs.moments.put_date.Goals as goal
 
 pub returns-clause-written : goal.returns-clause-written

@@ -1,6 +1,5 @@
 use Rattle.tds_values.proofs.Words.{arith}
-use Rattle.tds_values.proofs.Joining.{end_of}
-use Rattle.tds_values.proofs.TextLengths.{length-whole}
+use Rattle.tds_values.proofs.{Joining.end_of, TextLengths.length-whole}
 use Rattle.tds_values.proofs.numbers.put_decimal.Goals as goal
 
 pub returns-clause-end : goal.returns-clause-end

@@ -1,6 +1,5 @@
 use Rattle.tds_values.proofs.Words.{arith, to_z-of_z}
-use Rattle.tds_values.proofs.LocalLemmas.{local_by_seconds}
-use Rattle.tds_values.proofs.WrittenLemmas.{time_in, local_spelt, at_most}
+use Rattle.tds_values.proofs.{LocalLemmas.local_by_seconds, WrittenLemmas.at_most, WrittenLemmas.local_spelt, WrittenLemmas.time_in}
 use Rattle.tds_values.proofs.write.write_local.Goals as goal
 
 pub returns-in_default : goal.returns-in_default
