@@ -6,12 +6,6 @@ pub length-last_digits : (k n : ℕ) → length (last_digits k n) ≡ k
 length-last_digits zero n = refl
 length-last_digits (suc k) n = grind (arith, length-append, (length-last_digits k (n / 10)))
 
-length-fraction : (scale n : ℕ) → length (fraction_text scale n) ≤ scale + 1
-length-fraction scale n = grind (arith, length-last_digits)
-
-length-minus : (b : Bool) → length (minus_if b) ≤ 1
-length-minus b = grind arith
-
 -- the digits before the point
 pub length-whole : (m scale : ℕ) → m < 2 ^ 128 → scale ≤ 38 → length (decimal (m / 10 ^ scale)) ≤ 39 - scale
 length-whole m scale fits small =
@@ -19,35 +13,11 @@ length-whole m scale fits small =
     grind (arith, (length-decimal-le_wide (39 - scale) (m / 10 ^ scale)), div_below, one-le-pow, div-le_self, (rw all at (pow-add 10 (39 - scale) scale)))
 
 pub length-decimal_text : (negative : Bool) (m scale : ℕ) → m < 2 ^ 128 → scale ≤ 38 → length (decimal_text negative m scale) ≤ 41
-length-decimal_text negative m scale fits small = grind (arith, length-append, length-fraction, length-minus, length-whole)
-
-length-date : (n : ℕ) → length (date_text n) ≡ 10
-length-date n = simp length-append
-
-length-minutes : (n : ℕ) → length (minutes_text n) ≡ 5
-length-minutes n = simp length-append
-
-length-seconds : (n : ℕ) → length (seconds_text n) ≡ 8
-length-seconds n = simp length-append
-
-length-time : (scale units : ℕ) → is_time scale units ≡ true → length (time_text scale units) ≤ 16
-length-time scale units h = grind (arith, length-append, length-fraction, length-seconds, nat_tests)
-
-length-date_and_time : (n : ℕ) (time : List ℕ) → length (date_and_time n time) ≡ 11 + length time
-length-date_and_time n time = simp length-append
-
-length-offset : (offset : ℤ) → length (offset_text offset) ≡ 6
-length-offset offset = grind (arith, length-minutes)
+length-decimal_text negative m scale fits small = grind (arith, length-append, length-last_digits, length-whole)
 
 length-integer : (n : ℤ) → unsigned_abs n < 2 ^ 64 → length (signed_decimal n) ≤ 41
 length-integer n h = grind (arith, length-append, (length-decimal-le 20))
 
-length-ticks : (ticks : ℕ) → length (ticks_text ticks) ≤ 12
-length-ticks ticks = grind (arith, length-append, length-fraction, length-seconds)
-
-length-local : (scale local : ℕ) (offset : ℤ) → nat_le scale 7 ≡ true → length (local_text scale local ++ codes " " ++ offset_text offset) ≤ 41
-length-local scale local offset h = grind (arith, nat_tests, length-append, length-date_and_time, length-offset, length-fraction, length-seconds)
-
 pub length-text_of : (value : ScalarValue) → IsTrue (is_in_range value) → FitsWidths value → length (text_of value) ≤ 41
 length-text_of (values.Money amount) h fits = length-decimal_text (int_lt amount (pos 0)) (unsigned_abs amount) 4 (omega arith) (omega arith)
-length-text_of value h fits = grind (arith, nat_tests, length-integer, length-decimal_text, by_index_length, length-date, length-date_and_time, length-time, length-local, length-seconds, length-ticks)
+length-text_of value h fits = grind (arith, nat_tests, length-integer, length-decimal_text, by_index_length, length-append, length-last_digits)

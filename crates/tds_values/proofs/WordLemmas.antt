@@ -53,12 +53,6 @@ low_bytes i (suc k) n = grind (arith, div-div-eq-div-mul, pow-suc, (low_bytes (s
 pub whole_word : (m w : ℕ) → bytes_low_first 0 m w ≡ bytes_of m w
 whole_word m w = let one : w / 256 ^ 0 ≡ w = omega arith in rw one at (low_bytes 0 m w)
 
-length-bytes_of : (m w : ℕ) → length (bytes_of m w) ≡ m
+pub length-bytes_of : (m w : ℕ) → length (bytes_of m w) ≡ m
 length-bytes_of zero w = refl
 length-bytes_of (suc m) w = ap suc (length-bytes_of m (w / 256))
-
--- the m bytes of a word, stored after `at`
-pub stored : (old part : List ℕ) (m at k w : ℕ) → at ≤ length old → part ≡ bytes_low_first 0 m w ++ drop m (take (at + m - at) (drop at old)) → take (at + m) (put_mid at k old part) ≡ take at old ++ bytes_of m w
-stored old part m at k w h e =
-    let none : at + m - at ≡ m + 0 = omega arith in
-    rw (e, none, drop-take m 0 (drop at old), append-nil, whole_word) (take-put_mid at k old (bytes_of m w) (at + m) (omega (arith, length-bytes_of m w)) h)
