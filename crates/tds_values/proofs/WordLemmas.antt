@@ -1,5 +1,5 @@
 -- Digits as the bytes of one number.
-use Rattle.tds_values.proofs.Words.{add-suc, ◌≡◌, ℕ, zero, suc, ◌+◌, ◌-◌, ◌*◌, ◌/◌, ◌%◌, ◌^◌, ◌<◌, ◌≤◌, List, [], ◌∷◌, ◌++◌, refl, ap, arith, take, drop, length, pow-succ', pow-suc, div-div-eq-div-mul, bytes_low_first, All, All-head, All-nil, All-push, All-tail, take-put_mid, append-nil, drop-take, put_mid, little_number, last_digits}
+use Rattle.tds_values.proofs.Words.{add-suc, ◌≡◌, ℕ, zero, suc, ◌+◌, ◌-◌, ◌*◌, ◌/◌, ◌%◌, ◌^◌, ◌<◌, ◌≤◌, List, [], ◌∷◌, ◌++◌, refl, ap, arith, take, drop, length, pow-succ', pow-suc, div-div-eq-div-mul, bytes_low_first, All, All-head, All-nil, All-push, All-tail, take-put_mid, append-nil, drop-take, put_mid, last_digits}
 use Rattle.tds_values.proofs.{DigitLemmas.last_digits-add, TextLengths.length-last_digits}
 
 -- the number whose bytes these are, the first the lowest
@@ -11,10 +11,6 @@ word_of (b ∷ bytes) = b + 256 * word_of bytes
 abbrev pub bytes_of : ℕ → ℕ → List ℕ
 bytes_of zero n = []
 bytes_of (suc k) n = n % 256 ∷ bytes_of k (n / 256)
-
--- eight digits as one number
-pub eight_digits : (n : ℕ) → little_number 8 (last_digits 8 n) ≡ word_of (last_digits 8 n)
-eight_digits n = refl
 
 digits_are_bytes : (k n : ℕ) → All (λ b. b < 256) (last_digits k n)
 digits_are_bytes zero n = All-nil (λ b. b < 256)
@@ -39,7 +35,7 @@ shifted xs ys h g = rw (word_of-shift xs ys h) (bytes_of-word_of ys g)
 -- of a digits in a word, a shift leaves the last k
 pub shifted_digits : (a k n : ℕ) → bytes_of k (word_of (last_digits (a + k) n) / 256 ^ a) ≡ last_digits k n
 shifted_digits a k n =
-    rw (last_digits-add a k n) (rw (length-last_digits k n, length-last_digits a (n / 10 ^ k)) at (shifted (last_digits a (n / 10 ^ k)) (last_digits k n) (digits_are_bytes a (n / 10 ^ k)) (digits_are_bytes k n)))
+    rw (last_digits-add a k n) (rw (length-last_digits k n, length-last_digits a (n / 10 ^ k)) at (shifted _ _ (digits_are_bytes a (n / 10 ^ k)) (digits_are_bytes k n)))
 
 pub take-bytes_of : (j k w : ℕ) → take k (bytes_of (j + k) w) ≡ bytes_of k w
 take-bytes_of j zero w = refl

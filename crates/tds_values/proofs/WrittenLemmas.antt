@@ -10,12 +10,6 @@ time_by_seconds scale units s =
     let some = one-le-pow scale 10 (omega arith) in
     grind (arith, nat_tests, (div_below units (10 ^ scale) 86400 some), (le-div 86400 units (10 ^ scale) some))
 
-pub time_in : (scale units : ℕ) → scale ≤ 7 → units / 10 ^ scale < 86400 → is_time scale units ≡ true
-time_in scale units s less = rw (← time_by_seconds scale units s) (grind (arith, nat_tests))
-
-pub time_out : (scale units : ℕ) → scale ≤ 7 → 86400 ≤ units / 10 ^ scale → is_time scale units ≡ false
-time_out scale units s more = rw (← time_by_seconds scale units s) (grind (arith, nat_tests))
-
 -- the text of a local time by its seconds
 pub local_spelt : (scale units day seconds l : ℕ) (offset : ℤ) → seconds ≡ units / 10 ^ scale → local_seconds seconds day offset ≡ Some l
     → date_and_time (l / 86400) (seconds_text (l % 86400) ++ fraction_text scale units) ++ codes " " ++ offset_text offset ≡ text_of (values.DateTimeOffset scale units day offset)

@@ -1,5 +1,5 @@
 use Rattle.tds_values.proofs.Words.{◌≡◌, ℕ, zero, suc, refl, ◌+◌, ◌-◌, ◌*◌, ◌/◌, ◌^◌, List, ◌++◌, take, length, arith, pow-succ', pow-add, take-append-add, take-take, length-take-le, bytes_low_first, last_digits}
-use Rattle.tds_values.proofs.WordLemmas.{bytes_of, eight_digits, shifted_digits, take-bytes_of, whole_word, word_of}
+use Rattle.tds_values.proofs.WordLemmas.{bytes_of, shifted_digits, take-bytes_of, whole_word, word_of}
 use Rattle.tds_values.proofs.digits.put_after.Goals as goal
 
 eighth_power : (k : ℕ) → 2 ^ (8 * k) ≡ 256 ^ k
@@ -16,4 +16,4 @@ after xs new at j k m n long em e =
 
 pub returns-clause-written : goal.returns-clause-written
 returns-clause-written c =
-    grind (arith, (after (take c.args.at c.args.to.now) c.put_word.new.to c.args.at c.args.skipped (8 - c.args.skipped) 8 c.args.n), length-take-le, eight_digits)
+    grind (arith, (after (take c.args.at c.args.to.now) c.put_word.new.to c.args.at c.args.skipped (8 - c.args.skipped) 8 c.args.n), length-take-le)
