@@ -12,12 +12,9 @@ length-whole m scale fits small =
     let all : 39 - scale + scale ≡ 39 = omega arith in
     grind (arith, (length-decimal-le_wide (39 - scale) (m / 10 ^ scale)), div_below, one-le-pow, div-le_self, (rw all at (pow-add 10 (39 - scale) scale)))
 
-pub length-decimal_text : (negative : Bool) (m scale : ℕ) → m < 2 ^ 128 → scale ≤ 38 → length (decimal_text negative m scale) ≤ 41
-length-decimal_text negative m scale fits small = grind (arith, length-append, length-last_digits, length-whole)
-
 length-integer : (n : ℤ) → unsigned_abs n < 2 ^ 64 → length (signed_decimal n) ≤ 41
 length-integer n h = grind (arith, length-append, (length-decimal-le 20))
 
 pub length-text_of : (value : ScalarValue) → IsTrue (is_in_range value) → FitsWidths value → length (text_of value) ≤ 41
-length-text_of (values.Money amount) h fits = length-decimal_text (int_lt amount (pos 0)) (unsigned_abs amount) 4 (omega arith) (omega arith)
-length-text_of value h fits = grind (arith, nat_tests, length-integer, length-decimal_text, by_index_length, length-append, length-last_digits)
+length-text_of (values.Money amount) h fits = grind (arith, (length-whole (unsigned_abs amount) 4), length-append, length-last_digits)
+length-text_of value h fits = grind (arith, nat_tests, length-integer, length-whole, by_index_length, length-append, length-last_digits)

@@ -10,19 +10,15 @@ valid_of k bytes h = grind arith
 pub rest_length_of : (k : Kind) (b : ℕ) (rest : List ℕ) → IsTypeInfo k (b ∷ rest) → rest_length b ≡ Some (length rest)
 rest_length_of k b rest h = grind arith
 
-same_start : (p q x y : List ℕ) → length p ≡ length q → p ++ x ≡ q ++ y → p ≡ q
-same_start p q x y n e = rw (← take_at p x (length p) refl, e, take_at q y (length p) (sym n))
-
 -- no TYPE_INFO begins another
 pub one_type_info : (k j : Kind) (a c x y : List ℕ) → IsTypeInfo k a → IsTypeInfo j c → a ++ x ≡ c ++ y → (a ≡ c) × (k ≡ j)
 one_type_info k j [] c x y h g e = cc
 one_type_info k j (b ∷ p) [] x y h g e = cc
 one_type_info k j (b ∷ p) (d ∷ q) x y h g e =
     let byte : b ≡ d = cc in
-    let same : p ≡ q = same_start p q x y (cc (byte, rest_length_of k b p h, rest_length_of j d q g)) (cc) in
-    let bytes : b ∷ p ≡ d ∷ q = cc in
-    let kinds : Some k ≡ Some j = sym h ∙ ap kind_of bytes ∙ g in
-    (bytes, cc)
+    let long : length p ≡ length q = cc (byte, rest_length_of k b p h, rest_length_of j d q g) in
+    let same : p ≡ q = cc (take_at p x (length p) refl, take_at q y (length p) (sym long)) in
+    (cc, cc)
 
 some_of : (o : Option Kind) → is_some o ≡ true → (k : Kind) × (o ≡ Some k)
 some_of o h = grind arith

@@ -1,8 +1,7 @@
 -- What the bytes of a kind spell is written, or its fault answered.
-use Rattle.tds_values.proofs.Words.{◌≡◌, ℕ, ◌/◌, ◌%◌, ◌^◌, ◌<◌, ◌≤◌, List, ◌++◌, true, false, nat_eq, nat_le, nat_lt, ℤ, codes, Some, Ok, arith, one-le-pow, div_below, le-div, nat_tests, IfOk, ScalarValue, text_of, seconds_text, fraction_text, date_and_time, offset_text, local_seconds, ValueFault, is_time, IsText, IsWritten}
+use Rattle.tds_values.proofs.Words.{Result, ◌≡◌, ℕ, ◌/◌, ◌%◌, ◌^◌, ◌<◌, ◌≤◌, List, ◌++◌, true, false, nat_eq, nat_le, nat_lt, ℤ, codes, Some, Ok, arith, one-le-pow, div_below, le-div, nat_tests, IfOk, ScalarValue, text_of, seconds_text, fraction_text, date_and_time, offset_text, local_seconds, ValueFault, is_time, IsText, IsWritten}
 use Rattle.tds_values.proofs.LocalLemmas.{units_of_seconds, text_of_seconds}
 use Rattle.tds_values.specs.declared.scalar.ScalarValue.TheVariants as values
-use Rattle.std.specs.Prelude.{Result}
 
 -- whole seconds tell whether they lie in a day
 pub time_by_seconds : (scale units : ℕ) → scale ≤ 7 → nat_lt (units / 10 ^ scale) 86400 ≡ is_time scale units
