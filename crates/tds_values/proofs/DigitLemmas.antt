@@ -1,5 +1,5 @@
 -- Decimal digits, some at a time.
-use Rattle.tds_values.proofs.Words.{add-suc, append-nil, common_steps, ◌≡◌, ◌⊎◌, ℕ, zero, suc, ◌+◌, ◌-◌, ◌*◌, ◌/◌, ◌%◌, ◌^◌, ◌<◌, ◌≤◌, ◌++◌, refl, ap, arith, inl, inr, decimal, append_assoc, decimal_digit, decimal_step_wide, one-le-pow, pow-succ', div-div-eq-div-mul, div-one, div-add-mod, le-div, pow-add, last_digits}
+use Rattle.tds_values.proofs.Words.{add-suc, append-nil, ◌≡◌, ◌⊎◌, ℕ, zero, suc, ◌+◌, ◌-◌, ◌*◌, ◌/◌, ◌%◌, ◌^◌, ◌<◌, ◌≤◌, ◌++◌, refl, ap, arith, inl, inr, decimal, append_assoc, decimal_digit, decimal_step_wide, one-le-pow, pow-succ', div-div-eq-div-mul, div-one, div-add-mod, pow-add, last_digits}
 
 -- what lies above the last digits doesn't change them
 pub last_digits-above : (k q n : ℕ) → last_digits k (10 ^ k * q + n) ≡ last_digits k n
@@ -22,7 +22,7 @@ last_digits-below k m n h =
 
 -- the last a + b digits are the last a of what lies above the last b, and these
 pub last_digits-add : (a b n : ℕ) → last_digits (a + b) n ≡ last_digits a (n / 10 ^ b) ++ last_digits b n
-last_digits-add a zero n = grind (arith, append-nil, div-one)
+last_digits-add a zero n = grind (arith, append-nil)
 last_digits-add a (suc b) n = rw (add-suc, last_digits-add a b (n / 10), div-div-eq-div-mul n 10 (10 ^ b), ← pow-succ' 10 b, append_assoc)
 
 -- the same, of k digits the last b
@@ -30,7 +30,7 @@ pub last_digits_after : (k b n : ℕ) → b ≤ k → last_digits k n ≡ last_d
 last_digits_after k b n h = grind (arith, last_digits-add, last_digits-mod)
 
 large : (k n : ℕ) → 10 ^ suc k ≤ n → (10 ≤ n) × (10 ^ k ≤ n / 10)
-large k n h = grind (arith, common_steps, pow-succ', one-le-pow, le-div)
+large k n h = grind (arith, one-le-pow)
 
 -- a number that is large enough has its last k digits after the text of the rest
 pub decimal_split : (k n : ℕ) → 10 ^ k ≤ n → n < 10 ^ 64 → decimal n ≡ decimal (n / 10 ^ k) ++ last_digits k n

@@ -12,7 +12,7 @@ local_by_seconds scale units day offset =
     let small : units % p < p = mod_below units p (one-le-pow scale 10 (omega arith)) in
     let o = unsigned_abs offset * 60 in
     let t = day * 86400 + units / p in
-    grind (arith, (div-add-mod units p), (more p o t (units % p) small), (mul-le o p t p), (more p 315537897600 (t + o) (units % p) small), (mul-le 315537897600 p (t + o) p))
+    grind (arith, (more p o t (units % p) small), (mul-le o p t p), (more p 315537897600 (t + o) (units % p) small), (mul-le 315537897600 p (t + o) p))
 
 scaled_sum : (p s o t : ℕ) → s + o ≡ t → s * p + o * p ≡ t * p
 scaled_sum p s o t e = omega (arith, ap (λ k. k * p) e)
@@ -24,7 +24,7 @@ units_of_seconds scale units day l offset h =
     let p = 10 ^ scale in
     let o = unsigned_abs offset * 60 in
     let t = day * 86400 + units / p in
-    grind (arith, (div-add-mod units p), (scaled_sum p t o l), (scaled_sum p l o t))
+    grind (arith, (scaled_sum p t o l), (scaled_sum p l o t))
 
 fraction-above : (scale x f : ℕ) → fraction_text scale (x * 10 ^ scale + f) ≡ fraction_text scale f
 fraction-above scale x f = let turned : x * 10 ^ scale ≡ 10 ^ scale * x = omega arith in rw (turned, last_digits-above)

@@ -1,5 +1,5 @@
 -- No text has more than 41 bytes.
-use Rattle.tds_values.proofs.Words.{length-append, ◌≡◌, ℕ, zero, suc, ◌+◌, ◌-◌, ◌/◌, ◌^◌, ◌<◌, ◌≤◌, List, ◌++◌, Bool, true, nat_le, refl, arith, ℤ, pos, length, unsigned_abs, int_lt, decimal, codes, IsTrue, signed_decimal, nat_tests, pow-add, div_below, length-decimal-le, length-decimal-le_wide, one-le-pow, div-le_self, by_index_length, ScalarValue, is_in_range, is_time, last_digits, fraction_text, minus_if, decimal_text, date_text, minutes_text, seconds_text, time_text, date_and_time, offset_text, local_text, ticks_text, text_of, FitsWidths}
+use Rattle.tds_values.proofs.Words.{length-append, ◌≡◌, ℕ, zero, suc, ◌+◌, ◌-◌, ◌/◌, ◌^◌, ◌<◌, ◌≤◌, refl, arith, ℤ, length, unsigned_abs, decimal, IsTrue, signed_decimal, nat_tests, pow-add, div_below, length-decimal-le, length-decimal-le_wide, by_index_length, ScalarValue, is_in_range, last_digits, text_of, FitsWidths}
 use Rattle.tds_values.specs.declared.scalar.ScalarValue.TheVariants as values
 
 pub length-last_digits : (k n : ℕ) → length (last_digits k n) ≡ k
@@ -10,10 +10,10 @@ length-last_digits (suc k) n = grind (arith, length-append, (length-last_digits 
 pub length-whole : (m scale : ℕ) → m < 2 ^ 128 → scale ≤ 38 → length (decimal (m / 10 ^ scale)) ≤ 39 - scale
 length-whole m scale fits small =
     let all : 39 - scale + scale ≡ 39 = omega arith in
-    grind (arith, (length-decimal-le_wide (39 - scale) (m / 10 ^ scale)), div_below, one-le-pow, div-le_self, (rw all at (pow-add 10 (39 - scale) scale)))
+    grind (arith, (length-decimal-le_wide (39 - scale) (m / 10 ^ scale)), div_below, (rw all at (pow-add 10 (39 - scale) scale)))
 
 length-integer : (n : ℤ) → unsigned_abs n < 2 ^ 64 → length (signed_decimal n) ≤ 41
-length-integer n h = grind (arith, length-append, (length-decimal-le 20))
+length-integer n h = grind (arith, (length-decimal-le 20))
 
 pub length-text_of : (value : ScalarValue) → IsTrue (is_in_range value) → FitsWidths value → length (text_of value) ≤ 41
 length-text_of (values.Money amount) h fits = grind (arith, (length-whole (unsigned_abs amount) 4), length-append, length-last_digits)

@@ -1,5 +1,5 @@
 -- The type byte decides how many bytes a TYPE_INFO has, so none begins another, and each describes one kind.
-use Rattle.tds_values.proofs.Words.{Bool, ◌≡◌, ℕ, true, cond, nat_eq, List, [], ◌∷◌, ◌++◌, length, Option, Some, None, refl, sym, ap, ◌∙◌, arith, rules, option_and_then, is_some, take_at, eqb-true, Kind, is_valid, bare_kind, valid_kind, kind_after, kind_of, IsTypeInfo}
+use Rattle.tds_values.proofs.Words.{◌≡◌, ℕ, true, List, [], ◌∷◌, ◌++◌, length, Option, Some, refl, sym, arith, is_some, take_at, Kind, is_valid, kind_of, IsTypeInfo}
 use Rattle.tds_values.specs.TypeInfo.{rest_length, named_kind}
 
 -- the numbers of a TYPE_INFO are allowed

@@ -1,5 +1,5 @@
 -- Digits as the bytes of one number.
-use Rattle.tds_values.proofs.Words.{add-suc, ◌≡◌, ℕ, zero, suc, ◌+◌, ◌-◌, ◌*◌, ◌/◌, ◌%◌, ◌^◌, ◌<◌, ◌≤◌, List, [], ◌∷◌, ◌++◌, refl, ap, arith, take, drop, length, pow-succ', pow-suc, div-div-eq-div-mul, bytes_low_first, All, All-head, All-nil, All-push, All-tail, take-put_mid, append-nil, drop-take, put_mid, last_digits}
+use Rattle.tds_values.proofs.Words.{add-suc, ◌≡◌, ℕ, zero, suc, ◌+◌, ◌*◌, ◌/◌, ◌%◌, ◌^◌, ◌<◌, List, [], ◌∷◌, ◌++◌, refl, arith, take, length, pow-succ', div-div-eq-div-mul, bytes_low_first, All, All-head, All-nil, All-push, All-tail, last_digits}
 use Rattle.tds_values.proofs.{DigitLemmas.last_digits-add, TextLengths.length-last_digits}
 
 -- the number whose bytes these are, the first the lowest
@@ -19,7 +19,7 @@ digits_are_bytes (suc k) n = All-push (λ b. b < 256) (last_digits k (n / 10)) (
 -- the low bytes of a number give back what it was made of
 bytes_of-word_of : (xs : List ℕ) → All (λ b. b < 256) xs → bytes_of (length xs) (word_of xs) ≡ xs
 bytes_of-word_of [] h = refl
-bytes_of-word_of (x ∷ xs) h = grind (arith, All-head, All-tail, (bytes_of-word_of xs (All-tail (λ b. b < 256) x xs h)))
+bytes_of-word_of (x ∷ xs) h = grind (arith, All-head, (bytes_of-word_of xs (All-tail (λ b. b < 256) x xs h)))
 
 -- a shift takes the first bytes away
 word_of-shift : (xs ys : List ℕ) → All (λ b. b < 256) xs → word_of (xs ++ ys) / 256 ^ length xs ≡ word_of ys
@@ -43,12 +43,8 @@ take-bytes_of j (suc k) w = rw (add-suc, take-bytes_of j k (w / 256))
 
 low_bytes : (i k n : ℕ) → bytes_low_first i k n ≡ bytes_of k (n / 256 ^ i)
 low_bytes i zero n = refl
-low_bytes i (suc k) n = grind (arith, div-div-eq-div-mul, pow-suc, (low_bytes (suc i) k n))
+low_bytes i (suc k) n = grind (arith, div-div-eq-div-mul, (low_bytes (suc i) k n))
 
 -- the bytes of a whole number
 pub whole_word : (m w : ℕ) → bytes_low_first 0 m w ≡ bytes_of m w
 whole_word m w = let one : w / 256 ^ 0 ≡ w = omega arith in rw one at (low_bytes 0 m w)
-
-pub length-bytes_of : (m w : ℕ) → length (bytes_of m w) ≡ m
-length-bytes_of zero w = refl
-length-bytes_of (suc m) w = ap suc (length-bytes_of m (w / 256))

@@ -1,5 +1,5 @@
 -- What the bytes of a kind spell is written, or its fault answered.
-use Rattle.tds_values.proofs.Words.{Result, ◌≡◌, ℕ, ◌/◌, ◌%◌, ◌^◌, ◌<◌, ◌≤◌, List, ◌++◌, true, false, nat_eq, nat_le, nat_lt, ℤ, codes, Some, Ok, arith, one-le-pow, div_below, le-div, nat_tests, IfOk, ScalarValue, text_of, seconds_text, fraction_text, date_and_time, offset_text, local_seconds, ValueFault, is_time, IsText, IsWritten}
+use Rattle.tds_values.proofs.Words.{Result, ◌≡◌, ℕ, ◌/◌, ◌%◌, ◌^◌, ◌≤◌, List, ◌++◌, nat_lt, ℤ, codes, Some, Ok, arith, one-le-pow, div_below, le-div, IfOk, ScalarValue, text_of, seconds_text, fraction_text, date_and_time, offset_text, local_seconds, ValueFault, is_time, IsText, IsWritten}
 use Rattle.tds_values.proofs.LocalLemmas.{units_of_seconds, text_of_seconds}
 use Rattle.tds_values.specs.declared.scalar.ScalarValue.TheVariants as values
 
@@ -7,7 +7,7 @@ use Rattle.tds_values.specs.declared.scalar.ScalarValue.TheVariants as values
 pub time_by_seconds : (scale units : ℕ) → scale ≤ 7 → nat_lt (units / 10 ^ scale) 86400 ≡ is_time scale units
 time_by_seconds scale units s =
     let some = one-le-pow scale 10 (omega arith) in
-    grind (arith, nat_tests, (div_below units (10 ^ scale) 86400 some), (le-div 86400 units (10 ^ scale) some))
+    grind (arith, (div_below units (10 ^ scale) 86400 some), (le-div 86400 units (10 ^ scale) some))
 
 -- the text of a local time by its seconds
 pub local_spelt : (scale units day seconds l : ℕ) (offset : ℤ) → seconds ≡ units / 10 ^ scale → local_seconds seconds day offset ≡ Some l

@@ -1,9 +1,9 @@
 use Rattle.tds_values.proofs.Words.{common_steps, ◌≡◌, ℕ, ◌+◌, ◌*◌, ◌/◌, ◌%◌, ◌<◌, arith, last_digits}
-use Rattle.tds_values.proofs.{TableLemmas.word_at, WordLemmas.bytes_of, WordLemmas.length-bytes_of}
+use Rattle.tds_values.proofs.{TableLemmas.word_at, WordLemmas.bytes_of}
 use Rattle.tds_values.proofs.digits.put_two.Goals as goal
 
 spelt : (n w : ℕ) → n < 100 → w ≡ 48 + n / 10 + 256 * (48 + n % 10) → bytes_of 2 w ≡ last_digits 2 n
-spelt n w h e = grind (arith, common_steps)
+spelt n w h e = grind arith
 
 pub returns-clause-written : goal.returns-clause-written
-returns-clause-written c = grind (arith, common_steps, length-bytes_of, spelt, word_at)
+returns-clause-written c = grind (arith, common_steps, spelt, word_at)

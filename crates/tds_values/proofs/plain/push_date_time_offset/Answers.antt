@@ -3,7 +3,7 @@ use Rattle.tds_values.proofs.{LocalLemmas.local_by_seconds, WrittenLemmas.local_
 use Rattle.tds_values.proofs.plain.push_date_time_offset.Goals as goal
 
 pub unreachable-requires : goal.unreachable-requires
-unreachable-requires c = grind (arith, to_z-of_z, local_by_seconds)
+unreachable-requires c = grind (arith, local_by_seconds)
 
 pub returns-clause-items : goal.returns-clause-items
 returns-clause-items c = grind (arith, common_steps, to_z-of_z, local_spelt)

@@ -1,9 +1,9 @@
-use Rattle.tds_values.proofs.Words.{nat_tests, arith}
+use Rattle.tds_values.proofs.Words.{arith}
 use Rattle.tds_values.proofs.WrittenLemmas.{time_by_seconds}
 use Rattle.tds_values.proofs.write.write_date_time2.Goals as goal
 
 pub returns-then-seconds-ge-SECONDS_A_DAY : goal.returns-then-seconds-ge-SECONDS_A_DAY
-returns-then-seconds-ge-SECONDS_A_DAY c = grind (arith, nat_tests, (time_by_seconds c.args.scale c.units_in-units.result))
+returns-then-seconds-ge-SECONDS_A_DAY c = grind (arith, (time_by_seconds c.args.scale c.units_in-units.result))
 
 pub returns : goal.returns
-returns c = grind (arith, nat_tests, (time_by_seconds c.args.scale c.units_in-units.result))
+returns c = grind (arith, (time_by_seconds c.args.scale c.units_in-units.result))
