@@ -2,13 +2,15 @@
 use Rattle.tds_values.proofs.Words.{◌≡◌, ℕ, ◌+◌, ◌-◌, ◌*◌, ◌/◌, ◌%◌, ◌^◌, ◌<◌, arith, bit_and, and_block, and_mask}
 
 -- a mask keeps the low j bits of the lowest w, and does to those above what it does alone
-kept : (w j high mask low q n : ℕ) → n ≡ high * 2 ^ w + low → low < 2 ^ w → 2 ^ j - 1 < 2 ^ w → low % 2 ^ j ≡ q → bit_and n (mask * 2 ^ w + (2 ^ j - 1)) ≡ bit_and high mask * 2 ^ w + q
+kept : (w j high mask low q n : ℕ) → n ≡ high * 2 ^ w + low → low < 2 ^ w → 2 ^ j - 1 < 2 ^ w → low % 2 ^ j ≡ q
+    → bit_and n (mask * 2 ^ w + (2 ^ j - 1)) ≡ bit_and high mask * 2 ^ w + q
 kept w j high mask low q n is fits few e = grind (arith, and_block, and_mask)
 
 -- the lowest of some numbers of four digits, divided by 100
 hundredth : (a rest mask : ℕ) → a < 10000
     → bit_and ((rest * 2 ^ 32 + a) * 5243 / 524288) (mask * 2 ^ 32 + 127) ≡ bit_and (rest * 5243 / 524288) mask * 2 ^ 32 + a / 100
-hundredth a rest mask h = kept 32 7 (rest * 5243 / 524288) mask (rest * 5243 % 524288 * 8192 + a * 5243 / 524288) (a / 100) _ (omega arith) (omega arith) (omega arith) (omega arith)
+hundredth a rest mask h =
+    kept 32 7 (rest * 5243 / 524288) mask (rest * 5243 % 524288 * 8192 + a * 5243 / 524288) (a / 100) _ (omega arith) (omega arith) (omega arith) (omega arith)
 
 -- the lowest of some numbers of two digits, divided by 10
 tenth : (b rest mask : ℕ) → b < 100

@@ -15,5 +15,7 @@ word_at p h = each_below (λ p. get_or WORDS p 0) (λ p. 48 + p / 10 + 256 * (48
 
 -- the two hexadecimal digits of a byte
 pub hex_at : (b : ℕ) → b < 256 → (get_or HEX (b * 2) 0 ≡ hex_digit lower (b / 16 % 16)) × (get_or HEX (b * 2 + 1) 0 ≡ hex_digit lower (b % 16))
-hex_at b h =
-    (each_below (λ b. get_or HEX (b * 2) 0) (λ b. hex_digit lower (b / 16 % 16)) 256 refl b h, each_below (λ b. get_or HEX (b * 2 + 1) 0) (λ b. hex_digit lower (b % 16)) 256 refl b h)
+hex_at b h = (
+  each_below (λ b. get_or HEX (b * 2) 0) (λ b. hex_digit lower (b / 16 % 16)) 256 refl b h,
+  each_below (λ b. get_or HEX (b * 2 + 1) 0) (λ b. hex_digit lower (b % 16)) 256 refl b h,
+)
