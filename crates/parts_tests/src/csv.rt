@@ -568,3 +568,122 @@ fn whole_values_are_written(rt: HostRuntime) -> Result<(), Fail> {
     }
     Ok(())
 }
+
+// A character in UTF-16, low byte first, and its text.
+struct Spelt {
+    units: &'static [u8],
+    text: &'static str,
+}
+
+// Characters of one byte, two and three.
+const FILLS: [Spelt; 3] = [
+    Spelt {
+        units: b"\x61\x00",
+        text: "a",
+    },
+    Spelt {
+        units: b"\x4F\x04",
+        text: "\u{44F}",
+    },
+    Spelt {
+        units: b"\x71\x67",
+        text: "\u{6771}",
+    },
+];
+
+// What stands among them: a quote, other characters, a pair, and each half of one alone.
+const AMONG: [Spelt; 8] = [
+    Spelt {
+        units: b"\x22\x00",
+        text: "\"\"",
+    },
+    Spelt {
+        units: b"\x7F\x00",
+        text: "\u{7F}",
+    },
+    Spelt {
+        units: b"\x80\x00",
+        text: "\u{80}",
+    },
+    Spelt {
+        units: b"\xFF\x07",
+        text: "\u{7FF}",
+    },
+    Spelt {
+        units: b"\x00\x08",
+        text: "\u{800}",
+    },
+    Spelt {
+        units: b"\x3D\xD8\x00\xDE",
+        text: "\u{1F600}",
+    },
+    Spelt {
+        units: b"\xFF\xDB",
+        text: "\u{FFFD}",
+    },
+    Spelt {
+        units: b"\x00\xDC",
+        text: "\u{FFFD}",
+    },
+];
+
+// So many characters, another, and so many again.
+fn around(
+    alloc: Global,
+    fill: &[u8],
+    before: usize,
+    one: &[u8],
+    after: usize,
+) -> Result<Vec<u8>, Fail> {
+    let mut all = Vec::new(alloc);
+    for _ in 0..before {
+        all.extend_from_slice(fill)?;
+    }
+    all.extend_from_slice(one)?;
+    for _ in 0..after {
+        all.extend_from_slice(fill)?;
+    }
+    Ok(all)
+}
+
+// A character after `before` others, with `after` behind it: the joiner in two pieces cut anywhere, and the field of
+// the value before eight units more.
+fn check_lane(
+    alloc: Global,
+    fill: &Spelt,
+    one: &Spelt,
+    before: usize,
+    after: usize,
+) -> Result<(), Fail> {
+    let units = around(alloc, fill.units, before, one.units, after)?;
+    let text = around(
+        alloc,
+        fill.text.as_bytes(),
+        before,
+        one.text.as_bytes(),
+        after,
+    )?;
+    for cut in 0..=units.len() {
+        let (a, b) = units.split_at(cut);
+        let came = joined::<Utf16Joiner>(alloc, (a, b, b""), &text)?;
+        same(one.text, &came, &(Ok(()), true))?;
+    }
+    let source = around(alloc, fill.units, before, one.units, after + 8)?;
+    let mut room = [0; 128];
+    let field = around(alloc, b"\"", 1, &text, 1)?;
+    let came = field_of(Content::Utf16, &source, units.len(), &mut room);
+    same(one.text, &came, &Some(&field[..]))
+}
+
+#[test]
+fn each_unit_of_eight_may_be_of_any_kind(rt: HostRuntime) -> Result<(), Fail> {
+    for fill in &FILLS {
+        for one in &AMONG {
+            for before in 0..=8 {
+                check_lane(rt.alloc(), fill, one, before, 0)?;
+                check_lane(rt.alloc(), fill, one, before, 17 - before)?;
+            }
+        }
+    }
+    Ok(())
+}

@@ -11,7 +11,6 @@ pub mod Spares
 pub mod Sinks
 pub mod Singles
 pub mod Masks
-pub mod Units
 pub mod HexLanes
 pub mod PlainText
 pub mod Unquoted
@@ -29,4 +28,6 @@ pub mod Utf8Laws
 pub mod Utf16Laws
 pub mod SingleLaws
 pub mod JoiningLemmas
+pub mod WideLanes
+pub mod WideText
 pub mod Words

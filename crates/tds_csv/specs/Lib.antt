@@ -14,3 +14,4 @@ pub mod Spare
 pub mod Cutting
 pub mod Plain
 pub mod Streaming
+pub mod Wide

@@ -1,5 +1,5 @@
 -- Bytes that are looked at 16 at a time.
-use Rattle.std.specs.Prelude.{◌≡◌, ℕ, ◌+◌, ◌≤◌, ◌==◌, ◌&&◌, Bool, not, nat_lt, if◌then◌else◌, List, [], ◌∷◌, length, take}
+use Rattle.std.specs.Prelude.{◌≡◌, ℕ, ◌≤◌, ◌==◌, ◌&&◌, Bool, not, nat_lt, if◌then◌else◌, List, [], ◌∷◌, length, take}
 use Rattle.std.specs.Prelude.{slice_index}
 use Rattle.hex.specs.Hex.{lower_digits}
 use Rattle.tds_csv.specs.Quoting.{quote}
@@ -9,9 +9,13 @@ use lib.Count.{count_trailing_zeros}
 abbrev pub is_unquoted : ℕ → Bool
 is_unquoted b = not (b == quote)
 
+-- below a limit, and no quote
+abbrev pub is_below : ℕ → ℕ → Bool
+is_below limit n = nat_lt n limit && not (n == quote)
+
 -- of ASCII, and no quote
 abbrev pub is_plain : ℕ → Bool
-is_plain b = nat_lt b 128 && not (b == quote)
+is_plain b = is_below 128 b
 
 -- the lowest bit that is set in the mask of lanes, or their number
 abbrev pub first_set : ℕ → ℕ → ℕ
@@ -22,18 +26,6 @@ abbrev pub evens : List ℕ → List ℕ
 evens [] = []
 evens (low ∷ []) = []
 evens (low ∷ high ∷ bytes) = low ∷ evens bytes
-
--- the high bytes of units, low byte first
-abbrev pub odds : List ℕ → List ℕ
-odds [] = []
-odds (low ∷ []) = []
-odds (low ∷ high ∷ bytes) = high ∷ odds bytes
-
--- how many units, from the first, are characters of ASCII and no quotes
-abbrev pub plain_units : List ℕ → ℕ
-plain_units [] = 0
-plain_units (low ∷ []) = 0
-plain_units (low ∷ high ∷ bytes) = if is_plain low && (high == 0) then 1 + plain_units bytes else 0
 
 -- the hexadecimal digit of a number below 16
 abbrev pub digit : ℕ → ℕ

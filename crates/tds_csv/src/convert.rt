@@ -1,4 +1,5 @@
 // Conversions of the bytes of a slice.
+pub(crate) mod beyond_ascii;
 pub(crate) mod doubling;
 pub(crate) mod encode;
 pub(crate) mod lanes;

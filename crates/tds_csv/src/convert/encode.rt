@@ -10,7 +10,7 @@ use std::simd::prelude::*;
 
 // A byte.
 #[inline(always)]
-fn put_byte(to: &mut [u8], at: usize, byte: u8) -> usize
+pub(crate) fn put_byte(to: &mut [u8], at: usize, byte: u8) -> usize
     requires { at < length to.old }
     ensures end { result ≡ at + 1 }
     ensures written { take result to.new ≡ take at to.old ++ byte ∷ [] }

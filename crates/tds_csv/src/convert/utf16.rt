@@ -1,5 +1,5 @@
 // Characters of text in UTF-16.
-ghost use Rattle.std.specs.Prelude.{◌≡◌, ◌+◌, ◌-◌, ◌*◌, ◌<◌, ◌≤◌, ◌%◌, ◌++◌, length, take, drop, slice_index, MatchOption, IfSome};
+ghost use Rattle.std.specs.Prelude.{◌≡◌, ◌+◌, ◌-◌, ◌*◌, ◌<◌, ◌≤◌, ◌%◌, ◌++◌, length, take, drop, slice_index, MatchOption, IfSome, IsTrue};
 ghost use Rattle.std.specs.Char.{encode_utf8};
 ghost use Rattle.std.specs.Char.Utf16.{is_high_surrogate, is_low_surrogate};
 ghost use Rattle.tds_csv.specs.Joining.{emit};
@@ -7,8 +7,10 @@ ghost use Rattle.tds_csv.specs.Plain.{LiesIn};
 ghost use Rattle.tds_csv.specs.Utf16 as utf16;
 ghost use Rattle.tds_csv.specs.Utf16Next.{Converts, IsCharacter, IsNext, LeavesRest};
 
+use crate::convert::beyond_ascii::{convert_long, convert_short};
 use crate::convert::encode::put_quoted;
-use crate::convert::lanes_utf16::{UNITS, take_units};
+use crate::convert::lanes::LANES;
+use crate::convert::lanes_utf16::{UNITS, put_plain};
 
 // A character, and how many bytes it takes.
 #[derive(Clone, Copy)]
@@ -99,89 +101,106 @@ pub(crate) struct Converted {
     pub(crate) made: usize,
 }
 
-// The character at a place, where it is a single unit that isn't taken with others: no character of ASCII
-// but a quote, and no surrogate.
+// Goes on with the text by eight units, up to the first that is no character of ASCII, or a quote. What comes after
+// the bytes in the source may be looked at.
 #[inline(always)]
-fn single(bytes: &[u8], at: usize) -> Option<u32>
-    requires { at + 2 ≤ length bytes.now }
-    ensures gives { IfSome result (λ code. IsNext (drop at bytes.now) code 2) }
-    ensures range { IfSome result (λ code. code < 65536) }
-{
-    let first = unit(bytes, at);
-    if first < 0x80 && first != 0x22 {
-        return None;
-    }
-    if is_high(first) {
-        return None;
-    }
-    if is_low(first) {
-        return None;
-    }
-    Some(first)
-}
-
-// Goes on with the text by single units, up to the first that is taken with others, or a surrogate.
-#[inline(always)]
-fn convert_singles(bytes: &[u8], from: usize, to: &mut [u8], start: usize) -> Converted
-    requires long { 3 * length bytes.now + 2 * UNITS ≤ 2 * length to.old }
+fn convert_plain(bytes: &[u8], source: &[u8], from: usize, to: &mut [u8], start: usize) -> Converted
+    requires source { LiesIn bytes.now source.now }
+    requires long { 3 * length bytes.now + 2 * LANES ≤ 2 * length to.old }
     requires before { Converts bytes.now to.old from start }
     ensures more { from ≤ result.used }
     ensures after { Converts bytes.now to.new result.used result.made }
 {
     let mut at = from;
     let mut made = start;
-    while bytes.len() - at >= 2 {
-        let Some(code) = single(bytes, at) else {
+    while bytes.len() - at >= LANES {
+        let n = put_plain(bytes, at, to, made);
+        at += 2 * n;
+        made += n;
+        if n < UNITS {
             return Converted { used: at, made };
-        };
-        made = put_quoted(to, made, code);
-        at += 2;
+        }
     }
-    Converted { used: at, made }
+    if source.len() - at < LANES {
+        return Converted { used: at, made };
+    }
+    let n = put_plain(source, at, to, made).min((bytes.len() - at) / 2);
+    Converted {
+        used: at + 2 * n,
+        made: made + n,
+    }
 }
 
-// Goes on with the text by eight units, and where one of them needs care, by single units from there on.
+// Whether the next two units are beyond ASCII.
 #[inline(always)]
-fn convert_some(bytes: &[u8], source: &[u8], from: usize, to: &mut [u8], start: usize) -> Converted
-    requires source { LiesIn bytes.now source.now }
-    requires long { 3 * length bytes.now + 2 * UNITS ≤ 2 * length to.old }
+fn is_run(bytes: &[u8], at: usize) -> bool
+    requires { at ≤ length bytes.now }
+    ensures { IsTrue result → at + 4 ≤ length bytes.now }
+{
+    bytes.len() - at >= 4 && unit(bytes, at) >= 0x80 && unit(bytes, at + 2) >= 0x80
+}
+
+// Goes on with the text by one character, if that doesn't depend on what follows.
+#[inline(always)]
+fn convert_one(bytes: &[u8], from: usize, to: &mut [u8], start: usize) -> Converted
+    requires long { 3 * length bytes.now + 2 * LANES ≤ 2 * length to.old }
     requires before { Converts bytes.now to.old from start }
     ensures more { from ≤ result.used }
+    ensures held { result.used ≡ from → utf16.rest (drop from bytes.now) ≡ drop from bytes.now }
     ensures after { Converts bytes.now to.new result.used result.made }
 {
-    let n = take_units(bytes, source, from, to, start);
-    if n == UNITS {
+    let Some(next) = next_character(bytes, from) else {
         return Converted {
-            used: from + 2 * n,
-            made: start + n,
+            used: from,
+            made: start,
         };
+    };
+    let made = put_quoted(to, start, next.code);
+    Converted {
+        used: from + next.len,
+        made,
     }
-    convert_singles(bytes, from + 2 * n, to, start + n)
+}
+
+// Goes on with the text, by eight units if the next two are beyond ASCII.
+#[inline(always)]
+fn convert_next(bytes: &[u8], source: &[u8], from: usize, to: &mut [u8], start: usize) -> Converted
+    requires source { LiesIn bytes.now source.now }
+    requires long { 3 * length bytes.now + 2 * LANES ≤ 2 * length to.old }
+    requires before { Converts bytes.now to.old from start }
+    ensures more { from ≤ result.used }
+    ensures held { result.used ≡ from → utf16.rest (drop from bytes.now) ≡ drop from bytes.now }
+    ensures after { Converts bytes.now to.new result.used result.made }
+{
+    if !is_run(bytes, from) {
+        return convert_one(bytes, from, to, start);
+    }
+    let done = if unit(bytes, from) < 0x800 {
+        convert_short(bytes, source, from, to, start)
+    } else {
+        convert_long(bytes, source, from, to, start)
+    };
+    if done.used > from {
+        return done;
+    }
+    convert_one(bytes, from, to, done.made)
 }
 
 // Writes the text of the characters that are fixed. What follows the bytes in the source may be looked at.
 pub(crate) fn convert(bytes: &[u8], source: &[u8], to: &mut [u8]) -> Converted
     requires source { LiesIn bytes.now source.now }
-    requires long { 3 * length bytes.now + 2 * UNITS ≤ 2 * length to.old }
+    requires long { 3 * length bytes.now + 2 * LANES ≤ 2 * length to.old }
     ensures short { 2 * result.made ≤ 3 * result.used }
     ensures text { take result.made to.new ≡ emit utf16.rest utf16.text bytes.now }
     ensures used { LeavesRest bytes.now 0 result.used }
 {
-    let mut at = 0;
-    let mut made = 0;
+    let mut done = Converted { used: 0, made: 0 };
     loop {
-        let done = convert_some(bytes, source, at, to, made);
-        made = done.made;
-        let from = at;
-        at = done.used;
-        if at != from {
-            continue;
+        let plain = convert_plain(bytes, source, done.used, to, done.made);
+        done = convert_next(bytes, source, plain.used, to, plain.made);
+        if done.used == plain.used {
+            return done;
         }
-        let Some(next) = next_character(bytes, at) else {
-            return Converted { used: at, made };
-        };
-        made = put_quoted(to, made, next.code);
-        at += next.len;
     }
 }
 
@@ -189,7 +208,7 @@ pub(crate) fn convert(bytes: &[u8], source: &[u8], to: &mut [u8]) -> Converted
 pub(crate) fn convert_whole(bytes: &[u8], source: &[u8], to: &mut [u8]) -> usize
     requires source { LiesIn bytes.now source.now }
     requires whole { length bytes.now % 2 ≡ 0 }
-    requires room { 3 * length bytes.now + 2 * UNITS ≤ 2 * length to.old }
+    requires room { 3 * length bytes.now + 2 * LANES ≤ 2 * length to.old }
     ensures short { 2 * result ≤ 3 * length bytes.now }
     ensures text { take result to.new ≡ utf16.text bytes.now }
 {

@@ -8,7 +8,7 @@ ghost use Rattle.tds_csv.specs.Utf16 as utf16;
 ghost use Rattle.tds_csv.specs.Utf16Next.{LeavesRest, seam};
 
 use crate::convert::CHUNK;
-use crate::convert::lanes_utf16::UNITS;
+use crate::convert::lanes::LANES;
 use crate::convert::run::Run;
 use crate::convert::utf16::{character_at, convert};
 use crate::joiners::{JoinFault, Joiner};
@@ -17,7 +17,7 @@ use std::io::Write;
 use tds_packet::Stop;
 
 /// How many bytes the text of a chunk has at most, and as many as are written at once.
-const TEXT: usize = 3 * CHUNK / 2 + UNITS;
+const TEXT: usize = 3 * CHUNK / 2 + LANES;
 
 /// Text in UTF-16, low byte first.
 #[derive(Drop)]
@@ -29,9 +29,9 @@ pub struct Utf16Joiner {
 // it, or a chunk.
 fn chunk_within(room: usize) -> usize
     ensures some { CHUNK ≤ result }
-    ensures fits { CHUNK < result → 3 * result + 2 * UNITS ≤ 2 * room }
+    ensures fits { CHUNK < result → 3 * result + 2 * LANES ≤ 2 * room }
 {
-    (room.saturating_sub(UNITS) / 3 * 2).max(CHUNK)
+    (room.saturating_sub(LANES) / 3 * 2).max(CHUNK)
 }
 
 // Puts the text of the characters that are fixed, of a chunk or of as many bytes as the sink has room for,
@@ -40,11 +40,11 @@ fn put_chunk<W: Write>(bytes: &[u8], source: &[u8], sink: &mut Sink<'_, W>) -> R
     requires writing { IsWriting sink.old }
     requires source { LiesIn bytes.now source.now }
     requires short { CHUNK < length bytes.now →
-        3 * length bytes.now + 2 * UNITS ≤ 2 * (4096 - length sink.old.output.now.bytes) }
+        3 * length bytes.now + 2 * LANES ≤ 2 * (4096 - length sink.old.output.now.bytes) }
     ensures puts { PutsPiece W.contents sink.old sink.new (emit utf16.rest utf16.text bytes.now) result }
     ensures used { IfOk result (λ used. LeavesRest bytes.now 0 used) }
 {
-    let most = bytes.len() + bytes.len().div_ceil(2) + UNITS;
+    let most = bytes.len() + bytes.len().div_ceil(2) + LANES;
     if sink.room() >= most {
         let waiting = sink.waiting() as usize;
         let done = convert(bytes, source, sink.spare(most));

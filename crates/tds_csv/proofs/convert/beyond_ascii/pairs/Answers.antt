@@ -1,0 +1,20 @@
+use Rattle.tds_csv.proofs.Words.{◌∙◌, arith, nat_tests, map-id, sym, zip2_of_maps, splat_is_map, Each2-splat, Each1-all}
+use Rattle.tds_csv.proofs.WideLanes.{same_map, chosen}
+use Rattle.tds_csv.proofs.convert.beyond_ascii.pairs.Goals as goal
+
+pub nonzero_div-lead : goal.nonzero_div-lead
+nonzero_div-lead c = Each2-splat _ c.args.units 8 64 (Each1-all _ (λ x. omega arith) c.args.units)
+
+pub nonzero_rem-trail : goal.nonzero_rem-trail
+nonzero_rem-trail c = Each2-splat _ c.args.units 8 64 (Each1-all _ (λ x. omega arith) c.args.units)
+
+pub returns : goal.returns
+returns c =
+    let us = c.args.units in
+    let n = c.fits-units.0 in
+    let id = sym (map-id us) in
+    let parts = splat_is_map us 8 64 n in
+    let lead = zip2_of_maps _ _ _ us (zip2_of_maps _ _ _ us id parts) (splat_is_map us 8 192 n) in
+    let trail = zip2_of_maps _ _ _ us (zip2_of_maps _ _ _ us id parts) (splat_is_map us 8 128 n) in
+    chosen _ _ _ us (zip2_of_maps _ _ _ us id (splat_is_map us 8 128 n)) id (zip2_of_maps _ _ _ us lead (zip2_of_maps _ _ _ us trail (splat_is_map us 8 256 n)))
+    ∙ same_map (λ u small. grind (arith, nat_tests)) us c.fits-units.1

@@ -1,0 +1,6 @@
+use Rattle.tds_csv.proofs.Words.{arith}
+use Rattle.tds_csv.proofs.WideLanes.{units_of_bytes}
+use Rattle.tds_csv.proofs.convert.lanes_utf16.units_of.Goals as goal
+
+pub returns : goal.returns
+returns c = units_of_bytes 8 c.args.bytes (omega (arith, c.fits-bytes.0)) c.fits-bytes.1

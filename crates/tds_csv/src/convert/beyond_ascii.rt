@@ -1,0 +1,162 @@
+// Characters beyond ASCII in UTF-16, eight units at a time.
+ghost use Rattle.std.specs.Prelude.{◌≡◌, ◌+◌, ◌*◌, ◌/◌, ◌%◌, ◌<◌, ◌≤◌, ◌++◌, [], ◌∷◌, length, take, map, encode_utf8_all};
+ghost use Rattle.std.specs.List.{prefix_len};
+ghost use Rattle.tds_csv.specs.Plain.{LiesIn};
+ghost use Rattle.tds_csv.specs.Utf16Next.{Converts};
+ghost use Rattle.tds_csv.specs.Wide.{is_long, is_short, pair, size, triples};
+
+use crate::convert::encode::put_bytes;
+use crate::convert::lanes::LANES;
+use crate::convert::lanes_utf16::{UNITS, long_units, units_at, units_below};
+use crate::convert::utf16::Converted;
+use std::simd::prelude::*;
+
+// The bytes of short characters, each in two bytes.
+#[inline(always)]
+fn pairs(units: u16x8) -> [u16; UNITS]
+    ensures { result ≡ map pair units }
+{
+    let lead = units / u16x8::splat(64) + u16x8::splat(0xC0);
+    let trail = units % u16x8::splat(64) + u16x8::splat(0x80);
+    let two = lead + trail * u16x8::splat(256);
+    let ascii = units.simd_lt(u16x8::splat(0x80));
+    ascii.select(units, two).to_array()
+}
+
+// How many of the two bytes are those of the character.
+#[inline(always)]
+fn sizes(units: u16x8) -> [u16; UNITS]
+    ensures { result ≡ map size units }
+{
+    let ascii = units.simd_lt(u16x8::splat(0x80));
+    ascii.select(u16x8::splat(1), u16x8::splat(2)).to_array()
+}
+
+// The bytes of four long characters, and four bytes more.
+#[inline(always)]
+fn triples(units: u16x4) -> u8x16
+    ensures { take 12 result ≡ triples units }
+{
+    let codes = units.cast::<u32>();
+    let lead = codes / u32x4::splat(4096) + u32x4::splat(0xE0);
+    let middle = codes / u32x4::splat(64) % u32x4::splat(64) + u32x4::splat(0x80);
+    let trail = codes % u32x4::splat(64) + u32x4::splat(0x80);
+    let words = lead + middle * u32x4::splat(256) + trail * u32x4::splat(65536);
+    words
+        .to_le_bytes()
+        .swizzle([0, 1, 2, 4, 5, 6, 8, 9, 10, 12, 13, 14, 3, 7, 11, 15])
+}
+
+// The first bytes of a pair, one or both.
+#[inline(always)]
+fn put_pair(to: &mut [u8], at: usize, pair: u16, size: u16) -> usize
+    requires some { 1 ≤ size }
+    requires most { size ≤ 2 }
+    requires room { at + 2 ≤ length to.old }
+    ensures end { result ≡ at + size }
+    ensures written { take result to.new ≡ take at to.old ++ take size (pair % 256 ∷ pair / 256 ∷ []) }
+{
+    to[at] = (pair % 256) as u8;
+    to[at + 1] = (pair / 256) as u8;
+    at + usize::from(size)
+}
+
+// The first `n` of eight short characters.
+#[inline(always)]
+fn put_short(to: &mut [u8], from: usize, units: u16x8, n: usize) -> usize
+    requires short { n ≤ prefix_len is_short units }
+    requires room { from + LANES ≤ length to.old }
+    ensures most { result ≤ from + 2 * n }
+    ensures written { take result to.new ≡ take from to.old ++ encode_utf8_all (take n units) }
+{
+    let pairs = pairs(units);
+    let sizes = sizes(units);
+    let mut made = from;
+    for i in 0..n {
+        made = put_pair(to, made, pairs[i], sizes[i]);
+    }
+    made
+}
+
+// The first `n` of eight long characters.
+#[inline(always)]
+fn put_long(to: &mut [u8], at: usize, units: u16x8, n: usize)
+    requires long { n ≤ prefix_len is_long units }
+    requires room { at + LANES ≤ length to.old }
+    requires more { 4 < n → at + 12 + LANES ≤ length to.old }
+    ensures { take (at + 3 * n) to.new ≡ take at to.old ++ encode_utf8_all (take n units) }
+{
+    let low = triples(units.extract::<0, 4>());
+    if n <= 4 {
+        put_bytes(to, at, low, 3 * n);
+        return;
+    }
+    put_bytes(to, at, low, 12);
+    let high = triples(units.extract::<4, 4>());
+    put_bytes(to, at + 12, high, 3 * (n - 4));
+}
+
+// Goes on with the text by eight units, up to the first that is no short character. What comes after the
+// bytes in the source may be looked at.
+#[inline(never)]
+pub(crate) fn convert_short(
+    bytes: &[u8],
+    source: &[u8],
+    from: usize,
+    to: &mut [u8],
+    start: usize,
+) -> Converted
+    requires source { LiesIn bytes.now source.now }
+    requires long { 3 * length bytes.now + 2 * LANES ≤ 2 * length to.old }
+    requires before { Converts bytes.now to.old from start }
+    ensures more { from ≤ result.used }
+    ensures after { Converts bytes.now to.new result.used result.made }
+{
+    let mut at = from;
+    let mut made = start;
+    while source.len() - at >= LANES {
+        let units = units_at(source, at);
+        let n = units_below(units, 0x800).min((bytes.len() - at) / 2);
+        if n < UNITS {
+            made = put_short(to, made, units, n);
+            at += 2 * n;
+            break;
+        }
+        made = put_short(to, made, units, UNITS);
+        at += 2 * UNITS;
+    }
+    Converted { used: at, made }
+}
+
+// Goes on with the text by eight units, up to the first that is no long character.
+#[inline(never)]
+pub(crate) fn convert_long(
+    bytes: &[u8],
+    source: &[u8],
+    from: usize,
+    to: &mut [u8],
+    start: usize,
+) -> Converted
+    requires source { LiesIn bytes.now source.now }
+    requires long { 3 * length bytes.now + 2 * LANES ≤ 2 * length to.old }
+    requires before { Converts bytes.now to.old from start }
+    ensures more { from ≤ result.used }
+    ensures after { Converts bytes.now to.new result.used result.made }
+{
+    let mut at = from;
+    let mut made = start;
+    while source.len() - at >= LANES {
+        let units = units_at(source, at);
+        let n = long_units(units).min((bytes.len() - at) / 2);
+        if n < UNITS {
+            put_long(to, made, units, n);
+            made += 3 * n;
+            at += 2 * n;
+            break;
+        }
+        put_long(to, made, units, UNITS);
+        made += 3 * UNITS;
+        at += 2 * UNITS;
+    }
+    Converted { used: at, made }
+}
