@@ -1,28 +1,67 @@
 // Text in Windows-1252, converted from one slice to another.
-ghost use Rattle.std.specs.Prelude.{◌≡◌, ◌+◌, ◌*◌, ◌<◌, ◌≤◌, ◌++◌, length, take, drop};
+ghost use Rattle.std.specs.Prelude.{◌≡◌, ◌+◌, ◌*◌, ◌<◌, ◌≤◌, [], ◌∷◌, ◌++◌, ◌-◌, length, take, drop, slice_index};
 ghost use Rattle.tds_csv.specs.Plain.{LiesIn};
 ghost use Rattle.tds_csv.specs.Windows1252 as windows_1252;
 
-use crate::convert::encode::{put_bytes, put_quoted};
+use crate::convert::encode::{put_byte, put_bytes, put_doubled};
 use crate::convert::lanes::{BY_HAND, LANES, plain_run};
 use std::simd::prelude::*;
 
-// The characters of the bytes 80 to 9F.
-const UPPER_CONTROLS: [u16; 32] = [
-    0x20AC, 0x0081, 0x201A, 0x0192, 0x201E, 0x2026, 0x2020, 0x2021, 0x02C6, 0x2030, 0x0160, 0x2039,
-    0x0152, 0x008D, 0x017D, 0x008F, 0x0090, 0x2018, 0x2019, 0x201C, 0x201D, 0x2022, 0x2013, 0x2014,
-    0x02DC, 0x2122, 0x0161, 0x203A, 0x0153, 0x009D, 0x017E, 0x0178,
+// The characters of the bytes 80 to FF in UTF-8, the first byte the lowest, with their number in the highest.
+const UPPER: [u32; 128] = [
+    0x03AC82E2, 0x020081C2, 0x039A80E2, 0x020092C6, 0x039E80E2, 0x03A680E2, 0x03A080E2, 0x03A180E2,
+    0x020086CB, 0x03B080E2, 0x0200A0C5, 0x03B980E2, 0x020092C5, 0x02008DC2, 0x0200BDC5, 0x02008FC2,
+    0x020090C2, 0x039880E2, 0x039980E2, 0x039C80E2, 0x039D80E2, 0x03A280E2, 0x039380E2, 0x039480E2,
+    0x02009CCB, 0x03A284E2, 0x0200A1C5, 0x03BA80E2, 0x020093C5, 0x02009DC2, 0x0200BEC5, 0x0200B8C5,
+    0x0200A0C2, 0x0200A1C2, 0x0200A2C2, 0x0200A3C2, 0x0200A4C2, 0x0200A5C2, 0x0200A6C2, 0x0200A7C2,
+    0x0200A8C2, 0x0200A9C2, 0x0200AAC2, 0x0200ABC2, 0x0200ACC2, 0x0200ADC2, 0x0200AEC2, 0x0200AFC2,
+    0x0200B0C2, 0x0200B1C2, 0x0200B2C2, 0x0200B3C2, 0x0200B4C2, 0x0200B5C2, 0x0200B6C2, 0x0200B7C2,
+    0x0200B8C2, 0x0200B9C2, 0x0200BAC2, 0x0200BBC2, 0x0200BCC2, 0x0200BDC2, 0x0200BEC2, 0x0200BFC2,
+    0x020080C3, 0x020081C3, 0x020082C3, 0x020083C3, 0x020084C3, 0x020085C3, 0x020086C3, 0x020087C3,
+    0x020088C3, 0x020089C3, 0x02008AC3, 0x02008BC3, 0x02008CC3, 0x02008DC3, 0x02008EC3, 0x02008FC3,
+    0x020090C3, 0x020091C3, 0x020092C3, 0x020093C3, 0x020094C3, 0x020095C3, 0x020096C3, 0x020097C3,
+    0x020098C3, 0x020099C3, 0x02009AC3, 0x02009BC3, 0x02009CC3, 0x02009DC3, 0x02009EC3, 0x02009FC3,
+    0x0200A0C3, 0x0200A1C3, 0x0200A2C3, 0x0200A3C3, 0x0200A4C3, 0x0200A5C3, 0x0200A6C3, 0x0200A7C3,
+    0x0200A8C3, 0x0200A9C3, 0x0200AAC3, 0x0200ABC3, 0x0200ACC3, 0x0200ADC3, 0x0200AEC3, 0x0200AFC3,
+    0x0200B0C3, 0x0200B1C3, 0x0200B2C3, 0x0200B3C3, 0x0200B4C3, 0x0200B5C3, 0x0200B6C3, 0x0200B7C3,
+    0x0200B8C3, 0x0200B9C3, 0x0200BAC3, 0x0200BBC3, 0x0200BCC3, 0x0200BDC3, 0x0200BEC3, 0x0200BFC3,
 ];
 
-// The character of a byte.
-fn character(byte: u8) -> u32
-    ensures value { result ≡ windows_1252.character byte }
-    ensures range { result < 65536 }
+// What the table has for a byte.
+#[inline(always)]
+fn upper(byte: u8) -> u32
+    requires { 128 ≤ byte }
+    ensures { result ≡ slice_index UPPER (byte - 128) }
 {
-    if byte >= 0x80 && byte < 0xA0 {
-        u32::from(UPPER_CONTROLS[usize::from(byte) - 0x80])
+    UPPER[usize::from(byte) - 0x80]
+}
+
+// The text of a byte beyond ASCII.
+#[inline(always)]
+fn put_upper(to: &mut [u8], at: usize, byte: u8) -> usize
+    requires upper { 128 ≤ byte }
+    requires room { at + 3 ≤ length to.old }
+    ensures most { result ≤ at + 3 }
+    ensures written { take result to.new ≡ take at to.old ++ windows_1252.text (byte ∷ []) }
+{
+    let text = upper(byte);
+    let second = put_byte(to, at, (text % 0x100) as u8);
+    let third = put_byte(to, second, (text / 0x100 % 0x100) as u8);
+    put_byte(to, third, (text / 0x1_0000 % 0x100) as u8);
+    at + (text / 0x100_0000) as usize
+}
+
+// The text of a byte.
+#[inline(always)]
+fn put_text(to: &mut [u8], at: usize, byte: u8) -> usize
+    requires { at + 3 ≤ length to.old }
+    ensures most { result ≤ at + 3 }
+    ensures written { take result to.new ≡ take at to.old ++ windows_1252.text (byte ∷ []) }
+{
+    if byte >= 0x80 {
+        put_upper(to, at, byte)
     } else {
-        u32::from(byte)
+        put_doubled(to, at, byte)
     }
 }
 
@@ -74,7 +113,7 @@ fn convert_by_hand(bytes: &[u8], from: usize, end: usize, to: &mut [u8], start: 
     let mut at = from;
     let mut made = start;
     while at < end {
-        made = put_quoted(to, made, character(bytes[at]));
+        made = put_text(to, made, bytes[at]);
         at += 1;
     }
     made
