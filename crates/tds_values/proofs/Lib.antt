@@ -11,4 +11,5 @@ pub mod TypeInfoLemmas
 pub mod WordLemmas
 pub mod WrittenLemmas
 pub mod ZeroLemmas
+pub mod WideDigits
 pub mod Words

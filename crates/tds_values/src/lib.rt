@@ -13,6 +13,7 @@ mod plain;
 mod ranges;
 mod scalar;
 mod text;
+mod wide;
 mod write;
 
 pub use charset::Charset;

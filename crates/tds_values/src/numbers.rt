@@ -4,7 +4,7 @@ ghost use Rattle.std.specs.Fmt.{signed_decimal};
 ghost use Rattle.tds_values.specs.ScalarText.{last_digits, fraction_text, minus_if, decimal_text};
 
 use crate::digits::{put_byte, put_minus, put_number, put_tail};
-use crate::text::{LONGEST_TEXT, TEXT_ROOM};
+use crate::text::LONGEST_TEXT;
 
 // The last k digits of a number.
 #[inline(always)]
@@ -27,49 +27,6 @@ pub(crate) fn put_last(to: &mut [u8], at: usize, k: usize, n: u64) -> usize
     let at = put_tail(to, at, k - 16, (n / 10_000_000_000_000_000) as u32);
     let at = put_tail(to, at, 8, middle);
     put_tail(to, at, 8, low)
-}
-
-// Sixteen digits.
-#[inline]
-fn put_sixteen(to: &mut [u8], at: usize, n: u64) -> usize
-    requires room { at + 16 ≤ length to.old }
-    requires small { n < 10 ^ 16 }
-    ensures end { result ≡ at + 16 }
-    ensures written { take result to.new ≡ take at to.old ++ last_digits 16 n }
-{
-    let at = put_tail(to, at, 8, (n / 100_000_000) as u32);
-    put_tail(to, at, 8, (n % 100_000_000) as u32)
-}
-
-// The last k digits of a wide number.
-fn put_last_wide(to: &mut [u8], at: usize, k: usize, n: u128) -> usize
-    requires room { at + 24 ≤ length to.old }
-    requires digits { at + k ≤ length to.old }
-    requires some { 1 ≤ k }
-    ensures end { result ≡ at + k }
-    ensures written { take result to.new ≡ take at to.old ++ last_digits k n }
-{
-    let rest = n / 10_000_000_000_000_000;
-    let low = (n - rest * 10_000_000_000_000_000) as u64;
-    if k <= 16 {
-        return put_last(to, at, k, low);
-    }
-    let at = put_last_wide(to, at, k - 16, rest);
-    put_sixteen(to, at, low)
-}
-
-// A wide number without needless zeros.
-fn put_wide(to: &mut [u8], at: usize, n: u128) -> usize
-    requires { at + 60 ≤ length to.old }
-    ensures end { result ≡ at + length (decimal n) }
-    ensures written { take result to.new ≡ take at to.old ++ decimal n }
-{
-    if n < 10_000_000_000_000_000 {
-        return put_number(to, at, n as u64);
-    }
-    let rest = n / 10_000_000_000_000_000;
-    let at = put_wide(to, at, rest);
-    put_sixteen(to, at, (n - rest * 10_000_000_000_000_000) as u64)
 }
 
 // A whole number with its sign.
@@ -131,7 +88,7 @@ pub(crate) fn put_fraction(to: &mut [u8], at: usize, scale: u8, n: u64) -> usize
 
 // The sign of a decimal: zero has none.
 #[inline(always)]
-fn put_sign(to: &mut [u8], at: usize, negative: bool, zero: bool) -> usize
+pub(crate) fn put_sign(to: &mut [u8], at: usize, negative: bool, zero: bool) -> usize
     requires { at < length to.old }
     ensures end { result ≤ at + 1 }
     ensures written { take result to.new ≡ take at to.old ++ minus_if (negative && not zero) }
@@ -156,27 +113,4 @@ pub(crate) fn put_decimal(
     let at = put_sign(to, at, negative, magnitude == 0);
     let at = put_number(to, at, whole(scale, magnitude));
     put_fraction(to, at, scale, magnitude)
-}
-
-// A decimal.
-#[inline(never)]
-pub(crate) fn put_wide_decimal(
-    to: &mut [u8],
-    at: usize,
-    negative: bool,
-    magnitude: u128,
-    scale: u8,
-) -> usize
-    requires room { at + TEXT_ROOM ≤ length to.old }
-    requires scale { scale ≤ 38 }
-    ensures end { result ≤ at + LONGEST_TEXT }
-    ensures written { take result to.new ≡ take at to.old ++ decimal_text negative magnitude scale }
-{
-    let at = put_sign(to, at, negative, magnitude == 0);
-    let at = put_wide(to, at, magnitude / 10u128.pow(scale as u32));
-    if scale == 0 {
-        return at;
-    }
-    let at = put_byte(to, at, b'.');
-    put_last_wide(to, at, scale as usize, magnitude)
 }

@@ -6,11 +6,12 @@ ghost use Rattle.tds_values.specs.Written.{IsText};
 
 use crate::digits::put_byte;
 use crate::moments::{put_clock, put_date, put_moment, put_offset, put_ticks};
-use crate::numbers::{put_decimal, put_wide_decimal};
+use crate::numbers::put_decimal;
 use crate::ranges::{
     DAY_OF_1900, LARGEST_OFFSET, MINUTES_A_DAY, SECONDS_A_DAY, SECONDS_OF_ALL_DAYS,
 };
 use crate::scalar::ScalarValue;
+use crate::wide::put_wide_decimal;
 
 /// How many bytes the text of a scalar value has at most.
 pub const LONGEST_TEXT: usize = 41;
