@@ -1,4 +1,29 @@
 //! Text on its way to a writer, and the conversion of character and binary data into the fields of CSV (RFC 4180).
+//!
+//! # Calling it
+//!
+//! A [`Sink`] holds text in an area that is lent to it, and delivers it to a writer in blocks of 4,096 bytes. A
+//! [`Joiner`] puts the text of a value whose bytes come in pieces, cut anywhere:
+//!
+//! ```text
+//! let mut sink = Sink::new(&mut to, &mut area);
+//! let mut joiner = Utf16Joiner::new();
+//! sink.open_quoted()?;
+//! joiner.push(first, &mut sink)?;
+//! joiner.push(second, &mut sink)?;
+//! joiner.end(&mut sink)?;
+//! sink.close_quoted()?;
+//! sink.finish()?; // all of it is delivered
+//! ```
+//!
+//! `write_field` writes the field of a value whose bytes are together. The tests of `parts_tests/src/csv.rt` make these
+//! calls, with values cut at each place.
+//!
+//! # The way in
+//!
+//! `sink.rt` has the sink, `fields.rt` and `framing.rt` the fields and what is around them, `joiners/` a file for each
+//! kind of data, `convert/` the loops over bytes. What the text of data is, is in `specs/Conversion`, and what a sink
+//! has put in `specs/Sinks`.
 #![tactic(auto)]
 
 mod convert;

@@ -1,5 +1,24 @@
 //! The kinds of column of a TDS 7.4 result, the character sets of their text, and the values and texts of
-//! the scalar kinds.
+//! the scalar kinds (MS-TDS, Data Type Definitions).
+//!
+//! # Calling it
+//!
+//! A [`Kind`] is what type information says of a column. `write_scalar` judges the bytes of a value of a scalar kind
+//! and writes its text to the front of a slice of [`TEXT_ROOM`] bytes:
+//!
+//! ```text
+//! let mut to = [0; TEXT_ROOM];
+//! let made = write_scalar(&Kind::Int4, &[42, 0, 0, 0], &mut to)?; // to[..made] is "42"
+//! ```
+//!
+//! `read_scalar` returns the value itself and `scalar_text` its text, by crates of the kit: slower, and the same by
+//! their contracts. The tests of `parts_tests/src/values` make both calls for each kind.
+//!
+//! # The way in
+//!
+//! `kind.rt` has the kinds, `scalar.rt` the values and what is refused, `write.rt` the text of each kind and
+//! `text.rt` that of each value. Below them are `numbers.rt`, `wide.rt` (decimals of up to 128 bits), `moments.rt`,
+//! `guid.rt` and `digits.rt`. What a value and its text are is in `specs/Scalar` and `specs/ScalarText`.
 #![tactic(auto)]
 
 mod charset;
