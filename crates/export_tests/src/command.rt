@@ -19,7 +19,7 @@ use tds_packet::rig::{Failing, ScriptedReader, ScriptedWriter};
 use tds_replay::{Job, Usage, parse, perform, say_usage};
 
 // A line of words.
-fn words_of(alloc: Global, line: &[&str]) -> Result<Vec<String>, AllocError> {
+fn arguments_of(alloc: Global, line: &[&str]) -> Result<Vec<String>, AllocError> {
     let mut words = Vec::new(alloc);
     for word in line {
         words.push(String::from_str(alloc, word)?)?;
@@ -31,7 +31,7 @@ fn words_of(alloc: Global, line: &[&str]) -> Result<Vec<String>, AllocError> {
 fn job(rt: &HostRuntime, line: &[&str]) -> Result<Job, Usage>
     ensures { IfOk result IsInRange }
 {
-    parse(rt.alloc(), words_of(rt.alloc(), line)?.as_slice())
+    parse(rt.alloc(), arguments_of(rt.alloc(), line)?.as_slice())
 }
 
 // The command over a reader and two writers, and its status.

@@ -21,16 +21,16 @@ use tds_replay::{
 /// may read on from it.
 const AHEAD: usize = 65_536;
 
-/// What is written on standard error where a word isn't text.
-const NO_TEXT: &str = "error: the words of the command line aren't UTF-8\n";
+/// What is written on standard error if an argument isn't text.
+const NOT_UTF_8: &str = "error: the arguments aren't UTF-8\n";
 
-// The words after the program's name.
-fn words_of(rt: &HostRuntime, args: Args) -> Result<Vec<String>, AllocError> {
-    let mut words = Vec::new(rt.alloc());
-    for word in args.skip(1) {
-        words.push(word)?;
+// The arguments after the program's name.
+fn arguments_of(rt: &HostRuntime, args: Args) -> Result<Vec<String>, AllocError> {
+    let mut arguments = Vec::new(rt.alloc());
+    for argument in args.skip(1) {
+        arguments.push(argument)?;
     }
-    Ok(words)
+    Ok(arguments)
 }
 
 // Reads the command line.
@@ -38,9 +38,9 @@ fn read_job(rt: &HostRuntime) -> Result<Job, Usage>
     ensures { IfOk result IsInRange }
 {
     match env::args(rt) {
-        Ok(args) => parse(rt.alloc(), words_of(rt, args)?.as_slice()),
+        Ok(args) => parse(rt.alloc(), arguments_of(rt, args)?.as_slice()),
         Err(error) if error.kind() == ErrorKind::OutOfMemory => Err(Usage::OutOfMemory),
-        Err(_) => Err(Usage::Refused(String::from_str(rt.alloc(), NO_TEXT)?)),
+        Err(_) => Err(Usage::Refused(String::from_str(rt.alloc(), NOT_UTF_8)?)),
     }
 }
 
@@ -68,7 +68,7 @@ fn run<N: Write>(rt: &HostRuntime, job: &Job, notes: &mut Counted<N>) -> u8
     };
     let Ok(ahead) = BufReader::with_capacity(rt.alloc(), AHEAD, file) else {
         let _ = say_want_of_memory(notes);
-        return Status::WantOfMemory.number();
+        return Status::OutOfMemory.number();
     };
     let mut from = Counted::new(ahead);
     perform_in(&mut memory, job.work(), &mut from, &mut to, notes)

@@ -17,7 +17,7 @@ use Rattle.tds_arguments.specs.declared.job.Work.{Work}
 use Rattle.tds_arguments.specs.declared.job.Work.TheVariants.{Export, Check, Recut}
 use Rattle.tds_arguments.specs.Jobs.{work_of}
 use Rattle.tds_replay.specs.declared.status.Status.{Status}
-use Rattle.tds_replay.specs.declared.status.Status.TheVariants.{WantOfMemory}
+use Rattle.tds_replay.specs.declared.status.Status.TheVariants.{OutOfMemory}
 use Rattle.tds_replay.specs.Asking.{AreMade, KeepsInAreas}
 use Rattle.tds_replay.specs.Lines.{answer_lines, memory_line, recut_lines}
 use Rattle.tds_replay.specs.Saying.{SaysOrFails}
@@ -66,7 +66,7 @@ pub record Performs {R W N : Type 0} (tell : Telling R W N) (charset : Charset) 
 pub record LacksMemory {R W N : Type 0} (tell : Telling R W N) (before after : Devices R W N) (status : Status) : Type 0 where
   pub reader : after.from ≡ before.from
   pub writer : after.to ≡ before.to
-  pub status_is : status ≡ WantOfMemory
+  pub status_is : status ≡ OutOfMemory
   pub line : SaysOrFails tell.said before.notes after.notes memory_line
 
 -- An export was performed within these limits, with this status.

@@ -7,7 +7,7 @@ use Rattle.tds_packet.specs.declared.answer.RecutStop.{RecutStop}
 use Rattle.tds_export.specs.declared.report.Report.{Report}
 use Rattle.tds_export.specs.declared.report.Stopped.{Stopped}
 use Rattle.tds_replay.specs.declared.status.Status.{Status}
-use Rattle.tds_replay.specs.declared.status.Status.TheVariants.{Done, Refused, ServerError, BadInput, BadDevice, WantOfMemory}
+use Rattle.tds_replay.specs.declared.status.Status.TheVariants.{Done, Refused, ServerError, BadInput, BadDevice, OutOfMemory}
 
 -- the exit status
 abbrev pub status_number : Status → ℕ
@@ -16,7 +16,7 @@ status_number Refused = 2
 status_number ServerError = 3
 status_number BadInput = 4
 status_number BadDevice = 5
-status_number WantOfMemory = 6
+status_number OutOfMemory = 6
 
 -- how the command ends by this fault
 abbrev pub status_of_fault : Fault → Status

@@ -72,7 +72,7 @@ fn perform_export<R: Read, W: Write, N: Write>(
 {
     let Ok(mut areas) = memory.areas(limits) else {
         let _ = say_want_of_memory(notes);
-        return Status::WantOfMemory;
+        return Status::OutOfMemory;
     };
     run_export(&mut areas, charset, from, to, notes)
 }
@@ -110,7 +110,7 @@ fn perform_recut<R: Read, W: Write, N: Write>(
 {
     let Ok((mut input, mut output)) = memory.packets(packet_size) else {
         let _ = say_want_of_memory(notes);
-        return Status::WantOfMemory;
+        return Status::OutOfMemory;
     };
     run_recut(&mut input, &mut output, max_wire, from, to, notes)
 }

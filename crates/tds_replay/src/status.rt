@@ -10,7 +10,7 @@ use tds_packet::{Fault, Recut, RecutStop};
 pub enum Status {
     /// Done, and the server reported no error.
     Done,
-    /// The words of the command line were refused.
+    /// The arguments were refused.
     Refused,
     /// Done, and the server reported an error.
     ServerError,
@@ -19,7 +19,7 @@ pub enum Status {
     /// A fault of a device.
     BadDevice,
     /// Want of memory.
-    WantOfMemory,
+    OutOfMemory,
 }
 
 impl Status {
@@ -33,7 +33,7 @@ impl Status {
             Status::ServerError => 3,
             Status::BadInput => 4,
             Status::BadDevice => 5,
-            Status::WantOfMemory => 6,
+            Status::OutOfMemory => 6,
         }
     }
 }

@@ -19,7 +19,7 @@ pub fn say_usage<W: Write, N: Write>(
     match usage {
         Usage::OutOfMemory => {
             let _ = say_want_of_memory(notes);
-            Status::WantOfMemory
+            Status::OutOfMemory
         }
         Usage::Help(text) => {
             let _ = put(to, text.as_bytes());

@@ -4,5 +4,5 @@ use Rattle.tds_replay.proofs.status.Status.number.Goals as goal
 pub returns-in-BadDevice : goal.returns-in-BadDevice
 returns-in-BadDevice c = search rules
 
-pub returns-in-WantOfMemory : goal.returns-in-WantOfMemory
-returns-in-WantOfMemory c = search rules
+pub returns-in-OutOfMemory : goal.returns-in-OutOfMemory
+returns-in-OutOfMemory c = search rules
