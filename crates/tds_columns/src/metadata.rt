@@ -241,7 +241,7 @@ fn read_columns<R: Read>(payload: &mut Payload<R>, area: &mut Area, count: u16) 
 /// emptied first. Where Count says that there is no metadata the area stays empty. It has room for
 /// Count at least.
 ///
-/// Stops with the faults of the payload, `MessageEnded` where the message ends in the description,
+/// Stops with the faults of the payload, `MessageEnded` if the message ends in the description,
 /// and `NoColumns`, `RefusedColumn`, `UnknownType`, `BadTypeInfo` and `DescriptionTooLong`. The area
 /// then has the elements that were read whole: nothing of the one that was refused or cut. A payload
 /// that stopped before gives its stop again.

@@ -1,4 +1,4 @@
-// What a recut answers.
+// What a recut returns.
 
 use crate::fault::Stop;
 

@@ -7,8 +7,8 @@ ghost use Rattle.tds_packet.specs.Filling.{CountsCall, FillsSlice, Stays};
 
 use std::io::{Read, Write};
 
-/// A reader or writer whose failed calls are counted: a read or write that answers an error, a
-/// write of a nonempty slice that answers 0, a failed flush. The count stops at
+/// A reader or writer whose failed calls are counted: a read or write that returns an error, a
+/// write of a nonempty slice that returns 0, a failed flush. The count stops at
 /// 18,446,744,073,709,551,615; a device whose count is there isn't asked any more, and each of
 /// its calls counts as failed.
 #[derive(Drop)]
@@ -149,7 +149,7 @@ impl<W: Write> Counted<W> {
         Ok(())
     }
 
-    /// Flushes the writer. False where that failed.
+    /// Flushes the writer. False if that failed.
     pub fn flush(&mut self) -> bool
         ensures bytes { Keeps (W.contents self.old.device) (W.contents self.new.device) }
         ensures ok { IsTrue result → (self.new.failures ≡ self.old.failures) × (self.old.failures < 2 ^ 64 - 1) }

@@ -68,7 +68,7 @@ fn read_body<R: Read>(from: &mut Counted<R>, packet: &mut Area, n: usize) -> Res
 }
 
 /// Reads the next packet of a message, of whose wire `wire` bytes were read: its header, and then
-/// its body into the area, whose room is the greatest packet size. After a fault what stands in the
+/// its body into the area, whose room is the greatest packet size. After a fault what is in the
 /// area isn't fixed.
 pub(crate) fn read_packet<R: Read>(
     from: &mut Counted<R>,

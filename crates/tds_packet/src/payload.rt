@@ -15,7 +15,7 @@ use tds_meter::Area;
 /// The payload of one message: the bodies of its packets, joined. A packet is read only when a byte
 /// is asked for, or the end, and the packets before it are used up and none of them was the last;
 /// its bytes are handed out only when the whole packet has been read. Not one byte after the last
-/// packet is read. After a stop each later call answers the same stop and reads nothing.
+/// packet is read. After a stop each later call returns the same stop and reads nothing.
 #[derive(Drop)]
 pub struct Payload<'a, R> {
     from: &'a mut Counted<R>,
@@ -210,7 +210,7 @@ impl<'a, R: Read> Payload<'a, R> {
         Ok(())
     }
 
-    // The stop of a call of many bytes: where the message ended, it is at the call's beginning.
+    // The stop of a call of many bytes: if the message ended, it is at the call's beginning.
     fn cut(&mut self, stop: Stop, start: u64) -> Stop
         requires sound { IsSound self.old }
         requires stopped { self.old.stopped ≡ Some stop }

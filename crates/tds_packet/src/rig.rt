@@ -1,4 +1,4 @@
-//! Devices for tests, in memory: they give or take few bytes a call, and fail where a test needs it.
+//! Devices for tests, in memory: they give or take few bytes a call, and fail if a test needs it.
 
 ghost use Rattle.std.specs.Prelude.{◌≡◌, ◌++◌, None, Some, drop, length, min, take, IsSomeAnd};
 
@@ -18,8 +18,8 @@ fn copy_front(from: &[u8], to: &mut [u8]) -> usize
     n
 }
 
-/// A reader of a slice. It gives at most `most` bytes a call, one at least; where it is to fail, it
-/// first gives some bytes, and then each read answers an error.
+/// A reader of a slice. It gives at most `most` bytes a call, one at least; if it is to fail, it
+/// first gives some bytes, and then each read returns an error.
 #[derive(Drop)]
 pub struct ScriptedReader<'a> {
     left: &'a [u8],
@@ -86,13 +86,13 @@ impl Read for ScriptedReader<'_> {
 pub enum Failing {
     /// Not at all.
     Never,
-    /// It takes this number of bytes, and then each write answers an error.
+    /// It takes this number of bytes, and then each write returns an error.
     AfterBytes(usize),
-    /// It takes this number of bytes, and then each write answers 0.
+    /// It takes this number of bytes, and then each write returns 0.
     ZeroAfterBytes(usize),
-    /// The write of this number answers an error, and no other. The first is number 0.
+    /// The write of this number returns an error, and no other. The first is number 0.
     AtWrite(usize),
-    /// Each flush answers an error, and no write.
+    /// Each flush returns an error, and no write.
     InFlush,
 }
 
