@@ -1,5 +1,5 @@
 -- The packets at the front of an input, and what is read of it.
-use Rattle.std.proofs.Common.{◌≡◌, ◌∙◌, ◌⊎◌, inl, inr, ℕ, suc, ◌<◌, ◌≤◌, List, [], ◌∷◌, ◌++◌, length, take, Some, None, Bool, refl, sym, ap, subst, arith, append-nil, append_assoc, length-append}
+use Rattle.std.proofs.Common.{◌≡◌, ◌∙◌, ◌⊎◌, inl, inr, ℕ, suc, zero, ◌+◌, ◌<◌, ◌≤◌, List, [], ◌∷◌, ◌++◌, length, take, Some, None, Bool, false, refl, sym, ap, subst, arith, append-nil, append_assoc, length-append}
 use Rattle.std.proofs.Math.Seq.{take-append_seam}
 use Rattle.std.proofs.lemmas.List.{append_cancel_right}
 use Rattle.std.proofs.lemmas.Grind.{flat_map-append}
@@ -11,13 +11,14 @@ use Rattle.tds_packet.specs.declared.fault.Fault.TheVariants.{InputEnded, Messag
 use Rattle.tds_packet.specs.declared.fault.Place.TheVariants.{Wire, Payload}
 use Rattle.tds_packet.specs.declared.fault.Stop.{Stop}
 use Rattle.tds_packet.specs.Elements.{AreBytes}
-use Rattle.tds_packet.proofs.Feeding.{Progress, Reading, state_of, feed_all}
-use Rattle.tds_packet.specs.Packets.{Packet, packet_bytes, wire_of, payload_of, AreBefore, AreMessage, WireFault, WirePart, no_wire, wire}
+use Rattle.tds_packet.specs.Packets.{Packet, packet_bytes, packet_length, is_last, header_length, wire_of, payload_of, AreBefore, AreMessage, IsPacket, WireFault}
 use Rattle.tds_packet.specs.Coming.{Coming, before, whole_message, IsFrontMessage}
 use Rattle.tds_packet.specs.Seen.{Seen, Takes, Ends, IsBetween, IsOver, begun}
-use Rattle.tds_packet.proofs.ElementLaws.{AreBytes-front, feed-Spelt}
-use Rattle.tds_packet.proofs.PacketLaws.{before_packet, before_are_read}
-use Rattle.tds_packet.proofs.ComingLaws.{message_agrees, front_message}
+use Rattle.tds_packet.proofs.ElementLaws.{AreBytes-front}
+use Rattle.tds_packet.proofs.PacketLaws.{good_header, header_of}
+use Rattle.tds_packet.proofs.ComingLaws.{front_message}
+use Rattle.tds_packet.proofs.Joins.{whole_packet}
+use Rattle.tds_packet.specs.Coming.{WholePacket, after_packet, front_packet, message}
 
 -- whole packets at the front of an input, with the rest of it after them; none but the last is marked as the last
 pub record BeginsMessage (size limit : ℕ) (input rest payload : List ℕ) : Type 0 where
@@ -118,38 +119,44 @@ pub record InLast (size : ℕ) (packets : List Packet) (n : ℕ) : Type 0 where
   pub none_last : AreBefore size before
   pub earlier : length (payload_of before) < n
 
-last_of : (p : Packet) (ps : List Packet) → (before : List Packet) × (last : Packet) × (before ++ last ∷ [] ≡ p ∷ ps)
-last_of p [] = ([], p, refl)
-last_of p (q ∷ ps) = let r = last_of q ps in (p ∷ r.0, r.1, ap (λ l. p ∷ l) r.2)
+-- packets as the last of them and those before it
+split_last : (size : ℕ) (packets : List Packet) → AreMessage size packets ⊎ AreBefore size packets → 0 < length packets → (before : List Packet) × (last : Packet) × (before ++ last ∷ [] ≡ packets) × AreBefore size before
+split_last size [] each some = absurd (omega (arith, some))
+split_last size (p ∷ []) each some = ([], p, refl, tt)
+split_last size (p ∷ q ∷ ps) each some =
+    let tail : AreMessage size (q ∷ ps) ⊎ AreBefore size (q ∷ ps) = elim each [ inl x ↦ inl x.2 | inr x ↦ inr x.2 ] in
+    let head : IsPacket size p × (is_last p ≡ false) = elim each [ inl x ↦ (x.0, x.1) | inr x ↦ (x.0, x.1) ] in
+    let r = split_last size (q ∷ ps) tail (omega arith) in
+    (p ∷ r.0, r.1, ap (λ l. p ∷ l) r.2, (head.0, head.1, r.3))
 
-front_before : (size : ℕ) (before : List Packet) (last : Packet) → AreBefore size (before ++ last ∷ []) → AreBefore size before
-front_before size [] last h = tt
-front_before size (p ∷ before) last h = (h.0, h.1, front_before size before last h.2)
-
-front_message_before : (size : ℕ) (before : List Packet) (last : Packet) → AreMessage size (before ++ last ∷ []) → AreBefore size before
-front_message_before size [] last h = tt
-front_message_before size (p ∷ []) last h = (h.0, h.1, tt)
-front_message_before size (p ∷ q ∷ before) last h = (h.0, h.1, front_message_before size (q ∷ before) last h.2)
+-- what comes of a packet before the last, and of more after it
+front_whole : (size limit from : ℕ) (p : Packet) (more : List ℕ) → IsPacket size p → is_last p ≡ false → from + packet_length p ≤ limit → front_packet size limit from (packet_bytes p ++ more) ≡ WholePacket p.body false (packet_length p) more
+front_whole size limit from p more each last within =
+    let size_is : header_length (header_of p) ≡ packet_length p = omega arith in
+    let front = whole_packet size limit from (header_of p) p.body more (record { length = header_length (header_of p); last = is_last p }) (omega (arith, each.id)) (omega (arith, size_is)) (rw (good_header size limit from p each within)) in
+    rw (append_assoc p.id p.body more) (rw (size_is, last) at front)
 
 -- what comes of packets none of which is the last
-before_bytes : (size limit : ℕ) (packets : List Packet) → AreBefore size packets → length (wire_of packets) ≤ limit → (whole_message size limit (wire_of packets)).bytes ≡ payload_of packets
-before_bytes size limit packets each within =
-    let agrees = message_agrees size limit (suc (length (wire_of packets))) [] (wire_of packets) (omega arith) in
-    let read : feed_all (wire size limit) (Reading no_wire []) (wire_of packets) ≡ Reading (before_packet size limit packets) [] = feed-Spelt (wire size limit) no_wire (wire_of packets) (before_packet size limit packets) (before_are_read size limit [] packets each within) in
-    sym agrees.bytes ∙ ap (λ (p : Progress WirePart Fault). payload_of ((state_of p).packets)) read
-
-in_last_of : (size limit f n : ℕ) (input rest payload : List ℕ) (q : Seen) (bytes : List ℕ) → q.left ≡ Some rest → Takes (begun size limit (Some input) f) q bytes n
-    → (packets : List Packet) → wire_of packets ++ rest ≡ input → (AreMessage size packets ⊎ AreBefore size packets) → length (wire_of packets) ≤ limit → payload_of packets ≡ payload → 0 < length payload → InLast size packets n
-in_last_of size limit f n input rest payload q bytes left t [] begin each within p some = absurd (omega (arith, some, ap length p))
-in_last_of size limit f n input rest payload q bytes left t (x ∷ xs) begin each within p some =
-    let l = last_of x xs in
-    let split : input ≡ t.0 ++ rest = subst (λ l. Consumes (Some input) l t.0) left t.1.0 in
-    let wires : wire_of (x ∷ xs) ≡ wire_of l.0 ++ (packet_bytes l.1 ++ []) = ap wire_of (sym l.2) ∙ flat_map-append packet_bytes l.0 (l.1 ∷ []) in
-    let read : wire_of (x ∷ xs) ≡ t.0 = append_cancel_right (wire_of (x ∷ xs)) t.0 rest (begin ∙ split) in
-    let front : take (length (wire_of l.0)) t.0 ≡ wire_of l.0 = ap (take (length (wire_of l.0))) (sym read ∙ wires) ∙ take-append_seam (wire_of l.0) (packet_bytes l.1 ++ []) in
-    grind (arith, last_of, flat_map-append, length-append, append_cancel_right, take-append_seam, front_message_before, front_before, before_bytes)
+message_before : (size limit n from place : ℕ) (packets : List Packet) → AreBefore size packets → from + length (wire_of packets) ≤ limit → length (wire_of packets) < n → (message size limit n from place (wire_of packets)).bytes ≡ payload_of packets
+unfolding message front_packet
+message_before size limit zero from place packets each within less = absurd (omega (arith, less))
+message_before size limit (suc n) from place [] each within less = refl
+message_before size limit (suc n) from place (p ∷ ps) each within less =
+    let long : length (wire_of (p ∷ ps)) ≡ packet_length p + length (wire_of ps) = (let four : length p.id ≡ 4 = each.0.id in omega (arith, length-append (packet_bytes p) (wire_of ps), length-append p.id p.body)) in
+    ap (λ f. (after_packet (message size limit n) from place f).bytes) (front_whole size limit from p (wire_of ps) each.0 each.1 (omega (arith, long, within)))
+    ∙ ap (λ l. p.body ++ l) (message_before size limit n (from + packet_length p) (place + length p.body) ps each.2 (omega (arith, long, within)) (omega (arith, long, less)))
 
 -- the packets read were needed for n bytes of the payload
 pub in_last : (size limit f n : ℕ) (input rest : List ℕ) (q : Seen) (bytes payload : List ℕ) → q.left ≡ Some rest → Takes (begun size limit (Some input) f) q bytes n
     → (p : BeginsMessage size limit input rest payload) → 0 < length payload → InLast size p.packets n
-in_last size limit f n input rest q bytes payload left t p some = in_last_of size limit f n input rest payload q bytes left t p.packets p.begin p.each p.within p.payload_is some
+in_last size limit f n input rest q bytes payload left t p some =
+    let filled : 0 < length p.packets = elim p.packets as (λ ps. payload_of ps ≡ payload → 0 < length ps) [ [] ↦ λ e. absurd (omega (arith, some, ap length e)) | ◌∷◌ x (xs → _) ↦ λ _. omega arith ] p.payload_is in
+    let l = split_last size p.packets p.each filled in
+    let split : input ≡ t.0 ++ rest = subst (λ l. Consumes (Some input) l t.0) left t.1.0 in
+    let wires : wire_of p.packets ≡ wire_of l.0 ++ packet_bytes l.1 = ap wire_of (sym l.2) ∙ simp (flat_map-append, append-nil) in
+    let read : wire_of p.packets ≡ t.0 = append_cancel_right (wire_of p.packets) t.0 rest (p.begin ∙ split) in
+    let front : take (length (wire_of l.0)) t.0 ≡ wire_of l.0 = ap (take (length (wire_of l.0))) (sym read ∙ wires) ∙ take-append_seam (wire_of l.0) (packet_bytes l.1) in
+    let short : length t.0 ≡ length (wire_of l.0) + length (packet_bytes l.1) = ap length (sym read ∙ wires) ∙ length-append (wire_of l.0) (packet_bytes l.1) in
+    let come : (whole_message size limit (wire_of l.0)).bytes ≡ payload_of l.0 =
+    message_before size limit (suc (length (wire_of l.0))) 0 0 l.0 l.3 (omega (arith, p.within, ap length read, short)) (omega arith) in
+    record { before = l.0; last = l.1; split = l.2; none_last = l.3; earlier = rw (← come, ← front) (t.3 (length (wire_of l.0)) (omega (arith, short))) }

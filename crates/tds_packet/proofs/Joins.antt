@@ -55,7 +55,7 @@ whole_at : (last : Bool) (len : ℕ) (bs ys : List ℕ) (n : ℕ) → n ≡ leng
 whole_at last len bs ys n e = grind (arith, length-append, take-append_seam, drop-append_seam, choose_false, nat_tests)
 
 -- a packet whose header says so
-whole_packet : (size limit wire : ℕ) (hdr bs ys : List ℕ) (h : Header) → length hdr ≡ 8 → length bs + 8 ≡ h.length → header_of size limit wire hdr ≡ Ok h
+pub whole_packet : (size limit wire : ℕ) (hdr bs ys : List ℕ) (h : Header) → length hdr ≡ 8 → length bs + 8 ≡ h.length → header_of size limit wire hdr ≡ Ok h
     → front_packet size limit wire (hdr ++ (bs ++ ys)) ≡ WholePacket bs h.last h.length ys
 whole_packet size limit wire hdr bs ys h len fits good = grind (arith, after_header, whole_at)
 

@@ -10,11 +10,11 @@ use Rattle.tds_packet.proofs.ElementLaws.{Spelt-step, Spelt-append, Spelt-none, 
 use Rattle.tds_packet.specs.Packets.{Packet, packet_length, packet_bytes, wire_of, is_last, IsPacket, AreBefore, AreMessage, IsNextPacket, Front, WirePlace, BeforeHeader, BeforeBody, AfterLast, WirePart, no_wire, header_length, packet_of, with_packet, header_fault, wire}
 use Rattle.tds_packet.proofs.Choices.{choose, eq_true}
 
-one_more : (size : ℕ) (ps : List Packet) (p : Packet) → AreBefore size ps → IsPacket size p → is_last p ≡ false → AreBefore size (ps ++ p ∷ [])
+pub one_more : (size : ℕ) (ps : List Packet) (p : Packet) → AreBefore size ps → IsPacket size p → is_last p ≡ false → AreBefore size (ps ++ p ∷ [])
 one_more size [] p h i l = (i, l, tt)
 one_more size (q ∷ ps) p h i l = (h.0, h.1, one_more size ps p h.2 i l)
 
-last_one : (size : ℕ) (ps : List Packet) (p : Packet) → AreBefore size ps → IsPacket size p → is_last p ≡ true → AreMessage size (ps ++ p ∷ [])
+pub last_one : (size : ℕ) (ps : List Packet) (p : Packet) → AreBefore size ps → IsPacket size p → is_last p ≡ true → AreMessage size (ps ++ p ∷ [])
 last_one size [] p h i l = (i, l)
 last_one size (q ∷ []) p h i l = (h.0, h.1, (i, l))
 last_one size (q ∷ r ∷ ps) p h i l = (h.0, h.1, last_one size (r ∷ ps) p h.2 i l)
@@ -28,7 +28,7 @@ pub record Good (size limit : ℕ) (packets : List Packet) (header : List ℕ) :
   pub most : header_length header ≤ size
   pub within : length (wire_of packets) + header_length header ≤ limit
 
-free_is_good : (size limit : ℕ) (packets : List Packet) (header : List ℕ) → length header ≡ 8 → AreBytes header → header_fault size limit (length (wire_of packets)) header ≡ None → Good size limit packets header
+pub free_is_good : (size limit : ℕ) (packets : List Packet) (header : List ℕ) → length header ≡ 8 → AreBytes header → header_fault size limit (length (wire_of packets)) header ≡ None → Good size limit packets header
 free_is_good size limit packets header eight bytes free = grind (arith, eq_true, nat_tests)
 
 -- what the bytes that lead to a place of the wire are
@@ -65,8 +65,8 @@ module _ (size limit : ℕ) where
   header-length : (p : Packet) → header_length (header_of p) ≡ packet_length p
   header-length p = omega arith
 
-  good_header : (packets : List Packet) (p : Packet) → IsPacket size p → length (wire_of packets) + packet_length p ≤ limit → header_fault size limit (length (wire_of packets)) (header_of p) ≡ None
-  good_header packets p i f = grind (arith, nat_tests)
+  pub good_header : (before : ℕ) (p : Packet) → IsPacket size p → before + packet_length p ≤ limit → header_fault size limit before (header_of p) ≡ None
+  good_header before p i f = grind (arith, nat_tests)
 
   abbrev pub before_packet : List Packet → WirePart
   before_packet packets = record { packets = packets; place = BeforeHeader }
@@ -80,7 +80,7 @@ module _ (size limit : ℕ) where
       let k : header_length (header_of p) ≡ packet_length p = header-length p in
       let off : (header_length (header_of p) == 8) ≡ false = grind (arith, nat_tests) in
       let inside : WirePart = record { packets = packets; place = BeforeBody (header_of p) } in
-      let one : Spelt (wire size limit) (before_packet packets) (header_of p) inside = Spelt-step (wire size limit) (before_packet packets) (header_of p) inside (omega arith) (omega arith) (good_header packets p i f)
+      let one : Spelt (wire size limit) (before_packet packets) (header_of p) inside = Spelt-step (wire size limit) (before_packet packets) (header_of p) inside (omega arith) (omega arith) (good_header (length (wire_of packets)) p i f)
       (ap (λ v. (if v then with_packet packets (packet_of (header_of p) []) else inside)) off) in
       let two : Spelt (wire size limit) inside (x ∷ xs) (with_packet packets p) = Spelt-step (wire size limit) inside (x ∷ xs) (with_packet packets p) (omega arith) (omega (arith, k, n)) refl (ap (λ v. with_packet packets (record { status = p.status; id = p.id; body = v })) (sym (ap (λ v. v.body) e))) in
       Spelt-append (wire size limit) (before_packet packets) (header_of p) inside (x ∷ xs) (with_packet packets p) one two
