@@ -1,5 +1,5 @@
 -- What the wire's grammar reads are the packets that the input begins with.
-use Rattle.std.proofs.Common.{◌≡◌, ℕ, ◌+◌, ◌-◌, ◌/◌, ◌%◌, ◌<◌, ◌≤◌, Bool, true, false, List, [], ◌∷◌, ◌++◌, length, take, drop, refl, sym, ◌∙◌, ap, subst, inl, inr, append_assoc, append-nil, arith, length-append}
+use Rattle.std.proofs.Common.{◌≡◌, ℕ, ◌+◌, ◌-◌, ◌/◌, ◌%◌, ◌<◌, ◌≤◌, Bool, true, false, List, [], ◌∷◌, ◌++◌, length, take, drop, refl, sym, ◌∙◌, ap, subst, inl, inr, append_assoc, append-nil, arith, length-append, ◌⊎◌}
 use Rattle.std.proofs.lemmas.List.{take-append-drop, length-take-le}
 use Rattle.std.proofs.Math.Seq.{take-append_seam}
 use Rattle.std.specs.Prelude.{None, ◌==◌, slice_index, if◌then◌else◌}
@@ -49,8 +49,8 @@ module _ (size limit : ℕ) where
   wire_step packets BeforeHeader b e bytes h n =
       let good : Good size limit packets e = free_is_good size limit packets e n.whole bytes n.free in
       choose (λ w. Means size limit w (b ++ e)) (header_length e == 8) (with_packet packets (packet_of e [])) (record { packets = packets; place = BeforeBody e })
-      (λ z. subst (λ v. Means size limit (with_packet packets (packet_of e [])) v) (ap (λ v. wire_of packets ++ v) (append-nil e) ∙ ap (λ v. v ++ e) (sym h.0)) (with_means packets e [] h.1 good (let q : header_length e ≡ 8 = eq_true (header_length e) 8 z in omega arith)))
-      (λ z. (ap (λ v. v ++ e) h.0, h.1, good))
+      (λ z. (let eight : header_length e ≡ 8 = eq_true (header_length e) 8 z in rw h.0 (rw append-nil at (with_means packets e [] h.1 good (omega arith)))))
+      (λ z. (rw h.0 refl, h.1, good))
   wire_step packets (BeforeBody header) b e bytes h n = grind (arith, append_assoc, with_means)
 
   -- what is read of a wire are the packets that it begins with
@@ -72,89 +72,80 @@ module _ (size limit : ℕ) where
   before_packet packets = record { packets = packets; place = BeforeHeader }
 
   -- a packet that may follow is read
-  bytes_are_read : (packets : List Packet) (status : ℕ) (id body : List ℕ) (p : Packet) → p ≡ record { status = status; id = id; body = body } → IsPacket size p → length (wire_of packets) + packet_length p ≤ limit → Spelt (wire size limit) (before_packet packets) (header_of p ++ body) (with_packet packets p)
-  bytes_are_read packets status id [] p e i f = grind (arith, header-length, append-nil, Spelt-step, good_header)
-  bytes_are_read packets status id (x ∷ xs) p e i f =
-      let four : length p.id ≡ 4 = i.id in
-      let n : packet_length p ≡ 8 + length (x ∷ xs) = ap (λ v. packet_length v) e in
-      let k : header_length (header_of p) ≡ packet_length p = header-length p in
-      let off : (header_length (header_of p) == 8) ≡ false = grind (arith, nat_tests) in
-      let inside : WirePart = record { packets = packets; place = BeforeBody (header_of p) } in
-      let one : Spelt (wire size limit) (before_packet packets) (header_of p) inside = Spelt-step (wire size limit) (before_packet packets) (header_of p) inside (omega arith) (omega arith) (good_header (length (wire_of packets)) p i f)
-      (ap (λ v. (if v then with_packet packets (packet_of (header_of p) []) else inside)) off) in
-      let two : Spelt (wire size limit) inside (x ∷ xs) (with_packet packets p) = Spelt-step (wire size limit) inside (x ∷ xs) (with_packet packets p) (omega arith) (omega (arith, k, n)) refl (ap (λ v. with_packet packets (record { status = p.status; id = p.id; body = v })) (sym (ap (λ v. v.body) e))) in
-      Spelt-append (wire size limit) (before_packet packets) (header_of p) inside (x ∷ xs) (with_packet packets p) one two
-
   pub packet_is_read : (packets : List Packet) (p : Packet) → IsPacket size p → length (wire_of packets) + packet_length p ≤ limit → Spelt (wire size limit) (before_packet packets) (packet_bytes p) (with_packet packets p)
-  packet_is_read packets p i f = bytes_are_read packets p.status p.id p.body p refl i f
+  packet_is_read packets p i f =
+      let g = wire size limit in
+      let eight : length (header_of p) ≡ 8 = omega (arith, i.id) in
+      let good = good_header (length (wire_of packets)) p i f in
+      elim p.body as (λ b. p.body ≡ b → Spelt g (before_packet packets) (header_of p ++ b) (with_packet packets (record { status = p.status; id = p.id; body = b }))) [
+        | [] ↦ λ e. (let size_is : (header_length (header_of p) == 8) ≡ true = grind (arith, nat_tests) in rw append-nil (Spelt-step g _ (header_of p) _ (omega (arith, eight)) eight good (rw size_is)))
+        | ◌∷◌ x (xs → _) ↦ λ e.
+            (let inside : WirePart = record { packets = packets; place = BeforeBody (header_of p) } in
+            let n : packet_length p ≡ 8 + length (x ∷ xs) = rw e in
+            let off : (header_length (header_of p) == 8) ≡ false = grind (arith, nat_tests) in
+            Spelt-append g _ (header_of p) inside (x ∷ xs) _ (Spelt-step g _ (header_of p) inside (omega (arith, eight)) eight good (rw off)) (Spelt-step g inside (x ∷ xs) _ (omega arith) (omega (arith, n)) refl refl))
+      ] refl
 
   pub length-packet_bytes : (p : Packet) → IsPacket size p → length (packet_bytes p) ≡ packet_length p
-  length-packet_bytes p i = let four : length p.id ≡ 4 = i.id in length-append (header_of p) p.body ∙ omega arith
+  length-packet_bytes p i = omega (arith, i.id, length-append p.id p.body)
+
+  -- a packet before the last is read, and what follows it
+  pub one_is_read : (done : List Packet) (p : Packet) (packets : List Packet) (place : WirePlace) → IsPacket size p × (is_last p ≡ false) → length (wire_of (done ++ p ∷ packets)) ≤ limit
+      → (length (wire_of ((done ++ p ∷ []) ++ packets)) ≤ limit → Spelt (wire size limit) (before_packet (done ++ p ∷ [])) (wire_of packets) (record { packets = (done ++ p ∷ []) ++ packets; place = place }))
+      → Spelt (wire size limit) (before_packet done) (wire_of (p ∷ packets)) (record { packets = done ++ p ∷ packets; place = place })
+  one_is_read done p packets place h f more =
+      let long : length (wire_of (done ++ p ∷ packets)) ≡ length (wire_of done) + (packet_length p + length (wire_of packets)) = simp (flat_map-append, length-append) (omega (arith, h.0.id)) in
+      let one = rw h.1 at (packet_is_read done p h.0 (omega (arith, long, f))) in
+      Spelt-append (wire size limit) (before_packet done) (packet_bytes p) (before_packet (done ++ p ∷ [])) (wire_of packets) _ one (rw (append_assoc done (p ∷ []) packets) at (more (rw (append_assoc done (p ∷ []) packets) f)))
 
   -- packets before the last are read
   pub before_are_read : (done packets : List Packet) → AreBefore size packets → length (wire_of (done ++ packets)) ≤ limit → Spelt (wire size limit) (before_packet done) (wire_of packets) (before_packet (done ++ packets))
-  before_are_read done [] h f = subst (λ v. Spelt (wire size limit) (before_packet done) [] (before_packet v)) (sym (append-nil done)) (Spelt-none (wire size limit) (before_packet done))
-  before_are_read done (p ∷ packets) h f =
-      let la : length (wire_of (done ++ p ∷ packets)) ≡ length (wire_of done) + (length (packet_bytes p) + length (wire_of packets)) = ap (λ v. length v) (flat_map-append packet_bytes done (p ∷ packets)) ∙ length-append (wire_of done) (packet_bytes p ++ wire_of packets) ∙ ap (λ v. length (wire_of done) + v) (length-append (packet_bytes p) (wire_of packets)) in
-      let lp : length (packet_bytes p) ≡ packet_length p = length-packet_bytes p h.0 in
-      let one : Spelt (wire size limit) (before_packet done) (packet_bytes p) (before_packet (done ++ p ∷ [])) = subst (λ t. Spelt (wire size limit) (before_packet done) (packet_bytes p) (record { packets = done ++ p ∷ []; place = if t then AfterLast else BeforeHeader })) h.1 (packet_is_read done p h.0 (omega (arith, la, lp))) in
-      let same : (done ++ p ∷ []) ++ packets ≡ done ++ p ∷ packets = append_assoc done (p ∷ []) packets in
-      let more : Spelt (wire size limit) (before_packet (done ++ p ∷ [])) (wire_of packets) (before_packet ((done ++ p ∷ []) ++ packets)) = before_are_read (done ++ p ∷ []) packets h.2 (rw same f) in
-      Spelt-append (wire size limit) (before_packet done) (packet_bytes p) (before_packet (done ++ p ∷ [])) (wire_of packets) (before_packet (done ++ p ∷ packets)) one (subst (λ v. Spelt (wire size limit) (before_packet (done ++ p ∷ [])) (wire_of packets) (before_packet v)) same more)
+  before_are_read done [] h f = rw append-nil (Spelt-none (wire size limit) (before_packet done))
+  before_are_read done (p ∷ packets) h f = one_is_read done p packets BeforeHeader (h.0, h.1) f (before_are_read (done ++ p ∷ []) packets h.2)
 
   -- with a packet that follows
   following : (packets : List Packet) (next : Packet) → AreBefore size packets → IsPacket size next → length (wire_of packets ++ packet_bytes next) ≤ limit → Spelt (wire size limit) no_wire (wire_of packets ++ packet_bytes next) (with_packet packets next)
   following packets next before i f =
-      let la : length (wire_of packets ++ packet_bytes next) ≡ length (wire_of packets) + length (packet_bytes next) = length-append (wire_of packets) (packet_bytes next) in
-      let lp : length (packet_bytes next) ≡ packet_length next = length-packet_bytes next i in
-      Spelt-append (wire size limit) no_wire (wire_of packets) (before_packet packets) (packet_bytes next) (with_packet packets next) (before_are_read [] packets before (omega (arith, la))) (packet_is_read packets next i (omega (arith, la, lp)))
+      let long = simp length-append at f in
+      Spelt-append (wire size limit) no_wire (wire_of packets) (before_packet packets) (packet_bytes next) (with_packet packets next) (before_are_read [] packets before (omega (arith, long)))
+          (packet_is_read packets next i (omega (arith, long, length-packet_bytes next i)))
 
-  last_place : (t : Bool) (header : List ℕ) → ◌≡◌ {A = WirePlace} (if t then AfterLast else BeforeHeader) (BeforeBody header) → ⊥
-  last_place t header e = grind (arith)
+  -- the packet that follows would be read too
+  no_next : (input : List ℕ) (taken : ℕ) (packets : List Packet) (place : WirePlace) (header : List ℕ) → Longest (wire size limit) no_wire input taken (record { packets = packets; place = place }) → AreBefore size packets → take taken input ≡ wire_of packets ++ header
+      → (header ≡ []) ⊎ ((length header ≡ 8) × (place ≡ BeforeBody header)) → (next : Packet) → IsNextPacket size limit input packets next → ⊥
+  no_next input taken packets place header l before is cause next f =
+      let all = wire_of packets ++ packet_bytes next in
+      let front : take (length all) input ≡ all = rw f.spelt (take-append_seam all f.more) in
+      let more = ap length f.spelt ∙ length-append all f.more in
+      let long = length-append (wire_of packets) (packet_bytes next) in
+      let read = following packets next before f.rules f.within in
+      let within : length all ≤ taken = l.longest (length all) (with_packet packets next) (omega (arith, long, more)) (rw front read) in
+      let counted : taken ≡ length (wire_of packets) + length header = sym (length-take-le taken input l.within) ∙ ap length is ∙ length-append (wire_of packets) header in
+      let size_is = length-packet_bytes next f.rules in
+      elim cause [
+        | inl none ↦ omega (arith, counted, ap length none, long, size_is, within)
+        | inr inside ↦
+            (let same : length all ≡ taken = omega (arith, counted, inside.0, long, size_is, within) in
+            let one = one_state (wire size limit) no_wire (take taken input) _ (with_packet packets next) l.spelt (rw (← same, front) read) in
+            let placed : (if is_last next then AfterLast else BeforeHeader) ≡ BeforeBody header = sym (ap (λ w. w.place) one) ∙ inside.1 in
+            grind (arith))
+      ]
 
   -- What is read at most of an input are the packets at its front.
   pub read_front : (input : List ℕ) (taken : ℕ) (w : WirePart) → AreBytes input → Longest (wire size limit) no_wire input taken w → Front size limit input w.packets
-  read_front input taken w are l = go w.place refl (wire_is_spelt size limit (take taken input) w (AreBytes-front (take taken input) (drop taken input) (subst (λ v. AreBytes v) (sym (take-append-drop taken input)) are)) l.spelt)
+  read_front input taken w are l = go w.place l (wire_is_spelt size limit (take taken input) w (AreBytes-front (take taken input) (drop taken input) (rw (take-append-drop taken input) are)) l.spelt)
     where
-      none : (next : Packet) → IsNextPacket size limit input w.packets next → AreBefore size w.packets → length (wire_of w.packets ++ packet_bytes next) ≤ taken
-      none next f before =
-          let all : List ℕ = wire_of w.packets ++ packet_bytes next in
-          let t : take (length all) input ≡ all = ap (λ v. take (length all) v) f.spelt ∙ take-append_seam all f.more in
-          let la : length input ≡ length all + length f.more = ap (λ v. length v) f.spelt ∙ length-append all f.more in
-          l.longest (length all) (with_packet w.packets next) (omega (arith, la)) (subst (λ v. Spelt (wire size limit) no_wire v (with_packet w.packets next)) (sym t) (following w.packets next before f.rules f.within))
-
-      go : (place : WirePlace) → w.place ≡ place → Means size limit w (take taken input) → Front size limit input w.packets
-      go BeforeHeader e m = let k : WireMeans size limit w.packets BeforeHeader (take taken input) = subst (λ v. WireMeans size limit w.packets v (take taken input)) e m in
-          record {
-            rest = drop taken input;
-            spelt = ap (λ v. v ++ drop taken input) (sym k.0) ∙ take-append-drop taken input;
-            within = subst (λ v. length v ≤ limit) k.0 k.2;
-            stops = inr (
-              k.1,
-              λ next f.
-                  let n : length (wire_of w.packets ++ packet_bytes next) ≤ taken = none next f k.1 in
-                  grind (arith, length-append, length-packet_bytes, length-take-le),
-            );
-          }
-      go (BeforeBody header) e m = let k : WireMeans size limit w.packets (BeforeBody header) (take taken input) = subst (λ v. WireMeans size limit w.packets v (take taken input)) e m in
-          record {
-            rest = header ++ drop taken input;
-            spelt = sym (append_assoc (wire_of w.packets) header (drop taken input)) ∙ ap (λ v. v ++ drop taken input) (sym k.0) ∙ take-append-drop taken input;
-            within = (let g : length (wire_of w.packets) + header_length header ≤ limit = k.2.within in omega arith);
-            stops = inr (
-              k.1,
-              λ next f.
-                  let all : List ℕ = wire_of w.packets ++ packet_bytes next in
-                  let n : length all ≤ taken = none next f k.1 in
-                  let la : length all ≡ length (wire_of w.packets) + length (packet_bytes next) = length-append (wire_of w.packets) (packet_bytes next) in
-                  let lp : length (packet_bytes next) ≡ packet_length next = length-packet_bytes next f.rules in
-                  let eight : length header ≡ 8 = k.2.eight in
-                  let lt : taken ≡ length (wire_of w.packets) + length header = sym (length-take-le taken input l.within) ∙ ap (λ v. length v) k.0 ∙ length-append (wire_of w.packets) header in
-                  let same : length all ≡ taken = omega (arith, la, lp, lt, n) in
-                  let t : take taken input ≡ all = ap (λ v. take v input) (sym same) ∙ ap (λ v. take (length all) v) f.spelt ∙ take-append_seam all f.more in
-                  let one : w ≡ with_packet w.packets next = one_state (wire size limit) no_wire (take taken input) w (with_packet w.packets next) l.spelt (subst (λ v. Spelt (wire size limit) no_wire v (with_packet w.packets next)) (sym t) (following w.packets next k.1 f.rules f.within)) in
-                  last_place (is_last next) header (sym (ap (λ v. v.place) one) ∙ e),
-            );
-          }
-      go AfterLast e m = let k : WireMeans size limit w.packets AfterLast (take taken input) = subst (λ v. WireMeans size limit w.packets v (take taken input)) e m in
-          record { rest = drop taken input; spelt = ap (λ v. v ++ drop taken input) (sym k.0) ∙ take-append-drop taken input; within = subst (λ v. length v ≤ limit) k.0 k.2; stops = inl k.1 }
+      go : (place : WirePlace) → Longest (wire size limit) no_wire input taken (record { packets = w.packets; place = place }) → WireMeans size limit w.packets place (take taken input) → Front size limit input w.packets
+      go BeforeHeader l k = record {
+        rest = drop taken input;
+        spelt = rw (← k.0) (take-append-drop taken input);
+        within = rw k.0 at k.2;
+        stops = inr (k.1, no_next input taken w.packets BeforeHeader [] l k.1 (k.0 ∙ sym (append-nil _)) (inl refl));
+      }
+      go (BeforeBody header) l k = record {
+        rest = header ++ drop taken input;
+        spelt = rw (← append_assoc, ← k.0) (take-append-drop taken input);
+        within = omega (arith, k.2.within);
+        stops = inr (k.1, no_next input taken w.packets (BeforeBody header) header l k.1 k.0 (inr (k.2.eight, refl)));
+      }
+      go AfterLast l k = record { rest = drop taken input; spelt = rw (← k.0) (take-append-drop taken input); within = rw k.0 at k.2; stops = inl k.1 }
