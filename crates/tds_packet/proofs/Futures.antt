@@ -16,61 +16,46 @@ use Rattle.tds_packet.specs.declared.packet.Header.{Header}
 use Rattle.tds_packet.specs.Coming.{FrontPacket, WholePacket, NoPacket, Coming, before, stopped_at, front_packet, after_packet, message, coming_of}
 use Rattle.tds_packet.specs.Reads.{ReadsPacket}
 use Rattle.tds_packet.specs.Seen.{Seen, Follows, Takes, Needs, Ends, IsOver, IsNotOver, IsBetween, begun}
-use Rattle.tds_packet.proofs.Joins.{Rises-after, Stays-none, Stays-trans, device_of}
-
--- ---- a packet is not empty
-
--- what follows a whole packet is shorter than k
-Shorter : FrontPacket → ℕ → Type 0
-Shorter (WholePacket body last n rest) k = length rest < k
-Shorter (NoPacket f rest) k = Unit {0}
-
-shorter : (room max wire : ℕ) (xs : List ℕ) → Shorter (front_packet room max wire xs) (length xs)
-unfolding front_packet Shorter
-shorter room max wire xs = grind (arith, nat_tests, length-drop)
+use Rattle.tds_packet.proofs.Joins.{Rises-after, Stays-none, Stays-trans}
+use Rattle.tds_packet.specs.declared.payload.Payload as payloads
+use Rattle.tds_packet.specs.Payloads.{NeedsPacket, buffered, further, seen}
+use Rattle.tds_packet.specs.Devices.{device}
+use Rattle.std.proofs.lemmas.List.{length-take-le}
+use Rattle.std.proofs.Math.ListN.{drop_of_length-le}
 
 -- ---- enough fuel is enough
 
-same_after : (F G : ℕ → ℕ → List ℕ → Coming) (wire place k : ℕ) (p : FrontPacket) → ((w q : ℕ) (ys : List ℕ) → length ys < k → F w q ys ≡ G w q ys) → Shorter p k → after_packet F wire place p ≡ after_packet G wire place p
-unfolding Shorter
-same_after F G wire place k (WholePacket body true n rest) same h = refl
-same_after F G wire place k (WholePacket body false n rest) same h = ap (before body) (same (wire + n) (place + length body) rest h)
-same_after F G wire place k (NoPacket f rest) same h = refl
+rest_shorter : (room max wire : ℕ) (xs body rest : List ℕ) (last : Bool) (n : ℕ) → front_packet room max wire xs ≡ WholePacket body last n rest → length rest < length xs
+unfolding front_packet
+rest_shorter room max wire xs body rest last n e = grind (arith, nat_tests, length-drop)
+
+same_after : (F G : ℕ → ℕ → List ℕ → Coming) (wire place : ℕ) (p : FrontPacket) → ((body rest : List ℕ) (n : ℕ) → p ≡ WholePacket body false n rest → F (wire + n) (place + length body) rest ≡ G (wire + n) (place + length body) rest) → after_packet F wire place p ≡ after_packet G wire place p
+same_after F G wire place (WholePacket body true n rest) same = refl
+same_after F G wire place (WholePacket body false n rest) same = ap (before body) (same body rest n refl)
+same_after F G wire place (NoPacket f rest) same = refl
 
 message-fuel : (room max n m wire place : ℕ) (xs : List ℕ) → length xs < n → length xs < m → message room max n wire place xs ≡ message room max m wire place xs
 unfolding message
 message-fuel room max zero m wire place xs h k = absurd (omega arith)
 message-fuel room max (suc n) zero wire place xs h k = absurd (omega arith)
-message-fuel room max (suc n) (suc m) wire place xs h k =
-    same_after (message room max n) (message room max m) wire place (length xs) (front_packet room max wire xs)
-    (λ w q ys lt. message-fuel room max n m w q ys (omega arith) (omega arith))
-    (shorter room max wire xs)
+message-fuel room max (suc n) (suc m) wire place xs h k = same_after (message room max n) (message room max m) wire place (front_packet room max wire xs)
+    (λ body rest l e. (let lt = rest_shorter room max wire xs body rest false l e in message-fuel room max n m (wire + l) (place + length body) rest (omega (arith, lt)) (omega (arith, lt))))
 
 -- ---- a packet is read
 
-rest_shorter : (room max wire : ℕ) (xs body rest : List ℕ) (last : Bool) (n : ℕ) → front_packet room max wire xs ≡ WholePacket body last n rest → length rest < length xs
-unfolding Shorter
-rest_shorter room max wire xs body rest last n e = subst (λ p. Shorter p (length xs)) e (shorter room max wire xs)
+module _ {R : Type 0} (remaining : R → Option (List ℕ)) (p q : payloads.Payload R) (body : List ℕ) (needs : NeedsPacket p) where
+  none_left : buffered p ≡ []
+  none_left = drop_of_length-le p.packet.now.bytes (omega (arith, needs.used_up))
 
-stopped_coming : (room max wire place : ℕ) (last : Bool) (s : Stop) (bs xs : List ℕ) → coming_of room max wire place last (Some s) bs xs ≡ record { bytes = []; stop = s; rest = xs }
-unfolding coming_of
-stopped_coming room max wire place last s bs xs = refl
+  pub advance_ok : (h : Header) → q.packet.now.room ≡ p.packet.now.room → q.max_wire ≡ p.max_wire → q.wire ≡ p.wire + h.length → q.place ≡ p.place → q.last ≡ h.last → q.stopped ≡ p.stopped → buffered q ≡ body
+      → ReadsPacket p.packet.now.room p.max_wire p.wire (device remaining p.from.now) (device remaining q.from.now) body (Ok h) → Takes (seen remaining p) (seen remaining q) [] 1
+  unfolding coming_of message
+  advance_ok h er em ew ep el es eb reads = grind (arith, rest_shorter, add-zero, message-fuel, none_left)
 
--- a payload, as seen
-abbrev at : ℕ → ℕ → ℕ → ℕ → Bool → Option Stop → List ℕ → Option (List ℕ) → ℕ → Seen
-at room max wire place last stopped bs left f = record { left = left; future = coming_of room max wire place last stopped bs; wire = wire; failures = f }
-
-pub advance_ok : (room room' max wire place n : ℕ) (last : Bool) (stopped : Option Stop) (bs body : List ℕ) (old new : Option (List ℕ)) (f g : ℕ) (h : Header)
-    → room' ≡ room → last ≡ false → stopped ≡ None → bs ≡ [] → n ≡ h.length → ReadsPacket room max wire (device_of old f) (device_of new g) body (Ok h)
-    → Takes (at room max wire place last stopped bs old f) (at room' max (wire + n) place h.last stopped body new g) [] 1
-unfolding coming_of message
-advance_ok room room' max wire place n last stopped bs body old new f g h er el es eb en p = grind (arith, rest_shorter, add-zero, message-fuel)
-
-pub advance_err : (room max wire place : ℕ) (last : Bool) (stopped : Option Stop) (bs body : List ℕ) (old new : Option (List ℕ)) (f g : ℕ) (e : Fault)
-    → last ≡ false → stopped ≡ None → bs ≡ [] → ReadsPacket room max wire (device_of old f) (device_of new g) body (Err e)
-    → Ends (at room max wire place last stopped bs old f) (at room max wire place last stopped bs new g) [] (record { fault = e; place = Wire wire })
-unfolding coming_of message
-advance_err room max wire place last stopped bs body old new f g e el es eb q = grind (arith)
+  pub advance_err : (e : Fault) → ReadsPacket p.packet.now.room p.max_wire p.wire (device remaining p.from.now) (device remaining q.from.now) body (Err e)
+      → Ends (seen remaining p) (seen remaining q) [] (record { fault = e; place = Wire p.wire })
+  unfolding coming_of message
+  advance_err e reads = grind (arith, none_left)
 
 -- ---- bytes are handed out
 
@@ -82,9 +67,12 @@ unfolding coming_of
 hand room max wire place true hs bs xs = grind (arith, common_steps, length-append, before-append)
 hand room max wire place false hs bs xs = grind (arith, length-append, before-append)
 
-pub hands_out : (room max wire place n : ℕ) (last : Bool) (stopped : Option Stop) (all hs bs : List ℕ) (old : Option (List ℕ)) (f m : ℕ) → stopped ≡ None → all ≡ hs ++ bs → n ≡ length hs
-    → Takes (at room max wire place last stopped all old f) (at room max wire (place + n) last stopped bs old f) hs m
-hands_out room max wire place n last stopped all hs bs old f m es ea en = grind (arith, Consumes-nil, hand, add-zero, Stays-none)
+-- Bytes that lie ready are handed out.
+pub further_takes : {R : Type 0} (remaining : R → Option (List ℕ)) (p : payloads.Payload R) (n m : ℕ) → n ≤ length (buffered p) → p.stopped ≡ None → Takes (seen remaining p) (seen remaining (further p n)) (take n (buffered p)) m
+further_takes remaining p n m le e =
+    let split : buffered p ≡ take n (buffered p) ++ buffered (further p n) = sym (rw (← drop-drop n p.at p.packet.now.bytes) (take-append-drop n (buffered p))) in
+    let len = length-take-le n (buffered p) le in
+    grind (arith, Consumes-nil, hand, add-zero, Stays-none)
 
 -- ---- calls, one after another
 
@@ -123,45 +111,31 @@ Ends-after a b c hs bs n e p (inr (inr y)) =
 
 -- ---- the ends of `ready`
 
-stopped_as : (room max wire place : ℕ) (last : Bool) (stopped : Option Stop) (bs : List ℕ) (s : Stop) → stopped ≡ Some s → (zs : List ℕ) → coming_of room max wire place last stopped bs zs ≡ record { bytes = []; stop = s; rest = zs }
-stopped_as room max wire place last stopped bs s e zs = ap (λ o. coming_of room max wire place last o bs zs) e ∙ stopped_coming room max wire place last s bs zs
-
-pub stopped_ends : (room max wire place : ℕ) (last : Bool) (stopped : Option Stop) (bs : List ℕ) (old : Option (List ℕ)) (f : ℕ) (s : Stop) → stopped ≡ Some s
-    → Ends (at room max wire place last stopped bs old f) (at room max wire place last stopped bs old f) [] s
-stopped_ends room max wire place last stopped bs old f s e = inl ([], Consumes-nil old, stopped_as room max wire place last stopped bs s e, Stays-none f)
-
-ended_as : (room max wire place : ℕ) (last : Bool) (stopped : Option Stop) (bs : List ℕ) → last ≡ true → stopped ≡ None → bs ≡ [] → (zs : List ℕ) → coming_of room max wire place last stopped bs zs ≡ stopped_at MessageEnded (Payload place) zs
-unfolding coming_of
-ended_as room max wire place last stopped bs el es eb zs = grind (arith, add-zero)
-
-pub ended_ends : (room max wire place : ℕ) (last : Bool) (stopped : Option Stop) (bs : List ℕ) (old : Option (List ℕ)) (f : ℕ) → last ≡ true → stopped ≡ None → bs ≡ []
-    → Ends (at room max wire place last stopped bs old f) (at room max wire place last stopped bs old f) [] (record { fault = MessageEnded; place = Payload place })
-ended_ends room max wire place last stopped bs old f el es eb = inl ([], Consumes-nil old, ended_as room max wire place last stopped bs el es eb, Stays-none f)
-
--- ---- the ends of a message
-
-pub new_seen : (room max : ℕ) (left : Option (List ℕ)) (f : ℕ) → at room max 0 0 false None [] left f ≡ begun room max left f
+pub new_seen : (room max : ℕ) (left : Option (List ℕ)) (f : ℕ) → record { left = left; future = coming_of room max 0 0 false None []; wire = 0; failures = f } ≡ begun room max left f
 unfolding coming_of
 new_seen room max left f = refl
 
--- the last packet is used up
-pub over : (room max wire place : ℕ) (last : Bool) (stopped : Option Stop) (bs : List ℕ) (old : Option (List ℕ)) (f : ℕ) → last ≡ true → stopped ≡ None → bs ≡ [] → IsOver (at room max wire place last stopped bs old f)
-over room max wire place last stopped bs old f el es eb = (record { fault = MessageEnded; place = Payload place }, refl, ended_as room max wire place last stopped bs el es eb)
+module _ {R : Type 0} (remaining : R → Option (List ℕ)) (p : payloads.Payload R) where
+  pub stopped_ends : (s : Stop) → p.stopped ≡ Some s → Ends (seen remaining p) (seen remaining p) [] s
+  unfolding coming_of
+  stopped_ends s e = inl ([], Consumes-nil (remaining p.from.now.device), λ zs. rw e refl, Stays-none p.from.now.failures)
 
-pub not_over : (room max wire place : ℕ) (last : Bool) (stopped : Option Stop) (bs : List ℕ) (old : Option (List ℕ)) (f : ℕ) → stopped ≡ None → 0 < length bs → IsNotOver (at room max wire place last stopped bs old f)
-unfolding coming_of
-not_over room max wire place last stopped bs old f e h = grind (arith, length-append)
+  ended_as : p.last ≡ true → p.stopped ≡ None → buffered p ≡ [] → (zs : List ℕ) → (seen remaining p).future zs ≡ stopped_at MessageEnded (Payload p.place) zs
+  unfolding coming_of
+  ended_as el es eb zs = grind (arith, add-zero)
 
-between_at : (room max wire place : ℕ) (last : Bool) (bs : List ℕ) (old : Option (List ℕ)) (f : ℕ) → IsBetween (at room max wire place last None bs old f)
-unfolding coming_of message front_packet
-between_at room max wire place last bs old f = grind (arith)
+  pub ended_ends : p.last ≡ true → p.stopped ≡ None → buffered p ≡ [] → Ends (seen remaining p) (seen remaining p) [] (record { fault = MessageEnded; place = Payload p.place })
+  ended_ends el es eb = inl ([], Consumes-nil (remaining p.from.now.device), ended_as el es eb, Stays-none p.from.now.failures)
 
--- it has not stopped, so the reader stands right after a packet
-pub between : (room max wire place : ℕ) (last : Bool) (stopped : Option Stop) (bs : List ℕ) (old : Option (List ℕ)) (f : ℕ) → stopped ≡ None → IsBetween (at room max wire place last stopped bs old f)
-between room max wire place last stopped bs old f e =
-    subst (λ o. IsBetween (at room max wire place last o bs old f)) (sym e) (between_at room max wire place last bs old f)
+  -- the last packet is used up
+  pub over : p.last ≡ true → p.stopped ≡ None → buffered p ≡ [] → IsOver (seen remaining p)
+  over el es eb = (record { fault = MessageEnded; place = Payload p.place }, refl, ended_as el es eb)
 
-pub split_piece : (i n : ℕ) (xs : List ℕ) → drop i xs ≡ take ((i + n) - i) (drop i xs) ++ drop (i + n) xs
-split_piece i n xs =
-    let m : (i + n) - i ≡ n = omega arith in
-    sym (ap (λ k. take k (drop i xs) ++ drop (i + n) xs) m ∙ ap (λ l. take n (drop i xs) ++ l) (sym (drop-drop n i xs)) ∙ take-append-drop n (drop i xs))
+  pub not_over : p.stopped ≡ None → 0 < length (buffered p) → IsNotOver (seen remaining p)
+  unfolding coming_of
+  not_over e h = grind (arith, length-append)
+
+  -- It has not stopped, so no packet is cut.
+  pub between : p.stopped ≡ None → IsBetween (seen remaining p)
+  unfolding coming_of message front_packet
+  between e = grind (arith)

@@ -5,18 +5,11 @@ use Rattle.tds_packet.specs.declared.fault.Stop.{Stop}
 use Rattle.tds_packet.specs.declared.payload.Payload.{Payload}
 use Rattle.tds_packet.specs.Payloads.{IsUsedUp, buffered, seen, further}
 use Rattle.tds_packet.specs.Seen.{IsBetween, Seen, Takes}
-use Rattle.tds_packet.proofs.Futures.{Takes-more, Takes-none, Takes-trans, between, hands_out}
+use Rattle.tds_packet.proofs.Futures.{Takes-more, Takes-none, Takes-trans, between, further_takes}
 
 -- It has not stopped, so no packet is cut.
 pub between_of : {R : Type 0} (remaining : R → Option (List ℕ)) (p : Payload R) → p.stopped ≡ None → IsBetween (seen remaining p)
-between_of remaining p e = between p.packet.now.room p.max_wire p.wire p.place p.last p.stopped (buffered p) (remaining p.from.now.device) p.from.now.failures e
-
--- Bytes that lie ready are handed out.
-pub further_takes : {R : Type 0} (remaining : R → Option (List ℕ)) (p : Payload R) (n m : ℕ) → n ≤ length (buffered p) → p.stopped ≡ None → Takes (seen remaining p) (seen remaining (further p n)) (take n (buffered p)) m
-further_takes remaining p n m le e =
-    let xs = p.packet.now.bytes in
-    let split : drop p.at xs ≡ take n (drop p.at xs) ++ drop (p.at + n) xs = sym (ap (λ l. take n (drop p.at xs) ++ l) (sym (drop-drop n p.at xs)) ∙ take-append-drop n (drop p.at xs)) in
-    hands_out p.packet.now.room p.max_wire p.wire p.place n p.last p.stopped (drop p.at xs) (take n (drop p.at xs)) (drop (p.at + n) xs) (remaining p.from.now.device) p.from.now.failures m e split (sym (length-take-le n (drop p.at xs) le))
+between_of remaining p e = between remaining p e
 
 -- Where it has stopped, none lies ready.
 pub pass_takes : {R : Type 0} (remaining : R → Option (List ℕ)) (p : Payload R) (n : ℕ) (o : Option Stop) → p.stopped ≡ o → IsUsedUp p o → n ≤ length (buffered p) → Takes (seen remaining p) (seen remaining (further p n)) (take n (buffered p)) 0

@@ -11,15 +11,18 @@ returns-in-Ok-clause-tells g c =
     let some : 0 < length (drop s.at s.packet.now.bytes) = omega (arith, length-drop s.at s.packet.now.bytes, c.in-Ok.ensures.stands) in
     record {
       over = λ e. cc;
-      more = λ _. not_over s.packet.now.room s.max_wire s.wire s.place s.last s.stopped (drop s.at s.packet.now.bytes) (g.R.Read.remaining s.from.now.device) s.from.now.failures c.in-Ok.ensures.payload.answers.going some;
+      more = λ _. not_over g.R.Read.remaining s c.in-Ok.ensures.payload.answers.going some;
       ready = λ _. some;
     }
 
 pub returns-in-MessageEnded-clause-tells : goal.returns-in-MessageEnded-clause-tells
-returns-in-MessageEnded-clause-tells g c = grind (arith, common_steps, over, drop_of_length-le)
+returns-in-MessageEnded-clause-tells g c =
+    let s = record c.ready.new.self { stopped = None } in
+    let ends = c.in-Err.ensures.ended c.in-MessageEnded.is c.in_default.is in
+    record { over = λ _. over g.R.Read.remaining s ends.last refl (drop_of_length-le s.packet.now.bytes (omega (arith, ends.used_up))); more = λ e. cc; ready = λ e. cc }
 
 pub returns-in-Some-clause-gives : goal.returns-in-Some-clause-gives
-returns-in-Some-clause-gives g c = stopped_ends _ _ _ _ _ _ _ _ _ _ c.in-Some.is
+returns-in-Some-clause-gives g c = stopped_ends g.R.Read.remaining c.args.self.now _ c.in-Some.is
 
 pub returns-in-Ok-clause-between : goal.returns-in-Ok-clause-between
 returns-in-Ok-clause-between g c = between_of g.R.Read.remaining c.ready.new.self c.in-Ok.ensures.payload.answers.going

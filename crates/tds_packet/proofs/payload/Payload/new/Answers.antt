@@ -1,5 +1,6 @@
 use Rattle.std.proofs.Common.{false, None, refl, rules}
-use Rattle.tds_packet.proofs.Futures.{between, new_seen}
+use Rattle.tds_packet.proofs.Futures.{new_seen}
+use Rattle.tds_packet.proofs.PayloadLaws.{between_of}
 use Rattle.tds_packet.proofs.payload.Payload.new.Goals as goal
 
 pub returns-clause-begun : goal.returns-clause-begun
@@ -11,5 +12,5 @@ returns-clause-begun g c = record {
   place = refl;
   going = refl;
   begins = rw c.clear.ensures.value (new_seen _ _ _ _);
-  between = between c.clear.new.self.room c.args.max_wire 0 0 false None c.clear.new.self.bytes (g.R.Read.remaining c.args.from.now.device) c.args.from.now.failures refl;
+  between = between_of g.R.Read.remaining (record { from = c.args.from; packet = record c.args.packet { now = c.clear.new.self }; at = 0; last = false; wire = 0; max_wire = c.args.max_wire; place = 0; stopped = None }) refl;
 }

@@ -1,6 +1,6 @@
 use Rattle.std.proofs.Common.{◌≡◌, [], ◌+◌, ◌-◌, ◌<◌, ◌≤◌, length, take, drop, min, refl, sym, arith, rules, length-take, length-drop, le_refl}
 use Rattle.tds_packet.specs.Payloads.{seen}
-use Rattle.tds_packet.proofs.Futures.{hands_out, Takes-trans, split_piece}
+use Rattle.tds_packet.proofs.Futures.{Takes-trans, further_takes}
 use Rattle.tds_packet.proofs.PayloadLaws.{between_of, not_again}
 use Rattle.tds_packet.proofs.payload.Payload.piece.Goals as goal
 
@@ -12,7 +12,8 @@ returns g c =
     let up : n ≡ min c.args.max (length xs - s.at) = search rules in
     let out = take ((s.at + n) - s.at) (drop s.at xs) in
     let len : length out ≡ n = omega (arith, length-take ((s.at + n) - s.at) (drop s.at xs), length-drop s.at xs, c.in_ok-ready.ensures.stands, up) in
-    let hands = hands_out s.packet.now.room s.max_wire s.wire s.place n s.last s.stopped (drop s.at xs) out (drop (s.at + n) xs) (g.R.Read.remaining s.from.now.device) s.from.now.failures 1 c.in_ok-ready.ensures.payload.answers.going (split_piece s.at n xs) (sym len) in
+    let m : (s.at + n) - s.at ≡ n = omega arith in
+    let hands = further_takes g.R.Read.remaining s n 1 (omega (arith, length-drop s.at xs, up)) c.in_ok-ready.ensures.payload.answers.going in
     let bound : (0 < n) × (n ≤ c.args.max) = (omega (arith, up, c.in_ok-ready.ensures.stands, c.requires.some), omega (arith, up)) in
     let fits : s.at + n ≤ length xs = omega (arith, up, c.in_ok-ready.ensures.stands) in
     let a = seen g.R.Read.remaining c.args.self.now in
@@ -26,7 +27,7 @@ returns g c =
         (
           record { at = fits; place = omega (arith, sound.place, fits); wire = sound.wire; limit = sound.limit; peak = sound.peak; used_up = rw c.in_ok-ready.ensures.payload.answers.going tt },
           c.in_ok-ready.ensures.payload.answers.same,
-          (rw value (Takes-trans a b d [] out 1 1 (le_refl 1) c.in_ok-ready.ensures.gives hands), between_of g.R.Read.remaining (record s { at = s.at + n; place = s.place + n }) c.in_ok-ready.ensures.payload.answers.going, rw value (omega (arith, len, c.in_ok-ready.ensures.payload.place)), c.in_ok-ready.ensures.payload.answers.going),
+          (rw (value, m) (Takes-trans a b d [] (take n (drop s.at xs)) 1 1 (le_refl 1) c.in_ok-ready.ensures.gives hands), between_of g.R.Read.remaining (record s { at = s.at + n; place = s.place + n }) c.in_ok-ready.ensures.payload.answers.going, rw value (omega (arith, len, c.in_ok-ready.ensures.payload.place)), c.in_ok-ready.ensures.payload.answers.going),
           not_again _ _ _ _ c.in_ok-ready.ensures.payload.answers.again,
         ),
       ),

@@ -6,7 +6,7 @@ use Rattle.tds_packet.proofs.Passing.{passed}
 use Rattle.tds_packet.proofs.payload.Payload.ready.Goals as goal
 
 pub returns-in-Some-clause-gives : goal.returns-in-Some-clause-gives
-returns-in-Some-clause-gives g c = stopped_ends _ _ _ _ _ _ _ _ _ _ c.in-Some.is
+returns-in-Some-clause-gives g c = stopped_ends g.R.Read.remaining c.args.self.now _ c.in-Some.is
 
 pub returns-then-self-clause-gives : goal.returns-then-self-clause-gives
 returns-then-self-clause-gives g c =
@@ -14,7 +14,7 @@ returns-then-self-clause-gives g c =
     let none : drop s.at s.packet.now.bytes ≡ [] = drop_of_length-le s.packet.now.bytes (omega (arith, c.loop-self-test.true, c.len.ensures)) in
     let a = seen g.R.Read.remaining c.args.self.now in
     let b = seen g.R.Read.remaining s in
-    Ends-after a b b [] [] 1 _ c.loop-self.invariant.gives (ended_ends s.packet.now.room s.max_wire s.wire s.place s.last s.stopped (drop s.at s.packet.now.bytes) (g.R.Read.remaining s.from.now.device) s.from.now.failures c.if-self.true c.loop-self.invariant.going none)
+    Ends-after a b b [] [] 1 _ c.loop-self.invariant.gives (ended_ends g.R.Read.remaining s c.if-self.true c.loop-self.invariant.going none)
 
 pub returns-in_err-advance-clause-gives : goal.returns-in_err-advance-clause-gives
 returns-in_err-advance-clause-gives g c =

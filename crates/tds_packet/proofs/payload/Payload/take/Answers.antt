@@ -1,8 +1,10 @@
-use Rattle.std.proofs.lemmas.Grind.{common_steps}
-use Rattle.std.proofs.Common.{arith}
-use Rattle.std.proofs.Common.{add-one, drop-cons}
-use Rattle.tds_packet.proofs.Futures.{hands_out}
+use Rattle.std.proofs.Common.{◌≡◌, ◌<◌, [], ◌∷◌, length, take, drop, get_or, arith, drop-cons, length-drop}
+use Rattle.tds_packet.proofs.Futures.{further_takes}
 use Rattle.tds_packet.proofs.payload.Payload.take.Goals as goal
 
 pub returns-clause-gives : goal.returns-clause-gives
-returns-clause-gives g c = grind (arith, common_steps, add-one, drop-cons, hands_out)
+returns-clause-gives g c =
+    let s = c.args.self.now in
+    let ready : s.at < length s.packet.now.bytes = omega arith in
+    let head : take 1 (drop s.at s.packet.now.bytes) ≡ get_or c.bytes.result.now s.at 0 ∷ [] = rw (c.bytes.ensures.value, drop-cons s.packet.now.bytes s.at 0 ready) in
+    rw head at (further_takes g.R.Read.remaining s 1 1 (omega (arith, ready, length-drop s.at s.packet.now.bytes)) c.requires.going.going)
