@@ -5,6 +5,7 @@ use Rattle.std.proofs.lemmas.Bool.Decides.{nat_tests}
 use Rattle.std.specs.Prelude.{nat_lt, if◌then◌else◌}
 use Rattle.std.specs.Io.KnownBytes.{Consumes}
 use Rattle.std.proofs.KnownBytes.{Consumes-trans}
+use native.Mathlib.Decide.{dec_le}
 use Rattle.tds_meter.specs.Counts.{one_more}
 use Rattle.tds_packet.specs.Devices.{Device}
 use Rattle.tds_packet.specs.Filling.{Stays}
@@ -31,24 +32,17 @@ Stays-trans f g h r s p q = (q.0 ∙ p.0, grind (arith, length-append r s, p.0, 
 pub Rises-after : (f g : ℕ) (r s : List ℕ) → Stays f g r → (0 < length s → g < 2 ^ 64 - 1) → 0 < length (r ++ s) → f < 2 ^ 64 - 1
 Rises-after f g r s p q some = grind (arith, length-append r s, p.0, p.1, q)
 
--- ---- a header that was judged
-
 -- ---- the packet at the front
 
 -- an input of fewer than eight bytes
 short_input : (size limit wire : ℕ) (xs : List ℕ) → length xs < 8 → front_packet size limit wire xs ≡ NoPacket InputEnded []
 unfolding front_packet
-short_input size limit wire xs h = choose_true (nat_lt (length xs) 8) (NoPacket InputEnded []) (packet_after_header (take 8 xs) (drop 8 xs) (header_fault size limit wire (take 8 xs))) (test_lt (length xs) 8 h)
-
-long_input : (size limit wire : ℕ) (xs : List ℕ) → 8 ≤ length xs → front_packet size limit wire xs ≡ packet_after_header (take 8 xs) (drop 8 xs) (header_fault size limit wire (take 8 xs))
-unfolding front_packet
-long_input size limit wire xs h = choose_false (nat_lt (length xs) 8) (NoPacket InputEnded []) (packet_after_header (take 8 xs) (drop 8 xs) (header_fault size limit wire (take 8 xs))) (lt_false (length xs) 8 h)
+short_input size limit wire xs h = rw (test_lt (length xs) 8 h)
 
 -- the header is the first eight bytes
 after_header : (size limit wire : ℕ) (hdr ys : List ℕ) (o : Option Fault) → length hdr ≡ 8 → header_fault size limit wire hdr ≡ o → front_packet size limit wire (hdr ++ ys) ≡ packet_after_header hdr ys o
-after_header size limit wire hdr ys o e f =
-    let front : take 8 (hdr ++ ys) ≡ hdr = ap (λ n. take n (hdr ++ ys)) (sym e) ∙ take-append_seam hdr ys in
-    grind (arith, take-append_seam, drop-append_seam, long_input, length-append)
+unfolding front_packet
+after_header size limit wire hdr ys o e f = rw (length-append, lt_false (length hdr + length ys) 8 (omega arith), ← e, take-append_seam, drop-append_seam, e, f)
 
 -- a body that is whole, and one that is cut
 whole_at : (last : Bool) (len : ℕ) (bs ys : List ℕ) (n : ℕ) → n ≡ length bs → (if nat_lt (length (bs ++ ys)) n then NoPacket InputEnded [] else WholePacket (take n (bs ++ ys)) last len (drop n (bs ++ ys))) ≡ WholePacket bs last len ys
@@ -65,37 +59,44 @@ ended_body : (size limit wire : ℕ) (hdr bs : List ℕ) (h : Header) → length
 ended_body size limit wire hdr bs h len lt good = grind (arith, after_header, choose_true, test_lt)
 
 -- no beginning of a packet is a packet
-cut : (size limit wire : ℕ) (hdr body : List ℕ) (h : Header) (j : ℕ) (b : Bool) → nat_lt j 8 ≡ b → length hdr ≡ 8 → length body + 8 ≡ h.length → j < length (hdr ++ body)
+cut : (size limit wire : ℕ) (hdr body : List ℕ) (h : Header) (j : ℕ) → length hdr ≡ 8 → length body + 8 ≡ h.length → j < length (hdr ++ body)
     → header_of size limit wire hdr ≡ Ok h → front_packet size limit wire (take j (hdr ++ body)) ≡ NoPacket InputEnded []
-cut size limit wire hdr body h j true e len fits lt good = grind (arith, nat_tests, short_input, length-take)
-cut size limit wire hdr body h j false e len fits lt good =
-    let many : 8 ≤ j = grind (arith, nat_tests) in
-    let all : j ≡ length hdr + (j - 8) = omega arith in
-    grind (arith, nat_tests, take-append-add, ended_body, length-append, length-take)
+cut size limit wire hdr body h j len fits lt good = elim (dec_le 8 j) [
+  | yes many ↦
+      (let all : length hdr + (j - 8) ≡ j = omega arith in
+      rw (← all, take-append-add) (ended_body size limit wire hdr (take (j - 8) body) h len (omega (arith, length-append hdr body, length-take (j - 8) body)) good))
+  | no few ↦ short_input size limit wire (take j (hdr ++ body)) (omega (arith, length-take j (hdr ++ body)))
+]
 
 -- ---- the ends of a packet's read
 
-abbrev pub device_of : Option (List ℕ) → ℕ → Device
-device_of bytes failures = record { bytes = bytes; failures = failures }
+-- A good header was read.
+pub record ReadsHeader (size limit wire : ℕ) (old mid : Device) (h : Header) : Type 0 where
+  pub bytes : List ℕ
+  pub eight : length bytes ≡ 8
+  pub read : Consumes old.bytes mid.bytes bytes
+  pub stays : Stays old.failures mid.failures bytes
+  pub good : header_of size limit wire bytes ≡ Ok h
 
-pub fill_err : (size limit wire : ℕ) (old new : Option (List ℕ)) (f g : ℕ) (hdr body : List ℕ) (e : Fault) → length hdr ≡ 8 → Faulted (device_of old f) (device_of new g) (length hdr) e → ReadsPacket size limit wire (device_of old f) (device_of new g) body (Err e)
-unfolding front_packet
-fill_err size limit wire old new f g hdr body e len h = grind (arith, choose_true, test_lt)
+module _ (size limit wire : ℕ) (old new : Device) where
+  pub fill_err : (hdr body : List ℕ) (e : Fault) → length hdr ≡ 8 → Faulted old new (length hdr) e → ReadsPacket size limit wire old new body (Err e)
+  fill_err hdr body e len h = grind (arith, short_input)
 
-pub header_err : (size limit wire : ℕ) (old new : Option (List ℕ)) (f g : ℕ) (hdr body : List ℕ) (e : Fault) → length hdr ≡ 8 → Consumes old new hdr → Stays f g hdr
-    → header_of size limit wire hdr ≡ Err e → ReadsPacket size limit wire (device_of old f) (device_of new g) body (Err e)
-header_err size limit wire old new f g hdr body e len h same bad = grind (arith, after_header)
+  pub header_err : (hdr body : List ℕ) (e : Fault) → length hdr ≡ 8 → Consumes old.bytes new.bytes hdr → Stays old.failures new.failures hdr → header_of size limit wire hdr ≡ Err e → ReadsPacket size limit wire old new body (Err e)
+  header_err hdr body e len h same bad = grind (arith, after_header)
 
-pub body_err : (size limit wire : ℕ) (old mid new : Option (List ℕ)) (f k g : ℕ) (hdr body : List ℕ) (h : Header) (e : Fault) → length hdr ≡ 8 → length body + 8 ≡ h.length → Consumes old mid hdr → Stays f k hdr
-    → header_of size limit wire hdr ≡ Ok h → Faulted (device_of mid k) (device_of new g) (length body) e → ReadsPacket size limit wire (device_of old f) (device_of new g) body (Err e)
-body_err size limit wire old mid new f k g hdr body h InputEnded len fits p same good r =
-    let bs = r.0.0.0 in
-    inr (inl (refl, hdr ++ bs, Consumes-trans old mid new hdr bs p r.0.0.2, r.0.1, ended_body size limit wire hdr bs h len (omega (arith, r.0.0.1, fits)) good, (r.1.0 ∙ same.0, omega (arith, r.1.1, same.0))))
-body_err size limit wire old mid new f k g hdr body h ReadFailed len fits p same good r =
-    let bs = r.0 in
-    inr (inr (refl, hdr ++ bs, Consumes-trans old mid new hdr bs p r.2, ended_body size limit wire hdr bs h len (omega (arith, r.1, fits)) good, (r.3.0 ∙ ap one_more same.0, λ _. same.1 (omega (arith, len)))))
-body_err size limit wire old mid new f k g hdr body h e len fits p same good r = absurd r
+  pub body_err : (mid : Device) (h : Header) (body : List ℕ) (e : Fault) → ReadsHeader size limit wire old mid h → length body + 8 ≡ h.length → Faulted mid new (length body) e → ReadsPacket size limit wire old new body (Err e)
+  body_err mid h body InputEnded x fits r =
+      let bs = r.0.0.0 in
+      let cut_short = ended_body size limit wire x.bytes bs h x.eight (omega (arith, r.0.0.1, fits)) x.good in
+      inr (inl (refl, x.bytes ++ bs, Consumes-trans old.bytes mid.bytes new.bytes x.bytes bs x.read r.0.0.2, r.0.1, cut_short, (r.1.0 ∙ x.stays.0, omega (arith, r.1.1, x.stays.0))))
+  body_err mid h body ReadFailed x fits r =
+      let cut_short = ended_body size limit wire x.bytes r.0 h x.eight (omega (arith, r.1, fits)) x.good in
+      inr (inr (refl, x.bytes ++ r.0, Consumes-trans old.bytes mid.bytes new.bytes x.bytes r.0 x.read r.2, cut_short, (r.3.0 ∙ ap one_more x.stays.0, λ _. x.stays.1 (omega (arith, x.eight)))))
+  body_err mid h body e x fits r = absurd r
 
-pub body_ok : (size limit wire : ℕ) (old mid new : Option (List ℕ)) (f k g : ℕ) (hdr body : List ℕ) (h : Header) → length hdr ≡ 8 → length body + 8 ≡ h.length → Consumes old mid hdr → Stays f k hdr
-    → header_of size limit wire hdr ≡ Ok h → Consumes mid new body → Stays k g body → ReadsPacket size limit wire (device_of old f) (device_of new g) body (Ok h)
-body_ok size limit wire old mid new f k g hdr body h len fits p same good r last = grind (arith, append_assoc, whole_packet, Consumes-trans, cut, length-append, Stays-trans)
+  pub body_ok : (mid : Device) (h : Header) (body : List ℕ) → ReadsHeader size limit wire old mid h → length body + 8 ≡ h.length → Consumes mid.bytes new.bytes body → Stays mid.failures new.failures body → ReadsPacket size limit wire old new body (Ok h)
+  body_ok mid h body x fits r last =
+      let whole : (zs : List ℕ) → front_packet size limit wire ((x.bytes ++ body) ++ zs) ≡ WholePacket body h.last h.length zs = λ zs. rw append_assoc (whole_packet size limit wire x.bytes body zs h x.eight fits x.good) in
+      let cuts = λ (j : ℕ) (lt : j < length (x.bytes ++ body)). cut size limit wire x.bytes body h j x.eight fits lt x.good in
+      (x.bytes ++ body, Consumes-trans old.bytes mid.bytes new.bytes x.bytes body x.read r, (whole, cuts, omega (arith, x.eight, fits, length-append x.bytes body)), Stays-trans old.failures mid.failures new.failures x.bytes body x.stays last)
