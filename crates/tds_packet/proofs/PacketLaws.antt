@@ -1,5 +1,5 @@
 -- What the wire's grammar reads are the packets that the input begins with.
-use Rattle.std.proofs.Common.{◌≡◌, ℕ, ◌+◌, ◌-◌, ◌/◌, ◌%◌, ◌<◌, ◌≤◌, Bool, true, false, List, [], ◌∷◌, ◌++◌, length, take, drop, refl, sym, ◌∙◌, ap, subst, inl, inr, append_assoc, append-nil, arith, length-append, ◌⊎◌}
+use Rattle.std.proofs.Common.{◌≡◌, ℕ, ◌+◌, ◌-◌, ◌/◌, ◌%◌, ◌<◌, ◌≤◌, true, false, List, [], ◌∷◌, ◌++◌, length, take, drop, refl, sym, ◌∙◌, ap, inl, inr, append_assoc, append-nil, arith, length-append, ◌⊎◌}
 use Rattle.std.proofs.lemmas.List.{take-append-drop, length-take-le}
 use Rattle.std.proofs.Math.Seq.{take-append_seam}
 use Rattle.std.specs.Prelude.{None, ◌==◌, slice_index, if◌then◌else◌}
@@ -108,7 +108,7 @@ module _ (size limit : ℕ) where
   following packets next before i f =
       let long = simp length-append at f in
       Spelt-append (wire size limit) no_wire (wire_of packets) (before_packet packets) (packet_bytes next) (with_packet packets next) (before_are_read [] packets before (omega (arith, long)))
-          (packet_is_read packets next i (omega (arith, long, length-packet_bytes next i)))
+      (packet_is_read packets next i (omega (arith, long, length-packet_bytes next i)))
 
   -- the packet that follows would be read too
   no_next : (input : List ℕ) (taken : ℕ) (packets : List Packet) (place : WirePlace) (header : List ℕ) → Longest (wire size limit) no_wire input taken (record { packets = packets; place = place }) → AreBefore size packets → take taken input ≡ wire_of packets ++ header

@@ -1,4 +1,3 @@
-use Rattle.std.proofs.lemmas.Grind.{common_steps}
 use Rattle.std.proofs.Common.{◌<◌, arith, drop, length, length-drop, refl, None}
 use Rattle.std.proofs.Math.ListN.{drop_of_length-le}
 use Rattle.tds_packet.proofs.Futures.{over, not_over, stopped_ends}

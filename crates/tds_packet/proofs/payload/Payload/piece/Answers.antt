@@ -1,4 +1,4 @@
-use Rattle.std.proofs.Common.{◌≡◌, [], ◌+◌, ◌-◌, ◌<◌, ◌≤◌, length, take, drop, min, refl, sym, arith, rules, length-take, length-drop, le_refl}
+use Rattle.std.proofs.Common.{◌≡◌, [], ◌+◌, ◌-◌, ◌<◌, ◌≤◌, length, take, drop, min, refl, arith, rules, length-take, length-drop, le_refl}
 use Rattle.tds_packet.specs.Payloads.{seen}
 use Rattle.tds_packet.proofs.Futures.{Takes-trans, further_takes}
 use Rattle.tds_packet.proofs.PayloadLaws.{between_of, not_again}
