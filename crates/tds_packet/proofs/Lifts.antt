@@ -1,16 +1,16 @@
 -- What is read inside a greater grammar.
-use Rattle.std.proofs.Common.{◌≡◌, ◌∙◌, inl, inr, ℕ, ◌+◌, ◌<◌, List, [], ◌∷◌, ◌++◌, length, sym, ap, subst, arith, append_assoc, append-nil}
+use Rattle.std.proofs.Common.{◌≡◌, ◌∙◌, inl, inr, ℕ, ◌<◌, List, [], ◌∷◌, ◌++◌, length, sym, ap, arith, append_assoc, append-nil}
 use Rattle.std.specs.List.{concat}
 use Rattle.tds_packet.specs.declared.fault.Fault.{Fault}
 use Rattle.tds_packet.specs.declared.fault.Stop.{Stop}
 use Rattle.tds_packet.specs.Elements.{Grammar, IsNext, Leads, Spelt}
 use Rattle.tds_packet.specs.Seen.{Seen}
-use Rattle.tds_packet.specs.Reading.{CutsNext, Reads, RefusesNext, StopsReading, IsCutStop}
+use Rattle.tds_packet.specs.Reading.{Reads, StopsReading}
 use Rattle.tds_packet.proofs.ElementLaws.{Inside, Inside-Spelt, Spelt-append, Spelt-none, Spelt-one}
 
 -- a state with a next element has some bytes to come
 pub next_some : {S : Type 0} (g : Grammar S Fault) (s : S) (element : List ℕ) → IsNext g s element → 0 < g.size s
-next_some g s element n = let some : 0 < length element = n.some in let whole : length element ≡ g.size s = n.whole in omega arith
+next_some g s element n = omega (arith, n.some, n.whole)
 
 module _ {S T : Type 0} (small : Grammar S Fault) (big : Grammar T Fault) (lift : S → T) (is : Inside small big lift) where
   -- an element of the smaller grammar is one of the greater
@@ -27,33 +27,12 @@ module _ {S T : Type 0} (small : Grammar S Fault) (big : Grammar T Fault) (lift 
     bytes = r.bytes;
     spelt = Inside-Spelt small big lift is from r.bytes at r.spelt;
     cause = elim r.cause [
-      | inl x ↦ inl (
-        record {
-          element = x.0.element;
-          ahead = x.0.ahead;
-          some = x.0.some;
-          whole = x.0.whole ∙ sym (is.size at (some_size x.0));
-          first = is.fault at x.0.element (some_size x.0) ∙ x.0.first;
-          takes = x.0.takes;
-          between = x.0.between;
-        },
-        x.1,
-      )
-      | inr x ↦ inr (record {
-        part = x.part;
-        cut = subst (λ n. length x.part < n) (sym (is.size at (cut_size x))) x.cut;
-        own = x.own;
-        ends = x.ends;
-        stop_is = subst (λ f. IsCutStop (place + length r.bytes) f x.own stop) (sym end) x.stop_is;
-      })
+      | inl x ↦
+          (let some : 0 < small.size at = omega (arith, x.0.some, x.0.whole) in
+          inl (record { element = x.0.element; ahead = x.0.ahead; some = x.0.some; whole = x.0.whole ∙ sym (is.size at some); first = is.fault at x.0.element some ∙ x.0.first; takes = x.0.takes; between = x.0.between }, x.1))
+      | inr x ↦ inr (record { part = x.part; cut = rw (is.size at (omega (arith, x.cut))) x.cut; own = x.own; ends = x.ends; stop_is = rw end x.stop_is })
     ];
   }
-    where
-      some_size : RefusesNext small a b r.bytes at stop.fault → 0 < small.size at
-      some_size x = let s : 0 < length x.element = x.some in let w : length x.element ≡ small.size at = x.whole in omega arith
-
-      cut_size : CutsNext small a b r.bytes place at stop → 0 < small.size at
-      cut_size x = let c : length x.part < small.size at = x.cut in omega arith
 
   -- the last element of what was read
   pub record LastInside (from : S) (bytes : List ℕ) (to : S) : Type 0 where
@@ -70,9 +49,8 @@ module _ {S T : Type 0} (small : Grammar S Fault) (big : Grammar T Fault) (lift 
   last_of from s front e [] to spelt leads = grind (arith, append-nil, Inside-Spelt, next_inside)
   last_of from s front e (f ∷ es) to spelt leads = grind (arith, append_assoc, Spelt-append, Spelt-one, last_of from (small.add s e) (front ++ e) f es to (Spelt-append small from front s e (small.add s e) spelt (Spelt-one small s e leads.0)) leads.1)
 
-  last_in : (from : S) (bytes : List ℕ) (es : List (List ℕ)) (to : S) → concat es ≡ bytes → Leads small from es to → 0 < length bytes → LastInside from bytes to
-  last_in from bytes [] to joined leads some = absurd (let z : length bytes ≡ 0 = ap length (sym joined) in omega arith)
-  last_in from bytes (e ∷ es) to joined leads some = subst (λ l. LastInside from l to) joined (last_of from from [] e es to (Spelt-none small from) leads)
-
   pub last_inside : (from : S) (bytes : List ℕ) (to : S) → Spelt small from bytes to → 0 < length bytes → LastInside from bytes to
-  last_inside from bytes to spelt some = last_in from bytes spelt.elements to spelt.joined spelt.leads some
+  last_inside from bytes to spelt some = rw spelt.joined at (elim spelt.elements as (λ es. concat es ≡ bytes → Leads small from es to → LastInside from (concat es) to) [
+    | [] ↦ λ e leads. absurd (omega (arith, some, ap length e))
+    | ◌∷◌ e (es → _) ↦ λ _ leads. last_of from from [] e es to (Spelt-none small from) leads
+  ] spelt.joined spelt.leads)

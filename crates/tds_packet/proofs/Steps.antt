@@ -1,29 +1,23 @@
 -- Calls that read by a grammar, one after another.
-use Rattle.std.proofs.Common.{◌≡◌, ◌∙◌, inl, inr, ℕ, ◌+◌, ◌<◌, List, [], ◌++◌, length, sym, ap, subst, arith, append_assoc, append-nil, length-append}
+use Rattle.std.proofs.Common.{◌≡◌, ◌∙◌, inl, inr, ℕ, ◌+◌, ◌<◌, List, [], ◌++◌, length, ap, arith, append_assoc, append-nil, length-append}
 use Rattle.std.specs.Prelude.{Option, Some}
 use Rattle.tds_packet.specs.declared.fault.Fault.{Fault}
 use Rattle.tds_packet.specs.declared.fault.Fault.TheVariants.{MessageEnded}
 use Rattle.tds_packet.specs.declared.fault.Place.TheVariants.{Payload}
 use Rattle.tds_packet.specs.declared.fault.Stop.{Stop}
-use Rattle.tds_packet.specs.Elements.{Grammar, IsNext, Spelt}
+use Rattle.tds_packet.specs.Elements.{Grammar, IsNext}
 use Rattle.tds_packet.specs.Seen.{Seen, Takes, Ends, IsBetween, began_at}
-use Rattle.tds_packet.specs.Reading.{Reads, RefusesNext, CutsNext, StopsReading, IsCutStop}
+use Rattle.tds_packet.specs.Reading.{Reads, RefusesNext, StopsReading, IsCutStop}
 use Rattle.tds_packet.proofs.ElementLaws.{Spelt-none, Spelt-append, Spelt-one}
 use Rattle.tds_packet.proofs.Futures.{Takes-none, Takes-trans, Ends-after}
 
 -- bytes taken by two calls
 pub takes_both : (a b c : Seen) (xs ys : List ℕ) → Takes a b xs (length xs) → Takes b c ys (length ys) → Takes a c (xs ++ ys) (length (xs ++ ys))
-takes_both a b c xs ys p q = subst (Takes a c (xs ++ ys)) (sym (length-append xs ys)) (Takes-trans a b c xs ys (length xs) (length ys) (omega arith) p q)
+takes_both a b c xs ys p q = rw length-append (Takes-trans a b c xs ys (length xs) (length ys) (omega arith) p q)
 
 -- bytes taken by two calls, of which the second handed out more than it needed
 pub takes_ahead : (a b c : Seen) (xs ys ahead : List ℕ) → Takes a b xs (length xs) → Takes b c (ys ++ ahead) (length ys) → Takes a c ((xs ++ ys) ++ ahead) (length (xs ++ ys))
-takes_ahead a b c xs ys ahead p q =
-    subst (λ l. Takes a c l (length (xs ++ ys))) (sym (append_assoc xs ys ahead))
-    (subst (Takes a c (xs ++ (ys ++ ahead))) (sym (length-append xs ys)) (Takes-trans a b c xs (ys ++ ahead) (length xs) (length ys) (omega arith) p q))
-
--- a place, so many bytes and so many more
-pub place_after : (place : ℕ) (xs ys : List ℕ) → (place + length xs) + length ys ≡ place + length (xs ++ ys)
-place_after place xs ys = omega (arith, length-append xs ys)
+takes_ahead a b c xs ys ahead p q = rw (append_assoc, length-append) (Takes-trans a b c xs (ys ++ ahead) (length xs) (length ys) (omega arith) p q)
 
 -- no bytes more
 pub add_none : (n : ℕ) → n + 0 ≡ n
@@ -39,60 +33,32 @@ module _ {S : Type 0} (g : Grammar S Fault) where
 
   -- an element is read whole, without a fault
   abbrev pub reads_one : (s : S) (a b : Seen) (element : List ℕ) (t : S) → IsNext g s element → Takes a b element (length element) → g.add s element ≡ t → Reads g s a b t
-  reads_one s a b element t next takes to = record { bytes = element; spelt = subst (λ v. Spelt g s element v) to (Spelt-one g s element next); takes = takes }
+  reads_one s a b element t next takes to = record { bytes = element; spelt = rw to at (Spelt-one g s element next); takes = takes }
 
   abbrev pub reads_both : (s t u : S) (a b c : Seen) → Reads g s a b t → Reads g t b c u → Reads g s a c u
-  reads_both s t u a b c p q = record {
-    bytes = p.bytes ++ q.bytes;
-    spelt = Spelt-append g s p.bytes t q.bytes u p.spelt q.spelt;
-    takes = takes_both a b c p.bytes q.bytes p.takes q.takes;
-  }
-
-  refuses_after : (a b c : Seen) (xs ys : List ℕ) (at : S) (fault : Fault) → Takes a b xs (length xs) → RefusesNext g b c ys at fault → RefusesNext g a c (xs ++ ys) at fault
-  refuses_after a b c xs ys at fault p q = record {
-    element = q.element;
-    ahead = q.ahead;
-    some = q.some;
-    whole = q.whole;
-    first = q.first;
-    takes = subst (λ l. Takes a c (l ++ q.ahead) (length l)) (sym (append_assoc xs ys q.element)) (takes_ahead a b c xs (ys ++ q.element) q.ahead p q.takes);
-    between = q.between;
-  }
-
-  cuts_after : (a b c : Seen) (xs ys : List ℕ) (place : ℕ) (at : S) (stop : Stop) → Takes a b xs (length xs) → CutsNext g b c ys (place + length xs) at stop → CutsNext g a c (xs ++ ys) place at stop
-  cuts_after a b c xs ys place at stop p q = record {
-    part = q.part;
-    cut = q.cut;
-    own = q.own;
-    ends = subst (λ l. Ends a c l q.own) (sym (append_assoc xs ys q.part)) (Ends-after a b c xs (ys ++ q.part) (length xs) q.own p q.ends);
-    stop_is = subst (λ n. IsCutStop n (g.end_fault at) q.own stop) (place_after place xs ys) q.stop_is;
-  }
+  reads_both s t u a b c p q = record { bytes = p.bytes ++ q.bytes; spelt = Spelt-append g s p.bytes t q.bytes u p.spelt q.spelt; takes = takes_both a b c p.bytes q.bytes p.takes q.takes }
 
   -- what stops a call stops one that began before it
   pub stops_after : (s t : S) (a b c : Seen) (place : ℕ) (at : S) (stop : Stop) → (p : Reads g s a b t) → StopsReading g t b c (place + length p.bytes) at stop → StopsReading g s a c place at stop
-  stops_after s t a b c place at stop p q = record {
-    bytes = p.bytes ++ q.bytes;
-    spelt = Spelt-append g s p.bytes t q.bytes at p.spelt q.spelt;
-    cause = elim q.cause [
-      | inl x ↦ inl (refuses_after a b c p.bytes q.bytes at stop.fault p.takes x.0, x.1 ∙ ap Payload (place_after place p.bytes q.bytes))
-      | inr x ↦ inr (cuts_after a b c p.bytes q.bytes place at stop p.takes x)
-    ];
-  }
-
-  -- the first element is refused, and more was handed out
-  pub refused_ahead : (s : S) (a b : Seen) (place : ℕ) (element ahead : List ℕ) (fault : Fault) → 0 < length element → length element ≡ g.size s → g.fault s element ≡ Some fault → Takes a b (element ++ ahead) (length element) → IsBetween b
-      → StopsReading g s a b place s (record { fault = fault; place = Payload place })
-  refused_ahead s a b place element ahead fault some whole first takes between = record {
-    bytes = [];
-    spelt = Spelt-none g s;
-    cause = inl (record { element = element; ahead = ahead; some = some; whole = whole; first = first; takes = takes; between = between }, ap Payload (sym (add_none place)));
-  }
+  stops_after s t a b c place at stop p q =
+      let placed : (place + length p.bytes) + length q.bytes ≡ place + length (p.bytes ++ q.bytes) = omega (arith, length-append p.bytes q.bytes) in
+      record {
+        bytes = p.bytes ++ q.bytes;
+        spelt = Spelt-append g s p.bytes t q.bytes at p.spelt q.spelt;
+        cause = elim q.cause [
+          | inl x ↦
+              (let r = x.0 in
+              inl (record { element = r.element; ahead = r.ahead; some = r.some; whole = r.whole; first = r.first; takes = rw (append_assoc p.bytes q.bytes r.element) (takes_ahead a b c p.bytes (q.bytes ++ r.element) r.ahead p.takes r.takes); between = r.between }, x.1 ∙ ap Payload placed))
+          | inr x ↦ inr (record { part = x.part; cut = x.cut; own = x.own; ends = rw append_assoc (Ends-after a b c p.bytes (q.bytes ++ x.part) _ x.own p.takes x.ends); stop_is = rw placed at x.stop_is })
+        ];
+      }
 
   -- the first element is refused
   pub refused_at_once : (s : S) (a b : Seen) (place : ℕ) (element : List ℕ) (fault : Fault) → 0 < length element → length element ≡ g.size s → g.fault s element ≡ Some fault → Takes a b element (length element) → IsBetween b
       → StopsReading g s a b place s (record { fault = fault; place = Payload place })
   refused_at_once s a b place element fault some whole first takes between =
-      refused_ahead s a b place element [] fault some whole first (subst (λ l. Takes a b l (length element)) (sym (append-nil element)) takes) between
+      let refused : RefusesNext g a b [] s fault = record { element = element; ahead = []; some = some; whole = whole; first = first; takes = rw append-nil takes; between = between } in
+      record { bytes = []; spelt = Spelt-none g s; cause = inl (refused, rw add_none) }
 
   -- the payload stopped in the first element
   pub cut_at_once : (s : S) (a b : Seen) (place : ℕ) (part : List ℕ) (own stop : Stop) → length part < g.size s → Ends a b part own → IsCutStop place (g.end_fault s) own stop → StopsReading g s a b place s stop

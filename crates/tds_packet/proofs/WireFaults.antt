@@ -1,14 +1,15 @@
 -- Which faults the payload itself may have.
 use Rattle.std.proofs.lemmas.Grind.{common_steps}
 use Rattle.std.proofs.Common.{arith}
-use Rattle.std.proofs.Common.{◌≡◌, ◌∙◌, inl, inr, ℕ, zero, suc, Bool, List, [], ◌++◌, sym, ap, subst}
+use Rattle.std.proofs.Common.{◌≡◌, ◌∙◌, inl, inr, ℕ, zero, suc, ◌+◌, true, false, refl, length, List, [], ◌++◌, sym}
 use Rattle.std.specs.Prelude.{Option, None, ⊤}
 use Rattle.tds_meter.specs.Counts.{one_more}
 use Rattle.tds_packet.specs.declared.fault.Fault.{Fault}
-use Rattle.tds_packet.specs.declared.fault.Fault.TheVariants.{ReadFailed, WriteFailed}
+use Rattle.tds_packet.specs.declared.fault.Fault.TheVariants.{InputEnded, MessageEnded, ReadFailed, WriteFailed}
+use Rattle.tds_packet.specs.declared.fault.Place.TheVariants.{Wire, Payload}
 use Rattle.tds_packet.specs.declared.fault.Stop.{Stop}
 use Rattle.tds_packet.specs.declared.payload.Payload as payloads
-use Rattle.tds_packet.specs.Coming.{Coming, FrontPacket, NoPacket, WholePacket, after_packet, coming_of, front_packet, message}
+use Rattle.tds_packet.specs.Coming.{Coming, FrontPacket, NoPacket, WholePacket, before, stopped_at, after_packet, coming_of, front_packet, message}
 use Rattle.tds_packet.specs.Payloads.{buffered, seen}
 use Rattle.tds_packet.specs.Seen.{Ends, Seen}
 
@@ -18,42 +19,45 @@ IsOfWire ReadFailed = ⊥
 IsOfWire WriteFailed = ⊥
 IsOfWire fault = ⊤
 
-abbrev FrontOfWire : FrontPacket → Type 0
-FrontOfWire (WholePacket body last n rest) = ⊤
-FrontOfWire (NoPacket fault rest) = IsOfWire fault
-
-front_of_wire : (size limit wire : ℕ) (input : List ℕ) → FrontOfWire (front_packet size limit wire input)
+-- no fault of a packet is the message's end
+front_faults : (size limit wire : ℕ) (input rest : List ℕ) (fault : Fault) → front_packet size limit wire input ≡ NoPacket fault rest → IsOfWire fault × (fault ≡ MessageEnded → ⊥)
 unfolding front_packet
-front_of_wire size limit wire input = grind (arith, common_steps)
+front_faults size limit wire input rest fault e = grind (arith, common_steps)
 
-packet_of_wire : (more : ℕ → ℕ → List ℕ → Coming) (wire place : ℕ) (p : FrontPacket) → FrontOfWire p → ((w q : ℕ) (l : List ℕ) → IsOfWire (more w q l).stop.fault) → IsOfWire (after_packet more wire place p).stop.fault
-packet_of_wire more wire place p h next = grind (arith)
+-- what holds of each stop, and before the bytes of a packet, holds of what comes from each place on
+module _ (P : ℕ → Coming → Type 0) (ended : (place : ℕ) (rest : List ℕ) → P place (stopped_at MessageEnded (Payload place) rest))
+    (faulty : (wire place : ℕ) (fault : Fault) (rest : List ℕ) → IsOfWire fault × (fault ≡ MessageEnded → ⊥) → P place (stopped_at fault (Wire wire) rest))
+    (more : (place : ℕ) (body : List ℕ) (c : Coming) → P (place + length body) c → P place (before body c)) where
+  packet_keeps : (next : ℕ → ℕ → List ℕ → Coming) (wire place : ℕ) (p : FrontPacket) → ((rest : List ℕ) (fault : Fault) → p ≡ NoPacket fault rest → IsOfWire fault × (fault ≡ MessageEnded → ⊥)) → ((w q : ℕ) (l : List ℕ) → P q (next w q l)) → P place (after_packet next wire place p)
+  packet_keeps next wire place (WholePacket body true n rest) h k = more place body _ (ended (place + length body) rest)
+  packet_keeps next wire place (WholePacket body false n rest) h k = more place body _ (k (wire + n) (place + length body) rest)
+  packet_keeps next wire place (NoPacket fault rest) h k = faulty wire place fault rest (h rest fault refl)
+
+  message_keeps : (size limit fuel wire place : ℕ) (input : List ℕ) → P place (message size limit fuel wire place input)
+  unfolding message
+  message_keeps size limit zero wire place input = faulty wire place InputEnded input (tt, λ e. cc)
+  message_keeps size limit (suc fuel) wire place input = packet_keeps (message size limit fuel) wire place (front_packet size limit wire input) (front_faults size limit wire input) (message_keeps size limit fuel)
+
+  -- so it does of what comes of a payload that has not stopped
+  pub seen_keeps : {R : Type 0} (remaining : R → Option (List ℕ)) (p : payloads.Payload R) (input : List ℕ) → p.stopped ≡ None → P p.place ((seen remaining p).future input)
+  unfolding coming_of
+  seen_keeps remaining p input going = rw going (elim p.last as (λ last. P p.place (coming_of p.packet.now.room p.max_wire p.wire p.place last None (buffered p) input)) [
+    | true ↦ more p.place (buffered p) _ (ended (p.place + length (buffered p)) input)
+    | false ↦ more p.place (buffered p) _ (message_keeps p.packet.now.room p.max_wire (suc (length input)) p.wire (p.place + length (buffered p)) input)
+  ])
 
 -- what comes of an input stops with such a fault
 pub message_of_wire : (size limit fuel wire place : ℕ) (input : List ℕ) → IsOfWire (message size limit fuel wire place input).stop.fault
-unfolding message
-message_of_wire size limit zero wire place input = tt
-message_of_wire size limit (suc fuel) wire place input = packet_of_wire (message size limit fuel) wire place (front_packet size limit wire input) (front_of_wire size limit wire input) (message_of_wire size limit fuel)
-
-coming_of_wire : (size limit wire place : ℕ) (last : Bool) (left input : List ℕ) → IsOfWire (coming_of size limit wire place last None left input).stop.fault
-unfolding coming_of
-coming_of_wire size limit wire place last left input = grind (arith, message_of_wire)
+message_of_wire = message_keeps (λ _ c. IsOfWire c.stop.fault) (λ _ _. tt) (λ _ _ _ _ h. h.0) (λ _ _ _ h. h)
 
 -- a payload that stops blames a device only where a read failed
 pub ends_blame : {R : Type 0} (remaining : R → Option (List ℕ)) (p : payloads.Payload R) (b : Seen) (bytes : List ℕ) (own : Stop) → p.stopped ≡ None → Ends (seen remaining p) b bytes own
     → (own.fault ≡ WriteFailed → ⊥) × (own.fault ≡ ReadFailed → b.failures ≡ one_more p.from.now.failures)
-ends_blame remaining p b bytes own going ends = go ends
-  where
-    stands : (input rest : List ℕ) → (seen remaining p).future input ≡ record { bytes = bytes; stop = own; rest = rest } → IsOfWire own.fault
-    stands input rest e =
-        let same : coming_of p.packet.now.room p.max_wire p.wire p.place p.last None (buffered p) input ≡ record { bytes = bytes; stop = own; rest = rest } =
-        ap (λ o. coming_of p.packet.now.room p.max_wire p.wire p.place p.last o (buffered p) input) (sym going) ∙ e in
-        subst IsOfWire (ap (λ (c : Coming). c.stop.fault) same) (coming_of_wire p.packet.now.room p.max_wire p.wire p.place p.last (buffered p) input)
-
-    of_wire : IsOfWire own.fault → (own.fault ≡ WriteFailed → ⊥) × (own.fault ≡ ReadFailed → b.failures ≡ one_more p.from.now.failures)
-    of_wire h = (λ e. subst IsOfWire e h, λ e. absurd (subst IsOfWire e h))
-
-    go : Ends (seen remaining p) b bytes own → (own.fault ≡ WriteFailed → ⊥) × (own.fault ≡ ReadFailed → b.failures ≡ one_more p.from.now.failures)
-    go (inl x) = of_wire (stands (x.0 ++ []) [] (x.2 []))
-    go (inr (inl x)) = of_wire (stands x.0 [] x.3)
-    go (inr (inr x)) = (λ e. (let no : ReadFailed ≡ WriteFailed = sym x.2 ∙ e in cc), λ e. x.4.0)
+ends_blame remaining p b bytes own going ends =
+    let of_wire : (input rest : List ℕ) → (seen remaining p).future input ≡ record { bytes = bytes; stop = own; rest = rest } → (own.fault ≡ WriteFailed → ⊥) × (own.fault ≡ ReadFailed → b.failures ≡ one_more p.from.now.failures) = λ input rest e.
+    (let h = rw e at (seen_keeps (λ _ c. IsOfWire c.stop.fault) (λ _ _. tt) (λ _ _ _ _ h. h.0) (λ _ _ _ h. h) remaining p input going) in (λ w. rw w at h, λ r. absurd (rw r at h))) in
+    elim ends [
+      | inl x ↦ of_wire (x.0 ++ []) [] (x.2 [])
+      | inr (inl x) ↦ of_wire x.0 [] x.3
+      | inr (inr x) ↦ (λ e. (let no : ReadFailed ≡ WriteFailed = sym x.2 ∙ e in cc), λ e. x.4.0)
+    ]
