@@ -8,7 +8,6 @@ pub mod WireVectors
 pub mod Joins
 pub mod Futures
 pub mod PayloadLaws
-pub mod Parts
 pub mod Fronts
 pub mod Steps
 pub mod Passing

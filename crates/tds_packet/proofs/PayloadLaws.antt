@@ -4,7 +4,9 @@ use Rattle.tds_packet.specs.declared.fault.Stop.{Stop}
 use Rattle.tds_packet.specs.declared.payload.Payload.{Payload}
 use Rattle.tds_packet.specs.Payloads.{IsUsedUp, buffered, seen, further}
 use Rattle.tds_packet.specs.Seen.{IsBetween, Seen, Takes}
-use Rattle.tds_packet.proofs.Futures.{Takes-more, Takes-none, Takes-trans, between, further_takes}
+use Rattle.std.proofs.Common.{[], append-nil}
+use Rattle.tds_packet.specs.Seen.{Ends}
+use Rattle.tds_packet.proofs.Futures.{Ends-after, Takes-more, Takes-none, Takes-trans, between, further_takes}
 
 -- It has not stopped, so no packet is cut.
 pub between_of : {R : Type 0} (remaining : R → Option (List ℕ)) (p : Payload R) → p.stopped ≡ None → IsBetween (seen remaining p)
@@ -20,12 +22,16 @@ not_again o a P Q h = grind (arith)
 
 -- What a call says of its answer, where that is known.
 pub at_ok : {A : Type 0} (r : Result A Stop) (a : A) (P : A → Type 0) (Q : Stop → Type 0) → r ≡ Ok a → MatchResult r P Q → P a
-at_ok r a P Q e h = subst (λ x. MatchResult x P Q) e h
+at_ok r a P Q e h = rw e at h
 
 pub at_err : {A : Type 0} (r : Result A Stop) (stop : Stop) (P : A → Type 0) (Q : Stop → Type 0) → r ≡ Err stop → MatchResult r P Q → Q stop
-at_err r stop P Q e h = subst (λ x. MatchResult x P Q) e h
+at_err r stop P Q e h = rw e at h
 
 -- A piece of at least a byte was taken after so many bytes.
-pub takes_piece : (a b d : Seen) (front bytes : List ℕ) (i : ℕ) → length front ≡ i → 0 < length bytes → Takes a b front i → Takes b d bytes 1 → Takes a d (front ++ bytes) (i + length bytes)
-takes_piece a b d front bytes i len some p q =
-    subst (λ n. Takes a d (front ++ bytes) (n + length bytes)) len (Takes-trans a b d front bytes i (length bytes) (omega (arith, len)) p (Takes-more b d bytes 1 (length bytes) some q))
+pub takes_piece : {R : Type 0} (remaining : R → Option (List ℕ)) (o s t : Payload R) (front bytes : List ℕ) (i : ℕ) → length front ≡ i → 0 < length bytes → Takes (seen remaining o) (seen remaining s) front i → Takes (seen remaining s) (seen remaining t) bytes 1
+    → Takes (seen remaining o) (seen remaining t) (front ++ bytes) (i + length bytes)
+takes_piece remaining o s t front bytes i len some p q = rw len at (Takes-trans (seen remaining o) (seen remaining s) (seen remaining t) front bytes i (length bytes) (omega (arith, len)) p (Takes-more (seen remaining s) (seen remaining t) bytes 1 (length bytes) some q))
+
+-- The payload stopped after so many bytes.
+pub ends_there : {R : Type 0} (remaining : R → Option (List ℕ)) (o s t : Payload R) (front : List ℕ) (n : ℕ) (stop : Stop) → Takes (seen remaining o) (seen remaining s) front n → Ends (seen remaining s) (seen remaining t) [] stop → Ends (seen remaining o) (seen remaining t) front stop
+ends_there remaining o s t front n stop p q = rw append-nil at (Ends-after (seen remaining o) (seen remaining s) (seen remaining t) front [] n stop p q)

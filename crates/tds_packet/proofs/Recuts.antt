@@ -23,6 +23,7 @@ use Rattle.tds_packet.specs.Packets.{Packet, packet_bytes, wire_of}
 use Rattle.tds_packet.specs.Payloads.{buffered, seen}
 use Rattle.tds_packet.specs.Recutting.{Cuts, Flushes, Gains, StopsInput, StopsOutput, WritesPacket, Gathers, cut_packet, first_packets, before_last, packets_before}
 use Rattle.tds_packet.specs.Seen.{Ends, IsBetween, IsNotOver, IsOver, Seen, Takes}
+use Rattle.tds_packet.proofs.PayloadLaws.{ends_there}
 use Rattle.tds_packet.proofs.Futures.{Ends-after, Takes-more, Takes-none, Takes-trans}
 
 -- ---- bytes are gathered
@@ -50,7 +51,7 @@ module _ {R : Type 0} (remaining : R → Option (List ℕ)) (o s t : Payload R) 
   gathered_err stop ends goes_on = record {
     header = x.header;
     fits = x.fits;
-    gives = rw append-nil at (Ends-after (seen remaining o) (seen remaining s) (seen remaining t) (drop 8 packet) [] _ stop x.takes ends);
+    gives = ends_there remaining o s t (drop 8 packet) _ stop x.takes ends;
     over = tt;
     full = tt;
     between = tt;

@@ -1,7 +1,8 @@
 use Rattle.std.proofs.Common.{◌≡◌, ◌∙◌, [], length, drop, ap, rules, arith, le_refl}
 use Rattle.std.proofs.Math.ListN.{drop_of_length-le}
 use Rattle.tds_packet.specs.Payloads.{seen}
-use Rattle.tds_packet.proofs.Futures.{stopped_ends, ended_ends, Ends-after, Takes-trans}
+use Rattle.tds_packet.proofs.Futures.{stopped_ends, ended_ends, Takes-trans}
+use Rattle.tds_packet.proofs.PayloadLaws.{ends_there}
 use Rattle.tds_packet.proofs.Passing.{passed}
 use Rattle.tds_packet.proofs.payload.Payload.ready.Goals as goal
 
@@ -12,16 +13,10 @@ pub returns-then-self-clause-gives : goal.returns-then-self-clause-gives
 returns-then-self-clause-gives g c =
     let s = c.loop-self.self in
     let none : drop s.at s.packet.now.bytes ≡ [] = drop_of_length-le s.packet.now.bytes (omega (arith, c.loop-self-test.true, c.len.ensures)) in
-    let a = seen g.R.Read.remaining c.args.self.now in
-    let b = seen g.R.Read.remaining s in
-    Ends-after a b b [] [] 1 _ c.loop-self.invariant.gives (ended_ends g.R.Read.remaining s c.if-self.true c.loop-self.invariant.going none)
+    ends_there g.R.Read.remaining c.args.self.now s s [] 1 _ c.loop-self.invariant.gives (ended_ends g.R.Read.remaining s c.if-self.true c.loop-self.invariant.going none)
 
 pub returns-in_err-advance-clause-gives : goal.returns-in_err-advance-clause-gives
-returns-in_err-advance-clause-gives g c =
-    let a = seen g.R.Read.remaining c.args.self.now in
-    let b = seen g.R.Read.remaining c.loop-self.self in
-    let d = seen g.R.Read.remaining c.advance.new.self in
-    passed _ _ _ _ c.from_residual.ensures.1 (Ends-after a b d [] [] 1 _ c.loop-self.invariant.gives c.in_err-advance.ensures.gives)
+returns-in_err-advance-clause-gives g c = passed _ _ _ _ c.from_residual.ensures.1 (ends_there g.R.Read.remaining c.args.self.now c.loop-self.self c.advance.new.self [] 1 _ c.loop-self.invariant.gives c.in_err-advance.ensures.gives)
 
 pub loop-self-preserved : goal.loop-self-preserved
 loop-self-preserved g c =
