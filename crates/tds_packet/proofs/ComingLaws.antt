@@ -1,20 +1,6 @@
 -- What comes of an input is the payload of the packets at its front.
-use Rattle.std.proofs.lemmas.Grind.{common_steps, flat_map-append}
-use Rattle.std.proofs.Common.{◌≡◌, ◌⊎◌, ℕ, zero, suc, ◌+◌, ◌-◌, ◌<◌, ◌≤◌, Bool, true, false, List, [], ◌∷◌, ◌++◌, length, take, drop, refl, inl, inr, append_assoc, append-nil, arith, length-append, length-drop}
-use Rattle.std.proofs.Math.Seq.{take-append_seam}
-use Rattle.std.proofs.lemmas.List.{take-append-drop, length-take-le}
-use Rattle.std.proofs.Math.Seq.{drop-append_seam}
-use Rattle.std.specs.Prelude.{Option, Some, None, ◌==◌, nat_lt, slice_index}
-use Rattle.std.proofs.lemmas.Bool.Decides.{nat_tests}
-use Rattle.tds_packet.specs.declared.fault.Fault.{Fault}
-use Rattle.tds_packet.specs.declared.fault.Fault.TheVariants.{InputEnded}
-use Rattle.tds_packet.specs.declared.fault.Place.TheVariants.{Wire}
-use Rattle.tds_packet.specs.Elements.{AreBytes, IsRefused, Longest, Spelt}
-use Rattle.tds_packet.specs.Packets.{Packet, packet_bytes, wire_of, payload_of, is_last, is_last_status, IsPacket, WirePlace, BeforeHeader, BeforeBody, WirePart, no_wire, header_length, packet_of, header_fault, wire, wire_size, wire_end, AreBefore, WireFault}
-use Rattle.tds_packet.specs.Coming.{Coming, FrontPacket, before, WholePacket, NoPacket, packet_after_header, front_packet, after_packet, message, whole_message, IsFrontMessage}
-use Rattle.tds_packet.proofs.ElementLaws.{AreBytes-back, AreBytes-front, Spelt-append, Spelt-step, longest_cut, longest_refused}
-use Rattle.tds_packet.proofs.PacketLaws.{Good, before_are_read, before_packet, free_is_good, last_one, one_more, read_front}
-use Rattle.tds_packet.proofs.Choices.{choose}
+use Rattle.tds_packet.proofs.Words.{common_steps, flat_map-append, ◌≡◌, ◌⊎◌, ℕ, zero, suc, ◌+◌, ◌-◌, ◌<◌, ◌≤◌, Bool, true, false, List, [], ◌∷◌, ◌++◌, length, take, drop, refl, inl, inr, append_assoc, append-nil, arith, length-append, length-drop, take-append_seam, take-append-drop, length-take-le, drop-append_seam, Option, Some, None, ◌==◌, nat_lt, slice_index, nat_tests, Fault, InputEnded, Wire, AreBytes, IsRefused, Longest, Spelt, Packet, packet_bytes, wire_of, payload_of, is_last, is_last_status, IsPacket, WirePlace, BeforeHeader, BeforeBody, WirePart, no_wire, header_length, packet_of, header_fault, wire, wire_size, wire_end, AreBefore, WireFault, Coming, FrontPacket, before, WholePacket, NoPacket, packet_after_header, front_packet, after_packet, message, whole_message, IsFrontMessage}
+use Rattle.tds_packet.proofs.{ElementLaws.AreBytes-back, ElementLaws.AreBytes-front, ElementLaws.Spelt-append, ElementLaws.Spelt-step, ElementLaws.longest_cut, ElementLaws.longest_refused, PacketLaws.Good, PacketLaws.before_are_read, PacketLaws.before_packet, PacketLaws.free_is_good, PacketLaws.last_one, PacketLaws.one_more, PacketLaws.read_front, Choices.choose}
 
 -- a packet is its header and its body
 packet_again : (size limit : ℕ) (packets : List Packet) (header body : List ℕ) → Good size limit packets header → length body ≡ header_length header - 8

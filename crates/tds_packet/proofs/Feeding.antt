@@ -1,6 +1,5 @@
 -- A reading byte by byte, which worked rows are computed by.
-use Rattle.std.specs.Prelude.{◌==◌, ℕ, Bool, true, false, List, [], ◌∷◌, ◌++◌, length, Option, Some, None}
-use Rattle.tds_packet.specs.Elements.{Grammar}
+use Rattle.tds_packet.proofs.Words.{◌==◌, ℕ, Bool, true, false, List, [], ◌∷◌, ◌++◌, length, Option, Some, None, Grammar}
 
 -- How far a reading has come, byte by byte.
 pub data Progress (S F : Type 0) : Type 0 where

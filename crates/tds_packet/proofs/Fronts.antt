@@ -1,24 +1,6 @@
 -- The packets at the front of an input, and what is read of it.
-use Rattle.std.proofs.Common.{◌≡◌, ◌∙◌, ◌⊎◌, inl, inr, ℕ, suc, zero, ◌+◌, ◌<◌, ◌≤◌, List, [], ◌∷◌, ◌++◌, length, take, Some, None, Bool, false, refl, sym, ap, subst, arith, append-nil, append_assoc, length-append}
-use Rattle.std.proofs.Math.Seq.{take-append_seam}
-use Rattle.std.proofs.lemmas.List.{append_cancel_right}
-use Rattle.std.proofs.lemmas.Grind.{flat_map-append}
-use Rattle.std.specs.Io.KnownBytes.{Consumes}
-use Rattle.std.specs.Prelude.{if◌then◌else◌}
-use Rattle.tds_meter.specs.Counts.{one_more}
-use Rattle.tds_packet.specs.declared.fault.Fault.{Fault}
-use Rattle.tds_packet.specs.declared.fault.Fault.TheVariants.{InputEnded, MessageEnded, ReadFailed, WrongPacketType, BadPacketLength, ResponseTooLong}
-use Rattle.tds_packet.specs.declared.fault.Place.TheVariants.{Wire, Payload}
-use Rattle.tds_packet.specs.declared.fault.Stop.{Stop}
-use Rattle.tds_packet.specs.Elements.{AreBytes}
-use Rattle.tds_packet.specs.Packets.{Packet, packet_bytes, packet_length, is_last, header_length, wire_of, payload_of, AreBefore, AreMessage, IsPacket, WireFault}
-use Rattle.tds_packet.specs.Coming.{Coming, before, whole_message, IsFrontMessage}
-use Rattle.tds_packet.specs.Seen.{Seen, Takes, Ends, IsBetween, IsOver, begun}
-use Rattle.tds_packet.proofs.ElementLaws.{AreBytes-front}
-use Rattle.tds_packet.proofs.PacketLaws.{good_header, header_of}
-use Rattle.tds_packet.proofs.ComingLaws.{front_message}
-use Rattle.tds_packet.proofs.Joins.{whole_packet}
-use Rattle.tds_packet.specs.Coming.{WholePacket, after_packet, front_packet, message}
+use Rattle.tds_packet.proofs.Words.{◌≡◌, ◌∙◌, ◌⊎◌, inl, inr, ℕ, suc, zero, ◌+◌, ◌<◌, ◌≤◌, List, [], ◌∷◌, ◌++◌, length, take, Some, None, Bool, false, refl, sym, ap, subst, arith, append-nil, append_assoc, length-append, take-append_seam, append_cancel_right, flat_map-append, Consumes, if◌then◌else◌, one_more, Fault, InputEnded, MessageEnded, ReadFailed, WrongPacketType, BadPacketLength, ResponseTooLong, Wire, Payload, Stop, AreBytes, Packet, packet_bytes, packet_length, is_last, header_length, wire_of, payload_of, AreBefore, AreMessage, IsPacket, WireFault, Coming, before, whole_message, IsFrontMessage, Seen, Takes, Ends, IsBetween, IsOver, begun, WholePacket, after_packet, front_packet, message}
+use Rattle.tds_packet.proofs.{ElementLaws.AreBytes-front, PacketLaws.good_header, PacketLaws.header_of, ComingLaws.front_message, Joins.whole_packet}
 
 -- whole packets at the front of an input, with the rest of it after them; none but the last is marked as the last
 pub record BeginsMessage (size limit : ℕ) (input rest payload : List ℕ) : Type 0 where

@@ -1,27 +1,7 @@
 -- What is still to come, along a payload's steps.
-use Rattle.std.proofs.lemmas.Grind.{common_steps}
-use Rattle.std.proofs.Common.{◌≡◌, ◌∙◌, inl, inr, ℕ, suc, zero, ◌+◌, ◌-◌, ◌<◌, ◌≤◌, List, [], ◌++◌, length, take, Option, Some, None, Ok, Err, Bool, true, false, refl, sym, ap, arith, append_assoc, length-append, length-drop, add-zero}
-use Rattle.std.proofs.lemmas.Bool.Decides.{nat_tests}
-use Rattle.std.proofs.lemmas.List.{take-append-drop, drop-drop}
-use Rattle.std.proofs.KnownBytes.{Consumes-nil, Consumes-trans}
-use Rattle.std.proofs.Math.Seq.{take-append-add}
-use Rattle.std.specs.Prelude.{nat_lt}
-use lib.Seq.{take-append-le}
-use Rattle.tds_meter.specs.Counts.{one_more}
-use Rattle.tds_packet.specs.declared.fault.Fault.{Fault}
-use Rattle.tds_packet.specs.declared.fault.Fault.TheVariants.{MessageEnded}
-use Rattle.tds_packet.specs.declared.fault.Place.TheVariants.{Wire, Payload}
-use Rattle.tds_packet.specs.declared.fault.Stop.{Stop}
-use Rattle.tds_packet.specs.declared.packet.Header.{Header}
-use Rattle.tds_packet.specs.Coming.{FrontPacket, WholePacket, NoPacket, Coming, before, stopped_at, front_packet, after_packet, message, coming_of}
-use Rattle.tds_packet.specs.Reads.{ReadsPacket}
-use Rattle.tds_packet.specs.Seen.{Seen, Follows, Takes, Needs, Ends, IsOver, IsNotOver, IsBetween, begun}
-use Rattle.tds_packet.proofs.Joins.{Rises-after, Stays-none, Stays-trans}
+use Rattle.tds_packet.proofs.Words.{common_steps, ◌≡◌, ◌∙◌, inl, inr, ℕ, suc, zero, ◌+◌, ◌-◌, ◌<◌, ◌≤◌, List, [], ◌++◌, length, take, Option, Some, None, Ok, Err, Bool, true, false, refl, sym, ap, arith, append_assoc, length-append, length-drop, add-zero, nat_tests, take-append-drop, drop-drop, Consumes-nil, Consumes-trans, take-append-add, nat_lt, take-append-le, one_more, Fault, MessageEnded, Wire, Payload, Stop, Header, FrontPacket, WholePacket, NoPacket, Coming, before, stopped_at, front_packet, after_packet, message, coming_of, ReadsPacket, Seen, Follows, Takes, Needs, Ends, IsOver, IsNotOver, IsBetween, begun, NeedsPacket, buffered, further, seen, device, length-take-le, drop_of_length-le}
 use Rattle.tds_packet.specs.declared.payload.Payload as payloads
-use Rattle.tds_packet.specs.Payloads.{NeedsPacket, buffered, further, seen}
-use Rattle.tds_packet.specs.Devices.{device}
-use Rattle.std.proofs.lemmas.List.{length-take-le}
-use Rattle.std.proofs.Math.ListN.{drop_of_length-le}
+use Rattle.tds_packet.proofs.Joins.{Rises-after, Stays-none, Stays-trans}
 
 -- ---- enough fuel is enough
 

@@ -1,20 +1,5 @@
 -- The parts of a packet's read, joined.
-use Rattle.std.proofs.Common.{◌≡◌, ◌∙◌, inl, inr, ℕ, ◌+◌, ◌-◌, ◌^◌, ◌<◌, ◌≤◌, List, [], ◌++◌, length, take, drop, Option, Ok, Err, Bool, false, refl, ap, arith, length-append, length-take, append_assoc}
-use Rattle.std.proofs.Math.Seq.{drop-append_seam, take-append_seam, take-append-add}
-use Rattle.std.proofs.lemmas.Bool.Decides.{nat_tests}
-use Rattle.std.specs.Prelude.{nat_lt, if◌then◌else◌}
-use Rattle.std.specs.Io.KnownBytes.{Consumes}
-use Rattle.std.proofs.KnownBytes.{Consumes-trans}
-use native.Mathlib.Decide.{dec_le}
-use Rattle.tds_meter.specs.Counts.{one_more}
-use Rattle.tds_packet.specs.Devices.{Device}
-use Rattle.tds_packet.specs.Filling.{Stays}
-use Rattle.tds_packet.specs.declared.fault.Fault.{Fault}
-use Rattle.tds_packet.specs.declared.fault.Fault.TheVariants.{InputEnded, ReadFailed}
-use Rattle.tds_packet.specs.declared.packet.Header.{Header}
-use Rattle.tds_packet.specs.Packets.{header_fault}
-use Rattle.tds_packet.specs.Coming.{WholePacket, NoPacket, front_packet, packet_after_header}
-use Rattle.tds_packet.specs.Reads.{Faulted, ReadsPacket, header_of}
+use Rattle.tds_packet.proofs.Words.{◌≡◌, ◌∙◌, inl, inr, ℕ, ◌+◌, ◌-◌, ◌^◌, ◌<◌, ◌≤◌, List, [], ◌++◌, length, take, drop, Option, Ok, Err, Bool, false, refl, ap, arith, length-append, length-take, append_assoc, drop-append_seam, take-append_seam, take-append-add, nat_tests, nat_lt, if◌then◌else◌, Consumes, Consumes-trans, dec_le, one_more, Device, Stays, Fault, InputEnded, ReadFailed, Header, header_fault, WholePacket, NoPacket, front_packet, packet_after_header, Faulted, ReadsPacket, header_of}
 use Rattle.tds_packet.proofs.Choices.{choose_true, choose_false, test_lt}
 
 lt_false : (a b : ℕ) → b ≤ a → nat_lt a b ≡ false

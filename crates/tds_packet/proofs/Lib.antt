@@ -15,3 +15,4 @@ pub mod Lifts
 pub mod Recuts
 pub mod Places
 pub mod WireFaults
+pub mod Words

@@ -1,11 +1,5 @@
 -- What is read inside a greater grammar.
-use Rattle.std.proofs.Common.{◌≡◌, ◌∙◌, inl, inr, ℕ, ◌<◌, List, [], ◌∷◌, ◌++◌, length, sym, ap, arith, append_assoc, append-nil}
-use Rattle.std.specs.List.{concat}
-use Rattle.tds_packet.specs.declared.fault.Fault.{Fault}
-use Rattle.tds_packet.specs.declared.fault.Stop.{Stop}
-use Rattle.tds_packet.specs.Elements.{Grammar, IsNext, Leads, Spelt}
-use Rattle.tds_packet.specs.Seen.{Seen}
-use Rattle.tds_packet.specs.Reading.{Reads, StopsReading}
+use Rattle.tds_packet.proofs.Words.{◌≡◌, ◌∙◌, inl, inr, ℕ, ◌<◌, List, [], ◌∷◌, ◌++◌, length, sym, ap, arith, append_assoc, append-nil, concat, Fault, Stop, Grammar, IsNext, Leads, Spelt, Seen, Reads, StopsReading}
 use Rattle.tds_packet.proofs.ElementLaws.{Inside, Inside-Spelt, Spelt-append, Spelt-none, Spelt-one}
 
 -- a state with a next element has some bytes to come

@@ -1,12 +1,6 @@
 -- An input begins with one message at most.
-use Rattle.std.proofs.Common.{◌≡◌, ℕ, ◌≤◌, List, [], ◌∷◌, ◌++◌, length, sym, ◌∙◌, ap, append-nil, arith, length-append}
-use Rattle.std.proofs.lemmas.Grind.{flat_map-append}
-use Rattle.tds_packet.specs.declared.fault.Fault.{Fault}
-use Rattle.tds_packet.specs.Elements.{Spelt}
-use Rattle.tds_packet.proofs.Feeding.{Reading, feed_all, state_of}
-use Rattle.tds_packet.specs.Packets.{Packet, wire_of, AreMessage, Message, AfterLast, WirePart, no_wire, wire}
-use Rattle.tds_packet.proofs.ElementLaws.{feed-Spelt, feed_all-append, feed_part}
-use Rattle.tds_packet.proofs.PacketLaws.{before_packet, one_is_read, packet_is_read}
+use Rattle.tds_packet.proofs.Words.{◌≡◌, ℕ, ◌≤◌, List, [], ◌∷◌, ◌++◌, length, sym, ◌∙◌, ap, append-nil, arith, length-append, flat_map-append, Fault, Spelt, Packet, wire_of, AreMessage, Message, AfterLast, WirePart, no_wire, wire}
+use Rattle.tds_packet.proofs.{Feeding.Reading, Feeding.feed_all, Feeding.state_of, ElementLaws.feed-Spelt, ElementLaws.feed_all-append, ElementLaws.feed_part, PacketLaws.before_packet, PacketLaws.one_is_read, PacketLaws.packet_is_read}
 
 module _ (size limit : ℕ) where
   abbrev pub after_packets : List Packet → WirePart

@@ -1,14 +1,6 @@
 -- What the wire's grammar reads are the packets that the input begins with.
-use Rattle.std.proofs.Common.{◌≡◌, ℕ, ◌+◌, ◌-◌, ◌/◌, ◌%◌, ◌<◌, ◌≤◌, true, false, List, [], ◌∷◌, ◌++◌, length, take, drop, refl, sym, ◌∙◌, ap, inl, inr, append_assoc, append-nil, arith, length-append, ◌⊎◌}
-use Rattle.std.proofs.lemmas.List.{take-append-drop, length-take-le}
-use Rattle.std.proofs.Math.Seq.{take-append_seam}
-use Rattle.std.specs.Prelude.{None, ◌==◌, slice_index, if◌then◌else◌}
-use Rattle.std.proofs.lemmas.Bool.Decides.{nat_tests}
-use Rattle.std.proofs.lemmas.Grind.{flat_map-append}
-use Rattle.tds_packet.specs.Elements.{AreBytes, Spelt, IsNext, Longest}
-use Rattle.tds_packet.proofs.ElementLaws.{Spelt-step, Spelt-append, Spelt-none, Spelt-induct, AreBytes-front, AreBytes-back, one_state}
-use Rattle.tds_packet.specs.Packets.{Packet, packet_length, packet_bytes, wire_of, is_last, IsPacket, AreBefore, AreMessage, IsNextPacket, Front, WirePlace, BeforeHeader, BeforeBody, AfterLast, WirePart, no_wire, header_length, packet_of, with_packet, header_fault, wire}
-use Rattle.tds_packet.proofs.Choices.{choose, eq_true}
+use Rattle.tds_packet.proofs.Words.{◌≡◌, ℕ, ◌+◌, ◌-◌, ◌/◌, ◌%◌, ◌<◌, ◌≤◌, true, false, List, [], ◌∷◌, ◌++◌, length, take, drop, refl, sym, ◌∙◌, ap, inl, inr, append_assoc, append-nil, arith, length-append, ◌⊎◌, take-append-drop, length-take-le, take-append_seam, None, ◌==◌, slice_index, if◌then◌else◌, nat_tests, flat_map-append, AreBytes, Spelt, IsNext, Longest, Packet, packet_length, packet_bytes, wire_of, is_last, IsPacket, AreBefore, AreMessage, IsNextPacket, Front, WirePlace, BeforeHeader, BeforeBody, AfterLast, WirePart, no_wire, header_length, packet_of, with_packet, header_fault, wire}
+use Rattle.tds_packet.proofs.{ElementLaws.Spelt-step, ElementLaws.Spelt-append, ElementLaws.Spelt-none, ElementLaws.Spelt-induct, ElementLaws.AreBytes-front, ElementLaws.AreBytes-back, ElementLaws.one_state, Choices.choose, Choices.eq_true}
 
 pub one_more : (size : ℕ) (ps : List Packet) (p : Packet) → AreBefore size ps → IsPacket size p → is_last p ≡ false → AreBefore size (ps ++ p ∷ [])
 one_more size [] p h i l = (i, l, tt)

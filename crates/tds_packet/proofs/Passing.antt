@@ -1,9 +1,5 @@
 -- What `?` passes on.
-use Rattle.std.proofs.lemmas.Grind.{common_steps}
-use Rattle.std.proofs.Common.{arith}
-use Rattle.std.proofs.Common.{◌≡◌, Result, Err, MatchResult}
-use Rattle.std.specs.Result.{IsErrAnd}
-use Rattle.std.proofs.lemmas.Result.{err_from_is_err_and}
+use Rattle.tds_packet.proofs.Words.{common_steps, arith, ◌≡◌, Result, Err, MatchResult, IsErrAnd, err_from_is_err_and}
 
 -- where `?` leaves with an error, what is said of each answer holds if it holds of that error
 pub passed : {T E : Type 0} (r : Result T E) (e : E) (P : T → Type 0) (Q : E → Type 0) → IsErrAnd r (λ x. x ≡ e) → Q e → MatchResult r P Q

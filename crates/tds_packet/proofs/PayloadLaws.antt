@@ -1,11 +1,6 @@
 -- A payload, as its calls leave it.
-use Rattle.std.proofs.Common.{◌≡◌, ℕ, ◌+◌, ◌<◌, ◌≤◌, List, ◌++◌, length, take, Option, None, Result, Ok, Err, MatchResult, subst, arith, add-zero, IfSome, length-drop}
-use Rattle.tds_packet.specs.declared.fault.Stop.{Stop}
+use Rattle.tds_packet.proofs.Words.{◌≡◌, ℕ, ◌+◌, ◌<◌, ◌≤◌, List, ◌++◌, length, take, Option, None, Result, Ok, Err, MatchResult, arith, add-zero, IfSome, length-drop, Stop, IsUsedUp, buffered, seen, further, IsBetween, Takes, [], append-nil, Ends}
 use Rattle.tds_packet.specs.declared.payload.Payload.{Payload}
-use Rattle.tds_packet.specs.Payloads.{IsUsedUp, buffered, seen, further}
-use Rattle.tds_packet.specs.Seen.{IsBetween, Seen, Takes}
-use Rattle.std.proofs.Common.{[], append-nil}
-use Rattle.tds_packet.specs.Seen.{Ends}
 use Rattle.tds_packet.proofs.Futures.{Ends-after, Takes-more, Takes-none, Takes-trans, between, further_takes}
 
 -- It has not stopped, so no packet is cut.

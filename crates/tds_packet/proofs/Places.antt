@@ -1,12 +1,6 @@
 -- Where a payload stops that hands out nothing.
-use Rattle.std.proofs.Common.{◌≡◌, ◌∙◌, ℕ, ◌+◌, List, [], ◌++◌, length, Option, None, inl, inr, sym, ap, arith, length-append, add-zero}
-use Rattle.tds_packet.specs.declared.fault.Fault.TheVariants.{MessageEnded, ReadFailed}
-use Rattle.tds_packet.specs.declared.fault.Place.TheVariants.{Payload}
-use Rattle.tds_packet.specs.declared.fault.Stop.{Stop}
+use Rattle.tds_packet.proofs.Words.{◌≡◌, ◌∙◌, ℕ, ◌+◌, List, [], ◌++◌, length, Option, None, inl, inr, sym, ap, arith, length-append, add-zero, MessageEnded, ReadFailed, Payload, Stop, seen, Coming, Ends, Seen, began_at}
 use Rattle.tds_packet.specs.declared.payload.Payload as payloads
-use Rattle.tds_packet.specs.Payloads.{seen}
-use Rattle.tds_packet.specs.Coming.{Coming}
-use Rattle.tds_packet.specs.Seen.{Ends, Seen, began_at}
 use Rattle.tds_packet.proofs.WireFaults.{seen_keeps}
 
 -- Where the message ends, the stop stands after its bytes.

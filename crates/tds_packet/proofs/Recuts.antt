@@ -1,30 +1,7 @@
 -- A payload on its way into packets of one size.
-use Rattle.std.proofs.Common.{◌≡◌, ◌∙◌, inl, inr, ◌⊎◌, ℕ, zero, suc, ◌+◌, ◌-◌, ◌*◌, ◌<◌, ◌≤◌, Bool, true, false, List, [], ◌∷◌, ◌++◌, length, take, drop, Option, None, refl, sym, ap, arith, append-nil, length-append, length-drop, take_all, le_refl, add-one}
-use Rattle.std.proofs.lemmas.Nat.{div-mul-add}
-use Rattle.std.proofs.lemmas.Grind.{flat_map-append}
-use Rattle.std.proofs.KnownBytes.{Appends-nil, Appends-trans, Appends-kept}
-use Rattle.std.proofs.Math.Seq.{drop-append_seam}
-use Rattle.std.proofs.Math.Nat.{suc-mul}
-use Rattle.std.proofs.Math.ListN.{drop_of_length-le}
-use Rattle.std.specs.Prelude.{Result, Ok, Err, IsTrue, ◌^◌}
-use Rattle.std.specs.Io.KnownBytes.{Keeps}
-use Rattle.tds_meter.specs.Space.{Space, holding}
-use lib.Seq.{take-append-le, drop-append-le}
-use Rattle.tds_meter.specs.Counts.{one_more}
-use Rattle.tds_packet.specs.declared.counted.Counted.{Counted}
-use Rattle.tds_packet.specs.declared.answer.Recut.{Recut}
-use Rattle.tds_packet.specs.declared.answer.RecutStop.{RecutStop}
-use Rattle.tds_packet.specs.declared.fault.Fault.TheVariants.{MessageEnded}
-use Rattle.tds_packet.specs.declared.fault.Stop.{Stop}
+use Rattle.tds_packet.proofs.Words.{◌≡◌, ◌∙◌, inl, inr, ◌⊎◌, ℕ, zero, suc, ◌+◌, ◌-◌, ◌*◌, ◌<◌, ◌≤◌, Bool, true, false, List, [], ◌∷◌, ◌++◌, length, take, drop, Option, None, refl, sym, ap, arith, append-nil, length-append, length-drop, take_all, le_refl, add-one, div-mul-add, flat_map-append, Appends-nil, Appends-trans, Appends-kept, drop-append_seam, suc-mul, drop_of_length-le, Result, Ok, Err, IsTrue, ◌^◌, Keeps, Space, holding, take-append-le, drop-append-le, one_more, Counted, Recut, RecutStop, MessageEnded, Stop, Written, Coming, before, coming_of, Packet, packet_bytes, wire_of, buffered, seen, Cuts, Flushes, Gains, StopsInput, StopsOutput, WritesPacket, Gathers, cut_packet, first_packets, before_last, packets_before, Ends, IsBetween, IsNotOver, IsOver, Seen, Takes}
 use Rattle.tds_packet.specs.declared.payload.Payload.{Payload}
-use Rattle.tds_packet.specs.declared.recutting.Written.{Written}
-use Rattle.tds_packet.specs.Coming.{Coming, before, coming_of}
-use Rattle.tds_packet.specs.Packets.{Packet, packet_bytes, wire_of}
-use Rattle.tds_packet.specs.Payloads.{buffered, seen}
-use Rattle.tds_packet.specs.Recutting.{Cuts, Flushes, Gains, StopsInput, StopsOutput, WritesPacket, Gathers, cut_packet, first_packets, before_last, packets_before}
-use Rattle.tds_packet.specs.Seen.{Ends, IsBetween, IsNotOver, IsOver, Seen, Takes}
-use Rattle.tds_packet.proofs.PayloadLaws.{ends_there}
-use Rattle.tds_packet.proofs.Futures.{Ends-after, Takes-more, Takes-none, Takes-trans}
+use Rattle.tds_packet.proofs.{PayloadLaws.ends_there, Futures.Ends-after, Futures.Takes-more, Futures.Takes-none, Futures.Takes-trans}
 
 -- ---- bytes are gathered
 

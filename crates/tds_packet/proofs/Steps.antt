@@ -1,15 +1,6 @@
 -- Calls that read by a grammar, one after another.
-use Rattle.std.proofs.Common.{◌≡◌, ◌∙◌, inl, inr, ℕ, ◌+◌, ◌<◌, List, [], ◌++◌, length, ap, arith, append_assoc, append-nil, length-append}
-use Rattle.std.specs.Prelude.{Option, Some}
-use Rattle.tds_packet.specs.declared.fault.Fault.{Fault}
-use Rattle.tds_packet.specs.declared.fault.Fault.TheVariants.{MessageEnded}
-use Rattle.tds_packet.specs.declared.fault.Place.TheVariants.{Payload}
-use Rattle.tds_packet.specs.declared.fault.Stop.{Stop}
-use Rattle.tds_packet.specs.Elements.{Grammar, IsNext}
-use Rattle.tds_packet.specs.Seen.{Seen, Takes, Ends, IsBetween, began_at}
-use Rattle.tds_packet.specs.Reading.{Reads, RefusesNext, StopsReading, IsCutStop}
-use Rattle.tds_packet.proofs.ElementLaws.{Spelt-none, Spelt-append, Spelt-one}
-use Rattle.tds_packet.proofs.Futures.{Takes-none, Takes-trans, Ends-after}
+use Rattle.tds_packet.proofs.Words.{◌≡◌, ◌∙◌, inl, inr, ℕ, ◌+◌, ◌<◌, List, [], ◌++◌, length, ap, arith, append_assoc, append-nil, length-append, Option, Some, Fault, MessageEnded, Payload, Stop, Grammar, IsNext, Seen, Takes, Ends, IsBetween, began_at, Reads, RefusesNext, StopsReading, IsCutStop}
+use Rattle.tds_packet.proofs.{ElementLaws.Spelt-none, ElementLaws.Spelt-append, ElementLaws.Spelt-one, Futures.Takes-none, Futures.Takes-trans, Futures.Ends-after}
 
 -- bytes taken by two calls
 pub takes_both : (a b c : Seen) (xs ys : List ℕ) → Takes a b xs (length xs) → Takes b c ys (length ys) → Takes a c (xs ++ ys) (length (xs ++ ys))

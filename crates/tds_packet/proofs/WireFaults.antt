@@ -1,17 +1,6 @@
 -- Which faults the payload itself may have.
-use Rattle.std.proofs.lemmas.Grind.{common_steps}
-use Rattle.std.proofs.Common.{arith}
-use Rattle.std.proofs.Common.{◌≡◌, ◌∙◌, inl, inr, ℕ, zero, suc, ◌+◌, true, false, refl, length, List, [], ◌++◌, sym}
-use Rattle.std.specs.Prelude.{Option, None, ⊤}
-use Rattle.tds_meter.specs.Counts.{one_more}
-use Rattle.tds_packet.specs.declared.fault.Fault.{Fault}
-use Rattle.tds_packet.specs.declared.fault.Fault.TheVariants.{InputEnded, MessageEnded, ReadFailed, WriteFailed}
-use Rattle.tds_packet.specs.declared.fault.Place.TheVariants.{Wire, Payload}
-use Rattle.tds_packet.specs.declared.fault.Stop.{Stop}
+use Rattle.tds_packet.proofs.Words.{common_steps, arith, ◌≡◌, ◌∙◌, inl, inr, ℕ, zero, suc, ◌+◌, true, false, refl, length, List, [], ◌++◌, sym, Option, None, ⊤, one_more, Fault, InputEnded, MessageEnded, ReadFailed, WriteFailed, Wire, Payload, Stop, Coming, FrontPacket, NoPacket, WholePacket, before, stopped_at, after_packet, coming_of, front_packet, message, buffered, seen, Ends, Seen}
 use Rattle.tds_packet.specs.declared.payload.Payload as payloads
-use Rattle.tds_packet.specs.Coming.{Coming, FrontPacket, NoPacket, WholePacket, before, stopped_at, after_packet, coming_of, front_packet, message}
-use Rattle.tds_packet.specs.Payloads.{buffered, seen}
-use Rattle.tds_packet.specs.Seen.{Ends, Seen}
 
 -- a fault that the wire or the end of a message may have
 abbrev pub IsOfWire : Fault → Type 0

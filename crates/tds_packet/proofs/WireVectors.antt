@@ -1,10 +1,5 @@
 -- Worked wires: the payload that each has to give, the bytes of its whole packets, and the fault that ends it.
-use Rattle.std.proofs.Common.{◌≡◌, ℕ, ◌-◌, ◌/◌, ◌%◌, List, [], ◌∷◌, ◌++◌, map, take, refl}
-use Rattle.tds_packet.specs.declared.fault.Fault.{Fault}
-use Rattle.tds_packet.specs.declared.fault.Fault.TheVariants.{InputEnded, MessageEnded, WrongPacketType, BadPacketLength, ResponseTooLong}
-use Rattle.tds_packet.specs.declared.fault.Place.TheVariants.{Wire, Payload}
-use Rattle.tds_packet.specs.declared.fault.Stop.{Stop}
-use Rattle.tds_packet.specs.Coming.{message, front_packet, whole_message}
+use Rattle.tds_packet.proofs.Words.{◌≡◌, ℕ, ◌-◌, ◌/◌, ◌%◌, List, [], ◌∷◌, ◌++◌, map, take, refl, Fault, InputEnded, MessageEnded, WrongPacketType, BadPacketLength, ResponseTooLong, Wire, Payload, Stop, message, front_packet, whole_message}
 
 -- the payload of the worked wires
 abbrev payload : List ℕ

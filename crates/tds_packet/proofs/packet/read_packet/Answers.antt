@@ -1,8 +1,5 @@
-use Rattle.std.proofs.Common.{sym, rules, arith}
-use Rattle.tds_packet.specs.Devices.{device}
-use Rattle.tds_packet.specs.Reads.{ReadsPacket}
-use Rattle.tds_packet.proofs.Joins.{fill_err, header_err, body_err, body_ok}
-use Rattle.tds_packet.proofs.Passing.{passed_on}
+use Rattle.tds_packet.proofs.Words.{sym, rules, arith, device, ReadsPacket}
+use Rattle.tds_packet.proofs.{Joins.fill_err, Joins.header_err, Joins.body_err, Joins.body_ok, Passing.passed_on}
 use Rattle.tds_packet.proofs.packet.read_packet.Goals as goal
 
 pub returns-in_err-fill-clause-read : goal.returns-in_err-fill-clause-read

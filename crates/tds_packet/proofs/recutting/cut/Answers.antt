@@ -1,10 +1,5 @@
-use Rattle.std.proofs.lemmas.Grind.{common_steps}
-use Rattle.std.proofs.Common.{◌≡◌, ◌∙◌, inr, inl, ◌+◌, ◌-◌, true, false, drop, length, sym, ap, rules, arith, length-drop}
-use Rattle.tds_packet.specs.Packets.{packet_bytes}
-use Rattle.tds_packet.specs.Payloads.{seen}
-use Rattle.tds_packet.specs.Recutting.{Cuts, cut_packet}
-use Rattle.tds_packet.proofs.Passing.{passed_on}
-use Rattle.tds_packet.proofs.Recuts.{cut_broken, cut_finished, cut_length, cut_more, cut_none, cut_stopped, next_of}
+use Rattle.tds_packet.proofs.Words.{common_steps, ◌≡◌, ◌∙◌, inr, inl, ◌+◌, ◌-◌, true, false, drop, length, sym, ap, rules, arith, length-drop, packet_bytes, seen, Cuts, cut_packet}
+use Rattle.tds_packet.proofs.{Passing.passed_on, Recuts.cut_broken, Recuts.cut_finished, Recuts.cut_length, Recuts.cut_more, Recuts.cut_none, Recuts.cut_stopped, Recuts.next_of}
 use Rattle.tds_packet.proofs.recutting.cut.Goals as goal
 
 pub loop-to-init : goal.loop-to-init

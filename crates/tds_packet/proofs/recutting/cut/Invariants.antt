@@ -1,5 +1,4 @@
-use Rattle.std.proofs.Common.{◌≡◌, ◌-◌, ◌*◌, ◌<◌, ◌≤◌, length}
-use Rattle.tds_packet.specs.Payloads.{IsGoing, IsOnSame, buffered, seen}
+use Rattle.tds_packet.proofs.Words.{◌≡◌, ◌-◌, ◌*◌, ◌<◌, ◌≤◌, length, IsGoing, IsOnSame, buffered, seen}
 use Rattle.tds_packet.proofs.Recuts.{Cutting}
 use Rattle.tds_packet.proofs.recutting.cut.Given as goal
 

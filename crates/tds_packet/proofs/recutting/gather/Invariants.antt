@@ -1,5 +1,4 @@
-use Rattle.std.proofs.Common.{◌≡◌, ◌-◌, length}
-use Rattle.tds_packet.specs.Payloads.{IsGoing, IsOnSame}
+use Rattle.tds_packet.proofs.Words.{◌≡◌, ◌-◌, length, IsGoing, IsOnSame}
 use Rattle.tds_packet.proofs.Recuts.{Gathering}
 use Rattle.tds_packet.proofs.recutting.gather.Given as goal
 

@@ -1,7 +1,4 @@
-use Rattle.std.proofs.Common.{◌≡◌, ◌∙◌, ◌+◌, ◌-◌, ◌≤◌, length, take, drop, sym, ap, subst, rules, arith, length-drop, length-take-le, take-append-drop}
-use Rattle.std.specs.Io.KnownBytes.{Appends}
-use Rattle.tds_packet.specs.Packets.{packet_bytes}
-use Rattle.tds_packet.specs.Recutting.{cut_packet, write_stop}
+use Rattle.tds_packet.proofs.Words.{◌≡◌, ◌∙◌, ◌+◌, ◌-◌, ◌≤◌, length, take, drop, sym, ap, subst, rules, arith, length-drop, length-take-le, take-append-drop, Appends, packet_bytes, cut_packet, write_stop}
 use Rattle.tds_packet.proofs.recutting.write_packet.Goals as goal
 
 pub returns-in-Err-clause-writes : goal.returns-in-Err-clause-writes

@@ -1,7 +1,4 @@
-use Rattle.std.proofs.lemmas.Grind.{common_steps}
-use Rattle.std.proofs.Common.{arith, length-take}
-use lib.Seq.{take-add, take-take}
-use Rattle.std.proofs.KnownBytes.{Appends-trans}
+use Rattle.tds_packet.proofs.Words.{common_steps, arith, length-take, take-add, take-take, Appends-trans}
 use Rattle.tds_packet.proofs.counted.Counted.deliver.Goals as goal
 
 pub loop-taken-preserved : goal.loop-taken-preserved

@@ -1,6 +1,4 @@
-use Rattle.std.proofs.Common.{◌-◌, ◌≤◌, length, take}
-use Rattle.std.specs.Io.KnownBytes.{Appends}
-use Rattle.tds_packet.specs.Filling.{Stays}
+use Rattle.tds_packet.proofs.Words.{◌-◌, ◌≤◌, length, take, Appends, Stays}
 use Rattle.tds_packet.proofs.counted.Counted.deliver.Given as goal
 
 abbrev pub invariant-loop-taken : goal.invariant-loop-taken

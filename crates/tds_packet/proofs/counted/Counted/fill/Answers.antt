@@ -1,10 +1,4 @@
-use Rattle.std.proofs.Common.{◌≡◌, ℕ, List, ◌+◌, ◌-◌, ◌≤◌, ◌++◌, rules, arith, length, take, ap, ◌∙◌, subst, length-take-le}
-use Rattle.std.proofs.Math.Seq.{take-append-add}
-use lib.Seq.{take-append-le}
-use Rattle.std.specs.Io.KnownBytes.{Consumes}
-use Rattle.std.proofs.KnownBytes.{Consumes-trans, Consumes-kept}
-use borrow.Rule.Slice.PartMut.{put_mid, post_of}
-use Rattle.tds_meter.specs.Counts.{one_more}
+use Rattle.tds_packet.proofs.Words.{◌≡◌, ℕ, List, ◌+◌, ◌-◌, ◌≤◌, ◌++◌, rules, arith, length, take, ap, ◌∙◌, subst, length-take-le, take-append-add, take-append-le, Consumes, Consumes-trans, Consumes-kept, put_mid, post_of, one_more}
 use Rattle.tds_packet.proofs.counted.Counted.fill.Goals as goal
 
 -- the first bytes of a part that was written over

@@ -1,6 +1,4 @@
-use Rattle.std.proofs.Common.{◌≡◌, ◌-◌, ◌≤◌, length, take}
-use Rattle.std.specs.Io.KnownBytes.{Consumes}
-use Rattle.tds_packet.specs.Filling.{Stays}
+use Rattle.tds_packet.proofs.Words.{◌≡◌, ◌-◌, ◌≤◌, length, take, Consumes, Stays}
 use Rattle.tds_packet.proofs.counted.Counted.fill.Given as goal
 
 abbrev pub invariant-loop-at : goal.invariant-loop-at

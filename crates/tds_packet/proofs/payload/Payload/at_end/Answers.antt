@@ -1,7 +1,5 @@
-use Rattle.std.proofs.Common.{◌<◌, arith, drop, length, length-drop, refl, None}
-use Rattle.std.proofs.Math.ListN.{drop_of_length-le}
-use Rattle.tds_packet.proofs.Futures.{over, not_over, stopped_ends}
-use Rattle.tds_packet.proofs.PayloadLaws.{between_of}
+use Rattle.tds_packet.proofs.Words.{◌<◌, arith, drop, length, length-drop, refl, None, drop_of_length-le}
+use Rattle.tds_packet.proofs.{Futures.over, Futures.not_over, Futures.stopped_ends, PayloadLaws.between_of}
 use Rattle.tds_packet.proofs.payload.Payload.at_end.Goals as goal
 
 pub returns-in-Ok-clause-tells : goal.returns-in-Ok-clause-tells

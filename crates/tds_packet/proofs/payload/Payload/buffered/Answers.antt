@@ -1,5 +1,4 @@
-use Rattle.std.proofs.lemmas.Grind.{common_steps}
-use Rattle.std.proofs.Common.{arith}
+use Rattle.tds_packet.proofs.Words.{common_steps, arith}
 use Rattle.tds_packet.proofs.payload.Payload.buffered.Goals as goal
 
 pub returns : goal.returns

@@ -1,7 +1,4 @@
-use Rattle.std.proofs.Common.{◌≡◌, ◌+◌, ◌-◌, ◌≤◌, length, take, subst, arith, rules, length-take-le, sym}
-use Rattle.std.proofs.lemmas.Slice.{take-put_mid}
-use Rattle.tds_packet.specs.Seen.{Takes}
-use Rattle.tds_packet.specs.Payloads.{seen}
+use Rattle.tds_packet.proofs.Words.{◌≡◌, ◌+◌, ◌-◌, ◌≤◌, length, take, subst, arith, rules, length-take-le, sym, take-put_mid, Takes, seen}
 use Rattle.tds_packet.proofs.PayloadLaws.{at_ok, at_err, between_of, ends_there, takes_piece}
 use Rattle.tds_packet.proofs.payload.Payload.fill.Goals as goal
 

@@ -1,6 +1,4 @@
-use Rattle.std.proofs.Common.{◌≡◌, ◌+◌, ◌-◌, ◌≤◌, length, take, None}
-use Rattle.tds_packet.specs.Seen.{Takes}
-use Rattle.tds_packet.specs.Payloads.{seen, IsSound, IsOnSame}
+use Rattle.tds_packet.proofs.Words.{◌≡◌, ◌+◌, ◌-◌, ◌≤◌, length, take, None, Takes, seen, IsSound, IsOnSame}
 use Rattle.tds_packet.proofs.payload.Payload.fill.Given as goal
 
 abbrev pub invariant-loop-at : goal.invariant-loop-at

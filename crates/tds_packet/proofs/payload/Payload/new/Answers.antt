@@ -1,6 +1,5 @@
-use Rattle.std.proofs.Common.{false, None, refl, rules}
-use Rattle.tds_packet.proofs.Futures.{new_seen}
-use Rattle.tds_packet.proofs.PayloadLaws.{between_of}
+use Rattle.tds_packet.proofs.Words.{false, None, refl, rules}
+use Rattle.tds_packet.proofs.{Futures.new_seen, PayloadLaws.between_of}
 use Rattle.tds_packet.proofs.payload.Payload.new.Goals as goal
 
 pub returns-clause-begun : goal.returns-clause-begun

@@ -1,5 +1,4 @@
-use Rattle.std.proofs.Common.{◌≡◌, ◌+◌, ◌-◌, ◌≤◌, None}
-use Rattle.tds_packet.specs.Payloads.{IsSound, IsOnSame, PassesOver}
+use Rattle.tds_packet.proofs.Words.{◌≡◌, ◌+◌, ◌-◌, ◌≤◌, None, IsSound, IsOnSame, PassesOver}
 use Rattle.tds_packet.proofs.payload.Payload.pass.Given as goal
 
 abbrev pub invariant-loop-passed : goal.invariant-loop-passed

@@ -1,7 +1,5 @@
-use Rattle.std.proofs.Common.{◌≡◌, [], ◌+◌, ◌-◌, ◌<◌, ◌≤◌, length, take, drop, min, refl, arith, rules, length-take, length-drop, le_refl}
-use Rattle.tds_packet.specs.Payloads.{seen}
-use Rattle.tds_packet.proofs.Futures.{Takes-trans, further_takes}
-use Rattle.tds_packet.proofs.PayloadLaws.{between_of, not_again}
+use Rattle.tds_packet.proofs.Words.{◌≡◌, [], ◌+◌, ◌-◌, ◌<◌, ◌≤◌, length, take, drop, min, refl, arith, rules, length-take, length-drop, le_refl, seen}
+use Rattle.tds_packet.proofs.{Futures.Takes-trans, Futures.further_takes, PayloadLaws.between_of, PayloadLaws.not_again}
 use Rattle.tds_packet.proofs.payload.Payload.piece.Goals as goal
 
 pub returns : goal.returns

@@ -1,9 +1,5 @@
-use Rattle.std.proofs.Common.{◌≡◌, ◌∙◌, [], length, drop, ap, rules, arith, le_refl}
-use Rattle.std.proofs.Math.ListN.{drop_of_length-le}
-use Rattle.tds_packet.specs.Payloads.{seen}
-use Rattle.tds_packet.proofs.Futures.{stopped_ends, ended_ends, Takes-trans}
-use Rattle.tds_packet.proofs.PayloadLaws.{ends_there}
-use Rattle.tds_packet.proofs.Passing.{passed}
+use Rattle.tds_packet.proofs.Words.{◌≡◌, ◌∙◌, [], length, drop, ap, rules, arith, le_refl, drop_of_length-le, seen}
+use Rattle.tds_packet.proofs.{Futures.stopped_ends, Futures.ended_ends, Futures.Takes-trans, PayloadLaws.ends_there, Passing.passed}
 use Rattle.tds_packet.proofs.payload.Payload.ready.Goals as goal
 
 pub returns-in-Some-clause-gives : goal.returns-in-Some-clause-gives

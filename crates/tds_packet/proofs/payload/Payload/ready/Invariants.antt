@@ -1,6 +1,4 @@
-use Rattle.std.proofs.Common.{◌≡◌, ◌-◌, ◌<◌, [], None, length}
-use Rattle.tds_packet.specs.Seen.{Takes}
-use Rattle.tds_packet.specs.Payloads.{seen, IsSound, IsOnSame}
+use Rattle.tds_packet.proofs.Words.{◌≡◌, ◌-◌, ◌<◌, [], None, length, Takes, seen, IsSound, IsOnSame}
 use Rattle.tds_packet.proofs.payload.Payload.ready.Given as goal
 
 abbrev pub invariant-loop-self : goal.invariant-loop-self
