@@ -21,25 +21,19 @@ not_header a b c length kind e = grind (arith)
 pub wire_goes_on : (size limit : ℕ) (input : List ℕ) (packets : List Packet) (fault : Fault) → WireFault size limit input packets fault → fault ≡ MessageEnded → ⊥
 wire_goes_on size limit input packets fault w e = grind (arith, not_header)
 
--- an input all of which is packets
-all_packets : (size limit : ℕ) (read payload : List ℕ) (place : ℕ) (c : Coming) → IsFrontMessage size limit read c → c.bytes ≡ payload → c.rest ≡ []
-    → ((c.stop.fault ≡ MessageEnded) ⊎ (c.stop ≡ record { fault = InputEnded; place = Wire place })) → place ≡ length read
-    → (packets : List Packet) × (wire_of packets ≡ read) × (AreMessage size packets ⊎ AreBefore size packets) × (length (wire_of packets) ≤ limit) × (payload_of packets ≡ payload)
-all_packets size limit read payload place c m b r s p = grind (arith, wire_goes_on, append-nil, no_more)
+-- an input that begins with nothing but packets
+all_packets : (size limit : ℕ) (read rest payload : List ℕ) (place : ℕ) (c : Coming) → IsFrontMessage size limit read c → c.bytes ≡ payload → c.rest ≡ []
+    → ((c.stop.fault ≡ MessageEnded) ⊎ (c.stop ≡ record { fault = InputEnded; place = Wire place })) → place ≡ length read → BeginsMessage size limit (read ++ rest) rest payload
+all_packets size limit read rest payload place c m b r s p = grind (arith, wire_goes_on, append-nil, no_more)
 
 -- what was taken, right after a packet, came of whole packets at the front of the input
 pub takes_begins : (size limit f : ℕ) (input rest : List ℕ) (q : Seen) (bytes : List ℕ) (n : ℕ) → AreBytes input → q.left ≡ Some rest → Takes (begun size limit (Some input) f) q bytes n → IsBetween q
     → BeginsMessage size limit input rest (bytes ++ (q.future []).bytes)
 takes_begins size limit f input rest q bytes n are left t b =
     let read = t.0 in
-    let split : input ≡ read ++ rest = subst (λ l. Consumes (Some input) l read) left t.1.0 in
-    let wire : q.wire ≡ length read = omega (arith, t.2) in
-    let now : whole_message size limit read ≡ before bytes (q.future []) = ap (whole_message size limit) (sym (append-nil read)) ∙ t.1.1 [] in
-    let front = front_message size limit read (AreBytes-front read rest (subst AreBytes split are)) in
-    let end : ((whole_message size limit read).stop.fault ≡ MessageEnded) ⊎ ((whole_message size limit read).stop ≡ record { fault = InputEnded; place = Wire q.wire }) =
-    elim b.1 [ inl x ↦ inl (ap (λ (c : Coming). c.stop.fault) now ∙ x) | inr x ↦ inr (ap (λ (c : Coming). c.stop) now ∙ x) ] in
-    let all = all_packets size limit read (bytes ++ (q.future []).bytes) q.wire (whole_message size limit read) front (ap (λ (c : Coming). c.bytes) now) (ap (λ (c : Coming). c.rest) now ∙ b.0) end wire in
-    record { packets = all.0; begin = ap (λ l. l ++ rest) all.1 ∙ sym split; each = all.2; within = all.3; payload_is = all.4 }
+    let split : input ≡ read ++ rest = rw left at t.1.0 in
+    let now : whole_message size limit read ≡ before bytes (q.future []) = rw append-nil at (t.1.1 []) in
+    rw split (all_packets size limit read rest (bytes ++ (q.future []).bytes) q.wire _ (rw now at (front_message size limit read (AreBytes-front read rest (rw split at are)))) refl b.0 b.1 (omega (arith, t.2)))
 
 -- ---- how a payload stops
 

@@ -54,9 +54,6 @@ abbrev pub header_of : Packet → List ℕ
 header_of p = 4 ∷ p.status ∷ packet_length p / 256 ∷ packet_length p % 256 ∷ p.id
 
 module _ (size limit : ℕ) where
-  header-length : (p : Packet) → header_length (header_of p) ≡ packet_length p
-  header-length p = omega arith
-
   pub good_header : (before : ℕ) (p : Packet) → IsPacket size p → before + packet_length p ≤ limit → header_fault size limit before (header_of p) ≡ None
   good_header before p i f = grind (arith, nat_tests)
 

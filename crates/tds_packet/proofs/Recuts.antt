@@ -104,12 +104,6 @@ first_is : (m k n : ℕ) (payload body : List ℕ) → n ≡ suc k → length pa
 unfolding first_packets
 first_is m k n payload body is whole full = grind (arith, drop-append_seam, take_all, first-more)
 
--- ---- a header over the first bytes
-
-pub header_put : (s : Space) (number n : ℕ) (last : Bool) (w hs : List ℕ) → 8 ≤ length s.bytes → n ≡ length s.bytes → length hs ≡ 8 → ((body : List ℕ) → 8 + length body ≡ n → hs ++ body ≡ packet_bytes (cut_packet number last body)) → w ≡ hs ++ drop (length hs) s.bytes
-    → holding s (take (length s.bytes) (take 0 s.bytes ++ (w ++ drop (length w) (drop 0 s.bytes)))) ≡ holding s (packet_bytes (cut_packet number last (drop 8 s.bytes)))
-header_put s number n last w hs h en eight eh ew = grind (arith, length-append, length-drop, drop_of_length-le, append-nil, take_all)
-
 pub cut_length : (number : ℕ) (last : Bool) (body : List ℕ) → length (packet_bytes (cut_packet number last body)) ≡ 8 + length body
 cut_length number last body = omega arith
 
