@@ -35,8 +35,6 @@ takes_begins size limit f input rest q bytes n are left t b =
     let now : whole_message size limit read ≡ before bytes (q.future []) = rw append-nil at (t.1.1 []) in
     rw split (all_packets size limit read rest (bytes ++ (q.future []).bytes) q.wire _ (rw now at (front_message size limit read (AreBytes-front read rest (rw split at are)))) refl b.0 b.1 (omega (arith, t.2)))
 
--- ---- how a payload stops
-
 -- a read failed after these packets, all that what was read has whole, and the header after them wasn't refused
 pub record FailsAfterPackets (size limit : ℕ) (input rest : List ℕ) (packets : List Packet) : Type 0 where
   pub read : List ℕ
@@ -84,8 +82,6 @@ ends_front size limit f input rest q payload stop are left (inr (inr x)) =
 pub over_front : (size limit f : ℕ) (input rest : List ℕ) (q : Seen) (bytes : List ℕ) (n : ℕ) → AreBytes input → q.left ≡ Some rest → Takes (begun size limit (Some input) f) q bytes n → (o : IsOver q)
     → EndsMessage size limit input rest bytes f q.failures o.0
 over_front size limit f input rest q bytes n are left t o = grind (arith, append-nil, whole_stop, wire_goes_on)
-
--- ---- the last of the packets read
 
 -- these packets come before the last, and have fewer bytes of the payload
 pub record InLast (size : ℕ) (packets : List Packet) (n : ℕ) : Type 0 where

@@ -1,9 +1,7 @@
 -- What is still to come, along a payload's steps.
-use Rattle.tds_packet.proofs.Words.{common_steps, ◌≡◌, ◌∙◌, inl, inr, ℕ, suc, zero, ◌+◌, ◌-◌, ◌<◌, ◌≤◌, List, [], ◌++◌, length, take, Option, Some, None, Ok, Err, Bool, true, false, refl, sym, ap, arith, append_assoc, length-append, length-drop, add-zero, nat_tests, take-append-drop, drop-drop, Consumes-nil, Consumes-trans, take-append-add, nat_lt, take-append-le, one_more, Fault, MessageEnded, Wire, Payload, Stop, Header, FrontPacket, WholePacket, NoPacket, Coming, before, stopped_at, front_packet, after_packet, message, coming_of, ReadsPacket, Seen, Follows, Takes, Needs, Ends, IsOver, IsNotOver, IsBetween, begun, NeedsPacket, buffered, further, seen, device, length-take-le, drop_of_length-le}
+use Rattle.tds_packet.proofs.Words.{dec_le, common_steps, ◌≡◌, ◌∙◌, inl, inr, ℕ, suc, zero, ◌+◌, ◌-◌, ◌<◌, ◌≤◌, List, [], ◌++◌, length, take, Option, Some, None, Ok, Err, Bool, true, false, refl, sym, ap, arith, append_assoc, length-append, length-drop, add-zero, nat_tests, take-append-drop, drop-drop, Consumes-nil, Consumes-trans, take-append-add, nat_lt, take-append-le, one_more, Fault, MessageEnded, Wire, Payload, Stop, Header, FrontPacket, WholePacket, NoPacket, Coming, before, stopped_at, front_packet, after_packet, message, coming_of, ReadsPacket, Seen, Follows, Takes, Needs, Ends, IsOver, IsNotOver, IsBetween, begun, NeedsPacket, buffered, further, seen, device, length-take-le, drop_of_length-le}
 use Rattle.tds_packet.specs.declared.payload.Payload as payloads
 use Rattle.tds_packet.proofs.Joins.{Rises-after, Stays-none, Stays-trans}
-
--- ---- enough fuel is enough
 
 rest_shorter : (room max wire : ℕ) (xs body rest : List ℕ) (last : Bool) (n : ℕ) → front_packet room max wire xs ≡ WholePacket body last n rest → length rest < length xs
 unfolding front_packet
@@ -21,8 +19,6 @@ message-fuel room max (suc n) zero wire place xs h k = absurd (omega arith)
 message-fuel room max (suc n) (suc m) wire place xs h k = same_after (message room max n) (message room max m) wire place (front_packet room max wire xs)
     (λ body rest l e. (let lt = rest_shorter room max wire xs body rest false l e in message-fuel room max n m (wire + l) (place + length body) rest (omega (arith, lt)) (omega (arith, lt))))
 
--- ---- a packet is read
-
 module _ {R : Type 0} (remaining : R → Option (List ℕ)) (p q : payloads.Payload R) (body : List ℕ) (needs : NeedsPacket p) where
   none_left : buffered p ≡ []
   none_left = drop_of_length-le p.packet.now.bytes (omega (arith, needs.used_up))
@@ -37,15 +33,12 @@ module _ {R : Type 0} (remaining : R → Option (List ℕ)) (p q : payloads.Payl
   unfolding coming_of message
   advance_err e reads = grind (arith, none_left)
 
--- ---- bytes are handed out
-
 before-append : (hs bs : List ℕ) (c : Coming) → before (hs ++ bs) c ≡ before hs (before bs c)
-before-append hs bs c = let f : List ℕ → Coming = λ l. record { bytes = l; stop = c.stop; rest = c.rest } in ap f (append_assoc hs bs c.bytes)
+before-append hs bs c = rw append_assoc
 
 hand : (room max wire place : ℕ) (last : Bool) (hs bs xs : List ℕ) → coming_of room max wire place last None (hs ++ bs) xs ≡ before hs (coming_of room max wire (place + length hs) last None bs xs)
 unfolding coming_of
-hand room max wire place true hs bs xs = grind (arith, common_steps, length-append, before-append)
-hand room max wire place false hs bs xs = grind (arith, length-append, before-append)
+hand room max wire place last hs bs xs = grind (arith, common_steps, length-append, before-append)
 
 -- Bytes that lie ready are handed out.
 pub further_takes : {R : Type 0} (remaining : R → Option (List ℕ)) (p : payloads.Payload R) (n m : ℕ) → n ≤ length (buffered p) → p.stopped ≡ None → Takes (seen remaining p) (seen remaining (further p n)) (take n (buffered p)) m
@@ -54,42 +47,30 @@ further_takes remaining p n m le e =
     let len = length-take-le n (buffered p) le in
     grind (arith, Consumes-nil, hand, add-zero, Stays-none)
 
--- ---- calls, one after another
-
 pub Takes-none : (a : Seen) (n : ℕ) → Takes a a [] n
 Takes-none a n = ([], (Consumes-nil a.left, λ xs. refl), sym (add-zero a.wire), (λ j lt. absurd (omega (arith, lt))), Stays-none a.failures)
 
 pub Takes-more : (a b : Seen) (hs : List ℕ) (n m : ℕ) → n ≤ m → Takes a b hs n → Takes a b hs m
 Takes-more a b hs n m le p = (p.0, p.1, p.2, (λ j lt. omega (arith, p.3 j lt, le)), p.4)
 
-needs_joined : (a b : Seen) (r s hs : List ℕ) (n m j : ℕ) (t : Bool) → nat_lt j (length r) ≡ t → n ≤ length hs + m → Needs a r n → Needs b s m → ((zs : List ℕ) → a.future (r ++ zs) ≡ before hs (b.future zs))
-    → j < length (r ++ s) → length (a.future (take j (r ++ s))).bytes < length hs + m
-needs_joined a b r s hs n m j true e le p q f lt = grind (arith, nat_tests, take-append-le)
-needs_joined a b r s hs n m j false e le p q f lt =
-    let many : length r ≤ j = grind (arith, nat_tests) in
-    let k = j - length r in
-    let all : j ≡ length r + k = omega (arith, many) in
-    grind (arith, nat_tests, take-append-add, length-append)
-
-pub Follows-trans : (a b c : Seen) (r s hs bs : List ℕ) → Follows a b r hs → Follows b c s bs → Follows a c (r ++ s) (hs ++ bs)
-Follows-trans a b c r s hs bs p q = (Consumes-trans a.left b.left c.left r s p.0 q.0, λ zs. ap a.future (append_assoc r s zs) ∙ p.1 (s ++ zs) ∙ ap (before hs) (q.1 zs) ∙ sym (before-append hs bs (c.future zs)))
+needs_joined : (a b : Seen) (r s hs : List ℕ) (n m j : ℕ) → n ≤ length hs + m → Needs a r n → Needs b s m → ((zs : List ℕ) → a.future (r ++ zs) ≡ before hs (b.future zs)) → j < length (r ++ s) → length (a.future (take j (r ++ s))).bytes < length hs + m
+needs_joined a b r s hs n m j le p q f lt = elim (dec_le (length r) j) [
+  | yes many ↦ (let all : length r + (j - length r) ≡ j = omega arith in rw (← all, take-append-add, f (take (j - length r) s), length-append) (omega (arith, q (j - length r) (omega (arith, length-append r s)))))
+  | no few ↦ rw (take-append-le j r s (omega arith)) (omega (arith, p j (omega arith)))
+]
 
 pub Takes-trans : (a b c : Seen) (hs bs : List ℕ) (n m : ℕ) → n ≤ length hs + m → Takes a b hs n → Takes b c bs m → Takes a c (hs ++ bs) (length hs + m)
 Takes-trans a b c hs bs n m le p q =
     let r = p.0 in
     let s = q.0 in
-    (r ++ s, Follows-trans a b c r s hs bs p.1 q.1, omega (arith, p.2, q.2, length-append r s), (λ j lt. needs_joined a b r s hs n m j (nat_lt j (length r)) refl le p.3 q.3 p.1.1 lt), Stays-trans a.failures b.failures c.failures r s p.4 q.4)
+    let follows : (zs : List ℕ) → a.future ((r ++ s) ++ zs) ≡ before (hs ++ bs) (c.future zs) = λ zs. rw (append_assoc, p.1.1 (s ++ zs), q.1.1 zs, append_assoc) in
+    (r ++ s, (Consumes-trans a.left b.left c.left r s p.1.0 q.1.0, follows), omega (arith, p.2, q.2, length-append r s), (λ j lt. needs_joined a b r s hs n m j le p.3 q.3 p.1.1 lt), Stays-trans a.failures b.failures c.failures r s p.4 q.4)
 
 pub Ends-after : (a b c : Seen) (hs bs : List ℕ) (n : ℕ) (e : Stop) → Takes a b hs n → Ends b c bs e → Ends a c (hs ++ bs) e
 Ends-after a b c hs bs n e p (inl y) =
-    let r = p.0 in
-    inl (r ++ y.0, Consumes-trans a.left b.left c.left r y.0 p.1.0 y.1, λ zs. ap a.future (append_assoc r y.0 zs) ∙ p.1.1 (y.0 ++ zs) ∙ ap (before hs) (y.2 zs), Stays-trans a.failures b.failures c.failures r y.0 p.4 y.3)
-Ends-after a b c hs bs n e p (inr (inl y)) =
-    inr (inl (p.0 ++ y.0, Consumes-trans a.left b.left c.left p.0 y.0 p.1.0 y.1, y.2, p.1.1 y.0 ∙ ap (before hs) y.3, (y.4.0 ∙ p.4.0, omega (arith, y.4.1, p.4.0))))
-Ends-after a b c hs bs n e p (inr (inr y)) =
-    inr (inr (p.0 ++ y.0, Consumes-trans a.left b.left c.left p.0 y.0 p.1.0 y.1, y.2, p.1.1 y.0 ∙ ap (before hs) y.3, (y.4.0 ∙ ap one_more p.4.0, Rises-after a.failures b.failures p.0 y.0 p.4 y.4.1)))
-
--- ---- the ends of `ready`
+    inl (p.0 ++ y.0, Consumes-trans a.left b.left c.left p.0 y.0 p.1.0 y.1, (λ zs. rw (append_assoc, p.1.1 (y.0 ++ zs), y.2 zs)), Stays-trans a.failures b.failures c.failures p.0 y.0 p.4 y.3)
+Ends-after a b c hs bs n e p (inr (inl y)) = grind (arith, common_steps, Consumes-trans)
+Ends-after a b c hs bs n e p (inr (inr y)) = grind (arith, common_steps, Consumes-trans, Rises-after)
 
 pub new_seen : (room max : ℕ) (left : Option (List ℕ)) (f : ℕ) → record { left = left; future = coming_of room max 0 0 false None []; wire = 0; failures = f } ≡ begun room max left f
 unfolding coming_of

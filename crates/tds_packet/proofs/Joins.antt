@@ -2,11 +2,6 @@
 use Rattle.tds_packet.proofs.Words.{◌≡◌, ◌∙◌, inl, inr, ℕ, ◌+◌, ◌-◌, ◌^◌, ◌<◌, ◌≤◌, List, [], ◌++◌, length, take, drop, Option, Ok, Err, Bool, false, refl, ap, arith, length-append, length-take, append_assoc, drop-append_seam, take-append_seam, take-append-add, nat_tests, nat_lt, if◌then◌else◌, Consumes, Consumes-trans, dec_le, one_more, Device, Stays, Fault, InputEnded, ReadFailed, Header, header_fault, WholePacket, NoPacket, front_packet, packet_after_header, Faulted, ReadsPacket, header_of}
 use Rattle.tds_packet.proofs.Choices.{choose_true, choose_false, test_lt}
 
-lt_false : (a b : ℕ) → b ≤ a → nat_lt a b ≡ false
-lt_false a b h = grind (arith, nat_tests)
-
--- ---- failures that stay, over two calls
-
 pub Stays-none : (f : ℕ) → Stays f f []
 Stays-none f = (refl, λ lt. absurd (omega (arith, lt)))
 
@@ -17,8 +12,6 @@ Stays-trans f g h r s p q = (q.0 ∙ p.0, grind (arith, length-append r s, p.0, 
 pub Rises-after : (f g : ℕ) (r s : List ℕ) → Stays f g r → (0 < length s → g < 2 ^ 64 - 1) → 0 < length (r ++ s) → f < 2 ^ 64 - 1
 Rises-after f g r s p q some = grind (arith, length-append r s, p.0, p.1, q)
 
--- ---- the packet at the front
-
 -- an input of fewer than eight bytes
 short_input : (size limit wire : ℕ) (xs : List ℕ) → length xs < 8 → front_packet size limit wire xs ≡ NoPacket InputEnded []
 unfolding front_packet
@@ -27,7 +20,9 @@ short_input size limit wire xs h = rw (test_lt (length xs) 8 h)
 -- the header is the first eight bytes
 after_header : (size limit wire : ℕ) (hdr ys : List ℕ) (o : Option Fault) → length hdr ≡ 8 → header_fault size limit wire hdr ≡ o → front_packet size limit wire (hdr ++ ys) ≡ packet_after_header hdr ys o
 unfolding front_packet
-after_header size limit wire hdr ys o e f = rw (length-append, lt_false (length hdr + length ys) 8 (omega arith), ← e, take-append_seam, drop-append_seam, e, f)
+after_header size limit wire hdr ys o e f =
+    let long : nat_lt (length hdr + length ys) 8 ≡ false = grind (arith, nat_tests) in
+    rw (length-append, long, ← e, take-append_seam, drop-append_seam, e, f)
 
 -- a body that is whole, and one that is cut
 whole_at : (last : Bool) (len : ℕ) (bs ys : List ℕ) (n : ℕ) → n ≡ length bs → (if nat_lt (length (bs ++ ys)) n then NoPacket InputEnded [] else WholePacket (take n (bs ++ ys)) last len (drop n (bs ++ ys))) ≡ WholePacket bs last len ys
@@ -52,8 +47,6 @@ cut size limit wire hdr body h j len fits lt good = elim (dec_le 8 j) [
       rw (← all, take-append-add) (ended_body size limit wire hdr (take (j - 8) body) h len (omega (arith, length-append hdr body, length-take (j - 8) body)) good))
   | no few ↦ short_input size limit wire (take j (hdr ++ body)) (omega (arith, length-take j (hdr ++ body)))
 ]
-
--- ---- the ends of a packet's read
 
 -- A good header was read.
 pub record ReadsHeader (size limit wire : ℕ) (old mid : Device) (h : Header) : Type 0 where

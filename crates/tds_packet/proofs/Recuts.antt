@@ -3,8 +3,6 @@ use Rattle.tds_packet.proofs.Words.{◌≡◌, ◌∙◌, inl, inr, ◌⊎◌, �
 use Rattle.tds_packet.specs.declared.payload.Payload.{Payload}
 use Rattle.tds_packet.proofs.{PayloadLaws.ends_there, Futures.Ends-after, Futures.Takes-more, Futures.Takes-none, Futures.Takes-trans}
 
--- ---- bytes are gathered
-
 -- what was gathered, and bytes after it
 pub joined : (a b c : Seen) (hs bs : List ℕ) (n : ℕ) → n ≤ length bs + 1 → Takes a b hs (length hs + 1) → Takes b c bs n → Takes a c (hs ++ bs) (length (hs ++ bs) + 1)
 joined a b c hs bs n le p q =
@@ -25,16 +23,7 @@ module _ {R : Type 0} (remaining : R → Option (List ℕ)) (o s t : Payload R) 
 
   -- the payload stopped
   pub gathered_err : (stop : Stop) → Ends (seen remaining s) (seen remaining t) [] stop → (stop.fault ≡ MessageEnded → ⊥) → Gathers remaining o t room packet (Err stop)
-  gathered_err stop ends goes_on = record {
-    header = x.header;
-    fits = x.fits;
-    gives = ends_there remaining o s t (drop 8 packet) _ stop x.takes ends;
-    over = tt;
-    full = tt;
-    between = tt;
-    place = tt;
-    goes_on = goes_on;
-  }
+  gathered_err stop ends goes_on = record { header = x.header; fits = x.fits; gives = ends_there remaining o s t (drop 8 packet) _ stop x.takes ends; over = tt; full = tt; between = tt; place = tt; goes_on = goes_on }
 
   module _ (q : Takes (seen remaining s) (seen remaining t) [] 1) (stays : t.place ≡ s.place) where
     -- the packet is full, or no byte is left
@@ -53,8 +42,6 @@ module _ {R : Type 0} (remaining : R → Option (List ℕ)) (o s t : Payload R) 
           takes = rw split (joined (seen remaining o) (seen remaining t) (seen remaining d) (drop 8 packet) piece 0 (omega arith) (asked q) r);
         }
 
--- ---- bytes that lie ready are handed out before the end
-
 starts_in : {R : Type 0} (remaining : R → Option (List ℕ)) (p : Payload R) (input bytes : List ℕ) → p.stopped ≡ None → ((seen remaining p).future input).bytes ≡ bytes → length (buffered p) ≤ length bytes
 unfolding coming_of
 starts_in remaining p input bytes e is = grind (arith, length-append)
@@ -68,8 +55,6 @@ some_ready remaining s t room packet (Ok false) made going large some = omega (a
 some_ready remaining s t room packet (Err stop) made going large some =
     let starts = λ (input rest : List ℕ) (own : Stop) (e : (seen remaining s).future input ≡ record { bytes = drop 8 packet; stop = own; rest = rest }). starts_in remaining s input (drop 8 packet) going (ap (λ (c : Coming). c.bytes) e) in
     elim made.gives [ inl x ↦ omega (arith, some, starts (x.0 ++ []) [] stop (x.2 [])) | inr (inl x) ↦ omega (arith, some, starts x.0 [] stop x.3) | inr (inr x) ↦ omega (arith, some, starts x.0 [] _ x.3) ]
-
--- ---- the packets of a payload
 
 -- more bytes after full packets change none of them
 first-more : (m k : ℕ) (xs ys : List ℕ) → k * m ≤ length xs → first_packets m k (xs ++ ys) ≡ first_packets m k xs
@@ -85,10 +70,6 @@ unfolding first_packets
 first-length m zero xs = refl
 first-length m (suc k) xs = rw (length-append, first-length m k xs) (omega arith)
 
--- how many stand before the last, by what is left for it
-before_is : (m k r n : ℕ) → n ≡ k * m + r → r ≤ m → 0 < m → (0 < k → 0 < r) → before_last m n ≡ k
-before_is m k r n e h some more = grind (arith, div-mul-add)
-
 wire-more : (ps : List Packet) (p : Packet) → wire_of (ps ++ p ∷ []) ≡ wire_of ps ++ packet_bytes p
 wire-more ps p = simp (flat_map-append, append-nil)
 
@@ -96,7 +77,7 @@ wire-more ps p = simp (flat_map-append, append-nil)
 parts : (m k : ℕ) (payload body : List ℕ) → length payload ≡ k * m → length body ≤ m → 0 < m → (0 < k → 0 < length body)
     → (before_last m (length (payload ++ body)) ≡ k) × (packets_before m (payload ++ body) ≡ first_packets m k payload) × (drop (k * m) (payload ++ body) ≡ body)
 parts m k payload body whole fits room some =
-    let number = before_is m k (length body) (length (payload ++ body)) (omega (arith, length-append payload body, whole)) fits room some in
+    let number : before_last m (length (payload ++ body)) ≡ k = grind (arith, length-append, div-mul-add) in
     (number, rw (number, first-more m k payload body (omega (arith, whole))), rw (← whole) (drop-append_seam payload body))
 
 -- a full packet more is one of the first
@@ -106,8 +87,6 @@ first_is m k n payload body is whole full = grind (arith, drop-append_seam, take
 
 pub cut_length : (number : ℕ) (last : Bool) (body : List ℕ) → length (packet_bytes (cut_packet number last body)) ≡ 8 + length body
 cut_length number last body = omega arith
-
--- ---- a payload as far as it is cut
 
 -- Full packets were written, and these bytes of the payload taken for them.
 pub record Cutting {W : Type 0} (contents : W → Option (List ℕ)) (m : ℕ) (a b : Seen) (old new : Counted W) (done : Written) (place : ℕ) : Type 0 where
@@ -134,12 +113,8 @@ cut_none contents m a to place e = record { payload = []; takes = Takes-none a 1
 pub next_of : {R W : Type 0} {remaining : R → Option (List ℕ)} {contents : W → Option (List ℕ)} {s t : Payload R} {room : ℕ} {packet : List ℕ} {r : Result Bool Stop} {a : Seen} {old mid : Counted W} {done : Written}
     → Gathers remaining s t room packet r → s.stopped ≡ None → 8 < room → (0 < done.packets → 0 < length (buffered s)) → Cutting contents (room - 8) a (seen remaining s) old mid done s.place
     → Next contents (room - 8) a (seen remaining s) old mid done s.place (drop 8 packet)
-next_of {remaining = remaining} {s = s} {t = t} {room = room} {packet = packet} {r = r} made going large more cutting = record {
-  cutting = cutting;
-  fits = omega (arith, length-drop 8 packet, made.fits);
-  room = omega (arith, large);
-  some = λ h. some_ready remaining s t room packet r made going large (more h);
-}
+next_of {remaining = remaining} {s = s} {t = t} {room = room} {packet = packet} {r = r} made going large more cutting =
+    record { cutting = cutting; fits = omega (arith, length-drop 8 packet, made.fits); room = omega (arith, large); some = λ h. some_ready remaining s t room packet r made going large (more h) }
 
 module _ {W : Type 0} {contents : W → Option (List ℕ)} {m : ℕ} {a b : Seen} {old mid : Counted W} {done : Written} {place : ℕ} {body : List ℕ} where
   -- a full packet was written
@@ -193,7 +168,7 @@ module _ {W : Type 0} {contents : W → Option (List ℕ)} {m : ℕ} {a b : Seen
         takes = joined a b c x.payload body (length body + 1) (le_refl _) x.takes takes;
         over = over;
         wrote = rw (p.1, p.0, p.2, wire-more) (Appends-kept (contents old.device) (contents sent.device) (contents new.device) _ both flushes.0);
-        done_is = rw (p.1, length-append, length-append, first-length, ← x.placed, ← et) (rw writes.1 at flushes.1.0);
+        done_is = rw (p.1, length-append (first_packets m done.packets x.payload), first-length, length-append x.payload body, ← x.placed, ← et) (rw writes.1 at flushes.1.0);
         failures = flushes.1.1 ∙ writes.2 ∙ x.stays;
         asked = rw (← x.stays, ← writes.2) flushes.1.2;
       }
