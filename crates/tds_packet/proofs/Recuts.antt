@@ -98,58 +98,62 @@ pub record Cutting {W : Type 0} (contents : W → Option (List ℕ)) (m : ℕ) (
   pub bytes_are : done.bytes ≡ length (wire_of (first_packets m done.packets payload))
   pub stays : new.failures ≡ old.failures
 
--- Then the next body was gathered.
-pub record Next {W : Type 0} (contents : W → Option (List ℕ)) (m : ℕ) (a b : Seen) (old mid : Counted W) (done : Written) (place : ℕ) (body : List ℕ) : Type 0 where
-  pub cutting : Cutting contents m a b old mid done place
-  pub fits : length body ≤ m
-  pub room : 0 < m
-  pub some : 0 < done.packets → 0 < length body
-
 -- nothing was cut
 pub cut_none : {W : Type 0} (contents : W → Option (List ℕ)) (m : ℕ) (a : Seen) (to : Counted W) (place : ℕ) → place ≡ 0 → Cutting contents m a a to to (record { packets = 0; bytes = 0 }) place
 unfolding first_packets
 cut_none contents m a to place e = record { payload = []; takes = Takes-none a 1; whole = omega arith; placed = e; wrote = Appends-nil (contents to.device); bytes_are = refl; stays = refl }
 
-pub next_of : {R W : Type 0} {remaining : R → Option (List ℕ)} {contents : W → Option (List ℕ)} {s t : Payload R} {room : ℕ} {packet : List ℕ} {r : Result Bool Stop} {a : Seen} {old mid : Counted W} {done : Written}
-    → Gathers remaining s t room packet r → s.stopped ≡ None → 8 < room → (0 < done.packets → 0 < length (buffered s)) → Cutting contents (room - 8) a (seen remaining s) old mid done s.place
-    → Next contents (room - 8) a (seen remaining s) old mid done s.place (drop 8 packet)
-next_of {remaining = remaining} {s = s} {t = t} {room = room} {packet = packet} {r = r} made going large more cutting =
-    record { cutting = cutting; fits = omega (arith, length-drop 8 packet, made.fits); room = omega (arith, large); some = λ h. some_ready remaining s t room packet r made going large (more h) }
+-- Full packets were cut, and then the next body gathered.
+pub record Next {R W : Type 0} (remaining : R → Option (List ℕ)) (contents : W → Option (List ℕ)) (a : Seen) (s t : Payload R) (room : ℕ) (packet : List ℕ) (r : Result Bool Stop) (old mid : Counted W) (done : Written) : Type 0 where
+  pub cutting : Cutting contents (room - 8) a (seen remaining s) old mid done s.place
+  pub made : Gathers remaining s t room packet r
+  pub going : s.stopped ≡ None
+  pub large : 8 < room
+  pub more : 0 < done.packets → 0 < length (buffered s)
 
-module _ {W : Type 0} {contents : W → Option (List ℕ)} {m : ℕ} {a b : Seen} {old mid : Counted W} {done : Written} {place : ℕ} {body : List ℕ} where
+module _ {R W : Type 0} {remaining : R → Option (List ℕ)} {contents : W → Option (List ℕ)} {a : Seen} {s t : Payload R} {room : ℕ} {packet : List ℕ} {old mid : Counted W} {done : Written} where
+  next_parts : {r : Result Bool Stop} (n : Next remaining contents a s t room packet r old mid done) → let all = n.cutting.payload ++ drop 8 packet in
+      (before_last (room - 8) (length all) ≡ done.packets) × (packets_before (room - 8) all ≡ first_packets (room - 8) done.packets n.cutting.payload) × (drop (done.packets * (room - 8)) all ≡ drop 8 packet)
+  next_parts {r = r} n = parts (room - 8) done.packets n.cutting.payload (drop 8 packet) n.cutting.whole (omega (arith, n.made.fits, length-drop 8 packet)) (omega (arith, n.large)) (λ h. some_ready remaining s t room packet r n.made n.going n.large (n.more h))
+
+  next_takes : {last : Bool} (n : Next remaining contents a s t room packet (Ok last) old mid done) → Takes a (seen remaining t) (n.cutting.payload ++ drop 8 packet) (length (n.cutting.payload ++ drop 8 packet) + 1)
+  next_takes n = joined a (seen remaining s) (seen remaining t) n.cutting.payload (drop 8 packet) (length (drop 8 packet) + 1) (le_refl _) n.cutting.takes n.made.gives
+
+  next_full : {last : Bool} (n : Next remaining contents a s t room packet (Ok last) old mid done) → last ≡ false → length (n.cutting.payload ++ drop 8 packet) ≡ (done.packets + 1) * (room - 8)
+  next_full n e = rw (length-append, add-one, suc-mul) (omega (arith, n.cutting.whole, length-drop 8 packet, (n.made.full e).0))
+
   -- a full packet was written
-  pub cut_more : {c : Seen} {new : Counted W} (more : Written) (placed : ℕ) → Next contents m a b old mid done place body → Takes b c body (length body + 1) → length body ≡ m → placed ≡ place + length body
-      → WritesPacket contents mid new done (packet_bytes (cut_packet done.packets false body)) (Ok more) → Cutting contents m a c old new more placed
-  cut_more {c = c} {new = new} more placed n takes full ep writes =
+  pub cut_more : {new : Counted W} {last : Bool} (more : Written) → last ≡ false → Next remaining contents a s t room packet (Ok last) old mid done
+      → WritesPacket contents mid new done (packet_bytes (cut_packet done.packets false (drop 8 packet))) (Ok more) → Cutting contents (room - 8) a (seen remaining t) old new more t.place
+  cut_more {new = new} more test n writes =
       let x = n.cutting in
-      let firsts = ap wire_of (first_is m done.packets (done.packets + 1) x.payload body (omega arith) x.whole full) ∙ wire-more (first_packets m done.packets x.payload) (cut_packet done.packets false body) in
-      let counted : length (x.payload ++ body) ≡ (done.packets + 1) * m = rw (length-append, add-one, suc-mul) (omega (arith, x.whole, full)) in
+      let full : length (drop 8 packet) ≡ room - 8 = omega (arith, length-drop 8 packet, (n.made.full test).0) in
+      let firsts = ap wire_of (first_is (room - 8) done.packets (done.packets + 1) x.payload (drop 8 packet) (omega arith) x.whole full) ∙ wire-more (first_packets (room - 8) done.packets x.payload) (cut_packet done.packets false (drop 8 packet)) in
       rw writes.1 (record {
-        payload = x.payload ++ body;
-        takes = joined a b c x.payload body (length body + 1) (le_refl _) x.takes takes;
-        whole = counted;
-        placed = rw (length-append, ← x.placed) ep;
+        payload = x.payload ++ drop 8 packet;
+        takes = next_takes n;
+        whole = next_full n test;
+        placed = rw (length-append, ← x.placed) n.made.place;
         wrote = rw firsts (Appends-trans (contents old.device) (contents mid.device) (contents new.device) _ _ x.wrote writes.0);
-        bytes_are = rw (firsts, x.bytes_are) (sym (length-append (wire_of (first_packets m done.packets x.payload)) _));
+        bytes_are = rw (firsts, x.bytes_are) (sym (length-append (wire_of (first_packets (room - 8) done.packets x.payload)) _));
         stays = writes.2 ∙ x.stays;
       })
 
   -- a packet, or the flush after the last one, failed
-  pub cut_broken : {c : Seen} {new : Counted W} (last : Bool) (stop : RecutStop) → Next contents m a b old mid done place body → Takes b c body (length body + 1) → IsBetween c → (last ≡ true → IsOver c) → (last ≡ false → (length body ≡ m) × IsNotOver c)
-      → WritesPacket contents mid new done (packet_bytes (cut_packet done.packets last body)) (Err stop) → StopsOutput contents m a c old new stop
-  cut_broken {c = c} {new = new} last stop n takes between over full writes =
+  pub cut_broken : {new : Counted W} {last : Bool} (is : Bool) (stop : RecutStop) → last ≡ is → Next remaining contents a s t room packet (Ok last) old mid done
+      → WritesPacket contents mid new done (packet_bytes (cut_packet done.packets is (drop 8 packet))) (Err stop) → StopsOutput contents (room - 8) a (seen remaining t) old new stop
+  cut_broken {new = new} is stop test n writes =
       let x = n.cutting in
-      let p = parts m done.packets x.payload body x.whole n.fits n.room n.some in
-      let long : length body ≡ m → length (x.payload ++ body) ≡ (done.packets + 1) * m = λ e. rw (length-append, add-one, suc-mul) (omega (arith, x.whole, e)) in
+      let p = next_parts n in
       record {
-        payload = x.payload ++ body;
-        last = last;
+        payload = x.payload ++ drop 8 packet;
+        last = is;
         part = writes.0;
         rest = writes.1;
-        takes = joined a b c x.payload body (length body + 1) (le_refl _) x.takes takes;
-        between = between;
-        over = over;
-        goes_on = λ e. ((full e).1, rw p.0 (long (full e).0));
+        takes = next_takes n;
+        between = n.made.between;
+        over = λ e. n.made.over (test ∙ e);
+        goes_on = λ e. ((n.made.full (test ∙ e)).2, rw p.0 (next_full n (test ∙ e)));
         split = rw (p.0, p.2) writes.2;
         wrote = rw p.1 (Appends-trans (contents old.device) (contents mid.device) (contents new.device) _ writes.0 x.wrote writes.3);
         stop_is = rw (p.1, length-append, ← x.bytes_are) writes.4;
@@ -157,37 +161,37 @@ module _ {W : Type 0} {contents : W → Option (List ℕ)} {m : ℕ} {a b : Seen
       }
 
   -- all was written, and the writer flushed
-  pub cut_finished : (c : Seen) (new sent : Counted W) (all : Written) (total : ℕ) (r : Result Recut RecutStop) → Next contents m a b old mid done place body → Takes b c body (length body + 1) → IsBetween c → IsOver c → total ≡ place + length body
-      → WritesPacket contents mid sent done (packet_bytes (cut_packet done.packets true body)) (Ok all) → Flushes contents sent new all total r → Cuts contents m a c old new r
-  cut_finished c new sent all total (Ok answer) n takes between over et writes flushes =
+  pub cut_finished : {last : Bool} (new sent : Counted W) (all : Written) (total : ℕ) (r : Result Recut RecutStop) → last ≡ true → Next remaining contents a s t room packet (Ok last) old mid done → total ≡ t.place
+      → WritesPacket contents mid sent done (packet_bytes (cut_packet done.packets true (drop 8 packet))) (Ok all) → Flushes contents sent new all total r → Cuts contents (room - 8) a (seen remaining t) old new r
+  cut_finished new sent all total (Ok answer) test n et writes flushes =
       let x = n.cutting in
-      let p = parts m done.packets x.payload body x.whole n.fits n.room n.some in
+      let p = next_parts n in
       let both = Appends-trans (contents old.device) (contents mid.device) (contents sent.device) _ _ x.wrote writes.0 in
       record {
-        payload = x.payload ++ body;
-        takes = joined a b c x.payload body (length body + 1) (le_refl _) x.takes takes;
-        over = over;
+        payload = x.payload ++ drop 8 packet;
+        takes = next_takes n;
+        over = n.made.over test;
         wrote = rw (p.1, p.0, p.2, wire-more) (Appends-kept (contents old.device) (contents sent.device) (contents new.device) _ both flushes.0);
-        done_is = rw (p.1, length-append (first_packets m done.packets x.payload), first-length, length-append x.payload body, ← x.placed, ← et) (rw writes.1 at flushes.1.0);
+        done_is = rw (p.1, length-append (first_packets (room - 8) done.packets x.payload), first-length, length-append x.payload (drop 8 packet), ← x.placed, ← n.made.place, ← et) (rw writes.1 at flushes.1.0);
         failures = flushes.1.1 ∙ writes.2 ∙ x.stays;
         asked = rw (← x.stays, ← writes.2) flushes.1.2;
       }
-  cut_finished c new sent all total (Err stop) n takes between over et writes flushes =
-      let bytes = packet_bytes (cut_packet done.packets true body) in
-      inr (cut_broken true stop n takes between (λ _. over) (λ e. cc)
-      (bytes, [], append-nil bytes, Appends-kept (contents mid.device) (contents sent.device) (contents new.device) bytes writes.0 flushes.0, rw writes.1 at flushes.1.0, rw (← writes.2) flushes.1.1))
+  cut_finished new sent all total (Err stop) test n et writes flushes =
+      let bytes = packet_bytes (cut_packet done.packets true (drop 8 packet)) in
+      let wrote = Appends-kept (contents mid.device) (contents sent.device) (contents new.device) bytes writes.0 flushes.0 in
+      inr (cut_broken true stop test n (bytes, [], append-nil bytes, wrote, rw writes.1 at flushes.1.0, rw (← writes.2) flushes.1.1))
 
   -- the input stopped, and the writer was flushed
-  pub cut_stopped : {c : Seen} {new : Counted W} (stop : Stop) (flushed : Bool) → Next contents m a b old mid done place body → Ends b c body stop → (stop.fault ≡ MessageEnded → ⊥) → Keeps (contents mid.device) (contents new.device)
+  pub cut_stopped : {new : Counted W} {stop : Stop} (flushed : Bool) → Next remaining contents a s t room packet (Err stop) old mid done → Keeps (contents mid.device) (contents new.device)
       → (IsTrue flushed → (new.failures ≡ mid.failures) × (mid.failures < 2 ^ 64 - 1)) → (flushed ≡ false → new.failures ≡ one_more mid.failures)
-      → StopsInput contents m a c old new (record { stop = stop; written = done.bytes; unwritten = 0 })
-  cut_stopped {c = c} {new = new} stop flushed n ends goes_on keeps ok counted =
+      → StopsInput contents (room - 8) a (seen remaining t) old new (record { stop = stop; written = done.bytes; unwritten = 0 })
+  cut_stopped {new = new} {stop = stop} flushed n keeps ok counted =
       let x = n.cutting in
-      let p = parts m done.packets x.payload body x.whole n.fits n.room n.some in
+      let p = next_parts n in
       record {
-        payload = x.payload ++ body;
-        ends = Ends-after a b c x.payload body (length x.payload + 1) stop x.takes ends;
-        goes_on = goes_on;
+        payload = x.payload ++ drop 8 packet;
+        ends = Ends-after a (seen remaining s) (seen remaining t) x.payload (drop 8 packet) _ stop x.takes n.made.gives;
+        goes_on = n.made.goes_on;
         wrote = rw p.1 (Appends-kept (contents old.device) (contents mid.device) (contents new.device) _ x.wrote keeps);
         written = rw p.1 x.bytes_are;
         unwritten = refl;

@@ -1,5 +1,5 @@
 use Rattle.tds_packet.proofs.Words.{common_steps, ◌≡◌, ◌∙◌, inr, inl, ◌+◌, ◌-◌, true, false, drop, length, sym, ap, rules, arith, length-drop, packet_bytes, seen, Cuts, cut_packet}
-use Rattle.tds_packet.proofs.{Passing.passed_on, Recuts.cut_broken, Recuts.cut_finished, Recuts.cut_length, Recuts.cut_more, Recuts.cut_none, Recuts.cut_stopped, Recuts.next_of}
+use Rattle.tds_packet.proofs.{Passing.passed_on, Recuts.cut_broken, Recuts.cut_finished, Recuts.cut_length, Recuts.cut_more, Recuts.cut_none, Recuts.cut_stopped}
 use Rattle.tds_packet.proofs.recutting.cut.Goals as goal
 
 pub loop-to-init : goal.loop-to-init
@@ -8,36 +8,25 @@ loop-to-init g c = grind (arith, common_steps, cut_none)
 pub returns-in-Ok-true-clause-cuts : goal.returns-in-Ok-true-clause-cuts
 returns-in-Ok-true-clause-cuts g c =
     let inv = c.loop-to.invariant in
-    let made = c.in-Ok-true.ensures.body in
-    let next = next_of made inv.going.going (omega (arith, inv.room, c.requires.room)) inv.more inv.cutting in
-    rw (sym inv.room) (cut_finished (seen g.R.Read.remaining c.gather.new.payload) c.finish.new.to c.write_packet.new.to c.in_ok-all-in-Ok-true.all c.place.result c.finish.result next
-    made.gives made.between (made.over c.in-Ok-true.field-0-test) (c.place.ensures ∙ made.place) c.in_ok-all-in-Ok-true.ensures.writes c.finish.ensures)
+    rw (sym inv.room) (cut_finished c.finish.new.to c.write_packet.new.to c.in_ok-all-in-Ok-true.all c.place.result c.finish.result c.in-Ok-true.field-0-test
+    (record { cutting = inv.cutting; made = c.in-Ok-true.ensures.body; going = inv.going.going; large = omega (arith, inv.room, c.requires.room); more = inv.more }) c.place.ensures c.in_ok-all-in-Ok-true.ensures.writes c.finish.ensures)
 
 pub returns-in_err-all-in-Ok-true-clause-cuts : goal.returns-in_err-all-in-Ok-true-clause-cuts
 returns-in_err-all-in-Ok-true-clause-cuts g c =
-    let t = seen g.R.Read.remaining c.gather.new.payload in
     let inv = c.loop-to.invariant in
-    let made = c.in-Ok-true.ensures.body in
-    let next = next_of made inv.going.going (omega (arith, inv.room, c.requires.room)) inv.more inv.cutting in
-    rw (sym inv.room) (passed_on _ _ (Cuts g.W.Write.contents (c.loop-to.output.room - 8) (seen g.R.Read.remaining c.args.payload.now) t c.args.to.now c.write_packet.new.to) c.from_residual.ensures.1
-    (inr (cut_broken true _ next made.gives made.between (λ _. made.over c.in-Ok-true.field-0-test) (λ e. cc) c.in_err-all-in-Ok-true.ensures.writes)))
+    rw (sym inv.room) (passed_on _ _ (Cuts g.W.Write.contents (c.loop-to.output.room - 8) (seen g.R.Read.remaining c.args.payload.now) (seen g.R.Read.remaining c.gather.new.payload) c.args.to.now c.write_packet.new.to) c.from_residual.ensures.1
+    (inr (cut_broken true _ c.in-Ok-true.field-0-test (record { cutting = inv.cutting; made = c.in-Ok-true.ensures.body; going = inv.going.going; large = omega (arith, inv.room, c.requires.room); more = inv.more }) c.in_err-all-in-Ok-true.ensures.writes)))
 
 pub returns-in_err-done-in-Ok-false-clause-cuts : goal.returns-in_err-done-in-Ok-false-clause-cuts
 returns-in_err-done-in-Ok-false-clause-cuts g c =
-    let t = seen g.R.Read.remaining c.gather.new.payload in
     let inv = c.loop-to.invariant in
-    let made = c.in-Ok-false.ensures.body in
-    let full = made.full c.in-Ok-false.field-0-test in
-    let next = next_of made inv.going.going (omega (arith, inv.room, c.requires.room)) inv.more inv.cutting in
-    rw (sym inv.room) (passed_on _ _ (Cuts g.W.Write.contents (c.loop-to.output.room - 8) (seen g.R.Read.remaining c.args.payload.now) t c.args.to.now c.write_packet-in-Ok-false.new.to) c.from_residual-in_err-done-in-Ok-false.ensures.1
-    (inr (cut_broken false _ next made.gives made.between (λ e. cc) (λ _. (length-drop 8 c.gather.new.output.bytes ∙ ap (λ i. i - 8) full.0, full.2)) c.in_err-done-in-Ok-false.ensures.writes)))
+    rw (sym inv.room) (passed_on _ _ (Cuts g.W.Write.contents (c.loop-to.output.room - 8) (seen g.R.Read.remaining c.args.payload.now) (seen g.R.Read.remaining c.gather.new.payload) c.args.to.now c.write_packet-in-Ok-false.new.to) c.from_residual-in_err-done-in-Ok-false.ensures.1
+    (inr (cut_broken false _ c.in-Ok-false.field-0-test (record { cutting = inv.cutting; made = c.in-Ok-false.ensures.body; going = inv.going.going; large = omega (arith, inv.room, c.requires.room); more = inv.more }) c.in_err-done-in-Ok-false.ensures.writes)))
 
 pub returns-in-Err-clause-cuts : goal.returns-in-Err-clause-cuts
 returns-in-Err-clause-cuts g c =
     let inv = c.loop-to.invariant in
-    let made = c.in-Err.ensures.body in
-    let next = next_of made inv.going.going (omega (arith, inv.room, c.requires.room)) inv.more inv.cutting in
-    rw (sym inv.room) (inl (cut_stopped c.in-Err.stop c.flush.result next made.gives made.goes_on c.flush.ensures.bytes c.flush.ensures.ok c.flush.ensures.counted))
+    rw (sym inv.room) (inl (cut_stopped c.flush.result (record { cutting = inv.cutting; made = c.in-Err.ensures.body; going = inv.going.going; large = omega (arith, inv.room, c.requires.room); more = inv.more }) c.flush.ensures.bytes c.flush.ensures.ok c.flush.ensures.counted))
 
 pub loop-to-preserved : goal.loop-to-preserved
 loop-to-preserved g c =
@@ -46,7 +35,6 @@ loop-to-preserved g c =
     let body = drop 8 c.gather.new.output.bytes in
     let full = made.full c.in-Ok-false.field-0-test in
     let len : length body ≡ c.loop-to.output.room - 8 = length-drop 8 c.gather.new.output.bytes ∙ ap (λ i. i - 8) full.0 in
-    let next = next_of made inv.going.going (omega (arith, inv.room, c.requires.room)) inv.more inv.cutting in
     let writes = c.in_ok-done-in-Ok-false.ensures.writes in
     let more = c.in_ok-done-in-Ok-false.done in
     let same : c.write_packet-in-Ok-false.new.output.room ≡ c.loop-to.output.room = search rules in
@@ -59,5 +47,5 @@ loop-to-preserved g c =
       few = omega (arith, packets, inv.few, made.place, len, inv.room, c.requires.room);
       short = omega (arith, bytes, cut_length c.loop-to.done.packets false body, inv.short, made.place, len, inv.room, c.requires.room);
       more = λ _. full.1;
-      cutting = rw same (cut_more more c.gather.new.payload.place next made.gives len made.place writes);
+      cutting = rw same (cut_more more c.in-Ok-false.field-0-test (record { cutting = inv.cutting; made = c.in-Ok-false.ensures.body; going = inv.going.going; large = omega (arith, inv.room, c.requires.room); more = inv.more }) writes);
     }
