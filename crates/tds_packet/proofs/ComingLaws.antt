@@ -1,5 +1,5 @@
 -- What comes of an input is the payload of the packets at its front.
-use Rattle.tds_packet.proofs.Words.{common_steps, flat_map-append, ◌≡◌, ◌⊎◌, ℕ, zero, suc, ◌+◌, ◌-◌, ◌<◌, ◌≤◌, Bool, true, false, List, [], ◌∷◌, ◌++◌, length, take, drop, refl, inl, inr, append_assoc, append-nil, arith, length-append, length-drop, take-append_seam, take-append-drop, length-take-le, drop-append_seam, Option, Some, None, ◌==◌, nat_lt, slice_index, nat_tests, Fault, InputEnded, Wire, AreBytes, IsRefused, Longest, Spelt, Packet, packet_bytes, wire_of, payload_of, is_last, is_last_status, IsPacket, WirePlace, BeforeHeader, BeforeBody, WirePart, no_wire, header_length, packet_of, header_fault, wire, wire_size, wire_end, AreBefore, WireFault, Coming, FrontPacket, before, WholePacket, NoPacket, packet_after_header, front_packet, after_packet, message, whole_message, IsFrontMessage}
+use Rattle.tds_packet.proofs.Words.{dec_le, common_steps, flat_map-append, ◌≡◌, ◌⊎◌, ℕ, zero, suc, ◌+◌, ◌-◌, ◌<◌, ◌≤◌, Bool, true, false, List, [], ◌∷◌, ◌++◌, length, take, drop, refl, inl, inr, append_assoc, append-nil, arith, length-append, length-drop, take-append_seam, take-append-drop, length-take-le, drop-append_seam, Option, Some, None, ◌==◌, nat_lt, slice_index, nat_tests, Fault, InputEnded, Wire, AreBytes, IsRefused, Longest, Spelt, Packet, packet_bytes, wire_of, payload_of, is_last, is_last_status, IsPacket, WirePlace, BeforeHeader, BeforeBody, WirePart, no_wire, header_length, packet_of, header_fault, wire, wire_size, wire_end, AreBefore, WireFault, Coming, FrontPacket, before, WholePacket, NoPacket, packet_after_header, front_packet, after_packet, message, whole_message, IsFrontMessage}
 use Rattle.tds_packet.proofs.{ElementLaws.AreBytes-back, ElementLaws.AreBytes-front, ElementLaws.Spelt-append, ElementLaws.Spelt-step, ElementLaws.longest_cut, ElementLaws.longest_refused, PacketLaws.Good, PacketLaws.before_are_read, PacketLaws.before_packet, PacketLaws.free_is_good, PacketLaws.last_one, PacketLaws.one_more, PacketLaws.read_front, Choices.choose}
 
 -- a packet is its header and its body
@@ -59,30 +59,35 @@ module _ (size limit n : ℕ) (packets : List Packet) (each : AreBefore size pac
       (inl (record { some = omega arith; whole = omega (arith, length-append header rest); first = rw first is })) (append-nil (payload_of packets)) refl
   header_gives header rest None comes are eight less free =
       let m = header_length header - 8 in
-      let good : Good size limit packets header = free_is_good size limit packets header eight (AreBytes-front header rest (AreBytes-back (wire_of packets) (header ++ rest) are)) free in
-      let cut : nat_lt (length rest) m ≡ true → Gives size limit packets n (wire_of packets ++ (header ++ rest)) (NoPacket InputEnded []) = λ e.
-      (let off : (header_length header == 8) ≡ false = grind (arith, nat_tests) in
-      let short : length rest < m = grind (arith, nat_tests) in
-      let inside : Spelt (wire size limit) no_wire (wire_of packets ++ header) (at size limit packets (BeforeBody header)) =
-      Spelt-append (wire size limit) no_wire (wire_of packets) (before_packet size limit packets) header _ (before_are_read size limit [] packets each within)
-      (Spelt-step (wire size limit) _ header _ (omega (arith, eight)) eight free (rw off)) in
-      rw (← append_assoc) (stops_at size limit packets (wire_of packets ++ header) rest (BeforeBody header) InputEnded _ (rw append_assoc are) each inside (inr (short, refl)) (append-nil (payload_of packets)) refl)) in
-      let whole : nat_lt (length rest) m ≡ false → Gives size limit packets n (wire_of packets ++ (header ++ rest)) (WholePacket (take m rest) (is_last_status (slice_index header 1)) (header_length header) (drop m rest)) = λ e.
-      (let enough : m ≤ length rest = grind (arith, nat_tests) in
-      let body : length (take m rest) ≡ m = length-take-le m rest enough in
-      let all : (header ++ take m rest) ++ drop m rest ≡ header ++ rest = rw (append_assoc, take-append-drop) in
-      rw (← all) (whole_gives (packet_of header (take m rest)) (header ++ take m rest) (drop m rest) _ (header_length header) comes (rw all are) (packet_again size limit packets header (take m rest) good body)
-      (omega (arith, length-append header (take m rest), body, good.least)) good.within (omega (arith, length-drop m rest)) refl)) in
-      choose (Gives size limit packets n (wire_of packets ++ (header ++ rest))) (nat_lt (length rest) m) (NoPacket InputEnded []) (WholePacket (take m rest) (is_last_status (slice_index header 1)) (header_length header) (drop m rest)) cut whole
+      let good = free_is_good size limit packets header eight (AreBytes-front header rest (AreBytes-back (wire_of packets) (header ++ rest) are)) free in
+      elim (dec_le m (length rest)) [
+        | yes enough ↦
+            (let test : nat_lt (length rest) m ≡ false = grind (arith, nat_tests) in
+            let body = length-take-le m rest enough in
+            let all : (header ++ take m rest) ++ drop m rest ≡ header ++ rest = rw (append_assoc, take-append-drop) in
+            rw (test, ← all) (whole_gives (packet_of header (take m rest)) (header ++ take m rest) (drop m rest) _ (header_length header) comes (rw all are) (packet_again size limit packets header (take m rest) good body)
+            (omega (arith, length-append header (take m rest), body, good.least)) good.within (omega (arith, length-drop m rest)) refl))
+        | no short ↦
+            (let test : nat_lt (length rest) m ≡ true = grind (arith, nat_tests) in
+            let off : (header_length header == 8) ≡ false = grind (arith, nat_tests) in
+            let inside = Spelt-step (wire size limit) (before_packet size limit packets) header (at size limit packets (BeforeBody header)) (omega (arith, eight)) eight free (rw off) in
+            let read = Spelt-append (wire size limit) no_wire (wire_of packets) (before_packet size limit packets) header _ (before_are_read size limit [] packets each within) inside in
+            rw (test, ← append_assoc) (stops_at size limit packets (wire_of packets ++ header) rest (BeforeBody header) InputEnded _ (rw append_assoc are) each read (inr (omega arith, refl)) (append-nil (payload_of packets)) refl))
+      ]
 
 -- what comes after any packets before the last is the message at the front
 comes_front : (size limit n : ℕ) → Comes size limit n
 unfolding message front_packet
 comes_front size limit zero packets rest are each within less = absurd (omega (arith, less))
-comes_front size limit (suc n) packets rest are each within less = choose (Gives size limit packets n (wire_of packets ++ rest)) (nat_lt (length rest) 8) (NoPacket InputEnded []) (packet_after_header (take 8 rest) (drop 8 rest) (header_fault size limit (length (wire_of packets)) (take 8 rest)))
-    (λ e. (let short : length rest < 8 = grind (arith, nat_tests) in stops_at size limit packets (wire_of packets) rest BeforeHeader InputEnded _ are each (before_are_read size limit [] packets each within) (inr (short, refl)) (append-nil (payload_of packets)) refl))
-    (λ e. (let long : 8 ≤ length rest = grind (arith, nat_tests) in
-    rw (take-append-drop 8 rest) at (header_gives size limit n packets each within (take 8 rest) (drop 8 rest) _ (comes_front size limit n) (rw (take-append-drop 8 rest) are) (length-take-le 8 rest long) (omega (arith, length-drop 8 rest)) refl)))
+comes_front size limit (suc n) packets rest are each within less = elim (dec_le 8 (length rest)) [
+  | yes long ↦
+      (let test : nat_lt (length rest) 8 ≡ false = grind (arith, nat_tests) in
+      let all = take-append-drop 8 rest in
+      rw test (rw all at (header_gives size limit n packets each within (take 8 rest) (drop 8 rest) _ (comes_front size limit n) (rw all are) (length-take-le 8 rest long) (omega (arith, length-drop 8 rest)) refl)))
+  | no short ↦
+      (let test : nat_lt (length rest) 8 ≡ true = grind (arith, nat_tests) in
+      rw test (stops_at size limit packets (wire_of packets) rest BeforeHeader InputEnded _ are each (before_are_read size limit [] packets each within) (inr (omega arith, refl)) (append-nil (payload_of packets)) refl))
+]
 
 -- What comes of an input is the message at its front.
 pub front_message : (size limit : ℕ) (input : List ℕ) → AreBytes input → IsFrontMessage size limit input (whole_message size limit input)

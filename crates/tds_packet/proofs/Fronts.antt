@@ -64,9 +64,7 @@ pub record EndsMessage (size limit : ℕ) (input rest payload : List ℕ) (failu
 
 whole_stop : (size limit f g : ℕ) (input rest payload : List ℕ) (stop : Stop) → AreBytes input → g ≡ f → whole_message size limit input ≡ record { bytes = payload; stop = stop; rest = rest }
     → EndsMessage size limit input rest payload f g stop ⊎ StopsAfterPackets size limit input rest payload f g stop
-whole_stop size limit f g input rest payload stop are same e =
-    let m = front_message size limit input are in
-    grind (arith, append-nil)
+whole_stop size limit f g input rest payload stop are same e = grind (arith, append-nil, front_message size limit input are)
 
 -- a payload's stop, where its reader tells its bytes
 pub ends_front : (size limit f : ℕ) (input rest : List ℕ) (q : Seen) (payload : List ℕ) (stop : Stop) → AreBytes input → q.left ≡ Some rest → Ends (begun size limit (Some input) f) q payload stop
@@ -74,9 +72,8 @@ pub ends_front : (size limit f : ℕ) (input rest : List ℕ) (q : Seen) (payloa
 ends_front size limit f input rest q payload stop are left (inl x) = grind (arith, whole_stop)
 ends_front size limit f input rest q payload stop are left (inr (inl x)) = grind (arith, append-nil, whole_stop)
 ends_front size limit f input rest q payload stop are left (inr (inr x)) =
-    let split : input ≡ x.0 ++ rest = subst (λ l. Consumes (Some input) l x.0) left x.1 in
-    let m = front_message size limit x.0 (AreBytes-front x.0 rest (subst AreBytes split are)) in
-    grind (arith, append_assoc)
+    let split : input ≡ x.0 ++ rest = rw left at x.1 in
+    grind (arith, append_assoc, front_message size limit x.0 (AreBytes-front x.0 rest (rw split at are)))
 
 -- a message of which all was handed out
 pub over_front : (size limit f : ℕ) (input rest : List ℕ) (q : Seen) (bytes : List ℕ) (n : ℕ) → AreBytes input → q.left ≡ Some rest → Takes (begun size limit (Some input) f) q bytes n → (o : IsOver q)
@@ -96,10 +93,8 @@ split_last : (size : ℕ) (packets : List Packet) → AreMessage size packets �
 split_last size [] each some = absurd (omega (arith, some))
 split_last size (p ∷ []) each some = ([], p, refl, tt)
 split_last size (p ∷ q ∷ ps) each some =
-    let tail : AreMessage size (q ∷ ps) ⊎ AreBefore size (q ∷ ps) = elim each [ inl x ↦ inl x.2 | inr x ↦ inr x.2 ] in
-    let head : IsPacket size p × (is_last p ≡ false) = elim each [ inl x ↦ (x.0, x.1) | inr x ↦ (x.0, x.1) ] in
-    let r = split_last size (q ∷ ps) tail (omega arith) in
-    (p ∷ r.0, r.1, ap (λ l. p ∷ l) r.2, (head.0, head.1, r.3))
+    let r = split_last size (q ∷ ps) (elim each [ inl x ↦ inl x.2 | inr x ↦ inr x.2 ]) (omega arith) in
+    (p ∷ r.0, r.1, ap (λ l. p ∷ l) r.2, elim each [ inl x ↦ (x.0, x.1, r.3) | inr x ↦ (x.0, x.1, r.3) ])
 
 -- what comes of a packet before the last, and of more after it
 front_whole : (size limit from : ℕ) (p : Packet) (more : List ℕ) → IsPacket size p → is_last p ≡ false → from + packet_length p ≤ limit → front_packet size limit from (packet_bytes p ++ more) ≡ WholePacket p.body false (packet_length p) more
@@ -122,13 +117,12 @@ message_before size limit (suc n) from place (p ∷ ps) each within less =
 pub in_last : (size limit f n : ℕ) (input rest : List ℕ) (q : Seen) (bytes payload : List ℕ) → q.left ≡ Some rest → Takes (begun size limit (Some input) f) q bytes n
     → (p : BeginsMessage size limit input rest payload) → 0 < length payload → InLast size p.packets n
 in_last size limit f n input rest q bytes payload left t p some =
-    let filled : 0 < length p.packets = elim p.packets as (λ ps. payload_of ps ≡ payload → 0 < length ps) [ [] ↦ λ e. absurd (omega (arith, some, ap length e)) | ◌∷◌ x (xs → _) ↦ λ _. omega arith ] p.payload_is in
-    let l = split_last size p.packets p.each filled in
-    let split : input ≡ t.0 ++ rest = subst (λ l. Consumes (Some input) l t.0) left t.1.0 in
+    let filled = λ (ps : List Packet). elim ps as (λ ps. payload_of ps ≡ payload → 0 < length ps) [ [] ↦ λ e. absurd (omega (arith, some, ap length e)) | ◌∷◌ x (xs → _) ↦ λ _. omega arith ] in
+    let l = split_last size p.packets p.each (filled p.packets p.payload_is) in
+    let split : input ≡ t.0 ++ rest = rw left at t.1.0 in
     let wires : wire_of p.packets ≡ wire_of l.0 ++ packet_bytes l.1 = ap wire_of (sym l.2) ∙ simp (flat_map-append, append-nil) in
-    let read : wire_of p.packets ≡ t.0 = append_cancel_right (wire_of p.packets) t.0 rest (p.begin ∙ split) in
-    let front : take (length (wire_of l.0)) t.0 ≡ wire_of l.0 = ap (take (length (wire_of l.0))) (sym read ∙ wires) ∙ take-append_seam (wire_of l.0) (packet_bytes l.1) in
-    let short : length t.0 ≡ length (wire_of l.0) + length (packet_bytes l.1) = ap length (sym read ∙ wires) ∙ length-append (wire_of l.0) (packet_bytes l.1) in
-    let come : (whole_message size limit (wire_of l.0)).bytes ≡ payload_of l.0 =
-    message_before size limit (suc (length (wire_of l.0))) 0 0 l.0 l.3 (omega (arith, p.within, ap length read, short)) (omega arith) in
-    record { before = l.0; last = l.1; split = l.2; none_last = l.3; earlier = rw (← come, ← front) (t.3 (length (wire_of l.0)) (omega (arith, short))) }
+    let read = append_cancel_right t.0 (wire_of l.0 ++ packet_bytes l.1) rest (sym split ∙ sym p.begin ∙ ap (λ w. w ++ rest) wires) in
+    let long = length-append (wire_of l.0) (packet_bytes l.1) in
+    let come = message_before size limit (suc (length (wire_of l.0))) 0 0 l.0 l.3 (omega (arith, p.within, ap length wires, long)) (omega arith) in
+    let front : take (length (wire_of l.0)) t.0 ≡ wire_of l.0 = rw read (take-append_seam (wire_of l.0) (packet_bytes l.1)) in
+    record { before = l.0; last = l.1; split = l.2; none_last = l.3; earlier = rw (← come, ← front) (t.3 (length (wire_of l.0)) (omega (arith, ap length read, long))) }

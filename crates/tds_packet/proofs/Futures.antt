@@ -63,7 +63,7 @@ pub Takes-trans : (a b c : Seen) (hs bs : List ℕ) (n m : ℕ) → n ≤ length
 Takes-trans a b c hs bs n m le p q =
     let r = p.0 in
     let s = q.0 in
-    let follows : (zs : List ℕ) → a.future ((r ++ s) ++ zs) ≡ before (hs ++ bs) (c.future zs) = λ zs. rw (append_assoc, p.1.1 (s ++ zs), q.1.1 zs, append_assoc) in
+    let follows : (zs : List ℕ) → a.future ((r ++ s) ++ zs) ≡ before (hs ++ bs) (c.future zs) = λ zs. rw (append_assoc r s zs, p.1.1 (s ++ zs), q.1.1 zs, append_assoc) in
     (r ++ s, (Consumes-trans a.left b.left c.left r s p.1.0 q.1.0, follows), omega (arith, p.2, q.2, length-append r s), (λ j lt. needs_joined a b r s hs n m j le p.3 q.3 p.1.1 lt), Stays-trans a.failures b.failures c.failures r s p.4 q.4)
 
 pub Ends-after : (a b c : Seen) (hs bs : List ℕ) (n : ℕ) (e : Stop) → Takes a b hs n → Ends b c bs e → Ends a c (hs ++ bs) e
