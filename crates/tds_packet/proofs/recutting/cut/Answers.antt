@@ -34,18 +34,15 @@ loop-to-preserved g c =
     let made = c.in-Ok-false.ensures.body in
     let body = drop 8 c.gather.new.output.bytes in
     let full = made.full c.in-Ok-false.field-0-test in
-    let len : length body ≡ c.loop-to.output.room - 8 = length-drop 8 c.gather.new.output.bytes ∙ ap (λ i. i - 8) full.0 in
+    let len : length body ≡ c.loop-to.output.room - 8 = omega (arith, length-drop 8 c.gather.new.output.bytes, full.0) in
     let writes = c.in_ok-done-in-Ok-false.ensures.writes in
-    let more = c.in_ok-done-in-Ok-false.done in
     let same : c.write_packet-in-Ok-false.new.output.room ≡ c.loop-to.output.room = search rules in
-    let packets : more.packets ≡ c.loop-to.done.packets + 1 = ap (λ w. w.packets) writes.1 in
-    let bytes : more.bytes ≡ c.loop-to.done.bytes + length (packet_bytes (cut_packet c.loop-to.done.packets false body)) = ap (λ w. w.bytes) writes.1 in
     record {
       going = search rules;
       same = search rules;
       room = same ∙ inv.room;
-      few = omega (arith, packets, inv.few, made.place, len, inv.room, c.requires.room);
-      short = omega (arith, bytes, cut_length c.loop-to.done.packets false body, inv.short, made.place, len, inv.room, c.requires.room);
+      few = omega (arith, ap (λ w. w.packets) writes.1, inv.few, made.place, len, inv.room, c.requires.room);
+      short = omega (arith, ap (λ w. w.bytes) writes.1, cut_length c.loop-to.done.packets false body, inv.short, made.place, len, inv.room, c.requires.room);
       more = λ _. full.1;
-      cutting = rw same (cut_more more c.in-Ok-false.field-0-test (record { cutting = inv.cutting; made = c.in-Ok-false.ensures.body; going = inv.going.going; large = omega (arith, inv.room, c.requires.room); more = inv.more }) writes);
+      cutting = rw same (cut_more c.in_ok-done-in-Ok-false.done c.in-Ok-false.field-0-test (record { cutting = inv.cutting; made = c.in-Ok-false.ensures.body; going = inv.going.going; large = omega (arith, inv.room, c.requires.room); more = inv.more }) writes);
     }

@@ -13,10 +13,10 @@ returns-then-n-eq0-clause-body g c =
     let inv = c.loop-payload.invariant in
     let more : c.in_ok-at_end.field-0 ≡ false = search rules in
     let room : c.loop-payload.output.room ≡ c.args.output.now.room = search rules in
-    let tells = c.in_ok-at_end.ensures.tells in
     let up : c.min-n.result ≡ min (length (buffered c.at_end.new.self)) (c.loop-payload.output.room - length c.loop-payload.output.bytes) = search rules in
     let none : c.min-n.result ≡ 0 = search rules in
-    gathered_ok _ _ c.loop-payload.payload c.at_end.new.self _ _ inv.body c.in_ok-at_end.ensures.gives c.in_ok-at_end.ensures.payload.place false c.in_ok-at_end.ensures.between (λ e. cc) (λ _. (omega (arith, inv.body.fits, room, up, none, tells.ready more), tells.ready more, tells.more more))
+    let ready = c.in_ok-at_end.ensures.tells.ready more in
+    gathered_ok _ _ c.loop-payload.payload c.at_end.new.self _ _ inv.body c.in_ok-at_end.ensures.gives c.in_ok-at_end.ensures.payload.place false c.in_ok-at_end.ensures.between (λ e. cc) (λ _. (omega (arith, inv.body.fits, room, up, none, ready), ready, c.in_ok-at_end.ensures.tells.more more))
 
 pub returns-clause-body : goal.returns-clause-body
 returns-clause-body g c =

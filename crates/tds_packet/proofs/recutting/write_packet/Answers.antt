@@ -6,14 +6,7 @@ returns-in-Err-clause-writes g c =
     let all = packet_bytes (cut_packet c.args.done.packets c.args.last (drop 8 c.args.output.now.bytes)) in
     let k = c.in-Err.taken in
     let is : c.bytes.result.now ≡ all = search rules in
-    let fewer : k ≤ length all = omega (arith, c.in-Err.ensures.part, ap length is) in
-    let taken : length (take k all) ≡ k = length-take-le k all fewer in
-    let len : c.len-length.result ≡ length all = search rules in (
-      take k all,
-      drop k all,
-      take-append-drop k all,
-      subst (λ l. Appends (g.W.Write.contents c.args.to.now.device) (g.W.Write.contents c.deliver.new.self.device) (take k l)) is c.in-Err.ensures.err,
-      c.write_failed.ensures ∙ ap (λ n. write_stop (c.args.done.bytes + n) (c.len-length.result - k)) (sym taken)
-          ∙ ap (λ n. write_stop (c.args.done.bytes + length (take k all)) n) (omega (arith, len, length-drop k all)),
-      c.in-Err.ensures.counted,
-    )
+    let taken : length (take k all) ≡ k = length-take-le k all (omega (arith, c.in-Err.ensures.part, ap length is)) in
+    let len : c.len-length.result ≡ length all = search rules in
+    let took = subst (λ l. Appends (g.W.Write.contents c.args.to.now.device) (g.W.Write.contents c.deliver.new.self.device) (take k l)) is c.in-Err.ensures.err in
+    (take k all, drop k all, take-append-drop k all, took, rw (taken, length-drop, ← len) c.write_failed.ensures, c.in-Err.ensures.counted)

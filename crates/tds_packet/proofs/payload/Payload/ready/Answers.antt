@@ -16,17 +16,13 @@ returns-in_err-advance-clause-gives g c = passed _ _ _ _ c.from_residual.ensures
 
 pub loop-self-preserved : goal.loop-self-preserved
 loop-self-preserved g c =
-    let a = seen g.R.Read.remaining c.args.self.now in
-    let b = seen g.R.Read.remaining c.loop-self.self in
-    let d = seen g.R.Read.remaining c.advance.new.self in
+    let inv = c.loop-self.invariant in
+    let answers = c.in_ok-advance.ensures.payload in
     record {
-      sound = c.in_ok-advance.ensures.payload.answers.sound;
+      sound = answers.answers.sound;
       same = search rules;
-      lazy = λ h.
-          let same = ap (λ p. p.at) (c.loop-self.invariant.lazy h) in
-          let len = ap (λ p. length p.packet.now.bytes) (c.loop-self.invariant.lazy h) in
-          absurd (omega (arith, same, len, c.loop-self-test.true, c.len.ensures));
-      place = c.in_ok-advance.ensures.payload.place ∙ c.loop-self.invariant.place;
-      going = c.in_ok-advance.ensures.payload.answers.going;
-      gives = Takes-trans a b d [] [] 1 1 (le_refl 1) c.loop-self.invariant.gives c.in_ok-advance.ensures.gives;
+      lazy = λ h. absurd (omega (arith, ap (λ p. p.at) (inv.lazy h), ap (λ p. length p.packet.now.bytes) (inv.lazy h), c.loop-self-test.true, c.len.ensures));
+      place = answers.place ∙ inv.place;
+      going = answers.answers.going;
+      gives = Takes-trans (seen g.R.Read.remaining c.args.self.now) (seen g.R.Read.remaining c.loop-self.self) (seen g.R.Read.remaining c.advance.new.self) [] [] 1 1 (le_refl 1) inv.gives c.in_ok-advance.ensures.gives;
     }
