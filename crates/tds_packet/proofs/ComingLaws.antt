@@ -1,11 +1,6 @@
 -- What comes of an input is the payload of the packets at its front.
-use Rattle.tds_packet.proofs.Words.{dec_le, common_steps, flat_map-append, ◌≡◌, ◌⊎◌, ℕ, zero, suc, ◌+◌, ◌-◌, ◌<◌, ◌≤◌, Bool, true, false, List, [], ◌∷◌, ◌++◌, length, take, drop, refl, inl, inr, append_assoc, append-nil, arith, length-append, length-drop, take-append_seam, take-append-drop, length-take-le, drop-append_seam, Option, Some, None, ◌==◌, nat_lt, slice_index, nat_tests, Fault, InputEnded, Wire, AreBytes, IsRefused, Longest, Spelt, Packet, packet_bytes, wire_of, payload_of, is_last, is_last_status, IsPacket, WirePlace, BeforeHeader, BeforeBody, WirePart, no_wire, header_length, packet_of, header_fault, wire, wire_size, wire_end, AreBefore, WireFault, Coming, FrontPacket, before, WholePacket, NoPacket, packet_after_header, front_packet, after_packet, message, whole_message, IsFrontMessage}
-use Rattle.tds_packet.proofs.{ElementLaws.AreBytes-back, ElementLaws.AreBytes-front, ElementLaws.Spelt-append, ElementLaws.Spelt-step, ElementLaws.longest_cut, ElementLaws.longest_refused, PacketLaws.Good, PacketLaws.before_are_read, PacketLaws.before_packet, PacketLaws.free_is_good, PacketLaws.last_one, PacketLaws.one_more, PacketLaws.read_front, Choices.choose}
-
--- a packet is its header and its body
-packet_again : (size limit : ℕ) (packets : List Packet) (header body : List ℕ) → Good size limit packets header → length body ≡ header_length header - 8
-    → (packet_bytes (packet_of header body) ≡ header ++ body) × IsPacket size (packet_of header body)
-packet_again size limit packets header body good whole = grind (arith, common_steps)
+use Rattle.tds_packet.proofs.Words.{dec_le, common_steps, flat_map-append, ◌≡◌, ◌⊎◌, ℕ, zero, suc, ◌+◌, ◌-◌, ◌<◌, ◌≤◌, Bool, true, false, List, [], ◌∷◌, ◌++◌, length, take, drop, refl, inl, inr, append_assoc, append-nil, arith, length-append, length-drop, take-append_seam, take-append-drop, length-take-le, drop-append_seam, Option, Some, None, ◌==◌, nat_lt, nat_tests, Fault, InputEnded, Wire, AreBytes, IsRefused, Longest, Spelt, Packet, packet_bytes, wire_of, payload_of, is_last, IsPacket, WirePlace, BeforeHeader, BeforeBody, WirePart, no_wire, header_length, packet_of, header_fault, wire, wire_size, wire_end, AreBefore, WireFault, Coming, FrontPacket, before, WholePacket, packet_after_header, front_packet, after_packet, message, whole_message, IsFrontMessage}
+use Rattle.tds_packet.proofs.{ElementLaws.AreBytes-back, ElementLaws.AreBytes-front, ElementLaws.Spelt-append, ElementLaws.Spelt-step, ElementLaws.longest_cut, ElementLaws.longest_refused, PacketLaws.before_are_read, PacketLaws.before_packet, PacketLaws.free_is_good, PacketLaws.last_one, PacketLaws.one_more, PacketLaws.read_front}
 
 -- what comes after these packets, by the packet that follows them
 module _ (size limit : ℕ) (packets : List Packet) where
@@ -64,8 +59,9 @@ module _ (size limit n : ℕ) (packets : List Packet) (each : AreBefore size pac
         | yes enough ↦
             (let test : nat_lt (length rest) m ≡ false = grind (arith, nat_tests) in
             let body = length-take-le m rest enough in
+            let again : (packet_bytes (packet_of header (take m rest)) ≡ header ++ take m rest) × IsPacket size (packet_of header (take m rest)) = grind (arith, common_steps) in
             let all : (header ++ take m rest) ++ drop m rest ≡ header ++ rest = rw (append_assoc, take-append-drop) in
-            rw (test, ← all) (whole_gives (packet_of header (take m rest)) (header ++ take m rest) (drop m rest) _ (header_length header) comes (rw all are) (packet_again size limit packets header (take m rest) good body)
+            rw (test, ← all) (whole_gives (packet_of header (take m rest)) (header ++ take m rest) (drop m rest) _ (header_length header) comes (rw all are) again
             (omega (arith, length-append header (take m rest), body, good.least)) good.within (omega (arith, length-drop m rest)) refl))
         | no short ↦
             (let test : nat_lt (length rest) m ≡ true = grind (arith, nat_tests) in

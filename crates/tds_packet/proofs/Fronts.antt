@@ -1,5 +1,6 @@
 -- The packets at the front of an input, and what is read of it.
-use Rattle.tds_packet.proofs.Words.{◌≡◌, ◌∙◌, ◌⊎◌, inl, inr, ℕ, suc, zero, ◌+◌, ◌<◌, ◌≤◌, List, [], ◌∷◌, ◌++◌, length, take, Some, None, Bool, false, refl, sym, ap, subst, arith, append-nil, append_assoc, length-append, take-append_seam, append_cancel_right, flat_map-append, Consumes, if◌then◌else◌, one_more, Fault, InputEnded, MessageEnded, ReadFailed, WrongPacketType, BadPacketLength, ResponseTooLong, Wire, Payload, Stop, AreBytes, Packet, packet_bytes, packet_length, is_last, header_length, wire_of, payload_of, AreBefore, AreMessage, IsPacket, WireFault, Coming, before, whole_message, IsFrontMessage, Seen, Takes, Ends, IsBetween, IsOver, begun, WholePacket, after_packet, front_packet, message}
+use Rattle.std.proofs.lemmas.List.{nil_from_length}
+use Rattle.tds_packet.proofs.Words.{common_steps, ◌≡◌, ◌∙◌, ◌⊎◌, inl, inr, ℕ, suc, zero, ◌+◌, ◌<◌, ◌≤◌, List, [], ◌∷◌, ◌++◌, length, take, Some, false, refl, sym, ap, arith, append-nil, append_assoc, length-append, take-append_seam, append_cancel_right, flat_map-append, one_more, Fault, InputEnded, MessageEnded, ReadFailed, Wire, Payload, Stop, AreBytes, Packet, packet_bytes, packet_length, is_last, header_length, wire_of, payload_of, AreBefore, AreMessage, IsPacket, WireFault, Coming, before, whole_message, IsFrontMessage, Seen, Takes, Ends, IsBetween, IsOver, begun, WholePacket, after_packet, front_packet, message}
 use Rattle.tds_packet.proofs.{ElementLaws.AreBytes-front, PacketLaws.good_header, PacketLaws.header_of, ComingLaws.front_message, Joins.whole_packet}
 
 -- whole packets at the front of an input, with the rest of it after them; none but the last is marked as the last
@@ -10,21 +11,14 @@ pub record BeginsMessage (size limit : ℕ) (input rest payload : List ℕ) : Ty
   pub within : length (wire_of packets) ≤ limit
   pub payload_is : payload_of packets ≡ payload
 
-no_more : (a b c : List ℕ) → a ++ b ≡ c → length a ≡ length c → (b ≡ []) × (a ≡ c)
-no_more a [] c e l = (refl, sym (append-nil a) ∙ e)
-no_more a (x ∷ b) c e l = absurd (omega (arith, l, ap length e, length-append a (x ∷ b)))
-
 -- no fault of the wire is the message's end
-pub not_header : (a b c : Bool) (length kind : ℕ) → (if a then (if b then Some (BadPacketLength length) else if c then Some ResponseTooLong else None) else Some (WrongPacketType kind)) ≡ Some MessageEnded → ⊥
-not_header a b c length kind e = grind (arith)
-
 pub wire_goes_on : (size limit : ℕ) (input : List ℕ) (packets : List Packet) (fault : Fault) → WireFault size limit input packets fault → fault ≡ MessageEnded → ⊥
-wire_goes_on size limit input packets fault w e = grind (arith, not_header)
+wire_goes_on size limit input packets fault w e = grind (arith, common_steps)
 
 -- an input that begins with nothing but packets
 all_packets : (size limit : ℕ) (read rest payload : List ℕ) (place : ℕ) (c : Coming) → IsFrontMessage size limit read c → c.bytes ≡ payload → c.rest ≡ []
     → ((c.stop.fault ≡ MessageEnded) ⊎ (c.stop ≡ record { fault = InputEnded; place = Wire place })) → place ≡ length read → BeginsMessage size limit (read ++ rest) rest payload
-all_packets size limit read rest payload place c m b r s p = grind (arith, wire_goes_on, append-nil, no_more)
+all_packets size limit read rest payload place c m b r s p = grind (arith, wire_goes_on, append-nil, length-append, nil_from_length)
 
 -- what was taken, right after a packet, came of whole packets at the front of the input
 pub takes_begins : (size limit f : ℕ) (input rest : List ℕ) (q : Seen) (bytes : List ℕ) (n : ℕ) → AreBytes input → q.left ≡ Some rest → Takes (begun size limit (Some input) f) q bytes n → IsBetween q

@@ -1,6 +1,5 @@
 -- What is still to come, along a payload's steps.
-use Rattle.tds_packet.proofs.Words.{dec_le, common_steps, ◌≡◌, ◌∙◌, inl, inr, ℕ, suc, zero, ◌+◌, ◌-◌, ◌<◌, ◌≤◌, List, [], ◌++◌, length, take, Option, Some, None, Ok, Err, Bool, true, false, refl, sym, ap, arith, append_assoc, length-append, length-drop, add-zero, nat_tests, take-append-drop, drop-drop, Consumes-nil, Consumes-trans, take-append-add, nat_lt, take-append-le, one_more, Fault, MessageEnded, Wire, Payload, Stop, Header, FrontPacket, WholePacket, NoPacket, Coming, before, stopped_at, front_packet, after_packet, message, coming_of, ReadsPacket, Seen, Follows, Takes, Needs, Ends, IsOver, IsNotOver, IsBetween, begun, NeedsPacket, buffered, further, seen, device, length-take-le, drop_of_length-le}
-use Rattle.tds_packet.specs.declared.payload.Payload as payloads
+use Rattle.tds_packet.proofs.Words.{PayloadOf, dec_le, common_steps, ◌≡◌, inl, inr, ℕ, suc, zero, ◌+◌, ◌-◌, ◌<◌, ◌≤◌, List, [], ◌++◌, length, take, Option, Some, None, Ok, Err, Bool, true, false, refl, sym, ap, arith, append_assoc, length-append, length-drop, add-zero, nat_tests, take-append-drop, drop-drop, Consumes-nil, Consumes-trans, take-append-add, take-append-le, Fault, MessageEnded, Wire, Payload, Stop, Header, FrontPacket, WholePacket, NoPacket, Coming, before, stopped_at, front_packet, after_packet, message, coming_of, ReadsPacket, Seen, Takes, Needs, Ends, IsOver, IsNotOver, IsBetween, NeedsPacket, buffered, further, seen, device, length-take-le, drop_of_length-le}
 use Rattle.tds_packet.proofs.Joins.{Rises-after, Stays-none, Stays-trans}
 
 rest_shorter : (room max wire : ℕ) (xs body rest : List ℕ) (last : Bool) (n : ℕ) → front_packet room max wire xs ≡ WholePacket body last n rest → length rest < length xs
@@ -19,7 +18,7 @@ message-fuel room max (suc n) zero wire place xs h k = absurd (omega arith)
 message-fuel room max (suc n) (suc m) wire place xs h k = same_after (message room max n) (message room max m) wire place (front_packet room max wire xs)
     (λ body rest l e. (let lt = rest_shorter room max wire xs body rest false l e in message-fuel room max n m (wire + l) (place + length body) rest (omega (arith, lt)) (omega (arith, lt))))
 
-module _ {R : Type 0} (remaining : R → Option (List ℕ)) (p q : payloads.Payload R) (body : List ℕ) (needs : NeedsPacket p) where
+module _ {R : Type 0} (remaining : R → Option (List ℕ)) (p q : PayloadOf R) (body : List ℕ) (needs : NeedsPacket p) where
   none_left : buffered p ≡ []
   none_left = drop_of_length-le p.packet.now.bytes (omega (arith, needs.used_up))
 
@@ -33,15 +32,12 @@ module _ {R : Type 0} (remaining : R → Option (List ℕ)) (p q : payloads.Payl
   unfolding coming_of message
   advance_err e reads = grind (arith, none_left)
 
-before-append : (hs bs : List ℕ) (c : Coming) → before (hs ++ bs) c ≡ before hs (before bs c)
-before-append hs bs c = rw append_assoc
-
 hand : (room max wire place : ℕ) (last : Bool) (hs bs xs : List ℕ) → coming_of room max wire place last None (hs ++ bs) xs ≡ before hs (coming_of room max wire (place + length hs) last None bs xs)
 unfolding coming_of
-hand room max wire place last hs bs xs = grind (arith, common_steps, length-append, before-append)
+hand room max wire place last hs bs xs = grind (arith, common_steps, length-append, append_assoc)
 
 -- Bytes that lie ready are handed out.
-pub further_takes : {R : Type 0} (remaining : R → Option (List ℕ)) (p : payloads.Payload R) (n m : ℕ) → n ≤ length (buffered p) → p.stopped ≡ None → Takes (seen remaining p) (seen remaining (further p n)) (take n (buffered p)) m
+pub further_takes : {R : Type 0} (remaining : R → Option (List ℕ)) (p : PayloadOf R) (n m : ℕ) → n ≤ length (buffered p) → p.stopped ≡ None → Takes (seen remaining p) (seen remaining (further p n)) (take n (buffered p)) m
 further_takes remaining p n m le e =
     let split : buffered p ≡ take n (buffered p) ++ buffered (further p n) = sym (rw (← drop-drop n p.at p.packet.now.bytes) (take-append-drop n (buffered p))) in
     let len = length-take-le n (buffered p) le in
@@ -72,11 +68,7 @@ Ends-after a b c hs bs n e p (inl y) =
 Ends-after a b c hs bs n e p (inr (inl y)) = grind (arith, common_steps, Consumes-trans)
 Ends-after a b c hs bs n e p (inr (inr y)) = grind (arith, common_steps, Consumes-trans, Rises-after)
 
-pub new_seen : (room max : ℕ) (left : Option (List ℕ)) (f : ℕ) → record { left = left; future = coming_of room max 0 0 false None []; wire = 0; failures = f } ≡ begun room max left f
-unfolding coming_of
-new_seen room max left f = refl
-
-module _ {R : Type 0} (remaining : R → Option (List ℕ)) (p : payloads.Payload R) where
+module _ {R : Type 0} (remaining : R → Option (List ℕ)) (p : PayloadOf R) where
   pub stopped_ends : (s : Stop) → p.stopped ≡ Some s → Ends (seen remaining p) (seen remaining p) [] s
   unfolding coming_of
   stopped_ends s e = inl ([], Consumes-nil (remaining p.from.now.device), λ zs. rw e refl, Stays-none p.from.now.failures)

@@ -1,6 +1,5 @@
 -- A payload on its way into packets of one size.
-use Rattle.tds_packet.proofs.Words.{◌≡◌, ◌∙◌, inl, inr, ◌⊎◌, ℕ, zero, suc, ◌+◌, ◌-◌, ◌*◌, ◌<◌, ◌≤◌, Bool, true, false, List, [], ◌∷◌, ◌++◌, length, take, drop, Option, None, refl, sym, ap, arith, append-nil, length-append, length-drop, take_all, le_refl, add-one, div-mul-add, flat_map-append, Appends-nil, Appends-trans, Appends-kept, drop-append_seam, suc-mul, drop_of_length-le, Result, Ok, Err, IsTrue, ◌^◌, Keeps, Space, holding, take-append-le, drop-append-le, one_more, Counted, Recut, RecutStop, MessageEnded, Stop, Written, Coming, before, coming_of, Packet, packet_bytes, wire_of, buffered, seen, Cuts, Flushes, Gains, StopsInput, StopsOutput, WritesPacket, Gathers, cut_packet, first_packets, before_last, packets_before, Ends, IsBetween, IsNotOver, IsOver, Seen, Takes}
-use Rattle.tds_packet.specs.declared.payload.Payload.{Payload}
+use Rattle.tds_packet.proofs.Words.{PayloadOf, ◌≡◌, ◌∙◌, inl, inr, ◌⊎◌, ℕ, zero, suc, ◌+◌, ◌-◌, ◌*◌, ◌<◌, ◌≤◌, Bool, true, false, List, [], ◌∷◌, ◌++◌, length, drop, Option, None, refl, sym, ap, arith, append-nil, length-append, length-drop, take_all, le_refl, add-one, div-mul-add, flat_map-append, Appends-nil, Appends-trans, Appends-kept, drop-append_seam, suc-mul, Result, Ok, Err, IsTrue, ◌^◌, Keeps, take-append-le, drop-append-le, one_more, Counted, Recut, RecutStop, MessageEnded, Stop, Written, Coming, before, coming_of, Packet, packet_bytes, wire_of, buffered, seen, Cuts, Flushes, Gains, StopsInput, StopsOutput, WritesPacket, Gathers, cut_packet, first_packets, before_last, packets_before, Ends, IsBetween, IsNotOver, IsOver, Seen, Takes}
 use Rattle.tds_packet.proofs.{PayloadLaws.ends_there, Futures.Ends-after, Futures.Takes-more, Futures.Takes-none, Futures.Takes-trans}
 
 -- what was gathered, and bytes after it
@@ -10,13 +9,13 @@ joined a b c hs bs n le p q =
     (Takes-trans a b c hs bs (length hs + 1) (length bs + 1) (omega arith) p (Takes-more b c bs n (length bs + 1) le q))
 
 -- So many bytes were taken after those of a header.
-pub record Gathering {R : Type 0} (remaining : R → Option (List ℕ)) (o s : Payload R) (room : ℕ) (packet : List ℕ) : Type 0 where
+pub record Gathering {R : Type 0} (remaining : R → Option (List ℕ)) (o s : PayloadOf R) (room : ℕ) (packet : List ℕ) : Type 0 where
   pub header : 8 ≤ length packet
   pub fits : length packet ≤ room
   pub place : s.place ≡ o.place + length (drop 8 packet)
   pub takes : Takes (seen remaining o) (seen remaining s) (drop 8 packet) (length (drop 8 packet) + 1)
 
-module _ {R : Type 0} (remaining : R → Option (List ℕ)) (o s t : Payload R) (room : ℕ) (packet : List ℕ) (x : Gathering remaining o s room packet) where
+module _ {R : Type 0} (remaining : R → Option (List ℕ)) (o s t : PayloadOf R) (room : ℕ) (packet : List ℕ) (x : Gathering remaining o s room packet) where
   -- a byte was asked for
   asked : Takes (seen remaining s) (seen remaining t) [] 1 → Takes (seen remaining o) (seen remaining t) (drop 8 packet) (length (drop 8 packet) + 1)
   asked q = rw append-nil at (joined (seen remaining o) (seen remaining s) (seen remaining t) (drop 8 packet) [] 1 (omega arith) x.takes q)
@@ -32,7 +31,7 @@ module _ {R : Type 0} (remaining : R → Option (List ℕ)) (o s t : Payload R) 
     gathered_ok last between over full = record { header = x.header; fits = x.fits; gives = asked q; over = over; full = full; between = between; place = stays ∙ x.place; goes_on = tt }
 
     -- bytes that lay ready were taken
-    pub gathered_more : (d : Payload R) (piece : List ℕ) → Takes (seen remaining t) (seen remaining d) piece 0 → d.place ≡ t.place + length piece → length packet + length piece ≤ room → Gathering remaining o d room (packet ++ piece)
+    pub gathered_more : (d : PayloadOf R) (piece : List ℕ) → Takes (seen remaining t) (seen remaining d) piece 0 → d.place ≡ t.place + length piece → length packet + length piece ≤ room → Gathering remaining o d room (packet ++ piece)
     gathered_more d piece r further fits =
         let split = drop-append-le 8 packet piece x.header in
         record {
@@ -42,12 +41,12 @@ module _ {R : Type 0} (remaining : R → Option (List ℕ)) (o s t : Payload R) 
           takes = rw split (joined (seen remaining o) (seen remaining t) (seen remaining d) (drop 8 packet) piece 0 (omega arith) (asked q) r);
         }
 
-starts_in : {R : Type 0} (remaining : R → Option (List ℕ)) (p : Payload R) (input bytes : List ℕ) → p.stopped ≡ None → ((seen remaining p).future input).bytes ≡ bytes → length (buffered p) ≤ length bytes
+starts_in : {R : Type 0} (remaining : R → Option (List ℕ)) (p : PayloadOf R) (input bytes : List ℕ) → p.stopped ≡ None → ((seen remaining p).future input).bytes ≡ bytes → length (buffered p) ≤ length bytes
 unfolding coming_of
 starts_in remaining p input bytes e is = grind (arith, length-append)
 
 -- a body holds what lay ready
-some_ready : {R : Type 0} (remaining : R → Option (List ℕ)) (s t : Payload R) (room : ℕ) (packet : List ℕ) (r : Result Bool Stop) → Gathers remaining s t room packet r → s.stopped ≡ None → 8 < room → 0 < length (buffered s) → 0 < length (drop 8 packet)
+some_ready : {R : Type 0} (remaining : R → Option (List ℕ)) (s t : PayloadOf R) (room : ℕ) (packet : List ℕ) (r : Result Bool Stop) → Gathers remaining s t room packet r → s.stopped ≡ None → 8 < room → 0 < length (buffered s) → 0 < length (drop 8 packet)
 some_ready remaining s t room packet (Ok true) made going large some =
     let is = made.gives.1.1 [] ∙ ap (before (drop 8 packet)) ((made.over refl).2 []) in
     omega (arith, some, starts_in remaining s (made.gives.0 ++ []) (drop 8 packet) going (ap (λ (c : Coming). c.bytes) is ∙ append-nil (drop 8 packet)))
@@ -104,14 +103,14 @@ unfolding first_packets
 cut_none contents m a to place e = record { payload = []; takes = Takes-none a 1; whole = omega arith; placed = e; wrote = Appends-nil (contents to.device); bytes_are = refl; stays = refl }
 
 -- Full packets were cut, and then the next body gathered.
-pub record Next {R W : Type 0} (remaining : R → Option (List ℕ)) (contents : W → Option (List ℕ)) (a : Seen) (s t : Payload R) (room : ℕ) (packet : List ℕ) (r : Result Bool Stop) (old mid : Counted W) (done : Written) : Type 0 where
+pub record Next {R W : Type 0} (remaining : R → Option (List ℕ)) (contents : W → Option (List ℕ)) (a : Seen) (s t : PayloadOf R) (room : ℕ) (packet : List ℕ) (r : Result Bool Stop) (old mid : Counted W) (done : Written) : Type 0 where
   pub cutting : Cutting contents (room - 8) a (seen remaining s) old mid done s.place
   pub made : Gathers remaining s t room packet r
   pub going : s.stopped ≡ None
   pub large : 8 < room
   pub more : 0 < done.packets → 0 < length (buffered s)
 
-module _ {R W : Type 0} {remaining : R → Option (List ℕ)} {contents : W → Option (List ℕ)} {a : Seen} {s t : Payload R} {room : ℕ} {packet : List ℕ} {old mid : Counted W} {done : Written} where
+module _ {R W : Type 0} {remaining : R → Option (List ℕ)} {contents : W → Option (List ℕ)} {a : Seen} {s t : PayloadOf R} {room : ℕ} {packet : List ℕ} {old mid : Counted W} {done : Written} where
   next_parts : {r : Result Bool Stop} (n : Next remaining contents a s t room packet r old mid done) → let all = n.cutting.payload ++ drop 8 packet in
       (before_last (room - 8) (length all) ≡ done.packets) × (packets_before (room - 8) all ≡ first_packets (room - 8) done.packets n.cutting.payload) × (drop (done.packets * (room - 8)) all ≡ drop 8 packet)
   next_parts {r = r} n = parts (room - 8) done.packets n.cutting.payload (drop 8 packet) n.cutting.whole (omega (arith, n.made.fits, length-drop 8 packet)) (omega (arith, n.large)) (λ h. some_ready remaining s t room packet r n.made n.going n.large (n.more h))

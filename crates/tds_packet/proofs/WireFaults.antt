@@ -1,6 +1,5 @@
 -- Which faults the payload itself may have.
-use Rattle.tds_packet.proofs.Words.{common_steps, arith, ◌≡◌, ◌∙◌, inl, inr, ℕ, zero, suc, ◌+◌, true, false, refl, length, List, [], ◌++◌, sym, Option, None, ⊤, one_more, Fault, InputEnded, MessageEnded, ReadFailed, WriteFailed, Wire, Payload, Stop, Coming, FrontPacket, NoPacket, WholePacket, before, stopped_at, after_packet, coming_of, front_packet, message, buffered, seen, Ends, Seen}
-use Rattle.tds_packet.specs.declared.payload.Payload as payloads
+use Rattle.tds_packet.proofs.Words.{PayloadOf, common_steps, arith, ◌≡◌, ◌∙◌, inl, inr, ℕ, zero, suc, ◌+◌, true, false, refl, length, List, [], ◌++◌, sym, Option, None, ⊤, one_more, Fault, InputEnded, MessageEnded, ReadFailed, WriteFailed, Wire, Payload, Stop, Coming, FrontPacket, NoPacket, WholePacket, before, stopped_at, after_packet, coming_of, front_packet, message, buffered, seen, Ends, Seen}
 
 -- a fault that the wire or the end of a message may have
 abbrev pub IsOfWire : Fault → Type 0
@@ -28,7 +27,7 @@ module _ (P : ℕ → Coming → Type 0) (ended : (place : ℕ) (rest : List ℕ
   message_keeps size limit (suc fuel) wire place input = packet_keeps (message size limit fuel) wire place (front_packet size limit wire input) (front_faults size limit wire input) (message_keeps size limit fuel)
 
   -- so it does of what comes of a payload that has not stopped
-  pub seen_keeps : {R : Type 0} (remaining : R → Option (List ℕ)) (p : payloads.Payload R) (input : List ℕ) → p.stopped ≡ None → P p.place ((seen remaining p).future input)
+  pub seen_keeps : {R : Type 0} (remaining : R → Option (List ℕ)) (p : PayloadOf R) (input : List ℕ) → p.stopped ≡ None → P p.place ((seen remaining p).future input)
   unfolding coming_of
   seen_keeps remaining p input going = rw going (elim p.last as (λ last. P p.place (coming_of p.packet.now.room p.max_wire p.wire p.place last None (buffered p) input)) [
     | true ↦ more p.place (buffered p) _ (ended (p.place + length (buffered p)) input)
@@ -40,7 +39,7 @@ pub message_of_wire : (size limit fuel wire place : ℕ) (input : List ℕ) → 
 message_of_wire = message_keeps (λ _ c. IsOfWire c.stop.fault) (λ _ _. tt) (λ _ _ _ _ h. h.0) (λ _ _ _ h. h)
 
 -- a payload that stops blames a device only where a read failed
-pub ends_blame : {R : Type 0} (remaining : R → Option (List ℕ)) (p : payloads.Payload R) (b : Seen) (bytes : List ℕ) (own : Stop) → p.stopped ≡ None → Ends (seen remaining p) b bytes own
+pub ends_blame : {R : Type 0} (remaining : R → Option (List ℕ)) (p : PayloadOf R) (b : Seen) (bytes : List ℕ) (own : Stop) → p.stopped ≡ None → Ends (seen remaining p) b bytes own
     → (own.fault ≡ WriteFailed → ⊥) × (own.fault ≡ ReadFailed → b.failures ≡ one_more p.from.now.failures)
 ends_blame remaining p b bytes own going ends =
     let of_wire : (input rest : List ℕ) → (seen remaining p).future input ≡ record { bytes = bytes; stop = own; rest = rest } → (own.fault ≡ WriteFailed → ⊥) × (own.fault ≡ ReadFailed → b.failures ≡ one_more p.from.now.failures) = λ input rest e.

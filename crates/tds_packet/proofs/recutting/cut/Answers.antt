@@ -1,4 +1,4 @@
-use Rattle.tds_packet.proofs.Words.{common_steps, ◌≡◌, ◌∙◌, inr, inl, ◌+◌, ◌-◌, true, false, drop, length, sym, ap, rules, arith, length-drop, packet_bytes, seen, Cuts, cut_packet}
+use Rattle.tds_packet.proofs.Words.{common_steps, ◌≡◌, ◌∙◌, inr, inl, ◌-◌, true, false, drop, length, sym, ap, rules, arith, length-drop, seen, Cuts}
 use Rattle.tds_packet.proofs.{Passing.passed_on, Recuts.cut_broken, Recuts.cut_finished, Recuts.cut_length, Recuts.cut_more, Recuts.cut_none, Recuts.cut_stopped}
 use Rattle.tds_packet.proofs.recutting.cut.Goals as goal
 

@@ -1,8 +1,9 @@
-use Rattle.tds_packet.proofs.Words.{false, None, refl, rules}
-use Rattle.tds_packet.proofs.{Futures.new_seen, PayloadLaws.between_of}
+use Rattle.tds_packet.proofs.Words.{coming_of, false, None, refl, rules}
+use Rattle.tds_packet.proofs.PayloadLaws.{between_of}
 use Rattle.tds_packet.proofs.payload.Payload.new.Goals as goal
 
 pub returns-clause-begun : goal.returns-clause-begun
+unfolding coming_of
 returns-clause-begun g c = record {
   sound = search rules;
   room = search rules;
@@ -10,6 +11,6 @@ returns-clause-begun g c = record {
   limit = refl;
   place = refl;
   going = refl;
-  begins = rw c.clear.ensures.value (new_seen _ _ _ _);
+  begins = rw c.clear.ensures.value refl;
   between = between_of g.R.Read.remaining (record { from = c.args.from; packet = record c.args.packet { now = c.clear.new.self }; at = 0; last = false; wire = 0; max_wire = c.args.max_wire; place = 0; stopped = None }) refl;
 }
