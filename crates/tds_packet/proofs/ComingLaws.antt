@@ -14,7 +14,7 @@ module _ (size limit : ℕ) (packets : List Packet) where
   stops_at front rest place fault c are each spelt cause bytes stop =
       let g = wire size limit in
       let left : drop (length front) (front ++ rest) ≡ rest = drop-append_seam front rest in
-      let longest : Longest g no_wire (front ++ rest) (length front) (at place) = elim cause [ inl x ↦ longest_refused g no_wire front rest (at place) fault spelt x | inr x ↦ longest_cut g no_wire front rest (at place) spelt x.0 ] in
+      let longest : Longest g no_wire (front ++ rest) (length front) (at place) = elim cause [ inl x ↦ longest_refused g _ front rest _ _ spelt x | inr x ↦ longest_cut g _ front rest _ spelt x.0 ] in
       let own : WireFault size limit (front ++ rest) packets fault = record {
         taken = length front;
         read = at place;
@@ -67,7 +67,7 @@ module _ (size limit n : ℕ) (packets : List Packet) (each : AreBefore size pac
             (let test : nat_lt (length rest) m ≡ true = grind (arith, nat_tests) in
             let off : (header_length header == 8) ≡ false = grind (arith, nat_tests) in
             let inside = Spelt-step (wire size limit) (before_packet size limit packets) header (at size limit packets (BeforeBody header)) (omega (arith, eight)) eight free (rw off) in
-            let read = Spelt-append (wire size limit) no_wire (wire_of packets) (before_packet size limit packets) header _ (before_are_read size limit [] packets each within) inside in
+            let read = Spelt-append (wire size limit) _ _ _ _ _ (before_are_read size limit [] packets each within) inside in
             rw (test, ← append_assoc) (stops_at size limit packets (wire_of packets ++ header) rest (BeforeBody header) InputEnded _ (rw append_assoc are) each read (inr (omega arith, refl)) (append-nil (payload_of packets)) refl))
       ]
 

@@ -94,7 +94,7 @@ split_last size (p ∷ q ∷ ps) each some =
 front_whole : (size limit from : ℕ) (p : Packet) (more : List ℕ) → IsPacket size p → is_last p ≡ false → from + packet_length p ≤ limit → front_packet size limit from (packet_bytes p ++ more) ≡ WholePacket p.body false (packet_length p) more
 front_whole size limit from p more each last within =
     let size_is : header_length (header_of p) ≡ packet_length p = omega arith in
-    let front = whole_packet size limit from (header_of p) p.body more (record { length = header_length (header_of p); last = is_last p }) (omega (arith, each.id)) (omega (arith, size_is)) (rw (good_header size limit from p each within)) in
+    let front = whole_packet size limit from (header_of p) (record { length = header_length (header_of p); last = is_last p }) (omega (arith, each.id)) (rw (good_header size limit from p each within)) p.body more (omega (arith, size_is)) in
     rw (append_assoc p.id p.body more) (rw (size_is, last) at front)
 
 -- what comes of packets none of which is the last

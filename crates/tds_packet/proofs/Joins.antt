@@ -28,25 +28,23 @@ after_header size limit wire hdr ys o e f =
 whole_at : (last : Bool) (len : ℕ) (bs ys : List ℕ) (n : ℕ) → n ≡ length bs → (if nat_lt (length (bs ++ ys)) n then NoPacket InputEnded [] else WholePacket (take n (bs ++ ys)) last len (drop n (bs ++ ys))) ≡ WholePacket bs last len ys
 whole_at last len bs ys n e = grind (arith, length-append, take-append_seam, drop-append_seam, choose_false, nat_tests)
 
--- a packet whose header says so
-pub whole_packet : (size limit wire : ℕ) (hdr bs ys : List ℕ) (h : Header) → length hdr ≡ 8 → length bs + 8 ≡ h.length → header_of size limit wire hdr ≡ Ok h
-    → front_packet size limit wire (hdr ++ (bs ++ ys)) ≡ WholePacket bs h.last h.length ys
-whole_packet size limit wire hdr bs ys h len fits good = grind (arith, after_header, whole_at)
+module _ (size limit wire : ℕ) (hdr : List ℕ) (h : Header) (eight : length hdr ≡ 8) (good : header_of size limit wire hdr ≡ Ok h) where
+  -- a packet whose header says so
+  pub whole_packet : (bs ys : List ℕ) → length bs + 8 ≡ h.length → front_packet size limit wire (hdr ++ (bs ++ ys)) ≡ WholePacket bs h.last h.length ys
+  whole_packet bs ys fits = grind (arith, after_header, whole_at)
 
--- an input that ends in the body
-ended_body : (size limit wire : ℕ) (hdr bs : List ℕ) (h : Header) → length hdr ≡ 8 → length bs + 8 < h.length → header_of size limit wire hdr ≡ Ok h
-    → front_packet size limit wire (hdr ++ bs) ≡ NoPacket InputEnded []
-ended_body size limit wire hdr bs h len lt good = grind (arith, after_header, choose_true, test_lt)
+  -- an input that ends in the body
+  ended_body : (bs : List ℕ) → length bs + 8 < h.length → front_packet size limit wire (hdr ++ bs) ≡ NoPacket InputEnded []
+  ended_body bs lt = grind (arith, after_header, choose_true, test_lt)
 
--- no beginning of a packet is a packet
-cut : (size limit wire : ℕ) (hdr body : List ℕ) (h : Header) (j : ℕ) → length hdr ≡ 8 → length body + 8 ≡ h.length → j < length (hdr ++ body)
-    → header_of size limit wire hdr ≡ Ok h → front_packet size limit wire (take j (hdr ++ body)) ≡ NoPacket InputEnded []
-cut size limit wire hdr body h j len fits lt good = elim (dec_le 8 j) [
-  | yes many ↦
-      (let all : length hdr + (j - 8) ≡ j = omega arith in
-      rw (← all, take-append-add) (ended_body size limit wire hdr (take (j - 8) body) h len (omega (arith, length-append hdr body, length-take (j - 8) body)) good))
-  | no few ↦ short_input size limit wire (take j (hdr ++ body)) (omega (arith, length-take j (hdr ++ body)))
-]
+  -- no beginning of a packet is a packet
+  cut : (body : List ℕ) (j : ℕ) → length body + 8 ≡ h.length → j < length (hdr ++ body) → front_packet size limit wire (take j (hdr ++ body)) ≡ NoPacket InputEnded []
+  cut body j fits lt = elim (dec_le 8 j) [
+    | yes many ↦
+        (let all : length hdr + (j - 8) ≡ j = omega arith in
+        rw (← all, take-append-add) (ended_body (take (j - 8) body) (omega (arith, length-append hdr body, length-take (j - 8) body))))
+    | no few ↦ short_input size limit wire (take j (hdr ++ body)) (omega (arith, length-take j (hdr ++ body)))
+  ]
 
 -- A good header was read.
 pub record ReadsHeader (size limit wire : ℕ) (old mid : Device) (h : Header) : Type 0 where
@@ -66,15 +64,15 @@ module _ (size limit wire : ℕ) (old new : Device) where
   pub body_err : (mid : Device) (h : Header) (body : List ℕ) (e : Fault) → ReadsHeader size limit wire old mid h → length body + 8 ≡ h.length → Faulted mid new (length body) e → ReadsPacket size limit wire old new body (Err e)
   body_err mid h body InputEnded x fits r =
       let bs = r.0.0.0 in
-      let cut_short = ended_body size limit wire x.bytes bs h x.eight (omega (arith, r.0.0.1, fits)) x.good in
+      let cut_short = ended_body size limit wire x.bytes h x.eight x.good bs (omega (arith, r.0.0.1, fits)) in
       inr (inl (refl, x.bytes ++ bs, Consumes-trans old.bytes mid.bytes new.bytes x.bytes bs x.read r.0.0.2, r.0.1, cut_short, (r.1.0 ∙ x.stays.0, omega (arith, r.1.1, x.stays.0))))
   body_err mid h body ReadFailed x fits r =
-      let cut_short = ended_body size limit wire x.bytes r.0 h x.eight (omega (arith, r.1, fits)) x.good in
+      let cut_short = ended_body size limit wire x.bytes h x.eight x.good r.0 (omega (arith, r.1, fits)) in
       inr (inr (refl, x.bytes ++ r.0, Consumes-trans old.bytes mid.bytes new.bytes x.bytes r.0 x.read r.2, cut_short, (r.3.0 ∙ ap one_more x.stays.0, λ _. x.stays.1 (omega (arith, x.eight)))))
   body_err mid h body e x fits r = absurd r
 
   pub body_ok : (mid : Device) (h : Header) (body : List ℕ) → ReadsHeader size limit wire old mid h → length body + 8 ≡ h.length → Consumes mid.bytes new.bytes body → Stays mid.failures new.failures body → ReadsPacket size limit wire old new body (Ok h)
   body_ok mid h body x fits r last =
-      let whole : (zs : List ℕ) → front_packet size limit wire ((x.bytes ++ body) ++ zs) ≡ WholePacket body h.last h.length zs = λ zs. rw append_assoc (whole_packet size limit wire x.bytes body zs h x.eight fits x.good) in
-      let cuts = λ (j : ℕ) (lt : j < length (x.bytes ++ body)). cut size limit wire x.bytes body h j x.eight fits lt x.good in
+      let whole : (zs : List ℕ) → front_packet size limit wire ((x.bytes ++ body) ++ zs) ≡ WholePacket body h.last h.length zs = λ zs. rw append_assoc (whole_packet size limit wire x.bytes h x.eight x.good body zs fits) in
+      let cuts = λ (j : ℕ) (lt : j < length (x.bytes ++ body)). cut size limit wire x.bytes h x.eight x.good body j fits lt in
       (x.bytes ++ body, Consumes-trans old.bytes mid.bytes new.bytes x.bytes body x.read r, (whole, cuts, omega (arith, x.eight, fits, length-append x.bytes body)), Stays-trans old.failures mid.failures new.failures x.bytes body x.stays last)

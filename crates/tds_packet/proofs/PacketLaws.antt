@@ -37,7 +37,7 @@ module _ (size limit : ℕ) where
   with_means packets header body before good l = grind (arith, append-nil, flat_map-append, length-append, last_one, one_more)
 
   wire_step : (packets : List Packet) (place : WirePlace) (b e : List ℕ) → AreBytes e → WireMeans size limit packets place b → IsNext (wire size limit) (record { packets = packets; place = place }) e → Means size limit ((wire size limit).add (record { packets = packets; place = place }) e) (b ++ e)
-  wire_step packets AfterLast b e bytes h n = absurd (let l : length e ≡ 0 = n.whole in let s : 0 < length e = n.some in omega arith)
+  wire_step packets AfterLast b e bytes h n = absurd (omega (arith, n.whole, n.some))
   wire_step packets BeforeHeader b e bytes h n =
       let good : Good size limit packets e = free_is_good size limit packets e n.whole bytes n.free in
       choose (λ w. Means size limit w (b ++ e)) (header_length e == 8) (with_packet packets (packet_of e [])) (record { packets = packets; place = BeforeBody e })
@@ -75,9 +75,6 @@ module _ (size limit : ℕ) where
             Spelt-append g _ (header_of p) inside (x ∷ xs) _ (Spelt-step g _ (header_of p) inside (omega (arith, eight)) eight good (rw off)) (Spelt-step g inside (x ∷ xs) _ (omega arith) (omega (arith, n)) refl refl))
       ] refl
 
-  pub length-packet_bytes : (p : Packet) → IsPacket size p → length (packet_bytes p) ≡ packet_length p
-  length-packet_bytes p i = omega (arith, i.id, length-append p.id p.body)
-
   -- a packet before the last is read, and what follows it
   pub one_is_read : (done : List Packet) (p : Packet) (packets : List Packet) (place : WirePlace) → IsPacket size p × (is_last p ≡ false) → length (wire_of (done ++ p ∷ packets)) ≤ limit
       → (length (wire_of ((done ++ p ∷ []) ++ packets)) ≤ limit → Spelt (wire size limit) (before_packet (done ++ p ∷ [])) (wire_of packets) (record { packets = (done ++ p ∷ []) ++ packets; place = place }))
@@ -85,19 +82,12 @@ module _ (size limit : ℕ) where
   one_is_read done p packets place h f more =
       let long : length (wire_of (done ++ p ∷ packets)) ≡ length (wire_of done) + (packet_length p + length (wire_of packets)) = simp (flat_map-append, length-append) (omega (arith, h.0.id)) in
       let one = rw h.1 at (packet_is_read done p h.0 (omega (arith, long, f))) in
-      Spelt-append (wire size limit) (before_packet done) (packet_bytes p) (before_packet (done ++ p ∷ [])) (wire_of packets) _ one (rw (append_assoc done (p ∷ []) packets) at (more (rw (append_assoc done (p ∷ []) packets) f)))
+      Spelt-append (wire size limit) _ _ _ _ _ one (rw (append_assoc done (p ∷ []) packets) at (more (rw (append_assoc done (p ∷ []) packets) f)))
 
   -- packets before the last are read
   pub before_are_read : (done packets : List Packet) → AreBefore size packets → length (wire_of (done ++ packets)) ≤ limit → Spelt (wire size limit) (before_packet done) (wire_of packets) (before_packet (done ++ packets))
   before_are_read done [] h f = rw append-nil (Spelt-none (wire size limit) (before_packet done))
   before_are_read done (p ∷ packets) h f = one_is_read done p packets BeforeHeader (h.0, h.1) f (before_are_read (done ++ p ∷ []) packets h.2)
-
-  -- with a packet that follows
-  following : (packets : List Packet) (next : Packet) → AreBefore size packets → IsPacket size next → length (wire_of packets ++ packet_bytes next) ≤ limit → Spelt (wire size limit) no_wire (wire_of packets ++ packet_bytes next) (with_packet packets next)
-  following packets next before i f =
-      let long = simp length-append at f in
-      Spelt-append (wire size limit) no_wire (wire_of packets) (before_packet packets) (packet_bytes next) (with_packet packets next) (before_are_read [] packets before (omega (arith, long)))
-      (packet_is_read packets next i (omega (arith, long, length-packet_bytes next i)))
 
   -- the packet that follows would be read too
   no_next : (input : List ℕ) (taken : ℕ) (packets : List Packet) (place : WirePlace) (header : List ℕ) → Longest (wire size limit) no_wire input taken (record { packets = packets; place = place }) → AreBefore size packets → take taken input ≡ wire_of packets ++ header
@@ -107,10 +97,10 @@ module _ (size limit : ℕ) where
       let front : take (length all) input ≡ all = rw f.spelt (take-append_seam all f.more) in
       let more = ap length f.spelt ∙ length-append all f.more in
       let long = length-append (wire_of packets) (packet_bytes next) in
-      let read = following packets next before f.rules f.within in
+      let size_is : length (packet_bytes next) ≡ packet_length next = omega (arith, f.rules.id, length-append next.id next.body) in
+      let read = Spelt-append (wire size limit) _ _ _ _ _ (before_are_read [] packets before (omega (arith, long, f.within))) (packet_is_read packets next f.rules (omega (arith, long, size_is, f.within))) in
       let within : length all ≤ taken = l.longest (length all) (with_packet packets next) (omega (arith, long, more)) (rw front read) in
       let counted : taken ≡ length (wire_of packets) + length header = sym (length-take-le taken input l.within) ∙ ap length is ∙ length-append (wire_of packets) header in
-      let size_is = length-packet_bytes next f.rules in
       elim cause [
         | inl none ↦ omega (arith, counted, ap length none, long, size_is, within)
         | inr inside ↦
@@ -125,16 +115,10 @@ module _ (size limit : ℕ) where
   read_front input taken w are l = go w.place l (wire_is_spelt size limit (take taken input) w (AreBytes-front (take taken input) (drop taken input) (rw (take-append-drop taken input) are)) l.spelt)
     where
       go : (place : WirePlace) → Longest (wire size limit) no_wire input taken (record { packets = w.packets; place = place }) → WireMeans size limit w.packets place (take taken input) → Front size limit input w.packets
-      go BeforeHeader l k = record {
-        rest = drop taken input;
-        spelt = rw (← k.0) (take-append-drop taken input);
-        within = rw k.0 at k.2;
-        stops = inr (k.1, no_next input taken w.packets BeforeHeader [] l k.1 (k.0 ∙ sym (append-nil _)) (inl refl));
-      }
-      go (BeforeBody header) l k = record {
-        rest = header ++ drop taken input;
-        spelt = rw (← append_assoc, ← k.0) (take-append-drop taken input);
-        within = omega (arith, k.2.within);
-        stops = inr (k.1, no_next input taken w.packets (BeforeBody header) header l k.1 k.0 (inr (k.2.eight, refl)));
-      }
+      go BeforeHeader l k =
+          let none = no_next input taken w.packets BeforeHeader [] l k.1 (k.0 ∙ sym (append-nil _)) (inl refl) in
+          record { rest = drop taken input; spelt = rw (← k.0) (take-append-drop taken input); within = rw k.0 at k.2; stops = inr (k.1, none) }
+      go (BeforeBody header) l k =
+          let none = no_next input taken w.packets (BeforeBody header) header l k.1 k.0 (inr (k.2.eight, refl)) in
+          record { rest = header ++ drop taken input; spelt = rw (← append_assoc, ← k.0) (take-append-drop taken input); within = omega (arith, k.2.within); stops = inr (k.1, none) }
       go AfterLast l k = record { rest = drop taken input; spelt = rw (← k.0) (take-append-drop taken input); within = rw k.0 at k.2; stops = inl k.1 }
