@@ -19,18 +19,15 @@ message-fuel room max (suc n) (suc m) wire place xs h k = same_after (message ro
     (λ body rest l e. (let lt = rest_shorter room max wire xs body rest false l e in message-fuel room max n m (wire + l) (place + length body) rest (omega (arith, lt)) (omega (arith, lt))))
 
 module _ {R : Type 0} (remaining : R → Option (List ℕ)) (p q : PayloadOf R) (body : List ℕ) (needs : NeedsPacket p) where
-  none_left : buffered p ≡ []
-  none_left = drop_of_length-le p.packet.now.bytes (omega (arith, needs.used_up))
-
   pub advance_ok : (h : Header) → q.packet.now.room ≡ p.packet.now.room → q.max_wire ≡ p.max_wire → q.wire ≡ p.wire + h.length → q.place ≡ p.place → q.last ≡ h.last → q.stopped ≡ p.stopped → buffered q ≡ body
       → ReadsPacket p.packet.now.room p.max_wire p.wire (device remaining p.from.now) (device remaining q.from.now) body (Ok h) → Takes (seen remaining p) (seen remaining q) [] 1
   unfolding coming_of message
-  advance_ok h er em ew ep el es eb reads = grind (arith, rest_shorter, add-zero, message-fuel, none_left)
+  advance_ok h er em ew ep el es eb reads = grind (arith, rest_shorter, add-zero, message-fuel, drop_of_length-le)
 
   pub advance_err : (e : Fault) → ReadsPacket p.packet.now.room p.max_wire p.wire (device remaining p.from.now) (device remaining q.from.now) body (Err e)
       → Ends (seen remaining p) (seen remaining q) [] (record { fault = e; place = Wire p.wire })
   unfolding coming_of message
-  advance_err e reads = grind (arith, none_left)
+  advance_err e reads = grind (arith, drop_of_length-le)
 
 hand : (room max wire place : ℕ) (last : Bool) (hs bs xs : List ℕ) → coming_of room max wire place last None (hs ++ bs) xs ≡ before hs (coming_of room max wire (place + length hs) last None bs xs)
 unfolding coming_of
@@ -73,22 +70,15 @@ module _ {R : Type 0} (remaining : R → Option (List ℕ)) (p : PayloadOf R) wh
   unfolding coming_of
   stopped_ends s e = inl ([], Consumes-nil (remaining p.from.now.device), λ zs. rw e refl, Stays-none p.from.now.failures)
 
-  ended_as : p.last ≡ true → p.stopped ≡ None → buffered p ≡ [] → (zs : List ℕ) → (seen remaining p).future zs ≡ stopped_at MessageEnded (Payload p.place) zs
-  unfolding coming_of
-  ended_as el es eb zs = grind (arith, add-zero)
-
-  pub ended_ends : p.last ≡ true → p.stopped ≡ None → buffered p ≡ [] → Ends (seen remaining p) (seen remaining p) [] (record { fault = MessageEnded; place = Payload p.place })
-  ended_ends el es eb = inl ([], Consumes-nil (remaining p.from.now.device), ended_as el es eb, Stays-none p.from.now.failures)
-
   -- the last packet is used up
   pub over : p.last ≡ true → p.stopped ≡ None → buffered p ≡ [] → IsOver (seen remaining p)
-  over el es eb = (record { fault = MessageEnded; place = Payload p.place }, refl, ended_as el es eb)
+  unfolding coming_of
+  over el es eb = (record { fault = MessageEnded; place = Payload p.place }, refl, λ zs. rw (es, el, eb, add-zero))
+
+  pub ended_ends : p.last ≡ true → p.stopped ≡ None → buffered p ≡ [] → Ends (seen remaining p) (seen remaining p) [] (record { fault = MessageEnded; place = Payload p.place })
+  unfolding over
+  ended_ends el es eb = inl ([], Consumes-nil (remaining p.from.now.device), (over el es eb).2, Stays-none p.from.now.failures)
 
   pub not_over : p.stopped ≡ None → 0 < length (buffered p) → IsNotOver (seen remaining p)
   unfolding coming_of
   not_over e h = grind (arith, length-append)
-
-  -- It has not stopped, so no packet is cut.
-  pub between : p.stopped ≡ None → IsBetween (seen remaining p)
-  unfolding coming_of message front_packet
-  between e = grind (arith)

@@ -1,10 +1,11 @@
 -- A payload, as its calls leave it.
-use Rattle.tds_packet.proofs.Words.{PayloadOf, ◌≡◌, ℕ, ◌+◌, ◌<◌, ◌≤◌, List, ◌++◌, length, take, Option, None, Result, Ok, Err, MatchResult, arith, add-zero, IfSome, length-drop, Stop, IsUsedUp, buffered, seen, further, IsBetween, Takes, [], append-nil, Ends}
-use Rattle.tds_packet.proofs.Futures.{Ends-after, Takes-more, Takes-none, Takes-trans, between, further_takes}
+use Rattle.tds_packet.proofs.Words.{coming_of, message, front_packet, PayloadOf, ◌≡◌, ℕ, ◌+◌, ◌<◌, ◌≤◌, List, ◌++◌, length, take, Option, None, Result, Ok, Err, MatchResult, arith, add-zero, IfSome, length-drop, Stop, IsUsedUp, buffered, seen, further, IsBetween, Takes, [], append-nil, Ends}
+use Rattle.tds_packet.proofs.Futures.{Ends-after, Takes-more, Takes-none, Takes-trans, further_takes}
 
 -- It has not stopped, so no packet is cut.
 pub between_of : {R : Type 0} (remaining : R → Option (List ℕ)) (p : PayloadOf R) → p.stopped ≡ None → IsBetween (seen remaining p)
-between_of remaining p e = between remaining p e
+unfolding coming_of message front_packet
+between_of remaining p e = grind (arith)
 
 -- Where it has stopped, none lies ready.
 pub pass_takes : {R : Type 0} (remaining : R → Option (List ℕ)) (p : PayloadOf R) (n : ℕ) (o : Option Stop) → p.stopped ≡ o → IsUsedUp p o → n ≤ length (buffered p) → Takes (seen remaining p) (seen remaining (further p n)) (take n (buffered p)) 0

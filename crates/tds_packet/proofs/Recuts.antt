@@ -84,9 +84,6 @@ first_is : (m k n : ℕ) (payload body : List ℕ) → n ≡ suc k → length pa
 unfolding first_packets
 first_is m k n payload body is whole full = grind (arith, drop-append_seam, take_all, first-more)
 
-pub cut_length : (number : ℕ) (last : Bool) (body : List ℕ) → length (packet_bytes (cut_packet number last body)) ≡ 8 + length body
-cut_length number last body = omega arith
-
 -- Full packets were written, and these bytes of the payload taken for them.
 pub record Cutting {W : Type 0} (contents : W → Option (List ℕ)) (m : ℕ) (a b : Seen) (old new : Counted W) (done : Written) (place : ℕ) : Type 0 where
   pub payload : List ℕ

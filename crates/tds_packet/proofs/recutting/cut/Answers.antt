@@ -1,5 +1,5 @@
-use Rattle.tds_packet.proofs.Words.{common_steps, ◌≡◌, ◌∙◌, inr, inl, ◌-◌, true, false, drop, length, sym, ap, rules, arith, length-drop, seen, Cuts}
-use Rattle.tds_packet.proofs.{Passing.passed_on, Recuts.cut_broken, Recuts.cut_finished, Recuts.cut_length, Recuts.cut_more, Recuts.cut_none, Recuts.cut_stopped}
+use Rattle.tds_packet.proofs.Words.{cut_packet, ◌+◌, packet_bytes, common_steps, ◌≡◌, ◌∙◌, inr, inl, ◌-◌, true, false, drop, length, sym, ap, rules, arith, length-drop, seen, Cuts}
+use Rattle.tds_packet.proofs.{Passing.passed_on, Recuts.cut_broken, Recuts.cut_finished, Recuts.cut_more, Recuts.cut_none, Recuts.cut_stopped}
 use Rattle.tds_packet.proofs.recutting.cut.Goals as goal
 
 pub loop-to-init : goal.loop-to-init
@@ -36,13 +36,14 @@ loop-to-preserved g c =
     let full = made.full c.in-Ok-false.field-0-test in
     let len : length body ≡ c.loop-to.output.room - 8 = omega (arith, length-drop 8 c.gather.new.output.bytes, full.0) in
     let writes = c.in_ok-done-in-Ok-false.ensures.writes in
+    let size : length (packet_bytes (cut_packet c.loop-to.done.packets false body)) ≡ 8 + length body = omega arith in
     let same : c.write_packet-in-Ok-false.new.output.room ≡ c.loop-to.output.room = search rules in
     record {
       going = search rules;
       same = search rules;
       room = same ∙ inv.room;
       few = omega (arith, ap (λ w. w.packets) writes.1, inv.few, made.place, len, inv.room, c.requires.room);
-      short = omega (arith, ap (λ w. w.bytes) writes.1, cut_length c.loop-to.done.packets false body, inv.short, made.place, len, inv.room, c.requires.room);
+      short = omega (arith, ap (λ w. w.bytes) writes.1, size, inv.short, made.place, len, inv.room, c.requires.room);
       more = λ _. full.1;
       cutting = rw same (cut_more c.in_ok-done-in-Ok-false.done c.in-Ok-false.field-0-test (record { cutting = inv.cutting; made = c.in-Ok-false.ensures.body; going = inv.going.going; large = omega (arith, inv.room, c.requires.room); more = inv.more }) writes);
     }
