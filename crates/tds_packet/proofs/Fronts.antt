@@ -24,10 +24,9 @@ all_packets size limit read rest payload place c m b r s p = grind (arith, wire_
 pub takes_begins : (size limit f : ℕ) (input rest : List ℕ) (q : Seen) (bytes : List ℕ) (n : ℕ) → AreBytes input → q.left ≡ Some rest → Takes (begun size limit (Some input) f) q bytes n → IsBetween q
     → BeginsMessage size limit input rest (bytes ++ (q.future []).bytes)
 takes_begins size limit f input rest q bytes n are left t b =
-    let read = t.0 in
-    let split : input ≡ read ++ rest = rw left at t.1.0 in
-    let now : whole_message size limit read ≡ before bytes (q.future []) = rw append-nil at (t.1.1 []) in
-    rw split (all_packets size limit read rest (bytes ++ (q.future []).bytes) q.wire _ (rw now at (front_message size limit read (AreBytes-front read rest (rw split at are)))) refl b.0 b.1 (omega (arith, t.2)))
+    let split : input ≡ t.0 ++ rest = rw left at t.1.0 in
+    let now : whole_message size limit t.0 ≡ before bytes (q.future []) = rw append-nil at (t.1.1 []) in
+    rw split (all_packets size limit t.0 rest (bytes ++ (q.future []).bytes) q.wire _ (rw now at (front_message size limit t.0 (AreBytes-front t.0 rest (rw split at are)))) refl b.0 b.1 (omega (arith, t.2)))
 
 -- a read failed after these packets, all that what was read has whole, and the header after them wasn't refused
 pub record FailsAfterPackets (size limit : ℕ) (input rest : List ℕ) (packets : List Packet) : Type 0 where

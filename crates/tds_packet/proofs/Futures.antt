@@ -37,8 +37,7 @@ hand room max wire place last hs bs xs = grind (arith, common_steps, length-appe
 pub further_takes : {R : Type 0} (remaining : R → Option (List ℕ)) (p : PayloadOf R) (n m : ℕ) → n ≤ length (buffered p) → p.stopped ≡ None → Takes (seen remaining p) (seen remaining (further p n)) (take n (buffered p)) m
 further_takes remaining p n m le e =
     let split : buffered p ≡ take n (buffered p) ++ buffered (further p n) = sym (rw (← drop-drop n p.at p.packet.now.bytes) (take-append-drop n (buffered p))) in
-    let len = length-take-le n (buffered p) le in
-    grind (arith, Consumes-nil, hand, add-zero, Stays-none)
+    grind (arith, Consumes-nil, hand, add-zero, Stays-none, length-take-le)
 
 pub Takes-none : (a : Seen) (n : ℕ) → Takes a a [] n
 Takes-none a n = ([], (Consumes-nil a.left, λ xs. refl), sym (add-zero a.wire), (λ j lt. absurd (omega (arith, lt))), Stays-none a.failures)
@@ -54,10 +53,9 @@ needs_joined a b r s hs n m j le p q f lt = elim (dec_le (length r) j) [
 
 pub Takes-trans : (a b c : Seen) (hs bs : List ℕ) (n m : ℕ) → n ≤ length hs + m → Takes a b hs n → Takes b c bs m → Takes a c (hs ++ bs) (length hs + m)
 Takes-trans a b c hs bs n m le p q =
-    let r = p.0 in
-    let s = q.0 in
-    let follows : (zs : List ℕ) → a.future ((r ++ s) ++ zs) ≡ before (hs ++ bs) (c.future zs) = λ zs. rw (append_assoc r s zs, p.1.1 (s ++ zs), q.1.1 zs, append_assoc) in
-    (r ++ s, (Consumes-trans a.left b.left c.left r s p.1.0 q.1.0, follows), omega (arith, p.2, q.2, length-append r s), (λ j lt. needs_joined a b r s hs n m j le p.3 q.3 p.1.1 lt), Stays-trans a.failures b.failures c.failures r s p.4 q.4)
+    let follows : (zs : List ℕ) → a.future ((p.0 ++ q.0) ++ zs) ≡ before (hs ++ bs) (c.future zs) = λ zs. rw (append_assoc p.0 q.0 zs, p.1.1 (q.0 ++ zs), q.1.1 zs, append_assoc) in
+    let needs = λ (j : ℕ) (lt : j < length (p.0 ++ q.0)). needs_joined a b p.0 q.0 hs n m j le p.3 q.3 p.1.1 lt in
+    (p.0 ++ q.0, (Consumes-trans a.left b.left c.left p.0 q.0 p.1.0 q.1.0, follows), omega (arith, p.2, q.2, length-append p.0 q.0), needs, Stays-trans a.failures b.failures c.failures p.0 q.0 p.4 q.4)
 
 pub Ends-after : (a b c : Seen) (hs bs : List ℕ) (n : ℕ) (e : Stop) → Takes a b hs n → Ends b c bs e → Ends a c (hs ++ bs) e
 Ends-after a b c hs bs n e p (inl y) =

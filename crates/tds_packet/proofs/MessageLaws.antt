@@ -24,5 +24,5 @@ module _ (size limit : ℕ) where
   -- no input begins with two messages
   pub one_message : (a b : List Packet) (w v x y : List ℕ) → Message size limit a w → Message size limit b v → w ++ x ≡ v ++ y → a ≡ b
   one_message a b w v x y m n e =
-      let s : Reading (after_packets a) x ≡ Reading (after_packets b) y = sym (read_to_end a w x m) ∙ ap (λ i. feed_all (wire size limit) (Reading no_wire []) i) e ∙ read_to_end b v y n in
+      let s : Reading (after_packets a) x ≡ Reading (after_packets b) y = sym (read_to_end a w x m) ∙ rw e (read_to_end b v y n) in
       ap (λ p. (state_of {S = WirePart} {F = Fault} p).packets) s

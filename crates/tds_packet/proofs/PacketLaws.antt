@@ -95,11 +95,10 @@ module _ (size limit : ℕ) where
   no_next input taken packets place header l before is cause next f =
       let all = wire_of packets ++ packet_bytes next in
       let front : take (length all) input ≡ all = rw f.spelt (take-append_seam all f.more) in
-      let more = ap length f.spelt ∙ length-append all f.more in
       let long = length-append (wire_of packets) (packet_bytes next) in
       let size_is : length (packet_bytes next) ≡ packet_length next = omega (arith, f.rules.id, length-append next.id next.body) in
       let read = Spelt-append (wire size limit) _ _ _ _ _ (before_are_read [] packets before (omega (arith, long, f.within))) (packet_is_read packets next f.rules (omega (arith, long, size_is, f.within))) in
-      let within : length all ≤ taken = l.longest (length all) (with_packet packets next) (omega (arith, long, more)) (rw front read) in
+      let within : length all ≤ taken = l.longest (length all) (with_packet packets next) (omega (arith, ap length f.spelt, length-append all f.more)) (rw front read) in
       let counted : taken ≡ length (wire_of packets) + length header = sym (length-take-le taken input l.within) ∙ ap length is ∙ length-append (wire_of packets) header in
       elim cause [
         | inl none ↦ omega (arith, counted, ap length none, long, size_is, within)

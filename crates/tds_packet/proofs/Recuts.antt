@@ -48,8 +48,7 @@ starts_in remaining p input bytes e is = grind (arith, length-append)
 -- a body holds what lay ready
 some_ready : {R : Type 0} (remaining : R → Option (List ℕ)) (s t : PayloadOf R) (room : ℕ) (packet : List ℕ) (r : Result Bool Stop) → Gathers remaining s t room packet r → s.stopped ≡ None → 8 < room → 0 < length (buffered s) → 0 < length (drop 8 packet)
 some_ready remaining s t room packet (Ok true) made going large some =
-    let is = made.gives.1.1 [] ∙ ap (before (drop 8 packet)) ((made.over refl).2 []) in
-    omega (arith, some, starts_in remaining s (made.gives.0 ++ []) (drop 8 packet) going (ap (λ (c : Coming). c.bytes) is ∙ append-nil (drop 8 packet)))
+    omega (arith, some, starts_in remaining s (made.gives.0 ++ []) (drop 8 packet) going (rw (made.gives.1.1 [], (made.over refl).2 []) (append-nil (drop 8 packet))))
 some_ready remaining s t room packet (Ok false) made going large some = omega (arith, (made.full refl).0, length-drop 8 packet, large)
 some_ready remaining s t room packet (Err stop) made going large some =
     let starts = λ (input rest : List ℕ) (own : Stop) (e : (seen remaining s).future input ≡ record { bytes = drop 8 packet; stop = own; rest = rest }). starts_in remaining s input (drop 8 packet) going (ap (λ (c : Coming). c.bytes) e) in

@@ -4,9 +4,8 @@ use Rattle.tds_packet.proofs.recutting.gather.Goals as goal
 
 pub returns-in_err-at_end-clause-body : goal.returns-in_err-at_end-clause-body
 returns-in_err-at_end-clause-body g c =
-    let inv = c.loop-payload.invariant in
     passed_on _ _ (Gathers g.R.Read.remaining c.args.payload.now c.at_end.new.self c.args.output.now.room c.loop-payload.output.bytes) c.from_residual.ensures.1
-    (gathered_err _ _ c.loop-payload.payload c.at_end.new.self _ _ inv.body _ c.in_err-at_end.ensures.gives (c.in_err-at_end.ensures.goes_on inv.going.going))
+    (gathered_err _ _ c.loop-payload.payload c.at_end.new.self _ _ c.loop-payload.invariant.body _ c.in_err-at_end.ensures.gives (c.in_err-at_end.ensures.goes_on c.loop-payload.invariant.going.going))
 
 pub returns-then-n-eq0-clause-body : goal.returns-then-n-eq0-clause-body
 returns-then-n-eq0-clause-body g c =
@@ -20,8 +19,7 @@ returns-then-n-eq0-clause-body g c =
 
 pub returns-clause-body : goal.returns-clause-body
 returns-clause-body g c =
-    let inv = c.loop-payload.invariant in
-    gathered_ok _ _ c.loop-payload.payload c.at_end.new.self _ _ inv.body c.in_ok-at_end.ensures.gives c.in_ok-at_end.ensures.payload.place true c.in_ok-at_end.ensures.between (λ _. c.in_ok-at_end.ensures.tells.over (search rules)) (λ e. cc)
+    gathered_ok _ _ c.loop-payload.payload c.at_end.new.self _ _ c.loop-payload.invariant.body c.in_ok-at_end.ensures.gives c.in_ok-at_end.ensures.payload.place true c.in_ok-at_end.ensures.between (λ _. c.in_ok-at_end.ensures.tells.over (search rules)) (λ e. cc)
 
 pub loop-payload-preserved : goal.loop-payload-preserved
 loop-payload-preserved g c =
