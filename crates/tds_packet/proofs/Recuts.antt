@@ -83,72 +83,66 @@ first_is : (m k n : ℕ) (payload body : List ℕ) → n ≡ suc k → length pa
 unfolding first_packets
 first_is m k n payload body is whole full = grind (arith, drop-append_seam, take_all, first-more)
 
--- Full packets were written, and these bytes of the payload taken for them.
-pub record Cutting {W : Type 0} (contents : W → Option (List ℕ)) (m : ℕ) (a b : Seen) (old new : Counted W) (done : Written) (place : ℕ) : Type 0 where
+-- Full packets were written, and these bytes of the payload taken for them. More were ready then.
+pub record Cutting {R W : Type 0} (remaining : R → Option (List ℕ)) (contents : W → Option (List ℕ)) (m : ℕ) (a : Seen) (s : PayloadOf R) (old new : Counted W) (done : Written) : Type 0 where
   pub payload : List ℕ
-  pub takes : Takes a b payload (length payload + 1)
+  pub takes : Takes a (seen remaining s) payload (length payload + 1)
   pub whole : length payload ≡ done.packets * m
-  pub placed : place ≡ length payload
+  pub placed : s.place ≡ length payload
   pub wrote : Gains contents old new (wire_of (first_packets m done.packets payload))
   pub bytes_are : done.bytes ≡ length (wire_of (first_packets m done.packets payload))
   pub stays : new.failures ≡ old.failures
-
--- nothing was cut
-pub cut_none : {W : Type 0} (contents : W → Option (List ℕ)) (m : ℕ) (a : Seen) (to : Counted W) (place : ℕ) → place ≡ 0 → Cutting contents m a a to to (record { packets = 0; bytes = 0 }) place
-unfolding first_packets
-cut_none contents m a to place e = record { payload = []; takes = Takes-none a 1; whole = omega arith; placed = e; wrote = Appends-nil (contents to.device); bytes_are = refl; stays = refl }
-
--- Full packets were cut, and then the next body gathered.
-pub record Next {R W : Type 0} (remaining : R → Option (List ℕ)) (contents : W → Option (List ℕ)) (a : Seen) (s t : PayloadOf R) (room : ℕ) (packet : List ℕ) (r : Result Bool Stop) (old mid : Counted W) (done : Written) : Type 0 where
-  pub cutting : Cutting contents (room - 8) a (seen remaining s) old mid done s.place
-  pub made : Gathers remaining s t room packet r
-  pub going : s.stopped ≡ None
-  pub large : 8 < room
   pub more : 0 < done.packets → 0 < length (buffered s)
 
-module _ {R W : Type 0} {remaining : R → Option (List ℕ)} {contents : W → Option (List ℕ)} {a : Seen} {s t : PayloadOf R} {room : ℕ} {packet : List ℕ} {old mid : Counted W} {done : Written} where
-  next_parts : {r : Result Bool Stop} (n : Next remaining contents a s t room packet r old mid done) → let all = n.cutting.payload ++ drop 8 packet in
-      (before_last (room - 8) (length all) ≡ done.packets) × (packets_before (room - 8) all ≡ first_packets (room - 8) done.packets n.cutting.payload) × (drop (done.packets * (room - 8)) all ≡ drop 8 packet)
-  next_parts {r = r} n = parts (room - 8) done.packets n.cutting.payload (drop 8 packet) n.cutting.whole (omega (arith, n.made.fits, length-drop 8 packet)) (omega (arith, n.large)) (λ h. some_ready remaining s t room packet r n.made n.going n.large (n.more h))
+-- nothing was cut
+pub cut_none : {R W : Type 0} (remaining : R → Option (List ℕ)) (contents : W → Option (List ℕ)) (m : ℕ) (s : PayloadOf R) (to : Counted W) → s.place ≡ 0 → Cutting remaining contents m (seen remaining s) s to to (record { packets = 0; bytes = 0 })
+unfolding first_packets
+cut_none remaining contents m s to e =
+    record { payload = []; takes = Takes-none (seen remaining s) 1; whole = omega arith; placed = e; wrote = Appends-nil (contents to.device); bytes_are = refl; stays = refl; more = λ some. absurd (omega (arith, some)) }
 
-  next_takes : {last : Bool} (n : Next remaining contents a s t room packet (Ok last) old mid done) → Takes a (seen remaining t) (n.cutting.payload ++ drop 8 packet) (length (n.cutting.payload ++ drop 8 packet) + 1)
-  next_takes n = joined a (seen remaining s) (seen remaining t) n.cutting.payload (drop 8 packet) (length (drop 8 packet) + 1) (le_refl _) n.cutting.takes n.made.gives
+module _ {R W : Type 0} {remaining : R → Option (List ℕ)} {contents : W → Option (List ℕ)} {a : Seen} {s t : PayloadOf R} {room : ℕ} {packet : List ℕ} {old mid : Counted W} {done : Written}
+    (x : Cutting remaining contents (room - 8) a s old mid done) (going : s.stopped ≡ None) (large : 8 < room) where
+  next_parts : {r : Result Bool Stop} → Gathers remaining s t room packet r → let all = x.payload ++ drop 8 packet in
+      (before_last (room - 8) (length all) ≡ done.packets) × (packets_before (room - 8) all ≡ first_packets (room - 8) done.packets x.payload) × (drop (done.packets * (room - 8)) all ≡ drop 8 packet)
+  next_parts {r = r} made = parts (room - 8) done.packets x.payload (drop 8 packet) x.whole (omega (arith, made.fits, length-drop 8 packet)) (omega (arith, large)) (λ h. some_ready remaining s t room packet r made going large (x.more h))
 
-  next_full : {last : Bool} (n : Next remaining contents a s t room packet (Ok last) old mid done) → last ≡ false → length (n.cutting.payload ++ drop 8 packet) ≡ (done.packets + 1) * (room - 8)
-  next_full n e = rw (length-append, add-one, suc-mul) (omega (arith, n.cutting.whole, length-drop 8 packet, (n.made.full e).0))
+  next_takes : {last : Bool} → Gathers remaining s t room packet (Ok last) → Takes a (seen remaining t) (x.payload ++ drop 8 packet) (length (x.payload ++ drop 8 packet) + 1)
+  next_takes made = joined a (seen remaining s) (seen remaining t) x.payload (drop 8 packet) (length (drop 8 packet) + 1) (le_refl _) x.takes made.gives
+
+  next_full : {last : Bool} → Gathers remaining s t room packet (Ok last) → last ≡ false → length (x.payload ++ drop 8 packet) ≡ (done.packets + 1) * (room - 8)
+  next_full made e = rw (length-append, add-one, suc-mul) (omega (arith, x.whole, length-drop 8 packet, (made.full e).0))
 
   -- a full packet was written
-  pub cut_more : {new : Counted W} {last : Bool} (more : Written) → last ≡ false → Next remaining contents a s t room packet (Ok last) old mid done
-      → WritesPacket contents mid new done (packet_bytes (cut_packet done.packets false (drop 8 packet))) (Ok more) → Cutting contents (room - 8) a (seen remaining t) old new more t.place
-  cut_more {new = new} more test n writes =
-      let x = n.cutting in
-      let full : length (drop 8 packet) ≡ room - 8 = omega (arith, length-drop 8 packet, (n.made.full test).0) in
+  pub cut_more : {new : Counted W} {last : Bool} (more : Written) → last ≡ false → Gathers remaining s t room packet (Ok last)
+      → WritesPacket contents mid new done (packet_bytes (cut_packet done.packets false (drop 8 packet))) (Ok more) → Cutting remaining contents (room - 8) a t old new more
+  cut_more {new = new} more test made writes =
+      let full : length (drop 8 packet) ≡ room - 8 = omega (arith, length-drop 8 packet, (made.full test).0) in
       let firsts = ap wire_of (first_is (room - 8) done.packets (done.packets + 1) x.payload (drop 8 packet) (omega arith) x.whole full) ∙ wire-more (first_packets (room - 8) done.packets x.payload) (cut_packet done.packets false (drop 8 packet)) in
       rw writes.1 (record {
         payload = x.payload ++ drop 8 packet;
-        takes = next_takes n;
-        whole = next_full n test;
-        placed = rw (length-append, ← x.placed) n.made.place;
+        takes = next_takes made;
+        whole = next_full made test;
+        placed = rw (length-append, ← x.placed) made.place;
         wrote = rw firsts (Appends-trans (contents old.device) (contents mid.device) (contents new.device) _ _ x.wrote writes.0);
         bytes_are = rw (firsts, x.bytes_are) (sym (length-append (wire_of (first_packets (room - 8) done.packets x.payload)) _));
         stays = writes.2 ∙ x.stays;
+        more = λ _. (made.full test).1;
       })
 
   -- a packet, or the flush after the last one, failed
-  pub cut_broken : {new : Counted W} {last : Bool} (is : Bool) (stop : RecutStop) → last ≡ is → Next remaining contents a s t room packet (Ok last) old mid done
+  pub cut_broken : {new : Counted W} {last : Bool} (is : Bool) (stop : RecutStop) → last ≡ is → Gathers remaining s t room packet (Ok last)
       → WritesPacket contents mid new done (packet_bytes (cut_packet done.packets is (drop 8 packet))) (Err stop) → StopsOutput contents (room - 8) a (seen remaining t) old new stop
-  cut_broken {new = new} is stop test n writes =
-      let x = n.cutting in
-      let p = next_parts n in
+  cut_broken {new = new} is stop test made writes =
+      let p = next_parts made in
       record {
         payload = x.payload ++ drop 8 packet;
         last = is;
         part = writes.0;
         rest = writes.1;
-        takes = next_takes n;
-        between = n.made.between;
-        over = λ e. n.made.over (test ∙ e);
-        goes_on = λ e. ((n.made.full (test ∙ e)).2, rw p.0 (next_full n (test ∙ e)));
+        takes = next_takes made;
+        between = made.between;
+        over = λ e. made.over (test ∙ e);
+        goes_on = λ e. ((made.full (test ∙ e)).2, rw p.0 (next_full made (test ∙ e)));
         split = rw (p.0, p.2) writes.2;
         wrote = rw p.1 (Appends-trans (contents old.device) (contents mid.device) (contents new.device) _ writes.0 x.wrote writes.3);
         stop_is = rw (p.1, length-append, ← x.bytes_are) writes.4;
@@ -156,37 +150,35 @@ module _ {R W : Type 0} {remaining : R → Option (List ℕ)} {contents : W → 
       }
 
   -- all was written, and the writer flushed
-  pub cut_finished : {last : Bool} (new sent : Counted W) (all : Written) (total : ℕ) (r : Result Recut RecutStop) → last ≡ true → Next remaining contents a s t room packet (Ok last) old mid done → total ≡ t.place
+  pub cut_finished : {last : Bool} (new sent : Counted W) (all : Written) (total : ℕ) (r : Result Recut RecutStop) → last ≡ true → Gathers remaining s t room packet (Ok last) → total ≡ t.place
       → WritesPacket contents mid sent done (packet_bytes (cut_packet done.packets true (drop 8 packet))) (Ok all) → Flushes contents sent new all total r → Cuts contents (room - 8) a (seen remaining t) old new r
-  cut_finished new sent all total (Ok answer) test n et writes flushes =
-      let x = n.cutting in
-      let p = next_parts n in
+  cut_finished new sent all total (Ok answer) test made et writes flushes =
+      let p = next_parts made in
       let both = Appends-trans (contents old.device) (contents mid.device) (contents sent.device) _ _ x.wrote writes.0 in
       record {
         payload = x.payload ++ drop 8 packet;
-        takes = next_takes n;
-        over = n.made.over test;
+        takes = next_takes made;
+        over = made.over test;
         wrote = rw (p.1, p.0, p.2, wire-more) (Appends-kept (contents old.device) (contents sent.device) (contents new.device) _ both flushes.0);
-        done_is = rw (p.1, length-append (first_packets (room - 8) done.packets x.payload), first-length, length-append x.payload (drop 8 packet), ← x.placed, ← n.made.place, ← et) (rw writes.1 at flushes.1.0);
+        done_is = rw (p.1, length-append (first_packets (room - 8) done.packets x.payload), first-length, length-append x.payload (drop 8 packet), ← x.placed, ← made.place, ← et) (rw writes.1 at flushes.1.0);
         failures = flushes.1.1 ∙ writes.2 ∙ x.stays;
         asked = rw (← x.stays, ← writes.2) flushes.1.2;
       }
-  cut_finished new sent all total (Err stop) test n et writes flushes =
+  cut_finished new sent all total (Err stop) test made et writes flushes =
       let bytes = packet_bytes (cut_packet done.packets true (drop 8 packet)) in
       let wrote = Appends-kept (contents mid.device) (contents sent.device) (contents new.device) bytes writes.0 flushes.0 in
-      inr (cut_broken true stop test n (bytes, [], append-nil bytes, wrote, rw writes.1 at flushes.1.0, rw (← writes.2) flushes.1.1))
+      inr (cut_broken true stop test made (bytes, [], append-nil bytes, wrote, rw writes.1 at flushes.1.0, rw (← writes.2) flushes.1.1))
 
   -- the input stopped, and the writer was flushed
-  pub cut_stopped : {new : Counted W} {stop : Stop} (flushed : Bool) → Next remaining contents a s t room packet (Err stop) old mid done → Keeps (contents mid.device) (contents new.device)
+  pub cut_stopped : {new : Counted W} {stop : Stop} (flushed : Bool) → Gathers remaining s t room packet (Err stop) → Keeps (contents mid.device) (contents new.device)
       → (IsTrue flushed → (new.failures ≡ mid.failures) × (mid.failures < 2 ^ 64 - 1)) → (flushed ≡ false → new.failures ≡ one_more mid.failures)
       → StopsInput contents (room - 8) a (seen remaining t) old new (record { stop = stop; written = done.bytes; unwritten = 0 })
-  cut_stopped {new = new} {stop = stop} flushed n keeps ok counted =
-      let x = n.cutting in
-      let p = next_parts n in
+  cut_stopped {new = new} {stop = stop} flushed made keeps ok counted =
+      let p = next_parts made in
       record {
         payload = x.payload ++ drop 8 packet;
-        ends = Ends-after a (seen remaining s) (seen remaining t) x.payload (drop 8 packet) _ stop x.takes n.made.gives;
-        goes_on = n.made.goes_on;
+        ends = Ends-after a (seen remaining s) (seen remaining t) x.payload (drop 8 packet) _ stop x.takes made.gives;
+        goes_on = made.goes_on;
         wrote = rw p.1 (Appends-kept (contents old.device) (contents mid.device) (contents new.device) _ x.wrote keeps);
         written = rw p.1 x.bytes_are;
         unwritten = refl;
