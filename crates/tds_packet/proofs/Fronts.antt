@@ -55,15 +55,11 @@ pub record EndsMessage (size limit : ℕ) (input rest payload : List ℕ) (failu
   pub ended : stop ≡ record { fault = MessageEnded; place = Payload (length payload) }
   pub same : failures' ≡ failures
 
-whole_stop : (size limit f g : ℕ) (input rest payload : List ℕ) (stop : Stop) → AreBytes input → g ≡ f → whole_message size limit input ≡ record { bytes = payload; stop = stop; rest = rest }
-    → EndsMessage size limit input rest payload f g stop ⊎ StopsAfterPackets size limit input rest payload f g stop
-whole_stop size limit f g input rest payload stop are same e = grind (arith, append-nil, front_message size limit input are)
-
 -- a payload's stop, where its reader tells its bytes
 pub ends_front : (size limit f : ℕ) (input rest : List ℕ) (q : Seen) (payload : List ℕ) (stop : Stop) → AreBytes input → q.left ≡ Some rest → Ends (begun size limit (Some input) f) q payload stop
     → EndsMessage size limit input rest payload f q.failures stop ⊎ StopsAfterPackets size limit input rest payload f q.failures stop
-ends_front size limit f input rest q payload stop are left (inl x) = grind (arith, whole_stop)
-ends_front size limit f input rest q payload stop are left (inr (inl x)) = grind (arith, append-nil, whole_stop)
+ends_front size limit f input rest q payload stop are left (inl x) = grind (arith, front_message size limit input are, x.2 rest)
+ends_front size limit f input rest q payload stop are left (inr (inl x)) = grind (arith, append-nil, front_message size limit input are)
 ends_front size limit f input rest q payload stop are left (inr (inr x)) =
     let split : input ≡ x.0 ++ rest = rw left at x.1 in
     grind (arith, append_assoc, front_message size limit x.0 (AreBytes-front x.0 rest (rw split at are)))
@@ -71,7 +67,7 @@ ends_front size limit f input rest q payload stop are left (inr (inr x)) =
 -- a message of which all was handed out
 pub over_front : (size limit f : ℕ) (input rest : List ℕ) (q : Seen) (bytes : List ℕ) (n : ℕ) → AreBytes input → q.left ≡ Some rest → Takes (begun size limit (Some input) f) q bytes n → (o : IsOver q)
     → EndsMessage size limit input rest bytes f q.failures o.0
-over_front size limit f input rest q bytes n are left t o = grind (arith, append-nil, whole_stop, wire_goes_on)
+over_front size limit f input rest q bytes n are left t o = grind (arith, append-nil, front_message size limit input are, wire_goes_on, t.1.1 rest)
 
 -- these packets come before the last, and have fewer bytes of the payload
 pub record InLast (size : ℕ) (packets : List Packet) (n : ℕ) : Type 0 where

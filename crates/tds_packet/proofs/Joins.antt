@@ -1,5 +1,5 @@
 -- The parts of a packet's read, joined.
-use Rattle.tds_packet.proofs.Words.{◌≡◌, ◌∙◌, inl, inr, ℕ, ◌+◌, ◌-◌, ◌^◌, ◌<◌, List, [], ◌++◌, length, take, drop, Option, Ok, Err, Bool, false, refl, ap, arith, length-append, length-take, append_assoc, drop-append_seam, take-append_seam, take-append-add, nat_tests, nat_lt, if◌then◌else◌, Consumes, Consumes-trans, dec_le, one_more, Device, Stays, Fault, InputEnded, ReadFailed, Header, header_fault, WholePacket, NoPacket, front_packet, packet_after_header, Faulted, ReadsPacket, header_of}
+use Rattle.tds_packet.proofs.Words.{◌≡◌, ◌∙◌, ℕ, ◌+◌, ◌-◌, ◌^◌, ◌<◌, List, [], ◌++◌, length, take, drop, Option, Ok, Err, Bool, false, refl, arith, length-append, length-take, append_assoc, drop-append_seam, take-append_seam, take-append-add, nat_tests, nat_lt, if◌then◌else◌, Consumes, Consumes-trans, dec_le, Device, Stays, Fault, InputEnded, ReadFailed, Header, header_fault, WholePacket, NoPacket, front_packet, packet_after_header, Faulted, ReadsPacket, header_of}
 use Rattle.tds_packet.proofs.Choices.{choose_true, choose_false, test_lt}
 
 pub Stays-none : (f : ℕ) → Stays f f []
@@ -63,12 +63,11 @@ module _ (size limit wire : ℕ) (old new : Device) where
 
   pub body_err : (mid : Device) (h : Header) (body : List ℕ) (e : Fault) → ReadsHeader size limit wire old mid h → length body + 8 ≡ h.length → Faulted mid new (length body) e → ReadsPacket size limit wire old new body (Err e)
   body_err mid h body InputEnded x fits r =
-      let bs = r.0.0.0 in
-      let cut_short = ended_body size limit wire x.bytes h x.eight x.good bs (omega (arith, r.0.0.1, fits)) in
-      inr (inl (refl, x.bytes ++ bs, Consumes-trans old.bytes mid.bytes new.bytes x.bytes bs x.read r.0.0.2, r.0.1, cut_short, (r.1.0 ∙ x.stays.0, omega (arith, r.1.1, x.stays.0))))
+      let cut_short = ended_body size limit wire x.bytes h x.eight x.good r.0.0.0 (omega (arith, r.0.0.1, fits)) in
+      grind (arith, Consumes-trans)
   body_err mid h body ReadFailed x fits r =
       let cut_short = ended_body size limit wire x.bytes h x.eight x.good r.0 (omega (arith, r.1, fits)) in
-      inr (inr (refl, x.bytes ++ r.0, Consumes-trans old.bytes mid.bytes new.bytes x.bytes r.0 x.read r.2, cut_short, (r.3.0 ∙ ap one_more x.stays.0, λ _. x.stays.1 (omega (arith, x.eight)))))
+      grind (arith, Consumes-trans)
   body_err mid h body e x fits r = absurd r
 
   pub body_ok : (mid : Device) (h : Header) (body : List ℕ) → ReadsHeader size limit wire old mid h → length body + 8 ≡ h.length → Consumes mid.bytes new.bytes body → Stays mid.failures new.failures body → ReadsPacket size limit wire old new body (Ok h)

@@ -1,4 +1,4 @@
-use Rattle.tds_packet.proofs.Words.{◌≡◌, ◌-◌, ◌*◌, ◌<◌, ◌≤◌, length, IsGoing, IsOnSame, buffered, seen}
+use Rattle.tds_packet.proofs.Words.{◌≡◌, ◌-◌, ◌*◌, ◌≤◌, IsGoing, IsOnSame, seen}
 use Rattle.tds_packet.proofs.Recuts.{Cutting}
 use Rattle.tds_packet.proofs.recutting.cut.Given as goal
 
