@@ -1,5 +1,5 @@
 -- What the wire's grammar reads are the packets that the input begins with.
-use Rattle.tds_packet.proofs.Words.{◌≡◌, ℕ, ◌+◌, ◌-◌, ◌/◌, ◌%◌, ◌≤◌, true, false, List, [], ◌∷◌, ◌++◌, length, take, drop, refl, sym, ◌∙◌, ap, inl, inr, append_assoc, append-nil, arith, length-append, ◌⊎◌, take-append-drop, length-take-le, take-append_seam, None, ◌==◌, slice_index, if◌then◌else◌, nat_tests, flat_map-append, AreBytes, Spelt, IsNext, Longest, Packet, packet_length, packet_bytes, wire_of, is_last, IsPacket, AreBefore, AreMessage, IsNextPacket, Front, WirePlace, BeforeHeader, BeforeBody, AfterLast, WirePart, no_wire, header_length, packet_of, with_packet, header_fault, wire}
+use Rattle.tds_packet.proofs.Words.{wire_add, ◌≡◌, ℕ, ◌+◌, ◌-◌, ◌/◌, ◌%◌, ◌≤◌, true, false, List, [], ◌∷◌, ◌++◌, length, take, drop, refl, sym, ◌∙◌, ap, inl, inr, append_assoc, append-nil, arith, length-append, ◌⊎◌, take-append-drop, length-take-le, take-append_seam, None, ◌==◌, slice_index, if◌then◌else◌, nat_tests, flat_map-append, AreBytes, Spelt, IsNext, Longest, Packet, packet_length, packet_bytes, wire_of, is_last, IsPacket, AreBefore, AreMessage, IsNextPacket, Front, WirePlace, BeforeHeader, BeforeBody, AfterLast, WirePart, no_wire, header_length, packet_of, with_packet, header_fault, wire}
 use Rattle.tds_packet.proofs.{ElementLaws.Spelt-step, ElementLaws.Spelt-append, ElementLaws.Spelt-none, ElementLaws.Spelt-induct, ElementLaws.AreBytes-front, ElementLaws.AreBytes-back, ElementLaws.one_state, Choices.choose, Choices.eq_true}
 
 pub one_more : (size : ℕ) (ps : List Packet) (p : Packet) → AreBefore size ps → IsPacket size p → is_last p ≡ false → AreBefore size (ps ++ p ∷ [])
@@ -29,25 +29,22 @@ WireMeans size limit packets BeforeHeader b = (b ≡ wire_of packets) × AreBefo
 WireMeans size limit packets (BeforeBody header) b = (b ≡ wire_of packets ++ header) × AreBefore size packets × Good size limit packets header
 WireMeans size limit packets AfterLast b = (b ≡ wire_of packets) × AreMessage size packets × (length b ≤ limit)
 
-abbrev pub Means : ℕ → ℕ → WirePart → List ℕ → Type 0
-Means size limit w b = WireMeans size limit w.packets w.place b
-
 module _ (size limit : ℕ) where
-  with_means : (packets : List Packet) (header body : List ℕ) → AreBefore size packets → Good size limit packets header → length body ≡ header_length header - 8 → Means size limit (with_packet packets (packet_of header body)) (wire_of packets ++ (header ++ body))
+  with_means : (packets : List Packet) (header body : List ℕ) → AreBefore size packets → Good size limit packets header → length body ≡ header_length header - 8 → let w = with_packet packets (packet_of header body) in WireMeans size limit w.packets w.place (wire_of packets ++ (header ++ body))
   with_means packets header body before good l = grind (arith, append-nil, flat_map-append, length-append, last_one, one_more)
 
-  wire_step : (packets : List Packet) (place : WirePlace) (b e : List ℕ) → AreBytes e → WireMeans size limit packets place b → IsNext (wire size limit) (record { packets = packets; place = place }) e → Means size limit ((wire size limit).add (record { packets = packets; place = place }) e) (b ++ e)
+  wire_step : (packets : List Packet) (place : WirePlace) (b e : List ℕ) → AreBytes e → WireMeans size limit packets place b → IsNext (wire size limit) (record { packets = packets; place = place }) e → let w = wire_add packets place e in WireMeans size limit w.packets w.place (b ++ e)
   wire_step packets AfterLast b e bytes h n = absurd (omega (arith, n.whole, n.some))
   wire_step packets BeforeHeader b e bytes h n =
       let good : Good size limit packets e = free_is_good size limit packets e n.whole bytes n.free in
-      choose (λ w. Means size limit w (b ++ e)) (header_length e == 8) (with_packet packets (packet_of e [])) (record { packets = packets; place = BeforeBody e })
+      choose (λ w. WireMeans size limit w.packets w.place (b ++ e)) (header_length e == 8) (with_packet packets (packet_of e [])) (record { packets = packets; place = BeforeBody e })
       (λ z. (let eight : header_length e ≡ 8 = eq_true (header_length e) 8 z in rw h.0 (rw append-nil at (with_means packets e [] h.1 good (omega arith)))))
       (λ z. (rw h.0 refl, h.1, good))
   wire_step packets (BeforeBody header) b e bytes h n = grind (arith, append_assoc, with_means)
 
   -- what is read of a wire are the packets that it begins with
-  pub wire_is_spelt : (bytes : List ℕ) (w : WirePart) → AreBytes bytes → Spelt (wire size limit) no_wire bytes w → Means size limit w bytes
-  wire_is_spelt bytes w are h = Spelt-induct (wire size limit) (λ q b. AreBytes b → Means size limit q b) (λ q b e k n t. wire_step q.packets q.place b e (AreBytes-back b e t) (k (AreBytes-front b e t)) n) no_wire (λ t. (refl, tt, omega arith)) bytes w h are
+  pub wire_is_spelt : (bytes : List ℕ) (w : WirePart) → AreBytes bytes → Spelt (wire size limit) no_wire bytes w → WireMeans size limit w.packets w.place bytes
+  wire_is_spelt bytes w are h = Spelt-induct (wire size limit) (λ q b. AreBytes b → WireMeans size limit q.packets q.place b) (λ q b e k n t. wire_step q.packets q.place b e (AreBytes-back b e t) (k (AreBytes-front b e t)) n) no_wire (λ t. (refl, tt, omega arith)) bytes w h are
 
 -- the header of a packet
 abbrev pub header_of : Packet → List ℕ

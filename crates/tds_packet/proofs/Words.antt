@@ -9,7 +9,7 @@ pub use Rattle.tds_packet.specs.{Devices.device, Devices.Device, Filling.Stays, 
 pub use Rattle.tds_packet.specs.declared.payload.Payload.{Payload as PayloadOf}
 pub use Rattle.tds_packet.specs.Coming.{Coming, WholePacket, before, NoPacket, after_packet, FrontPacket, whole_message, IsFrontMessage, packet_after_header, stopped_at}
 pub use Rattle.tds_packet.specs.Elements.{Spelt, AreBytes, Grammar, IsNext, Longest, IsRefused, Leads}
-pub use Rattle.tds_packet.specs.Packets.{packet_bytes, Packet, wire_of, AreBefore, AreMessage, IsPacket, WirePart, header_fault, header_length, is_last, no_wire, wire, AfterLast, BeforeBody, BeforeHeader, WireFault, WirePlace, packet_length, packet_of, payload_of, Front, IsNextPacket, Message, is_last_status, wire_end, wire_size, with_packet}
+pub use Rattle.tds_packet.specs.Packets.{wire_add, packet_bytes, Packet, wire_of, AreBefore, AreMessage, IsPacket, WirePart, header_fault, header_length, is_last, no_wire, wire, AfterLast, BeforeBody, BeforeHeader, WireFault, WirePlace, packet_length, packet_of, payload_of, Front, IsNextPacket, Message, is_last_status, wire_end, wire_size, with_packet}
 pub use Rattle.tds_packet.specs.Payloads.{seen, buffered, IsOnSame, IsSound, further, IsGoing, IsUsedUp, NeedsPacket, PassesOver}
 pub use Rattle.tds_packet.specs.Recutting.{cut_packet, Cuts, Gathers, Flushes, Gains, StopsInput, StopsOutput, WritesPacket, before_last, packets_before, write_stop}
 pub use Rattle.tds_packet.specs.Seen.{Takes, Ends, Seen, IsBetween, IsOver, IsNotOver, began_at, begun, Follows, Needs}
