@@ -1,5 +1,5 @@
 -- A payload on its way into packets of one size.
-use Rattle.tds_packet.proofs.Words.{PayloadOf, ◌≡◌, ◌∙◌, inl, inr, ◌⊎◌, ℕ, zero, suc, ◌+◌, ◌-◌, ◌*◌, ◌<◌, ◌≤◌, Bool, true, false, List, [], ◌∷◌, ◌++◌, length, drop, Option, None, refl, sym, ap, arith, append-nil, length-append, length-drop, take_all, le_refl, add-one, div-mul-add, flat_map-append, Appends-nil, Appends-trans, Appends-kept, drop-append_seam, suc-mul, Result, Ok, Err, IsTrue, ◌^◌, Keeps, take-append-le, drop-append-le, one_more, Counted, Recut, RecutStop, MessageEnded, Stop, Written, Coming, coming_of, Packet, packet_bytes, wire_of, buffered, seen, Cuts, Flushes, Gains, StopsInput, StopsOutput, WritesPacket, Gathers, cut_packet, first_packets, before_last, packets_before, Ends, IsBetween, IsNotOver, IsOver, Seen, Takes}
+use Rattle.tds_packet.proofs.Words.{PayloadOf, ◌≡◌, ◌∙◌, inl, inr, ◌⊎◌, ℕ, zero, suc, ◌+◌, ◌-◌, ◌*◌, ◌<◌, ◌≤◌, Bool, true, false, List, [], ◌∷◌, ◌++◌, length, drop, Option, None, refl, sym, ap, arith, append-nil, length-append, length-drop, take_all, le_refl, add-one, div-mul-add, flat_map-append, Appends-nil, Appends-trans, Appends-kept, drop-append_seam, suc-mul, Result, Ok, Err, IsTrue, ◌^◌, Keeps, take-append-le, drop-append-le, one_more, Counted, Recut, RecutStop, MessageEnded, Stop, Written, coming_of, Packet, packet_bytes, wire_of, buffered, seen, Cuts, Flushes, Gains, StopsInput, StopsOutput, WritesPacket, Gathers, cut_packet, first_packets, before_last, packets_before, Ends, IsBetween, IsNotOver, IsOver, Seen, Takes}
 use Rattle.tds_packet.proofs.{PayloadLaws.ends_there, Futures.Ends-after, Futures.Takes-more, Futures.Takes-none, Futures.Takes-trans}
 
 -- what was gathered, and bytes after it
@@ -41,18 +41,19 @@ module _ {R : Type 0} (remaining : R → Option (List ℕ)) (o s t : PayloadOf R
           takes = rw split (joined (seen remaining o) (seen remaining t) (seen remaining d) (drop 8 packet) piece 0 (omega arith) (asked q) r);
         }
 
-starts_in : {R : Type 0} (remaining : R → Option (List ℕ)) (p : PayloadOf R) (input bytes : List ℕ) → p.stopped ≡ None → ((seen remaining p).future input).bytes ≡ bytes → length (buffered p) ≤ length bytes
+ready_first : {R : Type 0} (remaining : R → Option (List ℕ)) (p : PayloadOf R) (input : List ℕ) → p.stopped ≡ None → length (buffered p) ≤ length ((seen remaining p).future input).bytes
 unfolding coming_of
-starts_in remaining p input bytes e is = grind (arith, length-append)
+ready_first remaining p input e = grind (arith, length-append)
 
 -- a body holds what lay ready
 some_ready : {R : Type 0} (remaining : R → Option (List ℕ)) (s t : PayloadOf R) (room : ℕ) (packet : List ℕ) (r : Result Bool Stop) → Gathers remaining s t room packet r → s.stopped ≡ None → 8 < room → 0 < length (buffered s) → 0 < length (drop 8 packet)
-some_ready remaining s t room packet (Ok true) made going large some =
-    omega (arith, some, starts_in remaining s (made.gives.0 ++ []) (drop 8 packet) going (rw (made.gives.1.1 [], (made.over refl).2 []) (append-nil (drop 8 packet))))
+some_ready remaining s t room packet (Ok true) made going large some = omega (arith, some, rw (made.gives.1.1 [], (made.over refl).2 [], append-nil) at (ready_first remaining s (made.gives.0 ++ []) going))
 some_ready remaining s t room packet (Ok false) made going large some = omega (arith, (made.full refl).0, length-drop 8 packet, large)
-some_ready remaining s t room packet (Err stop) made going large some =
-    let starts = λ (input rest : List ℕ) (own : Stop) (e : (seen remaining s).future input ≡ record { bytes = drop 8 packet; stop = own; rest = rest }). starts_in remaining s input (drop 8 packet) going (ap (λ (c : Coming). c.bytes) e) in
-    elim made.gives [ inl x ↦ omega (arith, some, starts (x.0 ++ []) [] stop (x.2 [])) | inr (inl x) ↦ omega (arith, some, starts x.0 [] stop x.3) | inr (inr x) ↦ omega (arith, some, starts x.0 [] _ x.3) ]
+some_ready remaining s t room packet (Err stop) made going large some = elim made.gives [
+  | inl x ↦ omega (arith, some, rw (x.2 []) at (ready_first remaining s (x.0 ++ []) going))
+  | inr (inl x) ↦ omega (arith, some, rw x.3 at (ready_first remaining s x.0 going))
+  | inr (inr x) ↦ omega (arith, some, rw x.3 at (ready_first remaining s x.0 going))
+]
 
 -- more bytes after full packets change none of them
 first-more : (m k : ℕ) (xs ys : List ℕ) → k * m ≤ length xs → first_packets m k (xs ++ ys) ≡ first_packets m k xs

@@ -8,12 +8,10 @@ loop-at-preserved g c =
     let k = at_ok _ _ _ _ c.in-Ok.is h.2 in
     let s = c.piece.follows.lender-at-none in
     let inv = c.loop-at.invariant in
-    let i = c.loop-at.at in
-    let to = c.loop-at.to in
     let bytes = c.in-Ok.bytes.now in
-    let fits : i + length bytes ≤ length to = omega (arith, c.in-Ok.ensures.len, inv.within) in
+    let fits : c.loop-at.at + length bytes ≤ length c.loop-at.to = omega (arith, c.in-Ok.ensures.len, inv.within) in
     let all : c.copy_from_slice-in-Ok.new.self ≡ bytes = search rules in
-    let done = sym (take-put_mid i ((i + length bytes) - i) to bytes (i + length bytes) (omega arith) inv.within) in
+    let done = sym (take-put_mid c.loop-at.at ((c.loop-at.at + length bytes) - c.loop-at.at) c.loop-at.to bytes (c.loop-at.at + length bytes) (omega arith) inv.within) in
     record {
       sound = h.0;
       same = search rules;
@@ -21,8 +19,8 @@ loop-at-preserved g c =
       within = search rules;
       place = omega (arith, k.2, inv.place);
       going = k.3;
-      takes = rw all (subst (λ l. Takes (seen g.R.Read.remaining c.args.self.now) (seen g.R.Read.remaining s) l (i + length bytes)) done
-          (takes_piece g.R.Read.remaining c.args.self.now c.loop-at.self s (take i to) bytes i (length-take-le i to inv.within) c.in-Ok.ensures.len.0 inv.takes k.0));
+      takes = rw all (subst (λ l. Takes (seen g.R.Read.remaining c.args.self.now) (seen g.R.Read.remaining s) l (c.loop-at.at + length bytes)) done
+          (takes_piece g.R.Read.remaining c.args.self.now c.loop-at.self s (take c.loop-at.at c.loop-at.to) bytes c.loop-at.at (length-take-le c.loop-at.at c.loop-at.to inv.within) c.in-Ok.ensures.len.0 inv.takes k.0));
     }
 
 pub returns-in-Err-clause-part : goal.returns-in-Err-clause-part
