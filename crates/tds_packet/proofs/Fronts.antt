@@ -1,6 +1,5 @@
 -- The packets at the front of an input, and what is read of it.
-use Rattle.std.proofs.lemmas.List.{nil_from_length}
-use Rattle.tds_packet.proofs.Words.{common_steps, ◌≡◌, ◌∙◌, ◌⊎◌, inl, inr, ℕ, suc, zero, ◌+◌, ◌<◌, ◌≤◌, List, [], ◌∷◌, ◌++◌, length, take, Some, false, refl, sym, ap, arith, append-nil, append_assoc, length-append, take-append_seam, append_cancel_right, flat_map-append, one_more, Fault, InputEnded, MessageEnded, ReadFailed, Wire, Payload, Stop, AreBytes, Packet, packet_bytes, packet_length, is_last, header_length, wire_of, payload_of, AreBefore, AreMessage, IsPacket, WireFault, Coming, before, whole_message, IsFrontMessage, Seen, Takes, Ends, IsBetween, IsOver, begun, WholePacket, after_packet, front_packet, message}
+use Rattle.tds_packet.proofs.Words.{nil_from_length, common_steps, ◌≡◌, ◌∙◌, ◌⊎◌, inl, inr, ℕ, suc, zero, ◌+◌, ◌<◌, ◌≤◌, List, [], ◌∷◌, ◌++◌, length, take, Some, false, refl, sym, ap, arith, append-nil, append_assoc, length-append, take-append_seam, append_cancel_right, flat_map-append, one_more, Fault, InputEnded, MessageEnded, ReadFailed, Wire, Payload, Stop, AreBytes, Packet, packet_bytes, packet_length, is_last, header_length, wire_of, payload_of, AreBefore, AreMessage, IsPacket, WireFault, Coming, before, whole_message, IsFrontMessage, Seen, Takes, Ends, IsBetween, IsOver, begun, WholePacket, after_packet, front_packet, message}
 use Rattle.tds_packet.proofs.{ElementLaws.AreBytes-front, PacketLaws.good_header, PacketLaws.header_of, ComingLaws.front_message, Joins.whole_packet}
 
 -- whole packets at the front of an input, with the rest of it after them; none but the last is marked as the last
@@ -98,7 +97,7 @@ unfolding message front_packet
 message_before size limit zero from place packets each within less = absurd (omega (arith, less))
 message_before size limit (suc n) from place [] each within less = refl
 message_before size limit (suc n) from place (p ∷ ps) each within less =
-    let long : length (wire_of (p ∷ ps)) ≡ packet_length p + length (wire_of ps) = (let four : length p.id ≡ 4 = each.0.id in omega (arith, length-append (packet_bytes p) (wire_of ps), length-append p.id p.body)) in
+    let long : length (wire_of (p ∷ ps)) ≡ packet_length p + length (wire_of ps) = simp length-append (omega (arith, each.0.id)) in
     ap (λ f. (after_packet (message size limit n) from place f).bytes) (front_whole size limit from p (wire_of ps) each.0 each.1 (omega (arith, long, within)))
     ∙ ap (λ l. p.body ++ l) (message_before size limit n (from + packet_length p) (place + length p.body) ps each.2 (omega (arith, long, within)) (omega (arith, long, less)))
 
