@@ -183,8 +183,5 @@ module _ {R W : Type 0} {remaining : R → Option (List ℕ)} {contents : W → 
         wrote = rw p.1 (Appends-kept (contents old.device) (contents mid.device) (contents new.device) _ x.wrote keeps);
         written = rw p.1 x.bytes_are;
         unwritten = refl;
-        flushed = elim flushed as (λ f. (IsTrue f → (new.failures ≡ mid.failures) × (mid.failures < 2 ^ 64 - 1)) → (f ≡ false → new.failures ≡ one_more mid.failures) → (new.failures ≡ old.failures) ⊎ (new.failures ≡ one_more old.failures)) [
-          | true ↦ λ h k. inl ((h refl).0 ∙ x.stays)
-          | false ↦ λ h k. inr (rw (← x.stays) (k refl))
-        ] ok counted;
+        flushed = grind (arith, x.stays, ok, counted);
       }
