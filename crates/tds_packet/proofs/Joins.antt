@@ -71,7 +71,4 @@ module _ (size limit wire : ℕ) (old new : Device) where
   body_err mid h body e x fits r = absurd r
 
   pub body_ok : (mid : Device) (h : Header) (body : List ℕ) → ReadsHeader size limit wire old mid h → length body + 8 ≡ h.length → Consumes mid.bytes new.bytes body → Stays mid.failures new.failures body → ReadsPacket size limit wire old new body (Ok h)
-  body_ok mid h body x fits r last =
-      let whole : (zs : List ℕ) → front_packet size limit wire ((x.bytes ++ body) ++ zs) ≡ WholePacket body h.last h.length zs = λ zs. rw append_assoc (whole_packet size limit wire x.bytes h x.eight x.good body zs fits) in
-      let cuts = λ (j : ℕ) (lt : j < length (x.bytes ++ body)). cut size limit wire x.bytes h x.eight x.good body j fits lt in
-      (x.bytes ++ body, Consumes-trans old.bytes mid.bytes new.bytes x.bytes body x.read r, (whole, cuts, omega (arith, x.eight, fits, length-append x.bytes body)), Stays-trans old.failures mid.failures new.failures x.bytes body x.stays last)
+  body_ok mid h body x fits r last = grind (arith, append_assoc, whole_packet, Consumes-trans, cut, length-append, Stays-trans)

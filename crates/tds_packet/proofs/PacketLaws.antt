@@ -97,14 +97,8 @@ module _ (size limit : ℕ) where
       let read = Spelt-append (wire size limit) _ _ _ _ _ (before_are_read [] packets before (omega (arith, long, f.within))) (packet_is_read packets next f.rules (omega (arith, long, size_is, f.within))) in
       let within : length all ≤ taken = l.longest (length all) (with_packet packets next) (omega (arith, ap length f.spelt, length-append all f.more)) (rw front read) in
       let counted : taken ≡ length (wire_of packets) + length header = sym (length-take-le taken input l.within) ∙ ap length is ∙ length-append (wire_of packets) header in
-      elim cause [
-        | inl none ↦ omega (arith, counted, ap length none, long, size_is, within)
-        | inr inside ↦
-            (let same : length all ≡ taken = omega (arith, counted, inside.0, long, size_is, within) in
-            let one = one_state (wire size limit) no_wire (take taken input) _ (with_packet packets next) l.spelt (rw (← same, front) read) in
-            let placed : (if is_last next then AfterLast else BeforeHeader) ≡ BeforeBody header = sym (ap (λ w. w.place) one) ∙ inside.1 in
-            grind (arith))
-      ]
+      let one : length all ≡ taken → place ≡ (if is_last next then AfterLast else BeforeHeader) = λ same. ap (λ w. w.place) (one_state (wire size limit) no_wire (take taken input) _ (with_packet packets next) l.spelt (rw (← same, front) read)) in
+      grind (arith)
 
   -- What is read at most of an input are the packets at its front.
   pub read_front : (input : List ℕ) (taken : ℕ) (w : WirePart) → AreBytes input → Longest (wire size limit) no_wire input taken w → Front size limit input w.packets
