@@ -15,9 +15,9 @@ module _ (size limit : ℕ) (packets : List Packet) where
       let g = wire size limit in
       let left : drop (length front) (front ++ rest) ≡ rest = drop-append_seam front rest in
       let longest : Longest g no_wire (front ++ rest) (length front) (at place) = elim cause [ inl x ↦ longest_refused g _ front rest _ _ spelt x | inr x ↦ longest_cut g _ front rest _ spelt x.0 ] in
-      let first : IsRefused g (at place) rest fault ⊎ (((f : Fault) → IsRefused g (at place) rest f → ⊥) × (wire_end place ≡ Some fault)) = elim cause [ inl x ↦ inl x | inr x ↦ inr (λ f r. omega (arith, r.whole, x.0), x.1) ] in
-      let own : WireFault size limit (front ++ rest) packets fault = record { taken = length front; read = at place; longest = longest; packets_are = refl; first = rw left first } in
-      record { packets = packets; front = read_front size limit (front ++ rest) (length front) (at place) are longest; bytes = bytes; stop = inr (each, rw stop own, rw stop refl) }
+      let front_is = read_front size limit (front ++ rest) (length front) (at place) are longest in
+      let own : WireFault size limit (front ++ rest) packets fault = grind (arith) in
+      record { packets = packets; front = front_is; bytes = bytes; stop = inr (each, rw stop own, rw stop refl) }
 
   -- what comes after these packets is the message at the front, by the packet that follows them
   abbrev Gives : ℕ → List ℕ → FrontPacket → Type 0

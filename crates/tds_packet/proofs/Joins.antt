@@ -40,9 +40,7 @@ module _ (size limit wire : ℕ) (hdr : List ℕ) (h : Header) (eight : length h
   -- no beginning of a packet is a packet
   cut : (body : List ℕ) (j : ℕ) → length body + 8 ≡ h.length → j < length (hdr ++ body) → front_packet size limit wire (take j (hdr ++ body)) ≡ NoPacket InputEnded []
   cut body j fits lt = elim (dec_le 8 j) [
-    | yes many ↦
-        (let all : length hdr + (j - 8) ≡ j = omega arith in
-        rw (← all, take-append-add) (ended_body (take (j - 8) body) (omega (arith, length-append hdr body, length-take (j - 8) body))))
+    | yes many ↦ (let all : length hdr + (j - 8) ≡ j = omega arith in rw (← all, take-append-add) (ended_body (take (j - 8) body) (omega (arith, length-append hdr body, length-take (j - 8) body))))
     | no few ↦ short_input size limit wire (take j (hdr ++ body)) (omega (arith, length-take j (hdr ++ body)))
   ]
 

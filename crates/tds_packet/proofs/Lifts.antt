@@ -21,9 +21,7 @@ module _ {S T : Type 0} (small : Grammar S Fault) (big : Grammar T Fault) (lift 
     bytes = r.bytes;
     spelt = Inside-Spelt small big lift is from r.bytes at r.spelt;
     cause = elim r.cause [
-      | inl x ↦
-          (let some : 0 < small.size at = omega (arith, x.0.some, x.0.whole) in
-          inl (record { element = x.0.element; ahead = x.0.ahead; some = x.0.some; whole = x.0.whole ∙ sym (is.size at some); first = is.fault at x.0.element some ∙ x.0.first; takes = x.0.takes; between = x.0.between }, x.1))
+      | inl x ↦ inl (grind (arith, is.size at, is.fault at x.0.element))
       | inr x ↦ inr (record { part = x.part; cut = rw (is.size at (omega (arith, x.cut))) x.cut; own = x.own; ends = x.ends; stop_is = rw end x.stop_is })
     ];
   }

@@ -34,12 +34,8 @@ module _ {R : Type 0} (remaining : R → Option (List ℕ)) (o s t : PayloadOf R
     pub gathered_more : (d : PayloadOf R) (piece : List ℕ) → Takes (seen remaining t) (seen remaining d) piece 0 → d.place ≡ t.place + length piece → length packet + length piece ≤ room → Gathering remaining o d room (packet ++ piece)
     gathered_more d piece r further fits =
         let split = drop-append-le 8 packet piece x.header in
-        record {
-          header = omega (arith, x.header, length-append packet piece);
-          fits = rw length-append fits;
-          place = rw (split, length-append) (omega (arith, further, stays, x.place));
-          takes = rw split (joined (seen remaining o) (seen remaining t) (seen remaining d) (drop 8 packet) piece 0 (omega arith) (asked q) r);
-        }
+        let takes = joined (seen remaining o) (seen remaining t) (seen remaining d) (drop 8 packet) piece 0 (omega arith) (asked q) r in
+        grind (arith, length-append)
 
 ready_first : {R : Type 0} (remaining : R → Option (List ℕ)) (p : PayloadOf R) (input : List ℕ) → p.stopped ≡ None → length (buffered p) ≤ length ((seen remaining p).future input).bytes
 unfolding coming_of
