@@ -115,16 +115,10 @@ module _ {R W : Type 0} {remaining : R → Option (List ℕ)} {contents : W → 
   cut_more {new = new} more test made writes =
       let full : length (drop 8 packet) ≡ room - 8 = omega (arith, length-drop 8 packet, (made.full test).0) in
       let firsts = ap wire_of (first_is (room - 8) done.packets (done.packets + 1) x.payload (drop 8 packet) (omega arith) x.whole full) ∙ wire-more (first_packets (room - 8) done.packets x.payload) (cut_packet done.packets false (drop 8 packet)) in
-      rw writes.1 (record {
-        payload = x.payload ++ drop 8 packet;
-        takes = next_takes made;
-        whole = next_full made test;
-        placed = rw (length-append, ← x.placed) made.place;
-        wrote = rw firsts (Appends-trans (contents old.device) (contents mid.device) (contents new.device) _ _ x.wrote writes.0);
-        bytes_are = rw (firsts, x.bytes_are) (sym (length-append (wire_of (first_packets (room - 8) done.packets x.payload)) _));
-        stays = writes.2 ∙ x.stays;
-        more = λ _. (made.full test).1;
-      })
+      let takes = next_takes made in
+      let whole = next_full made test in
+      let wrote = Appends-trans (contents old.device) (contents mid.device) (contents new.device) _ _ x.wrote writes.0 in
+      grind (arith, length-append)
 
   -- a packet, or the flush after the last one, failed
   pub cut_broken : {new : Counted W} {last : Bool} (is : Bool) (stop : RecutStop) → last ≡ is → Gathers remaining s t room packet (Ok last)
@@ -151,16 +145,10 @@ module _ {R W : Type 0} {remaining : R → Option (List ℕ)} {contents : W → 
       → WritesPacket contents mid sent done (packet_bytes (cut_packet done.packets true (drop 8 packet))) (Ok all) → Flushes contents sent new all total r → Cuts contents (room - 8) a (seen remaining t) old new r
   cut_finished new sent all total (Ok answer) test made et writes flushes =
       let p = next_parts made in
+      let takes = next_takes made in
       let both = Appends-trans (contents old.device) (contents mid.device) (contents sent.device) _ _ x.wrote writes.0 in
-      record {
-        payload = x.payload ++ drop 8 packet;
-        takes = next_takes made;
-        over = made.over test;
-        wrote = rw (p.1, p.0, p.2, wire-more) (Appends-kept (contents old.device) (contents sent.device) (contents new.device) _ both flushes.0);
-        done_is = rw (p.1, length-append (first_packets (room - 8) done.packets x.payload), first-length, length-append x.payload (drop 8 packet), ← x.placed, ← made.place, ← et) (rw writes.1 at flushes.1.0);
-        failures = flushes.1.1 ∙ writes.2 ∙ x.stays;
-        asked = rw (← x.stays, ← writes.2) flushes.1.2;
-      }
+      let wrote = Appends-kept (contents old.device) (contents sent.device) (contents new.device) _ both flushes.0 in
+      grind (arith, length-append, first-length, wire-more)
   cut_finished new sent all total (Err stop) test made et writes flushes =
       let bytes = packet_bytes (cut_packet done.packets true (drop 8 packet)) in
       let wrote = Appends-kept (contents mid.device) (contents sent.device) (contents new.device) bytes writes.0 flushes.0 in
@@ -172,12 +160,6 @@ module _ {R W : Type 0} {remaining : R → Option (List ℕ)} {contents : W → 
       → StopsInput contents (room - 8) a (seen remaining t) old new (record { stop = stop; written = done.bytes; unwritten = 0 })
   cut_stopped {new = new} {stop = stop} flushed made keeps ok counted =
       let p = next_parts made in
-      record {
-        payload = x.payload ++ drop 8 packet;
-        ends = Ends-after a (seen remaining s) (seen remaining t) x.payload (drop 8 packet) _ stop x.takes made.gives;
-        goes_on = made.goes_on;
-        wrote = rw p.1 (Appends-kept (contents old.device) (contents mid.device) (contents new.device) _ x.wrote keeps);
-        written = rw p.1 x.bytes_are;
-        unwritten = refl;
-        flushed = grind (arith, x.stays, ok, counted);
-      }
+      let ends = Ends-after a (seen remaining s) (seen remaining t) x.payload (drop 8 packet) _ stop x.takes made.gives in
+      let wrote = Appends-kept (contents old.device) (contents mid.device) (contents new.device) _ x.wrote keeps in
+      grind (arith, length-append)
