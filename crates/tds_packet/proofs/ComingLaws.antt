@@ -17,7 +17,7 @@ module _ (size limit : ℕ) (packets : List Packet) where
       let longest : Longest g no_wire (front ++ rest) (length front) (at place) = elim cause [ inl x ↦ longest_refused g _ front rest _ _ spelt x | inr x ↦ longest_cut g _ front rest _ spelt x.0 ] in
       let front_is = read_front size limit (front ++ rest) (length front) (at place) are longest in
       let own : WireFault size limit (front ++ rest) packets fault = grind (arith) in
-      record { packets = packets; front = front_is; bytes = bytes; stop = inr (each, rw stop own, rw stop refl) }
+      grind (arith)
 
   -- what comes after these packets is the message at the front, by the packet that follows them
   abbrev Gives : ℕ → List ℕ → FrontPacket → Type 0

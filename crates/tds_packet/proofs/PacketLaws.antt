@@ -105,10 +105,6 @@ module _ (size limit : ℕ) where
   read_front input taken w are l = go w.place l (wire_is_spelt size limit (take taken input) w (AreBytes-front (take taken input) (drop taken input) (rw (take-append-drop taken input) are)) l.spelt)
     where
       go : (place : WirePlace) → Longest (wire size limit) no_wire input taken (record { packets = w.packets; place = place }) → WireMeans size limit w.packets place (take taken input) → Front size limit input w.packets
-      go BeforeHeader l k =
-          let none = no_next input taken w.packets BeforeHeader [] l k.1 (k.0 ∙ sym (append-nil _)) (inl refl) in
-          record { rest = drop taken input; spelt = rw (← k.0) (take-append-drop taken input); within = rw k.0 at k.2; stops = inr (k.1, none) }
-      go (BeforeBody header) l k =
-          let none = no_next input taken w.packets (BeforeBody header) header l k.1 k.0 (inr (k.2.eight, refl)) in
-          record { rest = header ++ drop taken input; spelt = rw (← append_assoc, ← k.0) (take-append-drop taken input); within = omega (arith, k.2.within); stops = inr (k.1, none) }
-      go AfterLast l k = record { rest = drop taken input; spelt = rw (← k.0) (take-append-drop taken input); within = rw k.0 at k.2; stops = inl k.1 }
+      go BeforeHeader l k = grind (arith, take-append-drop taken input, no_next input taken w.packets BeforeHeader [] l k.1 (k.0 ∙ sym (append-nil _)) (inl refl))
+      go (BeforeBody header) l k = grind (arith, append_assoc, take-append-drop taken input, no_next input taken w.packets (BeforeBody header) header l k.1 k.0 (inr (k.2.eight, refl)))
+      go AfterLast l k = grind (arith, take-append-drop taken input)

@@ -49,7 +49,7 @@ module _ {S : Type 0} (g : Grammar S Fault) where
       → StopsReading g s a b place s (record { fault = fault; place = Payload place })
   refused_at_once s a b place element fault some whole first takes between =
       let refused : RefusesNext g a b [] s fault = record { element = element; ahead = []; some = some; whole = whole; first = first; takes = rw append-nil takes; between = between } in
-      record { bytes = []; spelt = Spelt-none g s; cause = inl (refused, rw add_none) }
+      grind (arith, Spelt-none, add_none)
 
   -- the payload stopped in the first element
   pub cut_at_once : (s : S) (a b : Seen) (place : ℕ) (part : List ℕ) (own stop : Stop) → length part < g.size s → Ends a b part own → IsCutStop place (g.end_fault s) own stop → StopsReading g s a b place s stop
