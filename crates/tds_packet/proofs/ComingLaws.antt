@@ -1,5 +1,5 @@
 -- What comes of an input is the payload of the packets at its front.
-use Rattle.tds_packet.proofs.Words.{dec_le, common_steps, flat_map-append, ◌≡◌, ◌⊎◌, ℕ, zero, suc, ◌+◌, ◌-◌, ◌<◌, ◌≤◌, Bool, true, false, List, [], ◌∷◌, ◌++◌, length, take, drop, refl, inl, inr, append_assoc, append-nil, arith, length-append, length-drop, take-append_seam, take-append-drop, length-take-le, drop-append_seam, Option, Some, None, ◌==◌, nat_lt, nat_tests, Fault, InputEnded, Wire, AreBytes, IsRefused, Longest, Spelt, Packet, packet_bytes, wire_of, payload_of, is_last, IsPacket, WirePlace, BeforeHeader, BeforeBody, WirePart, no_wire, header_length, packet_of, header_fault, wire, wire_size, wire_end, AreBefore, WireFault, Coming, FrontPacket, before, WholePacket, packet_after_header, front_packet, after_packet, message, whole_message, IsFrontMessage}
+use Rattle.tds_packet.proofs.Words.{dec_le, common_steps, flat_map-append, ◌≡◌, ◌⊎◌, ℕ, zero, suc, ◌+◌, ◌-◌, ◌<◌, ◌≤◌, Bool, true, false, List, [], ◌∷◌, ◌++◌, length, take, drop, refl, inl, inr, append_assoc, append-nil, arith, length-append, length-drop, take-append_seam, take-append-drop, length-take-le, drop-append_seam, Option, Some, None, ◌==◌, nat_lt, nat_tests, Fault, InputEnded, Wire, AreBytes, IsRefused, Longest, Spelt, Packet, packet_bytes, wire_of, payload_of, is_last, IsPacket, WirePlace, BeforeHeader, BeforeBody, WirePart, no_wire, header_length, packet_of, header_fault, wire, wire_size, wire_end, AreBefore, Coming, FrontPacket, before, WholePacket, packet_after_header, front_packet, after_packet, message, whole_message, IsFrontMessage}
 use Rattle.tds_packet.proofs.{ElementLaws.AreBytes-back, ElementLaws.AreBytes-front, ElementLaws.Spelt-append, ElementLaws.Spelt-step, ElementLaws.longest_cut, ElementLaws.longest_refused, PacketLaws.before_are_read, PacketLaws.before_packet, PacketLaws.free_is_good, PacketLaws.last_one, PacketLaws.one_more, PacketLaws.read_front}
 
 -- what comes after these packets, by the packet that follows them
@@ -13,11 +13,9 @@ module _ (size limit : ℕ) (packets : List Packet) where
       → c.bytes ≡ payload_of packets → c.stop ≡ record { fault = fault; place = Wire (length (wire_of packets)) } → IsFrontMessage size limit (front ++ rest) c
   stops_at front rest place fault c are each spelt cause bytes stop =
       let g = wire size limit in
-      let left : drop (length front) (front ++ rest) ≡ rest = drop-append_seam front rest in
       let longest : Longest g no_wire (front ++ rest) (length front) (at place) = elim cause [ inl x ↦ longest_refused g _ front rest _ _ spelt x | inr x ↦ longest_cut g _ front rest _ spelt x.0 ] in
       let front_is = read_front size limit (front ++ rest) (length front) (at place) are longest in
-      let own : WireFault size limit (front ++ rest) packets fault = grind (arith) in
-      grind (arith)
+      grind (arith, drop-append_seam front rest)
 
   -- what comes after these packets is the message at the front, by the packet that follows them
   abbrev Gives : ℕ → List ℕ → FrontPacket → Type 0

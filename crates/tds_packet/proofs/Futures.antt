@@ -1,5 +1,5 @@
 -- What is still to come, along a payload's steps.
-use Rattle.tds_packet.proofs.Words.{PayloadOf, dec_le, common_steps, ◌≡◌, inl, inr, ℕ, suc, zero, ◌+◌, ◌-◌, ◌<◌, ◌≤◌, List, [], ◌++◌, length, take, Option, Some, None, Ok, Err, Bool, true, false, refl, sym, ap, arith, append_assoc, length-append, length-drop, add-zero, nat_tests, take-append-drop, drop-drop, Consumes-nil, Consumes-trans, take-append-add, take-append-le, Fault, MessageEnded, Wire, Payload, Stop, Header, FrontPacket, WholePacket, NoPacket, Coming, before, front_packet, after_packet, message, coming_of, ReadsPacket, Seen, Takes, Needs, Ends, IsOver, IsNotOver, NeedsPacket, buffered, further, seen, device, length-take-le, drop_of_length-le}
+use Rattle.tds_packet.proofs.Words.{PayloadOf, dec_le, common_steps, ◌≡◌, inl, inr, ℕ, suc, zero, ◌+◌, ◌-◌, ◌<◌, ◌≤◌, List, [], ◌++◌, length, take, Option, Some, None, Ok, Err, Bool, true, false, refl, sym, arith, append_assoc, length-append, length-drop, add-zero, nat_tests, take-append-drop, drop-drop, Consumes-nil, Consumes-trans, take-append-add, take-append-le, Fault, MessageEnded, Wire, Payload, Stop, Header, FrontPacket, WholePacket, Coming, before, front_packet, after_packet, message, coming_of, ReadsPacket, Seen, Takes, Needs, Ends, IsOver, IsNotOver, NeedsPacket, buffered, further, seen, device, length-take-le, drop_of_length-le}
 use Rattle.tds_packet.proofs.Joins.{Rises-after, Stays-none, Stays-trans}
 
 rest_shorter : (room max wire : ℕ) (xs body rest : List ℕ) (last : Bool) (n : ℕ) → front_packet room max wire xs ≡ WholePacket body last n rest → length rest < length xs
@@ -7,9 +7,7 @@ unfolding front_packet
 rest_shorter room max wire xs body rest last n e = grind (arith, nat_tests, length-drop)
 
 same_after : (F G : ℕ → ℕ → List ℕ → Coming) (wire place : ℕ) (p : FrontPacket) → ((body rest : List ℕ) (n : ℕ) → p ≡ WholePacket body false n rest → F (wire + n) (place + length body) rest ≡ G (wire + n) (place + length body) rest) → after_packet F wire place p ≡ after_packet G wire place p
-same_after F G wire place (WholePacket body true n rest) same = refl
-same_after F G wire place (WholePacket body false n rest) same = ap (before body) (same body rest n refl)
-same_after F G wire place (NoPacket f rest) same = refl
+same_after F G wire place p same = grind (arith)
 
 message-fuel : (room max n m wire place : ℕ) (xs : List ℕ) → length xs < n → length xs < m → message room max n wire place xs ≡ message room max m wire place xs
 unfolding message

@@ -1,6 +1,6 @@
 -- An input begins with one message at most.
-use Rattle.tds_packet.proofs.Words.{◌≡◌, ℕ, ◌≤◌, List, [], ◌∷◌, ◌++◌, length, sym, ◌∙◌, ap, append-nil, arith, length-append, flat_map-append, Fault, Spelt, Packet, wire_of, AreMessage, Message, AfterLast, WirePart, no_wire, wire}
-use Rattle.tds_packet.proofs.{Feeding.Reading, Feeding.feed_all, Feeding.state_of, ElementLaws.feed-Spelt, ElementLaws.feed_all-append, ElementLaws.feed_part, PacketLaws.before_packet, PacketLaws.one_is_read, PacketLaws.packet_is_read}
+use Rattle.tds_packet.proofs.Words.{◌≡◌, ℕ, ◌≤◌, List, [], ◌∷◌, ◌++◌, length, append-nil, arith, length-append, flat_map-append, Spelt, Packet, wire_of, AreMessage, Message, AfterLast, WirePart, no_wire, wire}
+use Rattle.tds_packet.proofs.{Feeding.Reading, Feeding.feed_all, ElementLaws.feed-Spelt, ElementLaws.feed_all-append, ElementLaws.feed_part, PacketLaws.before_packet, PacketLaws.one_is_read, PacketLaws.packet_is_read}
 
 module _ (size limit : ℕ) where
   abbrev pub after_packets : List Packet → WirePart
@@ -23,6 +23,4 @@ module _ (size limit : ℕ) where
 
   -- no input begins with two messages
   pub one_message : (a b : List Packet) (w v x y : List ℕ) → Message size limit a w → Message size limit b v → w ++ x ≡ v ++ y → a ≡ b
-  one_message a b w v x y m n e =
-      let s : Reading (after_packets a) x ≡ Reading (after_packets b) y = sym (read_to_end a w x m) ∙ rw e (read_to_end b v y n) in
-      ap (λ p. (state_of {S = WirePart} {F = Fault} p).packets) s
+  one_message a b w v x y m n e = grind (arith, read_to_end a w x m, read_to_end b v y n)
