@@ -20,10 +20,7 @@ module _ {S T : Type 0} (small : Grammar S Fault) (big : Grammar T Fault) (lift 
   stops_inside from a b place at stop end r = record {
     bytes = r.bytes;
     spelt = Inside-Spelt small big lift is from r.bytes at r.spelt;
-    cause = elim r.cause [
-      | inl x ↦ inl (grind (arith, is.size at, is.fault at x.0.element))
-      | inr x ↦ inr (record { part = x.part; cut = rw (is.size at (omega (arith, x.cut))) x.cut; own = x.own; ends = x.ends; stop_is = rw end x.stop_is })
-    ];
+    cause = elim r.cause [ inl x ↦ inl (grind (arith, is.size at, is.fault at x.0.element)) | inr x ↦ inr (grind (arith, is.size at)) ];
   }
 
   -- the last element of what was read

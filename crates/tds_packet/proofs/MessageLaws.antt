@@ -17,9 +17,8 @@ module _ (size limit : ℕ) where
   -- and nothing after it
   pub read_to_end : (packets : List Packet) (w more : List ℕ) → Message size limit packets w → feed_all (wire size limit) (Reading no_wire []) (w ++ more) ≡ Reading (after_packets packets) more
   read_to_end packets w more m =
-      let g = wire size limit in
-      let read = feed-Spelt g no_wire w (after_packets packets) (rw m.spelt at (message_is_read [] packets m.each (rw m.spelt m.within))) in
-      rw (feed_all-append g (Reading no_wire []) w more, read, feed_part g (after_packets packets) [] more (λ k a b q. omega arith))
+      let read = feed-Spelt (wire size limit) no_wire w (after_packets packets) (rw m.spelt at (message_is_read [] packets m.each (rw m.spelt m.within))) in
+      rw (feed_all-append (wire size limit) (Reading no_wire []) w more, read, feed_part (wire size limit) (after_packets packets) [] more (λ k a b q. omega arith))
 
   -- no input begins with two messages
   pub one_message : (a b : List Packet) (w v x y : List ℕ) → Message size limit a w → Message size limit b v → w ++ x ≡ v ++ y → a ≡ b
