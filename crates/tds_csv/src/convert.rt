@@ -10,5 +10,5 @@ pub(crate) mod utf16;
 pub(crate) mod utf8;
 pub(crate) mod windows_1252;
 
-/// How many bytes are converted at a time where the sink has little room.
+/// How many bytes are converted at a time if the sink has little room.
 pub(crate) const CHUNK: usize = 32;

@@ -24,7 +24,7 @@ pub enum Content {
     Utf8,
 }
 
-/// How many bytes of room the field of so much data may want, a few to spare.
+/// How many bytes of room the field of `n` bytes of data may want, a few to spare.
 #[inline(always)]
 pub fn field_room(content: Content, n: usize) -> usize
     requires { n ≤ 65535 }
@@ -38,7 +38,7 @@ pub fn field_room(content: Content, n: usize) -> usize
     }
 }
 
-// Writes the quote after the text of a field, and answers how many bytes the field has.
+// Writes the quote after the text of a field, and returns how many bytes the field has.
 #[inline(always)]
 fn close_quoted(to: &mut [u8], made: usize) -> usize
     requires { made < length to.old }
@@ -102,7 +102,7 @@ fn write_utf8(bytes: &[u8], to: &mut [u8]) -> usize
 }
 
 /// Writes the field of a whole value, the first `n` of these bytes, to the front of a slice: `0x` and
-/// digits, or the text in quotes. Answers how many bytes it has. None where the data isn't whole: an odd
+/// digits, or the text in quotes. Returns how many bytes it has, or `None` if the data isn't whole: an odd
 /// number of bytes in UTF-16, or bytes that are no UTF-8.
 #[inline(always)]
 pub fn write_field(content: Content, source: &[u8], n: usize, to: &mut [u8]) -> Option<usize>

@@ -20,7 +20,7 @@ pub(crate) const BINARY_MARK: [u8; 2] = *b"0x";
 /// How many bytes NULL has in its line at most: a comma, the word and the end of the line.
 pub const NULL_ROOM: usize = 7;
 
-/// Writes the comma before a field to the front of a slice, and answers how many bytes that is: none
+/// Writes the comma before a field to the front of a slice, and returns how many bytes that is: none
 /// before the first field.
 #[inline]
 pub fn write_comma(column: u16, to: &mut [u8]) -> usize
@@ -35,7 +35,7 @@ pub fn write_comma(column: u16, to: &mut [u8]) -> usize
     1
 }
 
-/// Writes the end of the line after `made` bytes of a slice, if the field is the last, and answers
+/// Writes the end of the line after `made` bytes of a slice, if the field is the last, and returns
 /// how many bytes there are then.
 #[inline]
 pub fn write_line_end(last: bool, made: usize, to: &mut [u8]) -> usize
@@ -51,7 +51,7 @@ pub fn write_line_end(last: bool, made: usize, to: &mut [u8]) -> usize
     made + 2
 }
 
-/// Writes NULL in its line to the front of a slice, and answers how many bytes it has.
+/// Writes NULL in its line to the front of a slice, and returns how many bytes it has.
 #[inline]
 pub fn write_null(column: u16, last: bool, to: &mut [u8]) -> usize
     requires room { NULL_ROOM ≤ length to.old }

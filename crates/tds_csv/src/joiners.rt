@@ -64,13 +64,13 @@ pub trait Joiner: Sized {
     /// The bytes that are withheld.
     ghost withheld: { Self → List ℕ };
 
-    /// Withholds nothing.
+    /// Creates a joiner that withholds nothing.
     fn new() -> Self
         ensures withheld { withheld result ≡ [] }
         ensures begun { begins (withheld result) };
 
     /// Puts the text of the withheld bytes followed by the piece, and withholds the rest, at most 3
-    /// bytes. After a stop of the sink each call answers the same stop.
+    /// bytes. After a stop of the sink each call returns the same stop.
     fn push<W: Write>(&mut self, piece: &[u8], sink: &mut Sink<'_, W>) -> Result<(), JoinFault>
         requires ready { IsReady sink.old }
         requires begun { begins (withheld self.old) }

@@ -22,8 +22,8 @@
 //! # The way in
 //!
 //! `sink.rt` has the sink, `fields.rt` and `framing.rt` the fields and what is around them, `joiners/` a file for each
-//! kind of data, `convert/` the loops over bytes. What the text of data is, is in `specs/Conversion`, and what a sink
-//! has put in `specs/Sinks`.
+//! kind of data, `convert/` the loops over bytes. `specs/Conversion` says what the text of data is, and `specs/Sinks`
+//! what a sink has put.
 #![tactic(auto)]
 
 mod convert;

@@ -11,8 +11,8 @@ use std::io::Write;
 use tds_meter::{Area, OUTPUT_ROOM};
 use tds_packet::{Counted, Fault, Place, Stop};
 
-/// Text on its way to a writer. What is put waits in the output area, all of which is delivered each
-/// time that it holds 4,096 bytes. After [`Fault::WriteFailed`] each call answers the same stop.
+/// Text on its way to a writer. What is put waits in the output area, which is delivered whole each
+/// time that it holds 4,096 bytes. After [`Fault::WriteFailed`] each call returns the same stop.
 #[derive(Drop)]
 pub struct Sink<'a, W> {
     to: &'a mut Counted<W>,
@@ -22,7 +22,7 @@ pub struct Sink<'a, W> {
 }
 
 impl<'a, W: Write> Sink<'a, W> {
-    /// A sink on a writer. The area has room for 4,096 bytes or more, and is emptied.
+    /// Creates a sink on a writer. The area has room for 4,096 bytes or more, and is emptied.
     pub fn new(to: &'a mut Counted<W>, output: &'a mut Area) -> Sink<'a, W>
         requires { OUTPUT_ROOM ≤ output.old.room }
         ensures writing { IsWriting result }
@@ -64,7 +64,7 @@ impl<'a, W: Write> Sink<'a, W> {
         None
     }
 
-    // Answers that stop where a write or flush failed.
+    // Returns the stop of a write or flush, if one failed.
     pub(crate) fn check(&self) -> Result<(), Stop>
         ensures { result ≡ (if self.now.failed then Err (stop_of (held W.contents self.now)) else Ok tt) }
     {
@@ -120,7 +120,7 @@ impl<'a, W: Write> Sink<'a, W> {
         Ok(())
     }
 
-    /// Adds a piece to the text. Where a write fails, a beginning of the piece was added.
+    /// Adds a piece to the text. If a write fails, a beginning of the piece is added.
     pub fn put(&mut self, piece: &[u8]) -> Result<(), Stop>
         requires { IsReady self.old }
         ensures { PutsPiece W.contents self.old self.new piece.now result }
@@ -135,7 +135,7 @@ impl<'a, W: Write> Sink<'a, W> {
         Ok(())
     }
 
-    /// A field that is NULL.
+    /// Puts a field that is NULL.
     pub fn null(&mut self) -> Result<(), Stop>
         requires { IsReady self.old }
         ensures { PutsPiece W.contents self.old self.new null_field result }
@@ -143,7 +143,7 @@ impl<'a, W: Write> Sink<'a, W> {
         self.put(&NULL)
     }
 
-    /// The text of a scalar field.
+    /// Puts the text of a scalar field.
     pub fn plain(&mut self, field: &[u8]) -> Result<(), Stop>
         requires { IsReady self.old }
         ensures { PutsPiece W.contents self.old self.new field.now result }
@@ -151,7 +151,7 @@ impl<'a, W: Write> Sink<'a, W> {
         self.put(field)
     }
 
-    /// The quote before a field of characters.
+    /// Puts the quote before a field of characters.
     pub fn open_quoted(&mut self) -> Result<(), Stop>
         requires { IsReady self.old }
         ensures { PutsPiece W.contents self.old self.new (quote ∷ []) result }
@@ -159,7 +159,7 @@ impl<'a, W: Write> Sink<'a, W> {
         self.put(&[QUOTE])
     }
 
-    /// The quote after a field of characters.
+    /// Puts the quote after a field of characters.
     pub fn close_quoted(&mut self) -> Result<(), Stop>
         requires { IsReady self.old }
         ensures { PutsPiece W.contents self.old self.new (closing true) result }
@@ -167,7 +167,7 @@ impl<'a, W: Write> Sink<'a, W> {
         self.put(&[QUOTE])
     }
 
-    /// The mark before the digits of a binary field.
+    /// Puts the mark before the digits of a binary field.
     pub fn open_binary(&mut self) -> Result<(), Stop>
         requires { IsReady self.old }
         ensures { PutsPiece W.contents self.old self.new binary_mark result }
@@ -175,7 +175,7 @@ impl<'a, W: Write> Sink<'a, W> {
         self.put(&BINARY_MARK)
     }
 
-    /// The comma between two fields.
+    /// Puts the comma between two fields.
     pub fn comma(&mut self) -> Result<(), Stop>
         requires { IsReady self.old }
         ensures { PutsPiece W.contents self.old self.new (codes ",") result }
@@ -183,7 +183,7 @@ impl<'a, W: Write> Sink<'a, W> {
         self.put(&[COMMA])
     }
 
-    /// The end of a line.
+    /// Puts the end of a line.
     pub fn line_end(&mut self) -> Result<(), Stop>
         requires { IsReady self.old }
         ensures { PutsPiece W.contents self.old self.new line_end result }
@@ -198,9 +198,9 @@ impl<'a, W: Write> Sink<'a, W> {
         OUTPUT_ROOM.saturating_sub(self.output.len())
     }
 
-    /// Lends room after the bytes that wait, to be written and then kept by [`Sink::keep`]. What
-    /// stands in it before it is written isn't promised: bytes that stood in the output area before,
-    /// or zeros that it was made with.
+    /// Lends `n` bytes of room after the bytes that wait, to be written and then kept by [`Sink::keep`].
+    /// Its bytes aren't promised before that: they are old ones of the output area, or the zeros that the
+    /// area was made with.
     pub fn spare(&mut self, n: usize) -> &mut [u8]
         requires writing { IsWriting self.old }
         requires fits { length self.old.output.now.bytes + n ≤ OUTPUT_ROOM }
@@ -210,8 +210,8 @@ impl<'a, W: Write> Sink<'a, W> {
         self.output.grow_within(n)
     }
 
-    /// Puts the first `made` bytes that were written into the room lent by [`Sink::spare`] where
-    /// `waiting` bytes waited, and takes the others away. They fill no block, so nothing is delivered.
+    /// Puts the first `made` bytes of the room that [`Sink::spare`] lent after `waiting` bytes, and takes
+    /// the others away. They fill no block, so nothing is delivered.
     pub fn commit(&mut self, waiting: usize, made: usize)
         requires lent { IsLent self.old }
         requires room { waiting + made < OUTPUT_ROOM }
@@ -221,7 +221,7 @@ impl<'a, W: Write> Sink<'a, W> {
         self.output.truncate(waiting + made);
     }
 
-    /// Puts those bytes as [`Sink::commit`] does, also where they fill a block, which is delivered.
+    /// Puts those bytes as [`Sink::commit`] does, and delivers the block if they fill it.
     pub fn keep(&mut self, waiting: usize, made: usize) -> Result<(), Stop>
         requires lent { IsLent self.old }
         requires room { waiting + made ≤ OUTPUT_ROOM }

@@ -47,7 +47,7 @@ fn triples(units: u16x4) -> u8x16
         .swizzle([0, 1, 2, 4, 5, 6, 8, 9, 10, 12, 13, 14, 3, 7, 11, 15])
 }
 
-// The first bytes of a pair, one or both.
+// Writes the first `size` bytes of a pair.
 #[inline(always)]
 fn put_pair(to: &mut [u8], at: usize, pair: u16, size: u16) -> usize
     requires some { 1 ≤ size }
@@ -61,7 +61,7 @@ fn put_pair(to: &mut [u8], at: usize, pair: u16, size: u16) -> usize
     at + usize::from(size)
 }
 
-// The first `n` of eight short characters.
+// Writes the first `n` of eight short characters.
 #[inline(always)]
 fn put_short(to: &mut [u8], from: usize, units: u16x8, n: usize) -> usize
     requires short { n ≤ prefix_len is_short units }
@@ -78,7 +78,7 @@ fn put_short(to: &mut [u8], from: usize, units: u16x8, n: usize) -> usize
     made
 }
 
-// The first `n` of eight long characters.
+// Writes the first `n` of eight long characters.
 #[inline(always)]
 fn put_long(to: &mut [u8], at: usize, units: u16x8, n: usize)
     requires long { n ≤ prefix_len is_long units }

@@ -6,8 +6,8 @@ use crate::convert::encode::{put_bytes, put_doubled};
 use crate::convert::lanes::{LANES, unquoted_run};
 use std::simd::prelude::*;
 
-// Writes the next bytes up to a quote, at most 16, to a place, and says how many they are. None where
-// fewer than 16 bytes are left.
+// Writes the next bytes up to a quote, at most 16, to a place, and returns how many. Writes none if fewer than
+// 16 bytes are left.
 #[inline(always)]
 #[tactic(auto, using(crate::proofs::Masks::run_most, crate::proofs::Unquoted::unquoted_lanes, std::proofs::lemmas::Grind::common_steps))]
 fn take_unquoted(bytes: &[u8], at: usize, to: &mut [u8], made: usize) -> usize
@@ -26,7 +26,7 @@ fn take_unquoted(bytes: &[u8], at: usize, to: &mut [u8], made: usize) -> usize
     n
 }
 
-// Writes bytes with their quotes doubled, and says how many they are then.
+// Writes bytes with their quotes doubled, and returns how many they are then.
 pub(crate) fn convert(bytes: &[u8], to: &mut [u8]) -> usize
     requires { 2 * length bytes.now + LANES ≤ length to.old }
     ensures short { result ≤ 2 * length bytes.now }

@@ -1,4 +1,4 @@
-// Bytes and characters, written to a slice from a place on. A call that answers a place answers the one
+// Bytes and characters, written to a slice from a place on. A call that returns a place returns the one
 // after what it wrote.
 ghost use Rattle.std.specs.Prelude.{◌≡◌, ◌+◌, ◌<◌, ◌≤◌, [], ◌∷◌, ◌++◌, length, take};
 ghost use Rattle.std.specs.Char.{encode_utf8};
@@ -8,7 +8,7 @@ use crate::convert::lanes::LANES;
 use crate::convert::lanes_utf16::UNITS;
 use std::simd::prelude::*;
 
-// A byte.
+// Writes a byte.
 #[inline(always)]
 pub(crate) fn put_byte(to: &mut [u8], at: usize, byte: u8) -> usize
     requires { at < length to.old }
@@ -19,7 +19,7 @@ pub(crate) fn put_byte(to: &mut [u8], at: usize, byte: u8) -> usize
     at + 1
 }
 
-// A character beyond ASCII in two bytes.
+// Writes a character beyond ASCII in two bytes.
 #[inline(always)]
 #[tactic(auto, using(crate::proofs::Encoding::two_more, crate::proofs::Characters::of_two, std::proofs::lemmas::Grind::common_steps))]
 fn put_two(to: &mut [u8], at: usize, code: u32) -> usize
@@ -33,7 +33,7 @@ fn put_two(to: &mut [u8], at: usize, code: u32) -> usize
     put_byte(to, at, (0x80 + code % 64) as u8)
 }
 
-// A character in three bytes.
+// Writes a character in three bytes.
 #[inline(always)]
 #[tactic(auto, using(crate::proofs::Encoding::three_more, crate::proofs::Characters::of_three, std::proofs::lemmas::Grind::common_steps))]
 fn put_three(to: &mut [u8], at: usize, code: u32) -> usize
@@ -48,7 +48,7 @@ fn put_three(to: &mut [u8], at: usize, code: u32) -> usize
     put_byte(to, at, (0x80 + code % 64) as u8)
 }
 
-// A character in four bytes.
+// Writes a character in four bytes.
 #[inline(always)]
 #[tactic(auto, using(crate::proofs::Encoding::four_more, crate::proofs::Characters::of_four, std::proofs::lemmas::Grind::common_steps))]
 fn put_four(to: &mut [u8], at: usize, code: u32) -> usize
@@ -64,7 +64,7 @@ fn put_four(to: &mut [u8], at: usize, code: u32) -> usize
     put_byte(to, at, (0x80 + code % 64) as u8)
 }
 
-// A character beyond ASCII.
+// Writes a character beyond ASCII.
 #[inline(always)]
 #[tactic(auto, using(crate::proofs::Characters::of_two, crate::proofs::Characters::of_three, crate::proofs::Characters::of_four))]
 fn put_wide(to: &mut [u8], at: usize, code: u32) -> usize
@@ -83,7 +83,7 @@ fn put_wide(to: &mut [u8], at: usize, code: u32) -> usize
     }
 }
 
-// A character in UTF-8.
+// Writes a character in UTF-8.
 #[inline(always)]
 pub(crate) fn put_character(to: &mut [u8], at: usize, code: u32) -> usize
     requires range { code < 1114112 }
@@ -97,7 +97,7 @@ pub(crate) fn put_character(to: &mut [u8], at: usize, code: u32) -> usize
     put_wide(to, at, code)
 }
 
-// A character in UTF-8, and a quote twice.
+// Writes a character in UTF-8, and a quote twice.
 #[inline(always)]
 #[tactic(auto, using(crate::proofs::Encoding::doubled_as_long, crate::proofs::Encoding::added_doubled))]
 pub(crate) fn put_quoted(to: &mut [u8], at: usize, code: u32) -> usize
@@ -114,7 +114,7 @@ pub(crate) fn put_quoted(to: &mut [u8], at: usize, code: u32) -> usize
     end + (code == 0x22) as usize
 }
 
-// A byte, and a quote twice.
+// Writes a byte, and a quote twice.
 #[inline(always)]
 pub(crate) fn put_doubled(to: &mut [u8], at: usize, byte: u8) -> usize
     requires { at + 2 ≤ length to.old }
@@ -126,7 +126,7 @@ pub(crate) fn put_doubled(to: &mut [u8], at: usize, byte: u8) -> usize
     end + (byte == 0x22) as usize
 }
 
-// The first `n` of eight bytes.
+// Writes the first `n` of eight bytes.
 #[inline(always)]
 #[tactic(auto, using(crate::proofs::Encoding::taken_put))]
 pub(crate) fn put_lanes(to: &mut [u8], at: usize, lanes: u8x8, n: usize)
@@ -138,7 +138,7 @@ pub(crate) fn put_lanes(to: &mut [u8], at: usize, lanes: u8x8, n: usize)
     lanes.copy_to_slice(&mut to[at..]);
 }
 
-// The first `n` of sixteen bytes.
+// Writes the first `n` of sixteen bytes.
 #[inline(always)]
 #[tactic(auto, using(crate::proofs::Encoding::taken_put))]
 pub(crate) fn put_bytes(to: &mut [u8], at: usize, lanes: u8x16, n: usize)

@@ -9,7 +9,7 @@ use std::simd::prelude::*;
 /// How many bytes are looked at together.
 pub(crate) const LANES: usize = 16;
 
-/// How many characters are taken one by one where the next one needs care, since then others mostly do too.
+/// How many characters are taken one by one if the next one needs care, since then others mostly do too.
 pub(crate) const BY_HAND: usize = 32;
 
 // The lowest bit that is set in a mask, or the number of lanes.

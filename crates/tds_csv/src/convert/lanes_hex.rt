@@ -30,7 +30,7 @@ fn hex_lanes(bytes: u8x16) -> (u8x16, u8x16)
     high.interleave(low)
 }
 
-// Writes the digits of bytes to the front of a room for them.
+// Writes the digits of bytes to a slice, which they fill.
 pub(crate) fn encode(bytes: &[u8], to: &mut [u8])
     requires { length to.old ≡ 2 * length bytes.now }
     ensures { to.new ≡ encode_lower bytes.now }

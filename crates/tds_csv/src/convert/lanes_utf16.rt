@@ -57,7 +57,7 @@ pub(crate) fn long_units(units: u16x8) -> usize
     first_set(stops.to_bitmask(), UNITS)
 }
 
-// Writes the next eight units as characters of ASCII, and says how many of them, from the first, are such and no quotes.
+// Writes the next eight units as characters of ASCII. Returns how many of them, from the first, are such and no quotes.
 #[inline(always)]
 pub(crate) fn put_plain(source: &[u8], at: usize, to: &mut [u8], made: usize) -> usize
     requires units { at + LANES ≤ length source.now }

@@ -42,8 +42,7 @@ fn is_low(unit: u32) -> bool
     0xDC00 <= unit && unit < 0xE000
 }
 
-// The character at a place, which U+FFFD stands for where a surrogate has no partner. `None` where
-// that depends on what follows.
+// The character at a place: U+FFFD for a surrogate without a partner. `None` if that depends on what follows.
 pub(crate) fn next_character(bytes: &[u8], at: usize) -> Option<Character>
     requires { at ≤ length bytes.now }
     ensures gives { MatchOption result
@@ -76,7 +75,7 @@ pub(crate) fn next_character(bytes: &[u8], at: usize) -> Option<Character>
     })
 }
 
-// The character at a place in whole data, which U+FFFD stands for where a surrogate has no partner.
+// The character at a place in whole data: U+FFFD for a surrogate without a partner.
 pub(crate) fn character_at(bytes: &[u8], at: usize) -> Character
     requires some { at + 2 ≤ length bytes.now }
     requires whole { (length bytes.now - at) % 2 ≡ 0 }
@@ -204,7 +203,7 @@ pub(crate) fn convert(bytes: &[u8], source: &[u8], to: &mut [u8]) -> Converted
     }
 }
 
-// Writes the text of whole data, and says how long it is. A high surrogate at the end has no partner.
+// Writes the text of whole data, and returns its length. A high surrogate at the end has no partner.
 pub(crate) fn convert_whole(bytes: &[u8], source: &[u8], to: &mut [u8]) -> usize
     requires source { LiesIn bytes.now source.now }
     requires whole { length bytes.now % 2 ≡ 0 }

@@ -13,7 +13,7 @@ pub(crate) struct Scan {
     pub(crate) good: usize,
 }
 
-// How many bytes of a fault of this length, that begins with this byte, could begin a character.
+// How many bytes of a fault could begin a character, by its first byte and its length.
 fn good_of(first: u8, len: usize) -> usize
     ensures { result ≡ (if is_in_range 0xC2 0xF4 first then len else 0) }
 {

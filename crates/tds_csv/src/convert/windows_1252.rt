@@ -36,7 +36,7 @@ fn upper(byte: u8) -> u32
     UPPER[usize::from(byte) - 0x80]
 }
 
-// The text of a byte beyond ASCII.
+// Writes the text of a byte beyond ASCII.
 #[inline(always)]
 fn put_upper(to: &mut [u8], at: usize, byte: u8) -> usize
     requires upper { 128 ≤ byte }
@@ -51,7 +51,7 @@ fn put_upper(to: &mut [u8], at: usize, byte: u8) -> usize
     at + (text / 0x100_0000) as usize
 }
 
-// The text of a byte.
+// Writes the text of a byte.
 #[inline(always)]
 fn put_text(to: &mut [u8], at: usize, byte: u8) -> usize
     requires { at + 3 ≤ length to.old }
@@ -65,9 +65,9 @@ fn put_text(to: &mut [u8], at: usize, byte: u8) -> usize
     }
 }
 
-// Writes the next bytes that stand for themselves, at most 16, to a place, and says how many they are.
-// None where fewer than 16 bytes of the source are left: it begins with the bytes, and what follows them
-// may be looked at too.
+// Writes the next bytes that are their own text, at most 16, to a place, and returns how many. Writes none
+// if fewer than 16 bytes of the source are left. The source begins with the bytes, and what follows them may
+// be looked at too.
 #[inline(always)]
 fn take_plain(bytes: &[u8], source: &[u8], at: usize, to: &mut [u8], made: usize) -> usize
     requires from { at ≤ length bytes.now }
@@ -101,7 +101,7 @@ fn end_by_hand(bytes: &[u8], at: usize, taken: usize) -> usize
     }
 }
 
-// Goes on with the text of the bytes up to a place, a byte at a time, and says how long it is then.
+// Goes on with the text of the bytes up to a place, a byte at a time, and returns how long it is then.
 #[inline(always)]
 fn convert_by_hand(bytes: &[u8], from: usize, end: usize, to: &mut [u8], start: usize) -> usize
     requires from { from ≤ end }
@@ -119,7 +119,7 @@ fn convert_by_hand(bytes: &[u8], from: usize, end: usize, to: &mut [u8], start: 
     made
 }
 
-// Writes the text of bytes, and says how long it is. What follows them in the source may be looked at.
+// Writes the text of bytes, and returns its length. What follows them in the source may be looked at.
 pub(crate) fn convert(bytes: &[u8], source: &[u8], to: &mut [u8]) -> usize
     requires source { LiesIn bytes.now source.now }
     requires room { 3 * length bytes.now + LANES ≤ length to.old }

@@ -1,4 +1,4 @@
-// Conversions in which each byte has its text alone, put a part after the other.
+// Conversions in which each byte has a text of its own, put part by part.
 ghost use Rattle.std.specs.Prelude.{◌≡◌, ◌+◌, ◌-◌, ◌*◌, ◌<◌, ◌≤◌, ◌++◌, [], ℕ, List, length, take};
 ghost use Rattle.tds_csv.specs.Plain.{LiesIn};
 ghost use Rattle.tds_csv.specs.Sinks.{IsWriting, PutsPiece};
@@ -12,12 +12,12 @@ use tds_packet::Stop;
 /// How many bytes the text of a chunk has at most, and as many as are written at once.
 const TEXT: usize = 3 * CHUNK + LANES;
 
-/// A conversion in which each byte has its text alone.
+/// A conversion in which each byte has a text of its own.
 pub(crate) trait Bytewise {
     /// The text of bytes.
     ghost text: { List ℕ → List ℕ };
 
-    /// Writes the text of bytes, and says how long it is. What follows them in the source may be looked at.
+    /// Writes the text of bytes, and returns its length. What follows them in the source may be looked at.
     fn convert(bytes: &[u8], source: &[u8], to: &mut [u8]) -> usize
         requires source { LiesIn bytes.now source.now }
         requires room { 3 * length bytes.now + LANES ≤ length to.old }
@@ -30,8 +30,8 @@ pub(crate) trait Bytewise {
         ensures empty { text [] ≡ [] };
 }
 
-// How many bytes are converted at a time where there is so much room: as many vectors as their text surely
-// fits it, or a chunk.
+// How many bytes are converted at a time with `room` bytes of room: the vectors whose text surely fits, or
+// a chunk.
 fn chunk_within(room: usize) -> usize
     ensures some { 0 < result }
     ensures fits { CHUNK < result → 3 * result + LANES ≤ room }

@@ -25,8 +25,7 @@ pub struct Utf16Joiner {
     kept: Run<3>,
 }
 
-// How many bytes are converted at a time where there is so much room: as many as their text surely fits
-// it, or a chunk.
+// How many bytes are converted at a time with `room` bytes of room: those whose text surely fits, or a chunk.
 fn chunk_within(room: usize) -> usize
     ensures some { CHUNK ≤ result }
     ensures fits { CHUNK < result → 3 * result + 2 * LANES ≤ 2 * room }
@@ -34,8 +33,8 @@ fn chunk_within(room: usize) -> usize
     (room.saturating_sub(LANES) / 3 * 2).max(CHUNK)
 }
 
-// Puts the text of the characters that are fixed, of a chunk or of as many bytes as the sink has room for,
-// and says how many bytes they are.
+// Puts the text of the characters that are fixed, of a chunk or of as many bytes as the sink has room for.
+// Returns how many bytes those characters have.
 fn put_chunk<W: Write>(bytes: &[u8], source: &[u8], sink: &mut Sink<'_, W>) -> Result<usize, Stop>
     requires writing { IsWriting sink.old }
     requires source { LiesIn bytes.now source.now }
@@ -59,7 +58,7 @@ fn put_chunk<W: Write>(bytes: &[u8], source: &[u8], sink: &mut Sink<'_, W>) -> R
     Ok(done.used)
 }
 
-// Puts the text of the bytes from a place on as far as it is fixed, and says where the rest begins.
+// Puts the text of the bytes from a place on as far as it is fixed, and returns where the rest begins.
 fn put_from<W: Write>(bytes: &[u8], from: usize, sink: &mut Sink<'_, W>) -> Result<usize, Stop>
     requires writing { IsWriting sink.old }
     requires from { from ≤ length bytes.now }
@@ -91,7 +90,7 @@ fn last_text(kept: &[u8]) -> Run<4>
 
 impl Utf16Joiner {
     // Puts the text of the withheld bytes with three bytes of the piece, if any are withheld, and
-    // says where the text of the piece goes on.
+    // returns where the text of the piece goes on.
     fn put_kept<W: Write>(&self, piece: &[u8], sink: &mut Sink<'_, W>) -> Result<usize, Stop>
         requires writing { IsWriting sink.old }
         requires long { 3 ≤ length piece.now }

@@ -33,7 +33,7 @@ fn put_whole<W: Write>(bytes: &[u8], sink: &mut Sink<'_, W>) -> Result<Scan, Sto
 }
 
 impl Utf8Joiner {
-    // Takes a piece as if nothing was withheld.
+    // Takes a piece as if nothing were withheld.
     fn take_text<W: Write>(&mut self, bytes: &[u8], sink: &mut Sink<'_, W>) -> Result<(), JoinFault>
         requires { CanTake utf8.Begins self.old.kept sink.old }
         ensures { PushesPiece W.contents utf8.Begins utf8.rest utf8.text [] self.new.kept
