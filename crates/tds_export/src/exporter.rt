@@ -27,8 +27,8 @@ use tds_values::Charset;
 /// How many bytes follow the token byte of a DONE, DONEPROC or DONEINPROC: Status, CurCmd and DoneRowCount.
 const DONE_FIELDS: usize = 12;
 
-/// The run of an export: what it reads and writes, the areas of its description, of a token's body,
-/// of the first error's text and of what is kept for a moment, and its progress.
+/// The run of an export: what it reads and writes, the areas for its description, a token's body,
+/// the first error's text and what is kept for a moment, and its progress.
 #[derive(Drop)]
 pub(crate) struct Exporter<'a, 'p, 's, R, W> {
     payload: &'a mut Payload<'p, R>,
@@ -104,7 +104,7 @@ impl<'a, 'p, 's, R: Read, W: Write> Exporter<'a, 'p, 's, R, W> {
         Ok(())
     }
 
-    // Reads a DONEINPROC after its token byte, of which nothing is kept (MS-TDS, DONEINPROC).
+    // Reads a DONEINPROC after its token byte, and keeps nothing of it (MS-TDS, DONEINPROC).
     fn done_in_proc(&mut self) -> Result<(), Stop>
         requires { IsInToken self.old }
         ensures { StepRead R.remaining W.contents in_done_in_proc self.old self.new result }
@@ -168,8 +168,7 @@ impl<'a, 'p, 's, R: Read, W: Write> Exporter<'a, 'p, 's, R, W> {
         Ok(())
     }
 
-    // Reads a RETURNVALUE after its token byte, which is counted and else passed over (MS-TDS,
-    // RETURNVALUE).
+    // Passes over a RETURNVALUE after its token byte, and counts it (MS-TDS, RETURNVALUE).
     fn return_value(&mut self) -> Result<(), Stop>
         requires { IsInToken self.old }
         ensures { StepRead R.remaining W.contents in_return self.old self.new result }
@@ -200,7 +199,7 @@ impl<'a, 'p, 's, R: Read, W: Write> Exporter<'a, 'p, 's, R, W> {
         }
     }
 
-    // Reads the next token. False where the message is over.
+    // Reads the next token. Returns `false` if the message is over.
     fn token(&mut self) -> Result<bool, Stop>
         requires { IsRunning self.old }
         ensures leaves { LeavesRun self.old self.new result }
@@ -224,7 +223,7 @@ impl<'a, 'p, 's, R: Read, W: Write> Exporter<'a, 'p, 's, R, W> {
         }
     }
 
-    // Reads all tokens and puts their text, delivers all of it, and answers the report.
+    // Reads all tokens, puts and delivers their text, and returns the report.
     fn run(&mut self) -> Result<Report, Stop>
         requires { IsRunning self.old }
         ensures leaves { LeavesRun self.old self.new result }
@@ -245,7 +244,7 @@ impl<'a, 'p, 's, R: Read, W: Write> Exporter<'a, 'p, 's, R, W> {
     }
 }
 
-/// Reads a response and puts its text, delivers all of it, and answers the report.
+/// Reads a response, puts and delivers its text, and returns the report.
 pub(crate) fn read_response<R: Read, W: Write>(
     payload: &mut Payload<R>,
     sink: &mut Sink<W>,

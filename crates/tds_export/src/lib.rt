@@ -17,29 +17,29 @@
 //! ```
 //!
 //! The crate `example` is a whole program that does this. The areas are made once and serve any number
-//! of exports, one after another, whatever the answers were: `export` begins by restarting them. Each
-//! call needs a counted reader that is at the first byte of a packet; after a whole message the
+//! of exports, one after another, whatever their results: `export` begins by restarting them. Each
+//! call needs a counted reader that is at the first byte of a packet. After a whole message the
 //! reader is at the first byte of what follows it, so the next response can be exported from it.
 //!
 //! A set begins with a line of its column names, each row is a line, and an empty line separates
 //! two sets. What the server said beside the rows is in the [`Report`]: how many sets, rows, errors and
 //! messages there were, the first error, the last return status.
 //!
-//! # What each answer leaves
+//! # What each result leaves
 //!
 //! - After a [`Report`] the writer has all of the text and was flushed, nothing waits, and the reader
 //!   has given the packets of the message and not one byte more. `areas.error_text()` has the message of
 //!   the first error, if there was one, until the next export. An error of the server is a part of a
-//!   response, so `report.errors` is to be looked at: the answer is `Ok` all the same.
+//!   response, so look at `report.errors`: the result is `Ok` all the same.
 //! - After a fault of the input ([`Stopped`], at a place of the payload or of the wire) the text of all
-//!   that was read before the fault was still delivered. Nothing is taken back: the last line may be open, and a
-//!   caller who needs whole responses alone has to drop it. Where the fault names a refused element, no
+//!   that was read before the fault is still delivered. Nothing is taken back: the last line may be open, and a
+//!   caller who needs only whole responses has to drop it. If the fault names a refused element, no
 //!   bytes after it would make a response of what was read, so asking again for the rest is no use.
 //! - After a failed write (`WriteFailed`, at a place of the text) the writer took the first `written`
 //!   bytes of the text, the next `unwritten` are in `areas.waiting()`, and the input isn't read further.
-//! - After a failed read the text of what came before it was delivered, as after a fault of the input.
+//! - After a failed read the text of what came before it is delivered, as after a fault of the input.
 //!
-//! No answer panics or waits for more than the reader and the writer do, and none takes memory.
+//! No call panics, waits for more than the reader and the writer do, or takes memory.
 //!
 //! # Changing it
 //!
@@ -48,11 +48,11 @@
 //! `returned.rt` the bodies that are judged here, `progress.rt` and `report.rt` what is counted.
 //!
 //! - The definitions come first. `specs/TokenGrammar` says how each token is read, element by element, and the
-//!   contract of `export` (`specs/Outcome`, `specs/Exports`) is stated over it alone. Code that reads
+//!   contract of `export` (`specs/Outcome`, `specs/Exports`) is stated only over it. Code that reads
 //!   otherwise isn't proved; a change of the grammar that no code follows isn't either.
 //! - Each method of the exporter is one step from a state of the grammar to another, for success and for each
 //!   stop (`specs/Steps`). A stop names the first fault of the element that is read, never a later one, and
-//!   leaves the text of what stood before it.
+//!   leaves the text of what came before it.
 //! - An area is borrowed by itself, so that columns can be looked at in the description area while the payload
 //!   moves on. What stays from one read to the next is in an area: no method keeps bytes of its own.
 //! - Rows are the hot path. What is in the packet goes to the output area once, by runs of cells in `tds_rows`;

@@ -14,7 +14,7 @@ pub(crate) struct Progress {
 }
 
 impl Progress {
-    /// Before the first token.
+    /// The progress before the first token.
     pub(crate) fn new() -> Progress
         ensures described { result.described ≡ false }
         ensures tracks { Tracks result [] }

@@ -1,4 +1,4 @@
-// What an export answers.
+// What an export returns.
 use tds_packet::{Fault, Place};
 
 /// The first error that the server reported (MS-TDS, ERROR).

@@ -29,7 +29,7 @@ fn pass_name<R: Read>(payload: &mut Payload<R>) -> Result<(), Stop>
     Ok(())
 }
 
-// Reads status, UserType, Flags and the type information after a name, and answers the kind.
+// Reads status, UserType, Flags and the type information after a name, and returns the kind.
 fn take_type<R: Read>(payload: &mut Payload<R>, small: &mut Area) -> Result<Kind, Stop>
     requires going { IsGoing payload.old }
     requires room { TYPE_ROOM ≤ small.old.room }
@@ -43,8 +43,8 @@ fn take_type<R: Read>(payload: &mut Payload<R>, small: &mut Area) -> Result<Kind
     read_type_info(payload, small)
 }
 
-/// Reads a RETURNVALUE after its token byte, of which nothing is kept: its type information is in the
-/// small area, and then a scalar value, until it is judged.
+/// Passes over a RETURNVALUE after its token byte. Its type information is in the small area, and
+/// then a scalar value, until it is judged.
 pub(crate) fn pass_return<R: Read>(payload: &mut Payload<R>, small: &mut Area) -> Result<(), Stop>
     requires going { IsGoing payload.old }
     requires room { SMALL_ROOM ≤ small.old.room }

@@ -13,7 +13,7 @@ use tds_csv::Sink;
 use tds_meter::Areas;
 use tds_packet::{Counted, Payload, Stop};
 
-// Delivers what waits, if the writer has not failed, and says what it took.
+// Delivers what waits if the writer hasn't failed, and returns the stop with what it took.
 #[tactic(auto, using(crate::proofs::Endings::tidies))]
 fn stop_at<W: Write>(sink: &mut Sink<W>, stop: Stop) -> Stopped
     requires { IsReady sink.old }
@@ -36,7 +36,7 @@ fn stop_at<W: Write>(sink: &mut Sink<W>, stop: Stop) -> Stopped
 /// to the writer while they come. It begins by restarting the areas, and takes no memory.
 ///
 /// After a fault of the input the text that waits is still delivered and the writer flushed; after a
-/// fault of the writer the input isn't read further. A report is answered only where no read and no
+/// fault of the writer the input isn't read further. A report is returned only if no read and no
 /// write failed, and after a stop the notice area is empty.
 pub fn export<R: Read, W: Write>(
     areas: &mut Areas,

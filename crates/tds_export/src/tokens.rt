@@ -26,7 +26,7 @@ pub(crate) enum TokenKind {
     ReturnValue,
 }
 
-/// The kind of a token by its first byte, where columns are described or not; or why it is none.
+/// The kind of a token by its first byte and whether columns are described, or why it is none.
 pub(crate) fn judge(byte: u8, described: bool) -> Result<TokenKind, Fault>
     ensures { MatchResult result (IsOfKind described byte) (IsRefusedByte described byte) }
 {
@@ -47,7 +47,7 @@ pub(crate) fn judge(byte: u8, described: bool) -> Result<TokenKind, Fault>
     }
 }
 
-/// The first byte of the next token, or none where the message is over.
+/// Reads the first byte of the next token. Returns `None` if the message is over.
 pub(crate) fn next_byte<R: Read>(payload: &mut Payload<R>) -> Result<Option<u8>, Stop>
     requires { IsGoing payload.old }
     ensures leaves { LeavesPayload payload.old payload.new result }
