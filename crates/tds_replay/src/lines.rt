@@ -256,7 +256,7 @@ fn say_report<W: Write>(
     say_error(notes, &report.first_error, message)
 }
 
-/// Writes the lines of an export's answer, with the message of the first error.
+/// Writes the lines of an export's result, with the message of the first error.
 pub fn say_answer<W: Write>(
     notes: &mut Counted<W>,
     answer: &Result<Report, Stopped>,
@@ -287,7 +287,7 @@ fn say_recut<W: Write>(notes: &mut Counted<W>, done: &Recut) -> Result<(), Unsai
     )
 }
 
-/// Writes the line of a recut's answer.
+/// Writes the line of a recut's result.
 pub(crate) fn say_recut_answer<W: Write>(
     notes: &mut Counted<W>,
     answer: &Result<Recut, RecutStop>,

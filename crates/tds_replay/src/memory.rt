@@ -11,7 +11,7 @@ use tds_meter::{
 };
 
 /// The memory that a run may ask for, and how many bytes of areas it was asked for. Who is lent it can
-/// ask for areas, and each of them is counted; who isn't has no memory but what is there.
+/// ask for areas, and each is counted. Who isn't has only the memory that is there.
 #[derive(Drop)]
 pub struct Memory {
     alloc: Global,
@@ -19,7 +19,7 @@ pub struct Memory {
 }
 
 impl Memory {
-    /// Memory of this allocator, which was asked for nothing yet.
+    /// Memory of this allocator, asked for nothing yet.
     pub fn new(alloc: Global) -> Memory
         ensures { result.asked ≡ 0 }
     {

@@ -13,7 +13,7 @@ pub(crate) enum Piece<'a> {
     Text(&'a [u8]),
     /// A number in decimal.
     Number(u64),
-    /// A number in decimal, with its sign where it is negative.
+    /// A number in decimal, with its sign if it is negative.
     Signed(i32),
     /// A byte as `0x` and two lower-case hexadecimal digits.
     Byte(u8),

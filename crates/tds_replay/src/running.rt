@@ -35,7 +35,7 @@ fn run_export<R: Read, W: Write, N: Write>(
     status_of(&answer)
 }
 
-// Writes the packets of a message in another size, that of the output's room.
+// Writes the packets of a message in another size, the output's room.
 fn run_recut<R: Read, W: Write, N: Write>(
     input: &mut Area,
     output: &mut Area,
@@ -115,13 +115,13 @@ fn perform_recut<R: Read, W: Write, N: Write>(
     run_recut(&mut input, &mut output, max_wire, from, to, notes)
 }
 
-/// Runs a job's work from the reader to the writer, with its lines to the notes, and answers the exit
-/// status: 0 where it is done, 3 where it is done and the server reported an error, 4 after a fault
-/// of the input, 5 after a fault of a device, 6 for want of memory. A check leaves the writer alone.
-/// A failed write of the notes changes no status.
+/// Runs a job's work from the reader to the writer, with its lines to the notes, and returns the exit
+/// status: 0 if it is done, 3 if it is done and the server reported an error, 4 after a fault of the
+/// input, 5 after a fault of a device, 6 for want of memory. A check doesn't use the writer. A failed
+/// write of the notes changes no status.
 ///
 /// The areas of the work are asked for before the first read, and nothing else is asked for, whatever
-/// the status: what reads and writes has no allocator. Where they are refused, nothing is read.
+/// the status: what reads and writes has no allocator. If they are refused, nothing is read.
 pub fn perform_in<R: Read, W: Write, N: Write>(
     memory: &mut Memory,
     work: Work,
@@ -148,8 +148,8 @@ pub fn perform_in<R: Read, W: Write, N: Write>(
     }
 }
 
-/// Runs a job as [`perform_in`] does its work, in memory of this allocator. The file that the job names
-/// is opened by the caller.
+/// Runs a job as [`perform_in`] does its work, in memory of this allocator. The caller opens the file
+/// that the job names.
 pub fn perform<R: Read, W: Write, N: Write>(
     alloc: Global,
     job: &Job,

@@ -48,7 +48,7 @@ fn status_of_fault(fault: &Fault) -> Status
     }
 }
 
-/// The status that an export's answer ends with.
+/// The status that an export's result ends with.
 pub(crate) fn status_of(answer: &Result<Report, Stopped>) -> Status
     ensures { result ≡ status_of_answer answer.now }
 {
@@ -59,7 +59,7 @@ pub(crate) fn status_of(answer: &Result<Report, Stopped>) -> Status
     }
 }
 
-/// The status that a recut's answer ends with.
+/// The status that a recut's result ends with.
 pub(crate) fn status_of_recut(answer: &Result<Recut, RecutStop>) -> Status
     ensures { result ≡ recut_status answer.now }
 {

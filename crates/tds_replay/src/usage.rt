@@ -1,4 +1,4 @@
-// What is said where arguments are no job.
+// What is said if arguments are no job.
 ghost use Rattle.tds_replay.specs.Usages.{SaysUsage};
 
 use crate::lines::say_want_of_memory;
@@ -8,7 +8,7 @@ use std::io::Write;
 use tds_arguments::Usage;
 use tds_packet::Counted;
 
-/// Writes help to standard output and everything else to the notes, and says how the command ends.
+/// Writes help to standard output and everything else to the notes, and returns how the command ends.
 pub fn say_usage<W: Write, N: Write>(
     usage: &Usage,
     to: &mut Counted<W>,
