@@ -14,11 +14,11 @@ use tds_values::{Charset, Kind, Reach};
 /// How the value of a cell is laid out in it, and what a long one holds.
 #[derive(Clone, Copy)]
 pub(crate) enum Layout {
-    /// A whole number of four bytes alone.
+    /// A whole number of four bytes, without a length.
     Int4,
     /// A whole number of four bytes after its length of one byte, which is 0 for NULL.
     CountedInt4,
-    /// Alone, and each value has this number of bytes.
+    /// Without a length: each value has this number of bytes.
     Fixed(u8),
     /// After a length of one byte, which is 0 for NULL.
     Counted,
@@ -76,7 +76,7 @@ fn lay_out(kind: &Kind, charset: Charset) -> Layout
 }
 
 impl Form {
-    /// What a cell of a kind needs, where single-byte text is in this set.
+    /// What a cell of a kind needs if single-byte text is in this set.
     pub(crate) fn of(kind: Kind, charset: Charset) -> Form
         requires { IsTrue (is_valid kind) }
         ensures kind { result.kind ≡ kind }

@@ -19,7 +19,7 @@ pub const LONGEST_CELL: usize = 18;
 /// The most bytes that a value of a scalar kind has.
 const LONGEST_VALUE: usize = 17;
 
-// The stop of a value out of range, which began after `place` bytes of the payload.
+// The stop of a value out of range, which begins after `place` bytes of the payload.
 pub(crate) fn bad_value(column: u16, place: u64) -> Stop
     ensures { result ≡ record { fault = Fault.BadValue column; place = Place.Payload place } }
 {

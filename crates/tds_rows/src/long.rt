@@ -126,17 +126,17 @@ pub(crate) fn stream_long<J: Joiner, R: Read, W: Write>(
     }
 }
 
-/// Reads a long value from its length or total on, and puts its field, after a comma unless it is that of
-/// column 0. The joiner withholds nothing, and gets the data in pieces of the packet: nothing is
-/// copied into an area (MS-TDS, Data Stream Types).
+/// Reads a long value from its length or total on, and puts its field, after a comma unless the column
+/// is 0. The joiner withholds nothing, and gets the data in pieces of the packet: nothing is copied
+/// into an area (MS-TDS, Data Stream Types).
 ///
 /// [`Fault::OddText`] is at the length, the total or the terminator of data that isn't in whole units of
-/// the joiner, [`Fault::PlpLength`] at the length of the chunk that passes the total or at the terminator before
-/// it is reached, [`Fault::BadText`] at the byte that begins no text; where the text isn't whole at the end,
-/// at the last byte of a short value and at the terminator. Any other stop is the payload's or the sink's own.
-/// The text so far of the value is there at a stop: nothing before its length or total is accepted, then the comma,
-/// the quote or `0x`, and the text of the whole characters. After a stop of the payload or the sink the same stop
-/// is answered, and nothing changes.
+/// the joiner. [`Fault::PlpLength`] is at the length of the chunk that passes the total, or at the terminator
+/// before it is reached. [`Fault::BadText`] is at the byte that begins no text. If the text isn't whole at the
+/// end, it is at the last byte of a short value, or at the terminator. Any other stop is the payload's or the
+/// sink's own. At a stop the text of the value so far is put: nothing before its length or total is accepted,
+/// then the comma, the quote or `0x`, and the text of the whole characters. After a stop of the payload or the
+/// sink the same stop is returned, and nothing changes.
 pub fn stream_value<J: Joiner + Drop, R: Read, W: Write>(
     payload: &mut Payload<R>,
     reach: Reach,

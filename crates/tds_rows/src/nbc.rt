@@ -41,7 +41,7 @@ fn bitmap_size(columns: u16) -> usize
 }
 
 impl<'r, 't, 'p, 's, 'c, R: Read, W: Write> Rows<'r, 't, 'p, 's, 'c, R, W> {
-    // Puts the next cell: NULL, or the one that is read.
+    // Puts the next cell: NULL, or the cell that it reads.
     fn put_next(&mut self, at: Ahead<'c>, form: &Form, null: bool) -> Result<(), Stop>
         requires in_row { IsInRow self.old }
         requires within { at.column < self.old.table.now.count }
@@ -78,8 +78,8 @@ impl<'r, 't, 'p, 's, 'c, R: Read, W: Write> Rows<'r, 't, 'p, 's, 'c, R, W> {
         }
     }
 
-    // Reads an NBCROW and those that follow it in its packet, each with its bitmap alone in the area, and puts
-    // their lines. Answers how many they are.
+    // Reads an NBCROW and those that follow it in its packet, each with only its bitmap in the area, and puts
+    // their lines. Returns how many they are.
     fn nbc_rows(&mut self, bitmap: &mut Area) -> Result<u64, Stop>
         requires in_row { IsInRow self.old }
         requires knows { KnowsSome self.old.table.now }
@@ -105,15 +105,15 @@ impl<'r, 't, 'p, 's, 'c, R: Read, W: Write> Rows<'r, 't, 'p, 's, 'c, R, W> {
 }
 
 /// Reads an NBCROW after its token byte, and puts its line (MS-TDS, NBCROW). The bitmap is read into
-/// the area, which is emptied first and has room for 8,192 bytes at least; a column whose bit is set
+/// the area, which is emptied first and has room for at least 8,192 bytes. A column whose bit is set
 /// is NULL and has no data, and the bits after the last column's say nothing. The NULLs
 /// before the next cell with data, or at the row's end, count with what is read before them: the
-/// cell, or the bitmap. Faults and places are those of [`row`](crate::row), and `MessageEnded` is
-/// at the bitmap's first byte where the message ends in it. After a stop of the payload or the sink
-/// the same stop is answered, and neither changes.
+/// cell, or the bitmap. Faults and places are as in [`row`](crate::row), and `MessageEnded` is
+/// at the bitmap's first byte if the message ends in it. After a stop of the payload or the sink
+/// the same stop is returned, and neither changes.
 ///
 /// Cells are taken in runs, as many as are NULL or whole in the packet and have room in the block. The
-/// small area is used as by [`row`](crate::row).
+/// small area is used as in [`row`](crate::row).
 pub fn nbc_row<R: Read, W: Write>(
     payload: &mut Payload<R>,
     columns: Columns<'_>,
@@ -155,11 +155,11 @@ pub fn nbc_row<R: Read, W: Write>(
     rows.nbc_row(bitmap)
 }
 
-/// Reads an NBCROW after its token byte, and the NBCROWs after it as far as their token bytes are in the packet
-/// that the one before them ends in, and puts their lines. Answers how many they are. The lines of the
-/// whole rows count at a stop, and the text so far of the row that it stops in. Each bitmap is read into the
-/// area, which is emptied before it. Faults, places and the areas' rooms are those of [`nbc_row`] (MS-TDS,
-/// NBCROW).
+/// Reads an NBCROW after its token byte, and the NBCROWs after it as long as the next token byte is in the
+/// packet that the row before it ends in. Puts their lines, and returns how many they are. The lines of the
+/// whole rows count at a stop, and so does the text so far of the row that it stops in. Each bitmap is read
+/// into the area, which is emptied before it. Faults, places and the areas' rooms are as in [`nbc_row`]
+/// (MS-TDS, NBCROW).
 pub fn read_nbc_rows<R: Read, W: Write>(
     payload: &mut Payload<R>,
     columns: Columns<'_>,

@@ -21,8 +21,8 @@ use tds_values::{Kind, Reach, read_scalar};
 /// The column of the stops in the value of a RETURNVALUE.
 pub(crate) const RETURN_COLUMN: u16 = 65535;
 
-// Passes over those of the next bytes that are in the packet, or over the first of another packet, and
-// answers how many they are.
+// Passes over the next bytes that are in the packet, at most `most`, or over the first byte of another packet.
+// Returns how many they are.
 fn pass_piece<R: Read>(payload: &mut Payload<R>, most: u64) -> Result<u64, Stop>
     requires going { IsGoing payload.old }
     requires some { 0 < most }
@@ -110,13 +110,12 @@ fn pass_long<R: Read>(payload: &mut Payload<R>, reach: Reach, unit: u64) -> Resu
 }
 
 /// Passes over the value of a RETURNVALUE, which may be of any kind: reads it from its first byte on, and
-/// keeps and puts nothing of it. Its stops are those of a cell whose column is 65,535, but for its text,
-/// which may be any bytes: [`Fault::BadValueLength`] and [`Fault::BadValue`] as in a row,
-/// [`Fault::OddText`] at the length, the total or the terminator of an odd Wide value, and
-/// [`Fault::PlpLength`] at the length of the chunk that passes the total or at the terminator before it.
-/// Any other stop is the payload's own: where the message ends, it is at the first byte of the element
-/// that isn't whole, of which each byte of long data is one. After a stop of the payload the same stop is
-/// answered, and nothing changes.
+/// keeps and puts nothing of it. It stops as a cell of column 65,535 does, but its text may be any
+/// bytes. [`Fault::BadValueLength`] and [`Fault::BadValue`] are as in a row, [`Fault::OddText`] is at the
+/// length, the total or the terminator of an odd Wide value, and [`Fault::PlpLength`] at the length of the
+/// chunk that passes the total or at the terminator before it. Any other stop is the payload's own: if the
+/// message ends, it is at the first byte of the element that isn't whole. Each byte of long data is an
+/// element. After a stop of the payload the same stop is returned, and nothing changes.
 ///
 /// A scalar value is judged in the small area, which is emptied first and has room for 18 bytes at least.
 pub fn pass_over<R: Read>(

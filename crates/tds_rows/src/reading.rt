@@ -35,7 +35,7 @@ pub(crate) struct Rows<'r, 't, 'p, 's, 'c, R, W> {
 }
 
 impl<'r, 't, 'p, 's, 'c, R: Read, W: Write> Rows<'r, 't, 'p, 's, 'c, R, W> {
-    /// Takes the token byte of one more row, and answers yes, if it is next in the packet. It reads nothing.
+    /// Takes the token byte of one more row if it is next in the packet, and returns whether it is. Reads nothing.
     pub(crate) fn take_token(&mut self, byte: u8) -> bool
         requires { IsInRow self.old }
         ensures stays { StaysInRow self.old self.new }
@@ -100,7 +100,7 @@ impl<'r, 't, 'p, 's, 'c, R: Read, W: Write> Rows<'r, 't, 'p, 's, 'c, R, W> {
         }
     }
 
-    /// Reads the next cell, whatever its kind, and puts its text: at once, where it is whole in the packet, isn't
+    /// Reads the next cell, whatever its kind, and puts its text: at once, if it is whole in the packet, isn't
     /// in chunks, and its text doesn't fill the block.
     #[inline(never)]
     pub(crate) fn put_cell(&mut self, at: Ahead<'c>, form: &Form) -> Result<(), Stop>

@@ -38,7 +38,7 @@ impl<'r, 't, 'p, 's, 'c, R: Read, W: Write> Rows<'r, 't, 'p, 's, 'c, R, W> {
         Ok(())
     }
 
-    // Reads a row and those that follow it in its packet, and puts their lines. Answers how many they are.
+    // Reads a row and those that follow it in its packet, and puts their lines. Returns how many they are.
     fn rows(&mut self) -> Result<u64, Stop>
         requires in_row { IsInRow self.old }
         requires knows { KnowsSome self.old.table.now }
@@ -70,10 +70,10 @@ impl<'r, 't, 'p, 's, 'c, R: Read, W: Write> Rows<'r, 't, 'p, 's, 'c, R, W> {
 
 /// Reads a ROW after its token byte, and puts its line (MS-TDS, ROW). The cells before a stop count,
 /// with their text, and so does the text so far of a long value. [`Fault::BadValueLength`] is at the
-/// length byte that isn't allowed, and [`Fault::BadValue`] at the first byte of the value out of range; the
-/// faults of long values and their places are those of [`stream_value`](crate::stream_value). Columns are
+/// length byte that isn't allowed, and [`Fault::BadValue`] at the first byte of the value out of range. The
+/// faults of long values and their places are as in [`stream_value`](crate::stream_value). Columns are
 /// numbered from 0, and single-byte text is read in this set. Any other stop is the payload's or the sink's
-/// own. After a stop of the payload or the sink the same stop is answered, and nothing changes.
+/// own. After a stop of the payload or the sink the same stop is returned, and nothing changes.
 ///
 /// A scalar cell that goes on in the next packet is gathered in the small area, which is emptied first and has
 /// room for 18 bytes at least; so is one that the row stops at.
@@ -114,10 +114,10 @@ pub fn row<R: Read, W: Write>(
     rows.row()
 }
 
-/// Reads a ROW after its token byte, and the ROWs after it as far as their token bytes are in the packet
-/// that the one before them ends in, and puts their lines. Answers how many they are. The lines of the
-/// whole rows count at a stop, and the text so far of the row that it stops in. Faults and places are those
-/// of [`row`] (MS-TDS, ROW), and so is the use of the small area.
+/// Reads a ROW after its token byte, and the ROWs after it as long as the next token byte is in the packet
+/// that the row before it ends in. Puts their lines, and returns how many they are. The lines of the whole
+/// rows count at a stop, and so does the text so far of the row that it stops in. Faults, places and the use
+/// of the small area are as in [`row`] (MS-TDS, ROW).
 pub fn read_rows<R: Read, W: Write>(
     payload: &mut Payload<R>,
     columns: Columns<'_>,

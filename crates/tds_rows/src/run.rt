@@ -79,7 +79,7 @@ pub(crate) fn run_cells<'a>(
     }
 }
 
-/// Writes the next cell alone; none where it isn't whole in these bytes, is refused or in chunks, or where there
+/// Writes only the next cell. `None` if it isn't whole in these bytes, is refused or in chunks, or if there
 /// isn't the room that the text of a short value may need.
 pub(crate) fn write_alone(table: &Table, at: Ahead, bytes: &[u8], to: &mut [u8]) -> Option<Written>
     requires within { at.column < table.now.count }
@@ -100,7 +100,7 @@ pub(crate) fn write_alone(table: &Table, at: Ahead, bytes: &[u8], to: &mut [u8])
 }
 
 // Writes cell after cell, as far as they are whole in these bytes, aren't in chunks and have room, over the
-// ends of rows: after a whole row it goes on where the byte of the next ROW follows. Whole numbers of four bytes,
+// ends of rows: after a whole row it goes on if the byte of the next ROW follows. Whole numbers of four bytes,
 // the most frequent cells, are written here.
 #[inline(never)]
 pub(crate) fn run_rows<'a>(

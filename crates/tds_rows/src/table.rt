@@ -83,7 +83,7 @@ impl<'a> Table<'a> {
         }
     }
 
-    /// What the next cell needs; none at the row's end.
+    /// What the next cell needs. `None` at the row's end.
     #[inline(always)]
     pub(crate) fn form(&self, at: Ahead<'a>) -> Option<Form>
         ensures laid { IfSome result (λ form. IsLaidOut self.now.charset form.kind form.layout) }
@@ -98,8 +98,8 @@ impl<'a> Table<'a> {
         Some(Form::of(column.kind, self.charset))
     }
 
-    /// What the next cells need that the table knows, up to the column `end`; where it knows none, what the next
-    /// cell alone needs.
+    /// What the next cells need that the table knows, up to the column `end`. If it knows none, only what the next
+    /// cell needs.
     #[inline(always)]
     pub(crate) fn forms<'f>(&'f self, at: Ahead<'a>, end: u16, one: &'f [Form]) -> &'f [Form]
         requires some { at.column < end }
@@ -171,7 +171,7 @@ impl<'a> Table<'a> {
         }
     }
 
-    /// The place after the next cells, this many, which the table knows or which are one at most.
+    /// The place after the next `cells` cells, which the table knows or which are one at most.
     #[inline(always)]
     pub(crate) fn past(&self, at: Ahead<'a>, cells: usize) -> Ahead<'a>
         requires within { at.column + cells ≤ self.now.count }
@@ -190,7 +190,7 @@ impl<'a> Table<'a> {
         self.after(at)
     }
 
-    /// What the next cell needs, and the place after it; none at the row's end.
+    /// What the next cell needs, and the place after it. `None` at the row's end.
     pub(crate) fn next(&self, at: Ahead<'a>) -> Option<(Form, Ahead<'a>)>
         ensures further { IfSome result (λ taken. at.entry.column < taken.1.column) }
         ensures within { IfSome result (λ taken. taken.1.column ≤ self.now.count) }

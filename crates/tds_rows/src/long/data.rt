@@ -14,8 +14,8 @@ use tds_packet::{Fault, Payload, Place, Stop};
 // The most bytes that a piece is asked for.
 const LONGEST_PIECE: u64 = 65_536;
 
-// The stop of a joiner whose piece, or whose end, comes after `place` bytes of the payload: the sink's own, or
-// that of the bad byte.
+// The stop of a joiner whose piece or end comes after `place` bytes of the payload: the sink's own, or one at
+// the bad byte.
 fn join_stop(fault: JoinFault, column: u16, place: u64) -> Stop
     requires { place + good_of fault < 2 ^ 64 }
     ensures { result ≡ join_stop column place fault }
@@ -67,8 +67,7 @@ pub(crate) fn put_closing<W: Write>(
     sink.put(&end[..made])
 }
 
-// Hands the next piece of the data, at most `most` bytes, to the joiner in place, and answers how many
-// it has.
+// Hands the next piece of the data, at most `most` bytes, to the joiner in place, and returns its length.
 fn push_piece<J: Joiner, R: Read, W: Write>(
     payload: &mut Payload<R>,
     most: u64,
@@ -123,8 +122,7 @@ pub(crate) fn push_data<J: Joiner, R: Read, W: Write>(
     }
 }
 
-/// Puts the end of a value whose data was handed to the joiner. Where the data isn't whole text it stops at
-/// this place.
+/// Puts the end of a value whose data was handed to the joiner. Stops at `place` if the data isn't whole text.
 pub(crate) fn put_end<J: Joiner, W: Write>(
     joiner: &mut J,
     column: u16,

@@ -39,7 +39,7 @@ fn stop_at(fault: Fault, place: u64) -> Stop
     }
 }
 
-/// Reads the length of a short value, whose data has units of `unit` bytes; none where it is NULL.
+/// Reads the length of a short value, whose data has units of `unit` bytes. `None` if it is NULL.
 pub(crate) fn read_short_length<R: Read>(
     payload: &mut Payload<R>,
     column: u16,
@@ -62,7 +62,7 @@ pub(crate) fn read_short_length<R: Read>(
 }
 
 /// Reads the total of a value in chunks, whose data has units of `unit` bytes: the number of its bytes, if
-/// that is known; none where it is NULL.
+/// that is known. `None` if it is NULL.
 pub(crate) fn read_total<R: Read>(
     payload: &mut Payload<R>,
     column: u16,
@@ -87,7 +87,7 @@ pub(crate) fn read_total<R: Read>(
     Ok(Some(Some(n)))
 }
 
-// The fault of a terminator after `sum` bytes of data, but for what the data itself has.
+// The fault of a terminator after `sum` bytes of data, apart from the data's own faults.
 fn end_fault(column: u16, unit: u64, total: Option<u64>, sum: u64) -> Option<Fault>
     requires { 0 < unit }
     ensures { result ≡ end_fault column unit total sum }

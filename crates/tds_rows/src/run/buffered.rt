@@ -31,7 +31,7 @@ pub(crate) fn length_size(kind: &Kind) -> usize
 }
 
 // Where the value of a scalar cell is in these bytes, and how many it has: after its length, unless each value of
-// its kind has as many. None where no length is there, or the value is a long one.
+// its kind has as many. `None` if no length is there, or the value is a long one.
 #[inline(always)]
 fn value_at(layout: Layout, bytes: &[u8]) -> Option<(usize, usize)>
     ensures { MatchOption result (HasNoValue layout bytes.now) (λ at. HasValueAt layout bytes.now at.0 at.1) }
@@ -62,8 +62,8 @@ pub(crate) fn has_int4(start: usize, bytes: &[u8]) -> bool
     bytes.len() >= start + INT4_SIZE && (start == 0 || bytes[0] == 4)
 }
 
-// Writes the field of the cell at the front of these bytes; none where it isn't whole, is refused or in chunks, or
-// where there isn't the room that the text of a short value may need. Two bytes of room are left after it.
+// Writes the field of the cell at the front of these bytes. `None` if it isn't whole, is refused or in chunks, or
+// if there isn't the room that the text of a short value may need. Two bytes of room are left after it.
 #[inline(always)]
 pub(crate) fn write_cell(
     form: &Form,

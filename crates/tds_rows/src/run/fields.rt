@@ -19,7 +19,7 @@ pub(crate) const VALUE_ROOM: usize = 65;
 /// How many bytes the text of a whole number of four bytes in its line may want, and a few to spare.
 pub(crate) const INT4_ROOM: usize = 28;
 
-// Writes the text of a whole number of four bytes in its line, and answers how many bytes it has.
+// Writes the text of a whole number of four bytes in its line, and returns how many bytes it has.
 #[inline(always)]
 pub(crate) fn write_int4_field(column: u16, last: bool, bytes: &[u8], to: &mut [u8]) -> usize
     requires whole { length bytes.now ≡ 4 }

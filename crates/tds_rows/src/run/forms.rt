@@ -17,7 +17,7 @@ pub(crate) struct FormsRun {
     pub(crate) made: usize,
 }
 
-// Whether so many of `count` columns, the last of which may be the row's, end the row.
+// Whether `cells` of `count` columns end the row. `ends` says that the last of them is the row's last.
 #[inline(always)]
 fn is_last(ends: bool, cells: usize, count: usize) -> bool
     ensures { result ≡ (ends && (cells == count)) }
@@ -25,8 +25,8 @@ fn is_last(ends: bool, cells: usize, count: usize) -> bool
     ends && cells == count
 }
 
-// Writes the fields of the next cells, each after its comma, which the first has unless it is the row's first, and
-// a comma after the last of them.
+// Writes the fields of the next cells, each after a comma unless it is the row's first, and a comma after the last
+// of them.
 #[inline(always)]
 fn write_fields(
     forms: &[Form],
@@ -63,8 +63,8 @@ fn write_fields(
     FormsRun { cells, used, made }
 }
 
-/// Writes the cells of the next columns of a row, of which `column` come before them, one after another: as far
-/// as they are whole in these bytes, aren't in chunks and have room, and after the first one up to the next that may
+/// Writes the cells of the next columns of a row, after its first `column` ones, one after another: as far as
+/// they are whole in these bytes, aren't in chunks and have room, and after the first one up to the next that may
 /// be a whole number of four bytes. `ends` says that the last of these columns is the row's last.
 #[inline(always)]
 pub(crate) fn run_forms(

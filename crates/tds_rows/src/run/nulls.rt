@@ -13,7 +13,7 @@ use crate::table::{Ahead, Table};
 use std::io::{Read, Write};
 use tds_csv::write_null;
 
-// Whether the bit of a column is set, the lowest of the first byte being that of column 0.
+// Whether the bit of a column is set. The lowest bit of the first byte is the bit of column 0.
 pub(crate) fn is_null(bitmap: &[u8], column: u16) -> bool
     requires { column < 8 * length bitmap.now }
     ensures { result ≡ bit bitmap.now column }
@@ -21,7 +21,7 @@ pub(crate) fn is_null(bitmap: &[u8], column: u16) -> bool
     (bitmap[column as usize / 8] >> (column % 8) as u32) & 1 == 1
 }
 
-// The end of the columns from one on whose bits are clear; those before `known` are known to be so.
+// The end of the columns from `from` on whose bits are clear. Those before `known` are known to be clear.
 #[inline(always)]
 fn clear_end(bitmap: &[u8], from: u16, known: u16, count: u16) -> u16
     requires bitmap { count ≤ 8 * length bitmap.now }
@@ -89,7 +89,7 @@ pub(crate) fn run_nulls<'a>(
 
 impl<'r, 't, 'p, 's, 'c, R: Read, W: Write> Rows<'r, 't, 'p, 's, 'c, R, W> {
     /// Takes the next cells of an NBCROW, as many as are NULL by their bit or whole in the packet, aren't in
-    /// chunks and have room, puts their text where it waits, and answers the place after them. It reads nothing and
+    /// chunks and have room, puts their text where it waits, and returns the place after them. It reads nothing and
     /// delivers nothing.
     pub(crate) fn put_nulls(&mut self, from: Ahead<'c>, bitmap: &[u8]) -> Ahead<'c>
         requires in_row { IsInRow self.old }
