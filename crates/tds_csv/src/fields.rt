@@ -8,7 +8,7 @@ use crate::convert::lanes_hex::encode;
 use crate::convert::{doubling, utf16, windows_1252};
 use crate::framing::{BINARY_MARK, QUOTE};
 
-// How many bytes of room a field may want beside those of its text.
+// How many bytes of room a field may want besides its text.
 const FIELD_SPARE: usize = 20;
 
 /// What the data of a long value is.

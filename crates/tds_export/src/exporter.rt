@@ -140,7 +140,7 @@ impl<'a, 'p, 's, R: Read, W: Write> Exporter<'a, 'p, 's, R, W> {
         Ok(())
     }
 
-    // Reads an ERROR after its token byte. The first one is kept, and its message put into the notice
+    // Reads an ERROR after its token byte. Keeps the first one, and puts its message into the notice
     // area (MS-TDS, ERROR).
     fn error(&mut self) -> Result<(), Stop>
         requires { IsInToken self.old }

@@ -22,12 +22,12 @@
 //! reader is at the first byte of what follows it, so the next response can be exported from it.
 //!
 //! A set begins with a line of its column names, each row is a line, and an empty line separates
-//! two sets. What the server said beside the rows is in the [`Report`]: how many sets, rows, errors and
+//! two sets. What the server said besides the rows is in the [`Report`]: how many sets, rows, errors and
 //! messages there were, the first error, the last return status.
 //!
 //! # What each result leaves
 //!
-//! - After a [`Report`] the writer has all of the text and was flushed, nothing waits, and the reader
+//! - After a [`Report`] the writer has all of the text and is flushed, nothing waits, and the reader
 //!   has given the packets of the message and not one byte more. `areas.error_text()` has the message of
 //!   the first error, if there was one, until the next export. An error of the server is a part of a
 //!   response, so look at `report.errors`: the result is `Ok` all the same.

@@ -60,7 +60,7 @@ pub(crate) fn lengths_fit(body: &[u8]) -> bool
     line_start(body) + 4 <= body.len()
 }
 
-/// What a body says of an error, but for its message.
+/// What a body says of an error, except its message.
 pub(crate) fn error_of(body: &[u8]) -> ServerError
     requires { IsNoticeBody body.now }
     ensures { result ≡ server_error (notice_of body.now) }

@@ -4,7 +4,7 @@ ghost use Rattle.tds_export.specs.Steps.{Tracks};
 
 use crate::report::Report;
 
-/// What is known of the tokens read so far: the report, but for what was written; whether columns
+/// What is known of the tokens read so far: the report, except what was written; whether columns
 /// are described; and whether the last token is a final DONE or DONEPROC.
 #[derive(Debug, Clone, Copy)]
 pub(crate) struct Progress {

@@ -13,7 +13,7 @@ use tds_packet::{Payload, Stop};
 use tds_rows::pass_over;
 use tds_values::Kind;
 
-// The bytes of the ordinal.
+// How many bytes the ordinal has.
 const ORDINAL: usize = 2;
 
 // Passes over the ordinal and the name.

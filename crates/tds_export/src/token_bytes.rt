@@ -4,7 +4,7 @@
 // browse mode; ALTMETADATA and ALTROW, which serve COMPUTE; and FEATUREEXTACK, SESSIONSTATE, SSPI and
 // FEDAUTHINFO, which belong to features that a client negotiates.
 
-// Those of ROW and NBCROW are in `tds_rows`, which goes on over them.
+// The bytes of ROW and NBCROW are in `tds_rows`, which goes on over them.
 pub(crate) use tds_rows::{NBCROW, ROW};
 
 /// RETURNSTATUS.

@@ -10,8 +10,8 @@ use tds_meter::{
     TOKEN_ROOM,
 };
 
-/// The memory that a run may ask for, and how many bytes of areas it was asked for. Who is lent it can
-/// ask for areas, and each is counted. Who isn't has only the memory that is there.
+/// The memory that a run may ask for, and how many bytes of areas it was asked for. Whoever is lent it
+/// can ask for areas, and each is counted. Whoever isn't has only the memory that is there.
 #[derive(Drop)]
 pub struct Memory {
     alloc: Global,

@@ -23,7 +23,7 @@ fn pairs(units: u16x8) -> [u16; UNITS]
     ascii.select(units, two).to_array()
 }
 
-// How many of the two bytes are those of the character.
+// How many of the two bytes each character has.
 #[inline(always)]
 fn sizes(units: u16x8) -> [u16; UNITS]
     ensures { result ≡ map size units }

@@ -1,5 +1,5 @@
-// Bytes and characters, written to a slice from a place on. A call that returns a place returns the one
-// after what it wrote.
+// Bytes and characters, written to a slice from a place on. A place that a call returns is the one after
+// what it wrote.
 ghost use Rattle.std.specs.Prelude.{◌≡◌, ◌+◌, ◌<◌, ◌≤◌, [], ◌∷◌, ◌++◌, length, take};
 ghost use Rattle.std.specs.Char.{encode_utf8};
 ghost use Rattle.tds_csv.specs.Quoting.{doubled};

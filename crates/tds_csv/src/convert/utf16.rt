@@ -100,8 +100,8 @@ pub(crate) struct Converted {
     pub(crate) made: usize,
 }
 
-// Goes on with the text by eight units, up to the first that is no character of ASCII, or a quote. What comes after
-// the bytes in the source may be looked at.
+// Goes on with the text by eight units, up to the first that is a quote or isn't of ASCII. What comes after the
+// bytes in the source may be looked at.
 #[inline(always)]
 fn convert_plain(bytes: &[u8], source: &[u8], from: usize, to: &mut [u8], start: usize) -> Converted
     requires source { LiesIn bytes.now source.now }

@@ -86,7 +86,7 @@ fn take_plain(bytes: &[u8], source: &[u8], at: usize, to: &mut [u8], made: usize
     n
 }
 
-// Where the bytes end that are taken one by one after `taken` that were taken together.
+// Where the bytes end that are taken one by one, after `taken` bytes that were taken together.
 #[inline(always)]
 fn end_by_hand(bytes: &[u8], at: usize, taken: usize) -> usize
     requires { at ≤ length bytes.now }
