@@ -1,5 +1,5 @@
 -- Text that is cut to a room, a character after the other.
-use Rattle.tds_csv.proofs.Words.{◌≡◌, ◌∙◌, ℕ, ◌+◌, ◌-◌, ◌<◌, ◌≤◌, List, [], ◌∷◌, ◌++◌, length, take, drop, sym, ap, arith, IsUtf8, append_assoc, append-nil, length-append, length-drop, length-take-le, encode_utf8_all, encode_utf8, utf8_valid_len, take-append-drop, take-take, take-append-le, take_all, take_at, take-append-add, encode_same, utf8_valid_len-IsUtf8, Space, appended, whole_within, IsUtf8-append, IsUtf8-encode, refl, IsScalar, scalar, IsUtf8-nil}
+use Rattle.tds_csv.proofs.Words.{common_steps, ◌≡◌, ◌∙◌, ℕ, ◌+◌, ◌-◌, ◌<◌, ◌≤◌, List, [], ◌∷◌, ◌++◌, length, take, drop, sym, ap, arith, IsUtf8, append_assoc, append-nil, length-append, length-drop, length-take-le, encode_utf8_all, encode_utf8, utf8_valid_len, take-append-drop, take-take, take-append-le, take_all, take_at, take-append-add, encode_same, utf8_valid_len-IsUtf8, Space, appended, whole_within, IsUtf8-append, IsUtf8-encode, IsScalar, scalar, IsUtf8-nil}
 use Rattle.tds_csv.proofs.Utf8Laws.{valid_len-past, valid_len_is}
 
 -- a beginning of a character is no text
@@ -37,13 +37,7 @@ pub record Added (s to : Space) (text left : List ℕ) : Type 0 where
 module _ {s to : Space} {text left : List ℕ} (x : Added s to text left) where
   -- one more character was added
   pub added_more : (c : ℕ) {piece more : List ℕ} {after : Space} → left ≡ encode_utf8 c ++ more → piece ≡ encode_utf8 c → IsScalar c → after ≡ appended to piece → length to.bytes + length piece ≤ to.room → Added s after text more
-  added_more c next is scalar grown fits = record {
-    out = x.out ++ encode_utf8 c;
-    stands = rw (grown, x.stands, is) (grind (arith, append_assoc, length-append));
-    text_is = rw (x.text_is, next, append_assoc) refl;
-    whole = IsUtf8-append x.out (encode_utf8 c) x.whole (IsUtf8-encode c scalar);
-    fits = let at = x.stands in grind (arith, length-append);
-  }
+  added_more c next is scalar grown fits = grind (arith, common_steps, append_assoc, length-append, IsUtf8-append, IsUtf8-encode)
 
   -- the next one doesn't fit: the area stands as the longest beginning that fits leaves it
   pub stays_cut : (c : ℕ) (more : List ℕ) {piece : List ℕ} → left ≡ encode_utf8 c ++ more → piece ≡ encode_utf8 c → to.room < length to.bytes + length piece → to ≡ appended s (whole_within (s.room - length s.bytes) text)

@@ -1,5 +1,5 @@
 -- Bytes that were written to a place, one after the other or many at once.
-use Rattle.tds_csv.proofs.Words.{◌≡◌, ◌∙◌, ◌+◌, ◌≤◌, ◌∷◌, ◌++◌, [], ℕ, List, length, take, ap, sym, append_assoc, arith, length-take-le, put_chunk_is, take-append-add, put_chunk, take-append-le, encode_utf8, doubled}
+use Rattle.tds_csv.proofs.Words.{◌≡◌, ◌∙◌, ◌+◌, ◌≤◌, ◌∷◌, ◌++◌, [], ℕ, List, length, take, ap, sym, append_assoc, arith, length-take-le, put_chunk_is, take-append-add, put_chunk, take-append-le, take-take, encode_utf8, doubled}
 use Rattle.tds_csv.proofs.Characters.{doubled_character}
 
 -- two bytes
@@ -25,3 +25,9 @@ added_doubled c t u big e = e ∙ ap (λ l. t ++ l) (sym (doubled_character c (�
 -- a beginning of what was written at a place
 pub taken_put : (i n : ℕ) (xs ys : List ℕ) → n ≤ length ys → i + length ys ≤ length xs → take (i + n) (put_chunk i xs ys) ≡ take i xs ++ take n ys
 taken_put i n xs ys within room = grind (arith, length-take-le, put_chunk_is, take-append-add, take-append-le)
+
+-- the first of some bytes that were written to a place
+pub front_written : (old new bytes : List ℕ) (at n m : ℕ) → n ≤ m → at ≤ length old → take (at + m) new ≡ take at old ++ bytes → take (at + n) new ≡ take at old ++ take n bytes
+front_written old new bytes at n m few within written =
+    let place : at + n ≡ length (take at old) + n = omega (arith, length-take-le at old within) in
+    sym (take-take (at + n) (at + m) new (omega arith)) ∙ ap (take (at + n)) written ∙ ap (λ j. take j (take at old ++ bytes)) place ∙ take-append-add (take at old) bytes n

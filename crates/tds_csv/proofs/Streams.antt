@@ -1,5 +1,5 @@
 -- Calls that read by a grammar and put the text of what they read: one after another, and inside a greater grammar.
-use Rattle.tds_csv.proofs.Words.{◌≡◌, ◌∙◌, inl, inr, ℕ, ◌+◌, ◌<◌, Bool, List, [], ◌++◌, length, sym, ap, subst, arith, append_assoc, Fault, Stop, Grammar, Seen, Takes, Inside, Inside-Spelt, Spelt-append, StopsReading, next_inside, next_some, stops_inside, stops_after, takes_ahead, takes_both, Held, Puts, BreaksStreaming, PutsText, StopsStreaming, Streams}
+use Rattle.tds_csv.proofs.Words.{◌≡◌, ◌∙◌, inl, inr, ℕ, ◌+◌, ◌<◌, Bool, List, ◌++◌, length, sym, ap, subst, arith, append_assoc, Fault, Stop, Grammar, Seen, Takes, Inside, Inside-Spelt, Spelt-append, StopsReading, next_inside, next_some, stops_inside, stops_after, takes_ahead, takes_both, Held, BreaksStreaming, PutsText, StopsStreaming, Streams}
 use Rattle.tds_csv.proofs.Sinks.{Puts-trans}
 
 -- a state where a reading stops has a next element
@@ -11,10 +11,6 @@ pub puts_both : {S : Type 0} (text : S → List ℕ) (s t u : S) (a b c : Held) 
 puts_both text s t u a b c x y = (x.0 ++ y.0, sym (append_assoc (text s) x.0 y.0) ∙ ap (λ l. l ++ y.0) x.1 ∙ y.1, Puts-trans a b c x.0 y.0 x.2 y.2)
 
 module _ {S : Type 0} (g : Grammar S Fault) (text : S → List ℕ) where
-  -- nothing was put before a call whose write fails
-  pub breaks_after_put : (s : S) (a b : Seen) (h i j : Held) (at : S) (stop : Stop) → Puts h i [] → BreaksStreaming g text s a b i j at stop → BreaksStreaming g text s a b h j at stop
-  breaks_after_put s a b h i j at stop p x = let puts = Puts-trans h i x.middle [] x.puts.0 p x.puts.2 in grind (arith)
-
   -- two calls that read on
   abbrev pub streams_both : (s t u : S) (a b c : Seen) (h i j : Held) → Streams g text s a b h i t → Streams g text t b c i j u → Streams g text s a c h j u
   streams_both s t u a b c h i j x y = record {

@@ -1,5 +1,5 @@
 -- The laws of UTF-16 in pieces.
-use Rattle.tds_csv.proofs.Words.{◌≡◌, ℕ, ◌%◌, ◌≤◌, ◌&&◌, Bool, true, false, cond, List, [], ◌∷◌, ◌++◌, length, refl, sym, ap, ◌∙◌, arith, encode_utf8_all, unwrap_or, ⊤, map-append, length-append, encodes-append, and_right, nat_tests, utf16_lossy_chars, is_high_surrogate, is_low_surrogate, JoinsPieces, emit, doubled}
+use Rattle.tds_csv.proofs.Words.{common_steps, ◌≡◌, ℕ, ◌%◌, ◌≤◌, ◌&&◌, Bool, true, false, cond, List, [], ◌∷◌, ◌++◌, length, refl, sym, ap, ◌∙◌, arith, encode_utf8_all, unwrap_or, ⊤, map-append, length-append, encodes-append, and_right, nat_tests, utf16_lossy_chars, is_high_surrogate, is_low_surrogate, JoinsPieces, emit, doubled}
 use Rattle.std.specs.Char.Utf16.{utf16_chars}
 use Rattle.tds_csv.specs.Utf16.{units, is_high, IsFit, text, rest}
 use Rattle.tds_csv.proofs.JoiningLemmas.{doubled-append, settled_front}
@@ -109,14 +109,4 @@ parts bytes = let whole = (seam bytes []).even in omega (arith, ap length (seam 
 
 -- text in UTF-16 may come in pieces
 pub joins_utf16 : JoinsPieces IsFit (λ _. ⊤) rest text
-joins_utf16 = record {
-  emits = λ a b _. emits a b;
-  keeps = λ a b _. (seam a b).rest_is;
-  short = λ bytes _. short bytes;
-  ends = λ bytes _. ends bytes;
-  fit_rest = λ bytes h. sym (parts bytes) ∙ h;
-  fit_whole = λ bytes _ h. parts bytes ∙ h;
-  front = λ a b h. h;
-  inward = λ a b h. h;
-  outward = λ a b h. h;
-}
+joins_utf16 = grind (arith, common_steps, emits, seam, short, ends, parts)

@@ -1,5 +1,5 @@
 -- Pieces of text in UTF-8, one after the other.
-use Rattle.tds_csv.proofs.Words.{◌≡◌, ◌∙◌, ◌↔◌, ℕ, ◌+◌, ◌-◌, ◌<◌, ◌≤◌, List, [], ◌++◌, length, take, drop, inl, inr, Option, Result, Ok, Err, refl, sym, ap, arith, append_assoc, append-nil, length-append, length-drop, length-take-le, cases_lt, take-append-drop, take-take, take-append-le, drop-append-le, take_all, drop-append-add, take-append-add, utf8_valid_len, utf8_valid_len_le, emit, IsErrAnd, err_from_is_err_and, JoinFault, Stopped, Odd, BadText, Sink, Pushes, PushesPiece, TakesPiece, TakesUpTo, is_stopped, Held, held, IsScan, StopsAt}
+use Rattle.tds_csv.proofs.Words.{common_steps, ◌≡◌, ◌∙◌, ◌↔◌, ℕ, ◌+◌, ◌-◌, ◌<◌, ◌≤◌, List, [], ◌++◌, length, take, drop, inl, inr, Option, Result, Ok, Err, refl, sym, ap, arith, append_assoc, append-nil, length-append, length-drop, length-take-le, cases_lt, take-append-drop, take-take, take-append-le, drop-append-le, take_all, drop-append-add, take-append-add, utf8_valid_len, utf8_valid_len_le, emit, IsErrAnd, err_from_is_err_and, JoinFault, Stopped, Odd, BadText, Sink, Pushes, PushesPiece, TakesPiece, TakesUpTo, is_stopped, Held, held, IsScan, StopsAt}
 use Rattle.tds_csv.specs.Utf8.{Begins, rest, text}
 use Rattle.tds_csv.proofs.{Puttings.same_sink_after, Utf8Laws.joins_utf8, Utf8Laws.emits, Utf8Laws.rest-append, Sinks.Puts-trans, Sinks.Breaks-after, Sinks.Breaks-longer}
 
@@ -42,17 +42,11 @@ up_to_seam kept piece bytes new a b k is begun x =
     grind (arith, after_kept, take-append-add, length-append)
 
 -- two parts of a piece, of which the first was taken
-record Halves (kept part mid more : List ℕ) : Type 0 where
-  fixed : emit rest text (kept ++ (part ++ more)) ≡ emit rest text (kept ++ part) ++ emit rest text (mid ++ more)
-  keeps : rest (kept ++ (part ++ more)) ≡ rest (mid ++ more)
-  begins : Begins (kept ++ (part ++ more)) ↔ Begins (mid ++ more)
-
-halves : {kept part mid : List ℕ} (more : List ℕ) → mid ≡ rest (kept ++ part) → Halves kept part mid more
-halves {kept = kept} {part = part} more is = record {
-  fixed = rw (is, ← append_assoc kept part more) (emits (kept ++ part) more);
-  keeps = rw (is, ← append_assoc kept part more) (rest-append (kept ++ part) more);
-  begins = rw (is, ← append_assoc kept part more) (joins_utf8.inward (kept ++ part) more, joins_utf8.outward (kept ++ part) more);
-}
+halves : (kept part : List ℕ) {mid : List ℕ} (more : List ℕ) → mid ≡ rest (kept ++ part)
+    → (emit rest text (kept ++ (part ++ more)) ≡ emit rest text (kept ++ part) ++ emit rest text (mid ++ more)) × (rest (kept ++ (part ++ more)) ≡ rest (mid ++ more)) × (Begins (kept ++ (part ++ more)) ↔ Begins (mid ++ more))
+halves kept part more is =
+    let all = kept ++ part in
+    rw (is, ← append_assoc kept part more) (emits all more, rest-append all more, (joins_utf8.inward all more, joins_utf8.outward all more))
 
 -- what is withheld begins a text
 pub rest_begins : {new : List ℕ} (bytes : List ℕ) → new ≡ rest bytes → Begins bytes → Begins new
@@ -78,18 +72,18 @@ module _ {kept mid new : List ℕ} {a b d : Held} {part : List ℕ} (x : TakesPi
   -- a part of a piece was taken, and then the next bytes
   takes_both : (more : List ℕ) → TakesPiece Begins rest text [] new b d (mid ++ more) → TakesPiece Begins rest text kept new a d (part ++ more)
   takes_both more y =
-      let h = halves more x.withheld in
-      record { begun = h.begins.1 y.begun; put = rw h.fixed (Puts-trans _ _ _ _ _ x.put y.put); withheld = y.withheld ∙ sym h.keeps }
+      let h = halves kept part more x.withheld in
+      record { begun = h.2.1 y.begun; put = rw h.0 (Puts-trans _ _ _ _ _ x.put y.put); withheld = y.withheld ∙ sym h.1 }
 
   -- and then a byte was bad
   up_to_both : (more : List ℕ) (n : ℕ) → TakesUpTo Begins rest text [] new b d (mid ++ more) (length mid + n) → TakesUpTo Begins rest text kept new a d (part ++ more) (length part + n)
   up_to_both more n y =
-      let h = halves (take (n + 1) more) x.withheld in
+      let h = halves kept part (take (n + 1) more) x.withheld in
       let next : (part : List ℕ) → take ((length part + n) + 1) (part ++ more) ≡ part ++ take (n + 1) more = λ part. ap (λ k. take k (part ++ more)) {y = length part + (n + 1)} (omega arith) ∙ take-append-add part more (n + 1) in
       record {
         within = omega (arith, y.within, length-append mid more, length-append part more);
         good = rw (take-append-add part more n) (takes_both (take n more) (rw (take-append-add mid more n) at y.good));
-        bad = λ begun. y.bad (rw (next mid) (h.begins.0 (rw (next part) at begun)));
+        bad = λ begun. y.bad (rw (next mid) (h.2.0 (rw (next part) at begun)));
       }
 
 -- a byte was bad in the first bytes of a piece
@@ -106,22 +100,20 @@ module _ {W U : Type 0} {contents : W → Option (List ℕ)} {a b : Sink W} {kep
   -- a push of the first bytes of a piece failed
   first_gives : (piece : List ℕ) (n : ℕ) (e : JoinFault) → n ≤ length piece → PushesPiece {U = U} contents Begins rest text kept new a b (take n piece) (Err e) → Pushes {U = U} Begins rest text kept new (held contents a) (held contents b) a.failed piece (Err e)
   first_gives piece n (Stopped stop) long x =
-      let fixed = rw take-append-drop at (halves {kept = kept} {part = take n piece} {mid = rest (kept ++ take n piece)} (drop n piece) refl).fixed in
+      let fixed = rw take-append-drop at (halves kept (take n piece) {mid = rest (kept ++ take n piece)} (drop n piece) refl).0 in
       λ going. rw fixed (Breaks-longer _ _ _ _ _ (x.gives going))
   first_gives piece n Odd long x = x.gives
   first_gives piece n (BadText k) long x = up_to_first n k long x.gives
 
   -- and `?` passed its error on
   pub pushes_passed : (piece : List ℕ) (n : ℕ) {e : JoinFault} {r : Result U JoinFault} → n ≤ length piece → IsErrAnd r (λ fault. fault ≡ e) → PushesPiece {U = U} contents Begins rest text kept new a b (take n piece) (Err e) → PushesPiece contents Begins rest text kept new a b piece r
-  pushes_passed piece n {e = e} {r = r} long is x =
-      let failed = err_from_is_err_and r is in
-      rw (failed.1, failed.2) (record { ready = x.ready; same = x.same; failed = x.failed; gives = first_gives piece n e long x; begun = x.begun; again = x.again })
+  pushes_passed piece n {e = e} {r = r} long is x = grind (arith, common_steps, err_from_is_err_and, first_gives)
 
 module _ {W U V : Type 0} {contents : W → Option (List ℕ)} {a b d : Sink W} {kept mid new part : List ℕ} {u : U} (more : List ℕ) (at : ℕ) (le : at + length mid ≡ length part) (x : PushesPiece contents Begins rest text kept mid a b part (Ok u)) where
   -- the first bytes of a piece were taken, and then what was withheld was pushed with the others
   both_give : (r : Result V JoinFault) → PushesPiece contents Begins rest text [] new b d (mid ++ more) r → Pushes Begins rest text kept new (held contents a) (held contents d) a.failed (part ++ more) (moved_by at r)
   both_give (Ok v) y = takes_both x.gives more y.gives
-  both_give (Err (Stopped stop)) y = λ _. rw (halves more x.gives.withheld).fixed (Breaks-after _ _ _ _ _ _ x.gives.put (y.gives x.failed))
+  both_give (Err (Stopped stop)) y = λ _. rw (halves kept part more x.gives.withheld).0 (Breaks-after _ _ _ _ _ _ x.gives.put (y.gives x.failed))
   both_give (Err Odd) y = y.gives
   both_give (Err (BadText k)) y =
       let past = after_kept mid more (mid ++ more) k refl x.begun y.gives.bad in
@@ -131,14 +123,7 @@ module _ {W U V : Type 0} {contents : W → Option (List ℕ)} {a b d : Sink W} 
       rw (← there) (up_to_both x.gives more n (rw here y.gives))
 
   pushes_both : {r : Result V JoinFault} → PushesPiece contents Begins rest text [] new b d (mid ++ more) r → PushesPiece contents Begins rest text kept new a d (part ++ more) (moved_by at r)
-  pushes_both {r = r} y = record {
-    ready = y.ready;
-    same = same_sink_after a b d x.same y.same;
-    failed = y.failed ∙ sym (stopped_after at r);
-    gives = both_give r y;
-    begun = y.begun;
-    again = λ failed. absurd (cc ((x.again failed).0));
-  }
+  pushes_both {r = r} y = grind (arith, common_steps, same_sink_after, stopped_after, both_give)
 
 -- the first three bytes of a piece were taken, and then what was withheld was pushed with the others
 pub pushes_long : {W U V : Type 0} {contents : W → Option (List ℕ)} {a b d : Sink W} {kept mid new : List ℕ} {u : U} {r : Result V JoinFault} (piece held' : List ℕ) → 3 ≤ length piece → held' ≡ mid → length mid ≤ 3

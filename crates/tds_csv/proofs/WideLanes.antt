@@ -1,7 +1,8 @@
 -- Units that are looked at eight at a time, lane by lane.
-use Rattle.tds_csv.proofs.Words.{take, get_or, ◌++◌, ◌≡◌, ◌∙◌, ◌+◌, ◌*◌, ◌/◌, ◌%◌, ◌^◌, ◌<◌, ℕ, Bool, not, cond, zero, suc, List, [], ◌∷◌, map, length, refl, ap, ap₂, arith, Fits, w8, w16, Each1, map-map, mask_l, mask_l-mod, top, first_set, first_set_mask_l, length-map, prefix_len, sel_l}
+use Rattle.tds_csv.proofs.Words.{take, get_or, ◌++◌, ◌≡◌, ◌∙◌, ◌+◌, ◌*◌, ◌/◌, ◌%◌, ◌^◌, ◌<◌, ℕ, Bool, not, cond, zero, suc, List, [], ◌∷◌, map, length, refl, ap, ap₂, arith, Fits, w8, w16, Each1, map-map, mask_l, top, first_set, prefix_len, sel_l}
 use Rattle.std.specs.Simd.Lanes.{number_l}
 use lib.Lanes.{digits_l}
+use Rattle.tds_csv.proofs.Masks.{run_before, same_prefix}
 use Rattle.tds_csv.specs.Utf16.{units}
 use Rattle.tds_csv.specs.Wide.{triples}
 
@@ -9,11 +10,6 @@ use Rattle.tds_csv.specs.Wide.{triples}
 pub same_map : {f g : ℕ → ℕ} → ((u : ℕ) → u < 65536 → f u ≡ g u) → (us : List ℕ) → Each1 (Fits w16) us → map f us ≡ map g us
 same_map same [] fits = refl
 same_map same (u ∷ us) fits = ap₂ (λ x xs. x ∷ xs) (same u fits.0.fits) (same_map same us fits.1)
-
--- two tests that are
-same_before : {p q : ℕ → Bool} → ((u : ℕ) → u < 65536 → p u ≡ q u) → (us : List ℕ) → Each1 (Fits w16) us → prefix_len p us ≡ prefix_len q us
-same_before same [] fits = refl
-same_before same (u ∷ us) fits = ap₂ (λ b n. cond b (1 + n) 0) (same u fits.0.fits) (same_before same us fits.1)
 
 -- lanes that are chosen one by one
 chosen_maps : (m : ℕ → Bool) (f g : ℕ → ℕ) (us : List ℕ) → sel_l (map m us) (map f us) (map g us) ≡ map (λ u. cond (m u) (f u) (g u)) us
@@ -26,17 +22,11 @@ chosen l f g us ls xs ys = rw (ls, xs, ys, map-map (top 15) l us) (chosen_maps (
 
 -- so many units come before the first whose lane stops
 pub units_before : (q : ℕ → Bool) (f : ℕ → ℕ) (us : List ℕ) {z : List ℕ} → length us ≡ 8 → Each1 (Fits w16) us → z ≡ map f us → ((u : ℕ) → u < 65536 → not (top 15 (f u)) ≡ q u) → first_set (mask_l (map (top 15) z) % 2 ^ 64) 8 ≡ prefix_len q us
-units_before q f us long fits lanes same =
-    let stops : ℕ → Bool = λ u. top 15 (f u) in
-    let mask : mask_l (map (top 15) _) % 2 ^ 64 ≡ mask_l (map stops us) = ap (λ l. mask_l l % 2 ^ 64) (ap (map (top 15)) lanes ∙ map-map (top 15) f us) ∙ mask_l-mod (map stops us) 64 (omega (arith, length-map us stops, long)) in
-    ap (λ m. first_set m 8) mask ∙ first_set_mask_l stops us 8 long (omega arith) ∙ same_before same us fits
+units_before q f us long fits lanes same = run_before 15 8 f us long (omega arith) lanes ∙ same_prefix (Fits w16) (λ u small. same u small.fits) us fits
 
 -- two bytes are a lane
 pub units_of_bytes : (n : ℕ) (xs : List ℕ) → length xs ≡ 2 * n → Each1 (Fits w8) xs → digits_l 65536 n (number_l 256 xs) ≡ units xs
 units_of_bytes zero [] long fits = refl
-units_of_bytes zero (x ∷ xs) long fits = absurd (omega arith)
-units_of_bytes (suc n) [] long fits = absurd (omega arith)
-units_of_bytes (suc n) (low ∷ []) long fits = absurd (omega arith)
 units_of_bytes (suc n) (low ∷ high ∷ xs) long fits =
     let m = number_l 256 xs in
     let small = fits.0.fits in
@@ -44,6 +34,7 @@ units_of_bytes (suc n) (low ∷ high ∷ xs) long fits =
     let first : (low + 256 * (high + 256 * m)) % 65536 ≡ low + 256 * high = omega (arith, small, smaller) in
     let others : (low + 256 * (high + 256 * m)) / 65536 ≡ m = omega (arith, small, smaller) in
     rw (first, others) (ap (λ l. (low + 256 * high) ∷ l) (units_of_bytes n xs (omega arith) fits.1.1))
+units_of_bytes n xs long fits = absurd (omega arith)
 
 -- a long character's bytes as a number, low byte first
 abbrev pub word : ℕ → ℕ
@@ -56,8 +47,6 @@ bytes_of (x ∷ xs) = (x % 256) ∷ (x / 256 % 256) ∷ (x / 256 / 256 % 256) �
 
 bytes_of_words : (n : ℕ) (xs : List ℕ) → length xs ≡ n → Each1 (λ x. x < 4294967296) xs → digits_l 256 (4 * n) (number_l 4294967296 xs) ≡ bytes_of xs
 bytes_of_words zero [] long fits = refl
-bytes_of_words zero (x ∷ xs) long fits = absurd (omega arith)
-bytes_of_words (suc n) [] long fits = absurd (omega arith)
 bytes_of_words (suc n) (x ∷ xs) long fits =
     let m = number_l 4294967296 xs in
     let four : 4 * suc n ≡ suc (suc (suc (suc (4 * n)))) = omega arith in
@@ -68,6 +57,7 @@ bytes_of_words (suc n) (x ∷ xs) long fits =
     let d : (x + 4294967296 * m) / 256 / 256 / 256 % 256 ≡ x / 256 / 256 / 256 % 256 = omega arith in
     let rest : (x + 4294967296 * m) / 256 / 256 / 256 / 256 ≡ m = omega (arith, small) in
     rw (four, a, b, c, d, rest, bytes_of_words n xs (omega (arith, long)) fits.1) refl
+bytes_of_words n xs long fits = absurd (omega arith)
 
 -- of each four the first three, and then the last
 abbrev woven : List ℕ → List ℕ
@@ -77,10 +67,6 @@ word_fits : (u : ℕ) → u < 65536 → (word u % 256 ≡ 224 + u / 4096) × (wo
 word_fits u small = (omega (arith, small), omega (arith, small), omega (arith, small), omega (arith, small))
 
 pub three_each : (us ws : List ℕ) → length us ≡ 4 → Each1 (Fits w16) us → ws ≡ map word us → take 12 (woven (digits_l 256 16 (number_l 4294967296 ws))) ≡ triples us
-three_each [] ws long fits is = absurd (omega arith)
-three_each (a ∷ []) ws long fits is = absurd (omega arith)
-three_each (a ∷ b ∷ []) ws long fits is = absurd (omega arith)
-three_each (a ∷ b ∷ c ∷ []) ws long fits is = absurd (omega arith)
 three_each (a ∷ b ∷ c ∷ d ∷ []) ws long fits is =
     let fa = word_fits a fits.0.fits in
     let fb = word_fits b fits.1.0.fits in
@@ -88,4 +74,4 @@ three_each (a ∷ b ∷ c ∷ d ∷ []) ws long fits is =
     let fd = word_fits d fits.1.1.1.0.fits in
     let all = ap (λ l. digits_l 256 16 (number_l 4294967296 l)) is ∙ bytes_of_words 4 (map word (a ∷ b ∷ c ∷ d ∷ [])) refl (fa.3, (fb.3, (fc.3, (fd.3, tt)))) in
     ap (λ bs. take 12 (woven bs)) all ∙ (λ i. fa.0 i ∷ fa.1 i ∷ fa.2 i ∷ fb.0 i ∷ fb.1 i ∷ fb.2 i ∷ fc.0 i ∷ fc.1 i ∷ fc.2 i ∷ fd.0 i ∷ fd.1 i ∷ fd.2 i ∷ [])
-three_each (a ∷ b ∷ c ∷ d ∷ e ∷ us) ws long fits is = absurd (omega arith)
+three_each us ws long fits is = absurd (omega arith)

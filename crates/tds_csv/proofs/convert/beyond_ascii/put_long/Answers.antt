@@ -1,11 +1,10 @@
-use Rattle.tds_csv.proofs.Words.{◌∙◌, ◌≡◌, ◌+◌, ◌-◌, ◌*◌, ◌≤◌, ◌++◌, take, ap, arith, rules, append_assoc, refl, prefix_len-le-length}
+use Rattle.tds_csv.proofs.Words.{common_steps, ◌≡◌, ◌+◌, ◌-◌, ◌*◌, ◌≤◌, arith, rules, append_assoc, refl, prefix_len-le-length}
 use Rattle.tds_csv.specs.Wide.{is_long}
 use Rattle.tds_csv.proofs.WideText.{both_halves, low_half}
 use Rattle.tds_csv.proofs.convert.beyond_ascii.put_long.Goals as goal
 
 pub returns-then-n-le4 : goal.returns-then-n-le4
-returns-then-n-le4 c =
-    c.put_bytes.ensures ∙ ap (λ l. take c.args.at c.args.to.now ++ l) (low_half c.args.n c.args.units c.triples-low.result c.fits-units.0 c.fits-units.1 c.requires.long c.if-n-le4.true c.triples-low.ensures)
+returns-then-n-le4 c = grind (arith, common_steps, low_half)
 
 pub overflow_mul-n-2 : goal.overflow_mul-n-2
 overflow_mul-n-2 c = let most : c.args.n ≤ 8 = omega (arith, c.requires.long, c.fits-units.0, prefix_len-le-length is_long c.args.units) in search (arith, rules)

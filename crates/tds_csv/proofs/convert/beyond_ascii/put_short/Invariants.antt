@@ -4,6 +4,7 @@ use Rattle.tds_csv.proofs.convert.beyond_ascii.put_short.Given as goal
 -- the first units are written
 abbrev pub invariant-loop-i : goal.invariant-loop-i
 invariant-loop-i l = record {
+  few : l.n ≤ 8;
   within : l.i ≤ l.n;
   most : l.made ≤ l.from + 2 * l.i;
   room : l.from + 16 ≤ length l.to;

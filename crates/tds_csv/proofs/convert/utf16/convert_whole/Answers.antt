@@ -23,7 +23,4 @@ pub returns-clause-short : goal.returns-clause-short
 returns-clause-short c = grind (arith, common_steps, doubled_length, two_left, length-drop)
 
 pub returns-clause-text : goal.returns-clause-text
-returns-clause-text c =
-    let done = c.convert-done.ensures in
-    let two = two_left c.args.bytes.now c.convert-done.result.used c.requires.whole done.used c.if-done-bytes.false in
-    c.put_quoted.ensures.written ∙ ap (λ l. l ++ doubled (encode_utf8 65533)) done.text ∙ sym (ended c.args.bytes.now (drop c.convert-done.result.used c.args.bytes.now) c.requires.whole done.used.rest two)
+returns-clause-text c = grind (arith, common_steps, two_left, ended)

@@ -1,4 +1,4 @@
-use Rattle.tds_csv.proofs.Words.{◌≡◌, ◌∙◌, ◌+◌, ◌%◌, ◌≤◌, [], length, drop, ap, arith, common_steps, length-drop, encode_utf8}
+use Rattle.tds_csv.proofs.Words.{◌≡◌, ◌∙◌, [], drop, ap, arith, common_steps, length-drop, encode_utf8}
 use Rattle.tds_csv.specs.Utf16 as utf16
 use Rattle.tds_csv.proofs.{Cuts.added_more, Cuts.stays_cut, Cuts.stays_whole, Utf16Steps.characters_nil, Utf16Steps.nil_of_length}
 use Rattle.tds_csv.proofs.joiners.into_area.utf16_into.Goals as goal
@@ -9,12 +9,7 @@ returns-in-Err c =
     c.in-Err.ensures.err ∙ stays_cut c.loop-at.invariant.added c.character_at-next.result.code _ c.character_at-next.ensures.spells is c.in-Err.ensures.full
 
 pub loop-at-preserved : goal.loop-at-preserved
-loop-at-preserved c =
-    let next = c.character_at-next.ensures in
-    let is : c.bytes.result.now ≡ encode_utf8 c.character_at-next.result.code = grind (arith, common_steps) in
-    let even : c.character_at-next.result.len % 2 ≡ 0 = next.character.even in
-    let within : c.loop-at.at + c.character_at-next.result.len ≤ length c.args.units.now = next.within in
-    record { within = within; even = omega arith; added = added_more c.loop-at.invariant.added c.character_at-next.result.code next.spells is next.character.scalar c.in_default-append.ensures.ok c.in_default-append.ensures.fits }
+loop-at-preserved c = grind (arith, common_steps, added_more)
 
 pub returns : goal.returns
 returns c =
