@@ -22,10 +22,6 @@ cut_before room c out more u fits full =
     let split : room ≡ length out + k = omega arith in
     grind (arith, take-append-add, take-append-le, valid_len-past, part_has_none, take_at)
 
--- all fits
-pub cut_none : (room : ℕ) (out : List ℕ) → IsUtf8 out → length out ≤ room → whole_within room out ≡ out
-cut_none room out u fits = grind (arith, take_all, utf8_valid_len-IsUtf8)
-
 -- The first characters of a text were added to an area, and these are left.
 pub record Added (s to : Space) (text left : List ℕ) : Type 0 where
   pub out : List ℕ
@@ -45,4 +41,4 @@ module _ {s to : Space} {text left : List ℕ} (x : Added s to text left) where
 
   -- all fits
   pub stays_whole : left ≡ [] → to ≡ appended s (whole_within (s.room - length s.bytes) text)
-  stays_whole none = grind (arith, append-nil, cut_none)
+  stays_whole none = grind (arith, append-nil, take_all, utf8_valid_len-IsUtf8)

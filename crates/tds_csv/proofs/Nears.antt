@@ -119,9 +119,6 @@ module _ {S : Type 0} (g : Grammar S Fault) (text : S → List ℕ) where
   grown_leads grows s [] t leads = ([], append-nil (text s) ∙ ap text leads)
   grown_leads grows s (e ∷ es) t leads = grind (arith, append_assoc, grown_leads grows (g.add s e) es t leads.1)
 
-  pub grown_spelt : Grows g text → (s : S) (bytes : List ℕ) (t : S) → Spelt g s bytes t → (more : List ℕ) × (text s ++ more ≡ text t)
-  grown_spelt grows s bytes t spelt = grown_leads grows s spelt.elements t spelt.leads
-
 module _ {S : Type 0} (g : Grammar S Fault) where
   -- what reads some bytes has a next element before them
   pub first_size : (s : S) (bytes : List ℕ) (t : S) → Spelt g s bytes t → 0 < length bytes → 0 < g.size s
@@ -155,7 +152,7 @@ module _ {S T : Type 0} (small : Grammar S Fault) (big : Grammar T Fault) (lift 
   nears_inside from a b h i to tail x some between few end =
       let l : LastInside small small (λ u. u) (inside_itself small) from x.bytes to = last_read small from x.bytes to x.spelt some in
       let begin : 0 < small.size from = first_size small from x.bytes to x.spelt some in
-      let before : (more : List ℕ) × (text from ++ more ≡ text l.at) = grown_spelt small text grows from l.front l.at l.spelt in
+      let before : (more : List ℕ) × (text from ++ more ≡ text l.at) = grown_leads small text grows from l.spelt.elements l.at l.spelt.leads in
       let last : (more : List ℕ) × (text l.at ++ more ≡ text (small.add l.at l.element)) = grows l.at l.element l.next in
       let closed : text l.at ++ last.0 ≡ text to = last.1 ∙ ap text l.to_is in
       let parts : x.puts.0 ≡ before.0 ++ last.0 = append_cancel_left (text from) x.puts.0 (before.0 ++ last.0) (rw (← append_assoc (text from) before.0 last.0, before.1, closed) x.puts.1) in

@@ -8,10 +8,6 @@ use Rattle.tds_csv.specs.declared.convert.windows_1252.TheConstants.{UPPER}
 use Rattle.tds_csv.specs.Windows1252 as windows_1252
 use Rattle.tds_csv.proofs.{Encoding.front_written, SingleLaws.windows_1252-append, Characters.of_one, Characters.doubled_character, Singles.some_itself}
 
--- the text of one byte
-pub text_one : (b : ℕ) → windows_1252.text (b ∷ []) ≡ doubled (encode_utf8 (windows_1252.character b))
-text_one b = ap doubled (append-nil (encode_utf8 (windows_1252.character b)))
-
 -- the bytes of a number, from the lowest on, as many as the highest says
 abbrev pub bytes_of : ℕ → List ℕ
 bytes_of w = take (w / 16777216) ((w % 256) ∷ (w / 256 % 256) ∷ (w / 65536 % 256) ∷ [])
@@ -39,7 +35,7 @@ upper_put b at {w} old new low high is within written =
 
 -- and of one of ASCII
 pub lower_text : (b : ℕ) → b < 128 → windows_1252.text (b ∷ []) ≡ doubled (b ∷ [])
-lower_text b h = text_one b ∙ grind (arith, nat_tests, of_one)
+lower_text b h = grind (arith, nat_tests, of_one, append-nil)
 
 -- a byte of ASCII that isn't a quote
 plain : (b : ℕ) → is_plain b ≡ true → windows_1252.text (b ∷ []) ≡ b ∷ []

@@ -17,13 +17,9 @@ module _ (text : List ℕ → List ℕ) (appends : (x y : List ℕ) → text (x 
         let all : (text (take t xs) ++ text (take (e - t) (drop t xs))) ++ text (drop e xs) ≡ text xs = ap (λ l. l ++ text (drop e xs)) (runs t e xs h) ∙ sym (appends (take e xs) (drop e xs)) ∙ ap text (take-append-drop e xs) in
         subst (λ l. PutsPiece contents a d l r) all (PutsPiece-passed contents a d _ (text (drop e xs)) stop r passed (PutsPiece-trans contents a b d u _ _ (Err stop) p q))
 
-  -- the text so far, with that of n more bytes
-  pub text_more : (run bytes : List ℕ) (at n : ℕ) → run ≡ text (take at bytes) → run ++ text (take n (drop at bytes)) ≡ text (take (at + n) bytes)
-  text_more run bytes at n e = grind (arith, take-add)
-
   -- which were added to it
   pub text_taken : {run after : List ℕ} (bytes : List ℕ) (at n : ℕ) → after ≡ run ++ text (take n (drop at bytes)) → run ≡ text (take at bytes) → after ≡ text (take (at + n) bytes)
-  text_taken {run = run} bytes at n added e = added ∙ text_more run bytes at n e
+  text_taken bytes at n added e = grind (arith, take-add)
 
   -- and that of the next byte
   pub text_next : (run bytes : List ℕ) (at : ℕ) → at < length bytes → run ≡ text (take at bytes) → run ++ text (get_or bytes at 0 ∷ []) ≡ text (take (at + 1) bytes)

@@ -7,14 +7,11 @@ counted-none n h = omega (arith, h)
 pub counted-twice : (n k l : ℕ) → counted (counted n k) l ≡ counted n (k + l)
 counted-twice n k l = omega arith
 
-pub Adds-none : (a : Held) → a.delivered ≤ 2 ^ 64 - 1 → Adds a a [] []
-Adds-none a h = (Appends-nil a.had, append-nil a.waiting, counted-none a.delivered h)
-
 pub Adds-trans : (a b c : Held) (d f p q : List ℕ) → Adds a b d p → Adds b c f q → Adds a c (d ++ f) (p ++ q)
 Adds-trans a b c d f p q x y = grind (arith, append_assoc, counted-twice, length-append, Appends-trans)
 
 pub Puts-none : (a : Held) → a.delivered ≤ 2 ^ 64 - 1 → Puts a a []
-Puts-none a h = ([], 0, Adds-none a h, refl, refl)
+Puts-none a h = ([], 0, (Appends-nil a.had, append-nil a.waiting, counted-none a.delivered h), refl, refl)
 
 pub Puts-trans : (a b c : Held) (p q : List ℕ) → Puts a b p → Puts b c q → Puts a c (p ++ q)
 Puts-trans a b c p q x y = (x.0 ++ y.0, x.1 + y.1, Adds-trans a b c x.0 y.0 p q x.2 y.2, omega (arith, length-append x.0 y.0, x.3, y.3), y.4 ∙ x.4)

@@ -1,5 +1,5 @@
 -- One character after the other of text in UTF-16.
-use Rattle.tds_csv.proofs.Words.{◌≡◌, ◌∙◌, ◌&&◌, ◌+◌, ◌*◌, ◌<◌, ◌≤◌, ◌%◌, ℕ, true, false, List, [], ◌∷◌, ◌++◌, length, map, drop, get_or, refl, ap, arith, encode_utf8_all, unwrap_or, drop_more, and_right, nat_tests, encode_utf8, utf16_lossy_chars, is_high_surrogate, is_low_surrogate, surrogate_pair_char, lone_unit_char, emit, doubled, length-drop, Leads, common_steps, drop-drop, nil_from_length}
+use Rattle.tds_csv.proofs.Words.{◌≡◌, ◌∙◌, ◌&&◌, ◌+◌, ◌*◌, ◌<◌, ◌≤◌, ◌%◌, ℕ, true, false, List, [], ◌∷◌, ◌++◌, length, map, drop, get_or, refl, ap, arith, encode_utf8_all, unwrap_or, drop_more, and_right, nat_tests, encode_utf8, utf16_lossy_chars, is_high_surrogate, is_low_surrogate, surrogate_pair_char, lone_unit_char, emit, doubled, length-drop, nil_from_length}
 use Rattle.std.specs.Char.Utf16.{utf16_chars}
 use Rattle.tds_csv.specs.Utf16.{units, is_high, characters, rest, text}
 use Rattle.tds_csv.proofs.{Utf16Laws.starts_low, Utf16Laws.chars-apart, Utf16Laws.front, Utf16Laws.front_step, Utf16Laws.rest_step, Utf16Laws.emit-front, Utf16Laws.short, JoiningLemmas.doubled-append}
@@ -62,35 +62,24 @@ next_alone low high low' high' bytes h l =
       spells = spells_one low high (low' ∷ high' ∷ bytes) 0xFFFD lone (λ _. l);
     }
 
-low_is_not_high : (u : ℕ) → is_low_surrogate u ≡ true → is_high_surrogate u ≡ false
-low_is_not_high u h = grind (arith, nat_tests)
-
 -- a pair
 pub next_pair : (low high low' high' : ℕ) (bytes : List ℕ) → is_high low high ≡ true → is_low_surrogate (low' + 256 * high') ≡ true
     → IsNext (low ∷ high ∷ low' ∷ high' ∷ bytes) (surrogate_pair_char (low + 256 * high) (low' + 256 * high')) 4
 next_pair low high low' high' bytes h l =
-    let second = low_is_not_high (low' + 256 * high') l in
+    let second : is_high low' high' ≡ false = grind (arith, nat_tests, l) in
     record {
       emits = emits_by (low ∷ high ∷ low' ∷ high' ∷ bytes) bytes (surrogate_pair_char (low + 256 * high) (low' + 256 * high')) (rw (front_step low' high' bytes second) (spells_pair low high low' high' (front bytes) h l));
       keeps = rest_step low' high' bytes second;
       spells = spells_pair low high low' high' bytes h l;
     }
 
--- a character leads on to what follows it
-pub leads_next : (bytes : List ℕ) (at code len : ℕ) → IsNext (drop at bytes) code len → Leads rest text (drop at bytes) (drop (at + len) bytes) (doubled (encode_utf8 code))
-leads_next bytes at code len next = grind (arith, common_steps, drop-drop)
-
 -- whole data of which all is withheld is a high surrogate
 pub spells_held : (xs : List ℕ) → 2 ≤ length xs → length xs % 2 ≡ 0 → rest xs ≡ xs → characters xs ≡ encode_utf8 0xFFFD ++ characters (drop 2 xs)
 unfolding starts_low
 spells_held xs some whole e = grind (arith, short, lone_high, and_right, encode_utf8_all, chars_one)
 
--- what isn't a whole unit stays
-pub held_short : (bytes : List ℕ) → length bytes < 2 → rest bytes ≡ bytes
-held_short bytes h = grind (arith)
-
--- and a high surrogate does before what is no whole unit
-pub held_high : (low high : ℕ) (more : List ℕ) → length more < 2 → is_high low high ≡ true → rest (low ∷ high ∷ more) ≡ low ∷ high ∷ more
+-- a high surrogate stays before what is no whole unit
+held_high : (low high : ℕ) (more : List ℕ) → length more < 2 → is_high low high ≡ true → rest (low ∷ high ∷ more) ≡ low ∷ high ∷ more
 held_high low high more few h = grind (arith)
 
 -- the bytes from a place on, the first ones named

@@ -1,5 +1,5 @@
 -- Pieces of text in UTF-8, one after the other.
-use Rattle.tds_csv.proofs.Words.{common_steps, ◌≡◌, ◌∙◌, ◌↔◌, ℕ, ◌+◌, ◌-◌, ◌<◌, ◌≤◌, List, [], ◌++◌, length, take, drop, inl, inr, Option, Result, Ok, Err, refl, sym, ap, arith, append_assoc, append-nil, length-append, length-drop, length-take-le, cases_lt, take-append-drop, take-take, take-append-le, drop-append-le, take_all, drop-append-add, take-append-add, utf8_valid_len, utf8_valid_len_le, emit, IsErrAnd, err_from_is_err_and, JoinFault, Stopped, Odd, BadText, Sink, Pushes, PushesPiece, TakesPiece, TakesUpTo, is_stopped, Held, held, IsScan, StopsAt}
+use Rattle.tds_csv.proofs.Words.{common_steps, ◌≡◌, ◌∙◌, ◌↔◌, ℕ, ◌+◌, ◌-◌, ◌<◌, ◌≤◌, List, [], ◌++◌, length, take, drop, inl, inr, Option, Result, Ok, Err, refl, sym, ap, arith, append_assoc, append-nil, length-append, length-drop, length-take-le, cases_lt, take-append-drop, take-take, take-append-le, drop-append-le, take_all, drop-append-add, take-append-add, utf8_valid_len, utf8_valid_len_le, emit, IsErrAnd, err_from_is_err_and, JoinFault, Stopped, Odd, BadText, Sink, Pushes, PushesPiece, TakesPiece, TakesUpTo, Held, held, IsScan, StopsAt}
 use Rattle.tds_csv.specs.Utf8.{Begins, rest, text}
 use Rattle.tds_csv.proofs.{Puttings.same_sink_after, Utf8Laws.joins_utf8, Utf8Laws.emits, Utf8Laws.rest-append, Sinks.Puts-trans, Sinks.Breaks-after, Sinks.Breaks-longer}
 
@@ -9,10 +9,6 @@ moved_by n (Err (BadText k)) = Err (BadText (n + k))
 moved_by n (Err (Stopped stop)) = Err (Stopped stop)
 moved_by n (Err Odd) = Err Odd
 moved_by n (Ok v) = Ok v
-
--- which is no other stop
-stopped_after : {V : Type 0} (n : ℕ) (r : Result V JoinFault) → is_stopped (moved_by n r) ≡ is_stopped r
-stopped_after n r = grind (arith)
 
 -- three bytes hold what is withheld
 pub is_scan : (bytes : List ℕ) (whole good : ℕ) → whole ≤ good → good ≤ length bytes → drop whole bytes ≡ rest bytes → (good ≡ length bytes → Begins bytes) → (good < length bytes → StopsAt bytes whole good) → IsScan bytes whole good
@@ -51,9 +47,6 @@ halves kept part more is =
 -- what is withheld begins a text
 pub rest_begins : {new : List ℕ} (bytes : List ℕ) → new ≡ rest bytes → Begins bytes → Begins new
 rest_begins bytes is begun = rw (is, ← append-nil (rest bytes)) (joins_utf8.inward bytes [] (rw append-nil begun))
-
-pub takes_begun : {old new piece : List ℕ} {a b : Held} → TakesPiece Begins rest text old new a b piece → Begins new
-takes_begun {old = old} {piece = piece} x = rest_begins (old ++ piece) x.withheld x.begun
 
 -- what is withheld ends the piece
 kept_ends : (kept part mid : List ℕ) → mid ≡ rest (kept ++ part) → length mid ≤ length part → drop (length part - length mid) part ≡ mid
@@ -123,7 +116,7 @@ module _ {W U V : Type 0} {contents : W → Option (List ℕ)} {a b d : Sink W} 
       rw (← there) (up_to_both x.gives more n (rw here y.gives))
 
   pushes_both : {r : Result V JoinFault} → PushesPiece contents Begins rest text [] new b d (mid ++ more) r → PushesPiece contents Begins rest text kept new a d (part ++ more) (moved_by at r)
-  pushes_both {r = r} y = grind (arith, common_steps, same_sink_after, stopped_after, both_give)
+  pushes_both {r = r} y = grind (arith, common_steps, same_sink_after, both_give)
 
 -- the first three bytes of a piece were taken, and then what was withheld was pushed with the others
 pub pushes_long : {W U V : Type 0} {contents : W → Option (List ℕ)} {a b d : Sink W} {kept mid new : List ℕ} {u : U} {r : Result V JoinFault} (piece held' : List ℕ) → 3 ≤ length piece → held' ≡ mid → length mid ≤ 3

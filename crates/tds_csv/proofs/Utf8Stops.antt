@@ -45,15 +45,12 @@ rest_part r j without le =
     let len = length-take-le j r le in
     rw (valid_len_is (take j r) 0 (omega arith) IsUtf8-nil (λ m some within u. without m some (omega arith) (rw (take-take m j r (omega arith)) at u))) refl
 
-rest_front : (bytes : List ℕ) → rest (front bytes) ≡ []
-rest_front bytes = drop_of_length-le (front bytes) (omega (arith, utf8_valid_len-IsUtf8 (front bytes) (front_is bytes)))
-
 -- a text, and a part of what follows it
 rest_after : (bytes : List ℕ) (j : ℕ) → j ≤ length (rest bytes) → rest (take (utf8_valid_len bytes + j) bytes) ≡ take j (rest bytes)
 rest_after bytes j le =
     let cut : take (utf8_valid_len bytes + j) bytes ≡ front bytes ++ take j (rest bytes) =
     (λ i. take (sym (length-front bytes) i + j) (front-rest bytes i)) ∙ take-append-add (front bytes) (rest bytes) j in
-    ap rest cut ∙ rest-append (front bytes) (take j (rest bytes)) ∙ ap (λ l. rest (l ++ take j (rest bytes))) (rest_front bytes) ∙ rest_part (rest bytes) j (no_text bytes) le
+    ap rest cut ∙ rest-append (front bytes) (take j (rest bytes)) ∙ ap (λ l. rest (l ++ take j (rest bytes))) (drop_of_length-le (front bytes) (omega (arith, utf8_valid_len-IsUtf8 (front bytes) (front_is bytes)))) ∙ rest_part (rest bytes) j (no_text bytes) le
 
 -- where the bytes stop beginning a text, by the fault in their rest
 stops : (bytes : List ℕ) (k : ℕ) → utf8_error_len (rest bytes) ≡ Some k → StopsAt bytes (utf8_valid_len bytes) (utf8_valid_len bytes + cond (is_first (get_or (rest bytes) 0 0)) k 0)

@@ -1,5 +1,5 @@
 -- The text of units that are characters of at most three bytes.
-use Rattle.tds_csv.proofs.Words.{common_steps, le_refl, take_all, ◌-◌, ap₂, take-add, take-take, is_plain, evens, length-chunk, refl, LiesIn, chunk, drop-drop, Bool, Each1, Fits, Leads, List, [], ap, append-nil, append_assoc, arith, cond, doubled, drop, encode_utf8, encode_utf8_all, encodes-append, false, get_or, get_or-map, is_high_surrogate, is_low_surrogate, length, length-take-le, map, nat_tests, prefix_len, prefix_len-le-length, put_mid, suc, sym, take, take-append-add, take-append-drop, take-append-le, take_more, true, w16, zero, ℕ, ◌%◌, ◌*◌, ◌++◌, ◌+◌, ◌/◌, ◌<◌, ◌∙◌, ◌∷◌, ◌≡◌, ◌≤◌}
+use Rattle.tds_csv.proofs.Words.{common_steps, le_refl, take_all, ◌-◌, ap₂, take-add, take-take, is_plain, evens, length-chunk, refl, LiesIn, chunk, drop-drop, Bool, Each1, Fits, Leads, List, [], ap, append-nil, append_assoc, arith, cond, doubled, drop, encode_utf8, encode_utf8_all, encodes-append, false, get_or, get_or-map, is_high_surrogate, is_low_surrogate, length, map, nat_tests, prefix_len, prefix_len-le-length, suc, sym, take, take-append-drop, take_more, true, w16, zero, ℕ, ◌%◌, ◌*◌, ◌++◌, ◌+◌, ◌/◌, ◌<◌, ◌∙◌, ◌∷◌, ◌≡◌, ◌≤◌}
 use Rattle.tds_csv.specs.Utf16.{units, rest, text}
 use Rattle.tds_csv.specs.Utf16Next.{Converts}
 use Rattle.tds_csv.specs.Wide.{is_short, is_long, pair, size, triples}
@@ -23,10 +23,6 @@ plain_single u h = grind (arith, nat_tests, doubled_character)
 -- the bytes of a short character
 pub short_bytes : (u : ℕ) → is_short u ≡ true → take (size u) (pair u % 256 ∷ pair u / 256 ∷ []) ≡ encode_utf8 u
 short_bytes u h = grind (arith, nat_tests, of_one, of_two)
-
--- the first of some bytes that were written to a part
-pub put_front : (at k n : ℕ) (to ys : List ℕ) → n ≤ length ys → at ≤ length to → take (at + n) (put_mid at k to ys) ≡ take at to ++ take n ys
-put_front at k n to ys few within = grind (arith, length-take-le, take-append-add, take-append-le)
 
 -- a lane of units
 pub lane_at : (f : ℕ → ℕ) (us : List ℕ) {lanes : List ℕ} {i : ℕ} → lanes ≡ map f us → length us ≡ 8 → i < 8 → get_or lanes i 0 ≡ f (get_or us i 0)

@@ -10,7 +10,7 @@ pub use Rattle.std.specs.Prelude.{Option, ◌↔◌, if◌then◌else◌, slice_
 pub use Rattle.tds_csv.specs.{Cutting.whole_within, Fields.conversion_of, Fields.field_room, Joining.emit, Joining.JoinsPieces, Joining.settled, Joining.Leads, Spare.held_before, Spare.KeepsPiece, Spare.with_spare, Streaming.BreaksStreaming, Streaming.PutsText, Streaming.Streams, Streaming.StopsStreaming, Utf8Scan.StopsAt, Utf8Scan.IsScan}
 pub use Rattle.tds_csv.specs.Conversion.{Conversion, HexDigits, Utf16Text, Windows1252Text, Utf8Text, BeginsData, conversion_rest, conversion_text, is_fit, is_quoted, long_field, open_field, closing, IsFit, unit, is_begun}
 pub use Rattle.tds_csv.specs.Plain.{digit, LiesIn, first_set, is_plain, evens, is_unquoted}
-pub use Rattle.tds_csv.specs.Pushing.{EndsPieces, PushesPiece, Pushes, TakesPiece, TakesUpTo, is_stopped}
+pub use Rattle.tds_csv.specs.Pushing.{EndsPieces, PushesPiece, Pushes, TakesPiece, TakesUpTo}
 pub use Rattle.tds_csv.specs.Quoting.{quote, doubled, doubled_byte, quoted_field, binary_field, line, after_comma}
 pub use Rattle.tds_csv.specs.Sinks.{Breaks, Held, Puts, PutsPiece, IsWriting, IsOnSameSink, held, Adds, Sends, FinishFails, stop_of, fresh}
 pub use Rattle.tds_csv.specs.declared.{joiners.JoinFault.JoinFault, joiners.JoinFault.TheVariants.Stopped, joiners.JoinFault.TheVariants.Odd, joiners.JoinFault.TheVariants.BadText, sink.Sink.Sink}

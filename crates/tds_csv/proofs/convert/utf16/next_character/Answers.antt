@@ -1,9 +1,9 @@
-use Rattle.tds_csv.proofs.Words.{drop, sym, arith, length-drop}
-use Rattle.tds_csv.proofs.Utf16Steps.{alone_at, held_at, held_short, lone_low, lone_other, one_at, pair_at}
+use Rattle.tds_csv.proofs.Words.{sym, arith, length-drop}
+use Rattle.tds_csv.proofs.Utf16Steps.{alone_at, held_at, lone_low, lone_other, one_at, pair_at}
 use Rattle.tds_csv.proofs.convert.utf16.next_character.Goals as goal
 
 pub returns-then-bytes-at-lt2-clause-gives : goal.returns-then-bytes-at-lt2-clause-gives
-returns-then-bytes-at-lt2-clause-gives c = held_short (drop c.args.at c.args.bytes.now) (omega (arith, length-drop c.args.at c.args.bytes.now))
+returns-then-bytes-at-lt2-clause-gives c = let left = length-drop c.args.at c.args.bytes.now in grind (arith)
 
 pub returns-then-is_low-clause-gives : goal.returns-then-is_low-clause-gives
 returns-then-is_low-clause-gives c = one_at c.args.bytes.now c.args.at (omega arith) c.unit-first.ensures.value (sym c.if-not-is_high.ensures) (lone_low c.unit-first.result (sym c.if-is_low.ensures))

@@ -1,13 +1,13 @@
 use Rattle.tds_csv.proofs.Words.{◌≡◌, ◌∙◌, ◌-◌, [], length, take, drop, refl, arith, rules, length-drop, take_all, TakesUpTo, held}
 use Rattle.tds_csv.specs.Utf8.{Begins, rest, text}
-use Rattle.tds_csv.proofs.{Pushings.pushes_taken, Pushings.pushes_up_to, Utf8Pushing.takes_begun, Utf8Pushing.rest_begins}
+use Rattle.tds_csv.proofs.{Pushings.pushes_taken, Pushings.pushes_up_to, Utf8Pushing.rest_begins}
 use Rattle.tds_csv.proofs.joiners.utf8.Utf8Joiner.take_text.Goals as goal
 
 pub returns-then-scan-bytes : goal.returns-then-scan-bytes
 returns-then-scan-bytes g c =
     let seen = held g.W.Write.contents in
     let taken : TakesUpTo Begins rest text [] c.extend.new.self (seen c.args.sink.now) (seen c.put_whole.new.sink) c.args.bytes.now c.in_ok-scan.scan.good = search rules in
-    pushes_up_to c.in_ok-scan.scan.good c.requires.writing.writing (takes_begun taken.good) taken c.in_ok-scan.ensures.puts
+    pushes_up_to c.in_ok-scan.scan.good c.requires.writing.writing (rest_begins _ taken.good.withheld taken.good.begun) taken c.in_ok-scan.ensures.puts
 
 pub returns : goal.returns
 returns g c =
