@@ -1,5 +1,5 @@
 -- Calls that read by a grammar and put the text of what they read: one after another, and inside a greater grammar.
-use Rattle.tds_csv.proofs.Words.{◌≡◌, ◌∙◌, inl, inr, ℕ, ◌+◌, ◌<◌, Bool, List, ◌++◌, length, sym, ap, subst, arith, append_assoc, Fault, Stop, Grammar, Seen, Takes, Inside, Inside-Spelt, Spelt-append, StopsReading, next_inside, next_some, stops_inside, stops_after, takes_ahead, takes_both, Held, BreaksStreaming, PutsText, StopsStreaming, Streams}
+use Rattle.tds_csv.proofs.Words.{◌≡◌, ◌∙◌, inl, inr, ℕ, ◌+◌, ◌<◌, Bool, List, ◌++◌, length, sym, ap, subst, arith, append_assoc, Fault, Stop, Grammar, Seen, Takes, Inside, Inside-Spelt, Spelt-append, StopsReading, next_inside, next_some, stops_after, takes_ahead, takes_both, Held, BreaksStreaming, PutsText, StopsStreaming, Streams}
 use Rattle.tds_csv.proofs.Sinks.{Puts-trans}
 
 -- a state where a reading stops has a next element
@@ -59,11 +59,7 @@ module _ {S T : Type 0} (small : Grammar S Fault) (big : Grammar T Fault) (lift 
   pub puts_inside : (s t : S) (a b : Held) → PutsText text s t a b → PutsText whole (lift s) (lift t) a b
   puts_inside s t a b x = (x.0, added_inside s t x.0 x.1, x.2)
 
-  -- what is read and put by the small grammar is so by the big one
-  abbrev pub streams_inside : (from : S) (a b : Seen) (h i : Held) (to : S) → Streams small text from a b h i to → Streams big whole (lift from) a b h i (lift to)
-  streams_inside from a b h i to x = record { bytes = x.bytes; spelt = Inside-Spelt small big lift is from x.bytes to x.spelt; takes = x.takes; puts = puts_inside from to h i x.puts }
-
-  -- and so is a write that fails
+  -- a write that fails in the text of the small grammar fails in that of the big one
   abbrev pub breaks_inside : (from : S) (a b : Seen) (h i : Held) (at : S) (stop : Stop) → BreaksStreaming small text from a b h i at stop → BreaksStreaming big whole (lift from) a b h i (lift at) stop
   breaks_inside from a b h i at stop x = record {
     bytes = x.bytes;
@@ -79,15 +75,4 @@ module _ {S T : Type 0} (small : Grammar S Fault) (big : Grammar T Fault) (lift 
     more = x.more;
     text_is = added_inside at (small.add at x.element) x.more x.text_is ∙ ap whole (sym (is.add at x.element (next_some small at x.element x.next)));
     breaks = x.breaks;
-  }
-
-  -- and so does a call that stops, where the ends of the two have the same faults
-  pub streaming_inside : ((s : S) → 0 < small.size s → big.end_fault (lift s) ≡ small.end_fault s) → (from : S) (a b : Seen) (place : ℕ) (h i : Held) (failed : Bool) (stop : Stop) → StopsStreaming small text from a b place h i failed stop
-      → StopsStreaming big whole (lift from) a b place h i failed stop
-  streaming_inside ends from a b place h i failed stop x = record {
-    at = lift x.at;
-    cause = elim x.cause [
-      | inl y ↦ inl (stops_inside small big lift is from a b place x.at stop (ends x.at (stops_size small from a b place x.at stop y.0)) y.0, puts_inside from x.at h i y.1, y.2)
-      | inr y ↦ inr (breaks_inside from a b h i x.at stop y.0, y.1)
-    ];
   }

@@ -3,8 +3,7 @@ use Rattle.tds_csv.proofs.Words.{take, get_or, ◌++◌, ◌≡◌, ◌∙◌, �
 use Rattle.std.specs.Simd.Lanes.{number_l}
 use lib.Lanes.{digits_l}
 use Rattle.tds_csv.proofs.Masks.{run_before, same_prefix}
-use Rattle.tds_csv.specs.Utf16.{units}
-use Rattle.tds_csv.specs.Wide.{triples}
+use Rattle.tds_csv.specs.{Utf16.units, Wide.triples}
 
 -- two functions that are the same on units
 pub same_map : {f g : ℕ → ℕ} → ((u : ℕ) → u < 65536 → f u ≡ g u) → (us : List ℕ) → Each1 (Fits w16) us → map f us ≡ map g us

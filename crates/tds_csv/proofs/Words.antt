@@ -15,7 +15,7 @@ pub use Rattle.tds_csv.specs.Quoting.{quote, doubled, doubled_byte, quoted_field
 pub use Rattle.tds_csv.specs.Sinks.{Breaks, Held, Puts, PutsPiece, IsWriting, IsOnSameSink, held, Adds, Sends, FinishFails, stop_of, fresh}
 pub use Rattle.tds_csv.specs.declared.{joiners.JoinFault.JoinFault, joiners.JoinFault.TheVariants.Stopped, joiners.JoinFault.TheVariants.Odd, joiners.JoinFault.TheVariants.BadText, sink.Sink.Sink}
 pub use Rattle.tds_meter.{proofs.Overwriting.overwritten_all, specs.Counts.counted, specs.Counts.one_more, specs.Lent.overwritten, specs.Space.Space, specs.Space.appended}
-pub use Rattle.tds_packet.proofs.{ElementLaws.Inside, ElementLaws.Inside-Spelt, ElementLaws.Spelt-append, ElementLaws.Spelt-one, ElementLaws.Spelt-none, Futures.Takes-more, Lifts.LastInside, Lifts.last_inside, Lifts.next_inside, Lifts.next_some, Lifts.stops_inside, Steps.takes_both, Steps.stops_after, Steps.takes_ahead}
+pub use Rattle.tds_packet.proofs.{ElementLaws.Inside, ElementLaws.Inside-Spelt, ElementLaws.Spelt-append, ElementLaws.Spelt-one, ElementLaws.Spelt-none, Futures.Takes-more, Lifts.LastInside, Lifts.last_inside, Lifts.next_inside, Lifts.next_some, Steps.takes_both, Steps.stops_after, Steps.takes_ahead}
 pub use Rattle.tds_packet.specs.{Elements.Grammar, Elements.IsNext, Elements.Spelt, Reading.StopsReading, Seen.Seen, Seen.Takes, Seen.IsBetween, declared.fault.Fault.Fault, declared.fault.Stop.Stop}
 pub use borrow.Rule.Slice.PartMut.{put_mid, post_of}
 pub use lib.{Lanes.put_chunk, Lanes.sel_l, Lanes.Each1, Lanes.chunk, Lanes.mask_l, Lanes.top, Seq.drop-drop, Seq.take-add, Utf8.scalar, Utf8.scalar_cases}

@@ -1,5 +1,4 @@
-use Rattle.tds_csv.proofs.Words.{◌∙◌, arith, nat_tests, map-id, sym, zip2_of_maps, splat_is_map, Each2-splat, Each1-all}
-use Rattle.tds_csv.proofs.WideLanes.{same_map, chosen}
+use Rattle.tds_csv.proofs.{Words.{◌∙◌, arith, nat_tests, map-id, sym, zip2_of_maps, splat_is_map, Each2-splat, Each1-all}, WideLanes.{same_map, chosen}}
 use Rattle.tds_csv.proofs.convert.beyond_ascii.pairs.Goals as goal
 
 pub nonzero_div-lead : goal.nonzero_div-lead

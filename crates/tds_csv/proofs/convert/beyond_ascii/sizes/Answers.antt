@@ -1,5 +1,4 @@
-use Rattle.tds_csv.proofs.Words.{◌∙◌, arith, nat_tests, map-id, sym, zip2_of_maps, splat_is_map}
-use Rattle.tds_csv.proofs.WideLanes.{same_map, chosen}
+use Rattle.tds_csv.proofs.{Words.{◌∙◌, arith, nat_tests, map-id, sym, zip2_of_maps, splat_is_map}, WideLanes.{same_map, chosen}}
 use Rattle.tds_csv.proofs.convert.beyond_ascii.sizes.Goals as goal
 
 pub returns : goal.returns

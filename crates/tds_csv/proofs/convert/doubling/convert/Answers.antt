@@ -1,5 +1,4 @@
-use Rattle.tds_csv.proofs.Words.{common_steps, arith, rules, doubled}
-use Rattle.tds_csv.proofs.{JoiningLemmas.doubled-append, Singles.text_next, Singles.text_taken}
+use Rattle.tds_csv.proofs.{Words.{common_steps, arith, rules, doubled}, JoiningLemmas.doubled-append, Singles.text_next, Singles.text_taken}
 use Rattle.tds_csv.proofs.convert.doubling.convert.Goals as goal
 
 pub loop-at-preserved-then-at-bytes : goal.loop-at-preserved-then-at-bytes

@@ -1,5 +1,4 @@
-use Rattle.tds_csv.proofs.Words.{◌∙◌, leb, cond, bit_or, refl, zip2_splat, length-chunk, chunk, is_plain, map-id, splat_is_map, sym, zip2_of_maps}
-use Rattle.tds_csv.proofs.Masks.{run_in}
+use Rattle.tds_csv.proofs.{Words.{◌∙◌, leb, cond, bit_or, refl, zip2_splat, length-chunk, chunk, is_plain, map-id, splat_is_map, sym, zip2_of_maps}, Masks.run_in}
 use Rattle.tds_csv.proofs.convert.lanes.plain_run.Goals as goal
 
 pub returns : goal.returns

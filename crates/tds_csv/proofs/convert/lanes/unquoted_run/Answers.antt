@@ -1,5 +1,4 @@
-use Rattle.tds_csv.proofs.Words.{◌∙◌, refl, zip2_splat, length-chunk, chunk, is_unquoted}
-use Rattle.tds_csv.proofs.Masks.{run_in}
+use Rattle.tds_csv.proofs.{Words.{◌∙◌, refl, zip2_splat, length-chunk, chunk, is_unquoted}, Masks.run_in}
 use Rattle.tds_csv.proofs.convert.lanes.unquoted_run.Goals as goal
 
 pub returns : goal.returns

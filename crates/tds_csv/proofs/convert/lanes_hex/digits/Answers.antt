@@ -1,5 +1,4 @@
-use Rattle.tds_csv.proofs.Words.{refl, arith, w8, SwzOk-from_below}
-use Rattle.tds_csv.proofs.HexLanes.{looked_up}
+use Rattle.tds_csv.proofs.{Words.{refl, arith, w8, SwzOk-from_below}, HexLanes.looked_up}
 use Rattle.tds_csv.proofs.convert.lanes_hex.digits.Goals as goal
 
 pub swizzle : goal.swizzle

@@ -1,5 +1,4 @@
-use Rattle.tds_csv.proofs.Words.{arith}
-use Rattle.tds_csv.proofs.WideLanes.{units_of_bytes}
+use Rattle.tds_csv.proofs.{Words.arith, WideLanes.units_of_bytes}
 use Rattle.tds_csv.proofs.convert.lanes_utf16.units_of.Goals as goal
 
 pub returns : goal.returns

@@ -1,6 +1,5 @@
-use Rattle.tds_csv.proofs.Words.{common_steps, ◌∙◌, ◌++◌, take, drop, sym, ap, arith, length-drop, append-nil}
+use Rattle.tds_csv.proofs.{Words.{common_steps, ◌∙◌, ◌++◌, take, drop, sym, ap, arith, length-drop, append-nil}, Utf16Laws.short, Leading.emit_held, Utf16Steps.text_nil}
 use Rattle.tds_csv.specs.Utf16 as utf16
-use Rattle.tds_csv.proofs.{Utf16Laws.short, Leading.emit_held, Utf16Steps.text_nil}
 use Rattle.tds_csv.proofs.convert.utf16.convert.Goals as goal
 
 pub returns-then-done-plain-clause-text : goal.returns-then-done-plain-clause-text

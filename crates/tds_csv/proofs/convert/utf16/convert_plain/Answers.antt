@@ -1,5 +1,4 @@
-use Rattle.tds_csv.proofs.Words.{arith, rules}
-use Rattle.tds_csv.proofs.WideText.{lies_itself, plain_more}
+use Rattle.tds_csv.proofs.{Words.{arith, rules}, WideText.{lies_itself, plain_more}}
 use Rattle.tds_csv.proofs.convert.utf16.convert_plain.Goals as goal
 
 pub returns-then-n-lt-UNITS-clause-after : goal.returns-then-n-lt-UNITS-clause-after

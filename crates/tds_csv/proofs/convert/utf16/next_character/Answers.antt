@@ -1,5 +1,4 @@
-use Rattle.tds_csv.proofs.Words.{sym, arith, length-drop}
-use Rattle.tds_csv.proofs.Utf16Steps.{alone_at, held_at, lone_low, lone_other, one_at, pair_at}
+use Rattle.tds_csv.proofs.{Words.{sym, arith, length-drop}, Utf16Steps.{alone_at, held_at, lone_low, lone_other, one_at, pair_at}}
 use Rattle.tds_csv.proofs.convert.utf16.next_character.Goals as goal
 
 pub returns-then-bytes-at-lt2-clause-gives : goal.returns-then-bytes-at-lt2-clause-gives

@@ -1,6 +1,5 @@
-use Rattle.tds_csv.proofs.Words.{arith, rules}
+use Rattle.tds_csv.proofs.{Words.{arith, rules}, SingleLaws.windows_1252-append, Singles.text_taken}
 use Rattle.tds_csv.specs.Windows1252 as windows_1252
-use Rattle.tds_csv.proofs.{SingleLaws.windows_1252-append, Singles.text_taken}
 use Rattle.tds_csv.proofs.convert.windows_1252.convert.Goals as goal
 
 pub convert_by_hand-made-requires-clause-before : goal.convert_by_hand-made-requires-clause-before

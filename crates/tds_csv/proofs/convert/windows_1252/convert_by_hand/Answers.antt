@@ -1,5 +1,4 @@
-use Rattle.tds_csv.proofs.Words.{common_steps, arith}
-use Rattle.tds_csv.proofs.{SingleLaws.windows_1252-append, Singles.text_next}
+use Rattle.tds_csv.proofs.{Words.{common_steps, arith}, SingleLaws.windows_1252-append, Singles.text_next}
 use Rattle.tds_csv.proofs.convert.windows_1252.convert_by_hand.Goals as goal
 
 pub loop-at-preserved : goal.loop-at-preserved

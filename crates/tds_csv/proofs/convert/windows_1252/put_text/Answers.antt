@@ -1,5 +1,4 @@
-use Rattle.tds_csv.proofs.Words.{arith, common_steps}
-use Rattle.tds_csv.proofs.PlainText.{lower_text}
+use Rattle.tds_csv.proofs.{Words.{arith, common_steps}, PlainText.lower_text}
 use Rattle.tds_csv.proofs.convert.windows_1252.put_text.Goals as goal
 
 pub returns-else-byte-ge128-clause-written : goal.returns-else-byte-ge128-clause-written

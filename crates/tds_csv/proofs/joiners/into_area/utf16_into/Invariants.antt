@@ -1,6 +1,5 @@
-use Rattle.tds_csv.proofs.Words.{◌≡◌, ◌-◌, ◌%◌, ◌≤◌, length, drop}
+use Rattle.tds_csv.proofs.{Words.{◌≡◌, ◌-◌, ◌%◌, ◌≤◌, length, drop}, Cuts.Added}
 use Rattle.tds_csv.specs.Utf16 as utf16
-use Rattle.tds_csv.proofs.Cuts.{Added}
 use Rattle.tds_csv.proofs.joiners.into_area.utf16_into.Given as goal
 
 -- the characters so far were added

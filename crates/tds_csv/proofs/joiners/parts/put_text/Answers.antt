@@ -1,5 +1,4 @@
-use Rattle.tds_csv.proofs.Words.{arith, rules}
-use Rattle.tds_csv.proofs.Singles.{puts_break, puts_more}
+use Rattle.tds_csv.proofs.{Words.{arith, rules}, Singles.{puts_break, puts_more}}
 use Rattle.tds_csv.proofs.joiners.parts.put_text.Goals as goal
 
 pub returns-in_err-put_chunk : goal.returns-in_err-put_chunk

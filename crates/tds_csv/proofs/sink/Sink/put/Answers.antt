@@ -1,5 +1,4 @@
-use Rattle.tds_csv.proofs.Words.{◌+◌, take_all, arith, rules, refl}
-use Rattle.tds_csv.proofs.Singles.{puts_break, puts_more}
+use Rattle.tds_csv.proofs.{Words.{◌+◌, take_all, arith, rules, refl}, Singles.{puts_break, puts_more}}
 use Rattle.tds_csv.proofs.sink.Sink.put.Goals as goal
 
 pub returns-in_err-push : goal.returns-in_err-push

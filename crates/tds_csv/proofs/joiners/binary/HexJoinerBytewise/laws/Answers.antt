@@ -1,5 +1,4 @@
-use Rattle.tds_csv.proofs.Words.{lower_digits}
-use Rattle.tds_csv.proofs.SingleLaws.{hex-append, hex-nil}
+use Rattle.tds_csv.proofs.{Words.lower_digits, SingleLaws.{hex-append, hex-nil}}
 use Rattle.tds_csv.proofs.joiners.binary.HexJoinerBytewise.laws.Goals as goal
 
 pub returns-clause-appends : goal.returns-clause-appends

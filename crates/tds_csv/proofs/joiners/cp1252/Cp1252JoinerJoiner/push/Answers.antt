@@ -1,5 +1,4 @@
-use Rattle.tds_csv.proofs.Words.{common_steps, arith, take_all}
-use Rattle.tds_csv.proofs.Pushings.{passes, pushes_taken}
+use Rattle.tds_csv.proofs.{Words.{common_steps, arith, take_all}, Pushings.{passes, pushes_taken}}
 use Rattle.tds_csv.proofs.joiners.cp1252.Cp1252JoinerJoiner.push.Goals as goal
 
 pub returns : goal.returns

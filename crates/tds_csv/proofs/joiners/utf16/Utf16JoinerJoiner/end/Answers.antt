@@ -1,5 +1,4 @@
-use Rattle.tds_csv.proofs.Words.{common_steps, arith}
-use Rattle.tds_csv.proofs.Pushings.{passes}
+use Rattle.tds_csv.proofs.{Words.{common_steps, arith}, Pushings.passes}
 use Rattle.tds_csv.proofs.joiners.utf16.Utf16JoinerJoiner.end.Goals as goal
 
 pub returns-then-bytes-eq1 : goal.returns-then-bytes-eq1

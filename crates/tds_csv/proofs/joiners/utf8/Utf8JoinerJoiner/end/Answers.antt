@@ -1,5 +1,4 @@
-use Rattle.tds_csv.proofs.Words.{[], ap, rules, IsUtf8-nil, doubled}
-use Rattle.tds_csv.proofs.{Pushings.ends_whole, Pushings.passes}
+use Rattle.tds_csv.proofs.{Words.{[], ap, rules, IsUtf8-nil, doubled}, Pushings.ends_whole, Pushings.passes}
 use Rattle.tds_csv.proofs.joiners.utf8.Utf8JoinerJoiner.end.Goals as goal
 
 pub returns : goal.returns
