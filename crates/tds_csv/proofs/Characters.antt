@@ -25,7 +25,3 @@ doubled_character c ne = grind (arith, cases_lt, of_one, of_two, of_three, of_fo
 -- how long a character is, with a quote doubled
 pub doubled_length : (c : ℕ) → (length (doubled (encode_utf8 c)) ≤ 4) × (c < 65536 → length (doubled (encode_utf8 c)) ≤ 3)
 doubled_length c = grind (arith, cases_eq, of_one, doubled_character, cases_lt, of_two, of_three, of_four)
-
--- one byte that isn't a quote
-pub doubled_one : (b : ℕ) → b ≢ 34 → doubled (b ∷ []) ≡ b ∷ []
-doubled_one b ne = grind (arith, nat_tests)

@@ -37,11 +37,7 @@ upper_put b at {w} old new low high is within written =
 pub lower_text : (b : ℕ) → b < 128 → windows_1252.text (b ∷ []) ≡ doubled (b ∷ [])
 lower_text b h = grind (arith, nat_tests, of_one, append-nil)
 
--- a byte of ASCII that isn't a quote
-plain : (b : ℕ) → is_plain b ≡ true → windows_1252.text (b ∷ []) ≡ b ∷ []
-plain b h = grind (arith, encode_utf8_all, append-nil, doubled_character, of_one, nat_tests)
-
 -- some of the bytes that were found among the next 16 of a source
 pub plain_lanes : (source bytes : List ℕ) (at n : ℕ) → n ≤ 16 → n ≤ prefix_len is_plain (chunk at 16 source) → take n (drop at bytes) ≡ take n (chunk at 16 source) → take n (chunk at 16 source) ≡ windows_1252.text (take n (drop at bytes))
 plain_lanes source bytes at n few plains same =
-    sym (some_itself windows_1252.text windows_1252-append is_plain refl plain n (chunk at 16 source) plains) ∙ ap windows_1252.text (sym same)
+    sym (some_itself windows_1252.text windows_1252-append is_plain refl (λ b h. grind (arith, encode_utf8_all, append-nil, doubled_character, of_one, nat_tests)) n (chunk at 16 source) plains) ∙ ap windows_1252.text (sym same)

@@ -1,9 +1,6 @@
 -- Calls that put texts, one after another.
-use Rattle.tds_csv.proofs.Words.{common_steps, arith, ◌≡◌, ◌∙◌, ℕ, List, [], ◌++◌, Option, Result, Ok, Err, IsErrAnd, err_from_is_err_and, Stop, Sink, IsWriting, IsOnSameSink, PutsPiece, held}
+use Rattle.tds_csv.proofs.Words.{common_steps, arith, ◌≡◌, ℕ, List, [], ◌++◌, Option, Result, Ok, Err, IsErrAnd, err_from_is_err_and, Stop, Sink, IsWriting, PutsPiece, held}
 use Rattle.tds_csv.proofs.Sinks.{Breaks-after, Breaks-longer, Puts-none, Puts-trans}
-
-pub same_sink_after : {W : Type 0} (a b c : Sink W) → IsOnSameSink a b → IsOnSameSink b c → IsOnSameSink a c
-same_sink_after a b c x y = (y.0 ∙ x.0, y.1 ∙ x.1, y.2 ∙ x.2)
 
 -- nothing is put
 pub PutsPiece-none : {W U : Type 0} (contents : W → Option (List ℕ)) (a : Sink W) (u : U) → IsWriting a → PutsPiece contents a a [] (Ok u)
@@ -13,10 +10,10 @@ PutsPiece-none contents a u going = let puts = Puts-none (held contents a) going
 pub PutsPiece-trans : {W U V : Type 0} (contents : W → Option (List ℕ)) (a b c : Sink W) (u : U) (p q : List ℕ) (r : Result V Stop) → PutsPiece contents a b p (Ok u) → PutsPiece contents b c q r → PutsPiece contents a c (p ++ q) r
 PutsPiece-trans contents a b c u p q (Ok v) x y =
     let puts = Puts-trans (held contents a) (held contents b) (held contents c) p q x.gives y.gives in
-    grind (arith, common_steps, same_sink_after)
+    grind (arith, common_steps)
 PutsPiece-trans contents a b c u p q (Err e) x y =
     let breaks = Breaks-after (held contents a) (held contents b) (held contents c) p q e x.gives (y.gives x.failed) in
-    grind (arith, common_steps, same_sink_after)
+    grind (arith, common_steps)
 
 -- the value of a success says nothing
 pub PutsPiece-ok : {W U V : Type 0} (contents : W → Option (List ℕ)) (a b : Sink W) (p : List ℕ) (u : U) (v : V) → PutsPiece contents a b p (Ok u) → PutsPiece contents a b p (Ok v)

@@ -1,7 +1,7 @@
 -- Pieces of text in UTF-8, one after the other.
 use Rattle.tds_csv.proofs.Words.{common_steps, ◌≡◌, ◌∙◌, ◌↔◌, ℕ, ◌+◌, ◌-◌, ◌<◌, ◌≤◌, List, [], ◌++◌, length, take, drop, inl, inr, Option, Result, Ok, Err, refl, sym, ap, arith, append_assoc, append-nil, length-append, length-drop, length-take-le, cases_lt, take-append-drop, take-take, take-append-le, drop-append-le, take_all, drop-append-add, take-append-add, utf8_valid_len, utf8_valid_len_le, emit, IsErrAnd, err_from_is_err_and, JoinFault, Stopped, Odd, BadText, Sink, Pushes, PushesPiece, TakesPiece, TakesUpTo, Held, held, IsScan, StopsAt}
 use Rattle.tds_csv.specs.Utf8.{Begins, rest, text}
-use Rattle.tds_csv.proofs.{Puttings.same_sink_after, Utf8Laws.joins_utf8, Utf8Laws.emits, Utf8Laws.rest-append, Sinks.Puts-trans, Sinks.Breaks-after, Sinks.Breaks-longer}
+use Rattle.tds_csv.proofs.{Utf8Laws.joins_utf8, Utf8Laws.emits, Utf8Laws.rest-append, Sinks.Puts-trans, Sinks.Breaks-after, Sinks.Breaks-longer}
 
 -- the answer of a push, by where its piece begins in another one
 abbrev pub moved_by : {V : Type 0} → ℕ → Result V JoinFault → Result V JoinFault
@@ -116,7 +116,7 @@ module _ {W U V : Type 0} {contents : W → Option (List ℕ)} {a b d : Sink W} 
       rw (← there) (up_to_both x.gives more n (rw here y.gives))
 
   pushes_both : {r : Result V JoinFault} → PushesPiece contents Begins rest text [] new b d (mid ++ more) r → PushesPiece contents Begins rest text kept new a d (part ++ more) (moved_by at r)
-  pushes_both {r = r} y = grind (arith, common_steps, same_sink_after, both_give)
+  pushes_both {r = r} y = grind (arith, common_steps, both_give)
 
 -- the first three bytes of a piece were taken, and then what was withheld was pushed with the others
 pub pushes_long : {W U V : Type 0} {contents : W → Option (List ℕ)} {a b d : Sink W} {kept mid new : List ℕ} {u : U} {r : Result V JoinFault} (piece held' : List ℕ) → 3 ≤ length piece → held' ≡ mid → length mid ≤ 3

@@ -1,8 +1,8 @@
 -- The first byte with which bytes stop beginning a text, from what std says of them.
-use Rattle.tds_csv.proofs.Words.{common_steps, ◌≡◌, ◌∙◌, ℕ, ◌+◌, ◌<◌, ◌≤◌, Bool, true, false, cond, nat_lt, nat_eq, List, [], ◌∷◌, ◌++◌, length, get_or, take, drop, Some, None, sym, ap, arith, length-drop, length-take-le, nat_tests, drop_of_length-le, utf8_valid_len-IsUtf8, is_in_range, utf8_valid_len, second_byte_min, second_byte_max, utf8_valid_len_le, take-take, emit, StopsAt, take-append-add, IsUtf8-nil, refl}
+use Rattle.tds_csv.proofs.Words.{common_steps, ◌≡◌, ◌∙◌, ℕ, ◌+◌, ◌<◌, ◌≤◌, Bool, true, false, cond, nat_lt, nat_eq, List, [], ◌∷◌, ◌++◌, length, get_or, take, drop, Some, None, sym, ap, arith, length-drop, length-take-le, nat_tests, drop_of_length-le, utf8_valid_len-IsUtf8, is_in_range, utf8_valid_len, second_byte_min, second_byte_max, utf8_valid_len_le, take-take, StopsAt, take-append-add, IsUtf8-nil, refl}
 use Rattle.std.specs.Str.Lossy.{utf8_error_len}
 use Rattle.tds_csv.proofs.{JoiningLemmas.settled_front, Utf8Laws.front, Utf8Laws.front_is, Utf8Laws.front-rest, Utf8Laws.length-front, Utf8Laws.rest-append, Utf8Laws.emit-front, Utf8Laws.NoText, Utf8Laws.no_text, Utf8Test.begins_none, Utf8Test.none_begins, Utf8Laws.valid_len_is}
-use Rattle.tds_csv.specs.Utf8.{rest, text}
+use Rattle.tds_csv.specs.Utf8.{rest}
 
 abbrev is_first : ℕ → Bool
 is_first x = is_in_range 0xC2 0xF4 x
@@ -66,6 +66,3 @@ stops bytes k e =
 
 pub stops_at : (bytes : List ℕ) (whole k : ℕ) → whole ≡ utf8_valid_len bytes → utf8_error_len (drop whole bytes) ≡ Some k → StopsAt bytes whole (whole + cond (is_first (get_or (drop whole bytes) 0 0)) k 0)
 stops_at bytes whole k is e = rw is (stops bytes k (rw is at e))
-
-pub emit_take : (bytes : List ℕ) (n : ℕ) → n ≡ utf8_valid_len bytes → emit rest text bytes ≡ text (take n bytes)
-emit_take bytes n is = grind (arith, length-drop, utf8_valid_len_le)

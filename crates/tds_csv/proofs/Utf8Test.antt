@@ -70,11 +70,6 @@ two_complete : (a b : ℕ) → 194 ≤ a → a ≤ 244 → second_byte_min a ≤
 unfolding Completes
 two_complete a b l h lo hi none = let x = three_complete a b 128 (more_than_two a b [] l lo hi none) h lo hi (omega arith) (omega arith) in (128 ∷ x.0, x.1)
 
--- four bytes hold a whole character or a fault
-long_some : (bs : List ℕ) → 4 ≤ length bs → utf8_error_len bs ≡ None → ⊥
-unfolding utf8_error_len
-long_some bs h e = grind (arith, nat_tests)
-
 -- what std finds no fault in can be completed
 completes : (r : List ℕ) → NoText r → utf8_error_len r ≡ None → Completes r
 unfolding Completes utf8_error_len
@@ -82,7 +77,7 @@ completes [] none e = ([], IsUtf8-nil)
 completes (a ∷ []) none e = grind (arith, one_completes, nat_tests)
 completes (a ∷ b ∷ []) none e = grind (arith, two_complete, nat_tests)
 completes (a ∷ b ∷ d ∷ []) none e = grind (arith, three_complete, more_than_two, nat_tests)
-completes (a ∷ b ∷ d ∷ w ∷ r) none e = absurd (long_some (a ∷ b ∷ d ∷ w ∷ r) (omega arith) e)
+completes (a ∷ b ∷ d ∷ w ∷ r) none e = grind (arith, nat_tests)
 
 -- where std finds no fault in the rest, some text begins so
 pub none_begins : (bytes : List ℕ) → utf8_error_len (rest bytes) ≡ None → Begins bytes

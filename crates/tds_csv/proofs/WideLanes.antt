@@ -26,13 +26,7 @@ units_before q f us long fits lanes same = run_before 15 8 f us long (omega arit
 -- two bytes are a lane
 pub units_of_bytes : (n : ℕ) (xs : List ℕ) → length xs ≡ 2 * n → Each1 (Fits w8) xs → digits_l 65536 n (number_l 256 xs) ≡ units xs
 units_of_bytes zero [] long fits = refl
-units_of_bytes (suc n) (low ∷ high ∷ xs) long fits =
-    let m = number_l 256 xs in
-    let small = fits.0.fits in
-    let smaller = fits.1.0.fits in
-    let first : (low + 256 * (high + 256 * m)) % 65536 ≡ low + 256 * high = omega (arith, small, smaller) in
-    let others : (low + 256 * (high + 256 * m)) / 65536 ≡ m = omega (arith, small, smaller) in
-    rw (first, others) (ap (λ l. (low + 256 * high) ∷ l) (units_of_bytes n xs (omega arith) fits.1.1))
+units_of_bytes (suc n) (low ∷ high ∷ xs) long fits = let more = units_of_bytes n xs (omega arith) fits.1.1 in grind (arith, fits.0.fits, fits.1.0.fits)
 units_of_bytes n xs long fits = absurd (omega arith)
 
 -- a long character's bytes as a number, low byte first
@@ -47,15 +41,10 @@ bytes_of (x ∷ xs) = (x % 256) ∷ (x / 256 % 256) ∷ (x / 256 / 256 % 256) �
 bytes_of_words : (n : ℕ) (xs : List ℕ) → length xs ≡ n → Each1 (λ x. x < 4294967296) xs → digits_l 256 (4 * n) (number_l 4294967296 xs) ≡ bytes_of xs
 bytes_of_words zero [] long fits = refl
 bytes_of_words (suc n) (x ∷ xs) long fits =
-    let m = number_l 4294967296 xs in
     let four : 4 * suc n ≡ suc (suc (suc (suc (4 * n)))) = omega arith in
     let small = fits.0 in
-    let a : (x + 4294967296 * m) % 256 ≡ x % 256 = omega arith in
-    let b : (x + 4294967296 * m) / 256 % 256 ≡ x / 256 % 256 = omega arith in
-    let c : (x + 4294967296 * m) / 256 / 256 % 256 ≡ x / 256 / 256 % 256 = omega arith in
-    let d : (x + 4294967296 * m) / 256 / 256 / 256 % 256 ≡ x / 256 / 256 / 256 % 256 = omega arith in
-    let rest : (x + 4294967296 * m) / 256 / 256 / 256 / 256 ≡ m = omega (arith, small) in
-    rw (four, a, b, c, d, rest, bytes_of_words n xs (omega (arith, long)) fits.1) refl
+    let more = bytes_of_words n xs (omega (arith, long)) fits.1 in
+    rw four (grind (arith, small))
 bytes_of_words n xs long fits = absurd (omega arith)
 
 -- of each four the first three, and then the last

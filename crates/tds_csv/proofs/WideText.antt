@@ -1,5 +1,5 @@
 -- The text of units that are characters of at most three bytes.
-use Rattle.tds_csv.proofs.Words.{common_steps, le_refl, take_all, ◌-◌, ap₂, take-add, take-take, is_plain, evens, length-chunk, refl, LiesIn, chunk, drop-drop, Bool, Each1, Fits, Leads, List, [], ap, append-nil, append_assoc, arith, cond, doubled, drop, encode_utf8, encode_utf8_all, encodes-append, false, get_or, get_or-map, is_high_surrogate, is_low_surrogate, length, map, nat_tests, prefix_len, prefix_len-le-length, suc, sym, take, take-append-drop, take_more, true, w16, zero, ℕ, ◌%◌, ◌*◌, ◌++◌, ◌+◌, ◌/◌, ◌<◌, ◌∙◌, ◌∷◌, ◌≡◌, ◌≤◌}
+use Rattle.tds_csv.proofs.Words.{common_steps, le_refl, take_all, ◌-◌, take-add, take-take, is_plain, evens, length-chunk, refl, LiesIn, chunk, drop-drop, Bool, Each1, Fits, Leads, List, [], ap, append-nil, append_assoc, arith, cond, doubled, drop, encode_utf8, encode_utf8_all, encodes-append, false, get_or, get_or-map, is_high_surrogate, is_low_surrogate, length, map, nat_tests, prefix_len, prefix_len-le-length, suc, sym, take, take-append-drop, take_more, true, w16, zero, ℕ, ◌%◌, ◌*◌, ◌++◌, ◌+◌, ◌/◌, ◌<◌, ◌∙◌, ◌∷◌, ◌≡◌, ◌≤◌}
 use Rattle.tds_csv.specs.{Utf16.{units, rest, text}, Utf16Next.Converts, Wide.{is_short, is_long, pair, size, triples}}
 use Rattle.tds_csv.proofs.{Encoding.front_written, Singles.some_itself, Masks.alike, Characters.of_one, Characters.of_two, Characters.of_three, Characters.doubled_character, Leading.Leads-none, Leading.Leads-trans, Utf16Steps.next_one, Utf16Steps.lone_other}
 
@@ -47,8 +47,7 @@ long_text zero us few fits = refl
 long_text (suc n) (u ∷ us) few fits =
     let h = first_holds (is_long u) n (prefix_len is_long us) few in
     let three : suc (suc (suc (3 * n))) ≡ 3 * suc n = omega arith in
-    let one : encode_utf8 u ≡ (224 + u / 4096) ∷ (128 + u / 64 % 64) ∷ (128 + u % 64) ∷ [] = grind (arith, nat_tests, of_three, fits.0.fits, h.0) in
-    rw (← three, one) (ap (λ l. (224 + u / 4096) ∷ (128 + u / 64 % 64) ∷ (128 + u % 64) ∷ l) (long_text n us h.1 fits.1))
+    rw (← three) (grind (arith, nat_tests, of_three, fits.0.fits, h.0, long_text n us h.1 fits.1))
 long_text n us few fits = absurd (omega arith)
 
 -- four units from a place on, of a vector that is joined with itself
@@ -81,8 +80,7 @@ pub low_units : (n : ℕ) (ys : List ℕ) → n ≤ prefix_len is_plain (units y
 low_units zero ys few = refl
 low_units (suc n) (low ∷ high ∷ ys) few =
     let h = first_holds (is_plain (low + 256 * high)) n (prefix_len is_plain (units ys)) few in
-    let same : low ≡ low + 256 * high = grind (arith, nat_tests, h.0) in
-    ap₂ (λ x xs. x ∷ xs) same (low_units n ys h.1)
+    grind (arith, nat_tests, low_units n ys h.1)
 low_units n ys few = absurd (omega arith)
 
 length-units : (xs : List ℕ) → length (units xs) ≡ length xs / 2

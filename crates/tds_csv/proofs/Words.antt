@@ -12,7 +12,7 @@ pub use Rattle.tds_csv.specs.Conversion.{Conversion, HexDigits, Utf16Text, Windo
 pub use Rattle.tds_csv.specs.Plain.{digit, LiesIn, first_set, is_plain, evens, is_unquoted}
 pub use Rattle.tds_csv.specs.Pushing.{EndsPieces, PushesPiece, Pushes, TakesPiece, TakesUpTo}
 pub use Rattle.tds_csv.specs.Quoting.{quote, doubled, doubled_byte, quoted_field, binary_field, line, after_comma}
-pub use Rattle.tds_csv.specs.Sinks.{Breaks, Held, Puts, PutsPiece, IsWriting, IsOnSameSink, held, Adds, Sends, FinishFails, stop_of, fresh}
+pub use Rattle.tds_csv.specs.Sinks.{Breaks, Held, Puts, PutsPiece, IsWriting, held, Adds, Sends, FinishFails, stop_of, fresh}
 pub use Rattle.tds_csv.specs.declared.{joiners.JoinFault.JoinFault, joiners.JoinFault.TheVariants.Stopped, joiners.JoinFault.TheVariants.Odd, joiners.JoinFault.TheVariants.BadText, sink.Sink.Sink}
 pub use Rattle.tds_meter.{proofs.Overwriting.overwritten_all, specs.Counts.counted, specs.Counts.one_more, specs.Lent.overwritten, specs.Space.Space, specs.Space.appended}
 pub use Rattle.tds_packet.proofs.{ElementLaws.Inside, ElementLaws.Inside-Spelt, ElementLaws.Spelt-append, ElementLaws.Spelt-one, ElementLaws.Spelt-none, Futures.Takes-more, Lifts.LastInside, Lifts.last_inside, Lifts.next_inside, Lifts.next_some, Steps.takes_both, Steps.stops_after, Steps.takes_ahead}

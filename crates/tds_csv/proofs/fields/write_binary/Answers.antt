@@ -1,13 +1,9 @@
-use Rattle.tds_csv.proofs.Words.{common_steps, ◌≡◌, ℕ, ◌+◌, ◌≤◌, List, [], ◌∷◌, length, take, refl, arith, slice_set, take-append-le, take_all, take-append-add, put_mid, post_of}
+use Rattle.tds_csv.proofs.Words.{common_steps, ◌≡◌, ℕ, ◌≤◌, List, [], ◌∷◌, length, take, refl, arith, slice_set, take-append-le, take_all, take-append-add, post_of}
 use Rattle.tds_csv.proofs.fields.write_binary.Goals as goal
 
 marked : (to : List ℕ) → 2 ≤ length to → take 2 (slice_set (slice_set to 0 48) 1 120) ≡ 48 ∷ 120 ∷ []
 marked (a ∷ b ∷ to) h = refl
 marked to h = absurd (omega arith)
 
--- the digits stand after the mark
-after_mark : (to digits : List ℕ) (n m : ℕ) → 2 ≤ length to → length digits ≡ n → take (2 + n) (put_mid 2 m (slice_set (slice_set to 0 48) 1 120) digits) ≡ 48 ∷ 120 ∷ digits
-after_mark to digits n m some whole = grind (arith, common_steps, post_of, marked, take-append-add, take-append-le, take_all)
-
 pub returns-clause-field : goal.returns-clause-field
-returns-clause-field c = grind (arith, common_steps, after_mark)
+returns-clause-field c = grind (arith, common_steps, post_of, marked, take-append-add, take-append-le, take_all)

@@ -1,17 +1,12 @@
-use Rattle.tds_csv.proofs.Words.{common_steps, ◌≡◌, ◌+◌, ◌*◌, ◌-◌, ◌≤◌, ◌++◌, ℕ, List, length, take, drop, arith, append_assoc, length-drop, take-append-drop, length-put_chunk, take_more_put_chunk, append-nil, take_all, put_mid, post_of, put_chunk, chunk, take-add, encode_lower, lower_digits, refl}
+use Rattle.tds_csv.proofs.Words.{common_steps, ◌≡◌, ◌*◌, ◌-◌, ◌≤◌, ℕ, List, length, take, drop, arith, append_assoc, length-drop, take-append-drop, length-put_chunk, take_more_put_chunk, append-nil, take_all, put_mid, post_of, put_chunk, chunk, take-add, encode_lower, lower_digits, refl}
 use Rattle.tds_csv.proofs.{Utf16Steps.nil_of_length, SingleLaws.hex-append, SingleLaws.hex-nil}
 use Rattle.tds_csv.proofs.convert.lanes_hex.encode.Goals as goal
 
 pub loop-at-init : goal.loop-at-init
 loop-at-init c = grind (arith, common_steps, hex-nil)
 
--- two vectors were stored one after the other
-stored : (i m : ℕ) (to first second : List ℕ) → length first ≡ 16 → length second ≡ 16 → m ≡ i + 32 → m ≤ length to
-    → take m (put_chunk (i + 16) (put_chunk i to first) second) ≡ take i to ++ (first ++ second)
-stored i m to first second a b e room = grind (arith, common_steps, take_more_put_chunk, put_chunk, length-put_chunk, append_assoc)
-
 pub loop-at-preserved : goal.loop-at-preserved
-loop-at-preserved c = grind (arith, common_steps, length-put_chunk, put_chunk, stored, hex-append, chunk, take-add)
+loop-at-preserved c = grind (arith, common_steps, length-put_chunk, put_chunk, take_more_put_chunk, append_assoc, hex-append, chunk, take-add)
 
 -- the digits of the other bytes were written after them
 ended : (bytes to new : List ℕ) (at : ℕ) → at ≤ length bytes → length to ≡ 2 * length bytes → take (2 * at) to ≡ encode_lower (take at bytes) → new ≡ encode_lower (take (length bytes - at) (drop at bytes)) → put_mid (2 * at) (length to - 2 * at) to new ≡ encode_lower bytes

@@ -1,9 +1,9 @@
-use Rattle.tds_csv.proofs.Words.{common_steps, ◌≡◌, ◌∙◌, ◌+◌, ℕ, List, cond, length, drop, get_or, Some, sym, ap, subst, arith, get_or-drop, utf8_valid_len-IsUtf8, is_in_range, utf8_error_len, utf8_valid_len, StopsAt}
-use Rattle.tds_csv.proofs.{Utf8Pushing.is_scan, Utf8Test.none_begins, Utf8Stops.emit_take, Utf8Stops.stops_at}
+use Rattle.tds_csv.proofs.Words.{length-drop, common_steps, ◌≡◌, ◌∙◌, ◌+◌, ℕ, List, cond, drop, get_or, Some, sym, ap, subst, arith, get_or-drop, utf8_valid_len-IsUtf8, is_in_range, utf8_error_len, utf8_valid_len, StopsAt}
+use Rattle.tds_csv.proofs.{Utf8Pushing.is_scan, Utf8Test.none_begins, Utf8Stops.stops_at}
 use Rattle.tds_csv.proofs.convert.utf8.scan_text.Goals as goal
 
 pub returns-in-Ok-clause-text : goal.returns-in-Ok-clause-text
-returns-in-Ok-clause-text c = emit_take c.args.bytes.now (length c.args.bytes.now) (sym (utf8_valid_len-IsUtf8 c.args.bytes.now c.in-Ok.ensures.cases.1))
+returns-in-Ok-clause-text c = grind (arith, common_steps, length-drop, utf8_valid_len-IsUtf8)
 
 pub returns-in-Ok-clause-scan : goal.returns-in-Ok-clause-scan
 returns-in-Ok-clause-scan c = grind (arith, common_steps, is_scan, utf8_valid_len-IsUtf8)
