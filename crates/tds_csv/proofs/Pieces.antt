@@ -1,7 +1,7 @@
 -- A piece that was lent is many elements: where a write of their text fails, it fails in that of one of them.
-use Rattle.tds_csv.proofs.Words.{common_steps, ◌≡◌, inl, inr, ℕ, ◌-◌, ◌^◌, ◌<◌, ◌≤◌, List, [], ◌∷◌, ◌++◌, length, sym, subst, arith, append_assoc, append-nil, length-append, concat, append_cancel_left, Fault, Stop, Grammar, IsNext, Spelt, Seen, Takes, IsBetween, Spelt-append, Spelt-none, Spelt-one, Takes-more, Held, Breaks, BreaksStreaming, PutsText}
+use Rattle.tds_csv.proofs.Words.{length-take, common_steps, ◌≡◌, inl, inr, ℕ, ◌-◌, ◌^◌, ◌<◌, ◌≤◌, List, [], ◌∷◌, ◌++◌, length, sym, subst, arith, append_assoc, append-nil, length-append, concat, append_cancel_left, Fault, Stop, Grammar, IsNext, Spelt, Seen, Takes, IsBetween, Spelt-append, Spelt-none, Spelt-one, Takes-more, Held, Breaks, BreaksStreaming, PutsText}
 use Rattle.tds_packet.specs.Elements.{Leads}
-use Rattle.tds_csv.proofs.{Sinks.Puts-none, Streams.puts_both, Splits.Breaks_none, Splits.Breaks_split, Nears.Grows, Nears.grown_leads}
+use Rattle.tds_csv.proofs.{Sinks.Puts-none, Streams.puts_both, Splits.Breaks_split, Nears.Grows, Nears.grown_leads}
 
 module _ {S : Type 0} (g : Grammar S Fault) (text : S → List ℕ) (grows : Grows g text) (s : S) (a b : Seen) (h j : Held) (stop : Stop) (between : IsBetween b) where
   -- a write failed in the text of this element, and so much of the piece lies ahead
@@ -26,7 +26,7 @@ module _ {S : Type 0} (g : Grammar S Fault) (text : S → List ℕ) (grows : Gro
   -- the elements from a state on, before which all was put
   breaks_from : (at t : S) (es : List (List ℕ)) (bytes rest : List ℕ) (m : Held) (added : List ℕ) → Spelt g s bytes at → Leads g at es t → Takes a b ((bytes ++ concat es) ++ rest) 1 → PutsText text s at h m → length m.waiting < 4096 → text at ++ added ≡ text t → Breaks m j added stop
       → (to : S) × BreaksStreaming g text s a b h j to stop
-  breaks_from at t [] bytes rest m added spelt leads takes puts few text_is breaks = grind (arith, common_steps, append_cancel_left, append-nil, Breaks_none)
+  breaks_from at t [] bytes rest m added spelt leads takes puts few text_is breaks = grind (arith, common_steps, append_cancel_left, append-nil, length-append, length-take)
   breaks_from at t (e ∷ es) bytes rest m added spelt leads takes puts few text_is breaks =
       let next : IsNext g at e = leads.0 in
       let more : (x : List ℕ) × (text at ++ x ≡ text (g.add at e)) = grows at e next in

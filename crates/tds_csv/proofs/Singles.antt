@@ -1,5 +1,5 @@
 -- Data whose bytes each stand alone, put a run after the other.
-use Rattle.tds_csv.proofs.Words.{◌≡◌, ◌∙◌, ◌+◌, ◌<◌, ◌≤◌, ℕ, zero, suc, ◌-◌, Bool, true, false, cond, List, [], ◌∷◌, ◌++◌, length, get_or, take, drop, Option, Result, Ok, Err, refl, sym, ap, subst, arith, prefix_len, IsErrAnd, take-append-drop, take-take, take_more, take-add, chunk, Stop, Sink, PutsPiece}
+use Rattle.tds_csv.proofs.Words.{◌≡◌, ◌∙◌, ◌+◌, ◌≤◌, ℕ, zero, suc, ◌-◌, Bool, true, false, cond, List, [], ◌∷◌, ◌++◌, take, drop, Option, Result, Ok, Err, refl, sym, ap, subst, arith, prefix_len, IsErrAnd, take-append-drop, take-take, take-add, chunk, Stop, Sink, PutsPiece}
 use Rattle.tds_csv.proofs.Puttings.{PutsPiece-passed, PutsPiece-trans}
 
 module _ (text : List ℕ → List ℕ) (appends : (x y : List ℕ) → text (x ++ y) ≡ text x ++ text y) where
@@ -20,10 +20,6 @@ module _ (text : List ℕ → List ℕ) (appends : (x y : List ℕ) → text (x 
   -- which were added to it
   pub text_taken : {run after : List ℕ} (bytes : List ℕ) (at n : ℕ) → after ≡ run ++ text (take n (drop at bytes)) → run ≡ text (take at bytes) → after ≡ text (take (at + n) bytes)
   text_taken bytes at n added e = grind (arith, take-add)
-
-  -- and that of the next byte
-  pub text_next : (run bytes : List ℕ) (at : ℕ) → at < length bytes → run ≡ text (take at bytes) → run ++ text (get_or bytes at 0 ∷ []) ≡ text (take (at + 1) bytes)
-  text_next run bytes at within e = grind (arith, take_more)
 
   -- bytes that stand for themselves, up to the first that needn't
   module _ (q : ℕ → Bool) (empty : text [] ≡ []) (itself : (b : ℕ) → q b ≡ true → text (b ∷ []) ≡ b ∷ []) where

@@ -1,5 +1,5 @@
 -- A text that is put in one call could have been put in two.
-use Rattle.tds_csv.proofs.Words.{common_steps, ◌≡◌, ◌∙◌, ◌⊎◌, inl, inr, ℕ, ◌+◌, ◌-◌, ◌*◌, ◌^◌, ◌<◌, ◌≤◌, List, [], ◌++◌, length, take, drop, refl, sym, ap, subst, arith, append_assoc, length-append, length-drop, length-take, ◌/◌, length-take-le, take-append-drop, take-append-le, drop-append-le, take-append-add, Appends, append_known, dec_le, counted, one_more, Stop, Held, Adds, Puts, Breaks}
+use Rattle.tds_csv.proofs.Words.{◌≡◌, ◌∙◌, ◌⊎◌, inl, inr, ℕ, ◌+◌, ◌-◌, ◌*◌, ◌^◌, ◌<◌, ◌≤◌, List, ◌++◌, length, take, drop, refl, sym, ap, subst, arith, append_assoc, length-append, length-drop, ◌/◌, length-take-le, take-append-drop, take-append-le, drop-append-le, take-append-add, Appends, append_known, dec_le, counted, one_more, Stop, Held, Adds, Puts, Breaks}
 use Rattle.tds_csv.proofs.Sinks.{counted-twice}
 
 -- what waits and a piece is what is delivered and then waits
@@ -57,7 +57,3 @@ Breaks_split a b p q stop x = elim (dec_le x.2 (length p)) [
       let left = length-drop (4096 * n) x.0 in
       inr (s.0, s.1, s.2, (drop (4096 * n) x.0, x.1 - n, i, s.3, fits, omega arith, omega (arith, x.6), omega arith, x.8, x.9 ∙ ap one_more (sym s.4)), s.5)
 ]
-
--- no write fails where nothing is put
-pub Breaks_none : (a b : Held) (stop : Stop) → length a.waiting < 4096 → Breaks a b [] stop → ⊥
-Breaks_none a b stop few x = grind (arith, common_steps, length-append, length-take)

@@ -1,10 +1,10 @@
-use Rattle.tds_csv.proofs.{Words.{common_steps, arith, rules, doubled}, JoiningLemmas.doubled-append, Singles.text_next, Singles.text_taken}
+use Rattle.tds_csv.proofs.{Words.{take_more, common_steps, arith, rules, doubled}, JoiningLemmas.doubled-append, Singles.text_taken}
 use Rattle.tds_csv.proofs.convert.doubling.convert.Goals as goal
 
 pub loop-at-preserved-then-at-bytes : goal.loop-at-preserved-then-at-bytes
 loop-at-preserved-then-at-bytes c =
     let so_far = text_taken doubled doubled-append c.args.bytes.now c.loop-at.at c.take_unquoted-n.result c.take_unquoted-n.ensures.taken c.loop-at.invariant.text in
-    grind (arith, common_steps, doubled-append, text_next)
+    grind (arith, common_steps, doubled-append, take_more)
 
 pub loop-at-preserved : goal.loop-at-preserved
 loop-at-preserved c =
