@@ -1,5 +1,5 @@
 -- One character after the other of text in UTF-16.
-use Rattle.tds_csv.proofs.Words.{◌≡◌, ◌∙◌, ◌&&◌, ◌+◌, ◌*◌, ◌<◌, ◌≤◌, ◌%◌, ℕ, true, false, List, [], ◌∷◌, ◌++◌, length, map, drop, get_or, refl, ap, arith, encode_utf8_all, unwrap_or, drop_more, and_right, nat_tests, encode_utf8, utf16_lossy_chars, is_high_surrogate, is_low_surrogate, surrogate_pair_char, lone_unit_char, emit, doubled, length-drop, nil_from_length}
+use Rattle.tds_csv.proofs.Words.{◌⊎◌, inl, ◌≡◌, ◌∙◌, ◌&&◌, ◌+◌, ◌*◌, ◌<◌, ◌≤◌, ◌%◌, ℕ, true, false, List, [], ◌∷◌, ◌++◌, length, map, drop, get_or, refl, ap, arith, encode_utf8_all, unwrap_or, drop_more, and_right, nat_tests, encode_utf8, utf16_lossy_chars, is_high_surrogate, is_low_surrogate, surrogate_pair_char, lone_unit_char, emit, doubled, length-drop, nil_from_length}
 use Rattle.std.specs.Char.Utf16.{utf16_chars}
 use Rattle.tds_csv.specs.{Utf16.{units, is_high, characters, rest, text}, Utf16Next.IsNext}
 use Rattle.tds_csv.proofs.{Utf16Laws.starts_low, Utf16Laws.chars-apart, Utf16Laws.front, Utf16Laws.front_step, Utf16Laws.rest_step, Utf16Laws.emit-front, Utf16Laws.short, JoiningLemmas.doubled-append}
@@ -40,20 +40,17 @@ next_one low high bytes code h e = record {
   spells = spells_one low high bytes code e (λ t. cc);
 }
 
-pub lone_low : (u : ℕ) → is_low_surrogate u ≡ true → unwrap_or (lone_unit_char u) 0xFFFD ≡ 0xFFFD
-lone_low u h = grind (arith, nat_tests)
-
 pub lone_other : (u : ℕ) → is_high_surrogate u ≡ false → is_low_surrogate u ≡ false → unwrap_or (lone_unit_char u) 0xFFFD ≡ u
 lone_other u h l = grind (arith, nat_tests)
 
-lone_high : (u : ℕ) → is_high_surrogate u ≡ true → unwrap_or (lone_unit_char u) 0xFFFD ≡ 0xFFFD
-lone_high u h = grind (arith, nat_tests)
+pub lone_half : (u : ℕ) → (is_high_surrogate u ≡ true) ⊎ (is_low_surrogate u ≡ true) → unwrap_or (lone_unit_char u) 0xFFFD ≡ 0xFFFD
+lone_half u h = grind (arith, nat_tests)
 
 -- a high surrogate before a unit that is no low one
 pub next_alone : (low high low' high' : ℕ) (bytes : List ℕ) → is_high low high ≡ true → is_low_surrogate (low' + 256 * high') ≡ false → IsNext (low ∷ high ∷ low' ∷ high' ∷ bytes) 0xFFFD 2
 unfolding starts_low
 next_alone low high low' high' bytes h l =
-    let lone = lone_high (low + 256 * high) h in
+    let lone = lone_half (low + 256 * high) (inl h) in
     let first : starts_low (units (front (low' ∷ high' ∷ bytes))) ≡ false = grind (arith) in
     record {
       emits = emits_by (low ∷ high ∷ low' ∷ high' ∷ bytes) (low' ∷ high' ∷ bytes) 0xFFFD (spells_one low high (front (low' ∷ high' ∷ bytes)) 0xFFFD lone (λ _. first));
@@ -75,7 +72,7 @@ next_pair low high low' high' bytes h l =
 -- whole data of which all is withheld is a high surrogate
 pub spells_held : (xs : List ℕ) → 2 ≤ length xs → length xs % 2 ≡ 0 → rest xs ≡ xs → characters xs ≡ encode_utf8 0xFFFD ++ characters (drop 2 xs)
 unfolding starts_low
-spells_held xs some whole e = grind (arith, short, lone_high, and_right, encode_utf8_all, chars_one)
+spells_held xs some whole e = grind (arith, short, lone_half, nat_tests, and_right, encode_utf8_all, chars_one)
 
 -- a high surrogate stays before what is no whole unit
 held_high : (low high : ℕ) (more : List ℕ) → length more < 2 → is_high low high ≡ true → rest (low ∷ high ∷ more) ≡ low ∷ high ∷ more

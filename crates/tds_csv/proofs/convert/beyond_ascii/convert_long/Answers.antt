@@ -1,5 +1,4 @@
-use Rattle.tds_csv.proofs.{Words.{arith, rules}, WideText.{long_single, units_more}}
-use Rattle.tds_csv.specs.Wide.{is_long}
+use Rattle.tds_csv.{proofs.{Words.{arith, rules}, WideText.{long_single, units_more}}, specs.Wide.is_long}
 use Rattle.tds_csv.proofs.convert.beyond_ascii.convert_long.Goals as goal
 
 pub loop-at-preserved : goal.loop-at-preserved

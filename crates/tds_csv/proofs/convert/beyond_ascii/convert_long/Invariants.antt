@@ -1,5 +1,4 @@
-use Rattle.tds_csv.proofs.Words.{◌+◌, ◌≤◌, ◌*◌, ◌-◌, length}
-use Rattle.tds_csv.specs.Utf16Next.{Converts}
+use Rattle.tds_csv.{proofs.Words.{◌+◌, ◌≤◌, ◌*◌, ◌-◌, length}, specs.Utf16Next.Converts}
 use Rattle.tds_csv.proofs.convert.beyond_ascii.convert_long.Given as goal
 
 -- the text so far is that of the bytes so far

@@ -1,5 +1,4 @@
-use Rattle.tds_csv.proofs.{Words.{arith, rules}, WideText.{short_single, units_more}}
-use Rattle.tds_csv.specs.Wide.{is_short}
+use Rattle.tds_csv.{proofs.{Words.{arith, rules}, WideText.{short_single, units_more}}, specs.Wide.is_short}
 use Rattle.tds_csv.proofs.convert.beyond_ascii.convert_short.Goals as goal
 
 pub loop-at-preserved : goal.loop-at-preserved

@@ -1,5 +1,4 @@
-use Rattle.tds_csv.proofs.{Words.{◌∙◌, arith, nat_tests, map-id, sym, zip2_of_maps, splat_is_map}, WideLanes.units_before}
-use Rattle.tds_csv.specs.Wide.{is_long}
+use Rattle.tds_csv.{proofs.{Words.{◌∙◌, arith, nat_tests, map-id, sym, zip2_of_maps, splat_is_map}, WideLanes.units_before}, specs.Wide.is_long}
 use Rattle.tds_csv.proofs.convert.lanes_utf16.long_units.Goals as goal
 
 pub returns : goal.returns
