@@ -1,5 +1,5 @@
 -- What completes a response is read as its rest.
-use Rattle.tds_export.proofs.Words.{ADone, APassed, AreBytes, AreBytes-back, AreBytes-front, Between, CanBeCompleted, Column, Describing, DescriptionPart, Done, Fields, InReturn, InRow, Inside-Spelt, IsNext, Lead, List, Metadata, None, Open, Option, Part, PassedOver, ReturnPart, Returned, Row, RowPart, Some, Spelt, Spelt-induct, Spelt-none, Token, TokenBody, TokenLength, WholeDescription, WholeReturn, WholeRow, Windows1252, [], add_described, after_first, ap, arith, begun, bodied, choose, completion, described_after, description, done, done_byte, eq_false, false, fields_length, fixed, holds_notice, lead_of, length, length-replicate, nat_tests, part_add, passed, refl, replicate-append-replicate, response, response_start, rest_of_description, rest_of_return, rest_of_row, rest_of_token, return_add, return_value, row, row_add, slice_index, start_of_row, subst, sym, test_le, test_lt, true, with_described, with_return, with_row, with_token, zeros, ℕ, ◌++◌, ◌-◌, ◌<◌, ◌∙◌, ◌∷◌, ◌≡◌, ◌≤◌}
+use Rattle.tds_export.proofs.Words.{common_steps, ADone, APassed, AreBytes, AreBytes-back, AreBytes-front, Between, CanBeCompleted, Column, Describing, DescriptionPart, Done, Fields, InReturn, InRow, Inside-Spelt, IsNext, Lead, List, Metadata, None, Open, Option, Part, PassedOver, ReturnPart, Returned, Row, RowPart, Some, Spelt, Spelt-induct, Spelt-none, Token, TokenBody, TokenLength, WholeDescription, WholeReturn, WholeRow, Windows1252, [], add_described, after_first, ap, arith, begun, bodied, choose, completion, described_after, description, done, done_byte, eq_false, false, fields_length, fixed, holds_notice, lead_of, length, length-replicate, nat_tests, part_add, passed, refl, replicate-append-replicate, response, response_start, rest_of_description, rest_of_return, rest_of_row, rest_of_token, return_add, return_value, row, row_add, slice_index, start_of_row, subst, sym, test_le, test_lt, true, with_described, with_return, with_row, with_token, zeros, ℕ, ◌++◌, ◌-◌, ◌<◌, ◌∙◌, ◌∷◌, ◌≡◌, ◌≤◌}
 use Rattle.tds_export.proofs.SomeBytes.{AreBytes-append}
 use Rattle.tds_export.proofs.CompletionBytes.{AreBytes-completion, IsOpenReturn, IsOpenRow, OpenReached}
 use Rattle.tds_export.proofs.CompletedRows.{AreValid, RowReached, marked_valid, next_reached, row_ends, row_keeps}
@@ -21,11 +21,7 @@ PartReached room p = CurrentReached (described_after None p.tokens) × OpenReach
 
 -- a notice of zero bytes holds its inner lengths
 zeros_hold : (n : ℕ) → 14 ≤ n → holds_notice (zeros n) ≡ true
-zeros_hold n h =
-    let more : List ℕ = zeros (n - 14) in
-    let body : List ℕ = zeros 14 ++ more in
-    let same : body ≡ zeros n = replicate-append-replicate 14 (n - 14) 0 ∙ ap zeros (omega arith) in
-    grind (arith, test_le, replicate-append-replicate, test_lt)
+zeros_hold n h = grind (arith, common_steps, zeros, replicate-append-replicate, test_le, test_lt)
 
 module _ (room : ℕ) where
   -- a token that describes nothing

@@ -1,5 +1,5 @@
 -- How an export ends, from what its calls did.
-use Rattle.tds_export.proofs.Words.{AreEmptied, Areas, Bool, CompletesResponse, FinishFails, Finishes, FinishesSink, Given, Held, IsNoted, IsReader, IsTrue, IsWriter, List, MatchResult, Option, Report, Reports, Result, RunStops, Seen, Sink, Space, Stop, Stopped, StopsExport, Tidied, [], ap, arith, begun, false, fresh_at, held, is_intact, limits_of, nat_tests, response, response_start, rose, stopped_with, true, ℕ, ◌∙◌, ◌≡◌}
+use Rattle.tds_export.proofs.Words.{common_steps, AreEmptied, Areas, Bool, CompletesResponse, FinishFails, Finishes, FinishesSink, Given, Held, IsNoted, IsReader, IsTrue, IsWriter, List, MatchResult, Option, Report, Reports, Result, RunStops, Seen, Sink, Space, Stop, Stopped, StopsExport, Tidied, [], ap, arith, begun, false, fresh_at, held, is_intact, limits_of, nat_tests, response, response_start, rose, stopped_with, true, ℕ, ◌∙◌, ◌≡◌}
 
 -- however the last delivery ended
 tidied : {U : Type 0} (h k : Held) (failed : Bool) (r : Result U Stop) → failed ≡ false → MatchResult r (λ _. Finishes h k) (λ stop. failed ≡ false → FinishFails h k stop) → Tidied h k
@@ -26,7 +26,4 @@ stops_export given a q h k l size limit room place failed stop stopped e1 e2 e3 
 -- ---- the rooms of areas that were intact and are emptied
 
 pub rooms : (old new : Areas) → IsTrue (is_intact old) → AreEmptied old new → (new.packet.room ≡ old.limits.packet_size) × (new.description.room ≡ old.limits.column_room)
-rooms old new h e =
-    let packet : old.packet.room ≡ old.limits.packet_size = grind (arith, nat_tests) in
-    let description : old.description.room ≡ old.limits.column_room = grind (arith, nat_tests) in
-    (ap (λ (s : Space). s.room) e.packet ∙ packet, ap (λ (s : Space). s.room) e.description ∙ description)
+rooms old new h e = grind (arith, common_steps, nat_tests, Space)

@@ -1,6 +1,6 @@
 -- The words that the proofs of this crate share.
 pub use Rattle.std.proofs.Common.{◌≡◌, ◌∙◌, inl, inr, ℕ, ◌+◌, ◌≤◌, List, [], ◌∷◌, ◌++◌, length, take, drop, refl, sym, ap, subst, arith, append_assoc, append-nil, take-append-drop, Result, Ok, Err, ◌-◌, ◌^◌, ◌<◌, Bool, false, length-append, zero, suc, ◌%◌, true, replicate, add-one, Option, ◌*◌, slice_index, map, ◌⊎◌, MatchResult, unsigned_abs, length-take, ◌/◌, length-drop, max, take-add, drop-cons, length-take-le, rules, take_all}
-pub use Rattle.std.proofs.{KnownBytes.Consumes-nil, Math.Nat.one-le-pow, Math.Nat.div-eq_of_lt, Math.Nat.pow-suc, Math.Seq.get_or-append_seam, Math.Seq.take-append_seam, Math.Seq.drop-append_seam, Math.Seq.take-append-add, Math.Seq.get_or-drop, lemmas.Bool.ne_eqb, lemmas.Bool.and_parts, lemmas.Bool.or_cases, lemmas.Bool.eq-eqb, lemmas.Bool.Decides.nat_tests, lemmas.Grind.flat_map-append, lemmas.List.length-replicate, lemmas.List.replicate-append-replicate, lemmas.List.length-map, lemmas.List.map-append, lemmas.List.drop-drop, lemmas.List.take-append-le, lemmas.Str.utf8_valid_len_le}
+pub use Rattle.std.proofs.{KnownBytes.Consumes-nil, Math.Nat.one-le-pow, Math.Nat.div-eq_of_lt, Math.Nat.pow-suc, Math.Seq.get_or-append_seam, Math.Seq.take-append_seam, Math.Seq.drop-append_seam, Math.Seq.take-append-add, Math.Seq.get_or-drop, lemmas.Bool.ne_eqb, lemmas.Bool.and_parts, lemmas.Bool.or_cases, lemmas.Bool.eq-eqb, lemmas.Bool.Decides.nat_tests, lemmas.Grind.flat_map-append, lemmas.Grind.common_steps, lemmas.List.length-replicate, lemmas.List.replicate-append-replicate, lemmas.List.length-map, lemmas.List.map-append, lemmas.List.drop-drop, lemmas.List.take-append-le, lemmas.Str.utf8_valid_len_le}
 pub use Rattle.std.specs.Prelude.{◌==◌, Some, None, ◌&&◌, not, nat_lt, if◌then◌else◌, ◌||◌, nat_le, is_ok, unwrap_or, is_some, IsTrue, encode_utf8_all, ⊤, codes, ℤ, option_map, IfOk}
 pub use Rattle.std.specs.{Int.cast_signed, Int.w16, Int.w32, Int.w64, Int.cast_unsigned, Io.KnownBytes.Appends, Io.KnownBytes.Consumes, Result.IsErrAnd}
 unfoldable pub use Rattle.std.specs.{Char.encode_utf8, Char.Utf16.utf16_chars, Fmt.digits, Str.is_utf8, Str.chars, Str.Lossy.utf8_valid_len, Str.Lossy.utf8_error_len}
