@@ -1,21 +1,19 @@
 -- What the bytes that lead to a part of a cell spell.
-use Rattle.tds_rows.proofs.Words.{◌≡◌, ◌≢◌, ◌⊎◌, ℕ, ◌+◌, ◌-◌, ◌/◌, ◌%◌, ◌^◌, ◌<◌, Bool, true, List, [], ◌∷◌, ◌++◌, length, replicate, refl, sym, ◌∙◌, ap, subst, append_assoc, append-nil, arith, length-append, Result, Ok, Option, Some, None, ◌==◌, ◌&&◌, ◌||◌, nat_lt, is_ok, slice_index, if◌then◌else◌, concat, concat-append, nat_tests, Kind, Short, Chunked, ScalarValue, ValueFault, little, is_length_allowed, read_of, Conversion, unit, is_fit, is_begun, no_data_is_fit, AreBytes, Spelt, IsNext, Spelt-induct, AreBytes-front, AreBytes-back, Fault, BadText, OddText, PlpLength, Cell, Null, ScalarCell, DataCell, Shape, FixedShape, CountedShape, LongShape, SpellsChunk, SpellsChunks, SpellsCell, CellPart, ScalarBytes, ScalarLength, ShortLength, ShortData, Total, ChunkLength, ChunkData, WholeCell, cell_start, cell_add, cell, unless, within_total, is_total, end_of_chunks, chunk_fault, value_part, known_total, unknown_total, null_total, and_parts, choose, eq_true, eq_false, one_byte, two_bytes}
+use Rattle.tds_rows.proofs.Words.{common_steps, ◌≡◌, ◌≢◌, ◌⊎◌, ℕ, ◌+◌, ◌-◌, ◌/◌, ◌%◌, ◌^◌, ◌<◌, Bool, true, List, [], ◌∷◌, ◌++◌, length, replicate, refl, sym, ◌∙◌, ap, subst, append_assoc, append-nil, arith, length-append, Result, Ok, Option, Some, None, ◌==◌, ◌&&◌, ◌||◌, nat_lt, is_ok, slice_index, if◌then◌else◌, concat, concat-append, nat_tests, Kind, Short, Chunked, ScalarValue, ValueFault, little, is_length_allowed, read_of, Conversion, unit, is_fit, is_begun, no_data_is_fit, AreBytes, Spelt, IsNext, Spelt-induct, AreBytes-front, AreBytes-back, Fault, BadText, OddText, PlpLength, Cell, Null, ScalarCell, DataCell, Shape, FixedShape, CountedShape, LongShape, SpellsChunk, SpellsChunks, SpellsCell, CellPart, ScalarBytes, ScalarLength, ShortLength, ShortData, Total, ChunkLength, ChunkData, WholeCell, cell_start, cell_add, cell, unless, within_total, is_total, end_of_chunks, chunk_fault, value_part, known_total, unknown_total, null_total, and_parts, choose, eq_true, eq_false, one_byte, two_bytes}
 
 -- a test that gave no fault passed
 pub unless_none : (b : Bool) (f : Fault) → unless b f ≡ None → b ≡ true
 unless_none b f h = grind arith
 
 eight_below : (e : List ℕ) → length e ≡ 8 → AreBytes e → little e < 2 ^ 64
-eight_below (a ∷ b ∷ c ∷ d ∷ e ∷ f ∷ g ∷ h ∷ []) l k = omega (arith, k.0, k.1.0, k.1.1.0, k.1.1.1.0, k.1.1.1.1.0, k.1.1.1.1.1.0, k.1.1.1.1.1.1.0, k.1.1.1.1.1.1.1.0)
-eight_below e l k = absurd (omega arith)
+eight_below e l k = grind (arith, common_steps)
 
 eight_ones : (e : List ℕ) → length e ≡ 8 → AreBytes e → little e ≡ null_total → e ≡ replicate 8 255
 eight_ones (a ∷ b ∷ c ∷ d ∷ e ∷ f ∷ g ∷ h ∷ []) l k n = grind arith
 eight_ones e l k n = absurd (omega arith)
 
 four_zeros : (e : List ℕ) → length e ≡ 4 → little e ≡ 0 → e ≡ 0 ∷ 0 ∷ 0 ∷ 0 ∷ []
-four_zeros (a ∷ b ∷ c ∷ d ∷ []) l n = grind arith
-four_zeros e l n = absurd (omega arith)
+four_zeros e l n = grind (arith, common_steps)
 
 -- chunks so far, without the terminator
 abbrev pub BeginsChunks : List (List ℕ) → List ℕ → Type 0
@@ -77,7 +75,7 @@ total_known n m less h = grind (arith, nat_tests)
 
 module _ (column : ℕ) (kind : Kind) where
   value_means : (sh : Shape) (e b : List ℕ) → is_ok (read_of kind e) ≡ true → ((v : ScalarValue) → read_of kind e ≡ Ok v → SpellsCell kind sh (ScalarCell v) b) → CellMeans kind sh (value_part (read_of kind e)) b
-  value_means sh e b h k = let v = is_ok_value (read_of kind e) h in subst (λ o. CellMeans kind sh (value_part o) b) (sym v.1) (k v.0 v.1)
+  value_means sh e b h k = grind (arith, common_steps, is_ok_value)
 
   short_means : (c : Conversion) (n left : ℕ) (d : List ℕ) (b : List ℕ) (x : ℕ) → n ≡ length d + (left + 1) → n < 65535 → b ≡ (n % 256 ∷ n / 256 ∷ []) ++ d → (is_begun c (d ++ x ∷ []) && (nat_lt 0 left || is_fit c (d ++ x ∷ []))) ≡ true → CellMeans kind (LongShape c Short) (cell_add (ShortData c left d) (x ∷ [])) (b ++ x ∷ [])
   short_means c n left d b x count less is free = grind (arith, and_parts, choose, eq_false, eq_true, length-append, nat_tests)

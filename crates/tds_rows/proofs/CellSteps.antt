@@ -1,5 +1,5 @@
 -- The cells of scalar kinds, as they are read.
-use Rattle.tds_rows.proofs.Words.{◌≡◌, ◌≢◌, ◌∙◌, ◌⊎◌, ℕ, ◌+◌, ◌<◌, true, false, List, [], ◌∷◌, ◌++◌, length, take, drop, get_or, refl, sym, ap, subst, arith, Result, Ok, Err, MatchResult, Option, Some, None, ◌==◌, ◌||◌, is_ok, slice_index, if◌then◌else◌, ne_eqb, take_all, Kind, Reach, fixed_length, is_length_allowed, is_scalar, read_of, Space, appended, BadValue, BadValueLength, MessageEnded, Stop, Seen, Takes, Ends, IsBetween, began_at, choose_false, began_is_cut, cut_at_once, reads_one, refused_at_once, stops_after, takes_both, EndsInto, TakesInto, Conversion, Charset, CellPart, LongShape, Null, ScalarBytes, ScalarLength, WholeCell, cell, cell_end, cell_size, cell_start, field_so_far, shape, shape_of_length, unless, GathersCell, IsScalarLeft, StallsCell, length_after, start_after, value_bytes, value_start, Payload}
+use Rattle.tds_rows.proofs.Words.{common_steps, ◌≡◌, ◌≢◌, ◌∙◌, ◌⊎◌, ℕ, ◌+◌, ◌<◌, true, false, List, [], ◌∷◌, ◌++◌, length, take, drop, get_or, refl, sym, ap, subst, arith, Result, Ok, Err, MatchResult, Option, Some, None, ◌==◌, ◌||◌, is_ok, slice_index, if◌then◌else◌, ne_eqb, take_all, Kind, Reach, fixed_length, is_length_allowed, is_scalar, read_of, Space, appended, BadValue, BadValueLength, MessageEnded, Stop, Seen, Takes, Ends, IsBetween, began_at, choose_false, began_is_cut, cut_at_once, reads_one, refused_at_once, stops_after, takes_both, EndsInto, TakesInto, Conversion, Charset, CellPart, LongShape, Null, ScalarBytes, ScalarLength, WholeCell, cell, cell_end, cell_size, cell_start, field_so_far, shape, shape_of_length, unless, GathersCell, IsScalarLeft, StallsCell, length_after, start_after, value_bytes, value_start, Payload}
 use Rattle.tds_values.specs.declared.kind.Kind.TheVariants as kinds
 
 -- a kind's shape is that of its length, or that of a long one
@@ -11,8 +11,7 @@ scalar_shape charset kind h = grind (arith, shape_cases charset kind)
 
 -- the values of a kind of fixed length have some bytes
 pub fixed_some : (kind : Kind) (n : ℕ) → fixed_length kind ≡ Some n → 0 < n
-fixed_some kinds.Int1 n h = grind arith
-fixed_some kind n h = grind arith
+fixed_some kind n h = grind (arith, common_steps)
 
 -- the next element of a cell is cut
 pub cell_cut : {column n place : ℕ} {s : CellPart} {a b : Seen} {stop : Stop} (part : List ℕ) (own : Stop) → field_so_far s ≡ None → cell_size s ≡ n → cell_end s ≡ Some MessageEnded → length part < n → Ends a b part own → stop ≡ began_at place own → StallsCell s column a b place stop
@@ -67,8 +66,7 @@ module _ {column n place : ℕ} {kind : Kind} {a b : Seen} where
 
 -- a list of one number
 pub only_one : (l : List ℕ) → length l ≡ 1 → l ≡ get_or l 0 0 ∷ []
-only_one (x ∷ []) h = refl
-only_one l h = absurd (omega (arith, h))
+only_one l h = grind (arith, common_steps)
 
 -- NULL was read
 pub null_gathers : {column place place' : ℕ} {kind : Kind} {a b : Seen} {bytes : List ℕ} → fixed_length kind ≡ None → length bytes ≡ 1 → slice_index bytes 0 ≡ 0 → Takes a b bytes (length bytes) → IsBetween b → place' ≡ place + length bytes → GathersCell kind (ScalarLength kind) column a b place place' bytes
@@ -94,7 +92,7 @@ counted_gathers {column = column} {n = n} {place = place} {kind = kind} {a = a} 
 
 -- what an empty area gets stands there alone
 stands_alone : (before after : Space) (element : List ℕ) → before.bytes ≡ [] → after ≡ appended before element → after.bytes ≡ element
-stands_alone before after element none is = ap (λ (s : Space). s.bytes) is ∙ ap (λ l. l ++ element) none
+stands_alone before after element none is = grind (arith, common_steps)
 
 -- a cell that has no length before its value was read into an empty area, or it is cut
 pub fixed_taken : {U : Type 0} → (result : Result U Stop) (stopped : Option Stop) (column : ℕ) (kind : Kind) (n : ℕ) (a b : Seen) (place place' : ℕ) (before after : Space) → fixed_length kind ≡ Some n → before.bytes ≡ [] → stopped ≡ None → place' ≡ (if is_ok result then place + n else place)
@@ -121,7 +119,7 @@ counted_taken (Err stop) stopped column kind n a b d place middle place' before 
 
 -- from the shape of a scalar kind on
 pub scalar_start : (charset : Charset) (kind : Kind) (o : Option ℕ) → is_scalar kind ≡ true → fixed_length kind ≡ o → cell_start kind (shape_of_length o) ≡ cell_start kind (shape charset kind)
-scalar_start charset kind o scalar is = ap (λ l. cell_start kind (shape_of_length l)) (sym is) ∙ ap (cell_start kind) (sym (scalar_shape charset kind scalar))
+scalar_start charset kind o scalar is = grind (arith, common_steps, scalar_shape)
 
 -- a cell whose bytes were gathered, and that is left, stops at its value
 pub left_stalls : (kind : Kind) (from : CellPart) (column : ℕ) (a b : Seen) (place place' : ℕ) (bytes : List ℕ) → (x : GathersCell kind from column a b place place' bytes) → IsScalarLeft kind bytes

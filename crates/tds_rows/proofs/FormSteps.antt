@@ -1,5 +1,5 @@
 -- Runs over cells by their forms, a cell after those that were written.
-use Rattle.tds_rows.proofs.Words.{◌≡◌, ◌≢◌, ◌∙◌, ℕ, zero, suc, ◌+◌, ◌-◌, ◌<◌, ◌≤◌, Bool, true, false, List, [], ◌∷◌, ◌++◌, length, take, drop, get_or, refl, sym, ap, subst, arith, append-nil, append_assoc, length-append, ◌==◌, ◌&&◌, Option, map, slice_set, drop_more, length-map, length-take-le, take-append-le, take_all, take_more_set, get_or_default, length-drop, length-take, take-take, drop-drop, Kind, eq_false, eq_true, Column, all_after, Conversion, after_comma, end_after, in_line, Charset, Form, IsLeft, WritesField, WritesKind, is_last_column, whole_size, AreNext, FieldsWritten, FirstUsed, FirstWritten, WritesForms, WritesColumn, WritesMarked, IsShortLeft, nat_tests}
+use Rattle.tds_rows.proofs.Words.{common_steps, ◌≡◌, ◌≢◌, ◌∙◌, ℕ, zero, suc, ◌+◌, ◌-◌, ◌<◌, ◌≤◌, Bool, true, false, List, [], ◌∷◌, ◌++◌, length, take, drop, get_or, refl, sym, ap, subst, arith, append-nil, append_assoc, length-append, ◌==◌, ◌&&◌, Option, map, slice_set, drop_more, length-map, length-take-le, take-append-le, take_all, take_more_set, get_or_default, length-drop, length-take, take-take, drop-drop, Kind, eq_false, eq_true, Column, all_after, Conversion, after_comma, end_after, in_line, Charset, Form, IsLeft, WritesField, WritesKind, is_last_column, whole_size, AreNext, FieldsWritten, FirstUsed, FirstWritten, WritesForms, WritesColumn, WritesMarked, IsShortLeft, nat_tests}
 use Rattle.tds_rows.proofs.{LineTexts.after_some_column, LineTexts.after_append, RunSteps.made_more, RunSteps.used_more, TableSteps.known_kind, TableSteps.last_one}
 
 not_last : (rest : List Column) → 0 < length rest → false ≡ is_last_column rest
@@ -90,7 +90,7 @@ before_comma made column to fields some within is =
 module _ (charset : Charset) (forms : List Form) (column : ℕ) (bytes : List ℕ) where
   -- before the first cell
   pub fields_none : (start : ℕ) (to : List ℕ) → ((text : List ℕ) → take start to ++ text ≡ after_comma column text) → FieldsWritten charset forms column bytes to (record { cells = 0; used = 0; made = start })
-  fields_none start to x = ([], (refl, refl), sym (append-nil (take start to)) ∙ x [] ∙ ap (λ (n : ℕ). after_comma n []) (omega arith))
+  fields_none start to x = grind (arith, common_steps, append-nil)
 
   -- one cell more
   pub fields_more : (to text rest : List ℕ) (k used u made m : ℕ) (d : Form) → made ≤ length to → m < length text → k < length forms → WritesField charset (get_or forms k d).kind (take u (take (length bytes - used) (drop used bytes))) (take m text)

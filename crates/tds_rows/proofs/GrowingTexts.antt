@@ -1,5 +1,5 @@
 -- What a text that grows is, and what the cells and rows that are read add to it.
-use Rattle.tds_rows.proofs.Words.{◌≡◌, ℕ, ◌-◌, Bool, true, false, List, [], ◌∷◌, ◌++◌, length, refl, sym, ◌∙◌, ap, subst, append_assoc, append-nil, arith, Option, Some, None, ◌==◌, ◌||◌, nat_lt, map, codes, map-append, emit, joined, null_field, Conversion, closing, conversion_rest, conversion_text, is_fit, is_begun, is_quoted, long_field, open_field, open_closes, open_grows, begun_by_test, IsNext, and_parts, or_cases, choose, eq_true, lt_true, Column, Charset, Cell, Null, DataCell, field, shape, CellPart, ShortData, ChunkLength, ChunkData, WholeCell, cell_start, cell_add, cell, field_so_far, chunk_fault, RowPart, Bitmap, InCell, WholeRow, next_cell, with_cell, row_add, row, with_field, row_so_far}
+use Rattle.tds_rows.proofs.Words.{common_steps, ◌≡◌, ℕ, ◌-◌, Bool, true, false, List, [], ◌∷◌, ◌++◌, length, refl, sym, ◌∙◌, ap, subst, append_assoc, append-nil, arith, Option, Some, None, ◌==◌, ◌||◌, nat_lt, map, codes, map-append, emit, joined, null_field, Conversion, closing, conversion_rest, conversion_text, is_fit, is_begun, is_quoted, long_field, open_field, open_closes, open_grows, begun_by_test, IsNext, and_parts, or_cases, choose, eq_true, lt_true, Column, Charset, Cell, Null, DataCell, field, shape, CellPart, ShortData, ChunkLength, ChunkData, WholeCell, cell_start, cell_add, cell, field_so_far, chunk_fault, RowPart, Bitmap, InCell, WholeRow, next_cell, with_cell, row_add, row, with_field, row_so_far}
 use Rattle.tds_rows.proofs.CellMeaning.{guard_none, unless_none}
 
 -- the second text begins with the first
@@ -16,7 +16,7 @@ grows_all b = (b, refl)
 
 -- growth goes on
 pub grows_trans : (a b c : List ℕ) → Grows a b → Grows b c → Grows a c
-grows_trans a b c h k = (h.0 ++ k.0, sym (append_assoc a h.0 k.0) ∙ ap (λ v. v ++ k.0) h.1 ∙ k.1)
+grows_trans a b c h k = grind (arith, common_steps, append_assoc)
 
 -- what stands in front stays
 pub grows_under : (x a b : List ℕ) → Grows a b → Grows (x ++ a) (x ++ b)
@@ -56,7 +56,7 @@ with_field_grows cells (Some a) (Some b) h = joined_last (map field cells) a b h
 
 -- more data
 open_more : (c : Conversion) (a b : List ℕ) → is_begun c (a ++ b) ≡ true → Grows (open_field c a) (open_field c (a ++ b))
-open_more c a b h = (emit (conversion_rest c) (conversion_text c) (conversion_rest c a ++ b), open_grows c a b ((begun_by_test c (a ++ b)).0 h))
+open_more c a b h = grind (arith, common_steps, open_grows, begun_by_test)
 
 -- the end of the data
 long_grows : (c : Conversion) (a : List ℕ) → is_fit c a ≡ true → Grows (open_field c a) (long_field c a)

@@ -1,15 +1,15 @@
 -- What joiners do with the pieces of some content, in the words of their conversion.
-use Rattle.tds_rows.proofs.Words.{◌≡◌, ◌∙◌, ℕ, ◌+◌, ◌-◌, ◌^◌, ◌<◌, ◌≤◌, Bool, false, List, [], ◌∷◌, ◌++◌, length, take, drop, inl, inr, refl, sym, ap, subst, arith, append_assoc, append-nil, length-append, Result, Ok, Err, get_or, Option, append_cancel_left, length-take-le, take-append-drop, drop_more, take_more, BadText, Stop, Seen, Takes, IsBetween, Takes-more, Takes-none, takes_both, BeginsData, Conversion, IsFit, Suits, closing, conversion_rest, conversion_text, emit, settled, JoinFault, Odd, Stopped, Completes, EndsBy, LeavesPart, Pushes, TakesPiece, TakesUpTo, is_stopped, end_after, Sink, Breaks, Held, Puts, PutsPiece, held, begun_front, joins_by_name, Breaks-after, Breaks-longer, Puts-none, Puts-trans, BreaksData, EndPut, EndsData, FillsData, RefusesData, StopsData, StopsEnding, StopsFilling, TakesData, added_text, good_of, join_stop, Payload}
+use Rattle.tds_rows.proofs.Words.{common_steps, ◌≡◌, ◌∙◌, ℕ, ◌+◌, ◌-◌, ◌^◌, ◌<◌, ◌≤◌, Bool, false, List, [], ◌∷◌, ◌++◌, length, take, drop, inl, inr, refl, sym, ap, subst, arith, append_assoc, append-nil, length-append, Result, Ok, Err, get_or, Option, append_cancel_left, length-take-le, take-append-drop, drop_more, take_more, BadText, Stop, Seen, Takes, IsBetween, Takes-more, Takes-none, takes_both, BeginsData, Conversion, IsFit, Suits, closing, conversion_rest, conversion_text, emit, settled, JoinFault, Odd, Stopped, Completes, EndsBy, LeavesPart, Pushes, TakesPiece, TakesUpTo, is_stopped, end_after, Sink, Breaks, Held, Puts, PutsPiece, held, begun_front, joins_by_name, Breaks-after, Breaks-longer, Puts-none, Puts-trans, BreaksData, EndPut, EndsData, FillsData, RefusesData, StopsData, StopsEnding, StopsFilling, TakesData, added_text, good_of, join_stop, Payload}
 use Rattle.tds_csv.specs.declared.joiners.JoinFault.TheVariants as join_faults
 use Rattle.tds_rows.proofs.Paths.{At}
 
 module _ {fit begins : List ℕ → Type 0} {rest text : List ℕ → List ℕ} {size : ℕ} {quoted : Bool} {c : Conversion} (suits : Suits fit begins rest text size quoted c) where
   emit_suits : (l : List ℕ) → emit rest text l ≡ emit (conversion_rest c) (conversion_text c) l
-  emit_suits l = suits.text_is (settled rest l) ∙ ap (λ r. conversion_text c (take (length l - length r) l)) (suits.rest_is l)
+  emit_suits l = grind (arith, common_steps, rest)
 
   module _ (content : List ℕ) {old : List ℕ} (is : old ≡ conversion_rest c content) (begun : BeginsData c content) where
     added_is : (piece : List ℕ) → emit rest text (old ++ piece) ≡ added_text c content piece
-    added_is piece = emit_suits (old ++ piece) ∙ ap (λ o. emit (conversion_rest c) (conversion_text c) (o ++ piece)) is
+    added_is piece = grind (arith, common_steps, emit_suits)
 
     begun_with : (piece : List ℕ) → begins (old ++ piece) → BeginsData c (content ++ piece)
     begun_with piece h = (joins_by_name c).outward content piece (subst (λ o. BeginsData c (o ++ piece)) is ((suits.begins_is (old ++ piece)).0 h))
@@ -85,7 +85,7 @@ module _ {fit begins : List ℕ → Type 0} {rest text : List ℕ → List ℕ} 
 
     -- the content is whole
     pub end_whole : (new : List ℕ) (h i : Held) → Completes fit text old new h i → IsFit c content × Puts h i (conversion_text c (conversion_rest c content))
-    end_whole new h i x = (fit_whole x.whole, subst (Puts h i) (suits.text_is old ∙ ap (conversion_text c) is) x.put)
+    end_whole new h i x = grind (arith, common_steps, fit_whole)
 
     -- it isn't
     pub end_part : (new : List ℕ) (h i : Held) → LeavesPart fit old new h i → IsFit c content → ⊥

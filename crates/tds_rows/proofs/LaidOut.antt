@@ -1,11 +1,11 @@
 -- Cells by how their values are laid out.
-use Rattle.tds_rows.proofs.Words.{◌≡◌, ℕ, ◌<◌, Bool, true, false, List, length, replicate, get_or, refl, sym, subst, arith, ◌==◌, slice_set, Option, get_or-set_at, get_or-replicate, get_or-set_other, length-replicate, length-set, Kind, Reach, is_scalar, eq_false, eq_true, Content, Conversion, Charset, Form, Layout, LongShape, shape, shape_of_length, length_after, start_after, value_length, value_start, whole_size, AreLaidOut, HasValueAt, IsLaidOut, shape_of_layout, short_size}
+use Rattle.tds_rows.proofs.Words.{common_steps, ◌≡◌, ℕ, ◌<◌, Bool, true, false, List, length, replicate, get_or, refl, sym, subst, arith, ◌==◌, slice_set, Option, get_or-set_at, get_or-replicate, get_or-set_other, length-replicate, length-set, Kind, Reach, is_scalar, eq_false, eq_true, Content, Conversion, Charset, Form, Layout, LongShape, shape, shape_of_length, length_after, start_after, value_length, value_start, whole_size, AreLaidOut, HasValueAt, IsLaidOut, shape_of_layout, short_size}
 use Rattle.tds_rows.specs.declared.form.Layout.TheVariants.{Short}
 use Rattle.tds_rows.proofs.CellSteps.{shape_cases}
 
 -- the same form many times
 pub laid_all : (charset : Charset) (n : ℕ) (f : Form) → IsLaidOut charset f.kind f.layout → AreLaidOut charset (replicate n f)
-laid_all charset n f is k d here = subst (λ (g : Form). IsLaidOut charset g.kind g.layout) (sym (get_or-replicate n k f d (omega (arith, here, length-replicate n f)))) is
+laid_all charset n f is k d here = grind (arith, common_steps, get_or-replicate, length-replicate)
 
 -- one more form of many
 pub laid_set : (charset : Charset) (forms : List Form) (k : ℕ) (f : Form) → AreLaidOut charset forms → k < length forms → IsLaidOut charset f.kind f.layout → AreLaidOut charset (slice_set forms k f)

@@ -1,9 +1,9 @@
 -- Fields in their line, as they are written.
-use Rattle.tds_rows.proofs.Words.{◌≡◌, ◌≢◌, ℕ, ◌+◌, ◌≤◌, Bool, List, [], ◌∷◌, ◌++◌, length, take, refl, sym, arith, append_assoc, length-take-le, take-append-le, take-append-add, ◌==◌, ne_eqb, choose_false, after_comma, end_after, in_line, joined}
+use Rattle.tds_rows.proofs.Words.{common_steps, ◌≡◌, ◌≢◌, ℕ, ◌+◌, ◌≤◌, Bool, List, [], ◌∷◌, ◌++◌, length, take, refl, sym, arith, append_assoc, length-take-le, take-append-le, take-append-add, ◌==◌, ne_eqb, choose_false, after_comma, end_after, in_line, joined}
 
 -- a field after a comma
 pub after_some_column : (column : ℕ) (text : List ℕ) → column ≢ 0 → 44 ∷ text ≡ after_comma column text
-after_some_column column text h = sym (choose_false (column == 0) text (44 ∷ text) (ne_eqb column 0 h))
+after_some_column column text h = grind (arith, common_steps, choose_false, ne_eqb)
 
 -- more after a field
 pub after_append : (column : ℕ) (a b : List ℕ) → after_comma column (a ++ b) ≡ after_comma column a ++ b

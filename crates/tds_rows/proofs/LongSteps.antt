@@ -1,5 +1,5 @@
 -- Long values, in the grammar of a cell: the text of its parts, and the pieces of its content.
-use Rattle.tds_rows.proofs.Words.{◌≡◌, ◌∙◌, ◌⊎◌, inl, inr, ℕ, suc, ◌+◌, ◌-◌, ◌^◌, ◌<◌, ◌≤◌, Bool, true, false, List, [], ◌∷◌, ◌++◌, length, refl, sym, ap, subst, arith, append_assoc, append-nil, length-append, Option, Some, None, ◌==◌, ◌&&◌, ◌||◌, nat_lt, and_from, cases_lt, ne_eqb, or_left, or_right, append_cancel_left, BadText, MessageEnded, Stop, Spelt, Seen, Takes, IsBetween, choose_false, test_lt, Spelt-none, Spelt-append, Spelt-step, Takes-more, began_is_cut, cut_at_once, BeginsData, Conversion, conversion_rest, conversion_text, is_begun, is_fit, is_quoted, closing, long_field, open_field, emit, after_comma, end_after, in_line, Breaks, Held, Puts, StopsStreaming, open_grows, open_closes, unfit_adds_none, begun_by_test, joins_by_name, breaks_somewhere, Breaks-after, Breaks-longer, Puts-none, Puts-trans, CellPart, ChunkData, ChunkLength, DataCell, ShortData, WholeCell, cell, cell_add, cell_end, cell_fault, cell_size, field_so_far, unless, cell_so_far, opened, BreaksData, CutsData, EndsData, FillsData, RefusesData, StopsData, StopsFilling, added_text, ending, nil_of_length, Payload}
+use Rattle.tds_rows.proofs.Words.{common_steps, ◌≡◌, ◌∙◌, ◌⊎◌, inl, inr, ℕ, suc, ◌+◌, ◌-◌, ◌^◌, ◌<◌, ◌≤◌, Bool, true, false, List, [], ◌∷◌, ◌++◌, length, refl, sym, ap, subst, arith, append_assoc, append-nil, length-append, Option, Some, None, ◌==◌, ◌&&◌, ◌||◌, nat_lt, and_from, cases_lt, ne_eqb, or_left, or_right, append_cancel_left, BadText, MessageEnded, Stop, Spelt, Seen, Takes, IsBetween, choose_false, test_lt, Spelt-none, Spelt-append, Spelt-step, Takes-more, began_is_cut, cut_at_once, BeginsData, Conversion, conversion_rest, conversion_text, is_begun, is_fit, is_quoted, closing, long_field, open_field, emit, after_comma, end_after, in_line, Breaks, Held, Puts, StopsStreaming, open_grows, open_closes, unfit_adds_none, begun_by_test, joins_by_name, breaks_somewhere, Breaks-after, Breaks-longer, Puts-none, Puts-trans, CellPart, ChunkData, ChunkLength, DataCell, ShortData, WholeCell, cell, cell_add, cell_end, cell_fault, cell_size, field_so_far, unless, cell_so_far, opened, BreaksData, CutsData, EndsData, FillsData, RefusesData, StopsData, StopsFilling, added_text, ending, nil_of_length, Payload}
 use Rattle.tds_rows.proofs.{Paths.At, Paths.Path, Paths.path_both, Paths.path_stops, NullTexts.line_grows, NullTexts.opened_text, LineTexts.after_append, CellLaws.unless_true, CellWords.chunk_left, CellWords.short_left}
 
 -- ---- content, byte by byte
@@ -26,7 +26,7 @@ no_text_false c l b is h = grind (arith, begun_by_test)
 
 module _ {column : ℕ} {c : Conversion} {state : ℕ → List ℕ → CellPart} {Good : List ℕ → Type 0} (last : Bool) (holds : HoldsContent column c state Good) where
   pub text_at : (r : ℕ) (d : List ℕ) → cell_so_far column last (state (suc r) d) ≡ after_comma column (open_field c d)
-  text_at r d = sym (opened_text column last (state (suc r) d) (omega (arith, holds.size r d))) ∙ ap (opened column) (holds.text r d)
+  text_at r d = grind (arith, common_steps, opened_text, column)
 
   -- the bytes of some content are elements
   pub content_spelt : (d bytes : List ℕ) (m r : ℕ) → m ≡ length bytes + r → BeginsData c (d ++ bytes) → (r ≡ 0 → 0 < length bytes → Good (d ++ bytes)) → Spelt (cell column) (state m d) bytes (state r (d ++ bytes))
@@ -44,19 +44,19 @@ module _ {column : ℕ} {c : Conversion} {state : ℕ → List ℕ → CellPart}
 
   -- and where more follow
   front_spelt : {m : ℕ} (d bytes : List ℕ) (r : ℕ) → m ≡ length bytes + suc r → BeginsData c (d ++ bytes) → Spelt (cell column) (state m d) bytes (state (suc r) (d ++ bytes))
-  front_spelt {m = m} d bytes r is begun = content_spelt d bytes m (suc r) is begun (λ none _. absurd (omega (arith, none)))
+  front_spelt {m = m} d bytes r is begun = grind (arith, common_steps, bytes, content_spelt)
 
   -- what some content adds to the open field
   text_more : (d more : List ℕ) → BeginsData c (d ++ more) → after_comma column (open_field c d) ++ added_text c d more ≡ after_comma column (open_field c (d ++ more))
-  text_more d more begun = sym (after_append column (open_field c d) (added_text c d more)) ∙ ap (after_comma column) (open_grows c d more begun)
+  text_more d more begun = grind (arith, common_steps, after_append, column, open_grows)
 
   -- what some content adds to the text, where more follows
   pub text_grown : (d more : List ℕ) (r r' : ℕ) → BeginsData c (d ++ more) → cell_so_far column last (state (suc r) d) ++ added_text c d more ≡ cell_so_far column last (state (suc r') (d ++ more))
-  text_grown d more r r' begun = ap (λ l. l ++ added_text c d more) (text_at r d) ∙ text_more d more begun ∙ sym (text_at r' (d ++ more))
+  text_grown d more r r' begun = grind (arith, common_steps, text_at, text_more)
 
   -- and where none does
   text_closed : (d more tail : List ℕ) (r : ℕ) → BeginsData c (d ++ more) → after_comma column (open_field c (d ++ more)) ++ tail ≡ cell_so_far column last (state 0 (d ++ more)) → cell_so_far column last (state (suc r) d) ++ (added_text c d more ++ tail) ≡ cell_so_far column last (state 0 (d ++ more))
-  text_closed d more tail r begun whole = sym (append_assoc (cell_so_far column last (state (suc r) d)) (added_text c d more) tail) ∙ ap (λ l. (l ++ added_text c d more) ++ tail) (text_at r d) ∙ ap (λ l. l ++ tail) (text_more d more begun) ∙ whole
+  text_closed d more tail r begun whole = grind (arith, common_steps, append_assoc, column, text_at, text_more)
 
   -- bytes were read and their text put, and more follow
   fills_path : {d more : List ℕ} {p q : At} (m r : ℕ) → m ≡ length more + suc r → FillsData c d p.seen q.seen p.place q.place p.held q.held more → Path (cell column) (cell_so_far column last) (state m d) p q (state (suc r) (d ++ more))
@@ -186,7 +186,7 @@ module _ {column : ℕ} {c : Conversion} {state : ℕ → List ℕ → CellPart}
     front_path = fills_path m last_left (omega (arith, x.counted, last_split)) x.fills
 
     last_spelt : Good all_content → Spelt (cell column) (state (suc last_left) (d ++ x.front)) x.takes.piece (state 0 all_content)
-    last_spelt good = content_spelt (d ++ x.front) x.takes.piece (suc last_left) 0 (omega (arith, x.takes.counted, last_split)) x.takes.begun (λ _ _. good)
+    last_spelt good = grind (arith, common_steps, content_spelt, last_split)
 
     -- all of it was read and its text put, and what ends it
     pub ends_path : {j : Held} (tail : List ℕ) → Good all_content → after_comma column (open_field c all_content) ++ tail ≡ cell_so_far column last (state 0 all_content) → Puts q.held j tail
@@ -228,10 +228,10 @@ module _ {column : ℕ} {c : Conversion} {state : ℕ → List ℕ → CellPart}
 -- ---- the content of a short value, and of a chunk
 
 short_next : (c : Conversion) (r : ℕ) (d : List ℕ) → short_left c (suc r) d ≡ ShortData c r d
-short_next c r d = choose_false (suc r == 0) (WholeCell (DataCell c d)) (ShortData c (suc r - 1) d) (ne_eqb (suc r) 0 (λ e. omega (arith, e))) ∙ ap (λ (k : ℕ). ShortData c k d) (omega arith)
+short_next c r d = grind (arith, common_steps, choose_false, ne_eqb)
 
 chunk_next : (c : Conversion) (total : Option ℕ) (r : ℕ) (d : List ℕ) → chunk_left c total (suc r) d ≡ ChunkData c total r d
-chunk_next c total r d = choose_false (suc r == 0) (ChunkLength c total d) (ChunkData c total (suc r - 1) d) (ne_eqb (suc r) 0 (λ e. omega (arith, e))) ∙ ap (λ (k : ℕ). ChunkData c total k d) (omega arith)
+chunk_next c total r d = grind (arith, common_steps, choose_false, ne_eqb)
 
 module _ (column : ℕ) (c : Conversion) where
   short_free : (r : ℕ) (d : List ℕ) (x : ℕ) → is_begun c (d ++ x ∷ []) ≡ true → (r ≡ 0 → is_fit c (d ++ x ∷ []) ≡ true) → (is_begun c (d ++ x ∷ []) && (nat_lt 0 r || is_fit c (d ++ x ∷ []))) ≡ true
@@ -268,7 +268,7 @@ module _ (column : ℕ) (c : Conversion) where
 
   -- where the content isn't whole, its last byte is refused
   pub short_refused : (e : List ℕ) (y : ℕ) → is_fit c (e ++ y ∷ []) ≡ false → cell_fault column (short_left c 1 e) (y ∷ []) ≡ Some (BadText column)
-  short_refused e y unfit = ap (λ s. cell_fault column s (y ∷ [])) (short_next c 0 e) ∙ no_fit (is_begun c (e ++ y ∷ [])) (is_fit c (e ++ y ∷ [])) unfit
+  short_refused e y unfit = grind (arith, common_steps, column, short_next, no_fit)
 
   pub chunk_holds : (total : Option ℕ) → HoldsContent column c (chunk_left c total) (λ _. Unit {0})
   chunk_holds total = grind (arith, append-nil, begun_or, chunk_next, unless_true)

@@ -1,5 +1,5 @@
 -- Long values, element after element: their lengths, the content between, and the end.
-use Rattle.tds_rows.proofs.Words.{◌≡◌, ◌∙◌, inl, inr, ℕ, zero, suc, ◌-◌, ◌^◌, ◌<◌, ◌≤◌, Bool, true, false, List, [], ◌∷◌, ◌++◌, length, sym, ap, arith, append-nil, Result, Ok, Err, MatchResult, subst, Option, drop-nil, take-nil, Stop, StopsReading, Seen, Takes, Spelt-one, Spelt-none, BeginsData, Conversion, HexDigits, IsFit, Utf16Text, Utf8Text, Windows1252Text, conversion_rest, conversion_text, is_fit, is_quoted, open_field, emit, after_comma, binary_mark, in_line, null_field, quote, Sink, Breaks, Held, IsWriting, Puts, PutsPiece, held, begun_by_test, fit_begins, fit_by_test, no_data_is_fit, hex-nil, Breaks-after, Puts-none, Puts-trans, Breaks-longer, text_nil, Cell, CellPart, Null, ShortLength, WholeCell, cell, PutsField, StopsField, cell_so_far, EndsData, StopsEnding, ending, opening}
+use Rattle.tds_rows.proofs.Words.{common_steps, ◌≡◌, ◌∙◌, inl, inr, ℕ, zero, suc, ◌-◌, ◌^◌, ◌<◌, ◌≤◌, Bool, true, false, List, [], ◌∷◌, ◌++◌, length, sym, ap, arith, append-nil, Result, Ok, Err, MatchResult, subst, Option, drop-nil, take-nil, Stop, StopsReading, Seen, Takes, Spelt-one, Spelt-none, BeginsData, Conversion, HexDigits, IsFit, Utf16Text, Utf8Text, Windows1252Text, conversion_rest, conversion_text, is_fit, is_quoted, open_field, emit, after_comma, binary_mark, in_line, null_field, quote, Sink, Breaks, Held, IsWriting, Puts, PutsPiece, held, begun_by_test, fit_begins, fit_by_test, no_data_is_fit, hex-nil, Breaks-after, Puts-none, Puts-trans, Breaks-longer, text_nil, Cell, CellPart, Null, ShortLength, WholeCell, cell, PutsField, StopsField, cell_so_far, EndsData, StopsEnding, ending, opening}
 use Rattle.tds_rows.proofs.{LongSteps.ending_text, LongSteps.ends_break, LongSteps.ends_path, LongSteps.ends_refused, LongSteps.short_holds, LongSteps.short_refused, LongSteps.text_at, Numbers.Next, Paths.At, Paths.Path, Paths.path_both, Paths.path_of, Paths.streams_of, CellWords.short_left}
 
 -- ---- no content
@@ -11,7 +11,7 @@ pub rest_none : (c : Conversion) → conversion_rest c [] ≡ []
 rest_none c = grind (arith, drop-nil)
 
 emit_none : (c : Conversion) → emit (conversion_rest c) (conversion_text c) [] ≡ []
-emit_none c = ap (conversion_text c) (take-nil (length {A = ℕ} [] - length (conversion_rest c []))) ∙ text_none c
+emit_none c = grind (arith, common_steps, take-nil, text_none)
 
 pub open_none : (c : Conversion) → opening (is_quoted c) ≡ open_field c []
 open_none HexDigits = sym (append-nil binary_mark) ∙ ap (λ l. binary_mark ++ l) (sym (emit_none HexDigits))
@@ -83,7 +83,7 @@ module _ (column : ℕ) (last : Bool) (c : Conversion) where
   short_open n some = grind (arith, open_none, short_holds, text_at)
 
   empty_open : after_comma column (opening (is_quoted c)) ++ ending c (is_quoted c) last [] ≡ cell_so_far column last (short_left c 0 [])
-  empty_open = ap (λ l. after_comma column l ++ ending c (is_quoted c) last []) (open_none c) ∙ ending_text column c last [] (no_data_is_fit c)
+  empty_open = grind (arith, common_steps, column, open_none, ending_text, no_data_is_fit)
 
   pub short_text : (n : ℕ) → (q : List ℕ) × (after_comma column (opening (is_quoted c)) ++ q ≡ cell_so_far column last (short_left c n []))
   short_text zero = (ending c (is_quoted c) last [], empty_open)

@@ -1,5 +1,5 @@
 -- Runs over the cells of an NBCROW: how they are written, and how the row is read and its text put by them.
-use Rattle.tds_rows.proofs.Words.{◌≡◌, ◌∙◌, ℕ, zero, suc, ◌+◌, ◌-◌, ◌^◌, ◌≤◌, ◌<◌, Bool, true, false, List, [], ◌∷◌, ◌++◌, length, drop, refl, sym, ap, subst, arith, append_assoc, append-nil, add-zero, length-append, Consumes-nil, Coming, before, IsBetween, Seen, Takes, Takes-more, Stays-none, takes_both, Column, Held, Puts, nears_put, Puts_split, Charset, Ahead, Table, is_last_column, PutsMarked, WritesColumn, WritesMarked, WritesNext, RowPart, marked, next_cell, row, row_so_far}
+use Rattle.tds_rows.proofs.Words.{common_steps, ◌≡◌, ◌∙◌, ℕ, zero, suc, ◌+◌, ◌-◌, ◌^◌, ◌≤◌, ◌<◌, Bool, true, false, List, [], ◌∷◌, ◌++◌, length, drop, refl, sym, ap, subst, arith, append_assoc, append-nil, add-zero, length-append, Consumes-nil, Coming, before, IsBetween, Seen, Takes, Takes-more, Stays-none, takes_both, Column, Held, Puts, nears_put, Puts_split, Charset, Ahead, Table, is_last_column, PutsMarked, WritesColumn, WritesMarked, WritesNext, RowPart, marked, next_cell, row, row_so_far}
 use Rattle.tds_rows.proofs.{NullSteps.NearsCells, NullSteps.all_put, NullSteps.cell_nears, NullSteps.null_nears, Paths.At, NullTexts.ends_marked, NullTexts.nulls_ahead, RunSteps.whole_puts, TableSteps.next_column}
 
 -- text that doesn't fill the block waits
@@ -77,5 +77,4 @@ module _ (charset : Charset) (start : RowPart) (columns : List Column) (nulls : 
 -- as many columns more as a run took
 pub run_nears : {table : Table} {columns : List Column} {nulls : ℕ → Bool} {from to : Ahead} {start : RowPart} {p q r : At} → PutsMarked table columns nulls from to q.seen r.seen q.place r.place q.held r.held → IsBetween r.seen → length r.held.waiting < 4096 → q.held.delivered ≤ 2 ^ 64 - 1
     → NearsCells table.charset start (marked (drop from.column columns) nulls from.column) p q from.column → NearsCells table.charset start (marked (drop to.column columns) nulls to.column) p r to.column
-run_nears {q = q} {r = r} x between few delivered near =
-    rw x.runs.further (marked_nears _ _ _ _ _ _ x.runs.count q r x.bytes x.text x.runs.writes (record { takes = x.takes; between = between; puts = x.puts; few = few; delivered = delivered; place_is = x.place_is }) near)
+run_nears {q = q} {r = r} x between few delivered near = grind (arith, common_steps, marked_nears)

@@ -1,5 +1,5 @@
 -- Rows one after another: what was read of them, and what is read after that.
-use Rattle.tds_rows.proofs.Words.{◌≡◌, ◌∙◌, ℕ, ◌+◌, ◌-◌, ◌^◌, ◌<◌, ◌≤◌, Bool, false, List, [], ◌∷◌, ◌++◌, length, drop, refl, sym, ap, arith, append_assoc, append-nil, length-append, Option, Stop, Seen, Takes, Inside, Column, Held, Puts-none, Charset, Rows, RowsRun, Ahead, Cell, StaysInRow, PlainRow, RowPart, RowToken, WholeRow, next_cell, row, row_so_far, token_byte, token_start, ReadsRow, ReadsRows, RowStops, RowsStop, RowsPart, RowsPut, RunsRows, Writes, lines, rows, rows_so_far, rows_start, IsAhead, Knows}
+use Rattle.tds_rows.proofs.Words.{common_steps, ◌≡◌, ◌∙◌, ℕ, ◌+◌, ◌-◌, ◌^◌, ◌<◌, ◌≤◌, Bool, false, List, [], ◌∷◌, ◌++◌, length, drop, refl, sym, ap, arith, append_assoc, append-nil, length-append, Option, Stop, Seen, Takes, Inside, Column, Held, Puts-none, Charset, Rows, RowsRun, Ahead, Cell, StaysInRow, PlainRow, RowPart, RowToken, WholeRow, next_cell, row, row_so_far, token_byte, token_start, ReadsRow, ReadsRows, RowStops, RowsStop, RowsPart, RowsPut, RunsRows, Writes, lines, rows, rows_so_far, rows_start, IsAhead, Knows}
 use Rattle.tds_rows.proofs.{NullSteps.cell_path, NullSteps.marked_stops, NullTexts.coming, NullTexts.ends, NullTexts.nulls_ahead, Paths.At, Paths.Path, Paths.here, Paths.path_both, Paths.path_map, Paths.path_none, Paths.path_of, Paths.streams_of, Paths.writes_inside, RowSteps.PutsAt, RowSteps.StopsAt, RunSteps.lines-append, RunSteps.row_among, RunSteps.row_token}
 
 -- Rows of a token were read and their lines put: so many whole ones, and this part of the next.
@@ -49,7 +49,7 @@ module _ (charset : Charset) (all : List Column) (before : List (List Cell)) whe
   rows_among_rows = grind (arith, append_assoc)
 
   rows_after_text : (p : RowsPart) → lines before ++ rows_so_far p ≡ rows_so_far (after_rows p)
-  rows_after_text p = sym (append_assoc (lines before) (lines p.before) (row_so_far p.at)) ∙ ap (λ l. l ++ row_so_far p.at) (sym (lines-append before p.before))
+  rows_after_text p = grind (arith, common_steps, append_assoc, before, lines-append)
 
   rows_after : {p q : RowsPart} {bytes made : List ℕ} → Writes (rows PlainRow charset all) rows_so_far p bytes made q → Writes (rows PlainRow charset all) rows_so_far (after_rows p) bytes made (after_rows q)
   rows_after x = writes_inside {text = rows_so_far} {whole = rows_so_far} (lines before) rows_among_rows rows_after_text x

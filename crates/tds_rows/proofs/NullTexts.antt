@@ -1,5 +1,5 @@
 -- Columns that are NULL by their bit: their text stands after that of the element that is read before them.
-use Rattle.tds_rows.proofs.Words.{◌≡◌, ◌∙◌, ℕ, ◌+◌, ◌<◌, Bool, true, false, List, [], ◌∷◌, ◌++◌, length, refl, sym, ap, arith, append_assoc, append-nil, length-append, ◌==◌, Option, Some, None, if◌then◌else◌, map, Kind, IsNext, next_some, Column, open_field, after_comma, end_after, in_line, joined, line, null_field, Charset, Cell, CellPart, ChunkData, ChunkLength, Null, Shape, ShortData, WholeCell, cell, cell_add, cell_size, cell_start, field, field_so_far, cell_so_far, is_last_column, opened, RowPart, marked, next_cell, row_so_far, with_cell}
+use Rattle.tds_rows.proofs.Words.{common_steps, ◌≡◌, ◌∙◌, ℕ, ◌+◌, ◌<◌, Bool, true, false, List, [], ◌∷◌, ◌++◌, length, refl, sym, ap, arith, append_assoc, append-nil, length-append, ◌==◌, Option, Some, None, if◌then◌else◌, map, Kind, IsNext, next_some, Column, open_field, after_comma, end_after, in_line, joined, line, null_field, Charset, Cell, CellPart, ChunkData, ChunkLength, Null, Shape, ShortData, WholeCell, cell, cell_add, cell_size, cell_start, field, field_so_far, cell_so_far, is_last_column, opened, RowPart, marked, next_cell, row_so_far, with_cell}
 use Rattle.tds_rows.proofs.{GrowingTexts.Grows, GrowingTexts.OptionGrows, GrowingTexts.cell_grows, GrowingTexts.grows_all, GrowingTexts.grows_by, GrowingTexts.grows_same, GrowingTexts.grows_trans, GrowingTexts.grows_under, CellLaws.HasBytes, RowSteps.cell_more, RowSteps.fields_more, RowSteps.start_quiet}
 
 -- whether no column follows
@@ -89,7 +89,7 @@ module _ (charset : Charset) (cells : List Cell) (ks : List (Column × Bool)) wh
   rest_of part = []
 
   open_part : (f : List ℕ) → (joined (map field cells) ++ after_comma (length cells) f) ++ [] ≡ joined (map field cells ++ f ∷ [])
-  open_part f = append-nil (joined (map field cells) ++ after_comma (length cells) f) ∙ fields_more cells f
+  open_part f = grind (arith, common_steps, append-nil, cells, fields_more)
 
   -- the text so far of the row is that of the whole cells, that of the next one, and that of the NULLs after it
   pub part_text : (at : CellPart) → (joined (map field cells) ++ cell_so_far (length cells) (ends ks) at) ++ rest_of at ≡ row_so_far (up at)

@@ -1,5 +1,5 @@
 -- The numbers of a long value, its length or total and those of its chunks, as elements of its cell: how each is judged, and where it leads.
-use Rattle.tds_rows.proofs.Words.{◌≡◌, ◌≢◌, ◌∙◌, ◌⊎◌, inl, inr, ℕ, ◌+◌, ◌%◌, ◌<◌, true, false, List, [], length, refl, sym, ap, subst, arith, Option, Some, None, ◌==◌, ◌||◌, nat_le, ne_eqb, nat_tests, little, Fault, BadText, MessageEnded, OddText, Stop, IsNext, StopsReading, IsBetween, Seen, Takes, choose_false, choose_true, began_is_cut, cut_at_once, refused_at_once, Conversion, is_fit, unit, CellPart, ChunkLength, DataCell, Null, ShortLength, Total, WholeCell, cell, cell_add, cell_end, cell_fault, cell_size, known_total, null_total, unknown_total, unless, CutsNumber, ReadsNumber, RefusesNumber, chunk_length_fault, short_fault, short_length, total_fault, total_of, Payload}
+use Rattle.tds_rows.proofs.Words.{common_steps, ◌≡◌, ◌≢◌, ◌∙◌, ◌⊎◌, inl, inr, ℕ, ◌+◌, ◌%◌, ◌<◌, true, false, List, [], length, refl, sym, ap, subst, arith, Option, Some, None, ◌==◌, ◌||◌, nat_le, ne_eqb, nat_tests, little, Fault, BadText, MessageEnded, OddText, Stop, IsNext, StopsReading, IsBetween, Seen, Takes, choose_false, choose_true, began_is_cut, cut_at_once, refused_at_once, Conversion, is_fit, unit, CellPart, ChunkLength, DataCell, Null, ShortLength, Total, WholeCell, cell, cell_add, cell_end, cell_fault, cell_size, known_total, null_total, unknown_total, unless, CutsNumber, ReadsNumber, RefusesNumber, chunk_length_fault, short_fault, short_length, total_fault, total_of, Payload}
 use Rattle.tds_rows.proofs.{CellLaws.unless_true, CellWords.chunk_left, CellWords.short_left}
 
 -- An element of a cell was read, which leads from one state to another.
@@ -13,14 +13,7 @@ pub record Next (column : ℕ) (s : CellPart) (a b : Seen) (place place' : ℕ) 
 
 -- a number was read, where one of so many bytes is next
 next_by : {column size place place' n : ℕ} {s t : CellPart} {a b : Seen} → 0 < size → cell_size s ≡ size → (x : ReadsNumber size a b place place' n) → cell_fault column s x.element ≡ None → cell_add s x.element ≡ t → Next column s a b place place' t
-next_by some is x free to = record {
-  element = x.element;
-  next = record { some = omega (arith, x.whole, some); whole = x.whole ∙ sym is; free = free };
-  to = to;
-  takes = x.takes;
-  between = x.between;
-  place_is = omega (arith, x.place_is, x.whole);
-}
+next_by some is x free to = grind (arith, common_steps)
 
 -- it was refused, or is cut
 number_stops : {column size place : ℕ} {s : CellPart} {fault : ℕ → Option Fault} {a b : Seen} {stop : Stop} → 0 < size → cell_size s ≡ size → cell_end s ≡ Some MessageEnded → ((e : List ℕ) (n : ℕ) (f : Fault) → little e ≡ n → fault n ≡ Some f → cell_fault column s e ≡ Some f)
@@ -36,7 +29,7 @@ number_stops {column = column} {size = size} {place = place} {s = s} {a = a} {b 
 
 module _ (column : ℕ) (c : Conversion) (size : ℕ) (unit_is : size ≡ unit c) where
   short_same : (e : List ℕ) (n : ℕ) → little e ≡ n → cell_fault column (ShortLength c) e ≡ short_fault column size n
-  short_same e n is = λ i. unless ((is i == 0xFFFF) || (is i % (sym unit_is i) == 0)) (OddText column)
+  short_same e n is = grind (arith, common_steps, column)
 
   pub short_stops : {a b : Seen} {place : ℕ} {stop : Stop} → RefusesNumber 2 (short_fault column size) a b place stop ⊎ CutsNumber 2 a b place stop → StopsReading (cell column) (ShortLength c) a b place (ShortLength c) stop
   short_stops x = number_stops (omega arith) refl refl (λ e n f is first. short_same e n is ∙ first) x
@@ -44,26 +37,19 @@ module _ (column : ℕ) (c : Conversion) (size : ℕ) (unit_is : size ≡ unit c
   -- as a call read it
   module _ {a b : Seen} {place place' : ℕ} {answer : Option ℕ} (x : (n : ℕ) × ReadsNumber 2 a b place place' n × (short_fault column size n ≡ None) × (answer ≡ short_length n)) where
     pub short_none : answer ≡ None → Next column (ShortLength c) a b place place' (WholeCell Null)
-    short_none is =
-        let told : None ≡ short_length x.0 = sym is ∙ x.3 in
-        let null : x.0 ≡ 0xFFFF = grind (arith, nat_tests) in
-        next_by (omega arith) refl x.1 (short_same x.1.element x.0 x.1.number ∙ x.2) (choose_true (little x.1.element == 0xFFFF) _ _ (ap (λ (m : ℕ). m == 0xFFFF) (x.1.number ∙ null)))
+    short_none is = grind (arith, common_steps, short_length, next_by, short_same, choose_true)
 
     pub short_some : {k : ℕ} → answer ≡ Some k → (x.0 ≡ k) × (x.0 ≢ 0xFFFF)
-    short_some {k} is = let told : Some k ≡ short_length x.0 = sym is ∙ x.3 in (grind (arith, nat_tests), λ e. grind (arith, nat_tests))
+    short_some {k} is = grind (arith, common_steps, short_length)
 
     pub short_start : {k : ℕ} → answer ≡ Some k → Next column (ShortLength c) a b place place' (short_left c k [])
-    short_start is =
-        let k = short_some is in
-        let start : Next column (ShortLength c) a b place place' (short_left c x.0 []) = next_by (omega arith) refl x.1 (short_same x.1.element x.0 x.1.number ∙ x.2)
-        (choose_false (little x.1.element == 0xFFFF) (WholeCell Null) (short_left c (little x.1.element) []) (ap (λ (m : ℕ). m == 0xFFFF) x.1.number ∙ ne_eqb x.0 0xFFFF k.1) ∙ ap (λ (m : ℕ). short_left c m []) x.1.number) in
-        rw k.0 at start
+    short_start is = grind (arith, common_steps, short_some, column, place, next_by, short_same, choose_false, ne_eqb)
 
 -- ---- the total
 
 module _ (column : ℕ) (c : Conversion) (size : ℕ) (unit_is : size ≡ unit c) where
   total_same : (e : List ℕ) (n : ℕ) → little e ≡ n → cell_fault column (Total c) e ≡ total_fault column size n
-  total_same e n is = λ i. unless (nat_le unknown_total (is i) || (is i % (sym unit_is i) == 0)) (OddText column)
+  total_same e n is = grind (arith, common_steps, column)
 
   pub total_stops : {a b : Seen} {place : ℕ} {stop : Stop} → RefusesNumber 8 (total_fault column size) a b place stop ⊎ CutsNumber 8 a b place stop → StopsReading (cell column) (Total c) a b place (Total c) stop
   total_stops x = number_stops (omega arith) refl refl (λ e n f is first. total_same e n is ∙ first) x
@@ -112,7 +98,7 @@ module _ (column : ℕ) (c : Conversion) (size : ℕ) (unit_is : size ≡ unit c
     module _ {n place' : ℕ} (x : ReadsNumber 4 a b place place' n) (free : chunk_length_fault column size total sum n ≡ None) where
       -- the terminator was read, after content that is whole
       pub chunk_end : n ≡ 0 → is_fit c content ≡ true → Next column (ChunkLength c total content) a b place place' (WholeCell (DataCell c content))
-      chunk_end none fit = next_by (omega arith) refl x (end_judged content sum counted x.element n x.number none free ∙ unless_true (is_fit c content) (BadText column) fit) (to_end content sum counted x.element n x.number none)
+      chunk_end none fit = grind (arith, common_steps, next_by, end_judged, content, counted, free, unless_true, column, to_end)
 
       -- after content that isn't, it is refused
       pub chunk_unfit : n ≡ 0 → is_fit c content ≡ false → StopsReading (cell column) (ChunkLength c total content) a b place (ChunkLength c total content) (record { fault = BadText column; place = Payload place })
@@ -121,4 +107,4 @@ module _ (column : ℕ) (c : Conversion) (size : ℕ) (unit_is : size ≡ unit c
 
       -- the length of a chunk was read
       pub chunk_start : n ≢ 0 → Next column (ChunkLength c total content) a b place place' (chunk_left c total n content)
-      chunk_start some = next_by (omega arith) refl x (chunk_free content sum counted x.element n x.number some free) (to_data content sum counted x.element n x.number some)
+      chunk_start some = grind (arith, common_steps, next_by, chunk_free, content, counted, free, to_data)

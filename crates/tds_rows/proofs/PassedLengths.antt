@@ -1,5 +1,5 @@
 -- Lengths and totals of the value of a RETURNVALUE, as it is passed over.
-use Rattle.tds_rows.proofs.Words.{◌≡◌, ◌≢◌, ◌∙◌, ℕ, ◌%◌, Bool, true, List, length, sym, ap, subst, arith, Option, Some, None, ◌==◌, if◌then◌else◌, Fault, OddText, PlpLength, Seen, eq_true, or_cases, Conversion, CellPart, ChunkLength, DataCell, WholeCell, is_total, unless, ReadsNumber, chunk_length_fault, short_fault, short_length, return_column, AnyData, StepsOver, return_cell, reads_one}
+use Rattle.tds_rows.proofs.Words.{common_steps, ◌≡◌, ◌≢◌, ◌∙◌, ℕ, ◌%◌, Bool, true, List, length, sym, ap, subst, arith, Option, Some, None, ◌==◌, if◌then◌else◌, Fault, OddText, PlpLength, Seen, eq_true, or_cases, Conversion, CellPart, ChunkLength, DataCell, WholeCell, is_total, unless, ReadsNumber, chunk_length_fault, short_fault, short_length, return_column, AnyData, StepsOver, return_cell, reads_one}
 use Rattle.tds_rows.proofs.{CellMeaning.unless_none, Numbers.Next, Numbers.chunk_end, Numbers.chunk_start, Numbers.short_some, CellWords.chunk_left}
 
 -- an element was read that leads on
@@ -12,7 +12,7 @@ end_even t u odd plp h = grind arith
 module _ {c : Conversion} {size : ℕ} (any : AnyData c size) where
   -- a short value has whole units
   pub short_even : {a b : Seen} {place place' k : ℕ} {answer : Option ℕ} → ((n : ℕ) × ReadsNumber 2 a b place place' n × (short_fault return_column size n ≡ None) × (answer ≡ short_length n)) → answer ≡ Some k → k % size ≡ 0
-  short_even x is = let y = short_some return_column c size (sym any.unit_is) x is in grind (arith, eq_true, or_cases, unless_none)
+  short_even x is = grind (arith, common_steps, short_some, size, eq_true, or_cases, unless_none)
 
   module _ {total : Option ℕ} {content : List ℕ} {sum n k place place' : ℕ} {a b : Seen} (counted : length content ≡ sum) (x : ReadsNumber 4 a b place place' n) (free : chunk_length_fault return_column size total sum n ≡ None) (is : k ≡ n) where
     -- the terminator was read

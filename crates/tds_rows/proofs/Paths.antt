@@ -1,5 +1,5 @@
 -- What bytes make by a grammar, and how a call that reads them and puts what they make goes from place to place.
-use Rattle.tds_rows.proofs.Words.{◌≡◌, ◌∙◌, ℕ, ◌+◌, ◌-◌, ◌^◌, ◌≤◌, Bool, List, [], ◌++◌, length, sym, ap, arith, append_assoc, append-nil, length-append, Fault, Stop, Grammar, Seen, Takes, Inside, Inside-Spelt, Spelt-append, Spelt-none, Takes-none, takes_both, Option, seen, Sink, Held, Puts, held, StopsStreaming, Streams, Puts-none, Puts-trans, added_inside, streaming_after, Rows, Writes}
+use Rattle.tds_rows.proofs.Words.{common_steps, ◌≡◌, ◌∙◌, ℕ, ◌+◌, ◌-◌, ◌^◌, ◌≤◌, Bool, List, [], ◌++◌, length, sym, ap, arith, append_assoc, append-nil, length-append, Fault, Stop, Grammar, Seen, Takes, Inside, Inside-Spelt, Spelt-append, Spelt-none, Takes-none, takes_both, Option, seen, Sink, Held, Puts, held, StopsStreaming, Streams, Puts-none, Puts-trans, added_inside, streaming_after, Rows, Writes}
 use Rattle.tds_packet.specs.declared.payload.Payload.{Payload}
 
 -- ---- what bytes make
@@ -8,11 +8,11 @@ pub writes_none : {S : Type 0} {g : Grammar S Fault} {text : S → List ℕ} {s 
 writes_none = record { spelt = Spelt-none _ _; text_is = append-nil _ }
 
 pub writes_both : {S : Type 0} {g : Grammar S Fault} {text : S → List ℕ} {s t u : S} {a b p q : List ℕ} → Writes g text s a p t → Writes g text t b q u → Writes g text s (a ++ b) (p ++ q) u
-writes_both {text = text} {s = s} {p = p} {q = q} x y = record { spelt = Spelt-append _ _ _ _ _ _ x.spelt y.spelt; text_is = sym (append_assoc (text s) p q) ∙ ap (λ l. l ++ q) x.text_is ∙ y.text_is }
+writes_both {text = text} {s = s} {p = p} {q = q} x y = grind (arith, common_steps, Spelt-append, append_assoc)
 
 -- a small grammar inside a big one, with a text before it
 pub writes_inside : {S T : Type 0} {small : Grammar S Fault} {big : Grammar T Fault} {lift : S → T} {text : S → List ℕ} {whole : T → List ℕ} {s t : S} {a p : List ℕ} (front : List ℕ) → Inside small big lift → ((s : S) → front ++ text s ≡ whole (lift s)) → Writes small text s a p t → Writes big whole (lift s) a p (lift t)
-writes_inside {text = text} {whole = whole} {s = s} {t = t} front is text_is x = record { spelt = Inside-Spelt _ _ _ is _ _ _ x.spelt; text_is = added_inside _ _ _ is text whole front text_is s t _ x.text_is }
+writes_inside {text = text} {whole = whole} {s = s} {t = t} front is text_is x = grind (arith, common_steps, whole, Inside-Spelt, added_inside)
 
 -- ---- from place to place
 

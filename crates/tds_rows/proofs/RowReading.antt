@@ -1,5 +1,5 @@
 -- A reading of rows goes on from call to call.
-use Rattle.tds_rows.proofs.Words.{◌≡◌, subst, arith, Ok, Result, Stop, Rows, IsInRow, LeavesRows, StaysInRow}
+use Rattle.tds_rows.proofs.Words.{common_steps, ◌≡◌, subst, arith, Ok, Result, Stop, Rows, IsInRow, LeavesRows, StaysInRow}
 
 -- before the first step
 pub stays : {R W : Type 0} (a : Rows R W) → IsInRow a → StaysInRow a a
@@ -19,4 +19,4 @@ leaves_after a b c result x y = grind arith
 
 -- what is said of a payload and a sink is said of those that they are
 pub said_of : {A B : Type 0} (P : A → B → Type 0) (a a' : A) (b b' : B) → a ≡ a' → b ≡ b' → P a b → P a' b'
-said_of P a a' b b' first second x = subst (λ z. P z b') first (subst (λ z. P a z) second x)
+said_of P a a' b b' first second x = grind (arith, common_steps)

@@ -1,5 +1,5 @@
 -- The cells of a row, as they are read one after another and their text is put.
-use Rattle.tds_rows.proofs.Words.{◌≡◌, ◌∙◌, inl, ℕ, ◌+◌, ◌^◌, ◌-◌, ◌<◌, ◌≤◌, Bool, false, List, [], ◌∷◌, ◌++◌, length, refl, sym, ap, subst, arith, append-nil, length-append, None, map, length-map, map-append, Kind, Stop, IsNext, Leads, Spelt, concat, IsBetween, Seen, Takes, Spelt-append, Spelt-one, Column, joined, after_comma, in_line, Breaks, Held, Puts, BreaksStreaming, PutsText, StopsStreaming, Streams, Puts-none, Charset, Cell, CellPart, Shape, WholeCell, cell, cell_add, cell_end, cell_size, cell_start, field, field_so_far, shape, row, with_cell, StallsCell, cell_so_far}
+use Rattle.tds_rows.proofs.Words.{common_steps, ◌≡◌, ◌∙◌, inl, ℕ, ◌+◌, ◌^◌, ◌-◌, ◌<◌, ◌≤◌, Bool, false, List, [], ◌∷◌, ◌++◌, length, refl, sym, ap, subst, arith, append-nil, length-append, None, map, length-map, map-append, Kind, Stop, IsNext, Leads, Spelt, concat, IsBetween, Seen, Takes, Spelt-append, Spelt-one, Column, joined, after_comma, in_line, Breaks, Held, Puts, BreaksStreaming, PutsText, StopsStreaming, Streams, Puts-none, Charset, Cell, CellPart, Shape, WholeCell, cell, cell_add, cell_end, cell_size, cell_start, field, field_so_far, shape, row, with_cell, StallsCell, cell_so_far}
 use Rattle.tds_rows.proofs.{Paths.At, LineTexts.joined_snoc, CellWords.PutsCell, CellWords.StopsCell}
 
 -- A cell was read, of those whose text comes with the last element alone, and this is its text in its line.
@@ -36,7 +36,7 @@ quiet_text column last at h = grind arith
 
 module _ (kind : Kind) (s : Shape) (column : ℕ) (last : Bool) where
   none_put : (at : CellPart) (h : Held) → field_so_far at ≡ None → h.delivered ≤ 2 ^ 64 - 1 → PutsText (cell_so_far column last) (cell_start kind s) at h h
-  none_put at h quiet d = ([], append-nil (cell_so_far column last (cell_start kind s)) ∙ quiet_text column last (cell_start kind s) (start_quiet kind s) ∙ sym (quiet_text column last at quiet), Puts-none h d)
+  none_put at h quiet d = grind (arith, common_steps, append-nil, column, quiet_text, start_quiet, Puts-none)
 
   -- it was read, and its text put
   abbrev pub at_once_streams : (a b : Seen) (place place' : ℕ) (h i : Held) (text : List ℕ) → (r : ReadsCell (cell_start kind s) column last a b place place' text) → Puts h i text
@@ -69,7 +69,7 @@ module _ (kind : Kind) (s : Shape) (column : ℕ) (last : Bool) where
 
   -- it stopped before it had any text
   pub at_once_stalls : (a b : Seen) (place : ℕ) (h : Held) (stop : Stop) → h.delivered ≤ 2 ^ 64 - 1 → StallsCell (cell_start kind s) column a b place stop → StopsStreaming (cell column) (cell_so_far column last) (cell_start kind s) a b place h h false stop
-  at_once_stalls a b place h stop d x = record { at = x.at; cause = inl (x.stops, none_put x.at h x.quiet d, refl) }
+  at_once_stalls a b place h stop d x = grind (arith, common_steps, none_put)
 
 -- ---- a cell in its row
 
@@ -77,7 +77,7 @@ pub fields_more : (cells : List Cell) (v : List ℕ) → joined (map field cells
 fields_more cells v = ap (λ n. joined (map field cells) ++ after_comma n v) (sym (length-map cells field)) ∙ joined_snoc (map field cells) v
 
 pub cell_more : (cells : List Cell) (v : Cell) → joined (map field cells) ++ after_comma (length cells) (field v) ≡ joined (map field (cells ++ v ∷ []))
-cell_more cells v = fields_more cells (field v) ∙ ap joined (sym (map-append field cells (v ∷ [])))
+cell_more cells v = grind (arith, common_steps, fields_more, map-append)
 
 -- the columns to come, each with whether it is NULL by its bit
 module _ (charset : Charset) (cells : List Cell) (ks : List (Column × Bool)) where

@@ -1,5 +1,5 @@
 -- The cells of a run, as they are written one after another.
-use Rattle.tds_rows.proofs.Words.{false, zero, suc, add-zero, ◌≡◌, ◌∙◌, ℕ, ◌+◌, ◌-◌, ◌≤◌, ◌<◌, Bool, List, [], ◌∷◌, ◌++◌, length, take, drop, get_or, refl, sym, ap, subst, arith, append_assoc, append-nil, length-append, Result, Ok, Err, MatchResult, true, length-take, length-take-le, take-append-le, take_all, take_more, take-append-add, take-add, RefusedToken, Stop, map, ◌==◌, Option, Some, None, if◌then◌else◌, Spelt, Seen, Takes, joined, line, Sink, Breaks, Held, IsWriting, Puts, PutsPiece, held, Inside, Spelt-append, Spelt-one, Column, all_after, Charset, Cell, CellPart, Shape, WholeCell, cell, cell_start, field, shape, NbcRow, PlainRow, RowPart, RowToken, WholeRow, next_cell, row, row_so_far, token_byte, token_start, with_field, HasInt4, int4_kind, IsLeft, IsScalarLeft, IsValueText, WritesKind, cell_so_far, is_last_column, scalar_size, whole_size, WritesCell, WritesWhole, is_scalar, short_size, Writes, WritesRows, after_cells, lines, rows, rows_so_far, Kind, IntN, WritesColumn, WritesMarked}
+use Rattle.tds_rows.proofs.Words.{common_steps, false, zero, suc, add-zero, ◌≡◌, ◌∙◌, ℕ, ◌+◌, ◌-◌, ◌≤◌, ◌<◌, Bool, List, [], ◌∷◌, ◌++◌, length, take, drop, get_or, refl, sym, ap, subst, arith, append_assoc, append-nil, length-append, Result, Ok, Err, MatchResult, true, length-take, length-take-le, take-append-le, take_all, take_more, take-append-add, take-add, RefusedToken, Stop, map, ◌==◌, Option, Some, None, if◌then◌else◌, Spelt, Seen, Takes, joined, line, Sink, Breaks, Held, IsWriting, Puts, PutsPiece, held, Inside, Spelt-append, Spelt-one, Column, all_after, Charset, Cell, CellPart, Shape, WholeCell, cell, cell_start, field, shape, NbcRow, PlainRow, RowPart, RowToken, WholeRow, next_cell, row, row_so_far, token_byte, token_start, with_field, HasInt4, int4_kind, IsLeft, IsScalarLeft, IsValueText, WritesKind, cell_so_far, is_last_column, scalar_size, whole_size, WritesCell, WritesWhole, is_scalar, short_size, Writes, WritesRows, after_cells, lines, rows, rows_so_far, Kind, IntN, WritesColumn, WritesMarked}
 use Rattle.tds_rows.proofs.{CellSteps.fixed_some, BufferedCells.int4_cell, NullSteps.row_cell, NullTexts.coming, NullTexts.ends_marked, NullTexts.none_ahead, Paths.writes_both, Paths.writes_inside, Paths.writes_none, RowSteps.quiet_text, RowSteps.start_quiet, TableSteps.next_column, CellWords.PutsCell, CellWords.StopsCell}
 
 -- ---- cells of a row
@@ -14,7 +14,7 @@ whole_of from column last bytes made x = record {
 
 -- a scalar cell, in any set
 pub writes_scalar : (set : Charset) (kind : Kind) (column : ℕ) (last : Bool) (bytes made : List ℕ) → ((any : Charset) → WritesCell (cell_start kind (shape any kind)) column last bytes made) → WritesKind set kind column last bytes made
-writes_scalar set kind column last bytes made x = record { whole = whole_of (cell_start kind (shape set kind)) column last bytes made (x set); at_once = λ _ any. x any }
+writes_scalar set kind column last bytes made x = grind (arith, common_steps, whole_of)
 
 -- a whole number of four bytes, in any set
 pub writes_int4 : (set : Charset) (start n column : ℕ) (last : Bool) (bytes made : List ℕ) → start ≤ 1 → n ≡ 4 → HasInt4 start bytes → IsValueText (IntN 4) column last (take n (drop start bytes)) made → WritesKind set (int4_kind start) column last (take (start + 4) bytes) made
@@ -26,11 +26,11 @@ made_more made m to new rest within some = grind (arith, length-take-le, take-ap
 
 -- what is used after what was used
 pub used_more : (used u : ℕ) (bytes : List ℕ) → take (used + u) bytes ≡ take used bytes ++ take u (take (length bytes - used) (drop used bytes))
-used_more used u bytes = take-add used u bytes ∙ ap (λ l. take used bytes ++ take u l) (sym (all_after bytes used))
+used_more used u bytes = grind (arith, common_steps, take-add, all_after)
 
 -- what is written after what was made leaves it as it was
 pub made_same : (made : ℕ) (to rest : List ℕ) → made ≤ length to → take made (take made to ++ rest) ≡ take made to
-made_same made to rest within = take-append-le made (take made to) rest (omega (arith, within, length-take-le made to within)) ∙ take_all made (take made to) (omega (arith, within, length-take-le made to within))
+made_same made to rest within = grind (arith, common_steps, take-append-le, length-take-le, take_all)
 
 -- ---- the size of a cell
 
@@ -40,7 +40,7 @@ scalar_some kind bytes = grind (arith, fixed_some)
 
 -- how many bytes it has
 pub scalar_whole : (kind : Kind) (bytes : List ℕ) → is_scalar kind ≡ true → whole_size kind bytes ≡ scalar_size kind bytes
-scalar_whole kind bytes h = ap (λ b. if b then scalar_size kind bytes else short_size bytes) h
+scalar_whole kind bytes h = grind (arith, common_steps)
 
 -- it is left as a scalar cell is
 pub scalar_left : (set : Charset) (kind : Kind) (bytes : List ℕ) (room : ℕ) → is_scalar kind ≡ true → IsLeft set kind bytes room → IsScalarLeft kind bytes
@@ -91,7 +91,7 @@ row_token token charset all before cells some = grind (arith, Spelt-one, append-
 
 -- a cell that lies whole, by itself
 pub cell_writes : {column : ℕ} {last : Bool} {bytes made : List ℕ} (kind : Kind) (sh : Shape) → (x : WritesWhole (cell_start kind sh) column last bytes made) → Writes (cell column) (cell_so_far column last) (cell_start kind sh) bytes made (WholeCell x.value)
-cell_writes {column = column} {last = last} {made = made} kind sh x = record { spelt = x.spelt; text_is = ap (λ t. t ++ made) (quiet_text column last (cell_start kind sh) (start_quiet kind sh)) ∙ x.text_is }
+cell_writes {column = column} {last = last} {made = made} kind sh x = grind (arith, common_steps, made, quiet_text, start_quiet)
 
 -- a cell after these, in its row
 after_more : {bytes made : List ℕ} {v : Cell} (charset : Charset) (cells : List Cell) (c : Column) (left : List Column) → Writes (cell (length cells)) (cell_so_far (length cells) (is_last_column left)) (cell_start c.kind (shape charset c.kind)) bytes made (WholeCell v)

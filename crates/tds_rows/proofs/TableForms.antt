@@ -1,5 +1,5 @@
 -- The forms of the next columns of a row, as a table gives them.
-use Rattle.tds_rows.proofs.Words.{◌≡◌, ◌∙◌, inl, inr, ℕ, ◌+◌, ◌<◌, ◌≤◌, Bool, true, false, List, ◌∷◌, length, take, drop, get_or, refl, sym, ap, arith, ◌⊎◌, ◌==◌, ◌&&◌, map, drop-map, drop-take, drop_more, get_or-drop, get_or-take, length-take-le, take-map, length-drop, take-take, Column, Charset, Form, CELL_ROOM, FormsRun, Ahead, Table, IsLeft, AreNext, FirstLeft, FirstWritten, FormsWritten, AreLaidOut, RunsMarked, OneWritten, AreAhead, IsAhead, Knows, NextColumn, kinds, nat_tests}
+use Rattle.tds_rows.proofs.Words.{common_steps, ◌≡◌, ◌∙◌, inl, inr, ℕ, ◌+◌, ◌<◌, ◌≤◌, Bool, true, false, List, ◌∷◌, length, take, drop, get_or, refl, sym, ap, arith, ◌⊎◌, ◌==◌, ◌&&◌, map, drop-map, drop-take, drop_more, get_or-drop, get_or-take, length-take-le, take-map, length-drop, take-take, Column, Charset, Form, CELL_ROOM, FormsRun, Ahead, Table, IsLeft, AreNext, FirstLeft, FirstWritten, FormsWritten, AreLaidOut, RunsMarked, OneWritten, AreAhead, IsAhead, Knows, NextColumn, kinds, nat_tests}
 use Rattle.tds_rows.proofs.{FormSteps.some_first, TableRuns.one_next}
 
 -- two numbers are equal where two others are
@@ -57,7 +57,7 @@ module _ (table : Table) (from : Ahead) (end : ℕ) (forms : List Form) (within 
     -- what was written by them is between two places of the row
     pub forms_between : (columns : List Column) → Knows table columns → IsAhead table columns from → (to : Ahead) (bytes text : List ℕ) (run : FormsRun) → to.column ≡ from.column + run.cells → IsAhead table columns to → FormsWritten table.charset forms from.column ends bytes text run
         → RunsMarked table columns (λ k. false) from to (take run.used bytes) (take run.made text)
-    forms_between columns knows is to bytes text run further there x = record { count = run.cells; ahead = there; further = further; writes = x columns (are_next columns knows is) }
+    forms_between columns knows is to bytes text run further there x = grind (arith, common_steps, are_next)
 
     -- the first alone was written, of one
     pub alone_written : (bytes text : List ℕ) (run : FormsRun) → length forms ≡ 1 → FirstWritten table.charset forms from.column ends bytes text run → OneWritten table from bytes text run.used run.made
