@@ -1,5 +1,5 @@
 -- Where a call stops with the fault of a device, that device failed in it.
-use Rattle.tds_rows.proofs.Words.{arith, ◌≡◌, ◌∙◌, ◌⊎◌, inl, inr, ℕ, Bool, false, List, sym, ap, subst, Result, Err, Option, Some, None, IfErr, ⊤, one_more, Fault, BadText, ReadFailed, WriteFailed, Stop, seen, Seen, ends_blame, JoinFault, Sink, EndsBy, Pushes, Breaks, Held, PutsPiece, Blames, Failures, StopBlames, failures_with, CutsNumber, RefusesNumber, chunk_length_fault, end_fault, join_stop, short_fault, total_fault}
+use Rattle.tds_rows.proofs.Words.{common_steps, arith, ◌≡◌, ◌∙◌, ◌⊎◌, inl, inr, ℕ, Bool, false, List, sym, ap, subst, Result, Err, Option, Some, None, IfErr, ⊤, one_more, Fault, ReadFailed, WriteFailed, Stop, seen, Seen, ends_blame, JoinFault, Sink, EndsBy, Pushes, Breaks, Held, PutsPiece, Blames, Failures, StopBlames, failures_with, CutsNumber, RefusesNumber, chunk_length_fault, join_stop, short_fault, total_fault}
 use Rattle.tds_packet.specs.declared.payload.Payload.{Payload}
 
 pub same_failures : (a b c d : ℕ) → a ≡ c → b ≡ d → ◌≡◌ {A = Failures} (record { reads = a; writes = b }) (record { reads = c; writes = d })
@@ -32,11 +32,8 @@ short_none column size n = grind arith
 pub total_none : (column size n : ℕ) → NoDevice (total_fault column size n)
 total_none column size n = grind arith
 
-end_none : (column size : ℕ) (total : Option ℕ) (sum : ℕ) → NoDevice (end_fault column size total sum)
-end_none column size total sum = grind arith
-
 pub chunk_none : (column size : ℕ) (total : Option ℕ) (sum n : ℕ) → NoDevice (chunk_length_fault column size total sum n)
-chunk_none column size total sum n = grind (arith, end_none)
+chunk_none column size total sum n = grind (arith, common_steps)
 
 -- a length that was refused or cut
 pub length_blames : {R : Type 0} (remaining : R → Option (List ℕ)) (size : ℕ) (fault : ℕ → Option Fault) (old : Payload R) (b : Seen) (stop : Stop) → old.stopped ≡ None → ((n : ℕ) → NoDevice (fault n))
@@ -56,17 +53,13 @@ write_stops old new h i piece stop before after x = grind arith
 pub piece_blames : {W U : Type 0} (contents : W → Option (List ℕ)) (reads : ℕ) (old new : Sink W) (text : List ℕ) (r : Result U Stop) → old.failed ≡ false → PutsPiece contents old new text r → Blames (failures_with reads old) (failures_with reads new) r
 piece_blames contents reads old new text r going p = grind (arith, write_stops)
 
--- a fault of the text names no device
-bad_text : (old new : Failures) (column : ℕ) (stop : Stop) → stop.fault ≡ BadText column → StopBlames old new stop
-bad_text old new column stop is = grind arith
-
 pub push_blames : (begins : List ℕ → Type 0) (rest text : List ℕ → List ℕ) (w w' : List ℕ) (h i : Held) (failed : Bool) (piece : List ℕ) (column place : ℕ) (reads reads' : ℕ) (fault : JoinFault) → failed ≡ false
     → Pushes {U = Unit {0}} begins rest text w w' h i failed piece (Err fault) → StopBlames (record { reads = reads; writes = h.failures }) (record { reads = reads'; writes = i.failures }) (join_stop column place fault)
-push_blames begins rest text w w' h i failed piece column place reads reads' fault going x = grind (arith, bad_text, write_stops)
+push_blames begins rest text w w' h i failed piece column place reads reads' fault going x = grind (arith, common_steps, write_stops)
 
 pub end_blames : (unit : ℕ) (fit : List ℕ → Type 0) (text : List ℕ → List ℕ) (w w' : List ℕ) (h i : Held) (failed : Bool) (column place reads : ℕ) (fault : JoinFault) → failed ≡ false
     → EndsBy {U = Unit {0}} unit fit text w w' h i failed (Err fault) → StopBlames (record { reads = reads; writes = h.failures }) (record { reads = reads; writes = i.failures }) (join_stop column place fault)
-end_blames unit fit text w w' h i failed column place reads fault going x = grind (arith, bad_text, write_stops)
+end_blames unit fit text w w' h i failed column place reads fault going x = grind (arith, common_steps, write_stops)
 
 -- ---- the whole call
 

@@ -1,13 +1,10 @@
 -- Cells whose bytes lie together, and the room that a sink lends for their text.
-use Rattle.tds_rows.proofs.Words.{◌≡◌, ◌≢◌, ◌∙◌, ℕ, ◌+◌, ◌-◌, ◌<◌, ◌≤◌, Bool, true, false, List, [], ◌++◌, length, take, drop, Result, Ok, Err, MatchResult, inr, refl, sym, ap, arith, ◌∷◌, length-take, length-drop, length-take-le, None, Some, Option, ◌==◌, ◌||◌, is_ok, slice_index, ne_eqb, Kind, IntN, ScalarValue, fixed_length, is_length_allowed, is_scalar, read_of, BadValue, BadValueLength, Stop, IsNext, Seen, Takes, IsBetween, choose_false, Spelt-none, Spelt-one, null_field, in_line, overwritten, Sink, Breaks, Held, IsWriting, Puts, PutsPiece, held, spare_before, spare_written, Charset, CellPart, Null, ScalarBytes, ScalarCell, ScalarLength, WholeCell, cell, cell_start, shape, unless, value_part, HasInt4, IsScalarLeft, IsValueText, int4_kind, length_after, start_after, value_length, value_start, WritesCell, take-add}
+use Rattle.tds_rows.proofs.Words.{common_steps, ◌≡◌, ◌≢◌, ◌∙◌, ℕ, ◌+◌, ◌-◌, ◌<◌, ◌≤◌, Bool, true, false, List, [], ◌++◌, length, take, drop, Result, Ok, Err, MatchResult, inr, refl, sym, ap, arith, ◌∷◌, length-take, length-drop, None, Some, Option, ◌==◌, ◌||◌, is_ok, slice_index, ne_eqb, Kind, IntN, ScalarValue, fixed_length, is_length_allowed, is_scalar, read_of, BadValueLength, Stop, Seen, Takes, IsBetween, choose_false, Spelt-none, Spelt-one, null_field, in_line, overwritten, Sink, Breaks, Held, IsWriting, Puts, PutsPiece, held, spare_before, spare_written, Charset, CellPart, Null, ScalarBytes, ScalarCell, ScalarLength, WholeCell, cell, cell_start, shape, unless, value_part, HasInt4, IsScalarLeft, IsValueText, int4_kind, length_after, start_after, value_length, value_start, WritesCell, take-add}
 use Rattle.tds_rows.proofs.{CellSteps.fixed_some, CellSteps.scalar_shape, RowSteps.ReadsCell, RowSteps.at_once_breaks, RowSteps.at_once_streams, CellWords.PutsCell, CellWords.StopsCell}
 
 -- a value that is read has a length that is allowed
 read_allowed : (kind : Kind) (bytes : List ℕ) (value : ScalarValue) → read_of kind bytes ≡ Ok value → is_length_allowed kind (length bytes) ≡ true
 read_allowed kind bytes value h = grind arith
-
-value_next : (column : ℕ) (kind : Kind) (n : ℕ) (bytes : List ℕ) (value : ScalarValue) → 0 < n → length bytes ≡ n → read_of kind bytes ≡ Ok value → IsNext (cell column) (ScalarBytes kind n) bytes
-value_next column kind n bytes value some whole h = record { some = omega (arith, some, whole); whole = whole; free = ap (λ r. unless (is_ok r) (BadValue column)) h }
 
 pub fixed_written : (column : ℕ) (kind : Kind) (n : ℕ) (last : Bool) (bytes text : List ℕ) → 0 < n → n ≤ length bytes → IsValueText kind column last (take n bytes) text → WritesCell (ScalarBytes kind n) column last (take n bytes) text
 fixed_written column kind n last bytes text some within x = record {
@@ -17,7 +14,7 @@ fixed_written column kind n last bytes text some within x = record {
   element = take n bytes;
   joined = refl;
   spelt = Spelt-none (cell column) (ScalarBytes kind n);
-  next = value_next column kind n (take n bytes) x.0 some (length-take-le n bytes within) x.1;
+  next = grind (arith, common_steps);
   whole = ap (λ r. value_part r) x.1;
   quiet = refl;
   text_is = x.2;
@@ -54,7 +51,7 @@ counted_written column kind n last bytes text is some within x =
       element = take n (drop 1 bytes);
       joined = sym (take-add 1 n bytes ∙ ap (λ l. l ++ take n (drop 1 bytes)) (first_of bytes n (omega (arith, within)) is));
       spelt = rw to at (Spelt-one (cell column) (ScalarLength kind) (n ∷ []) (record { some = omega arith; whole = refl; free = ap (λ v. unless v (BadValueLength column)) yes }));
-      next = value_next column kind n (take n (drop 1 bytes)) x.0 (omega (arith, some)) whole x.1;
+      next = grind (arith, common_steps);
       whole = ap (λ r. value_part r) x.1;
       quiet = refl;
       text_is = x.2;

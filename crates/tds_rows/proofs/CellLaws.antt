@@ -9,9 +9,6 @@ HasBytes s = Unit {0}
 pub unless_true : (b : Bool) (f : Fault) → b ≡ true → unless b f ≡ None
 unless_true b f h = rw h
 
-zero-mod : (c : Conversion) → 0 % unit c ≡ 0
-zero-mod c = grind arith
-
 is_known : (n : ℕ) → n < unknown_total → known_total n ≡ Some n
 is_known n h = grind (arith, common_steps, choose_false, ne_eqb)
 
@@ -49,7 +46,7 @@ module _ (column : ℕ) where
       (rw l (choose_false _ (WholeCell Null) (if n == 0 then WholeCell (DataCell c []) else ShortData c (n - 1) []) (ne_eqb n 0xFFFF (λ e. omega arith))))
 
   short_cell : (c : Conversion) (d bytes : List ℕ) → is_fit c d ≡ true → SpellsShort d bytes → Spelt (cell column) (ShortLength c) bytes (WholeCell (DataCell c d))
-  short_cell c [] bytes h s = subst (λ v. Spelt (cell column) (ShortLength c) v (WholeCell (DataCell c []))) (sym s.counted) (short_length c 0 (omega arith) (zero-mod c))
+  short_cell c [] bytes h s = subst (λ v. Spelt (cell column) (ShortLength c) v (WholeCell (DataCell c []))) (sym s.counted) (short_length c 0 (omega arith) (grind (arith, common_steps)))
   short_cell c (x ∷ xs) bytes h s =
       let e : length (x ∷ xs) % unit c ≡ 0 = fit_units c _ h in
       let to : (if length (x ∷ xs) == 0 then WholeCell (DataCell c []) else ShortData c (length (x ∷ xs) - 1) []) ≡ ShortData c (length xs) [] = choose_false _ (WholeCell (DataCell c [])) (ShortData c (length (x ∷ xs) - 1) []) (ne_eqb (length (x ∷ xs)) 0 (λ q. omega arith)) ∙ ap (λ k. ShortData c k []) (omega arith) in

@@ -1,5 +1,5 @@
 -- What the bytes that lead to a part of a cell spell.
-use Rattle.tds_rows.proofs.Words.{common_steps, ◌≡◌, ◌≢◌, ◌⊎◌, ℕ, ◌+◌, ◌-◌, ◌/◌, ◌%◌, ◌^◌, ◌<◌, Bool, true, List, [], ◌∷◌, ◌++◌, length, replicate, refl, sym, ◌∙◌, ap, subst, append_assoc, append-nil, arith, length-append, Result, Ok, Option, Some, None, ◌==◌, ◌&&◌, ◌||◌, nat_lt, is_ok, slice_index, if◌then◌else◌, concat, concat-append, nat_tests, Kind, Short, Chunked, ScalarValue, ValueFault, little, is_length_allowed, read_of, Conversion, unit, is_fit, is_begun, no_data_is_fit, AreBytes, Spelt, IsNext, Spelt-induct, AreBytes-front, AreBytes-back, Fault, BadText, OddText, PlpLength, Cell, Null, ScalarCell, DataCell, Shape, FixedShape, CountedShape, LongShape, SpellsChunk, SpellsChunks, SpellsCell, CellPart, ScalarBytes, ScalarLength, ShortLength, ShortData, Total, ChunkLength, ChunkData, WholeCell, cell_start, cell_add, cell, unless, within_total, is_total, end_of_chunks, chunk_fault, value_part, known_total, unknown_total, null_total, and_parts, choose, eq_true, eq_false, one_byte, two_bytes}
+use Rattle.tds_rows.proofs.Words.{common_steps, ◌≡◌, ◌≢◌, ℕ, ◌+◌, ◌-◌, ◌/◌, ◌%◌, ◌^◌, ◌<◌, Bool, true, List, [], ◌∷◌, ◌++◌, length, replicate, refl, sym, ◌∙◌, ap, subst, append_assoc, append-nil, arith, length-append, Result, Ok, Option, Some, None, ◌==◌, ◌&&◌, ◌||◌, nat_lt, is_ok, slice_index, if◌then◌else◌, concat, concat-append, nat_tests, Kind, Short, Chunked, ScalarValue, ValueFault, little, is_length_allowed, read_of, Conversion, unit, is_fit, is_begun, no_data_is_fit, AreBytes, Spelt, IsNext, Spelt-induct, AreBytes-front, AreBytes-back, Fault, BadText, OddText, PlpLength, Cell, Null, ScalarCell, DataCell, Shape, FixedShape, CountedShape, LongShape, SpellsChunk, SpellsChunks, SpellsCell, CellPart, ScalarBytes, ScalarLength, ShortLength, ShortData, Total, ChunkLength, ChunkData, WholeCell, cell_start, cell_add, cell, unless, within_total, is_total, end_of_chunks, chunk_fault, value_part, known_total, null_total, and_parts, choose, eq_true, eq_false, one_byte, two_bytes}
 
 -- a test that gave no fault passed
 pub unless_none : (b : Bool) (f : Fault) → unless b f ≡ None → b ≡ true
@@ -11,9 +11,6 @@ eight_below e l k = grind (arith, common_steps)
 eight_ones : (e : List ℕ) → length e ≡ 8 → AreBytes e → little e ≡ null_total → e ≡ replicate 8 255
 eight_ones (a ∷ b ∷ c ∷ d ∷ e ∷ f ∷ g ∷ h ∷ []) l k n = grind arith
 eight_ones e l k n = absurd (omega arith)
-
-four_zeros : (e : List ℕ) → length e ≡ 4 → little e ≡ 0 → e ≡ 0 ∷ 0 ∷ 0 ∷ 0 ∷ []
-four_zeros e l n = grind (arith, common_steps)
 
 -- chunks so far, without the terminator
 abbrev pub BeginsChunks : List (List ℕ) → List ℕ → Type 0
@@ -70,9 +67,6 @@ is_ok_value r h = grind arith
 pub guard_none : (b : Bool) (o : Option Fault) (f : Fault) → (if b then o else Some f) ≡ None → (b ≡ true) × (o ≡ None)
 guard_none b o f h = (grind arith, grind arith)
 
-total_known : (n m : ℕ) → n < null_total → is_total (known_total n) m ≡ true → (n ≡ unknown_total) ⊎ ((n ≡ m) × (m < unknown_total))
-total_known n m less h = grind (arith, nat_tests)
-
 module _ (column : ℕ) (kind : Kind) where
   value_means : (sh : Shape) (e b : List ℕ) → is_ok (read_of kind e) ≡ true → ((v : ScalarValue) → read_of kind e ≡ Ok v → SpellsCell kind sh (ScalarCell v) b) → CellMeans kind sh (value_part (read_of kind e)) b
   value_means sh e b h k = grind (arith, common_steps, is_ok_value)
@@ -89,8 +83,8 @@ module _ (column : ℕ) (kind : Kind) where
       let g2 = guard_none (length d % unit c == 0) (unless (is_fit c d) (BadText column)) (OddText column) g1.1 in
       let whole : is_fit c d ≡ true = unless_none (is_fit c d) (BadText column) g2.1 in
       let t : is_total (known_total (little m.first)) (length d) ≡ true = subst (λ v. is_total v (length d) ≡ true) m.total_is g1.0 in
-      let e0 : e ≡ 0 ∷ 0 ∷ 0 ∷ 0 ∷ [] = four_zeros e four zero' in
-      (refl, whole, record { total = m.first; rest = m.rest ++ e; chunks = m.chunks; spelt = ap (λ v. v ++ e) m.spelt ∙ append_assoc m.first m.rest e; eight = m.eight; known = total_known (little m.first) (length d) m.below t; each = subst (λ v. SpellsChunks m.chunks (m.rest ++ v)) (sym e0) (end_chunks m.chunks m.rest m.begun); all = m.all }))
+      let e0 : e ≡ 0 ∷ 0 ∷ 0 ∷ 0 ∷ [] = grind (arith, common_steps) in
+      (refl, whole, record { total = m.first; rest = m.rest ++ e; chunks = m.chunks; spelt = ap (λ v. v ++ e) m.spelt ∙ append_assoc m.first m.rest e; eight = m.eight; known = grind (arith, common_steps, nat_tests); each = subst (λ v. SpellsChunks m.chunks (m.rest ++ v)) (sym e0) (end_chunks m.chunks m.rest m.begun); all = m.all }))
       (λ z.
       let some : little e ≢ 0 = eq_false (little e) 0 z in
       (refl, record { before = d; whole = b; chunks = m; header = e; part = []; spelt = ap (λ v. b ++ v) (sym (append-nil e)); four = four; counted = omega arith; all = sym (append-nil d) }))

@@ -1,13 +1,8 @@
 -- The cells of scalar kinds, as they are read.
-use Rattle.tds_rows.proofs.Words.{common_steps, ◌≡◌, ◌≢◌, ◌∙◌, ◌⊎◌, ℕ, ◌+◌, ◌<◌, true, false, List, [], ◌∷◌, ◌++◌, length, take, drop, get_or, refl, sym, ap, subst, arith, Result, Ok, Err, MatchResult, Option, Some, None, ◌==◌, ◌||◌, is_ok, slice_index, if◌then◌else◌, ne_eqb, take_all, Kind, Reach, fixed_length, is_length_allowed, is_scalar, read_of, Space, appended, BadValue, BadValueLength, MessageEnded, Stop, Seen, Takes, Ends, IsBetween, began_at, choose_false, began_is_cut, cut_at_once, reads_one, refused_at_once, stops_after, takes_both, EndsInto, TakesInto, Conversion, Charset, CellPart, LongShape, Null, ScalarBytes, ScalarLength, WholeCell, cell, cell_end, cell_size, cell_start, field_so_far, shape, shape_of_length, unless, GathersCell, IsScalarLeft, StallsCell, length_after, start_after, value_bytes, value_start, Payload}
-use Rattle.tds_values.specs.declared.kind.Kind.TheVariants as kinds
-
--- a kind's shape is that of its length, or that of a long one
-pub shape_cases : (charset : Charset) (kind : Kind) → ((is_scalar kind ≡ true) × (shape charset kind ≡ shape_of_length (fixed_length kind))) ⊎ ((is_scalar kind ≡ false) × (c : Conversion) × (r : Reach) × (shape charset kind ≡ LongShape c r))
-shape_cases charset kind = grind arith
+use Rattle.tds_rows.proofs.Words.{common_steps, ◌≡◌, ◌≢◌, ◌∙◌, ℕ, ◌+◌, ◌<◌, true, false, List, [], ◌∷◌, ◌++◌, length, take, drop, refl, sym, ap, subst, arith, Result, Ok, Err, MatchResult, Option, Some, None, ◌==◌, ◌||◌, is_ok, slice_index, if◌then◌else◌, ne_eqb, take_all, Kind, fixed_length, is_length_allowed, is_scalar, read_of, Space, appended, BadValue, BadValueLength, MessageEnded, Stop, Seen, Takes, Ends, IsBetween, began_at, choose_false, began_is_cut, cut_at_once, reads_one, refused_at_once, stops_after, takes_both, EndsInto, TakesInto, Charset, CellPart, Null, ScalarBytes, ScalarLength, WholeCell, cell, cell_end, cell_size, cell_start, field_so_far, shape, shape_of_length, unless, GathersCell, IsScalarLeft, StallsCell, length_after, start_after, value_bytes, value_start, Payload}
 
 pub scalar_shape : (charset : Charset) (kind : Kind) → is_scalar kind ≡ true → shape charset kind ≡ shape_of_length (fixed_length kind)
-scalar_shape charset kind h = grind (arith, shape_cases charset kind)
+scalar_shape charset kind h = grind (arith, common_steps)
 
 -- the values of a kind of fixed length have some bytes
 pub fixed_some : (kind : Kind) (n : ℕ) → fixed_length kind ≡ Some n → 0 < n
@@ -64,10 +59,6 @@ module _ {column n place : ℕ} {kind : Kind} {a b : Seen} where
       let p = reads_one (cell column) (ScalarLength kind) a b (n ∷ []) (ScalarBytes kind n) (record { some = omega arith; whole = refl; free = ap (λ v. unless v (BadValueLength column)) yes }) takes to in
       record { at = x.at; stops = stops_after (cell column) (ScalarLength kind) (ScalarBytes kind n) a b d place x.at stop p (rw at at x.stops); quiet = x.quiet }
 
--- a list of one number
-pub only_one : (l : List ℕ) → length l ≡ 1 → l ≡ get_or l 0 0 ∷ []
-only_one l h = grind (arith, common_steps)
-
 -- NULL was read
 pub null_gathers : {column place place' : ℕ} {kind : Kind} {a b : Seen} {bytes : List ℕ} → fixed_length kind ≡ None → length bytes ≡ 1 → slice_index bytes 0 ≡ 0 → Takes a b bytes (length bytes) → IsBetween b → place' ≡ place + length bytes → GathersCell kind (ScalarLength kind) column a b place place' bytes
 null_gathers is len zero takes between at = grind arith
@@ -103,7 +94,7 @@ fixed_taken (Err stop) stopped column kind n a b place place' before after is no
 
 -- the length that an empty area got
 pub length_taken : {a b : Seen} {before after : Space} {n : ℕ} → before.bytes ≡ [] → slice_index after.bytes 0 ≡ n → TakesInto a b before after 1 → (after.bytes ≡ n ∷ []) × (Takes a b (n ∷ []) 1)
-length_taken none is x = grind (arith, only_one, stands_alone)
+length_taken none is x = grind (arith, common_steps, stands_alone)
 
 -- the value after a length that is allowed was read into the area that has the length, or it is cut
 pub counted_taken : {U : Type 0} → (result : Result U Stop) (stopped : Option Stop) (column : ℕ) (kind : Kind) (n : ℕ) (a b d : Seen) (place middle place' : ℕ) (before after : Space) → fixed_length kind ≡ None → before.bytes ≡ n ∷ [] → n ≢ 0 → is_length_allowed kind n ≡ true

@@ -1,5 +1,5 @@
 -- Runs over cells by their forms, a cell after those that were written.
-use Rattle.tds_rows.proofs.Words.{common_steps, ◌≡◌, ◌≢◌, ◌∙◌, ℕ, zero, suc, ◌+◌, ◌-◌, ◌<◌, ◌≤◌, Bool, true, false, List, [], ◌∷◌, ◌++◌, length, take, drop, get_or, refl, sym, ap, subst, arith, append-nil, append_assoc, length-append, ◌==◌, ◌&&◌, Option, map, slice_set, drop_more, length-map, length-take-le, take-append-le, take_all, take_more_set, get_or_default, length-drop, length-take, take-take, drop-drop, Kind, eq_false, eq_true, Column, all_after, Conversion, after_comma, end_after, in_line, Charset, Form, IsLeft, WritesField, WritesKind, is_last_column, whole_size, AreNext, FieldsWritten, FirstUsed, FirstWritten, WritesForms, WritesColumn, WritesMarked, IsShortLeft, nat_tests}
+use Rattle.tds_rows.proofs.Words.{common_steps, ◌≡◌, ◌≢◌, ◌∙◌, ℕ, zero, suc, ◌+◌, ◌-◌, ◌<◌, ◌≤◌, Bool, true, false, List, [], ◌∷◌, ◌++◌, length, take, drop, get_or, refl, sym, ap, subst, arith, append-nil, append_assoc, length-append, ◌==◌, ◌&&◌, map, slice_set, drop_more, length-map, length-take-le, take-append-le, take_all, take_more_set, get_or_default, length-drop, length-take, take-take, drop-drop, Kind, eq_false, eq_true, Column, all_after, after_comma, end_after, in_line, Charset, Form, IsLeft, WritesField, WritesKind, is_last_column, whole_size, AreNext, FieldsWritten, FirstUsed, FirstWritten, WritesForms, WritesColumn, WritesMarked, nat_tests}
 use Rattle.tds_rows.proofs.{LineTexts.after_some_column, LineTexts.after_append, RunSteps.made_more, RunSteps.used_more, TableSteps.known_kind, TableSteps.last_one}
 
 not_last : (rest : List Column) → 0 < length rest → false ≡ is_last_column rest
@@ -125,9 +125,6 @@ module _ (charset : Charset) (forms : List Form) (column : ℕ) (bytes : List �
 
 -- ---- a cell that is left
 
-short_less : (c : Option Conversion) (bytes : List ℕ) (fewer room : ℕ) → fewer ≤ room → IsShortLeft c bytes room → IsShortLeft c bytes fewer
-short_less c bytes fewer room less x = grind arith
-
 -- with less room too
 pub left_less : (charset : Charset) (kind : Kind) (bytes : List ℕ) (fewer room : ℕ) → fewer ≤ room → IsLeft charset kind bytes room → IsLeft charset kind bytes fewer
-left_less charset kind bytes fewer room less h6 = grind (arith, short_less)
+left_less charset kind bytes fewer room less h6 = grind (arith, common_steps)

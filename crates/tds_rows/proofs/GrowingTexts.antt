@@ -1,5 +1,5 @@
 -- What a text that grows is, and what the cells and rows that are read add to it.
-use Rattle.tds_rows.proofs.Words.{common_steps, ◌≡◌, ℕ, ◌-◌, Bool, true, false, List, [], ◌∷◌, ◌++◌, length, refl, sym, ◌∙◌, ap, subst, append_assoc, append-nil, arith, Option, Some, None, ◌==◌, ◌||◌, nat_lt, map, codes, map-append, emit, joined, null_field, Conversion, closing, conversion_rest, conversion_text, is_fit, is_begun, is_quoted, long_field, open_field, open_closes, open_grows, begun_by_test, IsNext, and_parts, or_cases, choose, eq_true, lt_true, Column, Charset, Cell, Null, DataCell, field, shape, CellPart, ShortData, ChunkLength, ChunkData, WholeCell, cell_start, cell_add, cell, field_so_far, chunk_fault, RowPart, Bitmap, InCell, WholeRow, next_cell, with_cell, row_add, row, with_field, row_so_far}
+use Rattle.tds_rows.proofs.Words.{common_steps, ◌≡◌, ℕ, ◌-◌, Bool, true, false, List, [], ◌∷◌, ◌++◌, length, refl, sym, ◌∙◌, ap, subst, append_assoc, append-nil, arith, Option, Some, None, ◌==◌, ◌||◌, nat_lt, map, codes, map-append, joined, null_field, Conversion, closing, conversion_rest, conversion_text, is_fit, is_begun, is_quoted, long_field, open_field, open_closes, open_grows, begun_by_test, IsNext, and_parts, or_cases, choose, eq_true, lt_true, Column, Charset, Cell, Null, DataCell, field, shape, CellPart, ShortData, ChunkLength, ChunkData, WholeCell, cell_start, cell_add, cell, field_so_far, chunk_fault, RowPart, Bitmap, InCell, WholeRow, next_cell, with_cell, row_add, row, with_field, row_so_far}
 use Rattle.tds_rows.proofs.CellMeaning.{guard_none, unless_none}
 
 -- the second text begins with the first
@@ -21,10 +21,6 @@ grows_trans a b c h k = grind (arith, common_steps, append_assoc)
 -- what stands in front stays
 pub grows_under : (x a b : List ℕ) → Grows a b → Grows (x ++ a) (x ++ b)
 grows_under x a b h = (h.0, append_assoc x a h.0 ∙ ap (λ v. x ++ v) h.1)
-
--- a text that ends more
-pub grows_by : (a b : List ℕ) → Grows a (a ++ b)
-grows_by a b = (b, refl)
 
 -- more fields
 pub joined_more : (fs gs : List (List ℕ)) → Grows (joined fs) (joined (fs ++ gs))
@@ -90,7 +86,7 @@ module _ (column : ℕ) where
 module _ (charset : Charset) where
   -- the cells to come begin
   next_grows : (cells : List Cell) (ks : List (Column × Bool)) → Grows (joined (map field cells)) (row_so_far (next_cell charset cells ks))
-  next_grows cells [] = grows_by _ _
+  next_grows cells [] = grind (arith, common_steps)
   next_grows cells ((k, true) ∷ ks) =
       grows_trans _ _ _ (rw (sym (map-append field cells (Null ∷ []))) at (joined_more (map field cells) (null_field ∷ []))) (next_grows _ ks)
   next_grows cells ((k, false) ∷ ks) = with_field_grows _ None (field_so_far (cell_start k.kind (shape charset k.kind))) tt

@@ -1,16 +1,10 @@
 -- What joiners do with the pieces of some content, in the words of their conversion.
-use Rattle.tds_rows.proofs.Words.{common_steps, ◌≡◌, ◌∙◌, ℕ, ◌+◌, ◌-◌, ◌^◌, ◌<◌, ◌≤◌, Bool, false, List, [], ◌∷◌, ◌++◌, length, take, drop, inl, inr, refl, sym, ap, subst, arith, append_assoc, append-nil, length-append, Result, Ok, Err, get_or, Option, append_cancel_left, length-take-le, take-append-drop, drop_more, take_more, BadText, Stop, Seen, Takes, IsBetween, Takes-more, Takes-none, takes_both, BeginsData, Conversion, IsFit, Suits, closing, conversion_rest, conversion_text, emit, settled, JoinFault, Odd, Stopped, Completes, EndsBy, LeavesPart, Pushes, TakesPiece, TakesUpTo, is_stopped, end_after, Sink, Breaks, Held, Puts, PutsPiece, held, begun_front, joins_by_name, Breaks-after, Breaks-longer, Puts-none, Puts-trans, BreaksData, EndPut, EndsData, FillsData, RefusesData, StopsData, StopsEnding, StopsFilling, TakesData, added_text, good_of, join_stop, Payload}
+use Rattle.tds_rows.proofs.Words.{common_steps, ◌≡◌, ◌∙◌, ℕ, ◌+◌, ◌-◌, ◌^◌, ◌<◌, ◌≤◌, Bool, false, List, [], ◌∷◌, ◌++◌, length, take, drop, inl, inr, refl, sym, ap, subst, arith, append_assoc, append-nil, length-append, Result, Ok, Err, get_or, Option, append_cancel_left, length-take-le, take-append-drop, drop_more, take_more, BadText, Stop, Seen, Takes, IsBetween, Takes-more, Takes-none, takes_both, BeginsData, Conversion, IsFit, Suits, closing, conversion_rest, conversion_text, emit, JoinFault, Odd, Stopped, Completes, EndsBy, LeavesPart, Pushes, TakesPiece, TakesUpTo, is_stopped, end_after, Sink, Breaks, Held, Puts, PutsPiece, held, begun_front, joins_by_name, Breaks-after, Breaks-longer, Puts-none, Puts-trans, BreaksData, EndPut, EndsData, FillsData, RefusesData, StopsData, StopsEnding, StopsFilling, TakesData, added_text, good_of, join_stop, Payload}
 use Rattle.tds_csv.specs.declared.joiners.JoinFault.TheVariants as join_faults
 use Rattle.tds_rows.proofs.Paths.{At}
 
 module _ {fit begins : List ℕ → Type 0} {rest text : List ℕ → List ℕ} {size : ℕ} {quoted : Bool} {c : Conversion} (suits : Suits fit begins rest text size quoted c) where
-  emit_suits : (l : List ℕ) → emit rest text l ≡ emit (conversion_rest c) (conversion_text c) l
-  emit_suits l = grind (arith, common_steps, rest)
-
   module _ (content : List ℕ) {old : List ℕ} (is : old ≡ conversion_rest c content) (begun : BeginsData c content) where
-    added_is : (piece : List ℕ) → emit rest text (old ++ piece) ≡ added_text c content piece
-    added_is piece = grind (arith, common_steps, emit_suits)
-
     begun_with : (piece : List ℕ) → begins (old ++ piece) → BeginsData c (content ++ piece)
     begun_with piece h = (joins_by_name c).outward content piece (subst (λ o. BeginsData c (o ++ piece)) is ((suits.begins_is (old ++ piece)).0 h))
 
@@ -27,7 +21,7 @@ module _ {fit begins : List ℕ → Type 0} {rest text : List ℕ → List ℕ} 
           between = between;
           place_is = at;
           begun = all;
-          puts = subst (Puts p.held q.held) (added_is piece) x.put;
+          puts = subst (Puts p.held q.held) (grind (arith, common_steps)) x.put;
           kept_is = x.withheld ∙ suits.rest_is (old ++ piece) ∙ ap (λ o. conversion_rest c (o ++ piece)) is ∙ sym ((joins_by_name c).keeps content piece all);
         }
 
@@ -51,7 +45,7 @@ module _ {fit begins : List ℕ → Type 0} {rest text : List ℕ → List ℕ} 
           no_text = λ so.
               let inward : BeginsData c (conversion_rest c content ++ (good ++ bad ∷ [])) = (joins_by_name c).inward content (good ++ bad ∷ []) (subst (BeginsData c) (append_assoc content good (bad ∷ [])) so) in
               x.bad ((suits.begins_is (old ++ take (k + 1) piece)).1 (rw (is, take_more piece k 0 within) inward));
-          puts = subst (Puts h i) (added_is good) x.good.put;
+          puts = subst (Puts h i) (grind (arith, common_steps)) x.good.put;
           stop_is = ap (λ n. record { fault = BadText column; place = Payload (place + n) }) (sym len);
         }
 
@@ -68,7 +62,7 @@ module _ {fit begins : List ℕ → Type 0} {rest text : List ℕ → List ℕ} 
           takes = subst (λ l. Takes a b l 1) (sym (take-append-drop f.taken piece)) takes;
           between = between;
           begun = (joins_by_name c).outward content good (subst (λ o. BeginsData c (o ++ good)) is f.begun);
-          breaks = subst (λ l. Breaks h i l stop) (emit_suits (old ++ piece) ∙ sym f.same ∙ ap (λ o. emit (conversion_rest c) (conversion_text c) (o ++ good)) is) breaks;
+          breaks = subst (λ l. Breaks h i l stop) (grind (arith, common_steps) ∙ sym f.same ∙ ap (λ o. emit (conversion_rest c) (conversion_text c) (o ++ good)) is) breaks;
         }
 
     -- the fault of a push

@@ -1,7 +1,7 @@
 -- Cells by how their values are laid out.
-use Rattle.tds_rows.proofs.Words.{common_steps, ◌≡◌, ℕ, ◌<◌, Bool, true, false, List, length, replicate, get_or, refl, sym, subst, arith, ◌==◌, slice_set, Option, get_or-set_at, get_or-replicate, get_or-set_other, length-replicate, length-set, Kind, Reach, is_scalar, eq_false, eq_true, Content, Conversion, Charset, Form, Layout, LongShape, shape, shape_of_length, length_after, start_after, value_length, value_start, whole_size, AreLaidOut, HasValueAt, IsLaidOut, shape_of_layout, short_size}
+use Rattle.tds_rows.proofs.Words.{common_steps, ◌≡◌, ℕ, ◌<◌, Bool, true, false, List, length, replicate, get_or, refl, sym, subst, arith, ◌==◌, slice_set, get_or-set_at, get_or-replicate, get_or-set_other, length-replicate, length-set, Kind, Reach, is_scalar, eq_false, eq_true, Content, Conversion, Charset, Form, Layout, LongShape, shape, value_length, value_start, whole_size, AreLaidOut, HasValueAt, IsLaidOut, short_size}
 use Rattle.tds_rows.specs.declared.form.Layout.TheVariants.{Short}
-use Rattle.tds_rows.proofs.CellSteps.{shape_cases}
+use Rattle.tds_rows.proofs.CellSteps.{}
 
 -- the same form many times
 pub laid_all : (charset : Charset) (n : ℕ) (f : Form) → IsLaidOut charset f.kind f.layout → AreLaidOut charset (replicate n f)
@@ -17,23 +17,14 @@ laid_set charset forms k f all within is j d here = go (j == k) refl
 
 -- ---- a value that is there
 
-scalar_value : (l : Layout) (o : Option ℕ) (start n : ℕ) (bytes : List ℕ) → shape_of_length o ≡ shape_of_layout l → HasValueAt l bytes start n → (start ≡ start_after o) × (n ≡ length_after o bytes)
-scalar_value l o start n bytes e h = grind arith
-
-long_value : (l : Layout) (c : Conversion) (r : Reach) (start n : ℕ) (bytes : List ℕ) → LongShape c r ≡ shape_of_layout l → HasValueAt l bytes start n → ⊥
-long_value l c r start n bytes e h = grind arith
-
-not_long : (o : Option ℕ) (c : Conversion) (r : Reach) → shape_of_length o ≡ LongShape c r → ⊥
-not_long o c r e = grind arith
-
 module _ (charset : Charset) (kind : Kind) where
   -- it is that of a scalar kind
   pub value_there : (l : Layout) (bytes : List ℕ) (start n : ℕ) → IsLaidOut charset kind l → HasValueAt l bytes start n → (is_scalar kind ≡ true) × ((start ≡ value_start kind) × (n ≡ value_length kind bytes))
-  value_there l bytes start n laid h = grind (arith, long_value, scalar_value, shape_cases)
+  value_there l bytes start n laid h = grind (arith, common_steps)
 
   -- a kind whose values have contents is a long one
   pub is_long_kind : (c : Conversion) (r : Reach) → shape charset kind ≡ LongShape c r → is_scalar kind ≡ false
-  is_long_kind c r is = grind (arith, shape_cases charset kind, not_long)
+  is_long_kind c r is = grind (arith, common_steps)
 
   -- ---- a cell that is left, and a short value
 

@@ -1,5 +1,5 @@
 -- Fields in their line, as they are written.
-use Rattle.tds_rows.proofs.Words.{common_steps, ◌≡◌, ◌≢◌, ℕ, ◌+◌, ◌≤◌, Bool, List, [], ◌∷◌, ◌++◌, length, take, refl, sym, arith, append_assoc, length-take-le, take-append-le, take-append-add, ◌==◌, ne_eqb, choose_false, after_comma, end_after, in_line, joined}
+use Rattle.tds_rows.proofs.Words.{common_steps, ◌≡◌, ◌≢◌, ℕ, ◌+◌, ◌≤◌, Bool, List, [], ◌∷◌, ◌++◌, length, take, refl, sym, arith, append_assoc, length-take-le, take-append-le, take-append-add, ne_eqb, choose_false, after_comma, end_after, in_line, joined}
 
 -- a field after a comma
 pub after_some_column : (column : ℕ) (text : List ℕ) → column ≢ 0 → 44 ∷ text ≡ after_comma column text

@@ -1,5 +1,5 @@
 -- Rows one after another: what was read of them, and what is read after that.
-use Rattle.tds_rows.proofs.Words.{common_steps, ◌≡◌, ◌∙◌, ℕ, ◌+◌, ◌-◌, ◌^◌, ◌<◌, ◌≤◌, Bool, false, List, [], ◌∷◌, ◌++◌, length, drop, refl, sym, ap, arith, append_assoc, append-nil, length-append, Option, Stop, Seen, Takes, Inside, Column, Held, Puts-none, Charset, Rows, RowsRun, Ahead, Cell, StaysInRow, PlainRow, RowPart, RowToken, WholeRow, next_cell, row, row_so_far, token_byte, token_start, ReadsRow, ReadsRows, RowStops, RowsStop, RowsPart, RowsPut, RunsRows, Writes, lines, rows, rows_so_far, rows_start, IsAhead, Knows}
+use Rattle.tds_rows.proofs.Words.{common_steps, ◌≡◌, ℕ, ◌+◌, ◌-◌, ◌^◌, ◌<◌, ◌≤◌, Bool, false, List, [], ◌∷◌, ◌++◌, length, drop, refl, sym, arith, append_assoc, append-nil, length-append, Option, Stop, Seen, Takes, Inside, Column, Held, Puts-none, Charset, Rows, RowsRun, Ahead, Cell, StaysInRow, PlainRow, RowPart, RowToken, WholeRow, next_cell, row, row_so_far, token_byte, token_start, ReadsRow, ReadsRows, RowStops, RowsStop, RowsPart, RowsPut, RunsRows, Writes, lines, rows, rows_so_far, rows_start, IsAhead, Knows}
 use Rattle.tds_rows.proofs.{NullSteps.cell_path, NullSteps.marked_stops, NullTexts.coming, NullTexts.ends, NullTexts.nulls_ahead, Paths.At, Paths.Path, Paths.here, Paths.path_both, Paths.path_map, Paths.path_none, Paths.path_of, Paths.streams_of, Paths.writes_inside, RowSteps.PutsAt, RowSteps.StopsAt, RunSteps.lines-append, RunSteps.row_among, RunSteps.row_token}
 
 -- Rows of a token were read and their lines put: so many whole ones, and this part of the next.

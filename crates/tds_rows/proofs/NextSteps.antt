@@ -1,5 +1,5 @@
 -- The next cell of a row, NULL or not, as it is put after a run.
-use Rattle.tds_rows.proofs.Words.{common_steps, arith, ◌≡◌, ◌∙◌, ◌+◌, ℕ, Bool, true, false, List, ◌∷◌, drop, refl, sym, Err, Ok, Result, Option, ◌==◌, Kind, Stop, seen, between_of, Column, held, Rows, Ahead, is_last_column, MarkedPut, CellRead, IsInRow, KindRead, LeavesRows, NextRead, StaysInRow, RowStops, RowPart, marked, IsAhead, IsNextKind, Knows, TakesColumn}
+use Rattle.tds_rows.proofs.Words.{common_steps, arith, ◌≡◌, ◌+◌, ℕ, Bool, true, false, List, ◌∷◌, drop, refl, sym, Err, Ok, Result, Option, ◌==◌, Kind, Stop, seen, between_of, Column, held, Rows, Ahead, is_last_column, MarkedPut, CellRead, IsInRow, KindRead, LeavesRows, NextRead, StaysInRow, RowStops, RowPart, marked, IsAhead, IsNextKind, Knows, TakesColumn}
 use Rattle.tds_rows.proofs.{MarkedSteps.run_nears, NullSteps.NearsCells, NullSteps.all_put, NullSteps.cell_nears, NullSteps.cell_stops, NullSteps.null_breaks, NullSteps.null_nears, NullTexts.ends, NullTexts.ends_marked, Paths.At, Paths.here, TableSteps.last_one}
 
 module _ {R W : Type 0} (remaining : R → Option (List ℕ)) (contents : W → Option (List ℕ)) (columns : List Column) (nulls : ℕ → Bool) (start : RowPart) (p : At) where

@@ -1,6 +1,6 @@
 -- Columns that are NULL by their bit: their text stands after that of the element that is read before them.
-use Rattle.tds_rows.proofs.Words.{common_steps, ◌≡◌, ◌∙◌, ℕ, ◌+◌, ◌<◌, Bool, true, false, List, [], ◌∷◌, ◌++◌, length, refl, sym, ap, arith, append_assoc, append-nil, length-append, ◌==◌, Option, Some, None, if◌then◌else◌, map, Kind, IsNext, next_some, Column, open_field, after_comma, end_after, in_line, joined, line, null_field, Charset, Cell, CellPart, ChunkData, ChunkLength, Null, Shape, ShortData, WholeCell, cell, cell_add, cell_size, cell_start, field, field_so_far, cell_so_far, is_last_column, opened, RowPart, marked, next_cell, row_so_far, with_cell}
-use Rattle.tds_rows.proofs.{GrowingTexts.Grows, GrowingTexts.OptionGrows, GrowingTexts.cell_grows, GrowingTexts.grows_all, GrowingTexts.grows_by, GrowingTexts.grows_same, GrowingTexts.grows_trans, GrowingTexts.grows_under, CellLaws.HasBytes, RowSteps.cell_more, RowSteps.fields_more, RowSteps.start_quiet}
+use Rattle.tds_rows.proofs.Words.{common_steps, ◌≡◌, ◌∙◌, ℕ, ◌+◌, ◌<◌, Bool, true, false, List, [], ◌∷◌, ◌++◌, length, refl, sym, ap, arith, append_assoc, append-nil, length-append, Option, Some, None, map, Kind, IsNext, next_some, Column, open_field, after_comma, end_after, in_line, joined, line, null_field, Charset, Cell, CellPart, ChunkData, ChunkLength, Null, Shape, ShortData, WholeCell, cell, cell_add, cell_size, cell_start, field, field_so_far, cell_so_far, is_last_column, opened, RowPart, marked, next_cell, row_so_far, with_cell}
+use Rattle.tds_rows.proofs.{GrowingTexts.Grows, GrowingTexts.OptionGrows, GrowingTexts.cell_grows, GrowingTexts.grows_all, GrowingTexts.grows_same, GrowingTexts.grows_trans, GrowingTexts.grows_under, CellLaws.HasBytes, RowSteps.cell_more, RowSteps.fields_more, RowSteps.start_quiet}
 
 -- whether no column follows
 abbrev pub ends : List (Column × Bool) → Bool
@@ -49,14 +49,10 @@ pub start_size : (kind : Kind) (s : Shape) → HasBytes s → 0 < cell_size (cel
 start_size kind s h = grind arith
 
 module _ (column : ℕ) (last : Bool) where
-  -- a field after its comma grows as it does
-  comma_grows : (first : Bool) (a b : List ℕ) → Grows a b → Grows (if first then a else 44 ∷ a) (if first then b else 44 ∷ b)
-  comma_grows first a b h = grind (arith, grows_under)
-
   opened_grows : (a b : Option (List ℕ)) → OptionGrows a b → Grows (opened column a) (opened column b)
   opened_grows None b h = grows_all (opened column b)
   opened_grows (Some a) None h = absurd h
-  opened_grows (Some a) (Some b) h = comma_grows (column == 0) a b h
+  opened_grows (Some a) (Some b) h = grind (arith, common_steps, grows_under)
 
   -- while it is open, the text so far of a cell is that of its field
   pub opened_text : (p : CellPart) → 0 < cell_size p → opened column (field_so_far p) ≡ cell_so_far column last p
@@ -66,7 +62,7 @@ module _ (column : ℕ) (last : Bool) where
   opened_to (ShortData c n d) = grows_same (after_comma column (open_field c d))
   opened_to (ChunkLength c t d) = grows_same (after_comma column (open_field c d))
   opened_to (ChunkData c t n d) = grows_same (after_comma column (open_field c d))
-  opened_to (WholeCell v) = grows_by (after_comma column (field v)) (end_after last)
+  opened_to (WholeCell v) = grind (arith, common_steps)
   opened_to p = grows_all []
 
   -- each element of a cell adds to its text in its line
@@ -88,12 +84,9 @@ module _ (charset : Charset) (cells : List Cell) (ks : List (Column × Bool)) wh
   rest_of (WholeCell v) = nulls_ahead (length cells + 1) ks
   rest_of part = []
 
-  open_part : (f : List ℕ) → (joined (map field cells) ++ after_comma (length cells) f) ++ [] ≡ joined (map field cells ++ f ∷ [])
-  open_part f = grind (arith, common_steps, append-nil, cells, fields_more)
-
   -- the text so far of the row is that of the whole cells, that of the next one, and that of the NULLs after it
   pub part_text : (at : CellPart) → (joined (map field cells) ++ cell_so_far (length cells) (ends ks) at) ++ rest_of at ≡ row_so_far (up at)
-  part_text at = grind (arith, append-nil, nulls_text, one_more, open_part)
+  part_text at = grind (arith, common_steps, append-nil, nulls_text, one_more, fields_more)
 
   -- there are none after it while it is open
   pub begun_text : (at : CellPart) → 0 < cell_size at → joined (map field cells) ++ cell_so_far (length cells) (ends ks) at ≡ row_so_far (up at)

@@ -1,5 +1,5 @@
 -- The numbers of a long value, its length or total and those of its chunks, as elements of its cell: how each is judged, and where it leads.
-use Rattle.tds_rows.proofs.Words.{common_steps, ◌≡◌, ◌≢◌, ◌∙◌, ◌⊎◌, inl, inr, ℕ, ◌+◌, ◌%◌, ◌<◌, true, false, List, [], length, refl, sym, ap, subst, arith, Option, Some, None, ◌==◌, ◌||◌, nat_le, ne_eqb, nat_tests, little, Fault, BadText, MessageEnded, OddText, Stop, IsNext, StopsReading, IsBetween, Seen, Takes, choose_false, choose_true, began_is_cut, cut_at_once, refused_at_once, Conversion, is_fit, unit, CellPart, ChunkLength, DataCell, Null, ShortLength, Total, WholeCell, cell, cell_add, cell_end, cell_fault, cell_size, known_total, null_total, unknown_total, unless, CutsNumber, ReadsNumber, RefusesNumber, chunk_length_fault, short_fault, short_length, total_fault, total_of, Payload}
+use Rattle.tds_rows.proofs.Words.{common_steps, ◌≡◌, ◌≢◌, ◌∙◌, ◌⊎◌, inl, inr, ℕ, ◌+◌, ◌<◌, true, false, List, [], length, refl, sym, ap, subst, arith, Option, Some, None, ◌==◌, ne_eqb, nat_tests, little, Fault, BadText, MessageEnded, Stop, IsNext, StopsReading, IsBetween, Seen, Takes, choose_false, choose_true, began_is_cut, cut_at_once, refused_at_once, Conversion, is_fit, unit, CellPart, ChunkLength, DataCell, Null, ShortLength, Total, WholeCell, cell, cell_add, cell_end, cell_fault, cell_size, known_total, null_total, unless, CutsNumber, ReadsNumber, RefusesNumber, chunk_length_fault, short_fault, short_length, total_fault, total_of, Payload}
 use Rattle.tds_rows.proofs.{CellLaws.unless_true, CellWords.chunk_left, CellWords.short_left}
 
 -- An element of a cell was read, which leads from one state to another.
@@ -39,11 +39,8 @@ module _ (column : ℕ) (c : Conversion) (size : ℕ) (unit_is : size ≡ unit c
     pub short_none : answer ≡ None → Next column (ShortLength c) a b place place' (WholeCell Null)
     short_none is = grind (arith, common_steps, short_length, next_by, short_same, choose_true)
 
-    pub short_some : {k : ℕ} → answer ≡ Some k → (x.0 ≡ k) × (x.0 ≢ 0xFFFF)
-    short_some {k} is = grind (arith, common_steps, short_length)
-
     pub short_start : {k : ℕ} → answer ≡ Some k → Next column (ShortLength c) a b place place' (short_left c k [])
-    short_start is = grind (arith, common_steps, short_some, column, place, next_by, short_same, choose_false, ne_eqb)
+    short_start is = grind (arith, common_steps, short_length, next_by, short_same, choose_false, ne_eqb)
 
 -- ---- the total
 
@@ -72,39 +69,20 @@ module _ (column : ℕ) (c : Conversion) (size : ℕ) (unit_is : size ≡ unit c
 -- ---- the length of a chunk
 
 module _ (column : ℕ) (c : Conversion) (size : ℕ) (unit_is : size ≡ unit c) (total : Option ℕ) where
-  module _ (content : List ℕ) (sum : ℕ) (counted : length content ≡ sum) (e : List ℕ) (n : ℕ) (is : little e ≡ n) where
-    -- a fault but for what the content itself has is a fault
-    chunk_first : (f : Fault) → chunk_length_fault column size total sum n ≡ Some f → cell_fault column (ChunkLength c total content) e ≡ Some f
-    chunk_first f h = grind arith
-
-    -- no fault of a length that isn't 0
-    chunk_free : n ≢ 0 → chunk_length_fault column size total sum n ≡ None → cell_fault column (ChunkLength c total content) e ≡ None
-    chunk_free some h = grind (arith, ne_eqb)
-
-    -- at the terminator the content is judged last
-    end_judged : n ≡ 0 → chunk_length_fault column size total sum n ≡ None → cell_fault column (ChunkLength c total content) e ≡ unless (is_fit c content) (BadText column)
-    end_judged none h = grind arith
-
-    to_end : n ≡ 0 → cell_add (ChunkLength c total content) e ≡ WholeCell (DataCell c content)
-    to_end none = grind (arith, choose_true)
-
-    to_data : n ≢ 0 → cell_add (ChunkLength c total content) e ≡ chunk_left c total n content
-    to_data some = grind (arith, choose_false, ne_eqb)
-
   module _ (content : List ℕ) (sum : ℕ) (counted : length content ≡ sum) {a b : Seen} {place : ℕ} where
     pub chunk_stops : {stop : Stop} → RefusesNumber 4 (λ n. chunk_length_fault column size total sum n) a b place stop ⊎ CutsNumber 4 a b place stop → StopsReading (cell column) (ChunkLength c total content) a b place (ChunkLength c total content) stop
-    chunk_stops x = number_stops (omega arith) refl refl (λ e n f is first. chunk_first content sum counted e n is f first) x
+    chunk_stops x = number_stops (omega arith) refl refl (λ e n f is first. grind (arith, common_steps)) x
 
     module _ {n place' : ℕ} (x : ReadsNumber 4 a b place place' n) (free : chunk_length_fault column size total sum n ≡ None) where
       -- the terminator was read, after content that is whole
       pub chunk_end : n ≡ 0 → is_fit c content ≡ true → Next column (ChunkLength c total content) a b place place' (WholeCell (DataCell c content))
-      chunk_end none fit = grind (arith, common_steps, next_by, end_judged, content, counted, free, unless_true, column, to_end)
+      chunk_end none fit = grind (arith, common_steps, next_by, unless_true, choose_true)
 
       -- after content that isn't, it is refused
       pub chunk_unfit : n ≡ 0 → is_fit c content ≡ false → StopsReading (cell column) (ChunkLength c total content) a b place (ChunkLength c total content) (record { fault = BadText column; place = Payload place })
       chunk_unfit none unfit =
-          refused_at_once (cell column) (ChunkLength c total content) a b place x.element (BadText column) (omega (arith, x.whole)) x.whole (end_judged content sum counted x.element n x.number none free ∙ ap (λ f. unless f (BadText column)) unfit) x.takes x.between
+          refused_at_once (cell column) (ChunkLength c total content) a b place x.element (BadText column) (omega (arith, x.whole)) x.whole (grind (arith, common_steps) ∙ ap (λ f. unless f (BadText column)) unfit) x.takes x.between
 
       -- the length of a chunk was read
       pub chunk_start : n ≢ 0 → Next column (ChunkLength c total content) a b place place' (chunk_left c total n content)
-      chunk_start some = grind (arith, common_steps, next_by, chunk_free, content, counted, free, to_data)
+      chunk_start some = grind (arith, common_steps, next_by, ne_eqb, choose_false)

@@ -1,5 +1,5 @@
 -- The value of a RETURNVALUE, as it is passed over.
-use Rattle.tds_rows.proofs.Words.{common_steps, ◌≡◌, ◌∙◌, ◌⊎◌, inl, inr, ℕ, zero, suc, ◌+◌, ◌-◌, ◌%◌, ◌<◌, ◌≤◌, Bool, true, List, [], ◌++◌, length, refl, sym, ap, subst, arith, append-nil, length-append, Option, ◌==◌, is_ok, Kind, Binary, Narrow, Wide, Reach, is_scalar, read_of, Stop, Spelt, Seen, Takes, IsBetween, began_at, Spelt-append, Spelt-one, Ends-after, Takes-none, Takes-trans, add_none, began_is_cut, reads_both, reads_none, stops_after, BeginsData, Conversion, HexDigits, Utf16Text, Windows1252Text, Charset, Cell, CellPart, ChunkLength, DataCell, LongShape, ShortLength, WholeCell, cell_end, cell_start, return_charset, shape, GathersCell, StallsCell, scalar_size, value_bytes, value_length, value_start, WritesCell, return_column, AnyData, CutsPassing, IsGoodValue, PassesCell, PassesData, StepsOver, StopsPassing, return_cell, begun_by_test, take_all}
+use Rattle.tds_rows.proofs.Words.{common_steps, ◌≡◌, ◌∙◌, ◌⊎◌, inl, inr, ℕ, zero, suc, ◌+◌, ◌-◌, ◌%◌, ◌<◌, ◌≤◌, Bool, true, List, [], ◌++◌, length, refl, sym, ap, subst, arith, append-nil, length-append, Option, is_ok, Kind, Binary, Narrow, Wide, Reach, is_scalar, read_of, Stop, Spelt, Seen, Takes, IsBetween, began_at, Spelt-append, Spelt-one, Ends-after, Takes-none, Takes-trans, add_none, began_is_cut, reads_both, reads_none, stops_after, BeginsData, Conversion, HexDigits, Utf16Text, Windows1252Text, Charset, Cell, CellPart, ChunkLength, DataCell, LongShape, ShortLength, WholeCell, cell_end, cell_start, return_charset, shape, GathersCell, StallsCell, scalar_size, value_bytes, value_length, value_start, WritesCell, return_column, AnyData, CutsPassing, IsGoodValue, PassesCell, PassesData, StepsOver, StopsPassing, return_cell, begun_by_test, take_all}
 use Rattle.tds_rows.proofs.{BufferedCells.null_cell, BufferedCells.value_cell, LongSteps.HoldsContent, LongSteps.chunk_holds, LongSteps.content_spelt, LongSteps.short_holds, CellMeaning.is_ok_value, CellWords.chunk_left, CellWords.short_left}
 
 -- ---- elements

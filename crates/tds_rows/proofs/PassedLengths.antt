@@ -1,18 +1,15 @@
 -- Lengths and totals of the value of a RETURNVALUE, as it is passed over.
-use Rattle.tds_rows.proofs.Words.{common_steps, ◌≡◌, ◌≢◌, ◌∙◌, ℕ, ◌%◌, Bool, true, List, length, sym, ap, subst, arith, Option, Some, None, ◌==◌, if◌then◌else◌, Fault, OddText, PlpLength, Seen, eq_true, or_cases, Conversion, CellPart, ChunkLength, DataCell, WholeCell, is_total, unless, ReadsNumber, chunk_length_fault, short_fault, short_length, return_column, AnyData, StepsOver, return_cell, reads_one}
-use Rattle.tds_rows.proofs.{CellMeaning.unless_none, Numbers.Next, Numbers.chunk_end, Numbers.chunk_start, Numbers.short_some, CellWords.chunk_left}
+use Rattle.tds_rows.proofs.Words.{common_steps, ◌≡◌, ◌≢◌, ◌∙◌, ℕ, ◌%◌, List, length, sym, ap, subst, arith, Option, Some, None, ◌==◌, if◌then◌else◌, OddText, PlpLength, Seen, eq_true, or_cases, Conversion, CellPart, ChunkLength, DataCell, WholeCell, is_total, unless, ReadsNumber, chunk_length_fault, short_fault, short_length, return_column, AnyData, StepsOver, return_cell, reads_one}
+use Rattle.tds_rows.proofs.{CellMeaning.unless_none, Numbers.Next, Numbers.chunk_end, Numbers.chunk_start, CellWords.chunk_left}
 
 -- an element was read that leads on
 pub steps_of : {s t : CellPart} {a b : Seen} {place place' : ℕ} → Next return_column s a b place place' t → StepsOver s t a b place place'
 steps_of {s = s} {t = t} {a = a} {b = b} x = record { reads = reads_one return_cell s a b x.element t x.next x.takes x.to; between = x.between; place_is = x.place_is }
 
-end_even : (t u : Bool) (odd plp : Fault) → (if t then unless u odd else Some plp) ≡ None → u ≡ true
-end_even t u odd plp h = grind arith
-
 module _ {c : Conversion} {size : ℕ} (any : AnyData c size) where
   -- a short value has whole units
   pub short_even : {a b : Seen} {place place' k : ℕ} {answer : Option ℕ} → ((n : ℕ) × ReadsNumber 2 a b place place' n × (short_fault return_column size n ≡ None) × (answer ≡ short_length n)) → answer ≡ Some k → k % size ≡ 0
-  short_even x is = grind (arith, common_steps, short_some, size, eq_true, or_cases, unless_none)
+  short_even x is = grind (arith, common_steps, short_length, eq_true, or_cases, unless_none)
 
   module _ {total : Option ℕ} {content : List ℕ} {sum n k place place' : ℕ} {a b : Seen} (counted : length content ≡ sum) (x : ReadsNumber 4 a b place place' n) (free : chunk_length_fault return_column size total sum n ≡ None) (is : k ≡ n) where
     -- the terminator was read
@@ -20,7 +17,7 @@ module _ {c : Conversion} {size : ℕ} (any : AnyData c size) where
     end_steps zero =
         let none : n ≡ 0 = sym is ∙ zero in
         let last : (if is_total total sum then unless (sum % size == 0) (OddText return_column) else Some (PlpLength return_column)) ≡ None = subst (λ (m : ℕ). chunk_length_fault return_column size total sum m ≡ None) none free in
-        let even : sum % size ≡ 0 = eq_true _ 0 (end_even _ _ _ _ last) in
+        let even : sum % size ≡ 0 = eq_true _ 0 (grind (arith, common_steps)) in
         steps_of (chunk_end return_column c size (sym any.unit_is) total content sum counted x free none (any.fit content (ap (λ (m : ℕ). m % size) counted ∙ even)))
 
     -- the length of a chunk was read

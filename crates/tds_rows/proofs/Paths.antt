@@ -1,5 +1,5 @@
 -- What bytes make by a grammar, and how a call that reads them and puts what they make goes from place to place.
-use Rattle.tds_rows.proofs.Words.{common_steps, ◌≡◌, ◌∙◌, ℕ, ◌+◌, ◌-◌, ◌^◌, ◌≤◌, Bool, List, [], ◌++◌, length, sym, ap, arith, append_assoc, append-nil, length-append, Fault, Stop, Grammar, Seen, Takes, Inside, Inside-Spelt, Spelt-append, Spelt-none, Takes-none, takes_both, Option, seen, Sink, Held, Puts, held, StopsStreaming, Streams, Puts-none, Puts-trans, added_inside, streaming_after, Rows, Writes}
+use Rattle.tds_rows.proofs.Words.{common_steps, ◌≡◌, ℕ, ◌+◌, ◌-◌, ◌^◌, ◌≤◌, Bool, List, [], ◌++◌, length, arith, append_assoc, append-nil, length-append, Fault, Stop, Grammar, Seen, Takes, Inside, Inside-Spelt, Spelt-append, Spelt-none, Takes-none, takes_both, Option, seen, Sink, Held, Puts, held, StopsStreaming, Streams, Puts-none, Puts-trans, added_inside, streaming_after, Rows, Writes}
 use Rattle.tds_packet.specs.declared.payload.Payload.{Payload}
 
 -- ---- what bytes make

@@ -1,5 +1,5 @@
 -- A reading of rows goes on from call to call.
-use Rattle.tds_rows.proofs.Words.{common_steps, ◌≡◌, subst, arith, Ok, Result, Stop, Rows, IsInRow, LeavesRows, StaysInRow}
+use Rattle.tds_rows.proofs.Words.{common_steps, ◌≡◌, arith, Ok, Result, Stop, Rows, IsInRow, LeavesRows, StaysInRow}
 
 -- before the first step
 pub stays : {R W : Type 0} (a : Rows R W) → IsInRow a → StaysInRow a a

@@ -1,9 +1,6 @@
 -- Cells of short values whose bytes lie together.
-use Rattle.tds_rows.proofs.Words.{◌≡◌, ◌≢◌, ◌∙◌, ℕ, ◌+◌, ◌/◌, ◌%◌, ◌<◌, ◌≤◌, Bool, true, List, [], ◌∷◌, ◌++◌, length, take, drop, refl, ap, arith, length-drop, length-take-le, slice_index, Kind, Short, Conversion, is_fit, long_field, in_line, null_field, DataCell, LongShape, Null, ShortLength, SpellsShort, stated_length, WritesWhole, take-add}
+use Rattle.tds_rows.proofs.Words.{common_steps, ◌≡◌, ◌≢◌, ◌∙◌, ℕ, ◌+◌, ◌/◌, ◌%◌, ◌<◌, ◌≤◌, Bool, true, List, [], ◌∷◌, ◌++◌, length, take, drop, refl, ap, arith, length-drop, length-take-le, slice_index, Kind, Short, Conversion, is_fit, long_field, in_line, null_field, DataCell, LongShape, Null, ShortLength, SpellsShort, stated_length, WritesWhole, take-add}
 use Rattle.tds_rows.proofs.CellLaws.{cell_is_read}
-
-two_of : (bytes : List ℕ) → 2 ≤ length bytes → take 2 bytes ≡ slice_index bytes 0 ∷ slice_index bytes 1 ∷ []
-two_of bytes h = grind arith
 
 module _ (column : ℕ) (kind : Kind) (c : Conversion) (last : Bool) (bytes text : List ℕ) (within : 2 ≤ length bytes) (low : slice_index bytes 0 < 256) (high : slice_index bytes 1 < 256) where
   -- NULL
@@ -11,7 +8,7 @@ module _ (column : ℕ) (kind : Kind) (c : Conversion) (last : Bool) (bytes text
   short_null all is =
       let a : slice_index bytes 0 ≡ 255 = omega (arith, all, low, high) in
       let b : slice_index bytes 1 ≡ 255 = omega (arith, all, low, high) in
-      record { value = Null; spelt = cell_is_read column kind (LongShape c Short) Null (take 2 bytes) tt (two_of bytes within ∙ (λ i. a i ∷ b i ∷ [])); text_is = is }
+      record { value = Null; spelt = cell_is_read column kind (LongShape c Short) Null (take 2 bytes) tt (grind (arith, common_steps) ∙ (λ i. a i ∷ b i ∷ [])); text_is = is }
 
   -- a value
   pub short_value : (n : ℕ) → n ≡ stated_length bytes → n ≢ 65535 → 2 + n ≤ length bytes → is_fit c (take n (drop 2 bytes)) ≡ true → text ≡ in_line column last (long_field c (take n (drop 2 bytes)))
@@ -21,6 +18,6 @@ module _ (column : ℕ) (kind : Kind) (c : Conversion) (last : Bool) (bytes text
       let whole : length d ≡ n = length-take-le n (drop 2 bytes) (omega (arith, all, length-drop 2 bytes)) in
       let a : slice_index bytes 0 ≡ length d % 256 = omega (arith, counted, whole, low, high) in
       let b : slice_index bytes 1 ≡ length d / 256 = omega (arith, counted, whole, low, high) in
-      let front : take 2 bytes ≡ length d % 256 ∷ length d / 256 ∷ [] = two_of bytes within ∙ (λ i. a i ∷ b i ∷ []) in
+      let front : take 2 bytes ≡ length d % 256 ∷ length d / 256 ∷ [] = grind (arith, common_steps) ∙ (λ i. a i ∷ b i ∷ []) in
       let spells : SpellsShort d (take (2 + n) bytes) = record { counted = take-add 2 n bytes ∙ ap (λ l. l ++ d) front; least = omega (arith, counted, whole, low, high, some) } in
       record { value = DataCell c d; spelt = cell_is_read column kind (LongShape c Short) (DataCell c d) (take (2 + n) bytes) tt (refl, fit, spells); text_is = is }

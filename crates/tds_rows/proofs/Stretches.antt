@@ -1,5 +1,5 @@
 -- Runs over the cells of a row: before the first, one alone, one run after another, and one over columns that aren't NULL by their bit.
-use Rattle.tds_rows.proofs.Words.{common_steps, inl, inr, ◌≡◌, ◌∙◌, ℕ, zero, suc, ◌+◌, ◌-◌, ◌≤◌, ◌<◌, Bool, false, List, [], ◌++◌, length, take, drop, refl, sym, ap, subst, arith, append_assoc, append-nil, add-zero, Column, Charset, Ahead, Table, is_last_column, EndsLeft, RunsMarked, WritesColumn, WritesMarked, WritesNext, RunEnds, IsAhead, TakesColumn, Kind}
+use Rattle.tds_rows.proofs.Words.{inl, inr, ◌≡◌, ◌∙◌, ℕ, zero, suc, ◌+◌, ◌-◌, ◌≤◌, ◌<◌, Bool, false, List, [], ◌++◌, length, take, drop, refl, sym, ap, subst, arith, append_assoc, append-nil, add-zero, Column, Charset, Ahead, Table, is_last_column, EndsLeft, RunsMarked, WritesColumn, WritesMarked, WritesNext, RunEnds, TakesColumn, Kind}
 use Rattle.tds_rows.proofs.RunSteps.{made_more, used_more}
 
 -- no column is NULL by its bit
@@ -35,10 +35,6 @@ module _ (charset : Charset) (columns : List Column) where
       (x.0, x.1, x.2, x.3, x.4, x.5, marked_clear nulls from n x.0 x.2 (λ k least most. clear k least (omega (arith, most))) x.6, one)
 
 module _ {table : Table} {columns : List Column} {nulls : ℕ → Bool} {at : Ahead} where
-  -- before the first cell
-  pub runs_none : IsAhead table columns at → RunsMarked table columns nulls at at [] []
-  runs_none ahead = grind (arith, common_steps, add-zero)
-
   -- one cell
   pub runs_column : {after : Ahead} {kind : Kind} {last : Bool} {bytes text : List ℕ} → TakesColumn table columns at after kind → last ≡ is_last_column (drop after.column columns) → WritesNext table.charset (nulls at.column) kind at.column last bytes text → RunsMarked table columns nulls at after bytes text
   runs_column {after = after} {bytes = bytes} {text = text} taken end cell =

@@ -1,5 +1,5 @@
 -- A call that reads what comes whole stops only where a device fails.
-use Rattle.tds_rows.proofs.Words.{◌≡◌, ◌∙◌, inl, inr, ℕ, ◌+◌, ◌<◌, Bool, List, [], ◌∷◌, ◌++◌, length, take, refl, sym, ap, subst, arith, append_assoc, append-nil, length-append, Result, Ok, Err, Option, Some, None, if◌then◌else◌, take-append_seam, nat_tests, Consumes, Rose, one_more, Fault, RefusedToken, Stop, Coming, before, Grammar, IsRefused, Longest, Spelt, CutsNext, RefusesNext, StopsReading, seen, Ends, Seen, Inside-Spelt, Spelt-append, longest_at, longest_cut, longest_refused, no_further, one_longest, stops_inside, stops_after, Column, return_column, Sink, Conversion, Held, held, StopsStreaming, stops_size, Kind, Reach, Short, Chunked, Charset, Cell, CellPart, LongShape, SpellsCell, WholeCell, cell, cell_start, long_start, return_charset, shape, FieldPut, cell_so_far, CellPassed, return_cell, RowPut, RowsRead, RowsStop, RowPart, RowToken, SpellsRowAs, WholeRow, row, row_so_far, token_byte, token_start, RowsPart, rows, rows_start, BeginNoRow, Brings, ReadsOn, SpellsRows, SucceedsOn, length-take-le}
+use Rattle.tds_rows.proofs.Words.{common_steps, ◌≡◌, ◌∙◌, inl, inr, ℕ, ◌+◌, ◌<◌, Bool, List, [], ◌∷◌, ◌++◌, length, take, refl, sym, ap, subst, arith, append_assoc, append-nil, length-append, Result, Ok, Err, Option, Some, None, if◌then◌else◌, take-append_seam, nat_tests, Consumes, Rose, one_more, Fault, RefusedToken, Stop, Coming, before, Grammar, IsRefused, Longest, Spelt, CutsNext, RefusesNext, StopsReading, seen, Ends, Seen, Inside-Spelt, Spelt-append, longest_at, longest_cut, longest_refused, no_further, one_longest, stops_inside, stops_after, Column, return_column, Sink, Conversion, Held, held, StopsStreaming, stops_size, Kind, Reach, Short, Chunked, Charset, Cell, CellPart, LongShape, SpellsCell, WholeCell, cell, cell_start, long_start, return_charset, shape, FieldPut, cell_so_far, CellPassed, return_cell, RowPut, RowsRead, RowsStop, RowPart, RowToken, SpellsRowAs, WholeRow, row, row_so_far, token_byte, token_start, RowsPart, rows, rows_start, BeginNoRow, Brings, ReadsOn, SpellsRows, SucceedsOn, length-take-le}
 use Rattle.tds_packet.specs.declared.payload.Payload.{Payload}
 use Rattle.tds_rows.proofs.{CellLaws.cell_is_read, RowLaws.nbc_row_is_read, RowLaws.row_is_read, RowLaws.shape-HasBytes, RowLaws.some_bitmap, RunSteps.row_among_rows, RunSteps.row_token}
 
@@ -93,10 +93,6 @@ long_is_read column kind c Chunked value bytes h = cell_is_read column kind (Lon
 
 -- ---- rows, one after another
 
--- what spells a row of some columns is read as it
-token_is_read : (token : RowToken) (charset : Charset) (columns : List Column) (cells : List Cell) (bytes : List ℕ) → 0 < length columns → SpellsRowAs token charset columns cells bytes → Spelt (row charset) (token_start token charset columns) bytes (WholeRow cells)
-token_is_read token charset columns cells bytes some h = grind (arith, nbc_row_is_read, row_is_read, some_bitmap)
-
 module _ (token : RowToken) (charset : Charset) (columns : List Column) (some_columns : 0 < length columns) where
   abbrev all_rows : Grammar RowsPart Fault
   all_rows = rows token charset columns
@@ -108,7 +104,7 @@ module _ (token : RowToken) (charset : Charset) (columns : List Column) (some_co
   begun_after before = among before (token_start token charset columns)
 
   row_of_rows : (before : List (List Cell)) (cells : List Cell) (bytes : List ℕ) → SpellsRowAs token charset columns cells bytes → Spelt all_rows (begun_after before) bytes (among before (WholeRow cells))
-  row_of_rows before cells bytes h = Inside-Spelt (row charset) all_rows (among before) (row_among_rows token charset columns before) (token_start token charset columns) bytes (WholeRow cells) (token_is_read token charset columns cells bytes some_columns h)
+  row_of_rows before cells bytes h = Inside-Spelt (row charset) all_rows (among before) (row_among_rows token charset columns before) (token_start token charset columns) bytes (WholeRow cells) (grind (arith, common_steps, nbc_row_is_read, row_is_read, some_bitmap))
 
   -- rows that are spelt are read as rows
   pub rows_are_read : (before : List (List Cell)) (first : List Cell) (later : List (List Cell)) (bytes : List ℕ) → SpellsRows token charset columns first later bytes
@@ -131,9 +127,6 @@ module _ (token : RowToken) (charset : Charset) (columns : List Column) (some_co
   longest_rows from earlier last front (byte ∷ more) spelt none = longest_refused all_rows from front (byte ∷ more) (among earlier (WholeRow last)) (RefusedToken byte) spelt
       (record { some = omega arith; whole = omega arith; first = ap (λ b. if b then None else Some (RefusedToken byte)) none })
 
-  end_same : (before : List (List Cell)) (at : RowPart) → 0 < (row charset).size at → all_rows.end_fault (among before at) ≡ (row charset).end_fault at
-  end_same before at some = grind arith
-
   rows_stop_not : (a b : Seen) (place : ℕ) (h i : Held) (failed : Bool) (stop : Stop) (first : List Cell) (later : List (List Cell)) (front more : List ℕ) → Brings a (front ++ more) → SpellsRows token charset columns first later front → BeginNoRow token more
       → (Rose a.failures b.failures → ⊥) → (Rose h.failures i.failures → ⊥) → RowsStop token charset columns a b place h i failed stop → ⊥
   rows_stop_not a b place h i failed stop first later front more brings spelt none reads writes x = elim x.stops.cause [
@@ -142,7 +135,7 @@ module _ (token : RowToken) (charset : Charset) (columns : List Column) (some_co
         let there = longest_rows (rows_start token charset columns) t.0 t.1 front more t.2 none in
         let at = x.stops.at in
         let some : 0 < (row charset).size at = stops_size (row charset) x.part x.middle b (place + length x.streams.bytes) at stop y.0 in
-        let among_rows = stops_inside (row charset) all_rows (among x.earlier) (row_among_rows token charset columns x.earlier) x.part x.middle b (place + length x.streams.bytes) at stop (end_same x.earlier at some) y.0 in
+        let among_rows = stops_inside (row charset) all_rows (among x.earlier) (row_among_rows token charset columns x.earlier) x.part x.middle b (place + length x.streams.bytes) at stop (grind (arith, common_steps)) y.0 in
         let all = stops_after all_rows (rows_start token charset columns) (among x.earlier x.part) a x.middle b place (among x.earlier at) stop (record { bytes = x.streams.bytes; spelt = x.streams.spelt; takes = x.streams.takes }) among_rows in
         let same : among x.earlier at ≡ among t.0 (WholeRow t.1) = stopped_there all_rows (rows_start token charset columns) (among t.0 (WholeRow t.1)) a b front more brings there reads place (among x.earlier at) stop all in
         let last : at ≡ WholeRow t.1 = ap (λ (p : RowsPart). p.at) same in

@@ -1,17 +1,6 @@
 -- The forms of the next columns of a row, as a table gives them.
-use Rattle.tds_rows.proofs.Words.{common_steps, ◌≡◌, ◌∙◌, inl, inr, ℕ, ◌+◌, ◌<◌, ◌≤◌, Bool, true, false, List, ◌∷◌, length, take, drop, get_or, refl, sym, ap, arith, ◌⊎◌, ◌==◌, ◌&&◌, map, drop-map, drop-take, drop_more, get_or-drop, get_or-take, length-take-le, take-map, length-drop, take-take, Column, Charset, Form, CELL_ROOM, FormsRun, Ahead, Table, IsLeft, AreNext, FirstLeft, FirstWritten, FormsWritten, AreLaidOut, RunsMarked, OneWritten, AreAhead, IsAhead, Knows, NextColumn, kinds, nat_tests}
+use Rattle.tds_rows.proofs.Words.{common_steps, ◌≡◌, ◌∙◌, inl, inr, ℕ, ◌+◌, ◌<◌, ◌≤◌, Bool, false, List, ◌∷◌, length, take, drop, get_or, refl, sym, ap, arith, ◌⊎◌, ◌==◌, ◌&&◌, map, drop-map, drop-take, drop_more, get_or-drop, get_or-take, length-take-le, take-map, length-drop, take-take, Column, Form, CELL_ROOM, FormsRun, Ahead, Table, IsLeft, FirstLeft, FirstWritten, FormsWritten, AreLaidOut, RunsMarked, OneWritten, AreAhead, IsAhead, Knows, NextColumn, kinds, nat_tests}
 use Rattle.tds_rows.proofs.{FormSteps.some_first, TableRuns.one_next}
-
--- two numbers are equal where two others are
-same_test : (a b c d : ℕ) → (a ≡ b → c ≡ d) → (c ≡ d → a ≡ b) → (a == b) ≡ (c == d)
-same_test a b c d to from = grind (arith, nat_tests)
-
-and_true : (b : Bool) → (b && true) ≡ b
-and_true b = grind arith
-
--- a part of forms that are laid out
-pub laid_part : (charset : Charset) (forms : List Form) (k n : ℕ) → AreLaidOut charset forms → k + n ≤ length forms → AreLaidOut charset (take n (drop k forms))
-laid_part charset forms k n all within i d here = grind (arith, get_or-drop, get_or-take, length-drop, length-take-le)
 
 -- those that a table knows, from a place in a row on
 pub known_ahead : (table : Table) (at : Ahead) (end : ℕ) (n : ℕ) → AreLaidOut table.charset table.forms → table.known ≤ length table.forms → 0 < n → at.column + n ≤ end → at.column + n ≤ table.known → table.known ≤ table.count → AreAhead table at end (take n (drop at.column table.forms))
@@ -19,7 +8,7 @@ known_ahead table at end n laid fits some within known few =
     let k = at.column in
     let len : length (take n (drop k table.forms)) ≡ n = length-take-le n (drop k table.forms) (omega (arith, known, fits, length-drop k table.forms)) in
     record {
-      laid = laid_part table.charset table.forms k n laid (omega (arith, known, fits));
+      laid = grind (arith, common_steps, get_or-drop, get_or-take, length-drop, length-take-le);
       some = omega (arith, len, some);
       within = omega (arith, len, within);
       known = inl (omega (arith, len, known));
@@ -50,14 +39,10 @@ module _ (table : Table) (from : Ahead) (end : ℕ) (forms : List Form) (within 
   first_next form rest are columns knows is = grind (arith, drop_more)
 
   module _ (ends : Bool) (end_is : ends ≡ (from.column + length forms == table.count)) where
-    -- they are the next ones
-    are_next : (columns : List Column) → Knows table columns → IsAhead table columns from → AreNext forms ends (drop from.column columns)
-    are_next columns knows is = grind (arith, length-drop, same_test)
-
     -- what was written by them is between two places of the row
     pub forms_between : (columns : List Column) → Knows table columns → IsAhead table columns from → (to : Ahead) (bytes text : List ℕ) (run : FormsRun) → to.column ≡ from.column + run.cells → IsAhead table columns to → FormsWritten table.charset forms from.column ends bytes text run
         → RunsMarked table columns (λ k. false) from to (take run.used bytes) (take run.made text)
-    forms_between columns knows is to bytes text run further there x = grind (arith, common_steps, are_next)
+    forms_between columns knows is to bytes text run further there x = grind (arith, common_steps, length-drop, nat_tests)
 
     -- the first alone was written, of one
     pub alone_written : (bytes text : List ℕ) (run : FormsRun) → length forms ≡ 1 → FirstWritten table.charset forms from.column ends bytes text run → OneWritten table from bytes text run.used run.made
@@ -66,7 +51,7 @@ module _ (table : Table) (from : Ahead) (end : ℕ) (forms : List Form) (within 
         let form = first.0 in
         let w = x form first.1 first.2 in
         let last_is : (ends && (1 == length forms)) ≡ (from.column + 1 == table.count) =
-        ap (λ (n : ℕ). ends && (1 == n)) one ∙ and_true ends ∙ end_is ∙ ap (λ (n : ℕ). from.column + n == table.count) one in
+        ap (λ (n : ℕ). ends && (1 == n)) one ∙ grind (arith, common_steps) ∙ end_is ∙ ap (λ (n : ℕ). from.column + n == table.count) one in
         one_next table from form.kind (ends && (1 == length forms)) last_is (first_next form first.1 first.2) bytes text run.used run.made w.size w.writes
 
   -- the first was left
