@@ -118,11 +118,11 @@ module _ (h j : Held) (room written : List ℕ) (n : ℕ) (whole : length writte
   kept_text r made x = grind (arith, after, same)
 
 -- a cell whose text comes at once was read, and the text put by one call of the sink, or a write of it failed
-pub put_cell : {W U : Type 0} (r : Result U Stop) (charset : Charset) (kind : Kind) (column : ℕ) (last : Bool) (a b : Seen) (place place' : ℕ) (contents : W → Option (List ℕ)) (old new : Sink W) (text : List ℕ) → IsWriting old
+pub put_cell : {W U : Type 0} {column place place' : ℕ} {last : Bool} {a b : Seen} {text : List ℕ} (r : Result U Stop) (charset : Charset) (kind : Kind) (contents : W → Option (List ℕ)) (old new : Sink W) → IsWriting old
     → ReadsCell (cell_start kind (shape charset kind)) column last a b place place' text → PutsPiece contents old new text r
     → MatchResult r (λ _. PutsCell charset kind column last a b place place' (held contents old) (held contents new)) (λ stop. StopsCell charset kind column last a b place (held contents old) (held contents new) new.failed stop)
-put_cell (Ok u) charset kind column last a b place place' contents old new text going y x =
+put_cell {column = column} {place = place} {place' = place'} {last = last} {a = a} {b = b} {text = text} (Ok u) charset kind contents old new going y x =
     record { value = y.value; streams = at_once_streams kind (shape charset kind) column last a b place place' (held contents old) (held contents new) text y x.gives; place_is = y.place_is }
-put_cell (Err stop) charset kind column last a b place place' contents old new text going y x =
+put_cell {column = column} {place = place} {place' = place'} {last = last} {a = a} {b = b} {text = text} (Err stop) charset kind contents old new going y x =
     let breaks = at_once_breaks kind (shape charset kind) column last a b place place' (held contents old) (held contents new) text stop going.ready.2 (going.ready.1 going.writing) y (x.gives going.writing) in
     record { at = y.at; cause = inr (breaks, x.failed) }

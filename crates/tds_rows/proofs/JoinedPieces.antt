@@ -26,9 +26,9 @@ module _ {fit begins : List ℕ → Type 0} {rest text : List ℕ → List ℕ} 
         }
 
     -- a byte of it is bad
-    pub piece_bad : (new piece : List ℕ) (column most k : ℕ) (a b : Seen) (place : ℕ) (h i : Held) → length piece ≤ most → Takes a b piece 1 → IsBetween b → TakesUpTo begins rest text old new h i piece k
+    pub piece_bad : {new : List ℕ} {k : ℕ} {h i : Held} (piece : List ℕ) (column most : ℕ) (a b : Seen) (place : ℕ) → length piece ≤ most → Takes a b piece 1 → IsBetween b → TakesUpTo begins rest text old new h i piece k
         → RefusesData c content column most a b place h i (record { fault = BadText column; place = Payload (place + k) })
-    piece_bad new piece column most k a b place h i short takes between x =
+    piece_bad {k = k} {h = h} {i = i} piece column most a b place short takes between x =
         let within : k < length piece = x.within in
         let good = take k piece in
         let bad = get_or piece k 0 in
@@ -70,7 +70,7 @@ module _ {fit begins : List ℕ → Type 0} {rest text : List ℕ → List ℕ} 
         → Pushes {U = Unit {0}} begins rest text old new h i before piece (Err fault) → StopsData c content column most a b place h i after (join_stop column place fault)
     push_stops new piece column most a b place h i before after (Stopped stop) short takes between begins_old going failed x = inr (inr (piece_breaks piece most a b h i stop short takes between begins_old (x going), failed))
     push_stops new piece column most a b place h i before after Odd short takes between begins_old going failed x = absurd x
-    push_stops new piece column most a b place h i before after (join_faults.BadText k) short takes between begins_old going failed x = inr (inl (piece_bad new piece column most k a b place h i short takes between x, failed))
+    push_stops new piece column most a b place h i before after (join_faults.BadText k) short takes between begins_old going failed x = inr (inl (piece_bad piece column most a b place short takes between x, failed))
 
     -- ---- the end
 

@@ -1,6 +1,6 @@
 -- Values in chunks: the chunks one after another, and the terminator.
-use Rattle.tds_rows.proofs.Words.{◌≡◌, ◌≢◌, ◌∙◌, inl, inr, ℕ, ◌+◌, ◌-◌, ◌^◌, ◌<◌, ◌≤◌, Bool, List, [], ◌++◌, length, refl, ap, arith, append-nil, length-append, Option, None, ne_eqb, Stop, Seen, choose_false, BeginsData, Conversion, IsFit, conversion_rest, is_quoted, unit, after_comma, Held, Puts, fit_by_test, Puts-none, ChunkLength, cell, PutsField, StopsField, cell_so_far, EndsData, ReadsNumber, StopsEnding, chunk_length_fault, ending, opening}
-use Rattle.tds_rows.proofs.{LongSteps.chunk_holds, LongSteps.ending_text, LongSteps.ends_path, LongValues.field_of, LongValues.next_breaks, LongValues.next_path, LongValues.none_begins, LongValues.not_fit, LongValues.open_none, LongValues.reading_stops, Numbers.chunk_end, Numbers.chunk_start, Numbers.chunk_unfit, Paths.At, Paths.Path, Paths.path_both, Paths.path_none, Paths.path_stops, CellWords.chunk_left}
+use Rattle.tds_rows.proofs.Words.{common_steps, ◌≡◌, ◌≢◌, ◌∙◌, inl, inr, ℕ, ◌+◌, ◌-◌, ◌^◌, ◌<◌, ◌≤◌, Bool, List, [], ◌++◌, length, refl, ap, arith, append-nil, length-append, Option, None, ne_eqb, Stop, Seen, choose_false, BeginsData, Conversion, IsFit, conversion_rest, is_quoted, unit, after_comma, Held, Puts, fit_by_test, Puts-none, ChunkLength, cell, PutsField, StopsField, cell_so_far, EndsData, ReadsNumber, StopsEnding, chunk_length_fault, ending, opening}
+use Rattle.tds_rows.proofs.{LongSteps.chunk_holds, LongSteps.ending_text, LongSteps.ends_path, LongValues.field_of, LongValues.next_breaks, LongValues.next_path, LongValues.none_begins, LongValues.open_none, LongValues.reading_stops, Numbers.chunk_end, Numbers.chunk_start, Numbers.chunk_unfit, Paths.At, Paths.Path, Paths.path_both, Paths.path_none, Paths.path_stops, CellWords.chunk_left}
 
 -- the text that comes with the total
 pub total_text : (column : ℕ) (last : Bool) (c : Conversion) (t : Option ℕ) → after_comma column (opening (is_quoted c)) ≡ cell_so_far column last (ChunkLength c t [])
@@ -32,7 +32,7 @@ module _ {column : ℕ} {last : Bool} {c : Conversion} {total : Option ℕ} {kep
       let tail = ending c (is_quoted c) last x.content in
       path_stops x.path (next_breaks last (chunk_end column c size unit_is total x.content sum x.counted y free none good) tail [] few delivered z.2 (ap (λ l. cell_so_far column last (ChunkLength c total x.content) ++ l) (append-nil tail) ∙ ending_text column c last x.content good) z.1)
   chunks_end_stops few delivered none (inr z) =
-      path_stops x.path (rw (z.1, z.2) (reading_stops last delivered z.3 (chunk_unfit column c size unit_is total x.content sum x.counted y free none (not_fit c x.content z.0))))
+      path_stops x.path (rw (z.1, z.2) (reading_stops last delivered z.3 (chunk_unfit column c size unit_is total x.content sum x.counted y free none (grind (arith, common_steps, fit_by_test)))))
 
   -- the length of a chunk was read
   pub chunk_path : n ≢ 0 → q.held.delivered ≤ 2 ^ 64 - 1 → Path (cell column) (cell_so_far column last) (ChunkLength c total []) p (record { seen = d; place = there; held = q.held }) (chunk_left c total n x.content)

@@ -1,5 +1,5 @@
 -- Long values, in the grammar of a cell: the text of its parts, and the pieces of its content.
-use Rattle.tds_rows.proofs.Words.{common_steps, ◌≡◌, ◌∙◌, ◌⊎◌, inl, inr, ℕ, suc, ◌+◌, ◌-◌, ◌^◌, ◌<◌, ◌≤◌, Bool, true, false, List, [], ◌∷◌, ◌++◌, length, refl, sym, ap, subst, arith, append_assoc, append-nil, length-append, Option, Some, None, ◌&&◌, ◌||◌, nat_lt, and_from, cases_lt, ne_eqb, or_left, or_right, append_cancel_left, BadText, MessageEnded, Stop, Spelt, Seen, Takes, IsBetween, choose_false, test_lt, Spelt-none, Spelt-append, Spelt-step, Takes-more, began_is_cut, cut_at_once, BeginsData, Conversion, conversion_rest, conversion_text, is_begun, is_fit, is_quoted, closing, long_field, open_field, emit, after_comma, end_after, in_line, Breaks, Held, Puts, StopsStreaming, open_grows, open_closes, unfit_adds_none, begun_by_test, joins_by_name, breaks_somewhere, Breaks-after, Breaks-longer, Puts-none, Puts-trans, CellPart, ChunkData, ShortData, cell, cell_add, cell_end, cell_fault, cell_size, field_so_far, unless, cell_so_far, BreaksData, CutsData, EndsData, FillsData, RefusesData, StopsData, StopsFilling, added_text, ending, nil_of_length, Payload}
+use Rattle.tds_rows.proofs.Words.{common_steps, ◌≡◌, ◌∙◌, ◌⊎◌, inl, inr, ℕ, suc, ◌+◌, ◌-◌, ◌^◌, ◌<◌, ◌≤◌, Bool, true, false, List, [], ◌∷◌, ◌++◌, length, refl, sym, ap, subst, arith, append_assoc, append-nil, length-append, Option, Some, None, ◌&&◌, ◌||◌, nat_lt, and_from, cases_lt, ne_eqb, or_left, or_right, append_cancel_left, BadText, MessageEnded, Stop, Spelt, Seen, Takes, IsBetween, choose_false, test_lt, Spelt-none, Spelt-append, Spelt-step, Takes-more, began_is_cut, cut_at_once, BeginsData, Conversion, conversion_rest, conversion_text, is_begun, is_fit, is_quoted, closing, long_field, open_field, emit, after_comma, end_after, in_line, Breaks, Held, Puts, StopsStreaming, open_grows, open_closes, unfit_adds_none, begun_by_test, joins_by_name, breaks_somewhere, Breaks-after, Breaks-longer, Puts-none, Puts-trans, CellPart, ShortData, cell, cell_add, cell_end, cell_fault, cell_size, field_so_far, unless, cell_so_far, BreaksData, CutsData, EndsData, FillsData, RefusesData, StopsData, StopsFilling, added_text, ending, nil_of_length, Payload}
 use Rattle.tds_rows.proofs.{Paths.At, Paths.Path, Paths.path_both, Paths.path_stops, NullTexts.line_grows, NullTexts.opened_text, LineTexts.after_append, CellLaws.unless_true, CellWords.chunk_left, CellWords.short_left}
 
 -- ---- content, byte by byte
@@ -230,18 +230,12 @@ module _ {column : ℕ} {c : Conversion} {state : ℕ → List ℕ → CellPart}
 short_next : (c : Conversion) (r : ℕ) (d : List ℕ) → short_left c (suc r) d ≡ ShortData c r d
 short_next c r d = grind (arith, common_steps, choose_false, ne_eqb)
 
-chunk_next : (c : Conversion) (total : Option ℕ) (r : ℕ) (d : List ℕ) → chunk_left c total (suc r) d ≡ ChunkData c total r d
-chunk_next c total r d = grind (arith, common_steps, choose_false, ne_eqb)
-
 module _ (column : ℕ) (c : Conversion) where
   short_free : (r : ℕ) (d : List ℕ) (x : ℕ) → is_begun c (d ++ x ∷ []) ≡ true → (r ≡ 0 → is_fit c (d ++ x ∷ []) ≡ true) → (is_begun c (d ++ x ∷ []) && (nat_lt 0 r || is_fit c (d ++ x ∷ []))) ≡ true
   short_free r d x begun fit = grind (arith, and_from, or_left, or_right, test_lt)
 
   begun_or : (b : Bool) → b ≡ false → unless b (BadText column) ≡ Some (BadText column)
   begun_or b h = rw h
-
-  no_fit : (b k : Bool) → k ≡ false → unless (b && (nat_lt 0 0 || k)) (BadText column) ≡ Some (BadText column)
-  no_fit b k h = grind arith
 
   fit_or_none : (d : List ℕ) (x : ℕ) (b : Bool) → is_fit c (d ++ x ∷ []) ≡ b → (is_fit c (d ++ x ∷ []) ≡ true) ⊎ (emit (conversion_rest c) (conversion_text c) (d ++ x ∷ []) ≡ emit (conversion_rest c) (conversion_text c) d)
   fit_or_none d x b is = grind (arith, unfit_adds_none)
@@ -268,7 +262,7 @@ module _ (column : ℕ) (c : Conversion) where
 
   -- where the content isn't whole, its last byte is refused
   pub short_refused : (e : List ℕ) (y : ℕ) → is_fit c (e ++ y ∷ []) ≡ false → cell_fault column (short_left c 1 e) (y ∷ []) ≡ Some (BadText column)
-  short_refused e y unfit = grind (arith, common_steps, column, short_next, no_fit)
+  short_refused e y unfit = grind (arith, common_steps, short_next)
 
   pub chunk_holds : (total : Option ℕ) → HoldsContent column c (chunk_left c total) (λ _. Unit {0})
-  chunk_holds total = grind (arith, append-nil, begun_or, chunk_next, unless_true)
+  chunk_holds total = grind (arith, common_steps, append-nil, begun_or, choose_false, ne_eqb, unless_true)

@@ -1,17 +1,14 @@
 -- Long values, element after element: their lengths, the content between, and the end.
-use Rattle.tds_rows.proofs.Words.{common_steps, ◌≡◌, ◌∙◌, inl, inr, ℕ, zero, suc, ◌-◌, ◌^◌, ◌<◌, ◌≤◌, Bool, true, false, List, [], ◌∷◌, ◌++◌, length, sym, ap, arith, append-nil, Result, Ok, Err, MatchResult, subst, Option, drop-nil, take-nil, Stop, StopsReading, Seen, Takes, Spelt-one, Spelt-none, BeginsData, Conversion, HexDigits, IsFit, Utf16Text, Utf8Text, Windows1252Text, conversion_rest, conversion_text, is_fit, is_quoted, open_field, emit, after_comma, binary_mark, in_line, null_field, quote, Sink, Breaks, Held, IsWriting, Puts, PutsPiece, held, begun_by_test, fit_begins, fit_by_test, no_data_is_fit, hex-nil, Breaks-after, Puts-none, Puts-trans, Breaks-longer, text_nil, Cell, CellPart, Null, ShortLength, WholeCell, cell, PutsField, StopsField, cell_so_far, EndsData, StopsEnding, ending, opening}
+use Rattle.tds_rows.proofs.Words.{common_steps, ◌≡◌, ◌∙◌, inl, inr, ℕ, zero, suc, ◌-◌, ◌^◌, ◌<◌, ◌≤◌, Bool, true, false, List, [], ◌∷◌, ◌++◌, length, sym, ap, arith, append-nil, Result, Ok, Err, MatchResult, subst, Option, drop-nil, take-nil, Stop, StopsReading, Seen, Takes, Spelt-one, Spelt-none, BeginsData, Conversion, HexDigits, IsFit, Utf16Text, Utf8Text, Windows1252Text, conversion_rest, conversion_text, is_quoted, open_field, emit, after_comma, binary_mark, in_line, null_field, quote, Sink, Breaks, Held, IsWriting, Puts, PutsPiece, held, begun_by_test, fit_begins, fit_by_test, no_data_is_fit, hex-nil, Breaks-after, Puts-none, Puts-trans, Breaks-longer, text_nil, Cell, CellPart, Null, ShortLength, WholeCell, cell, PutsField, StopsField, cell_so_far, EndsData, StopsEnding, ending, opening}
 use Rattle.tds_rows.proofs.{LongSteps.ending_text, LongSteps.ends_break, LongSteps.ends_path, LongSteps.ends_refused, LongSteps.short_holds, LongSteps.short_refused, LongSteps.text_at, Numbers.Next, Paths.At, Paths.Path, Paths.path_both, Paths.path_of, Paths.streams_of, CellWords.short_left}
 
 -- ---- no content
-
-text_none : (c : Conversion) → conversion_text c [] ≡ []
-text_none c = grind (arith, hex-nil, text_nil)
 
 pub rest_none : (c : Conversion) → conversion_rest c [] ≡ []
 rest_none c = grind (arith, drop-nil)
 
 emit_none : (c : Conversion) → emit (conversion_rest c) (conversion_text c) [] ≡ []
-emit_none c = grind (arith, common_steps, take-nil, text_none)
+emit_none c = grind (arith, common_steps, take-nil, hex-nil, text_nil)
 
 pub open_none : (c : Conversion) → opening (is_quoted c) ≡ open_field c []
 open_none HexDigits = sym (append-nil binary_mark) ∙ ap (λ l. binary_mark ++ l) (sym (emit_none HexDigits))
@@ -21,9 +18,6 @@ open_none Utf8Text = ap (λ l. quote ∷ l) (sym (emit_none Utf8Text))
 
 pub none_begins : (c : Conversion) → BeginsData c []
 none_begins c = (begun_by_test c []).0 (fit_begins c [] [] (no_data_is_fit c))
-
-pub not_fit : (c : Conversion) (l : List ℕ) → (IsFit c l → ⊥) → is_fit c l ≡ false
-not_fit c l h = grind (arith, fit_by_test)
 
 -- ---- parts of a field, one after the other
 
@@ -111,4 +105,4 @@ module _ (column : ℕ) (last : Bool) (c : Conversion) where
 
     pub short_end_stops : {k : Held} {failed : Bool} {stop : Stop} → StopsEnding c (is_quoted c) last all column (q.place - 1) q.held k failed stop → StopsField (short_left c n []) column last p.seen q.seen p.place p.held k failed stop
     short_end_stops (inl z) = let good = (fit_by_test c all).1 z.0 in rw z.2 (ends_break last (short_holds column c) x (ending c (is_quoted c) last all) good (ending_text column c last all good) z.1)
-    short_end_stops (inr z) = rw (z.3, z.2, z.1) (ends_refused last (short_holds column c) x (short_refused column c) (not_fit c all z.0))
+    short_end_stops (inr z) = rw (z.3, z.2, z.1) (ends_refused last (short_holds column c) x (short_refused column c) (grind (arith, common_steps, fit_by_test)))

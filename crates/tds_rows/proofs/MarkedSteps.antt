@@ -62,7 +62,7 @@ module _ (charset : Charset) (start : RowPart) (columns : List Column) (nulls : 
           let y' = rw (v.0, v.1, ends_marked w.left nulls (at + 1)) at y in
           null_nears (nears_onward y' z) y'.puts
       go false v z =
-          let put = whole_puts charset w.column.kind at (is_last_column w.left) q.seen r.seen q.place r.place q.held r.held bytes text v (Takes-more q.seen r.seen bytes 0 (length bytes) (omega arith) y.takes) y.place_is y.puts in
+          let put = whole_puts charset w.column.kind at (is_last_column w.left) q r bytes text v (Takes-more q.seen r.seen bytes 0 (length bytes) (omega arith) y.takes) y.place_is y.puts in
           cell_nears y.between y.few (all_put refl y.delivered z) (rw (ends_marked w.left nulls (at + 1)) at put)
 
   -- so many columns more

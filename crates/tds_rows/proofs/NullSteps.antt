@@ -1,6 +1,6 @@
 -- Rows with NULLs by their bit, column after column, as they are read and their text is put.
-use Rattle.tds_rows.proofs.Words.{common_steps, ◌≡◌, ◌∙◌, inl, inr, ℕ, ◌+◌, ◌-◌, ◌^◌, ◌<◌, ◌≤◌, Bool, true, false, List, [], ◌∷◌, ◌++◌, length, refl, sym, ap, subst, arith, length-append, map, Some, Fault, MessageEnded, Stop, Grammar, IsNext, Ends, IsBetween, Seen, Takes, began_at, Inside-Spelt, next_inside, next_some, stops_inside, began_is_cut, cut_at_once, Column, in_line, joined, null_field, Breaks, Held, Puts, BreaksStreaming, StopsStreaming, Nears, added_between, last_read, nears_after, nears_breaks, nears_done, nears_from, nears_inside, nears_put, tail_after, Breaks-longer, Puts-none, Charset, Cell, CellPart, Null, WholeCell, cell, cell_add, cell_size, cell_start, field, shape, cell_so_far, Bitmap, InCell, RowPart, bit, bitmap_length, marked, nbc_row_start, next_cell, row, row_so_far, row_start, with_cell, stops_size, ReadsRow, RowStops, Writes}
-use Rattle.tds_rows.proofs.{NullTexts.begun_text, NullTexts.coming, NullTexts.ends, NullTexts.line_grows, NullTexts.nulls_ahead, NullTexts.nulls_text, NullTexts.part_text, NullTexts.rest_of, NullTexts.start_size, NullTexts.whole_text, RowLaws.begins_open, RowLaws.cell_in_row, RowLaws.shape-HasBytes, Paths.At, Paths.Path, Paths.path_both, Paths.path_map, Paths.path_none, Paths.path_of, Paths.path_stops, Paths.streams_of, Paths.writes_inside, RowSteps.PutsAt, RowSteps.StopsAt, RowSteps.cell_some, RowSteps.same_end, CellWords.StopsCell}
+use Rattle.tds_rows.proofs.Words.{append-nil, common_steps, ◌≡◌, ◌∙◌, inl, inr, ℕ, ◌+◌, ◌-◌, ◌^◌, ◌<◌, ◌≤◌, Bool, true, false, List, [], ◌∷◌, ◌++◌, length, refl, sym, ap, subst, arith, length-append, map, Some, Fault, MessageEnded, Stop, Grammar, IsNext, Ends, IsBetween, Seen, Takes, began_at, Inside-Spelt, next_inside, next_some, stops_inside, began_is_cut, cut_at_once, Column, in_line, joined, null_field, Breaks, Held, Puts, BreaksStreaming, StopsStreaming, Nears, added_between, last_read, nears_after, nears_breaks, nears_done, nears_from, nears_inside, nears_put, tail_after, Breaks-longer, Puts-none, Charset, Cell, CellPart, Null, WholeCell, cell, cell_add, cell_size, cell_start, field, shape, cell_so_far, Bitmap, InCell, RowPart, bit, bitmap_length, marked, nbc_row_start, next_cell, row, row_so_far, row_start, with_cell, stops_size, ReadsRow, RowStops, Writes}
+use Rattle.tds_rows.proofs.{NullTexts.begun_text, NullTexts.coming, NullTexts.ends, NullTexts.line_grows, NullTexts.nulls_ahead, NullTexts.nulls_text, NullTexts.part_text, NullTexts.rest_of, RowLaws.begins_open, RowLaws.cell_in_row, RowLaws.shape-HasBytes, Paths.At, Paths.Path, Paths.path_both, Paths.path_map, Paths.path_none, Paths.path_of, Paths.path_stops, Paths.streams_of, Paths.writes_inside, RowSteps.PutsAt, RowSteps.StopsAt, RowSteps.cell_some, RowSteps.same_end, CellWords.StopsCell}
 
 -- ---- a cell in its row, with the NULLs after it
 
@@ -63,18 +63,14 @@ module _ (charset : Charset) (cells : List Cell) (ks : List (Column × Bool)) wh
         ];
       }
 
-  -- it has some bytes before it begins
-  pub begin_size : (c : Column) → 0 < cell_size (cell_start c.kind (shape charset c.kind))
-  begin_size c = grind (arith, common_steps, start_size, shape-HasBytes)
-
   pub marked_stops : (c : Column) (b d : Seen) (place : ℕ) (i j : Held) (failed : Bool) (stop : Stop) → StopsCell charset c.kind (length cells) (ends ks) b d place i j failed stop → RowStops charset (InCell cells (cell_start c.kind (shape charset c.kind)) ks) b d place i j failed stop
   marked_stops c b d place i j failed stop x =
-      subst (λ v. StopsStreaming big row_so_far v b d place i j failed stop) (begins_open charset cells ks c.kind (shape charset c.kind)) (stops_there (cell_start c.kind (shape charset c.kind)) b d place i j failed stop (begin_size c) x)
+      subst (λ v. StopsStreaming big row_so_far v b d place i j failed stop) (begins_open charset cells ks c.kind (shape charset c.kind)) (stops_there (cell_start c.kind (shape charset c.kind)) b d place i j failed stop (grind (arith, common_steps, shape-HasBytes)) x)
 
   -- a cell in its row, with no NULL by its bit after it
   pub row_cell : (c : Column) → nulls_ahead (length cells + 1) ks ≡ [] → {bytes made : List ℕ} {v : Cell} → Writes (cell (length cells)) (cell_so_far (length cells) (ends ks)) (cell_start c.kind (shape charset c.kind)) bytes made (WholeCell v)
       → Writes (row charset) row_so_far (next_cell charset cells ((c, false) ∷ ks)) bytes made (next_cell charset (cells ++ v ∷ []) ks)
-  row_cell c none x = rw (begins_open charset cells ks c.kind (shape charset c.kind)) at (writes_inside {text = text} {whole = row_so_far} front (cell_in_row charset cells ks) (whole_text charset cells ks none) x)
+  row_cell c none x = rw (begins_open charset cells ks c.kind (shape charset c.kind)) at (writes_inside {text = text} {whole = row_so_far} front (cell_in_row charset cells ks) (grind (arith, common_steps, append-nil, part_text)) x)
 
 -- ---- column after column
 

@@ -1,6 +1,6 @@
 -- Columns that are NULL by their bit: their text stands after that of the element that is read before them.
-use Rattle.tds_rows.proofs.Words.{common_steps, ◌≡◌, ◌∙◌, ℕ, ◌+◌, ◌<◌, Bool, true, false, List, [], ◌∷◌, ◌++◌, length, refl, sym, ap, arith, append_assoc, append-nil, length-append, Option, Some, None, map, Kind, IsNext, next_some, Column, open_field, after_comma, end_after, in_line, joined, line, null_field, Charset, Cell, CellPart, ChunkData, ChunkLength, Null, Shape, ShortData, WholeCell, cell, cell_add, cell_size, cell_start, field, field_so_far, cell_so_far, is_last_column, opened, RowPart, marked, next_cell, row_so_far, with_cell}
-use Rattle.tds_rows.proofs.{GrowingTexts.Grows, GrowingTexts.OptionGrows, GrowingTexts.cell_grows, GrowingTexts.grows_all, GrowingTexts.grows_same, GrowingTexts.grows_trans, GrowingTexts.grows_under, CellLaws.HasBytes, RowSteps.cell_more, RowSteps.fields_more, RowSteps.start_quiet}
+use Rattle.tds_rows.proofs.Words.{common_steps, ◌≡◌, ◌∙◌, ℕ, ◌+◌, ◌<◌, Bool, true, false, List, [], ◌∷◌, ◌++◌, length, refl, sym, ap, arith, append_assoc, append-nil, length-append, Option, Some, None, map, IsNext, next_some, Column, open_field, after_comma, end_after, in_line, joined, line, null_field, Charset, Cell, CellPart, ChunkData, ChunkLength, Null, ShortData, WholeCell, cell, cell_add, cell_size, field, field_so_far, cell_so_far, is_last_column, opened, RowPart, marked, next_cell, row_so_far, with_cell}
+use Rattle.tds_rows.proofs.{GrowingTexts.Grows, GrowingTexts.OptionGrows, GrowingTexts.cell_grows, GrowingTexts.grows_all, GrowingTexts.grows_same, GrowingTexts.grows_trans, GrowingTexts.grows_under, RowSteps.cell_more, RowSteps.fields_more, RowSteps.start_quiet}
 
 -- whether no column follows
 abbrev pub ends : List (Column × Bool) → Bool
@@ -43,10 +43,6 @@ nulls_text charset cells ((k, true) ∷ ks) =
 nulls_text charset cells ((k, false) ∷ ks) = grind (arith, append-nil, start_quiet)
 
 -- ---- a cell's text in its line
-
--- before its first element a cell has some to come
-pub start_size : (kind : Kind) (s : Shape) → HasBytes s → 0 < cell_size (cell_start kind s)
-start_size kind s h = grind arith
 
 module _ (column : ℕ) (last : Bool) where
   opened_grows : (a b : Option (List ℕ)) → OptionGrows a b → Grows (opened column a) (opened column b)
@@ -91,7 +87,3 @@ module _ (charset : Charset) (cells : List Cell) (ks : List (Column × Bool)) wh
   -- there are none after it while it is open
   pub begun_text : (at : CellPart) → 0 < cell_size at → joined (map field cells) ++ cell_so_far (length cells) (ends ks) at ≡ row_so_far (up at)
   begun_text at some = grind (arith, append-nil, (part_text at))
-
-  -- nor where no NULL by its bit follows
-  pub whole_text : nulls_ahead (length cells + 1) ks ≡ [] → (at : CellPart) → joined (map field cells) ++ cell_so_far (length cells) (ends ks) at ≡ row_so_far (up at)
-  whole_text none at = grind (arith, append-nil, (part_text at))

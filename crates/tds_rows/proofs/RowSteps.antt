@@ -85,10 +85,6 @@ module _ (charset : Charset) (cells : List Cell) (ks : List (Column × Bool)) wh
   pub same_end : (at : CellPart) → 0 < cell_size at → (row charset).end_fault (with_cell charset cells ks at) ≡ cell_end at
   same_end at h = grind arith
 
--- nothing but the end of a cell is whole
-not_whole : (kind : Kind) (s : Shape) (v : Cell) → cell_start kind s ≡ WholeCell v → ⊥
-not_whole kind s v h = grind arith
-
 some_bytes : (column : ℕ) (from : CellPart) (v : Cell) (es : List (List ℕ)) → (from ≡ WholeCell v → ⊥) → Leads (cell column) from es (WholeCell v) → 0 < length (concat es)
 some_bytes column from v [] before h = absurd (before h)
 some_bytes column from v (e ∷ es) before h = omega (arith, h.0.some, length-append e (concat es))
@@ -97,5 +93,5 @@ some_bytes column from v (e ∷ es) before h = omega (arith, h.0.some, length-ap
 pub cell_some : {column : ℕ} {last : Bool} {p q : At} (charset : Charset) (kind : Kind) → PutsAt charset kind column last p q → p.place < q.place
 cell_some {column = column} charset kind y =
     let spelt = y.streams.spelt in
-    let some : 0 < length (concat spelt.elements) = some_bytes column (cell_start kind (shape charset kind)) y.value spelt.elements (not_whole kind (shape charset kind) y.value) spelt.leads in
+    let some : 0 < length (concat spelt.elements) = some_bytes column (cell_start kind (shape charset kind)) y.value spelt.elements (grind (arith, common_steps)) spelt.leads in
     omega (arith, some, y.place_is, ap length spelt.joined)

@@ -1,6 +1,6 @@
 -- The cells of a run, as they are written one after another.
 use Rattle.tds_rows.proofs.Words.{common_steps, false, zero, suc, add-zero, ◌≡◌, ◌∙◌, ℕ, ◌+◌, ◌-◌, ◌≤◌, ◌<◌, Bool, List, [], ◌∷◌, ◌++◌, length, take, drop, get_or, refl, sym, ap, subst, arith, append_assoc, append-nil, length-append, Result, Ok, Err, MatchResult, true, length-take, length-take-le, take-append-le, take_all, take_more, take-append-add, take-add, RefusedToken, Stop, map, ◌==◌, Option, Some, None, if◌then◌else◌, Spelt, Seen, Takes, joined, line, Sink, Breaks, Held, IsWriting, Puts, PutsPiece, held, Inside, Spelt-append, Spelt-one, Column, all_after, Charset, Cell, CellPart, Shape, WholeCell, cell, cell_start, field, shape, NbcRow, PlainRow, RowPart, RowToken, WholeRow, next_cell, row, row_so_far, token_byte, token_start, with_field, HasInt4, int4_kind, IsLeft, IsScalarLeft, IsValueText, WritesKind, cell_so_far, is_last_column, scalar_size, whole_size, WritesCell, WritesWhole, is_scalar, Writes, WritesRows, after_cells, lines, rows, rows_so_far, Kind, IntN, WritesColumn, WritesMarked}
-use Rattle.tds_rows.proofs.{CellSteps.fixed_some, BufferedCells.int4_cell, NullSteps.row_cell, NullTexts.coming, NullTexts.ends_marked, NullTexts.none_ahead, Paths.writes_both, Paths.writes_inside, Paths.writes_none, RowSteps.quiet_text, RowSteps.start_quiet, TableSteps.next_column, CellWords.PutsCell, CellWords.StopsCell}
+use Rattle.tds_rows.proofs.{CellSteps.fixed_some, BufferedCells.int4_cell, NullSteps.row_cell, NullTexts.coming, NullTexts.ends_marked, NullTexts.none_ahead, Paths.At, Paths.writes_both, Paths.writes_inside, Paths.writes_none, RowSteps.quiet_text, RowSteps.start_quiet, TableSteps.next_column, CellWords.PutsCell, CellWords.StopsCell}
 
 -- ---- cells of a row
 
@@ -144,17 +144,17 @@ module _ {charset : Charset} {all : List Column} {cells : List Cell} {columns : 
 -- ---- a cell that lies whole, and whose text fills no block
 
 -- its bytes were passed over and its text put, so it was read
-pub whole_puts : (charset : Charset) (kind : Kind) (column : ℕ) (last : Bool) (a b : Seen) (place place' : ℕ) (h j : Held) (bytes text : List ℕ) → WritesWhole (cell_start kind (shape charset kind)) column last bytes text
-    → Takes a b bytes (length bytes) → place' ≡ place + length bytes → Puts h j text → PutsCell charset kind column last a b place place' h j
-whole_puts charset kind column last a b place place' h j bytes text x takes at puts =
+pub whole_puts : (charset : Charset) (kind : Kind) (column : ℕ) (last : Bool) (p q : At) (bytes text : List ℕ) → WritesWhole (cell_start kind (shape charset kind)) column last bytes text
+    → Takes p.seen q.seen bytes (length bytes) → q.place ≡ p.place + length bytes → Puts p.held q.held text → PutsCell charset kind column last p.seen q.seen p.place q.place p.held q.held
+whole_puts charset kind column last p q bytes text x takes at puts =
     let writes = cell_writes kind (shape charset kind) x in
     record { value = x.value; streams = record { bytes = bytes; spelt = writes.spelt; takes = takes; puts = (text, writes.text_is, puts) }; place_is = at }
 
 -- a put of it can't stop
-pub put_whole : {W U : Type 0} (r : Result U Stop) (charset : Charset) (kind : Kind) (column : ℕ) (last : Bool) (a b : Seen) (place place' : ℕ) (contents : W → Option (List ℕ)) (old new : Sink W) (bytes text : List ℕ) → IsWriting old
+pub put_whole : {W U : Type 0} {column place' : ℕ} {last : Bool} {bytes text : List ℕ} (r : Result U Stop) (charset : Charset) (kind : Kind) (a b : Seen) (place : ℕ) (contents : W → Option (List ℕ)) (old new : Sink W) → IsWriting old
     → WritesWhole (cell_start kind (shape charset kind)) column last bytes text → Takes a b bytes (length bytes) → place' ≡ place + length bytes → length old.output.now.bytes + length text < 4096 → PutsPiece contents old new text r
     → MatchResult r (λ _. PutsCell charset kind column last a b place place' (held contents old) (held contents new)) (λ stop. StopsCell charset kind column last a b place (held contents old) (held contents new) new.failed stop)
-put_whole (Ok u) charset kind column last a b place place' contents old new bytes text going x takes at few puts =
-    whole_puts charset kind column last a b place place' (held contents old) (held contents new) bytes text x takes at puts.gives
-put_whole {U = U} (Err stop) charset kind column last a b place place' contents old new bytes text going x takes at few puts =
+put_whole {column = column} {place' = place'} {last = last} {bytes = bytes} {text = text} (Ok u) charset kind a b place contents old new going x takes at few puts =
+    whole_puts charset kind column last (record { seen = a; place = place; held = held contents old }) (record { seen = b; place = place'; held = held contents new }) bytes text x takes at puts.gives
+put_whole {text = text} (Err stop) charset kind a b place contents old new going x takes at few puts =
     absurd (fills_no_block (held contents old) (held contents new) text stop few (puts.gives going.writing))

@@ -1,5 +1,5 @@
 -- A call that reads what comes whole stops only where a device fails.
-use Rattle.tds_rows.proofs.Words.{common_steps, ◌≡◌, ◌∙◌, inl, inr, ℕ, ◌+◌, ◌<◌, Bool, List, [], ◌∷◌, ◌++◌, length, take, refl, sym, ap, subst, arith, append_assoc, append-nil, length-append, Result, Ok, Err, Option, Some, None, if◌then◌else◌, take-append_seam, nat_tests, Consumes, Rose, one_more, Fault, RefusedToken, Stop, Coming, before, Grammar, IsRefused, Longest, Spelt, CutsNext, RefusesNext, StopsReading, seen, Ends, Seen, Inside-Spelt, Spelt-append, longest_at, longest_cut, longest_refused, no_further, one_longest, stops_inside, stops_after, Column, return_column, Sink, Conversion, Held, held, StopsStreaming, stops_size, Kind, Reach, Short, Chunked, Charset, Cell, CellPart, LongShape, SpellsCell, WholeCell, cell, cell_start, long_start, return_charset, shape, FieldPut, cell_so_far, CellPassed, return_cell, RowPut, RowsRead, RowsStop, RowPart, RowToken, SpellsRowAs, WholeRow, row, row_so_far, token_byte, token_start, RowsPart, rows, rows_start, BeginNoRow, Brings, ReadsOn, SpellsRows, SucceedsOn, length-take-le}
+use Rattle.tds_rows.proofs.Words.{common_steps, ◌≡◌, ◌∙◌, inl, inr, ℕ, ◌+◌, ◌<◌, Bool, List, [], ◌∷◌, ◌++◌, length, take, refl, sym, ap, subst, arith, append_assoc, append-nil, length-append, Result, Ok, Err, Option, Some, None, if◌then◌else◌, take-append_seam, nat_tests, Consumes, Rose, one_more, Fault, RefusedToken, Stop, Coming, before, Grammar, IsRefused, Longest, Spelt, CutsNext, RefusesNext, StopsReading, Ends, Seen, Inside-Spelt, Spelt-append, longest_at, longest_cut, longest_refused, no_further, one_longest, stops_inside, stops_after, Column, return_column, Sink, Conversion, Held, StopsStreaming, stops_size, Kind, Reach, Short, Chunked, Charset, Cell, CellPart, LongShape, SpellsCell, WholeCell, cell, cell_start, long_start, return_charset, shape, FieldPut, cell_so_far, CellPassed, return_cell, RowPut, RowsRead, RowsStop, RowPart, RowToken, SpellsRowAs, WholeRow, row, row_so_far, token_byte, token_start, RowsPart, rows, rows_start, BeginNoRow, Brings, ReadsOn, SpellsRows, SucceedsOn, length-take-le}
 use Rattle.tds_packet.specs.declared.payload.Payload.{Payload}
 use Rattle.tds_rows.proofs.{CellLaws.cell_is_read, RowLaws.nbc_row_is_read, RowLaws.row_is_read, RowLaws.shape-HasBytes, RowLaws.some_bitmap, RunSteps.row_among_rows, RunSteps.row_token}
 
@@ -50,18 +50,18 @@ longest_end g from to front more spelt none = longest_at g from front more to sp
     omega (arith, some, ap length e, length-take-le d more within))
 
 -- a call that reads whole elements to a state at which nothing follows doesn't stop in reading
-none_stops_reading : {S : Type 0} (g : Grammar S Fault) (from to : S) (a b : Seen) (place : ℕ) (at : S) (stop : Stop) (front more : List ℕ) → Brings a (front ++ more) → Spelt g from front to → g.size to ≡ 0
+none_stops_reading : {S : Type 0} {a b : Seen} {place : ℕ} {at : S} {stop : Stop} (g : Grammar S Fault) (from to : S) (front more : List ℕ) → Brings a (front ++ more) → Spelt g from front to → g.size to ≡ 0
     → (Rose a.failures b.failures → ⊥) → StopsReading g from a b place at stop → ⊥
-none_stops_reading g from to a b place at stop front more brings spelt none reads x =
+none_stops_reading {a = a} {b = b} {place = place} {at = at} {stop = stop} g from to front more brings spelt none reads x =
     let there : at ≡ to = stopped_there g from to a b front more brings (longest_end g from to front more spelt none) reads place at stop x in
     let some : 0 < g.size at = stops_size g from a b place at stop x in
     omega (arith, some, none, ap g.size there)
 
 -- a call that reads whole elements to a state at which nothing follows, and puts their text, doesn't stop
-pub none_stops : {S : Type 0} (g : Grammar S Fault) (text : S → List ℕ) (from to : S) (a b : Seen) (place : ℕ) (h i : Held) (failed : Bool) (stop : Stop) (front more : List ℕ) → Brings a (front ++ more) → Spelt g from front to → g.size to ≡ 0
+pub none_stops : {S : Type 0} {a b : Seen} {place : ℕ} {h i : Held} {failed : Bool} {stop : Stop} (g : Grammar S Fault) (text : S → List ℕ) (from to : S) (front more : List ℕ) → Brings a (front ++ more) → Spelt g from front to → g.size to ≡ 0
     → (Rose a.failures b.failures → ⊥) → (Rose h.failures i.failures → ⊥) → StopsStreaming g text from a b place h i failed stop → ⊥
-none_stops g text from to a b place h i failed stop front more brings spelt none reads writes x = elim x.cause [
-  | inl y ↦ none_stops_reading g from to a b place x.at stop front more brings spelt none reads y.0
+none_stops {h = h} g text from to front more brings spelt none reads writes x = elim x.cause [
+  | inl y ↦ none_stops_reading g from to front more brings spelt none reads y.0
   | inr y ↦
       (let z = y.0 in
       let same : z.middle.failures ≡ h.failures = z.puts.2.4 in
@@ -70,22 +70,22 @@ none_stops g text from to a b place h i failed stop front more brings spelt none
 
 -- ---- the calls
 
-pub row_succeeds : {R W U : Type 0} (remaining : R → Option (List ℕ)) (contents : W → Option (List ℕ)) (charset : Charset) (start : RowPart) (old new : Payload R) (before after : Sink W) (result : Result U Stop) (cells : List Cell) (bytes more : List ℕ)
+pub row_succeeds : {R W U : Type 0} {start : RowPart} {cells : List Cell} {bytes : List ℕ} (remaining : R → Option (List ℕ)) (contents : W → Option (List ℕ)) (charset : Charset) (old new : Payload R) (before after : Sink W) (result : Result U Stop) (more : List ℕ)
     → RowPut remaining contents charset start old new before after result → Spelt (row charset) start bytes (WholeRow cells) → SucceedsOn remaining old new before after result (bytes ++ more)
-row_succeeds remaining contents charset start old new before after (Ok x) cells bytes more put spelt = λ brings reads writes. refl
-row_succeeds remaining contents charset start old new before after (Err stop) cells bytes more put spelt = λ brings reads writes. absurd (none_stops (row charset) row_so_far start (WholeRow cells) (seen remaining old) (seen remaining new) old.place (held contents before) (held contents after) after.failed stop bytes more brings spelt refl reads writes put)
+row_succeeds remaining contents charset old new before after (Ok x) more put spelt = λ brings reads writes. refl
+row_succeeds {start = start} {cells = cells} {bytes = bytes} remaining contents charset old new before after (Err stop) more put spelt = λ brings reads writes. absurd (none_stops (row charset) row_so_far start (WholeRow cells) bytes more brings spelt refl reads writes put)
 
-pub field_succeeds : {R W U : Type 0} (remaining : R → Option (List ℕ)) (contents : W → Option (List ℕ)) (from : CellPart) (column : ℕ) (last : Bool) (old new : Payload R) (before after : Sink W) (result : Result U Stop) (value : Cell) (bytes more : List ℕ)
+pub field_succeeds : {R W U : Type 0} {column : ℕ} {from : CellPart} {value : Cell} {bytes : List ℕ} (remaining : R → Option (List ℕ)) (contents : W → Option (List ℕ)) (last : Bool) (old new : Payload R) (before after : Sink W) (result : Result U Stop) (more : List ℕ)
     → FieldPut remaining contents from column last old new before after result → Spelt (cell column) from bytes (WholeCell value) → SucceedsOn remaining old new before after result (bytes ++ more)
-field_succeeds remaining contents from column last old new before after (Ok x) value bytes more put spelt = λ brings reads writes. refl
-field_succeeds remaining contents from column last old new before after (Err stop) value bytes more put spelt = λ brings reads writes. absurd (none_stops (cell column) (cell_so_far column last) from (WholeCell value) (seen remaining old) (seen remaining new) old.place (held contents before) (held contents after) after.failed stop bytes more brings spelt refl reads writes put)
+field_succeeds remaining contents last old new before after (Ok x) more put spelt = λ brings reads writes. refl
+field_succeeds {column = column} {from = from} {value = value} {bytes = bytes} remaining contents last old new before after (Err stop) more put spelt = λ brings reads writes. absurd (none_stops (cell column) (cell_so_far column last) from (WholeCell value) bytes more brings spelt refl reads writes put)
 
 pub value_passes : {R U : Type 0} (remaining : R → Option (List ℕ)) (kind : Kind) (old new : Payload R) (result : Result U Stop) (value : Cell) (bytes more : List ℕ)
     → CellPassed remaining (cell_start kind (shape return_charset kind)) old new result → SpellsCell kind (shape return_charset kind) value bytes → ReadsOn remaining old new result (bytes ++ more)
 value_passes remaining kind old new (Ok x) value bytes more passed spelt = λ brings reads. refl
 value_passes remaining kind old new (Err stop) value bytes more passed spelt = λ brings reads.
     let read = cell_is_read return_column kind (shape return_charset kind) value bytes (shape-HasBytes return_charset kind) spelt in
-    absurd (none_stops_reading return_cell (cell_start kind (shape return_charset kind)) (WholeCell value) (seen remaining old) (seen remaining new) old.place passed.at stop bytes more brings read refl reads passed.stops)
+    absurd (none_stops_reading return_cell (cell_start kind (shape return_charset kind)) (WholeCell value) bytes more brings read refl reads passed.stops)
 
 pub long_is_read : (column : ℕ) (kind : Kind) (c : Conversion) (reach : Reach) (value : Cell) (bytes : List ℕ) → SpellsCell kind (LongShape c reach) value bytes → Spelt (cell column) (long_start c reach) bytes (WholeCell value)
 long_is_read column kind c Short value bytes h = cell_is_read column kind (LongShape c Short) value bytes tt h
@@ -127,9 +127,9 @@ module _ (token : RowToken) (charset : Charset) (columns : List Column) (some_co
   longest_rows from earlier last front (byte ∷ more) spelt none = longest_refused all_rows from front (byte ∷ more) (among earlier (WholeRow last)) (RefusedToken byte) spelt
       (record { some = omega arith; whole = omega arith; first = ap (λ b. if b then None else Some (RefusedToken byte)) none })
 
-  rows_stop_not : (a b : Seen) (place : ℕ) (h i : Held) (failed : Bool) (stop : Stop) (first : List Cell) (later : List (List Cell)) (front more : List ℕ) → Brings a (front ++ more) → SpellsRows token charset columns first later front → BeginNoRow token more
+  rows_stop_not : {a b : Seen} {place : ℕ} {h i : Held} {failed : Bool} {stop : Stop} (first : List Cell) (later : List (List Cell)) (front more : List ℕ) → Brings a (front ++ more) → SpellsRows token charset columns first later front → BeginNoRow token more
       → (Rose a.failures b.failures → ⊥) → (Rose h.failures i.failures → ⊥) → RowsStop token charset columns a b place h i failed stop → ⊥
-  rows_stop_not a b place h i failed stop first later front more brings spelt none reads writes x = elim x.stops.cause [
+  rows_stop_not {a = a} {b = b} {place = place} {h = h} {stop = stop} first later front more brings spelt none reads writes x = elim x.stops.cause [
     | inl y ↦
         (let t = rows_are_read [] first later front spelt in
         let there = longest_rows (rows_start token charset columns) t.0 t.1 front more t.2 none in
@@ -149,4 +149,4 @@ module _ (token : RowToken) (charset : Charset) (columns : List Column) (some_co
   pub rows_succeed : {R W : Type 0} (remaining : R → Option (List ℕ)) (contents : W → Option (List ℕ)) (old new : Payload R) (before after : Sink W) (result : Result ℕ Stop) (first : List Cell) (later : List (List Cell)) (bytes more : List ℕ)
       → RowsRead remaining contents token charset columns old new before after result → SpellsRows token charset columns first later bytes → BeginNoRow token more → SucceedsOn remaining old new before after result (bytes ++ more)
   rows_succeed remaining contents old new before after (Ok n) first later bytes more read spelt none = λ brings reads writes. refl
-  rows_succeed remaining contents old new before after (Err stop) first later bytes more read spelt none = λ brings reads writes. absurd (rows_stop_not (seen remaining old) (seen remaining new) old.place (held contents before) (held contents after) after.failed stop first later bytes more brings spelt none reads writes read)
+  rows_succeed remaining contents old new before after (Err stop) first later bytes more read spelt none = λ brings reads writes. absurd (rows_stop_not first later bytes more brings spelt none reads writes read)

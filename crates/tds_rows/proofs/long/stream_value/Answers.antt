@@ -3,7 +3,7 @@ use Rattle.tds_rows.proofs.long.stream_value.Goals as goal
 
 pub returns-clause-succeeds : goal.returns-clause-succeeds
 returns-clause-succeeds g c = λ going writing conversion suits kind value bytes more spelt.
-    field_succeeds g.R.Read.remaining g.W.Write.contents _ _ _ c.args.payload.now c.stream_long.new.payload c.args.sink.now c.stream_long.new.sink _ _ _ _
+    field_succeeds g.R.Read.remaining g.W.Write.contents _ c.args.payload.now c.stream_long.new.payload c.args.sink.now c.stream_long.new.sink _ _
     (c.stream_long.ensures.gives conversion suits) (long_is_read _ kind _ _ _ _ spelt)
 
 pub returns-clause-failed_reads : goal.returns-clause-failed_reads

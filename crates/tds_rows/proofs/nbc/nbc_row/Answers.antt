@@ -10,5 +10,5 @@ returns-clause-gives g c = λ _ _.
 
 pub returns-clause-succeeds : goal.returns-clause-succeeds
 returns-clause-succeeds g c = λ going writing cells bytes more spelt.
-    row_succeeds g.R.Read.remaining g.W.Write.contents _ _ c.args.payload.now c.payload-1.given.0 c.args.sink.now c.sink-1.given.0 _ _ _ _
+    row_succeeds g.R.Read.remaining g.W.Write.contents _ c.args.payload.now c.payload-1.given.0 c.args.sink.now c.sink-1.given.0 _ _
     (returns-clause-gives g c going writing) (nbc_row_is_read _ _ _ _ (some_bitmap _ c.args.columns.some) spelt)
