@@ -157,20 +157,11 @@ module _ {c : Conversion} {total : Option ℕ} {sum : ℕ} {a b d : Seen} {place
 
 -- ---- the data of a RETURNVALUE may be any bytes
 
-any_hex : AnyData HexDigits 1
-any_hex = record { begun = λ _. refl; fit = λ _ _. refl; unit_is = refl }
-
-any_narrow : AnyData Windows1252Text 1
-any_narrow = record { begun = λ _. refl; fit = λ _ _. refl; unit_is = refl }
-
-any_wide : AnyData Utf16Text 2
-any_wide = grind (arith, common_steps)
-
 -- the beginning of a long value of single bytes
 pub single_start : (kind : Kind) (reach : Reach) (P : CellPart → Type 0) → (kind ≡ Binary reach) ⊎ (kind ≡ Narrow reach) → ((k : Kind) (c : Conversion) → AnyData c 1 → P (cell_start k (LongShape c reach))) → P (cell_start kind (shape return_charset kind))
-single_start kind reach P (inl is) x = subst (λ k. P (cell_start k (shape return_charset k))) (sym is) (x (Binary reach) HexDigits any_hex)
-single_start kind reach P (inr is) x = subst (λ k. P (cell_start k (shape return_charset k))) (sym is) (x (Narrow reach) Windows1252Text any_narrow)
+single_start kind reach P (inl is) x = subst (λ k. P (cell_start k (shape return_charset k))) (sym is) (x (Binary reach) HexDigits (grind (arith, common_steps)))
+single_start kind reach P (inr is) x = subst (λ k. P (cell_start k (shape return_charset k))) (sym is) (x (Narrow reach) Windows1252Text (grind (arith, common_steps)))
 
 -- the beginning of one of units of two
 pub wide_start : (kind : Kind) (reach : Reach) (P : CellPart → Type 0) → kind ≡ Wide reach → ((k : Kind) (c : Conversion) → AnyData c 2 → P (cell_start k (LongShape c reach))) → P (cell_start kind (shape return_charset kind))
-wide_start kind reach P is x = subst (λ k. P (cell_start k (shape return_charset k))) (sym is) (x (Wide reach) Utf16Text any_wide)
+wide_start kind reach P is x = subst (λ k. P (cell_start k (shape return_charset k))) (sym is) (x (Wide reach) Utf16Text (grind (arith, common_steps)))

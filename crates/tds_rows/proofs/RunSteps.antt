@@ -34,10 +34,6 @@ made_same made to rest within = grind (arith, common_steps, take-append-le, leng
 
 -- ---- the size of a cell
 
--- a cell of a scalar kind has some bytes
-scalar_some : (kind : Kind) (bytes : List ℕ) → 0 < scalar_size kind bytes
-scalar_some kind bytes = grind (arith, fixed_some)
-
 -- how many bytes it has
 pub scalar_whole : (kind : Kind) (bytes : List ℕ) → is_scalar kind ≡ true → whole_size kind bytes ≡ scalar_size kind bytes
 scalar_whole kind bytes h = grind (arith, common_steps)
@@ -48,7 +44,7 @@ scalar_left set kind bytes room scalar h5 = grind arith
 
 -- a cell has some bytes
 pub whole_some : (kind : Kind) (bytes : List ℕ) → 0 < whole_size kind bytes
-whole_some kind bytes = grind (arith, scalar_some kind bytes)
+whole_some kind bytes = grind (arith, common_steps, fixed_some)
 
 -- ---- a run between a payload and a sink
 
@@ -78,14 +74,10 @@ start_text PlainRow charset [] some = absurd (omega (arith, some))
 start_text PlainRow charset (c ∷ cs) some = ap (λ o. joined (with_field [] o)) (start_quiet c.kind (shape charset c.kind))
 start_text NbcRow charset columns some = refl
 
--- the token byte of the next row is no other token's
-token_free : (token : RowToken) → (if token_byte token == token_byte token then None else Some (RefusedToken (token_byte token))) ≡ None
-token_free token = grind arith
-
 -- the token byte of the next row
 pub row_token : (token : RowToken) (charset : Charset) (all : List Column) (before : List (List Cell)) (cells : List Cell) → 0 < length all
     → Writes (rows token charset all) rows_so_far (record { before = before; at = WholeRow cells }) (token_byte token ∷ []) [] (record { before = before ++ cells ∷ []; at = token_start token charset all })
-row_token token charset all before cells some = grind (arith, Spelt-one, append-nil, lines-append, start_text, token_free)
+row_token token charset all before cells some = grind (arith, common_steps, Spelt-one, append-nil, lines-append, start_text)
 
 -- ---- cells of the last row
 
