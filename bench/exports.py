@@ -237,16 +237,17 @@ def instructions_a_unit(command: list[str], folder: str, response: Response) -> 
     return (counts[1] - counts[0]) / ((more - few) * response.units)
 
 
-def line_of(who: str, response: Response, size: float, seconds: float, cost: float | None, ratios: list[str]) -> str:
-    """One line of the table."""
+def figures_of(response: Response, seconds: float, costs: dict[str, float], best: dict[str, float]) -> list[str]:
+    """Seconds, nanoseconds and instructions, those of the native reader, and the seconds to its and to the floor's."""
+    byte = response.unit == "byte"
     each = seconds / (response.count * response.units) * 1e9
-    shown = "" if cost is None else f"{cost:.2f}" if response.unit == "byte" else f"{cost:.0f}"
-    nanoseconds = f"{each:.2f}" if response.unit == "byte" else f"{each:.1f}"
-    return f"| {' | '.join([response.name, who, f'{size:.1f}', f'{seconds:.3f}', nanoseconds, shown, *ratios])} |"
+    shown = [f"{costs[who]:.{2 if byte else 0}f}" if who in costs else "" for who in ("gavyreto", "native")]
+    ratios = [f"{seconds / best[who]:.{digits}f}" if who in best else "" for who, digits in (("native", 2), ("floor", 1))]
+    return [f"{seconds:.3f}", f"{each:.{2 if byte else 1}f}", *shown, *ratios]
 
 
 def measure(folder: str, commands: dict[str, list[str]], floor: str | None, response: Response, counts: bool) -> None:
-    """One line of the table for each program, and for the least that any program does."""
+    """One line of the table."""
     path = response.file(folder, response.count)
     texts = {text_of(command, path) for command in commands.values()}
     if len(texts) > 1:
@@ -254,10 +255,9 @@ def measure(folder: str, commands: dict[str, list[str]], floor: str | None, resp
     timed = commands | ({"floor": [floor, str(texts.pop()[1])]} if floor else {})
     best = least_seconds(timed, path)
     size = os.path.getsize(path) / 1e6
-    for who, seconds in best.items():
-        ratios = [f"{seconds / best[other]:.2f}" if other in best and other != who else "" for other in ("native", "floor")]
-        cost = instructions_a_unit(commands[who], folder, response) if counts and who in commands else None
-        print(line_of(who, response, size, seconds, cost, ratios), flush=True)
+    costs = {who: instructions_a_unit(command, folder, response) for who, command in commands.items()} if counts else {}
+    figures = figures_of(response, best["gavyreto"], costs, best)
+    print(f"| {response.name} | {size:.1f} | {' | '.join(figures)} |", flush=True)
 
 
 def run(program: str, native: str | None, floor: str | None) -> None:
@@ -267,8 +267,8 @@ def run(program: str, native: str | None, floor: str | None) -> None:
         commands["native"] = [native]
     counts = shutil.which("valgrind") is not None
     with tempfile.TemporaryDirectory() as folder:
-        print("| response | program | MB | seconds | nanoseconds | instructions | to the native reader | to the floor |")
-        print("|---|---|---:|---:|---:|---:|---:|---:|")
+        print("| response | MB | seconds | nanoseconds | instructions | the native reader's | seconds to its | to the floor's |")
+        print("|---|---:|---:|---:|---:|---:|---:|---:|")
         for response in RESPONSES:
             measure(folder, commands, floor, response, counts)
     if not counts:
