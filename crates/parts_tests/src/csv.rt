@@ -668,7 +668,8 @@ fn check_lane(
         let came = joined::<Utf16Joiner>(alloc, (a, b, b""), &text)?;
         same(one.text, &came, &(Ok(()), true))?;
     }
-    let source = around(alloc, fill.units, before, one.units, after + 8)?;
+    let mut source = around(alloc, &units, 1, b"", 0)?;
+    source.extend_from_slice(&around(alloc, fill.units, 8, b"", 0)?)?;
     let mut room = [0; 128];
     let field = around(alloc, b"\"", 1, &text, 1)?;
     let came = field_of(Content::Utf16, &source, units.len(), &mut room);
