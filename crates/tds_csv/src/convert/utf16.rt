@@ -114,11 +114,14 @@ fn convert_plain(bytes: &[u8], source: &[u8], from: usize, to: &mut [u8], start:
     let mut made = start;
     while bytes.len() - at >= LANES {
         let n = put_plain(bytes, at, to, made);
-        at += 2 * n;
-        made += n;
         if n < UNITS {
-            return Converted { used: at, made };
+            return Converted {
+                used: at + 2 * n,
+                made: made + n,
+            };
         }
+        at += 2 * UNITS;
+        made += UNITS;
     }
     if source.len() - at < LANES {
         return Converted { used: at, made };

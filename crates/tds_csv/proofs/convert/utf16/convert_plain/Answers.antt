@@ -14,7 +14,7 @@ loop-at-preserved c =
     record {
       more = omega (arith, c.loop-at.invariant.more);
       long = search rules;
-      now = plain_more c.put_plain-n.result (lies_itself c.args.bytes.now) (omega (arith, room)) (omega (arith, n.plain)) n.most (omega (arith, room, n.most)) c.loop-at.invariant.long n.written c.loop-at.invariant.now;
+      now = plain_more 8 (lies_itself c.args.bytes.now) (omega (arith, room)) (omega (arith, n.plain, c.if-n-lt-UNITS.false)) (omega arith) (omega (arith, room)) c.loop-at.invariant.long n.written c.loop-at.invariant.now;
     }
 
 pub returns-clause-after : goal.returns-clause-after
