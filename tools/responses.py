@@ -281,12 +281,17 @@ def row_with_bitmap(columns: Sequence[Column], values: Sequence[Written]) -> byt
 
 # Responses.
 
-def kinds(count: int) -> Iterator[bytes]:
-    rows = [row(COLUMNS, ROWS[0]), row(COLUMNS, ROWS[1]), row_with_bitmap(COLUMNS, ROWS[2])]
-    yield description(COLUMNS)
+def in_turn(columns: Sequence[Column], values: Sequence[Sequence[Written]], count: int) -> Iterator[bytes]:
+    """A set of so many rows: the first values, the second, the third as an NBCROW, and these again."""
+    rows = [row(columns, values[0]), row(columns, values[1]), row_with_bitmap(columns, values[2])]
+    yield description(columns)
     for number in range(count or 3):
         yield rows[number % 3]
     yield done()
+
+
+def kinds(count: int) -> Iterator[bytes]:
+    yield from in_turn(COLUMNS, ROWS, count)
 
 
 def text_of(columns: Sequence[Column], rows: Sequence[Sequence[Written]]) -> bytes:
@@ -359,11 +364,7 @@ def refused_float(_: int) -> Iterator[bytes]:
 
 
 def refused(count: int) -> Iterator[bytes]:
-    rows = [row(REFUSED, REFUSED_ROWS[0]), row(REFUSED, REFUSED_ROWS[1]), row_with_bitmap(REFUSED, REFUSED_ROWS[2])]
-    yield description(REFUSED)
-    for number in range(count or 3):
-        yield rows[number % 3]
-    yield done()
+    yield from in_turn(REFUSED, REFUSED_ROWS, count)
 
 
 def variants(_: int) -> Iterator[bytes]:
