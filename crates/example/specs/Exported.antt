@@ -8,7 +8,7 @@ use Rattle.tds_export.specs.Outcome.{report_of}
 use Rattle.tds_export.specs.Response.{Accepted}
 use Rattle.tds_export.specs.Tokens.{Token, text}
 
--- The bytes begin with a whole response, this is its report, and all of its text stands after what the writer had.
+-- The bytes begin with a whole response, this is its report, and all of its text comes after what the writer had.
 pub record Exported (limits : Limits) (bytes had : List ℕ) (after : Option (List ℕ)) (report : Report) : Type 0 where
   pub tokens : List Token
   pub packets : List Packet

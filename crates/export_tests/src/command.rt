@@ -3,8 +3,8 @@
 ghost use Rattle.std.specs.Prelude.{IfOk};
 ghost use Rattle.tds_arguments.specs.Jobs.{IsInRange};
 
+mod arguments;
 mod lines;
-mod words;
 
 use crate::checks::expect;
 use crate::export::{TEXT, WIRE};
@@ -15,19 +15,19 @@ use std::test::Fail;
 use tds_export::Charset;
 use tds_meter::Limits;
 use tds_packet::Counted;
-use tds_packet::rig::{Failing, ScriptedReader, ScriptedWriter};
 use tds_replay::{Job, Usage, parse, perform, say_usage};
+use test_devices::{Failing, ScriptedReader, ScriptedWriter};
 
-// A line of words.
+// A line of arguments.
 fn arguments_of(alloc: Global, line: &[&str]) -> Result<Vec<String>, AllocError> {
-    let mut words = Vec::new(alloc);
+    let mut arguments = Vec::new(alloc);
     for word in line {
-        words.push(String::from_str(alloc, word)?)?;
+        arguments.push(String::from_str(alloc, word)?)?;
     }
-    Ok(words)
+    Ok(arguments)
 }
 
-// The job of a line of words.
+// The job of a line of arguments.
 fn job(rt: &HostRuntime, line: &[&str]) -> Result<Job, Usage>
     ensures { IfOk result IsInRange }
 {
@@ -99,7 +99,7 @@ const EXPORT: &[&str] = &["export"];
 
 const RECUT: &[&str] = &["recut", "--packet-size", "512"];
 
-// The words of a job, how its writer fails, how many bytes it took, and the line. Where it takes some bytes and then fails
+// The arguments of a job, how its writer fails, how many bytes it took, and the line. Where it takes some bytes and then fails
 // it's as a pipe that is closed.
 const BROKEN: [(&[&str], Failing, usize, &[u8]); 13] = [
     (

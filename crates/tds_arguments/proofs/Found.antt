@@ -28,12 +28,12 @@ is_known app p = ap is_simple_and_free p.4 ∙ simple p.0 p.1
 abbrev some_names : Kept
 some_names = record { ref_ptr = (0, 0); now = record { ref_ptr = (0, 0); now = codes "windows-1252" } ∷ record { ref_ptr = (0, 0); now = codes "utf-8" } ∷ [] }
 
-pub without_memory : (words : List Text) (answer : Result Job Usage) → IsErrAnd answer (λ usage. usage ≡ OutOfMemory) → Answers words answer
-without_memory words (Ok job) none = absurd none
-without_memory words (Err usage) is = record {
+pub without_memory : (arguments : List Text) (answer : Result Job Usage) → IsErrAnd answer (λ usage. usage ≡ OutOfMemory) → Answers arguments answer
+without_memory arguments (Ok job) none = absurd none
+without_memory arguments (Err usage) is = record {
   app = program_app some_names some_names;
   is_program = (some_names, some_names, refl, refl, refl);
-  gives = (inl is, subst (IsUsageAt (fault_of (program_app some_names some_names) words)) (sym is) tt);
+  gives = (inl is, subst (IsUsageAt (fault_of (program_app some_names some_names) arguments)) (sym is) tt);
 }
 
 or_true : (a b : Bool) → b ≡ true → (a || b) ≡ true
@@ -57,26 +57,26 @@ no_memory k OutOfMemory is of = refl
 no_memory k (Help text) is of = absurd (true≢false (sym of ∙ ap asks_for_help is))
 no_memory k (Refused text) is of = absurd (of.1 is)
 
-module _ (app : App) (words : List Text) (program : IsProgram app) where
-  pub refused : (error : Error) (usage : Usage) → FailsBy {T = ArgMatches} (fault_of app words) (Err error) → IsUsageOf (kind_of error) usage → Answers words (Err usage)
+module _ (app : App) (arguments : List Text) (program : IsProgram app) where
+  pub refused : (error : Error) (usage : Usage) → FailsBy {T = ArgMatches} (fault_of app arguments) (Err error) → IsUsageOf (kind_of error) usage → Answers arguments (Err usage)
   refused error usage (inl memory) of =
       let is = no_memory (kind_of error) usage memory of in
-      record { app = app; is_program = program; gives = (inl is, subst (IsUsageAt (fault_of app words)) (sym is) tt) }
+      record { app = app; is_program = program; gives = (inl is, subst (IsUsageAt (fault_of app arguments)) (sym is) tt) }
   refused error usage (inr among) of = record {
     app = app;
     is_program = program;
-    gives = (inr (λ job m. subst (λ kinds. IsAmong (kind_of error) kinds) m.fits among), at_fault (kind_of error) (fault_of app words) usage among of);
+    gives = (inr (λ job m. subst (λ kinds. IsAmong (kind_of error) kinds) m.fits among), at_fault (kind_of error) (fault_of app arguments) usage among of);
   }
 
   -- arguments that fit and are refused for their numbers
-  fitting : (usage : Usage) → fault_of app words ≡ [] → IsRefusal usage → IsUsageAt (fault_of app words) usage
+  fitting : (usage : Usage) → fault_of app arguments ≡ [] → IsRefusal usage → IsUsageAt (fault_of app arguments) usage
   fitting OutOfMemory fits is = tt
   fitting (Help text) fits is = absurd is
   fitting (Refused text) fits is = inl fits
 
-  pub found : (matches : ArgMatches) (answer : Result Job Usage) → FailsBy {T = ArgMatches} (fault_of app words) (Ok matches) → HasMatchesOf app words matches
+  pub found : (matches : ArgMatches) (answer : Result Job Usage) → FailsBy {T = ArgMatches} (fault_of app arguments) (Ok matches) → HasMatchesOf app arguments matches
       → IfOk answer IsInRange → IfOk answer (MakesJob (subcommand_rows_of matches)) → IfErr answer IsRefusal
-      → IfErr answer (λ usage. (usage ≡ OutOfMemory) ⊎ ((job : Job) → IsInRange job → MakesJob (subcommand_rows_of matches) job → ⊥)) → Answers words answer
+      → IfErr answer (λ usage. (usage ≡ OutOfMemory) ⊎ ((job : Job) → IsInRange job → MakesJob (subcommand_rows_of matches) job → ⊥)) → Answers arguments answer
   found matches (Ok job) fits has range makes refusal err =
       let same = (has (both _ _ (is_known app program)).0).1 in
       record { app = app; is_program = program; gives = record { fits = fits; makes = subst (λ o. MakesJob o job) same makes; in_range = range } }

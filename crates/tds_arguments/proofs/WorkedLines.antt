@@ -13,7 +13,7 @@ app = program_app names names
 
 -- what is found under a command's name: packet size, room for columns, limit of the wire, character set and FILE
 abbrev found : List Text → Option (Text × List (Option Text))
-found words = option_map (λ p. (p.0, map (λ name. first_of name p.1) (codes "packet-size" ∷ codes "column-room" ∷ codes "max-wire" ∷ codes "charset" ∷ codes "FILE" ∷ []))) (subcommand_of app words)
+found arguments = option_map (λ p. (p.0, map (λ name. first_of name p.1) (codes "packet-size" ∷ codes "column-room" ∷ codes "max-wire" ∷ codes "charset" ∷ codes "FILE" ∷ []))) (subcommand_of app arguments)
 
 all_options : List Text
 all_options = codes "export" ∷ codes "--packet-size" ∷ codes "512" ∷ codes "--charset=utf-8" ∷ codes "f" ∷ codes "--column-room=10" ∷ codes "--max-wire" ∷ codes "8" ∷ []

@@ -18,7 +18,7 @@ use Rattle.tds_arguments.specs.Usages.{IsUsageAt}
 abbrev pub option_rule : Text → ValueParser → Rule
 option_rule name parser = record (new_rule name) { long = Some name; value_names = 1; parser = Some parser }
 
--- the same, where this is its value if it is left out
+-- the same, with this value if it is left out
 abbrev pub default_rule : Text → ValueParser → Text → Rule
 default_rule name parser value = record (option_rule name parser) { defaults = value ∷ [] }
 
@@ -56,7 +56,7 @@ charset_rule names = default_rule (codes "charset") (Names names) (codes "window
 abbrev pub file_rule : Rule
 file_rule = new_rule (codes "FILE")
 
--- an argument that is read by the rule, for its own command alone
+-- an argument that is read by the rule, for its own command only
 abbrev pub IsArgument : Rule → Arg → Type 0
 IsArgument rule argument = (rule_of argument ≡ rule) × (argument.global ≡ false)
 
@@ -118,17 +118,17 @@ MakesJob None job = ⊥
 MakesJob (Some found) job = IsJobOf found.0 found.1 job
 
 -- The arguments fit the command line, and what they name makes this job, each number in its range.
-pub record Means (app : App) (words : List Text) (job : Job) : Type 0 where
-  pub fits : fault_of app words ≡ []
-  pub makes : MakesJob (subcommand_of app words) job
+pub record Means (app : App) (arguments : List Text) (job : Job) : Type 0 where
+  pub fits : fault_of app arguments ≡ []
+  pub makes : MakesJob (subcommand_of app arguments) job
   pub in_range : IsInRange job
 
 -- The arguments mean no job, or there is no memory; and help is given only to those that ask for it.
 abbrev pub MeansNone : App → List Text → Usage → Type 0
-MeansNone app words usage = ((usage ≡ OutOfMemory) ⊎ ((job : Job) → Means app words job → ⊥)) × IsUsageAt (fault_of app words) usage
+MeansNone app arguments usage = ((usage ≡ OutOfMemory) ⊎ ((job : Job) → Means app arguments job → ⊥)) × IsUsageAt (fault_of app arguments) usage
 
--- The answer to arguments is the job that they mean, or why they mean none.
-pub record Answers (words : List Text) (answer : Result Job Usage) : Type 0 where
+-- What arguments are parsed to is the job that they mean, or why they mean none.
+pub record Answers (arguments : List Text) (answer : Result Job Usage) : Type 0 where
   pub app : App
   pub is_program : IsProgram app
-  pub gives : MatchResult answer (Means app words) (MeansNone app words)
+  pub gives : MatchResult answer (Means app arguments) (MeansNone app arguments)

@@ -26,13 +26,13 @@ work_of (Export limits charset file) = work.Export limits charset
 work_of (Check limits charset file) = work.Check limits charset
 work_of (Recut packet_size max_wire file) = work.Recut packet_size max_wire
 
--- Each number of the work lies in its range.
+-- Each number of the work is in its range.
 abbrev pub IsWorkInRange : Work → Type 0
 IsWorkInRange (work.Export limits charset) = IsPacketSize limits.packet_size × IsColumnRoom limits.column_room × IsMaxWire limits.max_wire
 IsWorkInRange (work.Check limits charset) = IsPacketSize limits.packet_size × IsColumnRoom limits.column_room × IsMaxWire limits.max_wire
 IsWorkInRange (work.Recut packet_size max_wire) = IsPacketSize packet_size × IsMaxWire max_wire
 
--- Each number of the job lies in its range.
+-- Each number of the job is in its range.
 abbrev pub IsInRange : Job → Type 0
 IsInRange job = IsWorkInRange (work_of job)
 
@@ -40,7 +40,7 @@ IsInRange job = IsWorkInRange (work_of job)
 abbrev pub values_in : ArgMatches → List Row
 values_in matches = rows_of (found_of matches)
 
--- The value is digits alone, and they write n.
+-- The value is only digits, and they write n.
 abbrev pub IsDecimal : Option (List ℕ) → ℕ → Type 0
 IsDecimal None n = ⊥
 IsDecimal (Some text) n = IsNumeral 10 text × (n ≡ digits_value 10 text)

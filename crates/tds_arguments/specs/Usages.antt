@@ -24,7 +24,7 @@ IsUsageOf k OutOfMemory = ⊤
 IsUsageOf k (Help text) = asks_for_help k ≡ true
 IsUsageOf k (Refused text) = (asks_for_help k ≡ false) × (k ≢ kind.OutOfMemory)
 
--- Arguments with these faults get help only where one asks for it, and are refused only where one doesn't or there is none.
+-- Arguments with these faults get help only if one asks for it, and are refused only if one doesn't or there is none.
 abbrev pub IsUsageAt : List ErrorKind → Usage → Type 0
 IsUsageAt faults OutOfMemory = ⊤
 IsUsageAt faults (Help text) = list_any asks_for_help faults ≡ true

@@ -5,9 +5,9 @@
 mod help;
 mod job;
 mod options;
+mod parsing;
 mod usage;
-mod words;
 
 pub use job::{Job, Work};
+pub use parsing::parse;
 pub use usage::Usage;
-pub use words::parse;

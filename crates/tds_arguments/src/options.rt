@@ -123,7 +123,7 @@ fn file<'a>(alloc: Global) -> Arg<'a>
         .long_help(help::FILE.1)
 }
 
-// The command with one more argument, where there is memory.
+// The command with one more argument, if there is memory.
 fn with_argument<'a>(
     command: Result<Command<'a>, AllocError>,
     argument: Arg<'a>,
@@ -133,7 +133,7 @@ fn with_argument<'a>(
     command?.arg(argument)
 }
 
-// The command with one more command below it, where there is memory.
+// The command with one more command below it, if there is memory.
 fn with_command<'a>(
     command: Result<Command<'a>, AllocError>,
     below: Result<Command<'a>, AllocError>,

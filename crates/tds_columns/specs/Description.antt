@@ -9,7 +9,7 @@ use Rattle.tds_packet.specs.declared.fault.RefusedKind.TheVariants.{Flt4, Flt8, 
 use Rattle.tds_packet.specs.declared.fault.Fault.{Fault}
 use Rattle.tds_packet.specs.declared.fault.Fault.TheVariants.{MessageEnded, NoColumns, RefusedColumn, UnknownType, BadTypeInfo, DescriptionTooLong}
 
--- a column: the kind of its values, and its name in UTF-16 units as they stand
+-- a column: the kind of its values, and its name in UTF-16 units as they come
 pub record Column : Type 0 where
   pub kind : Kind
   pub name : List ℕ
@@ -86,24 +86,24 @@ with_kind bytes count columns None = BeforeCount
 abbrev pub with_count : List ℕ → ℕ → DescriptionPart
 with_count bytes count = if count == 0xFFFF then NoDescription else InColumn bytes count [] ColumnHead
 
--- its type byte is read, and this many bytes of type information follow
+-- its type byte is read, and this number of bytes of type information follows
 abbrev pub with_type : List ℕ → ℕ → List Column → ℕ → ℕ → DescriptionPart
 with_type bytes count columns byte rest =
     if rest == 0 then with_kind bytes count columns (kind_of (byte ∷ [])) else InColumn bytes count columns (ColumnInfo byte)
 
--- its name has this many units
+-- its name has this number of units
 abbrev pub with_units : List ℕ → ℕ → List Column → Kind → ℕ → DescriptionPart
 with_units bytes count columns kind units =
     if units == 0 then with_column bytes count columns (record { kind = kind; name = [] }) else InColumn bytes count columns (NameUnits kind (2 * units))
 
--- what stands after an element of a column
+-- the state after an element of a column
 abbrev pub with_element : List ℕ → ℕ → List Column → ColumnPlace → List ℕ → DescriptionPart
 with_element bytes count columns ColumnHead element = with_type (bytes ++ element) count columns (slice_index element 6) (unwrap_or (rest_length (slice_index element 6)) 0)
 with_element bytes count columns (ColumnInfo byte) element = with_kind (bytes ++ element) count columns (kind_of (byte ∷ element))
 with_element bytes count columns (NameCount kind) element = with_units (bytes ++ element) count columns kind (slice_index element 0)
 with_element bytes count columns (NameUnits kind n) element = with_column (bytes ++ element) count columns (record { kind = kind; name = element })
 
--- what stands after an element
+-- the state after an element
 abbrev pub add_described : DescriptionPart → List ℕ → DescriptionPart
 add_described BeforeCount element = with_count element (little element)
 add_described (InColumn bytes count columns place) element = with_element bytes count columns place element
@@ -116,13 +116,13 @@ place_size (ColumnInfo byte) = unwrap_or (rest_length byte) 0
 place_size (NameCount kind) = 1
 place_size (NameUnits kind n) = n
 
--- how many bytes the next element has; 0 where nothing follows
+-- how many bytes the next element has; 0 if nothing follows
 abbrev pub described_size : DescriptionPart → ℕ
 described_size BeforeCount = 2
 described_size (InColumn bytes count columns place) = place_size place
 described_size d = 0
 
--- A description is too long where its bytes so far and those that must follow at least pass the room: these of this column, and 8 of each that is not begun.
+-- A description is too long if its bytes so far and those that must follow at least pass the room: these of this column, and 8 of each that is not begun.
 abbrev pub too_long : ℕ → ℕ → ℕ → Option Fault
 too_long room so_far least = if nat_lt room (so_far + least) then Some DescriptionTooLong else None
 
@@ -131,17 +131,17 @@ abbrev pub refused_type : ℕ → ℕ → Option RefusedKind → Option Fault
 refused_type index byte (Some kind) = Some (RefusedColumn index kind)
 refused_type index byte None = Some (UnknownType index byte)
 
--- the fault of a type byte, by how many bytes follow it where it is accepted
+-- the fault of a type byte, by how many bytes follow it if it is accepted
 abbrev pub type_fault : ℕ → ℕ → Option ℕ → Option Fault
 type_fault index byte (Some rest) = None
 type_fault index byte None = refused_type index byte (refused_kind byte)
 
--- the first of two, where it is there
+-- the first of two, if it is there
 abbrev pub first_of_two : {A : Type 0} → Option A → Option A → Option A
 first_of_two (Some x) y = Some x
 first_of_two None y = y
 
--- the first fault of a column's head, which ends this many bytes after the description's beginning, with this type byte; this many columns follow
+-- the first fault of a column's head, which ends this number of bytes after the description's beginning, with this type byte; this number of columns follows
 abbrev pub head_fault : (room so_far byte index left : ℕ) → Option Fault
 head_fault room so_far byte index left =
     first_of_two (type_fault index byte (rest_length byte)) (too_long room so_far ((unwrap_or (rest_length byte) 0 + 1) + 8 * left))

@@ -6,7 +6,7 @@ use Rattle.tds_packet.specs.declared.payload.Payload.{Payload}
 use Rattle.tds_packet.specs.Payloads.{LeavesPayload, seen}
 use Rattle.tds_packet.specs.Seen.{Seen, Takes, Ends, IsBetween, began_at}
 
--- So many bytes were read, and stand at the end of the area.
+-- This number of bytes was read, and is at the end of the area.
 pub record TakesInto (old new : Seen) (before after : Space) (n : ℕ) : Type 0 where
   pub element : List ℕ
   pub whole : length element ≡ n
@@ -28,7 +28,7 @@ pub record EndsInto (old new : Seen) (before after : Space) (place n : ℕ) (sto
 abbrev pub KeepsBytes : Space → Space → ℕ → Type 0
 KeepsBytes before after n = (after.bytes ≡ before.bytes) × (after.peak ≤ max before.peak (length before.bytes + n))
 
--- A call that was to read n bytes to the end of an area left it its room, and where it stopped, its bytes.
+-- A call that was to read n bytes to the end of an area left it its room and, if it stopped, its bytes.
 pub record LeavesArea {U : Type 0} (before after : Space) (n : ℕ) (result : Result U Stop) : Type 0 where
   pub room : after.room ≡ before.room
   pub kept : OnErr result (KeepsBytes before after n)
@@ -38,7 +38,7 @@ pub record LeavesReading {R U : Type 0} (old new : Payload R) (before after : Sp
   pub payload : LeavesPayload old new result
   pub room : after.room ≡ before.room
 
--- So many bytes were read to the end of an area; or fewer, where the payload had not stopped before.
+-- This number of bytes was read to the end of an area; or fewer, if the payload had not stopped before.
 abbrev pub ElementRead : {R U : Type 0} → (R → Option (List ℕ)) → (old new : Payload R) → (before after : Space) → ℕ → Result U Stop → Type 0
 ElementRead remaining old new before after n result = MatchResult result
     (λ _. TakesInto (seen remaining old) (seen remaining new) before after n)

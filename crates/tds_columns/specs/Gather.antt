@@ -28,12 +28,12 @@ pub record StopsDescribing (room : ℕ) (from : DescriptionPart) (old new : Seen
   pub bound : area.peak ≤ max peak (span at)
   pub further : span from ≤ span at
 
--- So many bytes follow this type byte, one at least.
+-- This number of bytes follows this type byte, at least one.
 pub record FollowsType (byte rest : ℕ) : Type 0 where
   pub known : rest_length byte ≡ Some rest
   pub some : 0 < rest
 
--- ---- what the calls that read a part of a description answer, over a payload and an area before and after it
+-- ---- what the calls that read a part of a description return, over a payload and an area before and after it
 
 module _ {R U : Type 0} (remaining : R → Option (List ℕ)) (old new : Payload R) (before after : Space)
     (result : Result U Stop) where
@@ -63,7 +63,7 @@ module _ {R U : Type 0} (remaining : R → Option (List ℕ)) (old new : Payload
   ColumnRead count index = (columns : List Column) → length columns ≡ index →
       PartRead (InColumn before.bytes count columns ColumnHead) (with_column after.bytes count columns)
 
-  -- So many columns were read after Count.
+  -- This number of columns was read after Count.
   abbrev pub ColumnsRead : ℕ → Type 0
   ColumnsRead count = PartRead (InColumn before.bytes count [] ColumnHead)
       (λ (all : (columns : List Column) × (length columns ≡ count)). WholeDescription after.bytes all.0)

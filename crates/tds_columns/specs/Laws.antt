@@ -13,7 +13,7 @@ abbrev pub RefusedDescription : Type 0
 RefusedDescription = (room : ℕ) (front rest more : List ℕ) (at : DescriptionPart) (fault : Fault) (columns : List Column) →
     Spelt (description room) BeforeCount front at → IsRefused (description room) at rest fault → SpellsDescription room columns ((front ++ take ((description room).size at) rest) ++ more) → ⊥
 
--- Bytes describe the columns exactly where all of them are read as their description.
+-- Bytes describe the columns exactly if all of them are read as their description.
 abbrev pub DescriptionAsSpelt : Type 0
 DescriptionAsSpelt = (room : ℕ) (columns : List Column) (bytes : List ℕ) → AreBytes bytes →
     SpellsDescription room columns bytes ↔ Spelt (description room) BeforeCount bytes (WholeDescription bytes columns)

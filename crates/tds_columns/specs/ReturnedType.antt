@@ -13,7 +13,7 @@ use Rattle.tds_packet.specs.Seen.{Seen, Takes, IsBetween}
 use Rattle.tds_packet.specs.Reading.{StopsReading}
 use Rattle.tds_columns.specs.Description.{type_fault}
 
--- what stands in faults for the number of a column
+-- the number of a column in faults of such a value
 abbrev pub return_column : ℕ
 return_column = 65535
 
@@ -33,11 +33,11 @@ abbrev pub with_known : Option Kind → TypePart
 with_known (Some kind) = KnownType kind
 with_known None = NoType
 
--- its type byte is read, and this many bytes follow
+-- its type byte is read, and this number of bytes follows
 abbrev pub with_type_byte : ℕ → ℕ → TypePart
 with_type_byte byte rest = if rest == 0 then with_known (kind_of (byte ∷ [])) else TypeRest byte
 
--- how many bytes the next element has; 0 where nothing follows
+-- how many bytes the next element has; 0 if nothing follows
 abbrev pub type_size : TypePart → ℕ
 type_size TypeHead = 8
 type_size (TypeRest byte) = unwrap_or (rest_length byte) 0
@@ -49,7 +49,7 @@ type_part_fault TypeHead element = type_fault return_column (slice_index element
 type_part_fault (TypeRest byte) element = if is_some (kind_of (byte ∷ element)) then None else Some (BadTypeInfo return_column)
 type_part_fault part element = None
 
--- what stands after an element
+-- the state after an element
 abbrev pub type_add : TypePart → List ℕ → TypePart
 type_add TypeHead element = with_type_byte (slice_index element 7) (unwrap_or (rest_length (slice_index element 7)) 0)
 type_add (TypeRest byte) element = with_known (kind_of (byte ∷ element))
@@ -70,7 +70,7 @@ pub record HoldsHead {R : Type 0} (payload : Payload R) (area : Space) : Type 0 
   pub eight : length area.bytes ≡ 8
   pub room : 15 ≤ area.room
 
--- Reading such a type left that area its room, raised its peak to fifteen bytes at most, and where it stopped left the eight.
+-- Reading such a type left that area its room, raised its peak to fifteen bytes at most, and left the eight if it stopped.
 pub record LeavesHead {U : Type 0} (before after : Space) (result : Result U Stop) : Type 0 where
   pub room : after.room ≡ before.room
   pub bound : after.peak ≤ max before.peak 15

@@ -21,7 +21,7 @@ column_size bytes = (8 + rest_size bytes) + name_size bytes
 abbrev pub column_at : List ℕ → Column
 column_at bytes = record { kind = unwrap_or (kind_of (take (1 + rest_size bytes) (drop 6 bytes))) Int4; name = take (name_size bytes) (drop (8 + rest_size bytes) bytes) }
 
--- this many columns, one after the other
+-- this number of columns, one after the other
 abbrev pub columns_in : ℕ → List ℕ → List Column
 columns_in zero bytes = []
 columns_in (suc n) bytes = column_at bytes ∷ columns_in n (drop (column_size bytes) bytes)
@@ -30,16 +30,16 @@ columns_in (suc n) bytes = column_at bytes ∷ columns_in n (drop (column_size b
 abbrev pub columns_of : List ℕ → List Column
 columns_of bytes = columns_in (little_number 2 bytes) (drop 2 bytes)
 
--- whether a whole column stands at the front
+-- whether a whole column is at the front
 abbrev pub is_column : List ℕ → Bool
 is_column bytes = is_some (kind_of (take (1 + rest_size bytes) (drop 6 bytes))) && nat_le (column_size bytes) (length bytes)
 
--- whether this many do, one after the other
+-- whether this number of columns are, one after the other
 abbrev pub are_columns : ℕ → List ℕ → Bool
 are_columns zero bytes = true
 are_columns (suc n) bytes = is_column bytes && are_columns n (drop (column_size bytes) bytes)
 
--- whether a Count and this many whole columns stand there
+-- whether a Count and this number of whole columns are there
 abbrev pub is_described : List ℕ → Bool
 is_described bytes = nat_le 2 (length bytes) && are_columns (little_number 2 bytes) (drop 2 bytes)
 

@@ -12,7 +12,7 @@ use crate::type_info::{judge_type, kind_of};
 use byteorder::{ByteOrder, LittleEndian};
 use std::io::Read;
 use tds_meter::Area;
-use tds_packet::{Fault, Payload, Place, Stop};
+use tds_packet::{Fault, Payload, Stop};
 
 /// What a COLMETADATA says (MS-TDS, COLMETADATA).
 #[derive(Debug, Clone, Copy, PartialEq, Eq)]
@@ -86,10 +86,7 @@ fn read_count<R: Read>(payload: &mut Payload<R>, area: &mut Area) -> Result<Desc
         None => Ok(Described::Columns(count)),
         Some(fault) => {
             area.clear();
-            Err(Stop {
-                fault,
-                place: Place::Payload(place),
-            })
+            Err(Stop::in_payload(fault, place))
         }
     }
 }
@@ -131,10 +128,7 @@ fn read_info<R: Read>(
         Some(_) => Ok(()),
         None => {
             area.truncate(start);
-            Err(Stop {
-                fault: Fault::BadTypeInfo { index },
-                place: Place::Payload(info_place),
-            })
+            Err(Stop::in_payload(Fault::BadTypeInfo { index }, info_place))
         }
     }
 }
@@ -161,10 +155,7 @@ fn read_type<R: Read>(
         Ok(rest) => rest,
         Err(fault) => {
             area.truncate(start);
-            return Err(Stop {
-                fault,
-                place: Place::Payload(place),
-            });
+            return Err(Stop::in_payload(fault, place));
         }
     };
     if rest == 0 {
@@ -194,10 +185,7 @@ fn read_name<R: Read>(
     let later = LEAST_COLUMN * usize::from(count - (index + 1));
     if let Some(fault) = too_long(area.room(), start + 1, size + later) {
         area.truncate(start);
-        return Err(Stop {
-            fault,
-            place: Place::Payload(place),
-        });
+        return Err(Stop::in_payload(fault, place));
     }
     if size == 0 {
         return Ok(());

@@ -9,7 +9,7 @@ use crate::element::take_into;
 use crate::type_info::{judge_type, kind_of};
 use std::io::Read;
 use tds_meter::Area;
-use tds_packet::{Fault, Payload, Place, Stop};
+use tds_packet::{Fault, Payload, Stop};
 use tds_values::Kind;
 
 // What faults have for the number of a column.
@@ -43,10 +43,7 @@ pub fn read_type_info<R: Read>(payload: &mut Payload<R>, small: &mut Area) -> Re
     let rest = match judge_type(RETURN_VALUE, byte) {
         Ok(rest) => rest,
         Err(fault) => {
-            return Err(Stop {
-                fault,
-                place: Place::Payload(place - TYPE_HEAD as u64),
-            });
+            return Err(Stop::in_payload(fault, place - TYPE_HEAD as u64));
         }
     };
     take_into(payload, small, rest)?;
@@ -54,12 +51,10 @@ pub fn read_type_info<R: Read>(payload: &mut Payload<R>, small: &mut Area) -> Re
         Some(kind) => Ok(kind),
         None => {
             small.truncate(TYPE_HEAD);
-            Err(Stop {
-                fault: Fault::BadTypeInfo {
-                    index: RETURN_VALUE,
-                },
-                place: Place::Payload(place),
-            })
+            let fault = Fault::BadTypeInfo {
+                index: RETURN_VALUE,
+            };
+            Err(Stop::in_payload(fault, place))
         }
     }
 }

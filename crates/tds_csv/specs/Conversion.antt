@@ -70,7 +70,7 @@ abbrev pub open_field : Conversion → List ℕ → List ℕ
 open_field HexDigits bytes = binary_mark ++ emit (conversion_rest HexDigits) (conversion_text HexDigits) bytes
 open_field conversion bytes = quote ∷ emit (conversion_rest conversion) (conversion_text conversion) bytes
 
--- the field of such data stands in quotes
+-- the field of such data is in quotes
 abbrev pub is_quoted : Conversion → Bool
 is_quoted HexDigits = false
 is_quoted conversion = true

@@ -13,7 +13,7 @@ settled rest bytes = take (length bytes - length (rest bytes)) bytes
 abbrev pub emit : (List ℕ → List ℕ) → (List ℕ → List ℕ) → List ℕ → List ℕ
 emit rest text bytes = text (settled rest bytes)
 
--- what lets a joiner keep the rest alone and forget all else
+-- what lets a joiner keep only the rest and forget all else
 pub record JoinsPieces (fit begins : List ℕ → Type 0) (rest text : List ℕ → List ℕ) : Type 0 where
   -- a piece adds the text of the rest followed by the piece
   pub emits : (a b : List ℕ) → begins (a ++ b) → emit rest text (a ++ b) ≡ emit rest text a ++ emit rest text (rest a ++ b)

@@ -40,21 +40,21 @@ abbrev pub is_stopped : {U : Type 0} → Result U JoinFault → Bool
 is_stopped (Err (Stopped stop)) = true
 is_stopped _ = false
 
--- what a push does, by its answer; `failed` says that the sink had stopped before
+-- what a push does, by its result; `failed` says that the sink had stopped before
 abbrev pub Pushes : {U : Type 0} → (begins : List ℕ → Type 0) → (rest text : List ℕ → List ℕ) → (old new : List ℕ) → (before after : Held) → (failed : Bool) → (piece : List ℕ) → Result U JoinFault → Type 0
 Pushes begins rest text old new before after failed piece (Ok _) = TakesPiece begins rest text old new before after piece
 Pushes begins rest text old new before after failed piece (Err (Stopped stop)) = failed ≡ false → Breaks before after (emit rest text (old ++ piece)) stop
 Pushes begins rest text old new before after failed piece (Err Odd) = ⊥
 Pushes begins rest text old new before after failed piece (Err (BadText k)) = TakesUpTo begins rest text old new before after piece k
 
--- what an end does, by its answer; `unit` is the number of bytes of a unit
+-- what an end does, by its result; `unit` is the number of bytes of a unit
 abbrev pub EndsBy : {U : Type 0} → (unit : ℕ) → (fit : List ℕ → Type 0) → (text : List ℕ → List ℕ) → (old new : List ℕ) → (before after : Held) → (failed : Bool) → Result U JoinFault → Type 0
 EndsBy unit fit text old new before after failed (Ok _) = Completes fit text old new before after
 EndsBy unit fit text old new before after failed (Err (Stopped stop)) = failed ≡ false → fit old × Breaks before after (text old) stop
 EndsBy unit fit text old new before after failed (Err Odd) = LeavesPart fit old new before after × (length old % unit ≢ 0)
 EndsBy unit fit text old new before after failed (Err (BadText k)) = LeavesPart fit old new before after × (length old % unit ≡ 0) × (k ≡ 0)
 
--- A push, by its answer. What is withheld then begins some data whatever the answer is; after a failure of the sink it answers the same stop, and the sink is as it was.
+-- A push, by its result. What is withheld then begins some data whatever the result is; after a failure of the sink it returns the same stop, and the sink is as it was.
 pub record PushesPiece {W U : Type 0} (contents : W → Option (List ℕ)) (begins : List ℕ → Type 0) (rest text : List ℕ → List ℕ) (old new : List ℕ) (before after : Sink W) (piece : List ℕ)
     (result : Result U JoinFault) : Type 0 where
   pub ready : IsReady after
@@ -64,7 +64,7 @@ pub record PushesPiece {W U : Type 0} (contents : W → Option (List ℕ)) (begi
   pub begun : begins new
   pub again : before.failed ≡ true → (result ≡ Err (Stopped (stop_of (held contents before)))) × (after ≡ before)
 
--- An end, by its answer. What is withheld then begins some data if it did before; after a failure of the sink it answers the same stop, and the sink is as it was.
+-- An end, by its result. What is withheld then begins some data if it did before; after a failure of the sink it returns the same stop, and the sink is as it was.
 pub record EndsPieces {W U : Type 0} (contents : W → Option (List ℕ)) (unit : ℕ) (fit begins : List ℕ → Type 0) (text : List ℕ → List ℕ) (old new : List ℕ) (before after : Sink W) (result : Result U JoinFault) : Type 0 where
   pub ready : IsReady after
   pub same : IsOnSameSink before after

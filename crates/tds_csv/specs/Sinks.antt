@@ -7,14 +7,14 @@ use Rattle.tds_packet.specs.declared.fault.Place.TheVariants.{Text}
 use Rattle.tds_packet.specs.declared.fault.Stop.{Stop}
 use Rattle.tds_csv.specs.declared.sink.Sink.{Sink}
 
--- what the writer has, where that is known; what waits; how many bytes were delivered; and the writer's count of failures
+-- what the writer has, if that is known; what waits; how many bytes were delivered; and the writer's count of failures
 pub record Held : Type 0 where
   pub had : Option (List ℕ)
   pub waiting : List ℕ
   pub delivered : ℕ
   pub failures : ℕ
 
--- the sink as contracts see it, where this tells the bytes that its writer has
+-- the sink as contracts see it, if this tells the bytes that its writer has
 abbrev pub held : {W : Type 0} → (W → Option (List ℕ)) → Sink W → Held
 held contents s = record { had = contents s.to.now.device; waiting = s.output.now.bytes; delivered = s.delivered; failures = s.to.now.failures }
 
@@ -34,7 +34,7 @@ stop_of h = record { fault = WriteFailed; place = Text h.delivered }
 abbrev pub Puts : Held → Held → List ℕ → Type 0
 Puts old new piece = (sent : List ℕ) × (blocks : ℕ) × Adds old new sent piece × (length sent ≡ 4096 * blocks) × (new.failures ≡ old.failures)
 
--- A write failed in the block after this many, and what the writer didn't take of it waits: a beginning of the piece was added.
+-- A write failed in the block after this number of them, and what the writer didn't take of it waits: a beginning of the piece was added.
 abbrev pub Breaks : Held → Held → List ℕ → Stop → Type 0
 Breaks old new piece stop = (sent : List ℕ) × (blocks : ℕ) × (n : ℕ) × Adds old new sent (take n piece) × (n ≤ length piece) × (4096 * blocks ≤ length sent) × (length sent < 4096 * (blocks + 1))
     × (length sent + length new.waiting ≡ 4096 * (blocks + 1)) × (stop ≡ stop_of new) × (new.failures ≡ one_more old.failures)
@@ -64,7 +64,7 @@ pub record IsWriting {W : Type 0} (s : Sink W) : Type 0 where
   pub ready : IsReady s
   pub writing : s.failed ≡ false
 
--- A call that puts a text: on an error a beginning of it was put. After a failure it answers the same stop and does nothing.
+-- A call that puts a text: on an error a beginning of it was put. After a failure it returns the same stop and does nothing.
 pub record PutsPiece {W U : Type 0} (contents : W → Option (List ℕ)) (old new : Sink W) (text : List ℕ) (result : Result U Stop) : Type 0 where
   pub ready : IsReady new
   pub same : IsOnSameSink old new
@@ -72,7 +72,7 @@ pub record PutsPiece {W U : Type 0} (contents : W → Option (List ℕ)) (old ne
   pub gives : MatchResult result (λ _. Puts (held contents old) (held contents new) text) (λ stop. old.failed ≡ false → Breaks (held contents old) (held contents new) text stop)
   pub again : old.failed ≡ true → (result ≡ Err (stop_of (held contents old))) × (new ≡ old)
 
--- A delivery of all that waits, which leaves some of it where a write fails.
+-- A delivery of all that waits, which leaves some of it if a write fails.
 pub record Delivers {W U : Type 0} (contents : W → Option (List ℕ)) (old new : Sink W) (result : Result U Stop) : Type 0 where
   pub ready : IsReady new
   pub same : IsOnSameSink old new
@@ -80,7 +80,7 @@ pub record Delivers {W U : Type 0} (contents : W → Option (List ℕ)) (old new
   pub gives : MatchResult result (λ _. Sends (held contents old) (held contents new)) (λ stop. FinishFails (held contents old) (held contents new) stop)
   pub rest : OnErr result (0 < length new.output.now.bytes)
 
--- The end of a text: all that waits is delivered, and the writer flushed. After a failure it answers the same stop and does nothing.
+-- The end of a text: all that waits is delivered, and the writer flushed. After a failure it returns the same stop and does nothing.
 pub record FinishesSink {W U : Type 0} (contents : W → Option (List ℕ)) (old new : Sink W) (result : Result U Stop) : Type 0 where
   pub ready : IsReady new
   pub same : IsOnSameSink old new
@@ -89,7 +89,7 @@ pub record FinishesSink {W U : Type 0} (contents : W → Option (List ℕ)) (old
       (λ stop. old.failed ≡ false → FinishFails (held contents old) (held contents new) stop)
   pub again : old.failed ≡ true → (result ≡ Err (stop_of (held contents old))) × (new ≡ old)
 
--- A call left it ready, on the same writer and area, and writing where it answered no error.
+-- A call left it ready, on the same writer and area, and writing if it returned no error.
 pub record LeavesSink {W U : Type 0} (old new : Sink W) (result : Result U Stop) : Type 0 where
   pub ready : IsReady new
   pub same : IsOnSameSink old new

@@ -9,7 +9,7 @@ use Rattle.tds_csv.specs.contracts.sink.Sink.{the_row}
 use Rattle.tds_packet.specs.declared.fault.Stop.{Stop}
 use Rattle.tds_csv.specs.Sinks.{Breaks, Held, IsOnSameSink, IsReady, Puts, held}
 
--- the bytes that are lent stand after those that wait, and these are written over them
+-- the bytes that are lent come after those that wait, and these are written over them
 abbrev pub with_spare : {W : Type 0} → Sink W → List ℕ → List ℕ → Sink W
 with_spare s lent written = record s { output = record s.output { now = with_tail (appended s.output.now lent) (length s.output.now.bytes) written } }
 

@@ -11,7 +11,7 @@ pub record IsNext (bytes : List ℕ) (code len : ℕ) : Type 0 where
   pub keeps : rest bytes ≡ rest (drop len bytes)
   pub spells : characters bytes ≡ encode_utf8 code ++ characters (drop len bytes)
 
--- This is the code of a character, in this many bytes of whole units, four or more where the code is above 65,535.
+-- This is the code of a character, in this number of bytes of whole units, four or more if the code is above 65,535.
 pub record IsCharacter (code len : ℕ) : Type 0 where
   pub scalar : IsScalar code
   pub range : code < 1114112
@@ -25,7 +25,7 @@ pub record Converts (bytes to : List ℕ) (used made : ℕ) : Type 0 where
   pub room : 2 * made ≤ 3 * used
   pub leads : Leads rest text bytes (drop used bytes) (take made to)
 
--- What stands after this place is the rest of the bytes from another place on.
+-- What comes after this place is the rest of the bytes from another place on.
 pub record LeavesRest (bytes : List ℕ) (from at : ℕ) : Type 0 where
   pub within : at ≤ length bytes
   pub rest : drop at bytes ≡ rest (drop from bytes)

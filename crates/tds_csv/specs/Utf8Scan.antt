@@ -3,7 +3,7 @@ use Rattle.std.specs.Prelude.{◌≡◌, ℕ, ◌+◌, ◌-◌, ◌<◌, ◌≤�
 use Rattle.tds_csv.specs.Joining.{emit}
 use Rattle.tds_csv.specs.Utf8.{Begins, rest, text}
 
--- the first bytes, this many of them, begin a text, and the next one is bad; a number of the first ones are whole characters
+-- the first bytes, this number of them, begin a text, and the next one is bad; a number of the first ones are whole characters
 pub record StopsAt (bytes : List ℕ) (whole good : ℕ) : Type 0 where
   pub within : good < length bytes
   pub begun : Begins (take good bytes)

@@ -59,7 +59,7 @@ pub record CanBegin {R W : Type 0} (payload : Payload R) (sink : Sink W) (area t
 abbrev pub things_counted : Report → ℕ
 things_counted report = report.sets + report.rows + report.errors + report.infos + report.return_values
 
--- The run goes on: its payload and its sink do, its areas have their rooms, no more sets, rows, notices and returned values are counted than bytes were read, and the columns that are described stand in the area.
+-- The run goes on: its payload and its sink do, its areas have their rooms, no more sets, rows, notices and returned values are counted than bytes were read, and the columns that are described are in the area.
 pub record IsRunning {R W : Type 0} (e : Exporter R W) : Type 0 where
   pub payload : IsGoing e.payload.now
   pub sink : IsWriting e.sink.now
@@ -89,7 +89,7 @@ IsOnSameRun old new =
 abbrev pub lent_to : {R W : Type 0} → Exporter R W → Lent
 lent_to e = lent e.description.now e.token.now e.notice.now e.small.now
 
--- A call left the run on the same devices and areas, and where it answered no error, going on and no further back in the payload.
+-- A call left the run on the same devices and areas, and, if it returned no error, going on and no further back in the payload.
 pub record LeavesRun {R W U : Type 0} (old new : Exporter R W) (result : Result U Stop) : Type 0 where
   pub same : IsOnSameRun old new
   pub payload : LeavesPayload old.payload.now new.payload.now result
@@ -128,7 +128,7 @@ BodyRead remaining contents from old new result = (tokens : List Token) → Trac
     (λ _. ReadsNext old.charset (from tokens) tokens (view_of remaining contents old) (view_of remaining contents new) new.progress)
     (λ stop. StopsIn old.charset (from tokens) (view_of remaining contents old) (view_of remaining contents new) stop)
 
--- A call read a token after its first byte, as above, and left the run on the same devices and areas, going on where it answered no error.
+-- A call read a token after its first byte, as above, and left the run on the same devices and areas, going on if it returned no error.
 pub record StepRead {R W U : Type 0} (remaining : R → Option (List ℕ)) (contents : W → Option (List ℕ)) (from : List Token → Part) (old new : Exporter R W) (result : Result U Stop) : Type 0 where
   pub leaves : LeavesRun old new result
   pub reads : BodyRead remaining contents from old new result
@@ -140,13 +140,13 @@ TokenRead remaining contents old new result = (tokens : List Token) → Tracks o
     (λ more. MatchBool more (ReadsNext old.charset (after_tokens tokens) tokens (view_of remaining contents old) (view_of remaining contents new) new.progress) (FindsEnd remaining old new))
     (λ stop. StopsIn old.charset (after_tokens tokens) (view_of remaining contents old) (view_of remaining contents new) stop)
 
--- A response was read whole, its text delivered and its report answered; or that stopped.
+-- A response was read whole, its text delivered and its report returned; or that stopped.
 abbrev pub ResponseRead : Charset → View → View → Result Report Stop → Type 0
 ResponseRead charset old new result = MatchResult result
     (λ report. (x : CompletesResponse (response charset old.area.room) response_start old.seen new.seen old.held new.held report new.area) × IsNoted new.notice x.whole.tokens)
     (λ stop. RunStops (response charset old.area.room) response_start old.seen new.seen old.place old.held new.held new.area new.failed stop)
 
--- A run that had read nothing read a response whole, delivered its text and answered its report; or that stopped.
+-- A run that had read nothing read a response whole, delivered its text and returned its report; or that stopped.
 abbrev pub WholeRead : {R W : Type 0} → (R → Option (List ℕ)) → (W → Option (List ℕ)) → Exporter R W → Exporter R W → Result Report Stop → Type 0
 WholeRead remaining contents old new result = Tracks old.progress [] → old.description.now ≡ empty old.description.now.room → IsNoted old.notice.now [] →
     ResponseRead old.charset (view_of remaining contents old) (view_of remaining contents new) result

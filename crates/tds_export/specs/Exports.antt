@@ -1,4 +1,4 @@
--- How an export ended, where reader and writer may not tell their bytes.
+-- How an export ended, with a reader and a writer that may not tell their bytes.
 use Rattle.std.specs.Prelude.{◌≡◌, ◌⊎◌, Bool, true, false, List, ℕ, [], length, Some, Result, IfErr, MatchResult}
 use Rattle.std.specs.Io.KnownBytes.{Appends}
 use Rattle.tds_meter.specs.Counts.{Rose}
@@ -41,7 +41,7 @@ abbrev pub Tidied : Held → Held → Type 0
 Tidied old new = (sent : List ℕ) × Adds old new sent []
     × (((new.waiting ≡ []) × (new.failures ≡ old.failures)) ⊎ Rose old.failures new.failures)
 
--- The response was read whole, its text delivered, and its report answered. The notice area has the text of its first error.
+-- The response was read whole, its text delivered, and its report returned. The notice area has the text of its first error.
 pub record Reports (given : Given) (report : Report) : Type 0 where
   pub seen : Seen
   pub held : Held
@@ -51,7 +51,7 @@ pub record Reports (given : Given) (report : Report) : Type 0 where
       CompletesResponse (grammar_of given) response_start (begun_at given) seen (fresh_at given) held report area
   pub notice : given.after.areas.notice.bytes ≡ error_text completes.whole.tokens
 
--- the answer of an export that stopped, where the sink is left in this state
+-- the result of an export that stopped and left the sink in this state
 abbrev pub stopped_with : Stop → Held → Stopped
 stopped_with stop held =
     record { fault = stop.fault; place = stop.place; written = held.delivered; unwritten = length held.waiting }
@@ -72,14 +72,14 @@ pub record StopsExport (given : Given) (stopped : Stopped) : Type 0 where
   pub stopped_is : stopped ≡ stopped_with stop held
   pub notice : given.after.areas.notice.bytes ≡ []
 
--- A reader that told its bytes still does, a writer that tells its own gained some, and the export answers what the input makes of the response; of an accepted one its report, but for a device that fails.
+-- A reader that told its bytes still does, a writer that tells its own gained some, and the export returns what the input makes of the response; of an accepted one its report, but for a device that fails.
 unfoldable pub Tells : Given → Result Report Stopped → Type 0
 Tells given result = (input : List ℕ) → AreBytes input → given.before.reader.bytes ≡ Some input →
     (left : List ℕ) × (gained : List ℕ) × (given.after.reader.bytes ≡ Some left)
     × Appends given.before.writer.bytes given.after.writer.bytes gained
     × Answer (run_of given input left gained) result × SucceedsIfAccepted (run_of given input left gained) result
 
--- Between two moments an export gave this answer: it says what was read and written, and a device is blamed only where its count of failures rose.
+-- Between two moments an export returned this: it says what was read and written, and a device is blamed only if its count of failures rose.
 pub record Exports (charset : Charset) (before after : Moment) (result : Result Report Stopped) : Type 0 where
   pub gives : MatchResult result (Reports (given_of charset before after)) (StopsExport (given_of charset before after))
   pub tells : Tells (given_of charset before after) result

@@ -30,7 +30,7 @@ RefusedForGood = (charset : Charset) (room : ℕ) (payload more : List ℕ) (pla
     Longest (response charset room) response_start payload place part → IsRefused (response charset room) part (drop place payload) fault →
     Response charset room tokens (take (place + (response charset room).size part) payload ++ more) → ⊥
 
--- A payload of bytes spells a response of these tokens exactly where all of it is read as these tokens, the last a final DONE.
+-- A payload of bytes spells a response of these tokens exactly if all of it is read as these tokens, the last a final DONE.
 abbrev pub ReadAsSpelt : Type 0
 ReadAsSpelt = (charset : Charset) (room : ℕ) (tokens : List Token) (payload : List ℕ) → AreBytes payload →
     Response charset room tokens payload ↔ ((is_final tokens ≡ true) × Spelt (response charset room) response_start payload (record { tokens = tokens; at = Between }))

@@ -6,7 +6,7 @@ use Rattle.tds_packet.specs.declared.payload.Payload.{Payload}
 use Rattle.tds_packet.specs.Payloads.{LeavesPayload}
 use Rattle.tds_packet.specs.Reads.{KeepsRoom}
 
--- A call left the payload sound, on the same reader and area, and where it answered no error, going on and further on.
+-- A call left the payload sound, on the same reader and area, and, if it returned no error, going on and further on.
 pub record LeavesFurther {R U : Type 0} (old new : Payload R) (result : Result U Stop) : Type 0 where
   pub payload : LeavesPayload old new result
   pub further : OnOk result (old.place < new.place)

@@ -55,7 +55,7 @@ pub record Run : Type 0 where
   pub left : List ℕ
   pub gained : List ℕ
 
--- an export, where it is told that
+-- an export, if it is told that
 abbrev pub run_of : Given → (input left gained : List ℕ) → Run
 run_of given input left gained = record { given = given; input = input; left = left; gained = gained }
 

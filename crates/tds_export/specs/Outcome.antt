@@ -1,4 +1,4 @@
--- What an export answers and leaves.
+-- What an export returns and leaves.
 use Rattle.std.specs.Prelude.{◌≡◌, ◌+◌, ◌*◌, ◌-◌, ◌/◌, ◌^◌, ◌<◌, ◌≤◌, ◌⊎◌, ℕ, ℤ, pos, negsuc, List, [], ◌∷◌, ◌++◌, length, take, drop, Some, Result, Ok, Err, if◌then◌else◌, nat_lt, option_map}
 use Rattle.tds_packet.specs.declared.fault.Fault.{Fault}
 use Rattle.tds_packet.specs.declared.fault.Fault.TheVariants.{InputEnded, ReadFailed, WriteFailed}
@@ -41,7 +41,7 @@ abbrev pub IsAccepted : Run → List Token → List Packet → Type 0
 IsAccepted run tokens packets =
     Accepted run.given.charset (limits run).packet_size (limits run).column_room (limits run).max_wire tokens packets run.input
 
--- The packets stand at the beginning of the input, none but the last marked as the last, and the reader has come to their end.
+-- The packets are at the beginning of the input, none but the last marked as the last, and the reader has come to their end.
 pub record Packets (run : Run) (packets : List Packet) : Type 0 where
   pub begin : wire_of packets ++ run.left ≡ run.input
   pub each : AreMessage (limits run).packet_size packets ⊎ AreBefore (limits run).packet_size packets
@@ -55,7 +55,7 @@ grammar run = grammar_of run.given
 abbrev pub ReadsPart : Run → List Packet → ℕ → Part → Type 0
 ReadsPart run packets place part = Longest (grammar run) response_start (payload_of packets) place part
 
--- So many bytes of the payload of the packets lead to this part of a response.
+-- This number of bytes of the payload of the packets leads to this part of a response.
 pub record Comes (run : Run) (packets : List Packet) (place : ℕ) (part : Part) : Type 0 where
   pub within : place ≤ length (payload_of packets)
   pub spelt : Spelt (grammar run) response_start (take place (payload_of packets)) part
@@ -64,7 +64,7 @@ pub record Comes (run : Run) (packets : List Packet) (place : ℕ) (part : Part)
 abbrev pub Refuses : Run → List Packet → ℕ → Part → Fault → Type 0
 Refuses run packets place part fault = IsRefused (grammar run) part (drop place (payload_of packets)) fault
 
--- The element's end lies in the last of the packets.
+-- The element's end is in the last of the packets.
 pub record EndsInLast (run : Run) (packets : List Packet) (place : ℕ) (part : Part) : Type 0 where
   pub before : List Packet
   pub last : Packet
@@ -115,7 +115,7 @@ pub record FailsOnWire (run : Run) (packets : List Packet) : Type 0 where
   pub cut : WireFault (limits run).packet_size (limits run).max_wire read packets InputEnded
   pub failed : FailsToRead run.given
 
--- A run stopped on the wire, after whole packets: as if the input had these packets alone.
+-- A run stopped on the wire, after whole packets: as if the input had only these packets.
 pub record StopsOnWire (run : Run) (fault : Fault) (taken : ℕ) : Type 0 where
   pub packets : List Packet
   pub rest : List ℕ
@@ -170,7 +170,7 @@ pub record AfterStop (run : Run) (stopped : Stopped) : Type 0 where
   pub no_notice : run.given.after.areas.notice.bytes ≡ []
   pub none_waits : ¬ FailsToWrite run.given → waiting run ≡ []
 
--- A run answered a report of a whole response, or a stop.
+-- A run returned a report of a whole response, or a stop.
 abbrev pub Outcome : Run → Result Report Stopped → Type 0
 Outcome run (Ok report) = Reported run report
 Outcome run (Err stopped) = AfterStop run stopped
@@ -184,12 +184,12 @@ pub record Bounded (run : Run) : Type 0 where
   pub leads : ReadsPart run packets place part
   pub description : run.given.after.areas.description.peak ≤ span_so_far part
 
--- A run answered and left this, and kept the bound on its descriptions.
+-- A run returned and left this, and kept the bound on its descriptions.
 pub record Answer (run : Run) (result : Result Report Stopped) : Type 0 where
   pub outcome : Outcome run result
   pub bounded : Bounded run
 
--- The run answers the report of these tokens, and has written their text.
+-- The run returns the report of these tokens, and has written their text.
 pub record Succeeds (run : Run) (tokens : List Token) (packets : List Packet) (result : Result Report Stopped)
     : Type 0 where
   pub report_is : result ≡ Ok (report_of tokens)
@@ -197,7 +197,7 @@ pub record Succeeds (run : Run) (tokens : List Token) (packets : List Packet) (r
   pub notice : run.given.after.areas.notice.bytes ≡ error_text tokens
   pub stands : Packets run packets
 
--- Where the input begins with an accepted response and neither count of failures rose, the run succeeds.
+-- If the input begins with an accepted response and neither count of failures rose, the run succeeds.
 abbrev pub SucceedsIfAccepted : Run → Result Report Stopped → Type 0
 SucceedsIfAccepted run result = (tokens : List Token) (packets : List Packet) → IsAccepted run tokens packets →
     ¬ FailsToRead run.given → ¬ FailsToWrite run.given → Succeeds run tokens packets result

@@ -57,7 +57,7 @@ abbrev pub SpellsRowToken : Charset → Option (List Column) → List Cell → L
 SpellsRowToken charset None cells bytes = ⊥
 SpellsRowToken charset (Some columns) cells bytes = (rest : List ℕ) × ((StartsToken ARow rest bytes × SpellsRow charset columns cells rest) ⊎ (StartsToken AnNbcRow rest bytes × SpellsNbcRow charset columns cells rest))
 
--- The bytes spell the token, where these columns are described.
+-- The bytes spell the token if these columns are described.
 abbrev pub SpellsToken : Charset → ℕ → Option (List Column) → Token → List ℕ → Type 0
 SpellsToken charset room current (Metadata encoded columns) bytes = StartsToken AMetadata encoded bytes × SpellsDescription room columns encoded
 SpellsToken charset room current NoMetadata bytes = StartsToken AMetadata (255 ∷ 255 ∷ []) bytes

@@ -39,7 +39,7 @@ NamePassed remaining old new result = MatchResult result
     (λ _. ReadsName (seen remaining old) (seen remaining new) old.place new.place)
     (λ stop. StopsReturn ReturnOrdinal (seen remaining old) (seen remaining new) old.place stop)
 
--- After a name all up to the value was read, of which the kind is answered; or that stopped: whatever the name is.
+-- After a name all up to the value was read, whose kind is returned; or that stopped: whatever the name is.
 abbrev pub TypeTaken : {R : Type 0} → (R → Option (List ℕ)) → (old new : Payload R) → Result Kind Stop → Type 0
 TypeTaken remaining old new result = (name : List ℕ) →
     MatchResult result

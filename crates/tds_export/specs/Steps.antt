@@ -54,7 +54,7 @@ pub record Reflects (progress : Progress) (tokens : List Token) (may_end : Bool)
   pub described : IsDescribed progress.described (encoded_after [] tokens) (described_after None tokens)
   pub final : progress.is_final ≡ may_end
 
--- What stands after these tokens is known: the report but for what was written, whether columns are described, and whether the last token is a final one.
+-- What comes of these tokens is known: the report but for what was written, whether columns are described, and whether the last token is a final one.
 abbrev pub Tracks : Progress → List Token → Type 0
 Tracks progress tokens = Reflects progress tokens (is_final tokens)
 
@@ -84,13 +84,13 @@ lead kinds.Error = WithBody AnError
 lead kinds.Info = WithBody AnInfo
 lead kinds.ReturnValue = AReturn
 
--- Columns are described, where a row begins.
+-- Columns are described if a row begins.
 abbrev pub IsUnder : Bool → Lead → Type 0
 IsUnder described ARow = described ≡ true
 IsUnder described AnNbcRow = described ≡ true
 IsUnder described begun = ⊤
 
--- The byte begins a token of this kind, where columns are described or not.
+-- The byte begins a token of this kind, whether columns are described or not.
 abbrev pub IsOfKind : Bool → ℕ → TokenKind → Type 0
 IsOfKind described byte kind = (lead_of byte ≡ Some (lead kind)) × IsUnder described (lead kind)
 
@@ -168,7 +168,7 @@ pub record StopsInWriting (g : Grammar Part Fault) (from : Part) (old new : Seen
   pub breaks : BreaksStreaming g text_so_far from old new before after at stop
   pub holds : IsHolding area (g.add at breaks.element)
 
--- A call inside an export stopped, where the sink failed or not.
+-- A call inside an export stopped, whether the sink failed or not.
 abbrev pub StepStops : Grammar Part Fault → Part → Seen → Seen → ℕ → Held → Held → Space → Bool → Stop → Type 0
 StepStops g from old new place before after area failed stop =
     (StopsInReading g from old new place before after area stop × (failed ≡ false))

@@ -1,4 +1,4 @@
--- The element grammar of a response: how many bytes the next element has, its fault, and what stands after it.
+-- The element grammar of a response: how many bytes the next element has, its fault, and the state after it.
 use Rattle.std.specs.Prelude.{◌≡◌, ◌==◌, ◌&&◌, ◌+◌, ◌*◌, ◌≤◌, ℕ, Bool, true, false, not, List, [], ◌∷◌, ◌++◌, length, take, drop, max, Option, Some, None, if◌then◌else◌, nat_lt, nat_le, slice_index}
 use Rattle.tds_values.specs.Numbers.{little}
 use Rattle.tds_columns.specs.Description.{Column, DescriptionPart, BeforeCount, NoDescription, WholeDescription, described_size, described_fault, add_described, span}
@@ -57,12 +57,12 @@ abbrev pub with_return : List Token → ReturnPart → Part
 with_return tokens (WholeReturn r) = with_token tokens (Returned r)
 with_return tokens part = record { tokens = tokens; at = InReturn part }
 
--- a row that begins under the columns that are described; its byte is refused where there are none, so that part is never reached
+-- a row that begins under the columns that are described; its byte is refused if there are none, so that part is never reached
 abbrev pub start_of_row : List Token → (List Column → RowPart) → Option (List Column) → Part
 start_of_row tokens start None = record { tokens = tokens; at = Between }
 start_of_row tokens start (Some columns) = with_row tokens (start columns)
 
--- what stands after the first byte of a token
+-- the state after the first byte of a token
 abbrev pub after_lead : Charset → List Token → Lead → Part
 after_lead charset tokens AMetadata = record { tokens = tokens; at = Describing BeforeCount }
 after_lead charset tokens ARow = start_of_row tokens (row_start charset) (described_after None tokens)
@@ -76,7 +76,7 @@ abbrev pub after_first : Charset → List Token → Option Lead → Part
 after_first charset tokens (Some lead) = after_lead charset tokens lead
 after_first charset tokens None = record { tokens = tokens; at = Between }
 
--- the fault of a row's byte where no columns are described
+-- the fault of a row's byte if no columns are described
 abbrev pub row_byte_fault : Bool → Option (List Column) → Option Fault
 row_byte_fault true None = Some RowWithoutColumns
 row_byte_fault row columns = None

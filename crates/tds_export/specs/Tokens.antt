@@ -63,7 +63,7 @@ header_line columns = line (map name_field columns)
 abbrev pub names_of : List ℕ → List (List ℕ)
 names_of bytes = map name_field (columns_of bytes)
 
--- a text where it is wanted
+-- a text if it is wanted
 abbrev pub text_if : Bool → List ℕ → List ℕ
 text_if true piece = piece
 text_if false piece = []
@@ -72,7 +72,7 @@ text_if false piece = []
 abbrev pub between : Bool → List ℕ
 between begun = text_if begun line_end
 
--- the text of tokens, where begun says whether a set has begun before them
+-- the text of tokens; begun says whether a set has begun before them
 abbrev pub text_after : Bool → List Token → List ℕ
 text_after begun [] = []
 text_after begun (Metadata bytes columns ∷ ts) = (between begun ++ header_line columns) ++ text_after true ts
@@ -143,7 +143,7 @@ is_final (Done more ∷ []) = if more then false else true
 is_final (t ∷ []) = false
 is_final (t ∷ u ∷ ts) = is_final (u ∷ ts)
 
--- the encoded description that is current after these tokens, or the one before; empty where none is
+-- the encoded description that is current after these tokens, or the one before; empty if none is
 abbrev pub encoded_after : List ℕ → List Token → List ℕ
 encoded_after before [] = before
 encoded_after before (Metadata bytes columns ∷ ts) = encoded_after bytes ts

@@ -20,7 +20,7 @@ use std::io::{Read, Write};
 use tds_columns::{Columns, Described, gather};
 use tds_csv::{Sink, utf16_into};
 use tds_meter::Area;
-use tds_packet::{Fault, Payload, Place, Stop};
+use tds_packet::{Fault, Payload, Stop};
 use tds_rows::{read_nbc_rows, read_rows};
 use tds_values::Charset;
 
@@ -216,10 +216,7 @@ impl<'a, 'p, 's, R: Read, W: Write> Exporter<'a, 'p, 's, R, W> {
                 self.body(kind)?;
                 Ok(true)
             }
-            Err(fault) => Err(Stop {
-                fault,
-                place: Place::Payload(place),
-            }),
+            Err(fault) => Err(Stop::in_payload(fault, place)),
         }
     }
 
@@ -231,10 +228,8 @@ impl<'a, 'p, 's, R: Read, W: Write> Exporter<'a, 'p, 's, R, W> {
     {
         'tokens: while self.token()? {}
         if !self.progress.is_final {
-            return Err(Stop {
-                fault: Fault::EndWithoutDone,
-                place: Place::Payload(self.payload.place()),
-            });
+            let place = self.payload.place();
+            return Err(Stop::in_payload(Fault::EndWithoutDone, place));
         }
         self.sink.finish()?;
         Ok(Report {

@@ -12,7 +12,7 @@ use byteorder::{ByteOrder, LittleEndian};
 use std::io::Read;
 use tds_columns::take_into;
 use tds_meter::Area;
-use tds_packet::{Fault, Payload, Place, Stop};
+use tds_packet::{Fault, Payload, Stop};
 
 /// The least number of bytes that the Length of an ERROR or INFO counts.
 pub(crate) const LEAST_NOTICE: u16 = 14;
@@ -100,18 +100,12 @@ pub(crate) fn take_notice<R: Read>(payload: &mut Payload<R>, token: &mut Area) -
     payload.fill(&mut length)?;
     let length = LittleEndian::read_u16(&length);
     if length < LEAST_NOTICE {
-        return Err(Stop {
-            fault: Fault::BadNotice,
-            place: Place::Payload(place),
-        });
+        return Err(Stop::in_payload(Fault::BadNotice, place));
     }
     let place = payload.place();
     take_into(payload, token, usize::from(length))?;
     if !lengths_fit(token.bytes()) {
-        return Err(Stop {
-            fault: Fault::BadNotice,
-            place: Place::Payload(place),
-        });
+        return Err(Stop::in_payload(Fault::BadNotice, place));
     }
     Ok(())
 }

@@ -12,7 +12,7 @@ overwritten from written xs = take (length xs) (take from xs ++ (written ++ drop
 abbrev pub with_tail : Space → ℕ → List ℕ → Space
 with_tail s from written = holding s (overwritten from written s.bytes)
 
--- The area ends as what stands before a place, and what the lent bytes end as.
+-- The area ends as what comes before a place, and what the lent bytes end as.
 abbrev pub LendsTail : MutBor Space → ℕ → MutBor (List ℕ) → Fml
 LendsTail s from r = Lends the_row (Array u8 0) s r (with_tail s.now from)
 

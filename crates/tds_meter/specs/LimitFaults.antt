@@ -3,15 +3,15 @@ use Rattle.std.specs.Prelude.{ℕ, ◌||◌, ◌^◌, ◌≤◌, Option, Some, N
 use Rattle.tds_meter.specs.declared.limits.LimitFault.{LimitFault}
 use Rattle.tds_meter.specs.declared.limits.LimitFault.TheVariants.{PacketSize, ColumnRoom, MaxWire}
 
--- The greatest packet, in bytes, lies in its range (MS-TDS, Packet Size).
+-- The greatest packet, in bytes, is in its range (MS-TDS, Packet Size).
 abbrev pub IsPacketSize : ℕ → Type 0
 IsPacketSize n = (512 ≤ n) × (n ≤ 32767)
 
--- The room for an encoded description, in bytes, lies in its range: from one column of a fixed kind without a name to 64 MiB.
+-- The room for an encoded description, in bytes, is in its range: from one column of a fixed kind without a name to 64 MiB.
 abbrev pub IsColumnRoom : ℕ → Type 0
 IsColumnRoom n = (10 ≤ n) × (n ≤ 67108864)
 
--- The greatest number of wire bytes lies in its range: from a packet without a body to 2 to the power of 56.
+-- The greatest number of wire bytes is in its range: from a packet without a body to 2 to the power of 56.
 abbrev pub IsMaxWire : ℕ → Type 0
 IsMaxWire n = (8 ≤ n) × (n ≤ 2 ^ 56)
 

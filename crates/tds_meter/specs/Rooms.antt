@@ -9,7 +9,7 @@ is_intact a =
     a.packet.room == a.limits.packet_size && a.description.room == a.limits.column_room && a.token.room == 65536
     && a.output.room == 4096 && a.notice.room == 512 && a.small.room == 128
 
--- how many bytes stand in the six
+-- how many bytes are in the six
 abbrev pub held : Areas → ℕ
 held a =
     length a.packet.bytes + length a.description.bytes + length a.token.bytes + length a.output.bytes + length a.notice.bytes + length a.small.bytes

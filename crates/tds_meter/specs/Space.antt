@@ -1,7 +1,7 @@
 -- What contracts see of an area of bytes.
 use Rattle.std.specs.Prelude.{ℕ, max, List, [], ◌++◌, length}
 
--- the bytes that stand there, the most that may, and the most that stood there since it was made or last emptied for a new run
+-- the bytes that are there, the most that may be, and the most that were there since it was made or last emptied for a new run
 pub record Space : Type 0 where
   pub bytes : List ℕ
   pub room : ℕ

@@ -127,7 +127,7 @@ impl Area {
         self.len -= n;
     }
 
-    /// Adds a piece at the end. [`Full`] where there is no room for it: nothing has changed then.
+    /// Adds a piece at the end. [`Full`] if there is no room for it: nothing has changed then.
     pub fn append(&mut self, piece: &[u8]) -> Result<(), Full>
         ensures ok { OnOk result (self.new ≡ appended self.old piece.now) }
         ensures err { OnErr result (self.new ≡ self.old) }
@@ -144,7 +144,7 @@ impl Area {
         Ok(())
     }
 
-    /// Adds `n` zero bytes at the end. [`Full`] where there is no room: nothing has changed then.
+    /// Adds `n` zero bytes at the end. [`Full`] if there is no room: nothing has changed then.
     pub fn extend(&mut self, n: usize) -> Result<(), Full>
         ensures ok { OnOk result (self.new ≡ appended self.old (replicate n 0)) }
         ensures err { OnErr result (self.new ≡ self.old) }
@@ -170,8 +170,8 @@ impl Area {
         self.store.slice_mut(from..self.len)
     }
 
-    /// Adds `n` bytes at the end, and lends them for writing. What stands in them before they are
-    /// written isn't promised: bytes that stood in this area before, or zeros that it was made with.
+    /// Adds `n` bytes at the end, and lends them for writing. What is in them before they are
+    /// written isn't promised: bytes that were in this area before, or zeros that it was made with.
     pub fn grow_within(&mut self, n: usize) -> &mut [u8]
         requires { length self.old.bytes + n ≤ self.old.room }
         ensures* lends { sem 𝓛 (LendsNew self.entry result) }

@@ -54,7 +54,7 @@ message size limit (suc fuel) wire place input = after_packet (message size limi
 abbrev pub whole_message : ℕ → ℕ → List ℕ → Coming
 whole_message size limit input = message size limit (suc (length input)) 0 0 input
 
--- what comes of a payload: its limits, the bytes of the wire and of the payload after it, whether its packet is the last, the stop that it stands at, and the bytes of its packet that are left
+-- what comes of a payload: its limits, the bytes of the wire and of the payload after it, whether its packet is the last, the stop that it is at, and the bytes of its packet that are left
 unfoldable pub coming_of : ℕ → ℕ → ℕ → ℕ → Bool → Option Stop → List ℕ → List ℕ → Coming
 coming_of size limit wire place last (Some stop) left input = record { bytes = []; stop = stop; rest = input }
 coming_of size limit wire place true None left input = before left (stopped_at MessageEnded (Payload (place + length left)) input)

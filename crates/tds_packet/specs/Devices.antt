@@ -2,7 +2,7 @@
 use Rattle.std.specs.Prelude.{ℕ, List, Option}
 use Rattle.tds_packet.specs.declared.counted.Counted.{Counted}
 
--- a device at a moment: the bytes that its reader still gives or its writer has, where that is known, and its count of failures
+-- a device at a moment: the bytes that its reader still gives or its writer has, if that is known, and its count of failures
 pub record Device : Type 0 where
   pub bytes : Option (List ℕ)
   pub failures : ℕ

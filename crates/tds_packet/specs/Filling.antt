@@ -6,15 +6,15 @@ use Rattle.tds_packet.specs.declared.counted.Short.{Short}
 use Rattle.tds_packet.specs.declared.counted.Short.TheVariants.{Ended, Failed}
 use Rattle.tds_packet.specs.Devices.{Device}
 
--- The count of failures stayed, and where bytes were moved it was not the greatest, at which each call counts as failed.
+-- The count of failures stayed, and if bytes were moved it was not the greatest, at which each call counts as failed.
 abbrev pub Stays : ℕ → ℕ → List ℕ → Type 0
 Stays before after moved = (after ≡ before) × (0 < length moved → before < 2 ^ 64 - 1)
 
--- The count of failures rose, and where bytes were moved before it was not the greatest.
+-- The count of failures rose, and if bytes were moved before, it was not the greatest.
 abbrev pub Rises : ℕ → ℕ → List ℕ → Type 0
 Rises before after moved = (after ≡ one_more before) × (0 < length moved → before < 2 ^ 64 - 1)
 
--- A device answered without failing: the count stayed, and was not the greatest.
+-- A device returned without failing: the count stayed, and was not the greatest.
 abbrev pub IsAnswered : ℕ → ℕ → Type 0
 IsAnswered before after = (after ≡ before) × (before < 2 ^ 64 - 1)
 

@@ -34,17 +34,17 @@ is_last_status status = status % 2 == 1
 abbrev pub is_last : Packet → Bool
 is_last p = is_last_status p.status
 
--- The packet may stand in a message of packets of at most this size.
+-- The packet may be in a message of packets of at most this size.
 pub record IsPacket (size : ℕ) (p : Packet) : Type 0 where
   pub id : length p.id ≡ 4
   pub fits : packet_length p ≤ size
 
--- Each packet may stand, and none is the last.
+-- Each packet may be there, and none is the last.
 abbrev pub AreBefore : ℕ → List Packet → Type 0
 AreBefore size [] = Unit {0}
 AreBefore size (p ∷ ps) = IsPacket size p × (is_last p ≡ false) × AreBefore size ps
 
--- Each packet may stand, and the last one alone is marked so.
+-- Each packet may be there, and only the last one is marked so.
 abbrev pub AreMessage : ℕ → List Packet → Type 0
 AreMessage size [] = ⊥
 AreMessage size (p ∷ []) = IsPacket size p × (is_last p ≡ true)
@@ -117,7 +117,7 @@ wire_fault size limit packets BeforeHeader header = header_fault size limit (len
 wire_fault size limit packets (BeforeBody header) body = None
 wire_fault size limit packets AfterLast bytes = None
 
--- what stands after an element
+-- the state after an element
 abbrev pub wire_add : List Packet → WirePlace → List ℕ → WirePart
 wire_add packets BeforeHeader header = if header_length header == 8 then with_packet packets (packet_of header []) else record { packets = packets; place = BeforeBody header }
 wire_add packets (BeforeBody header) body = with_packet packets (packet_of header body)

@@ -14,7 +14,7 @@ use Rattle.tds_packet.specs.Seen.{Ends, IsBetween, IsNotOver, IsOver, Seen, Take
 abbrev pub buffered : {R : Type 0} → Payload R → List ℕ
 buffered p = drop p.at p.packet.now.bytes
 
--- the payload as contracts see it, where this tells the bytes that its reader has left
+-- the payload as contracts see it, if this tells the bytes that its reader has left
 abbrev pub seen : {R : Type 0} → (R → Option (List ℕ)) → Payload R → Seen
 seen remaining p = record {
   left = remaining p.from.now.device;
@@ -46,13 +46,13 @@ pub record IsGoing {R : Type 0} (p : Payload R) : Type 0 where
   pub sound : IsSound p
   pub going : p.stopped ≡ None
 
--- A call left it sound, on the same reader and area, and going where it answered no error.
+-- A call left it sound, on the same reader and area, and going if it returned no error.
 pub record LeavesPayload {R U : Type 0} (old new : Payload R) (result : Result U Stop) : Type 0 where
   pub sound : IsSound new
   pub same : IsOnSame old new
   pub going : OnOk result (new.stopped ≡ None)
 
--- An answer of the payload itself: it is left as above; where it answered a stop it stands there; and one that had stopped gives its stop again, with nothing changed.
+-- What a call of the payload itself returns: it is left as above; if it returned a stop, it is at that stop; and one that had stopped returns its stop again, with nothing changed.
 pub record AnswersAgain {R U : Type 0} (old new : Payload R) (result : Result U Stop) : Type 0 where
   pub sound : IsSound new
   pub same : IsOnSame old new
@@ -86,13 +86,13 @@ pub record IsBegun {R : Type 0} (remaining : R → Option (List ℕ)) (p : Paylo
 abbrev pub further : {R : Type 0} → Payload R → ℕ → Payload R
 further p n = record p { at = p.at + n; place = p.place + n }
 
--- The bytes of the answer were handed out, and no packet read that one byte didn't need; or the payload stopped, and none was.
+-- The bytes returned were handed out, and no packet read that one byte didn't need; or the payload stopped, and none was.
 abbrev pub TakesOrEnds : {R U : Type 0} → (R → Option (List ℕ)) → Payload R → Payload R → (U → List ℕ) → Result U Stop → Type 0
 TakesOrEnds remaining old new bytes result = MatchResult result
     (λ value. Takes (seen remaining old) (seen remaining new) (bytes value) 1)
     (λ stop. Ends (seen remaining old) (seen remaining new) [] stop)
 
--- What is told of the message's end: it is over, or a byte of it lies ready.
+-- What is told of the message's end: it is over, or a byte of it is ready.
 pub record TellsEnd {R : Type 0} (remaining : R → Option (List ℕ)) (p : Payload R) (end : Bool) : Type 0 where
   pub over : IsTrue end → IsOver (seen remaining p)
   pub more : end ≡ false → IsNotOver (seen remaining p)
@@ -104,18 +104,18 @@ pub record EndsMessage {R : Type 0} (remaining : R → Option (List ℕ)) (old n
   pub used_up : new.at ≡ length new.packet.now.bytes
   pub takes : Takes (seen remaining old) (seen remaining (record new { stopped = None })) [] 1
 
--- The payload stopped before the slice was full; where the message ended, the stop stands where the call began.
+-- The payload stopped before the slice was full; if the message ended, the stop is where the call began.
 abbrev pub CutsFill : {R : Type 0} → (R → Option (List ℕ)) → Payload R → Payload R → List ℕ → Stop → Type 0
 CutsFill remaining old new to stop =
     (n : ℕ) × (own : Stop) × (n < length to) × Ends (seen remaining old) (seen remaining new) (take n to) own × (stop ≡ began_at old.place own)
 
--- So many bytes were handed out.
+-- This number of bytes was handed out.
 pub record PassesOver {R : Type 0} (remaining : R → Option (List ℕ)) (old new : Payload R) (n : ℕ) : Type 0 where
   pub bytes : List ℕ
   pub counted : length bytes ≡ n
   pub takes : Takes (seen remaining old) (seen remaining new) bytes n
 
--- The payload stopped before this many bytes; where the message ended, the stop stands where the call began.
+-- The payload stopped before this number of bytes; if the message ended, the stop is where the call began.
 pub record CutsPass {R : Type 0} (remaining : R → Option (List ℕ)) (old new : Payload R) (n : ℕ) (stop : Stop) : Type 0 where
   pub part : List ℕ
   pub own : Stop

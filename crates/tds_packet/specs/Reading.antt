@@ -13,7 +13,7 @@ pub record Reads {S : Type 0} (g : Grammar S Fault) (from : S) (old new : Seen) 
   pub spelt : Spelt g from bytes to
   pub takes : Takes old new bytes (length bytes)
 
--- The next element was read whole, and this is its first fault. What lies ahead of it in the packets read may have been handed out too; no packet was read for that.
+-- The next element was read whole, and this is its first fault. What comes after it in the packets read may have been handed out too; no packet was read for that.
 pub record RefusesNext {S : Type 0} (g : Grammar S Fault) (old new : Seen) (before : List ℕ) (at : S) (fault : Fault) : Type 0 where
   pub element : List ℕ
   pub ahead : List ℕ
@@ -23,7 +23,7 @@ pub record RefusesNext {S : Type 0} (g : Grammar S Fault) (old new : Seen) (befo
   pub takes : Takes old new ((before ++ element) ++ ahead) (length (before ++ element))
   pub between : IsBetween new
 
--- How a cut element stops a call: where the message has ended, at the element's first byte with the fault of the end; else as the payload does.
+-- How a cut element stops a call: if the message has ended, at the element's first byte with the fault of the end; else as the payload does.
 abbrev pub IsCutStop : ℕ → Option Fault → Stop → Stop → Type 0
 IsCutStop place ended own stop =
     ((own.fault ≡ MessageEnded) × ((fault : Fault) × (ended ≡ Some fault) × (stop ≡ record { fault = fault; place = Payload place })))
@@ -37,7 +37,7 @@ pub record CutsNext {S : Type 0} (g : Grammar S Fault) (old new : Seen) (before 
   pub ends : Ends old new (before ++ part) own
   pub stop_is : IsCutStop (place + length before) (g.end_fault at) own stop
 
--- Whole elements were read, which lead to a state, and there the reading stopped. It began after this many bytes of the payload.
+-- Whole elements were read, which lead to a state, and there the reading stopped. It began after this number of bytes of the payload.
 pub record StopsReading {S : Type 0} (g : Grammar S Fault) (from : S) (old new : Seen) (place : ℕ) (at : S) (stop : Stop) : Type 0 where
   pub bytes : List ℕ
   pub spelt : Spelt g from bytes at

@@ -18,12 +18,12 @@ use Rattle.tds_packet.specs.Seen.{Ends, IsBetween, IsNotOver, IsOver, Seen, Take
 abbrev pub cut_packet : ℕ → Bool → List ℕ → Packet
 cut_packet number last body = record { status = if last then 1 else 0; id = 0 ∷ 0 ∷ (number + 1) % 256 ∷ 0 ∷ []; body = body }
 
--- the first packets of a payload, this many of them, with bodies of m bytes, where more follow them
+-- the first packets of a payload, this number of them, with bodies of m bytes, if more follow them
 unfoldable pub first_packets : ℕ → ℕ → List ℕ → List Packet
 first_packets m zero payload = []
 first_packets m (suc number) payload = first_packets m number payload ++ cut_packet number false (take m (drop (number * m) payload)) ∷ []
 
--- how many packets with bodies of m bytes stand before the last one of a payload of n bytes
+-- how many packets with bodies of m bytes come before the last one of a payload of n bytes
 abbrev pub before_last : ℕ → ℕ → ℕ
 before_last m n = (n - 1) / m
 
@@ -94,7 +94,7 @@ pub record Recuts {R W : Type 0} (remaining : R → Option (List ℕ)) (contents
   pub failures : now.failures ≡ from'.failures
   pub cuts : Cuts contents m (begun size limit (remaining from.device) from.failures) now to to' result
 
--- The bytes after 8 of a header were taken of the payload: as many as the room holds where more follow, or all that are left; or the payload stopped.
+-- The bytes after 8 of a header were taken of the payload: as many as the room holds if more follow, or all that are left; or the payload stopped.
 pub record Gathers {R : Type 0} (remaining : R → Option (List ℕ)) (old new : Payload R) (room : ℕ) (packet : List ℕ) (result : Result Bool Stop) : Type 0 where
   pub header : 8 ≤ length packet
   pub fits : length packet ≤ room

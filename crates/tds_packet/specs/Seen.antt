@@ -9,7 +9,7 @@ use Rattle.tds_packet.specs.declared.fault.Stop.{Stop}
 use Rattle.tds_packet.specs.Filling.{IsAnswered, Rises, Stays}
 use Rattle.tds_packet.specs.Coming.{Coming, before, whole_message}
 
--- what its reader still gives, where that is known; what comes of each such input; the wire bytes of the packets read; the reader's count of failures
+-- what its reader still gives, if that is known; what comes of each such input; the wire bytes of the packets read; the reader's count of failures
 pub record Seen : Type 0 where
   pub left : Option (List ℕ)
   pub future : List ℕ → Coming
@@ -42,7 +42,7 @@ abbrev pub RunsOutAfter : Seen → Seen → List ℕ → Stop → Type 0
 RunsOutAfter old new bytes stop = (read : List ℕ) × Consumes old.left new.left read × IsAtEnd new.left × (old.future read ≡ record { bytes = bytes; stop = stop; rest = [] })
     × IsAnswered old.failures new.failures
 
--- A read failed, which was counted. These bytes were handed out, and the stop stands, where they would if the input had ended after what was read.
+-- A read failed, which was counted. These bytes were handed out, and the stop is, as they would be if the input had ended after what was read.
 abbrev pub FailsAfter : Seen → Seen → List ℕ → Stop → Type 0
 FailsAfter old new bytes stop = (read : List ℕ) × Consumes old.left new.left read × (stop.fault ≡ ReadFailed)
     × (old.future read ≡ record { bytes = bytes; stop = record { fault = InputEnded; place = stop.place }; rest = [] }) × Rises old.failures new.failures read
@@ -55,7 +55,7 @@ Ends old new bytes stop = StopsAfter old new bytes stop ⊎ (RunsOutAfter old ne
 abbrev pub IsOver : Seen → Type 0
 IsOver seen = (stop : Stop) × (stop.fault ≡ MessageEnded) × ((zs : List ℕ) → seen.future zs ≡ record { bytes = []; stop = stop; rest = zs })
 
--- A byte stands ready, with no further read.
+-- A byte is ready, with no further read.
 abbrev pub IsNotOver : Seen → Type 0
 IsNotOver seen = 0 < length (seen.future []).bytes
 

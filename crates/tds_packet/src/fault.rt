@@ -78,6 +78,18 @@ pub struct Stop {
     pub place: Place,
 }
 
+impl Stop {
+    /// The stop of a fault that was found after `place` bytes of the payload.
+    pub fn in_payload(fault: Fault, place: u64) -> Stop
+        ensures { result ≡ record { fault = fault; place = Place.Payload place } }
+    {
+        Stop {
+            fault,
+            place: Place::Payload(place),
+        }
+    }
+}
+
 impl Fault {
     /// The fault's number, as a report shows it: 1 to 21.
     pub fn number(&self) -> u8

@@ -111,10 +111,7 @@ impl<'a, R: Read> Payload<'a, R> {
         }
         while self.at == self.packet.len() {
             if self.last {
-                let stop = Stop {
-                    fault: Fault::MessageEnded,
-                    place: Place::Payload(self.place),
-                };
+                let stop = Stop::in_payload(Fault::MessageEnded, self.place);
                 self.stopped = Some(stop);
                 return Err(stop);
             }
@@ -222,10 +219,7 @@ impl<'a, R: Read> Payload<'a, R> {
         self.place = start;
         match stop.fault {
             Fault::MessageEnded => {
-                let cut = Stop {
-                    fault: stop.fault,
-                    place: Place::Payload(start),
-                };
+                let cut = Stop::in_payload(stop.fault, start);
                 self.stopped = Some(cut);
                 cut
             }

@@ -129,7 +129,7 @@ error_line None message = []
 error_line (Some e) message = concat (codes "server error " ∷ signed_decimal e.number ∷ codes ", state " ∷ decimal e.state ∷ codes ", class " ∷ decimal e.class
     ∷ codes ", line " ∷ signed_decimal e.line ∷ codes ": " ∷ map shown_byte message ∷ codes "\n" ∷ [])
 
--- the lines of an export's answer, where this is the message of the first error
+-- the lines of what an export returned, with this message of the first error
 abbrev pub answer_lines : Result Report Stopped → List ℕ → List ℕ
 answer_lines (Ok r) message = counts_line r ++ (values_line r.return_values ++ (status_line r.return_status ++ error_line r.first_error message))
 answer_lines (Err s) message = stop_line s
@@ -142,7 +142,7 @@ recut_line r = concat (codes "packets " ∷ decimal r.packets ∷ codes " payloa
 abbrev pub recut_stopped : RecutStop → Stopped
 recut_stopped s = record { fault = s.stop.fault; place = s.stop.place; written = s.written; unwritten = s.unwritten }
 
--- the line of a recut's answer
+-- the line of what a recut returned
 abbrev pub recut_lines : Result Recut RecutStop → List ℕ
 recut_lines (Ok r) = recut_line r
 recut_lines (Err s) = stop_line (recut_stopped s)

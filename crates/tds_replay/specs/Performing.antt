@@ -33,7 +33,7 @@ pub record Devices (R W N : Type 0) : Type 0 where
 abbrev pub devices : {R W N : Type 0} → Counted R → Counted W → Counted N → Devices R W N
 devices from to notes = record { from = from; to = to; notes = notes }
 
--- what devices tell: the bytes that the reader still gives, and those that the writer and the notes have, where that is known
+-- what devices tell: the bytes that the reader still gives, and those that the writer and the notes have, if that is known
 pub record Telling (R W N : Type 0) : Type 0 where
   pub remaining : R → Option (List ℕ)
   pub contents : W → Option (List ℕ)
@@ -47,7 +47,7 @@ telling remaining contents said = record { remaining = remaining; contents = con
 abbrev pub with_areas : {R W N : Type 0} → Telling R W N → Devices R W N → Areas → Moment
 with_areas tell d areas = moment tell.remaining tell.contents areas d.from d.to
 
--- An export over these areas answered, with nothing kept beside them, and the status and the lines are those of its answer.
+-- An export over these areas returned, with nothing kept beside them, and the status and the lines are those of what it returned.
 pub record RunsExport {R W N : Type 0} (tell : Telling R W N) (charset : Charset) (areas areas' : Areas) (before after : Devices R W N) (status : Status) : Type 0 where
   pub kept : KeepsInAreas areas areas'
   pub answer : Result Report Stopped
@@ -55,7 +55,7 @@ pub record RunsExport {R W N : Type 0} (tell : Telling R W N) (charset : Charset
   pub status_is : status ≡ status_of answer
   pub lines : SaysOrFails tell.said before.notes after.notes (answer_lines answer areas'.notice.bytes)
 
--- An export over areas made for these limits answered.
+-- An export over areas made for these limits returned.
 pub record Performs {R W N : Type 0} (tell : Telling R W N) (charset : Charset) (limits : Limits) (before after : Devices R W N) (status : Status) : Type 0 where
   pub areas : Areas
   pub areas' : Areas
@@ -88,7 +88,7 @@ pub record Checks {R N : Type 0} (remaining : R → Option (List ℕ)) (said : N
 abbrev pub PerformsCheck : {R W N : Type 0} → Telling R W N → Charset → Limits → Devices R W N → Devices R W N → Status → Type 0
 PerformsCheck tell charset limits before after status = Checks tell.remaining tell.said charset limits before.from after.from before.notes after.notes status × (after.to ≡ before.to)
 
--- A recut answered, and the status and the line are those of its answer.
+-- A recut returned, and the status and the line are those of what it returned.
 pub record Rewrites {R W N : Type 0} (tell : Telling R W N) (packet_size max_wire : ℕ) (before after : Devices R W N) (status : Status) : Type 0 where
   pub answer : Result Recutting RecutStop
   pub recuts : Recuts tell.remaining tell.contents 32767 max_wire (packet_size - 8) before.from after.from before.to after.to answer

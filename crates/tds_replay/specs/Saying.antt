@@ -14,6 +14,6 @@ abbrev pub Says : {N U : Type 0} → (N → Option (List ℕ)) → Counted N →
 Says contents old new text (Ok _) = WritesText contents old new text
 Says contents old new text (Err _) = Rose old.failures new.failures
 
--- The text was written or a write failed, where the answer isn't passed on.
+-- The text was written or a write failed; the result isn't passed on.
 abbrev pub SaysOrFails : {N : Type 0} → (N → Option (List ℕ)) → Counted N → Counted N → List ℕ → Type 0
 SaysOrFails contents old new text = WritesText contents old new text ⊎ Rose old.failures new.failures

@@ -24,12 +24,12 @@ status_of_fault ReadFailed = BadDevice
 status_of_fault WriteFailed = BadDevice
 status_of_fault fault = BadInput
 
--- how it ends by this answer of an export
+-- how it ends by what an export returned
 abbrev pub status_of : Result Report Stopped → Status
 status_of (Ok report) = if report.errors == 0 then Done else ServerError
 status_of (Err stopped) = status_of_fault stopped.fault
 
--- how it ends by this answer of a recut
+-- how it ends by what a recut returned
 abbrev pub status_of_recut : Result Recut RecutStop → Status
 status_of_recut (Ok done) = Done
 status_of_recut (Err stop) = status_of_fault stop.stop.fault

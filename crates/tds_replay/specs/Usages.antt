@@ -1,4 +1,4 @@
--- What is said where arguments are no job.
+-- What is said if arguments are no job.
 use Rattle.std.specs.Prelude.{◌≡◌, ℕ, List, Option, string_bytes}
 use Rattle.tds_packet.specs.declared.counted.Counted.{Counted}
 use Rattle.tds_arguments.specs.declared.usage.Usage.{Usage}

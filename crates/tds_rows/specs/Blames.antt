@@ -19,10 +19,10 @@ failures_with reads sink = record { reads = reads; writes = sink.to.now.failures
 abbrev pub failures_of : {R W : Type 0} → Payload R → Sink W → Failures
 failures_of payload sink = failures_with payload.from.now.failures sink
 
--- A stop that names a device's fault stands after one more failure of that device.
+-- A stop that names a device's fault comes after one more failure of that device.
 abbrev pub StopBlames : Failures → Failures → Stop → Type 0
 StopBlames old new stop = (stop.fault ≡ ReadFailed → new.reads ≡ one_more old.reads) × (stop.fault ≡ WriteFailed → new.writes ≡ one_more old.writes)
 
--- A success has no failure; a stop that names a device's fault stands after one.
+-- A success has no failure; a stop that names a device's fault comes after one.
 abbrev pub Blames : {U : Type 0} → Failures → Failures → Result U Stop → Type 0
 Blames old new result = MatchResult result (λ _. new ≡ old) (λ stop. StopBlames old new stop)

@@ -20,12 +20,12 @@ use Rattle.tds_csv.specs.declared.sink.Sink.{Sink}
 use Rattle.tds_csv.specs.Sinks.{Held, held}
 use Rattle.tds_csv.specs.Streaming.{StopsStreaming, Streams}
 use Rattle.tds_values.specs.declared.charset.Charset.{Charset}
-use Rattle.tds_rows.specs.declared.run.buffered.Written.{Written}
+use Rattle.tds_rows.specs.declared.run.fields.Written.{Written}
 use Rattle.tds_rows.specs.ShortCells.{IsShortLeft, short_conversion, short_size}
 use Rattle.tds_rows.specs.WholeCells.{WritesCell, WritesWhole}
 use Rattle.tds_rows.specs.Cells.{Cell, CellPart, WholeCell, cell, cell_start, field, field_so_far, shape}
 
--- a field that is open, with the comma before it; nothing where it isn't
+-- a field that is open, with the comma before it; nothing if it isn't
 abbrev pub opened : ℕ → Option (List ℕ) → List ℕ
 opened column None = []
 opened column (Some text) = after_comma column text
@@ -59,11 +59,11 @@ abbrev pub length_after : Option ℕ → List ℕ → ℕ
 length_after (Some n) bytes = n
 length_after None bytes = slice_index bytes 0
 
--- where the value of a scalar cell of a kind lies in its bytes
+-- where the value of a scalar cell of a kind is in its bytes
 abbrev pub value_start : Kind → ℕ
 value_start kind = start_after (fixed_length kind)
 
--- how many bytes the value has of the scalar cell at the front of these bytes; 0 where it is NULL
+-- how many bytes the value has of the scalar cell at the front of these bytes; 0 if it is NULL
 abbrev pub value_length : Kind → List ℕ → ℕ
 value_length kind bytes = length_after (fixed_length kind) bytes
 
@@ -80,7 +80,7 @@ abbrev pub int4_kind : ℕ → Kind
 int4_kind zero = Int4
 int4_kind (suc n) = IntN 4
 
--- where the number lies in the cells of a kind of whole numbers of four bytes; none of every other kind
+-- where the number is in the cells of a kind of whole numbers of four bytes; none of every other kind
 abbrev pub int4_start_of : Kind → Option ℕ
 int4_start_of Int4 = Some 0
 int4_start_of (IntN n) = if n == 4 then Some 1 else None
@@ -104,12 +104,12 @@ abbrev pub IsLeft : Charset → Kind → List ℕ → ℕ → Type 0
 IsLeft charset kind bytes room =
     ((is_scalar kind ≡ true) × IsScalarLeft kind bytes) ⊎ ((is_scalar kind ≡ false) × IsShortLeft (short_conversion (shape charset kind)) bytes room)
 
--- The bytes are a whole cell of a kind, and this is its text in its line; that of a scalar, in any set, comes with the last element alone.
+-- The bytes are a whole cell of a kind, and this is its text in its line; that of a scalar, in any set, comes only with the last element.
 pub record WritesKind (charset : Charset) (kind : Kind) (column : ℕ) (last : Bool) (bytes text : List ℕ) : Type 0 where
   pub whole : WritesWhole (cell_start kind (shape charset kind)) column last bytes text
   pub at_once : is_scalar kind ≡ true → (any : Charset) → WritesCell (cell_start kind (shape any kind)) column last bytes text
 
--- The bytes are a whole cell of a kind, and this is its field, wherever it stands in a line.
+-- The bytes are a whole cell of a kind, and this is its field, wherever it is in a line.
 abbrev pub WritesField : Charset → Kind → List ℕ → List ℕ → Type 0
 WritesField charset kind bytes field = (column : ℕ) (last : Bool) → WritesKind charset kind column last bytes (in_line column last field)
 
@@ -134,7 +134,7 @@ pub record PutsField (from : CellPart) (column : ℕ) (last : Bool) (old new : S
 abbrev pub StopsField : CellPart → ℕ → Bool → Seen → Seen → ℕ → Held → Held → Bool → Stop → Type 0
 StopsField from column last = StopsStreaming (cell column) (cell_so_far column last) from
 
--- The bytes of a scalar cell were read, whose length is allowed; and where its value is refused, this is the stop.
+-- The bytes of a scalar cell were read, whose length is allowed; and if its value is refused, this is the stop.
 pub record GathersCell (kind : Kind) (from : CellPart) (column : ℕ) (old new : Seen) (place place' : ℕ) (bytes : List ℕ) : Type 0 where
   pub whole : length bytes ≡ scalar_size kind bytes
   pub takes : Takes old new bytes (length bytes)
@@ -158,7 +158,7 @@ pub record LeavesSmall (before after : Space) : Type 0 where
   pub room : after.room ≡ before.room
   pub bound : after.peak ≤ max before.peak longest_cell
 
--- A call left the payload sound, on the same reader and area, and going where it answered no error, with no more than a cell gathered in this area.
+-- A call left the payload sound, on the same reader and area, and going if it returned no error, with no more than a cell gathered in this area.
 pub record LeavesGathering {R U : Type 0} (old new : payloads.Payload R) (before after : Space) (result : Result U Stop) : Type 0 where
   pub payload : LeavesPayload old new result
   pub small : LeavesSmall before after

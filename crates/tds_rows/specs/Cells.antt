@@ -138,7 +138,7 @@ cell_start kind (FixedShape n) = ScalarBytes kind n
 cell_start kind CountedShape = ScalarLength kind
 cell_start kind (LongShape c reach) = long_start c reach
 
--- how many bytes the next element of a cell has; 0 where nothing follows
+-- how many bytes the next element of a cell has; 0 if nothing follows
 abbrev pub cell_size : CellPart → ℕ
 cell_size (ScalarBytes kind n) = n
 cell_size (ScalarLength kind) = 1
@@ -195,7 +195,7 @@ value_part (Err fault) = WholeCell Null
 abbrev pub known_total : ℕ → Option ℕ
 known_total n = if n == unknown_total then None else Some n
 
--- what stands after an element of a cell
+-- the state after an element of a cell
 abbrev pub cell_add : CellPart → List ℕ → CellPart
 cell_add (ScalarBytes kind n) element = value_part (read_of kind element)
 cell_add (ScalarLength kind) element = if slice_index element 0 == 0 then WholeCell Null else ScalarBytes kind (slice_index element 0)
@@ -215,7 +215,7 @@ cell_end part = Some MessageEnded
 abbrev pub cell : ℕ → Grammar CellPart Fault
 cell column = record { size = cell_size; fault = cell_fault column; add = cell_add; end_fault = cell_end }
 
--- the cell's text so far; none where neither it nor its length is whole
+-- the cell's text so far; none if neither it nor its length is whole
 abbrev pub field_so_far : CellPart → Option (List ℕ)
 field_so_far (WholeCell cell) = Some (field cell)
 field_so_far (ShortData c left content) = Some (open_field c content)

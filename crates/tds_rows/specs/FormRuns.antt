@@ -11,7 +11,7 @@ use Rattle.tds_rows.specs.MarkedRuns.{WritesMarked}
 use Rattle.tds_rows.specs.Runs.{WritesOne}
 use Rattle.tds_rows.specs.Tables.{kinds}
 
--- The forms are those of the next columns, which are the row's last where the forms end it.
+-- The forms are those of the next columns, which are the row's last if the forms end it.
 pub record AreNext (forms : List Form) (ends : Bool) (columns : List Column) : Type 0 where
   pub kinds_are : map (λ f. f.kind) forms ≡ kinds (take (length forms) columns)
   pub ends_are : ends ≡ (length forms == length columns)
@@ -32,11 +32,11 @@ FirstLeft charset forms bytes room = (form : Form) (rest : List Form) → forms 
 abbrev pub FirstUsed : List Form → List ℕ → ℕ → Type 0
 FirstUsed forms bytes used = (form : Form) (rest : List Form) → forms ≡ form ∷ rest → used ≡ whole_size form.kind bytes
 
--- The first cell alone was written so.
+-- Only the first cell was written so.
 abbrev pub FirstWritten : Charset → List Form → ℕ → Bool → List ℕ → List ℕ → FormsRun → Type 0
 FirstWritten charset forms column ends bytes text run = (form : Form) (rest : List Form) → forms ≡ form ∷ rest → WritesOne charset form.kind column (ends && (1 == length forms)) bytes text run.used run.made
 
--- The bytes are the cells of so many forms, and these are their fields after one another, each after its comma.
+-- The bytes are the cells of this number of forms, and these are their fields after one another, each after its comma.
 abbrev pub WritesForms : Charset → List Form → ℕ → ℕ → List ℕ → List ℕ → Type 0
 WritesForms charset forms column zero bytes text = (bytes ≡ []) × (text ≡ [])
 WritesForms charset forms column (suc n) bytes text = (front : List ℕ) × (rest : List ℕ) × (before : List ℕ) × (field : List ℕ)

@@ -8,6 +8,6 @@ use Rattle.tds_rows.specs.Layouts.{IsLaidOut}
 abbrev pub table_length : ℕ
 table_length = 64
 
--- The values of each of these forms' kinds are laid out as it says, where single-byte text is in this set.
+-- The values of each of these forms' kinds are laid out as it says, if single-byte text is in this set.
 abbrev pub AreLaidOut : Charset → List Form → Type 0
 AreLaidOut charset forms = (k : ℕ) (form : Form) → k < length forms → IsLaidOut charset (get_or forms k form).kind (get_or forms k form).layout

@@ -18,13 +18,13 @@ shape_of_layout Counted = CountedShape
 shape_of_layout (Short content) = LongShape (conversion_of content) reach.Short
 shape_of_layout (Chunked content) = LongShape (conversion_of content) reach.Chunked
 
--- how far after the front of its cell a whole number of four bytes lies that is laid out so; none of every other value
+-- how far after the front of its cell a whole number of four bytes is that is laid out so; none of every other value
 abbrev pub int4_start_in : Layout → Option ℕ
 int4_start_in Int4 = Some 0
 int4_start_in CountedInt4 = Some 1
 int4_start_in layout = None
 
--- The values of this kind are laid out so, where single-byte text is in this set.
+-- The values of this kind are laid out so, if single-byte text is in this set.
 pub record IsLaidOut (charset : Charset) (kind : Kind) (layout : Layout) : Type 0 where
   pub shape_is : shape charset kind ≡ shape_of_layout layout
   pub int4 : int4_start_of kind ≡ int4_start_in layout

@@ -18,7 +18,7 @@ use Rattle.tds_csv.specs.declared.sink.Sink.{Sink}
 use Rattle.tds_csv.specs.Sinks.{Breaks, Held, Puts, held}
 use Rattle.tds_rows.specs.Cells.{is_total, known_total, null_total, unknown_total, unless, within_total}
 
--- what stands before the text of a long value
+-- what comes before the text of a long value
 abbrev pub opening : Bool → List ℕ
 opening true = quote ∷ []
 opening false = binary_mark
@@ -56,7 +56,7 @@ NumberRead remaining size old new result = MatchResult result
     (λ n. ReadsNumber size (seen remaining old) (seen remaining new) old.place new.place n)
     (λ stop. CutsNumber size (seen remaining old) (seen remaining new) old.place stop)
 
--- A number without such a fault was read, and the answer says so of it; or it is refused, or the payload stopped in it.
+-- A number without such a fault was read, and this is what it means; or it is refused, or the payload stopped in it.
 abbrev pub LengthRead : {R A : Type 0} → (R → Option (List ℕ)) → ℕ → (ℕ → Option Fault) → (ℕ → A) → payloads.Payload R → payloads.Payload R → Result A Stop → Type 0
 LengthRead remaining size fault says old new result = MatchResult result
     (λ answer. (n : ℕ) × ReadsNumber size (seen remaining old) (seen remaining new) old.place new.place n × (fault n ≡ None) × (answer ≡ says n))
@@ -92,7 +92,7 @@ total_of n = if n == null_total then None else Some (known_total n)
 abbrev pub added_text : Conversion → List ℕ → List ℕ → List ℕ
 added_text c content more = emit (conversion_rest c) (conversion_text c) (conversion_rest c content ++ more)
 
--- So many bytes after this content were read in a piece, and their text put; what is withheld then is the rest of all of it.
+-- This number of bytes after this content was read in a piece, and their text put; what is withheld then is the rest of all of it.
 pub record TakesData (c : Conversion) (content kept : List ℕ) (old new : Seen) (place place' : ℕ) (before after : Held) (n : ℕ) : Type 0 where
   pub piece : List ℕ
   pub counted : length piece ≡ n
@@ -189,7 +189,7 @@ abbrev pub good_of : JoinFault → ℕ
 good_of (join_faults.BadText k) = k
 good_of fault = 0
 
--- the stop of a fault of a joiner whose piece, or whose end, stands after this many bytes
+-- the stop of a fault of a joiner whose piece, or whose end, comes after this number of bytes
 abbrev pub join_stop : ℕ → ℕ → JoinFault → Stop
 join_stop column place (Stopped stop) = stop
 join_stop column place fault = record { fault = BadText column; place = Payload (place + good_of fault) }

@@ -12,7 +12,7 @@ pub record IsJoining {R W : Type 0} (begins : List ℕ → Type 0) (withheld : L
   pub sink : IsWriting s
   pub begun : begins withheld
 
--- A call left the payload sound and the sink ready, on the same devices and areas, and where it answered no error, both going on.
+-- A call left the payload sound and the sink ready, on the same devices and areas, and, if it returned no error, both going on.
 pub record LeavesBoth {R W U : Type 0} (old new : Payload R) (before after : Sink W) (result : Result U Stop) : Type 0 where
   pub payload : LeavesPayload old new result
   pub sink : LeavesSink before after result

@@ -18,7 +18,7 @@ use Rattle.tds_rows.specs.CellSteps.{IsLeft, is_last_column}
 use Rattle.tds_rows.specs.Tables.{IsAhead, Knows}
 use Rattle.tds_rows.specs.WholeCells.{WritesWhole}
 
--- This is a cell's text in its line: that of NULL, which has no bytes, where that is its bit, and of the cell that the bytes are, where it isn't.
+-- This is a cell's text in its line: that of NULL, which has no bytes, if that is its bit, and of the cell that the bytes are if it isn't.
 abbrev pub WritesNext : Charset → Bool → Kind → ℕ → Bool → List ℕ → List ℕ → Type 0
 WritesNext charset true kind column last bytes text = (bytes ≡ []) × (text ≡ in_line column last null_field)
 WritesNext charset false kind column last bytes text = WritesWhole (cell_start kind (shape charset kind)) column last bytes text
@@ -27,14 +27,14 @@ WritesNext charset false kind column last bytes text = WritesWhole (cell_start k
 abbrev pub AreClear : (ℕ → Bool) → ℕ → ℕ → Type 0
 AreClear nulls from end = (k : ℕ) → from ≤ k → k < end → nulls k ≡ false
 
--- The columns from one up to another, of so many, aren't NULL by their bit; that one, if there is one, is.
+-- The columns from one up to another, of this number, aren't NULL by their bit; that one, if there is one, is.
 pub record EndsClear (nulls : ℕ → Bool) (from count end : ℕ) : Type 0 where
   pub least : from ≤ end
   pub most : end ≤ count
   pub clear : AreClear nulls from end
   pub set : end < count → nulls end ≡ true
 
--- The bytes are the cell of the column after this many, none where it is NULL by its bit, and this is its text in its line.
+-- The bytes are the cell of the column after this number of them, none if it is NULL by its bit, and this is its text in its line.
 pub record WritesColumn (charset : Charset) (columns : List Column) (nulls : ℕ → Bool) (at : ℕ) (bytes text : List ℕ) : Type 0 where
   pub column : Column
   pub left : List Column

@@ -32,7 +32,7 @@ IsRefusedValue kind bytes = (0 < value_length kind bytes) × (is_ok (read_of kin
 abbrev pub IsGoodValue : Kind → List ℕ → Type 0
 IsGoodValue kind bytes = 0 < value_length kind bytes → is_ok (read_of kind (value_bytes kind bytes)) ≡ true
 
--- So many bytes were handed out.
+-- This number of bytes was handed out.
 pub record PassesData (n : ℕ) (old new : Seen) (place place' : ℕ) : Type 0 where
   pub bytes : List ℕ
   pub counted : length bytes ≡ n
@@ -40,7 +40,7 @@ pub record PassesData (n : ℕ) (old new : Seen) (place place' : ℕ) : Type 0 w
   pub between : IsBetween new
   pub place_is : place' ≡ place + n
 
--- The payload stopped before this many bytes; where the message ended, the stop stands at the byte that is missing.
+-- The payload stopped before this number of bytes; if the message ended, the stop is at the byte that is missing.
 pub record CutsPassing (n : ℕ) (old new : Seen) (place : ℕ) (stop : Stop) : Type 0 where
   pub bytes : List ℕ
   pub own : Stop
@@ -48,13 +48,13 @@ pub record CutsPassing (n : ℕ) (old new : Seen) (place : ℕ) (stop : Stop) : 
   pub ends : Ends old new bytes own
   pub stop_is : stop ≡ began_at (place + length bytes) own
 
--- So many bytes were handed out, or the payload stopped before.
+-- This number of bytes was handed out, or the payload stopped before.
 abbrev pub DataPassed : {R U : Type 0} → (R → Option (List ℕ)) → ℕ → payloads.Payload R → payloads.Payload R → Result U Stop → Type 0
 DataPassed remaining n old new result = MatchResult result
     (λ _. PassesData n (seen remaining old) (seen remaining new) old.place new.place)
     (λ stop. CutsPassing n (seen remaining old) (seen remaining new) old.place stop)
 
--- As many bytes as the answer says were handed out, or the payload stopped before the first.
+-- As many bytes as were returned were handed out, or the payload stopped before the first.
 abbrev pub PiecePassed : {R : Type 0} → (R → Option (List ℕ)) → payloads.Payload R → payloads.Payload R → Result ℕ Stop → Type 0
 PiecePassed remaining old new result = MatchResult result
     (λ n. PassesData n (seen remaining old) (seen remaining new) old.place new.place)

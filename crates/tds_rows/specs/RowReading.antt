@@ -27,7 +27,7 @@ pub record IsInRow {R W : Type 0} (rows : Rows R W) : Type 0 where
 abbrev pub IsOnSameRows : {R W : Type 0} → Rows R W → Rows R W → Type 0
 IsOnSameRows old new = (new.payload.ghost_name ≡ old.payload.ghost_name) × (new.sink.ghost_name ≡ old.sink.ghost_name) × (new.small.ghost_name ≡ old.small.ghost_name) × (new.table ≡ old.table)
 
--- A call left the reading on the same devices and area, by the same table, with no more than a cell gathered, and where it answered no error, going on.
+-- A call left the reading on the same devices and area, by the same table, with no more than a cell gathered, and, if it returned no error, going on.
 pub record LeavesRows {R W U : Type 0} (old new : Rows R W) (result : Result U Stop) : Type 0 where
   pub same : IsOnSameRows old new
   pub payload : LeavesPayload old.payload.now new.payload.now result
@@ -72,7 +72,7 @@ pub record AwaitsBitmap (bitmap : Space) : Type 0 where
 abbrev pub RowRead : {R W U : Type 0} → (R → Option (List ℕ)) → (W → Option (List ℕ)) → RowPart → Rows R W → Rows R W → Result U Stop → Type 0
 RowRead remaining contents start old new result = RowPut remaining contents old.table.now.charset start old.payload.now new.payload.now old.sink.now new.sink.now result
 
--- The token byte of one more row was taken; or, where the answer is no, nothing was, and none is next in the packet.
+-- The token byte of one more row was taken; or, if the result is false, nothing was, and none is next in the packet.
 abbrev pub TokenTaken : {R : Type 0} → (R → Option (List ℕ)) → RowToken → Payload R → Payload R → Bool → Type 0
 TokenTaken remaining token old new true = Takes (seen remaining old) (seen remaining new) (token_byte token ∷ []) 1 × (new.place ≡ old.place + 1)
 TokenTaken remaining token old new false = (new ≡ old) × BeginNoRow token (buffered new)

@@ -103,7 +103,7 @@ abbrev pub token_start : RowToken → Charset → List Column → RowPart
 token_start PlainRow charset columns = row_start charset columns
 token_start NbcRow charset columns = nbc_row_start columns
 
--- how many bytes the next element of a row has; 0 where nothing follows
+-- how many bytes the next element of a row has; 0 if nothing follows
 abbrev pub row_size : RowPart → ℕ
 row_size (Bitmap columns) = bitmap_length (length columns)
 row_size (InCell cells part ks) = cell_size part
@@ -114,7 +114,7 @@ abbrev pub row_fault : RowPart → List ℕ → Option Fault
 row_fault (InCell cells part ks) element = cell_fault (length cells) part element
 row_fault part element = None
 
--- what stands after an element of a row
+-- the state after an element of a row
 abbrev pub row_add : Charset → RowPart → List ℕ → RowPart
 row_add charset (Bitmap columns) element = next_cell charset [] (marked columns (bit element) 0)
 row_add charset (InCell cells part ks) element = with_cell charset cells ks (cell_add part element)
@@ -134,7 +134,7 @@ abbrev pub with_field : List Cell → Option (List ℕ) → List (List ℕ)
 with_field cells None = map field cells
 with_field cells (Some f) = map field cells ++ f ∷ []
 
--- the text so far of a row: its fields joined by commas, and the end of the line where it is whole
+-- the text so far of a row: its fields joined by commas, and the end of the line if it is whole
 abbrev pub row_so_far : RowPart → List ℕ
 row_so_far (Bitmap columns) = []
 row_so_far (InCell cells part ks) = joined (with_field cells (field_so_far part))

@@ -13,7 +13,7 @@ use Rattle.tds_csv.specs.declared.sink.Sink.{Sink}
 use Rattle.tds_csv.specs.Sinks.{Held, held}
 use Rattle.tds_csv.specs.Streaming.{Streams}
 use Rattle.tds_values.specs.declared.charset.Charset.{Charset}
-use Rattle.tds_rows.specs.declared.run.buffered.Written.{Written}
+use Rattle.tds_rows.specs.declared.run.fields.Written.{Written}
 use Rattle.tds_rows.specs.declared.run.CellRun.{CellRun}
 use Rattle.tds_rows.specs.declared.run.RowsRun.{RowsRun}
 use Rattle.tds_rows.specs.declared.table.Ahead.{Ahead}
@@ -54,7 +54,7 @@ abbrev pub rows_fault : RowToken → RowPart → List ℕ → Option Fault
 rows_fault token (WholeRow cells) element = if slice_index element 0 == token_byte token then None else Some (RefusedToken (slice_index element 0))
 rows_fault token part element = row_fault part element
 
--- what stands after an element of rows
+-- the state after an element of rows
 abbrev pub rows_add : RowToken → Charset → List Column → List (List Cell) → RowPart → List ℕ → RowsPart
 rows_add token charset columns before (WholeRow cells) element = record { before = before ++ cells ∷ []; at = token_start token charset columns }
 rows_add token charset columns before part element = record { before = before; at = row_add charset part element }
@@ -91,14 +91,14 @@ pub record RunsRows (charset : Charset) (all : List Column) (cells : List Cell) 
 
 -- ---- what a run gives, whatever the columns that its table knows, and whatever the cells before it
 
--- A run within a row used and made no more than there is, went on where it used a byte, and not beyond its end.
+-- A run within a row used and made no more than there is, went on if it used a byte, and not beyond its end.
 pub record StaysWithin (from : Ahead) (end bytes room : ℕ) (run : CellRun) : Type 0 where
   pub used : run.used ≤ bytes
   pub made : run.made ≤ room
   pub further : 0 < run.used → from.column < run.ahead.column
   pub before : from.column ≤ end → run.ahead.column ≤ end
 
--- A run ended at the row's end, where there isn't room for every scalar, or before a cell that is left.
+-- A run ended at the row's end, without room for every scalar, or before a cell that is left.
 abbrev pub RunEnds : Table → Ahead → List ℕ → ℕ → Type 0
 RunEnds table at bytes room = EndsLeft table (λ k. false) at bytes room
 

@@ -4,11 +4,11 @@ use Rattle.tds_values.specs.declared.kind.Reach.TheVariants.{Short}
 use Rattle.tds_csv.specs.Conversion.{Conversion, is_fit}
 use Rattle.tds_csv.specs.Fields.{field_room}
 use Rattle.tds_csv.specs.Quoting.{in_line}
-use Rattle.tds_rows.specs.declared.run.buffered.Written.{Written}
+use Rattle.tds_rows.specs.declared.run.fields.Written.{Written}
 use Rattle.tds_rows.specs.Cells.{LongShape, Shape, ShortLength}
 use Rattle.tds_rows.specs.WholeCells.{WritesWhole}
 
--- the conversion of the short values of a shape; none where its values are no short ones
+-- the conversion of the short values of a shape; none if its values are no short ones
 abbrev pub short_conversion : Shape → Option Conversion
 short_conversion (LongShape c Short) = Some c
 short_conversion _ = None

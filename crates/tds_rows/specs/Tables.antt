@@ -56,7 +56,7 @@ pub record TakesColumn (table : Table) (columns : List Column) (old new : Ahead)
 abbrev pub TakesForm : Table → List Column → Ahead → Option (Form × Ahead) → Type 0
 TakesForm table columns at result = MatchOption result (drop at.column columns ≡ []) (λ taken. TakesColumn table columns at taken.1 taken.0.kind)
 
--- The forms are those of the next columns of a row, none after this many: several that the table knows, or one alone.
+-- The forms are those of the next columns of a row, none after this number: several that the table knows, or only one.
 pub record AreAhead (table : Table) (at : Ahead) (end : ℕ) (forms : List Form) : Type 0 where
   pub laid : AreLaidOut table.charset forms
   pub some : 0 < length forms
@@ -64,7 +64,7 @@ pub record AreAhead (table : Table) (at : Ahead) (end : ℕ) (forms : List Form)
   pub known : (at.column + length forms ≤ table.known) ⊎ (length forms ≡ 1)
   pub next : (columns : List Column) → Knows table columns → IsAhead table columns at → map (λ f. f.kind) forms ≡ kinds (take (length forms) (drop at.column columns))
 
--- This is the kind of the next column ahead, of columns that the table knows, and so it stands with the last one.
+-- This is the kind of the next column ahead, of columns that the table knows, and so it is with the last one.
 pub record IsNextKind (table : Table) (at : Ahead) (next_kind : Kind) (is_end : Bool) : Type 0 where
   pub columns : List Column
   pub knows : Knows table columns

@@ -10,7 +10,7 @@ pub record WritesWhole (from : CellPart) (column : ℕ) (last : Bool) (bytes mad
   pub spelt : Spelt (cell column) from bytes (WholeCell value)
   pub text_is : made ≡ in_line column last (field value)
 
--- These bytes are a cell, of those whose text comes with the last element alone, and this is its text in its line.
+-- These bytes are a cell, of those whose text comes only with the last element, and this is its text in its line.
 pub record WritesCell (from : CellPart) (column : ℕ) (last : Bool) (bytes text : List ℕ) : Type 0 where
   pub value : Cell
   pub front : List ℕ

@@ -1,15 +1,15 @@
 // The bytes of a cell, gathered in the small area from one packet or more.
-ghost use Rattle.std.specs.Prelude.{◌≡◌, ◌≤◌, None, Some};
+ghost use Rattle.std.specs.Prelude.{◌≡◌, ◌≤◌, IsTrue, None, Some};
 ghost use Rattle.tds_packet.specs.Payloads.{IsGoing};
 ghost use Rattle.tds_rows.specs.Cells.{ScalarBytes, ScalarLength, cell_start, shape};
-ghost use Rattle.tds_rows.specs.CellSteps.{CellGathered, IsGathering, IsScalarKind, LeavesGathering, longest_cell};
+ghost use Rattle.tds_rows.specs.CellSteps.{CellGathered, IsGathering, IsScalarKind, LeavesGathering, longest_cell, value_start};
 ghost use Rattle.tds_values.specs.declared.charset.Charset as sets;
 ghost use Rattle.tds_values.specs.Kind as kinds;
 
 use std::io::Read;
 use tds_columns::take_into;
 use tds_meter::Area;
-use tds_packet::{Fault, Payload, Place, Stop};
+use tds_packet::{Fault, Payload, Stop};
 use tds_values::Kind;
 
 /// The most bytes that a cell of a scalar kind has: a length and a decimal. A call that gathers such
@@ -19,23 +19,16 @@ pub const LONGEST_CELL: usize = 18;
 /// The most bytes that a value of a scalar kind has.
 const LONGEST_VALUE: usize = 17;
 
-// The stop of a value out of range, which begins after `place` bytes of the payload.
-pub(crate) fn bad_value(column: u16, place: u64) -> Stop
-    ensures { result ≡ record { fault = Fault.BadValue column; place = Place.Payload place } }
+// How many bytes the length before a value of a scalar kind has: none, or one.
+#[inline(always)]
+pub(crate) fn length_size(kind: &Kind) -> usize
+    requires valid { IsTrue (kinds.is_valid kind.now) }
+    ensures value { result ≡ value_start kind.now }
+    ensures most { result ≤ 1 }
 {
-    Stop {
-        fault: Fault::BadValue { column },
-        place: Place::Payload(place),
-    }
-}
-
-// The stop of a length that isn't allowed.
-fn bad_length(column: u16, place: u64) -> Stop
-    ensures { result ≡ record { fault = Fault.BadValueLength column; place = Place.Payload place } }
-{
-    Stop {
-        fault: Fault::BadValueLength { column },
-        place: Place::Payload(place),
+    match kind.fixed_length() {
+        Some(_) => 0,
+        None => 1,
     }
 }
 
@@ -78,7 +71,7 @@ fn gather_counted<R: Read>(
         return Ok(());
     }
     if !kind.length_allowed(n) {
-        return Err(bad_length(column, place));
+        return Err(Stop::in_payload(Fault::BadValueLength { column }, place));
     }
     take_into(payload, small, n as usize)
 }

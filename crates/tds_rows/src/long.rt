@@ -20,7 +20,6 @@ use tds_csv::{Joiner, Sink};
 use tds_packet::{Fault, Payload, Stop};
 use tds_values::Reach;
 
-pub(crate) mod chunks;
 pub(crate) mod data;
 pub(crate) mod lengths;
 

@@ -5,7 +5,8 @@ ghost use Rattle.tds_columns.specs.View.{columns_of};
 ghost use Rattle.tds_csv.specs.Sinks.{IsReady, IsWriting, LeavesSink};
 ghost use Rattle.tds_packet.specs.Payloads.{IsGoing, IsSound, LeavesPayload, buffered};
 ghost use Rattle.tds_packet.specs.Reads.{KeepsRoom};
-ghost use Rattle.tds_rows.specs.RowReading.{AwaitsBitmap, IsInRow, LeavesRows, NextRead, RowRead};
+ghost use Rattle.tds_rows.specs.MarkedRuns.{EndsLeft, MarkedPut, room_left};
+ghost use Rattle.tds_rows.specs.RowReading.{AwaitsBitmap, IsInRow, LeavesRows, NextRead, RowRead, StaysInRow};
 ghost use Rattle.tds_rows.specs.RowSteps.{RowPut, RowsRead, StopsAgain};
 ghost use Rattle.tds_rows.specs.Cells.{Cell};
 ghost use Rattle.tds_rows.specs.CellSteps.{LeavesSmall, longest_cell};
@@ -17,7 +18,7 @@ ghost use Rattle.tds_rows.specs.Tables.{Knows, KnowsSome};
 use crate::form::Form;
 use crate::reading::Rows;
 use crate::run::fields::put_null;
-use crate::run::nulls::is_null;
+use crate::run::nulls::{is_null, run_nulls};
 use crate::table::{Ahead, Table};
 use std::io::{Read, Write};
 use tds_columns::{Columns, take_into};
@@ -41,6 +42,32 @@ fn bitmap_size(columns: u16) -> usize
 }
 
 impl<'r, 't, 'p, 's, 'c, R: Read, W: Write> Rows<'r, 't, 'p, 's, 'c, R, W> {
+    // Takes the next cells of an NBCROW, as many as are NULL by their bit or whole in the packet, aren't in
+    // chunks and have room, puts their text where it waits, and returns the place after them. It reads nothing and
+    // delivers nothing.
+    fn put_nulls(&mut self, from: Ahead<'c>, bitmap: &[u8]) -> Ahead<'c>
+        requires in_row { IsInRow self.old }
+        requires bitmap { self.old.table.now.count ≤ 8 * length bitmap.now }
+        ensures stays { StaysInRow self.old self.new }
+        ensures ends { EndsLeft self.old.table.now (bit bitmap.now) result (buffered self.new.payload.now)
+            (room_left self.new.sink.now) }
+        ensures gives { MarkedPut R.remaining W.contents self.old.table.now (bit bitmap.now) from.entry
+            self.old.payload.now self.new.payload.now self.old.sink.now self.new.sink.now result }
+    {
+        let waiting = self.sink.waiting() as usize;
+        let room = self.sink.room() - 1;
+        let run = run_nulls(
+            self.table,
+            from,
+            bitmap,
+            self.payload.buffered(),
+            self.sink.spare(room),
+        );
+        self.payload.consume(run.used);
+        self.sink.commit(waiting, run.made);
+        run.ahead
+    }
+
     // Puts the next cell: NULL, or the cell that it reads.
     fn put_next(&mut self, at: Ahead<'c>, form: &Form, null: bool) -> Result<(), Stop>
         requires in_row { IsInRow self.old }

@@ -4,54 +4,22 @@ ghost use Rattle.tds_csv.specs.Conversion.{Conversion};
 ghost use Rattle.tds_packet.specs.Payloads.{IsGoing, IsSound, LeavesPayload};
 ghost use Rattle.tds_rows.specs.Cells.{Cell, LongShape, ShortLength, SpellsCell, cell_start, return_charset, shape};
 ghost use Rattle.tds_rows.specs.CellSteps.{IsScalarKind, LeavesGathering, LeavesSmall, longest_cell, scalar_size};
-ghost use Rattle.tds_rows.specs.PassedCells.{AnyData, CellPassed, DataPassed, IsGoodValue, IsRefusedValue, PiecePassed};
+ghost use Rattle.tds_rows.specs.PassedCells.{AnyData, CellPassed, IsGoodValue, IsRefusedValue};
 ghost use Rattle.tds_rows.specs.Successes.{ReadsOn};
 ghost use Rattle.tds_values.specs.Kind as kinds;
 ghost use Rattle.tds_values.specs.declared.kind.Kind.{Kind};
 
-use crate::gather::{bad_value, gather_scalar};
-use crate::long::chunks::pass_chunked;
+use crate::gather::{gather_scalar, length_size};
 use crate::long::lengths::read_short_length;
-use crate::run::buffered::length_size;
+use crate::passing::chunks::pass_chunked;
+use crate::passing::data::{RETURN_COLUMN, pass_data};
 use std::io::Read;
 use tds_meter::Area;
-use tds_packet::{Payload, Stop};
+use tds_packet::{Fault, Payload, Stop};
 use tds_values::{Kind, Reach, read_scalar};
 
-/// The column of the stops in the value of a RETURNVALUE.
-pub(crate) const RETURN_COLUMN: u16 = 65535;
-
-// Passes over the next bytes that are in the packet, at most `most`, or over the first byte of another packet.
-// Returns how many they are.
-fn pass_piece<R: Read>(payload: &mut Payload<R>, most: u64) -> Result<u64, Stop>
-    requires going { IsGoing payload.old }
-    requires some { 0 < most }
-    ensures payload { LeavesPayload payload.old payload.new result }
-    ensures some { IfOk result (λ n. (0 < n) × (n ≤ most)) }
-    ensures gives { PiecePassed R.remaining payload.old payload.new result }
-{
-    let held = payload.buffered().len() as u64;
-    if held == 0 {
-        payload.pass(1)?;
-        return Ok(1);
-    }
-    let n = held.min(most);
-    payload.consume(n as usize);
-    Ok(n)
-}
-
-// Passes over `n` bytes, and stops at the first that is missing.
-pub(crate) fn pass_data<R: Read>(payload: &mut Payload<R>, n: u64) -> Result<(), Stop>
-    requires going { IsGoing payload.old }
-    ensures payload { LeavesPayload payload.old payload.new result }
-    ensures gives { DataPassed R.remaining n payload.old payload.new result }
-{
-    let mut left = n;
-    while left > 0 {
-        left -= pass_piece(payload, left)?;
-    }
-    Ok(())
-}
+pub(crate) mod chunks;
+pub(crate) mod data;
 
 // Whether the value of a scalar cell is out of range; NULL isn't.
 fn is_refused(kind: &Kind, cell: &[u8]) -> bool
@@ -76,7 +44,10 @@ fn pass_scalar<R: Read>(payload: &mut Payload<R>, kind: &Kind, small: &mut Area)
     let place = payload.place();
     gather_scalar(payload, kind, RETURN_COLUMN, small)?;
     if is_refused(kind, small.bytes()) {
-        return Err(bad_value(RETURN_COLUMN, place + length_size(kind) as u64));
+        let fault = Fault::BadValue {
+            column: RETURN_COLUMN,
+        };
+        return Err(Stop::in_payload(fault, place + length_size(kind) as u64));
     }
     Ok(())
 }

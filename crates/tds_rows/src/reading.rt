@@ -8,9 +8,8 @@ ghost use Rattle.tds_rows.specs.Rows.{RowToken, token_byte};
 ghost use Rattle.tds_values.specs.Kind as kinds;
 
 use crate::form::{Form, Layout};
-use crate::gather::{bad_value, gather_scalar};
+use crate::gather::{gather_scalar, length_size};
 use crate::long::stream_long;
-use crate::run::buffered::length_size;
 use crate::run::fields::CELL_ROOM;
 use crate::run::write_alone;
 use crate::table::{Ahead, Table};
@@ -19,7 +18,7 @@ use tds_csv::{
     Content, Cp1252Joiner, HexJoiner, Joiner, Sink, Utf8Joiner, Utf16Joiner, joiners_suit,
 };
 use tds_meter::Area;
-use tds_packet::{Payload, Stop};
+use tds_packet::{Fault, Payload, Stop};
 use tds_values::Reach;
 
 /// The room for the text of a cell that no run took.
@@ -64,7 +63,8 @@ impl<'r, 't, 'p, 's, 'c, R: Read, W: Write> Rows<'r, 't, 'p, 's, 'c, R, W> {
         gather_scalar(self.payload, &form.kind, at.column, self.small)?;
         let mut text = [0u8; CELL_ROOM];
         let Some(cell) = write_alone(self.table, at, self.small.bytes(), &mut text) else {
-            return Err(bad_value(at.column, place + length_size(&form.kind) as u64));
+            let fault = Fault::BadValue { column: at.column };
+            return Err(Stop::in_payload(fault, place + length_size(&form.kind) as u64));
         };
         self.sink.put(&text[..cell.made])
     }

@@ -6,15 +6,16 @@ ghost use Rattle.tds_csv.specs.Sinks.{IsReady, IsWriting, LeavesSink};
 ghost use Rattle.tds_packet.specs.Payloads.{IsGoing, IsSound, LeavesPayload, buffered};
 ghost use Rattle.tds_rows.specs.Cells.{Cell};
 ghost use Rattle.tds_rows.specs.CellSteps.{LeavesSmall, longest_cell};
-ghost use Rattle.tds_rows.specs.RowReading.{IsInRow, LeavesRows, RowRead};
+ghost use Rattle.tds_rows.specs.RowReading.{IsInRow, LeavesRows, RowRead, StaysInRow};
 ghost use Rattle.tds_rows.specs.RowSteps.{RowPut, RowsRead, StopsAgain};
 ghost use Rattle.tds_rows.specs.Rows.{PlainRow, SpellsRow, row_start};
+ghost use Rattle.tds_rows.specs.Runs.{RowsPut};
 ghost use Rattle.tds_rows.specs.Successes.{BeginNoRow, SpellsRows, SucceedsOn};
 ghost use Rattle.tds_rows.specs.Tables.{Knows, KnowsSome};
 
 use crate::reading::Rows;
-use crate::run::ROW;
-use crate::table::Table;
+use crate::run::{ROW, RowsRun, run_rows};
+use crate::table::{Ahead, Table};
 use std::io::{Read, Write};
 use tds_columns::Columns;
 use tds_csv::Sink;
@@ -23,6 +24,29 @@ use tds_packet::{Payload, Stop};
 use tds_values::Charset;
 
 impl<'r, 't, 'p, 's, 'c, R: Read, W: Write> Rows<'r, 't, 'p, 's, 'c, R, W> {
+    // Reads the next cells, as many as are whole in the packet, aren't in chunks and have room, over the
+    // ends of rows, and puts their text where it waits. It reads nothing and delivers nothing.
+    fn put_run(&mut self, from: Ahead<'c>) -> RowsRun<'c>
+        requires in_row { IsInRow self.old }
+        requires some { 0 < self.old.table.now.count }
+        ensures stays { StaysInRow self.old self.new }
+        ensures few { self.old.payload.now.place + result.rows ≤ self.new.payload.now.place }
+        ensures gives { RowsPut R.remaining W.contents self.old.table.now from.entry
+            self.old.payload.now self.new.payload.now self.old.sink.now self.new.sink.now result }
+    {
+        let waiting = self.sink.waiting() as usize;
+        let room = self.sink.room() - 1;
+        let run = run_rows(
+            self.table,
+            from,
+            self.payload.buffered(),
+            self.sink.spare(room),
+        );
+        self.payload.consume(run.used);
+        self.sink.commit(waiting, run.made);
+        run
+    }
+
     // Reads a row cell after cell, and puts its line.
     fn row(&mut self) -> Result<(), Stop>
         requires { IsInRow self.old }

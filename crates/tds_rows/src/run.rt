@@ -1,17 +1,14 @@
 // A run of cells: as many as are whole in the packet and have room, over the ends of rows.
 ghost use Rattle.std.specs.Prelude.{◌≡◌, ◌+◌, ◌-◌, ◌<◌, ◌≤◌, Bool, drop, length, IfSome};
-ghost use Rattle.tds_rows.specs.RowReading.{IsInRow, StaysInRow};
 ghost use Rattle.tds_rows.specs.declared.run.fields.TheConstants.{CELL_ROOM};
-ghost use Rattle.tds_rows.specs.Runs.{AloneWritten, CellsWritten, OneWritten, RowsPut, RowsWritten, RunEnds, StaysWithin};
+ghost use Rattle.tds_rows.specs.Runs.{AloneWritten, CellsWritten, OneWritten, RowsWritten, RunEnds, StaysWithin};
 ghost use Rattle.tds_rows.specs.Tables.{IsNextKind};
 ghost use Rattle.tds_values.specs.declared.kind.Kind.{Kind};
 
-use crate::reading::Rows;
-use crate::run::buffered::{INT4_SIZE, Written, has_int4};
-use crate::run::fields::{INT4_ROOM, write_int4_field};
+use crate::run::buffered::{INT4_SIZE, has_int4};
+use crate::run::fields::{INT4_ROOM, Written, write_int4_field};
 use crate::run::forms::run_forms;
 use crate::table::{Ahead, Table};
-use std::io::{Read, Write};
 
 pub(crate) mod buffered;
 pub(crate) mod fields;
@@ -39,8 +36,8 @@ pub(crate) struct RowsRun<'a> {
     pub(crate) ahead: Ahead<'a>,
 }
 
-// Writes cell after cell of a row, as far as they are whole in these bytes, aren't in chunks and have room, up to
-// the next one that may be a whole number of four bytes, or the column at which it ends.
+// Writes cell after cell of a row, as far as they are whole in these bytes, aren't in chunks and have room, up to the
+// column at which it ends.
 #[inline(never)]
 pub(crate) fn run_cells<'a>(
     table: &Table<'a>,
@@ -100,8 +97,8 @@ pub(crate) fn write_alone(table: &Table, at: Ahead, bytes: &[u8], to: &mut [u8])
 }
 
 // Writes cell after cell, as far as they are whole in these bytes, aren't in chunks and have room, over the
-// ends of rows: after a whole row it goes on if the byte of the next ROW follows. Whole numbers of four bytes,
-// the most frequent cells, are written here.
+// ends of rows: after a whole row it goes on if the byte of the next ROW follows. Whole numbers of four bytes at the
+// front of a row, the most frequent cells, are written here.
 #[inline(never)]
 pub(crate) fn run_rows<'a>(
     table: &Table<'a>,
@@ -154,30 +151,5 @@ pub(crate) fn run_rows<'a>(
         made,
         rows,
         ahead,
-    }
-}
-
-impl<'r, 't, 'p, 's, 'c, R: Read, W: Write> Rows<'r, 't, 'p, 's, 'c, R, W> {
-    /// Reads the next cells, as many as are whole in the packet, aren't in chunks and have room, over the
-    /// ends of rows, and puts their text where it waits. It reads nothing and delivers nothing.
-    pub(crate) fn put_run(&mut self, from: Ahead<'c>) -> RowsRun<'c>
-        requires in_row { IsInRow self.old }
-        requires some { 0 < self.old.table.now.count }
-        ensures stays { StaysInRow self.old self.new }
-        ensures few { self.old.payload.now.place + result.rows ≤ self.new.payload.now.place }
-        ensures gives { RowsPut R.remaining W.contents self.old.table.now from.entry
-            self.old.payload.now self.new.payload.now self.old.sink.now self.new.sink.now result }
-    {
-        let waiting = self.sink.waiting() as usize;
-        let room = self.sink.room() - 1;
-        let run = run_rows(
-            self.table,
-            from,
-            self.payload.buffered(),
-            self.sink.spare(room),
-        );
-        self.payload.consume(run.used);
-        self.sink.commit(waiting, run.made);
-        run
     }
 }

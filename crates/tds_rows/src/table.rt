@@ -30,8 +30,8 @@ pub(crate) struct Table<'a> {
 /// the table doesn't know.
 #[derive(Clone, Copy)]
 pub(crate) struct Ahead<'a> {
-    pub(crate) column: u16,
     walk: Walk<'a>,
+    pub(crate) column: u16,
 }
 
 impl<'a> Table<'a> {

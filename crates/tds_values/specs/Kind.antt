@@ -11,7 +11,7 @@ is_scalar (kinds.Narrow reach) = false
 is_scalar (kinds.Wide reach) = false
 is_scalar _ = true
 
--- how many bytes each value has, where no length stands before it
+-- how many bytes each value has if no length precedes it
 abbrev pub fixed_length : Kind → Option ℕ
 fixed_length kinds.Int1 = Some 1
 fixed_length kinds.Int2 = Some 2

@@ -11,7 +11,7 @@ integer_of n bytes =
     else if n == 4 then cast_signed w32 (little_number 4 bytes)
     else cast_signed w64 (little_number 8 bytes)
 
--- the amount of money in n bytes: of 8 the high half stands first, each half with its low byte first
+-- the amount of money in n bytes: of 8 the high half comes first, each half with its low byte first
 abbrev pub money_of : ℕ → List ℕ → ℤ
 money_of n bytes =
     if n == 4 then cast_signed w32 (little_number 4 bytes)

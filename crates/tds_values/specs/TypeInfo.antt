@@ -78,12 +78,12 @@ named_kind b rest =
 abbrev pub valid_kind : Kind → Option Kind
 valid_kind kind = if is_valid kind then Some kind else None
 
--- the same bytes, where they are all that the type byte needs
+-- the same bytes, if they are all that the type byte needs
 abbrev pub kind_after : ℕ → List ℕ → Option ℕ → Option Kind
 kind_after b rest None = None
 kind_after b rest (Some n) = if length rest == n then option_and_then valid_kind (named_kind b rest) else None
 
--- the kind that a TYPE_INFO describes, and none where the bytes are no TYPE_INFO
+-- the kind that a TYPE_INFO describes, and none if the bytes are no TYPE_INFO
 abbrev pub kind_of : List ℕ → Option Kind
 kind_of [] = None
 kind_of (b ∷ rest) = kind_after b rest (rest_length b)

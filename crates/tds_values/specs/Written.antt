@@ -12,7 +12,7 @@ IsText value n bytes = (take n bytes ≡ text_of value) × (n ≤ 41)
 abbrev pub IsTextOf : Result ScalarValue ValueFault → ℕ → List ℕ → Type 0
 IsTextOf read n bytes = (value : ScalarValue) × ((read ≡ Ok value) × IsText value n bytes)
 
--- what was read is written, or its fault is answered
+-- what was read is written, or its fault is returned
 abbrev pub IsWritten : Result ScalarValue ValueFault → Result ℕ ValueFault → List ℕ → Type 0
 IsWritten (Ok value) (Ok n) bytes = IsText value n bytes
 IsWritten (Err fault) (Err answer) bytes = answer ≡ fault

@@ -1,4 +1,4 @@
-// Digits and other bytes, written to a slice from a place on. Each call answers the place after what it wrote.
+// Digits and other bytes, written to a slice from a place on. Each call returns the place after what it wrote.
 ghost use Rattle.std.specs.Prelude.{◌≡◌, ◌+◌, ◌-◌, ◌<◌, ◌≤◌, ◌^◌, ◌/◌, ◌*◌, ◌%◌, [], ◌∷◌, ◌++◌, ◌⊎◌, if◌then◌else◌, take, length, decimal};
 ghost use Rattle.tds_values.specs.ScalarText.{last_digits, minus_if};
 ghost use Rattle.byteorder.specs.Endian.{little_bytes, little_number};
@@ -32,7 +32,7 @@ pub(crate) fn put_byte(to: &mut [u8], at: usize, byte: u8) -> usize
     at + 1
 }
 
-// One byte where it is kept: it is written in any case, and what comes next is written over it where it isn't.
+// One byte, if it is kept: it is written in any case, and what comes next is written over it if it isn't.
 #[inline(always)]
 fn put_kept(to: &mut [u8], at: usize, byte: u8, kept: bool) -> usize
     requires { at < length to.old }
@@ -43,7 +43,7 @@ fn put_kept(to: &mut [u8], at: usize, byte: u8, kept: bool) -> usize
     at + kept as usize
 }
 
-// The sign, where a number is negative.
+// The sign, if a number is negative.
 #[inline(always)]
 pub(crate) fn put_minus(to: &mut [u8], at: usize, negative: bool) -> usize
     requires { at < length to.old }

@@ -33,13 +33,13 @@ pub enum Kind {
     DateTime4,
     /// Days since 1900-01-01 and 1/300 seconds, 4 bytes each.
     DateTime8,
-    /// A whole number in this many bytes, 1, 2, 4 or 8, after its length.
+    /// A whole number in this number of bytes, 1, 2, 4 or 8, after its length.
     IntN(u8),
     /// A bit after its length.
     BitN,
-    /// An amount of money in this many bytes, 4 or 8, after its length.
+    /// An amount of money in this number of bytes, 4 or 8, after its length.
     MoneyN(u8),
-    /// A date and a time in this many bytes, 4 or 8, after its length.
+    /// A date and a time in this number of bytes, 4 or 8, after its length.
     DateTimeN(u8),
     /// A GUID after its length.
     Guid,
@@ -115,7 +115,7 @@ impl Kind {
         !matches!(self, Kind::Binary(_) | Kind::Narrow(_) | Kind::Wide(_))
     }
 
-    /// How many bytes each value has, where no length precedes it.
+    /// How many bytes each value has, if no length precedes it.
     pub fn fixed_length(&self) -> Option<u8>
         requires { IsTrue (spec.is_valid self.now) }
         ensures { result ≡ spec.fixed_length self.now }

@@ -58,7 +58,7 @@ pub(crate) fn is_day_since_1900(days: i32) -> bool
     -(DAY_OF_1900 as i32) <= days && days <= LAST_DAY as i32 - DAY_OF_1900 as i32
 }
 
-// The local seconds since day 0 of a time and a day in UTC, where the calendar has them.
+// The local seconds since day 0 of a time and a day in UTC, if the calendar has them.
 #[inline(always)]
 pub(crate) fn local_seconds(seconds: u64, day: u32, offset: i16) -> Option<u64>
     requires time { seconds < SECONDS_A_DAY }

@@ -19,7 +19,7 @@ use uuid::Uuid;
 /// Why bytes are no value of a kind.
 #[derive(Clone, Copy, Debug, PartialEq, Eq)]
 pub enum ValueFault {
-    /// The kind has no value of that many bytes.
+    /// The kind has no value of that number of bytes.
     Length,
     /// The length is allowed, and the value is out of range.
     Value,
@@ -266,8 +266,8 @@ fn guid_of(bytes: &[u8]) -> ScalarValue
     }
 }
 
-/// The value that bytes of a scalar kind spell, without their length. The fault is `Length` where the kind has no value
-/// of that many bytes, and `Value` where it has, and these spell one out of range.
+/// The value that bytes of a scalar kind spell, without their length. The fault is `Length` if the kind has no value
+/// of that number of bytes, and `Value` if it has and these spell one out of range.
 pub fn read_scalar(kind: &Kind, bytes: &[u8]) -> Result<Scalar, ValueFault>
     requires valid { IsTrue (kinds.is_valid kind.now) }
     requires is_scalar { IsTrue (kinds.is_scalar kind.now) }

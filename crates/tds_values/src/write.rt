@@ -148,7 +148,7 @@ fn offset_at(t: usize, bytes: &[u8]) -> i16
     LittleEndian::read_i16(&bytes[t..])
 }
 
-// A time and a day in UTC as the local time, where the calendar has it.
+// A time and a day in UTC as the local time, if the calendar has it.
 #[inline(always)]
 fn write_local(
     scale: u8,
@@ -318,7 +318,7 @@ fn write_any(kind: &Kind, bytes: &[u8], to: &mut [u8]) -> Result<usize, ValueFau
 }
 
 /// Writes the text of the value that `bytes` of a scalar kind spell, without their length, to the front of
-/// `to`, and answers how many bytes it has, at most 41; or the fault, where they spell none. What `to` holds
+/// `to`, and returns how many bytes it has, at most 41; or the fault, if they spell none. What `to` holds
 /// after the text, and after a fault, isn't fixed.
 #[inline(always)]
 pub fn write_scalar(kind: &Kind, bytes: &[u8], to: &mut [u8]) -> Result<usize, ValueFault>

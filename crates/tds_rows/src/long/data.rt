@@ -9,7 +9,7 @@ ghost use Rattle.tds_rows.specs.LongReading.{IsJoining, LeavesJoining, IsFurther
 
 use std::io::{Read, Write};
 use tds_csv::{JoinFault, Joiner, Sink, write_comma, write_line_end};
-use tds_packet::{Fault, Payload, Place, Stop};
+use tds_packet::{Fault, Payload, Stop};
 
 // The most bytes that a piece is asked for.
 const LONGEST_PIECE: u64 = 65_536;
@@ -25,10 +25,7 @@ fn join_stop(fault: JoinFault, column: u16, place: u64) -> Stop
         JoinFault::BadText(good) => good as u64,
         JoinFault::Odd => 0,
     };
-    Stop {
-        fault: Fault::BadText { column },
-        place: Place::Payload(place + good),
-    }
+    Stop::in_payload(Fault::BadText { column }, place + good)
 }
 
 /// Puts the comma before a long value, and what comes before its text.

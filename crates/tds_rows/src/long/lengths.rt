@@ -5,7 +5,7 @@ ghost use Rattle.tds_rows.specs.LongCells.{LengthRead, NumberRead, chunk_length_
 
 use byteorder::{ByteOrder, LittleEndian};
 use std::io::Read;
-use tds_packet::{Fault, Payload, Place, Stop};
+use tds_packet::{Fault, Payload, Stop};
 
 /// The length that stands for NULL in a short value.
 pub(crate) const NULL_LENGTH: u64 = 0xFFFF;
@@ -29,16 +29,6 @@ fn read_number<R: Read>(payload: &mut Payload<R>, size: usize) -> Result<u64, St
     Ok(LittleEndian::read_uint(&bytes[..size], size))
 }
 
-// The stop of a length, a total or a terminator that began after `place` bytes of the payload.
-fn stop_at(fault: Fault, place: u64) -> Stop
-    ensures { result ≡ record { fault = fault; place = Place.Payload place } }
-{
-    Stop {
-        fault,
-        place: Place::Payload(place),
-    }
-}
-
 /// Reads the length of a short value, whose data has units of `unit` bytes. `None` if it is NULL.
 pub(crate) fn read_short_length<R: Read>(
     payload: &mut Payload<R>,
@@ -56,7 +46,7 @@ pub(crate) fn read_short_length<R: Read>(
         return Ok(None);
     }
     if n % unit != 0 {
-        return Err(stop_at(Fault::OddText { column }, place));
+        return Err(Stop::in_payload(Fault::OddText { column }, place));
     }
     Ok(Some(n))
 }
@@ -82,7 +72,7 @@ pub(crate) fn read_total<R: Read>(
         return Ok(Some(None));
     }
     if n % unit != 0 {
-        return Err(stop_at(Fault::OddText { column }, place));
+        return Err(Stop::in_payload(Fault::OddText { column }, place));
     }
     Ok(Some(Some(n)))
 }
@@ -130,7 +120,7 @@ pub(crate) fn read_chunk_length<R: Read>(
     let place = payload.place();
     let n = read_number(payload, 4)?;
     match chunk_length_fault(column, unit, total, sum, n) {
-        Some(fault) => Err(stop_at(fault, place)),
+        Some(fault) => Err(Stop::in_payload(fault, place)),
         None => Ok(n),
     }
 }

@@ -1,34 +1,13 @@
 // A cell of a scalar kind whose bytes are together.
-ghost use Rattle.std.specs.Prelude.{◌≡◌, ◌+◌, ◌≤◌, ◌<◌, ◌⊎◌, false, true, length, IsTrue, IfSome, MatchOption};
-ghost use Rattle.tds_rows.specs.CellSteps.{CellWritten, HasInt4, value_start, whole_size};
+ghost use Rattle.std.specs.Prelude.{◌≡◌, ◌+◌, ◌≤◌, ◌<◌, ◌⊎◌, false, true, length, IfSome, MatchOption};
+ghost use Rattle.tds_rows.specs.CellSteps.{CellWritten, HasInt4, whole_size};
 ghost use Rattle.tds_rows.specs.Layouts.{HasNoValue, HasValueAt, IsLaidOut};
-ghost use Rattle.tds_values.specs.Kind as kinds;
 
 use crate::form::{Form, Layout};
-use crate::run::fields::VALUE_ROOM;
+use crate::run::fields::{VALUE_ROOM, Written};
 use crate::run::short::write_short;
 use tds_csv::write_null;
-use tds_values::{Charset, Kind, write_scalar};
-
-// How many bytes a cell has, and how many its text in its line.
-#[derive(Clone, Copy)]
-pub(crate) struct Written {
-    pub(crate) used: usize,
-    pub(crate) made: usize,
-}
-
-// How many bytes the length before a value of a scalar kind has: none, or one.
-#[inline(always)]
-pub(crate) fn length_size(kind: &Kind) -> usize
-    requires valid { IsTrue (kinds.is_valid kind.now) }
-    ensures value { result ≡ value_start kind.now }
-    ensures most { result ≤ 1 }
-{
-    match kind.fixed_length() {
-        Some(_) => 0,
-        None => 1,
-    }
-}
+use tds_values::{Charset, write_scalar};
 
 // Where the value of a scalar cell is in these bytes, and how many it has: after its length, unless each value of
 // its kind has as many. `None` if no length is there, or the value is a long one.

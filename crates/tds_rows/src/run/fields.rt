@@ -1,4 +1,4 @@
-// The text of a scalar value in its line.
+// The text of a scalar value in its line, and what the field of a cell used and made.
 ghost use Rattle.std.specs.Prelude.{◌≡◌, ◌≤◌, length, take};
 ghost use Rattle.tds_csv.specs.Quoting.{in_line, null_field};
 ghost use Rattle.tds_csv.specs.Sinks.{IsReady, PutsPiece};
@@ -9,6 +9,13 @@ use std::io::Write;
 use tds_csv::{NULL_ROOM, Sink, write_comma, write_line_end, write_null};
 use tds_packet::Stop;
 use tds_values::write_int4;
+
+// How many bytes a cell has, and how many its text in its line.
+#[derive(Clone, Copy)]
+pub(crate) struct Written {
+    pub(crate) used: usize,
+    pub(crate) made: usize,
+}
 
 /// How many bytes the text of a scalar in its line may want, and a few to spare.
 pub(crate) const CELL_ROOM: usize = 66;

@@ -3,7 +3,7 @@ ghost use Rattle.std.specs.Prelude.{◌≡◌, ◌==◌, ◌&&◌, ◌<◌, ◌�
 ghost use Rattle.tds_rows.specs.FormRuns.{FieldsWritten, FirstLeft, FirstUsed, FirstWritten, FormsWritten, IsWithin};
 ghost use Rattle.tds_rows.specs.Forms.{AreLaidOut};
 
-use crate::form::{Form, Layout};
+use crate::form::Form;
 use crate::run::buffered::write_cell;
 use crate::run::fields::{CELL_ROOM, VALUE_ROOM};
 use tds_csv::{COMMA, write_comma, write_line_end};
@@ -48,9 +48,6 @@ fn write_fields(
     let mut made = write_comma(column, to);
     while cells < forms.len() && to.len() - made >= VALUE_ROOM {
         let form = &forms[cells];
-        if cells > 0 && matches!(form.layout, Layout::Int4 | Layout::CountedInt4) {
-            break;
-        }
         let Some(written) = write_cell(form, charset, &bytes[used..], &mut to[made..]) else {
             break;
         };
@@ -63,9 +60,9 @@ fn write_fields(
     FormsRun { cells, used, made }
 }
 
-/// Writes the cells of the next columns of a row, after its first `column` ones, one after another: as far as
-/// they are whole in these bytes, aren't in chunks and have room, and after the first one up to the next that may
-/// be a whole number of four bytes. `ends` says that the last of these columns is the row's last.
+/// Writes the cells of the next columns of a row, after its first `column` ones, one after another, as far as they
+/// are whole in these bytes, aren't in chunks and have room. `ends` says that the last of these columns is the row's
+/// last.
 #[inline(always)]
 pub(crate) fn run_forms(
     forms: &[Form],

@@ -1,16 +1,12 @@
 // A run over the cells of an NBCROW: as many as are NULL by their bit or whole in the packet, and have room.
 ghost use Rattle.std.specs.Prelude.{◌≡◌, ◌-◌, ◌*◌, ◌<◌, ◌≤◌, drop, length};
-ghost use Rattle.tds_packet.specs.Payloads.{buffered};
-ghost use Rattle.tds_rows.specs.MarkedRuns.{AreClear, EndsClear, EndsLeft, MarkedPut, MarkedWritten, room_left};
-ghost use Rattle.tds_rows.specs.RowReading.{IsInRow, StaysInRow};
+ghost use Rattle.tds_rows.specs.MarkedRuns.{AreClear, EndsClear, EndsLeft, MarkedWritten};
 ghost use Rattle.tds_rows.specs.Rows.{bit};
 
-use crate::reading::Rows;
 use crate::run::buffered::{INT4_SIZE, has_int4};
 use crate::run::fields::{CELL_ROOM, write_int4_field};
 use crate::run::{CellRun, run_cells};
 use crate::table::{Ahead, Table};
-use std::io::{Read, Write};
 use tds_csv::write_null;
 
 // Whether the bit of a column is set. The lowest bit of the first byte is the bit of column 0.
@@ -85,32 +81,4 @@ pub(crate) fn run_nulls<'a>(
         ahead = cells.ahead;
     }
     CellRun { used, made, ahead }
-}
-
-impl<'r, 't, 'p, 's, 'c, R: Read, W: Write> Rows<'r, 't, 'p, 's, 'c, R, W> {
-    /// Takes the next cells of an NBCROW, as many as are NULL by their bit or whole in the packet, aren't in
-    /// chunks and have room, puts their text where it waits, and returns the place after them. It reads nothing and
-    /// delivers nothing.
-    pub(crate) fn put_nulls(&mut self, from: Ahead<'c>, bitmap: &[u8]) -> Ahead<'c>
-        requires in_row { IsInRow self.old }
-        requires bitmap { self.old.table.now.count ≤ 8 * length bitmap.now }
-        ensures stays { StaysInRow self.old self.new }
-        ensures ends { EndsLeft self.old.table.now (bit bitmap.now) result (buffered self.new.payload.now)
-            (room_left self.new.sink.now) }
-        ensures gives { MarkedPut R.remaining W.contents self.old.table.now (bit bitmap.now) from.entry
-            self.old.payload.now self.new.payload.now self.old.sink.now self.new.sink.now result }
-    {
-        let waiting = self.sink.waiting() as usize;
-        let room = self.sink.room() - 1;
-        let run = run_nulls(
-            self.table,
-            from,
-            bitmap,
-            self.payload.buffered(),
-            self.sink.spare(room),
-        );
-        self.payload.consume(run.used);
-        self.sink.commit(waiting, run.made);
-        run.ahead
-    }
 }

@@ -4,13 +4,12 @@ ghost use Rattle.tds_rows.specs.ShortCells.{ShortWritten, short_size};
 ghost use Rattle.tds_csv.specs.Fields.{conversion_of};
 
 use crate::long::lengths::NULL_LENGTH;
-use crate::run::buffered::Written;
-use crate::run::fields::VALUE_ROOM;
+use crate::run::fields::{VALUE_ROOM, Written};
 use tds_csv::{Content, field_room, write_field, write_null};
 
 /// Writes the field of a short value of this content, whose cell is at the front of these bytes. `None` if it isn't
 /// whole, or is no text, or if there isn't the room that its text may need. Two bytes of room are left after it.
-#[inline(never)]
+#[inline(always)]
 pub(crate) fn write_short(content: Content, bytes: &[u8], to: &mut [u8]) -> Option<Written>
     requires room { VALUE_ROOM ≤ length to.old }
     ensures used { IfSome result (λ written. written.used ≤ length bytes.now) }

@@ -23,4 +23,4 @@ returns-in-None-clause-gives g c =
 pub returns-in-Some-clause-gives : goal.returns-in-Some-clause-gives
 returns-in-Some-clause-gives g c =
     let why : count_fault c.args.area.now.room c.read_u16-count.result ≡ Some c.in-Some.fault = rw (← (c.room.ensures ∙ c.in_ok-take_into.ensures.area.room)) (search rules) in
-    (search rules, search rules, λ _. rw c.place-place.ensures (count_refused {count = c.read_u16-count.result} c.in_ok-take_into.ensures.gives c.requires.empty (search rules) why c.clear-in-Some.ensures.value))
+    (search rules, search rules, λ _. rw (c.in_payload.ensures, c.place-place.ensures) (count_refused {count = c.read_u16-count.result} c.in_ok-take_into.ensures.gives c.requires.empty (search rules) why c.clear-in-Some.ensures.value))

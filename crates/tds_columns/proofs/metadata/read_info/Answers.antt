@@ -18,4 +18,4 @@ returns-in-None-clause-gives g c = λ count columns number.
     let t = c.in_ok-take_into.ensures.gives in
     let same = element_at t c.bytes.result.now c.len-start.result c.bytes.ensures.value c.len-start.ensures.value in
     let none : kind_of (c.args.byte ∷ t.element) ≡ None = rw same at (sym c.kind_of.ensures ∙ c.in-None.is) in
-    rw c.place-info_place.ensures (description_refused t c.requires.follows.some (rw c.requires.follows.known) (rw (none, number)) refl (shrunk _ t.element _ c.truncate.new.self c.len-start.result _ t.stands t.whole c.len-start.ensures.value c.truncate.ensures))
+    rw (c.in_payload.ensures, c.place-info_place.ensures) (description_refused t c.requires.follows.some (rw c.requires.follows.known) (rw (none, number)) refl (shrunk _ t.element _ c.truncate.new.self c.len-start.result _ t.stands t.whole c.len-start.ensures.value c.truncate.ensures))

@@ -15,7 +15,7 @@ pub returns-in-Some-clause-gives : goal.returns-in-Some-clause-gives
 returns-in-Some-clause-gives g c = λ columns kind number.
     let t = c.in_ok-take_into.ensures.gives in
     let w = judged t columns kind _ c.args.count _ _ _ _ _ number c.bytes.ensures.value c.len-start.ensures.value (c.room.ensures ∙ c.in_ok-take_into.ensures.area.room) c.from-size.ensures c.from-later.ensures in
-    rw c.place-place.ensures (description_refused t (omega arith) refl (w.1 ∙ sym c.too_long.ensures ∙ c.in-Some.is) refl (shrunk _ t.element _ c.truncate.new.self c.len-start.result _ t.stands t.whole c.len-start.ensures.value c.truncate.ensures))
+    rw (c.in_payload.ensures, c.place-place.ensures) (description_refused t (omega arith) refl (w.1 ∙ sym c.too_long.ensures ∙ c.in-Some.is) refl (shrunk _ t.element _ c.truncate.new.self c.len-start.result _ t.stands t.whole c.len-start.ensures.value c.truncate.ensures))
 
 pub returns-then-size-eq0-clause-gives : goal.returns-then-size-eq0-clause-gives
 returns-then-size-eq0-clause-gives g c = λ columns kind number.

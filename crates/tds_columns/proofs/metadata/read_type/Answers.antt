@@ -19,7 +19,7 @@ returns-in-Err-clause-gives g c = λ columns number.
     let t = c.in_ok-take_into.ensures.gives in
     let byte = byte_at t c.bytes.result.now (c.len-start.result + 6) 6 c.bytes.ensures.value (rw c.len-start.ensures.value) in
     let first = rw (byte, c.len-start.ensures.value, c.room.ensures ∙ c.in_ok-take_into.ensures.area.room) at c.in-Err.ensures in
-    rw c.place-place.ensures (description_refused t (omega arith) refl (rw number first) refl (shrunk _ t.element _ c.truncate.new.self c.len-start.result _ t.stands t.whole c.len-start.ensures.value c.truncate.ensures))
+    rw (c.in_payload.ensures, c.place-place.ensures) (description_refused t (omega arith) refl (rw number first) refl (shrunk _ t.element _ c.truncate.new.self c.len-start.result _ t.stands t.whole c.len-start.ensures.value c.truncate.ensures))
 
 pub returns-then-rest-eq0-clause-gives : goal.returns-then-rest-eq0-clause-gives
 returns-then-rest-eq0-clause-gives g c = λ columns number.

@@ -6,7 +6,7 @@ use Rattle.tds_columns.proofs.returned.read_type_info.Goals as goal
 pub returns-in-Err-clause-gives : goal.returns-in-Err-clause-gives
 returns-in-Err-clause-gives g c = λ before taken.
     let first = rw c.bytes.ensures.value at c.in-Err.ensures.gives in
-    rw c.place-place.ensures (record { at = TypeHead; stops = refused_at_once returned_type TypeHead _ _ _ c.args.small.now.bytes _ (omega (arith, c.requires.head.eight)) c.requires.head.eight first (rw c.requires.head.eight taken.0) taken.1 })
+    rw (c.in_payload.ensures, c.place-place.ensures) (record { at = TypeHead; stops = refused_at_once returned_type TypeHead _ _ _ c.args.small.now.bytes _ (omega (arith, c.requires.head.eight)) c.requires.head.eight first (rw c.requires.head.eight taken.0) taken.1 })
 
 pub returns-in_err-take_into-clause-gives : goal.returns-in_err-take_into-clause-gives
 returns-in_err-take_into-clause-gives g c = λ before taken.
@@ -39,4 +39,4 @@ returns-in-None-clause-gives g c = λ before taken.
     let same = element_at t c.bytes-2.result.now 8 c.bytes-2.ensures.value (sym c.requires.head.eight) in
     let none : kind_of (slice_index c.args.small.now.bytes 7 ∷ t.element) ≡ None = rw (same, c.bytes.ensures.value) at (sym c.kind_of.ensures ∙ c.in-None.is) in
     let some = no_kind (slice_index c.args.small.now.bytes 7) t.element known t.whole none in
-    rw c.place-place.ensures (stops_after_steps c.args.small.now.bytes taken c.requires.head.eight c.in-Ok.rest known some c.requires.head.place (refused_into t (omega (arith, some)) (rw known) (rw none)))
+    rw (c.in_payload-in-None.ensures, c.place-place.ensures) (stops_after_steps c.args.small.now.bytes taken c.requires.head.eight c.in-Ok.rest known some c.requires.head.place (refused_into t (omega (arith, some)) (rw known) (rw none)))

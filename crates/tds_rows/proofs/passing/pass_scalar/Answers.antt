@@ -13,7 +13,7 @@ pub returns-then-is_refused-clause-gives : goal.returns-then-is_refused-clause-g
 returns-then-is_refused-clause-gives g c =
     let bad = c.is_refused.ensures.refused c.if-is_refused.true in
     let x = rw (sym c.bytes.ensures.value) at (c.in_ok-gather_scalar.ensures.gives return_charset) in
-    rw (c.bad_value.ensures, c.place-place.ensures, c.length_size.ensures.value) (scalar_stops return_charset _ _ _ _ _ (x.refused bad.0 bad.1))
+    rw (c.in_payload.ensures, c.place-place.ensures, c.length_size.ensures.value) (scalar_stops return_charset _ _ _ _ _ (x.refused bad.0 bad.1))
 
 pub returns-clause-gives : goal.returns-clause-gives
 returns-clause-gives g c =

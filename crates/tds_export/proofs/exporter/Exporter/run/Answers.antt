@@ -46,7 +46,7 @@ returns-then-not-self-clause-gives g c = λ tracks empty noted.
     let x = runs_same y.place (ap (held g.W.Write.contents) y.sink) y.progress y.area y.notice first in
     let open_end : c.token.new.self.progress.is_final ≡ false = search rules in
     let sink = c.in_ok-token.ensures.leaves.running.sink in
-    rw c.place.ensures (inl (stops_end _ _ x.0 y.takes y.over sink.writing sink.ready.2 open_end))
+    rw (c.in_payload.ensures, c.place-place.ensures) (inl (stops_end _ _ x.0 y.takes y.over sink.writing sink.ready.2 open_end))
 
 pub returns-in_err-finish-clause-gives : goal.returns-in_err-finish-clause-gives
 returns-in_err-finish-clause-gives g c = λ tracks empty noted.

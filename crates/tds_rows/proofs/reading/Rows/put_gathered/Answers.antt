@@ -12,7 +12,7 @@ pub returns-in_default-clause-gives : goal.returns-in_default-clause-gives
 returns-in_default-clause-gives g c = λ last next.
     let x = rw (sym c.bytes.ensures.value) at (c.in_ok-gather_scalar.ensures.gives c.args.self.now.table.now.charset) in
     let stops = left_stalls _ _ _ _ _ _ _ _ x (scalar_left _ _ _ _ c.requires.scalar (c.in_default.ensures.gives c.args.form.now.kind last next)) in
-    rw (c.requires.in_row.sink.writing, c.bad_value.ensures, c.place-place.ensures, c.length_size.ensures.value) (at_once_stalls _ _ _ _ _ _ _ _ _ c.requires.in_row.sink.ready.2 stops)
+    rw (c.requires.in_row.sink.writing, c.in_payload.ensures, c.place-place.ensures, c.length_size.ensures.value) (at_once_stalls _ _ _ _ _ _ _ _ _ c.requires.in_row.sink.ready.2 stops)
 
 pub returns-clause-gives : goal.returns-clause-gives
 returns-clause-gives g c = λ last next.

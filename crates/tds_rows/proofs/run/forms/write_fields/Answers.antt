@@ -40,8 +40,8 @@ loop-cells-preserved c =
       writes = fields_more c.args.charset forms c.args.column bytes l.to text _ l.cells l.used written.used l.made written.made form l.invariant.made some c.loop-cells-test.true wrote l.invariant.writes;
     }
 
-pub returns-in_default-write_cell-clause-ends : goal.returns-in_default-write_cell-clause-ends
-returns-in_default-write_cell-clause-ends c = λ first form others are.
+pub returns-in_default-clause-ends : goal.returns-in_default-clause-ends
+returns-in_default-clause-ends c = λ first form others are.
     let l = c.loop-cells in
     let bytes = c.args.bytes.now in
     let begun = l.invariant.begun first in
@@ -51,10 +51,10 @@ returns-in_default-write_cell-clause-ends c = λ first form others are.
     let there : d ≡ get_or c.args.forms.now l.cells d = search (arith, rules) in
     let form_is : d ≡ form = there ∙ ap (λ (n : ℕ). get_or c.args.forms.now n d) first ∙ ap (λ (f : List Form). get_or f 0 d) are in
     let bytes_are : (take (length bytes - l.used) (drop l.used bytes)) ≡ bytes = all_after bytes l.used ∙ ap (λ n. drop n bytes) begun.0 in
-    inr (left_less _ _ _ _ _ room (rw bytes_are at (rw form_is at c.in_default-write_cell.ensures.gives)))
+    inr (left_less _ _ _ _ _ room (rw bytes_are at (rw form_is at c.in_default.ensures.gives)))
 
-pub returns-in_default-write_cell-clause-gives : goal.returns-in_default-write_cell-clause-gives
-returns-in_default-write_cell-clause-gives c =
+pub returns-in_default-clause-gives : goal.returns-in_default-clause-gives
+returns-in_default-clause-gives c =
     let l = c.loop-cells in
     let x = l.invariant.writes in
     (x.0, x.1, made_same _ _ _ l.invariant.made ∙ x.2)

@@ -1,0 +1,166 @@
+// What arguments mean.
+use super::{job, run, writer};
+use std::process::Abort;
+use std::test::Fail;
+use tds_export::Charset;
+use tds_packet::Counted;
+use tds_replay::Job;
+use test_devices::{Failing, ScriptedReader};
+
+// What a command line is held to: one that came out otherwise is named.
+fn expect_line(rt: &impl Abort, line: &[&str], holds: bool) {
+    assert!(rt; holds, "{line:?}");
+}
+
+// A job of a response as a row of a table: its limits, whether its text is UTF-8, and its file.
+type Reads<'a> = (u16, u32, u64, bool, Option<&'a str>);
+
+// What is read by a job of `export` or `check`, and whether it is `check`.
+fn reads(job: &Job) -> Option<(Reads<'_>, bool)> {
+    let (limits, charset, checks) = match job {
+        Job::Export {
+            limits,
+            charset,
+            ..
+        } => (limits, charset, false),
+        Job::Check {
+            limits,
+            charset,
+            ..
+        } => (limits, charset, true),
+        Job::Recut { .. } => return None,
+    };
+    let is_utf_8 = matches!(charset, Charset::Utf8);
+    let numbers = (
+        limits.packet_size(),
+        limits.column_room(),
+        limits.max_wire(),
+        is_utf_8,
+        job.file(),
+    );
+    Some((numbers, checks))
+}
+
+// Words of a job that reads a response, whether it is `check`, and what it reads.
+const READING: [(&[&str], bool, Reads); 7] = [
+    (
+        &["export"],
+        false,
+        (4096, 1_048_576, 1_099_511_627_776, false, None),
+    ),
+    (
+        &["check"],
+        true,
+        (4096, 1_048_576, 1_099_511_627_776, false, None),
+    ),
+    (
+        &["check", "f"],
+        true,
+        (4096, 1_048_576, 1_099_511_627_776, false, Some("f")),
+    ),
+    (
+        &[
+            "export",
+            "--packet-size",
+            "512",
+            "--column-room",
+            "10",
+            "--max-wire",
+            "8",
+            "--charset",
+            "utf-8",
+            "f",
+        ],
+        false,
+        (512, 10, 8, true, Some("f")),
+    ),
+    (
+        &[
+            "export",
+            "f",
+            "--charset=windows-1252",
+            "--max-wire=72057594037927936",
+            "--packet-size=32767",
+            "--column-room=67108864",
+        ],
+        false,
+        (32767, 67_108_864, 72_057_594_037_927_936, false, Some("f")),
+    ),
+    (
+        &["check", "--packet-size", "0512"],
+        true,
+        (512, 1_048_576, 1_099_511_627_776, false, None),
+    ),
+    (
+        &["export", "--", "--help"],
+        false,
+        (4096, 1_048_576, 1_099_511_627_776, false, Some("--help")),
+    ),
+];
+
+#[test]
+fn arguments_of_a_response(rt: HostRuntime) -> Result<(), Fail> {
+    'rows: for (line, checks, wanted) in &READING {
+        let job = job(&rt, line).ok().ok_or("arguments that are refused")?;
+        expect_line(&rt, line, reads(&job) == Some((*wanted, *checks)));
+    }
+    Ok(())
+}
+
+#[test]
+fn arguments_of_a_recut(rt: HostRuntime) -> Result<(), Fail> {
+    let rows: [(&[&str], u16, u64, Option<&str>); 3] = [
+        (
+            &["recut", "--packet-size", "512", "f"],
+            512,
+            1_099_511_627_776,
+            Some("f"),
+        ),
+        (
+            &["recut", "--packet-size=32767"],
+            32767,
+            1_099_511_627_776,
+            None,
+        ),
+        (
+            &["recut", "--max-wire", "8", "--packet-size", "4096"],
+            4096,
+            8,
+            None,
+        ),
+    ];
+    'rows: for (line, wanted, limit, path) in rows {
+        let job = job(&rt, line).ok().ok_or("arguments that are refused")?;
+        let Job::Recut {
+            packet_size,
+            max_wire,
+            ..
+        } = &job
+        else {
+            return Err(Fail::from("another job"));
+        };
+        expect_line(
+            &rt,
+            line,
+            (*packet_size, *max_wire, job.file()) == (wanted, limit, path),
+        );
+    }
+    Ok(())
+}
+
+// Arguments that are refused end with status 2 and a message among the notes; those that ask for the version, with 0 and its
+// line on the output. Nothing is read.
+#[test]
+fn arguments_without_a_job_are_refused(rt: HostRuntime) -> Result<(), Fail> {
+    let mut from = Counted::new(ScriptedReader::new(b"\x04", 1));
+    let (mut to, mut notes) = (writer(Failing::Never), writer(Failing::Never));
+    let refused = run(&rt, &["import"], &mut from, &mut to, &mut notes);
+    assert!(rt; (refused, to.device().taken()) == (2, 0));
+    assert!(rt; notes.device().kept().starts_with(b"error: "));
+    let mut notes = writer(Failing::Never);
+    let version = run(&rt, &["--version"], &mut from, &mut to, &mut notes);
+    assert!(rt; (version, notes.device().taken()) == (0, 0));
+    assert!(rt; to.device().kept() == b"tds_replay 1.0.0\n".as_slice());
+    assert!(rt; from.device().left().len() == 1);
+    Ok(())
+}

@@ -1,5 +1,0 @@
-use Rattle.std.proofs.Common.{rules}
-use Rattle.tds_arguments.proofs.words.Given.check_job.Goals as goal
-
-pub returns-clause-job : goal.returns-clause-job
-returns-clause-job c = search rules

@@ -1,8 +1,0 @@
-use Rattle.std.proofs.Common.{rules}
-use Rattle.tds_arguments.proofs.words.Given.recut_job.Goals as goal
-
-pub returns-clause-range : goal.returns-clause-range
-returns-clause-range c = search rules
-
-pub returns-clause-job : goal.returns-clause-job
-returns-clause-job c = search rules
