@@ -1,6 +1,6 @@
 -- Cells by how their values are laid out.
 use Rattle.tds_rows.proofs.Words.{common_steps, ◌≡◌, ℕ, ◌<◌, Bool, true, false, List, length, replicate, get_or, refl, sym, subst, arith, ◌==◌, slice_set, get_or-set_at, get_or-replicate, get_or-set_other, length-replicate, length-set, Kind, Reach, is_scalar, eq_false, eq_true, Content, Conversion, Charset, Form, Layout, LongShape, shape, value_length, value_start, whole_size, AreLaidOut, HasValueAt, IsLaidOut, short_size}
-use Rattle.tds_rows.specs.declared.form.Layout.TheVariants.{Short}
+use Rattle.tds_rows.specs.declared.form.Layout.TheVariants.{Long}
 use Rattle.tds_rows.proofs.CellSteps.{}
 
 -- the same form many times
@@ -29,5 +29,5 @@ module _ (charset : Charset) (kind : Kind) where
   -- ---- a cell that is left, and a short value
 
   -- how many bytes its cell has
-  pub short_whole : (content : Content) (bytes : List ℕ) → IsLaidOut charset kind (Short content) → short_size bytes ≡ whole_size kind bytes
-  short_whole content bytes laid = grind (arith, is_long_kind)
+  pub short_whole : (content : Content) (reach : Reach) (bytes : List ℕ) → IsLaidOut charset kind (Long content reach) → short_size bytes ≡ whole_size kind bytes
+  short_whole content reach bytes laid = grind (arith, is_long_kind)

@@ -111,7 +111,8 @@ impl<'r, 't, 'p, 's, 'c, R: Read, W: Write> Rows<'r, 't, 'p, 's, 'c, R, W> {
         ensures gives { CellRead R.remaining W.contents at.entry form.now.kind self.old self.new result }
     {
         let mut text = [0u8; SHORT_TEXT];
-        if let Some(cell) = write_alone(self.table, at, self.payload.buffered(), &mut text)
+        if !matches!(form.layout, Layout::Long(_, Reach::Chunked))
+            && let Some(cell) = write_alone(self.table, at, self.payload.buffered(), &mut text)
             && cell.made < self.sink.room()
         {
             self.payload.consume(cell.used);
@@ -119,11 +120,8 @@ impl<'r, 't, 'p, 's, 'c, R: Read, W: Write> Rows<'r, 't, 'p, 's, 'c, R, W> {
         }
         let (column, last) = (at.column, self.table.is_last(at));
         match form.layout {
-            Layout::Short(content) => self.put_joined(content, Reach::Short, column, last),
-            Layout::Chunked(content) => self.put_joined(content, Reach::Chunked, column, last),
-            Layout::Int4 | Layout::CountedInt4 | Layout::Fixed(_) | Layout::Counted => {
-                self.put_gathered(at, form)
-            }
+            Layout::Long(content, reach) => self.put_joined(content, reach, column, last),
+            Layout::Fixed(_) | Layout::Counted => self.put_gathered(at, form),
         }
     }
 }

@@ -3,7 +3,7 @@ ghost use Rattle.std.specs.Prelude.{◌≡◌, ◌==◌, ◌⊎◌, ◌+◌, ◌
 ghost use Rattle.tds_rows.specs.Forms.{AreLaidOut, table_length};
 ghost use Rattle.tds_rows.specs.Layouts.{IsLaidOut};
 
-use crate::form::{Form, Layout};
+use crate::form::{Form};
 use tds_columns::{Columns, Walk};
 use tds_values::{Charset, Kind};
 
@@ -37,8 +37,7 @@ pub(crate) struct Ahead<'a> {
 impl<'a> Table<'a> {
     ghost use Rattle.tds_columns.specs.Description as spec;
     ghost use Rattle.tds_columns.specs.View.{columns_of};
-    ghost use Rattle.tds_rows.specs.CellSteps.{int4_kind, int4_start_of};
-    ghost use Rattle.tds_rows.specs.Tables.{AreAhead, IsAhead, Knows, NextForm, TakesColumn, TakesForm, one_on};
+    ghost use Rattle.tds_rows.specs.Tables.{AreAhead, IsAhead, Knows, NextForm, TakesForm};
 
     /// The table of a description's columns, whose single-byte text is in this set.
     pub(crate) fn of(columns: Columns<'a>, charset: Charset) -> Table<'a>
@@ -112,28 +111,6 @@ impl<'a> Table<'a> {
             return &self.forms[from..self.known.min(end as usize)];
         }
         one
-    }
-
-    /// Where the number is in the next cell, at once or after a length of one byte, if the table knows that it is
-    /// a whole number of four bytes, the most frequent kind. The place after that cell has the same walk.
-    #[inline(always)]
-    pub(crate) fn int4_start(&self, at: Ahead<'a>) -> Option<usize>
-        ensures known { (form : Form) → at.entry.column < self.now.known →
-            result ≡ int4_start_of (get_or self.now.forms at.entry.column form).kind }
-        ensures most { IfSome result (λ start. start ≤ 1) }
-        ensures some { IfSome result (λ start. at.entry.column < self.now.count) }
-        ensures gives { (columns : List spec.Column) → Knows self.now columns → IsAhead self.now columns at.entry →
-            IfSome result (λ start. TakesColumn self.now columns at.entry (one_on at.entry) (int4_kind start)) }
-    {
-        if (at.column as usize) >= self.known {
-            return None;
-        }
-        let form = self.forms[at.column as usize];
-        match form.layout {
-            Layout::Int4 => Some(0),
-            Layout::CountedInt4 => Some(1),
-            _ => None,
-        }
     }
 
     /// Whether no cell of the row is ahead.

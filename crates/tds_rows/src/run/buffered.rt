@@ -1,13 +1,13 @@
 // A cell of a scalar kind whose bytes are together.
-ghost use Rattle.std.specs.Prelude.{◌≡◌, ◌+◌, ◌≤◌, ◌<◌, ◌⊎◌, false, true, length, IfSome, MatchOption};
-ghost use Rattle.tds_rows.specs.CellSteps.{CellWritten, HasInt4, whole_size};
+ghost use Rattle.std.specs.Prelude.{◌≡◌, ◌+◌, ◌≤◌, length, IfSome, MatchOption};
+ghost use Rattle.tds_rows.specs.CellSteps.{CellWritten, whole_size};
 ghost use Rattle.tds_rows.specs.Layouts.{HasNoValue, HasValueAt, IsLaidOut};
 
 use crate::form::{Form, Layout};
 use crate::run::fields::{VALUE_ROOM, Written};
 use crate::run::short::write_short;
 use tds_csv::write_null;
-use tds_values::{Charset, write_scalar};
+use tds_values::{Charset, Reach, write_scalar};
 
 // Where the value of a scalar cell is in these bytes, and how many it has: after its length, unless each value of
 // its kind has as many. `None` if no length is there, or the value is a long one.
@@ -16,29 +16,15 @@ fn value_at(layout: Layout, bytes: &[u8]) -> Option<(usize, usize)>
     ensures { MatchOption result (HasNoValue layout bytes.now) (λ at. HasValueAt layout bytes.now at.0 at.1) }
 {
     match layout {
-        Layout::Int4 => Some((0, INT4_SIZE)),
         Layout::Fixed(n) => Some((0, n as usize)),
-        Layout::CountedInt4 | Layout::Counted => {
+        Layout::Counted => {
             if bytes.is_empty() {
                 return None;
             }
             Some((1, bytes[0] as usize))
         }
-        Layout::Short(_) | Layout::Chunked(_) => None,
+        Layout::Long(..) => None,
     }
-}
-
-/// How many bytes a whole number of four bytes has.
-pub(crate) const INT4_SIZE: usize = 4;
-
-/// Whether a whole number of four bytes is at the front of these bytes: at once, or after its length.
-#[inline(always)]
-pub(crate) fn has_int4(start: usize, bytes: &[u8]) -> bool
-    requires { start ≤ 1 }
-    ensures so { result ≡ true → HasInt4 start bytes.now }
-    ensures only { HasInt4 start bytes.now → result ≡ true }
-{
-    bytes.len() >= start + INT4_SIZE && (start == 0 || bytes[0] == 4)
 }
 
 // Writes the field of the cell at the front of these bytes. `None` if it isn't whole, is refused or in chunks, or
@@ -59,7 +45,7 @@ pub(crate) fn write_cell(
 {
     let Some((start, n)) = value_at(form.layout, bytes) else {
         return match form.layout {
-            Layout::Short(content) => write_short(content, bytes, to),
+            Layout::Long(content, Reach::Short) => write_short(content, bytes, to),
             _ => None,
         };
     };

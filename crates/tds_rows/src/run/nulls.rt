@@ -3,8 +3,7 @@ ghost use Rattle.std.specs.Prelude.{◌≡◌, ◌-◌, ◌*◌, ◌<◌, ◌≤
 ghost use Rattle.tds_rows.specs.MarkedRuns.{AreClear, EndsClear, EndsLeft, MarkedWritten};
 ghost use Rattle.tds_rows.specs.Rows.{bit};
 
-use crate::run::buffered::{INT4_SIZE, has_int4};
-use crate::run::fields::{CELL_ROOM, write_int4_field};
+use crate::run::fields::CELL_ROOM;
 use crate::run::{CellRun, run_cells};
 use crate::table::{Ahead, Table};
 use tds_csv::write_null;
@@ -34,7 +33,7 @@ fn clear_end(bitmap: &[u8], from: u16, known: u16, count: u16) -> u16
 }
 
 // Writes cell after cell of an NBCROW, as far as they are NULL by their bit or whole in these bytes, aren't in
-// chunks, and have room. NULLs and whole numbers of four bytes are written here.
+// chunks, and have room. NULLs are written here.
 #[inline(never)]
 pub(crate) fn run_nulls<'a>(
     table: &Table<'a>,
@@ -61,18 +60,7 @@ pub(crate) fn run_nulls<'a>(
             ahead = table.after(ahead);
             continue;
         }
-        let rest = &bytes[used..];
-        if let Some(start) = table.int4_start(ahead)
-            && has_int4(start, rest)
-        {
-            let last = table.is_last(ahead);
-            let value = &rest[start..start + INT4_SIZE];
-            made += write_int4_field(ahead.column, last, value, &mut to[made..]);
-            used += start + INT4_SIZE;
-            ahead.column += 1;
-            continue;
-        }
-        let cells = run_cells(table, ahead, end, rest, &mut to[made..]);
+        let cells = run_cells(table, ahead, end, &bytes[used..], &mut to[made..]);
         if cells.used == 0 {
             break;
         }

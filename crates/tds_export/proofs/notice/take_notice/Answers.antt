@@ -18,7 +18,7 @@ returns-then-not-lengths_fit-clause-gives g c = λ charset room tokens which not
     let t = c.in_ok-take_into.ensures.gives in
     let is : c.take_into.new.area.bytes ≡ t.element = rw (t.stands, c.clear.ensures.value) refl in
     let passes : holds_notice c.take_into.new.area.bytes ≡ false = search rules in
-    rw (c.in_payload-2.ensures, c.place-place-2.ensures) (body_refused charset room notice (record { two = search rules; is = c.from.ensures ∙ c.read_u16-length.ensures; takes = c.in_ok-fill.ensures.all; at = c.in_ok-fill.ensures.place }) (omega (arith, c.if-length-lt-LEAST_NOTICE.false, c.from.ensures)) t (rw is at passes))
+    rw (c.in_payload-then-not-lengths_fit.ensures, c.place-place-2.ensures) (body_refused charset room notice (record { two = search rules; is = c.from.ensures ∙ c.read_u16-length.ensures; takes = c.in_ok-fill.ensures.all; at = c.in_ok-fill.ensures.place }) (omega (arith, c.if-length-lt-LEAST_NOTICE.false, c.from.ensures)) t (rw is at passes))
 
 pub returns-clause-gives : goal.returns-clause-gives
 returns-clause-gives g c = λ charset room tokens which notice.

@@ -36,5 +36,5 @@ returns-in-Err-clause-gives g c = λ tokens tracks holds noted.
     let b = seen g.R.Read.remaining c.next_byte.new.payload in
     let read = rw c.in-Some.is at c.in_ok-byte.ensures.gives in
     let at : run.payload.now.place ≡ c.place-place.result - 1 = omega (arith, read.place_is, c.place-place.ensures) in
-    subst (λ n. StepStops (response run.charset run.description.now.room) (after_tokens tokens) a b run.payload.now.place h h run.description.now run.sink.now.failed (record { fault = c.in-Err.fault; place = Payload n })) at
-    (stops_at_byte _ _ sink.ready.2 sink.writing holds tracks.described c.in-Err.ensures read.takes read.between)
+    rw c.in_payload.ensures (subst (λ n. StepStops (response run.charset run.description.now.room) (after_tokens tokens) a b run.payload.now.place h h run.description.now run.sink.now.failed (record { fault = c.in-Err.fault; place = Payload n })) at
+    (stops_at_byte _ _ sink.ready.2 sink.writing holds tracks.described c.in-Err.ensures read.takes read.between))

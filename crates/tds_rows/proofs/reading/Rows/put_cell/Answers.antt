@@ -1,4 +1,4 @@
-use Rattle.tds_rows.proofs.Words.{◌≡◌, ◌∙◌, ◌+◌, ◌<◌, ◌≤◌, refl, ap, length, sym, take, arith, rules, length-take, buffered, seen, Takes-more, ShortLength, Total, cell_start, shape, shape_of_layout, conversion_of}
+use Rattle.tds_rows.proofs.Words.{◌≡◌, ◌∙◌, ◌+◌, ◌<◌, ◌≤◌, refl, ap, length, sym, take, arith, rules, length-take, buffered, seen, Takes-more, long_start, cell_start, shape, shape_of_layout, conversion_of}
 use Rattle.tds_rows.proofs.{RunSteps.put_whole, TableSteps.last_one}
 use Rattle.tds_rows.proofs.reading.Rows.put_cell.Goals as goal
 
@@ -19,16 +19,9 @@ pub returns-clause-leaves : goal.returns-clause-leaves
 returns-clause-leaves g c = record { same = search rules; payload = search rules; sink = search rules; small = record { room = refl; bound = omega arith } }
 
 -- a long value is that of its kind
-pub returns-in-Short-clause-gives : goal.returns-in-Short-clause-gives
-returns-in-Short-clause-gives g c = λ last next.
+pub returns-in-Long-clause-gives : goal.returns-in-Long-clause-gives
+returns-in-Long-clause-gives g c = λ last next.
     let kind = c.args.form.now.kind in
     let end = c.is_last-last.ensures ∙ last_one _ _ _ _ _ next.knows.counted next.next ∙ sym next.last in
-    let start : ShortLength (conversion_of c.in-Short.content) ≡ cell_start kind (shape c.args.self.now.table.now.charset kind) = sym (ap (cell_start kind) (c.requires.laid.shape_is ∙ ap shape_of_layout c.in-Short.is)) in
+    let start : long_start (conversion_of c.in-Long.content) c.in-Long.reach ≡ cell_start kind (shape c.args.self.now.table.now.charset kind) = sym (ap (cell_start kind) (c.requires.laid ∙ ap shape_of_layout c.in-Long.is)) in
     rw start at (rw end at c.put_joined.ensures.gives)
-
-pub returns-in-Chunked-clause-gives : goal.returns-in-Chunked-clause-gives
-returns-in-Chunked-clause-gives g c = λ last next.
-    let kind = c.args.form.now.kind in
-    let end = c.is_last-last.ensures ∙ last_one _ _ _ _ _ next.knows.counted next.next ∙ sym next.last in
-    let start : Total (conversion_of c.in-Chunked.content) ≡ cell_start kind (shape c.args.self.now.table.now.charset kind) = sym (ap (cell_start kind) (c.requires.laid.shape_is ∙ ap shape_of_layout c.in-Chunked.is)) in
-    rw start at (rw end at c.put_joined-in-Chunked.ensures.gives)

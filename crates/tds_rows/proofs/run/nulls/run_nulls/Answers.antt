@@ -1,6 +1,6 @@
-use Rattle.tds_rows.proofs.Words.{add-zero, inl, ℕ, ◌≡◌, ◌∙◌, ◌-◌, ◌<◌, ◌≤◌, Bool, [], ◌∷◌, refl, sym, ap, length, take, drop, subst, arith, rules, true, false, length-take, length-drop, all_after, in_line, null_field, HasInt4, int4_kind, is_last_column, one_on, bit}
-use Rattle.tds_rows.proofs.run.nulls.run_nulls.Goals.{else-loop-to-test, then-loop-to-test+else-ahead-count, then-loop-to-test+then-ahead-count+else-end-ahead+in_default+then-cells-eq0}
-use Rattle.tds_rows.proofs.{RunSteps.writes_int4, Stretches.ends_clear, Stretches.runs_clear, Stretches.runs_column, Stretches.runs_more, TableSteps.last_one, TableSteps.next_any, TableSteps.none_next, TableSteps.takes}
+use Rattle.tds_rows.proofs.Words.{add-zero, inl, ℕ, ◌≡◌, ◌∙◌, ◌-◌, ◌<◌, ◌≤◌, Bool, [], ◌∷◌, refl, sym, ap, length, take, drop, subst, arith, rules, true, false, length-take, length-drop, all_after, in_line, null_field, is_last_column, bit}
+use Rattle.tds_rows.proofs.run.nulls.run_nulls.Goals.{else-loop-to-test, then-loop-to-test+else-ahead-count, then-loop-to-test+then-ahead-count+else-end-ahead+then-cells-eq0}
+use Rattle.tds_rows.proofs.{Stretches.ends_clear, Stretches.runs_clear, Stretches.runs_column, Stretches.runs_more, TableSteps.last_one, TableSteps.next_any, TableSteps.none_next, TableSteps.takes}
 use Rattle.tds_rows.proofs.run.nulls.run_nulls.Goals as goal
 
 -- a column that is NULL by its bit
@@ -28,36 +28,6 @@ loop-to-preserved-then-end-ahead c =
           let last = c.is_last.ensures ∙ last_one _ _ _ _ _ knows.counted taken.next in
           let line : take made text ≡ in_line l.ahead.column (is_last_column left) null_field = c.write_null-made.ensures.text ∙ ap (λ (k : ℕ). in_line k c.is_last.result null_field) at ∙ ap (λ (e : Bool). in_line l.ahead.column e null_field) last in
           rw (sym (add-zero l.used)) (runs_more _ _ _ _ _ _ _ _ _ l.invariant.made within ran (runs_column taken refl (rw null (refl, line))));
-    }
-
--- a whole number of four bytes
-pub loop-to-preserved-in-loop-to : goal.loop-to-preserved-in-loop-to
-loop-to-preserved-in-loop-to c =
-    let l = c.loop-to in
-    let table = c.args.table.now in
-    let end = c.clear_end-end in
-    let after = one_on l.ahead in
-    let start = c.in-Some.start in
-    let kind = int4_kind start in
-    let last = c.is_last-last in
-    let made = c.write_int4_field-made.result in
-    let text = c.write_int4_field-made.new.to in
-    let there = take (length c.args.bytes.now - l.used) (drop l.used c.args.bytes.now) in
-    let has : HasInt4 start there = c.has_int4.ensures.so c.if-has_int4.true in
-    let most : start ≤ 1 = c.in-Some.ensures.most in
-    let wrote = writes_int4 _ _ _ _ _ _ _ most (omega arith) has c.write_int4_field-made.ensures.gives in
-    let within : made ≤ length text = search (arith, rules) in
-    let before : l.ahead.column < end.result = omega (arith, end.ensures.least, c.if-end-ahead.false) in
-    let clear : (bit c.args.bitmap.now) l.ahead.column ≡ false = end.ensures.clear l.ahead.column (omega arith) before in
-    record {
-      used = search (arith, rules);
-      made = search (arith, rules);
-      most = search (arith, rules);
-      clear = λ k least most. end.ensures.clear k (omega (arith, least)) most;
-      writes = λ columns knows ahead.
-          let x = l.invariant.writes columns knows ahead in
-          let taken = c.in-Some.ensures.gives columns knows x.ahead in
-          runs_more _ _ _ _ _ _ _ _ _ l.invariant.made within x (runs_column taken (last.ensures ∙ last_one _ _ _ _ _ knows.counted taken.next) (rw clear wrote.whole));
     }
 
 -- a run over columns that aren't
@@ -89,7 +59,7 @@ returns-clause-ends c = λ columns column left knows ahead step.
     elim c.loop-to-test.branch [
       | else-loop-to-test w ↦ inl (omega (arith, w.loop-to-test.false, l.auto.to))
       | then-loop-to-test+else-ahead-count w ↦ absurd (let none = none_next _ _ _ knows.counted (omega (arith, w.count.ensures, w.if-ahead-count.false)) in let e : column ∷ left ≡ [] = sym step ∙ none in omega (arith, ap length e))
-      | then-loop-to-test+then-ahead-count+else-end-ahead+in_default+then-cells-eq0 w ↦ (let lent = take (length l.to - l.made) (drop l.made l.to) in
+      | then-loop-to-test+then-ahead-count+else-end-ahead+then-cells-eq0 w ↦ (let lent = take (length l.to - l.made) (drop l.made l.to) in
           let room : length lent ≡ length c.args.to.now - l.made = omega (arith, l.auto.to, length-take (length l.to - l.made) (drop l.made l.to), length-drop l.made l.to) in
           let before : l.ahead.column < w.clear_end-end.result = omega (arith, w.clear_end-end.ensures.least, w.if-end-ahead.false) in
           let run = rw room at (rw (all_after bytes l.used) at (w.run_cells-cells.ensures.ends w.if-cells-eq0.true before)) in
