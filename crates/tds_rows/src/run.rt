@@ -37,7 +37,7 @@ pub(crate) struct RowsRun<'a> {
 
 // Writes cell after cell of a row, as far as they are whole in these bytes, aren't in chunks and have room, up to the
 // column at which it ends.
-#[inline(never)]
+#[inline(always)]
 pub(crate) fn run_cells<'a>(
     table: &Table<'a>,
     from: Ahead<'a>,
