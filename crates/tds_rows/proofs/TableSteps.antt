@@ -1,5 +1,5 @@
 -- A table of columns, column by column.
-use Rattle.tds_rows.proofs.Words.{◌≡◌, ◌∙◌, ℕ, true, false, ◌+◌, ◌≤◌, ◌<◌, List, [], ◌∷◌, ◌++◌, length, take, drop, get_or, refl, sym, ap, arith, map, slice_set, ◌==◌, Option, is_last_column, eq-eqb, ne_eqb, drop_all, drop_more, get_or-map, get_or-take, map-append, take_more, take_more_set, length-drop, length-take, drop-drop, Kind, Int4, Column, YieldsFirstBy, eq_false, eq_true, Walk, column_value, columns_left, Ahead, Form, Table, IsAhead, Knows, NextColumn, TakesColumn, kinds}
+use Rattle.tds_rows.proofs.Words.{◌≡◌, ◌⊎◌, ◌∙◌, ℕ, true, false, ◌+◌, ◌≤◌, ◌<◌, List, [], ◌∷◌, ◌++◌, length, take, drop, get_or, refl, sym, ap, arith, map, slice_set, ◌==◌, Option, is_last_column, eq-eqb, ne_eqb, drop_all, drop_more, get_or-map, get_or-take, map-append, take_more, take_more_set, length-drop, length-take, drop-drop, Kind, Int4, Column, YieldsFirstBy, eq_false, eq_true, Walk, column_value, columns_left, Ahead, Form, Table, IsAhead, Knows, NextColumn, TakesColumn, kinds}
 use Rattle.tds_columns.specs.declared.walk.Column as walks
 
 -- what is ahead begins with the next column
@@ -37,14 +37,14 @@ module _ (table : Table) (columns : List Column) (at : Ahead) (kind : Kind) (kno
         kind = is_kind ∙ known_kind table.forms columns table.known at.column d c knows.first known fits within;
       }
 
-module _ (table : Table) (columns : List Column) (old new : Ahead) (knows : Knows table columns) (is : IsAhead table columns old) (further : new.column ≡ old.column + 1) (some : old.column < table.count) where
-  -- the place after a column that the table knows
-  pub after_known : old.column < table.known → columns_left new.walk ≡ columns_left old.walk → IsAhead table columns new
-  after_known known same = grind arith
+module _ {table : Table} {columns : List Column} {old new : Ahead} (knows : Knows table columns) (is : IsAhead table columns old) where
+  -- the place after columns that the table knows
+  pub after_known : {cells : ℕ} → new.column ≡ old.column + cells → old.column + cells ≤ table.count → (cells ≡ 0) ⊎ (old.column + cells ≤ table.known) → columns_left new.walk ≡ columns_left old.walk → IsAhead table columns new
+  after_known further within known same = grind arith
 
   -- the place after a column that the walk gives
-  pub after_walked : table.known ≤ old.column → columns_left new.walk ≡ drop 1 (columns_left old.walk) → IsAhead table columns new
-  after_walked beyond steps =
+  pub after_walked : new.column ≡ old.column + 1 → old.column + 1 ≤ table.count → table.known ≤ old.column → columns_left new.walk ≡ drop 1 (columns_left old.walk) → IsAhead table columns new
+  after_walked further some beyond steps =
       record {
         counted = omega (arith, knows.counted, further, some);
         within = λ most. absurd (omega (arith, most, beyond, further));

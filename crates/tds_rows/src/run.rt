@@ -68,15 +68,18 @@ pub(crate) fn run_cells<'a>(
     let forms = (&*table).forms(from, end, &one);
     let ends = from.column as usize + forms.len() == table.count() as usize;
     let run = run_forms(forms, table.charset, from.column, ends, bytes, to);
+    let mut ahead = from;
+    table.step(&mut ahead, run.cells);
     CellRun {
         used: run.used,
         made: run.made,
-        ahead: table.past(from, run.cells),
+        ahead,
     }
 }
 
 /// Writes only the next cell. `None` if it isn't whole in these bytes, is refused or in chunks, or if there
 /// isn't the room that the text of a short value may need.
+#[inline(never)]
 pub(crate) fn write_alone(table: &Table, at: Ahead, bytes: &[u8], to: &mut [u8]) -> Option<Written>
     requires within { at.column < table.now.count }
     requires room { CELL_ROOM ≤ length to.old }

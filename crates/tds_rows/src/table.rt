@@ -130,41 +130,19 @@ impl<'a> Table<'a> {
         at.column + 1 == self.count
     }
 
-    /// The place after the next cell.
+    /// Steps over the next `cells` cells, which the table knows or which are at most one.
     #[inline(always)]
-    pub(crate) fn after(&self, at: Ahead<'a>) -> Ahead<'a>
-        requires { at.column < self.now.count }
-        ensures further { result.column ≡ at.entry.column + 1 }
-        ensures gives { (columns : List spec.Column) → Knows self.now columns → IsAhead self.now columns at.entry →
-            IsAhead self.now columns result }
+    pub(crate) fn step(&self, at: &mut Ahead<'a>, cells: usize)
+        requires within { at.old.column + cells ≤ self.now.count }
+        requires known { (at.old.column + cells ≤ self.now.known) ⊎ (cells ≤ 1) }
+        ensures further { at.new.column ≡ at.old.column + cells }
+        ensures gives { (columns : List spec.Column) → Knows self.now columns → IsAhead self.now columns at.old →
+            IsAhead self.now columns at.new }
     {
-        let mut walk = at.walk;
-        if (at.column as usize) >= self.known {
-            let _ = walk.next();
+        if cells > 0 && (at.column as usize) >= self.known {
+            let _ = at.walk.next();
         }
-        Ahead {
-            column: at.column + 1,
-            walk,
-        }
-    }
-
-    /// The place after the next `cells` cells, which the table knows or which are one at most.
-    #[inline(always)]
-    pub(crate) fn past(&self, at: Ahead<'a>, cells: usize) -> Ahead<'a>
-        requires within { at.column + cells ≤ self.now.count }
-        requires known { (at.column + cells ≤ self.now.known) ⊎ (cells ≤ 1) }
-        ensures further { result.column ≡ at.entry.column + cells }
-        ensures none { cells ≡ 0 → result ≡ at.entry }
-        ensures gives { (columns : List spec.Column) → Knows self.now columns → IsAhead self.now columns at.entry →
-            IsAhead self.now columns result }
-    {
-        if (at.column as usize) < self.known || cells == 0 {
-            return Ahead {
-                column: at.column + cells as u16,
-                walk: at.walk,
-            };
-        }
-        self.after(at)
+        at.column += cells as u16;
     }
 
     /// What the next cell needs, and the place after it. `None` at the row's end.
@@ -179,6 +157,8 @@ impl<'a> Table<'a> {
             return None;
         }
         let form = self.form(at)?;
-        Some((form, self.after(at)))
+        let mut after = at;
+        self.step(&mut after, 1);
+        Some((form, after))
     }
 }

@@ -57,7 +57,7 @@ pub(crate) fn run_nulls<'a>(
         end = clear_end(bitmap, ahead.column, end, table.count());
         if end == ahead.column {
             made += write_null(end, table.is_last(ahead), &mut to[made..]);
-            ahead = table.after(ahead);
+            table.step(&mut ahead, 1);
             continue;
         }
         let cells = run_cells(table, ahead, end, &bytes[used..], &mut to[made..]);

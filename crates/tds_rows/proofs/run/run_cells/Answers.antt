@@ -17,7 +17,7 @@ returns-clause-one c = λ some alone.
 pub returns-clause-gives : goal.returns-clause-gives
 returns-clause-gives c = λ columns knows is.
     let run = c.run_forms-run in
-    forms_between _ _ _ _ c.requires c.forms-forms.ensures _ (search (arith, rules)) _ knows is _ _ _ run.result c.past.ensures.further (c.past.ensures.gives columns knows is) run.ensures.gives
+    forms_between _ _ _ _ c.requires c.forms-forms.ensures _ (search (arith, rules)) _ knows is _ _ _ run.result c.step.ensures.further (c.step.ensures.gives columns knows is) run.ensures.gives
 
 pub returns-clause-within : goal.returns-clause-within
 returns-clause-within c =
@@ -25,6 +25,6 @@ returns-clause-within c =
     record {
       used = search (arith, rules);
       made = search (arith, rules);
-      further = λ some. omega (arith, c.past.ensures.further, some_written _ _ run.ensures.within.none some);
-      before = λ _. omega (arith, c.past.ensures.further, run.ensures.within.cells, c.forms-forms.ensures.within);
+      further = λ some. omega (arith, c.step.ensures.further, some_written _ _ run.ensures.within.none some);
+      before = λ _. omega (arith, c.step.ensures.further, run.ensures.within.cells, c.forms-forms.ensures.within);
     }

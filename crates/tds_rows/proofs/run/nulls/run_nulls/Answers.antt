@@ -18,13 +18,13 @@ loop-to-preserved-then-end-ahead c =
       used = l.invariant.used;
       made = search (arith, rules);
       most = search (arith, rules);
-      clear = λ k least most. absurd (omega (arith, least, most, at, c.after-ahead.ensures.further));
+      clear = λ k least most. absurd (omega (arith, least, most, at, c.step.ensures.further));
       writes = λ columns knows ahead.
           let ran = l.invariant.writes columns knows ahead in
           let some : l.ahead.column < c.args.table.now.count = omega (arith, c.count.ensures, c.if-ahead-count.true) in
           let one = next_any _ _ _ knows.counted some in
-          let taken = takes _ _ _ _ _ one.1 c.after-ahead.ensures.further (c.after-ahead.ensures.gives columns knows ran.ahead) in
-          let left = drop c.after-ahead.result.column columns in
+          let taken = takes _ _ _ _ _ one.1 c.step.ensures.further (c.step.ensures.gives columns knows ran.ahead) in
+          let left = drop c.step.new.at.column columns in
           let last = c.is_last.ensures ∙ last_one _ _ _ _ _ knows.counted taken.next in
           let line : take made text ≡ in_line l.ahead.column (is_last_column left) null_field = c.write_null-made.ensures.text ∙ ap (λ (k : ℕ). in_line k c.is_last.result null_field) at ∙ ap (λ (e : Bool). in_line l.ahead.column e null_field) last in
           rw (sym (add-zero l.used)) (runs_more _ _ _ _ _ _ _ _ _ l.invariant.made within ran (runs_column taken refl (rw null (refl, line))));

@@ -6,4 +6,4 @@ returns-then-at-self-clause-gives c = λ columns knows ahead. none_next _ _ _ kn
 
 pub returns-clause-gives : goal.returns-clause-gives
 returns-clause-gives c = λ columns knows ahead.
-    takes _ _ _ _ _ (c.in_ok-form.ensures.gives columns knows ahead) c.after.ensures.further (c.after.ensures.gives columns knows ahead)
+    takes _ _ _ _ _ (c.in_ok-form.ensures.gives columns knows ahead) c.step.ensures.further (c.step.ensures.gives columns knows ahead)
