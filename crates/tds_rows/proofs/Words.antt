@@ -25,7 +25,7 @@ pub use Rattle.tds_packet.specs.Elements.{AreBytes, Grammar, IsNext, IsRefused, 
 pub use Rattle.tds_packet.specs.declared.fault.Fault.TheVariants.{BadText, BadValue, BadValueLength, MessageEnded, OddText, PlpLength, ReadFailed, RefusedToken, WriteFailed}
 pub use Rattle.tds_rows.specs.{Blames.Blames, Blames.Failures, Blames.StopBlames, Blames.failures_of, Blames.failures_with, Forms.AreLaidOut, Layouts.HasValueAt, Layouts.IsLaidOut, Layouts.shape_of_layout, ShortCells.IsShortLeft, ShortCells.short_size, ShortCells.stated_length, Successes.BeginNoRow, Successes.Brings, Successes.ReadsOn, Successes.SpellsRows, Successes.SucceedsOn, WholeCells.WritesCell, WholeCells.WritesWhole, declared.form.Form.Form, declared.form.Layout.Layout, declared.reading.Rows.Rows, declared.run.RowsRun.RowsRun, declared.run.fields.TheConstants.CELL_ROOM, declared.run.forms.FormsRun.FormsRun, declared.table.Ahead.Ahead, declared.table.Table.Table}
 pub use Rattle.tds_values.specs.declared.charset.{Charset.Charset}
-pub use Rattle.tds_rows.specs.CellSteps.{CellGathered, FieldPut, GathersCell, IsLeft, IsScalarLeft, IsValueText, PutsField, StallsCell, StopsField, WritesField, WritesKind, cell_so_far, is_last_column, length_after, opened, scalar_size, start_after, value_bytes, value_length, value_start, whole_size}
+pub use Rattle.tds_rows.specs.CellSteps.{CellGathered, FieldPut, GathersCell, IsLeft, IsScalarLeft, IsValueText, PutsField, StallsCell, StopsField, WritesField, WritesKind, cell_so_far, is_last_column, length_after, opened, scalar_size, start_after, value_bytes, value_length, value_start, whole_size, HasInt4, int4_kind}
 pub use Rattle.tds_rows.specs.Cells.{Cell, CellPart, ChunkData, ChunkLength, CountedShape, DataCell, FixedShape, LongShape, Null, ScalarBytes, ScalarCell, ScalarLength, Shape, ShortData, ShortLength, SpellsCell, SpellsChunk, SpellsChunked, SpellsChunks, SpellsShort, Total, WholeCell, cell, cell_add, cell_end, cell_fault, cell_size, cell_start, chunk_fault, end_of_chunks, field, field_so_far, is_total, known_total, long_start, null_total, return_charset, shape, shape_of_length, unknown_total, unless, value_part, within_total}
 pub use Rattle.tds_rows.specs.FormRuns.{AreNext, FieldsWritten, FirstLeft, FirstUsed, FirstWritten, FormsWritten, WritesForms}
 pub use Rattle.tds_rows.specs.LongCells.{BreaksData, CutsData, CutsNumber, EndPut, EndsData, FillsData, ReadsNumber, RefusesData, RefusesNumber, StopsData, StopsEnding, StopsFilling, TakesData, added_text, chunk_length_fault, end_fault, ending, good_of, join_stop, opening, short_fault, short_length, total_fault, total_of}

@@ -75,6 +75,18 @@ scalar_size kind bytes = value_start kind + value_length kind bytes
 abbrev pub value_bytes : Kind → List ℕ → List ℕ
 value_bytes kind bytes = take (value_length kind bytes) (drop (value_start kind) bytes)
 
+-- the kind of whole numbers of four bytes that are so far after the front of their cells: at once, or after a length
+abbrev pub int4_kind : ℕ → Kind
+int4_kind zero = Int4
+int4_kind (suc n) = IntN 4
+
+-- A whole number of four bytes, which is its kind's, is so far after the front of these bytes: at once, or after its length.
+pub record HasInt4 (kind : Kind) (start : ℕ) (bytes : List ℕ) : Type 0 where
+  pub kind_is : kind ≡ int4_kind start
+  pub most : start ≤ 1
+  pub whole : start + 4 ≤ length bytes
+  pub length_is : 0 < start → slice_index bytes 0 ≡ 4
+
 -- how many bytes the cell at the front of these bytes has; of one in chunks nothing is said
 abbrev pub whole_size : Kind → List ℕ → ℕ
 whole_size kind bytes = if is_scalar kind then scalar_size kind bytes else short_size bytes
