@@ -5,7 +5,8 @@ ghost use Rattle.tds_rows.specs.Runs.{AloneWritten, CellsWritten, OneWritten, Ro
 ghost use Rattle.tds_rows.specs.Tables.{IsNextKind};
 ghost use Rattle.tds_values.specs.declared.kind.Kind.{Kind};
 
-use crate::run::fields::Written;
+use crate::run::buffered::{INT4_SIZE, int4_at};
+use crate::run::fields::{INT4_ROOM, Written, write_int4_field};
 use crate::run::forms::run_forms;
 use crate::table::{Ahead, Table};
 
@@ -99,7 +100,8 @@ pub(crate) fn write_alone(table: &Table, at: Ahead, bytes: &[u8], to: &mut [u8])
 }
 
 // Writes cell after cell, as far as they are whole in these bytes, aren't in chunks and have room, over the
-// ends of rows: after a whole row it goes on if the byte of the next ROW follows.
+// ends of rows: after a whole row it goes on if the byte of the next ROW follows. Whole numbers of four bytes at the
+// front of a row, the most frequent cells, are written here.
 #[inline(never)]
 pub(crate) fn run_rows<'a>(
     table: &Table<'a>,
@@ -118,7 +120,18 @@ pub(crate) fn run_rows<'a>(
     let mut made = 0;
     let mut rows = 0;
     let mut ahead = from;
-    loop {
+    while to.len() - made >= INT4_ROOM {
+        let rest = &bytes[used..];
+        if let Some(form) = table.known_form(ahead)
+            && let Some(start) = int4_at(&form.kind, rest)
+        {
+            let last = table.is_last(ahead);
+            let value = &rest[start..start + INT4_SIZE];
+            made += write_int4_field(ahead.column, last, value, &mut to[made..]);
+            used += start + INT4_SIZE;
+            table.step(&mut ahead, 1);
+            continue;
+        }
         if table.is_end(ahead) {
             if used == bytes.len() || bytes[used] != ROW {
                 break;
@@ -128,7 +141,7 @@ pub(crate) fn run_rows<'a>(
             ahead = table.start();
             continue;
         }
-        let cells = run_cells(table, ahead, table.count(), &bytes[used..], &mut to[made..]);
+        let cells = run_cells(table, ahead, table.count(), rest, &mut to[made..]);
         if cells.used == 0 {
             break;
         }

@@ -1,5 +1,5 @@
 // What the cells of a description's columns need of them, known once for all its rows.
-ghost use Rattle.std.specs.Prelude.{◌≡◌, ◌==◌, ◌⊎◌, ◌+◌, ◌<◌, ◌≤◌, get_or, length, IfSome, List};
+ghost use Rattle.std.specs.Prelude.{◌≡◌, ◌==◌, ◌⊎◌, ◌+◌, ◌<◌, ◌≤◌, get_or, length, None, IfSome, List};
 ghost use Rattle.tds_rows.specs.Forms.{AreLaidOut, table_length};
 ghost use Rattle.tds_rows.specs.Layouts.{IsLaidOut};
 
@@ -37,7 +37,7 @@ pub(crate) struct Ahead<'a> {
 impl<'a> Table<'a> {
     ghost use Rattle.tds_columns.specs.Description as spec;
     ghost use Rattle.tds_columns.specs.View.{columns_of};
-    ghost use Rattle.tds_rows.specs.Tables.{AreAhead, IsAhead, Knows, NextForm, TakesForm};
+    ghost use Rattle.tds_rows.specs.Tables.{AreAhead, IsAhead, Knows, NextColumn, NextForm, TakesForm};
 
     /// The table of a description's columns, whose single-byte text is in this set.
     pub(crate) fn of(columns: Columns<'a>, charset: Charset) -> Table<'a>
@@ -82,6 +82,21 @@ impl<'a> Table<'a> {
         }
     }
 
+    /// What the next cell needs, if the table knows it.
+    #[inline(always)]
+    pub(crate) fn known_form(&self, at: Ahead<'a>) -> Option<Form>
+        ensures beyond { result ≡ None → self.now.known ≤ at.entry.column }
+        ensures some { IfSome result (λ _. at.entry.column < self.now.count) }
+        ensures laid { IfSome result (λ form. IsLaidOut self.now.charset form.kind form.layout) }
+        ensures gives { (columns : List spec.Column) → Knows self.now columns → IsAhead self.now columns at.entry →
+            IfSome result (λ form. NextColumn columns at.entry form.kind) }
+    {
+        if (at.column as usize) >= self.known {
+            return None;
+        }
+        Some(self.forms[at.column as usize])
+    }
+
     /// What the next cell needs. `None` at the row's end.
     #[inline(always)]
     pub(crate) fn form(&self, at: Ahead<'a>) -> Option<Form>
@@ -89,8 +104,8 @@ impl<'a> Table<'a> {
         ensures gives { (columns : List spec.Column) → Knows self.now columns → IsAhead self.now columns at.entry →
             NextForm columns at.entry result }
     {
-        if (at.column as usize) < self.known {
-            return Some(self.forms[at.column as usize]);
+        if let Some(form) = self.known_form(at) {
+            return Some(form);
         }
         let mut walk = at.walk;
         let column = walk.next()?;
