@@ -1,5 +1,5 @@
 -- The cells of a run, as they are written one after another.
-use Rattle.tds_rows.proofs.Words.{common_steps, false, zero, suc, add-zero, ◌≡◌, ◌∙◌, ℕ, ◌+◌, ◌-◌, ◌≤◌, ◌<◌, Bool, List, [], ◌∷◌, ◌++◌, length, take, drop, get_or, refl, sym, ap, subst, arith, append_assoc, append-nil, length-append, Result, Ok, Err, MatchResult, true, length-take, length-take-le, take-append-le, take_all, take_more, take-append-add, take-add, RefusedToken, Stop, map, ◌==◌, Option, Some, None, if◌then◌else◌, Spelt, Seen, Takes, joined, line, Sink, Breaks, Held, IsWriting, Puts, PutsPiece, held, Inside, Spelt-append, Spelt-one, Column, all_after, Charset, Cell, CellPart, Shape, WholeCell, cell, cell_start, field, shape, NbcRow, PlainRow, RowPart, RowToken, WholeRow, next_cell, row, row_so_far, token_byte, token_start, with_field, IsLeft, IsScalarLeft, IsValueText, WritesKind, cell_so_far, is_last_column, scalar_size, whole_size, WritesCell, WritesWhole, is_scalar, Writes, WritesRows, after_cells, lines, rows, rows_so_far, Kind, IntN, WritesColumn, WritesMarked, HasInt4, int4_kind, slice_index}
+use Rattle.tds_rows.proofs.Words.{common_steps, false, zero, suc, add-zero, ◌≡◌, ◌∙◌, ℕ, ◌+◌, ◌-◌, ◌≤◌, ◌<◌, Bool, List, [], ◌∷◌, ◌++◌, length, take, drop, get_or, refl, sym, ap, subst, arith, append_assoc, append-nil, length-append, Result, Ok, Err, MatchResult, true, length-take, length-take-le, take-append-le, take_all, take_more, take-append-add, take-add, Stop, map, Option, Spelt, Seen, Takes, joined, line, Sink, Breaks, Held, IsWriting, Puts, PutsPiece, held, Inside, Spelt-append, Spelt-one, Column, all_after, Charset, Cell, CellPart, Shape, WholeCell, cell, cell_start, field, shape, NbcRow, PlainRow, RowPart, RowToken, WholeRow, next_cell, row, row_so_far, token_byte, token_start, with_field, IsLeft, IsScalarLeft, IsValueText, WritesKind, cell_so_far, is_last_column, scalar_size, whole_size, WritesCell, WritesWhole, is_scalar, Writes, WritesRows, after_cells, lines, rows, rows_so_far, Kind, IntN, WritesColumn, WritesMarked, HasInt4, int4_kind}
 use Rattle.tds_rows.proofs.{CellSteps.fixed_some, NullSteps.row_cell, NullTexts.coming, NullTexts.ends_marked, NullTexts.none_ahead, Paths.At, Paths.writes_both, Paths.writes_inside, Paths.writes_none, RowSteps.quiet_text, RowSteps.start_quiet, TableSteps.next_column, CellWords.PutsCell, CellWords.StopsCell, BufferedCells.int4_cell}
 
 -- ---- cells of a row

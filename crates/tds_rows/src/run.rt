@@ -38,7 +38,7 @@ pub(crate) struct RowsRun<'a> {
 
 // Writes cell after cell of a row, as far as they are whole in these bytes, aren't in chunks and have room, up to the
 // column at which it ends.
-#[inline(always)]
+#[inline(never)]
 pub(crate) fn run_cells<'a>(
     table: &Table<'a>,
     from: Ahead<'a>,
@@ -122,8 +122,8 @@ pub(crate) fn run_rows<'a>(
     let mut ahead = from;
     while to.len() - made >= INT4_ROOM {
         let rest = &bytes[used..];
-        if let Some(form) = table.known_form(ahead)
-            && let Some(start) = int4_at(&form.kind, rest)
+        if let Some(kind) = table.known_kind(ahead)
+            && let Some(start) = int4_at(kind, rest)
         {
             let last = table.is_last(ahead);
             let value = &rest[start..start + INT4_SIZE];

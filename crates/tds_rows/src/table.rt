@@ -3,7 +3,7 @@ ghost use Rattle.std.specs.Prelude.{◌≡◌, ◌==◌, ◌⊎◌, ◌+◌, ◌
 ghost use Rattle.tds_rows.specs.Forms.{AreLaidOut, table_length};
 ghost use Rattle.tds_rows.specs.Layouts.{IsLaidOut};
 
-use crate::form::{Form};
+use crate::form::Form;
 use tds_columns::{Columns, Walk};
 use tds_values::{Charset, Kind};
 
@@ -82,19 +82,18 @@ impl<'a> Table<'a> {
         }
     }
 
-    /// What the next cell needs, if the table knows it.
+    /// The kind of the next cell, if the table knows it.
     #[inline(always)]
-    pub(crate) fn known_form(&self, at: Ahead<'a>) -> Option<Form>
-        ensures beyond { result ≡ None → self.now.known ≤ at.entry.column }
+    pub(crate) fn known_kind(&self, at: Ahead<'a>) -> Option<Kind>
+        ensures none { result ≡ None → self.now.known ≤ at.entry.column }
         ensures some { IfSome result (λ _. at.entry.column < self.now.count) }
-        ensures laid { IfSome result (λ form. IsLaidOut self.now.charset form.kind form.layout) }
         ensures gives { (columns : List spec.Column) → Knows self.now columns → IsAhead self.now columns at.entry →
-            IfSome result (λ form. NextColumn columns at.entry form.kind) }
+            IfSome result (λ kind. NextColumn columns at.entry kind) }
     {
         if (at.column as usize) >= self.known {
             return None;
         }
-        Some(self.forms[at.column as usize])
+        Some(self.forms[at.column as usize].kind)
     }
 
     /// What the next cell needs. `None` at the row's end.
@@ -104,8 +103,8 @@ impl<'a> Table<'a> {
         ensures gives { (columns : List spec.Column) → Knows self.now columns → IsAhead self.now columns at.entry →
             NextForm columns at.entry result }
     {
-        if let Some(form) = self.known_form(at) {
-            return Some(form);
+        if (at.column as usize) < self.known {
+            return Some(self.forms[at.column as usize]);
         }
         let mut walk = at.walk;
         let column = walk.next()?;

@@ -33,10 +33,10 @@ pub(crate) const INT4_SIZE: usize = 4;
 /// How far after the front of its cell a whole number of four bytes is: at once, or after its length. `None` if the
 /// kind is another, or the number isn't whole in these bytes.
 #[inline(always)]
-pub(crate) fn int4_at(kind: &Kind, bytes: &[u8]) -> Option<usize>
-    ensures { IfSome result (λ start. HasInt4 kind.now start bytes.now) }
+pub(crate) fn int4_at(kind: Kind, bytes: &[u8]) -> Option<usize>
+    ensures { IfSome result (λ start. HasInt4 kind start bytes.now) }
 {
-    let start = match *kind {
+    let start = match kind {
         Kind::IntN(4) => 1,
         Kind::Int4 => 0,
         _ => return None,

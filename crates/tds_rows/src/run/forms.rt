@@ -63,7 +63,7 @@ fn write_fields(
 /// Writes the cells of the next columns of a row, after its first `column` ones, one after another, as far as they
 /// are whole in these bytes, aren't in chunks and have room. `ends` says that the last of these columns is the row's
 /// last.
-#[inline(never)]
+#[inline(always)]
 pub(crate) fn run_forms(
     forms: &[Form],
     charset: Charset,
