@@ -5,8 +5,7 @@ ghost use Rattle.tds_rows.specs.Runs.{AloneWritten, CellsWritten, OneWritten, Ro
 ghost use Rattle.tds_rows.specs.Tables.{IsNextKind};
 ghost use Rattle.tds_values.specs.declared.kind.Kind.{Kind};
 
-use crate::run::buffered::{INT4_SIZE, int4_at};
-use crate::run::fields::{INT4_ROOM, Written, write_int4_field};
+use crate::run::fields::Written;
 use crate::run::forms::run_forms;
 use crate::table::{Ahead, Table};
 
@@ -38,7 +37,7 @@ pub(crate) struct RowsRun<'a> {
 
 // Writes cell after cell of a row, as far as they are whole in these bytes, aren't in chunks and have room, up to the
 // column at which it ends.
-#[inline(never)]
+#[inline(always)]
 pub(crate) fn run_cells<'a>(
     table: &Table<'a>,
     from: Ahead<'a>,
@@ -100,8 +99,7 @@ pub(crate) fn write_alone(table: &Table, at: Ahead, bytes: &[u8], to: &mut [u8])
 }
 
 // Writes cell after cell, as far as they are whole in these bytes, aren't in chunks and have room, over the
-// ends of rows: after a whole row it goes on if the byte of the next ROW follows. Whole numbers of four bytes at the
-// front of a row, the most frequent cells, are written here.
+// ends of rows: after a whole row it goes on if the byte of the next ROW follows.
 #[inline(never)]
 pub(crate) fn run_rows<'a>(
     table: &Table<'a>,
@@ -120,18 +118,7 @@ pub(crate) fn run_rows<'a>(
     let mut made = 0;
     let mut rows = 0;
     let mut ahead = from;
-    while to.len() - made >= INT4_ROOM {
-        let rest = &bytes[used..];
-        if let Some(kind) = table.known_kind(ahead)
-            && let Some(start) = int4_at(kind, rest)
-        {
-            let last = table.is_last(ahead);
-            let value = &rest[start..start + INT4_SIZE];
-            made += write_int4_field(ahead.column, last, value, &mut to[made..]);
-            used += start + INT4_SIZE;
-            table.step(&mut ahead, 1);
-            continue;
-        }
+    loop {
         if table.is_end(ahead) {
             if used == bytes.len() || bytes[used] != ROW {
                 break;
@@ -141,7 +128,7 @@ pub(crate) fn run_rows<'a>(
             ahead = table.start();
             continue;
         }
-        let cells = run_cells(table, ahead, table.count(), rest, &mut to[made..]);
+        let cells = run_cells(table, ahead, table.count(), &bytes[used..], &mut to[made..]);
         if cells.used == 0 {
             break;
         }

@@ -1,5 +1,5 @@
 // What the cells of a description's columns need of them, known once for all its rows.
-ghost use Rattle.std.specs.Prelude.{◌≡◌, ◌==◌, ◌⊎◌, ◌+◌, ◌<◌, ◌≤◌, get_or, length, None, IfSome, List};
+ghost use Rattle.std.specs.Prelude.{◌≡◌, ◌==◌, ◌⊎◌, ◌+◌, ◌<◌, ◌≤◌, get_or, length, IfSome, List};
 ghost use Rattle.tds_rows.specs.Forms.{AreLaidOut, table_length};
 ghost use Rattle.tds_rows.specs.Layouts.{IsLaidOut};
 
@@ -37,7 +37,7 @@ pub(crate) struct Ahead<'a> {
 impl<'a> Table<'a> {
     ghost use Rattle.tds_columns.specs.Description as spec;
     ghost use Rattle.tds_columns.specs.View.{columns_of};
-    ghost use Rattle.tds_rows.specs.Tables.{AreAhead, IsAhead, Knows, NextColumn, NextForm, TakesForm};
+    ghost use Rattle.tds_rows.specs.Tables.{AreAhead, IsAhead, Knows, NextForm, TakesForm};
 
     /// The table of a description's columns, whose single-byte text is in this set.
     pub(crate) fn of(columns: Columns<'a>, charset: Charset) -> Table<'a>
@@ -80,20 +80,6 @@ impl<'a> Table<'a> {
             column: 0,
             walk: self.rest,
         }
-    }
-
-    /// The kind of the next cell, if the table knows it.
-    #[inline(always)]
-    pub(crate) fn known_kind(&self, at: Ahead<'a>) -> Option<Kind>
-        ensures none { result ≡ None → self.now.known ≤ at.entry.column }
-        ensures some { IfSome result (λ _. at.entry.column < self.now.count) }
-        ensures gives { (columns : List spec.Column) → Knows self.now columns → IsAhead self.now columns at.entry →
-            IfSome result (λ kind. NextColumn columns at.entry kind) }
-    {
-        if (at.column as usize) >= self.known {
-            return None;
-        }
-        Some(self.forms[at.column as usize].kind)
     }
 
     /// What the next cell needs. `None` at the row's end.

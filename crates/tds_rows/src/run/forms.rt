@@ -46,7 +46,8 @@ fn write_fields(
     let mut cells = 0;
     let mut used = 0;
     let mut made = write_comma(column, to);
-    while cells < forms.len() && to.len() - made >= VALUE_ROOM {
+    let most = to.len() - VALUE_ROOM;
+    while cells < forms.len() && made <= most {
         let form = &forms[cells];
         let Some(written) = write_cell(form, charset, &bytes[used..], &mut to[made..]) else {
             break;
@@ -63,7 +64,7 @@ fn write_fields(
 /// Writes the cells of the next columns of a row, after its first `column` ones, one after another, as far as they
 /// are whole in these bytes, aren't in chunks and have room. `ends` says that the last of these columns is the row's
 /// last.
-#[inline(always)]
+#[inline(never)]
 pub(crate) fn run_forms(
     forms: &[Form],
     charset: Charset,
