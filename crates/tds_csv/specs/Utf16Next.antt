@@ -2,6 +2,7 @@
 use Rattle.std.specs.Prelude.{◌≡◌, ℕ, ◌+◌, ◌*◌, ◌%◌, ◌<◌, ◌≤◌, List, [], ◌∷◌, ◌++◌, length, drop, take}
 use Rattle.std.specs.Char.{IsScalar, encode_utf8}
 use Rattle.tds_csv.specs.Joining.{Leads, emit}
+use Rattle.tds_csv.specs.Plain.{LiesIn}
 use Rattle.tds_csv.specs.Quoting.{doubled}
 use Rattle.tds_csv.specs.Utf16.{characters, rest, text}
 
@@ -24,6 +25,12 @@ pub record Converts (bytes to : List ℕ) (used made : ℕ) : Type 0 where
   pub within : used ≤ length bytes
   pub room : 2 * made ≤ 3 * used
   pub leads : Leads rest text bytes (drop used bytes) (take made to)
+
+-- The bytes before this place were converted to the front of a room that is long enough for all, and may be followed in the source.
+pub record ConvertsIn (bytes source to : List ℕ) (used made : ℕ) : Type 0 where
+  pub inside : LiesIn bytes source
+  pub long : 3 * length bytes + 32 ≤ 2 * length to
+  pub before : Converts bytes to used made
 
 -- What comes after this place is the rest of the bytes from another place on.
 pub record LeavesRest (bytes : List ℕ) (from at : ℕ) : Type 0 where

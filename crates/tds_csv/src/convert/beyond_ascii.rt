@@ -1,8 +1,7 @@
 // Characters beyond ASCII in UTF-16, eight units at a time.
 ghost use Rattle.std.specs.Prelude.{◌≡◌, ◌+◌, ◌*◌, ◌/◌, ◌%◌, ◌<◌, ◌≤◌, ◌++◌, [], ◌∷◌, length, take, map, encode_utf8_all};
 ghost use Rattle.std.specs.List.{prefix_len};
-ghost use Rattle.tds_csv.specs.Plain.{LiesIn};
-ghost use Rattle.tds_csv.specs.Utf16Next.{Converts};
+ghost use Rattle.tds_csv.specs.Utf16Next.{Converts, ConvertsIn};
 ghost use Rattle.tds_csv.specs.Wide.{is_long, is_short, pair, size, triples};
 
 use crate::convert::encode::put_bytes;
@@ -106,9 +105,7 @@ pub(crate) fn convert_short(
     to: &mut [u8],
     start: usize,
 ) -> Converted
-    requires source { LiesIn bytes.now source.now }
-    requires long { 3 * length bytes.now + 2 * LANES ≤ 2 * length to.old }
-    requires before { Converts bytes.now to.old from start }
+    requires { ConvertsIn bytes.now source.now to.old from start }
     ensures more { from ≤ result.used }
     ensures after { Converts bytes.now to.new result.used result.made }
 {
@@ -137,9 +134,7 @@ pub(crate) fn convert_long(
     to: &mut [u8],
     start: usize,
 ) -> Converted
-    requires source { LiesIn bytes.now source.now }
-    requires long { 3 * length bytes.now + 2 * LANES ≤ 2 * length to.old }
-    requires before { Converts bytes.now to.old from start }
+    requires { ConvertsIn bytes.now source.now to.old from start }
     ensures more { from ≤ result.used }
     ensures after { Converts bytes.now to.new result.used result.made }
 {

@@ -5,7 +5,7 @@ ghost use Rattle.std.specs.Char.Utf16.{is_high_surrogate, is_low_surrogate};
 ghost use Rattle.tds_csv.specs.Joining.{emit};
 ghost use Rattle.tds_csv.specs.Plain.{LiesIn};
 ghost use Rattle.tds_csv.specs.Utf16 as utf16;
-ghost use Rattle.tds_csv.specs.Utf16Next.{Converts, IsCharacter, IsNext, LeavesRest};
+ghost use Rattle.tds_csv.specs.Utf16Next.{Converts, ConvertsIn, IsCharacter, IsNext, LeavesRest};
 
 use crate::convert::beyond_ascii::{convert_long, convert_short};
 use crate::convert::encode::put_quoted;
@@ -104,9 +104,7 @@ pub(crate) struct Converted {
 // bytes in the source may be looked at.
 #[inline(always)]
 fn convert_plain(bytes: &[u8], source: &[u8], from: usize, to: &mut [u8], start: usize) -> Converted
-    requires source { LiesIn bytes.now source.now }
-    requires long { 3 * length bytes.now + 2 * LANES ≤ 2 * length to.old }
-    requires before { Converts bytes.now to.old from start }
+    requires { ConvertsIn bytes.now source.now to.old from start }
     ensures more { from ≤ result.used }
     ensures after { Converts bytes.now to.new result.used result.made }
 {
@@ -167,9 +165,7 @@ fn convert_one(bytes: &[u8], from: usize, to: &mut [u8], start: usize) -> Conver
 // Goes on with the text, by eight units if the next two are beyond ASCII.
 #[inline(always)]
 fn convert_next(bytes: &[u8], source: &[u8], from: usize, to: &mut [u8], start: usize) -> Converted
-    requires source { LiesIn bytes.now source.now }
-    requires long { 3 * length bytes.now + 2 * LANES ≤ 2 * length to.old }
-    requires before { Converts bytes.now to.old from start }
+    requires { ConvertsIn bytes.now source.now to.old from start }
     ensures more { from ≤ result.used }
     ensures held { result.used ≡ from → utf16.rest (drop from bytes.now) ≡ drop from bytes.now }
     ensures after { Converts bytes.now to.new result.used result.made }

@@ -21,4 +21,4 @@ pub returns-clause-after : goal.returns-clause-after
 returns-clause-after c =
     let n = c.put_plain.ensures in
     let min = c.min-n.ensures in
-    plain_more c.min-n.result c.requires.source (search (arith, rules)) (omega (arith, n.plain, min)) (omega (arith, n.most, min)) (omega (arith, c.loop-at.invariant.now.within, min)) c.loop-at.invariant.long n.written c.loop-at.invariant.now
+    plain_more c.min-n.result c.requires.inside (search (arith, rules)) (omega (arith, n.plain, min)) (omega (arith, n.most, min)) (omega (arith, c.loop-at.invariant.now.within, min)) c.loop-at.invariant.long n.written c.loop-at.invariant.now
