@@ -7,7 +7,7 @@ use crate::form::{Form, Layout};
 use crate::run::fields::{VALUE_ROOM, Written};
 use crate::run::short::write_short;
 use tds_csv::write_null;
-use tds_values::{Charset, Kind, Reach, write_int4, write_scalar};
+use tds_values::{Charset, Kind, Reach, write_scalar};
 
 // Where the value of a scalar cell is in these bytes, and how many it has: after its length, unless each value of
 // its kind has as many. `None` if no length is there, or the value is a long one.
@@ -27,13 +27,13 @@ fn value_at(layout: Layout, bytes: &[u8]) -> Option<(usize, usize)>
     }
 }
 
-// How many bytes a whole number of four bytes has.
-const INT4_SIZE: usize = 4;
+/// How many bytes a whole number of four bytes has.
+pub(crate) const INT4_SIZE: usize = 4;
 
-// How far after the front of its cell a whole number of four bytes is: at once, or after its length. `None` if the
-// kind is another, or the number isn't whole in these bytes.
+/// How far after the front of its cell a whole number of four bytes is: at once, or after its length. `None` if the
+/// kind is another, or the number isn't whole in these bytes.
 #[inline(always)]
-fn int4_at(kind: &Kind, bytes: &[u8]) -> Option<usize>
+pub(crate) fn int4_at(kind: &Kind, bytes: &[u8]) -> Option<usize>
     ensures { IfSome result (λ start. HasInt4 kind.now start bytes.now) }
 {
     let start = match *kind {
@@ -63,11 +63,6 @@ pub(crate) fn write_cell(
     ensures whole { IfSome result (λ written. written.used ≡ whole_size form.now.kind bytes.now) }
     ensures gives { CellWritten charset form.now.kind bytes.now (length to.old + 1) to.new result }
 {
-    if let Some(start) = int4_at(&form.kind, bytes) {
-        let used = start + INT4_SIZE;
-        let made = write_int4(&bytes[start..used], to);
-        return Some(Written { used, made });
-    }
     let Some((start, n)) = value_at(form.layout, bytes) else {
         return match form.layout {
             Layout::Long(content, Reach::Short) => write_short(content, bytes, to),

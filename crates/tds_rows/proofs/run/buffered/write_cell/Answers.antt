@@ -1,38 +1,29 @@
-use Rattle.tds_rows.proofs.Words.{inl, ◌≡◌, ◌∙◌, ◌+◌, ◌-◌, ℕ, take, drop, sym, ap, subst, arith, answered, IntN, Ok, rules, is_ok, in_line, cell_start, shape, IsValueText, WritesCell}
-use Rattle.tds_rows.proofs.{BufferedCells.null_cell, BufferedCells.refused_left, BufferedCells.value_cell, LaidOut.value_there, RunSteps.writes_int4, RunSteps.writes_scalar}
+use Rattle.tds_rows.proofs.Words.{inl, ◌≡◌, ◌∙◌, ◌+◌, ◌-◌, ℕ, take, drop, sym, ap, subst, arith, rules, is_ok, in_line, cell_start, shape, IsValueText, WritesCell}
+use Rattle.tds_rows.proofs.{BufferedCells.null_cell, BufferedCells.refused_left, BufferedCells.value_cell, LaidOut.value_there, RunSteps.writes_scalar}
 use Rattle.tds_rows.proofs.run.buffered.write_cell.Goals as goal
-
--- a whole number of four bytes
-pub returns-in-Some-clause-gives : goal.returns-in-Some-clause-gives
-returns-in-Some-clause-gives c = λ column last.
-    let start = c.in-Some.start in
-    let text = in_line column last (take c.write_int4-made.result c.write_int4-made.new.to) in
-    let x = answered _ (Ok c.write_int4-made.result) _ c.write_int4-made.ensures.text in
-    let is : IsValueText (IntN 4) column last (take ((start + 4) - start) (drop start c.args.bytes.now)) text = (x.0, x.1.0, ap (in_line column last) x.1.1.0) in
-    writes_int4 c.args.charset (omega arith) c.in-Some.ensures is
 
 pub returns-then-n-eq0-clause-gives : goal.returns-then-n-eq0-clause-gives
 returns-then-n-eq0-clause-gives c = λ column last.
     let kind = c.args.form.now.kind in
     let text = in_line column last (take c.write_null-made.result c.write_null-made.new.to) in
-    let at = value_there _ _ _ _ _ _ c.requires.laid c.in-Some-value_at.ensures in
+    let at = value_there _ _ _ _ _ _ c.requires.laid c.in-Some.ensures in
     writes_scalar _ _ _ _ _ _ (λ charset.
-    subst (λ (n : ℕ). WritesCell (cell_start kind (shape charset kind)) column last (take (c.in-Some-value_at.start + n) c.args.bytes.now) text) (sym c.if-n-eq0.true)
+    subst (λ (n : ℕ). WritesCell (cell_start kind (shape charset kind)) column last (take (c.in-Some.start + n) c.args.bytes.now) text) (sym c.if-n-eq0.true)
     (null_cell _ _ _ _ _ _ at.0 _ at.1.0 (sym at.1.1 ∙ c.if-n-eq0.true) (search (arith, rules)) (ap (in_line column last) c.write_null-made.ensures.text)))
 
 pub returns-in-Ok-clause-gives : goal.returns-in-Ok-clause-gives
 returns-in-Ok-clause-gives c = λ column last.
     let kind = c.args.form.now.kind in
-    let at = value_there _ _ _ _ _ _ c.requires.laid c.in-Some-value_at.ensures in
-    let start = c.in-Some-value_at.start in
+    let at = value_there _ _ _ _ _ _ c.requires.laid c.in-Some.ensures in
+    let start = c.in-Some.start in
     let text = in_line column last (take c.in-Ok.made c.write_scalar.new.to) in
-    let after : (start + c.in-Some-value_at.n) - start ≡ c.in-Some-value_at.n = omega arith in
+    let after : (start + c.in-Some.n) - start ≡ c.in-Some.n = omega arith in
     let x = c.in-Ok.ensures.written in
-    let is : IsValueText kind column last (take ((start + c.in-Some-value_at.n) - start) (drop start c.args.bytes.now)) text = (x.0, x.1.0, ap (in_line column last) x.1.1.0) in
+    let is : IsValueText kind column last (take ((start + c.in-Some.n) - start) (drop start c.args.bytes.now)) text = (x.0, x.1.0, ap (in_line column last) x.1.1.0) in
     writes_scalar _ _ _ _ _ _ (λ charset.
     value_cell _ _ _ _ _ _ at.0 _ _ at.1.0 at.1.1 c.if-n-eq0.false (search (arith, rules)) (rw after at is))
 
 pub returns-in-Err-clause-gives : goal.returns-in-Err-clause-gives
 returns-in-Err-clause-gives c =
-    let at = value_there _ _ _ _ _ _ c.requires.laid c.in-Some-value_at.ensures in
+    let at = value_there _ _ _ _ _ _ c.requires.laid c.in-Some.ensures in
     inl (at.0, refused_left _ _ _ _ at.1.0 at.1.1 c.if-n-eq0.false (ap is_ok c.in-Err.ensures.refused))
