@@ -1,6 +1,6 @@
 -- Runs over cells by their forms, a cell after those that were written.
-use Rattle.tds_rows.proofs.Words.{common_steps, ◌≡◌, ◌≢◌, ◌∙◌, ℕ, zero, suc, ◌+◌, ◌-◌, ◌<◌, ◌≤◌, Bool, true, false, List, [], ◌∷◌, ◌++◌, length, take, drop, get_or, refl, sym, ap, subst, arith, append-nil, append_assoc, length-append, ◌==◌, ◌&&◌, map, slice_set, drop_more, length-map, length-take-le, take-append-le, take_all, take_more_set, get_or_default, length-drop, length-take, take-take, drop-drop, Kind, eq_false, eq_true, Column, all_after, after_comma, end_after, in_line, Charset, Form, IsLeft, WritesField, WritesKind, is_last_column, whole_size, AreNext, FieldsWritten, FirstUsed, FirstWritten, WritesForms, WritesColumn, WritesMarked, nat_tests, HasFields, length-set, FormsRun}
-use Rattle.tds_rows.proofs.{LineTexts.after_some_column, LineTexts.after_append, RunSteps.made_more, RunSteps.used_more, TableSteps.known_kind, TableSteps.last_one, RunSteps.made_same}
+use Rattle.tds_rows.proofs.Words.{common_steps, ◌≡◌, ◌≢◌, ◌∙◌, ℕ, zero, suc, ◌+◌, ◌-◌, ◌<◌, ◌≤◌, Bool, true, false, List, [], ◌∷◌, ◌++◌, length, take, drop, get_or, refl, sym, ap, subst, arith, append-nil, append_assoc, length-append, ◌==◌, ◌&&◌, map, slice_set, drop_more, length-map, length-take-le, take-append-le, take_all, take_more_set, get_or_default, length-drop, length-take, take-take, drop-drop, Kind, eq_false, eq_true, Column, all_after, after_comma, end_after, in_line, Charset, Form, IsLeft, WritesField, WritesKind, is_last_column, whole_size, AreNext, FieldsWritten, FirstUsed, FirstWritten, WritesForms, WritesColumn, WritesMarked, nat_tests}
+use Rattle.tds_rows.proofs.{LineTexts.after_some_column, LineTexts.after_append, RunSteps.made_more, RunSteps.used_more, TableSteps.known_kind, TableSteps.last_one}
 
 not_last : (rest : List Column) → 0 < length rest → false ≡ is_last_column rest
 not_last rest some = grind arith
@@ -109,37 +109,6 @@ module _ (charset : Charset) (forms : List Form) (column : ℕ) (bytes : List �
   -- the bytes of the first cell were used
   pub first_used : (used u k : ℕ) (d : Form) → k ≡ 0 → used ≡ 0 → u ≡ whole_size (get_or forms k d).kind (take (length bytes - used) (drop used bytes)) → FirstUsed forms bytes (used + u)
   first_used used u k d first none size form others are = grind (arith, all_after)
-
-  -- and so it is of all that a run has
-  pub has_more : (to text rest : List ℕ) (k used u made m : ℕ) (d : Form) → made ≤ length to → m + 1 < length text → k < length forms → 0 < u → used + u ≤ length bytes → u ≡ whole_size (get_or forms k d).kind (take (length bytes - used) (drop used bytes))
-      → WritesField charset (get_or forms k d).kind (take u (take (length bytes - used) (drop used bytes))) (take m text) → HasFields charset forms column bytes to (record { cells = k; used = used; made = made })
-      → HasFields charset forms column bytes (slice_set (take made to ++ (text ++ rest)) (made + m) 44) (record { cells = k + 1; used = used + u; made = made + m + 1 })
-  has_more to text rest k used u made m d within some there read fits size wrote x =
-      let all = take made to ++ (text ++ rest) in
-      let long : made + m + 1 < length (slice_set all (made + m) 44) = omega (arith, some, length-set all (made + m) 44, length-append (take made to) (text ++ rest), length-append text rest, length-take-le made to within) in
-      record {
-        cells = omega (arith, there);
-        used = fits;
-        made = omega (arith, long);
-        begun = λ never. absurd (omega (arith, never));
-        some = λ _. omega (arith, read);
-        room = λ _. (omega arith, long);
-        one = λ first. first_used used u k d (omega (arith, first)) (x.begun (omega (arith, first))).0 size;
-        writes = fields_more to text rest k used u made m d within (omega (arith, some)) there wrote x.writes;
-      }
-
-  -- what is written after it leaves it as it was
-  pub has_same : (to rest : List ℕ) (run : FormsRun) → HasFields charset forms column bytes to run → length (take run.made to ++ rest) ≡ length to → HasFields charset forms column bytes (take run.made to ++ rest) run
-  has_same to rest run x same = record {
-    cells = x.cells;
-    used = x.used;
-    made = omega (arith, same, x.made);
-    begun = x.begun;
-    some = x.some;
-    room = λ some. ((x.room some).0, omega (arith, same, (x.room some).1));
-    one = x.one;
-    writes = (x.writes.0, x.writes.1, made_same run.made to rest x.made ∙ x.writes.2);
-  }
 
   -- the first alone
   pub first_alone : (ends : Bool) (to : List ℕ) (used made : ℕ) (fields : List ℕ) → FirstUsed forms bytes used → WritesForms charset forms column 1 (take used bytes) fields → take made to ≡ fields ++ end_after (ends && (1 == length forms))

@@ -1,5 +1,5 @@
 -- The cells of a run, as they are written one after another.
-use Rattle.tds_rows.proofs.Words.{common_steps, false, zero, suc, add-zero, ◌≡◌, ◌∙◌, ℕ, ◌+◌, ◌-◌, ◌≤◌, ◌<◌, Bool, List, [], ◌∷◌, ◌++◌, length, take, drop, get_or, refl, sym, ap, subst, arith, append_assoc, append-nil, length-append, Result, Ok, Err, MatchResult, true, length-take, length-take-le, take-append-le, take_all, take_more, take-append-add, take-add, Stop, map, Option, Spelt, Seen, Takes, joined, line, Sink, Breaks, Held, IsWriting, Puts, PutsPiece, held, Inside, Spelt-append, Spelt-one, Column, all_after, Charset, Cell, CellPart, Shape, WholeCell, cell, cell_start, field, shape, NbcRow, PlainRow, RowPart, RowToken, WholeRow, next_cell, row, row_so_far, token_byte, token_start, with_field, IsLeft, IsScalarLeft, IsValueText, WritesKind, cell_so_far, is_last_column, scalar_size, whole_size, WritesCell, WritesWhole, is_scalar, Writes, WritesRows, after_cells, lines, rows, rows_so_far, Kind, IntN, WritesColumn, WritesMarked, HasInt4, int4_kind, slice_index}
+use Rattle.tds_rows.proofs.Words.{common_steps, false, zero, suc, add-zero, ◌≡◌, ◌∙◌, ℕ, ◌+◌, ◌-◌, ◌≤◌, ◌<◌, Bool, List, [], ◌∷◌, ◌++◌, length, take, drop, get_or, refl, sym, ap, subst, arith, append_assoc, append-nil, length-append, Result, Ok, Err, MatchResult, true, length-take, length-take-le, take-append-le, take_all, take_more, take-append-add, take-add, Stop, map, Option, Spelt, Seen, Takes, joined, line, Sink, Breaks, Held, IsWriting, Puts, PutsPiece, held, Inside, Spelt-append, Spelt-one, Column, all_after, Charset, Cell, CellPart, Shape, WholeCell, cell, cell_start, field, shape, NbcRow, PlainRow, RowPart, RowToken, WholeRow, next_cell, row, row_so_far, token_byte, token_start, with_field, IsLeft, IsScalarLeft, IsValueText, WritesKind, cell_so_far, is_last_column, scalar_size, whole_size, WritesCell, WritesWhole, is_scalar, Writes, WritesRows, after_cells, lines, rows, rows_so_far, Kind, IntN, WritesColumn, WritesMarked, HasInt4, int4_kind}
 use Rattle.tds_rows.proofs.{CellSteps.fixed_some, NullSteps.row_cell, NullTexts.coming, NullTexts.ends_marked, NullTexts.none_ahead, Paths.At, Paths.writes_both, Paths.writes_inside, Paths.writes_none, RowSteps.quiet_text, RowSteps.start_quiet, TableSteps.next_column, CellWords.PutsCell, CellWords.StopsCell, BufferedCells.int4_cell}
 
 -- ---- cells of a row
@@ -20,13 +20,6 @@ writes_scalar set kind column last bytes made x = grind (arith, common_steps, wh
 pub writes_int4 : {kind : Kind} {start n column : ℕ} {last : Bool} {bytes made : List ℕ} (set : Charset) → n ≡ 4 → HasInt4 kind start bytes → IsValueText (IntN 4) column last (take n (drop start bytes)) made → WritesKind set kind column last (take (start + 4) bytes) made
 writes_int4 {start = start} {column = column} {last = last} {bytes = bytes} {made = made} set is h x =
     rw h.kind_is (writes_scalar set (int4_kind start) column last (take (start + 4) bytes) made (λ any. int4_cell any start column last bytes made (rw h.kind_is at h) (rw is at x)))
-
--- how many bytes its cell has
-pub int4_whole : (kind : Kind) (start : ℕ) (bytes : List ℕ) → HasInt4 kind start bytes → start + 4 ≡ whole_size kind bytes
-int4_whole kind start bytes h = rw h.kind_is (go start h.most h.length_is)
-  where
-    go : (n : ℕ) → n ≤ 1 → (0 < n → slice_index bytes 0 ≡ 4) → n + 4 ≡ whole_size (int4_kind n) bytes
-    go n most is = grind (arith, common_steps)
 
 -- what is made after what was made
 pub made_more : (made m : ℕ) (to new rest : List ℕ) → made ≤ length to → m ≤ length new → take (made + m) (take made to ++ (new ++ rest)) ≡ take made to ++ take m new

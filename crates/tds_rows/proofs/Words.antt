@@ -27,7 +27,7 @@ pub use Rattle.tds_rows.specs.{Blames.Blames, Blames.Failures, Blames.StopBlames
 pub use Rattle.tds_values.specs.declared.charset.{Charset.Charset}
 pub use Rattle.tds_rows.specs.CellSteps.{CellGathered, FieldPut, GathersCell, IsLeft, IsScalarLeft, IsValueText, PutsField, StallsCell, StopsField, WritesField, WritesKind, cell_so_far, is_last_column, length_after, opened, scalar_size, start_after, value_bytes, value_length, value_start, whole_size, HasInt4, int4_kind}
 pub use Rattle.tds_rows.specs.Cells.{Cell, CellPart, ChunkData, ChunkLength, CountedShape, DataCell, FixedShape, LongShape, Null, ScalarBytes, ScalarCell, ScalarLength, Shape, ShortData, ShortLength, SpellsCell, SpellsChunk, SpellsChunked, SpellsChunks, SpellsShort, Total, WholeCell, cell, cell_add, cell_end, cell_fault, cell_size, cell_start, chunk_fault, end_of_chunks, field, field_so_far, is_total, known_total, long_start, null_total, return_charset, shape, shape_of_length, unknown_total, unless, value_part, within_total}
-pub use Rattle.tds_rows.specs.FormRuns.{AreNext, FieldsWritten, FirstLeft, FirstUsed, FirstWritten, FormsWritten, WritesForms, HasFields}
+pub use Rattle.tds_rows.specs.FormRuns.{AreNext, FieldsWritten, FirstLeft, FirstUsed, FirstWritten, FormsWritten, WritesForms}
 pub use Rattle.tds_rows.specs.LongCells.{BreaksData, CutsData, CutsNumber, EndPut, EndsData, FillsData, ReadsNumber, RefusesData, RefusesNumber, StopsData, StopsEnding, StopsFilling, TakesData, added_text, chunk_length_fault, end_fault, ending, good_of, join_stop, opening, short_fault, short_length, total_fault, total_of}
 pub use Rattle.tds_rows.specs.MarkedRuns.{AreClear, EndsLeft, MarkedPut, PutsMarked, RunsMarked, WritesColumn, WritesMarked, WritesNext}
 pub use Rattle.tds_rows.specs.PassedCells.{AnyData, CellPassed, CutsPassing, IsGoodValue, PassesCell, PassesData, StepsOver, StopsPassing, return_cell}

@@ -47,17 +47,6 @@ abbrev pub FieldsWritten : Charset → List Form → ℕ → List ℕ → List �
 FieldsWritten charset forms column bytes text run = (fields : List ℕ) × WritesForms charset forms column run.cells (take run.used bytes) fields
     × (take run.made text ≡ fields ++ after_comma (column + run.cells) [])
 
--- A run wrote the fields of its first cells, each of some bytes, and the comma of the next one.
-pub record HasFields (charset : Charset) (forms : List Form) (column : ℕ) (bytes text : List ℕ) (run : FormsRun) : Type 0 where
-  pub cells : run.cells ≤ length forms
-  pub used : run.used ≤ length bytes
-  pub made : run.made ≤ length text
-  pub begun : run.cells ≡ 0 → (run.used ≡ 0) × (run.made ≤ 1)
-  pub some : 0 < run.cells → 0 < run.used
-  pub room : 0 < run.cells → (0 < run.made) × (run.made < length text)
-  pub one : run.cells ≡ 1 → FirstUsed forms bytes run.used
-  pub writes : FieldsWritten charset forms column bytes text run
-
 -- A run wrote the text of the bytes that it used, which are the next cells.
 abbrev pub FormsWritten : Charset → List Form → ℕ → Bool → List ℕ → List ℕ → FormsRun → Type 0
 FormsWritten charset forms column ends bytes text run = (columns : List Column) → AreNext forms ends (drop column columns) →

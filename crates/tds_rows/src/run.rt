@@ -5,7 +5,8 @@ ghost use Rattle.tds_rows.specs.Runs.{AloneWritten, CellsWritten, OneWritten, Ro
 ghost use Rattle.tds_rows.specs.Tables.{IsNextKind};
 ghost use Rattle.tds_values.specs.declared.kind.Kind.{Kind};
 
-use crate::run::fields::Written;
+use crate::run::buffered::{INT4_SIZE, int4_at};
+use crate::run::fields::{INT4_ROOM, Written, write_int4_field};
 use crate::run::forms::run_forms;
 use crate::table::{Ahead, Table};
 
@@ -98,6 +99,51 @@ pub(crate) fn write_alone(table: &Table, at: Ahead, bytes: &[u8], to: &mut [u8])
     })
 }
 
+// Writes cell after cell of rows that have only whole numbers of four bytes, as far as they are whole in these bytes,
+// aren't NULL and have room, over the ends of rows. Of other rows it writes nothing.
+#[inline(never)]
+fn run_numbers<'a>(table: &Table<'a>, from: Ahead<'a>, bytes: &[u8], to: &mut [u8]) -> RowsRun<'a>
+    requires { 0 < table.now.count }
+    ensures used { result.used ≤ length bytes.now }
+    ensures made { result.made ≤ length to.old }
+    ensures few { result.rows ≤ result.used }
+    ensures gives { RowsWritten table.now from.entry bytes.now to.new result }
+{
+    let mut used = 0;
+    let mut made = 0;
+    let mut rows = 0;
+    let mut ahead = from;
+    while to.len() - made >= INT4_ROOM {
+        if table.is_end(ahead) {
+            if used == bytes.len() || bytes[used] != ROW {
+                break;
+            }
+            used += 1;
+            rows += 1;
+            ahead = table.start();
+            continue;
+        }
+        let rest = &bytes[used..];
+        let Some(kind) = table.number(ahead) else {
+            break;
+        };
+        let Some(start) = int4_at(&kind, rest) else {
+            break;
+        };
+        let last = table.is_last(ahead);
+        let value = &rest[start..start + INT4_SIZE];
+        made += write_int4_field(ahead.column, last, value, &mut to[made..]);
+        used += start + INT4_SIZE;
+        table.step(&mut ahead, 1);
+    }
+    RowsRun {
+        used,
+        made,
+        rows,
+        ahead,
+    }
+}
+
 // Writes cell after cell, as far as they are whole in these bytes, aren't in chunks and have room, over the
 // ends of rows: after a whole row it goes on if the byte of the next ROW follows.
 #[inline(never)]
@@ -114,10 +160,11 @@ pub(crate) fn run_rows<'a>(
     ensures ends { RunEnds table.now result.ahead (drop result.used bytes.now) (length to.old - result.made) }
     ensures gives { RowsWritten table.now from.entry bytes.now to.new result }
 {
-    let mut used = 0;
-    let mut made = 0;
-    let mut rows = 0;
-    let mut ahead = from;
+    let numbers = run_numbers(table, from, bytes, to);
+    let mut used = numbers.used;
+    let mut made = numbers.made;
+    let mut rows = numbers.rows;
+    let mut ahead = numbers.ahead;
     loop {
         if table.is_end(ahead) {
             if used == bytes.len() || bytes[used] != ROW {

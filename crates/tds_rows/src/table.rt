@@ -7,15 +7,21 @@ use crate::form::Form;
 use tds_columns::{Columns, Walk};
 use tds_values::{Charset, Kind};
 
-/// How many columns a table knows by itself. It takes 6 bytes for each, in a local variable.
+/// How many columns a table knows by itself. It takes 7 bytes for each, in a local variable.
 const TABLE_LENGTH: usize = 64;
 
-/// The columns of a description: what the cells of the first ones need, the walk over those after,
-/// and the set of single-byte text.
+// Whether the values of a kind are whole numbers of four bytes.
+fn is_int4(kind: &Kind) -> bool {
+    matches!(*kind, Kind::Int4 | Kind::IntN(4))
+}
+
+/// The columns of a description: what the cells of the first ones need, whether these are all and have only whole
+/// numbers of four bytes, the walk over those after, and the set of single-byte text.
 #[derive(Drop)]
 pub(crate) struct Table<'a> {
     forms: [Form; TABLE_LENGTH],
     known: usize,
+    only_numbers: bool,
     count: u16,
     rest: Walk<'a>,
     pub(crate) charset: Charset,
@@ -37,7 +43,7 @@ pub(crate) struct Ahead<'a> {
 impl<'a> Table<'a> {
     ghost use Rattle.tds_columns.specs.Description as spec;
     ghost use Rattle.tds_columns.specs.View.{columns_of};
-    ghost use Rattle.tds_rows.specs.Tables.{AreAhead, IsAhead, Knows, NextForm, TakesForm};
+    ghost use Rattle.tds_rows.specs.Tables.{AreAhead, IsAhead, Knows, NextColumn, NextForm, TakesForm};
 
     /// The table of a description's columns, whose single-byte text is in this set.
     pub(crate) fn of(columns: Columns<'a>, charset: Charset) -> Table<'a>
@@ -46,6 +52,7 @@ impl<'a> Table<'a> {
     {
         let mut forms = [Form::of(Kind::Int4, charset); TABLE_LENGTH];
         let mut known = 0;
+        let mut only_numbers = true;
         let mut rest = columns.walk();
         while known < TABLE_LENGTH {
             let Some(column) = rest.next() else {
@@ -53,10 +60,12 @@ impl<'a> Table<'a> {
             };
             forms[known] = Form::of(column.kind, charset);
             known += 1;
+            only_numbers &= is_int4(&column.kind);
         }
         Table {
             forms,
             known,
+            only_numbers: only_numbers && known == columns.count() as usize,
             count: columns.count(),
             rest,
             charset,
@@ -68,6 +77,20 @@ impl<'a> Table<'a> {
         ensures { result ≡ self.now.count }
     {
         self.count
+    }
+
+    /// The kind of the next cell of a row that has only whole numbers of four bytes, the most frequent kind. `None` at
+    /// the row's end, and for every other table.
+    #[inline(always)]
+    pub(crate) fn number(&self, at: Ahead<'a>) -> Option<Kind>
+        ensures some { IfSome result (λ _. at.entry.column < self.now.count) }
+        ensures gives { (columns : List spec.Column) → Knows self.now columns → IsAhead self.now columns at.entry →
+            IfSome result (λ kind. NextColumn columns at.entry kind) }
+    {
+        if !self.only_numbers || (at.column as usize) >= self.known {
+            return None;
+        }
+        Some(self.forms[at.column as usize].kind)
     }
 
     /// The place before the first cell of a row.

@@ -1,14 +1,13 @@
 // A run over cells by their forms, whose columns follow one another in a row.
 ghost use Rattle.std.specs.Prelude.{◌≡◌, ◌==◌, ◌&&◌, ◌<◌, ◌≤◌, length};
-ghost use Rattle.tds_rows.specs.FormRuns.{FirstLeft, FirstWritten, FormsWritten, HasFields, IsWithin};
+ghost use Rattle.tds_rows.specs.FormRuns.{FieldsWritten, FirstLeft, FirstUsed, FirstWritten, FormsWritten, IsWithin};
 ghost use Rattle.tds_rows.specs.Forms.{AreLaidOut};
-ghost use Rattle.tds_values.specs.declared.charset.Charset.{Charset};
 
 use crate::form::Form;
-use crate::run::buffered::{INT4_SIZE, int4_at, write_cell};
+use crate::run::buffered::write_cell;
 use crate::run::fields::{CELL_ROOM, VALUE_ROOM};
 use tds_csv::{COMMA, write_comma, write_line_end};
-use tds_values::{Charset, write_int4};
+use tds_values::Charset;
 
 /// How many cells a run wrote, how many bytes they have, and how many their text has.
 #[derive(Clone, Copy)]
@@ -26,35 +25,6 @@ fn is_last(ends: bool, cells: usize, count: usize) -> bool
     ends && cells == count
 }
 
-// How many bytes the text of a whole number of four bytes may want, with the comma after it, and one to spare.
-const NUMBER_ROOM: usize = 27;
-
-// Writes the fields of the next cells as far as they are whole numbers of four bytes, the most frequent cells, each
-// after a comma unless it is the row's first, and a comma after the last of them.
-#[inline(always)]
-fn write_numbers(forms: &[Form], column: u16, bytes: &[u8], to: &mut [u8]) -> FormsRun
-    requires { CELL_ROOM ≤ length to.old }
-    ensures { (charset : Charset) → HasFields charset forms.now column bytes.now to.new result }
-{
-    let mut cells = 0;
-    let mut used = 0;
-    let mut made = write_comma(column, to);
-    let most = to.len() - NUMBER_ROOM;
-    while cells < forms.len() && made <= most {
-        let rest = &bytes[used..];
-        let Some(start) = int4_at(&forms[cells].kind, rest) else {
-            break;
-        };
-        let end = start + INT4_SIZE;
-        made += write_int4(&rest[start..end], &mut to[made..]);
-        to[made] = COMMA;
-        made += 1;
-        used += end;
-        cells += 1;
-    }
-    FormsRun { cells, used, made }
-}
-
 // Writes the fields of the next cells, each after a comma unless it is the row's first, and a comma after the last
 // of them.
 #[inline(always)]
@@ -67,13 +37,15 @@ fn write_fields(
 ) -> FormsRun
     requires laid { AreLaidOut charset forms.now }
     requires room { CELL_ROOM ≤ length to.old }
+    ensures within { IsWithin result (length forms.now) (length bytes.now) (length to.old) }
+    ensures room { 0 < result.cells → (0 < result.made) × (result.made < length to.old) }
     ensures ends { result.cells ≡ 0 → FirstLeft charset forms.now bytes.now (length to.old) }
-    ensures gives { HasFields charset forms.now column bytes.now to.new result }
+    ensures one { result.cells ≡ 1 → FirstUsed forms.now bytes.now result.used }
+    ensures gives { FieldsWritten charset forms.now column bytes.now to.new result }
 {
-    let numbers = write_numbers(forms, column, bytes, to);
-    let mut cells = numbers.cells;
-    let mut used = numbers.used;
-    let mut made = numbers.made;
+    let mut cells = 0;
+    let mut used = 0;
+    let mut made = write_comma(column, to);
     let most = to.len() - VALUE_ROOM;
     while cells < forms.len() && made <= most {
         let form = &forms[cells];

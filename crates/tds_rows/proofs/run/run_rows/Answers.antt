@@ -1,15 +1,10 @@
 use Rattle.tds_rows.proofs.Words.{[], ◌∷◌, rules, arith, sym, ap, subst, ◌≡◌, ◌∙◌, ◌-◌, ◌<◌, ◌≤◌, length, take, drop, length-take, length-drop, all_after, WritesRows}
 use Rattle.tds_rows.proofs.run.run_rows.Goals.{then-is_end+then-used-bytes, else-is_end+then-cells-eq0}
-use Rattle.tds_rows.proofs.{RunSteps.made_same, RunSteps.rows_none, RunSteps.rows_onward, TableRuns.more_in_rows, TableSteps.at_end, TableSteps.not_end}
+use Rattle.tds_rows.proofs.{RunSteps.made_same, RunSteps.rows_onward, TableRuns.more_in_rows, TableSteps.at_end, TableSteps.not_end}
 use Rattle.tds_rows.proofs.run.run_rows.Goals as goal
 
 pub loop-ahead-init : goal.loop-ahead-init
-loop-ahead-init c = record {
-  used = omega arith;
-  made = omega arith;
-  few = omega arith;
-  writes = λ columns knows ahead. (ahead, λ charset cells set is. rows_none is);
-}
+loop-ahead-init c = record { used = search rules; made = search rules; few = search rules; writes = c.run_numbers-numbers.ensures.gives }
 
 pub loop-ahead-preserved-then-is_end : goal.loop-ahead-preserved-then-is_end
 loop-ahead-preserved-then-is_end c =
