@@ -113,6 +113,14 @@ fn run_numbers<'a>(table: &Table<'a>, from: Ahead<'a>, bytes: &[u8], to: &mut [u
     let mut made = 0;
     let mut rows = 0;
     let mut ahead = from;
+    if !table.only_numbers {
+        return RowsRun {
+            used,
+            made,
+            rows,
+            ahead,
+        };
+    }
     while to.len() - made >= INT4_ROOM {
         if table.is_end(ahead) {
             if used == bytes.len() || bytes[used] != ROW {
@@ -124,7 +132,7 @@ fn run_numbers<'a>(table: &Table<'a>, from: Ahead<'a>, bytes: &[u8], to: &mut [u
             continue;
         }
         let rest = &bytes[used..];
-        let Some(kind) = table.number(ahead) else {
+        let Some(kind) = table.known_kind(ahead) else {
             break;
         };
         let Some(start) = int4_at(&kind, rest) else {
@@ -134,7 +142,7 @@ fn run_numbers<'a>(table: &Table<'a>, from: Ahead<'a>, bytes: &[u8], to: &mut [u
         let value = &rest[start..start + INT4_SIZE];
         made += write_int4_field(ahead.column, last, value, &mut to[made..]);
         used += start + INT4_SIZE;
-        table.step(&mut ahead, 1);
+        ahead.column += 1;
     }
     RowsRun {
         used,

@@ -21,7 +21,7 @@ fn is_int4(kind: &Kind) -> bool {
 pub(crate) struct Table<'a> {
     forms: [Form; TABLE_LENGTH],
     known: usize,
-    only_numbers: bool,
+    pub(crate) only_numbers: bool,
     count: u16,
     rest: Walk<'a>,
     pub(crate) charset: Charset,
@@ -43,7 +43,7 @@ pub(crate) struct Ahead<'a> {
 impl<'a> Table<'a> {
     ghost use Rattle.tds_columns.specs.Description as spec;
     ghost use Rattle.tds_columns.specs.View.{columns_of};
-    ghost use Rattle.tds_rows.specs.Tables.{AreAhead, IsAhead, Knows, NextColumn, NextForm, TakesForm};
+    ghost use Rattle.tds_rows.specs.Tables.{AreAhead, IsAhead, Knows, NextForm, TakesColumn, TakesForm, one_on};
 
     /// The table of a description's columns, whose single-byte text is in this set.
     pub(crate) fn of(columns: Columns<'a>, charset: Charset) -> Table<'a>
@@ -79,15 +79,14 @@ impl<'a> Table<'a> {
         self.count
     }
 
-    /// The kind of the next cell of a row that has only whole numbers of four bytes, the most frequent kind. `None` at
-    /// the row's end, and for every other table.
+    /// The kind of the next cell, if the table knows it. The place after that cell has the same walk.
     #[inline(always)]
-    pub(crate) fn number(&self, at: Ahead<'a>) -> Option<Kind>
+    pub(crate) fn known_kind(&self, at: Ahead<'a>) -> Option<Kind>
         ensures some { IfSome result (λ _. at.entry.column < self.now.count) }
         ensures gives { (columns : List spec.Column) → Knows self.now columns → IsAhead self.now columns at.entry →
-            IfSome result (λ kind. NextColumn columns at.entry kind) }
+            IfSome result (λ kind. TakesColumn self.now columns at.entry (one_on at.entry) kind) }
     {
-        if !self.only_numbers || (at.column as usize) >= self.known {
+        if (at.column as usize) >= self.known {
             return None;
         }
         Some(self.forms[at.column as usize].kind)

@@ -5,6 +5,7 @@ ghost use Rattle.tds_csv.specs.Fields.{conversion_of};
 
 use crate::long::lengths::NULL_LENGTH;
 use crate::run::fields::{VALUE_ROOM, Written};
+use byteorder::{ByteOrder, LittleEndian};
 use tds_csv::{Content, field_room, write_field, write_null};
 
 /// Writes the field of a short value of this content, whose cell is at the front of these bytes. `None` if it isn't
@@ -20,7 +21,7 @@ pub(crate) fn write_short(content: Content, bytes: &[u8], to: &mut [u8]) -> Opti
     if bytes.len() < 2 {
         return None;
     }
-    let n = bytes[0] as usize + 256 * bytes[1] as usize;
+    let n = LittleEndian::read_u16(bytes) as usize;
     if n == NULL_LENGTH as usize {
         let made = write_null(0, false, to);
         return Some(Written { used: 2, made });

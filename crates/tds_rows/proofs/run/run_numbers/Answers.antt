@@ -1,6 +1,9 @@
 use Rattle.tds_rows.proofs.Words.{[], arith, rules, sym, ◌≡◌, ◌∙◌, ◌<◌, ◌≤◌, length, drop}
-use Rattle.tds_rows.proofs.{RunSteps.rows_none, RunSteps.rows_onward, RunSteps.writes_int4, Stretches.runs_column, TableRuns.more_in_rows, TableSteps.at_end, TableSteps.last_one, TableSteps.takes}
+use Rattle.tds_rows.proofs.{RunSteps.rows_none, RunSteps.rows_onward, RunSteps.writes_int4, Stretches.runs_column, TableRuns.more_in_rows, TableSteps.at_end, TableSteps.last_one}
 use Rattle.tds_rows.proofs.run.run_numbers.Goals as goal
+
+pub returns-then-not-table-clause-gives : goal.returns-then-not-table-clause-gives
+returns-then-not-table-clause-gives c = λ columns knows ahead. (ahead, λ charset cells set is. rows_none is)
 
 pub loop-to-init : goal.loop-to-init
 loop-to-init c = record {
@@ -40,6 +43,6 @@ loop-to-preserved c =
       few = omega (arith, l.invariant.few);
       writes = λ columns knows ahead.
           let x = l.invariant.writes columns knows ahead in
-          let taken = takes _ _ _ _ _ (c.in-Some.ensures.gives columns knows x.0) c.step.ensures.further (c.step.ensures.gives columns knows x.0) in
+          let taken = c.in-Some.ensures.gives columns knows x.0 in
           more_in_rows c.args.from _ _ _ _ _ _ _ _ l.invariant.made within x (runs_column taken (c.is_last-last.ensures ∙ last_one _ _ _ _ _ knows.counted taken.next) wrote.whole);
     }
