@@ -118,10 +118,7 @@ module _ (charset : Charset) (forms : List Form) (column : ℕ) (bytes : List �
       let read : rest ≡ take used bytes = sym (b ∙ ap (λ l. l ++ rest) x.0) in
       let text : in_line column last field ≡ take made to = ap (λ l. l ++ end_after last) (ap (λ (n : ℕ). after_comma n field) (let n : column ≡ column + 0 = omega arith in n) ∙ sym (t ∙ ap (λ l. l ++ after_comma (column + 0) field) x.1)) ∙ sym is in
       let kind_is : (get_or forms 0 form).kind ≡ form.kind = ap (λ (l : List Form). (get_or l 0 form).kind) are in
-      record {
-        size = size form others are;
-        writes = rw kind_is at (rw text at (rw read at (y form column last)));
-      }
+      record { size = size form others are; writes = rw kind_is at (rw text at (rw read at (y form column last))) }
 
 -- ---- a cell that is left
 

@@ -1,10 +1,29 @@
 -- Runs of cells over the columns that a table knows: more cells after those that were written.
-use Rattle.tds_rows.proofs.Words.{false, ◌≡◌, ◌∙◌, ℕ, ◌+◌, ◌-◌, ◌≤◌, Bool, List, ◌++◌, length, take, drop, get_or, sym, ap, ◌==◌, Kind, Column, Charset, Ahead, Table, Cell, WritesKind, whole_size, OneWritten, WritesRows, IsAhead, Knows, NextColumn, RunsMarked}
-use Rattle.tds_rows.proofs.{TableSteps.last_one, RunSteps.made_more, RunSteps.marked_writes, RunSteps.used_more}
+use Rattle.tds_rows.proofs.Words.{arith, true, false, ◌≡◌, ◌∙◌, ℕ, ◌+◌, ◌-◌, ◌<◌, ◌≤◌, Bool, List, ◌++◌, length, take, drop, get_or, sym, ap, ◌==◌, Kind, Column, Charset, Ahead, RowsRun, Table, Cell, WritesKind, whole_size, OneWritten, WritesRows, IsAhead, Knows, NextColumn, RunsMarked}
+use Rattle.tds_rows.proofs.{TableSteps.at_end, TableSteps.last_one, RunSteps.made_more, RunSteps.marked_writes, RunSteps.rows_onward, RunSteps.used_more}
 
 -- Between two places of rows, over the ends of so many, these bytes are their cells, and this is their text.
 abbrev pub RowsBetween : Table → List Column → Ahead → Ahead → ℕ → List ℕ → List ℕ → Type 0
 RowsBetween table columns old new count bytes text = IsAhead table columns new × ((charset : Charset) (cells : List Cell) → table.charset ≡ charset → length cells ≡ old.column → WritesRows charset columns cells (drop old.column columns) (drop new.column columns) new.column count bytes text)
+
+-- what a run over rows has used, made and written so far
+pub record RowsSoFar (table : Table) (from : Ahead) (bytes to : List ℕ) (run : RowsRun) : Type 0 where
+  pub used : run.used ≤ length bytes
+  pub made : run.made ≤ length to
+  pub few : run.rows ≤ run.used
+  pub writes : (columns : List Column) → Knows table columns → IsAhead table columns from → RowsBetween table columns from run.ahead run.rows (take run.used bytes) (take run.made to)
+
+-- one row more, after its token byte
+pub row_begun : {table : Table} {from start : Ahead} {bytes to : List ℕ} {run : RowsRun} → 0 < table.count → true ≡ (run.ahead.column == table.count) → run.used < length bytes → get_or bytes run.used 0 ≡ 0xD1 → start.column ≡ 0
+    → ((columns : List Column) → Knows table columns → IsAhead table columns start) → RowsSoFar table from bytes to run → RowsSoFar table from bytes to (record { used = run.used + 1; made = run.made; rows = run.rows + 1; ahead = start })
+row_begun {bytes = bytes} {run = run} some at within byte first ahead x = record {
+  used = omega (arith, within);
+  made = x.made;
+  few = omega (arith, x.few);
+  writes = λ columns knows is.
+      let none = at_end columns run.ahead.column _ knows.counted (sym at) in
+      (ahead columns knows, λ charset cells set counted. rw first (rows_onward run.used bytes (omega (arith, some, knows.counted)) none within byte ((x.writes columns knows is).1 charset cells set counted)));
+}
 
 -- more cells of the last row, in the bytes that are left and after what was made
 pub more_in_rows : {table : Table} {columns : List Column} {old new : Ahead} {count : ℕ} (from : Ahead) (used u made m : ℕ) (bytes to text rest : List ℕ) → made ≤ length to → m ≤ length text → RowsBetween table columns from old count (take used bytes) (take made to)

@@ -113,7 +113,7 @@ fn run_numbers<'a>(table: &Table<'a>, from: Ahead<'a>, bytes: &[u8], to: &mut [u
     let mut made = 0;
     let mut rows = 0;
     let mut ahead = from;
-    if !table.only_numbers {
+    if !table.only_numbers || to.len() < INT4_ROOM {
         return RowsRun {
             used,
             made,
@@ -121,7 +121,8 @@ fn run_numbers<'a>(table: &Table<'a>, from: Ahead<'a>, bytes: &[u8], to: &mut [u
             ahead,
         };
     }
-    while to.len() - made >= INT4_ROOM {
+    let most = to.len() - INT4_ROOM;
+    while made <= most {
         if table.is_end(ahead) {
             if used == bytes.len() || bytes[used] != ROW {
                 break;

@@ -1,4 +1,4 @@
-use Rattle.tds_export.proofs.Words.{common_steps, List, Takes, Takes-more, Takes-trans, [], ap, arith, buffered, length, passed, refl, rules, seen, slice_index, subst, sym, take, ℕ, ◌++◌, ◌+◌, ◌<◌, ◌∙◌, ◌∷◌, ◌≡◌}
+use Rattle.tds_export.proofs.Words.{common_steps, List, Takes, Takes-more, Takes-trans, [], arith, buffered, length, passed, refl, seen, slice_index, take, ℕ, ◌<◌, ◌∷◌, ◌≡◌}
 use Rattle.tds_export.proofs.tokens.next_byte.Goals as goal
 
 -- the first byte of those that lie ready

@@ -1,29 +1,13 @@
 use Rattle.tds_rows.proofs.Words.{[], ◌∷◌, rules, arith, sym, ap, subst, ◌≡◌, ◌∙◌, ◌-◌, ◌<◌, ◌≤◌, length, take, drop, length-take, length-drop, all_after, WritesRows}
 use Rattle.tds_rows.proofs.run.run_rows.Goals.{then-is_end+then-used-bytes, else-is_end+then-cells-eq0}
-use Rattle.tds_rows.proofs.{RunSteps.made_same, RunSteps.rows_onward, TableRuns.more_in_rows, TableSteps.at_end, TableSteps.not_end}
+use Rattle.tds_rows.proofs.{RunSteps.made_same, TableRuns.more_in_rows, TableRuns.row_begun, TableSteps.at_end, TableSteps.not_end}
 use Rattle.tds_rows.proofs.run.run_rows.Goals as goal
 
 pub loop-ahead-init : goal.loop-ahead-init
 loop-ahead-init c = record { used = search rules; made = search rules; few = search rules; writes = c.run_numbers-numbers.ensures.gives }
 
 pub loop-ahead-preserved-then-is_end : goal.loop-ahead-preserved-then-is_end
-loop-ahead-preserved-then-is_end c =
-    let l = c.loop-ahead in
-    let bytes = c.args.bytes.now in
-    let within : l.used < length bytes = search (arith, rules) in
-    record {
-      used = omega (arith, within);
-      made = l.invariant.made;
-      few = omega (arith, l.invariant.few);
-      writes = λ columns knows ahead.
-          let inv = l.invariant.writes columns knows ahead in
-          let none : drop l.ahead.column columns ≡ [] = at_end _ _ _ knows.counted (sym c.is_end.ensures ∙ c.if-is_end.true) in
-          let some : 0 < length columns = omega (arith, c.requires, knows.counted) in (
-            c.start-ahead.ensures.ahead columns knows,
-            λ charset cells set is.
-                rw c.start-ahead.ensures.first (rows_onward l.used bytes some none within c.if-bytes-used.false (inv.1 charset cells set is)),
-          );
-    }
+loop-ahead-preserved-then-is_end c = row_begun c.requires (sym c.if-is_end.true ∙ c.is_end.ensures) (search (arith, rules)) c.if-bytes-used.false c.start-ahead.ensures.first c.start-ahead.ensures.ahead c.loop-ahead.invariant
 
 pub loop-ahead-preserved : goal.loop-ahead-preserved
 loop-ahead-preserved c =

@@ -16,11 +16,7 @@ loop-form-init g c =
     let bytes : c.take_into.new.area.bytes ≡ x.element = ap (λ (s : Space). s.bytes) x.stands ∙ ap (λ (l : List ℕ). l ++ x.element) c.requires.awaits.empty in
     record {
       stays = record {
-        in_row = record {
-          payload = record { sound = c.in_ok-take_into.ensures.payload.sound; going = c.in_ok-take_into.ensures.payload.going };
-          sink = sink;
-          room = c.requires.in_row.room;
-        };
+        in_row = record { payload = record { sound = c.in_ok-take_into.ensures.payload.sound; going = c.in_ok-take_into.ensures.payload.going }; sink = sink; room = c.requires.in_row.room };
         same = (refl, refl, refl, refl);
         payload = c.in_ok-take_into.ensures.payload.same;
         sink = (refl, refl, refl);

@@ -3,13 +3,7 @@ use Rattle.tds_rows.proofs.{NextRows.rows_first, NextRows.rows_row, NextRows.row
 use Rattle.tds_rows.proofs.reading.Rows.nbc_rows.Goals as goal
 
 pub loop-ended-init : goal.loop-ended-init
-loop-ended-init g c = record {
-  stays = stays _ c.requires.in_row;
-  knows = c.requires.knows;
-  room = refl;
-  few = omega arith;
-  reads = λ columns knows. rows_first c.requires.in_row.sink.ready.2;
-}
+loop-ended-init g c = record { stays = stays _ c.requires.in_row; knows = c.requires.knows; room = refl; few = omega arith; reads = λ columns knows. rows_first c.requires.in_row.sink.ready.2 }
 
 pub returns-in_err-nbc_row-clause-gives : goal.returns-in_err-nbc_row-clause-gives
 returns-in_err-nbc_row-clause-gives g c = λ columns known.

@@ -3,10 +3,7 @@ use Rattle.tds_rows.proofs.{NextSteps.cell_read, NullSteps.cell_reads, NullSteps
 use Rattle.tds_rows.proofs.reading.Rows.row.Goals as goal
 
 pub loop-form-init : goal.loop-form-init
-loop-form-init g c = record {
-  stays = stays _ c.requires;
-  reads = λ columns knows. (c.start-at.ensures.ahead columns knows, rw c.start-at.ensures.first (row_begins columns c.requires.sink.ready.2));
-}
+loop-form-init g c = record { stays = stays _ c.requires; reads = λ columns knows. (c.start-at.ensures.ahead columns knows, rw c.start-at.ensures.first (row_begins columns c.requires.sink.ready.2)) }
 
 pub returns-in_err-put_cell-clause-gives : goal.returns-in_err-put_cell-clause-gives
 returns-in_err-put_cell-clause-gives g c = λ columns known.
