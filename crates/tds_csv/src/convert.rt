@@ -1,4 +1,6 @@
 // Conversions of the bytes of a slice.
+ghost use Rattle.std.specs.Prelude.{◌+◌, ◌*◌, ◌<◌, ◌≤◌};
+
 pub(crate) mod beyond_ascii;
 pub(crate) mod doubling;
 pub(crate) mod encode;
@@ -10,5 +12,16 @@ pub(crate) mod utf16;
 pub(crate) mod utf8;
 pub(crate) mod windows_1252;
 
+use lanes::LANES;
+
 /// How many bytes are converted at a time if the sink has little room.
 pub(crate) const CHUNK: usize = 32;
+
+/// Returns how many units, each of which has at most three bytes of text, are converted at a time with
+/// `room` bytes of room: whole vectors whose text surely fits, or at least `least`.
+pub(crate) fn units_within(room: usize, least: usize) -> usize
+    ensures some { least ≤ result }
+    ensures fits { least < result → 3 * result + LANES ≤ room }
+{
+    (room.saturating_sub(LANES) / (3 * LANES) * LANES).max(least)
+}

@@ -11,6 +11,7 @@ use crate::counted::Counted;
 use crate::fault::{Fault, Place, Stop};
 use crate::packet::TABULAR_RESULT;
 use crate::payload::Payload;
+use byteorder::{BigEndian, ByteOrder};
 use std::io::{Read, Write};
 use tds_meter::Area;
 
@@ -161,10 +162,10 @@ fn header(size: usize, number: u64, last: bool) -> [u8; 8]
     ensures { (body : List ℕ) → 8 + length body ≡ size → result ++ body ≡ packet_bytes (cut_packet number last body) }
 {
     let status = if last { END_OF_MESSAGE } else { 0x00 };
-    let high = (size / 256) as u8;
-    let low = (size % 256) as u8;
     let id = ((number + 1) % 256) as u8;
-    [TABULAR_RESULT, status, high, low, 0, 0, id, 0]
+    let mut header = [TABULAR_RESULT, status, 0, 0, 0, 0, id, 0];
+    BigEndian::write_u16(&mut header[2..4], size as u16);
+    header
 }
 
 // Writes a list over the first bytes of another.

@@ -3,8 +3,8 @@ ghost use Rattle.std.specs.Prelude.{◌≡◌, ◌+◌, ◌-◌, ◌*◌, ◌<�
 ghost use Rattle.tds_csv.specs.Plain.{LiesIn};
 ghost use Rattle.tds_csv.specs.Sinks.{IsWriting, PutsPiece};
 
-use crate::convert::CHUNK;
 use crate::convert::lanes::LANES;
+use crate::convert::{CHUNK, units_within};
 use crate::sink::Sink;
 use std::io::Write;
 use tds_packet::Stop;
@@ -28,15 +28,6 @@ pub(crate) trait Bytewise {
     fn laws()
         ensures appends { (a b : List ℕ) → text (a ++ b) ≡ text a ++ text b }
         ensures empty { text [] ≡ [] };
-}
-
-// How many bytes are converted at a time with `room` bytes of room: the vectors whose text surely fits, or
-// a chunk.
-fn chunk_within(room: usize) -> usize
-    ensures some { 0 < result }
-    ensures fits { CHUNK < result → 3 * result + LANES ≤ room }
-{
-    (room.saturating_sub(LANES) / (3 * LANES) * LANES).max(CHUNK)
 }
 
 // Puts the text of a chunk, or of as many bytes as the sink has room for.
@@ -73,7 +64,7 @@ pub(crate) fn put_text<C: Bytewise, W: Write>(
     C::laws();
     let mut taken = 0;
     while taken < bytes.len() {
-        let end = bytes.len().min(taken + chunk_within(sink.room()));
+        let end = bytes.len().min(taken + units_within(sink.room(), CHUNK));
         put_chunk::<C, W>(&bytes[taken..end], &bytes[taken..], sink)?;
         taken = end;
     }

@@ -7,10 +7,10 @@ ghost use Rattle.tds_csv.specs.Sinks.{IsWriting, PutsPiece};
 ghost use Rattle.tds_csv.specs.Utf16 as utf16;
 ghost use Rattle.tds_csv.specs.Utf16Next.{LeavesRest, seam};
 
-use crate::convert::CHUNK;
 use crate::convert::lanes::LANES;
 use crate::convert::run::Run;
 use crate::convert::utf16::{character_at, convert};
+use crate::convert::{CHUNK, units_within};
 use crate::joiners::{JoinFault, Joiner};
 use crate::sink::Sink;
 use std::io::Write;
@@ -23,14 +23,6 @@ const TEXT: usize = 3 * CHUNK / 2 + LANES;
 #[derive(Drop)]
 pub struct Utf16Joiner {
     kept: Run<3>,
-}
-
-// How many bytes are converted at a time with `room` bytes of room: those whose text surely fits, or a chunk.
-fn chunk_within(room: usize) -> usize
-    ensures some { CHUNK ≤ result }
-    ensures fits { CHUNK < result → 3 * result + 2 * LANES ≤ 2 * room }
-{
-    (room.saturating_sub(LANES) / 3 * 2).max(CHUNK)
 }
 
 // Puts the text of the characters that are fixed, of a chunk or of as many bytes as the sink has room for.
@@ -67,7 +59,7 @@ fn put_from<W: Write>(bytes: &[u8], from: usize, sink: &mut Sink<'_, W>) -> Resu
 {
     let mut at = from;
     loop {
-        let end = bytes.len().min(at + chunk_within(sink.room()));
+        let end = bytes.len().min(at + 2 * units_within(sink.room(), CHUNK / 2));
         at += put_chunk(&bytes[at..end], &bytes[at..], sink)?;
         if end == bytes.len() {
             return Ok(at);
