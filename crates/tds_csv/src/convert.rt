@@ -18,10 +18,10 @@ use lanes::LANES;
 pub(crate) const CHUNK: usize = 32;
 
 /// Returns how many units, each of which has at most three bytes of text, are converted at a time with
-/// `room` bytes of room: whole vectors whose text surely fits, or at least `least`.
+/// `room` bytes of room: those whose text surely fits, or at least `least`.
 pub(crate) fn units_within(room: usize, least: usize) -> usize
     ensures some { least ≤ result }
     ensures fits { least < result → 3 * result + LANES ≤ room }
 {
-    (room.saturating_sub(LANES) / (3 * LANES) * LANES).max(least)
+    (room.saturating_sub(LANES) / 3).max(least)
 }

@@ -64,7 +64,8 @@ pub(crate) fn put_text<C: Bytewise, W: Write>(
     C::laws();
     let mut taken = 0;
     while taken < bytes.len() {
-        let end = bytes.len().min(taken + units_within(sink.room(), CHUNK));
+        let vectors = units_within(sink.room(), CHUNK) / LANES;
+        let end = bytes.len().min(taken + vectors * LANES);
         put_chunk::<C, W>(&bytes[taken..end], &bytes[taken..], sink)?;
         taken = end;
     }
