@@ -93,9 +93,9 @@ module _ (charset : Charset) (forms : List Form) (column : ℕ) (bytes : List �
   fields_none start to x = grind (arith, common_steps, append-nil)
 
   -- one cell more
-  pub fields_more : (to text rest : List ℕ) (k used u made m : ℕ) (d : Form) → made ≤ length to → m < length text → k < length forms → WritesField charset (get_or forms k d).kind (take u (take (length bytes - used) (drop used bytes))) (take m text)
-      → FieldsWritten charset forms column bytes to (record { cells = k; used = used; made = made }) → FieldsWritten charset forms column bytes (slice_set (take made to ++ (text ++ rest)) (made + m) 44) (record { cells = k + 1; used = used + u; made = made + m + 1 })
-  fields_more to text rest k used u made m d within some there wrote (fields, x, is) =
+  pub fields_more : (to text rest : List ℕ) (k used u now made m : ℕ) (d : Form) → now ≡ used + u → made ≤ length to → m < length text → k < length forms → WritesField charset (get_or forms k d).kind (take u (take (length bytes - used) (drop used bytes))) (take m text)
+      → FieldsWritten charset forms column bytes to (record { cells = k; used = used; made = made }) → FieldsWritten charset forms column bytes (slice_set (take made to ++ (text ++ rest)) (made + m) 44) (record { cells = k + 1; used = now; made = made + m + 1 })
+  fields_more to text rest k used u now made m d further within some there wrote (fields, x, is) =
       let read = take u (take (length bytes - used) (drop used bytes)) in
       let field = take m text in
       let all = take made to ++ (text ++ rest) in
@@ -104,7 +104,12 @@ module _ (charset : Charset) (forms : List Form) (column : ℕ) (bytes : List �
       take_more_set all (made + m) 44 here ∙ ap (λ l. l ++ 44 ∷ []) (made_more made m to text rest within (omega (arith, some)) ∙ ap (λ l. l ++ field) is ∙ append_assoc fields (after_comma (column + k) []) field ∙ ap (λ l. fields ++ l) (sym (after_append (column + k) [] field)))
       ∙ ap (λ l. (fields ++ after_comma (column + k) field) ++ l) (after_some_column (column + (k + 1)) [] (λ e. omega (arith, e))) in
       let written : WritesForms charset forms column (suc k) (take (used + u) bytes) (fields ++ after_comma (column + k) field) = (take used bytes, read, fields, field, used_more used u bytes, refl, x, λ form. subst (λ (f : Form). WritesField charset f.kind read field) (get_or_default forms k d form there) wrote) in
-      (fields ++ after_comma (column + k) field, subst (λ (n : ℕ). WritesForms charset forms column n (take (used + u) bytes) (fields ++ after_comma (column + k) field)) (let n : suc k ≡ k + 1 = omega arith in n) written, is')
+      rw further (fields ++ after_comma (column + k) field, subst (λ (n : ℕ). WritesForms charset forms column n (take (used + u) bytes) (fields ++ after_comma (column + k) field)) (let n : suc k ≡ k + 1 = omega arith in n) written, is')
+
+  -- what is left of the bytes, after some more of them
+  pub left_after : (rest : List ℕ) (u : ℕ) → length rest ≤ length bytes → rest ≡ drop (length bytes - length rest) bytes → u ≤ length rest
+      → (length bytes - length (take (length rest - u) (drop u rest)) ≡ (length bytes - length rest) + u) × (take (length rest - u) (drop u rest) ≡ drop ((length bytes - length rest) + u) bytes)
+  left_after rest u within is some = (omega (arith, within, some, length-take (length rest - u) (drop u rest), length-drop u rest), all_after rest u ∙ ap (drop u) is ∙ drop-drop u (length bytes - length rest) bytes)
 
   -- the bytes of the first cell were used
   pub first_used : (used u k : ℕ) (d : Form) → k ≡ 0 → used ≡ 0 → u ≡ whole_size (get_or forms k d).kind (take (length bytes - used) (drop used bytes)) → FirstUsed forms bytes (used + u)

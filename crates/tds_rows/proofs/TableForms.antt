@@ -1,6 +1,6 @@
 -- The forms of the next columns of a row, as a table gives them.
-use Rattle.tds_rows.proofs.Words.{common_steps, ◌≡◌, ◌∙◌, inl, inr, ℕ, ◌+◌, ◌<◌, ◌≤◌, Bool, false, List, ◌∷◌, length, take, drop, get_or, refl, sym, ap, arith, ◌⊎◌, ◌==◌, ◌&&◌, map, drop-map, drop-take, drop_more, get_or-drop, get_or-take, length-take-le, take-map, length-drop, take-take, Column, Form, CELL_ROOM, FormsRun, Ahead, Table, IsLeft, FirstLeft, FirstWritten, FormsWritten, AreLaidOut, RunsMarked, OneWritten, AreAhead, IsAhead, Knows, NextColumn, kinds, nat_tests}
-use Rattle.tds_rows.proofs.{FormSteps.some_first, TableRuns.one_next}
+use Rattle.tds_rows.proofs.Words.{common_steps, ◌≡◌, ◌∙◌, inl, inr, ℕ, ◌+◌, ◌<◌, ◌≤◌, Bool, false, List, ◌∷◌, length, take, drop, get_or, refl, sym, ap, arith, ◌⊎◌, ◌==◌, map, drop-map, drop-take, drop_more, get_or-drop, get_or-take, length-take-le, take-map, length-drop, take-take, Column, Form, CELL_ROOM, FormsRun, Ahead, Table, IsLeft, FirstLeft, FormsWritten, AreLaidOut, RunsMarked, AreAhead, IsAhead, Knows, NextColumn, kinds, nat_tests}
+use Rattle.tds_rows.proofs.FormSteps.{some_first}
 
 -- those that a table knows, from a place in a row on
 pub known_ahead : (table : Table) (at : Ahead) (end : ℕ) (n : ℕ) → AreLaidOut table.charset table.forms → table.known ≤ length table.forms → 0 < n → at.column + n ≤ end → at.column + n ≤ table.known → table.known ≤ table.count → AreAhead table at end (take n (drop at.column table.forms))
@@ -29,10 +29,6 @@ none_written cells used some none = grind arith
 pub some_written : (cells used : ℕ) → (cells ≡ 0 → used ≡ 0) → 0 < used → 0 < cells
 some_written cells used none some = grind arith
 
--- one was, of one at most
-pub one_written : (cells used : ℕ) → cells ≤ 1 → (cells ≡ 0 → used ≡ 0) → 0 < used → cells ≡ 1
-one_written cells used few none some = grind arith
-
 module _ (table : Table) (from : Ahead) (end : ℕ) (forms : List Form) (within : end ≤ table.count) (ahead : AreAhead table from end forms) where
   -- the first is that of the next column
   pub first_next : (form : Form) (rest : List Form) → forms ≡ form ∷ rest → (columns : List Column) → Knows table columns → IsAhead table columns from → NextColumn columns from form.kind
@@ -43,16 +39,6 @@ module _ (table : Table) (from : Ahead) (end : ℕ) (forms : List Form) (within 
     pub forms_between : (columns : List Column) → Knows table columns → IsAhead table columns from → (to : Ahead) (bytes text : List ℕ) (run : FormsRun) → to.column ≡ from.column + run.cells → IsAhead table columns to → FormsWritten table.charset forms from.column ends bytes text run
         → RunsMarked table columns (λ k. false) from to (take run.used bytes) (take run.made text)
     forms_between columns knows is to bytes text run further there x = grind (arith, common_steps, length-drop, nat_tests)
-
-    -- the first alone was written, of one
-    pub alone_written : (bytes text : List ℕ) (run : FormsRun) → length forms ≡ 1 → FirstWritten table.charset forms from.column ends bytes text run → OneWritten table from bytes text run.used run.made
-    alone_written bytes text run one x =
-        let first = some_first forms ahead.some in
-        let form = first.0 in
-        let w = x form first.1 first.2 in
-        let last_is : (ends && (1 == length forms)) ≡ (from.column + 1 == table.count) =
-        ap (λ (n : ℕ). ends && (1 == n)) one ∙ grind (arith, common_steps) ∙ end_is ∙ ap (λ (n : ℕ). from.column + n == table.count) one in
-        one_next table from form.kind (ends && (1 == length forms)) last_is (first_next form first.1 first.2) bytes text run.used run.made w.size w.writes
 
   -- the first was left
   pub first_left : (bytes : List ℕ) (room : ℕ) → FirstLeft table.charset forms bytes room → (columns : List Column) (column : Column) (left : List Column) → Knows table columns → IsAhead table columns from → drop from.column columns ≡ column ∷ left

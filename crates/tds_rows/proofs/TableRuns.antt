@@ -1,6 +1,6 @@
 -- Runs of cells over the columns that a table knows: more cells after those that were written.
-use Rattle.tds_rows.proofs.Words.{arith, true, false, ◌≡◌, ◌∙◌, ℕ, ◌+◌, ◌-◌, ◌<◌, ◌≤◌, Bool, List, ◌++◌, length, take, drop, get_or, sym, ap, ◌==◌, Kind, Column, Charset, Ahead, RowsRun, Table, Cell, WritesKind, whole_size, OneWritten, WritesRows, IsAhead, Knows, NextColumn, RunsMarked}
-use Rattle.tds_rows.proofs.{TableSteps.at_end, TableSteps.last_one, RunSteps.made_more, RunSteps.marked_writes, RunSteps.rows_onward, RunSteps.used_more}
+use Rattle.tds_rows.proofs.Words.{arith, true, false, ◌≡◌, ℕ, ◌+◌, ◌-◌, ◌<◌, ◌≤◌, List, ◌++◌, length, length-append, length-drop, length-take, length-take-le, take, drop, get_or, sym, ◌==◌, Column, Charset, Ahead, CellRun, CellsWritten, RowsRun, Table, Cell, WritesRows, IsAhead, Knows, RunsMarked}
+use Rattle.tds_rows.proofs.{TableSteps.at_end, RunSteps.made_more, RunSteps.marked_writes, RunSteps.rows_none, RunSteps.rows_onward, RunSteps.used_more}
 
 -- Between two places of rows, over the ends of so many, these bytes are their cells, and this is their text.
 abbrev pub RowsBetween : Table → List Column → Ahead → Ahead → ℕ → List ℕ → List ℕ → Type 0
@@ -12,6 +12,10 @@ pub record RowsSoFar (table : Table) (from : Ahead) (bytes to : List ℕ) (run :
   pub made : run.made ≤ length to
   pub few : run.rows ≤ run.used
   pub writes : (columns : List Column) → Knows table columns → IsAhead table columns from → RowsBetween table columns from run.ahead run.rows (take run.used bytes) (take run.made to)
+
+-- nothing yet
+pub rows_begin : {table : Table} {from : Ahead} {bytes to : List ℕ} → RowsSoFar table from bytes to (record { used = 0; made = 0; rows = 0; ahead = from })
+rows_begin = record { used = omega arith; made = omega arith; few = omega arith; writes = λ columns knows ahead. (ahead, λ charset cells set is. rows_none is) }
 
 -- one row more, after its token byte
 pub row_begun : {table : Table} {from start : Ahead} {bytes to : List ℕ} {run : RowsRun} → 0 < table.count → true ≡ (run.ahead.column == table.count) → run.used < length bytes → get_or bytes run.used 0 ≡ 0xD1 → start.column ≡ 0
@@ -34,13 +38,13 @@ more_in_rows from used u made m bytes to text rest within some x y = (
       rw (used_more used u bytes, made_more made m to text rest within some, y.further) (marked_writes _ y.count _ _ (x.1 charset cells set is) (rw set at y.writes)),
 )
 
--- ---- the first cell alone
-
-module _ (table : Table) (from : Ahead) (kind : Kind) (last : Bool) (end : last ≡ (from.column + 1 == table.count)) (next : (columns : List Column) → Knows table columns → IsAhead table columns from → NextColumn columns from kind) where
-  -- it was written, however its kind and its place at the row's end are known
-  pub one_next : (bytes text : List ℕ) (used made : ℕ) → used ≡ whole_size kind bytes → WritesKind table.charset kind from.column last (take used bytes) (take made text) → OneWritten table from bytes text used made
-  one_next bytes text used made size writes = λ asked is_end is.
-      let x = next is.columns is.knows is.ahead in
-      let kind_is : kind ≡ asked = x.kind ∙ ap (λ (r : List Column). (get_or r 0 is.column).kind) (sym x.next ∙ is.next) ∙ sym is.kind in
-      let last_is : last ≡ is_end = end ∙ last_one is.columns is.rest is.column from.column table.count is.knows.counted is.next ∙ sym is.last in
-      rw (sym last_is, sym kind_is) (record { size = size; writes = writes })
+-- the same of what a run over rows has done
+pub rows_more : {table : Table} {from : Ahead} {bytes to : List ℕ} {run : RowsRun} {cells : CellRun} (text rest : List ℕ) → 0 < cells.used → cells.used ≤ length (take (length bytes - run.used) (drop run.used bytes)) → cells.made ≤ length text
+    → CellsWritten table run.ahead (take (length bytes - run.used) (drop run.used bytes)) text cells → RowsSoFar table from bytes to run
+    → RowsSoFar table from bytes (take run.made to ++ (text ++ rest)) (record { used = run.used + cells.used; made = run.made + cells.made; rows = run.rows; ahead = cells.ahead })
+rows_more {from = from} {bytes = bytes} {to = to} {run = run} text rest some within fits gives x = record {
+  used = omega (arith, x.used, within, length-take (length bytes - run.used) (drop run.used bytes), length-drop run.used bytes);
+  made = omega (arith, x.made, fits, length-append (take run.made to) (text ++ rest), length-append text rest, length-take-le run.made to x.made);
+  few = omega (arith, x.few);
+  writes = λ columns knows is. (let y = x.writes columns knows is in more_in_rows from _ _ _ _ _ _ _ _ x.made fits y (gives columns knows y.0));
+}

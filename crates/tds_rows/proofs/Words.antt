@@ -23,7 +23,7 @@ pub use Rattle.tds_packet.proofs.Steps.{add_none, began_is_cut, cut_at_once, rea
 pub use Rattle.tds_packet.specs.{Coming.Coming, Coming.before, Payloads.IsGoing, Payloads.IsOnSame, Payloads.buffered, Payloads.seen, Reading.CutsNext, Reading.RefusesNext, Reading.StopsReading, Seen.Ends, Seen.IsBetween, Seen.Seen, Seen.Takes, Seen.began_at, declared.fault.Fault.Fault, declared.fault.Place.TheVariants.Payload, declared.fault.Stop.Stop}
 pub use Rattle.tds_packet.specs.Elements.{AreBytes, Grammar, IsNext, IsRefused, Leads, Longest, Spelt}
 pub use Rattle.tds_packet.specs.declared.fault.Fault.TheVariants.{BadText, BadValue, BadValueLength, MessageEnded, OddText, PlpLength, ReadFailed, RefusedToken, WriteFailed}
-pub use Rattle.tds_rows.specs.{Blames.Blames, Blames.Failures, Blames.StopBlames, Blames.failures_of, Blames.failures_with, Forms.AreLaidOut, Layouts.HasValueAt, Layouts.IsLaidOut, Layouts.shape_of_layout, ShortCells.IsShortLeft, ShortCells.short_size, ShortCells.stated_length, Successes.BeginNoRow, Successes.Brings, Successes.ReadsOn, Successes.SpellsRows, Successes.SucceedsOn, WholeCells.WritesCell, WholeCells.WritesWhole, declared.form.Form.Form, declared.form.Layout.Layout, declared.reading.Rows.Rows, declared.run.RowsRun.RowsRun, declared.run.fields.TheConstants.CELL_ROOM, declared.run.forms.FormsRun.FormsRun, declared.table.Ahead.Ahead, declared.table.Table.Table}
+pub use Rattle.tds_rows.specs.{Blames.Blames, Blames.Failures, Blames.StopBlames, Blames.failures_of, Blames.failures_with, Forms.AreLaidOut, Layouts.HasValueAt, Layouts.IsLaidOut, Layouts.shape_of_layout, ShortCells.IsShortLeft, ShortCells.short_size, ShortCells.stated_length, Successes.BeginNoRow, Successes.Brings, Successes.ReadsOn, Successes.SpellsRows, Successes.SucceedsOn, WholeCells.WritesCell, WholeCells.WritesWhole, declared.form.Form.Form, declared.form.Layout.Layout, declared.reading.Rows.Rows, declared.run.CellRun.CellRun, declared.run.RowsRun.RowsRun, declared.run.fields.TheConstants.CELL_ROOM, declared.run.forms.FormsRun.FormsRun, declared.table.Ahead.Ahead, declared.table.Table.Table}
 pub use Rattle.tds_values.specs.declared.charset.{Charset.Charset}
 pub use Rattle.tds_rows.specs.CellSteps.{CellGathered, FieldPut, GathersCell, IsLeft, IsScalarLeft, IsValueText, PutsField, StallsCell, StopsField, WritesField, WritesKind, cell_so_far, is_last_column, length_after, opened, scalar_size, start_after, value_bytes, value_length, value_start, whole_size, HasInt4, int4_kind}
 pub use Rattle.tds_rows.specs.Cells.{Cell, CellPart, ChunkData, ChunkLength, CountedShape, DataCell, FixedShape, LongShape, Null, ScalarBytes, ScalarCell, ScalarLength, Shape, ShortData, ShortLength, SpellsCell, SpellsChunk, SpellsChunked, SpellsChunks, SpellsShort, Total, WholeCell, cell, cell_add, cell_end, cell_fault, cell_size, cell_start, chunk_fault, end_of_chunks, field, field_so_far, is_total, known_total, long_start, null_total, return_charset, shape, shape_of_length, unknown_total, unless, value_part, within_total}
@@ -34,7 +34,7 @@ pub use Rattle.tds_rows.specs.PassedCells.{AnyData, CellPassed, CutsPassing, IsG
 pub use Rattle.tds_rows.specs.RowReading.{CellRead, IsInRow, KindRead, LeavesRows, NextRead, StaysInRow}
 pub use Rattle.tds_rows.specs.RowSteps.{ReadsRow, ReadsRows, RowPut, RowStops, RowsRead, RowsStop}
 pub use Rattle.tds_rows.specs.Rows.{Bitmap, InCell, NbcRow, PlainRow, RowPart, RowToken, SpellsMarked, SpellsNbcRow, SpellsRow, SpellsRowAs, WholeRow, bit, bitmap_length, marked, nbc_row_start, next_cell, row, row_add, row_size, row_so_far, row_start, token_byte, token_start, with_cell, with_field}
-pub use Rattle.tds_rows.specs.Runs.{OneWritten, RowsPart, RowsPut, RunEnds, RunsRows, Writes, WritesRows, after_cells, lines, rows, rows_so_far, rows_start}
+pub use Rattle.tds_rows.specs.Runs.{CellsWritten, RowsPart, RowsPut, RunEnds, RunsRows, Writes, WritesRows, after_cells, lines, rows, rows_so_far, rows_start}
 pub use Rattle.tds_rows.specs.Tables.{AreAhead, IsAhead, IsNextKind, Knows, KnowsSome, NextColumn, TakesColumn, kinds}
 pub use Rattle.tds_values.proofs.{WrittenLemmas.answered}
 pub use Rattle.tds_values.specs.{Kind.fixed_length, Kind.is_length_allowed, Kind.is_scalar, Numbers.little, Scalar.read_of, ScalarText.text_of, declared.kind.Kind.Kind, declared.kind.Kind.TheVariants.Binary, declared.kind.Kind.TheVariants.Int4, declared.kind.Kind.TheVariants.IntN, declared.kind.Kind.TheVariants.Narrow, declared.kind.Kind.TheVariants.Wide, declared.kind.Reach.Reach, declared.kind.Reach.TheVariants.Chunked, declared.kind.Reach.TheVariants.Short, declared.scalar.ScalarValue.ScalarValue, declared.scalar.ValueFault.ValueFault}

@@ -22,7 +22,7 @@ use Rattle.tds_rows.specs.Cells.{Cell, field}
 use Rattle.tds_rows.specs.Rows.{PlainRow, RowPart, RowToken, WholeRow, marked, next_cell, row_add, row_fault, row_size, row_so_far, token_byte, token_start}
 use Rattle.tds_rows.specs.MarkedRuns.{EndsLeft, MarkedWritten}
 use Rattle.tds_rows.specs.CellSteps.{IsLeft, WritesKind, whole_size}
-use Rattle.tds_rows.specs.Tables.{IsAhead, IsNextKind, Knows}
+use Rattle.tds_rows.specs.Tables.{IsAhead, Knows}
 
 -- The bytes are whole elements, which lead from one state to another, and this is what the text of the second has more than that of the first.
 pub record Writes {S : Type 0} (g : Grammar S Fault) (text : S → List ℕ) (from : S) (bytes made : List ℕ) (to : S) : Type 0 where
@@ -107,14 +107,9 @@ pub record WritesOne (charset : Charset) (kind : Kind) (column : ℕ) (last : Bo
   pub size : used ≡ whole_size kind bytes
   pub writes : WritesKind charset kind column last (take used bytes) (take made text)
 
--- The next cell, of whatever kind, was written so.
-abbrev pub OneWritten : Table → Ahead → List ℕ → List ℕ → ℕ → ℕ → Type 0
-OneWritten table at bytes text used made = (kind : Kind) (last : Bool) → IsNextKind table at kind last → WritesOne table.charset kind at.column last bytes text used made
-
--- The next cell, of this kind, was written so, or it is left, with this much room.
-abbrev pub AloneWritten : Table → Ahead → Kind → Bool → List ℕ → ℕ → List ℕ → Option Written → Type 0
-AloneWritten table at kind last bytes room text result = MatchOption result (IsLeft table.charset kind bytes room)
-    (λ written. WritesOne table.charset kind at.column last bytes text written.used written.made)
+-- The cell of this kind was written so, or it is left, with this much room.
+abbrev pub AloneWritten : Charset → Kind → ℕ → Bool → List ℕ → ℕ → List ℕ → Option Written → Type 0
+AloneWritten charset kind column last bytes room text result = MatchOption result (IsLeft charset kind bytes room) (λ written. WritesOne charset kind column last bytes text written.used written.made)
 
 -- A run wrote the text of the cells between two places of a row, whose bytes it used; none of them is NULL by a bit.
 abbrev pub CellsWritten : Table → Ahead → List ℕ → List ℕ → CellRun → Type 0

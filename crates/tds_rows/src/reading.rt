@@ -56,13 +56,16 @@ impl<'r, 't, 'p, 's, 'c, R: Read, W: Write> Rows<'r, 't, 'p, 's, 'c, R, W> {
         requires in_row { IsInRow self.old }
         requires within { at.column < self.old.table.now.count }
         requires scalar { IsTrue (kinds.is_scalar form.now.kind) }
+        requires laid { IsLaidOut self.old.table.now.charset form.now.kind form.now.layout }
         ensures leaves { LeavesRows self.old self.new result }
         ensures gives { CellRead R.remaining W.contents at.entry form.now.kind self.old self.new result }
     {
         let place = self.payload.place();
         gather_scalar(self.payload, &form.kind, at.column, self.small)?;
         let mut text = [0u8; CELL_ROOM];
-        let Some(cell) = write_alone(self.table, at, self.small.bytes(), &mut text) else {
+        let (charset, last) = (self.table.charset, self.table.is_last(at));
+        let bytes = self.small.bytes();
+        let Some(cell) = write_alone(form, charset, at.column, last, bytes, &mut text) else {
             let fault = Fault::BadValue { column: at.column };
             return Err(Stop::in_payload(fault, place + length_size(&form.kind) as u64));
         };
@@ -110,15 +113,16 @@ impl<'r, 't, 'p, 's, 'c, R: Read, W: Write> Rows<'r, 't, 'p, 's, 'c, R, W> {
         ensures leaves { LeavesRows self.old self.new result }
         ensures gives { CellRead R.remaining W.contents at.entry form.now.kind self.old self.new result }
     {
+        let (charset, column, last) = (self.table.charset, at.column, self.table.is_last(at));
+        let bytes = self.payload.buffered();
         let mut text = [0u8; SHORT_TEXT];
         if !matches!(form.layout, Layout::Long(_, Reach::Chunked))
-            && let Some(cell) = write_alone(self.table, at, self.payload.buffered(), &mut text)
+            && let Some(cell) = write_alone(form, charset, column, last, bytes, &mut text)
             && cell.made < self.sink.room()
         {
             self.payload.consume(cell.used);
             return self.sink.put(&text[..cell.made]);
         }
-        let (column, last) = (at.column, self.table.is_last(at));
         match form.layout {
             Layout::Long(content, reach) => self.put_joined(content, reach, column, last),
             Layout::Fixed(_) | Layout::Counted => self.put_gathered(at, form),

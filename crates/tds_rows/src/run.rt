@@ -1,14 +1,16 @@
 // A run of cells: as many as are whole in the packet and have room, over the ends of rows.
 ghost use Rattle.std.specs.Prelude.{◌≡◌, ◌+◌, ◌-◌, ◌<◌, ◌≤◌, Bool, drop, length, IfSome};
 ghost use Rattle.tds_rows.specs.declared.run.fields.TheConstants.{CELL_ROOM};
-ghost use Rattle.tds_rows.specs.Runs.{AloneWritten, CellsWritten, OneWritten, RowsWritten, RunEnds, StaysWithin};
-ghost use Rattle.tds_rows.specs.Tables.{IsNextKind};
-ghost use Rattle.tds_values.specs.declared.kind.Kind.{Kind};
+ghost use Rattle.tds_rows.specs.Layouts.{IsLaidOut};
+ghost use Rattle.tds_rows.specs.Runs.{AloneWritten, CellsWritten, RowsWritten, RunEnds, StaysWithin};
+ghost use Rattle.tds_rows.specs.Tables.{AreAhead};
 
+use crate::form::Form;
 use crate::run::buffered::{INT4_SIZE, int4_at};
-use crate::run::fields::{INT4_ROOM, Written, write_int4_field};
+use crate::run::fields::{CELL_ROOM, INT4_ROOM, Written, write_int4_field};
 use crate::run::forms::run_forms;
 use crate::table::{Ahead, Table};
+use tds_values::Charset;
 
 pub(crate) mod buffered;
 pub(crate) mod fields;
@@ -36,6 +38,61 @@ pub(crate) struct RowsRun<'a> {
     pub(crate) ahead: Ahead<'a>,
 }
 
+// Writes cell after cell of a row by the forms of the next ones, as far as they are whole in these bytes, aren't in
+// chunks and have room.
+#[inline(always)]
+fn run_along<'a>(
+    table: &Table<'a>,
+    from: Ahead<'a>,
+    end: u16,
+    forms: &[Form],
+    bytes: &[u8],
+    to: &mut [u8],
+) -> CellRun<'a>
+    requires within { end ≤ table.now.count }
+    requires ahead { AreAhead table.now from end forms.now }
+    ensures within { StaysWithin from.entry end (length bytes.now) (length to.old) result }
+    ensures ends { result.used ≡ 0 → RunEnds table.now from.entry bytes.now (length to.old) }
+    ensures gives { CellsWritten table.now from.entry bytes.now to.new result }
+{
+    let ends = from.column as usize + forms.len() == table.count() as usize;
+    let run = run_forms(forms, table.charset, from.column, ends, bytes, to);
+    let mut ahead = from;
+    table.step(&mut ahead, run.cells);
+    CellRun {
+        used: run.used,
+        made: run.made,
+        ahead,
+    }
+}
+
+// Writes the next cell of a row, which the table doesn't know, if it is whole in these bytes, isn't in chunks and has
+// room.
+#[inline(never)]
+fn run_unknown<'a>(
+    table: &Table<'a>,
+    from: Ahead<'a>,
+    end: u16,
+    bytes: &[u8],
+    to: &mut [u8],
+) -> CellRun<'a>
+    requires within { end ≤ table.now.count }
+    requires some { from.column < end }
+    ensures within { StaysWithin from.entry end (length bytes.now) (length to.old) result }
+    ensures ends { result.used ≡ 0 → RunEnds table.now from.entry bytes.now (length to.old) }
+    ensures gives { CellsWritten table.now from.entry bytes.now to.new result }
+{
+    let Some(form) = table.form(from) else {
+        return CellRun {
+            used: 0,
+            made: 0,
+            ahead: from,
+        };
+    };
+    let one = [form];
+    run_along(table, from, end, &one, bytes, to)
+}
+
 // Writes cell after cell of a row, as far as they are whole in these bytes, aren't in chunks and have room, up to the
 // column at which it ends.
 #[inline(always)]
@@ -50,47 +107,41 @@ pub(crate) fn run_cells<'a>(
     ensures within { StaysWithin from.entry end (length bytes.now) (length to.old) result }
     ensures ends { result.used ≡ 0 → from.entry.column < end →
         RunEnds table.now from.entry bytes.now (length to.old) }
-    ensures one { 0 < result.used → end ≡ from.entry.column + 1 →
-        OneWritten table.now from.entry bytes.now to.new result.used result.made }
     ensures gives { CellsWritten table.now from.entry bytes.now to.new result }
 {
-    let none = CellRun {
-        used: 0,
-        made: 0,
-        ahead: from,
-    };
     if from.column >= end {
-        return none;
+        return CellRun {
+            used: 0,
+            made: 0,
+            ahead: from,
+        };
     }
-    let Some(form) = table.form(from) else {
-        return none;
-    };
-    let one = [form];
-    let forms = (&*table).forms(from, end, &one);
-    let ends = from.column as usize + forms.len() == table.count() as usize;
-    let run = run_forms(forms, table.charset, from.column, ends, bytes, to);
-    let mut ahead = from;
-    table.step(&mut ahead, run.cells);
-    CellRun {
-        used: run.used,
-        made: run.made,
-        ahead,
+    match (&*table).forms(from, end) {
+        Some(forms) => run_along(table, from, end, forms, bytes, to),
+        None => run_unknown(table, from, end, bytes, to),
     }
 }
 
-/// Writes only the next cell. `None` if it isn't whole in these bytes, is refused or in chunks, or if there
-/// isn't the room that the text of a short value may need.
+/// Writes only the cell of a form. `None` if it isn't whole in these bytes, is refused or in chunks, or if there isn't
+/// the room that the text of a short value may need.
 #[inline(never)]
-pub(crate) fn write_alone(table: &Table, at: Ahead, bytes: &[u8], to: &mut [u8]) -> Option<Written>
-    requires within { at.column < table.now.count }
+pub(crate) fn write_alone(
+    form: &Form,
+    charset: Charset,
+    column: u16,
+    last: bool,
+    bytes: &[u8],
+    to: &mut [u8],
+) -> Option<Written>
+    requires laid { IsLaidOut charset form.now.kind form.now.layout }
     requires room { CELL_ROOM ≤ length to.old }
     ensures used { IfSome result (λ written. written.used ≤ length bytes.now) }
     ensures most { IfSome result (λ written. written.made ≤ length to.old) }
-    ensures gives { (kind : Kind) (last : Bool) → IsNextKind table.now at.entry kind last →
-        AloneWritten table.now at.entry kind last bytes.now (length to.old) to.new result }
+    ensures gives { AloneWritten charset form.now.kind column last bytes.now (length to.old) to.new result }
 {
-    let run = run_cells(table, at, at.column + 1, bytes, to);
-    if run.used == 0 {
+    let one = [*form];
+    let run = run_forms(&one, charset, column, last, bytes, to);
+    if run.cells == 0 {
         return None;
     }
     Some(Written {
@@ -100,10 +151,11 @@ pub(crate) fn write_alone(table: &Table, at: Ahead, bytes: &[u8], to: &mut [u8])
 }
 
 // Writes cell after cell of rows that have only whole numbers of four bytes, as far as they are whole in these bytes,
-// aren't NULL and have room, over the ends of rows. Of other rows it writes nothing.
+// aren't NULL and have room, over the ends of rows. Any other cell ends it.
 #[inline(never)]
 fn run_numbers<'a>(table: &Table<'a>, from: Ahead<'a>, bytes: &[u8], to: &mut [u8]) -> RowsRun<'a>
-    requires { 0 < table.now.count }
+    requires some { 0 < table.now.count }
+    requires room { INT4_ROOM ≤ length to.old }
     ensures used { result.used ≤ length bytes.now }
     ensures made { result.made ≤ length to.old }
     ensures few { result.rows ≤ result.used }
@@ -113,14 +165,6 @@ fn run_numbers<'a>(table: &Table<'a>, from: Ahead<'a>, bytes: &[u8], to: &mut [u
     let mut made = 0;
     let mut rows = 0;
     let mut ahead = from;
-    if !table.only_numbers || to.len() < INT4_ROOM {
-        return RowsRun {
-            used,
-            made,
-            rows,
-            ahead,
-        };
-    }
     let most = to.len() - INT4_ROOM;
     while made <= most {
         if table.is_end(ahead) {
@@ -153,6 +197,52 @@ fn run_numbers<'a>(table: &Table<'a>, from: Ahead<'a>, bytes: &[u8], to: &mut [u
     }
 }
 
+// Writes cell after cell of rows whose columns the table all knows, as far as they are whole in these bytes, aren't in
+// chunks and have room, over the ends of rows.
+#[inline(never)]
+fn run_known<'a>(table: &Table<'a>, from: Ahead<'a>, bytes: &[u8], to: &mut [u8]) -> RowsRun<'a>
+    requires some { 0 < table.now.count }
+    requires known { table.now.known ≡ table.now.count }
+    ensures used { result.used ≤ length bytes.now }
+    ensures made { result.made ≤ length to.old }
+    ensures few { result.rows ≤ result.used }
+    ensures ends { RunEnds table.now result.ahead (drop result.used bytes.now) (length to.old - result.made) }
+    ensures gives { RowsWritten table.now from.entry bytes.now to.new result }
+{
+    let mut used = 0;
+    let mut made = 0;
+    let mut rows = 0;
+    let mut ahead = from;
+    loop {
+        if table.is_end(ahead) {
+            if used == bytes.len() || bytes[used] != ROW {
+                break;
+            }
+            used += 1;
+            rows += 1;
+            ahead = table.start();
+            continue;
+        }
+        let end = table.count();
+        let Some(forms) = (&*table).forms(ahead, end) else {
+            break;
+        };
+        let cells = run_along(table, ahead, end, forms, &bytes[used..], &mut to[made..]);
+        if cells.used == 0 {
+            break;
+        }
+        used += cells.used;
+        made += cells.made;
+        ahead = cells.ahead;
+    }
+    RowsRun {
+        used,
+        made,
+        rows,
+        ahead,
+    }
+}
+
 // Writes cell after cell, as far as they are whole in these bytes, aren't in chunks and have room, over the
 // ends of rows: after a whole row it goes on if the byte of the next ROW follows.
 #[inline(never)]
@@ -169,7 +259,23 @@ pub(crate) fn run_rows<'a>(
     ensures ends { RunEnds table.now result.ahead (drop result.used bytes.now) (length to.old - result.made) }
     ensures gives { RowsWritten table.now from.entry bytes.now to.new result }
 {
-    let numbers = run_numbers(table, from, bytes, to);
+    let none = RowsRun {
+        used: 0,
+        made: 0,
+        rows: 0,
+        ahead: from,
+    };
+    if to.len() < CELL_ROOM {
+        return none;
+    }
+    if table.knows_all() && !table.only_numbers {
+        return run_known(table, from, bytes, to);
+    }
+    let numbers = if table.only_numbers {
+        run_numbers(table, from, bytes, to)
+    } else {
+        none
+    };
     let mut used = numbers.used;
     let mut made = numbers.made;
     let mut rows = numbers.rows;

@@ -1,5 +1,5 @@
 // What the cells of a description's columns need of them, known once for all its rows.
-ghost use Rattle.std.specs.Prelude.{◌≡◌, ◌==◌, ◌⊎◌, ◌+◌, ◌<◌, ◌≤◌, get_or, length, IfSome, List};
+ghost use Rattle.std.specs.Prelude.{◌≡◌, ◌==◌, ◌⊎◌, ◌+◌, ◌<◌, ◌≤◌, get_or, length, IfSome, List, MatchOption};
 ghost use Rattle.tds_rows.specs.Forms.{AreLaidOut, table_length};
 ghost use Rattle.tds_rows.specs.Layouts.{IsLaidOut};
 
@@ -119,20 +119,28 @@ impl<'a> Table<'a> {
         Some(Form::of(column.kind, self.charset))
     }
 
-    /// What the next cells need that the table knows, up to the column `end`. If it knows none, only what the next
-    /// cell needs.
+    /// Whether it knows all columns.
     #[inline(always)]
-    pub(crate) fn forms<'f>(&'f self, at: Ahead<'a>, end: u16, one: &'f [Form]) -> &'f [Form]
-        requires some { at.column < end }
-        requires within { end ≤ self.now.count }
-        requires one { AreAhead self.now at end one.now }
-        ensures { AreAhead self.now at.entry end result.now }
+    pub(crate) fn knows_all(&self) -> bool
+        ensures { result ≡ (self.now.known == self.now.count) }
+    {
+        self.known == self.count as usize
+    }
+
+    /// What the next cells need, up to the column `end`, as far as the table knows it. `None` if it doesn't know
+    /// the next one, or that is none before `end`.
+    #[inline(always)]
+    pub(crate) fn forms(&self, at: Ahead<'a>, end: u16) -> Option<&[Form]>
+        requires { end ≤ self.now.count }
+        ensures { MatchOption result ((self.now.known ≤ at.entry.column) ⊎ (end ≤ at.entry.column))
+            (λ forms. AreAhead self.now at.entry end forms.now) }
     {
         let from = at.column as usize;
-        if from < self.known {
-            return &self.forms[from..self.known.min(end as usize)];
+        let until = self.known.min(end as usize);
+        if from >= until {
+            return None;
         }
-        one
+        Some(&self.forms[from..until])
     }
 
     /// Whether no cell of the row is ahead.

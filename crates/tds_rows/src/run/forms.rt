@@ -44,21 +44,25 @@ fn write_fields(
     ensures gives { FieldsWritten charset forms.now column bytes.now to.new result }
 {
     let mut cells = 0;
-    let mut used = 0;
+    let mut rest = bytes;
     let mut made = write_comma(column, to);
     let most = to.len() - VALUE_ROOM;
     while cells < forms.len() && made <= most {
         let form = &forms[cells];
-        let Some(written) = write_cell(form, charset, &bytes[used..], &mut to[made..]) else {
+        let Some(written) = write_cell(form, charset, rest, &mut to[made..]) else {
             break;
         };
         cells += 1;
-        used += written.used;
+        rest = &rest[written.used..];
         made += written.made;
         to[made] = COMMA;
         made += 1;
     }
-    FormsRun { cells, used, made }
+    FormsRun {
+        cells,
+        used: bytes.len() - rest.len(),
+        made,
+    }
 }
 
 /// Writes the cells of the next columns of a row, after its first `column` ones, one after another, as far as they

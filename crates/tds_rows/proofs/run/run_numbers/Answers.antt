@@ -1,15 +1,12 @@
 use Rattle.tds_rows.proofs.Words.{arith, rules, sym, ◌∙◌, ◌≤◌, length}
-use Rattle.tds_rows.proofs.{RunSteps.rows_none, RunSteps.writes_int4, Stretches.runs_column, TableRuns.more_in_rows, TableRuns.row_begun, TableSteps.last_one}
+use Rattle.tds_rows.proofs.{RunSteps.writes_int4, Stretches.runs_column, TableRuns.more_in_rows, TableRuns.row_begun, TableRuns.rows_begin, TableSteps.last_one}
 use Rattle.tds_rows.proofs.run.run_numbers.Goals as goal
 
-pub returns-then-not-table-clause-gives : goal.returns-then-not-table-clause-gives
-returns-then-not-table-clause-gives c = λ columns knows ahead. (ahead, λ charset cells set is. rows_none is)
-
 pub loop-made-init : goal.loop-made-init
-loop-made-init c = record { used = omega arith; made = omega arith; few = omega arith; writes = λ columns knows ahead. (ahead, λ charset cells set is. rows_none is) }
+loop-made-init c = rows_begin
 
 pub loop-made-preserved-then-is_end : goal.loop-made-preserved-then-is_end
-loop-made-preserved-then-is_end c = row_begun c.requires (sym c.if-is_end.true ∙ c.is_end.ensures) (search (arith, rules)) c.if-bytes-used.false c.start-ahead.ensures.first c.start-ahead.ensures.ahead c.loop-made.invariant
+loop-made-preserved-then-is_end c = row_begun c.requires.some (sym c.if-is_end.true ∙ c.is_end.ensures) (search (arith, rules)) c.if-bytes-used.false c.start-ahead.ensures.first c.start-ahead.ensures.ahead c.loop-made.invariant
 
 pub loop-made-preserved : goal.loop-made-preserved
 loop-made-preserved c =

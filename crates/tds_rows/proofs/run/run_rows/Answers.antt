@@ -1,29 +1,22 @@
-use Rattle.tds_rows.proofs.Words.{[], ◌∷◌, rules, arith, sym, ap, subst, ◌≡◌, ◌∙◌, ◌-◌, ◌<◌, ◌≤◌, length, take, drop, length-take, length-drop, all_after, WritesRows}
-use Rattle.tds_rows.proofs.run.run_rows.Goals.{then-is_end+then-used-bytes, else-is_end+then-cells-eq0}
-use Rattle.tds_rows.proofs.{RunSteps.made_same, TableRuns.more_in_rows, TableRuns.row_begun, TableSteps.at_end, TableSteps.not_end}
+use Rattle.tds_rows.proofs.Words.{[], ◌∷◌, rules, arith, sym, ap, subst, ◌≡◌, ◌∙◌, ◌-◌, length, take, drop, length-take, length-drop, all_after, WritesRows}
+use Rattle.tds_rows.proofs.run.run_rows.Goals.{then-table, else-table, then-is_end+then-used-bytes, else-is_end+then-cells-eq0}
+use Rattle.tds_rows.proofs.{RunSteps.made_same, TableRuns.row_begun, TableRuns.rows_begin, TableRuns.rows_more, TableSteps.at_end, TableSteps.not_end}
 use Rattle.tds_rows.proofs.run.run_rows.Goals as goal
 
+pub returns-then-to-lt-CELL_ROOM-clause-gives : goal.returns-then-to-lt-CELL_ROOM-clause-gives
+returns-then-to-lt-CELL_ROOM-clause-gives c = (rows_begin {bytes = c.args.bytes.now} {to = c.args.to.now}).writes
+
 pub loop-ahead-init : goal.loop-ahead-init
-loop-ahead-init c = record { used = search rules; made = search rules; few = search rules; writes = c.run_numbers-numbers.ensures.gives }
+loop-ahead-init c = elim c.if-table.branch [
+  | then-table w ↦ rw (w.numbers-is, w.to-is) (record { used = w.run_numbers-numbers.ensures.used; made = search (arith, rules); few = w.run_numbers-numbers.ensures.few; writes = w.run_numbers-numbers.ensures.gives })
+  | else-table w ↦ rw (w.numbers-is, w.to-is) rows_begin
+]
 
 pub loop-ahead-preserved-then-is_end : goal.loop-ahead-preserved-then-is_end
 loop-ahead-preserved-then-is_end c = row_begun c.requires (sym c.if-is_end.true ∙ c.is_end.ensures) (search (arith, rules)) c.if-bytes-used.false c.start-ahead.ensures.first c.start-ahead.ensures.ahead c.loop-ahead.invariant
 
 pub loop-ahead-preserved : goal.loop-ahead-preserved
-loop-ahead-preserved c =
-    let l = c.loop-ahead in
-    let cells = c.run_cells-cells in
-    let ran = cells.result in
-    let further : 0 < ran.used = omega (arith, c.if-cells-eq0.false) in
-    let within : ran.made ≤ length cells.new.to = search (arith, rules) in
-    record {
-      used = search (arith, rules);
-      made = search (arith, rules);
-      few = omega (arith, l.invariant.few);
-      writes = λ columns knows ahead.
-          let x = l.invariant.writes columns knows ahead in
-          more_in_rows c.args.from _ _ _ _ _ _ _ _ l.invariant.made within x (cells.ensures.gives columns knows x.0);
-    }
+loop-ahead-preserved c = rows_more _ _ (omega (arith, c.if-cells-eq0.false)) (search (arith, rules)) (search (arith, rules)) c.run_cells-cells.ensures.gives c.loop-ahead.invariant
 
 -- what was made before the last step stands
 same : (c : goal.Joined-is_end) → take c.loop-ahead.made c.if-is_end.to ≡ take c.loop-ahead.made c.loop-ahead.to

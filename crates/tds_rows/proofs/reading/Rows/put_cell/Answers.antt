@@ -8,12 +8,13 @@ returns-clause-gives g c = λ last next.
     let n = c.in-Some.cell.used in
     let bytes = take n (buffered old.payload.now) in
     let text = take c.in-Some.cell.made c.write_alone.new.to in
-    let alone = c.in-Some.ensures.gives c.args.form.now.kind last next in
+    let end = c.is_last-last.ensures ∙ last_one _ _ _ _ _ next.knows.counted next.next ∙ sym next.last in
+    let alone = rw end at c.in-Some.ensures.gives in
     let lies : n ≤ length (buffered old.payload.now) = search (arith, rules) in
     let takes = Takes-more (seen g.R.Read.remaining old.payload.now) (seen g.R.Read.remaining c.consume.new.self) bytes 0 (length bytes) (omega arith) c.consume.ensures.gives in
     let at : c.consume.new.self.place ≡ old.payload.now.place + length bytes = omega (arith, lies, ap (λ p. p.place) c.consume.ensures.rest, length-take n (buffered old.payload.now)) in
     let few : length old.sink.now.output.now.bytes + length text < 4096 = omega (arith, c.if-cell-room.true, c.room.ensures, length-take c.in-Some.cell.made c.write_alone.new.to) in
-    put_whole c.put.result _ _ _ _ _ g.W.Write.contents old.sink.now c.put.new.self c.requires.in_row.sink (rw c.buffered.ensures at alone.writes.whole) takes at few c.put.ensures
+    put_whole c.put.result _ _ _ _ _ g.W.Write.contents old.sink.now c.put.new.self c.requires.in_row.sink (rw c.buffered-bytes.ensures at alone.writes.whole) takes at few c.put.ensures
 
 pub returns-clause-leaves : goal.returns-clause-leaves
 returns-clause-leaves g c = record { same = search rules; payload = search rules; sink = search rules; small = record { room = refl; bound = omega arith } }

@@ -2,7 +2,7 @@ use Rattle.tds_rows.proofs.Words.{arith, rules}
 use Rattle.tds_rows.proofs.TableForms.{known_ahead}
 use Rattle.tds_rows.proofs.table.Table.forms.Goals as goal
 
-pub returns-then-from-self : goal.returns-then-from-self
-returns-then-from-self c =
+pub returns : goal.returns
+returns c =
     let table = c.args.self.now in
     known_ahead _ _ _ _ table.laid (search (arith, rules)) (search (arith, rules)) (search (arith, rules)) (search (arith, rules)) table.few
