@@ -1,5 +1,5 @@
 -- What an export answers of an accepted response: it succeeds, but for a device that fails.
-use Rattle.tds_export.proofs.Words.{Accepted, AfterLast, AreBefore, BeforeBody, BeforeHeader, Err, Fault, IsRefused, List, Longest, Message, Ok, Outcome, Packet, Packets, Part, Payload, Place, Reading, Report, Response, Result, Rose, Run, Some, Spelt-induct, Stopped, Stops, SucceedsIfAccepted, Text, Token, Told, Wire, WireFault, WirePart, WirePlace, [], after_last, after_tokens, ap, append-nil, append_assoc, arith, before_are_read, before_packet, choose, drop, error_text, feed-Spelt, feed_all, feed_all-append, flat_map-append, grammar, header_length, inl, inr, length, longest_cut, more, no_wire, one_longest, one_message, packet_of, payload_of, read, read_longest, read_to_end, refl, report_of, response_start, subst, sym, take, take-append-drop, text, told, wire, wire_add, wire_end, wire_of, wire_size, with_packet, ℕ, ◌++◌, ◌+◌, ◌==◌, ◌∙◌, ◌∷◌, ◌≡◌, ◌≤◌}
+use Rattle.tds_export.proofs.Words.{Accepted, AfterLast, AreBefore, BeforeBody, BeforeHeader, Err, Fault, IsRefused, List, Longest, Message, Ok, Outcome, Packet, Packets, Part, Payload, Place, Reading, Report, Response, Result, Rose, Run, Some, Spelt-induct, Stopped, Stops, SucceedsIfAccepted, Text, Token, Told, Wire, WireFault, WirePart, WirePlace, [], after_last, after_tokens, ap, append-nil, append_assoc, arith, before_are_read, before_packet, choose, drop, error_text, feed-Spelt, feed_all, feed_all-append, flat_map-append, grammar, header_length, inl, inr, length, longest_cut, more, no_wire, one_longest, one_message, packet_of, payload_of, read, read_longest, read_to_end, refl, report_of, response_start, subst, sym, take, take-append-drop, text, told, wire, wire_add, wire_end, wire_of, wire_size, with_packet, ℕ, ◌++◌, ◌+◌, ◌==◌, ◌∙◌, ◌∷◌, ◌≡◌, ◌≤◌, limits}
 use Rattle.tds_export.proofs.ResponseLaws.{one_accepted, refused_response, response_is_read}
 
 -- ---- packets at the front of a message
@@ -48,48 +48,48 @@ no_wire_fault size limit input wires unread packets read fault m e f =
 
 -- ---- no stop of an accepted response is one of the input
 
-ended_accepted : (run : Run) (tokens : List Token) (payload : List ℕ) (place : ℕ) (part : Part) (fault : Fault) → Response run.given.charset run.given.before.areas.limits.column_room tokens payload → Longest (grammar run) response_start payload place part → (grammar run).end_fault part ≡ Some fault → ⊥
+ended_accepted : (run : Run) (tokens : List Token) (payload : List ℕ) (place : ℕ) (part : Part) (fault : Fault) → Response run.given.charset (limits run).column_room tokens payload → Longest (grammar run) response_start payload place part → (grammar run).end_fault part ≡ Some fault → ⊥
 ended_accepted run tokens payload place part fault r l end =
     let g = grammar run in
-    let read = response_is_read run.given.charset run.given.before.areas.limits.column_room tokens payload r in
+    let read = response_is_read run.given.charset (limits run).column_room tokens payload r in
     let all = subst (λ v. Longest g response_start v (length payload) (after_tokens tokens)) (append-nil payload) (longest_cut g response_start payload [] (after_tokens tokens) read (omega arith)) in
     let same : part ≡ after_tokens tokens = (one_longest g response_start payload place (length payload) part (after_tokens tokens) l all).1 in
     grind (arith, response_is_read, append-nil, longest_cut, one_longest)
 
-refused_accepted : (run : Run) (tokens : List Token) (payload more : List ℕ) (place : ℕ) (part : Part) (fault : Fault) → Response run.given.charset run.given.before.areas.limits.column_room tokens (payload ++ more) → Longest (grammar run) response_start payload place part → IsRefused (grammar run) part (drop place payload) fault → ⊥
+refused_accepted : (run : Run) (tokens : List Token) (payload more : List ℕ) (place : ℕ) (part : Part) (fault : Fault) → Response run.given.charset (limits run).column_room tokens (payload ++ more) → Longest (grammar run) response_start payload place part → IsRefused (grammar run) part (drop place payload) fault → ⊥
 refused_accepted run tokens payload more place part fault r l refused =
     let n = place + (grammar run).size part in
     let split : payload ++ more ≡ take n payload ++ (drop n payload ++ more) = ap (λ v. v ++ more) (sym (take-append-drop n payload)) ∙ append_assoc (take n payload) (drop n payload) more in
-    refused_response run.given.charset run.given.before.areas.limits.column_room payload place part fault (drop n payload ++ more) tokens l refused (subst (λ v. Response run.given.charset run.given.before.areas.limits.column_room tokens v) split r)
+    refused_response run.given.charset (limits run).column_room payload place part fault (drop n payload ++ more) tokens l refused (subst (λ v. Response run.given.charset (limits run).column_room tokens v) split r)
 
 -- the packets read are those of the message, or begin it
-read_begin : (run : Run) (tokens : List Token) (read packets : List Packet) → Packets run read → (a : Accepted run.given.charset run.given.before.areas.limits.packet_size run.given.before.areas.limits.column_room run.given.before.areas.limits.max_wire tokens packets run.input) → (more : List ℕ) × (payload_of packets ≡ payload_of read ++ more)
+read_begin : (run : Run) (tokens : List Token) (read packets : List Packet) → Packets run read → (a : Accepted run.given.charset (limits run).packet_size (limits run).column_room (limits run).max_wire tokens packets run.input) → (more : List ℕ) × (payload_of packets ≡ payload_of read ++ more)
 read_begin run tokens read packets p a = elim p.each [
-  | inl h ↦ (let same = one_message run.given.before.areas.limits.packet_size run.given.before.areas.limits.max_wire read packets (wire_of read) a.wire run.left a.unread (record { spelt = refl; each = h; within = p.within }) a.message (p.begin ∙ a.begins) in
+  | inl h ↦ (let same = one_message (limits run).packet_size (limits run).max_wire read packets (wire_of read) a.wire run.left a.unread (record { spelt = refl; each = h; within = p.within }) a.message (p.begin ∙ a.begins) in
       ([], ap payload_of (sym same) ∙ sym (append-nil (payload_of read))))
-  | inr h ↦ (let b = before_begins run.given.before.areas.limits.packet_size run.given.before.areas.limits.max_wire read packets a.wire run.left a.unread h p.within a.message (p.begin ∙ a.begins) in
+  | inr h ↦ (let b = before_begins (limits run).packet_size (limits run).max_wire read packets a.wire run.left a.unread h p.within a.message (p.begin ∙ a.begins) in
       (payload_of b.0, ap payload_of (sym b.1) ∙ flat_map-append (λ (v : Packet). v.body) read b.0))
 ]
 
 -- no run of an accepted response stops but by a device
-none_stops : (run : Run) (fault : Fault) (place : Place) → Stops run fault place → (tokens : List Token) (packets : List Packet) → Accepted run.given.charset run.given.before.areas.limits.packet_size run.given.before.areas.limits.column_room run.given.before.areas.limits.max_wire tokens packets run.input
+none_stops : (run : Run) (fault : Fault) (place : Place) → Stops run fault place → (tokens : List Token) (packets : List Packet) → Accepted run.given.charset (limits run).packet_size (limits run).column_room (limits run).max_wire tokens packets run.input
     → (Rose run.given.before.reader.failures run.given.after.reader.failures → ⊥) → (Rose run.given.before.writer.failures run.given.after.writer.failures → ⊥) → ⊥
 none_stops run fault (Payload place) x tokens packets a reads writes = elim x.first [
   | inl r ↦ (let b = read_begin run tokens x.packets packets x.stands a in
-      refused_accepted run tokens (payload_of x.packets) b.0 place x.part fault (subst (λ v. Response run.given.charset run.given.before.areas.limits.column_room tokens v) b.1 a.response) x.leads r.0)
-  | inr r ↦ (let same = one_message run.given.before.areas.limits.packet_size run.given.before.areas.limits.max_wire x.packets packets (wire_of x.packets) a.wire run.left a.unread (record { spelt = refl; each = r.0; within = x.stands.within }) a.message (x.stands.begin ∙ a.begins) in
-      ended_accepted run tokens (payload_of x.packets) place x.part fault (subst (λ v. Response run.given.charset run.given.before.areas.limits.column_room tokens (payload_of v)) (sym same) a.response) x.leads r.2)
+      refused_accepted run tokens (payload_of x.packets) b.0 place x.part fault (subst (λ v. Response run.given.charset (limits run).column_room tokens v) b.1 a.response) x.leads r.0)
+  | inr r ↦ (let same = one_message (limits run).packet_size (limits run).max_wire x.packets packets (wire_of x.packets) a.wire run.left a.unread (record { spelt = refl; each = r.0; within = x.stands.within }) a.message (x.stands.begin ∙ a.begins) in
+      ended_accepted run tokens (payload_of x.packets) place x.part fault (subst (λ v. Response run.given.charset (limits run).column_room tokens (payload_of v)) (sym same) a.response) x.leads r.2)
 ]
 none_stops run fault (Wire taken) x tokens packets a reads writes = elim x.first [
   | inl r ↦ reads r.1.failed
-  | inr r ↦ no_wire_fault run.given.before.areas.limits.packet_size run.given.before.areas.limits.max_wire run.input a.wire a.unread packets x.packets fault a.message a.begins r
+  | inr r ↦ no_wire_fault (limits run).packet_size (limits run).max_wire run.input a.wire a.unread packets x.packets fault a.message a.begins r
 ]
 none_stops run fault (Text written) x tokens packets a reads writes = writes x.failed
 
 -- an answer that is true of an accepted response is its report
 pub outcome_succeeds : (run : Run) (result : Result Report Stopped) → Outcome run result → SucceedsIfAccepted run result
 outcome_succeeds run (Ok report) r = λ tokens packets accepted reads writes.
-    let same = one_accepted run.given.charset run.given.before.areas.limits.column_room run.given.before.areas.limits.packet_size run.given.before.areas.limits.max_wire tokens r.tokens packets r.packets run.input accepted r.accepted in
+    let same = one_accepted run.given.charset (limits run).column_room (limits run).packet_size (limits run).max_wire tokens r.tokens packets r.packets run.input accepted r.accepted in
     record {
       report_is = ap (λ v. Ok v) (r.report_is ∙ ap report_of (sym same.0));
       written = r.written ∙ ap text (sym same.0);

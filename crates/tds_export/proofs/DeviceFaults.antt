@@ -1,5 +1,5 @@
 -- Where an export stops with the fault of a device, the device's count of failures rose.
-use Rattle.tds_export.proofs.Words.{Charset, Coming, Ends, Fault, Given, Held, InputEnded, IsOfWire, IsOver, List, MessageEnded, Option, Part, ReadFailed, Report, Reports, Rose, RunStops, Seen, Stop, Stopped, StopsExport, StopsReading, Takes, WriteFailed, [], ap, arith, before, begun, begun_at, fresh_at, front_packet, grammar_of, inl, inr, length, message, message_of_wire, one_more, read, response, response_start, rose, subst, sym, true, whole_message, ℕ, ◌++◌, ◌<◌, ◌∙◌, ◌∷◌, ◌≡◌, ◌⊎◌}
+use Rattle.tds_export.proofs.Words.{Charset, Coming, Ends, Fault, Given, Held, InputEnded, IsOfWire, IsOver, List, MessageEnded, Option, Part, ReadFailed, Report, Reports, Rose, RunStops, Seen, Stop, Stopped, StopsExport, StopsReading, Takes, WriteFailed, [], ap, arith, before, begun, begun_at, fresh_at, front_packet, grammar_of, inl, inr, length, message, message_of_wire, one_more, read, response, response_start, rose, subst, sym, true, whole_message, ℕ, ◌++◌, ◌<◌, ◌∙◌, ◌∷◌, ◌≡◌, ◌⊎◌, limits_of}
 use Rattle.tds_export.proofs.PayloadFaults.{IsOfPayload, element_fault, end_fault}
 
 -- ---- a payload that has just begun
@@ -50,7 +50,7 @@ blamed given stopped x = go x.stops
     go : RunStops (grammar_of given) response_start (begun_at given) x.seen 0 (fresh_at given) x.middle given.after.areas.description x.failed x.stop
         → (stopped.fault ≡ ReadFailed → Rose given.before.reader.failures given.after.reader.failures) × (stopped.fault ≡ WriteFailed → Rose given.before.writer.failures given.after.writer.failures)
     go (inl (inl y)) =
-        let r = reading_fault given.charset given.before.areas.limits.column_room given.before.areas.limits.packet_size given.before.areas.limits.max_wire given.before.reader.failures given.before.reader.bytes x.seen 0 y.0.at x.stop y.0.stops in
+        let r = reading_fault given.charset (limits_of given).column_room (limits_of given).packet_size (limits_of given).max_wire given.before.reader.failures given.before.reader.bytes x.seen 0 y.0.at x.stop y.0.stops in
         (λ e. subst (Rose given.before.reader.failures) (sym (r.1 (sym is ∙ e)) ∙ x.reader.failures) (rose given.before.reader.failures), λ e. absurd (r.0 (sym is ∙ e)))
     go (inl (inr y)) =
         let b = y.0.breaks.breaks in
@@ -77,5 +77,5 @@ some_read size limit failures left q bytes n t o = go t.0 t.1.1
 pub no_failure : (given : Given) (report : Report) → Reports given report → (Rose given.before.reader.failures given.after.reader.failures → ⊥) × (Rose given.before.writer.failures given.after.writer.failures → ⊥)
 no_failure given report x =
     let t = x.completes.whole.takes in
-    let moved = some_read given.before.areas.limits.packet_size given.before.areas.limits.max_wire given.before.reader.failures given.before.reader.bytes x.seen x.completes.whole.bytes _ t x.completes.whole.over in
+    let moved = some_read (limits_of given).packet_size (limits_of given).max_wire given.before.reader.failures given.before.reader.bytes x.seen x.completes.whole.bytes _ t x.completes.whole.over in
     grind (arith, some_read)

@@ -1,5 +1,5 @@
 -- How an export ended, by the packets of its input.
-use Rattle.tds_export.proofs.Words.{AreBytes, Describing, EndsInLast, EndsMessage, Fault, InLast, IsHolding, IsKept, IsRefused, List, Longest, Open, Packet, Part, RefusesNext, Rose, Run, Seen, Some, Space, Spelt, Stop, StopsAfterPackets, StopsInPayload, StopsOnWire, Token, [], ap, append_assoc, arith, begun, description_of, drop, drop-append_seam, grammar, in_last, inl, inr, length, length-append, longest_cut, longest_refused, more, one_more, payload_of, refl, response_start, rose, subst, sym, take, take-append_seam, takes_begins, text, text_so_far, wire_of, ℕ, ◌++◌, ◌<◌, ◌∙◌, ◌≡◌, ◌≤◌}
+use Rattle.tds_export.proofs.Words.{AreBytes, Describing, EndsInLast, EndsMessage, Fault, InLast, IsHolding, IsKept, IsRefused, List, Longest, Open, Packet, Part, RefusesNext, Rose, Run, Seen, Some, Space, Spelt, Stop, StopsAfterPackets, StopsInPayload, StopsOnWire, Token, [], ap, append_assoc, arith, begun, description_of, drop, drop-append_seam, grammar, in_last, inl, inr, length, length-append, longest_cut, longest_refused, more, one_more, payload_of, refl, response_start, rose, subst, sym, take, take-append_seam, takes_begins, text, text_so_far, wire_of, ℕ, ◌++◌, ◌<◌, ◌∙◌, ◌≡◌, ◌≤◌, limits}
 
 -- what the area holds at a part is kept, whatever follows
 pub kept_at : (area : Space) (tokens : List Token) (at : Open) (rest : List ℕ) → area.bytes ≡ description_of tokens at → IsKept area.bytes tokens at rest
@@ -14,10 +14,10 @@ pub record ReaderSide (run : Run) (q : Seen) (area : Space) : Type 0 where
   pub description : run.given.after.areas.description.bytes ≡ area.bytes
 
 abbrev pub start : Run → Seen
-start run = begun run.given.before.areas.limits.packet_size run.given.before.areas.limits.max_wire (Some run.input) run.given.before.reader.failures
+start run = begun (limits run).packet_size (limits run).max_wire (Some run.input) run.given.before.reader.failures
 
 -- an element's end lies in the last of the packets that were needed for it
-ends_in_last : (run : Run) (part : Part) (packets : List Packet) (bytes element : List ℕ) → length element ≡ (grammar run).size part → InLast run.given.before.areas.limits.packet_size packets (length (bytes ++ element)) → EndsInLast run packets (length bytes) part
+ends_in_last : (run : Run) (part : Part) (packets : List Packet) (bytes element : List ℕ) → length element ≡ (grammar run).size part → InLast (limits run).packet_size packets (length (bytes ++ element)) → EndsInLast run packets (length bytes) part
 ends_in_last run part packets bytes element whole l = grind (arith, length-append)
 
 -- a payload that begins with whole elements and one more
@@ -32,9 +32,9 @@ refused_in_payload run q area part bytes fault side spelt x holds text =
     let e = x.element in
     let more = x.ahead ++ (q.future []).bytes in
     let n = length (bytes ++ e) in
-    let b = takes_begins run.given.before.areas.limits.packet_size run.given.before.areas.limits.max_wire run.given.before.reader.failures run.input run.left q ((bytes ++ e) ++ x.ahead) n side.bytes side.left x.takes x.between in
+    let b = takes_begins (limits run).packet_size (limits run).max_wire run.given.before.reader.failures run.input run.left q ((bytes ++ e) ++ x.ahead) n side.bytes side.left x.takes x.between in
     let s = split_payload bytes e more (payload_of b.packets) (b.payload_is ∙ append_assoc (bytes ++ e) x.ahead (q.future []).bytes) in
-    let l = in_last run.given.before.areas.limits.packet_size run.given.before.areas.limits.max_wire run.given.before.reader.failures n run.input run.left q ((bytes ++ e) ++ x.ahead) (((bytes ++ e) ++ x.ahead) ++ (q.future []).bytes) side.left x.takes b (omega (arith, x.some, length-append ((bytes ++ e) ++ x.ahead) (q.future []).bytes, length-append (bytes ++ e) x.ahead, length-append bytes e)) in
+    let l = in_last (limits run).packet_size (limits run).max_wire run.given.before.reader.failures n run.input run.left q ((bytes ++ e) ++ x.ahead) (((bytes ++ e) ++ x.ahead) ++ (q.future []).bytes) side.left x.takes b (omega (arith, x.some, length-append ((bytes ++ e) ++ x.ahead) (q.future []).bytes, length-append (bytes ++ e) x.ahead, length-append bytes e)) in
     let refused : IsRefused g part (e ++ more) fault = record {
       some = omega (arith, x.some, x.whole);
       whole = omega (arith, x.whole, length-append e more);
@@ -56,7 +56,7 @@ rest_of bytes part payload e = ap (drop (length bytes)) e ∙ drop-append_seam b
 
 -- the message ended
 pub ended_in_payload : (run : Run) (q : Seen) (area : Space) (part : Part) (bytes cut : List ℕ) (own : Stop) (fault : Fault) → ReaderSide run q area → Spelt (grammar run) response_start bytes part → length cut < (grammar run).size part
-    → EndsMessage run.given.before.areas.limits.packet_size run.given.before.areas.limits.max_wire run.input run.left (bytes ++ cut) run.given.before.reader.failures q.failures own → (grammar run).end_fault part ≡ Some fault → IsHolding area part
+    → EndsMessage (limits run).packet_size (limits run).max_wire run.input run.left (bytes ++ cut) run.given.before.reader.failures q.failures own → (grammar run).end_fault part ≡ Some fault → IsHolding area part
     → run.gained ++ run.given.after.areas.output.bytes ≡ text_so_far part → StopsInPayload run fault (length bytes)
 ended_in_payload run q area part bytes cut own fault side spelt short m end holds text =
     let g = grammar run in
@@ -72,7 +72,7 @@ ended_in_payload run q area part bytes cut own fault side spelt short m end hold
 
 -- the payload stopped on the wire
 pub stopped_on_wire : (run : Run) (q : Seen) (area : Space) (part : Part) (bytes cut : List ℕ) (stop : Stop) (rose : (f : ℕ) → Rose f (one_more f)) → ReaderSide run q area → Spelt (grammar run) response_start bytes part → length cut < (grammar run).size part
-    → (x : StopsAfterPackets run.given.before.areas.limits.packet_size run.given.before.areas.limits.max_wire run.input run.left (bytes ++ cut) run.given.before.reader.failures q.failures stop) → IsHolding area part
+    → (x : StopsAfterPackets (limits run).packet_size (limits run).max_wire run.input run.left (bytes ++ cut) run.given.before.reader.failures q.failures stop) → IsHolding area part
     → run.gained ++ run.given.after.areas.output.bytes ≡ text_so_far part → StopsOnWire run stop.fault (length (wire_of x.packets))
 stopped_on_wire run q area part bytes cut stop rose side spelt short x holds text =
     let g = grammar run in

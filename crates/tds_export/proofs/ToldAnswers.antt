@@ -20,8 +20,8 @@ zero n = omega arith
 cut_stops : (run : Run) (q : Seen) (area : Space) (at : Part) (bytes : List ℕ) (stop : Stop) → ReaderSide run q area → Spelt (grammar run) response_start bytes at → (c : CutsNext (grammar run) (start run) q bytes 0 at stop) → IsHolding area at
     → run.gained ++ run.given.after.areas.output.bytes ≡ text_so_far at → Stops run stop.fault stop.place
 cut_stops run q area at bytes stop side spelt c holds text =
-    let limit = run.given.before.areas.limits.max_wire in
-    elim (ends_front run.given.before.areas.limits.packet_size limit run.given.before.reader.failures run.input run.left q (bytes ++ c.part) c.own side.bytes side.left c.ends) [
+    let limit = (limits run).max_wire in
+    elim (ends_front (limits run).packet_size limit run.given.before.reader.failures run.input run.left q (bytes ++ c.part) c.own side.bytes side.left c.ends) [
       | inl m ↦ elim c.stop_is [
         | inl e ↦ subst (λ (s : Stop). Stops run s.fault s.place) (sym (e.1.2 ∙ ap (λ n. record { fault = e.1.0; place = Payload n }) (zero (length bytes)))) (ended_in_payload run q area at bytes c.part c.own e.1.0 side spelt c.cut m e.1.1 holds text)
         | inr e ↦ absurd (e.0 (ap (λ (s : Stop). s.fault) m.ended))
@@ -29,7 +29,7 @@ cut_stops run q area at bytes stop side spelt c holds text =
       | inr x ↦ elim c.stop_is [
         | inl e ↦ absurd (elim x.cause [
           | inl y ↦ (let differ : ReadFailed ≡ MessageEnded = sym y.0 ∙ e.0 in cc)
-          | inr y ↦ wire_goes_on run.given.before.areas.limits.packet_size limit run.input x.packets c.own.fault y.0 e.0
+          | inr y ↦ wire_goes_on (limits run).packet_size limit run.input x.packets c.own.fault y.0 e.0
         ])
         | inr e ↦ subst (λ (s : Stop). Stops run s.fault s.place) (sym e.1) (subst (Stops run c.own.fault) (sym x.place) (stopped_on_wire run q area at bytes c.part c.own rose side spelt c.cut x holds text))
       ]
@@ -73,21 +73,21 @@ payload_bytes [] h = tt
 payload_bytes (p ∷ packets) h = AreBytes-append p.body (payload_of packets) (AreBytes-back (4 ∷ p.status ∷ (8 + length p.body) / 256 ∷ (8 + length p.body) % 256 ∷ p.id) p.body (AreBytes-front (packet_bytes p) (wire_of packets) h)) (payload_bytes packets (AreBytes-back (packet_bytes p) (wire_of packets) h))
 
 -- the text so far is within 64 times the limit of the wire
-fits_at : (run : Run) (packets : List Packet) (rest : List ℕ) (place : ℕ) (part : Part) (n : ℕ) → AreBytes run.input → wire_of packets ++ rest ≡ run.input → length (wire_of packets) ≤ run.given.before.areas.limits.max_wire
-    → Spelt (grammar run) response_start (take place (payload_of packets)) part → n ≤ length (text_so_far part) → n ≤ 64 * run.given.before.areas.limits.max_wire
+fits_at : (run : Run) (packets : List Packet) (rest : List ℕ) (place : ℕ) (part : Part) (n : ℕ) → AreBytes run.input → wire_of packets ++ rest ≡ run.input → length (wire_of packets) ≤ (limits run).max_wire
+    → Spelt (grammar run) response_start (take place (payload_of packets)) part → n ≤ length (text_so_far part) → n ≤ 64 * (limits run).max_wire
 fits_at run packets rest place part n are begin within spelt few =
     let payload = payload_of packets in
     let bytes : AreBytes payload = payload_bytes packets (AreBytes-front (wire_of packets) rest (subst AreBytes (sym begin) are)) in
     let front : AreBytes (take place payload) = AreBytes-front (take place payload) (drop place payload) (subst AreBytes (sym (take-append-drop place payload)) bytes) in
-    let most : length (text_so_far part) ≤ 64 * length (take place payload) = bounded_along run.given.charset run.given.before.areas.limits.column_room part (take place payload) front spelt in
+    let most : length (text_so_far part) ≤ 64 * length (take place payload) = bounded_along run.given.charset (limits run).column_room part (take place payload) front spelt in
     omega (arith, few, most, within, payload_short packets, ap length (take-append-drop place payload), length-append (take place payload) (drop place payload))
 
-fits : (run : Run) (fault : Fault) (place : Place) → AreBytes run.input → Stops run fault place → length (run.gained ++ run.given.after.areas.output.bytes) ≤ 64 * run.given.before.areas.limits.max_wire
+fits : (run : Run) (fault : Fault) (place : Place) → AreBytes run.input → Stops run fault place → length (run.gained ++ run.given.after.areas.output.bytes) ≤ 64 * (limits run).max_wire
 fits run fault place are x = grind (arith, fits_at, length-append)
 
 -- the count of the bytes delivered is exact
-exact : (run : Run) (delivered : ℕ) → delivered ≡ counted 0 (length run.gained) → length (run.gained ++ run.given.after.areas.output.bytes) ≤ 64 * run.given.before.areas.limits.max_wire → delivered ≡ length run.gained
-exact run delivered e few = let most = run.given.before.areas.limits.max_wire_in_range in omega (arith, e, few, most.1, length-append run.gained run.given.after.areas.output.bytes)
+exact : (run : Run) (delivered : ℕ) → delivered ≡ counted 0 (length run.gained) → length (run.gained ++ run.given.after.areas.output.bytes) ≤ 64 * (limits run).max_wire → delivered ≡ length run.gained
+exact run delivered e few = let most = (limits run).max_wire_in_range in omega (arith, e, few, most.1, length-append run.gained run.given.after.areas.output.bytes)
 
 -- ---- where the reader stands
 
@@ -166,15 +166,15 @@ broken run q k at stop side writer x holds gained all =
 record WholeMessage (run : Run) (q : Seen) (area : Space) (tokens : List Token) : Type 0 where
   packets : List Packet
   stands : Packets run packets
-  accepted : Accepted run.given.charset run.given.before.areas.limits.packet_size run.given.before.areas.limits.column_room run.given.before.areas.limits.max_wire tokens packets run.input
+  accepted : Accepted run.given.charset (limits run).packet_size (limits run).column_room (limits run).max_wire tokens packets run.input
   leads : ReadsPart run packets (length (payload_of packets)) (after_tokens tokens)
   spelt : Spelt (grammar run) response_start (payload_of packets) (after_tokens tokens)
   kept : IsKept run.given.after.areas.description.bytes tokens (after_tokens tokens).at (drop (length (payload_of packets)) (payload_of packets))
 
 whole_message_of : (run : Run) (q : Seen) (area : Space) (old new : Held) → ReaderSide run q area → (x : ReadsWhole (grammar run) response_start (start run) q old new area) → WholeMessage run q area x.tokens
 whole_message_of run q area old new side x =
-    let size = run.given.before.areas.limits.packet_size in
-    let limit = run.given.before.areas.limits.max_wire in
+    let size = (limits run).packet_size in
+    let limit = (limits run).max_wire in
     let m = over_front size limit run.given.before.reader.failures run.input run.left q x.bytes (length x.bytes + 1) side.bytes side.left x.takes x.over in
     grind (arith, over_front, payload_bytes, AreBytes-front, response_is_spelt, append-nil, longest_cut, kept_at)
 
