@@ -57,14 +57,14 @@ zeros_are_a_value BitN n v s h = exactly (ZerosAre BitN) n 1 h (_, refl)
 zeros_are_a_value (MoneyN d) n v s h = exactly (ZerosAre (MoneyN d)) n d h (one_of_two (λ d. ZerosAre (MoneyN d) d) 4 8 d v (_, refl) (_, refl))
 zeros_are_a_value (DateTimeN d) n v s h = exactly (ZerosAre (DateTimeN d)) n d h (one_of_two (λ d. ZerosAre (DateTimeN d) d) 4 8 d v (_, refl) (_, refl))
 zeros_are_a_value Guid n v s h = exactly (ZerosAre Guid) n 16 h (_, refl)
-zeros_are_a_value (Decimal d p sc) n v s h = zero_decimal d p sc n v h
+zeros_are_a_value (Decimal d p sc) n v s h = zero_decimal d p _ n v h
 zeros_are_a_value Date n v s h = exactly (ZerosAre Date) n 3 h (_, refl)
 zeros_are_a_value (Time sc) n v s h =
-    exactly (ZerosAre (Time sc)) n (time_length sc) h (below_eight (λ sc. ZerosAre (Time sc) (time_length sc)) (_, refl) (_, refl) (_, refl) (_, refl) (_, refl) (_, refl) (_, refl) (_, refl) sc (le_true sc 7 v))
+    exactly (ZerosAre (Time sc)) n _ h (below_eight (λ sc. ZerosAre (Time sc) (time_length sc)) (_, refl) (_, refl) (_, refl) (_, refl) (_, refl) (_, refl) (_, refl) (_, refl) _ (le_true _ 7 v))
 zeros_are_a_value (DateTime2 sc) n v s h =
-    exactly (ZerosAre (DateTime2 sc)) n (time_length sc + 3) h (below_eight (λ sc. ZerosAre (DateTime2 sc) (time_length sc + 3)) (_, refl) (_, refl) (_, refl) (_, refl) (_, refl) (_, refl) (_, refl) (_, refl) sc (le_true sc 7 v))
+    exactly (ZerosAre (DateTime2 sc)) n _ h (below_eight (λ sc. ZerosAre (DateTime2 sc) (time_length sc + 3)) (_, refl) (_, refl) (_, refl) (_, refl) (_, refl) (_, refl) (_, refl) (_, refl) _ (le_true _ 7 v))
 zeros_are_a_value (DateTimeOffset sc) n v s h =
-    exactly (ZerosAre (DateTimeOffset sc)) n (time_length sc + 5) h (below_eight (λ sc. ZerosAre (DateTimeOffset sc) (time_length sc + 5)) (_, refl) (_, refl) (_, refl) (_, refl) (_, refl) (_, refl) (_, refl) (_, refl) sc (le_true sc 7 v))
+    exactly (ZerosAre (DateTimeOffset sc)) n _ h (below_eight (λ sc. ZerosAre (DateTimeOffset sc) (time_length sc + 5)) (_, refl) (_, refl) (_, refl) (_, refl) (_, refl) (_, refl) (_, refl) (_, refl) _ (le_true _ 7 v))
 zeros_are_a_value (Binary r) n v s h = cc
 zeros_are_a_value (Narrow r) n v s h = cc
 zeros_are_a_value (Wide r) n v s h = cc
@@ -85,7 +85,7 @@ module _ (column : ℕ) where
   -- the rest of a short value
   short_ends : (c : Conversion) (left : ℕ) (content : List ℕ) → CellReached (ShortData c left content) → (x : Cell) × Spelt (cell column) (ShortData c left content) (zeros (left + 1)) (WholeCell x)
   short_ends c zero content (plain, even) =
-      let fit = plain_fit c (content ++ 0 ∷ []) plain (ap (λ v. v % unit c) (length-append content (0 ∷ [])) ∙ even) in
+      let fit = plain_fit c _ plain (ap (λ v. v % unit c) (length-append content (0 ∷ [])) ∙ even) in
       (DataCell c (content ++ 0 ∷ []), spelt_one (omega arith) refl (rw (plain_begun c (content ++ 0 ∷ []) plain, fit) refl) refl)
   short_ends c (suc left) content (plain, even) =
       let to : cell_add (ShortData c (suc left) content) (0 ∷ []) ≡ ShortData c left (content ++ 0 ∷ []) = grind (arith, nat_tests) in
@@ -113,36 +113,36 @@ module _ (column : ℕ) where
       let fits = within total (length content + suc n) (length content + 1) all (omega arith) in
       let one : Spelt (cell column) (ChunkLength c total content) (1 ∷ 0 ∷ 0 ∷ 0 ∷ []) (ChunkData c total 0 content) = spelt_one (omega arith) refl (rw fits refl) refl in
       let more = chunks_end c total n (content ++ 0 ∷ []) plain (rw same at all) (rw same at even) in
-      (more.0, spelt_both (spelt_both one (chunk_ends c total 0 content plain)) more.1)
+      (more.0, spelt_both (spelt_both one (chunk_ends c _ 0 _ plain)) more.1)
 
   -- the rest of the chunks
   length_ends : (c : Conversion) (total : Option ℕ) (content : List ℕ) → is_plain c ≡ true → HoldsTotal c total (length content) → (x : Cell) × Spelt (cell column) (ChunkLength c total content) (rest_of_chunks c total (length content)) (WholeCell x)
-  length_ends c None content plain h = chunks_end c None (length content % unit c) content plain refl (made_even c (length content))
+  length_ends c None content plain h = chunks_end c _ _ _ plain refl (made_even c _)
   length_ends c (Some t) content plain (le, even) = grind (arith, chunks_end, eq-eqb)
 
   -- A part of a cell followed by what completes it is a whole cell.
   pub cell_ends : (p : CellPart) → CellReached p → (x : Cell) × Spelt (cell column) p (rest_of_cell p) (WholeCell x)
   cell_ends (ScalarBytes kind n) (some, valid, scalar, allowed) =
-      let v = zeros_are_a_value kind n valid scalar allowed in
+      let v = zeros_are_a_value _ n valid scalar allowed in
       let l : length (zeros n) ≡ n = length-replicate n 0 in
       (ScalarCell v.0, spelt_one (omega (arith, l)) l (ap (λ r. unless (is_ok r) (BadValue column)) v.1) (ap value_part v.1))
   cell_ends (ScalarLength kind) h = (Null, spelt_one (omega arith) refl refl refl)
   cell_ends (ShortLength c) h = (Null, spelt_one (omega arith) refl refl refl)
-  cell_ends (ShortData c left content) h = short_ends c left content h
+  cell_ends (ShortData c left content) h = short_ends c _ _ h
   cell_ends (Total c) h = (Null, spelt_one (omega arith) refl refl refl)
-  cell_ends (ChunkLength c total content) (plain, h) = length_ends c total content plain h
+  cell_ends (ChunkLength c total content) (plain, h) = length_ends c _ _ plain h
   cell_ends (ChunkData c total left content) (plain, h) =
       let l : length (content ++ zeros (left + 1)) ≡ length content + (left + 1) = length-append content (zeros (left + 1)) ∙ ap (λ v. length content + v) (length-replicate (left + 1) 0) in
-      let more = length_ends c total (content ++ zeros (left + 1)) plain (subst (λ v. HoldsTotal c total v) (sym l) h) in
-      (more.0, spelt_both (chunk_ends c total left content plain) (subst (λ v. Spelt (cell column) (ChunkLength c total (content ++ zeros (left + 1))) (rest_of_chunks c total v) (WholeCell more.0)) l more.1))
-  cell_ends (WholeCell x) h = (x, Spelt-none (cell column) (WholeCell x))
+      let more = length_ends c _ _ plain (subst (λ v. HoldsTotal c total v) (sym l) h) in
+      (more.0, spelt_both (chunk_ends c _ _ _ plain) (subst (λ v. Spelt (cell column) (ChunkLength c total (content ++ zeros (left + 1))) (rest_of_chunks c total v) (WholeCell more.0)) l more.1))
+  cell_ends (WholeCell x) h = (x, Spelt-none _ _)
 
   value_reached : (r : Result ScalarValue ValueFault) → CellReached (value_part r)
   value_reached r = grind arith
 
   -- Each element keeps what is known.
   pub cell_keeps : (p : CellPart) (e : List ℕ) → AreBytes e → CellReached p → IsNext (cell column) p e → CellReached (cell_add p e)
-  cell_keeps (ScalarBytes kind m) e are h n = value_reached (read_of kind e)
+  cell_keeps (ScalarBytes kind m) e are h n = value_reached _
   cell_keeps (ScalarLength kind) e are (valid, scalar) n = grind (arith, choose, eq_false, unless_none)
   cell_keeps (ShortLength c) e are plain n = grind (arith, choose, eq_false, eq_true, unless_none)
   cell_keeps (ShortData c left content) e are (plain, even) n = grind (arith, choose, eq_false, length-append)

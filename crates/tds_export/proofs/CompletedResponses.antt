@@ -49,16 +49,16 @@ module _ (room : ℕ) where
   -- Each element keeps what is known.
   open_keeps : (tokens : List Token) (at : Open) (e : List ℕ) → AreBytes e → CurrentReached (described_after None tokens) → OpenReached room at → IsNext (response Windows1252 room) (record { tokens = tokens; at = at }) e → PartReached room (part_add Windows1252 tokens at e)
   open_keeps tokens Between e are h o n = lead_reached tokens (lead_of (slice_index e 0)) h
-  open_keeps tokens (Describing d) e are h (begun, r) n = described_reached tokens (add_described d e) h (described_keeps room d e are r (record { some = n.some; whole = n.whole; free = n.free }))
-  open_keeps tokens (InRow part) e are h (begun, r) n = row_reached tokens (row_add Windows1252 part e) h (row_keeps part e are r (record { some = n.some; whole = n.whole; free = n.free }))
-  open_keeps tokens (InReturn part) e are h (begun, r) n = return_reached tokens (return_add part e) h (return_keeps part e are r (record { some = n.some; whole = n.whole; free = n.free }))
+  open_keeps tokens (Describing d) e are h (begun, r) n = described_reached _ _ h (described_keeps _ d e are r (record { some = n.some; whole = n.whole; free = n.free }))
+  open_keeps tokens (InRow part) e are h (begun, r) n = row_reached _ _ h (row_keeps _ e are r (record { some = n.some; whole = n.whole; free = n.free }))
+  open_keeps tokens (InReturn part) e are h (begun, r) n = return_reached _ _ h (return_keeps _ e are r (record { some = n.some; whole = n.whole; free = n.free }))
   open_keeps tokens (TokenLength b) e are h o n = grind (arith, bare_body, bare_reached, choose, eq_false, nat_tests)
-  open_keeps tokens (TokenBody b m) e are h o n = bare_reached tokens (bodied b e) (bare_body b e) h
-  open_keeps tokens (Fields f) e are h o n = bare_reached tokens (fixed f e) (bare_fixed f e) h
+  open_keeps tokens (TokenBody b m) e are h o n = bare_reached tokens _ (bare_body b e) h
+  open_keeps tokens (Fields f) e are h o n = bare_reached tokens _ (bare_fixed f e) h
 
   part_reached : (bytes : List ℕ) (p : Part) → AreBytes bytes → Spelt (response Windows1252 room) response_start bytes p → PartReached room p
   part_reached bytes p are h =
-      Spelt-induct (response Windows1252 room) (λ q b. AreBytes b → PartReached room q) (λ q b e k n all. let r = k (AreBytes-front b e all) in open_keeps q.tokens q.at e (AreBytes-back b e all) r.0 r.1 n) response_start (λ t. (tt, tt)) bytes p h are
+      Spelt-induct _ (λ q b. AreBytes b → PartReached room q) (λ q b e k n all. let r = k (AreBytes-front b e all) in open_keeps _ _ e (AreBytes-back b e all) r.0 r.1 n) _ (λ t. (tt, tt)) _ p h are
 
   -- the rest of a token, up to its end
   abbrev Ends : List Token → Open → List ℕ → Type 0
@@ -75,17 +75,17 @@ module _ (room : ℕ) where
 
   -- The rest of the token that is read ends it.
   token_ends : 10 ≤ room → (tokens : List Token) (at : Open) → OpenReached room at → Ends tokens at (rest_of_token at)
-  token_ends ten tokens Between o = (tokens, Spelt-none (response Windows1252 room) (record { tokens = tokens; at = Between }))
+  token_ends ten tokens Between o = (tokens, Spelt-none _ _)
   token_ends ten tokens (Describing d) (begun, r) =
-      let all = described_ends room ten d begun r in
-      (tokens ++ Metadata all.0 all.1 ∷ [], rw (← described_opens tokens d begun) (Inside-Spelt (description room) (response Windows1252 room) (with_described tokens) (description_in_response Windows1252 room tokens) d (rest_of_description d) (WholeDescription all.0 all.1) all.2))
+      let all = described_ends _ ten d begun r in
+      (tokens ++ Metadata all.0 all.1 ∷ [], rw (← described_opens tokens d begun) (Inside-Spelt _ _ _ (description_in_response Windows1252 _ _) d _ _ all.2))
   token_ends ten tokens (InRow part) (begun, r) =
-      let all = row_ends part r in
-      (tokens ++ Row all.0 ∷ [], rw (← row_opens tokens part begun) (Inside-Spelt (row Windows1252) (response Windows1252 room) (with_row tokens) (row_in_response Windows1252 room tokens) part (rest_of_row part) (WholeRow all.0) all.1))
+      let all = row_ends _ r in
+      (tokens ++ Row all.0 ∷ [], rw (← row_opens tokens part begun) (Inside-Spelt _ _ _ (row_in_response Windows1252 _ _) _ _ _ all.1))
   token_ends ten tokens (InReturn part) (begun, r) =
-      let all = return_ends part r in
-      (tokens ++ Returned all.0 ∷ [], rw (← return_opens tokens part begun) (Inside-Spelt return_value (response Windows1252 room) (with_return tokens) (return_in_response Windows1252 room tokens) part (rest_of_return part) (WholeReturn all.0) all.1))
-  token_ends ten tokens (TokenLength (APassed passed)) o = (tokens ++ PassedOver passed [] ∷ [], body_is_read Windows1252 room tokens (APassed passed) (zeros 2) [] refl refl refl refl)
+      let all = return_ends _ r in
+      (tokens ++ Returned all.0 ∷ [], rw (← return_opens tokens part begun) (Inside-Spelt _ _ _ (return_in_response Windows1252 _ _) _ _ _ all.1))
+  token_ends ten tokens (TokenLength (APassed passed)) o = (tokens ++ PassedOver passed [] ∷ [], body_is_read Windows1252 _ _ _ (zeros 2) _ refl refl refl refl)
   token_ends ten tokens (TokenLength b) o =
       let free = length_free room 14 tokens b (14 ∷ 0 ∷ []) (λ e. omega arith) refl in
       (tokens ++ bodied b (zeros 14) ∷ [], body_is_read Windows1252 room tokens b (14 ∷ 0 ∷ []) (zeros 14) refl refl free (body_free b (zeros 14) (λ e. zeros_hold 14 (omega arith))))
@@ -104,7 +104,7 @@ module _ (room : ℕ) where
 -- Whatever has been read can be completed.
 pub can_be_completed : CanBeCompleted
 can_be_completed room part bytes ten are h =
-    let r = part_reached room bytes part are h in
-    let end = token_ends room ten part.tokens part.at r.1 in
-    let all = spelt_both h (spelt_both end.1 (done_ends room end.0)) in
-    (end.0 ++ Done false ∷ [], response_is_spelt Windows1252 room (bytes ++ completion part) (end.0 ++ Done false ∷ []) (AreBytes-append bytes (completion part) are (AreBytes-completion room part r.1)) (is_final-snoc end.0 (Done false)) all)
+    let r = part_reached _ _ _ are h in
+    let end = token_ends _ ten _ _ r.1 in
+    let all = spelt_both h (spelt_both end.1 (done_ends _ _)) in
+    (end.0 ++ Done false ∷ [], response_is_spelt _ _ _ _ (AreBytes-append _ _ are (AreBytes-completion _ part r.1)) (is_final-snoc end.0 (Done false)) all)

@@ -6,8 +6,8 @@ use Rattle.tds_export.proofs.PayloadFaults.{IsOfPayload, element_fault, end_faul
 
 ends_of_wire : (size limit failures : ℕ) (left : Option (List ℕ)) (b : Seen) (bytes : List ℕ) (own : Stop) → Ends (begun size limit left failures) b bytes own → IsOfWire own.fault ⊎ ((own.fault ≡ ReadFailed) × (b.failures ≡ one_more failures))
 ends_of_wire size limit failures left b bytes own (inl x) =
-    inl (subst IsOfWire (ap (λ (c : Coming). c.stop.fault) (x.2 [])) (message_of_wire size limit _ 0 0 (x.0 ++ [])))
-ends_of_wire size limit failures left b bytes own (inr (inl x)) = inl (subst IsOfWire (ap (λ (c : Coming). c.stop.fault) x.3) (message_of_wire size limit _ 0 0 x.0))
+    inl (subst IsOfWire (ap (λ (c : Coming). c.stop.fault) (x.2 [])) (message_of_wire _ _ _ 0 0 _))
+ends_of_wire size limit failures left b bytes own (inr (inl x)) = inl (subst IsOfWire (ap (λ (c : Coming). c.stop.fault) x.3) (message_of_wire _ _ _ 0 0 _))
 ends_of_wire size limit failures left b bytes own (inr (inr x)) = inr (x.2, x.4.0)
 
 -- what stops the reading of a response
@@ -20,11 +20,11 @@ of_none P write read before after fault h = (λ e. write (subst P e h), λ e. ab
 
 reading_fault : (charset : Charset) (room size limit failures : ℕ) (left : Option (List ℕ)) (b : Seen) (place : ℕ) (at : Part) (stop : Stop) → StopsReading (response charset room) response_start (begun size limit left failures) b place at stop → ReadingFault failures b.failures stop.fault
 reading_fault charset room size limit failures left b place at stop x = elim x.cause [
-  | inl y ↦ of_none IsOfPayload (λ h. h) (λ h. h) failures b.failures stop.fault (element_fault charset room at y.0.element stop.fault y.0.first)
+  | inl y ↦ of_none IsOfPayload (λ h. h) (λ h. h) _ _ _ (element_fault charset _ at y.0.element stop.fault y.0.first)
   | inr y ↦ elim y.stop_is [
-    | inl z ↦ subst (ReadingFault failures b.failures) (sym (ap (λ (s : Stop). s.fault) z.1.2)) (of_none IsOfPayload (λ h. h) (λ h. h) failures b.failures z.1.0 (end_fault charset room at z.1.0 z.1.1))
-    | inr z ↦ subst (ReadingFault failures b.failures) (sym (ap (λ (s : Stop). s.fault) z.1)) (elim (ends_of_wire size limit failures left b (x.bytes ++ y.part) y.own y.ends) [
-      | inl w ↦ of_none IsOfWire (λ h. h) (λ h. h) failures b.failures y.own.fault w
+    | inl z ↦ subst (ReadingFault failures b.failures) (sym (ap (λ (s : Stop). s.fault) z.1.2)) (of_none IsOfPayload (λ h. h) (λ h. h) _ _ _ (end_fault charset room at z.1.0 z.1.1))
+    | inr z ↦ subst (ReadingFault failures b.failures) (sym (ap (λ (s : Stop). s.fault) z.1)) (elim (ends_of_wire _ _ _ _ b _ _ y.ends) [
+      | inl w ↦ of_none IsOfWire (λ h. h) (λ h. h) _ _ _ w
       | inr w ↦ (λ e. (let no : ReadFailed ≡ WriteFailed = sym w.0 ∙ e in cc), λ e. w.1)
     ])
   ]
@@ -50,8 +50,8 @@ blamed given stopped x = go x.stops
     go : RunStops (grammar_of given) response_start (begun_at given) x.seen 0 (fresh_at given) x.middle given.after.areas.description x.failed x.stop
         → (stopped.fault ≡ ReadFailed → Rose given.before.reader.failures given.after.reader.failures) × (stopped.fault ≡ WriteFailed → Rose given.before.writer.failures given.after.writer.failures)
     go (inl (inl y)) =
-        let r = reading_fault given.charset (limits_of given).column_room (limits_of given).packet_size (limits_of given).max_wire given.before.reader.failures given.before.reader.bytes x.seen 0 y.0.at x.stop y.0.stops in
-        (λ e. subst (Rose given.before.reader.failures) (sym (r.1 (sym is ∙ e)) ∙ x.reader.failures) (rose given.before.reader.failures), λ e. absurd (r.0 (sym is ∙ e)))
+        let r = reading_fault _ _ _ _ _ _ _ 0 _ _ y.0.stops in
+        (λ e. subst (Rose given.before.reader.failures) (sym (r.1 (sym is ∙ e)) ∙ x.reader.failures) (rose _), λ e. absurd (r.0 (sym is ∙ e)))
     go (inl (inr y)) =
         let b = y.0.breaks.breaks in
         by_write given stopped x.stop y.0.breaks.middle x.middle is (ap (λ (s : Stop). s.fault) b.8) y.0.breaks.puts.2.4 b.9 (ends y.1)
@@ -71,7 +71,7 @@ some_read : (size limit failures : ℕ) (left : Option (List ℕ)) (q : Seen) (b
 some_read size limit failures left q bytes n t o = go t.0 t.1.1
   where
     go : (read : List ℕ) → ((zs : List ℕ) → whole_message size limit (read ++ zs) ≡ before bytes (q.future zs)) → 0 < length read
-    go [] f = absurd (no_message size limit (before bytes (q.future [])) (ap (λ (c : Coming). c.stop.fault) (o.2 []) ∙ o.1) (f []))
+    go [] f = absurd (no_message _ _ _ (ap (λ (c : Coming). c.stop.fault) (o.2 []) ∙ o.1) (f []))
     go (x ∷ read) f = omega arith
 
 pub no_failure : (given : Given) (report : Report) → Reports given report → (Rose given.before.reader.failures given.after.reader.failures → ⊥) × (Rose given.before.writer.failures given.after.writer.failures → ⊥)

@@ -56,7 +56,7 @@ long_length c bytes = omega (arith, conversion_length c bytes, length-append (co
 emit_more : (c : Conversion) (a b : List ℕ) → is_begun c (a ++ b) ≡ true → length (emit (conversion_rest c) (conversion_text c) (a ++ b)) ≤ length (emit (conversion_rest c) (conversion_text c) a) + 4 * (3 + length b)
 emit_more c a b h =
     let j = joins_by_name c in
-    let begins = (begun_by_test c (a ++ b)).0 h in
+    let begins = (begun_by_test c _).0 h in
     let e = j.emits a b begins in
     let short : length (conversion_rest c a) ≤ 3 = j.short a (j.front a b begins) in
     grind (arith, joins_by_name, begun_by_test, length-append, emit_length)
@@ -118,7 +118,7 @@ values_fit (kinds.MoneyN n) e h k = money_fits n e
 values_fit kinds.DateTime4 e h k = datetime_fits 4 e
 values_fit kinds.DateTime8 e h k = datetime_fits 8 e
 values_fit (kinds.DateTimeN n) e h k = datetime_fits n e
-values_fit (kinds.Decimal n precision scale) e h k = magnitude_fits (length e) (drop 1 e) (AreBytes-drop 1 e h) (and_parts (is_decimal_length (length e)) (nat_le (length e) n) k).0
+values_fit (kinds.Decimal n precision scale) e h k = magnitude_fits _ _ (AreBytes-drop 1 e h) (and_parts (is_decimal_length (length e)) (nat_le (length e) n) k).0
 values_fit kind e h k = tt
 
 -- the text of a value that is read

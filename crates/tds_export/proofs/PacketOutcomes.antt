@@ -32,9 +32,9 @@ refused_in_payload run q area part bytes fault side spelt x holds text =
     let e = x.element in
     let more = x.ahead ++ (q.future []).bytes in
     let n = length (bytes ++ e) in
-    let b = takes_begins (limits run).packet_size (limits run).max_wire run.given.before.reader.failures run.input run.left q ((bytes ++ e) ++ x.ahead) n side.bytes side.left x.takes x.between in
-    let s = split_payload bytes e more (payload_of b.packets) (b.payload_is ∙ append_assoc (bytes ++ e) x.ahead (q.future []).bytes) in
-    let l = in_last (limits run).packet_size (limits run).max_wire run.given.before.reader.failures n run.input run.left q ((bytes ++ e) ++ x.ahead) (((bytes ++ e) ++ x.ahead) ++ (q.future []).bytes) side.left x.takes b (omega (arith, x.some, length-append ((bytes ++ e) ++ x.ahead) (q.future []).bytes, length-append (bytes ++ e) x.ahead, length-append bytes e)) in
+    let b = takes_begins _ _ _ _ _ q _ n side.bytes side.left x.takes x.between in
+    let s = split_payload _ e _ _ (b.payload_is ∙ append_assoc (bytes ++ e) x.ahead (q.future []).bytes) in
+    let l = in_last _ _ _ n _ _ q _ _ side.left x.takes b (omega (arith, x.some, length-append ((bytes ++ e) ++ x.ahead) (q.future []).bytes, length-append (bytes ++ e) x.ahead, length-append bytes e)) in
     let refused : IsRefused g part (e ++ more) fault = record {
       some = omega (arith, x.some, x.whole);
       whole = omega (arith, x.whole, length-append e more);
@@ -44,8 +44,8 @@ refused_in_payload run q area part bytes fault side spelt x holds text =
       packets = b.packets;
       part = part;
       stands = record { begin = b.begin; each = b.each; within = b.within };
-      leads = subst (λ p. Longest g response_start p (length bytes) part) (sym s.0) (longest_refused g response_start bytes (e ++ more) part fault spelt refused);
-      first = inl (subst (λ r. IsRefused g part r fault) (sym s.1) refused, ends_in_last run part b.packets bytes e x.whole l);
+      leads = subst (λ p. Longest g response_start p (length bytes) part) (sym s.0) (longest_refused g _ _ _ _ _ spelt refused);
+      first = inl (subst (λ r. IsRefused g part r fault) (sym s.1) refused, ends_in_last _ _ _ _ e x.whole l);
       written = text;
       kept = subst (λ a. IsKept a part.tokens part.at (drop (length bytes) (payload_of b.packets))) (sym side.description) (kept_at area part.tokens part.at (drop (length bytes) (payload_of b.packets)) holds.bytes);
     }
@@ -64,8 +64,8 @@ ended_in_payload run q area part bytes cut own fault side spelt short m end hold
       packets = m.packets;
       part = part;
       stands = record { begin = m.begin; each = inl m.each; within = m.within };
-      leads = subst (λ p. Longest g response_start p (length bytes) part) (sym m.payload_is) (longest_cut g response_start bytes cut part spelt short);
-      first = inr (m.each, (omega (arith, short), subst (λ r. length r < g.size part) (sym (rest_of bytes cut (payload_of m.packets) m.payload_is)) short), end);
+      leads = subst (λ p. Longest g response_start p (length bytes) part) (sym m.payload_is) (longest_cut g _ _ _ _ spelt short);
+      first = inr (m.each, (omega (arith, short), subst (λ r. length r < g.size part) (sym (rest_of _ _ _ m.payload_is)) short), end);
       written = text;
       kept = subst (λ a. IsKept a part.tokens part.at (drop (length bytes) (payload_of m.packets))) (sym side.description) (kept_at area part.tokens part.at (drop (length bytes) (payload_of m.packets)) holds.bytes);
     }

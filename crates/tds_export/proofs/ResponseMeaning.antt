@@ -14,7 +14,7 @@ byte_at body n h is = let first : drop n body ≡ slice_index body n ∷ drop (n
 
 -- a byte that counts units, these, and the bytes after them
 counted_at : (body : List ℕ) (n m : ℕ) {r : List ℕ} → n < length body → (n + 1) + 2 * slice_index body n ≡ m → drop m body ≡ r → drop n body ≡ slice_index body n ∷ (take (2 * slice_index body n) (drop (n + 1) body) ++ r)
-counted_at body n m h e is = byte_at body n h (piece body (n + 1) (2 * slice_index body n) m e is)
+counted_at body n m h e is = byte_at _ n h (piece _ _ _ m e is)
 
 long : (body : List ℕ) (n k : ℕ) → n + k ≤ length body → length (take k (drop n body)) ≡ k
 long body n k h = let l : length (drop n body) ≡ length body - n = length-drop n body in length-take-le k (drop n body) (omega (arith, l))
@@ -100,11 +100,11 @@ module _ (charset : Charset) (room : ℕ) where
   further tokens lead P Q b e h q = grind (arith, append_assoc)
 
   token_means : (tokens : List Token) (t : Token) (lead : Lead) (P : List ℕ → Type 0) (b : List ℕ) → (h : AfterLead tokens lead P b) → SpellsToken charset room (described_after None tokens) t (h.first ∷ h.rest) → PartMeans (with_token tokens t) b
-  token_means tokens t lead P b h s = subst (λ v. SpellsTokens charset room None (tokens ++ t ∷ []) v) (sym h.spelt) (one_more_token None tokens h.front t (h.first ∷ h.rest) h.before s)
+  token_means tokens t lead P b h s = subst (λ v. SpellsTokens charset room None (tokens ++ t ∷ []) v) (sym h.spelt) (one_more_token _ _ _ t _ h.before s)
 
   with_described_means : (tokens : List Token) (d : DescriptionPart) (b : List ℕ) → AfterLead tokens AMetadata (λ rest. DescribedMeans room d rest) b → PartMeans (with_described tokens d) b
-  with_described_means tokens NoDescription b h = token_means tokens NoMetadata AMetadata (λ rest. DescribedMeans room NoDescription rest) b h (h.first, ap (λ v. h.first ∷ v) h.follows, h.begins)
-  with_described_means tokens (WholeDescription x cs) b h = token_means tokens (Metadata x cs) AMetadata (λ rest. DescribedMeans room (WholeDescription x cs) rest) b h ((h.first, ap (λ v. h.first ∷ v) (sym h.follows.0), h.begins), subst (λ v. SpellsDescription room cs v) (sym h.follows.0) h.follows.1)
+  with_described_means tokens NoDescription b h = token_means _ _ _ (λ rest. DescribedMeans room NoDescription rest) b h (h.first, ap (λ v. h.first ∷ v) h.follows, h.begins)
+  with_described_means tokens (WholeDescription x cs) b h = token_means _ _ _ (λ rest. DescribedMeans room (WholeDescription x cs) rest) b h ((h.first, ap (λ v. h.first ∷ v) (sym h.follows.0), h.begins), subst (λ v. SpellsDescription room cs v) (sym h.follows.0) h.follows.1)
   with_described_means tokens d b h = h
 
   row_token : (current : Option (List Column)) (columns : List Column) (nbc : Bool) (cells : List Cell) (first : ℕ) (rest : List ℕ) → current ≡ Some columns → IsFirst (row_lead nbc) first → RowMeans charset columns nbc (WholeRow cells) rest → SpellsRowToken charset current cells (first ∷ rest)
@@ -112,16 +112,16 @@ module _ (charset : Charset) (room : ℕ) where
   row_token current columns true cells first rest e begins h = subst (λ v. SpellsRowToken charset v cells (first ∷ rest)) (sym e) (rest, inr ((first, refl, begins), record { bitmap = h.0; rest = h.1; spelt = h.2; whole = h.3; each = h.4 }))
 
   with_row_means : (tokens : List Token) (part : RowPart) (b : List ℕ) (columns : List Column) (nbc : Bool) → described_after None tokens ≡ Some columns → AfterLead tokens (row_lead nbc) (λ rest. RowMeans charset columns nbc part rest) b → PartMeans (with_row tokens part) b
-  with_row_means tokens (WholeRow cells) b columns nbc e h = token_means tokens (Row cells) (row_lead nbc) (λ rest. RowMeans charset columns nbc (WholeRow cells) rest) b h (row_token (described_after None tokens) columns nbc cells h.first h.rest e h.begins h.follows)
+  with_row_means tokens (WholeRow cells) b columns nbc e h = token_means _ _ _ (λ rest. RowMeans charset columns nbc (WholeRow cells) rest) b h (row_token _ _ _ _ _ _ e h.begins h.follows)
   with_row_means tokens part b columns nbc e h = (columns, nbc, e, h)
 
   with_return_means : (tokens : List Token) (part : ReturnPart) (b : List ℕ) → AfterLead tokens AReturn (λ rest. ReturnMeans part rest) b → PartMeans (with_return tokens part) b
-  with_return_means tokens (WholeReturn r) b h = token_means tokens (Returned r) AReturn (λ rest. ReturnMeans (WholeReturn r) rest) b h (h.rest, (h.first, refl, h.begins), h.follows)
+  with_return_means tokens (WholeReturn r) b h = token_means _ _ _ (λ rest. ReturnMeans (WholeReturn r) rest) b h (h.rest, (h.first, refl, h.begins), h.follows)
   with_return_means tokens part b h = h
 
   row_begins : (tokens : List Token) (b : List ℕ) (x : ℕ) (current : Option (List Column)) → described_after None tokens ≡ current → row_byte_fault true current ≡ None → SpellsTokens charset room None tokens b → lead_of x ≡ Some ARow → PartMeans (start_of_row tokens (row_start charset) current) (b ++ x ∷ [])
   row_begins tokens b x None e f h begins = cc
-  row_begins tokens b x (Some columns) e f h begins = with_row_means tokens (row_start charset columns) (b ++ x ∷ []) columns false e (record { front = b; first = x; rest = []; spelt = refl; before = h; begins = leads_first x ARow begins; follows = row_start_means charset columns })
+  row_begins tokens b x (Some columns) e f h begins = with_row_means _ _ _ _ _ e (record { front = b; first = x; rest = []; spelt = refl; before = h; begins = leads_first x _ begins; follows = row_start_means _ _ })
 
   -- the byte begins what it begins
   lead_step : (tokens : List Token) (b : List ℕ) (x : ℕ) (lead : Lead) → lead_of x ≡ Some lead → IsFirst lead x → SpellsTokens charset room None tokens b → row_byte_fault (is_row_lead lead) (described_after None tokens) ≡ None → PartMeans (after_lead charset tokens lead) (b ++ x ∷ [])
@@ -129,47 +129,47 @@ module _ (charset : Charset) (room : ℕ) where
 
   byte_step : (tokens : List Token) (b : List ℕ) (x : ℕ) (begun : Option Lead) → lead_of x ≡ begun → SpellsTokens charset room None tokens b → lead_fault (described_after None tokens) x begun ≡ None → PartMeans (after_first charset tokens begun) (b ++ x ∷ [])
   byte_step tokens b x None is h free = cc
-  byte_step tokens b x (Some lead) is h free = lead_step tokens b x lead is (leads_first x lead is) h free
+  byte_step tokens b x (Some lead) is h free = lead_step _ b x _ is (leads_first x _ is) h free
 
   body_means : (tokens : List Token) (k : Bodied) (body b : List ℕ) → (h : AfterLead tokens (WithBody k) (λ rest. SpellsBody body rest) b) → ((if is_notice k && not (holds_notice body) then Some BadNotice else None) ≡ None) → PartMeans (with_token tokens (bodied k body)) b
-  body_means tokens k body b h f = token_means tokens (bodied k body) (WithBody k) (λ rest. SpellsBody body rest) b h (spelt k h.begins f)
+  body_means tokens k body b h f = token_means _ _ _ (λ rest. SpellsBody body rest) b h (spelt k h.begins f)
     where
       spelt : (k : Bodied) → IsFirst (WithBody k) h.first → ((if is_notice k && not (holds_notice body) then Some BadNotice else None) ≡ None) → SpellsToken charset room (described_after None tokens) (bodied k body) (h.first ∷ h.rest)
       spelt (APassed passed) begins f = (h.rest, (h.first, refl, begins), h.follows)
-      spelt b begins f = (h.rest, body, (h.first, refl, begins), h.follows, notice_spelt body (held (holds_notice body) f))
+      spelt b begins f = (h.rest, body, (h.first, refl, begins), h.follows, notice_spelt _ (held _ f))
 
   -- each element keeps the meaning
   part_step : (tokens : List Token) (at : Open) (b e : List ℕ) → AreBytes e → OpenMeans tokens at b → IsNext (response charset room) (record { tokens = tokens; at = at }) e → PartMeans (part_add charset tokens at e) (b ++ e)
   part_step tokens Between b e bytes h n = grind (arith, byte_step, one_byte)
   part_step tokens (Describing d) b e bytes h n =
-      with_described_means tokens (add_described d e) (b ++ e)
-      (further tokens AMetadata (λ rest. DescribedMeans room d rest) (λ rest. DescribedMeans room (add_described d e) rest) b e h (described_step room d h.rest e bytes h.follows (record { some = n.some; whole = n.whole; free = n.free })))
+      with_described_means _ _ _
+      (further _ _ (λ rest. DescribedMeans room d rest) (λ rest. DescribedMeans room (add_described d e) rest) b e h (described_step _ d _ e bytes h.follows (record { some = n.some; whole = n.whole; free = n.free })))
   part_step tokens (InRow part) b e bytes (columns, nbc, is, h) n =
-      with_row_means tokens (row_add charset part e) (b ++ e) columns nbc is
-      (further tokens (row_lead nbc) (λ rest. RowMeans charset columns nbc part rest) (λ rest. RowMeans charset columns nbc (row_add charset part e) rest) b e h (row_step charset columns nbc part h.rest e bytes h.follows (record { some = n.some; whole = n.whole; free = n.free })))
+      with_row_means _ _ _ _ _ is
+      (further _ _ (λ rest. RowMeans charset columns nbc part rest) (λ rest. RowMeans charset columns nbc (row_add charset part e) rest) b e h (row_step _ _ _ _ _ e bytes h.follows (record { some = n.some; whole = n.whole; free = n.free })))
   part_step tokens (InReturn part) b e bytes h n =
-      with_return_means tokens (return_add part e) (b ++ e)
-      (further tokens AReturn (λ rest. ReturnMeans part rest) (λ rest. ReturnMeans (return_add part e) rest) b e h (return_step part h.rest e bytes h.follows (record { some = n.some; whole = n.whole; free = n.free })))
+      with_return_means _ _ _
+      (further _ _ (λ rest. ReturnMeans part rest) (λ rest. ReturnMeans (return_add part e) rest) b e h (return_step _ _ e bytes h.follows (record { some = n.some; whole = n.whole; free = n.free })))
   part_step tokens (TokenLength k) b e bytes h n =
       let t = two_bytes e n.whole bytes in
       let read : h.rest ++ e ≡ little e % 256 ∷ little e / 256 ∷ [] = ap (λ v. v ++ e) h.follows ∙ t.0 in
-      choose (λ p. PartMeans p (b ++ e)) (little e == 0) (with_token tokens (bodied k [])) (record { tokens = tokens; at = TokenBody k (little e) })
-      (λ z. body_means tokens k [] (b ++ e) (further tokens (WithBody k) (λ rest. rest ≡ []) (λ rest. SpellsBody [] rest) b e h (read ∙ ap (λ v. v % 256 ∷ v / 256 ∷ []) (eq_true (little e) 0 z), omega arith)) (empty_body k (subst (λ v. (if is_notice k && nat_lt v 14 then Some BadNotice else None) ≡ None) (eq_true (little e) 0 z) n.free)))
+      choose (λ p. PartMeans p (b ++ e)) _ _ _
+      (λ z. body_means tokens k [] (b ++ e) (further _ _ (λ rest. rest ≡ []) (λ rest. SpellsBody [] rest) b e h (read ∙ ap (λ v. v % 256 ∷ v / 256 ∷ []) (eq_true _ 0 z), omega arith)) (empty_body k (subst (λ v. (if is_notice k && nat_lt v 14 then Some BadNotice else None) ≡ None) (eq_true _ 0 z) n.free)))
       (λ z. further tokens (WithBody k) (λ rest. rest ≡ []) (λ rest. (rest ≡ little e % 256 ∷ little e / 256 ∷ []) × (little e < 65536)) b e h (read, t.1))
   part_step tokens (TokenBody k m) b e bytes h n =
       let l : length e ≡ m = n.whole in
-      body_means tokens k e (b ++ e) (further tokens (WithBody k) (λ rest. (rest ≡ m % 256 ∷ m / 256 ∷ []) × (m < 65536)) (λ rest. SpellsBody e rest) b e h (ap (λ v. v ++ e) h.follows.0 ∙ ap (λ v. (v % 256 ∷ v / 256 ∷ []) ++ e) (sym l), (let w : m < 65536 = h.follows.1 in omega arith))) n.free
+      body_means _ k e _ (further _ _ (λ rest. (rest ≡ m % 256 ∷ m / 256 ∷ []) × (m < 65536)) (λ rest. SpellsBody e rest) b e h (ap (λ v. v ++ e) h.follows.0 ∙ ap (λ v. (v % 256 ∷ v / 256 ∷ []) ++ e) (sym l), (let w : m < 65536 = h.follows.1 in omega arith))) n.free
   part_step tokens (Fields f) b e bytes h n =
-      let to = further tokens (WithFields f) (λ rest. rest ≡ []) (λ rest. rest ≡ e) b e h (ap (λ v. v ++ e) h.follows) in
-      token_means tokens (fixed f e) (WithFields f) (λ rest. rest ≡ e) (b ++ e) to (fixed_spelt charset room (described_after None tokens) f e (to.first ∷ to.rest) (to.first, ap (λ v. to.first ∷ v) to.follows, to.begins) n.whole)
+      let to = further _ _ (λ rest. rest ≡ []) (λ rest. rest ≡ e) b e h (ap (λ v. v ++ e) h.follows) in
+      token_means tokens (fixed f e) (WithFields f) (λ rest. rest ≡ e) (b ++ e) to (fixed_spelt _ _ _ f e _ (to.first, ap (λ v. to.first ∷ v) to.follows, to.begins) n.whole)
 
   -- What is read as a part of a response is spelt so.
   part_keeps : (p : Part) (b e : List ℕ) → (AreBytes b → PartMeans p b) → IsNext (response charset room) p e → AreBytes (b ++ e) → PartMeans (part_add charset p.tokens p.at e) (b ++ e)
-  part_keeps p b e h n bytes = part_step p.tokens p.at b e (AreBytes-back b e bytes) (h (AreBytes-front b e bytes)) n
+  part_keeps p b e h n bytes = part_step _ _ b e (AreBytes-back b e bytes) (h (AreBytes-front b e bytes)) n
 
   part_is_spelt : (bytes : List ℕ) (p : Part) → AreBytes bytes → Spelt (response charset room) response_start bytes p → PartMeans p bytes
-  part_is_spelt bytes p are h = Spelt-induct (response charset room) (λ q b. AreBytes b → PartMeans q b) (λ q b e k n. part_keeps q b e k n) response_start (λ t. refl) bytes p h are
+  part_is_spelt bytes p are h = Spelt-induct _ (λ q b. AreBytes b → PartMeans q b) (λ q b e k n. part_keeps q b e k n) _ (λ t. refl) _ p h are
 
   -- What is read between tokens, after a final one, is a response.
   pub response_is_spelt : (payload : List ℕ) (tokens : List Token) → AreBytes payload → is_final tokens ≡ true → Spelt (response charset room) response_start payload (record { tokens = tokens; at = Between }) → Response charset room tokens payload
-  response_is_spelt payload tokens are final h = record { spelt = part_is_spelt payload (record { tokens = tokens; at = Between }) are h; final = final }
+  response_is_spelt payload tokens are final h = record { spelt = part_is_spelt _ _ are h; final = final }

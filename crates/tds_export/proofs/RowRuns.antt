@@ -15,7 +15,7 @@ module _ {S T : Type 0} (small : Grammar S Fault) (big : Grammar T Fault) (lift 
   lifted_leads s (e ∷ es) t h = let x = is s e h.0 in (x.0, subst (λ v. Leads big v es (lift t)) (sym x.1) (lifted_leads (small.add s e) es t h.1))
 
   lifted_spelt : (s : S) (bytes : List ℕ) (t : S) → Spelt small s bytes t → Spelt big (lift s) bytes (lift t)
-  lifted_spelt s bytes t h = record { elements = h.elements; joined = h.joined; leads = lifted_leads s h.elements t h.leads }
+  lifted_spelt s bytes t h = record { elements = h.elements; joined = h.joined; leads = lifted_leads s _ t h.leads }
 
 -- rows describe no columns
 rows_describe : (before : Option (List Column)) (rs : List (List Cell)) → described_after before (map Row rs) ≡ before
@@ -46,9 +46,9 @@ module _ (which : RowToken) (charset : Charset) (room : ℕ) (all : List Column)
         → IsNext (response charset room) (in_rows (record { before = before; at = p })) e × ((response charset room).add (in_rows (record { before = before; at = p })) e ≡ in_rows ((rows which charset all).add (record { before = before; at = p }) e))
     element_next before (WholeRow cells) [] n = absurd (let s : 0 < length {A = ℕ} [] = n.some in omega arith)
     element_next before (WholeRow cells) (x ∷ []) n =
-        subst (λ (x : ℕ). IsNext (response charset room) (in_rows (record { before = before; at = WholeRow cells })) (x ∷ []) × ((response charset room).add (in_rows (record { before = before; at = WholeRow cells })) (x ∷ []) ≡ in_rows (record { before = before ++ cells ∷ []; at = token_start which charset all }))) (sym (is_token_byte (token_byte which) x n.free)) (token_next before cells)
+        subst (λ (x : ℕ). IsNext (response charset room) (in_rows (record { before = before; at = WholeRow cells })) (x ∷ []) × ((response charset room).add (in_rows (record { before = before; at = WholeRow cells })) (x ∷ []) ≡ in_rows (record { before = before ++ cells ∷ []; at = token_start which charset all }))) (sym (is_token_byte _ x n.free)) (token_next _ _)
     element_next before (WholeRow cells) (x ∷ y ∷ r) n = absurd (let w : length (x ∷ y ∷ r) ≡ 1 = n.whole in omega arith)
-    element_next before p e n = row_next (tokens ++ map Row before) p e (record { some = n.some; whole = n.whole; free = n.free })
+    element_next before p e n = row_next _ p e (record { some = n.some; whole = n.whole; free = n.free })
 
     -- what is read of rows from their start on and put, is read of the response and put
     abbrev rows_stream : {t : RowsPart} {a b : Seen} {h j : Held} → Streams (rows which charset all) rows_so_far (rows_start which charset all) a b h j t → Streams (response charset room) text_so_far (with_row tokens (token_start which charset all)) a b h j (in_rows t)
@@ -56,14 +56,14 @@ module _ (which : RowToken) (charset : Charset) (room : ℕ) (all : List Column)
         let s = rows_start which charset all in
         let begins : in_rows s ≡ with_row tokens (token_start which charset all) = ap (λ ts. with_row ts (token_start which charset all)) (append-nil tokens) in
         let same = ap (λ l. l ++ x.puts.0) (ap text_so_far (sym begins) ∙ in_rows_text s) ∙ append_assoc (text tokens) (rows_so_far s) x.puts.0 ∙ ap (λ l. text tokens ++ l) x.puts.1 ∙ sym (in_rows_text t) in
-        let spelt = lifted_spelt (rows which charset all) (response charset room) in_rows (λ p e n. element_next p.before p.at e n) s x.bytes t x.spelt in
+        let spelt = lifted_spelt _ _ _ (λ p e n. element_next p.before p.at e n) s _ t x.spelt in
         record { bytes = x.bytes; spelt = subst (λ (v : Part). Spelt (response charset room) v x.bytes (in_rows t)) begins spelt; takes = x.takes; puts = (x.puts.0, same, x.puts.2) }
 
 -- so many rows more are counted
 tracks_rows : (s : Progress) (tokens : List Token) (r : List Cell) (rs : List (List Cell)) → TracksBefore s tokens → Tracks (record s { report = record s.report { rows = s.report.rows + length (r ∷ rs) } }) (tokens ++ map Row (r ∷ rs))
-tracks_rows s tokens r [] k = tracks_row s tokens r k
+tracks_rows s tokens r [] k = tracks_row s _ r k
 tracks_rows s tokens r (q ∷ qs) k =
-    let first = tracks_row s tokens r k in
+    let first = tracks_row s _ r k in
     let n : (s.report.rows + 1) + length (q ∷ qs) ≡ s.report.rows + length (r ∷ q ∷ qs) = omega arith in
     subst (λ ts. Tracks (record s { report = record s.report { rows = s.report.rows + length (r ∷ q ∷ qs) } }) ts) (append_assoc tokens (Row r ∷ []) (map Row (q ∷ qs)))
     (subst (λ (n : ℕ). Tracks (record s { report = record s.report { rows = n } }) ((tokens ++ Row r ∷ []) ++ map Row (q ∷ qs))) n (tracks_rows (record s { report = record s.report { rows = s.report.rows + 1 } }) (tokens ++ Row r ∷ []) q qs (record { report = first.report; described = first.described; final = k.final })))
@@ -74,13 +74,13 @@ tracks_all s tokens earlier last count counted k =
     subst (λ (n : ℕ). Tracks (record s { report = record s.report { rows = s.report.rows + n } }) (tokens ++ map Row (earlier ++ last ∷ []))) (length-append earlier (last ∷ []) ∙ sym counted) (go earlier)
   where
     go : (earlier : List (List Cell)) → Tracks (record s { report = record s.report { rows = s.report.rows + length (earlier ++ last ∷ []) } }) (tokens ++ map Row (earlier ++ last ∷ []))
-    go [] = tracks_rows s tokens last [] k
-    go (r ∷ rs) = tracks_rows s tokens r (rs ++ last ∷ []) k
+    go [] = tracks_rows s _ _ [] k
+    go (r ∷ rs) = tracks_rows s _ r _ k
 
 -- the description stays what it was
 rows_hold : (area : Space) (tokens : List Token) (rs : List (List Cell)) → IsHolding area (after_tokens tokens) → IsHolding area (after_tokens (tokens ++ map Row rs))
 rows_hold area tokens [] h = subst (λ ts. IsHolding area (after_tokens ts)) (sym (append-nil tokens)) h
-rows_hold area tokens (r ∷ rs) h = subst (λ ts. IsHolding area (after_tokens ts)) (append_assoc tokens (Row r ∷ []) (map Row rs)) (rows_hold area (tokens ++ Row r ∷ []) rs (holds-snoc area tokens (Row r) refl h))
+rows_hold area tokens (r ∷ rs) h = subst (λ ts. IsHolding area (after_tokens ts)) (append_assoc tokens (Row r ∷ []) (map Row rs)) (rows_hold area (tokens ++ Row r ∷ []) rs (holds-snoc _ _ _ refl h))
 
 -- ---- what the call that reads them gives
 
@@ -95,20 +95,20 @@ module _ (which : RowToken) (charset : Charset) (room : ℕ) {place : ℕ} {colu
       → (x : ReadsTokens (response charset room) (with_row tokens (token_start which charset (columns_of area.bytes))) tokens a b place place' before after (record s { report = record s.report { rows = s.report.rows + count } }) area) × IsNoted notice (tokens ++ x.more)
   rows_read {place' = place'} {count = count} y =
       let x = subst (λ cs. ReadsRows which charset cs count a b place place' before after) shown y in
-      let known = columns_known tokens s.described area.bytes described begun.holds.bytes begun.tracks.described in
-      let there = rows_stream which charset room (columns_of area.bytes) tokens known x.streams in
+      let known = columns_known tokens _ _ described begun.holds.bytes begun.tracks.described in
+      let there = rows_stream _ _ _ _ _ known x.streams in
       let end : with_row (tokens ++ map Row x.earlier) (WholeRow x.last) ≡ after_tokens (tokens ++ map Row (x.earlier ++ x.last ∷ [])) = ap after_tokens (append_assoc tokens (map Row x.earlier) (Row x.last ∷ []) ∙ ap (λ l. tokens ++ l) (sym (map-append Row x.earlier (x.last ∷ [])))) in
       quietly begun refl (record {
         more = map Row (x.earlier ++ x.last ∷ []);
         streams = record { bytes = x.streams.bytes; spelt = rw (← end) there.spelt; takes = x.streams.takes; puts = subst (λ (v : Part). PutsText text_so_far (with_row tokens (token_start which charset (columns_of area.bytes))) v before after) end there.puts };
         place_is = x.place_is;
-        tracks = tracks_all s tokens x.earlier x.last count x.counted begun.tracks;
-        holds = rows_hold area tokens (x.earlier ++ x.last ∷ []) begun.holds;
+        tracks = tracks_all s _ x.earlier x.last _ x.counted begun.tracks;
+        holds = rows_hold _ _ (x.earlier ++ x.last ∷ []) begun.holds;
       })
 
   -- their reading stopped
   pub rows_stop : {failed' : Bool} {stop : Stop} → RowsStop which charset columns a b place before after failed' stop → StepStops (response charset room) (with_row tokens (token_start which charset (columns_of area.bytes))) a b place before after area failed' stop
   rows_stop {failed' = failed'} {stop = stop} y =
       let x = subst (λ cs. RowsStop which charset cs a b place before after failed' stop) shown y in
-      let known = columns_known tokens s.described area.bytes described begun.holds.bytes begun.tracks.described in
-      stops_further (rows_stream which charset room (columns_of area.bytes) tokens known x.streams) refl (row_stops charset room (tokens ++ map Row x.earlier) (rows_hold area tokens x.earlier begun.holds) x.stops)
+      let known = columns_known tokens _ _ described begun.holds.bytes begun.tracks.described in
+      stops_further (rows_stream _ _ _ _ _ known x.streams) refl (row_stops charset room (tokens ++ map Row x.earlier) (rows_hold area tokens x.earlier begun.holds) x.stops)

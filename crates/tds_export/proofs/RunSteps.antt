@@ -13,7 +13,7 @@ pub record Runs (g : Grammar Part Fault) (old new : Seen) (place place' : ℕ) (
 abbrev pub runs_none : (charset : Charset) (room : ℕ) {place : ℕ} {a : Seen} {h : Held} {progress : Progress} {area : Space} → h.delivered ≤ 2 ^ 64 - 1 → Tracks progress [] → area ≡ empty area.room → Runs (response charset room) a a place place h h progress area
 runs_none charset room {a = a} {h = h} d tracks is = record {
   tokens = [];
-  streams = record { bytes = []; spelt = Spelt-none (response charset room) response_start; takes = Takes-none a 0; puts = ([], refl, Puts-none h d) };
+  streams = record { bytes = []; spelt = Spelt-none _ _; takes = Takes-none a 0; puts = ([], refl, Puts-none h d) };
   place_is = omega arith;
   tracks = tracks;
   holds = record { bytes = ap (λ (s : Space). s.bytes) is; peak = omega (arith, ap (λ (s : Space). s.peak) is) };
@@ -41,7 +41,7 @@ module _ (charset : Charset) (room : ℕ) {p q : ℕ} {a b c : Seen} {h k : Held
   pub stops_end : {failed : Bool} → failed ≡ false → k.delivered ≤ 2 ^ 64 - 1 → s.is_final ≡ false → StepStops (response charset room) response_start a c p h k area failed (record { fault = EndWithoutDone; place = Payload q })
   stops_end going d open_end =
       let stop : Stop = record { fault = EndWithoutDone; place = Payload q } in
-      let over : Ends c c [] o.0 = inl ([], Consumes-nil c.left, o.2, Stays-none c.failures) in
+      let over : Ends c c [] o.0 = inl ([], Consumes-nil c.left, o.2, Stays-none _) in
       let is : IsCutStop q ((response charset room).end_fault (after_tokens x.tokens)) o.0 stop = inl (o.1, (EndWithoutDone, rw (← x.tracks.final, open_end) refl, refl)) in
       stops_further x.streams x.place_is (stops_quietly refl x.holds d going (cut_at_once (response charset room) (after_tokens x.tokens) b c q [] o.0 stop (omega arith) (Ends-after b c c [] [] 1 o.0 t over) is))
 
@@ -50,7 +50,7 @@ module _ (charset : Charset) (room : ℕ) {p q : ℕ} {a b c : Seen} {h k : Held
     tokens = x.tokens;
     bytes = x.streams.bytes;
     spelt = x.streams.spelt;
-    takes = subst (λ l. Takes a c l (length x.streams.bytes + 1)) (append-nil x.streams.bytes) (Takes-trans a b c x.streams.bytes [] (length x.streams.bytes) 1 (omega arith) x.streams.takes t);
+    takes = subst (λ l. Takes a c l (length x.streams.bytes + 1)) (append-nil x.streams.bytes) (Takes-trans a b c _ _ _ 1 (omega arith) x.streams.takes t);
     puts = x.streams.puts;
     over = o;
     final = sym x.tracks.final ∙ final;

@@ -12,7 +12,7 @@ pub record BeginsToken (charset : Charset) (room : ℕ) (tokens : List Token) (b
 
 -- a description has columns
 pub some_columns : (bytes : List ℕ) → IsDescription bytes → 0 < length (columns_of bytes)
-some_columns bytes d = subst (λ cs. 0 < length cs) (sym (description_shows d.0 d.1 bytes d.2).0) d.2.some
+some_columns bytes d = subst (λ cs. 0 < length cs) (sym (description_shows _ _ _ d.2).0) d.2.some
 
 begins_lead : (charset : Charset) (room : ℕ) (tokens : List Token) (byte : ℕ) (described : Bool) (bytes : List ℕ) (begun : Lead) → lead_of byte ≡ Some begun → IsUnder described begun → bytes ≡ encoded_after [] tokens → (described ≡ true → IsDescription bytes)
     → IsDescribed described (encoded_after [] tokens) (described_after None tokens) → BeginsToken charset room tokens byte (in_lead charset (columns_of bytes) begun tokens)
@@ -20,13 +20,13 @@ begins_lead charset room tokens byte described bytes begun e under is d k = grin
 
 pub begins_kind : (charset : Charset) (room : ℕ) (tokens : List Token) (byte : ℕ) (described : Bool) (bytes : List ℕ) (kind : TokenKind) → IsOfKind described byte kind → bytes ≡ encoded_after [] tokens → (described ≡ true → IsDescription bytes)
     → IsDescribed described (encoded_after [] tokens) (described_after None tokens) → BeginsToken charset room tokens byte (in_kind charset (columns_of bytes) kind tokens)
-begins_kind charset room tokens byte described bytes kind h is d k = begins_lead charset room tokens byte described bytes (lead kind) h.0 h.1 is d k
+begins_kind charset room tokens byte described bytes kind h is d k = begins_lead _ _ _ _ _ _ _ h.0 h.1 is d k
 
 -- the first byte of a token is read, and nothing put for it
 abbrev first : {charset : Charset} {room byte : ℕ} {tokens : List Token} {to : Part} {a b : Seen} {h : Held} → BeginsToken charset room tokens byte to → h.delivered ≤ 2 ^ 64 - 1 → Takes a b (byte ∷ []) 1 → Streams (response charset room) text_so_far (after_tokens tokens) a b h h to
 first {charset = charset} {room = room} {byte = byte} {tokens = tokens} {to = to} {a = a} {b = b} {h = h} begins d t = record {
   bytes = byte ∷ [];
-  spelt = (reads_one (response charset room) (after_tokens tokens) a b (byte ∷ []) to begins.next t begins.to_is).spelt;
+  spelt = (reads_one _ _ a b _ _ begins.next t begins.to_is).spelt;
   takes = t;
   puts = same_text (after_tokens tokens) to h begins.text_is d;
 }
@@ -65,8 +65,8 @@ module _ (charset : Charset) (room : ℕ) {place : ℕ} {tokens : List Token} {a
   -- a byte begins no token
   pub stops_at_byte : {byte : ℕ} {described : Bool} {fault : Fault} → IsDescribed described (encoded_after [] tokens) (described_after None tokens) → IsRefusedByte described byte fault → Takes a b (byte ∷ []) 1 → IsBetween b
       → StepStops (response charset room) (after_tokens tokens) a b place h h area failed (record { fault = fault; place = Payload place })
-  stops_at_byte {byte = byte} {described = described} {fault = fault} k why t between = stops_quietly refl holds d going (refused charset room tokens a b place byte described fault k why t between)
+  stops_at_byte {byte = byte} {described = described} {fault = fault} k why t between = stops_quietly refl holds d going (refused _ _ _ a b _ _ _ _ k why t between)
 
   -- the payload stopped
   pub stops_between : {stop : Stop} → Ends a b [] stop → (stop.fault ≡ MessageEnded → ⊥) → StepStops (response charset room) (after_tokens tokens) a b place h h area failed stop
-  stops_between {stop = stop} ends other = stops_quietly refl holds d going (cut_at_once (response charset room) (after_tokens tokens) a b place [] stop stop (omega arith) ends (inr (other, refl)))
+  stops_between {stop = stop} ends other = stops_quietly refl holds d going (cut_at_once _ _ a b _ _ _ _ (omega arith) ends (inr (other, refl)))

@@ -22,7 +22,7 @@ begun_true (u ∷ ts) = begun_true ts
 -- a set has begun where there is one
 pub begun_where_sets : (ts : List Token) → begun_after false ts ≡ nat_lt 0 (how_many is_set ts)
 begun_where_sets [] = refl
-begun_where_sets (Metadata bytes columns ∷ ts) = begun_true ts ∙ sym (test_lt 0 (1 + how_many is_set ts) (omega arith))
+begun_where_sets (Metadata bytes columns ∷ ts) = begun_true ts ∙ sym (test_lt 0 _ (omega arith))
 begun_where_sets (t ∷ ts) = begun_where_sets ts
 
 pub how_many-snoc : (p : Token → Bool) (ts : List Token) (t : Token) → how_many p (ts ++ t ∷ []) ≡ how_many p ts + how_many p (t ∷ [])
@@ -30,7 +30,7 @@ how_many-snoc p [] t = omega arith
 how_many-snoc p (u ∷ ts) t = grind (arith, how_many-snoc p ts t)
 
 pub uncounted : (p : Token → Bool) (ts : List Token) (t : Token) → how_many p (t ∷ []) ≡ 0 → how_many p (ts ++ t ∷ []) ≡ how_many p ts
-uncounted p ts t e = how_many-snoc p ts t ∙ ap (λ n. how_many p ts + n) e ∙ add_none (how_many p ts)
+uncounted p ts t e = how_many-snoc p _ t ∙ ap (λ n. how_many p ts + n) e ∙ add_none _
 
 -- without an error there is no first one
 pub no_errors : (ts : List Token) → how_many is_error ts ≡ 0 → first_error ts ≡ None
@@ -118,7 +118,7 @@ pub tracks_quiet : (s : Progress) (ts : List Token) (t : Token) (final : Bool) �
 tracks_quiet s ts t final is e k = grind (arith, described_after-append, encoded_after-append, is_final-snoc, same_first, status_after-append, uncounted)
 
 pub tracks_body : (s : Progress) (ts : List Token) (which : Bodied) (body : List ℕ) → is_notice which ≡ false → TracksBefore s ts → Tracks s (ts ++ bodied which body ∷ [])
-tracks_body s ts (APassed passed) body h k = tracks_quiet s ts (PassedOver passed body) s.is_final refl k.final k
+tracks_body s ts (APassed passed) body h k = tracks_quiet s _ _ _ refl k.final k
 tracks_body s ts which body h k = cc
 
 pub tracks_none : (s : Progress) (ts : List Token) → TracksBefore s ts → Tracks (record s { described = false }) (ts ++ NoMetadata ∷ [])

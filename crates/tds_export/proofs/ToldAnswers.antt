@@ -21,24 +21,24 @@ cut_stops : (run : Run) (q : Seen) (area : Space) (at : Part) (bytes : List ℕ)
     → run.gained ++ run.given.after.areas.output.bytes ≡ text_so_far at → Stops run stop.fault stop.place
 cut_stops run q area at bytes stop side spelt c holds text =
     let limit = (limits run).max_wire in
-    elim (ends_front (limits run).packet_size limit run.given.before.reader.failures run.input run.left q (bytes ++ c.part) c.own side.bytes side.left c.ends) [
+    elim (ends_front _ _ _ _ _ q _ _ side.bytes side.left c.ends) [
       | inl m ↦ elim c.stop_is [
-        | inl e ↦ subst (λ (s : Stop). Stops run s.fault s.place) (sym (e.1.2 ∙ ap (λ n. record { fault = e.1.0; place = Payload n }) (zero (length bytes)))) (ended_in_payload run q area at bytes c.part c.own e.1.0 side spelt c.cut m e.1.1 holds text)
+        | inl e ↦ subst (λ (s : Stop). Stops run s.fault s.place) (sym (e.1.2 ∙ ap (λ n. record { fault = e.1.0; place = Payload n }) (zero _))) (ended_in_payload _ q _ at bytes c.part c.own e.1.0 side spelt c.cut m e.1.1 holds text)
         | inr e ↦ absurd (e.0 (ap (λ (s : Stop). s.fault) m.ended))
       ]
       | inr x ↦ elim c.stop_is [
         | inl e ↦ absurd (elim x.cause [
           | inl y ↦ (let differ : ReadFailed ≡ MessageEnded = sym y.0 ∙ e.0 in cc)
-          | inr y ↦ wire_goes_on (limits run).packet_size limit run.input x.packets c.own.fault y.0 e.0
+          | inr y ↦ wire_goes_on _ _ _ _ _ y.0 e.0
         ])
-        | inr e ↦ subst (λ (s : Stop). Stops run s.fault s.place) (sym e.1) (subst (Stops run c.own.fault) (sym x.place) (stopped_on_wire run q area at bytes c.part c.own rose side spelt c.cut x holds text))
+        | inr e ↦ subst (λ (s : Stop). Stops run s.fault s.place) (sym e.1) (subst (Stops run c.own.fault) (sym x.place) (stopped_on_wire _ q _ at bytes c.part c.own rose side spelt c.cut x holds text))
       ]
     ]
 
 reading_stops : (run : Run) (q : Seen) (area : Space) (at : Part) (stop : Stop) → ReaderSide run q area → StopsReading (grammar run) response_start (start run) q 0 at stop → IsHolding area at → run.gained ++ run.given.after.areas.output.bytes ≡ text_so_far at → Stops run stop.fault stop.place
 reading_stops run q area at stop side s holds text = elim s.cause [
-  | inl r ↦ subst (Stops run stop.fault) (sym (r.1 ∙ ap Payload (zero (length s.bytes)))) (refused_in_payload run q area at s.bytes stop.fault side s.spelt r.0 holds text)
-  | inr c ↦ cut_stops run q area at s.bytes stop side s.spelt c holds text
+  | inl r ↦ subst (Stops run stop.fault) (sym (r.1 ∙ ap Payload (zero _))) (refused_in_payload _ q _ at s.bytes stop.fault side s.spelt r.0 holds text)
+  | inr c ↦ cut_stops _ q _ at s.bytes stop side s.spelt c holds text
 ]
 
 -- ---- the text
@@ -70,7 +70,7 @@ payload_short (p ∷ packets) = omega (arith, payload_short packets, length-appe
 
 payload_bytes : (packets : List Packet) → AreBytes (wire_of packets) → AreBytes (payload_of packets)
 payload_bytes [] h = tt
-payload_bytes (p ∷ packets) h = AreBytes-append p.body (payload_of packets) (AreBytes-back (4 ∷ p.status ∷ (8 + length p.body) / 256 ∷ (8 + length p.body) % 256 ∷ p.id) p.body (AreBytes-front (packet_bytes p) (wire_of packets) h)) (payload_bytes packets (AreBytes-back (packet_bytes p) (wire_of packets) h))
+payload_bytes (p ∷ packets) h = AreBytes-append _ _ (AreBytes-back (4 ∷ p.status ∷ (8 + length p.body) / 256 ∷ (8 + length p.body) % 256 ∷ p.id) _ (AreBytes-front (packet_bytes p) (wire_of packets) h)) (payload_bytes packets (AreBytes-back (packet_bytes p) _ h))
 
 -- the text so far is within 64 times the limit of the wire
 fits_at : (run : Run) (packets : List Packet) (rest : List ℕ) (place : ℕ) (part : Part) (n : ℕ) → AreBytes run.input → wire_of packets ++ rest ≡ run.input → length (wire_of packets) ≤ (limits run).max_wire
@@ -78,8 +78,8 @@ fits_at : (run : Run) (packets : List Packet) (rest : List ℕ) (place : ℕ) (p
 fits_at run packets rest place part n are begin within spelt few =
     let payload = payload_of packets in
     let bytes : AreBytes payload = payload_bytes packets (AreBytes-front (wire_of packets) rest (subst AreBytes (sym begin) are)) in
-    let front : AreBytes (take place payload) = AreBytes-front (take place payload) (drop place payload) (subst AreBytes (sym (take-append-drop place payload)) bytes) in
-    let most : length (text_so_far part) ≤ 64 * length (take place payload) = bounded_along run.given.charset (limits run).column_room part (take place payload) front spelt in
+    let front : AreBytes (take place payload) = AreBytes-front _ _ (subst AreBytes (sym (take-append-drop place payload)) bytes) in
+    let most : length (text_so_far part) ≤ 64 * length (take place payload) = bounded_along _ _ _ _ front spelt in
     omega (arith, few, most, within, payload_short packets, ap length (take-append-drop place payload), length-append (take place payload) (drop place payload))
 
 fits : (run : Run) (fault : Fault) (place : Place) → AreBytes run.input → Stops run fault place → length (run.gained ++ run.given.after.areas.output.bytes) ≤ 64 * (limits run).max_wire
@@ -95,7 +95,7 @@ exact run delivered e few = let most = (limits run).max_wire_in_range in omega (
 
 -- the longest part of a payload that begins with these bytes has their text, and more of it
 longest_text : (charset : Charset) (room : ℕ) (bytes more : List ℕ) (p q : Part) (place : ℕ) → Spelt (response charset room) response_start bytes p → Longest (response charset room) response_start (bytes ++ more) place q → (rest : List ℕ) × (text_so_far p ++ rest ≡ text_so_far q)
-longest_text charset room bytes more p q place h l = let f = further (response charset room) response_start p q bytes more place h l in text_along charset room p q f.0 f.1
+longest_text charset room bytes more p q place h l = let f = further _ _ p q _ _ _ h l in text_along _ _ p q _ f.1
 
 -- a part that fewer bytes lead to has no more text than that before the last element
 earlier_text : (charset : Charset) (room : ℕ) (bytes element : List ℕ) (p q : Part) (place : ℕ) → Spelt (response charset room) response_start bytes p → length element ≡ (response charset room).size p → place < length (bytes ++ element)
@@ -103,14 +103,14 @@ earlier_text : (charset : Charset) (room : ℕ) (bytes element : List ℕ) (p q 
 earlier_text charset room bytes element p q place h whole less k = elim (dec_le place (length bytes)) [
   | yes below ↦
       (let front : take place (bytes ++ element) ≡ take place bytes = take-append-le place bytes element below in
-      let rest = text_along charset room q p (drop place bytes) (rest_leads (response charset room) response_start q p (take place bytes) (drop place bytes) (subst (λ v. Spelt (response charset room) response_start v q) front k) (subst (λ v. Spelt (response charset room) response_start v p) (sym (take-append-drop place bytes)) h)) in
+      let rest = text_along _ _ q p _ (rest_leads _ _ q p _ _ (subst (λ v. Spelt (response charset room) response_start v q) front k) (subst (λ v. Spelt (response charset room) response_start v p) (sym (take-append-drop place bytes)) h)) in
       omega (arith, ap length rest.1, length-append (text_so_far q) rest.0))
   | no above ↦
       (let n = place - length bytes in
       let sum : length bytes + n ≡ place = omega (arith, above) in
       let split : take place (bytes ++ element) ≡ bytes ++ take n element = ap (λ v. take v (bytes ++ element)) (sym sum) ∙ take-append-add bytes element n in
       let few : length (take n element) ≡ n = length-take-le n element (omega (arith, less, sum, length-append bytes element)) in
-      let none : take n element ≡ [] = no_further (response charset room) response_start bytes p (take n element) q h (λ i a b. omega (arith, few, less, sum, whole, length-append bytes element)) (subst (λ v. Spelt (response charset room) response_start v q) split k) in
+      let none : take n element ≡ [] = no_further _ _ _ p _ q h (λ i a b. omega (arith, few, less, sum, whole, length-append bytes element)) (subst (λ v. Spelt (response charset room) response_start v q) split k) in
       absurd (omega (arith, ap length none, few, sum, above)))
 ]
 
@@ -126,19 +126,19 @@ broken run q k at stop side writer x holds gained all =
     let y = x.breaks in
     let to = g.add at x.element in
     let spelt : Spelt g response_start be to = spelt_both x.spelt (Spelt-one g at x.element x.next) in
-    let b = takes_begins l.packet_size l.max_wire f run.input run.left q (be ++ x.ahead) (length be) side.bytes side.left x.takes x.between in
+    let b = takes_begins _ _ f _ _ q _ _ side.bytes side.left x.takes x.between in
     let more = x.ahead ++ (q.future []).bytes in
     let payload = payload_of b.packets in
     let payload_is : payload ≡ be ++ more = b.payload_is ∙ append_assoc be x.ahead (q.future []).bytes in
-    let longest = some_longest g response_start payload in
-    let beyond = longest_text run.given.charset l.column_room be more to longest.1 longest.0 spelt (subst (λ v. Longest g response_start v longest.0 longest.1) payload_is longest.2) in
+    let longest = some_longest g _ _ in
+    let beyond = longest_text _ _ _ _ _ _ _ spelt (subst (λ v. Longest g response_start v longest.0 longest.1) payload_is longest.2) in
     let some : 0 < length be = omega (arith, x.next.some, length-append x.bytes x.element) in
-    let last = in_last l.packet_size l.max_wire f (length be) run.input run.left q (be ++ x.ahead) ((be ++ x.ahead) ++ (q.future []).bytes) side.left x.takes b (omega (arith, some, length-append (be ++ x.ahead) (q.future []).bytes, length-append be x.ahead)) in
-    let early = some_longest g response_start (payload_of last.before) in
+    let last = in_last _ _ f _ _ _ q _ _ side.left x.takes b (omega (arith, some, length-append (be ++ x.ahead) (q.future []).bytes, length-append be x.ahead)) in
+    let early = some_longest g _ _ in
     let joined : payload ≡ payload_of last.before ++ payload_of (last.last ∷ []) = ap payload_of (sym last.split) ∙ flat_map-append (λ (v : Packet). v.body) last.before (last.last ∷ []) in
     let fewer : early.0 < length be = omega (arith, early.2.within, last.earlier) in
     let front : take early.0 (payload_of last.before) ≡ take early.0 be = sym (take-append-le early.0 (payload_of last.before) (payload_of (last.last ∷ [])) early.2.within) ∙ ap (take early.0) (sym joined ∙ payload_is) ∙ take-append-le early.0 be more (omega (arith, fewer)) in
-    let short = earlier_text run.given.charset l.column_room x.bytes x.element at early.1 early.0 x.spelt x.next.whole fewer (subst (λ v. Spelt g response_start v early.1) front early.2.spelt) in
+    let short = earlier_text _ _ _ _ at early.1 early.0 x.spelt x.next.whole fewer (subst (λ v. Spelt g response_start v early.1) front early.2.spelt) in
     let total : length (text_put run) ≡ 4096 * (p.1 + y.1 + 1) = omega (arith, ap length gained, ap length writer.waiting, length-append run.gained (waiting run), length-append p.0 y.0, p.3, y.7) in
     let chunks : length (text_put run) ≡ 4096 * (length run.gained / 4096 + 1) = omega (arith, total, ap length gained, length-append p.0 y.0, p.3, y.5, y.6) in
     let passes : length (text_so_far at) < length (text_put run) = omega (arith, ap length p.2.1, length-append p.0 x.middle.waiting, p.3, x.few, total) in
@@ -156,7 +156,7 @@ broken run q k at stop side writer x holds gained all =
       written_is = refl;
       begins = text_more;
       needed = inr (last.before, last.last, early.0, early.1, last.split, early.2, chunks, omega (arith, short, passes));
-      failed = subst (Rose run.given.before.writer.failures) (sym (y.9 ∙ ap one_more p.4) ∙ writer.failures) (rose run.given.before.writer.failures);
+      failed = subst (Rose run.given.before.writer.failures) (sym (y.9 ∙ ap one_more p.4) ∙ writer.failures) (rose _);
       kept = (length be, to, comes, rw side.description (kept_at run.given.after.areas.description to.tokens to.at (drop (length be) payload) holds.bytes));
     }
 
@@ -212,15 +212,15 @@ module _ (given : Given) (input left : List ℕ) (q : Seen) (stop : Stop) (are :
   stop_reading : (middle l : Held) → IsWriter given l → StopsInReading (grammar_of given) response_start (start (run_of given input left [])) q 0 (fresh_at given) middle given.after.areas.description stop → Tidied middle l → StopTold given input left stop l
   stop_reading middle l writer y t =
       let p = subst (Puts (fresh_at given) middle) y.puts.1 y.puts.2 in
-      let d = sends given middle l (text_so_far y.at) [] t.0 writer p t.1 in
+      let d = sends _ _ l _ _ _ writer p t.1 in
       let run = run_of given input left d.gained in
-      let side = reader_side given input left d.gained q are ql reader in
-      let stops : Stops run stop.fault stop.place = reading_stops run q given.after.areas.description y.at stop side y.stops y.holds (d.all ∙ append-nil (text_so_far y.at)) in (
+      let side = reader_side _ _ _ _ q are ql reader in
+      let stops : Stops run stop.fault stop.place = reading_stops _ q _ _ _ side y.stops y.holds (d.all ∙ append-nil (text_so_far y.at)) in (
         d.gained,
         d.has,
         record {
           stop = stops;
-          written = exact run l.delivered d.delivered (fits run stop.fault stop.place are stops);
+          written = exact run l.delivered d.delivered (fits _ _ _ are stops);
           unwritten = ap length writer.waiting;
           no_notice = none;
           none_waits = λ calm. elim t.2 [
@@ -242,18 +242,18 @@ module _ (given : Given) (input left : List ℕ) (q : Seen) (stop : Stop) (are :
   stop_writing : (k : Held) → IsWriter given k → StopsInWriting (grammar_of given) response_start (start (run_of given input left [])) q (fresh_at given) k given.after.areas.description stop → StopTold given input left stop k
   stop_writing k writer y =
       let x = y.breaks in
-      let d = sends given x.middle k (text_so_far y.at) (take x.breaks.2 x.more) x.breaks.0 writer (subst (Puts (fresh_at given) x.middle) x.puts.1 x.puts.2) x.breaks.3 in
-      in_text k d.gained writer d.has d.delivered (broken (run_of given input left d.gained) q k y.at stop (reader_side given input left d.gained q are ql reader) writer x y.holds refl d.all) x.breaks.8
+      let d = sends _ _ k _ _ _ writer (subst (Puts (fresh_at given) x.middle) x.puts.1 x.puts.2) x.breaks.3 in
+      in_text k _ writer d.has d.delivered (broken _ q k _ _ (reader_side _ _ _ _ q are ql reader) writer x y.holds refl d.all) x.breaks.8
 
   -- the last delivery failed
   stop_at_end : (k : Held) → IsWriter given k → StopsAtEnd (grammar_of given) response_start (start (run_of given input left [])) q (fresh_at given) k given.after.areas.description stop → StopTold given input left stop k
   stop_at_end k writer y =
       let p = whole_puts (grammar_of given) (start (run_of given input left [])) q (fresh_at given) y.middle given.after.areas.description y.whole in
-      let d = sends given y.middle k (text y.whole.tokens) [] y.fails.0 writer p y.fails.1 in
+      let d = sends _ _ k (text y.whole.tokens) [] _ writer p y.fails.1 in
       let run = run_of given input left d.gained in
-      let whole = whole_message_of run q given.after.areas.description (fresh_at given) y.middle (reader_side given input left d.gained q are ql reader) y.whole in
-      let rises : FailsToWrite given = subst (Rose given.before.writer.failures) (sym (y.fails.3 ∙ ap one_more p.4) ∙ writer.failures) (rose given.before.writer.failures) in
-      in_text k d.gained writer d.has d.delivered (failed_at_end run q y.whole.tokens whole (d.all ∙ append-nil (text y.whole.tokens)) rises) y.fails.2
+      let whole = whole_message_of _ q _ (fresh_at given) y.middle (reader_side given input left d.gained q are ql reader) y.whole in
+      let rises : FailsToWrite given = subst (Rose given.before.writer.failures) (sym (y.fails.3 ∙ ap one_more p.4) ∙ writer.failures) (rose _) in
+      in_text k _ writer d.has d.delivered (failed_at_end _ q y.whole.tokens whole (d.all ∙ append-nil (text y.whole.tokens)) rises) y.fails.2
 
   -- each of these
   stopped_of : (k l : Held) (failed : Bool) → IsWriter given l → RunStops (grammar_of given) response_start (start (run_of given input left [])) q 0 (fresh_at given) k given.after.areas.description failed stop → (failed ≡ false → Tidied k l) → (failed ≡ true → l ≡ k) → StopTold given input left stop l
@@ -263,13 +263,13 @@ module _ (given : Given) (input left : List ℕ) (q : Seen) (stop : Stop) (are :
 
   -- the bound on its descriptions
   stop_bounded : (gained : List ℕ) (k : Held) (failed : Bool) → RunStops (grammar_of given) response_start (start (run_of given input left [])) q 0 (fresh_at given) k given.after.areas.description failed stop → Bounded (run_of given input left gained)
-  stop_bounded gained k failed (inl (inl y)) = let run = run_of given input left gained in bounded run y.0.at are (reached_stopped run q y.0.at stop are ql y.0.stops) y.0.holds.peak
+  stop_bounded gained k failed (inl (inl y)) = let run = run_of given input left gained in bounded _ _ are (reached_stopped run q _ _ are ql y.0.stops) y.0.holds.peak
   stop_bounded gained k failed (inl (inr y)) =
       let run = run_of given input left gained in
-      bounded run ((grammar run).add y.0.at y.0.breaks.element) are (reached_broken run q (fresh_at given) k given.after.areas.description stop y.0 are ql) y.0.holds.peak
+      bounded _ _ are (reached_broken run q (fresh_at given) k given.after.areas.description stop y.0 are ql) y.0.holds.peak
   stop_bounded gained k failed (inr y) =
       let run = run_of given input left gained in
-      bounded run (after_tokens y.0.whole.tokens) are (reached_whole run q (fresh_at given) y.0.middle given.after.areas.description y.0.whole are ql) y.0.whole.holds.peak
+      bounded _ _ are (reached_whole run q (fresh_at given) y.0.middle given.after.areas.description y.0.whole are ql) y.0.whole.holds.peak
 
 -- what a run that stopped read
 stops_read : (g : Grammar Part Fault) (a q : Seen) (h k : Held) (area : Space) (failed : Bool) (stop : Stop) → RunStops g response_start a q 0 h k area failed stop → (read : List ℕ) × Consumes a.left q.left read
@@ -280,12 +280,12 @@ unfolding Tells
 stop_tells given stopped x = λ input are e.
     let area = given.after.areas.description in
     let stops = subst (λ (a : Seen). RunStops (grammar_of given) response_start a x.seen 0 (fresh_at given) x.middle area x.failed x.stop) (begins_run given input e) x.stops in
-    let read = stops_read (grammar_of given) (start (run_of given input [] [])) x.seen (fresh_at given) x.middle area x.failed x.stop stops in
-    let left = known_left input read.0 x.seen.left read.1 in
-    let all = stopped_of given input left.0 x.seen x.stop are left.1 x.reader x.notice x.middle x.held x.failed x.writer stops x.tidied x.same in
-    let most = stop_bounded given input left.0 x.seen x.stop are left.1 x.reader x.notice all.0 x.middle x.failed stops in
+    let read = stops_read _ _ _ _ _ _ _ _ stops in
+    let left = known_left _ _ _ read.1 in
+    let all = stopped_of _ _ _ _ _ are left.1 x.reader x.notice _ _ _ x.writer stops x.tidied x.same in
+    let most = stop_bounded _ _ _ _ _ are left.1 x.reader x.notice _ _ _ stops in
     let outcome = subst (AfterStop (run_of given input left.0 all.0)) (sym x.stopped_is) all.2 in
-    (left.0, all.0, sym x.reader.left ∙ left.1, all.1, record { outcome = outcome; bounded = most }, outcome_succeeds (run_of given input left.0 all.0) (Err stopped) outcome)
+    (left.0, all.0, sym x.reader.left ∙ left.1, all.1, record { outcome = outcome; bounded = most }, outcome_succeeds _ _ outcome)
 
 pub report_tells : (given : Given) (report : Report) → Reports given report → Tells given (Ok report)
 unfolding Tells
