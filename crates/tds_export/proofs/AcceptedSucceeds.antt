@@ -23,7 +23,7 @@ unfolding Told
 before_begins size limit front packets wires rest unread each within m e =
     let g = wire size limit in
     let at = before_packet size limit front in
-    let first : feed_all g (Reading no_wire []) (wire_of front) ≡ Reading at [] = feed-Spelt g _ _ at (before_are_read _ _ _ _ each within) in
+    let first = feed-Spelt g _ _ at (before_are_read _ _ _ _ each within) in
     let fed : feed_all g (Reading at []) rest ≡ Reading (after_last size limit packets) unread =
     ap (λ p. feed_all g p rest) (sym first) ∙ sym (feed_all-append g (Reading no_wire []) (wire_of front) rest) ∙ ap (feed_all g (Reading no_wire [])) e ∙ read_to_end _ _ _ _ _ m in
     let t = subst (λ p. Told g at rest p) fed (told g at rest) in
@@ -33,11 +33,11 @@ before_begins size limit front packets wires rest unread each within m e =
 no_wire_fault : (size limit : ℕ) (input wires unread : List ℕ) (packets read : List Packet) (fault : Fault) → Message size limit packets wires → input ≡ wires ++ unread → WireFault size limit input read fault → ⊥
 no_wire_fault size limit input wires unread packets read fault m e f =
     let g = wire size limit in
-    let fed : feed_all g (Reading no_wire []) input ≡ Reading (after_last size limit packets) unread = ap (feed_all g (Reading no_wire [])) e ∙ read_to_end _ _ _ _ _ m in
+    let fed = ap (feed_all g (Reading no_wire [])) e ∙ read_to_end _ _ _ _ _ m in
     let l = read_longest g _ _ _ (subst (λ p. Told g no_wire input p) fed (told g _ _)) in
-    let same : f.read ≡ after_last size limit packets = (one_longest g _ _ _ _ _ _ f.longest l.2).1 in
+    let same = (one_longest g _ _ _ _ _ _ f.longest l.2).1 in
     elim f.first [
-      | inl r ↦ omega (arith, r.some, ap (λ (w : WirePart). wire_size w.place) same)
+      | inl r ↦ omega (arith, ap (λ (w : WirePart). wire_size w.place) same)
       | inr r ↦ no_end f.read.place (ap (λ (w : WirePart). w.place) same) r.1
     ]
   where
@@ -53,13 +53,13 @@ ended_accepted run tokens payload place part fault r l end =
     let g = grammar run in
     let read = response_is_read _ _ _ _ r in
     let all = subst (λ v. Longest g response_start v (length payload) (after_tokens tokens)) (append-nil payload) (longest_cut g _ _ _ _ read (omega arith)) in
-    let same : part ≡ after_tokens tokens = (one_longest g _ _ _ _ _ _ l all).1 in
+    let same = (one_longest g _ _ _ _ _ _ l all).1 in
     grind (arith, response_is_read, append-nil, longest_cut, one_longest)
 
 refused_accepted : (run : Run) (tokens : List Token) (payload more : List ℕ) (place : ℕ) (part : Part) (fault : Fault) → Response run.given.charset (limits run).column_room tokens (payload ++ more) → Longest (grammar run) response_start payload place part → IsRefused (grammar run) part (drop place payload) fault → ⊥
 refused_accepted run tokens payload more place part fault r l refused =
     let n = place + (grammar run).size part in
-    let split : payload ++ more ≡ take n payload ++ (drop n payload ++ more) = ap (λ v. v ++ more) (sym (take-append-drop n payload)) ∙ append_assoc (take n payload) (drop n payload) more in
+    let split = ap (λ v. v ++ more) (sym (take-append-drop n payload)) ∙ append_assoc (take n payload) (drop n payload) more in
     refused_response _ _ _ _ _ _ _ _ l refused (subst (λ v. Response run.given.charset (limits run).column_room tokens v) split r)
 
 -- the packets read are those of the message, or begin it

@@ -24,8 +24,8 @@ module _ (charset : Charset) (room : ℕ) {n place middle : ℕ} {tokens : List 
   -- what stops the reading of the body
   pub after_length : {stop : Stop} → 0 < n → StopsReading (response charset room) (in_body which tokens n) b c middle (in_body which tokens n) stop → StopsReading (response charset room) (in_length which tokens) a c place (in_body which tokens n) stop
   after_length {stop = stop} some stops =
-      let to : (response charset room).add (in_length which tokens) element ≡ in_body which tokens n = rw (number_is l) (choose_false _ _ _ (ne_eqb n 0 (λ z. omega (arith, some, z)))) in
-      let one = reads_one (response charset room) (in_length which tokens) a b element (in_body which tokens n) (record { some = omega (arith, l.two); whole = l.two; free = length_free room n tokens _ _ long (number_is l) }) l.takes to in
+      let to : (response charset room).add (in_length which tokens) element ≡ in_body which tokens n = rw (number_is l) (choose_false _ _ _ (ne_eqb n 0 (λ z. omega arith))) in
+      let one = reads_one (response charset room) (in_length which tokens) a b element (in_body which tokens n) (record { some = omega arith; whole = l.two; free = length_free room n tokens _ _ long (number_is l) }) l.takes to in
       stops_after (response charset room) (in_length which tokens) (in_body which tokens n) a b c place (in_body which tokens n) stop one (rw l.at at stops)
 
   -- the body was read
@@ -38,17 +38,17 @@ module _ (charset : Charset) (room : ℕ) {n place middle : ℕ} {tokens : List 
 
 -- no token is a notice and isn't one
 no_notice : {P : Type 0} (which : Bodied) → is_notice which ≡ false → is_notice which ≡ true → P
-no_notice which quiet loud = absurd (let both : false ≡ true = sym quiet ∙ loud in cc)
+no_notice which quiet loud = absurd (let both = sym quiet ∙ loud in cc)
 
 module _ (charset : Charset) (room : ℕ) {n place middle : ℕ} {tokens : List Token} {which : Bodied} {element : List ℕ} {a b c : Seen} {s : Progress} {area notice : Space} {sink : Held} {failed : Bool} (begun : Begun tokens s area notice sink failed) (quiet : is_notice which ≡ false) (l : LengthRead element n a b place middle) where
   -- a body of which nothing is kept was read
   pub quiet_reads : {place' : ℕ} (body : List ℕ) → length body ≡ n → Takes b c body n → place' ≡ middle + n → (x : ReadsTokens (response charset room) (in_length which tokens) tokens a c place place' sink sink s area) × IsNoted notice (tokens ++ x.more)
   quiet_reads body len takes at =
       let r = body_reads _ _ l (no_notice _ quiet) _ len takes (no_notice _ quiet) in
-      quietly begun refl (bare_reads begun (bodied which body) r (omega (arith, at, l.at, len, length-append element body)) refl (bare_body _ _) (tracks_body s _ _ _ quiet begun.tracks))
+      quietly begun refl (bare_reads begun (bodied which body) r (omega (arith, length-append element body)) refl (bare_body _ _) (tracks_body s _ _ _ quiet begun.tracks))
 
   -- it was cut
   pub quiet_stops : {own stop : Stop} (part : List ℕ) → length part < n → Ends b c part own → stop ≡ began_at middle own → StepStops (response charset room) (in_length which tokens) a c place sink sink area failed stop
   quiet_stops part fewer ends is =
       stops_quietly refl (record { bytes = begun.holds.bytes; peak = begun.holds.peak }) begun.delivered begun.going
-      (after_length _ _ l (no_notice _ quiet) (omega (arith, fewer)) (part_cut _ refl refl fewer ends is))
+      (after_length _ _ l (no_notice _ quiet) (omega arith) (part_cut _ refl refl fewer ends is))

@@ -45,7 +45,7 @@ ZerosAre kind n = IsRead (read_of kind (zeros n))
 zero_decimal : (d p s n : ℕ) → is_valid (Decimal d p s) ≡ true → is_length_allowed (Decimal d p s) n ≡ true → ZerosAre (Decimal d p s) n
 zero_decimal d p s n valid allowed =
     let one = and_parts (is_decimal_length d && nat_le 1 p && nat_le p 38) (nat_le s p) valid in
-    let small : nat_le s 38 ≡ true = test_le s 38 (omega (arith, le_true s p one.1, le_true p 38 (and_parts (is_decimal_length d && nat_le 1 p) (nat_le p 38) one.0).1)) in
+    let small = test_le s 38 (omega (arith, le_true s p one.1, le_true p 38 (and_parts (is_decimal_length d && nat_le 1 p) (nat_le p 38) one.0).1)) in
     let long : is_length_allowed (Decimal d p s) (length (zeros n)) ≡ true = ap (λ v. is_length_allowed (Decimal d p s) v) (length-replicate n 0) ∙ allowed in
     choose IsRead (is_length_allowed (Decimal d p s) (length (zeros n))) (checked (value_of (Decimal d p s) (zeros n))) _
     (λ t. choose IsRead (nat_le s 38) (Ok _) _ (λ u. (_, refl)) (λ f. cc))
@@ -89,7 +89,7 @@ module _ (column : ℕ) where
       (DataCell c (content ++ 0 ∷ []), spelt_one (omega arith) refl (rw (plain_begun c (content ++ 0 ∷ []) plain, fit) refl) refl)
   short_ends c (suc left) content (plain, even) =
       let to : cell_add (ShortData c (suc left) content) (0 ∷ []) ≡ ShortData c left (content ++ 0 ∷ []) = grind (arith, nat_tests) in
-      let one : Spelt (cell column) (ShortData c (suc left) content) (0 ∷ []) (ShortData c left (content ++ 0 ∷ [])) = spelt_one (omega arith) refl (rw (plain_begun c (content ++ 0 ∷ []) plain, test_lt 0 (suc left) (omega arith)) refl) to in
+      let one = spelt_one (omega arith) refl (rw (plain_begun c (content ++ 0 ∷ []) plain, test_lt 0 (suc left) (omega arith)) refl) to in
       let same : length (content ++ 0 ∷ []) + (left + 1) ≡ length content + (suc left + 1) = omega (arith, length-append content (0 ∷ [])) in
       let more = short_ends c left (content ++ 0 ∷ []) (plain, ap (λ v. v % unit c) same ∙ even) in
       (more.0, rw (← zeros_next left) (spelt_both one more.1))
@@ -99,7 +99,7 @@ module _ (column : ℕ) where
   chunk_ends c total zero content plain = spelt_one (omega arith) refl (rw (plain_begun c (content ++ 0 ∷ []) plain) refl) refl
   chunk_ends c total (suc left) content plain =
       let to : cell_add (ChunkData c total (suc left) content) (0 ∷ []) ≡ ChunkData c total left (content ++ 0 ∷ []) = grind (arith, nat_tests) in
-      let one : Spelt (cell column) (ChunkData c total (suc left) content) (0 ∷ []) (ChunkData c total left (content ++ 0 ∷ [])) = spelt_one (omega arith) refl (rw (plain_begun c (content ++ 0 ∷ []) plain) refl) to in
+      let one = spelt_one (omega arith) refl (rw (plain_begun c (content ++ 0 ∷ []) plain) refl) to in
       rw (← zeros_next left, ← append_assoc content (0 ∷ []) (zeros (left + 1))) (spelt_both one (chunk_ends c total left (content ++ 0 ∷ []) plain))
 
   -- so many chunks of one zero byte, and the terminator
@@ -125,14 +125,14 @@ module _ (column : ℕ) where
   cell_ends (ScalarBytes kind n) (some, valid, scalar, allowed) =
       let v = zeros_are_a_value _ n valid scalar allowed in
       let l : length (zeros n) ≡ n = length-replicate n 0 in
-      (ScalarCell v.0, spelt_one (omega (arith, l)) l (ap (λ r. unless (is_ok r) (BadValue column)) v.1) (ap value_part v.1))
+      (ScalarCell v.0, spelt_one (omega arith) l (ap (λ r. unless (is_ok r) (BadValue column)) v.1) (ap value_part v.1))
   cell_ends (ScalarLength kind) h = (Null, spelt_one (omega arith) refl refl refl)
   cell_ends (ShortLength c) h = (Null, spelt_one (omega arith) refl refl refl)
   cell_ends (ShortData c left content) h = short_ends c _ _ h
   cell_ends (Total c) h = (Null, spelt_one (omega arith) refl refl refl)
   cell_ends (ChunkLength c total content) (plain, h) = length_ends c _ _ plain h
   cell_ends (ChunkData c total left content) (plain, h) =
-      let l : length (content ++ zeros (left + 1)) ≡ length content + (left + 1) = length-append content (zeros (left + 1)) ∙ ap (λ v. length content + v) (length-replicate (left + 1) 0) in
+      let l = length-append content (zeros (left + 1)) ∙ ap (λ v. length content + v) (length-replicate (left + 1) 0) in
       let more = length_ends c _ _ plain (subst (λ v. HoldsTotal c total v) (sym l) h) in
       (more.0, spelt_both (chunk_ends c _ _ _ plain) (subst (λ v. Spelt (cell column) (ChunkLength c total (content ++ zeros (left + 1))) (rest_of_chunks c total v) (WholeCell more.0)) l more.1))
   cell_ends (WholeCell x) h = (x, Spelt-none _ _)

@@ -51,7 +51,7 @@ ints_are_spelt (suc n) = (int_column, int_columns n, refl, int_is_spelt, ints_ar
 
 length-int_columns : (n : ℕ) → length (int_columns n) ≡ 8 * n
 length-int_columns zero = refl
-length-int_columns (suc n) = let l : length (int_columns n) ≡ 8 * n = length-int_columns n in omega (arith, length-append int_column (int_columns n), l)
+length-int_columns (suc n) = let l = length-int_columns n in omega (arith, length-append int_column (int_columns n))
 
 -- the rest of a description, up to its end
 abbrev Ends : ℕ → DescriptionPart → List ℕ → Type 0
@@ -63,12 +63,12 @@ module _ (room : ℕ) where
   ints_end bytes count cols n e fits =
       let l : length (int_columns (suc n)) ≡ 8 * suc n = length-int_columns _ in
       let m : length (replicate n int) ≡ n = length-replicate n int in
-      (bytes ++ int_columns (suc n), cols ++ int ∷ replicate n int, columns_are_read _ _ _ _ _ _ _ (omega (arith, m)) (omega (arith, l)) (ints_are_spelt (suc n)))
+      (bytes ++ int_columns (suc n), cols ++ int ∷ replicate n int, columns_are_read _ _ _ _ _ _ _ (omega (arith, m)) (omega arith) (ints_are_spelt (suc n)))
 
   -- after a column
   column_ends : (bytes : List ℕ) (count : ℕ) (cols : List Column) (c : Column) (n : ℕ) → count ≡ length cols + (1 + n) → length bytes + 8 * n ≤ room → Ends room (with_column bytes count cols c) (int_columns n)
   column_ends bytes count cols c zero e fits =
-      let to : with_column bytes count cols c ≡ WholeDescription bytes (cols ++ c ∷ []) = choose_true (length cols + 1 == count) (WholeDescription bytes (cols ++ c ∷ [])) (InColumn bytes count (cols ++ c ∷ []) ColumnHead) (grind (arith, nat_tests)) in
+      let to = choose_true (length cols + 1 == count) (WholeDescription bytes (cols ++ c ∷ [])) (InColumn bytes count (cols ++ c ∷ []) ColumnHead) (grind (arith, nat_tests)) in
       (bytes, cols ++ c ∷ [], rw to (Spelt-none _ _))
   column_ends bytes count cols c (suc n) e fits =
       let to : with_column bytes count cols c ≡ InColumn bytes count (cols ++ c ∷ []) ColumnHead = choose_false _ _ _ (ne_eqb (length cols + 1) count (λ q. omega arith)) in
@@ -88,7 +88,7 @@ module _ (room : ℕ) where
       let least = least_type _ m known in
       let free = ap (λ o. (if is_some o then None else Some (BadTypeInfo (length cols)))) least.described in
       let to = ap (λ o. with_kind (bytes ++ least_info byte) count cols o) least.described in
-      then_ends {e = least_info byte} (spelt_one (omega (arith, least.whole)) (least.whole ∙ sym (ap (λ o. unwrap_or o 0) known)) free to)
+      then_ends {e = least_info byte} (spelt_one (omega arith) (least.whole ∙ sym (ap (λ o. unwrap_or o 0) known)) free to)
       (count_ends _ _ _ _ n is fewer (omega (arith, length-append bytes (least_info byte) ∙ ap (λ v. length bytes + v) least.whole)))
 
   -- A part of a description that isn't all of it, followed by what completes it, is a whole one.
@@ -101,6 +101,6 @@ module _ (room : ℕ) where
   described_ends ten (InColumn bytes count cols (NameCount kind)) o (fewer, valid, (v, fits)) = count_ends _ _ _ _ _ refl fewer fits
   described_ends ten (InColumn bytes count cols (NameUnits kind m)) o (fewer, valid, (v, some, fits)) =
       let l : length (zeros m) ≡ m = length-replicate m 0 in
-      then_ends {e = zeros m} (spelt_one (omega (arith, l)) l refl refl)
-      (column_ends _ _ _ _ _ (omega arith) (omega (arith, length-append bytes (zeros m) ∙ ap (λ v. length bytes + v) l, fits)))
+      then_ends {e = zeros m} (spelt_one (omega arith) l refl refl)
+      (column_ends _ _ _ _ _ (omega arith) (omega (arith, length-append bytes (zeros m) ∙ ap (λ v. length bytes + v) l)))
   described_ends ten d o h = absurd o

@@ -91,9 +91,9 @@ module _ (room : ℕ) where
       (tokens ++ bodied b (zeros 14) ∷ [], body_is_read Windows1252 room tokens b (14 ∷ 0 ∷ []) (zeros 14) refl refl free (body_free b (zeros 14) (λ e. zeros_hold 14 (omega arith))))
   token_ends ten tokens (TokenBody b n) (some, long) =
       let l : length (zeros n) ≡ n = length-replicate n 0 in
-      (tokens ++ bodied b (zeros n) ∷ [], spelt_one (omega (arith, l)) l (body_free b (zeros n) (λ e. zeros_hold n (long e))) refl)
+      (tokens ++ bodied b (zeros n) ∷ [], spelt_one (omega arith) l (body_free b (zeros n) (λ e. zeros_hold n (long e))) refl)
   token_ends ten tokens (Fields f) o =
-      let l : length (zeros (fields_length f)) ≡ fields_length f = length-replicate (fields_length f) 0 in
+      let l = length-replicate (fields_length f) 0 in
       (tokens ++ fixed f (zeros (fields_length f)) ∷ [], spelt_one (rw l (some_fields f)) l refl refl)
 
   done_ends : (tokens : List Token) → Spelt (response Windows1252 room) (record { tokens = tokens; at = Between }) done (with_token tokens (Done false))

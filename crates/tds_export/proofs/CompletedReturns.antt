@@ -62,13 +62,13 @@ pub return_ends : (p : ReturnPart) → ReturnReached p → (r : ReturnValue) × 
 return_ends ReturnOrdinal h = let one : Spelt return_value ReturnOrdinal (zeros 2) ReturnNameCount = spelt_one (omega arith) refl refl refl in then_ends one count_ends
 return_ends ReturnNameCount h = count_ends
 return_ends (ReturnName n) h =
-    let l : length (zeros n) ≡ n = length-replicate n 0 in
-    let one : Spelt return_value (ReturnName n) (zeros n) (ReturnHead (zeros n)) = spelt_one (omega (arith, l)) l refl refl in
+    let l = length-replicate n 0 in
+    let one = spelt_one (omega arith) l refl refl in
     then_ends one (head_ends _)
 return_ends (ReturnHead name) h = head_ends _
 return_ends (ReturnInfo name byte) (n, known, some) =
     let least = least_type _ n known in
     let free = ap (λ o. (if is_some o then None else Some (BadTypeInfo return_column))) least.described in
-    then_ends {e = least_info byte} (spelt_one (omega (arith, least.whole)) (least.whole ∙ sym (ap (λ o. unwrap_or o 0) known)) free refl) (kind_ends _ _ _ least.described (valid_of _ (byte ∷ least_info byte) least.described))
+    then_ends {e = least_info byte} (spelt_one (omega arith) (least.whole ∙ sym (ap (λ o. unwrap_or o 0) known)) free refl) (kind_ends _ _ _ least.described (valid_of _ (byte ∷ least_info byte) least.described))
 return_ends (InReturnCell name kind part) (begun, h) = rw (← stays_open name kind part begun) (value_ends _ _ _ h)
 return_ends (WholeReturn r) h = (r, Spelt-none _ _)

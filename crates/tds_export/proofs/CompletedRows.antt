@@ -72,8 +72,8 @@ marked_clear (c ∷ cs) nulls k h = λ i. (c, h k i) ∷ marked_clear cs nulls (
 -- A part of a row followed by what completes it is a whole row.
 pub row_ends : (p : RowPart) → RowReached p → (cells : List Cell) × Spelt (row Windows1252) p (rest_of_row p) (WholeRow cells)
 row_ends (Bitmap columns) (some, h) =
-    let n : ℕ = bitmap_length (length columns) in
-    let l : length (zeros n) ≡ n = length-replicate n 0 in
+    let n = bitmap_length (length columns) in
+    let l = length-replicate n 0 in
     let one : Spelt (row Windows1252) (Bitmap columns) (zeros n) (next_cell Windows1252 [] (marked columns (bit (zeros n)) 0)) = spelt_one (omega (arith, l, some_bitmap columns some)) l refl refl in
     let clear : marked columns (bit (zeros n)) 0 ≡ all_clear columns = marked_clear _ _ 0 (clear_at n) in
     let more = cells_end _ _ (subst (λ ks. AreMarkedValid ks) clear (marked_valid _ _ 0 h)) in

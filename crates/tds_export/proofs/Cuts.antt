@@ -17,4 +17,4 @@ module _ {S : Type 0} {g : Grammar S Fault} {s : S} {a b : Seen} {place n : ℕ}
 
   -- the slice that it is to fill isn't filled
   pub fill_cut : {to : List ℕ} → g.size s ≡ n → g.end_fault s ≡ Some MessageEnded → length to ≡ n → ((k : ℕ) × (own : Stop) × (k < length to) × Ends a b (take k to) own × (stop ≡ began_at place own)) → StopsReading g s a b place s stop
-  fill_cut {to = to} size end len part = part_cut _ size end (omega (arith, part.2, len, length-take part.0 to)) part.3 part.4
+  fill_cut {to = to} size end len part = part_cut _ size end (omega (arith, length-take part.0 to)) part.3 part.4

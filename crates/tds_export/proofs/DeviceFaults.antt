@@ -25,7 +25,7 @@ reading_fault charset room size limit failures left b place at stop x = elim x.c
     | inl z ↦ subst (ReadingFault failures b.failures) (sym (ap (λ (s : Stop). s.fault) z.1.2)) (of_none IsOfPayload (λ h. h) (λ h. h) _ _ _ (end_fault charset room at z.1.0 z.1.1))
     | inr z ↦ subst (ReadingFault failures b.failures) (sym (ap (λ (s : Stop). s.fault) z.1)) (elim (ends_of_wire _ _ _ _ b _ _ y.ends) [
       | inl w ↦ of_none IsOfWire (λ h. h) (λ h. h) _ _ _ w
-      | inr w ↦ (λ e. (let no : ReadFailed ≡ WriteFailed = sym w.0 ∙ e in cc), λ e. w.1)
+      | inr w ↦ (λ e. (let no = sym w.0 ∙ e in cc), λ e. w.1)
     ])
   ]
 ]
@@ -64,7 +64,7 @@ blamed given stopped x = go x.stops
 -- an input of no byte is over before the message is
 no_message : (size limit : ℕ) (c : Coming) → c.stop.fault ≡ MessageEnded → whole_message size limit [] ≡ c → ⊥
 unfolding message front_packet
-no_message size limit c is e = let no : InputEnded ≡ MessageEnded = ap (λ (d : Coming). d.stop.fault) e ∙ is in cc
+no_message size limit c is e = let no = ap (λ (d : Coming). d.stop.fault) e ∙ is in cc
 
 -- to read a whole message takes a byte
 some_read : (size limit failures : ℕ) (left : Option (List ℕ)) (q : Seen) (bytes : List ℕ) (n : ℕ) (t : Takes (begun size limit left failures) q bytes n) → IsOver q → 0 < length t.0

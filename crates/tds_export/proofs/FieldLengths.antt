@@ -58,14 +58,14 @@ emit_more c a b h =
     let j = joins_by_name c in
     let begins = (begun_by_test c _).0 h in
     let e = j.emits a b begins in
-    let short : length (conversion_rest c a) ≤ 3 = j.short a (j.front a b begins) in
+    let short = j.short a (j.front a b begins) in
     grind (arith, joins_by_name, begun_by_test, length-append, emit_length)
 
 -- what the end adds
 text_more : (c : Conversion) (a : List ℕ) → is_fit c a ≡ true → is_begun c a ≡ true → length (conversion_text c a) ≤ length (emit (conversion_rest c) (conversion_text c) a) + 12
 text_more c a h b =
     let j = joins_by_name c in
-    let short : length (conversion_rest c a) ≤ 3 = j.short a ((begun_by_test c a).0 b) in
+    let short = j.short a ((begun_by_test c a).0 b) in
     grind (arith, joins_by_name, fit_by_test, begun_by_test, length-append, conversion_length)
 
 -- a piece adds four bytes for each byte, and for each of three that were withheld

@@ -45,7 +45,7 @@ module _ {W : Type 0} {contents : W → Option (List ℕ)} {columns left rest : 
   begins : (more : List ℕ) × ((joined (map name_field x.done) ++ (mark ++ name_field c)) ++ more ≡ joined (map name_field columns))
   begins =
       let fields = map name_field x.done in
-      let all : map name_field columns ≡ (fields ++ name_field c ∷ []) ++ map name_field rest = ap (map name_field) (sym x.split ∙ ap (λ l. x.done ++ l) is) ∙ map-append name_field x.done (c ∷ rest) ∙ sym (append_assoc fields (name_field c ∷ []) (map name_field rest)) in
+      let all = ap (map name_field) (sym x.split ∙ ap (λ l. x.done ++ l) is) ∙ map-append name_field x.done (c ∷ rest) ∙ sym (append_assoc fields (name_field c ∷ []) (map name_field rest)) in
       let grows = joined_more (fields ++ name_field c ∷ []) (map name_field rest) in
       (grows.0, ap (λ l. l ++ grows.0) (sym (joined-snoc fields (name_field c))) ∙ grows.1 ∙ ap joined (sym all))
 

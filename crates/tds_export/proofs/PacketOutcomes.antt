@@ -34,10 +34,10 @@ refused_in_payload run q area part bytes fault side spelt x holds text =
     let n = length (bytes ++ e) in
     let b = takes_begins _ _ _ _ _ q _ n side.bytes side.left x.takes x.between in
     let s = split_payload _ e _ _ (b.payload_is ∙ append_assoc (bytes ++ e) x.ahead (q.future []).bytes) in
-    let l = in_last _ _ _ n _ _ q _ _ side.left x.takes b (omega (arith, x.some, length-append ((bytes ++ e) ++ x.ahead) (q.future []).bytes, length-append (bytes ++ e) x.ahead, length-append bytes e)) in
+    let l = in_last _ _ _ n _ _ q _ _ side.left x.takes b (omega (arith, length-append ((bytes ++ e) ++ x.ahead) (q.future []).bytes, length-append (bytes ++ e) x.ahead, length-append bytes e)) in
     let refused : IsRefused g part (e ++ more) fault = record {
-      some = omega (arith, x.some, x.whole);
-      whole = omega (arith, x.whole, length-append e more);
+      some = omega arith;
+      whole = omega (arith, length-append e more);
       first = ap (λ k. g.fault part (take k (e ++ more))) (sym x.whole) ∙ ap (g.fault part) (take-append_seam e more) ∙ x.first;
     } in
     record {
@@ -65,7 +65,7 @@ ended_in_payload run q area part bytes cut own fault side spelt short m end hold
       part = part;
       stands = record { begin = m.begin; each = inl m.each; within = m.within };
       leads = subst (λ p. Longest g response_start p (length bytes) part) (sym m.payload_is) (longest_cut g _ _ _ _ spelt short);
-      first = inr (m.each, (omega (arith, short), subst (λ r. length r < g.size part) (sym (rest_of _ _ _ m.payload_is)) short), end);
+      first = inr (m.each, (omega arith, subst (λ r. length r < g.size part) (sym (rest_of _ _ _ m.payload_is)) short), end);
       written = text;
       kept = subst (λ a. IsKept a part.tokens part.at (drop (length bytes) (payload_of m.packets))) (sym side.description) (kept_at area part.tokens part.at (drop (length bytes) (payload_of m.packets)) holds.bytes);
     }
@@ -99,7 +99,7 @@ stopped_on_wire run q area part bytes cut stop rose side spelt short x holds tex
         | inr c ↦ inr c.0
       ];
       leads = subst (λ p. Longest g response_start p (length bytes) part) (sym x.payload_is) (longest_cut g response_start bytes cut part spelt short);
-      none_refused = λ f r. (let w : g.size part ≤ length (drop (length bytes) (payload_of x.packets)) = r.whole in omega (arith, w, ap length rest, short));
+      none_refused = λ f r. (let w = r.whole in omega (arith, ap length rest));
       written = text;
       kept = subst (λ a. IsKept a part.tokens part.at (drop (length bytes) (payload_of x.packets))) (sym side.description) (kept_at area part.tokens part.at (drop (length bytes) (payload_of x.packets)) holds.bytes);
     }

@@ -24,10 +24,10 @@ rest_leads g s t u a b h k = grind (arith, append-nil, feed-Spelt, feed_all, fee
 -- what follows such bytes, up to the longest part
 pub further : {S : Type 0} (g : Grammar S Fault) (from to last : S) (bytes more : List ℕ) (place : ℕ) → Spelt g from bytes to → Longest g from (bytes ++ more) place last → (rest : List ℕ) × Spelt g to rest last
 further g from to last bytes more place h l =
-    let least : length bytes ≤ place = l.longest (length bytes) to (omega (arith, length-append bytes more)) (subst (λ v. Spelt g from v to) (sym (take-append_seam bytes more)) h) in
+    let least = l.longest (length bytes) to (omega (arith, length-append bytes more)) (subst (λ v. Spelt g from v to) (sym (take-append_seam bytes more)) h) in
     let n = place - length bytes in
-    let sum : length bytes + n ≡ place = omega (arith, least) in
-    let split : take place (bytes ++ more) ≡ bytes ++ take n more = ap (λ v. take v (bytes ++ more)) (sym sum) ∙ take-append-add bytes more n in
+    let sum : length bytes + n ≡ place = omega arith in
+    let split = ap (λ v. take v (bytes ++ more)) (sym sum) ∙ take-append-add bytes more n in
     (take n more, rest_leads g _ _ _ _ _ h (subst (λ v. Spelt g from v last) split l.spelt))
 
 -- what is read of an input at most has the packets that are read of its front
@@ -49,11 +49,11 @@ bounded run at are r peak =
     let l = some_longest (wire size limit) no_wire run.input in
     let front = l.1.packets in
     let b = front_begins size limit run.input r.rest r.packets l.1 l.0 r.begin r.each r.within l.2 in
-    let split : payload_of front ≡ r.bytes ++ (r.more ++ payload_of b.0) = ap payload_of (sym b.1) ∙ flat_map-append (λ (v : Packet). v.body) r.packets b.0 ∙ ap (λ v. v ++ payload_of b.0) r.payload_is ∙ append_assoc r.bytes r.more (payload_of b.0) in
+    let split = ap payload_of (sym b.1) ∙ flat_map-append (λ (v : Packet). v.body) r.packets b.0 ∙ ap (λ v. v ++ payload_of b.0) r.payload_is ∙ append_assoc r.bytes r.more (payload_of b.0) in
     let longest = some_longest g response_start (payload_of front) in
     let f = further g response_start at longest.1 r.bytes (r.more ++ payload_of b.0) longest.0 r.spelt (subst (λ v. Longest g response_start v longest.0 longest.1) split longest.2) in
-    let least : span_so_far at ≤ span_so_far longest.1 = span_along run.given.charset (limits run).column_room at longest.1 f.0 f.1 in
-    record { packets = front; place = longest.0; part = longest.1; front = read_front size limit run.input l.0 l.1 are l.2; leads = longest.2; description = omega (arith, peak, least) }
+    let least = span_along run.given.charset (limits run).column_room at longest.1 f.0 f.1 in
+    record { packets = front; place = longest.0; part = longest.1; front = read_front size limit run.input l.0 l.1 are l.2; leads = longest.2; description = omega arith }
 
 taken : (run : Run) (q : Seen) (at : Part) (bytes later : List ℕ) (n : ℕ) → AreBytes run.input → q.left ≡ Some run.left → Takes (start run) q (bytes ++ later) n → IsBetween q → Spelt (grammar run) response_start bytes at → Reached run.given.charset (limits run) run.input at
 taken run q at bytes later n are left t between spelt =

@@ -22,7 +22,7 @@ lead_cases charset P tokens begun same row nbc = grind arith
 -- a token that is whole
 token_grows : (tokens : List Token) (t : Token) → Grows (text tokens ++ []) (text_so_far (with_token tokens t))
 token_grows tokens t =
-    let m : List ℕ = text_after (begun_after false tokens) (t ∷ []) in
+    let m = text_after (begun_after false tokens) (t ∷ []) in
     (m, ap (λ v. v ++ m) (append-nil (text tokens)) ∙ sym (append-nil (text tokens ++ m)) ∙ ap (λ v. v ++ []) (sym (text_after-snoc false tokens t)))
 
 -- what has just begun has no text
@@ -87,4 +87,4 @@ module _ (charset : Charset) (room : ℕ) where
 
   -- and to the span
   pub span_along : (p q : Part) (bytes : List ℕ) → Spelt (response charset room) p bytes q → span_so_far p ≤ span_so_far q
-  span_along p q bytes s = Spelt-induct _ (λ r b. span_so_far p ≤ span_so_far r) (λ r b e h n. omega (arith, h, part_span r.tokens r.at e n)) p (omega arith) _ q s
+  span_along p q bytes s = Spelt-induct _ (λ r b. span_so_far p ≤ span_so_far r) (λ r b e h n. omega (arith, part_span r.tokens r.at e n)) p (omega arith) _ q s

@@ -70,7 +70,7 @@ module _ (charset : Charset) (room : ℕ) where
   -- the first byte of a token, and what follows it
   lead_then : (tokens : List Token) (lead : Lead) (rest bytes : List ℕ) (to : Part) → StartsToken lead rest bytes → row_byte_fault (is_row_lead lead) (described_after None tokens) ≡ None → Spelt (response charset room) (after_lead charset tokens lead) rest to → Spelt (response charset room) (between_tokens tokens) bytes to
   lead_then tokens lead rest bytes to (first, is, begins) free h =
-      let begun : lead_of first ≡ Some lead = first_leads _ _ begins in
+      let begun = first_leads _ _ begins in
       let one : Spelt (response charset room) (between_tokens tokens) (first ∷ []) (after_lead charset tokens lead) = spelt_one (omega arith) refl (ap (λ v. lead_fault (described_after None tokens) first v) begun ∙ free) (ap (λ v. after_first charset tokens v) begun) in
       rw is (spelt_both one h)
 
@@ -79,15 +79,15 @@ module _ (charset : Charset) (room : ℕ) where
       → Spelt (response charset room) (at_part tokens (TokenLength b)) (element ++ body) (with_token tokens (bodied b body))
   body_is_read tokens b element [] two is f g = grind (arith, Spelt-step, append-nil)
   body_is_read tokens b element (x ∷ xs) two is f g =
-      let n : ℕ = length (x ∷ xs) in
+      let n = length (x ∷ xs) in
       let to : (response charset room).add (at_part tokens (TokenLength b)) element ≡ at_part tokens (TokenBody b n) = rw is (choose_false _ _ _ (ne_eqb n 0 (λ q. omega arith))) in
-      spelt_both (spelt_one (omega (arith, two)) two f to) (spelt_one (omega arith) refl g refl)
+      spelt_both (spelt_one (omega arith) two f to) (spelt_one (omega arith) refl g refl)
 
   -- the same by what spells a body
   spelt_body : (tokens : List Token) (b : Bodied) (body bytes : List ℕ) → (is_notice b ≡ true → 14 ≤ length body) → (is_notice b ≡ true → holds_notice body ≡ true) → SpellsBody body bytes → Spelt (response charset room) (at_part tokens (TokenLength b)) bytes (with_token tokens (bodied b body))
   spelt_body tokens b body bytes long holds h =
       let n = length body in
-      let two : little (n % 256 ∷ n / 256 ∷ []) ≡ n = omega (arith, h.1) in
+      let two : little (n % 256 ∷ n / 256 ∷ []) ≡ n = omega arith in
       rw h.0 (body_is_read _ b (n % 256 ∷ n / 256 ∷ []) _ refl two (length_free room n tokens b (n % 256 ∷ n / 256 ∷ []) long two) (body_free b body holds))
 
   -- so is a notice
@@ -151,18 +151,18 @@ module _ (charset : Charset) (room : ℕ) where
   -- No payload spells the tokens of two responses.
   pub one_response : (a b : List Token) (payload : List ℕ) → Response charset room a payload → Response charset room b payload → a ≡ b
   one_response a b payload h k =
-      let e : between_tokens a ≡ between_tokens b = one_state _ _ _ _ _ (response_is_read a _ h) (response_is_read b _ k) in
+      let e = one_state _ _ _ _ _ (response_is_read a _ h) (response_is_read b _ k) in
       ap (λ p. p.tokens) e
 
   -- No response begins with an element that is refused.
   pub refused_response : (payload : List ℕ) (place : ℕ) (part : Part) (f : Fault) (more' : List ℕ) (tokens : List Token) → Longest (response charset room) response_start payload place part → IsRefused (response charset room) part (drop place payload) f → Response charset room tokens (take (place + (response charset room).size part) payload ++ more') → ⊥
   refused_response payload place part f more' tokens l r h =
-      let e : take (place + (response charset room).size part) payload ≡ take place payload ++ take ((response charset room).size part) (drop place payload) = take-add place ((response charset room).size part) payload in
+      let e = take-add place ((response charset room).size part) payload in
       refused_for_good _ _ _ _ _ f _ _ l.spelt r
       (subst (λ v. Spelt (response charset room) response_start (v ++ more') (between_tokens tokens)) e (response_is_read _ _ h))
 
   -- No input begins with two accepted responses.
   pub one_accepted : (size limit : ℕ) (a b : List Token) (p q : List Packet) (input : List ℕ) → Accepted charset size room limit a p input → Accepted charset size room limit b q input → (a ≡ b) × (p ≡ q)
   one_accepted size limit a b p q input h k =
-      let same : p ≡ q = one_message _ _ p q _ _ _ _ h.message k.message (sym h.begins ∙ k.begins) in
+      let same = one_message _ _ p q _ _ _ _ h.message k.message (sym h.begins ∙ k.begins) in
       (one_response a b _ (subst (λ v. Response charset room a (payload_of v)) same h.response) k.response, same)

@@ -17,7 +17,7 @@ counted_at : (body : List ℕ) (n m : ℕ) {r : List ℕ} → n < length body �
 counted_at body n m h e is = byte_at _ n h (piece _ _ _ m e is)
 
 long : (body : List ℕ) (n k : ℕ) → n + k ≤ length body → length (take k (drop n body)) ≡ k
-long body n k h = let l : length (drop n body) ≡ length body - n = length-drop n body in length-take-le k (drop n body) (omega (arith, l))
+long body n k h = let l = length-drop n body in length-take-le k (drop n body) (omega arith)
 
 regroup : (head : List ℕ) (st cl : ℕ) (units message : List ℕ) (s : ℕ) (server : List ℕ) (p : ℕ) (procedure last rest body : List ℕ) → body ≡ head ++ (st ∷ cl ∷ (units ++ (message ++ (s ∷ (server ++ (p ∷ (procedure ++ (last ++ rest)))))))) → s ≡ length server / 2 → p ≡ length procedure / 2
     → body ≡ ((((((head ++ st ∷ cl ∷ []) ++ units) ++ message) ++ (length server / 2 ∷ server)) ++ (length procedure / 2 ∷ procedure)) ++ last) ++ rest
@@ -25,20 +25,20 @@ regroup head st cl units message s server p procedure last rest body e a b = rw 
 
 notice_spelt : (body : List ℕ) → holds_notice body ≡ true → SpellsNotice (notice_of body) body
 notice_spelt body h =
-    let u : ℕ = little (take 2 (drop 6 body)) in
-    let sa : ℕ = server_at body in
-    let pa : ℕ = procedure_at body in
-    let la : ℕ = line_at body in
-    let s : ℕ = slice_index body sa in
-    let p : ℕ = slice_index body pa in
+    let u = little (take 2 (drop 6 body)) in
+    let sa = server_at body in
+    let pa = procedure_at body in
+    let la = line_at body in
+    let s = slice_index body sa in
+    let p = slice_index body pa in
     let t = parts_within body h in
-    let ls = long body (sa + 1) (2 * s) (omega (arith, t.1)) in
-    let lp = long body (pa + 1) (2 * p) (omega (arith, t.2)) in
+    let ls = long body (sa + 1) (2 * s) (omega arith) in
+    let lp = long body (pa + 1) (2 * p) (omega arith) in
     let after : drop 6 body ≡ take 2 (drop 6 body) ++ (take (2 * u) (drop 8 body) ++ (s ∷ (take (2 * s) (drop (sa + 1) body) ++ (p ∷ (take (2 * p) (drop (pa + 1) body) ++ (take 4 (drop la body) ++ drop (la + 4) body)))))) =
     piece body 6 2 8 refl (piece body 8 (2 * u) sa refl (counted_at body sa pa t.0 refl (counted_at body pa la t.1 refl (piece body la 4 (la + 4) refl refl)))) in
     let all = sym (take-append-drop 4 body) ∙ ap (λ v. take 4 body ++ v) (byte_at body 4 (omega (arith, t.0)) (byte_at body 5 (omega (arith, t.0)) after)) in
-    let s_is : s ≡ length (take (2 * s) (drop (sa + 1) body)) / 2 = omega (arith, ls) in
-    let p_is : p ≡ length (take (2 * p) (drop (pa + 1) body)) / 2 = omega (arith, lp) in
+    let s_is : s ≡ length (take (2 * s) (drop (sa + 1) body)) / 2 = omega arith in
+    let p_is : p ≡ length (take (2 * p) (drop (pa + 1) body)) / 2 = omega arith in
     record {
       head = take 4 body;
       units = take 2 (drop 6 body);
@@ -47,10 +47,10 @@ notice_spelt body h =
       last = take 4 (drop la body);
       ignored = drop (la + 4) body;
       spelt = regroup (take 4 body) (slice_index body 4) (slice_index body 5) (take 2 (drop 6 body)) (take (2 * u) (drop 8 body)) s (take (2 * s) (drop (sa + 1) body)) p (take (2 * p) (drop (pa + 1) body)) (take 4 (drop la body)) (drop (la + 4) body) body all s_is p_is;
-      number = (length-take-le 4 body (omega (arith, t.2)), refl);
-      message = (long body 6 2 (omega (arith, t.2)), long body 8 (2 * u) (omega (arith, t.0)));
-      servers = omega (arith, ls);
-      procedures = omega (arith, lp);
+      number = (length-take-le 4 body (omega arith), refl);
+      message = (long body 6 2 (omega arith), long body 8 (2 * u) (omega arith));
+      servers = omega arith;
+      procedures = omega arith;
       line = (long body la 4 t.2, refl);
     }
 
@@ -152,13 +152,13 @@ module _ (charset : Charset) (room : ℕ) where
       (further _ _ (λ rest. ReturnMeans part rest) (λ rest. ReturnMeans (return_add part e) rest) b e h (return_step _ _ e bytes h.follows (record { some = n.some; whole = n.whole; free = n.free })))
   part_step tokens (TokenLength k) b e bytes h n =
       let t = two_bytes e n.whole bytes in
-      let read : h.rest ++ e ≡ little e % 256 ∷ little e / 256 ∷ [] = ap (λ v. v ++ e) h.follows ∙ t.0 in
+      let read = ap (λ v. v ++ e) h.follows ∙ t.0 in
       choose (λ p. PartMeans p (b ++ e)) _ _ _
       (λ z. body_means tokens k [] (b ++ e) (further _ _ (λ rest. rest ≡ []) (λ rest. SpellsBody [] rest) b e h (read ∙ ap (λ v. v % 256 ∷ v / 256 ∷ []) (eq_true _ 0 z), omega arith)) (empty_body k (subst (λ v. (if is_notice k && nat_lt v 14 then Some BadNotice else None) ≡ None) (eq_true _ 0 z) n.free)))
       (λ z. further tokens (WithBody k) (λ rest. rest ≡ []) (λ rest. (rest ≡ little e % 256 ∷ little e / 256 ∷ []) × (little e < 65536)) b e h (read, t.1))
   part_step tokens (TokenBody k m) b e bytes h n =
-      let l : length e ≡ m = n.whole in
-      body_means _ k e _ (further _ _ (λ rest. (rest ≡ m % 256 ∷ m / 256 ∷ []) × (m < 65536)) (λ rest. SpellsBody e rest) b e h (ap (λ v. v ++ e) h.follows.0 ∙ ap (λ v. (v % 256 ∷ v / 256 ∷ []) ++ e) (sym l), (let w : m < 65536 = h.follows.1 in omega arith))) n.free
+      let l = n.whole in
+      body_means _ k e _ (further _ _ (λ rest. (rest ≡ m % 256 ∷ m / 256 ∷ []) × (m < 65536)) (λ rest. SpellsBody e rest) b e h (ap (λ v. v ++ e) h.follows.0 ∙ ap (λ v. (v % 256 ∷ v / 256 ∷ []) ++ e) (sym l), (let w = h.follows.1 in omega arith))) n.free
   part_step tokens (Fields f) b e bytes h n =
       let to = further _ _ (λ rest. rest ≡ []) (λ rest. rest ≡ e) b e h (ap (λ v. v ++ e) h.follows) in
       token_means tokens (fixed f e) (WithFields f) (λ rest. rest ≡ e) (b ++ e) to (fixed_spelt _ _ _ f e _ (to.first, ap (λ v. to.first ∷ v) to.follows, to.begins) n.whole)

@@ -24,7 +24,7 @@ return_name_is_read units (x ∷ xs) l = grind (arith, Spelt-step, choose_false,
 
 front_is_read : (name front : List ℕ) → SpellsReturnName name front → Spelt return_value ReturnOrdinal front (ReturnHead name)
 front_is_read name front h =
-    let one : Spelt return_value ReturnOrdinal h.ordinal ReturnNameCount = spelt_one (omega (arith, h.two)) h.two refl refl in
+    let one = spelt_one (omega arith) h.two refl refl in
     let next : Spelt return_value ReturnNameCount (h.units ∷ []) (with_return_units h.units) = spelt_one (omega arith) refl refl refl in
     rw h.spelt (spelt_both one (spelt_both next (return_name_is_read _ _ h.counted)))
 
@@ -40,7 +40,7 @@ pub return_is_read : (r : ReturnValue) (bytes : List ℕ) → SpellsReturnValue 
 return_is_read r bytes h =
     let info = byte_and_rest r.kind h.info h.type in
     let type = spelt_both (head_is_read r.name h.ignored info.byte (length info.rest) h.seven info.whole) (info_is_read r.name info.byte info.rest r.kind info.whole info.allowed) in
-    let same : (h.ignored ++ info.byte ∷ []) ++ info.rest ≡ h.ignored ++ h.info = append_assoc h.ignored (info.byte ∷ []) info.rest ∙ ap (λ v. h.ignored ++ v) (sym info.spelt) in
+    let same = append_assoc h.ignored (info.byte ∷ []) info.rest ∙ ap (λ v. h.ignored ++ v) (sym info.spelt) in
     let value = Inside-Spelt (cell return_column) return_value (with_value r.name r.kind) (value_in_return r.name r.kind) (cell_start r.kind (shape return_charset r.kind)) h.value (WholeCell r.value) (cell_is_read return_column r.kind (shape return_charset r.kind) r.value h.value (shape-HasBytes return_charset r.kind) h.cell) in
     rw h.spelt (spelt_both (front_is_read r.name h.front h.named) (spelt_both (rw same at type) value))
 
@@ -109,4 +109,4 @@ return_step (InReturnCell name kind part) b e bytes h n =
       type = h.type;
       begun = cell_step _ _ _ _ _ e bytes h.begun (record { some = n.some; whole = n.whole; free = n.free });
     })
-return_step (WholeReturn r) b e bytes h n = absurd (let l : length e ≡ 0 = n.whole in let s : 0 < length e = n.some in omega arith)
+return_step (WholeReturn r) b e bytes h n = absurd (let l = n.whole in let s = n.some in omega arith)

@@ -13,7 +13,7 @@ module _ {s t : ReturnPart} {a b c : Seen} {place middle : ℕ} (x : ReadsReturn
 
   -- and so it is where nothing stops
   pub return_reads_after : {u : ReturnPart} {place' : ℕ} → ReadsReturn t u b c middle place' → ReadsReturn s u a c place place'
-  return_reads_after {u = u} y = record { reads = reads_both _ s t u a b c x.reads y.reads; place_is = omega (arith, x.place_is, y.place_is, length-append x.reads.bytes y.reads.bytes) }
+  return_reads_after {u = u} y = record { reads = reads_both _ s t u a b c x.reads y.reads; place_is = omega (arith, length-append x.reads.bytes y.reads.bytes) }
 
 -- the next element was read
 return_read : {s t : ReturnPart} {a b : Seen} {place place' n : ℕ} (element : List ℕ) → 0 < n → return_size s ≡ n → return_fault s element ≡ None → return_add s element ≡ t → length element ≡ n → Takes a b element n → place' ≡ place + n → ReadsReturn s t a b place place'
@@ -28,12 +28,12 @@ module _ {a : Seen} (b : Seen) {place one : ℕ} (ordinal : List ℕ) (counted :
 
   -- the ordinal and the count of the name's units were read
   pub front_read : {c : Seen} {two : ℕ} (element : List ℕ) → length element ≡ 1 → Takes b c element (length element) → two ≡ one + length element → ReadsReturn ReturnOrdinal (with_return_units (slice_index element 0)) a c place two
-  front_read element single second at' = return_reads_after ordinal_read (return_read element (omega (arith, single)) (sym single) refl refl refl second at')
+  front_read element single second at' = return_reads_after ordinal_read (return_read element (omega arith) (sym single) refl refl refl second at')
 
 -- the name is cut
 pub name_cut : (units : ℕ) {n place : ℕ} {a b : Seen} {own stop : Stop} (part : List ℕ) → n ≡ 2 * units → length part < n → Ends a b part own → stop ≡ began_at place own → StopsReturn (with_return_units units) a b place stop
 name_cut units {n = n} part is fewer ends stop_is =
-    let some : with_return_units units ≡ ReturnName n = rw is (choose_false _ _ _ (ne_eqb units 0 (λ q. omega (arith, fewer, is, q)))) in
+    let some : with_return_units units ≡ ReturnName n = rw is (choose_false _ _ _ (ne_eqb units 0 (λ q. omega arith))) in
     rw some (record { at = ReturnName n; stops = part_cut _ refl refl fewer ends stop_is })
 
 -- the name was read
@@ -68,11 +68,11 @@ pub type_taken : (r : Result Kind Stop) (name head : List ℕ) (a b c : Seen) (p
     → MatchResult r (λ kind. ReadsReturn (ReturnHead name) (before_value name kind) a c place place') (λ stop. StopsReturn (ReturnHead name) a c place stop)
 type_taken (Ok kind) name head a b c place middle place' eight takes at x y =
     let byte = slice_index head 7 in
-    let known : rest_length byte ≡ Some (length x.rest) = rest_length_of _ _ _ x.info in
+    let known = rest_length_of _ _ _ x.info in
     return_reads_after (return_read _ (omega arith) refl (rw known refl) (rw known refl) eight takes at)
     (record { reads = record { bytes = x.rest; spelt = info_is_read _ _ _ _ known x.info; takes = x.takes }; place_is = x.place_is })
 type_taken (Err stop) name head a b c place middle place' eight takes at x y =
-    let z : StopsType a c place stop = subst (λ n. StopsType a c n stop) (omega (arith, at)) y in
+    let z = subst (λ n. StopsType a c n stop) (omega arith) y in
     let end = type_agrees name _ (stops_size _ _ a c _ _ _ z.stops) in
     record { at = after_name name z.at; stops = stops_inside _ _ (after_name name) (inside _ _ _ (type_agrees _)) _ a c _ _ _ end.3 z.stops }
 

@@ -37,24 +37,24 @@ module _ (which : RowToken) (charset : Charset) (room : ℕ) (all : List Column)
 
   module _ (known : described_after None tokens ≡ Some all) where
     token_next : (before : List (List Cell)) (cells : List Cell) → IsNext (response charset room) (in_rows (record { before = before; at = WholeRow cells })) (token_byte which ∷ []) × ((response charset room).add (in_rows (record { before = before; at = WholeRow cells })) (token_byte which ∷ []) ≡ in_rows (record { before = before ++ cells ∷ []; at = token_start which charset all }))
-    token_next before cells = grind (arith, append_assoc, described_after-append, known, map-append, rows_describe)
+    token_next before cells = grind (arith, append_assoc, described_after-append, map-append, rows_describe)
 
     row_next : (ts : List Token) (at : RowPart) (e : List ℕ) → IsNext (row charset) at e → IsNext (response charset room) (with_row ts at) e × ((response charset room).add (with_row ts at) e ≡ with_row ts ((row charset).add at e))
     row_next ts at e n = grind (arith, next_inside, next_some, row_in_response)
 
     element_next : (before : List (List Cell)) (p : RowPart) (e : List ℕ) → IsNext (rows which charset all) (record { before = before; at = p }) e
         → IsNext (response charset room) (in_rows (record { before = before; at = p })) e × ((response charset room).add (in_rows (record { before = before; at = p })) e ≡ in_rows ((rows which charset all).add (record { before = before; at = p }) e))
-    element_next before (WholeRow cells) [] n = absurd (let s : 0 < length {A = ℕ} [] = n.some in omega arith)
+    element_next before (WholeRow cells) [] n = absurd (let s = n.some in omega arith)
     element_next before (WholeRow cells) (x ∷ []) n =
         subst (λ (x : ℕ). IsNext (response charset room) (in_rows (record { before = before; at = WholeRow cells })) (x ∷ []) × ((response charset room).add (in_rows (record { before = before; at = WholeRow cells })) (x ∷ []) ≡ in_rows (record { before = before ++ cells ∷ []; at = token_start which charset all }))) (sym (is_token_byte _ x n.free)) (token_next _ _)
-    element_next before (WholeRow cells) (x ∷ y ∷ r) n = absurd (let w : length (x ∷ y ∷ r) ≡ 1 = n.whole in omega arith)
+    element_next before (WholeRow cells) (x ∷ y ∷ r) n = absurd (let w = n.whole in omega arith)
     element_next before p e n = row_next _ p e (record { some = n.some; whole = n.whole; free = n.free })
 
     -- what is read of rows from their start on and put, is read of the response and put
     abbrev rows_stream : {t : RowsPart} {a b : Seen} {h j : Held} → Streams (rows which charset all) rows_so_far (rows_start which charset all) a b h j t → Streams (response charset room) text_so_far (with_row tokens (token_start which charset all)) a b h j (in_rows t)
     rows_stream {t = t} x =
         let s = rows_start which charset all in
-        let begins : in_rows s ≡ with_row tokens (token_start which charset all) = ap (λ ts. with_row ts (token_start which charset all)) (append-nil tokens) in
+        let begins = ap (λ ts. with_row ts (token_start which charset all)) (append-nil tokens) in
         let same = ap (λ l. l ++ x.puts.0) (ap text_so_far (sym begins) ∙ in_rows_text s) ∙ append_assoc (text tokens) (rows_so_far s) x.puts.0 ∙ ap (λ l. text tokens ++ l) x.puts.1 ∙ sym (in_rows_text t) in
         let spelt = lifted_spelt _ _ _ (λ p e n. element_next p.before p.at e n) s _ t x.spelt in
         record { bytes = x.bytes; spelt = subst (λ (v : Part). Spelt (response charset room) v x.bytes (in_rows t)) begins spelt; takes = x.takes; puts = (x.puts.0, same, x.puts.2) }
@@ -97,7 +97,7 @@ module _ (which : RowToken) (charset : Charset) (room : ℕ) {place : ℕ} {colu
       let x = subst (λ cs. ReadsRows which charset cs count a b place place' before after) shown y in
       let known = columns_known tokens _ _ described begun.holds.bytes begun.tracks.described in
       let there = rows_stream _ _ _ _ _ known x.streams in
-      let end : with_row (tokens ++ map Row x.earlier) (WholeRow x.last) ≡ after_tokens (tokens ++ map Row (x.earlier ++ x.last ∷ [])) = ap after_tokens (append_assoc tokens (map Row x.earlier) (Row x.last ∷ []) ∙ ap (λ l. tokens ++ l) (sym (map-append Row x.earlier (x.last ∷ [])))) in
+      let end = ap after_tokens (append_assoc tokens (map Row x.earlier) (Row x.last ∷ []) ∙ ap (λ l. tokens ++ l) (sym (map-append Row x.earlier (x.last ∷ [])))) in
       quietly begun refl (record {
         more = map Row (x.earlier ++ x.last ∷ []);
         streams = record { bytes = x.streams.bytes; spelt = rw (← end) there.spelt; takes = x.streams.takes; puts = subst (λ (v : Part). PutsText text_so_far (with_row tokens (token_start which charset (columns_of area.bytes))) v before after) end there.puts };

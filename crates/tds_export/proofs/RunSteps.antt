@@ -28,7 +28,7 @@ module _ {charset charset' : Charset} {room room' : ℕ} {p q : ℕ} {a b d : Se
   pub runs_on : {r : ℕ} {t : Progress} (notice : Space) → (y : ReadsTokens (response charset' room') (after_tokens x.tokens) x.tokens b d q r i k t area') × IsNoted notice (x.tokens ++ y.more) → (z : Runs (response charset room) a d p r h k t area') × IsNoted notice z.tokens
   runs_on notice y =
       let z = rw (e, f) at y in
-      (record { tokens = x.tokens ++ z.0.more; streams = streams_both x.streams z.0.streams; place_is = omega (arith, x.place_is, z.0.place_is, length-append x.streams.bytes z.0.streams.bytes); tracks = z.0.tracks; holds = z.0.holds }, z.1)
+      (record { tokens = x.tokens ++ z.0.more; streams = streams_both x.streams z.0.streams; place_is = omega (arith, length-append x.streams.bytes z.0.streams.bytes); tracks = z.0.tracks; holds = z.0.holds }, z.1)
 
   -- what stops a step stops the run
   pub stops_on : {failed : Bool} {stop : Stop} → StepStops (response charset' room') (after_tokens x.tokens) b d q i k area' failed stop → StepStops (response charset room) response_start a d p h k area' failed stop
@@ -41,8 +41,8 @@ module _ (charset : Charset) (room : ℕ) {p q : ℕ} {a b c : Seen} {h k : Held
   pub stops_end : {failed : Bool} → failed ≡ false → k.delivered ≤ 2 ^ 64 - 1 → s.is_final ≡ false → StepStops (response charset room) response_start a c p h k area failed (record { fault = EndWithoutDone; place = Payload q })
   stops_end going d open_end =
       let stop : Stop = record { fault = EndWithoutDone; place = Payload q } in
-      let over : Ends c c [] o.0 = inl ([], Consumes-nil c.left, o.2, Stays-none _) in
-      let is : IsCutStop q ((response charset room).end_fault (after_tokens x.tokens)) o.0 stop = inl (o.1, (EndWithoutDone, rw (← x.tracks.final, open_end) refl, refl)) in
+      let over = inl ([], Consumes-nil c.left, o.2, Stays-none _) in
+      let is = inl (o.1, (EndWithoutDone, rw (← x.tracks.final, open_end) refl, refl)) in
       stops_further x.streams x.place_is (stops_quietly refl x.holds d going (cut_at_once (response charset room) (after_tokens x.tokens) b c q [] o.0 stop (omega arith) (Ends-after b c c [] [] 1 o.0 t over) is))
 
   abbrev reads_whole : s.is_final ≡ true → ReadsWhole (response charset room) response_start a c h k area

@@ -54,7 +54,7 @@ module _ (column : ℕ) where
   cell_more (ShortData c left content) e bytes n = grind (arith, and_parts, choose, last_fit, long_more, open_more, unless_none)
   cell_more (ChunkLength c total content) e bytes n =
       choose (λ p. FieldMore (Some (open_field c content)) (field_so_far p)) _ _ _
-      (λ z. let fit = end_fit column c total content (little e) n.free z in let end : length (long_field c content) ≤ length (open_field c content) + 13 = long_more c content fit (fit_begins c content [] (subst (λ v. is_fit c v ≡ true) (sym (append-nil content)) fit)) in omega arith)
+      (λ z. let fit = end_fit column c total content (little e) n.free z in let end = long_more c content fit (fit_begins c content [] (subst (λ v. is_fit c v ≡ true) (sym (append-nil content)) fit)) in omega arith)
       (λ z. omega arith)
   cell_more (ChunkData c total left content) e bytes n = grind (arith, choose, open_more, unless_none)
 
@@ -107,9 +107,9 @@ described_pending d = 0
 -- one more column in the header
 header_more : (columns : List Column) (c : Column) → length (header_line (columns ++ c ∷ [])) ≤ length (header_line columns) + 3 + 4 * length c.name
 header_more columns c =
-    let fs : List (List ℕ) = map (λ k. long_field Utf16Text k.name) columns in
-    let f : List ℕ = long_field Utf16Text c.name in
-    let e : map (λ k. long_field Utf16Text k.name) (columns ++ c ∷ []) ≡ fs ++ f ∷ [] = map-append (λ k. long_field Utf16Text k.name) columns (c ∷ []) in
+    let fs = map (λ k. long_field Utf16Text k.name) columns in
+    let f = long_field Utf16Text c.name in
+    let e = map-append (λ k. long_field Utf16Text k.name) columns (c ∷ []) in
     omega (arith, one_more_length fs f, long_length Utf16Text c.name, ap (λ v. length (line v)) e, length-append (joined (fs ++ f ∷ [])) line_end, length-append (joined fs) line_end)
 
 module _ (room : ℕ) where

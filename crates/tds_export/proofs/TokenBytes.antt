@@ -37,7 +37,7 @@ module _ {charset : Charset} {room byte : ℕ} {tokens : List Token} {to : Part}
   reads_after_byte r = record {
     more = r.more;
     streams = streams_both (first begins d t) r.streams;
-    place_is = r.place_is ∙ omega (arith, at, length-append (byte ∷ []) r.streams.bytes);
+    place_is = r.place_is ∙ omega (arith, length-append (byte ∷ []) r.streams.bytes);
     tracks = r.tracks;
     holds = r.holds;
   }
@@ -51,10 +51,10 @@ module _ {charset : Charset} {room byte : ℕ} {tokens : List Token} {to : Part}
 refused : (charset : Charset) (room : ℕ) (tokens : List Token) (a b : Seen) (place byte : ℕ) (described : Bool) (fault : Fault) → IsDescribed described (encoded_after [] tokens) (described_after None tokens) → IsRefusedByte described byte fault → Takes a b (byte ∷ []) 1 → IsBetween b
     → StopsReading (response charset room) (after_tokens tokens) a b place (after_tokens tokens) (record { fault = fault; place = Payload place })
 refused charset room tokens a b place byte described fault k (inl x) t between =
-    let first : (response charset room).fault (after_tokens tokens) (byte ∷ []) ≡ Some fault = ap (λ v. lead_fault (described_after None tokens) byte v) x.1 ∙ ap Some (sym x.0) in
+    let first = ap (λ v. lead_fault (described_after None tokens) byte v) x.1 ∙ ap Some (sym x.0) in
     refused_at_once (response charset room) (after_tokens tokens) a b place (byte ∷ []) fault (omega arith) refl first t between
 refused charset room tokens a b place byte described fault k (inr x) t between =
-    let none : described_after None tokens ≡ None = subst (λ d. IsDescribed d (encoded_after [] tokens) (described_after None tokens)) x.1 k in
+    let none = subst (λ d. IsDescribed d (encoded_after [] tokens) (described_after None tokens)) x.1 k in
     let first : (response charset room).fault (after_tokens tokens) (byte ∷ []) ≡ Some fault = elim x.2 [
       | inl e ↦ subst (λ v. (response charset room).fault (after_tokens tokens) (v ∷ []) ≡ Some fault) (sym e) (ap (row_byte_fault true) none ∙ ap Some (sym x.0))
       | inr e ↦ subst (λ v. (response charset room).fault (after_tokens tokens) (v ∷ []) ≡ Some fault) (sym e) (ap (row_byte_fault true) none ∙ ap Some (sym x.0))

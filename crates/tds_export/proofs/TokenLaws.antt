@@ -35,7 +35,7 @@ uncounted p ts t e = how_many-snoc p _ t ∙ ap (λ n. how_many p ts + n) e ∙ 
 -- without an error there is no first one
 pub no_errors : (ts : List Token) → how_many is_error ts ≡ 0 → first_error ts ≡ None
 no_errors [] h = refl
-no_errors (Error n ∷ ts) h = absurd (omega (arith, h))
+no_errors (Error n ∷ ts) h = absurd (omega arith)
 no_errors (u ∷ ts) h = no_errors ts h
 
 -- and the next one is
@@ -46,7 +46,7 @@ first_next (u ∷ ts) n h = first_next ts n h
 
 -- after an error none is the first
 pub first_stays : (ts us : List Token) → 0 < how_many is_error ts → first_error (ts ++ us) ≡ first_error ts
-first_stays [] us h = absurd (omega (arith, h))
+first_stays [] us h = absurd (omega arith)
 first_stays (Error n ∷ ts) us h = refl
 first_stays (u ∷ ts) us h = first_stays ts us h
 

@@ -56,7 +56,7 @@ module _ {tokens : List Token} {s : Progress} {area notice : Space} {sink : Held
       → ReadsTokens g from tokens a b place place' sink sink progress area
   bare_reads {from = from} t r at none is tracks =
       let so = bare t is in
-      let same : text_after false (tokens ++ t ∷ []) ≡ text tokens = text_after-snoc false tokens t ∙ ap (λ l. text tokens ++ l) (so.text (begun_after false tokens)) ∙ append-nil (text tokens) in
+      let same = text_after-snoc false tokens t ∙ ap (λ l. text tokens ++ l) (so.text (begun_after false tokens)) ∙ append-nil (text tokens) in
       record {
         more = t ∷ [];
         streams = record { bytes = r.bytes; spelt = r.spelt; takes = r.takes; puts = same_text from (with_token tokens t) sink (none ∙ ap (λ l. l ++ []) (sym same)) begun.delivered };
@@ -87,7 +87,7 @@ module _ (charset : Charset) (room : ℕ) {tokens : List Token} {s : Progress} {
 
 -- no text stands for a row that has begun
 pub start_text : (charset : Charset) (columns : List Column) (tokens : List Token) → 0 < length columns → text_so_far (in_row charset columns tokens) ≡ text tokens ++ []
-start_text charset [] tokens some = absurd (omega (arith, some))
+start_text charset [] tokens some = absurd (omega arith)
 start_text charset (c ∷ cs) tokens some = ap (λ f. text tokens ++ joined (with_field [] f)) (start_quiet _ _)
 
 -- a row's text so far in its response
@@ -144,7 +144,7 @@ open_holds : (area : Space) (tokens : List Token) (k : ℕ) (d : DescriptionPart
 open_holds area tokens k d h e p q = grind arith
 
 some_bytes : (room : ℕ) (area bytes : List ℕ) (columns : List Column) → Spelt (description room) BeforeCount bytes (WholeDescription area columns) → 0 < length bytes
-some_bytes room area [] columns h = absurd (let same : WholeDescription area columns ≡ BeforeCount = one_state _ _ _ _ _ h (Spelt-none _ _) in cc)
+some_bytes room area [] columns h = absurd (let same = one_state _ _ _ _ _ h (Spelt-none _ _) in cc)
 some_bytes room area (x ∷ bytes) columns h = omega arith
 
 module _ (charset : Charset) {room place : ℕ} {tokens : List Token} {s : Progress} {old_area area notice : Space} {sink : Held} {failed : Bool} {a b : Seen} (begun : Begun tokens s old_area notice sink failed) where
@@ -158,7 +158,7 @@ module _ (charset : Charset) {room place : ℕ} {tokens : List Token} {s : Progr
         streams = record { bytes = r.bytes; spelt = r.spelt; takes = r.takes; puts = same_text (in_metadata tokens) (with_token tokens NoMetadata) _ same begun.delivered };
         place_is = x.place_is;
         tracks = tracks_none s _ begun.tracks;
-        holds = record { bytes = x.kept ∙ sym (encoded_after-append [] tokens (NoMetadata ∷ [])); peak = omega (arith, x.bound, begun.holds.peak, greatest_span-append tokens (NoMetadata ∷ [])) };
+        holds = record { bytes = x.kept ∙ sym (encoded_after-append [] tokens (NoMetadata ∷ [])); peak = omega (arith, greatest_span-append tokens (NoMetadata ∷ [])) };
       })
 
   -- the description is cut or refused

@@ -28,7 +28,7 @@ cut_stops run q area at bytes stop side spelt c holds text =
       ]
       | inr x ↦ elim c.stop_is [
         | inl e ↦ absurd (elim x.cause [
-          | inl y ↦ (let differ : ReadFailed ≡ MessageEnded = sym y.0 ∙ e.0 in cc)
+          | inl y ↦ (let differ = sym y.0 ∙ e.0 in cc)
           | inr y ↦ wire_goes_on _ _ _ _ _ y.0 e.0
         ])
         | inr e ↦ subst (λ (s : Stop). Stops run s.fault s.place) (sym e.1) (subst (Stops run c.own.fault) (sym x.place) (stopped_on_wire _ q _ at bytes c.part c.own rose side spelt c.cut x holds text))
@@ -77,17 +77,17 @@ fits_at : (run : Run) (packets : List Packet) (rest : List ℕ) (place : ℕ) (p
     → Spelt (grammar run) response_start (take place (payload_of packets)) part → n ≤ length (text_so_far part) → n ≤ 64 * (limits run).max_wire
 fits_at run packets rest place part n are begin within spelt few =
     let payload = payload_of packets in
-    let bytes : AreBytes payload = payload_bytes packets (AreBytes-front (wire_of packets) rest (subst AreBytes (sym begin) are)) in
-    let front : AreBytes (take place payload) = AreBytes-front _ _ (subst AreBytes (sym (take-append-drop place payload)) bytes) in
-    let most : length (text_so_far part) ≤ 64 * length (take place payload) = bounded_along _ _ _ _ front spelt in
-    omega (arith, few, most, within, payload_short packets, ap length (take-append-drop place payload), length-append (take place payload) (drop place payload))
+    let bytes = payload_bytes packets (AreBytes-front (wire_of packets) rest (subst AreBytes (sym begin) are)) in
+    let front = AreBytes-front _ _ (subst AreBytes (sym (take-append-drop place payload)) bytes) in
+    let most = bounded_along _ _ _ _ front spelt in
+    omega (arith, payload_short packets, ap length (take-append-drop place payload), length-append (take place payload) (drop place payload))
 
 fits : (run : Run) (fault : Fault) (place : Place) → AreBytes run.input → Stops run fault place → length (run.gained ++ run.given.after.areas.output.bytes) ≤ 64 * (limits run).max_wire
 fits run fault place are x = grind (arith, fits_at, length-append)
 
 -- the count of the bytes delivered is exact
 exact : (run : Run) (delivered : ℕ) → delivered ≡ counted 0 (length run.gained) → length (run.gained ++ run.given.after.areas.output.bytes) ≤ 64 * (limits run).max_wire → delivered ≡ length run.gained
-exact run delivered e few = let most = (limits run).max_wire_in_range in omega (arith, e, few, most.1, length-append run.gained run.given.after.areas.output.bytes)
+exact run delivered e few = let most = (limits run).max_wire_in_range in omega (arith, length-append run.gained run.given.after.areas.output.bytes)
 
 -- ---- where the reader stands
 
@@ -102,16 +102,16 @@ earlier_text : (charset : Charset) (room : ℕ) (bytes element : List ℕ) (p q 
     → Spelt (response charset room) response_start (take place (bytes ++ element)) q → length (text_so_far q) ≤ length (text_so_far p)
 earlier_text charset room bytes element p q place h whole less k = elim (dec_le place (length bytes)) [
   | yes below ↦
-      (let front : take place (bytes ++ element) ≡ take place bytes = take-append-le place bytes element below in
+      (let front = take-append-le place bytes element below in
       let rest = text_along _ _ q p _ (rest_leads _ _ q p _ _ (subst (λ v. Spelt (response charset room) response_start v q) front k) (subst (λ v. Spelt (response charset room) response_start v p) (sym (take-append-drop place bytes)) h)) in
       omega (arith, ap length rest.1, length-append (text_so_far q) rest.0))
   | no above ↦
       (let n = place - length bytes in
-      let sum : length bytes + n ≡ place = omega (arith, above) in
-      let split : take place (bytes ++ element) ≡ bytes ++ take n element = ap (λ v. take v (bytes ++ element)) (sym sum) ∙ take-append-add bytes element n in
-      let few : length (take n element) ≡ n = length-take-le n element (omega (arith, less, sum, length-append bytes element)) in
-      let none : take n element ≡ [] = no_further _ _ _ p _ q h (λ i a b. omega (arith, few, less, sum, whole, length-append bytes element)) (subst (λ v. Spelt (response charset room) response_start v q) split k) in
-      absurd (omega (arith, ap length none, few, sum, above)))
+      let sum : length bytes + n ≡ place = omega arith in
+      let split = ap (λ v. take v (bytes ++ element)) (sym sum) ∙ take-append-add bytes element n in
+      let few = length-take-le n element (omega (arith, length-append bytes element)) in
+      let none = no_further _ _ _ p _ q h (λ i a b. omega (arith, length-append bytes element)) (subst (λ v. Spelt (response charset room) response_start v q) split k) in
+      absurd (omega (arith, ap length none)))
 ]
 
 -- the writer broke: the last packet read was needed to fill the block
@@ -125,23 +125,23 @@ broken run q k at stop side writer x holds gained all =
     let p = subst (Puts (fresh_at run.given) x.middle) x.puts.1 x.puts.2 in
     let y = x.breaks in
     let to = g.add at x.element in
-    let spelt : Spelt g response_start be to = spelt_both x.spelt (Spelt-one g at x.element x.next) in
+    let spelt = spelt_both x.spelt (Spelt-one g at x.element x.next) in
     let b = takes_begins _ _ f _ _ q _ _ side.bytes side.left x.takes x.between in
     let more = x.ahead ++ (q.future []).bytes in
     let payload = payload_of b.packets in
-    let payload_is : payload ≡ be ++ more = b.payload_is ∙ append_assoc be x.ahead (q.future []).bytes in
+    let payload_is = b.payload_is ∙ append_assoc be x.ahead (q.future []).bytes in
     let longest = some_longest g _ _ in
     let beyond = longest_text _ _ _ _ _ _ _ spelt (subst (λ v. Longest g response_start v longest.0 longest.1) payload_is longest.2) in
-    let some : 0 < length be = omega (arith, x.next.some, length-append x.bytes x.element) in
-    let last = in_last _ _ f _ _ _ q _ _ side.left x.takes b (omega (arith, some, length-append (be ++ x.ahead) (q.future []).bytes, length-append be x.ahead)) in
+    let some : 0 < length be = omega (arith, length-append x.bytes x.element) in
+    let last = in_last _ _ f _ _ _ q _ _ side.left x.takes b (omega (arith, length-append (be ++ x.ahead) (q.future []).bytes, length-append be x.ahead)) in
     let early = some_longest g _ _ in
-    let joined : payload ≡ payload_of last.before ++ payload_of (last.last ∷ []) = ap payload_of (sym last.split) ∙ flat_map-append (λ (v : Packet). v.body) last.before (last.last ∷ []) in
-    let fewer : early.0 < length be = omega (arith, early.2.within, last.earlier) in
-    let front : take early.0 (payload_of last.before) ≡ take early.0 be = sym (take-append-le early.0 (payload_of last.before) (payload_of (last.last ∷ [])) early.2.within) ∙ ap (take early.0) (sym joined ∙ payload_is) ∙ take-append-le early.0 be more (omega (arith, fewer)) in
+    let joined = ap payload_of (sym last.split) ∙ flat_map-append (λ (v : Packet). v.body) last.before (last.last ∷ []) in
+    let fewer : early.0 < length be = omega arith in
+    let front = sym (take-append-le early.0 (payload_of last.before) (payload_of (last.last ∷ [])) early.2.within) ∙ ap (take early.0) (sym joined ∙ payload_is) ∙ take-append-le early.0 be more (omega arith) in
     let short = earlier_text _ _ _ _ at early.1 early.0 x.spelt x.next.whole fewer (subst (λ v. Spelt g response_start v early.1) front early.2.spelt) in
-    let total : length (text_put run) ≡ 4096 * (p.1 + y.1 + 1) = omega (arith, ap length gained, ap length writer.waiting, length-append run.gained (waiting run), length-append p.0 y.0, p.3, y.7) in
-    let chunks : length (text_put run) ≡ 4096 * (length run.gained / 4096 + 1) = omega (arith, total, ap length gained, length-append p.0 y.0, p.3, y.5, y.6) in
-    let passes : length (text_so_far at) < length (text_put run) = omega (arith, ap length p.2.1, length-append p.0 x.middle.waiting, p.3, x.few, total) in
+    let total : length (text_put run) ≡ 4096 * (p.1 + y.1 + 1) = omega (arith, ap length gained, ap length writer.waiting, length-append run.gained (waiting run), length-append p.0 y.0) in
+    let chunks : length (text_put run) ≡ 4096 * (length run.gained / 4096 + 1) = omega (arith, ap length gained, length-append p.0 y.0) in
+    let passes : length (text_so_far at) < length (text_put run) = omega (arith, ap length p.2.1, length-append p.0 x.middle.waiting) in
     let text_more : (text_put run) ++ (drop y.2 x.more ++ beyond.0) ≡ text_so_far longest.1 =
     sym (append_assoc (text_put run) (drop y.2 x.more) beyond.0) ∙ ap (λ v. (v ++ drop y.2 x.more) ++ beyond.0) all ∙ ap (λ v. v ++ beyond.0) (append_assoc (text_so_far at) (take y.2 x.more) (drop y.2 x.more) ∙ ap (λ v. text_so_far at ++ v) (take-append-drop y.2 x.more) ∙ x.text_is) ∙ beyond.1 in
     let comes : Comes run b.packets (length be) to = record { within = omega (arith, ap length payload_is, length-append be more); spelt = rw (ap (take (length be)) payload_is ∙ take-append_seam be more) spelt } in
@@ -155,7 +155,7 @@ broken run q k at stop side writer x holds gained all =
       fault_is = refl;
       written_is = refl;
       begins = text_more;
-      needed = inr (last.before, last.last, early.0, early.1, last.split, early.2, chunks, omega (arith, short, passes));
+      needed = inr (last.before, last.last, early.0, early.1, last.split, early.2, chunks, omega arith);
       failed = subst (Rose run.given.before.writer.failures) (sym (y.9 ∙ ap one_more p.4) ∙ writer.failures) (rose _);
       kept = (length be, to, comes, rw side.description (kept_at run.given.after.areas.description to.tokens to.at (drop (length be) payload) holds.bytes));
     }
@@ -215,7 +215,7 @@ module _ (given : Given) (input left : List ℕ) (q : Seen) (stop : Stop) (are :
       let d = sends _ _ l _ _ _ writer p t.1 in
       let run = run_of given input left d.gained in
       let side = reader_side _ _ _ _ q are ql reader in
-      let stops : Stops run stop.fault stop.place = reading_stops _ q _ _ _ side y.stops y.holds (d.all ∙ append-nil (text_so_far y.at)) in (
+      let stops = reading_stops _ q _ _ _ side y.stops y.holds (d.all ∙ append-nil (text_so_far y.at)) in (
         d.gained,
         d.has,
         record {
@@ -252,7 +252,7 @@ module _ (given : Given) (input left : List ℕ) (q : Seen) (stop : Stop) (are :
       let d = sends _ _ k (text y.whole.tokens) [] _ writer p y.fails.1 in
       let run = run_of given input left d.gained in
       let whole = whole_message_of _ q _ (fresh_at given) y.middle (reader_side given input left d.gained q are ql reader) y.whole in
-      let rises : FailsToWrite given = subst (Rose given.before.writer.failures) (sym (y.fails.3 ∙ ap one_more p.4) ∙ writer.failures) (rose _) in
+      let rises = subst (Rose given.before.writer.failures) (sym (y.fails.3 ∙ ap one_more p.4) ∙ writer.failures) (rose _) in
       in_text k _ writer d.has d.delivered (failed_at_end _ q y.whole.tokens whole (d.all ∙ append-nil (text y.whole.tokens)) rises) y.fails.2
 
   -- each of these
@@ -299,12 +299,12 @@ report_tells given report x = λ input are e.
     let d = sends given y.middle x.held (text tokens) [] y.finishes.0 x.writer p y.finishes.1 in
     let run = run_of given input left.0 d.gained in
     let whole = whole_message_of run x.seen area (fresh_at given) y.middle (reader_side given input left.0 d.gained x.seen are left.1 x.reader) y.whole in
-    let empty : waiting run ≡ [] = sym x.writer.waiting ∙ y.finishes.2 in
-    let same : text_put run ≡ text tokens = d.all ∙ append-nil (text tokens) in
+    let empty = sym x.writer.waiting ∙ y.finishes.2 in
+    let same = d.all ∙ append-nil (text tokens) in
     let gained = sym (append-nil run.gained) ∙ ap (λ w. run.gained ++ w) (sym empty) ∙ same in
     let few = fits_at run whole.packets left.0 (length (payload_of whole.packets)) (after_tokens tokens) (length (text_put run)) are whole.stands.begin whole.stands.within
     (subst (λ v. Spelt (grammar run) response_start v (after_tokens tokens)) (sym (take_payload (payload_of whole.packets))) whole.spelt) (omega (arith, ap length same, ap length (text_after_tokens tokens))) in
-    let written : x.held.delivered ≡ length (text tokens) = exact run x.held.delivered d.delivered few ∙ ap length gained in
+    let written = exact run x.held.delivered d.delivered few ∙ ap length gained in
     let outcome : Reported run report = record {
       tokens = tokens;
       packets = whole.packets;
