@@ -9,7 +9,7 @@ abbrev pub BeginsWith : List Packet → List Packet → Type 0
 BeginsWith packets front = (tail : List Packet) × (front ++ tail ≡ packets)
 
 begins_more : (front packets : List Packet) (p : Packet) → BeginsWith packets front → BeginsWith (packets ++ p ∷ []) front
-begins_more front packets p h = (h.0 ++ p ∷ [], sym (append_assoc front h.0 (p ∷ [])) ∙ ap (λ l. l ++ p ∷ []) h.1)
+begins_more front packets p h = (h.0 ++ p ∷ [], cc (append_assoc front h.0 (p ∷ [])))
 
 pub begins_added : (front packets : List Packet) (place : WirePlace) (element : List ℕ) → BeginsWith packets front → BeginsWith (wire_add packets place element).packets front
 begins_added front packets BeforeHeader element h =
@@ -26,7 +26,7 @@ before_begins size limit front packets wires rest unread each within m e =
     let first = feed-Spelt g _ _ at (before_are_read _ _ _ _ each within) in
     let fed : feed_all g (Reading at []) rest ≡ Reading (after_last size limit packets) unread =
     ap (λ p. feed_all g p rest) (sym first) ∙ sym (feed_all-append g (Reading no_wire []) (wire_of front) rest) ∙ ap (feed_all g (Reading no_wire [])) e ∙ read_to_end _ _ _ _ _ m in
-    let t = subst (λ p. Told g at rest p) fed (told g at rest) in
+    let t = rw fed at (told g at rest) in
     Spelt-induct g (λ w b. BeginsWith w.packets front) (λ w b element h n. begins_added front w.packets w.place element h) at ([], append-nil front) t.0 (after_last size limit packets) t.2
 
 -- the wire of a message has no fault
@@ -38,7 +38,7 @@ no_wire_fault size limit input wires unread packets read fault m e f =
     let same = (one_longest g _ _ _ _ _ _ f.longest l.2).1 in
     elim f.first [
       | inl r ↦ omega (arith, ap (λ (w : WirePart). wire_size w.place) same)
-      | inr r ↦ no_end f.read.place (ap (λ (w : WirePart). w.place) same) r.1
+      | inr r ↦ no_end f.read.place (cc) r.1
     ]
   where
     no_end : (place : WirePlace) → place ≡ AfterLast → wire_end place ≡ Some fault → ⊥
@@ -60,15 +60,15 @@ refused_accepted : (run : Run) (tokens : List Token) (payload more : List ℕ) (
 refused_accepted run tokens payload more place part fault r l refused =
     let n = place + (grammar run).size part in
     let split = ap (λ v. v ++ more) (sym (take-append-drop n payload)) ∙ append_assoc (take n payload) (drop n payload) more in
-    refused_response _ _ _ _ _ _ _ _ l refused (subst (λ v. Response run.given.charset (limits run).column_room tokens v) split r)
+    refused_response _ _ _ _ _ _ _ _ l refused (rw split at r)
 
 -- the packets read are those of the message, or begin it
 read_begin : (run : Run) (tokens : List Token) (read packets : List Packet) → Packets run read → (a : Accepted run.given.charset (limits run).packet_size (limits run).column_room (limits run).max_wire tokens packets run.input) → (more : List ℕ) × (payload_of packets ≡ payload_of read ++ more)
 read_begin run tokens read packets p a = elim p.each [
   | inl h ↦ (let same = one_message _ _ _ _ _ _ _ _ (record { spelt = refl; each = h; within = p.within }) a.message (p.begin ∙ a.begins) in
-      ([], ap payload_of (sym same) ∙ sym (append-nil (payload_of read))))
+      ([], cc (append-nil (payload_of read))))
   | inr h ↦ (let b = before_begins _ _ _ _ _ _ _ h p.within a.message (p.begin ∙ a.begins) in
-      (payload_of b.0, ap payload_of (sym b.1) ∙ flat_map-append (λ (v : Packet). v.body) read b.0))
+      (payload_of b.0, cc (flat_map-append (λ (v : Packet). v.body) read b.0)))
 ]
 
 -- no run of an accepted response stops but by a device
@@ -76,9 +76,9 @@ none_stops : (run : Run) (fault : Fault) (place : Place) → Stops run fault pla
     → (Rose run.given.before.reader.failures run.given.after.reader.failures → ⊥) → (Rose run.given.before.writer.failures run.given.after.writer.failures → ⊥) → ⊥
 none_stops run fault (Payload place) x tokens packets a reads writes = elim x.first [
   | inl r ↦ (let b = read_begin _ _ _ _ x.stands a in
-      refused_accepted run tokens (payload_of x.packets) b.0 place x.part fault (subst (λ v. Response run.given.charset (limits run).column_room tokens v) b.1 a.response) x.leads r.0)
+      refused_accepted run tokens (payload_of x.packets) b.0 place x.part fault (rw b.1 at a.response) x.leads r.0)
   | inr r ↦ (let same = one_message _ _ _ _ _ _ _ _ (record { spelt = refl; each = r.0; within = x.stands.within }) a.message (x.stands.begin ∙ a.begins) in
-      ended_accepted run tokens (payload_of x.packets) place x.part fault (subst (λ v. Response run.given.charset (limits run).column_room tokens (payload_of v)) (sym same) a.response) x.leads r.2)
+      ended_accepted run tokens (payload_of x.packets) place x.part fault (rw same a.response) x.leads r.2)
 ]
 none_stops run fault (Wire taken) x tokens packets a reads writes = elim x.first [
   | inl r ↦ reads r.1.failed
@@ -91,9 +91,9 @@ pub outcome_succeeds : (run : Run) (result : Result Report Stopped) → Outcome 
 outcome_succeeds run (Ok report) r = λ tokens packets accepted reads writes.
     let same = one_accepted _ _ _ _ _ _ _ _ _ accepted r.accepted in
     record {
-      report_is = ap (λ v. Ok v) (r.report_is ∙ ap report_of (sym same.0));
-      written = r.written ∙ ap text (sym same.0);
-      notice = r.notice ∙ ap error_text (sym same.0);
-      stands = subst (λ v. Packets run v) (sym same.1) r.stands;
+      report_is = cc;
+      written = cc;
+      notice = cc;
+      stands = rw same.1 r.stands;
     }
 outcome_succeeds run (Err stopped) r = λ tokens packets a reads writes. absurd (none_stops _ _ _ r.stop _ _ a reads writes)

@@ -18,7 +18,7 @@ pub record LengthRead (element : List ℕ) (n : ℕ) (a b : Seen) (place middle 
 
 -- the Length as a number
 pub number_is : {element : List ℕ} {n place middle : ℕ} {a b : Seen} → LengthRead element n a b place middle → little element ≡ n
-number_is {element = element} l = rw l.is (ap (λ k. little_number k element) l.two)
+number_is {element = element} l = rw l.is (cc)
 
 module _ (charset : Charset) (room : ℕ) {n place middle : ℕ} {tokens : List Token} {which : Bodied} {element : List ℕ} {a b c : Seen} (l : LengthRead element n a b place middle) (long : is_notice which ≡ true → 14 ≤ n) where
   -- what stops the reading of the body
@@ -32,7 +32,7 @@ module _ (charset : Charset) (room : ℕ) {n place middle : ℕ} {tokens : List 
   abbrev pub body_reads : (body : List ℕ) → length body ≡ n → Takes b c body n → (is_notice which ≡ true → holds_notice body ≡ true) → Reads (response charset room) (in_length which tokens) a c (with_token tokens (bodied which body))
   body_reads body len takes holds = record {
     bytes = element ++ body;
-    spelt = body_is_read _ _ _ _ _ _ l.two (number_is l ∙ sym len) (length_free room n tokens _ _ long (number_is l)) (body_free _ body holds);
+    spelt = body_is_read _ _ _ _ _ _ l.two (cc (number_is l)) (length_free room n tokens _ _ long (number_is l)) (body_free _ body holds);
     takes = takes_both a b c _ _ l.takes (rw len takes);
   }
 

@@ -46,7 +46,7 @@ zero_decimal : (d p s n : ℕ) → is_valid (Decimal d p s) ≡ true → is_leng
 zero_decimal d p s n valid allowed =
     let one = and_parts (is_decimal_length d && nat_le 1 p && nat_le p 38) (nat_le s p) valid in
     let small = test_le s 38 (omega (arith, le_true s p one.1, le_true p 38 (and_parts (is_decimal_length d && nat_le 1 p) (nat_le p 38) one.0).1)) in
-    let long : is_length_allowed (Decimal d p s) (length (zeros n)) ≡ true = ap (λ v. is_length_allowed (Decimal d p s) v) (length-replicate n 0) ∙ allowed in
+    let long : is_length_allowed (Decimal d p s) (length (zeros n)) ≡ true = simp (length-replicate, allowed) in
     choose IsRead (is_length_allowed (Decimal d p s) (length (zeros n))) (checked (value_of (Decimal d p s) (zeros n))) _
     (λ t. choose IsRead (nat_le s 38) (Ok _) _ (λ u. (_, refl)) (λ f. cc))
     (λ f. cc)
@@ -71,7 +71,7 @@ zeros_are_a_value (Wide r) n v s h = cc
 zeros_are_a_value kind n v s h = exactly (ZerosAre kind) n (unwrap_or (fixed_length kind) 0) h (_, refl)
 
 zeros_next : (n : ℕ) → 0 ∷ zeros (n + 1) ≡ zeros (suc n + 1)
-zeros_next n = ap (λ v. 0 ∷ zeros v) (add-one n) ∙ sym (ap (λ v. replicate v 0) (add-one (suc n)))
+zeros_next n = cc (add-one n, add-one (suc n))
 
 -- a sum that stays below that of a known total may still become it
 within : (total : Option ℕ) (m k : ℕ) → is_total total m ≡ true → k ≤ m → within_total total k ≡ true
@@ -91,7 +91,7 @@ module _ (column : ℕ) where
       let to : cell_add (ShortData c (suc left) content) (0 ∷ []) ≡ ShortData c left (content ++ 0 ∷ []) = grind (arith, nat_tests) in
       let one = spelt_one (omega arith) refl (rw (plain_begun c (content ++ 0 ∷ []) plain, test_lt 0 (suc left) (omega arith)) refl) to in
       let same : length (content ++ 0 ∷ []) + (left + 1) ≡ length content + (suc left + 1) = omega (arith, length-append content (0 ∷ [])) in
-      let more = short_ends c left (content ++ 0 ∷ []) (plain, ap (λ v. v % unit c) same ∙ even) in
+      let more = short_ends c left (content ++ 0 ∷ []) (plain, cc) in
       (more.0, rw (← zeros_next left) (spelt_both one more.1))
 
   -- the rest of a chunk
@@ -125,7 +125,7 @@ module _ (column : ℕ) where
   cell_ends (ScalarBytes kind n) (some, valid, scalar, allowed) =
       let v = zeros_are_a_value _ n valid scalar allowed in
       let l : length (zeros n) ≡ n = length-replicate n 0 in
-      (ScalarCell v.0, spelt_one (omega arith) l (ap (λ r. unless (is_ok r) (BadValue column)) v.1) (ap value_part v.1))
+      (ScalarCell v.0, spelt_one (omega arith) l (cc) (cc))
   cell_ends (ScalarLength kind) h = (Null, spelt_one (omega arith) refl refl refl)
   cell_ends (ShortLength c) h = (Null, spelt_one (omega arith) refl refl refl)
   cell_ends (ShortData c left content) h = short_ends c _ _ h
@@ -133,8 +133,8 @@ module _ (column : ℕ) where
   cell_ends (ChunkLength c total content) (plain, h) = length_ends c _ _ plain h
   cell_ends (ChunkData c total left content) (plain, h) =
       let l = length-append content (zeros (left + 1)) ∙ ap (λ v. length content + v) (length-replicate (left + 1) 0) in
-      let more = length_ends c _ _ plain (subst (λ v. HoldsTotal c total v) (sym l) h) in
-      (more.0, spelt_both (chunk_ends c _ _ _ plain) (subst (λ v. Spelt (cell column) (ChunkLength c total (content ++ zeros (left + 1))) (rest_of_chunks c total v) (WholeCell more.0)) l more.1))
+      let more = length_ends c _ _ plain (rw (← l) at h) in
+      (more.0, spelt_both (chunk_ends c _ _ _ plain) (rw (← l) more.1))
   cell_ends (WholeCell x) h = (x, Spelt-none _ _)
 
   value_reached : (r : Result ScalarValue ValueFault) → CellReached (value_part r)

@@ -88,7 +88,7 @@ module _ (room : ℕ) where
       let least = least_type _ m known in
       let free = ap (λ o. (if is_some o then None else Some (BadTypeInfo (length cols)))) least.described in
       let to = ap (λ o. with_kind (bytes ++ least_info byte) count cols o) least.described in
-      then_ends {e = least_info byte} (spelt_one (omega arith) (least.whole ∙ sym (ap (λ o. unwrap_or o 0) known)) free to)
+      then_ends {e = least_info byte} (spelt_one (omega arith) (cc) free to)
       (count_ends _ _ _ _ n is fewer (omega (arith, length-append bytes (least_info byte) ∙ ap (λ v. length bytes + v) least.whole)))
 
   -- A part of a description that isn't all of it, followed by what completes it, is a whole one.

@@ -26,7 +26,7 @@ zeros_hold n h = grind (arith, common_steps, zeros, replicate-append-replicate, 
 module _ (room : ℕ) where
   -- a token that describes nothing
   token_reached : (tokens : List Token) (t : Token) → ((c : Option (List Column)) → described_after c (t ∷ []) ≡ c) → CurrentReached (described_after None tokens) → PartReached room (with_token tokens t)
-  token_reached tokens t same h = (subst CurrentReached (sym (described_after-append None tokens (t ∷ []) ∙ same (described_after None tokens))) h, tt)
+  token_reached tokens t same h = (rw (described_after-append None tokens (t ∷ []) ∙ same (described_after None tokens)) h, tt)
 
   bare_reached : (tokens : List Token) (t : Token) → is_bare t ≡ true → CurrentReached (described_after None tokens) → PartReached room (with_token tokens t)
   bare_reached tokens t is h = token_reached tokens t (bare t is).columns h

@@ -17,7 +17,7 @@ value_reached : (name : List ℕ) (kind : Kind) (part : CellPart) → CellReache
 value_reached name kind part h = grind arith
 
 kind_reached : (name : List ℕ) (kind : Kind) (o : Option Kind) → o ≡ Some kind → is_valid kind ≡ true → ReturnReached (with_return_kind name o)
-kind_reached name kind o is v = subst (λ o. ReturnReached (with_return_kind name o)) (sym is) (value_reached _ _ _ (start_reached _ v))
+kind_reached name kind o is v = rw is (value_reached _ _ _ (start_reached _ v))
 
 -- Each element keeps what is known.
 pub return_keeps : (p : ReturnPart) (e : List ℕ) → AreBytes e → ReturnReached p → IsNext return_value p e → ReturnReached (return_add p e)
@@ -41,7 +41,7 @@ value_ends name kind part h =
     (record { name = name; kind = kind; value = x.0 }, Inside-Spelt _ _ _ (value_in_return _ _) _ _ _ x.1)
 
 kind_ends : (name : List ℕ) (kind : Kind) (o : Option Kind) → o ≡ Some kind → is_valid kind ≡ true → Ends (with_return_kind name o) (rest_of_value o)
-kind_ends name kind o is v = subst (λ o. Ends (with_return_kind name o) (rest_of_value o)) (sym is) (value_ends _ _ _ (start_reached _ v))
+kind_ends name kind o is v = rw is (value_ends _ _ _ (start_reached _ v))
 
 stays_open : (name : List ℕ) (kind : Kind) (part : CellPart) → IsOpenCell part → with_value name kind part ≡ InReturnCell name kind part
 stays_open name kind part h = grind arith
@@ -69,6 +69,6 @@ return_ends (ReturnHead name) h = head_ends _
 return_ends (ReturnInfo name byte) (n, known, some) =
     let least = least_type _ n known in
     let free = ap (λ o. (if is_some o then None else Some (BadTypeInfo return_column))) least.described in
-    then_ends {e = least_info byte} (spelt_one (omega arith) (least.whole ∙ sym (ap (λ o. unwrap_or o 0) known)) free refl) (kind_ends _ _ _ least.described (valid_of _ (byte ∷ least_info byte) least.described))
+    then_ends {e = least_info byte} (spelt_one (omega arith) (cc) free refl) (kind_ends _ _ _ least.described (valid_of _ (byte ∷ least_info byte) least.described))
 return_ends (InReturnCell name kind part) (begun, h) = rw (← stays_open name kind part begun) (value_ends _ _ _ h)
 return_ends (WholeReturn r) h = (r, Spelt-none _ _)

@@ -13,7 +13,7 @@ push_breaks (Stopped s) stop old new before after failed units none going fit h 
 push_breaks fault stop old new before after failed units none going fit h is = absurd is
 
 rest_fit : (old kept : List ℕ) (before middle : Held) (units : List ℕ) → old ≡ [] → utf16.IsFit units → TakesPiece (λ _. ⊤) utf16.rest utf16.text old kept before middle units → utf16.IsFit kept
-rest_fit old kept before middle units none fit t = subst utf16.IsFit (ap (λ l. utf16.rest (l ++ units)) (sym none) ∙ sym t.withheld) (joins_utf16.fit_rest units fit)
+rest_fit old kept before middle units none fit t = rw (ap (λ l. utf16.rest (l ++ units)) (sym none) ∙ sym t.withheld) at (joins_utf16.fit_rest units fit)
 
 -- what an end after whole units may answer
 pub end_stopped : (fault : JoinFault) (old new kept : List ℕ) (before after middle : Held) (failed : Bool) (units : List ℕ) → old ≡ [] → utf16.IsFit units → TakesPiece (λ _. ⊤) utf16.rest utf16.text old kept before middle units
@@ -22,7 +22,7 @@ end_stopped (Stopped stop) old new kept before after middle failed units none fi
 end_stopped fault old new kept before after middle failed units none fit t h = h.0.part (rest_fit _ _ _ _ _ none fit t)
 
 emitted : (old kept : List ℕ) (before middle : Held) (units : List ℕ) → old ≡ [] → TakesPiece (λ _. ⊤) utf16.rest utf16.text old kept before middle units → Puts before middle (emit utf16.rest utf16.text units) × (kept ≡ utf16.rest units)
-emitted old kept before middle units none t = (subst (λ l. Puts before middle (emit utf16.rest utf16.text (l ++ units))) none t.put, t.withheld ∙ ap (λ l. utf16.rest (l ++ units)) none)
+emitted old kept before middle units none t = (rw none at t.put, cc)
 
 pub end_breaks : (fault : JoinFault) (stop : Stop) (old new kept : List ℕ) (before after middle : Held) (failed : Bool) (units : List ℕ) → old ≡ [] → failed ≡ false → utf16.IsFit units → TakesPiece (λ _. ⊤) utf16.rest utf16.text old kept before middle units
     → EndsBy {U = Unit {0}} 2 utf16.IsFit utf16.text kept new middle after failed (Err fault) → IsStopIn fault stop → Breaks before after (utf16.text units) stop

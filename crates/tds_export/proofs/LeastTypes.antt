@@ -38,7 +38,7 @@ one_below zero p h k l = absurd (omega arith)
 one_below (suc n) p h k l =
     let both = and_parts (p n) (all_below n p) h in
     elim (k == n) as (λ t. (k == n) ≡ t → p k ≡ true) [
-      | true ↦ λ e. subst (λ m. p m ≡ true) (sym (eq_true k n e)) both.0
+      | true ↦ λ e. rw (eq_true k n e) both.0
       | false ↦ λ e. one_below n p both.1 k (let other = eq_false k n e in omega arith)
     ] refl
 

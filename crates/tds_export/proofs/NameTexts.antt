@@ -17,7 +17,7 @@ is_none (f ∷ fs) = false
 joined-snoc : (fs : List (List ℕ)) (f : List ℕ) → joined (fs ++ f ∷ []) ≡ joined fs ++ (text_if (not (is_none fs)) (codes ",") ++ f)
 joined-snoc [] f = refl
 joined-snoc (a ∷ []) f = append_assoc a (codes ",") f
-joined-snoc (a ∷ b ∷ fs) f = ap (λ l. (a ++ codes ",") ++ l) (joined-snoc (b ∷ fs) f) ∙ sym (append_assoc (a ++ codes ",") (joined (b ∷ fs)) (codes "," ++ f))
+joined-snoc (a ∷ b ∷ fs) f = cc (joined-snoc (b ∷ fs) f, append_assoc (a ++ codes ",") (joined (b ∷ fs)) (codes "," ++ f))
 
 -- The names of the columns but these last ones were put.
 pub record NamesPut {W : Type 0} (contents : W → Option (List ℕ)) (columns left : List Column) (first : Bool) (before after : Sink W) : Type 0 where
@@ -47,7 +47,7 @@ module _ {W : Type 0} {contents : W → Option (List ℕ)} {columns left rest : 
       let fields = map name_field x.done in
       let all = ap (map name_field) (sym x.split ∙ ap (λ l. x.done ++ l) is) ∙ map-append name_field x.done (c ∷ rest) ∙ sym (append_assoc fields (name_field c ∷ []) (map name_field rest)) in
       let grows = joined_more (fields ++ name_field c ∷ []) (map name_field rest) in
-      (grows.0, ap (λ l. l ++ grows.0) (sym (joined-snoc fields (name_field c))) ∙ grows.1 ∙ ap joined (sym all))
+      (grows.0, cc (joined-snoc fields (name_field c), grows.1, all))
 
   -- the writer failed at the comma
   pub comma_breaks : {d : Sink W} {stop : Stop} (r : Result (Unit {0}) Stop) → PutsPiece {U = Unit {0}} contents b d (text_if (not first) (codes ",")) (Err stop) → IsErrAnd r (λ s. s ≡ stop) → PutsPiece contents a d (joined (map name_field columns)) r
@@ -61,9 +61,9 @@ module _ {W : Type 0} {contents : W → Option (List ℕ)} {columns left rest : 
         let all = ap joined more ∙ joined-snoc (map name_field x.done) (name_field c) in
         record {
           done = x.done ++ c ∷ [];
-          split = append_assoc x.done (c ∷ []) rest ∙ ap (λ l. x.done ++ l) (sym is) ∙ x.split;
-          first_is = sym (ap is_none more ∙ some_fields _ _);
-          puts = subst (λ l. PutsPiece contents a e l (Ok (tt {0}))) (sym all) (then_puts x.puts (then_puts (rw x.first_is at comma) name));
+          split = cc (append_assoc x.done (c ∷ []) rest);
+          first_is = simp (more, some_fields);
+          puts = rw all (then_puts x.puts (then_puts (rw x.first_is at comma) name));
         }
 
     -- the writer failed at the name

@@ -36,11 +36,11 @@ module _ (charset : Charset) (room : ℕ) {place : ℕ} {tokens : List Token} {s
         let n = notice_of body in
         let first = first_next tokens n (no_errors tokens (sym (errors_are s _ begun.tracks) ∙ none)) in
         let text : after.bytes ≡ message_text (Some n) = rw (put, no_bytes, room_is) refl in
-        (error_reads _ (ap (option_map server_error) (sym first)) x, text ∙ ap message_text (sym first))
+        (error_reads _ (cc) x, cc)
 
     -- a later ERROR was read
     pub later_error_reads : 0 < s.report.errors → ReadsNotice charset room tokens AnError a b place place' body
         → (x : ReadsTokens (response charset room) (in_length AnError tokens) tokens a b place place' sink sink (record s { report = record s.report { errors = s.report.errors + 1 } }) area) × IsNoted notice (tokens ++ x.more)
     later_error_reads some x =
         let first = first_stays tokens (Error (notice_of body) ∷ []) (rw (← errors_are s tokens begun.tracks) some) in
-        (error_reads _ (ap (λ (r : Report). r.first_error) begun.tracks.report ∙ ap (option_map server_error) (sym first)) x, begun.noted ∙ ap message_text (sym first))
+        (error_reads _ (ap (λ (r : Report). r.first_error) begun.tracks.report ∙ ap (option_map server_error) (sym first)) x, cc)

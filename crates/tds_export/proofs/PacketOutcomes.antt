@@ -3,7 +3,7 @@ use Rattle.tds_export.proofs.Words.{AreBytes, Describing, EndsInLast, EndsMessag
 
 -- what the area holds at a part is kept, whatever follows
 pub kept_at : (area : Space) (tokens : List Token) (at : Open) (rest : List ℕ) → area.bytes ≡ description_of tokens at → IsKept area.bytes tokens at rest
-kept_at area tokens (Describing d) rest e = (rest, ap (λ l. l ++ rest) e)
+kept_at area tokens (Describing d) rest e = (rest, cc)
 kept_at area tokens at rest e = e
 
 -- the reader's side of a run that began at the front of its input
@@ -38,21 +38,21 @@ refused_in_payload run q area part bytes fault side spelt x holds text =
     let refused : IsRefused g part (e ++ more) fault = record {
       some = omega arith;
       whole = omega (arith, length-append e more);
-      first = ap (λ k. g.fault part (take k (e ++ more))) (sym x.whole) ∙ ap (g.fault part) (take-append_seam e more) ∙ x.first;
+      first = cc (take-append_seam e more);
     } in
     record {
       packets = b.packets;
       part = part;
       stands = record { begin = b.begin; each = b.each; within = b.within };
-      leads = subst (λ p. Longest g response_start p (length bytes) part) (sym s.0) (longest_refused g _ _ _ _ _ spelt refused);
-      first = inl (subst (λ r. IsRefused g part r fault) (sym s.1) refused, ends_in_last _ _ _ _ e x.whole l);
+      leads = rw s.0 (longest_refused g _ _ _ _ _ spelt refused);
+      first = inl (rw s.1 refused, ends_in_last _ _ _ _ e x.whole l);
       written = text;
-      kept = subst (λ a. IsKept a part.tokens part.at (drop (length bytes) (payload_of b.packets))) (sym side.description) (kept_at area part.tokens part.at (drop (length bytes) (payload_of b.packets)) holds.bytes);
+      kept = rw side.description (kept_at area part.tokens part.at (drop (length bytes) (payload_of b.packets)) holds.bytes);
     }
 
 -- the bytes after a state, where they hold no whole element
 rest_of : (bytes part payload : List ℕ) → payload ≡ bytes ++ part → drop (length bytes) payload ≡ part
-rest_of bytes part payload e = ap (drop (length bytes)) e ∙ drop-append_seam bytes part
+rest_of bytes part payload e = cc (drop-append_seam bytes part)
 
 -- the message ended
 pub ended_in_payload : (run : Run) (q : Seen) (area : Space) (part : Part) (bytes cut : List ℕ) (own : Stop) (fault : Fault) → ReaderSide run q area → Spelt (grammar run) response_start bytes part → length cut < (grammar run).size part
@@ -64,10 +64,10 @@ ended_in_payload run q area part bytes cut own fault side spelt short m end hold
       packets = m.packets;
       part = part;
       stands = record { begin = m.begin; each = inl m.each; within = m.within };
-      leads = subst (λ p. Longest g response_start p (length bytes) part) (sym m.payload_is) (longest_cut g _ _ _ _ spelt short);
-      first = inr (m.each, (omega arith, subst (λ r. length r < g.size part) (sym (rest_of _ _ _ m.payload_is)) short), end);
+      leads = rw m.payload_is (longest_cut g _ _ _ _ spelt short);
+      first = inr (m.each, (omega arith, rw (rest_of _ _ _ m.payload_is) short), end);
       written = text;
-      kept = subst (λ a. IsKept a part.tokens part.at (drop (length bytes) (payload_of m.packets))) (sym side.description) (kept_at area part.tokens part.at (drop (length bytes) (payload_of m.packets)) holds.bytes);
+      kept = rw side.description (kept_at area part.tokens part.at (drop (length bytes) (payload_of m.packets)) holds.bytes);
     }
 
 -- the payload stopped on the wire
@@ -93,13 +93,13 @@ stopped_on_wire run q area part bytes cut stop rose side spelt short x holds tex
             read = c.2.read;
             split = c.2.split;
             cut = c.2.cut;
-            failed = subst (Rose run.given.before.reader.failures) (sym c.1 ∙ side.failures) (rose run.given.before.reader.failures);
+            failed = subst (Rose run.given.before.reader.failures) (cc) (rose run.given.before.reader.failures);
           },
         )
         | inr c ↦ inr c.0
       ];
-      leads = subst (λ p. Longest g response_start p (length bytes) part) (sym x.payload_is) (longest_cut g response_start bytes cut part spelt short);
+      leads = rw x.payload_is (longest_cut g response_start bytes cut part spelt short);
       none_refused = λ f r. (let w = r.whole in omega (arith, ap length rest));
       written = text;
-      kept = subst (λ a. IsKept a part.tokens part.at (drop (length bytes) (payload_of x.packets))) (sym side.description) (kept_at area part.tokens part.at (drop (length bytes) (payload_of x.packets)) holds.bytes);
+      kept = rw side.description (kept_at area part.tokens part.at (drop (length bytes) (payload_of x.packets)) holds.bytes);
     }

@@ -24,16 +24,16 @@ rest_leads g s t u a b h k = grind (arith, append-nil, feed-Spelt, feed_all, fee
 -- what follows such bytes, up to the longest part
 pub further : {S : Type 0} (g : Grammar S Fault) (from to last : S) (bytes more : List ℕ) (place : ℕ) → Spelt g from bytes to → Longest g from (bytes ++ more) place last → (rest : List ℕ) × Spelt g to rest last
 further g from to last bytes more place h l =
-    let least = l.longest (length bytes) to (omega (arith, length-append bytes more)) (subst (λ v. Spelt g from v to) (sym (take-append_seam bytes more)) h) in
+    let least = l.longest (length bytes) to (omega (arith, length-append bytes more)) (rw (take-append_seam bytes more) h) in
     let n = place - length bytes in
     let sum : length bytes + n ≡ place = omega arith in
     let split = ap (λ v. take v (bytes ++ more)) (sym sum) ∙ take-append-add bytes more n in
-    (take n more, rest_leads g _ _ _ _ _ h (subst (λ v. Spelt g from v last) split l.spelt))
+    (take n more, rest_leads g _ _ _ _ _ h (rw split at l.spelt))
 
 -- what is read of an input at most has the packets that are read of its front
 begins_of : (size limit : ℕ) (input rest : List ℕ) (packets : List Packet) (s w : WirePart) (taken : ℕ) → wire_of packets ++ rest ≡ input → Spelt (wire size limit) no_wire (wire_of packets) s → BeginsWith s.packets packets → Longest (wire size limit) no_wire input taken w → BeginsWith w.packets packets
 begins_of size limit input rest packets s w taken begin spelt begins l =
-    let f = further _ _ s w _ _ _ spelt (subst (λ v. Longest (wire size limit) no_wire v taken w) (sym begin) l) in
+    let f = further _ _ s w _ _ _ spelt (rw (← begin) at l) in
     Spelt-induct _ (λ v b. BeginsWith v.packets packets) (λ v b element h n. begins_added packets v.packets v.place element h) s begins _ w f.1
 
 -- whole packets at the front of an input begin those that are read of it at most
@@ -51,18 +51,18 @@ bounded run at are r peak =
     let b = front_begins size limit run.input r.rest r.packets l.1 l.0 r.begin r.each r.within l.2 in
     let split = ap payload_of (sym b.1) ∙ flat_map-append (λ (v : Packet). v.body) r.packets b.0 ∙ ap (λ v. v ++ payload_of b.0) r.payload_is ∙ append_assoc r.bytes r.more (payload_of b.0) in
     let longest = some_longest g response_start (payload_of front) in
-    let f = further g response_start at longest.1 r.bytes (r.more ++ payload_of b.0) longest.0 r.spelt (subst (λ v. Longest g response_start v longest.0 longest.1) split longest.2) in
+    let f = further g response_start at longest.1 r.bytes (r.more ++ payload_of b.0) longest.0 r.spelt (rw (← split) longest.2) in
     let least = span_along run.given.charset (limits run).column_room at longest.1 f.0 f.1 in
     record { packets = front; place = longest.0; part = longest.1; front = read_front size limit run.input l.0 l.1 are l.2; leads = longest.2; description = omega arith }
 
 taken : (run : Run) (q : Seen) (at : Part) (bytes later : List ℕ) (n : ℕ) → AreBytes run.input → q.left ≡ Some run.left → Takes (start run) q (bytes ++ later) n → IsBetween q → Spelt (grammar run) response_start bytes at → Reached run.given.charset (limits run) run.input at
 taken run q at bytes later n are left t between spelt =
     let b = takes_begins _ _ _ _ _ q _ n are left t between in
-    record { packets = b.packets; rest = run.left; begin = b.begin; each = b.each; within = b.within; bytes = bytes; more = later ++ (q.future []).bytes; spelt = spelt; payload_is = b.payload_is ∙ append_assoc bytes later (q.future []).bytes }
+    record { packets = b.packets; rest = run.left; begin = b.begin; each = b.each; within = b.within; bytes = bytes; more = later ++ (q.future []).bytes; spelt = spelt; payload_is = cc (append_assoc bytes later (q.future []).bytes)}
 
 pub reached_stopped : (run : Run) (q : Seen) (at : Part) (stop : Stop) → AreBytes run.input → q.left ≡ Some run.left → StopsReading (grammar run) response_start (start run) q 0 at stop → Reached run.given.charset (limits run) run.input at
 reached_stopped run q at stop are left s = elim s.cause [
-  | inl r ↦ taken run q at s.bytes (r.0.element ++ r.0.ahead) (length (s.bytes ++ r.0.element)) are left (subst (λ l. Takes (start run) q l (length (s.bytes ++ r.0.element))) (append_assoc s.bytes r.0.element r.0.ahead) r.0.takes) r.0.between s.spelt
+  | inl r ↦ taken run q at s.bytes (r.0.element ++ r.0.ahead) (length (s.bytes ++ r.0.element)) are left (rw (append_assoc s.bytes r.0.element r.0.ahead) at r.0.takes) r.0.between s.spelt
   | inr c ↦ elim (ends_front _ _ _ _ _ q _ _ are left c.ends) [
     | inl m ↦ record { packets = m.packets; rest = run.left; begin = m.begin; each = inl m.each; within = m.within; bytes = s.bytes; more = c.part; spelt = s.spelt; payload_is = m.payload_is }
     | inr x ↦ record { packets = x.packets; rest = x.more; begin = x.begin; each = inr x.each; within = x.within; bytes = s.bytes; more = c.part; spelt = s.spelt; payload_is = x.payload_is }
@@ -78,4 +78,4 @@ reached_broken run q old new area stop x are left =
 pub reached_whole : (run : Run) (q : Seen) (old new : Held) (area : Space) (x : ReadsWhole (grammar run) response_start (start run) q old new area) → AreBytes run.input → q.left ≡ Some run.left → Reached run.given.charset (limits run) run.input (after_tokens x.tokens)
 reached_whole run q old new area x are left =
     let m = over_front _ _ _ _ _ q _ _ are left x.takes x.over in
-    record { packets = m.packets; rest = run.left; begin = m.begin; each = inl m.each; within = m.within; bytes = x.bytes; more = []; spelt = x.spelt; payload_is = m.payload_is ∙ sym (append-nil x.bytes) }
+    record { packets = m.packets; rest = run.left; begin = m.begin; each = inl m.each; within = m.within; bytes = x.bytes; more = []; spelt = x.spelt; payload_is = cc (append-nil x.bytes)}

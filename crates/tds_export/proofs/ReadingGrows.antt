@@ -23,7 +23,7 @@ lead_cases charset P tokens begun same row nbc = grind arith
 token_grows : (tokens : List Token) (t : Token) → Grows (text tokens ++ []) (text_so_far (with_token tokens t))
 token_grows tokens t =
     let m = text_after (begun_after false tokens) (t ∷ []) in
-    (m, ap (λ v. v ++ m) (append-nil (text tokens)) ∙ sym (append-nil (text tokens ++ m)) ∙ ap (λ v. v ++ []) (sym (text_after-snoc false tokens t)))
+    (m, cc (append-nil (text tokens), append-nil (text tokens ++ m), text_after-snoc false tokens t))
 
 -- what has just begun has no text
 fresh_text : (at : Open) → IsFresh at → open_text at ≡ []
@@ -31,7 +31,7 @@ fresh_text at h = grind arith
 
 -- what has just begun leaves the text
 same_grows : (tokens : List Token) (at : Open) → IsFresh at → Grows (text tokens ++ []) (text_so_far (part_at tokens at))
-same_grows tokens at h = subst (λ v. Grows (text tokens ++ []) (text tokens ++ v)) (sym (fresh_text at h)) (grows_same _)
+same_grows tokens at h = rw (fresh_text at h) (grows_same _)
 
 -- a row in its response
 with_row_grows : (tokens : List Token) (part : RowPart) → Grows (text tokens ++ row_so_far part) (text_so_far (with_row tokens part))

@@ -71,7 +71,7 @@ module _ (charset : Charset) (room : ℕ) where
   lead_then : (tokens : List Token) (lead : Lead) (rest bytes : List ℕ) (to : Part) → StartsToken lead rest bytes → row_byte_fault (is_row_lead lead) (described_after None tokens) ≡ None → Spelt (response charset room) (after_lead charset tokens lead) rest to → Spelt (response charset room) (between_tokens tokens) bytes to
   lead_then tokens lead rest bytes to (first, is, begins) free h =
       let begun = first_leads _ _ begins in
-      let one : Spelt (response charset room) (between_tokens tokens) (first ∷ []) (after_lead charset tokens lead) = spelt_one (omega arith) refl (ap (λ v. lead_fault (described_after None tokens) first v) begun ∙ free) (ap (λ v. after_first charset tokens v) begun) in
+      let one : Spelt (response charset room) (between_tokens tokens) (first ∷ []) (after_lead charset tokens lead) = spelt_one (omega arith) refl (cc) (cc) in
       rw is (spelt_both one h)
 
   -- so are a Length and the body after it
@@ -94,12 +94,12 @@ module _ (charset : Charset) (room : ℕ) where
   notice_token_is_read : (tokens : List Token) (b : Bodied) (n : Notice) (t : Token) (body rest bytes : List ℕ) → StartsToken (WithBody b) rest bytes → SpellsBody body rest → SpellsNotice n body → bodied b body ≡ t → Spelt (response charset room) (between_tokens tokens) bytes (with_token tokens t)
   notice_token_is_read tokens b n t body rest bytes begins s h is =
       let r = notice_is_read n _ h in
-      lead_then _ (WithBody b) _ _ _ begins (no_row (described_after None tokens)) (subst (λ v. Spelt (response charset room) (at_part tokens (TokenLength b)) rest (with_token tokens v)) is (spelt_body _ b _ _ (λ e. r.0) (λ e. r.1) s))
+      lead_then _ (WithBody b) _ _ _ begins (no_row (described_after None tokens)) (rw (← is) (spelt_body _ b _ _ (λ e. r.0) (λ e. r.1) s))
 
   -- a token with fields of a fixed length
   fixed_is_read : (tokens : List Token) (f : Fixed) (t : Token) (fields bytes : List ℕ) → StartsToken (WithFields f) fields bytes → length fields ≡ fields_length f → fixed f fields ≡ t → Spelt (response charset room) (between_tokens tokens) bytes (with_token tokens t)
   fixed_is_read tokens f t fields bytes begins long is =
-      lead_then _ (WithFields f) _ _ _ begins (no_row (described_after None tokens)) (Spelt-step _ _ _ _ (subst (λ n. 0 < n) (sym long) (some_fields f)) long refl (ap (λ v. with_token tokens v) is))
+      lead_then _ (WithFields f) _ _ _ begins (no_row (described_after None tokens)) (Spelt-step _ _ _ _ (rw long (some_fields f)) long refl (cc))
 
   -- which its fields spell
   pub fixed_spelt : (current : Option (List Column)) (f : Fixed) (fields bytes : List ℕ) → StartsToken (WithFields f) fields bytes → length fields ≡ fields_length f → SpellsToken charset room current (fixed f fields) bytes
@@ -109,10 +109,10 @@ module _ (charset : Charset) (room : ℕ) where
   row_token_is_read tokens None cells bytes is some h = absurd h
   row_token_is_read tokens (Some columns) cells bytes is some (rest, inl h) =
       let read = Inside-Spelt _ _ (with_row tokens) (row_in_response _) _ _ _ (row_is_read _ _ _ _ h.1) in
-      lead_then tokens ARow rest bytes (with_token tokens (Row cells)) h.0 (ap (λ v. row_byte_fault true v) is) (rw is read)
+      lead_then tokens ARow rest bytes (with_token tokens (Row cells)) h.0 (cc) (rw is read)
   row_token_is_read tokens (Some columns) cells bytes is some (rest, inr h) =
       let read = Inside-Spelt _ _ (with_row tokens) (row_in_response _) _ _ _ (nbc_row_is_read _ _ _ _ (omega arith) h.1) in
-      lead_then tokens AnNbcRow rest bytes (with_token tokens (Row cells)) h.0 (ap (λ v. row_byte_fault true v) is) (rw is read)
+      lead_then tokens AnNbcRow rest bytes (with_token tokens (Row cells)) h.0 (cc) (rw is read)
 
   -- what spells a token is read as it
   token_is_read : (tokens : List Token) (t : Token) (bytes : List ℕ) → HasColumns (described_after None tokens) → SpellsToken charset room (described_after None tokens) t bytes → Spelt (response charset room) (between_tokens tokens) bytes (with_token tokens t)
@@ -131,7 +131,7 @@ module _ (charset : Charset) (room : ℕ) where
       (Inside-Spelt _ _ _ (return_in_response _) _ _ _ (return_is_read r _ h))
   token_is_read tokens (Done m) bytes some h = fixed_is_read _ ADone _ _ _ h.1 h.2 (ap Done (more_is m _ h.3))
   token_is_read tokens (DoneInProc m) bytes some h = fixed_is_read _ ADoneInProc _ _ _ h.1 h.2 (ap DoneInProc (more_is m _ h.3))
-  token_is_read tokens (ReturnStatus n) bytes some h = fixed_is_read _ AStatus _ _ _ h.1 h.2 (ap ReturnStatus h.3)
+  token_is_read tokens (ReturnStatus n) bytes some h = fixed_is_read _ AStatus _ _ _ h.1 h.2 (cc)
 
   next_HasColumns : (current : Option (List Column)) (t : Token) (bytes : List ℕ) → HasColumns current → SpellsToken charset room current t bytes → HasColumns (described_after current (t ∷ []))
   next_HasColumns current t bytes some h = grind arith
@@ -139,8 +139,8 @@ module _ (charset : Charset) (room : ℕ) where
   tokens_are_read : (before : List Token) (current : Option (List Column)) (ts : List Token) (bytes : List ℕ) → described_after None before ≡ current → HasColumns current → SpellsTokens charset room current ts bytes → Spelt (response charset room) (between_tokens before) bytes (between_tokens (before ++ ts))
   tokens_are_read before current [] bytes is some h = grind (arith, Spelt-none, append-nil)
   tokens_are_read before current (t ∷ ts) bytes is some h =
-      let one : Spelt (response charset room) (between_tokens before) h.0 (with_token before t) = token_is_read _ t _ (subst (λ v. HasColumns v) (sym is) some) (subst (λ v. SpellsToken charset room v t h.0) (sym is) h.3) in
-      let now : described_after None (before ++ t ∷ []) ≡ described_after current (t ∷ []) = described_after-append None before (t ∷ []) ∙ ap (λ v. described_after v (t ∷ [])) is in
+      let one : Spelt (response charset room) (between_tokens before) h.0 (with_token before t) = token_is_read _ t _ (rw is some) (rw is h.3) in
+      let now : described_after None (before ++ t ∷ []) ≡ described_after current (t ∷ []) = cc (described_after-append None before (t ∷ [])) in
       let rest : Spelt (response charset room) (with_token before t) h.1 (between_tokens ((before ++ t ∷ []) ++ ts)) = tokens_are_read (before ++ t ∷ []) (described_after current (t ∷ [])) ts h.1 now (next_HasColumns _ t _ some h.3) h.4 in
       grind (arith, between_tokens, token_is_read, HasColumns, described_after-append, next_HasColumns, Spelt-append, append_assoc)
 
@@ -159,10 +159,10 @@ module _ (charset : Charset) (room : ℕ) where
   refused_response payload place part f more' tokens l r h =
       let e = take-add place ((response charset room).size part) payload in
       refused_for_good _ _ _ _ _ f _ _ l.spelt r
-      (subst (λ v. Spelt (response charset room) response_start (v ++ more') (between_tokens tokens)) e (response_is_read _ _ h))
+      (rw e at (response_is_read _ _ h))
 
   -- No input begins with two accepted responses.
   pub one_accepted : (size limit : ℕ) (a b : List Token) (p q : List Packet) (input : List ℕ) → Accepted charset size room limit a p input → Accepted charset size room limit b q input → (a ≡ b) × (p ≡ q)
   one_accepted size limit a b p q input h k =
       let same = one_message _ _ p q _ _ _ _ h.message k.message (sym h.begins ∙ k.begins) in
-      (one_response a b _ (subst (λ v. Response charset room a (payload_of v)) same h.response) k.response, same)
+      (one_response a b _ (rw same at h.response) k.response, same)

@@ -6,7 +6,7 @@ use Rattle.tds_export.proofs.NoticeReading.{parts_within}
 
 -- so many of the bytes after the first n, and those after them
 piece : (body : List ℕ) (n k m : ℕ) {r : List ℕ} → n + k ≡ m → drop m body ≡ r → drop n body ≡ take k (drop n body) ++ r
-piece body n k m e is = sym (take-append-drop k (drop n body)) ∙ ap (λ v. take k (drop n body) ++ v) (drop-drop k n body ∙ ap (λ v. drop v body) e ∙ is)
+piece body n k m e is = cc (take-append-drop k (drop n body), drop-drop k n body)
 
 -- the byte after the first n, and those after it
 byte_at : (body : List ℕ) (n : ℕ) {r : List ℕ} → n < length body → drop (n + 1) body ≡ r → drop n body ≡ slice_index body n ∷ r
@@ -66,8 +66,8 @@ held b h = grind arith
 
 module _ (charset : Charset) (room : ℕ) where
   one_more_token : (current : Option (List Column)) (ts : List Token) (a : List ℕ) (t : Token) (e : List ℕ) → SpellsTokens charset room current ts a → SpellsToken charset room (described_after current ts) t e → SpellsTokens charset room current (ts ++ t ∷ []) (a ++ e)
-  one_more_token current [] a t e h s = (e, [], ap (λ v. v ++ e) h ∙ sym (append-nil e), s, refl)
-  one_more_token current (u ∷ ts) a t e h s = (h.0, h.1 ++ e, ap (λ v. v ++ e) h.2 ∙ append_assoc h.0 h.1 e, h.3, one_more_token (described_after current (u ∷ [])) ts h.1 t e h.4 (subst (λ v. SpellsToken charset room v t e) (described_after-append current (u ∷ []) ts) s))
+  one_more_token current [] a t e h s = (e, [], cc (append-nil e), s, refl)
+  one_more_token current (u ∷ ts) a t e h s = (h.0, h.1 ++ e, cc (append_assoc h.0 h.1 e), h.3, one_more_token (described_after current (u ∷ [])) ts h.1 t e h.4 (rw (described_after-append current (u ∷ []) ts) at s))
 
   -- whole tokens, the first byte of such a token, and what is after it
   pub record AfterLead (tokens : List Token) (lead : Lead) (P : List ℕ → Type 0) (b : List ℕ) : Type 0 where
@@ -100,16 +100,16 @@ module _ (charset : Charset) (room : ℕ) where
   further tokens lead P Q b e h q = grind (arith, append_assoc)
 
   token_means : (tokens : List Token) (t : Token) (lead : Lead) (P : List ℕ → Type 0) (b : List ℕ) → (h : AfterLead tokens lead P b) → SpellsToken charset room (described_after None tokens) t (h.first ∷ h.rest) → PartMeans (with_token tokens t) b
-  token_means tokens t lead P b h s = subst (λ v. SpellsTokens charset room None (tokens ++ t ∷ []) v) (sym h.spelt) (one_more_token _ _ _ t _ h.before s)
+  token_means tokens t lead P b h s = rw h.spelt (one_more_token _ _ _ t _ h.before s)
 
   with_described_means : (tokens : List Token) (d : DescriptionPart) (b : List ℕ) → AfterLead tokens AMetadata (λ rest. DescribedMeans room d rest) b → PartMeans (with_described tokens d) b
-  with_described_means tokens NoDescription b h = token_means _ _ _ (λ rest. DescribedMeans room NoDescription rest) b h (h.first, ap (λ v. h.first ∷ v) h.follows, h.begins)
-  with_described_means tokens (WholeDescription x cs) b h = token_means _ _ _ (λ rest. DescribedMeans room (WholeDescription x cs) rest) b h ((h.first, ap (λ v. h.first ∷ v) (sym h.follows.0), h.begins), subst (λ v. SpellsDescription room cs v) (sym h.follows.0) h.follows.1)
+  with_described_means tokens NoDescription b h = token_means _ _ _ (λ rest. DescribedMeans room NoDescription rest) b h (h.first, cc, h.begins)
+  with_described_means tokens (WholeDescription x cs) b h = token_means _ _ _ (λ rest. DescribedMeans room (WholeDescription x cs) rest) b h ((h.first, cc, h.begins), rw h.follows.0 h.follows.1)
   with_described_means tokens d b h = h
 
   row_token : (current : Option (List Column)) (columns : List Column) (nbc : Bool) (cells : List Cell) (first : ℕ) (rest : List ℕ) → current ≡ Some columns → IsFirst (row_lead nbc) first → RowMeans charset columns nbc (WholeRow cells) rest → SpellsRowToken charset current cells (first ∷ rest)
-  row_token current columns false cells first rest e begins h = subst (λ v. SpellsRowToken charset v cells (first ∷ rest)) (sym e) (rest, inl ((first, refl, begins), h))
-  row_token current columns true cells first rest e begins h = subst (λ v. SpellsRowToken charset v cells (first ∷ rest)) (sym e) (rest, inr ((first, refl, begins), record { bitmap = h.0; rest = h.1; spelt = h.2; whole = h.3; each = h.4 }))
+  row_token current columns false cells first rest e begins h = rw e (rest, inl ((first, refl, begins), h))
+  row_token current columns true cells first rest e begins h = rw e (rest, inr ((first, refl, begins), record { bitmap = h.0; rest = h.1; spelt = h.2; whole = h.3; each = h.4 }))
 
   with_row_means : (tokens : List Token) (part : RowPart) (b : List ℕ) (columns : List Column) (nbc : Bool) → described_after None tokens ≡ Some columns → AfterLead tokens (row_lead nbc) (λ rest. RowMeans charset columns nbc part rest) b → PartMeans (with_row tokens part) b
   with_row_means tokens (WholeRow cells) b columns nbc e h = token_means _ _ _ (λ rest. RowMeans charset columns nbc (WholeRow cells) rest) b h (row_token _ _ _ _ _ _ e h.begins h.follows)
@@ -154,14 +154,14 @@ module _ (charset : Charset) (room : ℕ) where
       let t = two_bytes e n.whole bytes in
       let read = ap (λ v. v ++ e) h.follows ∙ t.0 in
       choose (λ p. PartMeans p (b ++ e)) _ _ _
-      (λ z. body_means tokens k [] (b ++ e) (further _ _ (λ rest. rest ≡ []) (λ rest. SpellsBody [] rest) b e h (read ∙ ap (λ v. v % 256 ∷ v / 256 ∷ []) (eq_true _ 0 z), omega arith)) (empty_body k (subst (λ v. (if is_notice k && nat_lt v 14 then Some BadNotice else None) ≡ None) (eq_true _ 0 z) n.free)))
+      (λ z. body_means tokens k [] (b ++ e) (further _ _ (λ rest. rest ≡ []) (λ rest. SpellsBody [] rest) b e h (read ∙ ap (λ v. v % 256 ∷ v / 256 ∷ []) (eq_true _ 0 z), omega arith)) (empty_body k (rw (eq_true _ 0 z) at n.free)))
       (λ z. further tokens (WithBody k) (λ rest. rest ≡ []) (λ rest. (rest ≡ little e % 256 ∷ little e / 256 ∷ []) × (little e < 65536)) b e h (read, t.1))
   part_step tokens (TokenBody k m) b e bytes h n =
       let l = n.whole in
-      body_means _ k e _ (further _ _ (λ rest. (rest ≡ m % 256 ∷ m / 256 ∷ []) × (m < 65536)) (λ rest. SpellsBody e rest) b e h (ap (λ v. v ++ e) h.follows.0 ∙ ap (λ v. (v % 256 ∷ v / 256 ∷ []) ++ e) (sym l), (let w = h.follows.1 in omega arith))) n.free
+      body_means _ k e _ (further _ _ (λ rest. (rest ≡ m % 256 ∷ m / 256 ∷ []) × (m < 65536)) (λ rest. SpellsBody e rest) b e h (cc, (let w = h.follows.1 in omega arith))) n.free
   part_step tokens (Fields f) b e bytes h n =
-      let to = further _ _ (λ rest. rest ≡ []) (λ rest. rest ≡ e) b e h (ap (λ v. v ++ e) h.follows) in
-      token_means tokens (fixed f e) (WithFields f) (λ rest. rest ≡ e) (b ++ e) to (fixed_spelt _ _ _ f e _ (to.first, ap (λ v. to.first ∷ v) to.follows, to.begins) n.whole)
+      let to = further _ _ (λ rest. rest ≡ []) (λ rest. rest ≡ e) b e h (cc) in
+      token_means tokens (fixed f e) (WithFields f) (λ rest. rest ≡ e) (b ++ e) to (fixed_spelt _ _ _ f e _ (to.first, cc, to.begins) n.whole)
 
   -- What is read as a part of a response is spelt so.
   part_keeps : (p : Part) (b e : List ℕ) → (AreBytes b → PartMeans p b) → IsNext (response charset room) p e → AreBytes (b ++ e) → PartMeans (part_add charset p.tokens p.at e) (b ++ e)

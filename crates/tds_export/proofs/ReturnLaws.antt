@@ -32,7 +32,7 @@ head_is_read : (name ignored : List ℕ) (byte n : ℕ) → length ignored ≡ 7
 head_is_read name ignored byte n seven known = grind (arith, Spelt-step, get_or-append_seam, length-append)
 
 pub info_is_read : (name : List ℕ) (byte : ℕ) (rest : List ℕ) (kind : Kind) → rest_length byte ≡ Some (length rest) → kind_of (byte ∷ rest) ≡ Some kind → Spelt return_value (with_return_type name byte (length rest)) rest (with_return_kind name (Some kind))
-info_is_read name byte [] kind n k = subst (λ o. Spelt return_value (with_return_kind name o) [] (with_return_kind name (Some kind))) (sym k) (Spelt-none _ _)
+info_is_read name byte [] kind n k = rw k (Spelt-none _ _)
 info_is_read name byte (x ∷ xs) kind n k = grind (arith, Spelt-step, choose_false, ne_eqb)
 
 -- What spells a return value is read as it.
@@ -79,7 +79,7 @@ type_begins : (name : List ℕ) (byte n : ℕ) (b front ignored : List ℕ) → 
 type_begins name byte n b front ignored spelt named seven known =
     choose (λ p. ReturnMeans p b) _ _ _
     (λ z.
-    let k = bare_type _ (known ∙ ap (λ v. Some v) (eq_true n 0 z)) in
+    let k = bare_type _ (cc (eq_true n 0 z)) in
     value_begins _ _ _ b _ _ _ k.1 spelt named seven k.1)
     (λ z. (front, ignored, spelt, named, seven, n, known))
 
@@ -88,9 +88,9 @@ some_kind o q = grind arith
 
 -- each element keeps the meaning
 pub return_step : (p : ReturnPart) (b e : List ℕ) → AreBytes e → ReturnMeans p b → IsNext return_value p e → ReturnMeans (return_add p e) (b ++ e)
-return_step ReturnOrdinal b e bytes h n = ap (λ v. length (v ++ e)) h ∙ n.whole
+return_step ReturnOrdinal b e bytes h n = cc
 return_step ReturnNameCount b e bytes h n = grind (arith, choose, eq_true, one_byte)
-return_step (ReturnName m) b e bytes h n = record { ordinal = h.0; units = h.1; spelt = ap (λ v. v ++ e) h.2 ∙ append_assoc h.0 (h.1 ∷ []) e; two = h.3; counted = n.whole ∙ h.4; byte = h.5 }
+return_step (ReturnName m) b e bytes h n = record { ordinal = h.0; units = h.1; spelt = cc (append_assoc h.0 (h.1 ∷ []) e); two = h.3; counted = cc; byte = h.5 }
 return_step (ReturnHead name) b e bytes h n =
     let s = split_last 7 e n.whole in
     grind (arith, split_last, get_or-append_seam, accepted, ReturnMeans, type_begins)
@@ -103,7 +103,7 @@ return_step (InReturnCell name kind part) b e bytes h n =
       ignored = h.ignored;
       info = h.info;
       value = h.value ++ e;
-      spelt = ap (λ v. v ++ e) h.spelt ∙ append_assoc h.front ((h.ignored ++ h.info) ++ h.value) e ∙ ap (λ v. h.front ++ v) (append_assoc (h.ignored ++ h.info) h.value e);
+      spelt = cc (append_assoc h.front ((h.ignored ++ h.info) ++ h.value) e, append_assoc (h.ignored ++ h.info) h.value e);
       named = h.named;
       seven = h.seven;
       type = h.type;

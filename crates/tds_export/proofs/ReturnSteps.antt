@@ -17,7 +17,7 @@ module _ {s t : ReturnPart} {a b c : Seen} {place middle : ℕ} (x : ReadsReturn
 
 -- the next element was read
 return_read : {s t : ReturnPart} {a b : Seen} {place place' n : ℕ} (element : List ℕ) → 0 < n → return_size s ≡ n → return_fault s element ≡ None → return_add s element ≡ t → length element ≡ n → Takes a b element n → place' ≡ place + n → ReadsReturn s t a b place place'
-return_read {s = s} {t = t} {a = a} {b = b} element some size free to whole takes at = record { reads = reads_one _ s a b _ t (record { some = rw whole some; whole = whole ∙ sym size; free = free }) (rw whole takes) to; place_is = rw whole at }
+return_read {s = s} {t = t} {a = a} {b = b} element some size free to whole takes at = record { reads = reads_one _ s a b _ t (record { some = rw whole some; whole = cc; free = free }) (rw whole takes) to; place_is = rw whole at }
 
 -- ---- the name
 
@@ -38,7 +38,7 @@ name_cut units {n = n} part is fewer ends stop_is =
 
 -- the name was read
 pub name_read : (units : ℕ) {n place place' : ℕ} {a b : Seen} (name : List ℕ) → n ≡ 2 * units → length name ≡ n → Takes a b name n → place' ≡ place + n → ReadsReturn (with_return_units units) (ReturnHead name) a b place place'
-name_read units name is len takes at = record { reads = record { bytes = name; spelt = return_name_is_read _ _ (len ∙ is); takes = rw len takes }; place_is = rw len at }
+name_read units name is len takes at = record { reads = record { bytes = name; spelt = return_name_is_read _ _ (cc); takes = rw len takes }; place_is = rw len at }
 
 -- ---- the type
 

@@ -11,8 +11,8 @@ is_token_byte byte x h = search (arith, h)
 -- what one grammar reads, another reads there, where each element does
 module _ {S T : Type 0} (small : Grammar S Fault) (big : Grammar T Fault) (lift : S → T) (is : (s : S) (e : List ℕ) → IsNext small s e → IsNext big (lift s) e × (big.add (lift s) e ≡ lift (small.add s e))) where
   lifted_leads : (s : S) (es : List (List ℕ)) (t : S) → Leads small s es t → Leads big (lift s) es (lift t)
-  lifted_leads s [] t h = ap lift h
-  lifted_leads s (e ∷ es) t h = let x = is s e h.0 in (x.0, subst (λ v. Leads big v es (lift t)) (sym x.1) (lifted_leads (small.add s e) es t h.1))
+  lifted_leads s [] t h = cc
+  lifted_leads s (e ∷ es) t h = let x = is s e h.0 in (x.0, rw x.1 (lifted_leads (small.add s e) es t h.1))
 
   lifted_spelt : (s : S) (bytes : List ℕ) (t : S) → Spelt small s bytes t → Spelt big (lift s) bytes (lift t)
   lifted_spelt s bytes t h = record { elements = h.elements; joined = h.joined; leads = lifted_leads s _ t h.leads }
@@ -24,7 +24,7 @@ rows_describe before (r ∷ rs) = rows_describe before rs
 
 -- the lines of rows
 rows_text : (tokens : List Token) (rs : List (List Cell)) → text (tokens ++ map Row rs) ≡ text tokens ++ lines rs
-rows_text tokens [] = ap text (append-nil tokens) ∙ sym (append-nil (text tokens))
+rows_text tokens [] = cc (append-nil tokens, append-nil (text tokens))
 rows_text tokens (r ∷ rs) = grind (arith, append-nil, append_assoc, text_after-snoc, (rows_text (tokens ++ Row r ∷ []) rs))
 
 module _ (which : RowToken) (charset : Charset) (room : ℕ) (all : List Column) (tokens : List Token) where
@@ -33,7 +33,7 @@ module _ (which : RowToken) (charset : Charset) (room : ℕ) (all : List Column)
   in_rows p = with_row (tokens ++ map Row p.before) p.at
 
   in_rows_text : (p : RowsPart) → text_so_far (in_rows p) ≡ text tokens ++ rows_so_far p
-  in_rows_text p = row_text (tokens ++ map Row p.before) p.at ∙ ap (λ l. l ++ row_so_far p.at) (rows_text tokens p.before) ∙ append_assoc (text tokens) (lines p.before) (row_so_far p.at)
+  in_rows_text p = cc (row_text (tokens ++ map Row p.before) p.at, rows_text tokens p.before, append_assoc (text tokens) (lines p.before) (row_so_far p.at))
 
   module _ (known : described_after None tokens ≡ Some all) where
     token_next : (before : List (List Cell)) (cells : List Cell) → IsNext (response charset room) (in_rows (record { before = before; at = WholeRow cells })) (token_byte which ∷ []) × ((response charset room).add (in_rows (record { before = before; at = WholeRow cells })) (token_byte which ∷ []) ≡ in_rows (record { before = before ++ cells ∷ []; at = token_start which charset all }))
@@ -46,7 +46,7 @@ module _ (which : RowToken) (charset : Charset) (room : ℕ) (all : List Column)
         → IsNext (response charset room) (in_rows (record { before = before; at = p })) e × ((response charset room).add (in_rows (record { before = before; at = p })) e ≡ in_rows ((rows which charset all).add (record { before = before; at = p }) e))
     element_next before (WholeRow cells) [] n = absurd (let s = n.some in omega arith)
     element_next before (WholeRow cells) (x ∷ []) n =
-        subst (λ (x : ℕ). IsNext (response charset room) (in_rows (record { before = before; at = WholeRow cells })) (x ∷ []) × ((response charset room).add (in_rows (record { before = before; at = WholeRow cells })) (x ∷ []) ≡ in_rows (record { before = before ++ cells ∷ []; at = token_start which charset all }))) (sym (is_token_byte _ x n.free)) (token_next _ _)
+        rw (is_token_byte _ x n.free) (token_next _ _)
     element_next before (WholeRow cells) (x ∷ y ∷ r) n = absurd (let w = n.whole in omega arith)
     element_next before p e n = row_next _ p e (record { some = n.some; whole = n.whole; free = n.free })
 
@@ -55,9 +55,9 @@ module _ (which : RowToken) (charset : Charset) (room : ℕ) (all : List Column)
     rows_stream {t = t} x =
         let s = rows_start which charset all in
         let begins = ap (λ ts. with_row ts (token_start which charset all)) (append-nil tokens) in
-        let same = ap (λ l. l ++ x.puts.0) (ap text_so_far (sym begins) ∙ in_rows_text s) ∙ append_assoc (text tokens) (rows_so_far s) x.puts.0 ∙ ap (λ l. text tokens ++ l) x.puts.1 ∙ sym (in_rows_text t) in
+        let same = ap (λ l. l ++ x.puts.0) (cc (in_rows_text s)) ∙ append_assoc (text tokens) (rows_so_far s) x.puts.0 ∙ ap (λ l. text tokens ++ l) x.puts.1 ∙ sym (in_rows_text t) in
         let spelt = lifted_spelt _ _ _ (λ p e n. element_next p.before p.at e n) s _ t x.spelt in
-        record { bytes = x.bytes; spelt = subst (λ (v : Part). Spelt (response charset room) v x.bytes (in_rows t)) begins spelt; takes = x.takes; puts = (x.puts.0, same, x.puts.2) }
+        record { bytes = x.bytes; spelt = rw begins at spelt; takes = x.takes; puts = (x.puts.0, same, x.puts.2) }
 
 -- so many rows more are counted
 tracks_rows : (s : Progress) (tokens : List Token) (r : List Cell) (rs : List (List Cell)) → TracksBefore s tokens → Tracks (record s { report = record s.report { rows = s.report.rows + length (r ∷ rs) } }) (tokens ++ map Row (r ∷ rs))
@@ -65,13 +65,12 @@ tracks_rows s tokens r [] k = tracks_row s _ r k
 tracks_rows s tokens r (q ∷ qs) k =
     let first = tracks_row s _ r k in
     let n : (s.report.rows + 1) + length (q ∷ qs) ≡ s.report.rows + length (r ∷ q ∷ qs) = omega arith in
-    subst (λ ts. Tracks (record s { report = record s.report { rows = s.report.rows + length (r ∷ q ∷ qs) } }) ts) (append_assoc tokens (Row r ∷ []) (map Row (q ∷ qs)))
-    (subst (λ (n : ℕ). Tracks (record s { report = record s.report { rows = n } }) ((tokens ++ Row r ∷ []) ++ map Row (q ∷ qs))) n (tracks_rows (record s { report = record s.report { rows = s.report.rows + 1 } }) (tokens ++ Row r ∷ []) q qs (record { report = first.report; described = first.described; final = k.final })))
+    rw (append_assoc tokens (Row r ∷ []) (map Row (q ∷ qs))) at (subst (λ (n : ℕ). Tracks (record s { report = record s.report { rows = n } }) ((tokens ++ Row r ∷ []) ++ map Row (q ∷ qs))) n (tracks_rows (record s { report = record s.report { rows = s.report.rows + 1 } }) (tokens ++ Row r ∷ []) q qs (record { report = first.report; described = first.described; final = k.final })))
 
 -- the same, the last row named
 tracks_all : (s : Progress) (tokens : List Token) (earlier : List (List Cell)) (last : List Cell) (count : ℕ) → count ≡ length earlier + 1 → TracksBefore s tokens → Tracks (record s { report = record s.report { rows = s.report.rows + count } }) (tokens ++ map Row (earlier ++ last ∷ []))
 tracks_all s tokens earlier last count counted k =
-    subst (λ (n : ℕ). Tracks (record s { report = record s.report { rows = s.report.rows + n } }) (tokens ++ map Row (earlier ++ last ∷ []))) (length-append earlier (last ∷ []) ∙ sym counted) (go earlier)
+    rw (length-append earlier (last ∷ []) ∙ sym counted) at (go earlier)
   where
     go : (earlier : List (List Cell)) → Tracks (record s { report = record s.report { rows = s.report.rows + length (earlier ++ last ∷ []) } }) (tokens ++ map Row (earlier ++ last ∷ []))
     go [] = tracks_rows s _ _ [] k
@@ -79,8 +78,8 @@ tracks_all s tokens earlier last count counted k =
 
 -- the description stays what it was
 rows_hold : (area : Space) (tokens : List Token) (rs : List (List Cell)) → IsHolding area (after_tokens tokens) → IsHolding area (after_tokens (tokens ++ map Row rs))
-rows_hold area tokens [] h = subst (λ ts. IsHolding area (after_tokens ts)) (sym (append-nil tokens)) h
-rows_hold area tokens (r ∷ rs) h = subst (λ ts. IsHolding area (after_tokens ts)) (append_assoc tokens (Row r ∷ []) (map Row rs)) (rows_hold area (tokens ++ Row r ∷ []) rs (holds-snoc _ _ _ refl h))
+rows_hold area tokens [] h = rw (append-nil tokens) h
+rows_hold area tokens (r ∷ rs) h = rw (append_assoc tokens (Row r ∷ []) (map Row rs)) at (rows_hold area (tokens ++ Row r ∷ []) rs (holds-snoc _ _ _ refl h))
 
 -- ---- what the call that reads them gives
 
@@ -94,7 +93,7 @@ module _ (which : RowToken) (charset : Charset) (room : ℕ) {place : ℕ} {colu
   pub rows_read : {place' count : ℕ} → ReadsRows which charset columns count a b place place' before after
       → (x : ReadsTokens (response charset room) (with_row tokens (token_start which charset (columns_of area.bytes))) tokens a b place place' before after (record s { report = record s.report { rows = s.report.rows + count } }) area) × IsNoted notice (tokens ++ x.more)
   rows_read {place' = place'} {count = count} y =
-      let x = subst (λ cs. ReadsRows which charset cs count a b place place' before after) shown y in
+      let x = rw shown at y in
       let known = columns_known tokens _ _ described begun.holds.bytes begun.tracks.described in
       let there = rows_stream _ _ _ _ _ known x.streams in
       let end = ap after_tokens (append_assoc tokens (map Row x.earlier) (Row x.last ∷ []) ∙ ap (λ l. tokens ++ l) (sym (map-append Row x.earlier (x.last ∷ [])))) in
@@ -109,6 +108,6 @@ module _ (which : RowToken) (charset : Charset) (room : ℕ) {place : ℕ} {colu
   -- their reading stopped
   pub rows_stop : {failed' : Bool} {stop : Stop} → RowsStop which charset columns a b place before after failed' stop → StepStops (response charset room) (with_row tokens (token_start which charset (columns_of area.bytes))) a b place before after area failed' stop
   rows_stop {failed' = failed'} {stop = stop} y =
-      let x = subst (λ cs. RowsStop which charset cs a b place before after failed' stop) shown y in
+      let x = rw shown at y in
       let known = columns_known tokens _ _ described begun.holds.bytes begun.tracks.described in
       stops_further (rows_stream _ _ _ _ _ known x.streams) refl (row_stops charset room (tokens ++ map Row x.earlier) (rows_hold area tokens x.earlier begun.holds) x.stops)

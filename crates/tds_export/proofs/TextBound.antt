@@ -28,7 +28,7 @@ one_more_length fs f = omega (arith, last_length fs f, before_last_most fs)
 
 -- one more cell
 one_more_cell : (cells : List Cell) (c : Cell) → length (joined (map field (cells ++ c ∷ []))) ≤ length (joined (map field cells)) + 1 + length (field c)
-one_more_cell cells c = subst (λ v. length (joined v) ≤ length (joined (map field cells)) + 1 + length (field c)) (sym (map-append field cells (c ∷ []))) (one_more_length (map field cells) (field c))
+one_more_cell cells c = rw (map-append field cells (c ∷ [])) (one_more_length (map field cells) (field c))
 
 -- the field that is read has at most 48 bytes more
 abbrev FieldMore : Option (List ℕ) → Option (List ℕ) → Type 0
@@ -54,7 +54,7 @@ module _ (column : ℕ) where
   cell_more (ShortData c left content) e bytes n = grind (arith, and_parts, choose, last_fit, long_more, open_more, unless_none)
   cell_more (ChunkLength c total content) e bytes n =
       choose (λ p. FieldMore (Some (open_field c content)) (field_so_far p)) _ _ _
-      (λ z. let fit = end_fit column c total content (little e) n.free z in let end = long_more c content fit (fit_begins c content [] (subst (λ v. is_fit c v ≡ true) (sym (append-nil content)) fit)) in omega arith)
+      (λ z. let fit = end_fit column c total content (little e) n.free z in let end = long_more c content fit (fit_begins c content [] (rw (append-nil content) fit)) in omega arith)
       (λ z. omega arith)
   cell_more (ChunkData c total left content) e bytes n = grind (arith, choose, open_more, unless_none)
 
@@ -94,7 +94,7 @@ module _ (charset : Charset) where
   next_length : (cells : List Cell) (ks : List (Column × Bool)) → row_length (next_cell charset cells ks) ≤ length (joined (map field cells)) + 5 * how_many_null ks + 2
   next_length cells [] = omega (arith, length-append (joined (map field cells)) line_end)
   next_length cells ((k, true) ∷ ks) = omega (arith, next_length (cells ++ Null ∷ []) ks, one_more_cell cells Null)
-  next_length cells ((k, false) ∷ ks) = subst (λ o. length (joined (with_field cells o)) + 5 * how_many_null ks ≤ length (joined (map field cells)) + 5 * how_many_null ks + 2) (sym (start_quiet _ _)) (omega arith)
+  next_length cells ((k, false) ∷ ks) = rw (start_quiet _ _) (omega arith)
 
 -- ---- a description, whose columns pay for its header
 

@@ -12,7 +12,7 @@ pub record BeginsToken (charset : Charset) (room : ℕ) (tokens : List Token) (b
 
 -- a description has columns
 pub some_columns : (bytes : List ℕ) → IsDescription bytes → 0 < length (columns_of bytes)
-some_columns bytes d = subst (λ cs. 0 < length cs) (sym (description_shows _ _ _ d.2).0) d.2.some
+some_columns bytes d = rw (description_shows _ _ _ d.2).0 d.2.some
 
 begins_lead : (charset : Charset) (room : ℕ) (tokens : List Token) (byte : ℕ) (described : Bool) (bytes : List ℕ) (begun : Lead) → lead_of byte ≡ Some begun → IsUnder described begun → bytes ≡ encoded_after [] tokens → (described ≡ true → IsDescription bytes)
     → IsDescribed described (encoded_after [] tokens) (described_after None tokens) → BeginsToken charset room tokens byte (in_lead charset (columns_of bytes) begun tokens)
@@ -54,10 +54,10 @@ refused charset room tokens a b place byte described fault k (inl x) t between =
     let first = ap (λ v. lead_fault (described_after None tokens) byte v) x.1 ∙ ap Some (sym x.0) in
     refused_at_once (response charset room) (after_tokens tokens) a b place (byte ∷ []) fault (omega arith) refl first t between
 refused charset room tokens a b place byte described fault k (inr x) t between =
-    let none = subst (λ d. IsDescribed d (encoded_after [] tokens) (described_after None tokens)) x.1 k in
+    let none = rw x.1 at k in
     let first : (response charset room).fault (after_tokens tokens) (byte ∷ []) ≡ Some fault = elim x.2 [
-      | inl e ↦ subst (λ v. (response charset room).fault (after_tokens tokens) (v ∷ []) ≡ Some fault) (sym e) (ap (row_byte_fault true) none ∙ ap Some (sym x.0))
-      | inr e ↦ subst (λ v. (response charset room).fault (after_tokens tokens) (v ∷ []) ≡ Some fault) (sym e) (ap (row_byte_fault true) none ∙ ap Some (sym x.0))
+      | inl e ↦ rw e (ap (row_byte_fault true) none ∙ ap Some (sym x.0))
+      | inr e ↦ rw e (ap (row_byte_fault true) none ∙ ap Some (sym x.0))
     ] in
     refused_at_once (response charset room) (after_tokens tokens) a b place (byte ∷ []) fault (omega arith) refl first t between
 

@@ -10,8 +10,8 @@ begun_after begun (t ∷ ts) = begun_after begun ts
 
 pub text_after-snoc : (begun : Bool) (ts : List Token) (t : Token) → text_after begun (ts ++ t ∷ []) ≡ text_after begun ts ++ text_after (begun_after begun ts) (t ∷ [])
 text_after-snoc begun [] t = refl
-text_after-snoc begun (Metadata bytes columns ∷ ts) t = ap (λ l. (between begun ++ header_line columns) ++ l) (text_after-snoc true ts t) ∙ sym (append_assoc (between begun ++ header_line columns) (text_after true ts) (text_after (begun_after true ts) (t ∷ [])))
-text_after-snoc begun (Row cells ∷ ts) t = ap (λ l. line (map field cells) ++ l) (text_after-snoc begun ts t) ∙ sym (append_assoc (line (map field cells)) (text_after begun ts) (text_after (begun_after begun ts) (t ∷ [])))
+text_after-snoc begun (Metadata bytes columns ∷ ts) t = cc (text_after-snoc true ts t, append_assoc (between begun ++ header_line columns) (text_after true ts) (text_after (begun_after true ts) (t ∷ [])))
+text_after-snoc begun (Row cells ∷ ts) t = cc (text_after-snoc begun ts t, append_assoc (line (map field cells)) (text_after begun ts) (text_after (begun_after begun ts) (t ∷ [])))
 text_after-snoc begun (u ∷ ts) t = text_after-snoc begun ts t
 
 begun_true : (ts : List Token) → begun_after true ts ≡ true
@@ -30,7 +30,7 @@ how_many-snoc p [] t = omega arith
 how_many-snoc p (u ∷ ts) t = grind (arith, how_many-snoc p ts t)
 
 pub uncounted : (p : Token → Bool) (ts : List Token) (t : Token) → how_many p (t ∷ []) ≡ 0 → how_many p (ts ++ t ∷ []) ≡ how_many p ts
-uncounted p ts t e = how_many-snoc p _ t ∙ ap (λ n. how_many p ts + n) e ∙ add_none _
+uncounted p ts t e = simp (how_many-snoc, e, add_none)
 
 -- without an error there is no first one
 pub no_errors : (ts : List Token) → how_many is_error ts ≡ 0 → first_error ts ≡ None

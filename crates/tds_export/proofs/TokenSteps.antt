@@ -13,7 +13,7 @@ pub record Begun (tokens : List Token) (progress : Progress) (area notice : Spac
 
 -- nothing more is put for the same text
 pub same_text : (p q : Part) (h : Held) → text_so_far p ≡ text_so_far q → h.delivered ≤ 2 ^ 64 - 1 → PutsText text_so_far p q h h
-same_text p q h e d = ([], append-nil (text_so_far p) ∙ e, Puts-none h d)
+same_text p q h e d = ([], simp (append-nil, e), Puts-none h d)
 
 module _ {g : Grammar Part Fault} {s t : Part} {a b c : Seen} {h i k : Held} (x : Streams g text_so_far s a b h i t) where
   -- what is read and put in one call and then in another
@@ -45,11 +45,11 @@ module _ {tokens : List Token} {s : Progress} {area notice : Space} {sink : Held
   -- the first element after the token byte stopped the call
   pub stops_first : {g : Grammar Part Fault} {at : Open} {a b : Seen} {place : ℕ} {stop : Stop} → description_of tokens at ≡ encoded_after [] tokens → open_span at ≡ 0 → StopsReading g (record { tokens = tokens; at = at }) a b place (record { tokens = tokens; at = at }) stop
       → StepStops g (record { tokens = tokens; at = at }) a b place sink sink area failed stop
-  stops_first same none stops = stops_quietly refl (record { bytes = begun.holds.bytes ∙ sym same; peak = rw none begun.holds.peak }) begun.delivered begun.going stops
+  stops_first same none stops = stops_quietly refl (record { bytes = cc; peak = rw none begun.holds.peak }) begun.delivered begun.going stops
 
   -- what was read added no error, and the notice is the same
   pub quietly : {g : Grammar Part Fault} {from : Part} {a b : Seen} {place place' : ℕ} {h k : Held} {t : Progress} {area' : Space} → t.report.errors ≡ s.report.errors → ReadsTokens g from tokens a b place place' h k t area' → (x : ReadsTokens g from tokens a b place place' h k t area') × IsNoted notice (tokens ++ x.more)
-  quietly same x = (x, begun.noted ∙ sym (ap message_text (same_first tokens x.more (sym (ap (λ (r : Report). r.errors) x.tracks.report) ∙ same ∙ ap (λ (r : Report). r.errors) begun.tracks.report))))
+  quietly same x = (x, cc (same_first tokens x.more (sym (ap (λ (r : Report). r.errors) x.tracks.report) ∙ same ∙ ap (λ (r : Report). r.errors) begun.tracks.report)))
 
   -- a token that has no text and describes nothing was read
   abbrev pub bare_reads : {g : Grammar Part Fault} {from : Part} {progress : Progress} {a b : Seen} {place place' : ℕ} (t : Token) (r : Reads g from a b (with_token tokens t)) → place' ≡ place + length r.bytes → text_so_far from ≡ text tokens ++ [] → is_bare t ≡ true → Tracks progress (tokens ++ t ∷ [])
@@ -59,7 +59,7 @@ module _ {tokens : List Token} {s : Progress} {area notice : Space} {sink : Held
       let same = text_after-snoc false tokens t ∙ ap (λ l. text tokens ++ l) (so.text (begun_after false tokens)) ∙ append-nil (text tokens) in
       record {
         more = t ∷ [];
-        streams = record { bytes = r.bytes; spelt = r.spelt; takes = r.takes; puts = same_text from (with_token tokens t) sink (none ∙ ap (λ l. l ++ []) (sym same)) begun.delivered };
+        streams = record { bytes = r.bytes; spelt = r.spelt; takes = r.takes; puts = same_text from (with_token tokens t) sink (cc) begun.delivered };
         place_is = at;
         tracks = tracks;
         holds = holds-snoc _ _ t (so.encoded (encoded_after [] tokens)) begun.holds;
@@ -88,7 +88,7 @@ module _ (charset : Charset) (room : ℕ) {tokens : List Token} {s : Progress} {
 -- no text stands for a row that has begun
 pub start_text : (charset : Charset) (columns : List Column) (tokens : List Token) → 0 < length columns → text_so_far (in_row charset columns tokens) ≡ text tokens ++ []
 start_text charset [] tokens some = absurd (omega arith)
-start_text charset (c ∷ cs) tokens some = ap (λ f. text tokens ++ joined (with_field [] f)) (start_quiet _ _)
+start_text charset (c ∷ cs) tokens some = simp start_quiet
 
 -- a row's text so far in its response
 pub row_text : (tokens : List Token) (part : RowPart) → text_so_far (with_row tokens part) ≡ text tokens ++ row_so_far part
@@ -96,7 +96,7 @@ row_text tokens part = grind (arith, append-nil, text_after-snoc)
 
 -- before a row's text stands that of the tokens
 abbrev row_front : (tokens : List Token) (part : RowPart) → text tokens ++ row_so_far part ≡ text_so_far (with_row tokens part)
-row_front tokens part = sym (row_text tokens part)
+row_front tokens part = simp row_text
 
 -- and while a row is read
 pub row_holds : (area : Space) (tokens : List Token) (part : RowPart) → IsHolding area (after_tokens tokens) → IsHolding area (with_row tokens part)
@@ -152,20 +152,20 @@ module _ (charset : Charset) {room place : ℕ} {tokens : List Token} {s : Progr
   pub none_reads : {place' : ℕ} → Describes room BeforeCount a b place place' old_area.peak area NoDescription → (x : ReadsTokens (response charset room) (in_metadata tokens) tokens a b place place' sink sink (record s { described = false }) area) × IsNoted notice (tokens ++ x.more)
   none_reads x =
       let r = reads_inside _ _ (with_described tokens) (description_in_response _ _ _) _ a b _ x.reads in
-      let same = ap (λ l. l ++ []) (sym (text_after-snoc false tokens NoMetadata ∙ append-nil (text tokens))) in
+      let same = ap (λ l. l ++ []) (simp (text_after-snoc, append-nil)) in
       quietly begun refl (record {
         more = NoMetadata ∷ [];
         streams = record { bytes = r.bytes; spelt = r.spelt; takes = r.takes; puts = same_text (in_metadata tokens) (with_token tokens NoMetadata) _ same begun.delivered };
         place_is = x.place_is;
         tracks = tracks_none s _ begun.tracks;
-        holds = record { bytes = x.kept ∙ sym (encoded_after-append [] tokens (NoMetadata ∷ [])); peak = omega (arith, greatest_span-append tokens (NoMetadata ∷ [])) };
+        holds = record { bytes = cc (encoded_after-append [] tokens (NoMetadata ∷ [])); peak = omega (arith, greatest_span-append tokens (NoMetadata ∷ [])) };
       })
 
   -- the description is cut or refused
   pub metadata_stops : {stop : Stop} → StopsDescribing room BeforeCount a b place old_area.peak area stop → StepStops (response charset room) (in_metadata tokens) a b place sink sink area failed stop
   metadata_stops {stop = stop} x =
       let some = stops_size _ _ a b _ _ _ x.stops in
-      stops_quietly (sym (open_text_none tokens x.at some)) (open_holds _ _ _ _ some x.kept x.bound begun.holds.peak) begun.delivered begun.going
+      stops_quietly (simp open_text_none) (open_holds _ _ _ _ some x.kept x.bound begun.holds.peak) begun.delivered begun.going
       (stops_inside (description room) (response charset room) (with_described tokens) (description_in_response _ _ _) BeforeCount a b place x.at stop (description_agrees charset room tokens _ some).3 x.stops)
 
   module _ {columns : List Column} {place' : ℕ} {after : Held} (shown : columns_of area.bytes ≡ columns) (x : Describes room BeforeCount a b place place' old_area.peak area (WholeDescription area.bytes columns)) where
@@ -175,7 +175,7 @@ module _ (charset : Charset) {room place : ℕ} {tokens : List Token} {s : Progr
     metadata_reads puts =
         let r = reads_inside _ _ (with_described tokens) (description_in_response _ _ _) _ a b _ x.reads in
         let header = between (nat_lt 0 s.report.sets) ++ header_line columns in
-        let put = subst (λ cs. Puts sink after (between (nat_lt 0 s.report.sets) ++ header_line cs)) shown puts in
+        let put = rw shown at puts in
         quietly begun refl (record {
           more = Metadata area.bytes columns ∷ [];
           streams = record { bytes = r.bytes; spelt = r.spelt; takes = r.takes; puts = (header, header_text s _ _ _ begun.tracks, put) };
@@ -198,14 +198,14 @@ module _ (charset : Charset) {room place : ℕ} {tokens : List Token} {s : Progr
             ahead = [];
             spelt = l.spelt;
             next = l.next;
-            takes = subst (λ v. Takes a b v (length (l.front ++ l.element))) (sym (append-nil (l.front ++ l.element))) (subst (λ v. Takes a b v (length v)) (sym l.joined) x.reads.takes);
+            takes = rw (append-nil (l.front ++ l.element)) (subst (λ v. Takes a b v (length v)) (sym l.joined) x.reads.takes);
             between = between_b;
             middle = sink;
             few = few;
             puts = same_text (in_metadata tokens) (with_described tokens l.at) sink (sym open_text) begun.delivered;
             more = header;
             text_is = ap (λ t. t ++ header) open_text ∙ header_text s _ _ _ begun.tracks ∙ ap text_so_far (sym l.to_is);
-            breaks = subst (λ cs. Breaks sink after (between (nat_lt 0 s.report.sets) ++ header_line cs) stop) shown breaks;
+            breaks = rw shown at breaks;
           };
           holds = rw l.to_is (metadata_holds _ _ _ _ x.bound begun.holds);
         }

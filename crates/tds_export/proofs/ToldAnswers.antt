@@ -23,21 +23,21 @@ cut_stops run q area at bytes stop side spelt c holds text =
     let limit = (limits run).max_wire in
     elim (ends_front _ _ _ _ _ q _ _ side.bytes side.left c.ends) [
       | inl m ↦ elim c.stop_is [
-        | inl e ↦ subst (λ (s : Stop). Stops run s.fault s.place) (sym (e.1.2 ∙ ap (λ n. record { fault = e.1.0; place = Payload n }) (zero _))) (ended_in_payload _ q _ at bytes c.part c.own e.1.0 side spelt c.cut m e.1.1 holds text)
-        | inr e ↦ absurd (e.0 (ap (λ (s : Stop). s.fault) m.ended))
+        | inl e ↦ rw (e.1.2 ∙ ap (λ n. record { fault = e.1.0; place = Payload n }) (zero _)) (ended_in_payload _ q _ at bytes c.part c.own e.1.0 side spelt c.cut m e.1.1 holds text)
+        | inr e ↦ absurd (e.0 (cc))
       ]
       | inr x ↦ elim c.stop_is [
         | inl e ↦ absurd (elim x.cause [
           | inl y ↦ (let differ = sym y.0 ∙ e.0 in cc)
           | inr y ↦ wire_goes_on _ _ _ _ _ y.0 e.0
         ])
-        | inr e ↦ subst (λ (s : Stop). Stops run s.fault s.place) (sym e.1) (subst (Stops run c.own.fault) (sym x.place) (stopped_on_wire _ q _ at bytes c.part c.own rose side spelt c.cut x holds text))
+        | inr e ↦ rw e.1 (subst (Stops run c.own.fault) (sym x.place) (stopped_on_wire _ q _ at bytes c.part c.own rose side spelt c.cut x holds text))
       ]
     ]
 
 reading_stops : (run : Run) (q : Seen) (area : Space) (at : Part) (stop : Stop) → ReaderSide run q area → StopsReading (grammar run) response_start (start run) q 0 at stop → IsHolding area at → run.gained ++ run.given.after.areas.output.bytes ≡ text_so_far at → Stops run stop.fault stop.place
 reading_stops run q area at stop side s holds text = elim s.cause [
-  | inl r ↦ subst (Stops run stop.fault) (sym (r.1 ∙ ap Payload (zero _))) (refused_in_payload _ q _ at s.bytes stop.fault side s.spelt r.0 holds text)
+  | inl r ↦ rw (r.1 ∙ ap Payload (zero _)) (refused_in_payload _ q _ at s.bytes stop.fault side s.spelt r.0 holds text)
   | inr c ↦ cut_stops _ q _ at s.bytes stop side s.spelt c holds text
 ]
 
@@ -58,8 +58,8 @@ sends given middle l put piece sent writer p a =
     let adds = Adds-trans (fresh_at given) middle l p.0 sent put piece p.2 a in
     record {
       gained = p.0 ++ sent;
-      has = subst (λ o. Appends given.before.writer.bytes o (p.0 ++ sent)) writer.has adds.0;
-      all = ap (λ w. (p.0 ++ sent) ++ w) (sym writer.waiting) ∙ sym adds.1;
+      has = rw writer.has at adds.0;
+      all = cc;
       delivered = adds.2;
     }
 
@@ -77,8 +77,8 @@ fits_at : (run : Run) (packets : List Packet) (rest : List ℕ) (place : ℕ) (p
     → Spelt (grammar run) response_start (take place (payload_of packets)) part → n ≤ length (text_so_far part) → n ≤ 64 * (limits run).max_wire
 fits_at run packets rest place part n are begin within spelt few =
     let payload = payload_of packets in
-    let bytes = payload_bytes packets (AreBytes-front (wire_of packets) rest (subst AreBytes (sym begin) are)) in
-    let front = AreBytes-front _ _ (subst AreBytes (sym (take-append-drop place payload)) bytes) in
+    let bytes = payload_bytes packets (AreBytes-front (wire_of packets) rest (rw begin are)) in
+    let front = AreBytes-front _ _ (rw (← take-append-drop place payload) at bytes) in
     let most = bounded_along _ _ _ _ front spelt in
     omega (arith, payload_short packets, ap length (take-append-drop place payload), length-append (take place payload) (drop place payload))
 
@@ -103,14 +103,14 @@ earlier_text : (charset : Charset) (room : ℕ) (bytes element : List ℕ) (p q 
 earlier_text charset room bytes element p q place h whole less k = elim (dec_le place (length bytes)) [
   | yes below ↦
       (let front = take-append-le place bytes element below in
-      let rest = text_along _ _ q p _ (rest_leads _ _ q p _ _ (subst (λ v. Spelt (response charset room) response_start v q) front k) (subst (λ v. Spelt (response charset room) response_start v p) (sym (take-append-drop place bytes)) h)) in
+      let rest = text_along _ _ q p _ (rest_leads _ _ q p _ _ (rw front at k) (rw (← take-append-drop place bytes) at h)) in
       omega (arith, ap length rest.1, length-append (text_so_far q) rest.0))
   | no above ↦
       (let n = place - length bytes in
       let sum : length bytes + n ≡ place = omega arith in
       let split = ap (λ v. take v (bytes ++ element)) (sym sum) ∙ take-append-add bytes element n in
       let few = length-take-le n element (omega (arith, length-append bytes element)) in
-      let none = no_further _ _ _ p _ q h (λ i a b. omega (arith, length-append bytes element)) (subst (λ v. Spelt (response charset room) response_start v q) split k) in
+      let none = no_further _ _ _ p _ q h (λ i a b. omega (arith, length-append bytes element)) (rw split at k) in
       absurd (omega (arith, ap length none)))
 ]
 
@@ -156,7 +156,7 @@ broken run q k at stop side writer x holds gained all =
       written_is = refl;
       begins = text_more;
       needed = inr (last.before, last.last, early.0, early.1, last.split, early.2, chunks, omega arith);
-      failed = subst (Rose run.given.before.writer.failures) (sym (y.9 ∙ ap one_more p.4) ∙ writer.failures) (rose _);
+      failed = subst (Rose run.given.before.writer.failures) (sym (cc) ∙ writer.failures) (rose _);
       kept = (length be, to, comes, rw side.description (kept_at run.given.after.areas.description to.tokens to.at (drop (length be) payload) holds.bytes));
     }
 
@@ -183,7 +183,7 @@ text_after_tokens tokens = append-nil (text tokens)
 
 -- all of a payload
 take_payload : (l : List ℕ) → take (length l) l ≡ l
-take_payload l = ap (λ v. take (length l) v) (sym (append-nil l)) ∙ take-append_seam l []
+take_payload l = cc (append-nil l, take-append_seam l [])
 
 -- the last delivery failed
 failed_at_end : (run : Run) (q : Seen) (tokens : List Token) → WholeMessage run q run.given.after.areas.description tokens → text_put run ≡ text tokens → FailsToWrite run.given → StopsInText run WriteFailed (length run.gained)
@@ -193,7 +193,7 @@ failed_at_end run q tokens w same fails = grind (arith, append-nil, take_payload
 
 -- the payload of a reader that told its bytes begins with them
 begins_run : (given : Given) (input : List ℕ) → given.before.reader.bytes ≡ Some input → begun_at given ≡ start (run_of given input [] [])
-begins_run given input e = ap (λ i. begun (limits_of given).packet_size (limits_of given).max_wire i given.before.reader.failures) e
+begins_run given input e = cc
 
 -- where its reader stands
 reader_side : (given : Given) (input left gained : List ℕ) (q : Seen) → AreBytes input → q.left ≡ Some left → IsReader given q → ReaderSide (run_of given input left gained) q given.after.areas.description
@@ -201,7 +201,7 @@ reader_side given input left gained q are ql reader = record { bytes = are; left
 
 -- all of the text was put, where the whole response was read
 whole_puts : (g : Grammar Part Fault) (a q : Seen) (h k : Held) (area : Space) → (x : ReadsWhole g response_start a q h k area) → Puts h k (text x.tokens)
-whole_puts g a q h k area x = subst (Puts h k) (x.puts.1 ∙ text_after_tokens x.tokens) x.puts.2
+whole_puts g a q h k area x = rw (x.puts.1 ∙ text_after_tokens x.tokens) at x.puts.2
 
 -- what is told of a stop, with the sink left in this state
 abbrev StopTold : Given → (input left : List ℕ) → Stop → Held → Type 0
@@ -211,7 +211,7 @@ module _ (given : Given) (input left : List ℕ) (q : Seen) (stop : Stop) (are :
   -- the payload stopped
   stop_reading : (middle l : Held) → IsWriter given l → StopsInReading (grammar_of given) response_start (start (run_of given input left [])) q 0 (fresh_at given) middle given.after.areas.description stop → Tidied middle l → StopTold given input left stop l
   stop_reading middle l writer y t =
-      let p = subst (Puts (fresh_at given) middle) y.puts.1 y.puts.2 in
+      let p = rw y.puts.1 at y.puts.2 in
       let d = sends _ _ l _ _ _ writer p t.1 in
       let run = run_of given input left d.gained in
       let side = reader_side _ _ _ _ q are ql reader in
@@ -221,11 +221,11 @@ module _ (given : Given) (input left : List ℕ) (q : Seen) (stop : Stop) (are :
         record {
           stop = stops;
           written = exact run l.delivered d.delivered (fits _ _ _ are stops);
-          unwritten = ap length writer.waiting;
+          unwritten = cc;
           no_notice = none;
           none_waits = λ calm. elim t.2 [
             | inl x ↦ sym writer.waiting ∙ x.0
-            | inr x ↦ absurd (calm (subst (Rose given.before.writer.failures) writer.failures (subst (λ n. Rose n l.failures) p.4 x)))
+            | inr x ↦ absurd (calm (rw writer.failures at (subst (λ n. Rose n l.failures) p.4 x)))
           ];
         },
       )
@@ -242,7 +242,7 @@ module _ (given : Given) (input left : List ℕ) (q : Seen) (stop : Stop) (are :
   stop_writing : (k : Held) → IsWriter given k → StopsInWriting (grammar_of given) response_start (start (run_of given input left [])) q (fresh_at given) k given.after.areas.description stop → StopTold given input left stop k
   stop_writing k writer y =
       let x = y.breaks in
-      let d = sends _ _ k _ _ _ writer (subst (Puts (fresh_at given) x.middle) x.puts.1 x.puts.2) x.breaks.3 in
+      let d = sends _ _ k _ _ _ writer (rw x.puts.1 at x.puts.2) x.breaks.3 in
       in_text k _ writer d.has d.delivered (broken _ q k _ _ (reader_side _ _ _ _ q are ql reader) writer x y.holds refl d.all) x.breaks.8
 
   -- the last delivery failed
@@ -252,14 +252,14 @@ module _ (given : Given) (input left : List ℕ) (q : Seen) (stop : Stop) (are :
       let d = sends _ _ k (text y.whole.tokens) [] _ writer p y.fails.1 in
       let run = run_of given input left d.gained in
       let whole = whole_message_of _ q _ (fresh_at given) y.middle (reader_side given input left d.gained q are ql reader) y.whole in
-      let rises = subst (Rose given.before.writer.failures) (sym (y.fails.3 ∙ ap one_more p.4) ∙ writer.failures) (rose _) in
-      in_text k _ writer d.has d.delivered (failed_at_end _ q y.whole.tokens whole (d.all ∙ append-nil (text y.whole.tokens)) rises) y.fails.2
+      let rises = subst (Rose given.before.writer.failures) (cc) (rose _) in
+      in_text k _ writer d.has d.delivered (failed_at_end _ q y.whole.tokens whole (simp (d.all, append-nil)) rises) y.fails.2
 
   -- each of these
   stopped_of : (k l : Held) (failed : Bool) → IsWriter given l → RunStops (grammar_of given) response_start (start (run_of given input left [])) q 0 (fresh_at given) k given.after.areas.description failed stop → (failed ≡ false → Tidied k l) → (failed ≡ true → l ≡ k) → StopTold given input left stop l
   stopped_of k l failed writer (inl (inl y)) tidy same = stop_reading k l writer y.0 (tidy y.1)
-  stopped_of k l failed writer (inl (inr y)) tidy same = subst (StopTold given input left stop) (sym (same y.1)) (stop_writing k (subst (IsWriter given) (same y.1) writer) y.0)
-  stopped_of k l failed writer (inr y) tidy same = subst (StopTold given input left stop) (sym (same y.1)) (stop_at_end k (subst (IsWriter given) (same y.1) writer) y.0)
+  stopped_of k l failed writer (inl (inr y)) tidy same = rw (same y.1) (stop_writing k (subst (IsWriter given) (same y.1) writer) y.0)
+  stopped_of k l failed writer (inr y) tidy same = rw (same y.1) (stop_at_end k (subst (IsWriter given) (same y.1) writer) y.0)
 
   -- the bound on its descriptions
   stop_bounded : (gained : List ℕ) (k : Held) (failed : Bool) → RunStops (grammar_of given) response_start (start (run_of given input left [])) q 0 (fresh_at given) k given.after.areas.description failed stop → Bounded (run_of given input left gained)
@@ -279,13 +279,13 @@ pub stop_tells : (given : Given) (stopped : Stopped) → StopsExport given stopp
 unfolding Tells
 stop_tells given stopped x = λ input are e.
     let area = given.after.areas.description in
-    let stops = subst (λ (a : Seen). RunStops (grammar_of given) response_start a x.seen 0 (fresh_at given) x.middle area x.failed x.stop) (begins_run given input e) x.stops in
+    let stops = rw (begins_run given input e) at x.stops in
     let read = stops_read _ _ _ _ _ _ _ _ stops in
     let left = known_left _ _ _ read.1 in
     let all = stopped_of _ _ _ _ _ are left.1 x.reader x.notice _ _ _ x.writer stops x.tidied x.same in
     let most = stop_bounded _ _ _ _ _ are left.1 x.reader x.notice _ _ _ stops in
-    let outcome = subst (AfterStop (run_of given input left.0 all.0)) (sym x.stopped_is) all.2 in
-    (left.0, all.0, sym x.reader.left ∙ left.1, all.1, record { outcome = outcome; bounded = most }, outcome_succeeds _ _ outcome)
+    let outcome = rw (← x.stopped_is) at all.2 in
+    (left.0, all.0, cc, all.1, record { outcome = outcome; bounded = most }, outcome_succeeds _ _ outcome)
 
 pub report_tells : (given : Given) (report : Report) → Reports given report → Tells given (Ok report)
 unfolding Tells
@@ -303,14 +303,14 @@ report_tells given report x = λ input are e.
     let same = d.all ∙ append-nil (text tokens) in
     let gained = sym (append-nil run.gained) ∙ ap (λ w. run.gained ++ w) (sym empty) ∙ same in
     let few = fits_at run whole.packets left.0 (length (payload_of whole.packets)) (after_tokens tokens) (length (text_put run)) are whole.stands.begin whole.stands.within
-    (subst (λ v. Spelt (grammar run) response_start v (after_tokens tokens)) (sym (take_payload (payload_of whole.packets))) whole.spelt) (omega (arith, ap length same, ap length (text_after_tokens tokens))) in
+    (rw (take_payload (payload_of whole.packets)) whole.spelt) (omega (arith, ap length same, ap length (text_after_tokens tokens))) in
     let written = exact run x.held.delivered d.delivered few ∙ ap length gained in
     let outcome : Reported run report = record {
       tokens = tokens;
       packets = whole.packets;
       accepted = whole.accepted;
       stands = whole.stands;
-      report_is = y.report_is ∙ ap (λ n. record (report_of tokens) { written = n }) written;
+      report_is = cc;
       written = gained;
       none_waits = empty;
       notice = z.1;
@@ -318,4 +318,4 @@ report_tells given report x = λ input are e.
       no_failure = no_failure given report x;
     } in
     let most = bounded run (after_tokens tokens) are (reached_whole run x.seen (fresh_at given) y.middle area y.whole are left.1) y.whole.holds.peak in
-    (left.0, d.gained, sym x.reader.left ∙ left.1, d.has, record { outcome = outcome; bounded = most }, outcome_succeeds run (Ok report) outcome)
+    (left.0, d.gained, cc, d.has, record { outcome = outcome; bounded = most }, outcome_succeeds run (Ok report) outcome)
