@@ -34,7 +34,7 @@ no_wire_fault : (size limit : ℕ) (input wires unread : List ℕ) (packets read
 no_wire_fault size limit input wires unread packets read fault m e f =
     let g = wire size limit in
     let fed = ap (feed_all g (Reading no_wire [])) e ∙ read_to_end _ _ _ _ _ m in
-    let l = read_longest g _ _ _ (subst (λ p. Told g no_wire input p) fed (told g _ _)) in
+    let l = read_longest g _ _ _ (subst (Told g no_wire input) fed (told g _ _)) in
     let same = (one_longest g _ _ _ _ _ _ f.longest l.2).1 in
     elim f.first [
       | inl r ↦ omega (arith, ap (λ (w : WirePart). wire_size w.place) same)
@@ -68,7 +68,7 @@ read_begin run tokens read packets p a = elim p.each [
   | inl h ↦ (let same = one_message _ _ _ _ _ _ _ _ (record { spelt = refl; each = h; within = p.within }) a.message (p.begin ∙ a.begins) in
       ([], cc (append-nil (payload_of read))))
   | inr h ↦ (let b = before_begins _ _ _ _ _ _ _ h p.within a.message (p.begin ∙ a.begins) in
-      (payload_of b.0, cc (flat_map-append (λ (v : Packet). v.body) read b.0)))
+      (payload_of b.0, cc (flat_map-append _ read b.0)))
 ]
 
 -- no run of an accepted response stops but by a device

@@ -76,7 +76,7 @@ row_ends (Bitmap columns) (some, h) =
     let l = length-replicate n 0 in
     let one : Spelt (row Windows1252) (Bitmap columns) (zeros n) (next_cell Windows1252 [] (marked columns (bit (zeros n)) 0)) = spelt_one (omega (arith, l, some_bitmap columns some)) l refl refl in
     let clear : marked columns (bit (zeros n)) 0 ≡ all_clear columns = marked_clear _ _ 0 (clear_at n) in
-    let more = cells_end _ _ (subst (λ ks. AreMarkedValid ks) clear (marked_valid _ _ 0 h)) in
+    let more = cells_end _ _ (subst AreMarkedValid clear (marked_valid _ _ 0 h)) in
     (more.0, spelt_both (rw clear at one) more.1)
 row_ends (InCell cells part ks) (begun, h, m) = rw (← stays_open cells ks part begun) (part_ends _ _ _ h (λ b. cells_end b ks m))
 row_ends (WholeRow cells) h = (cells, Spelt-none _ _)

@@ -103,7 +103,7 @@ AllFit (Some v) = FitsWidths v
 
 -- a date and time has no wide number
 datetime_fits : (n : ℕ) (e : List ℕ) → FitsWidths (datetime_of n e)
-datetime_fits n e = choose (λ v. FitsWidths v) (n == 4) (values.SmallDateTime (little_number 2 e) (little_number 2 (drop 2 e))) (values.DateTime (cast_signed w32 (little_number 4 e)) (little_number 4 (drop 4 e))) (λ z. tt) (λ z. tt)
+datetime_fits n e = choose FitsWidths (n == 4) (values.SmallDateTime (little_number 2 e) (little_number 2 (drop 2 e))) (values.DateTime (cast_signed w32 (little_number 4 e)) (little_number 4 (drop 4 e))) (λ z. tt) (λ z. tt)
 
 -- the bytes of a kind spell numbers that fit
 values_fit : (kind : Kind) (e : List ℕ) → AreBytes e → is_length_allowed kind (length e) ≡ true → AllFit (value_of kind e)
@@ -132,4 +132,4 @@ checked_short o h = grind (arith, choose, length-text_of)
 
 -- so has each value that is read
 pub read_short : (kind : Kind) (e : List ℕ) → AreBytes e → ReadShort (read_of kind e)
-read_short kind e h = choose (λ r. ReadShort r) (is_length_allowed kind (length e)) (checked (value_of kind e)) _ (λ z. checked_short (value_of kind e) (values_fit kind e h z)) (λ z. tt)
+read_short kind e h = choose ReadShort (is_length_allowed kind (length e)) (checked (value_of kind e)) _ (λ z. checked_short (value_of kind e) (values_fit kind e h z)) (λ z. tt)

@@ -85,9 +85,9 @@ module _ (charset : Charset) (room : ℕ) where
 
   abbrev OpenMeans : List Token → Open → List ℕ → Type 0
   OpenMeans tokens Between b = SpellsTokens charset room None tokens b
-  OpenMeans tokens (Describing d) b = AfterLead tokens AMetadata (λ rest. DescribedMeans room d rest) b
-  OpenMeans tokens (InRow part) b = (columns : List Column) × (nbc : Bool) × (described_after None tokens ≡ Some columns) × AfterLead tokens (row_lead nbc) (λ rest. RowMeans charset columns nbc part rest) b
-  OpenMeans tokens (InReturn part) b = AfterLead tokens AReturn (λ rest. ReturnMeans part rest) b
+  OpenMeans tokens (Describing d) b = AfterLead tokens AMetadata (DescribedMeans room d) b
+  OpenMeans tokens (InRow part) b = (columns : List Column) × (nbc : Bool) × (described_after None tokens ≡ Some columns) × AfterLead tokens (row_lead nbc) (RowMeans charset columns nbc part) b
+  OpenMeans tokens (InReturn part) b = AfterLead tokens AReturn (ReturnMeans part) b
   OpenMeans tokens (TokenLength k) b = AfterLead tokens (WithBody k) (λ rest. rest ≡ []) b
   OpenMeans tokens (TokenBody k n) b = AfterLead tokens (WithBody k) (λ rest. (rest ≡ n % 256 ∷ n / 256 ∷ []) × (n < 65536)) b
   OpenMeans tokens (Fields f) b = AfterLead tokens (WithFields f) (λ rest. rest ≡ []) b
@@ -96,27 +96,27 @@ module _ (charset : Charset) (room : ℕ) where
   PartMeans p b = OpenMeans p.tokens p.at b
 
   -- more bytes of the token that is read
-  further : (tokens : List Token) (lead : Lead) (P Q : List ℕ → Type 0) (b e : List ℕ) → (h : AfterLead tokens lead P b) → Q (h.rest ++ e) → AfterLead tokens lead Q (b ++ e)
-  further tokens lead P Q b e h q = grind (arith, append_assoc)
+  further : {tokens : List Token} {lead : Lead} {P Q : List ℕ → Type 0} {b : List ℕ} (e : List ℕ) → (h : AfterLead tokens lead P b) → Q (h.rest ++ e) → AfterLead tokens lead Q (b ++ e)
+  further e h q = grind (arith, append_assoc)
 
-  token_means : (tokens : List Token) (t : Token) (lead : Lead) (P : List ℕ → Type 0) (b : List ℕ) → (h : AfterLead tokens lead P b) → SpellsToken charset room (described_after None tokens) t (h.first ∷ h.rest) → PartMeans (with_token tokens t) b
-  token_means tokens t lead P b h s = rw h.spelt (one_more_token _ _ _ t _ h.before s)
+  token_means : (tokens : List Token) (t : Token) {lead : Lead} {P : List ℕ → Type 0} {b : List ℕ} → (h : AfterLead tokens lead P b) → SpellsToken charset room (described_after None tokens) t (h.first ∷ h.rest) → PartMeans (with_token tokens t) b
+  token_means tokens t h s = rw h.spelt (one_more_token _ _ _ t _ h.before s)
 
-  with_described_means : (tokens : List Token) (d : DescriptionPart) (b : List ℕ) → AfterLead tokens AMetadata (λ rest. DescribedMeans room d rest) b → PartMeans (with_described tokens d) b
-  with_described_means tokens NoDescription b h = token_means _ _ _ (λ rest. DescribedMeans room NoDescription rest) b h (h.first, cc, h.begins)
-  with_described_means tokens (WholeDescription x cs) b h = token_means _ _ _ (λ rest. DescribedMeans room (WholeDescription x cs) rest) b h ((h.first, cc, h.begins), rw h.follows.0 h.follows.1)
+  with_described_means : (tokens : List Token) (d : DescriptionPart) (b : List ℕ) → AfterLead tokens AMetadata (DescribedMeans room d) b → PartMeans (with_described tokens d) b
+  with_described_means tokens NoDescription b h = token_means _ _ h (h.first, cc, h.begins)
+  with_described_means tokens (WholeDescription x cs) b h = token_means _ _ h ((h.first, cc, h.begins), rw h.follows.0 h.follows.1)
   with_described_means tokens d b h = h
 
   row_token : (current : Option (List Column)) (columns : List Column) (nbc : Bool) (cells : List Cell) (first : ℕ) (rest : List ℕ) → current ≡ Some columns → IsFirst (row_lead nbc) first → RowMeans charset columns nbc (WholeRow cells) rest → SpellsRowToken charset current cells (first ∷ rest)
   row_token current columns false cells first rest e begins h = rw e (rest, inl ((first, refl, begins), h))
   row_token current columns true cells first rest e begins h = rw e (rest, inr ((first, refl, begins), record { bitmap = h.0; rest = h.1; spelt = h.2; whole = h.3; each = h.4 }))
 
-  with_row_means : (tokens : List Token) (part : RowPart) (b : List ℕ) (columns : List Column) (nbc : Bool) → described_after None tokens ≡ Some columns → AfterLead tokens (row_lead nbc) (λ rest. RowMeans charset columns nbc part rest) b → PartMeans (with_row tokens part) b
-  with_row_means tokens (WholeRow cells) b columns nbc e h = token_means _ _ _ (λ rest. RowMeans charset columns nbc (WholeRow cells) rest) b h (row_token _ _ _ _ _ _ e h.begins h.follows)
+  with_row_means : (tokens : List Token) (part : RowPart) (b : List ℕ) (columns : List Column) (nbc : Bool) → described_after None tokens ≡ Some columns → AfterLead tokens (row_lead nbc) (RowMeans charset columns nbc part) b → PartMeans (with_row tokens part) b
+  with_row_means tokens (WholeRow cells) b columns nbc e h = token_means _ _ h (row_token _ _ _ _ _ _ e h.begins h.follows)
   with_row_means tokens part b columns nbc e h = (columns, nbc, e, h)
 
-  with_return_means : (tokens : List Token) (part : ReturnPart) (b : List ℕ) → AfterLead tokens AReturn (λ rest. ReturnMeans part rest) b → PartMeans (with_return tokens part) b
-  with_return_means tokens (WholeReturn r) b h = token_means _ _ _ (λ rest. ReturnMeans (WholeReturn r) rest) b h (h.rest, (h.first, refl, h.begins), h.follows)
+  with_return_means : (tokens : List Token) (part : ReturnPart) (b : List ℕ) → AfterLead tokens AReturn (ReturnMeans part) b → PartMeans (with_return tokens part) b
+  with_return_means tokens (WholeReturn r) b h = token_means _ _ h (h.rest, (h.first, refl, h.begins), h.follows)
   with_return_means tokens part b h = h
 
   row_begins : (tokens : List Token) (b : List ℕ) (x : ℕ) (current : Option (List Column)) → described_after None tokens ≡ current → row_byte_fault true current ≡ None → SpellsTokens charset room None tokens b → lead_of x ≡ Some ARow → PartMeans (start_of_row tokens (row_start charset) current) (b ++ x ∷ [])
@@ -131,8 +131,8 @@ module _ (charset : Charset) (room : ℕ) where
   byte_step tokens b x None is h free = cc
   byte_step tokens b x (Some lead) is h free = lead_step _ b x _ is (leads_first x _ is) h free
 
-  body_means : (tokens : List Token) (k : Bodied) (body b : List ℕ) → (h : AfterLead tokens (WithBody k) (λ rest. SpellsBody body rest) b) → ((if is_notice k && not (holds_notice body) then Some BadNotice else None) ≡ None) → PartMeans (with_token tokens (bodied k body)) b
-  body_means tokens k body b h f = token_means _ _ _ (λ rest. SpellsBody body rest) b h (spelt k h.begins f)
+  body_means : (tokens : List Token) (k : Bodied) (body b : List ℕ) → (h : AfterLead tokens (WithBody k) (SpellsBody body) b) → ((if is_notice k && not (holds_notice body) then Some BadNotice else None) ≡ None) → PartMeans (with_token tokens (bodied k body)) b
+  body_means tokens k body b h f = token_means _ _ h (spelt k h.begins f)
     where
       spelt : (k : Bodied) → IsFirst (WithBody k) h.first → ((if is_notice k && not (holds_notice body) then Some BadNotice else None) ≡ None) → SpellsToken charset room (described_after None tokens) (bodied k body) (h.first ∷ h.rest)
       spelt (APassed passed) begins f = (h.rest, (h.first, refl, begins), h.follows)
@@ -143,25 +143,25 @@ module _ (charset : Charset) (room : ℕ) where
   part_step tokens Between b e bytes h n = grind (arith, byte_step, one_byte)
   part_step tokens (Describing d) b e bytes h n =
       with_described_means _ _ _
-      (further _ _ (λ rest. DescribedMeans room d rest) (λ rest. DescribedMeans room (add_described d e) rest) b e h (described_step _ d _ e bytes h.follows (record { some = n.some; whole = n.whole; free = n.free })))
+      (further e h (described_step _ d _ e bytes h.follows (record { some = n.some; whole = n.whole; free = n.free })))
   part_step tokens (InRow part) b e bytes (columns, nbc, is, h) n =
       with_row_means _ _ _ _ _ is
-      (further _ _ (λ rest. RowMeans charset columns nbc part rest) (λ rest. RowMeans charset columns nbc (row_add charset part e) rest) b e h (row_step _ _ _ _ _ e bytes h.follows (record { some = n.some; whole = n.whole; free = n.free })))
+      (further e h (row_step _ _ _ _ _ e bytes h.follows (record { some = n.some; whole = n.whole; free = n.free })))
   part_step tokens (InReturn part) b e bytes h n =
       with_return_means _ _ _
-      (further _ _ (λ rest. ReturnMeans part rest) (λ rest. ReturnMeans (return_add part e) rest) b e h (return_step _ _ e bytes h.follows (record { some = n.some; whole = n.whole; free = n.free })))
+      (further e h (return_step _ _ e bytes h.follows (record { some = n.some; whole = n.whole; free = n.free })))
   part_step tokens (TokenLength k) b e bytes h n =
       let t = two_bytes e n.whole bytes in
       let read = ap (λ v. v ++ e) h.follows ∙ t.0 in
       choose (λ p. PartMeans p (b ++ e)) _ _ _
-      (λ z. body_means tokens k [] (b ++ e) (further _ _ (λ rest. rest ≡ []) (λ rest. SpellsBody [] rest) b e h (read ∙ ap (λ v. v % 256 ∷ v / 256 ∷ []) (eq_true _ 0 z), omega arith)) (empty_body k (rw (eq_true _ 0 z) at n.free)))
-      (λ z. further tokens (WithBody k) (λ rest. rest ≡ []) (λ rest. (rest ≡ little e % 256 ∷ little e / 256 ∷ []) × (little e < 65536)) b e h (read, t.1))
+      (λ z. body_means tokens k [] (b ++ e) (further e h (read ∙ ap (λ v. v % 256 ∷ v / 256 ∷ []) (eq_true _ 0 z), omega arith)) (empty_body k (rw (eq_true _ 0 z) at n.free)))
+      (λ z. further e h (read, t.1))
   part_step tokens (TokenBody k m) b e bytes h n =
       let l = n.whole in
-      body_means _ k e _ (further _ _ (λ rest. (rest ≡ m % 256 ∷ m / 256 ∷ []) × (m < 65536)) (λ rest. SpellsBody e rest) b e h (cc, (let w = h.follows.1 in omega arith))) n.free
+      body_means _ k e _ (further e h (cc, (let w = h.follows.1 in omega arith))) n.free
   part_step tokens (Fields f) b e bytes h n =
-      let to = further _ _ (λ rest. rest ≡ []) (λ rest. rest ≡ e) b e h (cc) in
-      token_means tokens (fixed f e) (WithFields f) (λ rest. rest ≡ e) (b ++ e) to (fixed_spelt _ _ _ f e _ (to.first, cc, to.begins) n.whole)
+      let to : AfterLead tokens (WithFields f) (λ rest. rest ≡ e) (b ++ e) = further e h (cc) in
+      token_means tokens (fixed f e) to (fixed_spelt _ _ _ f e _ (to.first, cc, to.begins) n.whole)
 
   -- What is read as a part of a response is spelt so.
   part_keeps : (p : Part) (b e : List ℕ) → (AreBytes b → PartMeans p b) → IsNext (response charset room) p e → AreBytes (b ++ e) → PartMeans (part_add charset p.tokens p.at e) (b ++ e)

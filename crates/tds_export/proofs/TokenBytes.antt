@@ -51,7 +51,7 @@ module _ {charset : Charset} {room byte : ℕ} {tokens : List Token} {to : Part}
 refused : (charset : Charset) (room : ℕ) (tokens : List Token) (a b : Seen) (place byte : ℕ) (described : Bool) (fault : Fault) → IsDescribed described (encoded_after [] tokens) (described_after None tokens) → IsRefusedByte described byte fault → Takes a b (byte ∷ []) 1 → IsBetween b
     → StopsReading (response charset room) (after_tokens tokens) a b place (after_tokens tokens) (record { fault = fault; place = Payload place })
 refused charset room tokens a b place byte described fault k (inl x) t between =
-    let first = ap (λ v. lead_fault (described_after None tokens) byte v) x.1 ∙ ap Some (sym x.0) in
+    let first = ap (lead_fault (described_after None tokens) byte) x.1 ∙ ap Some (sym x.0) in
     refused_at_once (response charset room) (after_tokens tokens) a b place (byte ∷ []) fault (omega arith) refl first t between
 refused charset room tokens a b place byte described fault k (inr x) t between =
     let none = rw x.1 at k in

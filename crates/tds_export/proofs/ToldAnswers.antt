@@ -1,7 +1,7 @@
 -- What an export answers, where its reader and writer tell their bytes.
 use Rattle.tds_export.proofs.Words.{Accepted, Adds, Adds-trans, AfterStop, Appends, AreBytes, AreBytes-back, AreBytes-front, Bool, Bounded, BreaksStreaming, Charset, Comes, CompletesResponse, Consumes, CutsNext, Err, FailsToWrite, Fault, Given, Grammar, Held, IsHolding, IsKept, IsReader, IsWriter, List, Longest, MessageEnded, Ok, Option, Packet, Packets, Part, Payload, Place, Puts, ReadFailed, ReadsPart, ReadsWhole, Report, Reported, Reports, Rose, Run, RunStops, Seen, Some, Space, Spelt, Spelt-one, Stop, Stopped, Stops, StopsAtEnd, StopsExport, StopsInReading, StopsInText, StopsInWriting, StopsReading, Tells, Text, Tidied, Token, WriteFailed, [], after_tokens, ap, append-nil, append_assoc, arith, begun, begun_at, counted, drop, ends_front, error_text, false, flat_map-append, fresh_at, grammar, grammar_of, in_last, inl, inr, length, length-append, length-take-le, limits, limits_of, longest_cut, more, no_further, one_more, over_front, packet_bytes, payload_of, read, refl, report_of, response, response_start, rose, run_of, some_longest, stopped_with, subst, sym, take, take-append-add, take-append-drop, take-append-le, take-append_seam, takes_begins, text, text_put, text_so_far, true, waiting, wire_goes_on, wire_of, ℕ, ◌%◌, ◌*◌, ◌++◌, ◌+◌, ◌-◌, ◌/◌, ◌<◌, ◌∙◌, ◌∷◌, ◌≡◌, ◌≤◌}
 use Rattle.tds_export.proofs.SomeBytes.{AreBytes-append}
-use Rattle.tds_export.proofs.PacketOutcomes.{ReaderSide, ended_in_payload, kept_at, refused_in_payload, start, stopped_on_wire}
+use Rattle.tds_export.proofs.PacketOutcomes.{ReaderSide, kept_at, reading_stops, start}
 use Rattle.tds_export.proofs.Peaks.{bounded, further, reached_broken, reached_stopped, reached_whole, rest_leads}
 use Rattle.tds_export.proofs.TextBound.{bounded_along}
 use Rattle.tds_export.proofs.DeviceFaults.{no_failure}
@@ -10,36 +10,6 @@ use Rattle.tds_export.proofs.ResponseMeaning.{response_is_spelt}
 use Rattle.tds_export.proofs.Cuts.{spelt_both}
 use Rattle.tds_export.proofs.ReadingGrows.{text_along}
 use native.Mathlib.Decide.{dec_le}
-
--- ---- how a run that read stops
-
-zero : (n : ℕ) → 0 + n ≡ n
-zero n = omega arith
-
--- whole elements were read, and the payload stopped before the next was whole
-cut_stops : (run : Run) (q : Seen) (area : Space) (at : Part) (bytes : List ℕ) (stop : Stop) → ReaderSide run q area → Spelt (grammar run) response_start bytes at → (c : CutsNext (grammar run) (start run) q bytes 0 at stop) → IsHolding area at
-    → run.gained ++ run.given.after.areas.output.bytes ≡ text_so_far at → Stops run stop.fault stop.place
-cut_stops run q area at bytes stop side spelt c holds text =
-    let limit = (limits run).max_wire in
-    elim (ends_front _ _ _ _ _ q _ _ side.bytes side.left c.ends) [
-      | inl m ↦ elim c.stop_is [
-        | inl e ↦ rw (e.1.2 ∙ ap (λ n. record { fault = e.1.0; place = Payload n }) (zero _)) (ended_in_payload _ q _ at bytes c.part c.own e.1.0 side spelt c.cut m e.1.1 holds text)
-        | inr e ↦ absurd (e.0 (cc))
-      ]
-      | inr x ↦ elim c.stop_is [
-        | inl e ↦ absurd (elim x.cause [
-          | inl y ↦ (let differ = sym y.0 ∙ e.0 in cc)
-          | inr y ↦ wire_goes_on _ _ _ _ _ y.0 e.0
-        ])
-        | inr e ↦ rw e.1 (subst (Stops run c.own.fault) (sym x.place) (stopped_on_wire _ q _ at bytes c.part c.own rose side spelt c.cut x holds text))
-      ]
-    ]
-
-reading_stops : (run : Run) (q : Seen) (area : Space) (at : Part) (stop : Stop) → ReaderSide run q area → StopsReading (grammar run) response_start (start run) q 0 at stop → IsHolding area at → run.gained ++ run.given.after.areas.output.bytes ≡ text_so_far at → Stops run stop.fault stop.place
-reading_stops run q area at stop side s holds text = elim s.cause [
-  | inl r ↦ rw (r.1 ∙ ap Payload (zero _)) (refused_in_payload _ q _ at s.bytes stop.fault side s.spelt r.0 holds text)
-  | inr c ↦ cut_stops _ q _ at s.bytes stop side s.spelt c holds text
-]
 
 -- ---- the text
 
@@ -115,7 +85,7 @@ earlier_text charset room bytes element p q place h whole less k = elim (dec_le 
 ]
 
 -- the writer broke: the last packet read was needed to fill the block
-broken : (run : Run) (q : Seen) (k : Held) (at : Part) (stop : Stop) → ReaderSide run q run.given.after.areas.description → IsWriter run.given k → (x : BreaksStreaming (grammar run) text_so_far response_start (start run) q (fresh_at run.given) k at stop)
+broken : (run : Run) (q : Seen) (k : Held) (at : Part) (stop : Stop) → ReaderSide run q → IsWriter run.given k → (x : BreaksStreaming (grammar run) text_so_far response_start (start run) q (fresh_at run.given) k at stop)
     → IsHolding run.given.after.areas.description ((grammar run).add at x.element) → run.gained ≡ (subst (Puts (fresh_at run.given) x.middle) x.puts.1 x.puts.2).0 ++ x.breaks.0 → text_put run ≡ text_so_far at ++ take x.breaks.2 x.more → StopsInText run WriteFailed (length run.gained)
 broken run q k at stop side writer x holds gained all =
     let g = grammar run in
@@ -135,7 +105,7 @@ broken run q k at stop side writer x holds gained all =
     let some : 0 < length be = omega (arith, length-append x.bytes x.element) in
     let last = in_last _ _ f _ _ _ q _ _ side.left x.takes b (omega (arith, length-append (be ++ x.ahead) (q.future []).bytes, length-append be x.ahead)) in
     let early = some_longest g _ _ in
-    let joined = ap payload_of (sym last.split) ∙ flat_map-append (λ (v : Packet). v.body) last.before (last.last ∷ []) in
+    let joined = ap payload_of (sym last.split) ∙ flat_map-append _ last.before (last.last ∷ []) in
     let fewer : early.0 < length be = omega arith in
     let front = sym (take-append-le early.0 (payload_of last.before) (payload_of (last.last ∷ [])) early.2.within) ∙ ap (take early.0) (sym joined ∙ payload_is) ∙ take-append-le early.0 be more (omega arith) in
     let short = earlier_text _ _ _ _ at early.1 early.0 x.spelt x.next.whole fewer (subst (λ v. Spelt g response_start v early.1) front early.2.spelt) in
@@ -157,13 +127,13 @@ broken run q k at stop side writer x holds gained all =
       begins = text_more;
       needed = inr (last.before, last.last, early.0, early.1, last.split, early.2, chunks, omega arith);
       failed = subst (Rose run.given.before.writer.failures) (sym (cc) ∙ writer.failures) (rose _);
-      kept = (length be, to, comes, rw side.description (kept_at run.given.after.areas.description to.tokens to.at (drop (length be) payload) holds.bytes));
+      kept = (length be, to, comes, kept_at run.given.after.areas.description to.tokens to.at (drop (length be) payload) holds.bytes);
     }
 
 -- ---- a run that read the whole response
 
 -- the whole message was read: it is an accepted response
-record WholeMessage (run : Run) (q : Seen) (area : Space) (tokens : List Token) : Type 0 where
+record WholeMessage (run : Run) (tokens : List Token) : Type 0 where
   packets : List Packet
   stands : Packets run packets
   accepted : Accepted run.given.charset (limits run).packet_size (limits run).column_room (limits run).max_wire tokens packets run.input
@@ -171,8 +141,8 @@ record WholeMessage (run : Run) (q : Seen) (area : Space) (tokens : List Token) 
   spelt : Spelt (grammar run) response_start (payload_of packets) (after_tokens tokens)
   kept : IsKept run.given.after.areas.description.bytes tokens (after_tokens tokens).at (drop (length (payload_of packets)) (payload_of packets))
 
-whole_message_of : (run : Run) (q : Seen) (area : Space) (old new : Held) → ReaderSide run q area → (x : ReadsWhole (grammar run) response_start (start run) q old new area) → WholeMessage run q area x.tokens
-whole_message_of run q area old new side x =
+whole_message_of : (run : Run) {q : Seen} {old new : Held} → ReaderSide run q → (x : ReadsWhole (grammar run) response_start (start run) q old new run.given.after.areas.description) → WholeMessage run x.tokens
+whole_message_of run {q = q} side x =
     let size = (limits run).packet_size in
     let limit = (limits run).max_wire in
     let m = over_front size limit run.given.before.reader.failures run.input run.left q x.bytes (length x.bytes + 1) side.bytes side.left x.takes x.over in
@@ -186,8 +156,8 @@ take_payload : (l : List ℕ) → take (length l) l ≡ l
 take_payload l = cc (append-nil l, take-append_seam l [])
 
 -- the last delivery failed
-failed_at_end : (run : Run) (q : Seen) (tokens : List Token) → WholeMessage run q run.given.after.areas.description tokens → text_put run ≡ text tokens → FailsToWrite run.given → StopsInText run WriteFailed (length run.gained)
-failed_at_end run q tokens w same fails = grind (arith, append-nil, take_payload, text_after_tokens)
+failed_at_end : (run : Run) (tokens : List Token) → WholeMessage run tokens → text_put run ≡ text tokens → FailsToWrite run.given → StopsInText run WriteFailed (length run.gained)
+failed_at_end run tokens w same fails = grind (arith, append-nil, take_payload, text_after_tokens)
 
 -- ---- what an export answers
 
@@ -196,8 +166,8 @@ begins_run : (given : Given) (input : List ℕ) → given.before.reader.bytes �
 begins_run given input e = cc
 
 -- where its reader stands
-reader_side : (given : Given) (input left gained : List ℕ) (q : Seen) → AreBytes input → q.left ≡ Some left → IsReader given q → ReaderSide (run_of given input left gained) q given.after.areas.description
-reader_side given input left gained q are ql reader = record { bytes = are; left = ql; failures = reader.failures; description = refl }
+reader_side : (given : Given) (input left gained : List ℕ) (q : Seen) → AreBytes input → q.left ≡ Some left → IsReader given q → ReaderSide (run_of given input left gained) q
+reader_side given input left gained q are ql reader = record { bytes = are; left = ql; failures = reader.failures }
 
 -- all of the text was put, where the whole response was read
 whole_puts : (g : Grammar Part Fault) (a q : Seen) (h k : Held) (area : Space) → (x : ReadsWhole g response_start a q h k area) → Puts h k (text x.tokens)
@@ -215,7 +185,7 @@ module _ (given : Given) (input left : List ℕ) (q : Seen) (stop : Stop) (are :
       let d = sends _ _ l _ _ _ writer p t.1 in
       let run = run_of given input left d.gained in
       let side = reader_side _ _ _ _ q are ql reader in
-      let stops = reading_stops _ q _ _ _ side y.stops y.holds (d.all ∙ append-nil (text_so_far y.at)) in (
+      let stops = reading_stops run side y.stops y.holds (d.all ∙ append-nil (text_so_far y.at)) in (
         d.gained,
         d.has,
         record {
@@ -251,9 +221,9 @@ module _ (given : Given) (input left : List ℕ) (q : Seen) (stop : Stop) (are :
       let p = whole_puts (grammar_of given) (start (run_of given input left [])) q (fresh_at given) y.middle given.after.areas.description y.whole in
       let d = sends _ _ k (text y.whole.tokens) [] _ writer p y.fails.1 in
       let run = run_of given input left d.gained in
-      let whole = whole_message_of _ q _ (fresh_at given) y.middle (reader_side given input left d.gained q are ql reader) y.whole in
+      let whole = whole_message_of run (reader_side given input left d.gained q are ql reader) y.whole in
       let rises = subst (Rose given.before.writer.failures) (cc) (rose _) in
-      in_text k _ writer d.has d.delivered (failed_at_end _ q y.whole.tokens whole (simp (d.all, append-nil)) rises) y.fails.2
+      in_text k _ writer d.has d.delivered (failed_at_end _ y.whole.tokens whole (simp (d.all, append-nil)) rises) y.fails.2
 
   -- each of these
   stopped_of : (k l : Held) (failed : Bool) → IsWriter given l → RunStops (grammar_of given) response_start (start (run_of given input left [])) q 0 (fresh_at given) k given.after.areas.description failed stop → (failed ≡ false → Tidied k l) → (failed ≡ true → l ≡ k) → StopTold given input left stop l
@@ -298,7 +268,7 @@ report_tells given report x = λ input are e.
     let p = whole_puts (grammar_of given) (start (run_of given input [] [])) x.seen (fresh_at given) y.middle area y.whole in
     let d = sends given y.middle x.held (text tokens) [] y.finishes.0 x.writer p y.finishes.1 in
     let run = run_of given input left.0 d.gained in
-    let whole = whole_message_of run x.seen area (fresh_at given) y.middle (reader_side given input left.0 d.gained x.seen are left.1 x.reader) y.whole in
+    let whole = whole_message_of run (reader_side given input left.0 d.gained x.seen are left.1 x.reader) y.whole in
     let empty = sym x.writer.waiting ∙ y.finishes.2 in
     let same = d.all ∙ append-nil (text tokens) in
     let gained = sym (append-nil run.gained) ∙ ap (λ w. run.gained ++ w) (sym empty) ∙ same in
