@@ -90,10 +90,5 @@ none_stops run fault (Text written) x tokens packets a reads writes = writes x.f
 pub outcome_succeeds : (run : Run) (result : Result Report Stopped) → Outcome run result → SucceedsIfAccepted run result
 outcome_succeeds run (Ok report) r = λ tokens packets accepted reads writes.
     let same = one_accepted _ _ _ _ _ _ _ _ _ accepted r.accepted in
-    record {
-      report_is = cc;
-      written = cc;
-      notice = cc;
-      stands = rw same.1 r.stands;
-    }
+    record { report_is = cc; written = cc; notice = cc; stands = rw same.1 r.stands }
 outcome_succeeds run (Err stopped) r = λ tokens packets a reads writes. absurd (none_stops _ _ _ r.stop _ _ a reads writes)

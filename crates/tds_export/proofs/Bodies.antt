@@ -1,9 +1,7 @@
 -- Tokens with a Length and a body, as they are read.
 use Rattle.tds_export.proofs.Words.{Bodied, Bool, Charset, Ends, Held, IsNoted, List, Part, Progress, Reads, ReadsTokens, Seen, Space, StepStops, Stop, StopsReading, Takes, Token, TokenBody, [], ap, arith, began_at, bodied, choose_false, false, holds_notice, in_length, is_notice, length, length-append, little, little_number, ne_eqb, reads_one, refl, response, stops_after, sym, takes_both, true, with_token, ℕ, ◌++◌, ◌+◌, ◌<◌, ◌==◌, ◌∙◌, ◌≡◌, ◌≤◌}
 use Rattle.tds_export.proofs.TokenSteps.{Begun, bare_reads, quietly, stops_quietly}
-use Rattle.tds_export.proofs.TokenLaws.{bare_body, tracks_body}
-use Rattle.tds_export.proofs.ResponseLaws.{body_free, body_is_read, length_free}
-use Rattle.tds_export.proofs.Cuts.{part_cut}
+use Rattle.tds_export.proofs.{TokenLaws.bare_body, TokenLaws.tracks_body, ResponseLaws.body_free, ResponseLaws.body_is_read, ResponseLaws.length_free, Cuts.part_cut}
 
 -- before the body of a token
 abbrev pub in_body : Bodied → List Token → ℕ → Part
@@ -32,7 +30,7 @@ module _ (charset : Charset) (room : ℕ) {n place middle : ℕ} {tokens : List 
   abbrev pub body_reads : (body : List ℕ) → length body ≡ n → Takes b c body n → (is_notice which ≡ true → holds_notice body ≡ true) → Reads (response charset room) (in_length which tokens) a c (with_token tokens (bodied which body))
   body_reads body len takes holds = record {
     bytes = element ++ body;
-    spelt = body_is_read _ _ _ _ _ _ l.two (cc (number_is l)) (length_free room n tokens _ _ long (number_is l)) (body_free _ body holds);
+    spelt = body_is_read _ _ _ _ _ _ l.two (number_is l ∙ sym len) (length_free room n tokens _ _ long (number_is l)) (body_free _ body holds);
     takes = takes_both a b c _ _ l.takes (rw len takes);
   }
 

@@ -1,14 +1,12 @@
 -- What completes a response is read as its rest.
 use Rattle.tds_export.proofs.Words.{common_steps, ADone, APassed, AreBytes, AreBytes-back, AreBytes-front, Between, CanBeCompleted, Column, Describing, DescriptionPart, Done, Fields, InReturn, InRow, Inside-Spelt, IsNext, Lead, List, Metadata, None, Open, Option, Part, PassedOver, ReturnPart, Returned, Row, RowPart, Some, Spelt, Spelt-induct, Spelt-none, Token, TokenBody, TokenLength, WholeDescription, WholeReturn, WholeRow, Windows1252, [], add_described, after_first, arith, begun, bodied, choose, completion, described_after, description, done, done_byte, eq_false, false, fields_length, fixed, holds_notice, lead_of, length, length-replicate, nat_tests, part_add, passed, refl, replicate-append-replicate, response, response_start, rest_of_description, rest_of_return, rest_of_row, rest_of_token, return_add, return_value, row, row_add, slice_index, start_of_row, subst, sym, test_le, test_lt, true, with_described, with_return, with_row, with_token, zeros, ℕ, ◌++◌, ◌<◌, ◌∙◌, ◌∷◌, ◌≡◌, ◌≤◌}
-use Rattle.tds_export.proofs.SomeBytes.{AreBytes-append}
+use Rattle.tds_export.proofs.{SomeBytes.AreBytes-append, ResponseMeaning.response_is_spelt, Cuts.spelt_both, Cuts.spelt_one}
 use Rattle.tds_export.proofs.CompletionBytes.{AreBytes-completion, IsOpenReturn, IsOpenRow, OpenReached}
 use Rattle.tds_export.proofs.CompletedRows.{AreValid, RowReached, marked_valid, next_reached, row_ends, row_keeps}
 use Rattle.tds_export.proofs.CompletedDescriptions.{DescribedReached, IsOpenDescription, described_ends, described_keeps}
 use Rattle.tds_export.proofs.CompletedReturns.{ReturnReached, return_ends, return_keeps}
 use Rattle.tds_export.proofs.TokenLaws.{bare, bare_body, bare_fixed, is_bare, is_final-snoc}
 use Rattle.tds_export.proofs.ResponseLaws.{body_free, body_is_read, described_after-append, description_in_response, length_free, return_in_response, row_in_response, some_fields}
-use Rattle.tds_export.proofs.ResponseMeaning.{response_is_spelt}
-use Rattle.tds_export.proofs.Cuts.{spelt_both, spelt_one}
 
 -- the columns that are described are some, of valid kinds
 abbrev CurrentReached : Option (List Column) → Type 0

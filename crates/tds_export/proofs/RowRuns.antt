@@ -1,8 +1,7 @@
 -- Rows of one token after one another, in their response.
 use Rattle.tds_export.proofs.Words.{Bool, Cell, Charset, Column, Fault, Grammar, Held, IsDescribed, IsHolding, IsNext, IsNoted, Leads, List, None, Option, Part, Progress, PutsText, ReadsRows, ReadsTokens, RefusedToken, Row, RowPart, RowToken, RowsPart, RowsStop, Seen, Some, Space, Spelt, StepStops, Stop, Streams, Token, Tracks, TracksBefore, WholeRow, [], after_tokens, ap, append-nil, append_assoc, arith, before, columns_of, counted, described_after, encoded_after, if◌then◌else◌, length, length-append, lines, map, map-append, next_inside, next_some, refl, response, row, row_so_far, rows, rows_so_far, rows_start, subst, sym, text, text_so_far, token_byte, token_start, true, with_row, ℕ, ◌++◌, ◌+◌, ◌<◌, ◌==◌, ◌∙◌, ◌∷◌, ◌≡◌}
 use Rattle.tds_export.proofs.TokenSteps.{Begun, holds-snoc, quietly, row_stops, row_text, stops_further}
-use Rattle.tds_export.proofs.ResponseLaws.{described_after-append, row_in_response}
-use Rattle.tds_export.proofs.TokenLaws.{text_after-snoc, tracks_row}
+use Rattle.tds_export.proofs.{ResponseLaws.described_after-append, ResponseLaws.row_in_response, TokenLaws.text_after-snoc, TokenLaws.tracks_row}
 
 -- a byte that is no other token's
 is_token_byte : (byte x : ℕ) → (if x == byte then None else Some (RefusedToken x)) ≡ None → x ≡ byte
@@ -55,7 +54,7 @@ module _ (which : RowToken) (charset : Charset) (room : ℕ) (all : List Column)
     rows_stream {t = t} x =
         let s = rows_start which charset all in
         let begins = ap (λ ts. with_row ts (token_start which charset all)) (append-nil tokens) in
-        let same = ap (λ l. l ++ x.puts.0) (cc (in_rows_text s)) ∙ append_assoc (text tokens) (rows_so_far s) x.puts.0 ∙ ap (λ l. text tokens ++ l) x.puts.1 ∙ sym (in_rows_text t) in
+        let same = ap (λ l. l ++ x.puts.0) (ap text_so_far (sym begins) ∙ in_rows_text s) ∙ append_assoc (text tokens) (rows_so_far s) x.puts.0 ∙ ap (λ l. text tokens ++ l) x.puts.1 ∙ sym (in_rows_text t) in
         let spelt = lifted_spelt _ _ _ (λ p e n. element_next p.before p.at e n) s _ t x.spelt in
         record { bytes = x.bytes; spelt = rw begins at spelt; takes = x.takes; puts = (x.puts.0, same, x.puts.2) }
 

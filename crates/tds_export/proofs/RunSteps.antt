@@ -16,7 +16,7 @@ runs_none charset room {a = a} {h = h} d tracks is = record {
   streams = record { bytes = []; spelt = Spelt-none _ _; takes = Takes-none a 0; puts = ([], refl, Puts-none h d) };
   place_is = omega arith;
   tracks = tracks;
-  holds = record { bytes = cc; peak = omega (arith, ap (λ (s : Space). s.peak) is) };
+  holds = record { bytes = ap (λ (s : Space). s.bytes) is; peak = omega (arith, ap (λ (s : Space). s.peak) is) };
 }
 
 -- nothing but the payload has changed
@@ -53,7 +53,7 @@ module _ (charset : Charset) (room : ℕ) {p q : ℕ} {a b c : Seen} {h k : Held
     takes = subst (λ l. Takes a c l (length x.streams.bytes + 1)) (append-nil x.streams.bytes) (Takes-trans a b c _ _ _ 1 (omega arith) x.streams.takes t);
     puts = x.streams.puts;
     over = o;
-    final = cc;
+    final = sym x.tracks.final ∙ final;
     holds = x.holds;
   }
 

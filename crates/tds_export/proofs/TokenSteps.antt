@@ -59,7 +59,7 @@ module _ {tokens : List Token} {s : Progress} {area notice : Space} {sink : Held
       let same = text_after-snoc false tokens t ∙ ap (λ l. text tokens ++ l) (so.text (begun_after false tokens)) ∙ append-nil (text tokens) in
       record {
         more = t ∷ [];
-        streams = record { bytes = r.bytes; spelt = r.spelt; takes = r.takes; puts = same_text from (with_token tokens t) sink (cc) begun.delivered };
+        streams = record { bytes = r.bytes; spelt = r.spelt; takes = r.takes; puts = same_text from (with_token tokens t) sink (none ∙ ap (λ l. l ++ []) (sym same)) begun.delivered };
         place_is = at;
         tracks = tracks;
         holds = holds-snoc _ _ t (so.encoded (encoded_after [] tokens)) begun.holds;

@@ -1,14 +1,7 @@
 -- What an export answers, where its reader and writer tell their bytes.
 use Rattle.tds_export.proofs.Words.{Accepted, Adds, Adds-trans, AfterStop, Appends, AreBytes, AreBytes-back, AreBytes-front, Bool, Bounded, BreaksStreaming, Charset, Comes, CompletesResponse, Consumes, CutsNext, Err, FailsToWrite, Fault, Given, Grammar, Held, IsHolding, IsKept, IsReader, IsWriter, List, Longest, MessageEnded, Ok, Option, Packet, Packets, Part, Payload, Place, Puts, ReadFailed, ReadsPart, ReadsWhole, Report, Reported, Reports, Rose, Run, RunStops, Seen, Some, Space, Spelt, Spelt-one, Stop, Stopped, Stops, StopsAtEnd, StopsExport, StopsInReading, StopsInText, StopsInWriting, StopsReading, Tells, Text, Tidied, Token, WriteFailed, [], after_tokens, ap, append-nil, append_assoc, arith, begun, begun_at, counted, drop, ends_front, error_text, false, flat_map-append, fresh_at, grammar, grammar_of, in_last, inl, inr, length, length-append, length-take-le, limits, limits_of, longest_cut, more, no_further, one_more, over_front, packet_bytes, payload_of, read, refl, report_of, response, response_start, rose, run_of, some_longest, stopped_with, subst, sym, take, take-append-add, take-append-drop, take-append-le, take-append_seam, takes_begins, text, text_put, text_so_far, true, waiting, wire_goes_on, wire_of, ℕ, ◌%◌, ◌*◌, ◌++◌, ◌+◌, ◌-◌, ◌/◌, ◌<◌, ◌∙◌, ◌∷◌, ◌≡◌, ◌≤◌}
-use Rattle.tds_export.proofs.SomeBytes.{AreBytes-append}
+use Rattle.tds_export.proofs.{SomeBytes.AreBytes-append, Peaks.bounded, Peaks.further, Peaks.reached_broken, Peaks.reached_stopped, Peaks.reached_whole, Peaks.rest_leads, TextBound.bounded_along, DeviceFaults.no_failure, AcceptedSucceeds.outcome_succeeds, ResponseMeaning.response_is_spelt, Cuts.spelt_both, ReadingGrows.text_along}
 use Rattle.tds_export.proofs.PacketOutcomes.{ReaderSide, kept_at, reading_stops, start}
-use Rattle.tds_export.proofs.Peaks.{bounded, further, reached_broken, reached_stopped, reached_whole, rest_leads}
-use Rattle.tds_export.proofs.TextBound.{bounded_along}
-use Rattle.tds_export.proofs.DeviceFaults.{no_failure}
-use Rattle.tds_export.proofs.AcceptedSucceeds.{outcome_succeeds}
-use Rattle.tds_export.proofs.ResponseMeaning.{response_is_spelt}
-use Rattle.tds_export.proofs.Cuts.{spelt_both}
-use Rattle.tds_export.proofs.ReadingGrows.{text_along}
 use native.Mathlib.Decide.{dec_le}
 
 -- ---- the text
@@ -26,12 +19,7 @@ record Delivers (given : Given) (l : Held) (text : List ℕ) : Type 0 where
 abbrev sends : (given : Given) (middle l : Held) (put piece sent : List ℕ) → IsWriter given l → Puts (fresh_at given) middle put → Adds middle l sent piece → Delivers given l (put ++ piece)
 sends given middle l put piece sent writer p a =
     let adds = Adds-trans (fresh_at given) middle l p.0 sent put piece p.2 a in
-    record {
-      gained = p.0 ++ sent;
-      has = rw writer.has at adds.0;
-      all = cc;
-      delivered = adds.2;
-    }
+    record { gained = p.0 ++ sent; has = rw writer.has at adds.0; all = ap (λ w. (p.0 ++ sent) ++ w) (sym writer.waiting) ∙ sym adds.1; delivered = adds.2 }
 
 -- the payload of packets is shorter than their wire, and of bytes where that is
 payload_short : (packets : List Packet) → length (payload_of packets) ≤ length (wire_of packets)
