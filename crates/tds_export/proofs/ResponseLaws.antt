@@ -59,6 +59,10 @@ module _ (charset : Charset) (room : ℕ) where
   pub return_in_response : (tokens : List Token) → Inside return_value (response charset room) (with_return tokens)
   return_in_response tokens = inside _ _ _ (return_agrees _)
 
+  -- bytes are read as a part of a response after another
+  abbrev Leads : Part → List ℕ → Part → Type 0
+  Leads = Spelt (response charset room)
+
   abbrev between_tokens : List Token → Part
   between_tokens tokens = record { tokens = tokens; at = Between }
 
@@ -66,15 +70,15 @@ module _ (charset : Charset) (room : ℕ) where
   at_part tokens at = record { tokens = tokens; at = at }
 
   -- the first byte of a token, and what follows it
-  lead_then : (tokens : List Token) (lead : Lead) (rest bytes : List ℕ) (to : Part) → StartsToken lead rest bytes → row_byte_fault (is_row_lead lead) (described_after None tokens) ≡ None → Spelt (response charset room) (after_lead charset tokens lead) rest to → Spelt (response charset room) (between_tokens tokens) bytes to
+  lead_then : (tokens : List Token) (lead : Lead) (rest bytes : List ℕ) (to : Part) → StartsToken lead rest bytes → row_byte_fault (is_row_lead lead) (described_after None tokens) ≡ None → Leads (after_lead charset tokens lead) rest to → Leads (between_tokens tokens) bytes to
   lead_then tokens lead rest bytes to (first, is, begins) free h =
       let begun = first_leads _ _ begins in
-      let one : Spelt (response charset room) (between_tokens tokens) (first ∷ []) (after_lead charset tokens lead) = spelt_one (omega arith) refl (cc) (cc) in
+      let one : Leads (between_tokens tokens) (first ∷ []) (after_lead charset tokens lead) = spelt_one (omega arith) refl (cc) (cc) in
       rw is (spelt_both one h)
 
   -- so are a Length and the body after it
   pub body_is_read : (tokens : List Token) (b : Bodied) (element body : List ℕ) → length element ≡ 2 → little element ≡ length body → part_fault room tokens (TokenLength b) element ≡ None → ((if is_notice b && not (holds_notice body) then Some BadNotice else None) ≡ None)
-      → Spelt (response charset room) (at_part tokens (TokenLength b)) (element ++ body) (with_token tokens (bodied b body))
+      → Leads (at_part tokens (TokenLength b)) (element ++ body) (with_token tokens (bodied b body))
   body_is_read tokens b element [] two is f g = grind (arith, Spelt-step, append-nil)
   body_is_read tokens b element (x ∷ xs) two is f g =
       let n = length (x ∷ xs) in
@@ -82,20 +86,20 @@ module _ (charset : Charset) (room : ℕ) where
       spelt_both (spelt_one (omega arith) two f to) (spelt_one (omega arith) refl g refl)
 
   -- the same by what spells a body
-  spelt_body : (tokens : List Token) (b : Bodied) (body bytes : List ℕ) → (is_notice b ≡ true → 14 ≤ length body) → (is_notice b ≡ true → holds_notice body ≡ true) → SpellsBody body bytes → Spelt (response charset room) (at_part tokens (TokenLength b)) bytes (with_token tokens (bodied b body))
+  spelt_body : (tokens : List Token) (b : Bodied) (body bytes : List ℕ) → (is_notice b ≡ true → 14 ≤ length body) → (is_notice b ≡ true → holds_notice body ≡ true) → SpellsBody body bytes → Leads (at_part tokens (TokenLength b)) bytes (with_token tokens (bodied b body))
   spelt_body tokens b body bytes long holds h =
       let n = length body in
       let two : little (n % 256 ∷ n / 256 ∷ []) ≡ n = omega arith in
       rw h.0 (body_is_read _ b (n % 256 ∷ n / 256 ∷ []) _ refl two (length_free room n tokens b (n % 256 ∷ n / 256 ∷ []) long two) (body_free b body holds))
 
   -- so is a notice
-  notice_token_is_read : (tokens : List Token) (b : Bodied) (n : Notice) (t : Token) (body rest bytes : List ℕ) → StartsToken (WithBody b) rest bytes → SpellsBody body rest → SpellsNotice n body → bodied b body ≡ t → Spelt (response charset room) (between_tokens tokens) bytes (with_token tokens t)
+  notice_token_is_read : (tokens : List Token) (b : Bodied) (n : Notice) (t : Token) (body rest bytes : List ℕ) → StartsToken (WithBody b) rest bytes → SpellsBody body rest → SpellsNotice n body → bodied b body ≡ t → Leads (between_tokens tokens) bytes (with_token tokens t)
   notice_token_is_read tokens b n t body rest bytes begins s h is =
       let r = notice_is_read n _ h in
       lead_then _ (WithBody b) _ _ _ begins (no_row (described_after None tokens)) (rw (← is) (spelt_body _ b _ _ (λ e. r.0) (λ e. r.1) s))
 
   -- a token with fields of a fixed length
-  fixed_is_read : (tokens : List Token) (f : Fixed) (t : Token) (fields bytes : List ℕ) → StartsToken (WithFields f) fields bytes → length fields ≡ fields_length f → fixed f fields ≡ t → Spelt (response charset room) (between_tokens tokens) bytes (with_token tokens t)
+  fixed_is_read : (tokens : List Token) (f : Fixed) (t : Token) (fields bytes : List ℕ) → StartsToken (WithFields f) fields bytes → length fields ≡ fields_length f → fixed f fields ≡ t → Leads (between_tokens tokens) bytes (with_token tokens t)
   fixed_is_read tokens f t fields bytes begins long is =
       lead_then _ (WithFields f) _ _ _ begins (no_row (described_after None tokens)) (Spelt-step _ _ _ _ (rw long (some_fields f)) long refl (cc))
 
@@ -103,7 +107,7 @@ module _ (charset : Charset) (room : ℕ) where
   pub fixed_spelt : (current : Option (List Column)) (f : Fixed) (fields bytes : List ℕ) → StartsToken (WithFields f) fields bytes → length fields ≡ fields_length f → SpellsToken charset room current (fixed f fields) bytes
   fixed_spelt current f fields bytes begins long = grind (arith, nat_tests)
 
-  row_token_is_read : (tokens : List Token) (current : Option (List Column)) (cells : List Cell) (bytes : List ℕ) → described_after None tokens ≡ current → HasColumns current → SpellsRowToken charset current cells bytes → Spelt (response charset room) (between_tokens tokens) bytes (with_token tokens (Row cells))
+  row_token_is_read : (tokens : List Token) (current : Option (List Column)) (cells : List Cell) (bytes : List ℕ) → described_after None tokens ≡ current → HasColumns current → SpellsRowToken charset current cells bytes → Leads (between_tokens tokens) bytes (with_token tokens (Row cells))
   row_token_is_read tokens None cells bytes is some h = absurd h
   row_token_is_read tokens (Some columns) cells bytes is some (rest, inl h) =
       let read = Inside-Spelt _ _ (with_row tokens) (row_in_response _) _ _ _ (row_is_read _ _ _ _ h.1) in
@@ -113,7 +117,7 @@ module _ (charset : Charset) (room : ℕ) where
       lead_then tokens AnNbcRow rest bytes (with_token tokens (Row cells)) h.0 (cc) (rw is read)
 
   -- what spells a token is read as it
-  token_is_read : (tokens : List Token) (t : Token) (bytes : List ℕ) → HasColumns (described_after None tokens) → SpellsToken charset room (described_after None tokens) t bytes → Spelt (response charset room) (between_tokens tokens) bytes (with_token tokens t)
+  token_is_read : (tokens : List Token) (t : Token) (bytes : List ℕ) → HasColumns (described_after None tokens) → SpellsToken charset room (described_after None tokens) t bytes → Leads (between_tokens tokens) bytes (with_token tokens t)
   token_is_read tokens (Metadata encoded columns) bytes some h =
       lead_then _ AMetadata _ _ _ h.0 (no_row (described_after None tokens))
       (Inside-Spelt _ _ _ (description_in_response _) _ _ _ (description_is_read _ _ _ h.1))
@@ -134,16 +138,16 @@ module _ (charset : Charset) (room : ℕ) where
   next_HasColumns : (current : Option (List Column)) (t : Token) (bytes : List ℕ) → HasColumns current → SpellsToken charset room current t bytes → HasColumns (described_after current (t ∷ []))
   next_HasColumns current t bytes some h = grind arith
 
-  tokens_are_read : (before : List Token) (current : Option (List Column)) (ts : List Token) (bytes : List ℕ) → described_after None before ≡ current → HasColumns current → SpellsTokens charset room current ts bytes → Spelt (response charset room) (between_tokens before) bytes (between_tokens (before ++ ts))
+  tokens_are_read : (before : List Token) (current : Option (List Column)) (ts : List Token) (bytes : List ℕ) → described_after None before ≡ current → HasColumns current → SpellsTokens charset room current ts bytes → Leads (between_tokens before) bytes (between_tokens (before ++ ts))
   tokens_are_read before current [] bytes is some h = grind (arith, Spelt-none, append-nil)
   tokens_are_read before current (t ∷ ts) bytes is some h =
-      let one : Spelt (response charset room) (between_tokens before) h.0 (with_token before t) = token_is_read _ t _ (rw is some) (rw is h.3) in
+      let one : Leads (between_tokens before) h.0 (with_token before t) = token_is_read _ t _ (rw is some) (rw is h.3) in
       let now : described_after None (before ++ t ∷ []) ≡ described_after current (t ∷ []) = cc (described_after-append None before (t ∷ [])) in
-      let rest : Spelt (response charset room) (with_token before t) h.1 (between_tokens ((before ++ t ∷ []) ++ ts)) = tokens_are_read (before ++ t ∷ []) (described_after current (t ∷ [])) ts h.1 now (next_HasColumns _ t _ some h.3) h.4 in
+      let rest : Leads (with_token before t) h.1 (between_tokens ((before ++ t ∷ []) ++ ts)) = tokens_are_read (before ++ t ∷ []) (described_after current (t ∷ [])) ts h.1 now (next_HasColumns _ t _ some h.3) h.4 in
       grind (arith, between_tokens, token_is_read, HasColumns, described_after-append, next_HasColumns, Spelt-append, append_assoc)
 
   -- What spells a response is read as its tokens, all of it.
-  pub response_is_read : (tokens : List Token) (payload : List ℕ) → Response charset room tokens payload → Spelt (response charset room) response_start payload (between_tokens tokens)
+  pub response_is_read : (tokens : List Token) (payload : List ℕ) → Response charset room tokens payload → Leads response_start payload (between_tokens tokens)
   response_is_read tokens payload h = tokens_are_read _ _ _ _ refl tt h.spelt
 
   -- No payload spells the tokens of two responses.

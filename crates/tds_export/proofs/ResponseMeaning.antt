@@ -155,7 +155,6 @@ module _ (charset : Charset) (room : ℕ) where
       (λ z. body_means tokens k [] (b ++ e) (further e h (read ∙ ap (λ v. v % 256 ∷ v / 256 ∷ []) (eq_true _ 0 z), omega arith)) (empty_body k (rw (eq_true _ 0 z) at n.free)))
       (λ z. further e h (read, t.1))
   part_step tokens (TokenBody k m) b e bytes h n =
-      let l = n.whole in
       body_means _ k e _ (further e h (cc, (let w = h.follows.1 in omega arith))) n.free
   part_step tokens (Fields f) b e bytes h n =
       let to : AfterLead tokens (WithFields f) (λ rest. rest ≡ e) (b ++ e) = further e h (cc) in

@@ -65,7 +65,6 @@ pub type_taken : (r : Result Kind Stop) (name head : List ℕ) (a b c : Seen) (p
     → MatchResult r (λ kind. Reads returned_type TypeHead a c (KnownType kind)) (λ stop. StopsType a c (middle - 8) stop)
     → MatchResult r (λ kind. ReadsReturn (ReturnHead name) (before_value name kind) a c place place') (λ stop. StopsReturn (ReturnHead name) a c place stop)
 type_taken (Ok kind) name head a b c place middle place' eight takes at x y =
-    let byte = slice_index head 7 in
     let known = rest_length_of _ _ _ x.info in
     return_reads_after (return_read _ (omega arith) refl (rw known refl) (rw known refl) eight takes at)
     (record { reads = record { bytes = x.rest; spelt = info_is_read _ _ _ _ known x.info; takes = x.takes }; place_is = x.place_is })
@@ -84,7 +83,6 @@ value_passed (Ok u) name kind {b = b} c place' x y =
     let inner = reads_inside _ _ (with_value name kind) (value_in_return _ _) _ b c _ y.steps.reads in
     record { value = record { name = name; kind = kind; value = y.value }; steps = return_reads_after x (record { reads = inner; place_is = y.steps.place_is }) }
 value_passed (Err stop) name kind {b = b} c {middle = middle} place' x y =
-    let start = cell_start kind (shape return_charset kind) in
     let end = value_agrees name kind _ (stops_size _ _ b c _ _ _ y.stops) in
     return_stops_after x (record { at = with_value name kind y.at; stops = stops_inside _ _ (with_value name kind) (value_in_return _ _) _ b c _ _ _ end.3 y.stops })
 

@@ -77,7 +77,6 @@ broken : (run : Run) (q : Seen) (k : Held) (at : Part) (stop : Stop) → ReaderS
     → IsHolding run.given.after.areas.description ((grammar run).add at x.element) → run.gained ≡ (subst (Puts (fresh_at run.given) x.middle) x.puts.1 x.puts.2).0 ++ x.breaks.0 → text_put run ≡ text_so_far at ++ take x.breaks.2 x.more → StopsInText run WriteFailed (length run.gained)
 broken run q k at stop side writer x holds gained all =
     let g = grammar run in
-    let l = limits run in
     let f = run.given.before.reader.failures in
     let be = x.bytes ++ x.element in
     let p = subst (Puts (fresh_at run.given) x.middle) x.puts.1 x.puts.2 in
@@ -236,7 +235,6 @@ stops_read g a q h k area failed stop h8 = grind arith
 pub stop_tells : (given : Given) (stopped : Stopped) → StopsExport given stopped → Tells given (Err stopped)
 unfolding Tells
 stop_tells given stopped x = λ input are e.
-    let area = given.after.areas.description in
     let stops = rw (begins_run given input e) at x.stops in
     let read = stops_read _ _ _ _ _ _ _ _ stops in
     let left = known_left _ _ _ read.1 in
