@@ -1,5 +1,5 @@
 -- Tokens with a Length and a body, as they are read.
-use Rattle.tds_export.proofs.Words.{Bodied, Bool, Charset, Ends, Held, IsNoted, List, Part, Progress, Reads, ReadsTokens, Seen, Space, StepStops, Stop, StopsReading, Takes, Token, TokenBody, [], ap, arith, began_at, bodied, choose_false, false, holds_notice, in_length, is_notice, length, length-append, little, little_number, ne_eqb, reads_one, refl, response, stops_after, sym, takes_both, true, with_token, ℕ, ◌++◌, ◌+◌, ◌<◌, ◌==◌, ◌∙◌, ◌≡◌, ◌≤◌}
+use Rattle.tds_export.proofs.Words.{Bodied, Bool, Charset, Ends, Held, IsNoted, List, Part, Progress, Reads, ReadsTokens, Seen, Space, StepStops, Stop, StopsReading, Takes, Token, TokenBody, arith, began_at, bodied, choose_false, false, holds_notice, in_length, is_notice, length, length-append, little, little_number, ne_eqb, reads_one, refl, response, stops_after, sym, takes_both, true, with_token, ℕ, ◌++◌, ◌+◌, ◌<◌, ◌∙◌, ◌≡◌, ◌≤◌}
 use Rattle.tds_export.proofs.TokenSteps.{Begun, bare_reads, quietly, stops_quietly}
 use Rattle.tds_export.proofs.{TokenLaws.bare_body, TokenLaws.tracks_body, ResponseLaws.body_free, ResponseLaws.body_is_read, ResponseLaws.length_free, Cuts.part_cut}
 

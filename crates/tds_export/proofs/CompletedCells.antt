@@ -1,5 +1,5 @@
 -- What completes a cell is read as its rest.
-use Rattle.tds_export.proofs.Words.{AreBytes, BadValue, Binary, BitN, Bool, Cell, CellPart, ChunkData, ChunkLength, Conversion, DataCell, Date, DateTime2, DateTimeN, DateTimeOffset, Decimal, Guid, IntN, IsNext, Kind, List, MoneyN, Narrow, None, Null, Ok, Option, Result, ScalarBytes, ScalarCell, ScalarLength, ScalarValue, ShortData, ShortLength, Some, Spelt, Spelt-none, Time, Total, Utf8Text, ValueFault, WholeCell, Wide, Windows1252, [], add-one, and_parts, ap, append_assoc, arith, cell, cell_add, cell_start, checked, choose, choose_false, eq-eqb, eq_false, eq_true, false, fixed_length, fixed_some, is_begun, is_decimal_length, is_fit, is_length_allowed, is_ok, is_scalar, is_total, is_valid, le_true, length, length-append, length-replicate, nat_le, nat_tests, or_cases, read_of, refl, replicate, rest_of_cell, rest_of_chunks, shape, subst, suc, sym, terminator, test_le, test_lt, time_length, true, unit, unless, unless_none, unwrap_or, value_of, value_part, within_total, zero, zero_chunks, zeros, ℕ, ◌%◌, ◌&&◌, ◌++◌, ◌+◌, ◌<◌, ◌∙◌, ◌∷◌, ◌≡◌, ◌≤◌}
+use Rattle.tds_export.proofs.Words.{AreBytes, Binary, BitN, Bool, Cell, CellPart, ChunkData, ChunkLength, Conversion, DataCell, Date, DateTime2, DateTimeN, DateTimeOffset, Decimal, Guid, IntN, IsNext, Kind, List, MoneyN, Narrow, None, Null, Ok, Option, Result, ScalarBytes, ScalarCell, ScalarLength, ScalarValue, ShortData, ShortLength, Some, Spelt, Spelt-none, Time, Total, Utf8Text, ValueFault, WholeCell, Wide, Windows1252, [], add-one, and_parts, ap, append_assoc, arith, cell, cell_add, cell_start, checked, choose, choose_false, eq-eqb, eq_false, eq_true, false, fixed_length, fixed_some, is_begun, is_decimal_length, is_fit, is_length_allowed, is_scalar, is_total, is_valid, le_true, length, length-append, length-replicate, nat_le, nat_tests, or_cases, read_of, refl, rest_of_cell, rest_of_chunks, shape, suc, sym, terminator, test_le, test_lt, time_length, true, unit, unless_none, unwrap_or, value_of, value_part, within_total, zero, zero_chunks, zeros, ℕ, ◌%◌, ◌&&◌, ◌++◌, ◌+◌, ◌<◌, ◌∙◌, ◌∷◌, ◌≡◌, ◌≤◌}
 use Rattle.tds_export.proofs.SomeBytes.{exactly, little_below, one_of_four, one_of_two}
 use Rattle.tds_export.proofs.Cuts.{spelt_both, spelt_one}
 

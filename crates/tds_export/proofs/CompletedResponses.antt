@@ -1,5 +1,5 @@
 -- What completes a response is read as its rest.
-use Rattle.tds_export.proofs.Words.{common_steps, ADone, APassed, AreBytes, AreBytes-back, AreBytes-front, Between, CanBeCompleted, Column, Describing, DescriptionPart, Done, Fields, InReturn, InRow, Inside-Spelt, IsNext, Lead, List, Metadata, None, Open, Option, Part, PassedOver, ReturnPart, Returned, Row, RowPart, Some, Spelt, Spelt-induct, Spelt-none, Token, TokenBody, TokenLength, WholeDescription, WholeReturn, WholeRow, Windows1252, [], add_described, after_first, arith, begun, bodied, choose, completion, described_after, description, done, done_byte, eq_false, false, fields_length, fixed, holds_notice, lead_of, length, length-replicate, nat_tests, part_add, passed, refl, replicate-append-replicate, response, response_start, rest_of_description, rest_of_return, rest_of_row, rest_of_token, return_add, return_value, row, row_add, slice_index, start_of_row, subst, sym, test_le, test_lt, true, with_described, with_return, with_row, with_token, zeros, ℕ, ◌++◌, ◌<◌, ◌∙◌, ◌∷◌, ◌≡◌, ◌≤◌}
+use Rattle.tds_export.proofs.Words.{common_steps, ADone, APassed, AreBytes, AreBytes-back, AreBytes-front, Between, CanBeCompleted, Column, Describing, DescriptionPart, Done, Fields, InReturn, InRow, Inside-Spelt, IsNext, Lead, List, Metadata, None, Open, Option, Part, PassedOver, ReturnPart, Returned, Row, RowPart, Some, Spelt, Spelt-induct, Spelt-none, Token, TokenBody, TokenLength, Windows1252, [], after_first, arith, begun, bodied, choose, described_after, done, done_byte, eq_false, false, fields_length, fixed, holds_notice, lead_of, length, length-replicate, nat_tests, part_add, passed, refl, replicate-append-replicate, response, response_start, rest_of_token, slice_index, start_of_row, test_le, test_lt, true, with_described, with_return, with_row, with_token, zeros, ℕ, ◌++◌, ◌<◌, ◌∙◌, ◌∷◌, ◌≡◌, ◌≤◌}
 use Rattle.tds_export.proofs.{SomeBytes.AreBytes-append, ResponseMeaning.response_is_spelt, Cuts.spelt_both, Cuts.spelt_one}
 use Rattle.tds_export.proofs.CompletionBytes.{AreBytes-completion, IsOpenReturn, IsOpenRow, OpenReached}
 use Rattle.tds_export.proofs.CompletedRows.{AreValid, RowReached, marked_valid, next_reached, row_ends, row_keeps}

@@ -1,5 +1,5 @@
 -- What completes a return value is read as its rest.
-use Rattle.tds_export.proofs.Words.{AreBytes, BadTypeInfo, CellPart, Guid, InReturnCell, Inside-Spelt, IsNext, Kind, List, None, Null, Option, ReturnHead, ReturnInfo, ReturnName, ReturnNameCount, ReturnOrdinal, ReturnPart, ReturnValue, ScalarLength, Some, Spelt, Spelt-none, WholeCell, WholeReturn, [], ap, arith, bare_type, begun, cell, cell_add, cell_start, choose, eq_false, eq_true, if◌then◌else◌, is_some, is_some_value, is_valid, kind_of, least_info, length, length-replicate, more, named_kind, refl, rest_length, rest_of_cell, rest_of_return, rest_of_return_head, rest_of_value, return_add, return_charset, return_column, return_value, shape, subst, sym, true, unwrap_or, valid_of, with_return_kind, with_value, zeros, ℕ, ◌++◌, ◌<◌, ◌∙◌, ◌∷◌, ◌≡◌}
+use Rattle.tds_export.proofs.Words.{AreBytes, BadTypeInfo, CellPart, Guid, InReturnCell, Inside-Spelt, IsNext, Kind, List, None, Null, Option, ReturnHead, ReturnInfo, ReturnName, ReturnNameCount, ReturnOrdinal, ReturnPart, ReturnValue, ScalarLength, Some, Spelt, Spelt-none, WholeReturn, [], ap, arith, bare_type, begun, choose, eq_false, eq_true, if◌then◌else◌, is_some, is_some_value, is_valid, least_info, length-replicate, more, named_kind, refl, rest_length, rest_of_cell, rest_of_return, rest_of_return_head, rest_of_value, return_add, return_column, return_value, true, valid_of, with_return_kind, with_value, zeros, ℕ, ◌++◌, ◌<◌, ◌∷◌, ◌≡◌}
 use Rattle.tds_export.proofs.CompletedCells.{CellReached, cell_ends, cell_keeps, start_reached}
 use Rattle.tds_export.proofs.{CompletedRows.IsOpenCell, ReturnLaws.accepted, ReturnLaws.some_kind, ReturnLaws.value_in_return, LeastTypes.least_type, Cuts.spelt_both, Cuts.spelt_one}
 

@@ -1,5 +1,5 @@
 -- What completes a row is read as its rest.
-use Rattle.tds_export.proofs.Words.{AreBytes, Bitmap, Bool, Cell, CellPart, Column, InCell, Inside-Spelt, IsNext, Kind, List, Null, RowPart, Shape, Spelt, Spelt-none, WholeCell, WholeRow, Windows1252, [], all_clear, arith, before, begins_open, begun, bit, bitmap_length, cell, cell_in_row, cell_start, div-eq_of_lt, false, is_valid, length, length-replicate, marked, next_cell, one-le-pow, refl, rest_of_cell, rest_of_cells, rest_of_row, row, row_add, shape, slice_index, some_bitmap, subst, suc, true, with_cell, zero, zeros, ℕ, ◌++◌, ◌+◌, ◌<◌, ◌∷◌, ◌≡◌}
+use Rattle.tds_export.proofs.Words.{AreBytes, Bitmap, Bool, Cell, CellPart, Column, InCell, Inside-Spelt, IsNext, Kind, List, Null, RowPart, Shape, Spelt, Spelt-none, WholeCell, WholeRow, Windows1252, [], all_clear, arith, before, begins_open, begun, bit, bitmap_length, cell_in_row, cell_start, div-eq_of_lt, false, is_valid, length, length-replicate, marked, next_cell, one-le-pow, refl, rest_of_cell, rest_of_cells, rest_of_row, row, row_add, shape, slice_index, some_bitmap, subst, suc, true, with_cell, zero, zeros, ℕ, ◌++◌, ◌+◌, ◌<◌, ◌∷◌, ◌≡◌}
 use Rattle.tds_export.proofs.CompletedCells.{CellReached, cell_ends, cell_keeps, start_reached}
 use Rattle.tds_export.proofs.Cuts.{spelt_both, spelt_one}
 

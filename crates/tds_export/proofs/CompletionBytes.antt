@@ -1,5 +1,5 @@
 -- What completes a response are bytes.
-use Rattle.tds_export.proofs.Words.{AreBytes, Bool, CellPart, Column, Describing, InReturn, InReturnCell, InRow, Kind, List, Open, Option, Part, ReturnHead, ReturnInfo, ReturnName, ReturnNameCount, ReturnOrdinal, ReturnPart, RowPart, TokenBody, WholeReturn, WholeRow, Windows1252, [], arith, cell_start, completion, done, false, int_column, int_columns, is_notice, kind_of, least_info, rest_of_cell, rest_of_cells, rest_of_return, rest_of_return_head, rest_of_token, rest_of_value, shape, suc, true, zero, zero_chunks, zeros, ℕ, ◌<◌, ◌∷◌, ◌≡◌, ◌≤◌}
+use Rattle.tds_export.proofs.Words.{AreBytes, Bool, CellPart, Column, Describing, InReturn, InReturnCell, InRow, Kind, List, Open, Option, Part, ReturnHead, ReturnInfo, ReturnName, ReturnNameCount, ReturnOrdinal, ReturnPart, RowPart, TokenBody, WholeReturn, WholeRow, Windows1252, [], arith, cell_start, completion, false, int_column, int_columns, is_notice, rest_of_cell, rest_of_cells, rest_of_return, rest_of_return_head, rest_of_token, rest_of_value, shape, suc, true, zero, zero_chunks, zeros, ℕ, ◌<◌, ◌∷◌, ◌≡◌, ◌≤◌}
 use Rattle.tds_export.proofs.{SomeBytes.AreBytes-append, SomeBytes.AreBytes-replicate, CompletedDescriptions.DescribedReached, CompletedDescriptions.IsOpenDescription, CompletedReturns.ReturnReached, CompletedRows.RowReached, LeastTypes.least_type}
 
 -- a row, and a return value, that isn't whole

@@ -1,5 +1,5 @@
 -- Where an export stops with the fault of a device, the device's count of failures rose.
-use Rattle.tds_export.proofs.Words.{Charset, Coming, Ends, Fault, Given, Held, InputEnded, IsOfWire, IsOver, List, MessageEnded, Option, Part, ReadFailed, Report, Reports, Rose, RunStops, Seen, Stop, Stopped, StopsExport, StopsReading, Takes, WriteFailed, [], ap, arith, before, begun, begun_at, fresh_at, front_packet, grammar_of, inl, inr, length, message, message_of_wire, one_more, read, response, response_start, rose, subst, sym, true, whole_message, ℕ, ◌++◌, ◌<◌, ◌∙◌, ◌∷◌, ◌≡◌, ◌⊎◌, limits_of}
+use Rattle.tds_export.proofs.Words.{Charset, Coming, Ends, Fault, Given, Held, IsOfWire, IsOver, List, MessageEnded, Option, Part, ReadFailed, Report, Reports, Rose, RunStops, Seen, Stop, Stopped, StopsExport, StopsReading, Takes, WriteFailed, [], ap, arith, before, begun, begun_at, fresh_at, front_packet, grammar_of, inl, inr, length, message, message_of_wire, one_more, read, response, response_start, rose, subst, sym, true, whole_message, ℕ, ◌++◌, ◌<◌, ◌∙◌, ◌∷◌, ◌≡◌, ◌⊎◌, limits_of}
 use Rattle.tds_export.proofs.PayloadFaults.{IsOfPayload, element_fault, end_fault}
 
 -- ---- a payload that has just begun

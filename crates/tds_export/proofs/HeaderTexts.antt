@@ -1,5 +1,5 @@
 -- The text of a name that is joined in one piece.
-use Rattle.tds_export.proofs.Words.{Bool, Breaks, Breaks-after, Breaks-longer, Completes, EndsBy, Err, Held, IsStopIn, IsStopped, JoinFault, List, Pushes, Puts, Puts-trans, Stop, TakesPiece, [], ap, arith, before, emit, false, joins_utf16, subst, sym, ℕ, ⊤, ◌++◌, ◌∙◌, ◌≡◌}
+use Rattle.tds_export.proofs.Words.{Bool, Breaks, Breaks-after, Breaks-longer, Completes, EndsBy, Err, Held, IsStopIn, IsStopped, JoinFault, List, Pushes, Puts, Puts-trans, Stop, TakesPiece, [], ap, arith, before, emit, false, joins_utf16, sym, ℕ, ⊤, ◌++◌, ◌∙◌, ◌≡◌}
 use Rattle.tds_csv.specs.declared.joiners.JoinFault.TheVariants.{Stopped}
 use Rattle.tds_csv.specs.Utf16 as utf16
 

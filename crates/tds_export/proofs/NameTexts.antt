@@ -1,5 +1,5 @@
 -- The names of columns, put one after another.
-use Rattle.tds_export.proofs.Words.{Bool, Column, Err, IsErrAnd, IsWriting, List, Ok, Option, PutsPiece, PutsPiece-none, PutsPiece-passed, PutsPiece-trans, Result, Sink, Stop, [], ap, append_assoc, codes, false, joined, joined_more, map, map-append, more, name_field, not, refl, subst, sym, text_if, true, ℕ, ◌++◌, ◌∙◌, ◌∷◌, ◌≡◌}
+use Rattle.tds_export.proofs.Words.{Bool, Column, Err, IsErrAnd, IsWriting, List, Ok, Option, PutsPiece, PutsPiece-none, PutsPiece-passed, PutsPiece-trans, Result, Sink, Stop, [], ap, append_assoc, codes, false, joined, joined_more, map, map-append, more, name_field, not, refl, sym, text_if, true, ℕ, ◌++◌, ◌∙◌, ◌∷◌, ◌≡◌}
 
 -- one piece was put, and another after it
 pub then_puts : {W U V : Type 0} {contents : W → Option (List ℕ)} {a b c : Sink W} {u : U} {p q : List ℕ} {r : Result V Stop} → PutsPiece contents a b p (Ok u) → PutsPiece contents b c q r → PutsPiece contents a c (p ++ q) r

@@ -1,5 +1,5 @@
 -- ERROR and INFO in their response, and the text of the first error.
-use Rattle.tds_export.proofs.Words.{AnError, AnInfo, Bodied, Bool, Charset, Error, Held, Info, IsHolding, IsInBody, IsNoted, List, Option, Part, Progress, ReadsNotice, ReadsTokens, Report, Seen, ServerError, Some, Space, StepStops, Stop, StopsInNotice, Token, TracksBefore, [], after_tokens, ap, appended, arith, characters, empty, first_error, how_many, in_length, inl, inr, is_error, length, length-append, length-take, message_text, notice_of, option_map, refl, response, server_error, sym, text, text_so_far, utf8_valid_len_le, whole_within, ℕ, ◌++◌, ◌+◌, ◌-◌, ◌<◌, ◌∙◌, ◌∷◌, ◌≡◌, ◌≤◌}
+use Rattle.tds_export.proofs.Words.{AnError, AnInfo, Bodied, Bool, Charset, Error, Held, IsHolding, IsInBody, IsNoted, List, Option, Part, Progress, ReadsNotice, ReadsTokens, Report, Seen, ServerError, Some, Space, StepStops, Stop, StopsInNotice, Token, TracksBefore, [], after_tokens, ap, appended, arith, characters, empty, first_error, how_many, in_length, inl, inr, is_error, length, length-append, length-take, message_text, notice_of, option_map, refl, response, server_error, sym, text, text_so_far, utf8_valid_len_le, whole_within, ℕ, ◌++◌, ◌+◌, ◌-◌, ◌<◌, ◌∙◌, ◌∷◌, ◌≡◌, ◌≤◌}
 use Rattle.tds_export.proofs.TokenSteps.{Begun, bare_reads, quietly, stops_quietly}
 use Rattle.tds_export.proofs.TokenLaws.{first_next, first_stays, no_errors, tracks_error, tracks_info}
 

@@ -1,5 +1,5 @@
 -- The Length and the body of an ERROR or INFO, as they are read.
-use Rattle.tds_export.proofs.Words.{BadNotice, Bodied, Charset, Ends, EndsInto, IsBetween, List, Payload, ReadsNotice, Seen, Some, Space, Stop, StopsInNotice, TakesInto, Token, TokenBody, TokenLength, arith, began_at, between, cut_into, false, holds_notice, in_length, inl, inr, is_notice, length, length-append, part_fault, refl, refused_at_once, refused_into, response, take, test_lt, true, ℕ, ◌+◌, ◌<◌, ◌≡◌, ◌≤◌}
+use Rattle.tds_export.proofs.Words.{BadNotice, Bodied, Charset, Ends, EndsInto, IsBetween, List, Payload, ReadsNotice, Seen, Some, Space, Stop, StopsInNotice, TakesInto, Token, TokenBody, TokenLength, arith, began_at, between, cut_into, false, holds_notice, in_length, inl, inr, is_notice, length, length-append, part_fault, refl, refused_at_once, refused_into, take, test_lt, true, ℕ, ◌+◌, ◌<◌, ◌≡◌, ◌≤◌}
 use Rattle.tds_export.proofs.{Bodies.LengthRead, Bodies.after_length, Bodies.body_reads, Bodies.in_body, Bodies.number_is, Cuts.fill_cut}
 
 module _ (charset : Charset) (room : ℕ) {tokens : List Token} {which : Bodied} (notice : is_notice which ≡ true) where

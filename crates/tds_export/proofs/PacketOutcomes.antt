@@ -1,5 +1,5 @@
 -- How an export ended, by the packets of its input.
-use Rattle.tds_export.proofs.Words.{AreBytes, Describing, EndsInLast, EndsMessage, Fault, InLast, IsHolding, IsKept, IsRefused, List, Longest, Open, Packet, Part, RefusesNext, Rose, Run, Seen, Some, Space, Spelt, Stop, StopsAfterPackets, StopsInPayload, StopsOnWire, Token, [], ap, append_assoc, arith, begun, description_of, drop, drop-append_seam, grammar, in_last, inl, inr, length, length-append, longest_cut, longest_refused, more, one_more, payload_of, refl, response_start, rose, subst, sym, take, take-append_seam, takes_begins, text, text_so_far, wire_of, ℕ, ◌++◌, ◌<◌, ◌∙◌, ◌≡◌, ◌≤◌, limits, CutsNext, ends_front, Stops, wire_goes_on, Payload, StopsReading, text_put, MessageEnded, ReadFailed, Place, ◌+◌}
+use Rattle.tds_export.proofs.Words.{AreBytes, Describing, EndsInLast, EndsMessage, Fault, InLast, IsHolding, IsKept, IsRefused, List, Open, Packet, Part, RefusesNext, Rose, Run, Seen, Some, Space, Spelt, Stop, StopsAfterPackets, StopsInPayload, StopsOnWire, Token, [], ap, append_assoc, arith, begun, description_of, drop, drop-append_seam, grammar, in_last, inl, inr, length, length-append, longest_cut, longest_refused, more, payload_of, refl, response_start, rose, subst, sym, take, take-append_seam, takes_begins, text, text_so_far, wire_of, ℕ, ◌++◌, ◌<◌, ◌∙◌, ◌≡◌, limits, CutsNext, ends_front, Stops, wire_goes_on, Payload, StopsReading, text_put, ◌+◌}
 
 -- what the area holds at a part is kept, whatever follows
 pub kept_at : (area : Space) (tokens : List Token) (at : Open) (rest : List ℕ) → area.bytes ≡ description_of tokens at → IsKept area.bytes tokens at rest

@@ -1,5 +1,5 @@
 -- No element of a response has a fault of a device.
-use Rattle.tds_export.proofs.Words.{Bool, Charset, Fault, List, None, Open, Option, Part, ReadFailed, Some, Token, WriteFailed, arith, if◌then◌else◌, part_end, part_fault, response, subst, ℕ, ⊤, ◌≡◌}
+use Rattle.tds_export.proofs.Words.{Bool, Charset, Fault, List, None, Open, Option, Part, ReadFailed, Some, Token, WriteFailed, arith, if◌then◌else◌, part_end, part_fault, response, ℕ, ⊤, ◌≡◌}
 
 -- a fault that elements may have, or the end of a message
 abbrev pub IsOfPayload : Fault → Type 0

@@ -1,5 +1,5 @@
 -- How much of a description was held in an export: no more than the span of one at the front of the input.
-use Rattle.tds_export.proofs.Words.{AreBefore, AreBytes, AreMessage, Bounded, Charset, Fault, Grammar, Held, IsBetween, Limits, List, Longest, Packet, Part, ReadsWhole, Run, Seen, Some, Space, Spelt, Spelt-append, Spelt-induct, Spelt-one, Stop, StopsInWriting, StopsReading, Takes, Told, WirePart, [], after_last, after_tokens, ap, append-nil, append_assoc, arith, before_are_read, before_packet, between, ends_front, feed-Spelt, feed_all, feed_all-append, flat_map-append, grammar, inl, inr, length, length-append, message_is_read, more, no_wire, over_front, payload_of, read_front, response, response_start, some_longest, span_so_far, subst, sym, take, take-append-add, take-append_seam, takes_begins, told, wire, wire_of, ℕ, ◌++◌, ◌+◌, ◌-◌, ◌∙◌, ◌≡◌, ◌≤◌, ◌⊎◌, limits}
+use Rattle.tds_export.proofs.Words.{AreBefore, AreBytes, AreMessage, Bounded, Charset, Fault, Grammar, Held, IsBetween, Limits, List, Longest, Packet, Part, ReadsWhole, Run, Seen, Some, Space, Spelt, Spelt-append, Spelt-induct, Spelt-one, Stop, StopsInWriting, StopsReading, Takes, Told, WirePart, [], after_tokens, ap, append-nil, append_assoc, arith, before_are_read, between, ends_front, feed-Spelt, feed_all, feed_all-append, flat_map-append, grammar, inl, inr, length, length-append, message_is_read, more, no_wire, over_front, payload_of, read_front, response, response_start, some_longest, span_so_far, sym, take, take-append-add, take-append_seam, takes_begins, told, wire, wire_of, ℕ, ◌++◌, ◌+◌, ◌-◌, ◌∙◌, ◌≡◌, ◌≤◌, ◌⊎◌, limits}
 use Rattle.tds_export.proofs.{AcceptedSucceeds.BeginsWith, AcceptedSucceeds.begins_added, ReadingGrows.span_along, PacketOutcomes.start}
 
 -- a part of a response was read from whole packets at the front of an input
@@ -56,7 +56,7 @@ bounded run at are r peak =
 taken : (run : Run) (q : Seen) (at : Part) (bytes later : List ℕ) (n : ℕ) → AreBytes run.input → q.left ≡ Some run.left → Takes (start run) q (bytes ++ later) n → IsBetween q → Spelt (grammar run) response_start bytes at → Reached run.given.charset (limits run) run.input at
 taken run q at bytes later n are left t between spelt =
     let b = takes_begins _ _ _ _ _ q _ n are left t between in
-    record { packets = b.packets; rest = run.left; begin = b.begin; each = b.each; within = b.within; bytes = bytes; more = later ++ (q.future []).bytes; spelt = spelt; payload_is = cc (append_assoc bytes later (q.future []).bytes)}
+    record { packets = b.packets; rest = run.left; begin = b.begin; each = b.each; within = b.within; bytes = bytes; more = later ++ (q.future []).bytes; spelt = spelt; payload_is = cc (append_assoc bytes later (q.future []).bytes) }
 
 pub reached_stopped : (run : Run) (q : Seen) (at : Part) (stop : Stop) → AreBytes run.input → q.left ≡ Some run.left → StopsReading (grammar run) response_start (start run) q 0 at stop → Reached run.given.charset (limits run) run.input at
 reached_stopped run q at stop are left s = elim s.cause [
@@ -76,4 +76,4 @@ reached_broken run q old new area stop x are left =
 pub reached_whole : (run : Run) (q : Seen) (old new : Held) (area : Space) (x : ReadsWhole (grammar run) response_start (start run) q old new area) → AreBytes run.input → q.left ≡ Some run.left → Reached run.given.charset (limits run) run.input (after_tokens x.tokens)
 reached_whole run q old new area x are left =
     let m = over_front _ _ _ _ _ q _ _ are left x.takes x.over in
-    record { packets = m.packets; rest = run.left; begin = m.begin; each = inl m.each; within = m.within; bytes = x.bytes; more = []; spelt = x.spelt; payload_is = cc (append-nil x.bytes)}
+    record { packets = m.packets; rest = run.left; begin = m.begin; each = inl m.each; within = m.within; bytes = x.bytes; more = []; spelt = x.spelt; payload_is = cc (append-nil x.bytes) }

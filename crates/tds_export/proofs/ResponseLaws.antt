@@ -1,5 +1,5 @@
 -- What a response's spelling is read as.
-use Rattle.tds_export.proofs.Words.{ADone, ADoneInProc, AMetadata, APassed, AReturn, ARow, AStatus, Accepted, AnError, AnInfo, AnNbcRow, BadNotice, BeforeCount, Between, Bodied, Bool, Cell, Charset, Column, Describing, DescriptionPart, Done, DoneInProc, Error, Fault, Fields, Fixed, Info, Inside, Inside-Spelt, IsFirst, IsRefused, Lead, List, Longest, Metadata, NoMetadata, None, Notice, Open, Option, Packet, Part, PassedOver, Response, ReturnOrdinal, ReturnPart, ReturnStatus, Returned, Row, RowPart, Some, SpellsBody, SpellsMore, SpellsNotice, SpellsRowToken, SpellsToken, SpellsTokens, Spelt, Spelt-append, Spelt-none, Spelt-step, StartsToken, Token, TokenBody, TokenLength, WholeDescription, WholeReturn, WholeRow, WithBody, WithFields, [], after_first, after_lead, ap, append-nil, append_assoc, arith, before, bodied, choose_false, described_after, description, description_is_read, drop, false, fields_length, fixed, holds_notice, if◌then◌else◌, inl, inr, is_notice, is_row_lead, lead, lead_fault, lead_of, length, little, more, nat_tests, nbc_row_is_read, nbc_row_start, ne_eqb, not, one_message, one_state, part_fault, passed, payload_of, refl, refused_for_good, response, response_start, return_value, row, row_byte_fault, row_is_read, row_start, subst, sym, take, take-add, true, with_described, with_return, with_row, with_token, ℕ, ◌%◌, ◌&&◌, ◌++◌, ◌+◌, ◌/◌, ◌<◌, ◌==◌, ◌∙◌, ◌∷◌, ◌≡◌, ◌≤◌}
+use Rattle.tds_export.proofs.Words.{ADone, ADoneInProc, AMetadata, APassed, AReturn, ARow, AStatus, Accepted, AnError, AnInfo, AnNbcRow, BadNotice, Between, Bodied, Bool, Cell, Charset, Column, DescriptionPart, Done, DoneInProc, Error, Fault, Fixed, Info, Inside, Inside-Spelt, IsFirst, IsRefused, Lead, List, Longest, Metadata, NoMetadata, None, Notice, Open, Option, Packet, Part, PassedOver, Response, ReturnPart, ReturnStatus, Returned, Row, RowPart, Some, SpellsBody, SpellsMore, SpellsNotice, SpellsRowToken, SpellsToken, SpellsTokens, Spelt, Spelt-append, Spelt-none, Spelt-step, StartsToken, Token, TokenBody, TokenLength, WithBody, WithFields, [], after_lead, ap, append-nil, append_assoc, arith, before, bodied, choose_false, described_after, description, description_is_read, drop, false, fields_length, fixed, holds_notice, if◌then◌else◌, inl, inr, is_notice, is_row_lead, lead, lead_of, length, little, more, nat_tests, nbc_row_is_read, ne_eqb, not, one_message, one_state, part_fault, passed, refl, refused_for_good, response, response_start, return_value, row, row_byte_fault, row_is_read, sym, take, take-add, true, with_described, with_return, with_row, with_token, ℕ, ◌%◌, ◌&&◌, ◌++◌, ◌+◌, ◌/◌, ◌<◌, ◌∙◌, ◌∷◌, ◌≡◌, ◌≤◌}
 use Rattle.tds_export.proofs.{ReturnLaws.Agrees, ReturnLaws.inside, ReturnLaws.return_is_read, NoticeLaws.notice_is_read, Cuts.spelt_both, Cuts.spelt_one}
 
 pub described_after-append : (before : Option (List Column)) (a b : List Token) → described_after before (a ++ b) ≡ described_after (described_after before a) b

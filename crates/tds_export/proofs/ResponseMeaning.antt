@@ -1,5 +1,5 @@
 -- What the bytes that lead to a part of a response spell.
-use Rattle.tds_export.proofs.Words.{AMetadata, APassed, AReturn, ARow, AnNbcRow, AreBytes, AreBytes-back, AreBytes-front, BadNotice, Between, Bodied, Bool, Cell, Charset, Column, DescribedMeans, Describing, DescriptionPart, Fields, InReturn, InRow, IsFirst, IsNext, Lead, List, Metadata, NoDescription, NoMetadata, None, Open, Option, Part, Response, ReturnPart, Returned, Row, RowMeans, RowPart, Some, SpellsBody, SpellsDescription, SpellsNotice, SpellsRowToken, SpellsToken, SpellsTokens, Spelt, Spelt-induct, Token, TokenBody, TokenLength, WholeDescription, WholeReturn, WholeRow, WithBody, WithFields, [], add-one, add_described, after_first, after_lead, ap, append-nil, append_assoc, arith, bodied, choose, described_after, described_step, drop, drop-cons, drop-drop, eq_true, false, fixed, holds_notice, if◌then◌else◌, inl, inr, is_final, is_notice, is_row_lead, lead, lead_fault, lead_of, length, length-drop, length-take-le, line_at, little, message, nat_lt, not, notice_of, one_byte, part_add, passed, procedure_at, refl, response, response_start, return_add, row_add, row_byte_fault, row_start, row_start_means, row_step, server_at, slice_index, start_of_row, subst, sym, take, take-append-drop, true, two_bytes, with_described, with_return, with_row, with_token, ℕ, ◌%◌, ◌&&◌, ◌*◌, ◌++◌, ◌+◌, ◌-◌, ◌/◌, ◌<◌, ◌==◌, ◌∙◌, ◌∷◌, ◌≡◌, ◌≤◌}
+use Rattle.tds_export.proofs.Words.{AMetadata, APassed, AReturn, ARow, AnNbcRow, AreBytes, AreBytes-back, AreBytes-front, BadNotice, Between, Bodied, Bool, Cell, Charset, Column, DescribedMeans, Describing, DescriptionPart, Fields, InReturn, InRow, IsFirst, IsNext, Lead, List, NoDescription, None, Open, Option, Part, Response, ReturnPart, RowMeans, RowPart, Some, SpellsBody, SpellsNotice, SpellsRowToken, SpellsToken, SpellsTokens, Spelt, Spelt-induct, Token, TokenBody, TokenLength, WholeDescription, WholeReturn, WholeRow, WithBody, WithFields, [], add-one, after_first, after_lead, ap, append-nil, append_assoc, arith, bodied, choose, described_after, described_step, drop, drop-cons, drop-drop, eq_true, false, fixed, holds_notice, if◌then◌else◌, inl, inr, is_final, is_notice, is_row_lead, lead, lead_fault, lead_of, length, length-drop, length-take-le, line_at, little, message, nat_lt, not, notice_of, one_byte, part_add, passed, procedure_at, refl, response, response_start, row_byte_fault, row_start, row_start_means, row_step, server_at, slice_index, start_of_row, sym, take, take-append-drop, true, two_bytes, with_described, with_return, with_row, with_token, ℕ, ◌%◌, ◌&&◌, ◌*◌, ◌++◌, ◌+◌, ◌/◌, ◌<◌, ◌∙◌, ◌∷◌, ◌≡◌, ◌≤◌}
 use Rattle.tds_export.proofs.{ReturnLaws.ReturnMeans, ReturnLaws.return_step, ResponseLaws.described_after-append, ResponseLaws.fixed_spelt, NoticeReading.parts_within}
 
 -- so many of the bytes after the first n, and those after them

@@ -1,5 +1,5 @@
 -- What a return value's spelling is read as, and what the bytes that lead to a part of it spell.
-use Rattle.tds_export.proofs.Words.{AreBytes, BadTypeInfo, CellMeans, CellPart, Fault, Grammar, InReturnCell, Inside, Inside-Spelt, IsNext, IsTypeInfo, Kind, List, None, Option, ReturnHead, ReturnInfo, ReturnName, ReturnNameCount, ReturnOrdinal, ReturnPart, ReturnValue, Some, SpellsReturnName, SpellsReturnValue, Spelt, Spelt-none, Spelt-step, WholeCell, WholeReturn, [], ap, append-nil, append_assoc, arith, bare_type, byte_and_rest, cell, cell_add, cell_is_read, cell_start, cell_step, choose, choose_false, choose_true, eq_true, get_or-append_seam, if◌then◌else◌, is_some, is_some_value, kind_of, length, length-append, nat_tests, ne_eqb, one_byte, refl, rest_length, return_add, return_charset, return_column, return_value, shape, shape-HasBytes, split_last, start_means, subst, sym, true, type_fault, with_return_kind, with_return_type, with_return_units, with_value, ℕ, ◌*◌, ◌++◌, ◌<◌, ◌==◌, ◌∙◌, ◌∷◌, ◌≡◌}
+use Rattle.tds_export.proofs.Words.{AreBytes, BadTypeInfo, CellMeans, CellPart, Fault, Grammar, InReturnCell, Inside, Inside-Spelt, IsNext, IsTypeInfo, Kind, List, None, Option, ReturnHead, ReturnInfo, ReturnName, ReturnNameCount, ReturnOrdinal, ReturnPart, ReturnValue, Some, SpellsReturnName, SpellsReturnValue, Spelt, Spelt-none, Spelt-step, WholeCell, WholeReturn, [], ap, append-nil, append_assoc, arith, bare_type, byte_and_rest, cell, cell_is_read, cell_start, cell_step, choose, choose_false, choose_true, eq_true, get_or-append_seam, if◌then◌else◌, is_some, is_some_value, kind_of, length, length-append, nat_tests, ne_eqb, one_byte, refl, rest_length, return_add, return_charset, return_column, return_value, shape, shape-HasBytes, split_last, start_means, sym, true, type_fault, with_return_kind, with_return_type, with_return_units, with_value, ℕ, ◌*◌, ◌++◌, ◌<◌, ◌∙◌, ◌∷◌, ◌≡◌}
 use Rattle.tds_export.proofs.Cuts.{spelt_both, spelt_one}
 
 -- a state of a small grammar stands in a big one: the next element is the same there, and so is the fault of an end

@@ -1,5 +1,5 @@
 -- RETURNVALUE as it is read, and in its response.
-use Rattle.tds_export.proofs.Words.{Bool, Charset, Ends, Err, Held, IfOk, IsHolding, IsNoted, Kind, KnownType, List, MatchResult, NoType, None, Ok, Option, PassesCell, Progress, Reads, ReadsReturn, ReadsTokens, ReadsType, ReadsValue, Result, ReturnHead, ReturnInfo, ReturnName, ReturnNameCount, ReturnOrdinal, ReturnPart, Returned, Seen, Some, Space, StepStops, Stop, StopsPassing, StopsReturn, StopsType, Takes, Token, TypeHead, TypePart, TypeRest, WholeCell, WholeReturn, [], after_tokens, arith, before_value, began_at, cell, cell_start, choose_false, if◌then◌else◌, in_return, kind_of, length, length-append, ne_eqb, reads_both, reads_inside, reads_one, refl, response, rest_length, rest_length_of, return_add, return_charset, return_column, return_fault, return_size, return_value, returned_type, shape, slice_index, stops_after, stops_inside, stops_size, subst, sym, text_so_far, unwrap_or, with_known, with_return, with_return_kind, with_return_units, with_value, ℕ, ◌*◌, ◌++◌, ◌+◌, ◌-◌, ◌<◌, ◌==◌, ◌∙◌, ◌∷◌, ◌≡◌}
+use Rattle.tds_export.proofs.Words.{Bool, Charset, Ends, Err, Held, IfOk, IsHolding, IsNoted, Kind, KnownType, List, MatchResult, NoType, None, Ok, Option, PassesCell, Progress, Reads, ReadsReturn, ReadsTokens, ReadsType, ReadsValue, Result, ReturnHead, ReturnInfo, ReturnName, ReturnNameCount, ReturnOrdinal, ReturnPart, Seen, Space, StepStops, Stop, StopsPassing, StopsReturn, StopsType, Takes, Token, TypeHead, TypePart, TypeRest, [], after_tokens, arith, before_value, began_at, cell_start, choose_false, if◌then◌else◌, in_return, kind_of, length, length-append, ne_eqb, reads_both, reads_inside, reads_one, refl, response, rest_length, rest_length_of, return_add, return_charset, return_fault, return_size, return_value, returned_type, shape, slice_index, stops_after, stops_inside, stops_size, subst, sym, text_so_far, unwrap_or, with_known, with_return, with_return_kind, with_return_units, with_value, ℕ, ◌*◌, ◌++◌, ◌+◌, ◌-◌, ◌<◌, ◌==◌, ◌∷◌, ◌≡◌}
 use Rattle.tds_export.proofs.ReturnLaws.{Agrees, info_is_read, inside, return_name_is_read, value_agrees, value_in_return}
 use Rattle.tds_export.proofs.TokenSteps.{Begun, bare_reads, quietly, stops_quietly}
 use Rattle.tds_export.proofs.{Cuts.part_cut, ResponseLaws.return_agrees, ResponseLaws.return_in_response, TokenLaws.tracks_returned}

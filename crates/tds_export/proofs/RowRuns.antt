@@ -1,5 +1,5 @@
 -- Rows of one token after one another, in their response.
-use Rattle.tds_export.proofs.Words.{Bool, Cell, Charset, Column, Fault, Grammar, Held, IsDescribed, IsHolding, IsNext, IsNoted, Leads, List, None, Option, Part, Progress, PutsText, ReadsRows, ReadsTokens, RefusedToken, Row, RowPart, RowToken, RowsPart, RowsStop, Seen, Some, Space, Spelt, StepStops, Stop, Streams, Token, Tracks, TracksBefore, WholeRow, [], after_tokens, ap, append-nil, append_assoc, arith, before, columns_of, counted, described_after, encoded_after, if◌then◌else◌, length, length-append, lines, map, map-append, next_inside, next_some, refl, response, row, row_so_far, rows, rows_so_far, rows_start, subst, sym, text, text_so_far, token_byte, token_start, true, with_row, ℕ, ◌++◌, ◌+◌, ◌<◌, ◌==◌, ◌∙◌, ◌∷◌, ◌≡◌}
+use Rattle.tds_export.proofs.Words.{Bool, Cell, Charset, Column, Fault, Grammar, Held, IsDescribed, IsHolding, IsNext, IsNoted, Leads, List, None, Option, Part, Progress, PutsText, ReadsRows, ReadsTokens, RefusedToken, Row, RowPart, RowToken, RowsPart, RowsStop, Seen, Some, Space, Spelt, StepStops, Stop, Streams, Token, Tracks, TracksBefore, WholeRow, [], after_tokens, ap, append-nil, append_assoc, arith, before, columns_of, counted, described_after, encoded_after, if◌then◌else◌, length, length-append, lines, map, map-append, next_inside, next_some, refl, response, row, row_so_far, rows, rows_so_far, rows_start, subst, sym, text, text_so_far, token_byte, token_start, true, with_row, ℕ, ◌++◌, ◌+◌, ◌==◌, ◌∙◌, ◌∷◌, ◌≡◌}
 use Rattle.tds_export.proofs.TokenSteps.{Begun, holds-snoc, quietly, row_stops, row_text, stops_further}
 use Rattle.tds_export.proofs.{ResponseLaws.described_after-append, ResponseLaws.row_in_response, TokenLaws.text_after-snoc, TokenLaws.tracks_row}
 

@@ -1,5 +1,5 @@
 -- The tokens of a response, one after another.
-use Rattle.tds_export.proofs.Words.{Bool, Charset, CompletesResponse, Consumes-nil, EndWithoutDone, Ends, Ends-after, Fault, FinishFails, Finishes, Grammar, Held, IsCutStop, IsHolding, IsNoted, IsOver, List, Part, Payload, Progress, Puts-none, ReadsTokens, ReadsWhole, Report, Seen, Space, Spelt-none, Stays-none, StepStops, Stop, StopsAtEnd, Streams, Takes, Takes-none, Takes-trans, Token, Tracks, [], after_tokens, ap, append-nil, arith, cut_at_once, empty, false, inl, length, length-append, refl, response, response_start, subst, sym, text_so_far, true, ℕ, ◌++◌, ◌+◌, ◌-◌, ◌^◌, ◌∙◌, ◌≡◌, ◌≤◌}
+use Rattle.tds_export.proofs.Words.{Bool, Charset, CompletesResponse, Consumes-nil, EndWithoutDone, Ends-after, Fault, FinishFails, Finishes, Grammar, Held, IsHolding, IsNoted, IsOver, List, Part, Payload, Progress, Puts-none, ReadsTokens, ReadsWhole, Report, Seen, Space, Spelt-none, Stays-none, StepStops, Stop, StopsAtEnd, Streams, Takes, Takes-none, Takes-trans, Token, Tracks, [], after_tokens, ap, append-nil, arith, cut_at_once, empty, false, inl, length, length-append, refl, response, response_start, subst, sym, text_so_far, true, ℕ, ◌++◌, ◌+◌, ◌-◌, ◌^◌, ◌∙◌, ◌≡◌, ◌≤◌}
 use Rattle.tds_export.proofs.TokenSteps.{stops_further, stops_quietly, streams_both}
 
 -- whole tokens were read and their text put

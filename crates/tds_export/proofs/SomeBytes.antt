@@ -1,5 +1,5 @@
 -- Lists of bytes.
-use Rattle.tds_export.proofs.Words.{AreBytes, List, [], arith, drop, eq_true, inl, inr, little_from, or_cases, pow-suc, replicate, slice_index, subst, suc, sym, true, zero, ℕ, ◌++◌, ◌<◌, ◌==◌, ◌^◌, ◌||◌, ◌∷◌, ◌≡◌}
+use Rattle.tds_export.proofs.Words.{AreBytes, List, [], arith, drop, eq_true, inl, inr, little_from, or_cases, pow-suc, replicate, slice_index, suc, true, zero, ℕ, ◌++◌, ◌<◌, ◌==◌, ◌^◌, ◌||◌, ◌∷◌, ◌≡◌}
 
 -- each of some bytes is below 256
 pub byte_below : (xs : List ℕ) (i : ℕ) → AreBytes xs → slice_index xs i < 256

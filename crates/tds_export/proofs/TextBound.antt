@@ -1,5 +1,5 @@
 -- The text so far is no longer than 64 bytes for each byte read.
-use Rattle.tds_export.proofs.Words.{AreBytes, AreBytes-back, AreBytes-front, Bool, Cell, CellPart, Charset, ChunkData, ChunkLength, Column, DataCell, Describing, DescriptionPart, InCell, InColumn, InRow, IsNext, List, None, Null, Open, Option, Part, Result, ReturnPart, RowPart, ScalarBytes, ScalarLength, ScalarValue, ShortData, ShortLength, Some, Spelt, Spelt-induct, Token, Total, Utf16Text, ValueFault, WholeCell, WholeDescription, [], add_described, and_parts, ap, append-nil, arith, cell, cell_add, choose, codes, description, end_fit, false, field, field_so_far, fit_begins, header_line, is_fit, joined, last_fit, length, length-append, line, line_end, little, long_field, map, map-append, marked, next_cell, open_field, open_text, part_add, read_of, refl, response, response_start, row_so_far, row_start, shape, slice_index, start_quiet, subst, suc, sym, text, text_so_far, true, unless_none, value_part, with_field, with_return, with_row, ℕ, ◌*◌, ◌++◌, ◌+◌, ◌-◌, ◌==◌, ◌∷◌, ◌≡◌, ◌≤◌}
+use Rattle.tds_export.proofs.Words.{AreBytes, AreBytes-back, AreBytes-front, Bool, Cell, CellPart, Charset, ChunkData, ChunkLength, Column, Describing, DescriptionPart, InCell, InColumn, InRow, IsNext, List, None, Null, Open, Option, Part, Result, ReturnPart, RowPart, ScalarBytes, ScalarLength, ScalarValue, ShortData, ShortLength, Some, Spelt, Spelt-induct, Token, Total, Utf16Text, ValueFault, WholeCell, WholeDescription, [], add_described, and_parts, ap, append-nil, arith, cell, cell_add, choose, codes, description, end_fit, false, field, field_so_far, fit_begins, header_line, joined, last_fit, length, length-append, line, line_end, little, long_field, map, map-append, marked, next_cell, open_field, open_text, part_add, refl, response, response_start, row_so_far, row_start, slice_index, start_quiet, suc, text, text_so_far, true, unless_none, value_part, with_return, with_row, ℕ, ◌*◌, ◌++◌, ◌+◌, ◌==◌, ◌∷◌, ◌≡◌, ◌≤◌}
 use Rattle.tds_export.proofs.ReadingGrows.{IsFresh, lead_cases, part_at}
 use Rattle.tds_export.proofs.FieldLengths.{ReadShort, long_length, long_more, open_length, open_more, read_short}
 use Rattle.tds_export.proofs.TokenLaws.{bare, bare_body, bare_fixed, begun_after, text_after-snoc}

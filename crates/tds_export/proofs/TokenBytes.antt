@@ -1,5 +1,5 @@
 -- Tokens by their first bytes.
-use Rattle.tds_export.proofs.Words.{Bool, Charset, Ends, Fault, Held, IsBetween, IsDescribed, IsDescription, IsHolding, IsNext, IsOfKind, IsRefusedByte, IsUnder, Lead, List, MessageEnded, None, Part, Payload, Progress, ReadsTokens, Seen, Some, Space, StepStops, Stop, StopsReading, Streams, Takes, Token, TokenKind, [], after_tokens, ap, arith, begun, between, columns_of, cut_at_once, described_after, description_shows, encoded_after, false, in_kind, in_lead, inl, inr, lead, lead_fault, lead_of, length, length-append, reads_one, refl, refused_at_once, response, row_byte_fault, subst, sym, text_so_far, true, ℕ, ◌+◌, ◌-◌, ◌<◌, ◌^◌, ◌∙◌, ◌∷◌, ◌≡◌, ◌≤◌}
+use Rattle.tds_export.proofs.Words.{Bool, Charset, Ends, Fault, Held, IsBetween, IsDescribed, IsDescription, IsHolding, IsNext, IsOfKind, IsRefusedByte, IsUnder, Lead, List, MessageEnded, None, Part, Payload, Progress, ReadsTokens, Seen, Some, Space, StepStops, Stop, StopsReading, Streams, Takes, Token, TokenKind, [], after_tokens, ap, arith, begun, between, columns_of, cut_at_once, described_after, description_shows, encoded_after, false, in_kind, in_lead, inl, inr, lead_fault, lead_of, length, length-append, reads_one, refl, refused_at_once, response, row_byte_fault, sym, text_so_far, true, ℕ, ◌+◌, ◌-◌, ◌<◌, ◌^◌, ◌∙◌, ◌∷◌, ◌≡◌, ◌≤◌}
 use Rattle.tds_export.proofs.{RowRuns.columns_known, ResponseLaws.no_row}
 use Rattle.tds_export.proofs.TokenSteps.{same_text, start_text, stops_further, stops_quietly, streams_both}
 

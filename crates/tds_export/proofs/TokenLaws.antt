@@ -1,5 +1,5 @@
 -- What one more token adds to a response.
-use Rattle.tds_export.proofs.Words.{APassed, Bodied, Bool, Cell, Column, Done, DoneInProc, Error, Fixed, Info, List, Metadata, NoMetadata, None, Notice, Option, PassedOver, Progress, ReturnValue, Returned, Row, ServerError, Some, Token, Tracks, TracksBefore, [], add_none, ap, append_assoc, arith, before, begun, between, bodied, columns_of, described_after, encoded_after, false, field, first_error, fixed, greatest_span, header_line, how_many, is_error, is_final, is_notice, is_set, line, map, max, more, nat_lt, option_map, passed, refl, return_status_after, server_error, sym, test_lt, text_after, true, ℕ, ◌++◌, ◌+◌, ◌<◌, ◌∙◌, ◌∷◌, ◌≡◌}
+use Rattle.tds_export.proofs.Words.{APassed, Bodied, Bool, Cell, Column, Done, DoneInProc, Error, Fixed, Info, List, Metadata, NoMetadata, None, Notice, Option, PassedOver, Progress, ReturnValue, Returned, Row, ServerError, Some, Token, Tracks, TracksBefore, [], add_none, append_assoc, arith, before, begun, between, bodied, columns_of, described_after, encoded_after, false, field, first_error, fixed, greatest_span, header_line, how_many, is_error, is_final, is_notice, is_set, line, map, max, more, nat_lt, option_map, passed, refl, return_status_after, server_error, sym, test_lt, text_after, true, ℕ, ◌++◌, ◌+◌, ◌<◌, ◌∙◌, ◌∷◌, ◌≡◌}
 use Rattle.tds_export.proofs.ResponseLaws.{described_after-append}
 
 -- whether a set has begun after these tokens

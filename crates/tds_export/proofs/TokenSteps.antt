@@ -1,5 +1,5 @@
 -- The tokens, as they are read and their text is put.
-use Rattle.tds_export.proofs.Words.{ADone, ADoneInProc, BeforeCount, Bool, Breaks, Charset, Column, Describes, DescriptionPart, Done, DoneInProc, Fault, Fixed, Grammar, Held, IsBetween, IsHolding, IsNext, IsNoted, List, Metadata, NoDescription, NoMetadata, Open, Part, Progress, Puts, Puts-none, PutsText, Reads, ReadsTokens, Report, Row, RowPart, RowStops, Seen, Space, Spelt, Spelt-append, Spelt-none, StepStops, Stop, StopsDescribing, StopsInWriting, StopsReading, Streams, Takes, Token, Tracks, TracksBefore, WholeDescription, WholeRow, [], after_tokens, ap, append-nil, arith, between, breaks_after, breaks_inside, columns_of, described_size, description, description_bytes, description_of, encoded_after, false, fields_length, fixed, greatest_span, header_line, in_done, in_done_in_proc, in_fields, in_metadata, in_row, inl, inr, joined, last_inside, length, max, message_text, more, nat_lt, nat_tests, next_some, one_state, open_span, puts_both, puts_inside, reads_inside, reads_one, refl, response, row, row_so_far, shape, slice_index, span, start_quiet, stops_after, stops_inside, stops_size, subst, sym, takes_both, text, text_after, text_so_far, true, with_described, with_field, with_row, with_token, ℕ, ◌%◌, ◌++◌, ◌+◌, ◌-◌, ◌<◌, ◌==◌, ◌^◌, ◌∙◌, ◌∷◌, ◌≡◌, ◌≤◌}
+use Rattle.tds_export.proofs.Words.{BeforeCount, Bool, Breaks, Charset, Column, Describes, DescriptionPart, Fault, Fixed, Grammar, Held, IsBetween, IsHolding, IsNext, IsNoted, List, Metadata, NoDescription, NoMetadata, Open, Part, Progress, Puts, Puts-none, PutsText, Reads, ReadsTokens, Report, RowPart, RowStops, Seen, Space, Spelt, Spelt-append, Spelt-none, StepStops, Stop, StopsDescribing, StopsInWriting, StopsReading, Streams, Takes, Token, Tracks, TracksBefore, WholeDescription, WholeRow, [], after_tokens, ap, append-nil, arith, between, breaks_after, breaks_inside, columns_of, described_size, description, description_bytes, description_of, encoded_after, false, fields_length, fixed, greatest_span, header_line, in_done, in_done_in_proc, in_fields, in_metadata, in_row, inl, inr, last_inside, length, max, nat_lt, nat_tests, next_some, one_state, open_span, puts_both, puts_inside, reads_inside, reads_one, refl, response, row, row_so_far, slice_index, span, start_quiet, stops_after, stops_inside, stops_size, subst, sym, takes_both, text, text_so_far, true, with_described, with_row, with_token, ℕ, ◌%◌, ◌++◌, ◌+◌, ◌-◌, ◌<◌, ◌==◌, ◌^◌, ◌∙◌, ◌∷◌, ◌≡◌, ◌≤◌}
 use Rattle.tds_export.proofs.TokenLaws.{bare, bare_fixed, begun_after, begun_where_sets, encoded_after-append, greatest_span-append, is_bare, same_first, text_after-snoc, tracks_metadata, tracks_none, tracks_quiet}
 use Rattle.tds_export.proofs.ResponseLaws.{description_agrees, description_in_response, row_agrees, row_in_response, some_fields}
 
