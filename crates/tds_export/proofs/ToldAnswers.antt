@@ -47,8 +47,6 @@ fits run fault place are x = grind (arith, fits_at, length-append)
 exact : (run : Run) (delivered : ℕ) → delivered ≡ counted 0 (length run.gained) → length (run.gained ++ run.given.after.areas.output.bytes) ≤ 64 * (limits run).max_wire → delivered ≡ length run.gained
 exact run delivered e few = let most = (limits run).max_wire_in_range in omega (arith, length-append run.gained run.given.after.areas.output.bytes)
 
--- ---- where the reader stands
-
 -- ---- a run that stopped in writing
 
 -- the longest part of a payload that begins with these bytes has their text, and more of it
