@@ -1,5 +1,5 @@
 -- What an export answers of an accepted response: it succeeds, but for a device that fails.
-use Rattle.tds_export.proofs.Words.{Accepted, AfterLast, AreBefore, BeforeBody, BeforeHeader, Err, Fault, IsRefused, List, Longest, Message, Ok, Outcome, Packet, Packets, Part, Payload, Place, Reading, Report, Response, Result, Rose, Run, Some, Spelt-induct, Stopped, Stops, SucceedsIfAccepted, Text, Token, Told, Wire, WireFault, WirePart, WirePlace, [], after_last, after_tokens, ap, append-nil, append_assoc, arith, before_are_read, before_packet, choose, drop, error_text, feed-Spelt, feed_all, feed_all-append, flat_map-append, grammar, header_length, inl, inr, length, longest_cut, more, no_wire, one_longest, one_message, packet_of, payload_of, read, read_longest, read_to_end, refl, report_of, response_start, subst, sym, take, take-append-drop, text, told, wire, wire_add, wire_end, wire_of, wire_size, with_packet, ℕ, ◌++◌, ◌+◌, ◌==◌, ◌∙◌, ◌∷◌, ◌≡◌, ◌≤◌}
+use Rattle.tds_export.proofs.Words.{Accepted, AfterLast, AreBefore, BeforeBody, BeforeHeader, Err, Fault, IsRefused, List, Longest, Message, Ok, Outcome, Packet, Packets, Part, Payload, Place, Reading, Report, Response, Result, Rose, Run, Some, Spelt-induct, Stopped, Stops, SucceedsIfAccepted, Text, Token, Told, Wire, WireFault, WirePart, WirePlace, [], after_last, after_tokens, ap, append-nil, append_assoc, arith, before_are_read, before_packet, choose, drop, feed-Spelt, feed_all, feed_all-append, flat_map-append, grammar, header_length, inl, inr, length, longest_cut, more, no_wire, one_longest, one_message, packet_of, payload_of, read, read_longest, read_to_end, refl, response_start, subst, sym, take, take-append-drop, told, wire, wire_add, wire_end, wire_of, wire_size, with_packet, ℕ, ◌++◌, ◌+◌, ◌==◌, ◌∙◌, ◌∷◌, ◌≡◌, ◌≤◌, limits}
 use Rattle.tds_export.proofs.ResponseLaws.{one_accepted, refused_response, response_is_read}
 
 -- ---- packets at the front of a message
@@ -9,12 +9,12 @@ abbrev pub BeginsWith : List Packet → List Packet → Type 0
 BeginsWith packets front = (tail : List Packet) × (front ++ tail ≡ packets)
 
 begins_more : (front packets : List Packet) (p : Packet) → BeginsWith packets front → BeginsWith (packets ++ p ∷ []) front
-begins_more front packets p h = (h.0 ++ p ∷ [], sym (append_assoc front h.0 (p ∷ [])) ∙ ap (λ l. l ++ p ∷ []) h.1)
+begins_more front packets p h = (h.0 ++ p ∷ [], cc (append_assoc front h.0 (p ∷ [])))
 
 pub begins_added : (front packets : List Packet) (place : WirePlace) (element : List ℕ) → BeginsWith packets front → BeginsWith (wire_add packets place element).packets front
 begins_added front packets BeforeHeader element h =
     choose (λ w. BeginsWith w.packets front) (header_length element == 8) (with_packet packets (packet_of element [])) (record { packets = packets; place = BeforeBody element }) (λ z. begins_more front packets (packet_of element []) h) (λ z. h)
-begins_added front packets (BeforeBody header) element h = begins_more front packets (packet_of header element) h
+begins_added front packets (BeforeBody header) element h = begins_more _ _ _ h
 begins_added front packets AfterLast element h = h
 
 -- whole packets at the front of an input, none of which is the last, begin the message there
@@ -23,22 +23,22 @@ unfolding Told
 before_begins size limit front packets wires rest unread each within m e =
     let g = wire size limit in
     let at = before_packet size limit front in
-    let first : feed_all g (Reading no_wire []) (wire_of front) ≡ Reading at [] = feed-Spelt g no_wire (wire_of front) at (before_are_read size limit [] front each within) in
+    let first = feed-Spelt g _ _ at (before_are_read _ _ _ _ each within) in
     let fed : feed_all g (Reading at []) rest ≡ Reading (after_last size limit packets) unread =
-    ap (λ p. feed_all g p rest) (sym first) ∙ sym (feed_all-append g (Reading no_wire []) (wire_of front) rest) ∙ ap (feed_all g (Reading no_wire [])) e ∙ read_to_end size limit packets wires unread m in
-    let t = subst (λ p. Told g at rest p) fed (told g at rest) in
+    ap (λ p. feed_all g p rest) (sym first) ∙ sym (feed_all-append g (Reading no_wire []) (wire_of front) rest) ∙ ap (feed_all g (Reading no_wire [])) e ∙ read_to_end _ _ _ _ _ m in
+    let t = rw fed at (told g at rest) in
     Spelt-induct g (λ w b. BeginsWith w.packets front) (λ w b element h n. begins_added front w.packets w.place element h) at ([], append-nil front) t.0 (after_last size limit packets) t.2
 
 -- the wire of a message has no fault
 no_wire_fault : (size limit : ℕ) (input wires unread : List ℕ) (packets read : List Packet) (fault : Fault) → Message size limit packets wires → input ≡ wires ++ unread → WireFault size limit input read fault → ⊥
 no_wire_fault size limit input wires unread packets read fault m e f =
     let g = wire size limit in
-    let fed : feed_all g (Reading no_wire []) input ≡ Reading (after_last size limit packets) unread = ap (feed_all g (Reading no_wire [])) e ∙ read_to_end size limit packets wires unread m in
-    let l = read_longest g no_wire input (Reading (after_last size limit packets) unread) (subst (λ p. Told g no_wire input p) fed (told g no_wire input)) in
-    let same : f.read ≡ after_last size limit packets = (one_longest g no_wire input f.taken (length l.0) f.read (after_last size limit packets) f.longest l.2).1 in
+    let fed = ap (feed_all g (Reading no_wire [])) e ∙ read_to_end _ _ _ _ _ m in
+    let l = read_longest g _ _ _ (subst (Told g no_wire input) fed (told g _ _)) in
+    let same = (one_longest g _ _ _ _ _ _ f.longest l.2).1 in
     elim f.first [
-      | inl r ↦ omega (arith, r.some, ap (λ (w : WirePart). wire_size w.place) same)
-      | inr r ↦ no_end f.read.place (ap (λ (w : WirePart). w.place) same) r.1
+      | inl r ↦ omega (arith, ap (λ (w : WirePart). wire_size w.place) same)
+      | inr r ↦ no_end f.read.place (cc) r.1
     ]
   where
     no_end : (place : WirePlace) → place ≡ AfterLast → wire_end place ≡ Some fault → ⊥
@@ -48,52 +48,47 @@ no_wire_fault size limit input wires unread packets read fault m e f =
 
 -- ---- no stop of an accepted response is one of the input
 
-ended_accepted : (run : Run) (tokens : List Token) (payload : List ℕ) (place : ℕ) (part : Part) (fault : Fault) → Response run.given.charset run.given.before.areas.limits.column_room tokens payload → Longest (grammar run) response_start payload place part → (grammar run).end_fault part ≡ Some fault → ⊥
+ended_accepted : (run : Run) (tokens : List Token) (payload : List ℕ) (place : ℕ) (part : Part) (fault : Fault) → Response run.given.charset (limits run).column_room tokens payload → Longest (grammar run) response_start payload place part → (grammar run).end_fault part ≡ Some fault → ⊥
 ended_accepted run tokens payload place part fault r l end =
     let g = grammar run in
-    let read = response_is_read run.given.charset run.given.before.areas.limits.column_room tokens payload r in
-    let all = subst (λ v. Longest g response_start v (length payload) (after_tokens tokens)) (append-nil payload) (longest_cut g response_start payload [] (after_tokens tokens) read (omega arith)) in
-    let same : part ≡ after_tokens tokens = (one_longest g response_start payload place (length payload) part (after_tokens tokens) l all).1 in
+    let read = response_is_read _ _ _ _ r in
+    let all = subst (λ v. Longest g response_start v (length payload) (after_tokens tokens)) (append-nil payload) (longest_cut g _ _ _ _ read (omega arith)) in
+    let same = (one_longest g _ _ _ _ _ _ l all).1 in
     grind (arith, response_is_read, append-nil, longest_cut, one_longest)
 
-refused_accepted : (run : Run) (tokens : List Token) (payload more : List ℕ) (place : ℕ) (part : Part) (fault : Fault) → Response run.given.charset run.given.before.areas.limits.column_room tokens (payload ++ more) → Longest (grammar run) response_start payload place part → IsRefused (grammar run) part (drop place payload) fault → ⊥
+refused_accepted : (run : Run) (tokens : List Token) (payload more : List ℕ) (place : ℕ) (part : Part) (fault : Fault) → Response run.given.charset (limits run).column_room tokens (payload ++ more) → Longest (grammar run) response_start payload place part → IsRefused (grammar run) part (drop place payload) fault → ⊥
 refused_accepted run tokens payload more place part fault r l refused =
     let n = place + (grammar run).size part in
-    let split : payload ++ more ≡ take n payload ++ (drop n payload ++ more) = ap (λ v. v ++ more) (sym (take-append-drop n payload)) ∙ append_assoc (take n payload) (drop n payload) more in
-    refused_response run.given.charset run.given.before.areas.limits.column_room payload place part fault (drop n payload ++ more) tokens l refused (subst (λ v. Response run.given.charset run.given.before.areas.limits.column_room tokens v) split r)
+    let split = ap (λ v. v ++ more) (sym (take-append-drop n payload)) ∙ append_assoc (take n payload) (drop n payload) more in
+    refused_response _ _ _ _ _ _ _ _ l refused (rw split at r)
 
 -- the packets read are those of the message, or begin it
-read_begin : (run : Run) (tokens : List Token) (read packets : List Packet) → Packets run read → (a : Accepted run.given.charset run.given.before.areas.limits.packet_size run.given.before.areas.limits.column_room run.given.before.areas.limits.max_wire tokens packets run.input) → (more : List ℕ) × (payload_of packets ≡ payload_of read ++ more)
+read_begin : (run : Run) (tokens : List Token) (read packets : List Packet) → Packets run read → (a : Accepted run.given.charset (limits run).packet_size (limits run).column_room (limits run).max_wire tokens packets run.input) → (more : List ℕ) × (payload_of packets ≡ payload_of read ++ more)
 read_begin run tokens read packets p a = elim p.each [
-  | inl h ↦ (let same = one_message run.given.before.areas.limits.packet_size run.given.before.areas.limits.max_wire read packets (wire_of read) a.wire run.left a.unread (record { spelt = refl; each = h; within = p.within }) a.message (p.begin ∙ a.begins) in
-      ([], ap payload_of (sym same) ∙ sym (append-nil (payload_of read))))
-  | inr h ↦ (let b = before_begins run.given.before.areas.limits.packet_size run.given.before.areas.limits.max_wire read packets a.wire run.left a.unread h p.within a.message (p.begin ∙ a.begins) in
-      (payload_of b.0, ap payload_of (sym b.1) ∙ flat_map-append (λ (v : Packet). v.body) read b.0))
+  | inl h ↦ (let same = one_message _ _ _ _ _ _ _ _ (record { spelt = refl; each = h; within = p.within }) a.message (p.begin ∙ a.begins) in
+      ([], cc (append-nil (payload_of read))))
+  | inr h ↦ (let b = before_begins _ _ _ _ _ _ _ h p.within a.message (p.begin ∙ a.begins) in
+      (payload_of b.0, cc (flat_map-append _ read b.0)))
 ]
 
 -- no run of an accepted response stops but by a device
-none_stops : (run : Run) (fault : Fault) (place : Place) → Stops run fault place → (tokens : List Token) (packets : List Packet) → Accepted run.given.charset run.given.before.areas.limits.packet_size run.given.before.areas.limits.column_room run.given.before.areas.limits.max_wire tokens packets run.input
+none_stops : (run : Run) (fault : Fault) (place : Place) → Stops run fault place → (tokens : List Token) (packets : List Packet) → Accepted run.given.charset (limits run).packet_size (limits run).column_room (limits run).max_wire tokens packets run.input
     → (Rose run.given.before.reader.failures run.given.after.reader.failures → ⊥) → (Rose run.given.before.writer.failures run.given.after.writer.failures → ⊥) → ⊥
 none_stops run fault (Payload place) x tokens packets a reads writes = elim x.first [
-  | inl r ↦ (let b = read_begin run tokens x.packets packets x.stands a in
-      refused_accepted run tokens (payload_of x.packets) b.0 place x.part fault (subst (λ v. Response run.given.charset run.given.before.areas.limits.column_room tokens v) b.1 a.response) x.leads r.0)
-  | inr r ↦ (let same = one_message run.given.before.areas.limits.packet_size run.given.before.areas.limits.max_wire x.packets packets (wire_of x.packets) a.wire run.left a.unread (record { spelt = refl; each = r.0; within = x.stands.within }) a.message (x.stands.begin ∙ a.begins) in
-      ended_accepted run tokens (payload_of x.packets) place x.part fault (subst (λ v. Response run.given.charset run.given.before.areas.limits.column_room tokens (payload_of v)) (sym same) a.response) x.leads r.2)
+  | inl r ↦ (let b = read_begin _ _ _ _ x.stands a in
+      refused_accepted run tokens (payload_of x.packets) b.0 place x.part fault (rw b.1 at a.response) x.leads r.0)
+  | inr r ↦ (let same = one_message _ _ _ _ _ _ _ _ (record { spelt = refl; each = r.0; within = x.stands.within }) a.message (x.stands.begin ∙ a.begins) in
+      ended_accepted run tokens (payload_of x.packets) place x.part fault (rw same a.response) x.leads r.2)
 ]
 none_stops run fault (Wire taken) x tokens packets a reads writes = elim x.first [
   | inl r ↦ reads r.1.failed
-  | inr r ↦ no_wire_fault run.given.before.areas.limits.packet_size run.given.before.areas.limits.max_wire run.input a.wire a.unread packets x.packets fault a.message a.begins r
+  | inr r ↦ no_wire_fault _ _ _ _ _ _ _ _ a.message a.begins r
 ]
 none_stops run fault (Text written) x tokens packets a reads writes = writes x.failed
 
 -- an answer that is true of an accepted response is its report
 pub outcome_succeeds : (run : Run) (result : Result Report Stopped) → Outcome run result → SucceedsIfAccepted run result
 outcome_succeeds run (Ok report) r = λ tokens packets accepted reads writes.
-    let same = one_accepted run.given.charset run.given.before.areas.limits.column_room run.given.before.areas.limits.packet_size run.given.before.areas.limits.max_wire tokens r.tokens packets r.packets run.input accepted r.accepted in
-    record {
-      report_is = ap (λ v. Ok v) (r.report_is ∙ ap report_of (sym same.0));
-      written = r.written ∙ ap text (sym same.0);
-      notice = r.notice ∙ ap error_text (sym same.0);
-      stands = subst (λ v. Packets run v) (sym same.1) r.stands;
-    }
-outcome_succeeds run (Err stopped) r = λ tokens packets a reads writes. absurd (none_stops run stopped.fault stopped.place r.stop tokens packets a reads writes)
+    let same = one_accepted _ _ _ _ _ _ _ _ _ accepted r.accepted in
+    record { report_is = cc; written = cc; notice = cc; stands = rw same.1 r.stands }
+outcome_succeeds run (Err stopped) r = λ tokens packets a reads writes. absurd (none_stops _ _ _ r.stop _ _ a reads writes)

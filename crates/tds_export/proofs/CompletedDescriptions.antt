@@ -1,9 +1,6 @@
 -- What completes a description is read as its rest.
-use Rattle.tds_export.proofs.Words.{AreBytes, BadTypeInfo, BeforeCount, Column, ColumnHead, ColumnInfo, ColumnPlace, DescriptionPart, InColumn, Int4, IsNext, Kind, List, NameCount, NameUnits, NoDescription, None, Some, SpellsColumn, SpellsColumns, Spelt, Spelt-none, WholeDescription, [], add_described, ap, append_assoc, arith, bare_type, choose, choose_false, choose_true, columns_are_read, description, eq_false, eq_true, fits_in, if◌then◌else◌, int_column, int_columns, is_some, is_some_value, is_valid, known_type, least_info, length, length-append, length-replicate, more, named_kind, nat_tests, ne_eqb, not_long, not_zero, refl, replicate, rest_length, rest_of_description, room_for, suc, sym, true, unwrap_or, valid_of, with_column, with_kind, zero, zeros, ℕ, ◌*◌, ◌++◌, ◌+◌, ◌-◌, ◌<◌, ◌==◌, ◌∙◌, ◌∷◌, ◌≡◌, ◌≤◌}
-use Rattle.tds_export.proofs.CompletedRows.{AreValid}
-use Rattle.tds_export.proofs.LeastTypes.{least_type}
-use Rattle.tds_export.proofs.ReturnLaws.{some_kind}
-use Rattle.tds_export.proofs.Cuts.{spelt_both, spelt_one}
+use Rattle.tds_export.proofs.Words.{AreBytes, BadTypeInfo, BeforeCount, Column, ColumnHead, ColumnInfo, ColumnPlace, DescriptionPart, InColumn, Int4, IsNext, Kind, List, NameCount, NameUnits, NoDescription, None, Some, SpellsColumn, SpellsColumns, Spelt, Spelt-none, WholeDescription, [], add_described, ap, append_assoc, arith, bare_type, choose, choose_false, choose_true, columns_are_read, description, eq_false, eq_true, fits_in, if◌then◌else◌, int_column, int_columns, is_some, is_some_value, is_valid, known_type, least_info, length, length-append, length-replicate, more, named_kind, nat_tests, ne_eqb, not_long, not_zero, refl, replicate, rest_length, rest_of_description, room_for, suc, true, valid_of, with_column, with_kind, zero, zeros, ℕ, ◌*◌, ◌++◌, ◌+◌, ◌-◌, ◌<◌, ◌==◌, ◌∙◌, ◌∷◌, ◌≡◌, ◌≤◌}
+use Rattle.tds_export.proofs.{CompletedRows.AreValid, LeastTypes.least_type, ReturnLaws.some_kind, Cuts.spelt_both, Cuts.spelt_one}
 
 -- what is known of the place in a column after these bytes, with so many columns to follow: the room is enough for what must still come
 abbrev pub PlaceReached : ℕ → List ℕ → ℕ → ColumnPlace → Type 0
@@ -51,7 +48,7 @@ ints_are_spelt (suc n) = (int_column, int_columns n, refl, int_is_spelt, ints_ar
 
 length-int_columns : (n : ℕ) → length (int_columns n) ≡ 8 * n
 length-int_columns zero = refl
-length-int_columns (suc n) = let l : length (int_columns n) ≡ 8 * n = length-int_columns n in omega (arith, length-append int_column (int_columns n), l)
+length-int_columns (suc n) = let l = length-int_columns n in omega (arith, length-append int_column (int_columns n))
 
 -- the rest of a description, up to its end
 abbrev Ends : ℕ → DescriptionPart → List ℕ → Type 0
@@ -61,18 +58,18 @@ module _ (room : ℕ) where
   -- the columns that aren't begun
   ints_end : (bytes : List ℕ) (count : ℕ) (cols : List Column) (n : ℕ) → count ≡ length cols + (1 + n) → length bytes + (8 + 8 * n) ≤ room → Ends room (InColumn bytes count cols ColumnHead) (int_column ++ int_columns n)
   ints_end bytes count cols n e fits =
-      let l : length (int_columns (suc n)) ≡ 8 * suc n = length-int_columns (suc n) in
+      let l : length (int_columns (suc n)) ≡ 8 * suc n = length-int_columns _ in
       let m : length (replicate n int) ≡ n = length-replicate n int in
-      (bytes ++ int_columns (suc n), cols ++ int ∷ replicate n int, columns_are_read room bytes count cols int (replicate n int) (int_columns (suc n)) (omega (arith, m)) (omega (arith, l)) (ints_are_spelt (suc n)))
+      (bytes ++ int_columns (suc n), cols ++ int ∷ replicate n int, columns_are_read _ _ _ _ _ _ _ (omega (arith, m)) (omega arith) (ints_are_spelt (suc n)))
 
   -- after a column
   column_ends : (bytes : List ℕ) (count : ℕ) (cols : List Column) (c : Column) (n : ℕ) → count ≡ length cols + (1 + n) → length bytes + 8 * n ≤ room → Ends room (with_column bytes count cols c) (int_columns n)
   column_ends bytes count cols c zero e fits =
-      let to : with_column bytes count cols c ≡ WholeDescription bytes (cols ++ c ∷ []) = choose_true (length cols + 1 == count) (WholeDescription bytes (cols ++ c ∷ [])) (InColumn bytes count (cols ++ c ∷ []) ColumnHead) (grind (arith, nat_tests)) in
-      (bytes, cols ++ c ∷ [], rw to (Spelt-none (description room) (WholeDescription bytes (cols ++ c ∷ []))))
+      let to = choose_true (length cols + 1 == count) (WholeDescription bytes (cols ++ c ∷ [])) (InColumn bytes count (cols ++ c ∷ []) ColumnHead) (grind (arith, nat_tests)) in
+      (bytes, cols ++ c ∷ [], rw to (Spelt-none _ _))
   column_ends bytes count cols c (suc n) e fits =
-      let to : with_column bytes count cols c ≡ InColumn bytes count (cols ++ c ∷ []) ColumnHead = choose_false (length cols + 1 == count) (WholeDescription bytes (cols ++ c ∷ [])) (InColumn bytes count (cols ++ c ∷ []) ColumnHead) (ne_eqb (length cols + 1) count (λ q. omega arith)) in
-      rw to (ints_end bytes count (cols ++ c ∷ []) n (omega (arith, length-append cols (c ∷ []))) (omega arith))
+      let to : with_column bytes count cols c ≡ InColumn bytes count (cols ++ c ∷ []) ColumnHead = choose_false _ _ _ (ne_eqb (length cols + 1) count (λ q. omega arith)) in
+      rw to (ints_end _ _ _ n (omega (arith, length-append cols (c ∷ []))) (omega arith))
 
   -- an element, and what follows it
   then_ends : {d to : DescriptionPart} {e rest : List ℕ} → Spelt (description room) d e to → Ends room to rest → Ends room d (e ++ rest)
@@ -80,27 +77,27 @@ module _ (room : ℕ) where
 
   count_ends : (bytes : List ℕ) (count : ℕ) (cols : List Column) (kind : Kind) (n : ℕ) → n ≡ count - (length cols + 1) → length cols < count → length bytes + (1 + 8 * n) ≤ room → Ends room (InColumn bytes count cols (NameCount kind)) (0 ∷ int_columns n)
   count_ends bytes count cols kind n is fewer fits =
-      let free = fits_in room (length bytes + 1) (2 * 0 + 8 * (count - (length cols + 1))) (omega arith) in
-      then_ends {e = 0 ∷ []} (spelt_one (omega arith) refl free refl) (column_ends (bytes ++ 0 ∷ []) count cols (record { kind = kind; name = [] }) n (omega arith) (omega (arith, length-append bytes (0 ∷ []))))
+      let free = fits_in _ _ _ (omega arith) in
+      then_ends {e = 0 ∷ []} (spelt_one (omega arith) refl free refl) (column_ends _ _ _ _ n (omega arith) (omega (arith, length-append bytes (0 ∷ []))))
 
   info_ends : (bytes : List ℕ) (count : ℕ) (cols : List Column) (byte : ℕ) (n : ℕ) → n ≡ count - (length cols + 1) → length cols < count → PlaceReached room bytes n (ColumnInfo byte) → Ends room (InColumn bytes count cols (ColumnInfo byte)) (least_info byte ++ (0 ∷ int_columns n))
   info_ends bytes count cols byte n is fewer (m, known, some, fits) =
-      let least = least_type byte m known in
+      let least = least_type _ m known in
       let free = ap (λ o. (if is_some o then None else Some (BadTypeInfo (length cols)))) least.described in
       let to = ap (λ o. with_kind (bytes ++ least_info byte) count cols o) least.described in
-      then_ends {e = least_info byte} (spelt_one (omega (arith, least.whole)) (least.whole ∙ sym (ap (λ o. unwrap_or o 0) known)) free to)
-      (count_ends (bytes ++ least_info byte) count cols least.kind n is fewer (omega (arith, length-append bytes (least_info byte) ∙ ap (λ v. length bytes + v) least.whole)))
+      then_ends {e = least_info byte} (spelt_one (omega arith) (cc) free to)
+      (count_ends _ _ _ _ n is fewer (omega (arith, length-append bytes (least_info byte) ∙ ap (λ v. length bytes + v) least.whole)))
 
   -- A part of a description that isn't all of it, followed by what completes it, is a whole one.
   pub described_ends : 10 ≤ room → (d : DescriptionPart) → IsOpenDescription d → DescribedReached room d → Ends room d (rest_of_description d)
   described_ends ten BeforeCount o h =
-      let one : Spelt (description room) BeforeCount (1 ∷ 0 ∷ []) (InColumn (1 ∷ 0 ∷ []) 1 [] ColumnHead) = spelt_one (omega arith) refl (fits_in room 2 8 (omega arith)) refl in
-      then_ends one (ints_end (1 ∷ 0 ∷ []) 1 [] 0 refl (omega arith))
-  described_ends ten (InColumn bytes count cols ColumnHead) o (fewer, valid, fits) = ints_end bytes count cols (count - (length cols + 1)) (omega arith) fits
-  described_ends ten (InColumn bytes count cols (ColumnInfo byte)) o (fewer, valid, fits) = rw append_assoc (info_ends bytes count cols byte (count - (length cols + 1)) refl fewer fits)
-  described_ends ten (InColumn bytes count cols (NameCount kind)) o (fewer, valid, (v, fits)) = count_ends bytes count cols kind (count - (length cols + 1)) refl fewer fits
+      let one : Spelt (description room) BeforeCount (1 ∷ 0 ∷ []) (InColumn (1 ∷ 0 ∷ []) 1 [] ColumnHead) = spelt_one (omega arith) refl (fits_in _ 2 8 (omega arith)) refl in
+      then_ends one (ints_end _ 1 _ 0 refl (omega arith))
+  described_ends ten (InColumn bytes count cols ColumnHead) o (fewer, valid, fits) = ints_end _ _ _ _ (omega arith) fits
+  described_ends ten (InColumn bytes count cols (ColumnInfo byte)) o (fewer, valid, fits) = rw append_assoc (info_ends _ _ _ _ _ refl fewer fits)
+  described_ends ten (InColumn bytes count cols (NameCount kind)) o (fewer, valid, (v, fits)) = count_ends _ _ _ _ _ refl fewer fits
   described_ends ten (InColumn bytes count cols (NameUnits kind m)) o (fewer, valid, (v, some, fits)) =
       let l : length (zeros m) ≡ m = length-replicate m 0 in
-      then_ends {e = zeros m} (spelt_one (omega (arith, l)) l refl refl)
-      (column_ends (bytes ++ zeros m) count cols (record { kind = kind; name = zeros m }) (count - (length cols + 1)) (omega arith) (omega (arith, length-append bytes (zeros m) ∙ ap (λ v. length bytes + v) l, fits)))
+      then_ends {e = zeros m} (spelt_one (omega arith) l refl refl)
+      (column_ends _ _ _ _ _ (omega arith) (omega (arith, length-append bytes (zeros m) ∙ ap (λ v. length bytes + v) l)))
   described_ends ten d o h = absurd o

@@ -1,14 +1,12 @@
 -- What completes a response is read as its rest.
-use Rattle.tds_export.proofs.Words.{common_steps, ADone, APassed, AreBytes, AreBytes-back, AreBytes-front, Between, CanBeCompleted, Column, Describing, DescriptionPart, Done, Fields, InReturn, InRow, Inside-Spelt, IsNext, Lead, List, Metadata, None, Open, Option, Part, PassedOver, ReturnPart, Returned, Row, RowPart, Some, Spelt, Spelt-induct, Spelt-none, Token, TokenBody, TokenLength, WholeDescription, WholeReturn, WholeRow, Windows1252, [], add_described, after_first, arith, begun, bodied, choose, completion, described_after, description, done, done_byte, eq_false, false, fields_length, fixed, holds_notice, lead_of, length, length-replicate, nat_tests, part_add, passed, refl, replicate-append-replicate, response, response_start, rest_of_description, rest_of_return, rest_of_row, rest_of_token, return_add, return_value, row, row_add, slice_index, start_of_row, subst, sym, test_le, test_lt, true, with_described, with_return, with_row, with_token, zeros, ℕ, ◌++◌, ◌<◌, ◌∙◌, ◌∷◌, ◌≡◌, ◌≤◌}
-use Rattle.tds_export.proofs.SomeBytes.{AreBytes-append}
+use Rattle.tds_export.proofs.Words.{common_steps, ADone, APassed, AreBytes, AreBytes-back, AreBytes-front, Between, CanBeCompleted, Column, Describing, DescriptionPart, Done, Fields, InReturn, InRow, Inside-Spelt, IsNext, Lead, List, Metadata, None, Open, Option, Part, PassedOver, ReturnPart, Returned, Row, RowPart, Some, Spelt, Spelt-induct, Spelt-none, Token, TokenBody, TokenLength, Windows1252, [], after_first, arith, begun, bodied, choose, described_after, done, done_byte, eq_false, false, fields_length, fixed, holds_notice, lead_of, length, length-replicate, nat_tests, part_add, passed, refl, replicate-append-replicate, response, response_start, rest_of_token, slice_index, start_of_row, test_le, test_lt, true, with_described, with_return, with_row, with_token, zeros, ℕ, ◌++◌, ◌<◌, ◌∙◌, ◌∷◌, ◌≡◌, ◌≤◌}
+use Rattle.tds_export.proofs.{SomeBytes.AreBytes-append, ResponseMeaning.response_is_spelt, Cuts.spelt_both, Cuts.spelt_one}
 use Rattle.tds_export.proofs.CompletionBytes.{AreBytes-completion, IsOpenReturn, IsOpenRow, OpenReached}
 use Rattle.tds_export.proofs.CompletedRows.{AreValid, RowReached, marked_valid, next_reached, row_ends, row_keeps}
 use Rattle.tds_export.proofs.CompletedDescriptions.{DescribedReached, IsOpenDescription, described_ends, described_keeps}
 use Rattle.tds_export.proofs.CompletedReturns.{ReturnReached, return_ends, return_keeps}
 use Rattle.tds_export.proofs.TokenLaws.{bare, bare_body, bare_fixed, is_bare, is_final-snoc}
 use Rattle.tds_export.proofs.ResponseLaws.{body_free, body_is_read, described_after-append, description_in_response, length_free, return_in_response, row_in_response, some_fields}
-use Rattle.tds_export.proofs.ResponseMeaning.{response_is_spelt}
-use Rattle.tds_export.proofs.Cuts.{spelt_both, spelt_one}
 
 -- the columns that are described are some, of valid kinds
 abbrev CurrentReached : Option (List Column) → Type 0
@@ -26,7 +24,7 @@ zeros_hold n h = grind (arith, common_steps, zeros, replicate-append-replicate, 
 module _ (room : ℕ) where
   -- a token that describes nothing
   token_reached : (tokens : List Token) (t : Token) → ((c : Option (List Column)) → described_after c (t ∷ []) ≡ c) → CurrentReached (described_after None tokens) → PartReached room (with_token tokens t)
-  token_reached tokens t same h = (subst CurrentReached (sym (described_after-append None tokens (t ∷ []) ∙ same (described_after None tokens))) h, tt)
+  token_reached tokens t same h = (rw (described_after-append None tokens (t ∷ []) ∙ same (described_after None tokens)) h, tt)
 
   bare_reached : (tokens : List Token) (t : Token) → is_bare t ≡ true → CurrentReached (described_after None tokens) → PartReached room (with_token tokens t)
   bare_reached tokens t is h = token_reached tokens t (bare t is).columns h
@@ -49,16 +47,16 @@ module _ (room : ℕ) where
   -- Each element keeps what is known.
   open_keeps : (tokens : List Token) (at : Open) (e : List ℕ) → AreBytes e → CurrentReached (described_after None tokens) → OpenReached room at → IsNext (response Windows1252 room) (record { tokens = tokens; at = at }) e → PartReached room (part_add Windows1252 tokens at e)
   open_keeps tokens Between e are h o n = lead_reached tokens (lead_of (slice_index e 0)) h
-  open_keeps tokens (Describing d) e are h (begun, r) n = described_reached tokens (add_described d e) h (described_keeps room d e are r (record { some = n.some; whole = n.whole; free = n.free }))
-  open_keeps tokens (InRow part) e are h (begun, r) n = row_reached tokens (row_add Windows1252 part e) h (row_keeps part e are r (record { some = n.some; whole = n.whole; free = n.free }))
-  open_keeps tokens (InReturn part) e are h (begun, r) n = return_reached tokens (return_add part e) h (return_keeps part e are r (record { some = n.some; whole = n.whole; free = n.free }))
+  open_keeps tokens (Describing d) e are h (begun, r) n = described_reached _ _ h (described_keeps _ d e are r (record { some = n.some; whole = n.whole; free = n.free }))
+  open_keeps tokens (InRow part) e are h (begun, r) n = row_reached _ _ h (row_keeps _ e are r (record { some = n.some; whole = n.whole; free = n.free }))
+  open_keeps tokens (InReturn part) e are h (begun, r) n = return_reached _ _ h (return_keeps _ e are r (record { some = n.some; whole = n.whole; free = n.free }))
   open_keeps tokens (TokenLength b) e are h o n = grind (arith, bare_body, bare_reached, choose, eq_false, nat_tests)
-  open_keeps tokens (TokenBody b m) e are h o n = bare_reached tokens (bodied b e) (bare_body b e) h
-  open_keeps tokens (Fields f) e are h o n = bare_reached tokens (fixed f e) (bare_fixed f e) h
+  open_keeps tokens (TokenBody b m) e are h o n = bare_reached tokens _ (bare_body b e) h
+  open_keeps tokens (Fields f) e are h o n = bare_reached tokens _ (bare_fixed f e) h
 
   part_reached : (bytes : List ℕ) (p : Part) → AreBytes bytes → Spelt (response Windows1252 room) response_start bytes p → PartReached room p
   part_reached bytes p are h =
-      Spelt-induct (response Windows1252 room) (λ q b. AreBytes b → PartReached room q) (λ q b e k n all. let r = k (AreBytes-front b e all) in open_keeps q.tokens q.at e (AreBytes-back b e all) r.0 r.1 n) response_start (λ t. (tt, tt)) bytes p h are
+      Spelt-induct _ (λ q b. AreBytes b → PartReached room q) (λ q b e k n all. let r = k (AreBytes-front b e all) in open_keeps _ _ e (AreBytes-back b e all) r.0 r.1 n) _ (λ t. (tt, tt)) _ p h are
 
   -- the rest of a token, up to its end
   abbrev Ends : List Token → Open → List ℕ → Type 0
@@ -75,25 +73,25 @@ module _ (room : ℕ) where
 
   -- The rest of the token that is read ends it.
   token_ends : 10 ≤ room → (tokens : List Token) (at : Open) → OpenReached room at → Ends tokens at (rest_of_token at)
-  token_ends ten tokens Between o = (tokens, Spelt-none (response Windows1252 room) (record { tokens = tokens; at = Between }))
+  token_ends ten tokens Between o = (tokens, Spelt-none _ _)
   token_ends ten tokens (Describing d) (begun, r) =
-      let all = described_ends room ten d begun r in
-      (tokens ++ Metadata all.0 all.1 ∷ [], rw (← described_opens tokens d begun) (Inside-Spelt (description room) (response Windows1252 room) (with_described tokens) (description_in_response Windows1252 room tokens) d (rest_of_description d) (WholeDescription all.0 all.1) all.2))
+      let all = described_ends _ ten d begun r in
+      (tokens ++ Metadata all.0 all.1 ∷ [], rw (← described_opens tokens d begun) (Inside-Spelt _ _ _ (description_in_response Windows1252 _ _) d _ _ all.2))
   token_ends ten tokens (InRow part) (begun, r) =
-      let all = row_ends part r in
-      (tokens ++ Row all.0 ∷ [], rw (← row_opens tokens part begun) (Inside-Spelt (row Windows1252) (response Windows1252 room) (with_row tokens) (row_in_response Windows1252 room tokens) part (rest_of_row part) (WholeRow all.0) all.1))
+      let all = row_ends _ r in
+      (tokens ++ Row all.0 ∷ [], rw (← row_opens tokens part begun) (Inside-Spelt _ _ _ (row_in_response Windows1252 _ _) _ _ _ all.1))
   token_ends ten tokens (InReturn part) (begun, r) =
-      let all = return_ends part r in
-      (tokens ++ Returned all.0 ∷ [], rw (← return_opens tokens part begun) (Inside-Spelt return_value (response Windows1252 room) (with_return tokens) (return_in_response Windows1252 room tokens) part (rest_of_return part) (WholeReturn all.0) all.1))
-  token_ends ten tokens (TokenLength (APassed passed)) o = (tokens ++ PassedOver passed [] ∷ [], body_is_read Windows1252 room tokens (APassed passed) (zeros 2) [] refl refl refl refl)
+      let all = return_ends _ r in
+      (tokens ++ Returned all.0 ∷ [], rw (← return_opens tokens part begun) (Inside-Spelt _ _ _ (return_in_response Windows1252 _ _) _ _ _ all.1))
+  token_ends ten tokens (TokenLength (APassed passed)) o = (tokens ++ PassedOver passed [] ∷ [], body_is_read Windows1252 _ _ _ (zeros 2) _ refl refl refl refl)
   token_ends ten tokens (TokenLength b) o =
       let free = length_free room 14 tokens b (14 ∷ 0 ∷ []) (λ e. omega arith) refl in
       (tokens ++ bodied b (zeros 14) ∷ [], body_is_read Windows1252 room tokens b (14 ∷ 0 ∷ []) (zeros 14) refl refl free (body_free b (zeros 14) (λ e. zeros_hold 14 (omega arith))))
   token_ends ten tokens (TokenBody b n) (some, long) =
       let l : length (zeros n) ≡ n = length-replicate n 0 in
-      (tokens ++ bodied b (zeros n) ∷ [], spelt_one (omega (arith, l)) l (body_free b (zeros n) (λ e. zeros_hold n (long e))) refl)
+      (tokens ++ bodied b (zeros n) ∷ [], spelt_one (omega arith) l (body_free b (zeros n) (λ e. zeros_hold n (long e))) refl)
   token_ends ten tokens (Fields f) o =
-      let l : length (zeros (fields_length f)) ≡ fields_length f = length-replicate (fields_length f) 0 in
+      let l = length-replicate (fields_length f) 0 in
       (tokens ++ fixed f (zeros (fields_length f)) ∷ [], spelt_one (rw l (some_fields f)) l refl refl)
 
   done_ends : (tokens : List Token) → Spelt (response Windows1252 room) (record { tokens = tokens; at = Between }) done (with_token tokens (Done false))
@@ -104,7 +102,7 @@ module _ (room : ℕ) where
 -- Whatever has been read can be completed.
 pub can_be_completed : CanBeCompleted
 can_be_completed room part bytes ten are h =
-    let r = part_reached room bytes part are h in
-    let end = token_ends room ten part.tokens part.at r.1 in
-    let all = spelt_both h (spelt_both end.1 (done_ends room end.0)) in
-    (end.0 ++ Done false ∷ [], response_is_spelt Windows1252 room (bytes ++ completion part) (end.0 ++ Done false ∷ []) (AreBytes-append bytes (completion part) are (AreBytes-completion room part r.1)) (is_final-snoc end.0 (Done false)) all)
+    let r = part_reached _ _ _ are h in
+    let end = token_ends _ ten _ _ r.1 in
+    let all = spelt_both h (spelt_both end.1 (done_ends _ _)) in
+    (end.0 ++ Done false ∷ [], response_is_spelt _ _ _ _ (AreBytes-append _ _ are (AreBytes-completion _ part r.1)) (is_final-snoc end.0 (Done false)) all)

@@ -1,10 +1,7 @@
 -- What completes a return value is read as its rest.
-use Rattle.tds_export.proofs.Words.{AreBytes, BadTypeInfo, CellPart, Guid, InReturnCell, Inside-Spelt, IsNext, Kind, List, None, Null, Option, ReturnHead, ReturnInfo, ReturnName, ReturnNameCount, ReturnOrdinal, ReturnPart, ReturnValue, ScalarLength, Some, Spelt, Spelt-none, WholeCell, WholeReturn, [], ap, arith, bare_type, begun, cell, cell_add, cell_start, choose, eq_false, eq_true, if◌then◌else◌, is_some, is_some_value, is_valid, kind_of, least_info, length, length-replicate, more, named_kind, refl, rest_length, rest_of_cell, rest_of_return, rest_of_return_head, rest_of_value, return_add, return_charset, return_column, return_value, shape, subst, sym, true, unwrap_or, valid_of, with_return_kind, with_value, zeros, ℕ, ◌++◌, ◌<◌, ◌∙◌, ◌∷◌, ◌≡◌}
+use Rattle.tds_export.proofs.Words.{AreBytes, BadTypeInfo, CellPart, Guid, InReturnCell, Inside-Spelt, IsNext, Kind, List, None, Null, Option, ReturnHead, ReturnInfo, ReturnName, ReturnNameCount, ReturnOrdinal, ReturnPart, ReturnValue, ScalarLength, Some, Spelt, Spelt-none, WholeReturn, [], ap, arith, bare_type, begun, choose, eq_false, eq_true, if◌then◌else◌, is_some, is_some_value, is_valid, least_info, length-replicate, more, named_kind, refl, rest_length, rest_of_cell, rest_of_return, rest_of_return_head, rest_of_value, return_add, return_column, return_value, true, valid_of, with_return_kind, with_value, zeros, ℕ, ◌++◌, ◌<◌, ◌∷◌, ◌≡◌}
 use Rattle.tds_export.proofs.CompletedCells.{CellReached, cell_ends, cell_keeps, start_reached}
-use Rattle.tds_export.proofs.CompletedRows.{IsOpenCell}
-use Rattle.tds_export.proofs.ReturnLaws.{accepted, some_kind, value_in_return}
-use Rattle.tds_export.proofs.LeastTypes.{least_type}
-use Rattle.tds_export.proofs.Cuts.{spelt_both, spelt_one}
+use Rattle.tds_export.proofs.{CompletedRows.IsOpenCell, ReturnLaws.accepted, ReturnLaws.some_kind, ReturnLaws.value_in_return, LeastTypes.least_type, Cuts.spelt_both, Cuts.spelt_one}
 
 -- what is known of a part of a return value that bytes led to
 abbrev pub ReturnReached : ReturnPart → Type 0
@@ -17,14 +14,14 @@ value_reached : (name : List ℕ) (kind : Kind) (part : CellPart) → CellReache
 value_reached name kind part h = grind arith
 
 kind_reached : (name : List ℕ) (kind : Kind) (o : Option Kind) → o ≡ Some kind → is_valid kind ≡ true → ReturnReached (with_return_kind name o)
-kind_reached name kind o is v = subst (λ o. ReturnReached (with_return_kind name o)) (sym is) (value_reached name kind (cell_start kind (shape return_charset kind)) (start_reached kind v))
+kind_reached name kind o is v = rw is (value_reached _ _ _ (start_reached _ v))
 
 -- Each element keeps what is known.
 pub return_keeps : (p : ReturnPart) (e : List ℕ) → AreBytes e → ReturnReached p → IsNext return_value p e → ReturnReached (return_add p e)
 return_keeps ReturnNameCount e are h n = grind (arith, choose, eq_false)
 return_keeps (ReturnHead name) e are h n = grind (arith, accepted, bare_type, choose, eq_false, eq_true, kind_reached, valid_of)
-return_keeps (ReturnInfo name byte) e are h n = let k = is_some_value (kind_of (byte ∷ e)) (some_kind (kind_of (byte ∷ e)) n.free) in kind_reached name k.0 (kind_of (byte ∷ e)) k.1 (valid_of k.0 (byte ∷ e) k.1)
-return_keeps (InReturnCell name kind part) e are (begun, h) n = value_reached name kind (cell_add part e) (cell_keeps return_column part e are h (record { some = n.some; whole = n.whole; free = n.free }))
+return_keeps (ReturnInfo name byte) e are h n = let k = is_some_value _ (some_kind _ n.free) in kind_reached _ _ _ k.1 (valid_of _ (byte ∷ e) k.1)
+return_keeps (InReturnCell name kind part) e are (begun, h) n = value_reached _ _ _ (cell_keeps _ _ e are h (record { some = n.some; whole = n.whole; free = n.free }))
 return_keeps p e are h n = tt
 
 -- the rest of a return value, up to its end
@@ -37,11 +34,11 @@ then_ends one (r, more) = (r, spelt_both one more)
 
 value_ends : (name : List ℕ) (kind : Kind) (part : CellPart) → CellReached part → Ends (with_value name kind part) (rest_of_cell part)
 value_ends name kind part h =
-    let x = cell_ends return_column part h in
-    (record { name = name; kind = kind; value = x.0 }, Inside-Spelt (cell return_column) return_value (with_value name kind) (value_in_return name kind) part (rest_of_cell part) (WholeCell x.0) x.1)
+    let x = cell_ends _ _ h in
+    (record { name = name; kind = kind; value = x.0 }, Inside-Spelt _ _ _ (value_in_return _ _) _ _ _ x.1)
 
 kind_ends : (name : List ℕ) (kind : Kind) (o : Option Kind) → o ≡ Some kind → is_valid kind ≡ true → Ends (with_return_kind name o) (rest_of_value o)
-kind_ends name kind o is v = subst (λ o. Ends (with_return_kind name o) (rest_of_value o)) (sym is) (value_ends name kind (cell_start kind (shape return_charset kind)) (start_reached kind v))
+kind_ends name kind o is v = rw is (value_ends _ _ _ (start_reached _ v))
 
 stays_open : (name : List ℕ) (kind : Kind) (part : CellPart) → IsOpenCell part → with_value name kind part ≡ InReturnCell name kind part
 stays_open name kind part h = grind arith
@@ -55,20 +52,20 @@ head_ends name =
     (null, spelt_both type (spelt_both info (spelt_one (omega arith) refl refl refl)))
 
 count_ends : Ends ReturnNameCount (0 ∷ rest_of_return_head)
-count_ends = let one : Spelt return_value ReturnNameCount (0 ∷ []) (ReturnHead []) = spelt_one (omega arith) refl refl refl in then_ends one (head_ends [])
+count_ends = let one : Spelt return_value ReturnNameCount (0 ∷ []) (ReturnHead []) = spelt_one (omega arith) refl refl refl in then_ends one (head_ends _)
 
 -- A part of a return value followed by what completes it is a whole one.
 pub return_ends : (p : ReturnPart) → ReturnReached p → (r : ReturnValue) × Spelt return_value p (rest_of_return p) (WholeReturn r)
 return_ends ReturnOrdinal h = let one : Spelt return_value ReturnOrdinal (zeros 2) ReturnNameCount = spelt_one (omega arith) refl refl refl in then_ends one count_ends
 return_ends ReturnNameCount h = count_ends
 return_ends (ReturnName n) h =
-    let l : length (zeros n) ≡ n = length-replicate n 0 in
-    let one : Spelt return_value (ReturnName n) (zeros n) (ReturnHead (zeros n)) = spelt_one (omega (arith, l)) l refl refl in
-    then_ends one (head_ends (zeros n))
-return_ends (ReturnHead name) h = head_ends name
+    let l = length-replicate n 0 in
+    let one = spelt_one (omega arith) l refl refl in
+    then_ends one (head_ends _)
+return_ends (ReturnHead name) h = head_ends _
 return_ends (ReturnInfo name byte) (n, known, some) =
-    let least = least_type byte n known in
+    let least = least_type _ n known in
     let free = ap (λ o. (if is_some o then None else Some (BadTypeInfo return_column))) least.described in
-    then_ends {e = least_info byte} (spelt_one (omega (arith, least.whole)) (least.whole ∙ sym (ap (λ o. unwrap_or o 0) known)) free refl) (kind_ends name least.kind (kind_of (byte ∷ least_info byte)) least.described (valid_of least.kind (byte ∷ least_info byte) least.described))
-return_ends (InReturnCell name kind part) (begun, h) = rw (← stays_open name kind part begun) (value_ends name kind part h)
-return_ends (WholeReturn r) h = (r, Spelt-none return_value (WholeReturn r))
+    then_ends {e = least_info byte} (spelt_one (omega arith) (cc) free refl) (kind_ends _ _ _ least.described (valid_of _ (byte ∷ least_info byte) least.described))
+return_ends (InReturnCell name kind part) (begun, h) = rw (← stays_open name kind part begun) (value_ends _ _ _ h)
+return_ends (WholeReturn r) h = (r, Spelt-none _ _)

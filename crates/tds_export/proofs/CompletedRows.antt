@@ -1,5 +1,5 @@
 -- What completes a row is read as its rest.
-use Rattle.tds_export.proofs.Words.{AreBytes, Bitmap, Bool, Cell, CellPart, Column, InCell, Inside-Spelt, IsNext, Kind, List, Null, RowPart, Shape, Spelt, Spelt-none, WholeCell, WholeRow, Windows1252, [], all_clear, arith, before, begins_open, begun, bit, bitmap_length, cell, cell_in_row, cell_start, div-eq_of_lt, false, is_valid, length, length-replicate, marked, next_cell, one-le-pow, refl, rest_of_cell, rest_of_cells, rest_of_row, row, row_add, shape, slice_index, some_bitmap, subst, suc, true, with_cell, zero, zeros, ℕ, ◌++◌, ◌+◌, ◌<◌, ◌∷◌, ◌≡◌}
+use Rattle.tds_export.proofs.Words.{AreBytes, Bitmap, Bool, Cell, CellPart, Column, InCell, Inside-Spelt, IsNext, Kind, List, Null, RowPart, Shape, Spelt, Spelt-none, WholeCell, WholeRow, Windows1252, [], all_clear, arith, before, begins_open, begun, bit, bitmap_length, cell_in_row, cell_start, div-eq_of_lt, false, is_valid, length, length-replicate, marked, next_cell, one-le-pow, refl, rest_of_cell, rest_of_cells, rest_of_row, row, row_add, shape, slice_index, some_bitmap, subst, suc, true, with_cell, zero, zeros, ℕ, ◌++◌, ◌+◌, ◌<◌, ◌∷◌, ◌≡◌}
 use Rattle.tds_export.proofs.CompletedCells.{CellReached, cell_ends, cell_keeps, start_reached}
 use Rattle.tds_export.proofs.Cuts.{spelt_both, spelt_one}
 
@@ -34,7 +34,7 @@ starts_open kind sh = grind arith
 pub next_reached : (cells : List Cell) (ks : List (Column × Bool)) → AreMarkedValid ks → RowReached (next_cell Windows1252 cells ks)
 next_reached cells [] h = tt
 next_reached cells ((k, true) ∷ ks) (v, h) = next_reached (cells ++ Null ∷ []) ks h
-next_reached cells ((k, false) ∷ ks) (v, h) = (starts_open k.kind (shape Windows1252 k.kind), start_reached k.kind v, h)
+next_reached cells ((k, false) ∷ ks) (v, h) = (starts_open _ _, start_reached _ v, h)
 
 -- Each element keeps what is known.
 pub row_keeps : (p : RowPart) (e : List ℕ) → AreBytes e → RowReached p → IsNext (row Windows1252) p e → RowReached (row_add Windows1252 p e)
@@ -43,13 +43,13 @@ row_keeps p e are h3 n = grind (arith, cell_keeps, marked_valid, next_reached)
 -- the cell that is read, and those to come
 part_ends : (before : List Cell) (part : CellPart) (ks : List (Column × Bool)) → CellReached part → ((b : List Cell) → (cells : List Cell) × Spelt (row Windows1252) (next_cell Windows1252 b ks) (rest_of_cells ks) (WholeRow cells)) → (cells : List Cell) × Spelt (row Windows1252) (with_cell Windows1252 before ks part) (rest_of_cell part ++ rest_of_cells ks) (WholeRow cells)
 part_ends before part ks h next =
-    let one = cell_ends (length before) part h in
+    let one = cell_ends _ _ h in
     let more = next (before ++ one.0 ∷ []) in
-    (more.0, spelt_both (Inside-Spelt (cell (length before)) (row Windows1252) (with_cell Windows1252 before ks) (cell_in_row Windows1252 before ks) part (rest_of_cell part) (WholeCell one.0) one.1) more.1)
+    (more.0, spelt_both (Inside-Spelt _ _ _ (cell_in_row Windows1252 _ _) _ _ _ one.1) more.1)
 
 -- the cells to come
 cells_end : (before : List Cell) (ks : List (Column × Bool)) → AreMarkedValid ks → (cells : List Cell) × Spelt (row Windows1252) (next_cell Windows1252 before ks) (rest_of_cells ks) (WholeRow cells)
-cells_end before [] h = (before, Spelt-none (row Windows1252) (WholeRow before))
+cells_end before [] h = (before, Spelt-none _ _)
 cells_end before ((k, true) ∷ ks) (v, h) = cells_end (before ++ Null ∷ []) ks h
 cells_end before ((k, false) ∷ ks) (v, h) = rw (← begins_open Windows1252 before ks k.kind (shape Windows1252 k.kind)) (part_ends before (cell_start k.kind (shape Windows1252 k.kind)) ks (start_reached k.kind v) (λ b. cells_end b ks h))
 
@@ -72,11 +72,11 @@ marked_clear (c ∷ cs) nulls k h = λ i. (c, h k i) ∷ marked_clear cs nulls (
 -- A part of a row followed by what completes it is a whole row.
 pub row_ends : (p : RowPart) → RowReached p → (cells : List Cell) × Spelt (row Windows1252) p (rest_of_row p) (WholeRow cells)
 row_ends (Bitmap columns) (some, h) =
-    let n : ℕ = bitmap_length (length columns) in
-    let l : length (zeros n) ≡ n = length-replicate n 0 in
+    let n = bitmap_length (length columns) in
+    let l = length-replicate n 0 in
     let one : Spelt (row Windows1252) (Bitmap columns) (zeros n) (next_cell Windows1252 [] (marked columns (bit (zeros n)) 0)) = spelt_one (omega (arith, l, some_bitmap columns some)) l refl refl in
-    let clear : marked columns (bit (zeros n)) 0 ≡ all_clear columns = marked_clear columns (bit (zeros n)) 0 (clear_at n) in
-    let more = cells_end [] (all_clear columns) (subst (λ ks. AreMarkedValid ks) clear (marked_valid columns (bit (zeros n)) 0 h)) in
+    let clear : marked columns (bit (zeros n)) 0 ≡ all_clear columns = marked_clear _ _ 0 (clear_at n) in
+    let more = cells_end _ _ (subst AreMarkedValid clear (marked_valid _ _ 0 h)) in
     (more.0, spelt_both (rw clear at one) more.1)
-row_ends (InCell cells part ks) (begun, h, m) = rw (← stays_open cells ks part begun) (part_ends cells part ks h (λ b. cells_end b ks m))
-row_ends (WholeRow cells) h = (cells, Spelt-none (row Windows1252) (WholeRow cells))
+row_ends (InCell cells part ks) (begun, h, m) = rw (← stays_open cells ks part begun) (part_ends _ _ _ h (λ b. cells_end b ks m))
+row_ends (WholeRow cells) h = (cells, Spelt-none _ _)

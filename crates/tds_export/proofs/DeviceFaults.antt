@@ -1,13 +1,13 @@
 -- Where an export stops with the fault of a device, the device's count of failures rose.
-use Rattle.tds_export.proofs.Words.{Charset, Coming, Ends, Fault, Given, Held, InputEnded, IsOfWire, IsOver, List, MessageEnded, Option, Part, ReadFailed, Report, Reports, Rose, RunStops, Seen, Stop, Stopped, StopsExport, StopsReading, Takes, WriteFailed, [], ap, arith, before, begun, begun_at, fresh_at, front_packet, grammar_of, inl, inr, length, message, message_of_wire, one_more, read, response, response_start, rose, subst, sym, true, whole_message, ℕ, ◌++◌, ◌<◌, ◌∙◌, ◌∷◌, ◌≡◌, ◌⊎◌}
+use Rattle.tds_export.proofs.Words.{Charset, Coming, Ends, Fault, Given, Held, IsOfWire, IsOver, List, MessageEnded, Option, Part, ReadFailed, Report, Reports, Rose, RunStops, Seen, Stop, Stopped, StopsExport, StopsReading, Takes, WriteFailed, [], ap, arith, before, begun, begun_at, fresh_at, front_packet, grammar_of, inl, inr, length, message, message_of_wire, one_more, read, response, response_start, rose, subst, sym, true, whole_message, ℕ, ◌++◌, ◌<◌, ◌∙◌, ◌∷◌, ◌≡◌, ◌⊎◌, limits_of}
 use Rattle.tds_export.proofs.PayloadFaults.{IsOfPayload, element_fault, end_fault}
 
 -- ---- a payload that has just begun
 
 ends_of_wire : (size limit failures : ℕ) (left : Option (List ℕ)) (b : Seen) (bytes : List ℕ) (own : Stop) → Ends (begun size limit left failures) b bytes own → IsOfWire own.fault ⊎ ((own.fault ≡ ReadFailed) × (b.failures ≡ one_more failures))
 ends_of_wire size limit failures left b bytes own (inl x) =
-    inl (subst IsOfWire (ap (λ (c : Coming). c.stop.fault) (x.2 [])) (message_of_wire size limit _ 0 0 (x.0 ++ [])))
-ends_of_wire size limit failures left b bytes own (inr (inl x)) = inl (subst IsOfWire (ap (λ (c : Coming). c.stop.fault) x.3) (message_of_wire size limit _ 0 0 x.0))
+    inl (rw (← ap (λ (c : Coming). c.stop.fault) (x.2 [])) (message_of_wire _ _ _ 0 0 _))
+ends_of_wire size limit failures left b bytes own (inr (inl x)) = inl (rw (← ap (λ (c : Coming). c.stop.fault) x.3) (message_of_wire _ _ _ 0 0 _))
 ends_of_wire size limit failures left b bytes own (inr (inr x)) = inr (x.2, x.4.0)
 
 -- what stops the reading of a response
@@ -16,16 +16,16 @@ ReadingFault before after fault = ((fault ≡ WriteFailed) → ⊥) × ((fault �
 
 -- a fault of which no device's is one
 of_none : (P : Fault → Type 0) → (P WriteFailed → ⊥) → (P ReadFailed → ⊥) → (before after : ℕ) (fault : Fault) → P fault → ReadingFault before after fault
-of_none P write read before after fault h = (λ e. write (subst P e h), λ e. absurd (read (subst P e h)))
+of_none P write read before after fault h = (λ e. write (rw e at h), λ e. absurd (read (rw e at h)))
 
 reading_fault : (charset : Charset) (room size limit failures : ℕ) (left : Option (List ℕ)) (b : Seen) (place : ℕ) (at : Part) (stop : Stop) → StopsReading (response charset room) response_start (begun size limit left failures) b place at stop → ReadingFault failures b.failures stop.fault
 reading_fault charset room size limit failures left b place at stop x = elim x.cause [
-  | inl y ↦ of_none IsOfPayload (λ h. h) (λ h. h) failures b.failures stop.fault (element_fault charset room at y.0.element stop.fault y.0.first)
+  | inl y ↦ of_none IsOfPayload (λ h. h) (λ h. h) _ _ _ (element_fault charset _ at y.0.element stop.fault y.0.first)
   | inr y ↦ elim y.stop_is [
-    | inl z ↦ subst (ReadingFault failures b.failures) (sym (ap (λ (s : Stop). s.fault) z.1.2)) (of_none IsOfPayload (λ h. h) (λ h. h) failures b.failures z.1.0 (end_fault charset room at z.1.0 z.1.1))
-    | inr z ↦ subst (ReadingFault failures b.failures) (sym (ap (λ (s : Stop). s.fault) z.1)) (elim (ends_of_wire size limit failures left b (x.bytes ++ y.part) y.own y.ends) [
-      | inl w ↦ of_none IsOfWire (λ h. h) (λ h. h) failures b.failures y.own.fault w
-      | inr w ↦ (λ e. (let no : ReadFailed ≡ WriteFailed = sym w.0 ∙ e in cc), λ e. w.1)
+    | inl z ↦ rw (ap (λ (s : Stop). s.fault) z.1.2) (of_none IsOfPayload (λ h. h) (λ h. h) _ _ _ (end_fault charset room at z.1.0 z.1.1))
+    | inr z ↦ rw (ap (λ (s : Stop). s.fault) z.1) (elim (ends_of_wire _ _ _ _ b _ _ y.ends) [
+      | inl w ↦ of_none IsOfWire (λ h. h) (λ h. h) _ _ _ w
+      | inr w ↦ (λ e. (let no = sym w.0 ∙ e in cc), λ e. w.1)
     ])
   ]
 ]
@@ -42,40 +42,40 @@ pub blamed : (given : Given) (stopped : Stopped) → StopsExport given stopped �
 blamed given stopped x = go x.stops
   where
     is : stopped.fault ≡ x.stop.fault
-    is = ap (λ (s : Stopped). s.fault) x.stopped_is
+    is = cc
 
     ends : (failed : x.failed ≡ true) → x.middle.failures ≡ given.after.writer.failures
-    ends failed = ap (λ (h : Held). h.failures) (sym (x.same failed)) ∙ x.writer.failures
+    ends failed = cc (x.same failed)
 
     go : RunStops (grammar_of given) response_start (begun_at given) x.seen 0 (fresh_at given) x.middle given.after.areas.description x.failed x.stop
         → (stopped.fault ≡ ReadFailed → Rose given.before.reader.failures given.after.reader.failures) × (stopped.fault ≡ WriteFailed → Rose given.before.writer.failures given.after.writer.failures)
     go (inl (inl y)) =
-        let r = reading_fault given.charset given.before.areas.limits.column_room given.before.areas.limits.packet_size given.before.areas.limits.max_wire given.before.reader.failures given.before.reader.bytes x.seen 0 y.0.at x.stop y.0.stops in
-        (λ e. subst (Rose given.before.reader.failures) (sym (r.1 (sym is ∙ e)) ∙ x.reader.failures) (rose given.before.reader.failures), λ e. absurd (r.0 (sym is ∙ e)))
+        let r = reading_fault _ _ _ _ _ _ _ 0 _ _ y.0.stops in
+        (λ e. subst (Rose given.before.reader.failures) (cc (r.1 (sym is ∙ e))) (rose _), λ e. absurd (r.0 (cc)))
     go (inl (inr y)) =
         let b = y.0.breaks.breaks in
-        by_write given stopped x.stop y.0.breaks.middle x.middle is (ap (λ (s : Stop). s.fault) b.8) y.0.breaks.puts.2.4 b.9 (ends y.1)
+        by_write given stopped x.stop y.0.breaks.middle x.middle is (cc) y.0.breaks.puts.2.4 b.9 (ends y.1)
     go (inr y) =
         let f = y.0.fails in
-        by_write given stopped x.stop y.0.middle x.middle is (ap (λ (s : Stop). s.fault) f.2) y.0.whole.puts.2.4 f.3 (ends y.1)
+        by_write given stopped x.stop y.0.middle x.middle is (cc) y.0.whole.puts.2.4 f.3 (ends y.1)
 
 -- ---- no device failed
 
 -- an input of no byte is over before the message is
 no_message : (size limit : ℕ) (c : Coming) → c.stop.fault ≡ MessageEnded → whole_message size limit [] ≡ c → ⊥
 unfolding message front_packet
-no_message size limit c is e = let no : InputEnded ≡ MessageEnded = ap (λ (d : Coming). d.stop.fault) e ∙ is in cc
+no_message size limit c is e = let no = ap (λ (d : Coming). d.stop.fault) e ∙ is in cc
 
 -- to read a whole message takes a byte
 some_read : (size limit failures : ℕ) (left : Option (List ℕ)) (q : Seen) (bytes : List ℕ) (n : ℕ) (t : Takes (begun size limit left failures) q bytes n) → IsOver q → 0 < length t.0
 some_read size limit failures left q bytes n t o = go t.0 t.1.1
   where
     go : (read : List ℕ) → ((zs : List ℕ) → whole_message size limit (read ++ zs) ≡ before bytes (q.future zs)) → 0 < length read
-    go [] f = absurd (no_message size limit (before bytes (q.future [])) (ap (λ (c : Coming). c.stop.fault) (o.2 []) ∙ o.1) (f []))
+    go [] f = absurd (no_message _ _ _ (cc (o.2 [])) (f []))
     go (x ∷ read) f = omega arith
 
 pub no_failure : (given : Given) (report : Report) → Reports given report → (Rose given.before.reader.failures given.after.reader.failures → ⊥) × (Rose given.before.writer.failures given.after.writer.failures → ⊥)
 no_failure given report x =
     let t = x.completes.whole.takes in
-    let moved = some_read given.before.areas.limits.packet_size given.before.areas.limits.max_wire given.before.reader.failures given.before.reader.bytes x.seen x.completes.whole.bytes _ t x.completes.whole.over in
+    let moved = some_read (limits_of given).packet_size (limits_of given).max_wire given.before.reader.failures given.before.reader.bytes x.seen x.completes.whole.bytes _ t x.completes.whole.over in
     grind (arith, some_read)

@@ -7,7 +7,7 @@ tidied h k failed r going x = grind (arith, rose)
 
 -- the end of a text leaves a sink so
 pub tidies : {W U : Type 0} (contents : W → Option (List ℕ)) (old new : Sink W) (r : Result U Stop) → FinishesSink contents old new r → old.failed ≡ false → Tidied (held contents old) (held contents new)
-tidies contents old new r x going = tidied (held contents old) (held contents new) old.failed r going x.gives
+tidies contents old new r x going = tidied _ _ _ r going x.gives
 
 -- ---- what an export leaves, from what its calls did
 

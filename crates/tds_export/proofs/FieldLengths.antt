@@ -56,16 +56,16 @@ long_length c bytes = omega (arith, conversion_length c bytes, length-append (co
 emit_more : (c : Conversion) (a b : List ℕ) → is_begun c (a ++ b) ≡ true → length (emit (conversion_rest c) (conversion_text c) (a ++ b)) ≤ length (emit (conversion_rest c) (conversion_text c) a) + 4 * (3 + length b)
 emit_more c a b h =
     let j = joins_by_name c in
-    let begins = (begun_by_test c (a ++ b)).0 h in
+    let begins = (begun_by_test c _).0 h in
     let e = j.emits a b begins in
-    let short : length (conversion_rest c a) ≤ 3 = j.short a (j.front a b begins) in
+    let short = j.short a (j.front a b begins) in
     grind (arith, joins_by_name, begun_by_test, length-append, emit_length)
 
 -- what the end adds
 text_more : (c : Conversion) (a : List ℕ) → is_fit c a ≡ true → is_begun c a ≡ true → length (conversion_text c a) ≤ length (emit (conversion_rest c) (conversion_text c) a) + 12
 text_more c a h b =
     let j = joins_by_name c in
-    let short : length (conversion_rest c a) ≤ 3 = j.short a ((begun_by_test c a).0 b) in
+    let short = j.short a ((begun_by_test c a).0 b) in
     grind (arith, joins_by_name, fit_by_test, begun_by_test, length-append, conversion_length)
 
 -- a piece adds four bytes for each byte, and for each of three that were withheld
@@ -103,7 +103,7 @@ AllFit (Some v) = FitsWidths v
 
 -- a date and time has no wide number
 datetime_fits : (n : ℕ) (e : List ℕ) → FitsWidths (datetime_of n e)
-datetime_fits n e = choose (λ v. FitsWidths v) (n == 4) (values.SmallDateTime (little_number 2 e) (little_number 2 (drop 2 e))) (values.DateTime (cast_signed w32 (little_number 4 e)) (little_number 4 (drop 4 e))) (λ z. tt) (λ z. tt)
+datetime_fits n e = choose FitsWidths (n == 4) (values.SmallDateTime (little_number 2 e) (little_number 2 (drop 2 e))) (values.DateTime (cast_signed w32 (little_number 4 e)) (little_number 4 (drop 4 e))) (λ z. tt) (λ z. tt)
 
 -- the bytes of a kind spell numbers that fit
 values_fit : (kind : Kind) (e : List ℕ) → AreBytes e → is_length_allowed kind (length e) ≡ true → AllFit (value_of kind e)
@@ -118,7 +118,7 @@ values_fit (kinds.MoneyN n) e h k = money_fits n e
 values_fit kinds.DateTime4 e h k = datetime_fits 4 e
 values_fit kinds.DateTime8 e h k = datetime_fits 8 e
 values_fit (kinds.DateTimeN n) e h k = datetime_fits n e
-values_fit (kinds.Decimal n precision scale) e h k = magnitude_fits (length e) (drop 1 e) (AreBytes-drop 1 e h) (and_parts (is_decimal_length (length e)) (nat_le (length e) n) k).0
+values_fit (kinds.Decimal n precision scale) e h k = magnitude_fits _ _ (AreBytes-drop 1 e h) (and_parts (is_decimal_length (length e)) (nat_le (length e) n) k).0
 values_fit kind e h k = tt
 
 -- the text of a value that is read
@@ -132,4 +132,4 @@ checked_short o h = grind (arith, choose, length-text_of)
 
 -- so has each value that is read
 pub read_short : (kind : Kind) (e : List ℕ) → AreBytes e → ReadShort (read_of kind e)
-read_short kind e h = choose (λ r. ReadShort r) (is_length_allowed kind (length e)) (checked (value_of kind e)) _ (λ z. checked_short (value_of kind e) (values_fit kind e h z)) (λ z. tt)
+read_short kind e h = choose ReadShort (is_length_allowed kind (length e)) (checked (value_of kind e)) _ (λ z. checked_short (value_of kind e) (values_fit kind e h z)) (λ z. tt)

@@ -1,5 +1,5 @@
 -- The least TYPE_INFO of each type byte.
-use Rattle.tds_export.proofs.Words.{AreBytes, Bool, Kind, List, None, Option, Some, [], and_parts, arith, eq_false, eq_true, false, kind_of, least_info, length, lt_true, named_kind, nat_lt, nat_tests, refl, rest_length, subst, suc, sym, true, zero, ℕ, ◌&&◌, ◌<◌, ◌==◌, ◌∷◌, ◌≡◌}
+use Rattle.tds_export.proofs.Words.{AreBytes, Bool, Kind, List, None, Option, Some, [], and_parts, arith, eq_false, eq_true, false, kind_of, least_info, length, lt_true, named_kind, nat_lt, nat_tests, refl, rest_length, suc, true, zero, ℕ, ◌&&◌, ◌<◌, ◌==◌, ◌∷◌, ◌≡◌}
 
 -- after this type byte the least rest is of so many bytes, and describes a kind
 pub record IsLeast (byte n : ℕ) : Type 0 where
@@ -15,7 +15,7 @@ are_bytes (x ∷ xs) = nat_lt x 256 && are_bytes xs
 
 bytes_true : (xs : List ℕ) → are_bytes xs ≡ true → AreBytes xs
 bytes_true [] h = tt
-bytes_true (x ∷ xs) h = let both = and_parts (nat_lt x 256) (are_bytes xs) h in (lt_true x 256 both.0, bytes_true xs both.1)
+bytes_true (x ∷ xs) h = let both = and_parts (nat_lt x 256) (are_bytes xs) h in (lt_true x _ both.0, bytes_true xs both.1)
 
 -- whether a rest of this length, if there is one, has it, is of bytes, and describes a kind
 abbrev holds : Option ℕ → List ℕ → Option Kind → Bool
@@ -38,7 +38,7 @@ one_below zero p h k l = absurd (omega arith)
 one_below (suc n) p h k l =
     let both = and_parts (p n) (all_below n p) h in
     elim (k == n) as (λ t. (k == n) ≡ t → p k ≡ true) [
-      | true ↦ λ e. subst (λ m. p m ≡ true) (sym (eq_true k n e)) both.0
+      | true ↦ λ e. rw (eq_true k n e) both.0
       | false ↦ λ e. one_below n p both.1 k (let other = eq_false k n e in omega arith)
     ] refl
 
@@ -58,4 +58,4 @@ found byte n r k h e d = grind (arith, and_parts, bytes_true, eq_true)
 -- After each type byte that is accepted its least rest describes a kind.
 pub least_type : (byte n : ℕ) → rest_length byte ≡ Some n → IsLeast byte n
 unfolding has_least
-least_type byte n h = found byte n (rest_length byte) (kind_of (byte ∷ least_info byte)) (one_below 256 has_least every_byte byte (beyond byte n h)) h refl
+least_type byte n h = found _ n _ _ (one_below _ _ every_byte _ (beyond _ n h)) h refl

@@ -1,5 +1,5 @@
 -- The names of columns, put one after another.
-use Rattle.tds_export.proofs.Words.{Bool, Column, Err, IsErrAnd, IsWriting, List, Ok, Option, PutsPiece, PutsPiece-none, PutsPiece-passed, PutsPiece-trans, Result, Sink, Stop, [], ap, append_assoc, codes, false, joined, joined_more, map, map-append, more, name_field, not, refl, subst, sym, text_if, true, ℕ, ◌++◌, ◌∙◌, ◌∷◌, ◌≡◌}
+use Rattle.tds_export.proofs.Words.{Bool, Column, Err, IsErrAnd, IsWriting, List, Ok, Option, PutsPiece, PutsPiece-none, PutsPiece-passed, PutsPiece-trans, Result, Sink, Stop, [], ap, append_assoc, codes, false, joined, joined_more, map, map-append, more, name_field, not, refl, sym, text_if, true, ℕ, ◌++◌, ◌∙◌, ◌∷◌, ◌≡◌}
 
 -- one piece was put, and another after it
 pub then_puts : {W U V : Type 0} {contents : W → Option (List ℕ)} {a b c : Sink W} {u : U} {p q : List ℕ} {r : Result V Stop} → PutsPiece contents a b p (Ok u) → PutsPiece contents b c q r → PutsPiece contents a c (p ++ q) r
@@ -7,7 +7,7 @@ then_puts x y = PutsPiece-trans _ _ _ _ _ _ _ _ x y
 
 -- where `?` passes on that the writer failed, more would have been put
 pub passed_piece : {W U V : Type 0} {contents : W → Option (List ℕ)} {a b : Sink W} {p : List ℕ} {e : Stop} {r : Result V Stop} (more : List ℕ) → IsErrAnd r (λ stop. stop ≡ e) → PutsPiece {U = U} contents a b p (Err e) → PutsPiece contents a b (p ++ more) r
-passed_piece more is x = PutsPiece-passed _ _ _ _ more _ _ is x
+passed_piece more is x = PutsPiece-passed _ _ _ _ _ _ _ is x
 
 abbrev is_none : List (List ℕ) → Bool
 is_none [] = true
@@ -17,7 +17,7 @@ is_none (f ∷ fs) = false
 joined-snoc : (fs : List (List ℕ)) (f : List ℕ) → joined (fs ++ f ∷ []) ≡ joined fs ++ (text_if (not (is_none fs)) (codes ",") ++ f)
 joined-snoc [] f = refl
 joined-snoc (a ∷ []) f = append_assoc a (codes ",") f
-joined-snoc (a ∷ b ∷ fs) f = ap (λ l. (a ++ codes ",") ++ l) (joined-snoc (b ∷ fs) f) ∙ sym (append_assoc (a ++ codes ",") (joined (b ∷ fs)) (codes "," ++ f))
+joined-snoc (a ∷ b ∷ fs) f = cc (joined-snoc (b ∷ fs) f, append_assoc (a ++ codes ",") (joined (b ∷ fs)) (codes "," ++ f))
 
 -- The names of the columns but these last ones were put.
 pub record NamesPut {W : Type 0} (contents : W → Option (List ℕ)) (columns left : List Column) (first : Bool) (before after : Sink W) : Type 0 where
@@ -27,7 +27,7 @@ pub record NamesPut {W : Type 0} (contents : W → Option (List ℕ)) (columns l
   pub puts : PutsPiece contents before after (joined (map name_field done)) (Ok (tt {0}))
 
 pub names_none : {W : Type 0} {contents : W → Option (List ℕ)} {columns left : List Column} {sink : Sink W} → left ≡ columns → IsWriting sink → NamesPut contents columns left true sink sink
-names_none {contents = contents} {sink = sink} e going = record { done = []; split = e; first_is = refl; puts = PutsPiece-none contents sink (tt {0}) going }
+names_none {contents = contents} {sink = sink} e going = record { done = []; split = e; first_is = refl; puts = PutsPiece-none _ _ _ going }
 
 some_fields : (xs : List (List ℕ)) (f : List ℕ) → is_none (xs ++ f ∷ []) ≡ false
 some_fields [] f = refl
@@ -45,13 +45,13 @@ module _ {W : Type 0} {contents : W → Option (List ℕ)} {columns left rest : 
   begins : (more : List ℕ) × ((joined (map name_field x.done) ++ (mark ++ name_field c)) ++ more ≡ joined (map name_field columns))
   begins =
       let fields = map name_field x.done in
-      let all : map name_field columns ≡ (fields ++ name_field c ∷ []) ++ map name_field rest = ap (map name_field) (sym x.split ∙ ap (λ l. x.done ++ l) is) ∙ map-append name_field x.done (c ∷ rest) ∙ sym (append_assoc fields (name_field c ∷ []) (map name_field rest)) in
+      let all = ap (map name_field) (sym x.split ∙ ap (λ l. x.done ++ l) is) ∙ map-append name_field x.done (c ∷ rest) ∙ sym (append_assoc fields (name_field c ∷ []) (map name_field rest)) in
       let grows = joined_more (fields ++ name_field c ∷ []) (map name_field rest) in
-      (grows.0, ap (λ l. l ++ grows.0) (sym (joined-snoc fields (name_field c))) ∙ grows.1 ∙ ap joined (sym all))
+      (grows.0, cc (joined-snoc fields (name_field c), grows.1, all))
 
   -- the writer failed at the comma
   pub comma_breaks : {d : Sink W} {stop : Stop} (r : Result (Unit {0}) Stop) → PutsPiece {U = Unit {0}} contents b d (text_if (not first) (codes ",")) (Err stop) → IsErrAnd r (λ s. s ≡ stop) → PutsPiece contents a d (joined (map name_field columns)) r
-  comma_breaks r broke is_passed = rw (← begins.1, ← regroup (joined (map name_field x.done)) mark (name_field c) begins.0) (passed_piece (name_field c ++ begins.0) is_passed (then_puts x.puts (rw x.first_is at broke)))
+  comma_breaks r broke is_passed = rw (← begins.1, ← regroup (joined (map name_field x.done)) mark (name_field c) begins.0) (passed_piece _ is_passed (then_puts x.puts (rw x.first_is at broke)))
 
   module _ {d e : Sink W} (comma : PutsPiece contents b d (text_if (not first) (codes ",")) (Ok (tt {0}))) where
     -- one more name was put
@@ -61,11 +61,11 @@ module _ {W : Type 0} {contents : W → Option (List ℕ)} {columns left rest : 
         let all = ap joined more ∙ joined-snoc (map name_field x.done) (name_field c) in
         record {
           done = x.done ++ c ∷ [];
-          split = append_assoc x.done (c ∷ []) rest ∙ ap (λ l. x.done ++ l) (sym is) ∙ x.split;
-          first_is = sym (ap is_none more ∙ some_fields (map name_field x.done) (name_field c));
-          puts = subst (λ l. PutsPiece contents a e l (Ok (tt {0}))) (sym all) (then_puts x.puts (then_puts (rw x.first_is at comma) name));
+          split = cc (append_assoc x.done (c ∷ []) rest);
+          first_is = simp (more, some_fields);
+          puts = rw all (then_puts x.puts (then_puts (rw x.first_is at comma) name));
         }
 
     -- the writer failed at the name
     pub name_breaks : {stop : Stop} (r : Result (Unit {0}) Stop) → PutsPiece {U = Unit {0}} contents d e (name_field c) (Err stop) → IsErrAnd r (λ s. s ≡ stop) → PutsPiece contents a e (joined (map name_field columns)) r
-    name_breaks r broke is_passed = rw (← begins.1) (passed_piece begins.0 is_passed (then_puts x.puts (then_puts (rw x.first_is at comma) broke)))
+    name_breaks r broke is_passed = rw (← begins.1) (passed_piece _ is_passed (then_puts x.puts (then_puts (rw x.first_is at comma) broke)))

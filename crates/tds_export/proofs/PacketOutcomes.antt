@@ -1,105 +1,115 @@
 -- How an export ended, by the packets of its input.
-use Rattle.tds_export.proofs.Words.{AreBytes, Describing, EndsInLast, EndsMessage, Fault, InLast, IsHolding, IsKept, IsRefused, List, Longest, Open, Packet, Part, RefusesNext, Rose, Run, Seen, Some, Space, Spelt, Stop, StopsAfterPackets, StopsInPayload, StopsOnWire, Token, [], ap, append_assoc, arith, begun, description_of, drop, drop-append_seam, grammar, in_last, inl, inr, length, length-append, longest_cut, longest_refused, more, one_more, payload_of, refl, response_start, rose, subst, sym, take, take-append_seam, takes_begins, text, text_so_far, wire_of, ℕ, ◌++◌, ◌<◌, ◌∙◌, ◌≡◌, ◌≤◌}
+use Rattle.tds_export.proofs.Words.{AreBytes, Describing, EndsInLast, EndsMessage, Fault, InLast, IsHolding, IsKept, IsRefused, List, Open, Packet, Part, RefusesNext, Rose, Run, Seen, Some, Space, Spelt, Stop, StopsAfterPackets, StopsInPayload, StopsOnWire, Token, [], ap, append_assoc, arith, begun, description_of, drop, drop-append_seam, grammar, in_last, inl, inr, length, length-append, longest_cut, longest_refused, more, payload_of, refl, response_start, rose, subst, sym, take, take-append_seam, takes_begins, text, text_so_far, wire_of, ℕ, ◌++◌, ◌<◌, ◌∙◌, ◌≡◌, limits, CutsNext, ends_front, Stops, wire_goes_on, Payload, StopsReading, text_put, ◌+◌}
 
 -- what the area holds at a part is kept, whatever follows
 pub kept_at : (area : Space) (tokens : List Token) (at : Open) (rest : List ℕ) → area.bytes ≡ description_of tokens at → IsKept area.bytes tokens at rest
-kept_at area tokens (Describing d) rest e = (rest, ap (λ l. l ++ rest) e)
+kept_at area tokens (Describing d) rest e = (rest, cc)
 kept_at area tokens at rest e = e
 
 -- the reader's side of a run that began at the front of its input
-pub record ReaderSide (run : Run) (q : Seen) (area : Space) : Type 0 where
+pub record ReaderSide (run : Run) (q : Seen) : Type 0 where
   pub bytes : AreBytes run.input
   pub left : q.left ≡ Some run.left
   pub failures : q.failures ≡ run.given.after.reader.failures
-  pub description : run.given.after.areas.description.bytes ≡ area.bytes
 
 abbrev pub start : Run → Seen
-start run = begun run.given.before.areas.limits.packet_size run.given.before.areas.limits.max_wire (Some run.input) run.given.before.reader.failures
+start run = begun (limits run).packet_size (limits run).max_wire (Some run.input) run.given.before.reader.failures
+
+zero : (n : ℕ) → 0 + n ≡ n
+zero n = omega arith
 
 -- an element's end lies in the last of the packets that were needed for it
-ends_in_last : (run : Run) (part : Part) (packets : List Packet) (bytes element : List ℕ) → length element ≡ (grammar run).size part → InLast run.given.before.areas.limits.packet_size packets (length (bytes ++ element)) → EndsInLast run packets (length bytes) part
+ends_in_last : (run : Run) (part : Part) (packets : List Packet) (bytes element : List ℕ) → length element ≡ (grammar run).size part → InLast (limits run).packet_size packets (length (bytes ++ element)) → EndsInLast run packets (length bytes) part
 ends_in_last run part packets bytes element whole l = grind (arith, length-append)
 
 -- a payload that begins with whole elements and one more
 split_payload : (bytes element more payload : List ℕ) → payload ≡ (bytes ++ element) ++ more → (payload ≡ bytes ++ (element ++ more)) × (drop (length bytes) payload ≡ element ++ more) × (take (length bytes) payload ≡ bytes)
 split_payload bytes element more payload e = grind (arith, append_assoc, drop-append_seam, take-append_seam)
 
--- an element was refused
-pub refused_in_payload : (run : Run) (q : Seen) (area : Space) (part : Part) (bytes : List ℕ) (fault : Fault) → ReaderSide run q area → Spelt (grammar run) response_start bytes part → RefusesNext (grammar run) (start run) q bytes part fault → IsHolding area part
-    → run.gained ++ run.given.after.areas.output.bytes ≡ text_so_far part → StopsInPayload run fault (length bytes)
-refused_in_payload run q area part bytes fault side spelt x holds text =
-    let g = grammar run in
-    let e = x.element in
-    let more = x.ahead ++ (q.future []).bytes in
-    let n = length (bytes ++ e) in
-    let b = takes_begins run.given.before.areas.limits.packet_size run.given.before.areas.limits.max_wire run.given.before.reader.failures run.input run.left q ((bytes ++ e) ++ x.ahead) n side.bytes side.left x.takes x.between in
-    let s = split_payload bytes e more (payload_of b.packets) (b.payload_is ∙ append_assoc (bytes ++ e) x.ahead (q.future []).bytes) in
-    let l = in_last run.given.before.areas.limits.packet_size run.given.before.areas.limits.max_wire run.given.before.reader.failures n run.input run.left q ((bytes ++ e) ++ x.ahead) (((bytes ++ e) ++ x.ahead) ++ (q.future []).bytes) side.left x.takes b (omega (arith, x.some, length-append ((bytes ++ e) ++ x.ahead) (q.future []).bytes, length-append (bytes ++ e) x.ahead, length-append bytes e)) in
-    let refused : IsRefused g part (e ++ more) fault = record {
-      some = omega (arith, x.some, x.whole);
-      whole = omega (arith, x.whole, length-append e more);
-      first = ap (λ k. g.fault part (take k (e ++ more))) (sym x.whole) ∙ ap (g.fault part) (take-append_seam e more) ∙ x.first;
-    } in
-    record {
-      packets = b.packets;
-      part = part;
-      stands = record { begin = b.begin; each = b.each; within = b.within };
-      leads = subst (λ p. Longest g response_start p (length bytes) part) (sym s.0) (longest_refused g response_start bytes (e ++ more) part fault spelt refused);
-      first = inl (subst (λ r. IsRefused g part r fault) (sym s.1) refused, ends_in_last run part b.packets bytes e x.whole l);
-      written = text;
-      kept = subst (λ a. IsKept a part.tokens part.at (drop (length bytes) (payload_of b.packets))) (sym side.description) (kept_at area part.tokens part.at (drop (length bytes) (payload_of b.packets)) holds.bytes);
-    }
-
 -- the bytes after a state, where they hold no whole element
 rest_of : (bytes part payload : List ℕ) → payload ≡ bytes ++ part → drop (length bytes) payload ≡ part
-rest_of bytes part payload e = ap (drop (length bytes)) e ∙ drop-append_seam bytes part
+rest_of bytes part payload e = cc (drop-append_seam bytes part)
 
--- the message ended
-pub ended_in_payload : (run : Run) (q : Seen) (area : Space) (part : Part) (bytes cut : List ℕ) (own : Stop) (fault : Fault) → ReaderSide run q area → Spelt (grammar run) response_start bytes part → length cut < (grammar run).size part
-    → EndsMessage run.given.before.areas.limits.packet_size run.given.before.areas.limits.max_wire run.input run.left (bytes ++ cut) run.given.before.reader.failures q.failures own → (grammar run).end_fault part ≡ Some fault → IsHolding area part
-    → run.gained ++ run.given.after.areas.output.bytes ≡ text_so_far part → StopsInPayload run fault (length bytes)
-ended_in_payload run q area part bytes cut own fault side spelt short m end holds text =
-    let g = grammar run in
-    record {
+module _ (run : Run) {q : Seen} {part : Part} {bytes : List ℕ} (side : ReaderSide run q) (spelt : Spelt (grammar run) response_start bytes part) (holds : IsHolding run.given.after.areas.description part) (text : text_put run ≡ text_so_far part) where
+  -- what the area holds is kept
+  kept : (payload : List ℕ) → IsKept run.given.after.areas.description.bytes part.tokens part.at (drop (length bytes) payload)
+  kept payload = kept_at run.given.after.areas.description part.tokens part.at (drop (length bytes) payload) holds.bytes
+
+  -- an element was refused
+  pub refused_in_payload : {fault : Fault} → RefusesNext (grammar run) (start run) q bytes part fault → StopsInPayload run fault (length bytes)
+  refused_in_payload {fault = fault} x =
+      let g = grammar run in
+      let e = x.element in
+      let more = x.ahead ++ (q.future []).bytes in
+      let b = takes_begins _ _ _ _ _ q _ (length (bytes ++ e)) side.bytes side.left x.takes x.between in
+      let s = split_payload _ e _ _ (b.payload_is ∙ append_assoc (bytes ++ e) x.ahead (q.future []).bytes) in
+      let l = in_last _ _ _ _ _ _ q _ _ side.left x.takes b (omega (arith, length-append ((bytes ++ e) ++ x.ahead) (q.future []).bytes, length-append (bytes ++ e) x.ahead, length-append bytes e)) in
+      let refused : IsRefused g part (e ++ more) fault = record { some = omega arith; whole = omega (arith, length-append e more); first = cc (take-append_seam e more) } in
+      record {
+        packets = b.packets;
+        part = part;
+        stands = record { begin = b.begin; each = b.each; within = b.within };
+        leads = rw s.0 (longest_refused g _ _ _ _ _ spelt refused);
+        first = inl (rw s.1 refused, ends_in_last _ _ _ _ e x.whole l);
+        written = text;
+        kept = kept (payload_of b.packets);
+      }
+
+  module _ (cut : List ℕ) (short : length cut < (grammar run).size part) where
+    -- the message ended
+    pub ended_in_payload : {own : Stop} {fault : Fault} → EndsMessage (limits run).packet_size (limits run).max_wire run.input run.left (bytes ++ cut) run.given.before.reader.failures q.failures own → (grammar run).end_fault part ≡ Some fault → StopsInPayload run fault (length bytes)
+    ended_in_payload m end = record {
       packets = m.packets;
       part = part;
       stands = record { begin = m.begin; each = inl m.each; within = m.within };
-      leads = subst (λ p. Longest g response_start p (length bytes) part) (sym m.payload_is) (longest_cut g response_start bytes cut part spelt short);
-      first = inr (m.each, (omega (arith, short), subst (λ r. length r < g.size part) (sym (rest_of bytes cut (payload_of m.packets) m.payload_is)) short), end);
+      leads = rw m.payload_is (longest_cut (grammar run) _ _ _ _ spelt short);
+      first = inr (m.each, (omega arith, rw (rest_of _ _ _ m.payload_is) short), end);
       written = text;
-      kept = subst (λ a. IsKept a part.tokens part.at (drop (length bytes) (payload_of m.packets))) (sym side.description) (kept_at area part.tokens part.at (drop (length bytes) (payload_of m.packets)) holds.bytes);
+      kept = kept (payload_of m.packets);
     }
 
--- the payload stopped on the wire
-pub stopped_on_wire : (run : Run) (q : Seen) (area : Space) (part : Part) (bytes cut : List ℕ) (stop : Stop) (rose : (f : ℕ) → Rose f (one_more f)) → ReaderSide run q area → Spelt (grammar run) response_start bytes part → length cut < (grammar run).size part
-    → (x : StopsAfterPackets run.given.before.areas.limits.packet_size run.given.before.areas.limits.max_wire run.input run.left (bytes ++ cut) run.given.before.reader.failures q.failures stop) → IsHolding area part
-    → run.gained ++ run.given.after.areas.output.bytes ≡ text_so_far part → StopsOnWire run stop.fault (length (wire_of x.packets))
-stopped_on_wire run q area part bytes cut stop rose side spelt short x holds text =
-    let g = grammar run in
-    let rest = rest_of bytes cut (payload_of x.packets) x.payload_is in
-    record {
-      packets = x.packets;
-      rest = x.more;
-      place = length bytes;
-      part = part;
-      begin = x.begin;
-      before = x.each;
-      within = x.within;
-      taken_is = refl;
-      first = elim x.cause [
-        | inl c ↦ inl (
-          c.0,
-          record {
-            read = c.2.read;
-            split = c.2.split;
-            cut = c.2.cut;
-            failed = subst (Rose run.given.before.reader.failures) (sym c.1 ∙ side.failures) (rose run.given.before.reader.failures);
-          },
-        )
-        | inr c ↦ inr c.0
-      ];
-      leads = subst (λ p. Longest g response_start p (length bytes) part) (sym x.payload_is) (longest_cut g response_start bytes cut part spelt short);
-      none_refused = λ f r. (let w : g.size part ≤ length (drop (length bytes) (payload_of x.packets)) = r.whole in omega (arith, w, ap length rest, short));
-      written = text;
-      kept = subst (λ a. IsKept a part.tokens part.at (drop (length bytes) (payload_of x.packets))) (sym side.description) (kept_at area part.tokens part.at (drop (length bytes) (payload_of x.packets)) holds.bytes);
-    }
+    -- the payload stopped on the wire
+    pub stopped_on_wire : {stop : Stop} → (x : StopsAfterPackets (limits run).packet_size (limits run).max_wire run.input run.left (bytes ++ cut) run.given.before.reader.failures q.failures stop) → StopsOnWire run stop.fault (length (wire_of x.packets))
+    stopped_on_wire x =
+        let rest = rest_of bytes cut (payload_of x.packets) x.payload_is in
+        record {
+          packets = x.packets;
+          rest = x.more;
+          place = length bytes;
+          part = part;
+          begin = x.begin;
+          before = x.each;
+          within = x.within;
+          taken_is = refl;
+          first = elim x.cause [
+            | inl c ↦ inl (c.0, record { read = c.2.read; split = c.2.split; cut = c.2.cut; failed = subst (Rose run.given.before.reader.failures) (sym c.1 ∙ side.failures) (rose run.given.before.reader.failures) })
+            | inr c ↦ inr c.0
+          ];
+          leads = rw x.payload_is (longest_cut (grammar run) response_start bytes cut part spelt short);
+          none_refused = λ f r. (let w = r.whole in omega (arith, ap length rest));
+          written = text;
+          kept = kept (payload_of x.packets);
+        }
+
+  -- the payload stopped before the next element was whole
+  cut_stops : {stop : Stop} → CutsNext (grammar run) (start run) q bytes 0 part stop → Stops run stop.fault stop.place
+  cut_stops c = elim (ends_front _ _ _ _ _ q _ _ side.bytes side.left c.ends) [
+    | inl m ↦ elim c.stop_is [
+      | inl e ↦ rw (e.1.2 ∙ ap (λ n. record { fault = e.1.0; place = Payload n }) (zero _)) (ended_in_payload c.part c.cut m e.1.1)
+      | inr e ↦ absurd (e.0 (cc))
+    ]
+    | inr x ↦ elim c.stop_is [
+      | inl e ↦ absurd (elim x.cause [
+        | inl y ↦ (let differ = sym y.0 ∙ e.0 in cc)
+        | inr y ↦ wire_goes_on _ _ _ _ _ y.0 e.0
+      ])
+      | inr e ↦ rw e.1 (subst (Stops run c.own.fault) (sym x.place) (stopped_on_wire c.part c.cut x))
+    ]
+  ]
+
+-- how a run that read stops
+pub reading_stops : (run : Run) {q : Seen} {at : Part} {stop : Stop} → ReaderSide run q → StopsReading (grammar run) response_start (start run) q 0 at stop → IsHolding run.given.after.areas.description at → text_put run ≡ text_so_far at → Stops run stop.fault stop.place
+reading_stops run side s holds text = elim s.cause [
+  | inl r ↦ rw (r.1 ∙ ap Payload (zero _)) (refused_in_payload run side s.spelt holds text r.0)
+  | inr c ↦ cut_stops run side s.spelt holds text c
+]

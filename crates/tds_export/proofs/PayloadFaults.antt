@@ -1,5 +1,5 @@
 -- No element of a response has a fault of a device.
-use Rattle.tds_export.proofs.Words.{Bool, Charset, Fault, List, None, Open, Option, Part, ReadFailed, Some, Token, WriteFailed, arith, if◌then◌else◌, part_end, part_fault, response, subst, ℕ, ⊤, ◌≡◌}
+use Rattle.tds_export.proofs.Words.{Bool, Charset, Fault, List, None, Open, Option, Part, ReadFailed, Some, Token, WriteFailed, arith, if◌then◌else◌, part_end, part_fault, response, ℕ, ⊤, ◌≡◌}
 
 -- a fault that elements may have, or the end of a message
 abbrev pub IsOfPayload : Fault → Type 0
@@ -23,7 +23,7 @@ end_payload tokens at = grind (arith, if_payload)
 
 module _ (charset : Charset) (room : ℕ) where
   pub element_fault : (p : Part) (e : List ℕ) (fault : Fault) → (response charset room).fault p e ≡ Some fault → IsOfPayload fault
-  element_fault p e fault h = subst AtMostOfPayload h (part_payload room p.tokens p.at e)
+  element_fault p e fault h = rw h at (part_payload room p.tokens p.at e)
 
   pub end_fault : (p : Part) (fault : Fault) → (response charset room).end_fault p ≡ Some fault → IsOfPayload fault
-  end_fault p fault h = subst AtMostOfPayload h (end_payload p.tokens p.at)
+  end_fault p fault h = rw h at (end_payload p.tokens p.at)

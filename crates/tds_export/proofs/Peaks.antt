@@ -1,8 +1,6 @@
 -- How much of a description was held in an export: no more than the span of one at the front of the input.
-use Rattle.tds_export.proofs.Words.{AreBefore, AreBytes, AreMessage, Bounded, Charset, Fault, Grammar, Held, IsBetween, Limits, List, Longest, Packet, Part, ReadsWhole, Run, Seen, Some, Space, Spelt, Spelt-append, Spelt-induct, Spelt-one, Stop, StopsInWriting, StopsReading, Takes, Told, WirePart, [], after_last, after_tokens, ap, append-nil, append_assoc, arith, before_are_read, before_packet, between, ends_front, feed-Spelt, feed_all, feed_all-append, flat_map-append, grammar, inl, inr, length, length-append, message_is_read, more, no_wire, over_front, payload_of, read_front, response, response_start, some_longest, span_so_far, subst, sym, take, take-append-add, take-append_seam, takes_begins, told, wire, wire_of, ℕ, ◌++◌, ◌+◌, ◌-◌, ◌∙◌, ◌≡◌, ◌≤◌, ◌⊎◌}
-use Rattle.tds_export.proofs.AcceptedSucceeds.{BeginsWith, begins_added}
-use Rattle.tds_export.proofs.ReadingGrows.{span_along}
-use Rattle.tds_export.proofs.PacketOutcomes.{start}
+use Rattle.tds_export.proofs.Words.{AreBefore, AreBytes, AreMessage, Bounded, Charset, Fault, Grammar, Held, IsBetween, Limits, List, Longest, Packet, Part, ReadsWhole, Run, Seen, Some, Space, Spelt, Spelt-append, Spelt-induct, Spelt-one, Stop, StopsInWriting, StopsReading, Takes, Told, WirePart, [], after_tokens, ap, append-nil, append_assoc, arith, before_are_read, between, ends_front, feed-Spelt, feed_all, feed_all-append, flat_map-append, grammar, inl, inr, length, length-append, message_is_read, more, no_wire, over_front, payload_of, read_front, response, response_start, some_longest, span_so_far, sym, take, take-append-add, take-append_seam, takes_begins, told, wire, wire_of, ℕ, ◌++◌, ◌+◌, ◌-◌, ◌∙◌, ◌≡◌, ◌≤◌, ◌⊎◌, limits}
+use Rattle.tds_export.proofs.{AcceptedSucceeds.BeginsWith, AcceptedSucceeds.begins_added, ReadingGrows.span_along, PacketOutcomes.start}
 
 -- a part of a response was read from whole packets at the front of an input
 pub record Reached (charset : Charset) (limits : Limits) (input : List ℕ) (at : Part) : Type 0 where
@@ -24,58 +22,58 @@ rest_leads g s t u a b h k = grind (arith, append-nil, feed-Spelt, feed_all, fee
 -- what follows such bytes, up to the longest part
 pub further : {S : Type 0} (g : Grammar S Fault) (from to last : S) (bytes more : List ℕ) (place : ℕ) → Spelt g from bytes to → Longest g from (bytes ++ more) place last → (rest : List ℕ) × Spelt g to rest last
 further g from to last bytes more place h l =
-    let least : length bytes ≤ place = l.longest (length bytes) to (omega (arith, length-append bytes more)) (subst (λ v. Spelt g from v to) (sym (take-append_seam bytes more)) h) in
+    let least = l.longest (length bytes) to (omega (arith, length-append bytes more)) (rw (take-append_seam bytes more) h) in
     let n = place - length bytes in
-    let sum : length bytes + n ≡ place = omega (arith, least) in
-    let split : take place (bytes ++ more) ≡ bytes ++ take n more = ap (λ v. take v (bytes ++ more)) (sym sum) ∙ take-append-add bytes more n in
-    (take n more, rest_leads g from to last bytes (take n more) h (subst (λ v. Spelt g from v last) split l.spelt))
+    let sum : length bytes + n ≡ place = omega arith in
+    let split = ap (λ v. take v (bytes ++ more)) (sym sum) ∙ take-append-add bytes more n in
+    (take n more, rest_leads g _ _ _ _ _ h (rw split at l.spelt))
 
 -- what is read of an input at most has the packets that are read of its front
 begins_of : (size limit : ℕ) (input rest : List ℕ) (packets : List Packet) (s w : WirePart) (taken : ℕ) → wire_of packets ++ rest ≡ input → Spelt (wire size limit) no_wire (wire_of packets) s → BeginsWith s.packets packets → Longest (wire size limit) no_wire input taken w → BeginsWith w.packets packets
 begins_of size limit input rest packets s w taken begin spelt begins l =
-    let f = further (wire size limit) no_wire s w (wire_of packets) rest taken spelt (subst (λ v. Longest (wire size limit) no_wire v taken w) (sym begin) l) in
-    Spelt-induct (wire size limit) (λ v b. BeginsWith v.packets packets) (λ v b element h n. begins_added packets v.packets v.place element h) s begins f.0 w f.1
+    let f = further _ _ s w _ _ _ spelt (rw (← begin) at l) in
+    Spelt-induct _ (λ v b. BeginsWith v.packets packets) (λ v b element h n. begins_added packets v.packets v.place element h) s begins _ w f.1
 
 -- whole packets at the front of an input begin those that are read of it at most
 front_begins : (size limit : ℕ) (input rest : List ℕ) (packets : List Packet) (w : WirePart) (taken : ℕ) → wire_of packets ++ rest ≡ input → (AreMessage size packets ⊎ AreBefore size packets) → length (wire_of packets) ≤ limit → Longest (wire size limit) no_wire input taken w → BeginsWith w.packets packets
-front_begins size limit input rest packets w taken begin (inl each) within l = begins_of size limit input rest packets (after_last size limit packets) w taken begin (message_is_read size limit [] packets each within) ([], append-nil packets) l
-front_begins size limit input rest packets w taken begin (inr each) within l = begins_of size limit input rest packets (before_packet size limit packets) w taken begin (before_are_read size limit [] packets each within) ([], append-nil packets) l
+front_begins size limit input rest packets w taken begin (inl each) within l = begins_of _ _ _ _ _ _ w _ begin (message_is_read _ _ _ _ each within) ([], append-nil packets) l
+front_begins size limit input rest packets w taken begin (inr each) within l = begins_of _ _ _ _ _ _ w _ begin (before_are_read _ _ _ _ each within) ([], append-nil packets) l
 
-pub bounded : (run : Run) (at : Part) → AreBytes run.input → Reached run.given.charset run.given.before.areas.limits run.input at → run.given.after.areas.description.peak ≤ span_so_far at → Bounded run
+pub bounded : (run : Run) (at : Part) → AreBytes run.input → Reached run.given.charset (limits run) run.input at → run.given.after.areas.description.peak ≤ span_so_far at → Bounded run
 bounded run at are r peak =
-    let size = run.given.before.areas.limits.packet_size in
-    let limit = run.given.before.areas.limits.max_wire in
+    let size = (limits run).packet_size in
+    let limit = (limits run).max_wire in
     let g = grammar run in
     let l = some_longest (wire size limit) no_wire run.input in
     let front = l.1.packets in
     let b = front_begins size limit run.input r.rest r.packets l.1 l.0 r.begin r.each r.within l.2 in
-    let split : payload_of front ≡ r.bytes ++ (r.more ++ payload_of b.0) = ap payload_of (sym b.1) ∙ flat_map-append (λ (v : Packet). v.body) r.packets b.0 ∙ ap (λ v. v ++ payload_of b.0) r.payload_is ∙ append_assoc r.bytes r.more (payload_of b.0) in
+    let split = ap payload_of (sym b.1) ∙ flat_map-append _ r.packets b.0 ∙ ap (λ v. v ++ payload_of b.0) r.payload_is ∙ append_assoc r.bytes r.more (payload_of b.0) in
     let longest = some_longest g response_start (payload_of front) in
-    let f = further g response_start at longest.1 r.bytes (r.more ++ payload_of b.0) longest.0 r.spelt (subst (λ v. Longest g response_start v longest.0 longest.1) split longest.2) in
-    let least : span_so_far at ≤ span_so_far longest.1 = span_along run.given.charset run.given.before.areas.limits.column_room at longest.1 f.0 f.1 in
-    record { packets = front; place = longest.0; part = longest.1; front = read_front size limit run.input l.0 l.1 are l.2; leads = longest.2; description = omega (arith, peak, least) }
+    let f = further g response_start at longest.1 r.bytes (r.more ++ payload_of b.0) longest.0 r.spelt (rw (← split) longest.2) in
+    let least = span_along run.given.charset (limits run).column_room at longest.1 f.0 f.1 in
+    record { packets = front; place = longest.0; part = longest.1; front = read_front size limit run.input l.0 l.1 are l.2; leads = longest.2; description = omega arith }
 
-taken : (run : Run) (q : Seen) (at : Part) (bytes later : List ℕ) (n : ℕ) → AreBytes run.input → q.left ≡ Some run.left → Takes (start run) q (bytes ++ later) n → IsBetween q → Spelt (grammar run) response_start bytes at → Reached run.given.charset run.given.before.areas.limits run.input at
+taken : (run : Run) (q : Seen) (at : Part) (bytes later : List ℕ) (n : ℕ) → AreBytes run.input → q.left ≡ Some run.left → Takes (start run) q (bytes ++ later) n → IsBetween q → Spelt (grammar run) response_start bytes at → Reached run.given.charset (limits run) run.input at
 taken run q at bytes later n are left t between spelt =
-    let b = takes_begins run.given.before.areas.limits.packet_size run.given.before.areas.limits.max_wire run.given.before.reader.failures run.input run.left q (bytes ++ later) n are left t between in
-    record { packets = b.packets; rest = run.left; begin = b.begin; each = b.each; within = b.within; bytes = bytes; more = later ++ (q.future []).bytes; spelt = spelt; payload_is = b.payload_is ∙ append_assoc bytes later (q.future []).bytes }
+    let b = takes_begins _ _ _ _ _ q _ n are left t between in
+    record { packets = b.packets; rest = run.left; begin = b.begin; each = b.each; within = b.within; bytes = bytes; more = later ++ (q.future []).bytes; spelt = spelt; payload_is = cc (append_assoc bytes later (q.future []).bytes) }
 
-pub reached_stopped : (run : Run) (q : Seen) (at : Part) (stop : Stop) → AreBytes run.input → q.left ≡ Some run.left → StopsReading (grammar run) response_start (start run) q 0 at stop → Reached run.given.charset run.given.before.areas.limits run.input at
+pub reached_stopped : (run : Run) (q : Seen) (at : Part) (stop : Stop) → AreBytes run.input → q.left ≡ Some run.left → StopsReading (grammar run) response_start (start run) q 0 at stop → Reached run.given.charset (limits run) run.input at
 reached_stopped run q at stop are left s = elim s.cause [
-  | inl r ↦ taken run q at s.bytes (r.0.element ++ r.0.ahead) (length (s.bytes ++ r.0.element)) are left (subst (λ l. Takes (start run) q l (length (s.bytes ++ r.0.element))) (append_assoc s.bytes r.0.element r.0.ahead) r.0.takes) r.0.between s.spelt
-  | inr c ↦ elim (ends_front run.given.before.areas.limits.packet_size run.given.before.areas.limits.max_wire run.given.before.reader.failures run.input run.left q (s.bytes ++ c.part) c.own are left c.ends) [
+  | inl r ↦ taken run q at s.bytes (r.0.element ++ r.0.ahead) (length (s.bytes ++ r.0.element)) are left (rw (append_assoc s.bytes r.0.element r.0.ahead) at r.0.takes) r.0.between s.spelt
+  | inr c ↦ elim (ends_front _ _ _ _ _ q _ _ are left c.ends) [
     | inl m ↦ record { packets = m.packets; rest = run.left; begin = m.begin; each = inl m.each; within = m.within; bytes = s.bytes; more = c.part; spelt = s.spelt; payload_is = m.payload_is }
     | inr x ↦ record { packets = x.packets; rest = x.more; begin = x.begin; each = inr x.each; within = x.within; bytes = s.bytes; more = c.part; spelt = s.spelt; payload_is = x.payload_is }
   ]
 ]
 
-pub reached_broken : (run : Run) (q : Seen) (old new : Held) (area : Space) (stop : Stop) (x : StopsInWriting (grammar run) response_start (start run) q old new area stop) → AreBytes run.input → q.left ≡ Some run.left → Reached run.given.charset run.given.before.areas.limits run.input ((grammar run).add x.at x.breaks.element)
+pub reached_broken : (run : Run) (q : Seen) (old new : Held) (area : Space) (stop : Stop) (x : StopsInWriting (grammar run) response_start (start run) q old new area stop) → AreBytes run.input → q.left ≡ Some run.left → Reached run.given.charset (limits run) run.input ((grammar run).add x.at x.breaks.element)
 reached_broken run q old new area stop x are left =
     let b = x.breaks in
     let to = (grammar run).add x.at b.element in
-    taken run q to (b.bytes ++ b.element) b.ahead (length (b.bytes ++ b.element)) are left b.takes b.between (Spelt-append (grammar run) response_start b.bytes x.at b.element to b.spelt (Spelt-one (grammar run) x.at b.element b.next))
+    taken run q to (b.bytes ++ b.element) b.ahead (length (b.bytes ++ b.element)) are left b.takes b.between (Spelt-append _ _ _ _ _ _ b.spelt (Spelt-one _ _ _ b.next))
 
-pub reached_whole : (run : Run) (q : Seen) (old new : Held) (area : Space) (x : ReadsWhole (grammar run) response_start (start run) q old new area) → AreBytes run.input → q.left ≡ Some run.left → Reached run.given.charset run.given.before.areas.limits run.input (after_tokens x.tokens)
+pub reached_whole : (run : Run) (q : Seen) (old new : Held) (area : Space) (x : ReadsWhole (grammar run) response_start (start run) q old new area) → AreBytes run.input → q.left ≡ Some run.left → Reached run.given.charset (limits run) run.input (after_tokens x.tokens)
 reached_whole run q old new area x are left =
-    let m = over_front run.given.before.areas.limits.packet_size run.given.before.areas.limits.max_wire run.given.before.reader.failures run.input run.left q x.bytes (length x.bytes + 1) are left x.takes x.over in
-    record { packets = m.packets; rest = run.left; begin = m.begin; each = inl m.each; within = m.within; bytes = x.bytes; more = []; spelt = x.spelt; payload_is = m.payload_is ∙ sym (append-nil x.bytes) }
+    let m = over_front _ _ _ _ _ q _ _ are left x.takes x.over in
+    record { packets = m.packets; rest = run.left; begin = m.begin; each = inl m.each; within = m.within; bytes = x.bytes; more = []; spelt = x.spelt; payload_is = cc (append-nil x.bytes) }

@@ -1,7 +1,6 @@
 -- What is read grows by each element: the text so far, and the greatest span.
-use Rattle.tds_export.proofs.Words.{BeforeCount, Between, Charset, Column, Describing, DescriptionPart, Fields, Grows, InReturn, InRow, IsNext, Lead, List, Metadata, NoDescription, NoMetadata, None, Open, Option, Part, ReturnPart, Returned, RowPart, Some, Spelt, Spelt-induct, Token, TokenBody, TokenLength, WholeDescription, WholeReturn, [], add_described, after_first, ap, append-nil, arith, bare_type, begun, bodied, choose, described_after, description, eq_true, false, fixed, greatest_span, grows_all, grows_same, grows_trans, grows_under, is_some_value, known_type, lead_of, length-append, little, max, nbc_row_start, open_span, open_text, part_add, response, return_add, row, row_add, row_grows, row_so_far, row_start, slice_index, span, span_so_far, start_of_row, subst, sym, text, text_after, text_so_far, with_described, with_return, with_row, with_token, ℕ, ◌++◌, ◌==◌, ◌∙◌, ◌∷◌, ◌≡◌, ◌≤◌}
-use Rattle.tds_export.proofs.TokenLaws.{begun_after, greatest_span-append, text_after-snoc}
-use Rattle.tds_export.proofs.ReturnLaws.{some_kind}
+use Rattle.tds_export.proofs.Words.{BeforeCount, Between, Charset, Column, Describing, DescriptionPart, Fields, Grows, InReturn, InRow, IsNext, Lead, List, Metadata, NoDescription, NoMetadata, None, Open, Option, Part, ReturnPart, Returned, RowPart, Some, Spelt, Spelt-induct, Token, TokenBody, TokenLength, WholeDescription, WholeReturn, [], add_described, after_first, append-nil, arith, bare_type, begun, bodied, choose, described_after, description, eq_true, false, fixed, greatest_span, grows_all, grows_same, grows_trans, grows_under, is_some_value, known_type, lead_of, length-append, little, max, nbc_row_start, open_span, open_text, part_add, response, return_add, row, row_add, row_grows, row_so_far, row_start, slice_index, span, span_so_far, start_of_row, text, text_after, text_so_far, with_described, with_return, with_row, with_token, ℕ, ◌++◌, ◌==◌, ◌∷◌, ◌≡◌, ◌≤◌}
+use Rattle.tds_export.proofs.{TokenLaws.begun_after, TokenLaws.greatest_span-append, TokenLaws.text_after-snoc, ReturnLaws.some_kind}
 
 -- a part by its tokens and where it is read
 abbrev pub part_at : List Token → Open → Part
@@ -22,8 +21,8 @@ lead_cases charset P tokens begun same row nbc = grind arith
 -- a token that is whole
 token_grows : (tokens : List Token) (t : Token) → Grows (text tokens ++ []) (text_so_far (with_token tokens t))
 token_grows tokens t =
-    let m : List ℕ = text_after (begun_after false tokens) (t ∷ []) in
-    (m, ap (λ v. v ++ m) (append-nil (text tokens)) ∙ sym (append-nil (text tokens ++ m)) ∙ ap (λ v. v ++ []) (sym (text_after-snoc false tokens t)))
+    let m = text_after (begun_after false tokens) (t ∷ []) in
+    (m, cc (append-nil (text tokens), append-nil (text tokens ++ m), text_after-snoc false tokens t))
 
 -- what has just begun has no text
 fresh_text : (at : Open) → IsFresh at → open_text at ≡ []
@@ -31,7 +30,7 @@ fresh_text at h = grind arith
 
 -- what has just begun leaves the text
 same_grows : (tokens : List Token) (at : Open) → IsFresh at → Grows (text tokens ++ []) (text_so_far (part_at tokens at))
-same_grows tokens at h = subst (λ v. Grows (text tokens ++ []) (text tokens ++ v)) (sym (fresh_text at h)) (grows_same (text tokens ++ []))
+same_grows tokens at h = rw (fresh_text at h) (grows_same _)
 
 -- a row in its response
 with_row_grows : (tokens : List Token) (part : RowPart) → Grows (text tokens ++ row_so_far part) (text_so_far (with_row tokens part))
@@ -39,19 +38,19 @@ with_row_grows tokens part = grind (arith, append-nil, grows_same, text_after-sn
 
 -- a row that begins
 start_grows : (tokens : List Token) (start : List Column → RowPart) (current : Option (List Column)) → Grows (text tokens ++ []) (text_so_far (start_of_row tokens start current))
-start_grows tokens start None = grows_same (text tokens ++ [])
-start_grows tokens start (Some columns) = grows_trans (text tokens ++ []) (text tokens ++ row_so_far (start columns)) (text_so_far (with_row tokens (start columns))) (grows_under (text tokens) [] (row_so_far (start columns)) (grows_all (row_so_far (start columns)))) (with_row_grows tokens (start columns))
+start_grows tokens start None = grows_same _
+start_grows tokens start (Some columns) = grows_trans _ _ _ (grows_under (text tokens) [] (row_so_far (start columns)) (grows_all _)) (with_row_grows tokens (start columns))
 
 -- a description in its response
 with_described_grows : (tokens : List Token) (d : DescriptionPart) → Grows (text tokens ++ []) (text_so_far (with_described tokens d))
 with_described_grows tokens NoDescription = token_grows tokens NoMetadata
 with_described_grows tokens (WholeDescription bytes columns) = token_grows tokens (Metadata bytes columns)
-with_described_grows tokens d = grows_same (text tokens ++ [])
+with_described_grows tokens d = grows_same _
 
 -- a return value in its response
 with_return_grows : (tokens : List Token) (part : ReturnPart) → Grows (text tokens ++ []) (text_so_far (with_return tokens part))
 with_return_grows tokens (WholeReturn r) = token_grows tokens (Returned r)
-with_return_grows tokens part = grows_same (text tokens ++ [])
+with_return_grows tokens part = grows_same _
 
 -- ---- the span
 
@@ -66,8 +65,8 @@ module _ (charset : Charset) (room : ℕ) where
   part_grows tokens Between e n = lead_cases charset (λ p. Grows (text tokens ++ []) (text_so_far p)) tokens (lead_of (slice_index e 0)) (same_grows tokens) (start_grows tokens (row_start charset) (described_after None tokens)) (start_grows tokens nbc_row_start (described_after None tokens))
   part_grows tokens (Describing d) e n = with_described_grows tokens (add_described d e)
   part_grows tokens (InRow part) e n =
-      grows_trans (text tokens ++ row_so_far part) (text tokens ++ row_so_far (row_add charset part e)) (text_so_far (with_row tokens (row_add charset part e)))
-      (grows_under (text tokens) (row_so_far part) (row_so_far (row_add charset part e)) (row_grows charset part e (record { some = n.some; whole = n.whole; free = n.free })))
+      grows_trans _ _ _
+      (grows_under (text tokens) (row_so_far part) _ (row_grows charset part e (record { some = n.some; whole = n.whole; free = n.free })))
       (with_row_grows tokens (row_add charset part e))
   part_grows tokens (InReturn part) e n = with_return_grows tokens (return_add part e)
   part_grows tokens (TokenLength b) e n = choose (λ p. Grows (text tokens ++ []) (text_so_far p)) (little e == 0) (with_token tokens (bodied b [])) (part_at tokens (TokenBody b (little e))) (λ z. token_grows tokens (bodied b [])) (λ z. grows_same (text tokens ++ []))
@@ -82,9 +81,9 @@ module _ (charset : Charset) (room : ℕ) where
   pub text_along : (p q : Part) (bytes : List ℕ) → Spelt (response charset room) p bytes q → (more : List ℕ) × (text_so_far p ++ more ≡ text_so_far q)
   text_along p q bytes s =
       let adds = λ (r : Part) (b e : List ℕ) (h : Grows (text_so_far p) (text_so_far r)) (n : IsNext (response charset room) r e).
-      grows_trans (text_so_far p) (text_so_far r) (text_so_far ((response charset room).add r e)) h (part_grows r.tokens r.at e n) in
-      Spelt-induct (response charset room) (λ r b. Grows (text_so_far p) (text_so_far r)) adds p (grows_same (text_so_far p)) bytes q s
+      grows_trans _ _ _ h (part_grows _ _ e n) in
+      Spelt-induct _ (λ r b. Grows (text_so_far p) (text_so_far r)) adds p (grows_same _) _ q s
 
   -- and to the span
   pub span_along : (p q : Part) (bytes : List ℕ) → Spelt (response charset room) p bytes q → span_so_far p ≤ span_so_far q
-  span_along p q bytes s = Spelt-induct (response charset room) (λ r b. span_so_far p ≤ span_so_far r) (λ r b e h n. omega (arith, h, part_span r.tokens r.at e n)) p (omega arith) bytes q s
+  span_along p q bytes s = Spelt-induct _ (λ r b. span_so_far p ≤ span_so_far r) (λ r b e h n. omega (arith, part_span r.tokens r.at e n)) p (omega arith) _ q s

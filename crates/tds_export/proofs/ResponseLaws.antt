@@ -1,8 +1,6 @@
 -- What a response's spelling is read as.
-use Rattle.tds_export.proofs.Words.{ADone, ADoneInProc, AMetadata, APassed, AReturn, ARow, AStatus, Accepted, AnError, AnInfo, AnNbcRow, BadNotice, BeforeCount, Between, Bodied, Bool, Cell, Charset, Column, Describing, DescriptionPart, Done, DoneInProc, Error, Fault, Fields, Fixed, Info, Inside, Inside-Spelt, IsFirst, IsRefused, Lead, List, Longest, Metadata, NoMetadata, None, Notice, Open, Option, Packet, Part, PassedOver, Response, ReturnOrdinal, ReturnPart, ReturnStatus, Returned, Row, RowPart, Some, SpellsBody, SpellsMore, SpellsNotice, SpellsRowToken, SpellsToken, SpellsTokens, Spelt, Spelt-append, Spelt-none, Spelt-step, StartsToken, Token, TokenBody, TokenLength, WholeDescription, WholeReturn, WholeRow, WithBody, WithFields, [], after_first, after_lead, ap, append-nil, append_assoc, arith, before, bodied, choose_false, described_after, description, description_is_read, drop, false, fields_length, fixed, holds_notice, if◌then◌else◌, inl, inr, is_notice, is_row_lead, lead, lead_fault, lead_of, length, little, more, nat_tests, nbc_row_is_read, nbc_row_start, ne_eqb, not, one_message, one_state, part_fault, passed, payload_of, refl, refused_for_good, response, response_start, return_value, row, row_byte_fault, row_is_read, row_start, subst, sym, take, take-add, true, with_described, with_return, with_row, with_token, ℕ, ◌%◌, ◌&&◌, ◌++◌, ◌+◌, ◌/◌, ◌<◌, ◌==◌, ◌∙◌, ◌∷◌, ◌≡◌, ◌≤◌}
-use Rattle.tds_export.proofs.ReturnLaws.{Agrees, inside, return_is_read}
-use Rattle.tds_export.proofs.NoticeLaws.{notice_is_read}
-use Rattle.tds_export.proofs.Cuts.{spelt_both, spelt_one}
+use Rattle.tds_export.proofs.Words.{ADone, ADoneInProc, AMetadata, APassed, AReturn, ARow, AStatus, Accepted, AnError, AnInfo, AnNbcRow, BadNotice, Between, Bodied, Bool, Cell, Charset, Column, DescriptionPart, Done, DoneInProc, Error, Fault, Fixed, Info, Inside, Inside-Spelt, IsFirst, IsRefused, Lead, List, Longest, Metadata, NoMetadata, None, Notice, Open, Option, Packet, Part, PassedOver, Response, ReturnPart, ReturnStatus, Returned, Row, RowPart, Some, SpellsBody, SpellsMore, SpellsNotice, SpellsRowToken, SpellsToken, SpellsTokens, Spelt, Spelt-append, Spelt-none, Spelt-step, StartsToken, Token, TokenBody, TokenLength, WithBody, WithFields, [], after_lead, ap, append-nil, append_assoc, arith, before, bodied, choose_false, described_after, description, description_is_read, drop, false, fields_length, fixed, holds_notice, if◌then◌else◌, inl, inr, is_notice, is_row_lead, lead, lead_of, length, little, more, nat_tests, nbc_row_is_read, ne_eqb, not, one_message, one_state, part_fault, passed, refl, refused_for_good, response, response_start, return_value, row, row_byte_fault, row_is_read, sym, take, take-add, true, with_described, with_return, with_row, with_token, ℕ, ◌%◌, ◌&&◌, ◌++◌, ◌+◌, ◌/◌, ◌<◌, ◌∙◌, ◌∷◌, ◌≡◌, ◌≤◌}
+use Rattle.tds_export.proofs.{ReturnLaws.Agrees, ReturnLaws.inside, ReturnLaws.return_is_read, NoticeLaws.notice_is_read, Cuts.spelt_both, Cuts.spelt_one}
 
 pub described_after-append : (before : Option (List Column)) (a b : List Token) → described_after before (a ++ b) ≡ described_after (described_after before a) b
 described_after-append before [] b = refl
@@ -45,21 +43,25 @@ module _ (charset : Charset) (room : ℕ) where
   description_agrees tokens d h = grind arith
 
   pub description_in_response : (tokens : List Token) → Inside (description room) (response charset room) (with_described tokens)
-  description_in_response tokens = inside (description room) (response charset room) (with_described tokens) (description_agrees tokens)
+  description_in_response tokens = inside _ _ _ (description_agrees _)
 
   -- so is a row
   pub row_agrees : (tokens : List Token) (p : RowPart) → 0 < (row charset).size p → Agrees (row charset) (response charset room) (with_row tokens) p
   row_agrees tokens p h = grind arith
 
   pub row_in_response : (tokens : List Token) → Inside (row charset) (response charset room) (with_row tokens)
-  row_in_response tokens = inside (row charset) (response charset room) (with_row tokens) (row_agrees tokens)
+  row_in_response tokens = inside _ _ _ (row_agrees _)
 
   -- and a return value
   pub return_agrees : (tokens : List Token) (p : ReturnPart) → 0 < return_value.size p → Agrees return_value (response charset room) (with_return tokens) p
   return_agrees tokens p h = grind arith
 
   pub return_in_response : (tokens : List Token) → Inside return_value (response charset room) (with_return tokens)
-  return_in_response tokens = inside return_value (response charset room) (with_return tokens) (return_agrees tokens)
+  return_in_response tokens = inside _ _ _ (return_agrees _)
+
+  -- bytes are read as a part of a response after another
+  abbrev Leads : Part → List ℕ → Part → Type 0
+  Leads = Spelt (response charset room)
 
   abbrev between_tokens : List Token → Part
   between_tokens tokens = record { tokens = tokens; at = Between }
@@ -68,101 +70,101 @@ module _ (charset : Charset) (room : ℕ) where
   at_part tokens at = record { tokens = tokens; at = at }
 
   -- the first byte of a token, and what follows it
-  lead_then : (tokens : List Token) (lead : Lead) (rest bytes : List ℕ) (to : Part) → StartsToken lead rest bytes → row_byte_fault (is_row_lead lead) (described_after None tokens) ≡ None → Spelt (response charset room) (after_lead charset tokens lead) rest to → Spelt (response charset room) (between_tokens tokens) bytes to
+  lead_then : (tokens : List Token) (lead : Lead) (rest bytes : List ℕ) (to : Part) → StartsToken lead rest bytes → row_byte_fault (is_row_lead lead) (described_after None tokens) ≡ None → Leads (after_lead charset tokens lead) rest to → Leads (between_tokens tokens) bytes to
   lead_then tokens lead rest bytes to (first, is, begins) free h =
-      let begun : lead_of first ≡ Some lead = first_leads lead first begins in
-      let one : Spelt (response charset room) (between_tokens tokens) (first ∷ []) (after_lead charset tokens lead) = spelt_one (omega arith) refl (ap (λ v. lead_fault (described_after None tokens) first v) begun ∙ free) (ap (λ v. after_first charset tokens v) begun) in
+      let begun = first_leads _ _ begins in
+      let one : Leads (between_tokens tokens) (first ∷ []) (after_lead charset tokens lead) = spelt_one (omega arith) refl (cc) (cc) in
       rw is (spelt_both one h)
 
   -- so are a Length and the body after it
   pub body_is_read : (tokens : List Token) (b : Bodied) (element body : List ℕ) → length element ≡ 2 → little element ≡ length body → part_fault room tokens (TokenLength b) element ≡ None → ((if is_notice b && not (holds_notice body) then Some BadNotice else None) ≡ None)
-      → Spelt (response charset room) (at_part tokens (TokenLength b)) (element ++ body) (with_token tokens (bodied b body))
+      → Leads (at_part tokens (TokenLength b)) (element ++ body) (with_token tokens (bodied b body))
   body_is_read tokens b element [] two is f g = grind (arith, Spelt-step, append-nil)
   body_is_read tokens b element (x ∷ xs) two is f g =
-      let n : ℕ = length (x ∷ xs) in
-      let to : (response charset room).add (at_part tokens (TokenLength b)) element ≡ at_part tokens (TokenBody b n) = rw is (choose_false (n == 0) (with_token tokens (bodied b [])) (at_part tokens (TokenBody b n)) (ne_eqb n 0 (λ q. omega arith))) in
-      spelt_both (spelt_one (omega (arith, two)) two f to) (spelt_one (omega arith) refl g refl)
+      let n = length (x ∷ xs) in
+      let to : (response charset room).add (at_part tokens (TokenLength b)) element ≡ at_part tokens (TokenBody b n) = rw is (choose_false _ _ _ (ne_eqb n 0 (λ q. omega arith))) in
+      spelt_both (spelt_one (omega arith) two f to) (spelt_one (omega arith) refl g refl)
 
   -- the same by what spells a body
-  spelt_body : (tokens : List Token) (b : Bodied) (body bytes : List ℕ) → (is_notice b ≡ true → 14 ≤ length body) → (is_notice b ≡ true → holds_notice body ≡ true) → SpellsBody body bytes → Spelt (response charset room) (at_part tokens (TokenLength b)) bytes (with_token tokens (bodied b body))
+  spelt_body : (tokens : List Token) (b : Bodied) (body bytes : List ℕ) → (is_notice b ≡ true → 14 ≤ length body) → (is_notice b ≡ true → holds_notice body ≡ true) → SpellsBody body bytes → Leads (at_part tokens (TokenLength b)) bytes (with_token tokens (bodied b body))
   spelt_body tokens b body bytes long holds h =
       let n = length body in
-      let two : little (n % 256 ∷ n / 256 ∷ []) ≡ n = omega (arith, h.1) in
-      rw h.0 (body_is_read tokens b (n % 256 ∷ n / 256 ∷ []) body refl two (length_free room n tokens b (n % 256 ∷ n / 256 ∷ []) long two) (body_free b body holds))
+      let two : little (n % 256 ∷ n / 256 ∷ []) ≡ n = omega arith in
+      rw h.0 (body_is_read _ b (n % 256 ∷ n / 256 ∷ []) _ refl two (length_free room n tokens b (n % 256 ∷ n / 256 ∷ []) long two) (body_free b body holds))
 
   -- so is a notice
-  notice_token_is_read : (tokens : List Token) (b : Bodied) (n : Notice) (t : Token) (body rest bytes : List ℕ) → StartsToken (WithBody b) rest bytes → SpellsBody body rest → SpellsNotice n body → bodied b body ≡ t → Spelt (response charset room) (between_tokens tokens) bytes (with_token tokens t)
+  notice_token_is_read : (tokens : List Token) (b : Bodied) (n : Notice) (t : Token) (body rest bytes : List ℕ) → StartsToken (WithBody b) rest bytes → SpellsBody body rest → SpellsNotice n body → bodied b body ≡ t → Leads (between_tokens tokens) bytes (with_token tokens t)
   notice_token_is_read tokens b n t body rest bytes begins s h is =
-      let r = notice_is_read n body h in
-      lead_then tokens (WithBody b) rest bytes (with_token tokens t) begins (no_row (described_after None tokens)) (subst (λ v. Spelt (response charset room) (at_part tokens (TokenLength b)) rest (with_token tokens v)) is (spelt_body tokens b body rest (λ e. r.0) (λ e. r.1) s))
+      let r = notice_is_read n _ h in
+      lead_then _ (WithBody b) _ _ _ begins (no_row (described_after None tokens)) (rw (← is) (spelt_body _ b _ _ (λ e. r.0) (λ e. r.1) s))
 
   -- a token with fields of a fixed length
-  fixed_is_read : (tokens : List Token) (f : Fixed) (t : Token) (fields bytes : List ℕ) → StartsToken (WithFields f) fields bytes → length fields ≡ fields_length f → fixed f fields ≡ t → Spelt (response charset room) (between_tokens tokens) bytes (with_token tokens t)
+  fixed_is_read : (tokens : List Token) (f : Fixed) (t : Token) (fields bytes : List ℕ) → StartsToken (WithFields f) fields bytes → length fields ≡ fields_length f → fixed f fields ≡ t → Leads (between_tokens tokens) bytes (with_token tokens t)
   fixed_is_read tokens f t fields bytes begins long is =
-      lead_then tokens (WithFields f) fields bytes (with_token tokens t) begins (no_row (described_after None tokens)) (Spelt-step (response charset room) (at_part tokens (Fields f)) fields (with_token tokens t) (subst (λ n. 0 < n) (sym long) (some_fields f)) long refl (ap (λ v. with_token tokens v) is))
+      lead_then _ (WithFields f) _ _ _ begins (no_row (described_after None tokens)) (Spelt-step _ _ _ _ (rw long (some_fields f)) long refl (cc))
 
   -- which its fields spell
   pub fixed_spelt : (current : Option (List Column)) (f : Fixed) (fields bytes : List ℕ) → StartsToken (WithFields f) fields bytes → length fields ≡ fields_length f → SpellsToken charset room current (fixed f fields) bytes
   fixed_spelt current f fields bytes begins long = grind (arith, nat_tests)
 
-  row_token_is_read : (tokens : List Token) (current : Option (List Column)) (cells : List Cell) (bytes : List ℕ) → described_after None tokens ≡ current → HasColumns current → SpellsRowToken charset current cells bytes → Spelt (response charset room) (between_tokens tokens) bytes (with_token tokens (Row cells))
+  row_token_is_read : (tokens : List Token) (current : Option (List Column)) (cells : List Cell) (bytes : List ℕ) → described_after None tokens ≡ current → HasColumns current → SpellsRowToken charset current cells bytes → Leads (between_tokens tokens) bytes (with_token tokens (Row cells))
   row_token_is_read tokens None cells bytes is some h = absurd h
   row_token_is_read tokens (Some columns) cells bytes is some (rest, inl h) =
-      let read = Inside-Spelt (row charset) (response charset room) (with_row tokens) (row_in_response tokens) (row_start charset columns) rest (WholeRow cells) (row_is_read charset columns cells rest h.1) in
-      lead_then tokens ARow rest bytes (with_token tokens (Row cells)) h.0 (ap (λ v. row_byte_fault true v) is) (rw is read)
+      let read = Inside-Spelt _ _ (with_row tokens) (row_in_response _) _ _ _ (row_is_read _ _ _ _ h.1) in
+      lead_then tokens ARow rest bytes (with_token tokens (Row cells)) h.0 (cc) (rw is read)
   row_token_is_read tokens (Some columns) cells bytes is some (rest, inr h) =
-      let read = Inside-Spelt (row charset) (response charset room) (with_row tokens) (row_in_response tokens) (nbc_row_start columns) rest (WholeRow cells) (nbc_row_is_read charset columns cells rest (omega arith) h.1) in
-      lead_then tokens AnNbcRow rest bytes (with_token tokens (Row cells)) h.0 (ap (λ v. row_byte_fault true v) is) (rw is read)
+      let read = Inside-Spelt _ _ (with_row tokens) (row_in_response _) _ _ _ (nbc_row_is_read _ _ _ _ (omega arith) h.1) in
+      lead_then tokens AnNbcRow rest bytes (with_token tokens (Row cells)) h.0 (cc) (rw is read)
 
   -- what spells a token is read as it
-  token_is_read : (tokens : List Token) (t : Token) (bytes : List ℕ) → HasColumns (described_after None tokens) → SpellsToken charset room (described_after None tokens) t bytes → Spelt (response charset room) (between_tokens tokens) bytes (with_token tokens t)
+  token_is_read : (tokens : List Token) (t : Token) (bytes : List ℕ) → HasColumns (described_after None tokens) → SpellsToken charset room (described_after None tokens) t bytes → Leads (between_tokens tokens) bytes (with_token tokens t)
   token_is_read tokens (Metadata encoded columns) bytes some h =
-      lead_then tokens AMetadata encoded bytes (with_token tokens (Metadata encoded columns)) h.0 (no_row (described_after None tokens))
-      (Inside-Spelt (description room) (response charset room) (with_described tokens) (description_in_response tokens) BeforeCount encoded (WholeDescription encoded columns) (description_is_read room columns encoded h.1))
+      lead_then _ AMetadata _ _ _ h.0 (no_row (described_after None tokens))
+      (Inside-Spelt _ _ _ (description_in_response _) _ _ _ (description_is_read _ _ _ h.1))
   token_is_read tokens NoMetadata bytes some h =
-      lead_then tokens AMetadata (255 ∷ 255 ∷ []) bytes (with_token tokens NoMetadata) h (no_row (described_after None tokens))
-      (Spelt-step (response charset room) (at_part tokens (Describing BeforeCount)) (255 ∷ 255 ∷ []) (with_token tokens NoMetadata) (omega arith) refl refl refl)
-  token_is_read tokens (Row cells) bytes some h = row_token_is_read tokens (described_after None tokens) cells bytes refl some h
-  token_is_read tokens (PassedOver passed body) bytes some (rest, begins, s) = lead_then tokens (WithBody (APassed passed)) rest bytes (with_token tokens (PassedOver passed body)) begins (no_row (described_after None tokens)) (spelt_body tokens (APassed passed) body rest (λ e. cc) (λ e. cc) s)
-  token_is_read tokens (Error n) bytes some (rest, body, begins, s, h) = notice_token_is_read tokens AnError n (Error n) body rest bytes begins s h (ap Error (notice_is_read n body h).2)
-  token_is_read tokens (Info n) bytes some (rest, body, begins, s, h) = notice_token_is_read tokens AnInfo n (Info n) body rest bytes begins s h (ap Info (notice_is_read n body h).2)
+      lead_then _ AMetadata _ _ _ h (no_row (described_after None tokens))
+      (Spelt-step _ _ _ _ (omega arith) refl refl refl)
+  token_is_read tokens (Row cells) bytes some h = row_token_is_read _ _ _ _ refl some h
+  token_is_read tokens (PassedOver passed body) bytes some (rest, begins, s) = lead_then _ (WithBody (APassed passed)) _ _ _ begins (no_row (described_after None tokens)) (spelt_body tokens (APassed passed) body rest (λ e. cc) (λ e. cc) s)
+  token_is_read tokens (Error n) bytes some (rest, body, begins, s, h) = notice_token_is_read _ AnError n _ _ _ _ begins s h (ap Error (notice_is_read n _ h).2)
+  token_is_read tokens (Info n) bytes some (rest, body, begins, s, h) = notice_token_is_read _ AnInfo n _ _ _ _ begins s h (ap Info (notice_is_read n _ h).2)
   token_is_read tokens (Returned r) bytes some (rest, begins, h) =
-      lead_then tokens AReturn rest bytes (with_token tokens (Returned r)) begins (no_row (described_after None tokens))
-      (Inside-Spelt return_value (response charset room) (with_return tokens) (return_in_response tokens) ReturnOrdinal rest (WholeReturn r) (return_is_read r rest h))
-  token_is_read tokens (Done m) bytes some h = fixed_is_read tokens ADone (Done m) h.0 bytes h.1 h.2 (ap Done (more_is m h.0 h.3))
-  token_is_read tokens (DoneInProc m) bytes some h = fixed_is_read tokens ADoneInProc (DoneInProc m) h.0 bytes h.1 h.2 (ap DoneInProc (more_is m h.0 h.3))
-  token_is_read tokens (ReturnStatus n) bytes some h = fixed_is_read tokens AStatus (ReturnStatus n) h.0 bytes h.1 h.2 (ap ReturnStatus h.3)
+      lead_then _ AReturn _ _ _ begins (no_row (described_after None tokens))
+      (Inside-Spelt _ _ _ (return_in_response _) _ _ _ (return_is_read r _ h))
+  token_is_read tokens (Done m) bytes some h = fixed_is_read _ ADone _ _ _ h.1 h.2 (ap Done (more_is m _ h.3))
+  token_is_read tokens (DoneInProc m) bytes some h = fixed_is_read _ ADoneInProc _ _ _ h.1 h.2 (ap DoneInProc (more_is m _ h.3))
+  token_is_read tokens (ReturnStatus n) bytes some h = fixed_is_read _ AStatus _ _ _ h.1 h.2 (cc)
 
   next_HasColumns : (current : Option (List Column)) (t : Token) (bytes : List ℕ) → HasColumns current → SpellsToken charset room current t bytes → HasColumns (described_after current (t ∷ []))
   next_HasColumns current t bytes some h = grind arith
 
-  tokens_are_read : (before : List Token) (current : Option (List Column)) (ts : List Token) (bytes : List ℕ) → described_after None before ≡ current → HasColumns current → SpellsTokens charset room current ts bytes → Spelt (response charset room) (between_tokens before) bytes (between_tokens (before ++ ts))
+  tokens_are_read : (before : List Token) (current : Option (List Column)) (ts : List Token) (bytes : List ℕ) → described_after None before ≡ current → HasColumns current → SpellsTokens charset room current ts bytes → Leads (between_tokens before) bytes (between_tokens (before ++ ts))
   tokens_are_read before current [] bytes is some h = grind (arith, Spelt-none, append-nil)
   tokens_are_read before current (t ∷ ts) bytes is some h =
-      let one : Spelt (response charset room) (between_tokens before) h.0 (with_token before t) = token_is_read before t h.0 (subst (λ v. HasColumns v) (sym is) some) (subst (λ v. SpellsToken charset room v t h.0) (sym is) h.3) in
-      let now : described_after None (before ++ t ∷ []) ≡ described_after current (t ∷ []) = described_after-append None before (t ∷ []) ∙ ap (λ v. described_after v (t ∷ [])) is in
-      let rest : Spelt (response charset room) (with_token before t) h.1 (between_tokens ((before ++ t ∷ []) ++ ts)) = tokens_are_read (before ++ t ∷ []) (described_after current (t ∷ [])) ts h.1 now (next_HasColumns current t h.0 some h.3) h.4 in
+      let one : Leads (between_tokens before) h.0 (with_token before t) = token_is_read _ t _ (rw is some) (rw is h.3) in
+      let now : described_after None (before ++ t ∷ []) ≡ described_after current (t ∷ []) = cc (described_after-append None before (t ∷ [])) in
+      let rest : Leads (with_token before t) h.1 (between_tokens ((before ++ t ∷ []) ++ ts)) = tokens_are_read (before ++ t ∷ []) (described_after current (t ∷ [])) ts h.1 now (next_HasColumns _ t _ some h.3) h.4 in
       grind (arith, between_tokens, token_is_read, HasColumns, described_after-append, next_HasColumns, Spelt-append, append_assoc)
 
   -- What spells a response is read as its tokens, all of it.
-  pub response_is_read : (tokens : List Token) (payload : List ℕ) → Response charset room tokens payload → Spelt (response charset room) response_start payload (between_tokens tokens)
-  response_is_read tokens payload h = tokens_are_read [] None tokens payload refl tt h.spelt
+  pub response_is_read : (tokens : List Token) (payload : List ℕ) → Response charset room tokens payload → Leads response_start payload (between_tokens tokens)
+  response_is_read tokens payload h = tokens_are_read _ _ _ _ refl tt h.spelt
 
   -- No payload spells the tokens of two responses.
   pub one_response : (a b : List Token) (payload : List ℕ) → Response charset room a payload → Response charset room b payload → a ≡ b
   one_response a b payload h k =
-      let e : between_tokens a ≡ between_tokens b = one_state (response charset room) response_start payload (between_tokens a) (between_tokens b) (response_is_read a payload h) (response_is_read b payload k) in
+      let e = one_state _ _ _ _ _ (response_is_read a _ h) (response_is_read b _ k) in
       ap (λ p. p.tokens) e
 
   -- No response begins with an element that is refused.
   pub refused_response : (payload : List ℕ) (place : ℕ) (part : Part) (f : Fault) (more' : List ℕ) (tokens : List Token) → Longest (response charset room) response_start payload place part → IsRefused (response charset room) part (drop place payload) f → Response charset room tokens (take (place + (response charset room).size part) payload ++ more') → ⊥
   refused_response payload place part f more' tokens l r h =
-      let e : take (place + (response charset room).size part) payload ≡ take place payload ++ take ((response charset room).size part) (drop place payload) = take-add place ((response charset room).size part) payload in
-      refused_for_good (response charset room) response_start (take place payload) part (drop place payload) f more' (between_tokens tokens) l.spelt r
-      (subst (λ v. Spelt (response charset room) response_start (v ++ more') (between_tokens tokens)) e (response_is_read tokens (take (place + (response charset room).size part) payload ++ more') h))
+      let e = take-add place ((response charset room).size part) payload in
+      refused_for_good _ _ _ _ _ f _ _ l.spelt r
+      (rw e at (response_is_read _ _ h))
 
   -- No input begins with two accepted responses.
   pub one_accepted : (size limit : ℕ) (a b : List Token) (p q : List Packet) (input : List ℕ) → Accepted charset size room limit a p input → Accepted charset size room limit b q input → (a ≡ b) × (p ≡ q)
   one_accepted size limit a b p q input h k =
-      let same : p ≡ q = one_message size limit p q h.wire k.wire h.unread k.unread h.message k.message (sym h.begins ∙ k.begins) in
-      (one_response a b (payload_of q) (subst (λ v. Response charset room a (payload_of v)) same h.response) k.response, same)
+      let same = one_message _ _ p q _ _ _ _ h.message k.message (sym h.begins ∙ k.begins) in
+      (one_response a b _ (rw same at h.response) k.response, same)

@@ -1,5 +1,5 @@
 -- What a return value's spelling is read as, and what the bytes that lead to a part of it spell.
-use Rattle.tds_export.proofs.Words.{AreBytes, BadTypeInfo, CellMeans, CellPart, Fault, Grammar, InReturnCell, Inside, Inside-Spelt, IsNext, IsTypeInfo, Kind, List, None, Option, ReturnHead, ReturnInfo, ReturnName, ReturnNameCount, ReturnOrdinal, ReturnPart, ReturnValue, Some, SpellsReturnName, SpellsReturnValue, Spelt, Spelt-none, Spelt-step, WholeCell, WholeReturn, [], ap, append-nil, append_assoc, arith, bare_type, byte_and_rest, cell, cell_add, cell_is_read, cell_start, cell_step, choose, choose_false, choose_true, eq_true, get_or-append_seam, if◌then◌else◌, is_some, is_some_value, kind_of, length, length-append, nat_tests, ne_eqb, one_byte, refl, rest_length, return_add, return_charset, return_column, return_value, shape, shape-HasBytes, split_last, start_means, subst, sym, true, type_fault, with_return_kind, with_return_type, with_return_units, with_value, ℕ, ◌*◌, ◌++◌, ◌<◌, ◌==◌, ◌∙◌, ◌∷◌, ◌≡◌}
+use Rattle.tds_export.proofs.Words.{AreBytes, BadTypeInfo, CellMeans, CellPart, Fault, Grammar, InReturnCell, Inside, Inside-Spelt, IsNext, IsTypeInfo, Kind, List, None, Option, ReturnHead, ReturnInfo, ReturnName, ReturnNameCount, ReturnOrdinal, ReturnPart, ReturnValue, Some, SpellsReturnName, SpellsReturnValue, Spelt, Spelt-none, Spelt-step, WholeCell, WholeReturn, [], ap, append-nil, append_assoc, arith, bare_type, byte_and_rest, cell, cell_is_read, cell_start, cell_step, choose, choose_false, choose_true, eq_true, get_or-append_seam, if◌then◌else◌, is_some, is_some_value, kind_of, length, length-append, nat_tests, ne_eqb, one_byte, refl, rest_length, return_add, return_charset, return_column, return_value, shape, shape-HasBytes, split_last, start_means, sym, true, type_fault, with_return_kind, with_return_type, with_return_units, with_value, ℕ, ◌*◌, ◌++◌, ◌<◌, ◌∙◌, ◌∷◌, ◌≡◌}
 use Rattle.tds_export.proofs.Cuts.{spelt_both, spelt_one}
 
 -- a state of a small grammar stands in a big one: the next element is the same there, and so is the fault of an end
@@ -16,7 +16,7 @@ pub value_agrees : (name : List ℕ) (kind : Kind) (p : CellPart) → 0 < (cell 
 value_agrees name kind p h = grind arith
 
 pub value_in_return : (name : List ℕ) (kind : Kind) → Inside (cell return_column) return_value (with_value name kind)
-value_in_return name kind = inside (cell return_column) return_value (with_value name kind) (value_agrees name kind)
+value_in_return name kind = inside _ _ _ (value_agrees _ _)
 
 pub return_name_is_read : (units : ℕ) (name : List ℕ) → length name ≡ 2 * units → Spelt return_value (with_return_units units) name (ReturnHead name)
 return_name_is_read units [] l = grind (arith, Spelt-none, choose_true, nat_tests)
@@ -24,15 +24,15 @@ return_name_is_read units (x ∷ xs) l = grind (arith, Spelt-step, choose_false,
 
 front_is_read : (name front : List ℕ) → SpellsReturnName name front → Spelt return_value ReturnOrdinal front (ReturnHead name)
 front_is_read name front h =
-    let one : Spelt return_value ReturnOrdinal h.ordinal ReturnNameCount = spelt_one (omega (arith, h.two)) h.two refl refl in
+    let one = spelt_one (omega arith) h.two refl refl in
     let next : Spelt return_value ReturnNameCount (h.units ∷ []) (with_return_units h.units) = spelt_one (omega arith) refl refl refl in
-    rw h.spelt (spelt_both one (spelt_both next (return_name_is_read h.units name h.counted)))
+    rw h.spelt (spelt_both one (spelt_both next (return_name_is_read _ _ h.counted)))
 
 head_is_read : (name ignored : List ℕ) (byte n : ℕ) → length ignored ≡ 7 → rest_length byte ≡ Some n → Spelt return_value (ReturnHead name) (ignored ++ byte ∷ []) (with_return_type name byte n)
 head_is_read name ignored byte n seven known = grind (arith, Spelt-step, get_or-append_seam, length-append)
 
 pub info_is_read : (name : List ℕ) (byte : ℕ) (rest : List ℕ) (kind : Kind) → rest_length byte ≡ Some (length rest) → kind_of (byte ∷ rest) ≡ Some kind → Spelt return_value (with_return_type name byte (length rest)) rest (with_return_kind name (Some kind))
-info_is_read name byte [] kind n k = subst (λ o. Spelt return_value (with_return_kind name o) [] (with_return_kind name (Some kind))) (sym k) (Spelt-none return_value (with_return_kind name (Some kind)))
+info_is_read name byte [] kind n k = rw k (Spelt-none _ _)
 info_is_read name byte (x ∷ xs) kind n k = grind (arith, Spelt-step, choose_false, ne_eqb)
 
 -- What spells a return value is read as it.
@@ -40,7 +40,7 @@ pub return_is_read : (r : ReturnValue) (bytes : List ℕ) → SpellsReturnValue 
 return_is_read r bytes h =
     let info = byte_and_rest r.kind h.info h.type in
     let type = spelt_both (head_is_read r.name h.ignored info.byte (length info.rest) h.seven info.whole) (info_is_read r.name info.byte info.rest r.kind info.whole info.allowed) in
-    let same : (h.ignored ++ info.byte ∷ []) ++ info.rest ≡ h.ignored ++ h.info = append_assoc h.ignored (info.byte ∷ []) info.rest ∙ ap (λ v. h.ignored ++ v) (sym info.spelt) in
+    let same = append_assoc h.ignored (info.byte ∷ []) info.rest ∙ ap (λ v. h.ignored ++ v) (sym info.spelt) in
     let value = Inside-Spelt (cell return_column) return_value (with_value r.name r.kind) (value_in_return r.name r.kind) (cell_start r.kind (shape return_charset r.kind)) h.value (WholeCell r.value) (cell_is_read return_column r.kind (shape return_charset r.kind) r.value h.value (shape-HasBytes return_charset r.kind) h.cell) in
     rw h.spelt (spelt_both (front_is_read r.name h.front h.named) (spelt_both (rw same at type) value))
 
@@ -77,10 +77,10 @@ accepted byte o h = grind arith
 
 type_begins : (name : List ℕ) (byte n : ℕ) (b front ignored : List ℕ) → b ≡ front ++ (ignored ++ byte ∷ []) → SpellsReturnName name front → length ignored ≡ 7 → rest_length byte ≡ Some n → ReturnMeans (with_return_type name byte n) b
 type_begins name byte n b front ignored spelt named seven known =
-    choose (λ p. ReturnMeans p b) (n == 0) (with_return_kind name (kind_of (byte ∷ []))) (ReturnInfo name byte)
+    choose (λ p. ReturnMeans p b) _ _ _
     (λ z.
-    let k = bare_type byte (known ∙ ap (λ v. Some v) (eq_true n 0 z)) in
-    value_begins name (kind_of (byte ∷ [])) k.0 b front ignored (byte ∷ []) k.1 spelt named seven k.1)
+    let k = bare_type _ (cc (eq_true n 0 z)) in
+    value_begins _ _ _ b _ _ _ k.1 spelt named seven k.1)
     (λ z. (front, ignored, spelt, named, seven, n, known))
 
 pub some_kind : (o : Option Kind) → (if is_some o then None else Some (BadTypeInfo return_column)) ≡ None → is_some o ≡ true
@@ -88,25 +88,25 @@ some_kind o q = grind arith
 
 -- each element keeps the meaning
 pub return_step : (p : ReturnPart) (b e : List ℕ) → AreBytes e → ReturnMeans p b → IsNext return_value p e → ReturnMeans (return_add p e) (b ++ e)
-return_step ReturnOrdinal b e bytes h n = ap (λ v. length (v ++ e)) h ∙ n.whole
+return_step ReturnOrdinal b e bytes h n = cc
 return_step ReturnNameCount b e bytes h n = grind (arith, choose, eq_true, one_byte)
-return_step (ReturnName m) b e bytes h n = record { ordinal = h.0; units = h.1; spelt = ap (λ v. v ++ e) h.2 ∙ append_assoc h.0 (h.1 ∷ []) e; two = h.3; counted = n.whole ∙ h.4; byte = h.5 }
+return_step (ReturnName m) b e bytes h n = record { ordinal = h.0; units = h.1; spelt = cc (append_assoc h.0 (h.1 ∷ []) e); two = h.3; counted = cc; byte = h.5 }
 return_step (ReturnHead name) b e bytes h n =
     let s = split_last 7 e n.whole in
     grind (arith, split_last, get_or-append_seam, accepted, ReturnMeans, type_begins)
 return_step (ReturnInfo name byte) b e bytes h n =
-    let k = is_some_value (kind_of (byte ∷ e)) (some_kind (kind_of (byte ∷ e)) n.free) in
-    value_begins name (kind_of (byte ∷ e)) k.0 (b ++ e) h.0 h.1 (byte ∷ e) k.1 (ap (λ v. v ++ e) h.2 ∙ append_assoc h.0 (h.1 ++ byte ∷ []) e ∙ ap (λ v. h.0 ++ v) (append_assoc h.1 (byte ∷ []) e)) h.3 h.4 k.1
+    let k = is_some_value _ (some_kind _ n.free) in
+    value_begins _ _ _ _ _ _ _ k.1 (ap (λ v. v ++ e) h.2 ∙ append_assoc h.0 (h.1 ++ byte ∷ []) e ∙ ap (λ v. h.0 ++ v) (append_assoc h.1 (byte ∷ []) e)) h.3 h.4 k.1
 return_step (InReturnCell name kind part) b e bytes h n =
-    with_value_means name kind (cell_add part e) (b ++ e) (record {
+    with_value_means _ _ _ _ (record {
       front = h.front;
       ignored = h.ignored;
       info = h.info;
       value = h.value ++ e;
-      spelt = ap (λ v. v ++ e) h.spelt ∙ append_assoc h.front ((h.ignored ++ h.info) ++ h.value) e ∙ ap (λ v. h.front ++ v) (append_assoc (h.ignored ++ h.info) h.value e);
+      spelt = cc (append_assoc h.front ((h.ignored ++ h.info) ++ h.value) e, append_assoc (h.ignored ++ h.info) h.value e);
       named = h.named;
       seven = h.seven;
       type = h.type;
-      begun = cell_step return_column kind (shape return_charset kind) part h.value e bytes h.begun (record { some = n.some; whole = n.whole; free = n.free });
+      begun = cell_step _ _ _ _ _ e bytes h.begun (record { some = n.some; whole = n.whole; free = n.free });
     })
-return_step (WholeReturn r) b e bytes h n = absurd (let l : length e ≡ 0 = n.whole in let s : 0 < length e = n.some in omega arith)
+return_step (WholeReturn r) b e bytes h n = absurd (let l = n.whole in let s = n.some in omega arith)

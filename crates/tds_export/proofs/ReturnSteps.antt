@@ -1,10 +1,8 @@
 -- RETURNVALUE as it is read, and in its response.
-use Rattle.tds_export.proofs.Words.{Bool, Charset, Ends, Err, Held, IfOk, IsHolding, IsNoted, Kind, KnownType, List, MatchResult, NoType, None, Ok, Option, PassesCell, Progress, Reads, ReadsReturn, ReadsTokens, ReadsType, ReadsValue, Result, ReturnHead, ReturnInfo, ReturnName, ReturnNameCount, ReturnOrdinal, ReturnPart, Returned, Seen, Some, Space, StepStops, Stop, StopsPassing, StopsReturn, StopsType, Takes, Token, TypeHead, TypePart, TypeRest, WholeCell, WholeReturn, [], after_tokens, arith, before_value, began_at, cell, cell_start, choose_false, if◌then◌else◌, in_return, kind_of, length, length-append, ne_eqb, reads_both, reads_inside, reads_one, refl, response, rest_length, rest_length_of, return_add, return_charset, return_column, return_fault, return_size, return_value, returned_type, shape, slice_index, stops_after, stops_inside, stops_size, subst, sym, text_so_far, unwrap_or, with_known, with_return, with_return_kind, with_return_units, with_value, ℕ, ◌*◌, ◌++◌, ◌+◌, ◌-◌, ◌<◌, ◌==◌, ◌∙◌, ◌∷◌, ◌≡◌}
+use Rattle.tds_export.proofs.Words.{Bool, Charset, Ends, Err, Held, IfOk, IsHolding, IsNoted, Kind, KnownType, List, MatchResult, NoType, None, Ok, Option, PassesCell, Progress, Reads, ReadsReturn, ReadsTokens, ReadsType, ReadsValue, Result, ReturnHead, ReturnInfo, ReturnName, ReturnNameCount, ReturnOrdinal, ReturnPart, Seen, Space, StepStops, Stop, StopsPassing, StopsReturn, StopsType, Takes, Token, TypeHead, TypePart, TypeRest, [], after_tokens, arith, before_value, began_at, cell_start, choose_false, if◌then◌else◌, in_return, kind_of, length, length-append, ne_eqb, reads_both, reads_inside, reads_one, refl, response, rest_length, rest_length_of, return_add, return_charset, return_fault, return_size, return_value, returned_type, shape, slice_index, stops_after, stops_inside, stops_size, subst, sym, text_so_far, unwrap_or, with_known, with_return, with_return_kind, with_return_units, with_value, ℕ, ◌*◌, ◌++◌, ◌+◌, ◌-◌, ◌<◌, ◌==◌, ◌∷◌, ◌≡◌}
 use Rattle.tds_export.proofs.ReturnLaws.{Agrees, info_is_read, inside, return_name_is_read, value_agrees, value_in_return}
 use Rattle.tds_export.proofs.TokenSteps.{Begun, bare_reads, quietly, stops_quietly}
-use Rattle.tds_export.proofs.Cuts.{part_cut}
-use Rattle.tds_export.proofs.ResponseLaws.{return_agrees, return_in_response}
-use Rattle.tds_export.proofs.TokenLaws.{tracks_returned}
+use Rattle.tds_export.proofs.{Cuts.part_cut, ResponseLaws.return_agrees, ResponseLaws.return_in_response, TokenLaws.tracks_returned}
 
 module _ {s t : ReturnPart} {a b c : Seen} {place middle : ℕ} (x : ReadsReturn s t a b place middle) where
   -- what stops a call stops one that began before it
@@ -13,32 +11,32 @@ module _ {s t : ReturnPart} {a b c : Seen} {place middle : ℕ} (x : ReadsReturn
 
   -- and so it is where nothing stops
   pub return_reads_after : {u : ReturnPart} {place' : ℕ} → ReadsReturn t u b c middle place' → ReadsReturn s u a c place place'
-  return_reads_after {u = u} y = record { reads = reads_both return_value s t u a b c x.reads y.reads; place_is = omega (arith, x.place_is, y.place_is, length-append x.reads.bytes y.reads.bytes) }
+  return_reads_after {u = u} y = record { reads = reads_both _ s t u a b c x.reads y.reads; place_is = omega (arith, length-append x.reads.bytes y.reads.bytes) }
 
 -- the next element was read
 return_read : {s t : ReturnPart} {a b : Seen} {place place' n : ℕ} (element : List ℕ) → 0 < n → return_size s ≡ n → return_fault s element ≡ None → return_add s element ≡ t → length element ≡ n → Takes a b element n → place' ≡ place + n → ReadsReturn s t a b place place'
-return_read {s = s} {t = t} {a = a} {b = b} element some size free to whole takes at = record { reads = reads_one return_value s a b element t (record { some = rw whole some; whole = whole ∙ sym size; free = free }) (rw whole takes) to; place_is = rw whole at }
+return_read {s = s} {t = t} {a = a} {b = b} element some size free to whole takes at = record { reads = reads_one _ s a b _ t (record { some = rw whole some; whole = cc; free = free }) (rw whole takes) to; place_is = rw whole at }
 
 -- ---- the name
 
 module _ {a : Seen} (b : Seen) {place one : ℕ} (ordinal : List ℕ) (counted : length ordinal ≡ 2) (first : Takes a b ordinal 2) (at : one ≡ place + 2) where
   -- the ordinal was read
   pub ordinal_read : ReadsReturn ReturnOrdinal ReturnNameCount a b place one
-  ordinal_read = return_read ordinal (omega arith) refl refl refl counted first at
+  ordinal_read = return_read _ (omega arith) refl refl refl counted first at
 
   -- the ordinal and the count of the name's units were read
   pub front_read : {c : Seen} {two : ℕ} (element : List ℕ) → length element ≡ 1 → Takes b c element (length element) → two ≡ one + length element → ReadsReturn ReturnOrdinal (with_return_units (slice_index element 0)) a c place two
-  front_read element single second at' = return_reads_after ordinal_read (return_read element (omega (arith, single)) (sym single) refl refl refl second at')
+  front_read element single second at' = return_reads_after ordinal_read (return_read element (omega arith) (sym single) refl refl refl second at')
 
 -- the name is cut
 pub name_cut : (units : ℕ) {n place : ℕ} {a b : Seen} {own stop : Stop} (part : List ℕ) → n ≡ 2 * units → length part < n → Ends a b part own → stop ≡ began_at place own → StopsReturn (with_return_units units) a b place stop
 name_cut units {n = n} part is fewer ends stop_is =
-    let some : with_return_units units ≡ ReturnName n = rw is (choose_false (units == 0) (ReturnHead []) (ReturnName (2 * units)) (ne_eqb units 0 (λ q. omega (arith, fewer, is, q)))) in
-    rw some (record { at = ReturnName n; stops = part_cut part refl refl fewer ends stop_is })
+    let some : with_return_units units ≡ ReturnName n = rw is (choose_false _ _ _ (ne_eqb units 0 (λ q. omega arith))) in
+    rw some (record { at = ReturnName n; stops = part_cut _ refl refl fewer ends stop_is })
 
 -- the name was read
 pub name_read : (units : ℕ) {n place place' : ℕ} {a b : Seen} (name : List ℕ) → n ≡ 2 * units → length name ≡ n → Takes a b name n → place' ≡ place + n → ReadsReturn (with_return_units units) (ReturnHead name) a b place place'
-name_read units name is len takes at = record { reads = record { bytes = name; spelt = return_name_is_read units name (len ∙ is); takes = rw len takes }; place_is = rw len at }
+name_read units name is len takes at = record { reads = record { bytes = name; spelt = return_name_is_read _ _ (cc); takes = rw len takes }; place_is = rw len at }
 
 -- ---- the type
 
@@ -67,14 +65,13 @@ pub type_taken : (r : Result Kind Stop) (name head : List ℕ) (a b c : Seen) (p
     → MatchResult r (λ kind. Reads returned_type TypeHead a c (KnownType kind)) (λ stop. StopsType a c (middle - 8) stop)
     → MatchResult r (λ kind. ReadsReturn (ReturnHead name) (before_value name kind) a c place place') (λ stop. StopsReturn (ReturnHead name) a c place stop)
 type_taken (Ok kind) name head a b c place middle place' eight takes at x y =
-    let byte = slice_index head 7 in
-    let known : rest_length byte ≡ Some (length x.rest) = rest_length_of kind byte x.rest x.info in
-    return_reads_after (return_read head (omega arith) refl (rw known refl) (rw known refl) eight takes at)
-    (record { reads = record { bytes = x.rest; spelt = info_is_read name byte x.rest kind known x.info; takes = x.takes }; place_is = x.place_is })
+    let known = rest_length_of _ _ _ x.info in
+    return_reads_after (return_read _ (omega arith) refl (rw known refl) (rw known refl) eight takes at)
+    (record { reads = record { bytes = x.rest; spelt = info_is_read _ _ _ _ known x.info; takes = x.takes }; place_is = x.place_is })
 type_taken (Err stop) name head a b c place middle place' eight takes at x y =
-    let z : StopsType a c place stop = subst (λ n. StopsType a c n stop) (omega (arith, at)) y in
-    let end = type_agrees name z.at (stops_size returned_type TypeHead a c place z.at stop z.stops) in
-    record { at = after_name name z.at; stops = stops_inside returned_type return_value (after_name name) (inside returned_type return_value (after_name name) (type_agrees name)) TypeHead a c place z.at stop end.3 z.stops }
+    let z = subst (λ n. StopsType a c n stop) (omega arith) y in
+    let end = type_agrees name _ (stops_size _ _ a c _ _ _ z.stops) in
+    record { at = after_name name z.at; stops = stops_inside _ _ (after_name name) (inside _ _ _ (type_agrees _)) _ a c _ _ _ end.3 z.stops }
 
 -- ---- the value
 
@@ -83,12 +80,11 @@ pub value_passed : {U : Type 0} (r : Result U Stop) (name : List ℕ) (kind : Ki
     → MatchResult r (λ _. PassesCell (cell_start kind (shape return_charset kind)) b c middle place') (λ stop. StopsPassing (cell_start kind (shape return_charset kind)) b c middle stop)
     → MatchResult r (λ _. ReadsValue a c place place') (λ stop. StopsReturn ReturnOrdinal a c place stop)
 value_passed (Ok u) name kind {b = b} c place' x y =
-    let inner = reads_inside (cell return_column) return_value (with_value name kind) (value_in_return name kind) (cell_start kind (shape return_charset kind)) b c (WholeCell y.value) y.steps.reads in
+    let inner = reads_inside _ _ (with_value name kind) (value_in_return _ _) _ b c _ y.steps.reads in
     record { value = record { name = name; kind = kind; value = y.value }; steps = return_reads_after x (record { reads = inner; place_is = y.steps.place_is }) }
 value_passed (Err stop) name kind {b = b} c {middle = middle} place' x y =
-    let start = cell_start kind (shape return_charset kind) in
-    let end = value_agrees name kind y.at (stops_size (cell return_column) start b c middle y.at stop y.stops) in
-    return_stops_after x (record { at = with_value name kind y.at; stops = stops_inside (cell return_column) return_value (with_value name kind) (value_in_return name kind) start b c middle y.at stop end.3 y.stops })
+    let end = value_agrees name kind _ (stops_size _ _ b c _ _ _ y.stops) in
+    return_stops_after x (record { at = with_value name kind y.at; stops = stops_inside _ _ (with_value name kind) (value_in_return _ _) _ b c _ _ _ end.3 y.stops })
 
 -- ---- in its response
 
@@ -100,13 +96,13 @@ module _ (charset : Charset) (room : ℕ) {place : ℕ} {tokens : List Token} {s
   -- a return value stopped the call
   pub return_stops : {stop : Stop} → StopsReturn ReturnOrdinal a b place stop → StepStops (response charset room) (in_return tokens) a b place sink sink area failed stop
   return_stops {stop = stop} x =
-      let some = stops_size return_value ReturnOrdinal a b place x.at stop x.stops in
-      let there = open_return area tokens x.at some begun.holds in
+      let some = stops_size _ _ a b _ _ _ x.stops in
+      let there = open_return _ _ x.at some begun.holds in
       stops_quietly there.0 there.1 begun.delivered begun.going
-      (stops_inside return_value (response charset room) (with_return tokens) (return_in_response charset room tokens) ReturnOrdinal a b place x.at stop (return_agrees charset room tokens x.at some).3 x.stops)
+      (stops_inside return_value (response charset room) (with_return tokens) (return_in_response _ _ _) ReturnOrdinal a b place x.at stop (return_agrees charset room tokens _ some).3 x.stops)
 
   -- a return value was read
   pub return_reads : {place' : ℕ} → ReadsValue a b place place' → (x : ReadsTokens (response charset room) (in_return tokens) tokens a b place place' sink sink (record s { report = record s.report { return_values = s.report.return_values + 1 } }) area) × IsNoted notice (tokens ++ x.more)
   return_reads x =
-      let r = reads_inside return_value (response charset room) (with_return tokens) (return_in_response charset room tokens) ReturnOrdinal a b (WholeReturn x.value) x.steps.reads in
-      quietly begun refl (bare_reads begun (Returned x.value) r x.steps.place_is refl refl (tracks_returned s tokens x.value begun.tracks))
+      let r = reads_inside _ _ (with_return tokens) (return_in_response _ _ _) _ a b _ x.steps.reads in
+      quietly begun refl (bare_reads begun _ r x.steps.place_is refl refl (tracks_returned s _ x.value begun.tracks))

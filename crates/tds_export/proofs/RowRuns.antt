@@ -1,8 +1,7 @@
 -- Rows of one token after one another, in their response.
-use Rattle.tds_export.proofs.Words.{Bool, Cell, Charset, Column, Fault, Grammar, Held, IsDescribed, IsHolding, IsNext, IsNoted, Leads, List, None, Option, Part, Progress, PutsText, ReadsRows, ReadsTokens, RefusedToken, Row, RowPart, RowToken, RowsPart, RowsStop, Seen, Some, Space, Spelt, StepStops, Stop, Streams, Token, Tracks, TracksBefore, WholeRow, [], after_tokens, ap, append-nil, append_assoc, arith, before, columns_of, counted, described_after, encoded_after, if◌then◌else◌, length, length-append, lines, map, map-append, next_inside, next_some, refl, response, row, row_so_far, rows, rows_so_far, rows_start, subst, sym, text, text_so_far, token_byte, token_start, true, with_row, ℕ, ◌++◌, ◌+◌, ◌<◌, ◌==◌, ◌∙◌, ◌∷◌, ◌≡◌}
+use Rattle.tds_export.proofs.Words.{Bool, Cell, Charset, Column, Fault, Grammar, Held, IsDescribed, IsHolding, IsNext, IsNoted, Leads, List, None, Option, Part, Progress, PutsText, ReadsRows, ReadsTokens, RefusedToken, Row, RowPart, RowToken, RowsPart, RowsStop, Seen, Some, Space, Spelt, StepStops, Stop, Streams, Token, Tracks, TracksBefore, WholeRow, [], after_tokens, ap, append-nil, append_assoc, arith, before, columns_of, counted, described_after, encoded_after, if◌then◌else◌, length, length-append, lines, map, map-append, next_inside, next_some, refl, response, row, row_so_far, rows, rows_so_far, rows_start, subst, sym, text, text_so_far, token_byte, token_start, true, with_row, ℕ, ◌++◌, ◌+◌, ◌==◌, ◌∙◌, ◌∷◌, ◌≡◌}
 use Rattle.tds_export.proofs.TokenSteps.{Begun, holds-snoc, quietly, row_stops, row_text, stops_further}
-use Rattle.tds_export.proofs.ResponseLaws.{described_after-append, row_in_response}
-use Rattle.tds_export.proofs.TokenLaws.{text_after-snoc, tracks_row}
+use Rattle.tds_export.proofs.{ResponseLaws.described_after-append, ResponseLaws.row_in_response, TokenLaws.text_after-snoc, TokenLaws.tracks_row}
 
 -- a byte that is no other token's
 is_token_byte : (byte x : ℕ) → (if x == byte then None else Some (RefusedToken x)) ≡ None → x ≡ byte
@@ -11,11 +10,11 @@ is_token_byte byte x h = search (arith, h)
 -- what one grammar reads, another reads there, where each element does
 module _ {S T : Type 0} (small : Grammar S Fault) (big : Grammar T Fault) (lift : S → T) (is : (s : S) (e : List ℕ) → IsNext small s e → IsNext big (lift s) e × (big.add (lift s) e ≡ lift (small.add s e))) where
   lifted_leads : (s : S) (es : List (List ℕ)) (t : S) → Leads small s es t → Leads big (lift s) es (lift t)
-  lifted_leads s [] t h = ap lift h
-  lifted_leads s (e ∷ es) t h = let x = is s e h.0 in (x.0, subst (λ v. Leads big v es (lift t)) (sym x.1) (lifted_leads (small.add s e) es t h.1))
+  lifted_leads s [] t h = cc
+  lifted_leads s (e ∷ es) t h = let x = is s e h.0 in (x.0, rw x.1 (lifted_leads (small.add s e) es t h.1))
 
   lifted_spelt : (s : S) (bytes : List ℕ) (t : S) → Spelt small s bytes t → Spelt big (lift s) bytes (lift t)
-  lifted_spelt s bytes t h = record { elements = h.elements; joined = h.joined; leads = lifted_leads s h.elements t h.leads }
+  lifted_spelt s bytes t h = record { elements = h.elements; joined = h.joined; leads = lifted_leads s _ t h.leads }
 
 -- rows describe no columns
 rows_describe : (before : Option (List Column)) (rs : List (List Cell)) → described_after before (map Row rs) ≡ before
@@ -24,7 +23,7 @@ rows_describe before (r ∷ rs) = rows_describe before rs
 
 -- the lines of rows
 rows_text : (tokens : List Token) (rs : List (List Cell)) → text (tokens ++ map Row rs) ≡ text tokens ++ lines rs
-rows_text tokens [] = ap text (append-nil tokens) ∙ sym (append-nil (text tokens))
+rows_text tokens [] = cc (append-nil tokens, append-nil (text tokens))
 rows_text tokens (r ∷ rs) = grind (arith, append-nil, append_assoc, text_after-snoc, (rows_text (tokens ++ Row r ∷ []) rs))
 
 module _ (which : RowToken) (charset : Charset) (room : ℕ) (all : List Column) (tokens : List Token) where
@@ -33,54 +32,53 @@ module _ (which : RowToken) (charset : Charset) (room : ℕ) (all : List Column)
   in_rows p = with_row (tokens ++ map Row p.before) p.at
 
   in_rows_text : (p : RowsPart) → text_so_far (in_rows p) ≡ text tokens ++ rows_so_far p
-  in_rows_text p = row_text (tokens ++ map Row p.before) p.at ∙ ap (λ l. l ++ row_so_far p.at) (rows_text tokens p.before) ∙ append_assoc (text tokens) (lines p.before) (row_so_far p.at)
+  in_rows_text p = cc (row_text (tokens ++ map Row p.before) p.at, rows_text tokens p.before, append_assoc (text tokens) (lines p.before) (row_so_far p.at))
 
   module _ (known : described_after None tokens ≡ Some all) where
     token_next : (before : List (List Cell)) (cells : List Cell) → IsNext (response charset room) (in_rows (record { before = before; at = WholeRow cells })) (token_byte which ∷ []) × ((response charset room).add (in_rows (record { before = before; at = WholeRow cells })) (token_byte which ∷ []) ≡ in_rows (record { before = before ++ cells ∷ []; at = token_start which charset all }))
-    token_next before cells = grind (arith, append_assoc, described_after-append, known, map-append, rows_describe)
+    token_next before cells = grind (arith, append_assoc, described_after-append, map-append, rows_describe)
 
     row_next : (ts : List Token) (at : RowPart) (e : List ℕ) → IsNext (row charset) at e → IsNext (response charset room) (with_row ts at) e × ((response charset room).add (with_row ts at) e ≡ with_row ts ((row charset).add at e))
     row_next ts at e n = grind (arith, next_inside, next_some, row_in_response)
 
     element_next : (before : List (List Cell)) (p : RowPart) (e : List ℕ) → IsNext (rows which charset all) (record { before = before; at = p }) e
         → IsNext (response charset room) (in_rows (record { before = before; at = p })) e × ((response charset room).add (in_rows (record { before = before; at = p })) e ≡ in_rows ((rows which charset all).add (record { before = before; at = p }) e))
-    element_next before (WholeRow cells) [] n = absurd (let s : 0 < length {A = ℕ} [] = n.some in omega arith)
+    element_next before (WholeRow cells) [] n = absurd (let s = n.some in omega arith)
     element_next before (WholeRow cells) (x ∷ []) n =
-        subst (λ (x : ℕ). IsNext (response charset room) (in_rows (record { before = before; at = WholeRow cells })) (x ∷ []) × ((response charset room).add (in_rows (record { before = before; at = WholeRow cells })) (x ∷ []) ≡ in_rows (record { before = before ++ cells ∷ []; at = token_start which charset all }))) (sym (is_token_byte (token_byte which) x n.free)) (token_next before cells)
-    element_next before (WholeRow cells) (x ∷ y ∷ r) n = absurd (let w : length (x ∷ y ∷ r) ≡ 1 = n.whole in omega arith)
-    element_next before p e n = row_next (tokens ++ map Row before) p e (record { some = n.some; whole = n.whole; free = n.free })
+        rw (is_token_byte _ x n.free) (token_next _ _)
+    element_next before (WholeRow cells) (x ∷ y ∷ r) n = absurd (let w = n.whole in omega arith)
+    element_next before p e n = row_next _ p e (record { some = n.some; whole = n.whole; free = n.free })
 
     -- what is read of rows from their start on and put, is read of the response and put
     abbrev rows_stream : {t : RowsPart} {a b : Seen} {h j : Held} → Streams (rows which charset all) rows_so_far (rows_start which charset all) a b h j t → Streams (response charset room) text_so_far (with_row tokens (token_start which charset all)) a b h j (in_rows t)
     rows_stream {t = t} x =
         let s = rows_start which charset all in
-        let begins : in_rows s ≡ with_row tokens (token_start which charset all) = ap (λ ts. with_row ts (token_start which charset all)) (append-nil tokens) in
+        let begins = ap (λ ts. with_row ts (token_start which charset all)) (append-nil tokens) in
         let same = ap (λ l. l ++ x.puts.0) (ap text_so_far (sym begins) ∙ in_rows_text s) ∙ append_assoc (text tokens) (rows_so_far s) x.puts.0 ∙ ap (λ l. text tokens ++ l) x.puts.1 ∙ sym (in_rows_text t) in
-        let spelt = lifted_spelt (rows which charset all) (response charset room) in_rows (λ p e n. element_next p.before p.at e n) s x.bytes t x.spelt in
-        record { bytes = x.bytes; spelt = subst (λ (v : Part). Spelt (response charset room) v x.bytes (in_rows t)) begins spelt; takes = x.takes; puts = (x.puts.0, same, x.puts.2) }
+        let spelt = lifted_spelt _ _ _ (λ p e n. element_next p.before p.at e n) s _ t x.spelt in
+        record { bytes = x.bytes; spelt = rw begins at spelt; takes = x.takes; puts = (x.puts.0, same, x.puts.2) }
 
 -- so many rows more are counted
 tracks_rows : (s : Progress) (tokens : List Token) (r : List Cell) (rs : List (List Cell)) → TracksBefore s tokens → Tracks (record s { report = record s.report { rows = s.report.rows + length (r ∷ rs) } }) (tokens ++ map Row (r ∷ rs))
-tracks_rows s tokens r [] k = tracks_row s tokens r k
+tracks_rows s tokens r [] k = tracks_row s _ r k
 tracks_rows s tokens r (q ∷ qs) k =
-    let first = tracks_row s tokens r k in
+    let first = tracks_row s _ r k in
     let n : (s.report.rows + 1) + length (q ∷ qs) ≡ s.report.rows + length (r ∷ q ∷ qs) = omega arith in
-    subst (λ ts. Tracks (record s { report = record s.report { rows = s.report.rows + length (r ∷ q ∷ qs) } }) ts) (append_assoc tokens (Row r ∷ []) (map Row (q ∷ qs)))
-    (subst (λ (n : ℕ). Tracks (record s { report = record s.report { rows = n } }) ((tokens ++ Row r ∷ []) ++ map Row (q ∷ qs))) n (tracks_rows (record s { report = record s.report { rows = s.report.rows + 1 } }) (tokens ++ Row r ∷ []) q qs (record { report = first.report; described = first.described; final = k.final })))
+    rw (append_assoc tokens (Row r ∷ []) (map Row (q ∷ qs))) at (subst (λ (n : ℕ). Tracks (record s { report = record s.report { rows = n } }) ((tokens ++ Row r ∷ []) ++ map Row (q ∷ qs))) n (tracks_rows (record s { report = record s.report { rows = s.report.rows + 1 } }) (tokens ++ Row r ∷ []) q qs (record { report = first.report; described = first.described; final = k.final })))
 
 -- the same, the last row named
 tracks_all : (s : Progress) (tokens : List Token) (earlier : List (List Cell)) (last : List Cell) (count : ℕ) → count ≡ length earlier + 1 → TracksBefore s tokens → Tracks (record s { report = record s.report { rows = s.report.rows + count } }) (tokens ++ map Row (earlier ++ last ∷ []))
 tracks_all s tokens earlier last count counted k =
-    subst (λ (n : ℕ). Tracks (record s { report = record s.report { rows = s.report.rows + n } }) (tokens ++ map Row (earlier ++ last ∷ []))) (length-append earlier (last ∷ []) ∙ sym counted) (go earlier)
+    rw (length-append earlier (last ∷ []) ∙ sym counted) at (go earlier)
   where
     go : (earlier : List (List Cell)) → Tracks (record s { report = record s.report { rows = s.report.rows + length (earlier ++ last ∷ []) } }) (tokens ++ map Row (earlier ++ last ∷ []))
-    go [] = tracks_rows s tokens last [] k
-    go (r ∷ rs) = tracks_rows s tokens r (rs ++ last ∷ []) k
+    go [] = tracks_rows s _ _ [] k
+    go (r ∷ rs) = tracks_rows s _ r _ k
 
 -- the description stays what it was
 rows_hold : (area : Space) (tokens : List Token) (rs : List (List Cell)) → IsHolding area (after_tokens tokens) → IsHolding area (after_tokens (tokens ++ map Row rs))
-rows_hold area tokens [] h = subst (λ ts. IsHolding area (after_tokens ts)) (sym (append-nil tokens)) h
-rows_hold area tokens (r ∷ rs) h = subst (λ ts. IsHolding area (after_tokens ts)) (append_assoc tokens (Row r ∷ []) (map Row rs)) (rows_hold area (tokens ++ Row r ∷ []) rs (holds-snoc area tokens (Row r) refl h))
+rows_hold area tokens [] h = rw (append-nil tokens) h
+rows_hold area tokens (r ∷ rs) h = rw (append_assoc tokens (Row r ∷ []) (map Row rs)) at (rows_hold area (tokens ++ Row r ∷ []) rs (holds-snoc _ _ _ refl h))
 
 -- ---- what the call that reads them gives
 
@@ -94,21 +92,21 @@ module _ (which : RowToken) (charset : Charset) (room : ℕ) {place : ℕ} {colu
   pub rows_read : {place' count : ℕ} → ReadsRows which charset columns count a b place place' before after
       → (x : ReadsTokens (response charset room) (with_row tokens (token_start which charset (columns_of area.bytes))) tokens a b place place' before after (record s { report = record s.report { rows = s.report.rows + count } }) area) × IsNoted notice (tokens ++ x.more)
   rows_read {place' = place'} {count = count} y =
-      let x = subst (λ cs. ReadsRows which charset cs count a b place place' before after) shown y in
-      let known = columns_known tokens s.described area.bytes described begun.holds.bytes begun.tracks.described in
-      let there = rows_stream which charset room (columns_of area.bytes) tokens known x.streams in
-      let end : with_row (tokens ++ map Row x.earlier) (WholeRow x.last) ≡ after_tokens (tokens ++ map Row (x.earlier ++ x.last ∷ [])) = ap after_tokens (append_assoc tokens (map Row x.earlier) (Row x.last ∷ []) ∙ ap (λ l. tokens ++ l) (sym (map-append Row x.earlier (x.last ∷ [])))) in
+      let x = rw shown at y in
+      let known = columns_known tokens _ _ described begun.holds.bytes begun.tracks.described in
+      let there = rows_stream _ _ _ _ _ known x.streams in
+      let end = ap after_tokens (append_assoc tokens (map Row x.earlier) (Row x.last ∷ []) ∙ ap (λ l. tokens ++ l) (sym (map-append Row x.earlier (x.last ∷ [])))) in
       quietly begun refl (record {
         more = map Row (x.earlier ++ x.last ∷ []);
         streams = record { bytes = x.streams.bytes; spelt = rw (← end) there.spelt; takes = x.streams.takes; puts = subst (λ (v : Part). PutsText text_so_far (with_row tokens (token_start which charset (columns_of area.bytes))) v before after) end there.puts };
         place_is = x.place_is;
-        tracks = tracks_all s tokens x.earlier x.last count x.counted begun.tracks;
-        holds = rows_hold area tokens (x.earlier ++ x.last ∷ []) begun.holds;
+        tracks = tracks_all s _ x.earlier x.last _ x.counted begun.tracks;
+        holds = rows_hold _ _ (x.earlier ++ x.last ∷ []) begun.holds;
       })
 
   -- their reading stopped
   pub rows_stop : {failed' : Bool} {stop : Stop} → RowsStop which charset columns a b place before after failed' stop → StepStops (response charset room) (with_row tokens (token_start which charset (columns_of area.bytes))) a b place before after area failed' stop
   rows_stop {failed' = failed'} {stop = stop} y =
-      let x = subst (λ cs. RowsStop which charset cs a b place before after failed' stop) shown y in
-      let known = columns_known tokens s.described area.bytes described begun.holds.bytes begun.tracks.described in
-      stops_further (rows_stream which charset room (columns_of area.bytes) tokens known x.streams) refl (row_stops charset room (tokens ++ map Row x.earlier) (rows_hold area tokens x.earlier begun.holds) x.stops)
+      let x = rw shown at y in
+      let known = columns_known tokens _ _ described begun.holds.bytes begun.tracks.described in
+      stops_further (rows_stream _ _ _ _ _ known x.streams) refl (row_stops charset room (tokens ++ map Row x.earlier) (rows_hold area tokens x.earlier begun.holds) x.stops)

@@ -1,5 +1,5 @@
 -- The text so far is no longer than 64 bytes for each byte read.
-use Rattle.tds_export.proofs.Words.{AreBytes, AreBytes-back, AreBytes-front, Bool, Cell, CellPart, Charset, ChunkData, ChunkLength, Column, DataCell, Describing, DescriptionPart, InCell, InColumn, InRow, IsNext, List, None, Null, Open, Option, Part, Result, ReturnPart, RowPart, ScalarBytes, ScalarLength, ScalarValue, ShortData, ShortLength, Some, Spelt, Spelt-induct, Token, Total, Utf16Text, ValueFault, WholeCell, WholeDescription, [], add_described, and_parts, ap, append-nil, arith, cell, cell_add, choose, codes, description, end_fit, false, field, field_so_far, fit_begins, header_line, is_fit, joined, last_fit, length, length-append, line, line_end, little, long_field, map, map-append, marked, next_cell, open_field, open_text, part_add, read_of, refl, response, response_start, row_so_far, row_start, shape, slice_index, start_quiet, subst, suc, sym, text, text_so_far, true, unless_none, value_part, with_field, with_return, with_row, ℕ, ◌*◌, ◌++◌, ◌+◌, ◌-◌, ◌==◌, ◌∷◌, ◌≡◌, ◌≤◌}
+use Rattle.tds_export.proofs.Words.{AreBytes, AreBytes-back, AreBytes-front, Bool, Cell, CellPart, Charset, ChunkData, ChunkLength, Column, Describing, DescriptionPart, InCell, InColumn, InRow, IsNext, List, None, Null, Open, Option, Part, Result, ReturnPart, RowPart, ScalarBytes, ScalarLength, ScalarValue, ShortData, ShortLength, Some, Spelt, Spelt-induct, Token, Total, Utf16Text, ValueFault, WholeCell, WholeDescription, [], add_described, and_parts, ap, append-nil, arith, cell, cell_add, choose, codes, description, end_fit, false, field, field_so_far, fit_begins, header_line, joined, last_fit, length, length-append, line, line_end, little, long_field, map, map-append, marked, next_cell, open_field, open_text, part_add, refl, response, response_start, row_so_far, row_start, slice_index, start_quiet, suc, text, text_so_far, true, unless_none, value_part, with_return, with_row, ℕ, ◌*◌, ◌++◌, ◌+◌, ◌==◌, ◌∷◌, ◌≡◌, ◌≤◌}
 use Rattle.tds_export.proofs.ReadingGrows.{IsFresh, lead_cases, part_at}
 use Rattle.tds_export.proofs.FieldLengths.{ReadShort, long_length, long_more, open_length, open_more, read_short}
 use Rattle.tds_export.proofs.TokenLaws.{bare, bare_body, bare_fixed, begun_after, text_after-snoc}
@@ -28,7 +28,7 @@ one_more_length fs f = omega (arith, last_length fs f, before_last_most fs)
 
 -- one more cell
 one_more_cell : (cells : List Cell) (c : Cell) → length (joined (map field (cells ++ c ∷ []))) ≤ length (joined (map field cells)) + 1 + length (field c)
-one_more_cell cells c = subst (λ v. length (joined v) ≤ length (joined (map field cells)) + 1 + length (field c)) (sym (map-append field cells (c ∷ []))) (one_more_length (map field cells) (field c))
+one_more_cell cells c = rw (map-append field cells (c ∷ [])) (one_more_length (map field cells) (field c))
 
 -- the field that is read has at most 48 bytes more
 abbrev FieldMore : Option (List ℕ) → Option (List ℕ) → Type 0
@@ -46,15 +46,15 @@ value_more r h = grind arith
 module _ (column : ℕ) where
   -- each element of a cell adds no more
   cell_more : (p : CellPart) (e : List ℕ) → AreBytes e → IsNext (cell column) p e → FieldMore (field_so_far p) (field_so_far (cell_add p e))
-  cell_more (ScalarBytes k i) e bytes n = value_more (read_of k e) (read_short k e bytes)
+  cell_more (ScalarBytes k i) e bytes n = value_more _ (read_short k e bytes)
   cell_more (ScalarLength k) e bytes n = choose (λ p. FieldMore None (field_so_far p)) (slice_index e 0 == 0) (WholeCell Null) (ScalarBytes k (slice_index e 0)) (λ z. omega arith) (λ z. tt)
   cell_more (ShortLength c) e bytes n = grind (arith, choose, long_length, open_length)
   cell_more (Total c) e bytes n = grind (arith, choose, open_length)
   cell_more (WholeCell x) e bytes n = omega arith
   cell_more (ShortData c left content) e bytes n = grind (arith, and_parts, choose, last_fit, long_more, open_more, unless_none)
   cell_more (ChunkLength c total content) e bytes n =
-      choose (λ p. FieldMore (Some (open_field c content)) (field_so_far p)) (little e == 0) (WholeCell (DataCell c content)) (ChunkData c total (little e - 1) content)
-      (λ z. let fit = end_fit column c total content (little e) n.free z in let end : length (long_field c content) ≤ length (open_field c content) + 13 = long_more c content fit (fit_begins c content [] (subst (λ v. is_fit c v ≡ true) (sym (append-nil content)) fit)) in omega arith)
+      choose (λ p. FieldMore (Some (open_field c content)) (field_so_far p)) _ _ _
+      (λ z. let fit = end_fit column c total content (little e) n.free z in let end = long_more c content fit (fit_begins c content [] (rw (append-nil content) fit)) in omega arith)
       (λ z. omega arith)
   cell_more (ChunkData c total left content) e bytes n = grind (arith, choose, open_more, unless_none)
 
@@ -82,7 +82,7 @@ one_null c b ks n h = grind arith
 -- no more of them than columns
 null_most : (columns : List Column) (nulls : ℕ → Bool) (k : ℕ) → how_many_null (marked columns nulls k) ≤ length columns
 null_most [] nulls k = omega arith
-null_most (c ∷ columns) nulls k = one_null c (nulls k) (marked columns nulls (k + 1)) (length columns) (null_most columns nulls (k + 1))
+null_most (c ∷ columns) nulls k = one_null c (nulls k) (marked columns nulls (k + 1)) _ (null_most columns nulls (k + 1))
 
 -- none without a bitmap
 none_null : (columns : List Column) (k : ℕ) → how_many_null (marked columns (λ i. false) k) ≡ 0
@@ -94,7 +94,7 @@ module _ (charset : Charset) where
   next_length : (cells : List Cell) (ks : List (Column × Bool)) → row_length (next_cell charset cells ks) ≤ length (joined (map field cells)) + 5 * how_many_null ks + 2
   next_length cells [] = omega (arith, length-append (joined (map field cells)) line_end)
   next_length cells ((k, true) ∷ ks) = omega (arith, next_length (cells ++ Null ∷ []) ks, one_more_cell cells Null)
-  next_length cells ((k, false) ∷ ks) = subst (λ o. length (joined (with_field cells o)) + 5 * how_many_null ks ≤ length (joined (map field cells)) + 5 * how_many_null ks + 2) (sym (start_quiet k.kind (shape charset k.kind))) (omega arith)
+  next_length cells ((k, false) ∷ ks) = rw (start_quiet _ _) (omega arith)
 
 -- ---- a description, whose columns pay for its header
 
@@ -107,9 +107,9 @@ described_pending d = 0
 -- one more column in the header
 header_more : (columns : List Column) (c : Column) → length (header_line (columns ++ c ∷ [])) ≤ length (header_line columns) + 3 + 4 * length c.name
 header_more columns c =
-    let fs : List (List ℕ) = map (λ k. long_field Utf16Text k.name) columns in
-    let f : List ℕ = long_field Utf16Text c.name in
-    let e : map (λ k. long_field Utf16Text k.name) (columns ++ c ∷ []) ≡ fs ++ f ∷ [] = map-append (λ k. long_field Utf16Text k.name) columns (c ∷ []) in
+    let fs = map (λ k. long_field Utf16Text k.name) columns in
+    let f = long_field Utf16Text c.name in
+    let e = map-append (λ k. long_field Utf16Text k.name) columns (c ∷ []) in
     omega (arith, one_more_length fs f, long_length Utf16Text c.name, ap (λ v. length (line v)) e, length-append (joined (fs ++ f ∷ [])) line_end, length-append (joined fs) line_end)
 
 module _ (room : ℕ) where
@@ -160,7 +160,7 @@ module _ (charset : Charset) (room : ℕ) where
 
   -- so do all elements between two states
   grown_along : (p q : Part) (bytes : List ℕ) → AreBytes bytes → Spelt (response charset room) p bytes q → grown q ≤ grown p + 64 * length bytes
-  grown_along p q bytes are h = Spelt-induct (response charset room) (λ r b. AreBytes b → grown r ≤ grown p + 64 * length b) (λ r b e k n. bound_step (grown p) r b e k n) p (λ t. omega arith) bytes q h are
+  grown_along p q bytes are h = Spelt-induct _ (λ r b. AreBytes b → grown r ≤ grown p + 64 * length b) (λ r b e k n. bound_step (grown p) r b e k n) p (λ t. omega arith) _ q h are
 
   -- the text so far is at most 64 times as long as all that is read
   pub bounded_along : (q : Part) (bytes : List ℕ) → AreBytes bytes → Spelt (response charset room) response_start bytes q → length (text_so_far q) ≤ 64 * length bytes

@@ -1,7 +1,6 @@
 -- Tokens by their first bytes.
-use Rattle.tds_export.proofs.Words.{Bool, Charset, Ends, Fault, Held, IsBetween, IsDescribed, IsDescription, IsHolding, IsNext, IsOfKind, IsRefusedByte, IsUnder, Lead, List, MessageEnded, None, Part, Payload, Progress, ReadsTokens, Seen, Some, Space, StepStops, Stop, StopsReading, Streams, Takes, Token, TokenKind, [], after_tokens, ap, arith, begun, between, columns_of, cut_at_once, described_after, description_shows, encoded_after, false, in_kind, in_lead, inl, inr, lead, lead_fault, lead_of, length, length-append, reads_one, refl, refused_at_once, response, row_byte_fault, subst, sym, text_so_far, true, ℕ, ◌+◌, ◌-◌, ◌<◌, ◌^◌, ◌∙◌, ◌∷◌, ◌≡◌, ◌≤◌}
-use Rattle.tds_export.proofs.RowRuns.{columns_known}
-use Rattle.tds_export.proofs.ResponseLaws.{no_row}
+use Rattle.tds_export.proofs.Words.{Bool, Charset, Ends, Fault, Held, IsBetween, IsDescribed, IsDescription, IsHolding, IsNext, IsOfKind, IsRefusedByte, IsUnder, Lead, List, MessageEnded, None, Part, Payload, Progress, ReadsTokens, Seen, Some, Space, StepStops, Stop, StopsReading, Streams, Takes, Token, TokenKind, [], after_tokens, ap, arith, begun, between, columns_of, cut_at_once, described_after, description_shows, encoded_after, false, in_kind, in_lead, inl, inr, lead_fault, lead_of, length, length-append, reads_one, refl, refused_at_once, response, row_byte_fault, sym, text_so_far, true, ℕ, ◌+◌, ◌-◌, ◌<◌, ◌^◌, ◌∙◌, ◌∷◌, ◌≡◌, ◌≤◌}
+use Rattle.tds_export.proofs.{RowRuns.columns_known, ResponseLaws.no_row}
 use Rattle.tds_export.proofs.TokenSteps.{same_text, start_text, stops_further, stops_quietly, streams_both}
 
 -- a token byte that is accepted
@@ -12,7 +11,7 @@ pub record BeginsToken (charset : Charset) (room : ℕ) (tokens : List Token) (b
 
 -- a description has columns
 pub some_columns : (bytes : List ℕ) → IsDescription bytes → 0 < length (columns_of bytes)
-some_columns bytes d = subst (λ cs. 0 < length cs) (sym (description_shows d.0 d.1 bytes d.2).0) d.2.some
+some_columns bytes d = rw (description_shows _ _ _ d.2).0 d.2.some
 
 begins_lead : (charset : Charset) (room : ℕ) (tokens : List Token) (byte : ℕ) (described : Bool) (bytes : List ℕ) (begun : Lead) → lead_of byte ≡ Some begun → IsUnder described begun → bytes ≡ encoded_after [] tokens → (described ≡ true → IsDescription bytes)
     → IsDescribed described (encoded_after [] tokens) (described_after None tokens) → BeginsToken charset room tokens byte (in_lead charset (columns_of bytes) begun tokens)
@@ -20,13 +19,13 @@ begins_lead charset room tokens byte described bytes begun e under is d k = grin
 
 pub begins_kind : (charset : Charset) (room : ℕ) (tokens : List Token) (byte : ℕ) (described : Bool) (bytes : List ℕ) (kind : TokenKind) → IsOfKind described byte kind → bytes ≡ encoded_after [] tokens → (described ≡ true → IsDescription bytes)
     → IsDescribed described (encoded_after [] tokens) (described_after None tokens) → BeginsToken charset room tokens byte (in_kind charset (columns_of bytes) kind tokens)
-begins_kind charset room tokens byte described bytes kind h is d k = begins_lead charset room tokens byte described bytes (lead kind) h.0 h.1 is d k
+begins_kind charset room tokens byte described bytes kind h is d k = begins_lead _ _ _ _ _ _ _ h.0 h.1 is d k
 
 -- the first byte of a token is read, and nothing put for it
 abbrev first : {charset : Charset} {room byte : ℕ} {tokens : List Token} {to : Part} {a b : Seen} {h : Held} → BeginsToken charset room tokens byte to → h.delivered ≤ 2 ^ 64 - 1 → Takes a b (byte ∷ []) 1 → Streams (response charset room) text_so_far (after_tokens tokens) a b h h to
 first {charset = charset} {room = room} {byte = byte} {tokens = tokens} {to = to} {a = a} {b = b} {h = h} begins d t = record {
   bytes = byte ∷ [];
-  spelt = (reads_one (response charset room) (after_tokens tokens) a b (byte ∷ []) to begins.next t begins.to_is).spelt;
+  spelt = (reads_one _ _ a b _ _ begins.next t begins.to_is).spelt;
   takes = t;
   puts = same_text (after_tokens tokens) to h begins.text_is d;
 }
@@ -37,7 +36,7 @@ module _ {charset : Charset} {room byte : ℕ} {tokens : List Token} {to : Part}
   reads_after_byte r = record {
     more = r.more;
     streams = streams_both (first begins d t) r.streams;
-    place_is = r.place_is ∙ omega (arith, at, length-append (byte ∷ []) r.streams.bytes);
+    place_is = r.place_is ∙ omega (arith, length-append (byte ∷ []) r.streams.bytes);
     tracks = r.tracks;
     holds = r.holds;
   }
@@ -51,13 +50,13 @@ module _ {charset : Charset} {room byte : ℕ} {tokens : List Token} {to : Part}
 refused : (charset : Charset) (room : ℕ) (tokens : List Token) (a b : Seen) (place byte : ℕ) (described : Bool) (fault : Fault) → IsDescribed described (encoded_after [] tokens) (described_after None tokens) → IsRefusedByte described byte fault → Takes a b (byte ∷ []) 1 → IsBetween b
     → StopsReading (response charset room) (after_tokens tokens) a b place (after_tokens tokens) (record { fault = fault; place = Payload place })
 refused charset room tokens a b place byte described fault k (inl x) t between =
-    let first : (response charset room).fault (after_tokens tokens) (byte ∷ []) ≡ Some fault = ap (λ v. lead_fault (described_after None tokens) byte v) x.1 ∙ ap Some (sym x.0) in
+    let first = ap (lead_fault (described_after None tokens) byte) x.1 ∙ ap Some (sym x.0) in
     refused_at_once (response charset room) (after_tokens tokens) a b place (byte ∷ []) fault (omega arith) refl first t between
 refused charset room tokens a b place byte described fault k (inr x) t between =
-    let none : described_after None tokens ≡ None = subst (λ d. IsDescribed d (encoded_after [] tokens) (described_after None tokens)) x.1 k in
+    let none = rw x.1 at k in
     let first : (response charset room).fault (after_tokens tokens) (byte ∷ []) ≡ Some fault = elim x.2 [
-      | inl e ↦ subst (λ v. (response charset room).fault (after_tokens tokens) (v ∷ []) ≡ Some fault) (sym e) (ap (row_byte_fault true) none ∙ ap Some (sym x.0))
-      | inr e ↦ subst (λ v. (response charset room).fault (after_tokens tokens) (v ∷ []) ≡ Some fault) (sym e) (ap (row_byte_fault true) none ∙ ap Some (sym x.0))
+      | inl e ↦ rw e (ap (row_byte_fault true) none ∙ ap Some (sym x.0))
+      | inr e ↦ rw e (ap (row_byte_fault true) none ∙ ap Some (sym x.0))
     ] in
     refused_at_once (response charset room) (after_tokens tokens) a b place (byte ∷ []) fault (omega arith) refl first t between
 
@@ -65,8 +64,8 @@ module _ (charset : Charset) (room : ℕ) {place : ℕ} {tokens : List Token} {a
   -- a byte begins no token
   pub stops_at_byte : {byte : ℕ} {described : Bool} {fault : Fault} → IsDescribed described (encoded_after [] tokens) (described_after None tokens) → IsRefusedByte described byte fault → Takes a b (byte ∷ []) 1 → IsBetween b
       → StepStops (response charset room) (after_tokens tokens) a b place h h area failed (record { fault = fault; place = Payload place })
-  stops_at_byte {byte = byte} {described = described} {fault = fault} k why t between = stops_quietly refl holds d going (refused charset room tokens a b place byte described fault k why t between)
+  stops_at_byte {byte = byte} {described = described} {fault = fault} k why t between = stops_quietly refl holds d going (refused _ _ _ a b _ _ _ _ k why t between)
 
   -- the payload stopped
   pub stops_between : {stop : Stop} → Ends a b [] stop → (stop.fault ≡ MessageEnded → ⊥) → StepStops (response charset room) (after_tokens tokens) a b place h h area failed stop
-  stops_between {stop = stop} ends other = stops_quietly refl holds d going (cut_at_once (response charset room) (after_tokens tokens) a b place [] stop stop (omega arith) ends (inr (other, refl)))
+  stops_between {stop = stop} ends other = stops_quietly refl holds d going (cut_at_once _ _ a b _ _ _ _ (omega arith) ends (inr (other, refl)))

@@ -1,5 +1,5 @@
 -- What one more token adds to a response.
-use Rattle.tds_export.proofs.Words.{APassed, Bodied, Bool, Cell, Column, Done, DoneInProc, Error, Fixed, Info, List, Metadata, NoMetadata, None, Notice, Option, PassedOver, Progress, ReturnValue, Returned, Row, ServerError, Some, Token, Tracks, TracksBefore, [], add_none, ap, append_assoc, arith, before, begun, between, bodied, columns_of, described_after, encoded_after, false, field, first_error, fixed, greatest_span, header_line, how_many, is_error, is_final, is_notice, is_set, line, map, max, more, nat_lt, option_map, passed, refl, return_status_after, server_error, sym, test_lt, text_after, true, ℕ, ◌++◌, ◌+◌, ◌<◌, ◌∙◌, ◌∷◌, ◌≡◌}
+use Rattle.tds_export.proofs.Words.{APassed, Bodied, Bool, Cell, Column, Done, DoneInProc, Error, Fixed, Info, List, Metadata, NoMetadata, None, Notice, Option, PassedOver, Progress, ReturnValue, Returned, Row, ServerError, Some, Token, Tracks, TracksBefore, [], add_none, append_assoc, arith, before, begun, between, bodied, columns_of, described_after, encoded_after, false, field, first_error, fixed, greatest_span, header_line, how_many, is_error, is_final, is_notice, is_set, line, map, max, more, nat_lt, option_map, passed, refl, return_status_after, server_error, sym, test_lt, text_after, true, ℕ, ◌++◌, ◌+◌, ◌<◌, ◌∙◌, ◌∷◌, ◌≡◌}
 use Rattle.tds_export.proofs.ResponseLaws.{described_after-append}
 
 -- whether a set has begun after these tokens
@@ -10,8 +10,8 @@ begun_after begun (t ∷ ts) = begun_after begun ts
 
 pub text_after-snoc : (begun : Bool) (ts : List Token) (t : Token) → text_after begun (ts ++ t ∷ []) ≡ text_after begun ts ++ text_after (begun_after begun ts) (t ∷ [])
 text_after-snoc begun [] t = refl
-text_after-snoc begun (Metadata bytes columns ∷ ts) t = ap (λ l. (between begun ++ header_line columns) ++ l) (text_after-snoc true ts t) ∙ sym (append_assoc (between begun ++ header_line columns) (text_after true ts) (text_after (begun_after true ts) (t ∷ [])))
-text_after-snoc begun (Row cells ∷ ts) t = ap (λ l. line (map field cells) ++ l) (text_after-snoc begun ts t) ∙ sym (append_assoc (line (map field cells)) (text_after begun ts) (text_after (begun_after begun ts) (t ∷ [])))
+text_after-snoc begun (Metadata bytes columns ∷ ts) t = cc (text_after-snoc true ts t, append_assoc (between begun ++ header_line columns) (text_after true ts) (text_after (begun_after true ts) (t ∷ [])))
+text_after-snoc begun (Row cells ∷ ts) t = cc (text_after-snoc begun ts t, append_assoc (line (map field cells)) (text_after begun ts) (text_after (begun_after begun ts) (t ∷ [])))
 text_after-snoc begun (u ∷ ts) t = text_after-snoc begun ts t
 
 begun_true : (ts : List Token) → begun_after true ts ≡ true
@@ -22,7 +22,7 @@ begun_true (u ∷ ts) = begun_true ts
 -- a set has begun where there is one
 pub begun_where_sets : (ts : List Token) → begun_after false ts ≡ nat_lt 0 (how_many is_set ts)
 begun_where_sets [] = refl
-begun_where_sets (Metadata bytes columns ∷ ts) = begun_true ts ∙ sym (test_lt 0 (1 + how_many is_set ts) (omega arith))
+begun_where_sets (Metadata bytes columns ∷ ts) = begun_true ts ∙ sym (test_lt 0 _ (omega arith))
 begun_where_sets (t ∷ ts) = begun_where_sets ts
 
 pub how_many-snoc : (p : Token → Bool) (ts : List Token) (t : Token) → how_many p (ts ++ t ∷ []) ≡ how_many p ts + how_many p (t ∷ [])
@@ -30,12 +30,12 @@ how_many-snoc p [] t = omega arith
 how_many-snoc p (u ∷ ts) t = grind (arith, how_many-snoc p ts t)
 
 pub uncounted : (p : Token → Bool) (ts : List Token) (t : Token) → how_many p (t ∷ []) ≡ 0 → how_many p (ts ++ t ∷ []) ≡ how_many p ts
-uncounted p ts t e = how_many-snoc p ts t ∙ ap (λ n. how_many p ts + n) e ∙ add_none (how_many p ts)
+uncounted p ts t e = simp (how_many-snoc, e, add_none)
 
 -- without an error there is no first one
 pub no_errors : (ts : List Token) → how_many is_error ts ≡ 0 → first_error ts ≡ None
 no_errors [] h = refl
-no_errors (Error n ∷ ts) h = absurd (omega (arith, h))
+no_errors (Error n ∷ ts) h = absurd (omega arith)
 no_errors (u ∷ ts) h = no_errors ts h
 
 -- and the next one is
@@ -46,7 +46,7 @@ first_next (u ∷ ts) n h = first_next ts n h
 
 -- after an error none is the first
 pub first_stays : (ts us : List Token) → 0 < how_many is_error ts → first_error (ts ++ us) ≡ first_error ts
-first_stays [] us h = absurd (omega (arith, h))
+first_stays [] us h = absurd (omega arith)
 first_stays (Error n ∷ ts) us h = refl
 first_stays (u ∷ ts) us h = first_stays ts us h
 
@@ -118,7 +118,7 @@ pub tracks_quiet : (s : Progress) (ts : List Token) (t : Token) (final : Bool) �
 tracks_quiet s ts t final is e k = grind (arith, described_after-append, encoded_after-append, is_final-snoc, same_first, status_after-append, uncounted)
 
 pub tracks_body : (s : Progress) (ts : List Token) (which : Bodied) (body : List ℕ) → is_notice which ≡ false → TracksBefore s ts → Tracks s (ts ++ bodied which body ∷ [])
-tracks_body s ts (APassed passed) body h k = tracks_quiet s ts (PassedOver passed body) s.is_final refl k.final k
+tracks_body s ts (APassed passed) body h k = tracks_quiet s _ _ _ refl k.final k
 tracks_body s ts which body h k = cc
 
 pub tracks_none : (s : Progress) (ts : List Token) → TracksBefore s ts → Tracks (record s { described = false }) (ts ++ NoMetadata ∷ [])

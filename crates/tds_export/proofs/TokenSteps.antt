@@ -1,5 +1,5 @@
 -- The tokens, as they are read and their text is put.
-use Rattle.tds_export.proofs.Words.{ADone, ADoneInProc, BeforeCount, Bool, Breaks, Charset, Column, Describes, DescriptionPart, Done, DoneInProc, Fault, Fixed, Grammar, Held, IsBetween, IsHolding, IsNext, IsNoted, List, Metadata, NoDescription, NoMetadata, Open, Part, Progress, Puts, Puts-none, PutsText, Reads, ReadsTokens, Report, Row, RowPart, RowStops, Seen, Space, Spelt, Spelt-append, Spelt-none, StepStops, Stop, StopsDescribing, StopsInWriting, StopsReading, Streams, Takes, Token, Tracks, TracksBefore, WholeDescription, WholeRow, [], after_tokens, ap, append-nil, arith, between, breaks_after, breaks_inside, columns_of, described_size, description, description_bytes, description_of, encoded_after, false, fields_length, fixed, greatest_span, header_line, in_done, in_done_in_proc, in_fields, in_metadata, in_row, inl, inr, joined, last_inside, length, max, message_text, more, nat_lt, nat_tests, next_some, one_state, open_span, puts_both, puts_inside, reads_inside, reads_one, refl, response, row, row_so_far, shape, slice_index, span, start_quiet, stops_after, stops_inside, stops_size, subst, sym, takes_both, text, text_after, text_so_far, true, with_described, with_field, with_row, with_token, ℕ, ◌%◌, ◌++◌, ◌+◌, ◌-◌, ◌<◌, ◌==◌, ◌^◌, ◌∙◌, ◌∷◌, ◌≡◌, ◌≤◌}
+use Rattle.tds_export.proofs.Words.{BeforeCount, Bool, Breaks, Charset, Column, Describes, DescriptionPart, Fault, Fixed, Grammar, Held, IsBetween, IsHolding, IsNext, IsNoted, List, Metadata, NoDescription, NoMetadata, Open, Part, Progress, Puts, Puts-none, PutsText, Reads, ReadsTokens, Report, RowPart, RowStops, Seen, Space, Spelt, Spelt-append, Spelt-none, StepStops, Stop, StopsDescribing, StopsInWriting, StopsReading, Streams, Takes, Token, Tracks, TracksBefore, WholeDescription, WholeRow, [], after_tokens, ap, append-nil, arith, between, breaks_after, breaks_inside, columns_of, described_size, description, description_bytes, description_of, encoded_after, false, fields_length, fixed, greatest_span, header_line, in_done, in_done_in_proc, in_fields, in_metadata, in_row, inl, inr, last_inside, length, max, nat_lt, nat_tests, next_some, one_state, open_span, puts_both, puts_inside, reads_inside, reads_one, refl, response, row, row_so_far, slice_index, span, start_quiet, stops_after, stops_inside, stops_size, subst, sym, takes_both, text, text_so_far, true, with_described, with_row, with_token, ℕ, ◌%◌, ◌++◌, ◌+◌, ◌-◌, ◌<◌, ◌==◌, ◌^◌, ◌∙◌, ◌∷◌, ◌≡◌, ◌≤◌}
 use Rattle.tds_export.proofs.TokenLaws.{bare, bare_fixed, begun_after, begun_where_sets, encoded_after-append, greatest_span-append, is_bare, same_first, text_after-snoc, tracks_metadata, tracks_none, tracks_quiet}
 use Rattle.tds_export.proofs.ResponseLaws.{description_agrees, description_in_response, row_agrees, row_in_response, some_fields}
 
@@ -13,15 +13,15 @@ pub record Begun (tokens : List Token) (progress : Progress) (area notice : Spac
 
 -- nothing more is put for the same text
 pub same_text : (p q : Part) (h : Held) → text_so_far p ≡ text_so_far q → h.delivered ≤ 2 ^ 64 - 1 → PutsText text_so_far p q h h
-same_text p q h e d = ([], append-nil (text_so_far p) ∙ e, Puts-none h d)
+same_text p q h e d = ([], simp (append-nil, e), Puts-none h d)
 
 module _ {g : Grammar Part Fault} {s t : Part} {a b c : Seen} {h i k : Held} (x : Streams g text_so_far s a b h i t) where
   -- what is read and put in one call and then in another
   abbrev pub streams_both : {u : Part} → Streams g text_so_far t b c i k u → Streams g text_so_far s a c h k u
   streams_both {u = u} y = record {
     bytes = x.bytes ++ y.bytes;
-    spelt = Spelt-append g s x.bytes t y.bytes u x.spelt y.spelt;
-    takes = takes_both a b c x.bytes y.bytes x.takes y.takes;
+    spelt = Spelt-append g s _ t _ u x.spelt y.spelt;
+    takes = takes_both a b c _ _ x.takes y.takes;
     puts = puts_both text_so_far s t u h i k x.puts y.puts;
   }
 
@@ -30,7 +30,7 @@ module _ {g : Grammar Part Fault} {s t : Part} {a b c : Seen} {h i k : Held} (x 
   stops_further {place = place} {stop = stop} at (inl y) =
       let stops = stops_after g s t a b c place y.0.at stop (record { bytes = x.bytes; spelt = x.spelt; takes = x.takes }) (rw at at y.0.stops) in
       inl (record { at = y.0.at; stops = stops; puts = puts_both text_so_far s t y.0.at h i k x.puts y.0.puts; holds = y.0.holds }, y.1)
-  stops_further {stop = stop} at (inr y) = inr (record { at = y.0.at; breaks = breaks_after g text_so_far s t a b c h i k y.0.at stop x y.0.breaks; holds = y.0.holds }, y.1)
+  stops_further {stop = stop} at (inr y) = inr (record { at = y.0.at; breaks = breaks_after g _ s t a b c h i k _ _ x y.0.breaks; holds = y.0.holds }, y.1)
 
 -- a reading that put no text stopped
 pub stops_quietly : {g : Grammar Part Fault} {place : ℕ} {s at : Part} {a b : Seen} {h : Held} {area : Space} {failed : Bool} {stop : Stop} → text_so_far s ≡ text_so_far at → IsHolding area at → h.delivered ≤ 2 ^ 64 - 1 → failed ≡ false → StopsReading g s a b place at stop
@@ -45,24 +45,24 @@ module _ {tokens : List Token} {s : Progress} {area notice : Space} {sink : Held
   -- the first element after the token byte stopped the call
   pub stops_first : {g : Grammar Part Fault} {at : Open} {a b : Seen} {place : ℕ} {stop : Stop} → description_of tokens at ≡ encoded_after [] tokens → open_span at ≡ 0 → StopsReading g (record { tokens = tokens; at = at }) a b place (record { tokens = tokens; at = at }) stop
       → StepStops g (record { tokens = tokens; at = at }) a b place sink sink area failed stop
-  stops_first same none stops = stops_quietly refl (record { bytes = begun.holds.bytes ∙ sym same; peak = rw none begun.holds.peak }) begun.delivered begun.going stops
+  stops_first same none stops = stops_quietly refl (record { bytes = cc; peak = rw none begun.holds.peak }) begun.delivered begun.going stops
 
   -- what was read added no error, and the notice is the same
   pub quietly : {g : Grammar Part Fault} {from : Part} {a b : Seen} {place place' : ℕ} {h k : Held} {t : Progress} {area' : Space} → t.report.errors ≡ s.report.errors → ReadsTokens g from tokens a b place place' h k t area' → (x : ReadsTokens g from tokens a b place place' h k t area') × IsNoted notice (tokens ++ x.more)
-  quietly same x = (x, begun.noted ∙ sym (ap message_text (same_first tokens x.more (sym (ap (λ (r : Report). r.errors) x.tracks.report) ∙ same ∙ ap (λ (r : Report). r.errors) begun.tracks.report))))
+  quietly same x = (x, cc (same_first tokens x.more (sym (ap (λ (r : Report). r.errors) x.tracks.report) ∙ same ∙ ap (λ (r : Report). r.errors) begun.tracks.report)))
 
   -- a token that has no text and describes nothing was read
   abbrev pub bare_reads : {g : Grammar Part Fault} {from : Part} {progress : Progress} {a b : Seen} {place place' : ℕ} (t : Token) (r : Reads g from a b (with_token tokens t)) → place' ≡ place + length r.bytes → text_so_far from ≡ text tokens ++ [] → is_bare t ≡ true → Tracks progress (tokens ++ t ∷ [])
       → ReadsTokens g from tokens a b place place' sink sink progress area
   bare_reads {from = from} t r at none is tracks =
       let so = bare t is in
-      let same : text_after false (tokens ++ t ∷ []) ≡ text tokens = text_after-snoc false tokens t ∙ ap (λ l. text tokens ++ l) (so.text (begun_after false tokens)) ∙ append-nil (text tokens) in
+      let same = text_after-snoc false tokens t ∙ ap (λ l. text tokens ++ l) (so.text (begun_after false tokens)) ∙ append-nil (text tokens) in
       record {
         more = t ∷ [];
         streams = record { bytes = r.bytes; spelt = r.spelt; takes = r.takes; puts = same_text from (with_token tokens t) sink (none ∙ ap (λ l. l ++ []) (sym same)) begun.delivered };
         place_is = at;
         tracks = tracks;
-        holds = holds-snoc area tokens t (so.encoded (encoded_after [] tokens)) begun.holds;
+        holds = holds-snoc _ _ t (so.encoded (encoded_after [] tokens)) begun.holds;
       }
 
 module _ (charset : Charset) (room : ℕ) {tokens : List Token} {s : Progress} {area notice : Space} {sink : Held} {failed : Bool} (begun : Begun tokens s area notice sink failed) where
@@ -70,25 +70,25 @@ module _ (charset : Charset) (room : ℕ) {tokens : List Token} {s : Progress} {
   pub fixed_reads : {progress : Progress} {a b : Seen} {place place' : ℕ} (which : Fixed) (fields : List ℕ) → place' ≡ place + fields_length which → length fields ≡ fields_length which → Takes a b fields (fields_length which) → Tracks progress (tokens ++ fixed which fields ∷ []) → progress.report.errors ≡ s.report.errors
       → (x : ReadsTokens (response charset room) (in_fields which tokens) tokens a b place place' sink sink progress area) × IsNoted notice (tokens ++ x.more)
   fixed_reads {a = a} {b = b} which fields at len takes tracks same =
-      let next : IsNext (response charset room) (in_fields which tokens) fields = record { some = rw len (some_fields which); whole = len; free = refl } in
-      quietly begun same (bare_reads begun (fixed which fields) (reads_one (response charset room) (in_fields which tokens) a b fields (with_token tokens (fixed which fields)) next (rw len takes) refl) (rw len at) refl (bare_fixed which fields) tracks)
+      let next : IsNext (response charset room) (in_fields which tokens) fields = record { some = rw len (some_fields _); whole = len; free = refl } in
+      quietly begun same (bare_reads begun (fixed which fields) (reads_one _ _ a b _ _ next (rw len takes) refl) (rw len at) refl (bare_fixed _ _) tracks)
 
   -- a DONE or DONEPROC was read
   pub done_reads : {a b : Seen} {place place' : ℕ} (fields : List ℕ) → place' ≡ place + length fields → length fields ≡ 12 → Takes a b fields (length fields)
       → (x : ReadsTokens (response charset room) (in_done tokens) tokens a b place place' sink sink (record s { is_final = slice_index fields 0 % 2 == 0 }) area) × IsNoted notice (tokens ++ x.more)
-  done_reads fields at len takes = fixed_reads ADone fields (rw len at at) len (rw len at takes) (tracks_quiet s tokens (Done (more fields)) (slice_index fields 0 % 2 == 0) refl (grind (arith, nat_tests)) begun.tracks) refl
+  done_reads fields at len takes = fixed_reads _ _ (rw len at at) len (rw len at takes) (tracks_quiet s _ _ _ refl (grind (arith, nat_tests)) begun.tracks) refl
 
   -- a DONEINPROC was read
   pub done_in_proc_reads : {a b : Seen} {place place' : ℕ} (fields : List ℕ) → place' ≡ place + 12 → length fields ≡ 12 → Takes a b fields 12
       → (x : ReadsTokens (response charset room) (in_done_in_proc tokens) tokens a b place place' sink sink s area) × IsNoted notice (tokens ++ x.more)
-  done_in_proc_reads fields at len takes = fixed_reads ADoneInProc fields at len takes (tracks_quiet s tokens (DoneInProc (more fields)) s.is_final refl begun.tracks.final begun.tracks) refl
+  done_in_proc_reads fields at len takes = fixed_reads _ _ at len takes (tracks_quiet s _ _ _ refl begun.tracks.final begun.tracks) refl
 
 -- ---- ROW
 
 -- no text stands for a row that has begun
 pub start_text : (charset : Charset) (columns : List Column) (tokens : List Token) → 0 < length columns → text_so_far (in_row charset columns tokens) ≡ text tokens ++ []
-start_text charset [] tokens some = absurd (omega (arith, some))
-start_text charset (c ∷ cs) tokens some = ap (λ f. text tokens ++ joined (with_field [] f)) (start_quiet c.kind (shape charset c.kind))
+start_text charset [] tokens some = absurd (omega arith)
+start_text charset (c ∷ cs) tokens some = simp start_quiet
 
 -- a row's text so far in its response
 pub row_text : (tokens : List Token) (part : RowPart) → text_so_far (with_row tokens part) ≡ text tokens ++ row_so_far part
@@ -96,11 +96,11 @@ row_text tokens part = grind (arith, append-nil, text_after-snoc)
 
 -- before a row's text stands that of the tokens
 abbrev row_front : (tokens : List Token) (part : RowPart) → text tokens ++ row_so_far part ≡ text_so_far (with_row tokens part)
-row_front tokens part = sym (row_text tokens part)
+row_front tokens part = simp row_text
 
 -- and while a row is read
 pub row_holds : (area : Space) (tokens : List Token) (part : RowPart) → IsHolding area (after_tokens tokens) → IsHolding area (with_row tokens part)
-row_holds area tokens (WholeRow cells) h = holds-snoc area tokens (Row cells) refl h
+row_holds area tokens (WholeRow cells) h = holds-snoc _ _ _ refl h
 row_holds area tokens part h = record { bytes = h.bytes; peak = h.peak }
 
 module _ (charset : Charset) (room : ℕ) {place : ℕ} {start : RowPart} {area : Space} {before after : Held} {a b : Seen} {failed : Bool} {stop : Stop} (tokens : List Token) where
@@ -144,51 +144,51 @@ open_holds : (area : Space) (tokens : List Token) (k : ℕ) (d : DescriptionPart
 open_holds area tokens k d h e p q = grind arith
 
 some_bytes : (room : ℕ) (area bytes : List ℕ) (columns : List Column) → Spelt (description room) BeforeCount bytes (WholeDescription area columns) → 0 < length bytes
-some_bytes room area [] columns h = absurd (let same : WholeDescription area columns ≡ BeforeCount = one_state (description room) BeforeCount [] (WholeDescription area columns) BeforeCount h (Spelt-none (description room) BeforeCount) in cc)
+some_bytes room area [] columns h = absurd (let same = one_state _ _ _ _ _ h (Spelt-none _ _) in cc)
 some_bytes room area (x ∷ bytes) columns h = omega arith
 
 module _ (charset : Charset) {room place : ℕ} {tokens : List Token} {s : Progress} {old_area area notice : Space} {sink : Held} {failed : Bool} {a b : Seen} (begun : Begun tokens s old_area notice sink failed) where
   -- a Count of no metadata was read
   pub none_reads : {place' : ℕ} → Describes room BeforeCount a b place place' old_area.peak area NoDescription → (x : ReadsTokens (response charset room) (in_metadata tokens) tokens a b place place' sink sink (record s { described = false }) area) × IsNoted notice (tokens ++ x.more)
   none_reads x =
-      let r = reads_inside (description room) (response charset room) (with_described tokens) (description_in_response charset room tokens) BeforeCount a b NoDescription x.reads in
-      let same = ap (λ l. l ++ []) (sym (text_after-snoc false tokens NoMetadata ∙ append-nil (text tokens))) in
+      let r = reads_inside _ _ (with_described tokens) (description_in_response _ _ _) _ a b _ x.reads in
+      let same = ap (λ l. l ++ []) (simp (text_after-snoc, append-nil)) in
       quietly begun refl (record {
         more = NoMetadata ∷ [];
-        streams = record { bytes = r.bytes; spelt = r.spelt; takes = r.takes; puts = same_text (in_metadata tokens) (with_token tokens NoMetadata) sink same begun.delivered };
+        streams = record { bytes = r.bytes; spelt = r.spelt; takes = r.takes; puts = same_text (in_metadata tokens) (with_token tokens NoMetadata) _ same begun.delivered };
         place_is = x.place_is;
-        tracks = tracks_none s tokens begun.tracks;
-        holds = record { bytes = x.kept ∙ sym (encoded_after-append [] tokens (NoMetadata ∷ [])); peak = omega (arith, x.bound, begun.holds.peak, greatest_span-append tokens (NoMetadata ∷ [])) };
+        tracks = tracks_none s _ begun.tracks;
+        holds = record { bytes = cc (encoded_after-append [] tokens (NoMetadata ∷ [])); peak = omega (arith, greatest_span-append tokens (NoMetadata ∷ [])) };
       })
 
   -- the description is cut or refused
   pub metadata_stops : {stop : Stop} → StopsDescribing room BeforeCount a b place old_area.peak area stop → StepStops (response charset room) (in_metadata tokens) a b place sink sink area failed stop
   metadata_stops {stop = stop} x =
-      let some = stops_size (description room) BeforeCount a b place x.at stop x.stops in
-      stops_quietly (sym (open_text_none tokens x.at some)) (open_holds area tokens old_area.peak x.at some x.kept x.bound begun.holds.peak) begun.delivered begun.going
-      (stops_inside (description room) (response charset room) (with_described tokens) (description_in_response charset room tokens) BeforeCount a b place x.at stop (description_agrees charset room tokens x.at some).3 x.stops)
+      let some = stops_size _ _ a b _ _ _ x.stops in
+      stops_quietly (simp open_text_none) (open_holds _ _ _ _ some x.kept x.bound begun.holds.peak) begun.delivered begun.going
+      (stops_inside (description room) (response charset room) (with_described tokens) (description_in_response _ _ _) BeforeCount a b place x.at stop (description_agrees charset room tokens _ some).3 x.stops)
 
   module _ {columns : List Column} {place' : ℕ} {after : Held} (shown : columns_of area.bytes ≡ columns) (x : Describes room BeforeCount a b place place' old_area.peak area (WholeDescription area.bytes columns)) where
     -- the description was read, and its header put
     pub metadata_reads : Puts sink after (between (nat_lt 0 s.report.sets) ++ header_line (columns_of area.bytes))
         → (x : ReadsTokens (response charset room) (in_metadata tokens) tokens a b place place' sink after (record s { report = record s.report { sets = s.report.sets + 1 }; described = true }) area) × IsNoted notice (tokens ++ x.more)
     metadata_reads puts =
-        let r = reads_inside (description room) (response charset room) (with_described tokens) (description_in_response charset room tokens) BeforeCount a b (WholeDescription area.bytes columns) x.reads in
+        let r = reads_inside _ _ (with_described tokens) (description_in_response _ _ _) _ a b _ x.reads in
         let header = between (nat_lt 0 s.report.sets) ++ header_line columns in
-        let put = subst (λ cs. Puts sink after (between (nat_lt 0 s.report.sets) ++ header_line cs)) shown puts in
+        let put = rw shown at puts in
         quietly begun refl (record {
           more = Metadata area.bytes columns ∷ [];
-          streams = record { bytes = r.bytes; spelt = r.spelt; takes = r.takes; puts = (header, header_text s tokens area.bytes columns begun.tracks, put) };
+          streams = record { bytes = r.bytes; spelt = r.spelt; takes = r.takes; puts = (header, header_text s _ _ _ begun.tracks, put) };
           place_is = x.place_is;
-          tracks = tracks_metadata s tokens area.bytes columns shown begun.tracks;
-          holds = metadata_holds area old_area tokens columns x.bound begun.holds;
+          tracks = tracks_metadata s _ _ _ shown begun.tracks;
+          holds = metadata_holds _ _ _ _ x.bound begun.holds;
         })
 
     -- the description was read, and the writer failed at its header
     pub metadata_breaks : {stop : Stop} → length sink.waiting < 4096 → IsBetween b → Breaks sink after (between (nat_lt 0 s.report.sets) ++ header_line (columns_of area.bytes)) stop → StopsInWriting (response charset room) (in_metadata tokens) a b sink after area stop
     metadata_breaks {stop = stop} few between_b breaks =
         let header = between (nat_lt 0 s.report.sets) ++ header_line columns in
-        let l = last_inside (description room) (response charset room) (with_described tokens) (description_in_response charset room tokens) BeforeCount x.reads.bytes (WholeDescription area.bytes columns) x.reads.spelt (some_bytes room area.bytes x.reads.bytes columns x.reads.spelt) in
+        let l = last_inside _ _ _ (description_in_response _ _ _) _ _ _ x.reads.spelt (some_bytes _ _ _ _ x.reads.spelt) in
         let open_text = open_text_none tokens l.at l.size in
         record {
           at = with_described tokens l.at;
@@ -198,14 +198,14 @@ module _ (charset : Charset) {room place : ℕ} {tokens : List Token} {s : Progr
             ahead = [];
             spelt = l.spelt;
             next = l.next;
-            takes = subst (λ v. Takes a b v (length (l.front ++ l.element))) (sym (append-nil (l.front ++ l.element))) (subst (λ v. Takes a b v (length v)) (sym l.joined) x.reads.takes);
+            takes = rw (append-nil (l.front ++ l.element)) (subst (λ v. Takes a b v (length v)) (sym l.joined) x.reads.takes);
             between = between_b;
             middle = sink;
             few = few;
             puts = same_text (in_metadata tokens) (with_described tokens l.at) sink (sym open_text) begun.delivered;
             more = header;
-            text_is = ap (λ t. t ++ header) open_text ∙ header_text s tokens area.bytes columns begun.tracks ∙ ap text_so_far (sym l.to_is);
-            breaks = subst (λ cs. Breaks sink after (between (nat_lt 0 s.report.sets) ++ header_line cs) stop) shown breaks;
+            text_is = ap (λ t. t ++ header) open_text ∙ header_text s _ _ _ begun.tracks ∙ ap text_so_far (sym l.to_is);
+            breaks = rw shown at breaks;
           };
-          holds = rw l.to_is (metadata_holds area old_area tokens columns x.bound begun.holds);
+          holds = rw l.to_is (metadata_holds _ _ _ _ x.bound begun.holds);
         }

@@ -1,45 +1,8 @@
 -- What an export answers, where its reader and writer tell their bytes.
-use Rattle.tds_export.proofs.Words.{Accepted, Adds, Adds-trans, AfterStop, Appends, AreBytes, AreBytes-back, AreBytes-front, Bool, Bounded, BreaksStreaming, Charset, Comes, CompletesResponse, Consumes, CutsNext, Err, FailsToWrite, Fault, Given, Grammar, Held, IsHolding, IsKept, IsReader, IsWriter, List, Longest, MessageEnded, Ok, Option, Packet, Packets, Part, Payload, Place, Puts, ReadFailed, ReadsPart, ReadsWhole, Report, Reported, Reports, Rose, Run, RunStops, Seen, Some, Space, Spelt, Spelt-one, Stop, Stopped, Stops, StopsAtEnd, StopsExport, StopsInReading, StopsInText, StopsInWriting, StopsReading, Tells, Text, Tidied, Token, WriteFailed, [], after_tokens, ap, append-nil, append_assoc, arith, begun, begun_at, counted, drop, ends_front, error_text, false, flat_map-append, fresh_at, grammar, grammar_of, in_last, inl, inr, length, length-append, length-take-le, limits, limits_of, longest_cut, more, no_further, one_more, over_front, packet_bytes, payload_of, read, refl, report_of, response, response_start, rose, run_of, some_longest, stopped_with, subst, sym, take, take-append-add, take-append-drop, take-append-le, take-append_seam, takes_begins, text, text_put, text_so_far, true, waiting, wire_goes_on, wire_of, ℕ, ◌%◌, ◌*◌, ◌++◌, ◌+◌, ◌-◌, ◌/◌, ◌<◌, ◌∙◌, ◌∷◌, ◌≡◌, ◌≤◌}
-use Rattle.tds_export.proofs.SomeBytes.{AreBytes-append}
-use Rattle.tds_export.proofs.PacketOutcomes.{ReaderSide, ended_in_payload, kept_at, refused_in_payload, start, stopped_on_wire}
-use Rattle.tds_export.proofs.Peaks.{bounded, further, reached_broken, reached_stopped, reached_whole, rest_leads}
-use Rattle.tds_export.proofs.TextBound.{bounded_along}
-use Rattle.tds_export.proofs.DeviceFaults.{no_failure}
-use Rattle.tds_export.proofs.AcceptedSucceeds.{outcome_succeeds}
-use Rattle.tds_export.proofs.ResponseMeaning.{response_is_spelt}
-use Rattle.tds_export.proofs.Cuts.{spelt_both}
-use Rattle.tds_export.proofs.ReadingGrows.{text_along}
+use Rattle.tds_export.proofs.Words.{Accepted, Adds, Adds-trans, AfterStop, Appends, AreBytes, AreBytes-back, AreBytes-front, Bool, Bounded, BreaksStreaming, Charset, Comes, CompletesResponse, Consumes, Err, FailsToWrite, Fault, Given, Grammar, Held, IsHolding, IsKept, IsReader, IsWriter, List, Longest, Ok, Option, Packet, Packets, Part, Place, Puts, ReadsPart, ReadsWhole, Report, Reported, Reports, Rose, Run, RunStops, Seen, Some, Space, Spelt, Spelt-one, Stop, Stopped, Stops, StopsAtEnd, StopsExport, StopsInReading, StopsInText, StopsInWriting, Tells, Text, Tidied, Token, WriteFailed, [], after_tokens, ap, append-nil, append_assoc, arith, begun_at, counted, drop, error_text, false, flat_map-append, fresh_at, grammar, grammar_of, in_last, inl, inr, length, length-append, length-take-le, limits, longest_cut, more, no_further, over_front, packet_bytes, payload_of, read, refl, response, response_start, rose, run_of, some_longest, stopped_with, subst, sym, take, take-append-add, take-append-drop, take-append-le, take-append_seam, takes_begins, text, text_put, text_so_far, true, waiting, wire_of, ℕ, ◌%◌, ◌*◌, ◌++◌, ◌+◌, ◌-◌, ◌/◌, ◌<◌, ◌∙◌, ◌∷◌, ◌≡◌, ◌≤◌}
+use Rattle.tds_export.proofs.{SomeBytes.AreBytes-append, Peaks.bounded, Peaks.further, Peaks.reached_broken, Peaks.reached_stopped, Peaks.reached_whole, Peaks.rest_leads, TextBound.bounded_along, DeviceFaults.no_failure, AcceptedSucceeds.outcome_succeeds, ResponseMeaning.response_is_spelt, Cuts.spelt_both, ReadingGrows.text_along}
+use Rattle.tds_export.proofs.PacketOutcomes.{ReaderSide, kept_at, reading_stops, start}
 use native.Mathlib.Decide.{dec_le}
-
--- ---- how a run that read stops
-
-zero : (n : ℕ) → 0 + n ≡ n
-zero n = omega arith
-
--- whole elements were read, and the payload stopped before the next was whole
-cut_stops : (run : Run) (q : Seen) (area : Space) (at : Part) (bytes : List ℕ) (stop : Stop) → ReaderSide run q area → Spelt (grammar run) response_start bytes at → (c : CutsNext (grammar run) (start run) q bytes 0 at stop) → IsHolding area at
-    → run.gained ++ run.given.after.areas.output.bytes ≡ text_so_far at → Stops run stop.fault stop.place
-cut_stops run q area at bytes stop side spelt c holds text =
-    let limit = run.given.before.areas.limits.max_wire in
-    elim (ends_front run.given.before.areas.limits.packet_size limit run.given.before.reader.failures run.input run.left q (bytes ++ c.part) c.own side.bytes side.left c.ends) [
-      | inl m ↦ elim c.stop_is [
-        | inl e ↦ subst (λ (s : Stop). Stops run s.fault s.place) (sym (e.1.2 ∙ ap (λ n. record { fault = e.1.0; place = Payload n }) (zero (length bytes)))) (ended_in_payload run q area at bytes c.part c.own e.1.0 side spelt c.cut m e.1.1 holds text)
-        | inr e ↦ absurd (e.0 (ap (λ (s : Stop). s.fault) m.ended))
-      ]
-      | inr x ↦ elim c.stop_is [
-        | inl e ↦ absurd (elim x.cause [
-          | inl y ↦ (let differ : ReadFailed ≡ MessageEnded = sym y.0 ∙ e.0 in cc)
-          | inr y ↦ wire_goes_on run.given.before.areas.limits.packet_size limit run.input x.packets c.own.fault y.0 e.0
-        ])
-        | inr e ↦ subst (λ (s : Stop). Stops run s.fault s.place) (sym e.1) (subst (Stops run c.own.fault) (sym x.place) (stopped_on_wire run q area at bytes c.part c.own rose side spelt c.cut x holds text))
-      ]
-    ]
-
-reading_stops : (run : Run) (q : Seen) (area : Space) (at : Part) (stop : Stop) → ReaderSide run q area → StopsReading (grammar run) response_start (start run) q 0 at stop → IsHolding area at → run.gained ++ run.given.after.areas.output.bytes ≡ text_so_far at → Stops run stop.fault stop.place
-reading_stops run q area at stop side s holds text = elim s.cause [
-  | inl r ↦ subst (Stops run stop.fault) (sym (r.1 ∙ ap Payload (zero (length s.bytes)))) (refused_in_payload run q area at s.bytes stop.fault side s.spelt r.0 holds text)
-  | inr c ↦ cut_stops run q area at s.bytes stop side s.spelt c holds text
-]
 
 -- ---- the text
 
@@ -56,12 +19,7 @@ record Delivers (given : Given) (l : Held) (text : List ℕ) : Type 0 where
 abbrev sends : (given : Given) (middle l : Held) (put piece sent : List ℕ) → IsWriter given l → Puts (fresh_at given) middle put → Adds middle l sent piece → Delivers given l (put ++ piece)
 sends given middle l put piece sent writer p a =
     let adds = Adds-trans (fresh_at given) middle l p.0 sent put piece p.2 a in
-    record {
-      gained = p.0 ++ sent;
-      has = subst (λ o. Appends given.before.writer.bytes o (p.0 ++ sent)) writer.has adds.0;
-      all = ap (λ w. (p.0 ++ sent) ++ w) (sym writer.waiting) ∙ sym adds.1;
-      delivered = adds.2;
-    }
+    record { gained = p.0 ++ sent; has = rw writer.has at adds.0; all = ap (λ w. (p.0 ++ sent) ++ w) (sym writer.waiting) ∙ sym adds.1; delivered = adds.2 }
 
 -- the payload of packets is shorter than their wire, and of bytes where that is
 payload_short : (packets : List Packet) → length (payload_of packets) ≤ length (wire_of packets)
@@ -70,78 +28,75 @@ payload_short (p ∷ packets) = omega (arith, payload_short packets, length-appe
 
 payload_bytes : (packets : List Packet) → AreBytes (wire_of packets) → AreBytes (payload_of packets)
 payload_bytes [] h = tt
-payload_bytes (p ∷ packets) h = AreBytes-append p.body (payload_of packets) (AreBytes-back (4 ∷ p.status ∷ (8 + length p.body) / 256 ∷ (8 + length p.body) % 256 ∷ p.id) p.body (AreBytes-front (packet_bytes p) (wire_of packets) h)) (payload_bytes packets (AreBytes-back (packet_bytes p) (wire_of packets) h))
+payload_bytes (p ∷ packets) h = AreBytes-append _ _ (AreBytes-back (4 ∷ p.status ∷ (8 + length p.body) / 256 ∷ (8 + length p.body) % 256 ∷ p.id) _ (AreBytes-front (packet_bytes p) (wire_of packets) h)) (payload_bytes packets (AreBytes-back (packet_bytes p) _ h))
 
 -- the text so far is within 64 times the limit of the wire
-fits_at : (run : Run) (packets : List Packet) (rest : List ℕ) (place : ℕ) (part : Part) (n : ℕ) → AreBytes run.input → wire_of packets ++ rest ≡ run.input → length (wire_of packets) ≤ run.given.before.areas.limits.max_wire
-    → Spelt (grammar run) response_start (take place (payload_of packets)) part → n ≤ length (text_so_far part) → n ≤ 64 * run.given.before.areas.limits.max_wire
+fits_at : (run : Run) (packets : List Packet) (rest : List ℕ) (place : ℕ) (part : Part) (n : ℕ) → AreBytes run.input → wire_of packets ++ rest ≡ run.input → length (wire_of packets) ≤ (limits run).max_wire
+    → Spelt (grammar run) response_start (take place (payload_of packets)) part → n ≤ length (text_so_far part) → n ≤ 64 * (limits run).max_wire
 fits_at run packets rest place part n are begin within spelt few =
     let payload = payload_of packets in
-    let bytes : AreBytes payload = payload_bytes packets (AreBytes-front (wire_of packets) rest (subst AreBytes (sym begin) are)) in
-    let front : AreBytes (take place payload) = AreBytes-front (take place payload) (drop place payload) (subst AreBytes (sym (take-append-drop place payload)) bytes) in
-    let most : length (text_so_far part) ≤ 64 * length (take place payload) = bounded_along run.given.charset run.given.before.areas.limits.column_room part (take place payload) front spelt in
-    omega (arith, few, most, within, payload_short packets, ap length (take-append-drop place payload), length-append (take place payload) (drop place payload))
+    let bytes = payload_bytes packets (AreBytes-front (wire_of packets) rest (rw begin are)) in
+    let front = AreBytes-front _ _ (rw (← take-append-drop place payload) at bytes) in
+    let most = bounded_along _ _ _ _ front spelt in
+    omega (arith, payload_short packets, ap length (take-append-drop place payload), length-append (take place payload) (drop place payload))
 
-fits : (run : Run) (fault : Fault) (place : Place) → AreBytes run.input → Stops run fault place → length (run.gained ++ run.given.after.areas.output.bytes) ≤ 64 * run.given.before.areas.limits.max_wire
+fits : (run : Run) (fault : Fault) (place : Place) → AreBytes run.input → Stops run fault place → length (run.gained ++ run.given.after.areas.output.bytes) ≤ 64 * (limits run).max_wire
 fits run fault place are x = grind (arith, fits_at, length-append)
 
 -- the count of the bytes delivered is exact
-exact : (run : Run) (delivered : ℕ) → delivered ≡ counted 0 (length run.gained) → length (run.gained ++ run.given.after.areas.output.bytes) ≤ 64 * run.given.before.areas.limits.max_wire → delivered ≡ length run.gained
-exact run delivered e few = let most = run.given.before.areas.limits.max_wire_in_range in omega (arith, e, few, most.1, length-append run.gained run.given.after.areas.output.bytes)
-
--- ---- where the reader stands
+exact : (run : Run) (delivered : ℕ) → delivered ≡ counted 0 (length run.gained) → length (run.gained ++ run.given.after.areas.output.bytes) ≤ 64 * (limits run).max_wire → delivered ≡ length run.gained
+exact run delivered e few = let most = (limits run).max_wire_in_range in omega (arith, length-append run.gained run.given.after.areas.output.bytes)
 
 -- ---- a run that stopped in writing
 
 -- the longest part of a payload that begins with these bytes has their text, and more of it
 longest_text : (charset : Charset) (room : ℕ) (bytes more : List ℕ) (p q : Part) (place : ℕ) → Spelt (response charset room) response_start bytes p → Longest (response charset room) response_start (bytes ++ more) place q → (rest : List ℕ) × (text_so_far p ++ rest ≡ text_so_far q)
-longest_text charset room bytes more p q place h l = let f = further (response charset room) response_start p q bytes more place h l in text_along charset room p q f.0 f.1
+longest_text charset room bytes more p q place h l = let f = further _ _ p q _ _ _ h l in text_along _ _ p q _ f.1
 
 -- a part that fewer bytes lead to has no more text than that before the last element
 earlier_text : (charset : Charset) (room : ℕ) (bytes element : List ℕ) (p q : Part) (place : ℕ) → Spelt (response charset room) response_start bytes p → length element ≡ (response charset room).size p → place < length (bytes ++ element)
     → Spelt (response charset room) response_start (take place (bytes ++ element)) q → length (text_so_far q) ≤ length (text_so_far p)
 earlier_text charset room bytes element p q place h whole less k = elim (dec_le place (length bytes)) [
   | yes below ↦
-      (let front : take place (bytes ++ element) ≡ take place bytes = take-append-le place bytes element below in
-      let rest = text_along charset room q p (drop place bytes) (rest_leads (response charset room) response_start q p (take place bytes) (drop place bytes) (subst (λ v. Spelt (response charset room) response_start v q) front k) (subst (λ v. Spelt (response charset room) response_start v p) (sym (take-append-drop place bytes)) h)) in
+      (let front = take-append-le place bytes element below in
+      let rest = text_along _ _ q p _ (rest_leads _ _ q p _ _ (rw front at k) (rw (← take-append-drop place bytes) at h)) in
       omega (arith, ap length rest.1, length-append (text_so_far q) rest.0))
   | no above ↦
       (let n = place - length bytes in
-      let sum : length bytes + n ≡ place = omega (arith, above) in
-      let split : take place (bytes ++ element) ≡ bytes ++ take n element = ap (λ v. take v (bytes ++ element)) (sym sum) ∙ take-append-add bytes element n in
-      let few : length (take n element) ≡ n = length-take-le n element (omega (arith, less, sum, length-append bytes element)) in
-      let none : take n element ≡ [] = no_further (response charset room) response_start bytes p (take n element) q h (λ i a b. omega (arith, few, less, sum, whole, length-append bytes element)) (subst (λ v. Spelt (response charset room) response_start v q) split k) in
-      absurd (omega (arith, ap length none, few, sum, above)))
+      let sum : length bytes + n ≡ place = omega arith in
+      let split = ap (λ v. take v (bytes ++ element)) (sym sum) ∙ take-append-add bytes element n in
+      let few = length-take-le n element (omega (arith, length-append bytes element)) in
+      let none = no_further _ _ _ p _ q h (λ i a b. omega (arith, length-append bytes element)) (rw split at k) in
+      absurd (omega (arith, ap length none)))
 ]
 
 -- the writer broke: the last packet read was needed to fill the block
-broken : (run : Run) (q : Seen) (k : Held) (at : Part) (stop : Stop) → ReaderSide run q run.given.after.areas.description → IsWriter run.given k → (x : BreaksStreaming (grammar run) text_so_far response_start (start run) q (fresh_at run.given) k at stop)
+broken : (run : Run) (q : Seen) (k : Held) (at : Part) (stop : Stop) → ReaderSide run q → IsWriter run.given k → (x : BreaksStreaming (grammar run) text_so_far response_start (start run) q (fresh_at run.given) k at stop)
     → IsHolding run.given.after.areas.description ((grammar run).add at x.element) → run.gained ≡ (subst (Puts (fresh_at run.given) x.middle) x.puts.1 x.puts.2).0 ++ x.breaks.0 → text_put run ≡ text_so_far at ++ take x.breaks.2 x.more → StopsInText run WriteFailed (length run.gained)
 broken run q k at stop side writer x holds gained all =
     let g = grammar run in
-    let l = limits run in
     let f = run.given.before.reader.failures in
     let be = x.bytes ++ x.element in
     let p = subst (Puts (fresh_at run.given) x.middle) x.puts.1 x.puts.2 in
     let y = x.breaks in
     let to = g.add at x.element in
-    let spelt : Spelt g response_start be to = spelt_both x.spelt (Spelt-one g at x.element x.next) in
-    let b = takes_begins l.packet_size l.max_wire f run.input run.left q (be ++ x.ahead) (length be) side.bytes side.left x.takes x.between in
+    let spelt = spelt_both x.spelt (Spelt-one g at x.element x.next) in
+    let b = takes_begins _ _ f _ _ q _ _ side.bytes side.left x.takes x.between in
     let more = x.ahead ++ (q.future []).bytes in
     let payload = payload_of b.packets in
-    let payload_is : payload ≡ be ++ more = b.payload_is ∙ append_assoc be x.ahead (q.future []).bytes in
-    let longest = some_longest g response_start payload in
-    let beyond = longest_text run.given.charset l.column_room be more to longest.1 longest.0 spelt (subst (λ v. Longest g response_start v longest.0 longest.1) payload_is longest.2) in
-    let some : 0 < length be = omega (arith, x.next.some, length-append x.bytes x.element) in
-    let last = in_last l.packet_size l.max_wire f (length be) run.input run.left q (be ++ x.ahead) ((be ++ x.ahead) ++ (q.future []).bytes) side.left x.takes b (omega (arith, some, length-append (be ++ x.ahead) (q.future []).bytes, length-append be x.ahead)) in
-    let early = some_longest g response_start (payload_of last.before) in
-    let joined : payload ≡ payload_of last.before ++ payload_of (last.last ∷ []) = ap payload_of (sym last.split) ∙ flat_map-append (λ (v : Packet). v.body) last.before (last.last ∷ []) in
-    let fewer : early.0 < length be = omega (arith, early.2.within, last.earlier) in
-    let front : take early.0 (payload_of last.before) ≡ take early.0 be = sym (take-append-le early.0 (payload_of last.before) (payload_of (last.last ∷ [])) early.2.within) ∙ ap (take early.0) (sym joined ∙ payload_is) ∙ take-append-le early.0 be more (omega (arith, fewer)) in
-    let short = earlier_text run.given.charset l.column_room x.bytes x.element at early.1 early.0 x.spelt x.next.whole fewer (subst (λ v. Spelt g response_start v early.1) front early.2.spelt) in
-    let total : length (text_put run) ≡ 4096 * (p.1 + y.1 + 1) = omega (arith, ap length gained, ap length writer.waiting, length-append run.gained (waiting run), length-append p.0 y.0, p.3, y.7) in
-    let chunks : length (text_put run) ≡ 4096 * (length run.gained / 4096 + 1) = omega (arith, total, ap length gained, length-append p.0 y.0, p.3, y.5, y.6) in
-    let passes : length (text_so_far at) < length (text_put run) = omega (arith, ap length p.2.1, length-append p.0 x.middle.waiting, p.3, x.few, total) in
+    let payload_is = b.payload_is ∙ append_assoc be x.ahead (q.future []).bytes in
+    let longest = some_longest g _ _ in
+    let beyond = longest_text _ _ _ _ _ _ _ spelt (subst (λ v. Longest g response_start v longest.0 longest.1) payload_is longest.2) in
+    let some : 0 < length be = omega (arith, length-append x.bytes x.element) in
+    let last = in_last _ _ f _ _ _ q _ _ side.left x.takes b (omega (arith, length-append (be ++ x.ahead) (q.future []).bytes, length-append be x.ahead)) in
+    let early = some_longest g _ _ in
+    let joined = ap payload_of (sym last.split) ∙ flat_map-append _ last.before (last.last ∷ []) in
+    let fewer : early.0 < length be = omega arith in
+    let front = sym (take-append-le early.0 (payload_of last.before) (payload_of (last.last ∷ [])) early.2.within) ∙ ap (take early.0) (sym joined ∙ payload_is) ∙ take-append-le early.0 be more (omega arith) in
+    let short = earlier_text _ _ _ _ at early.1 early.0 x.spelt x.next.whole fewer (subst (λ v. Spelt g response_start v early.1) front early.2.spelt) in
+    let total : length (text_put run) ≡ 4096 * (p.1 + y.1 + 1) = omega (arith, ap length gained, ap length writer.waiting, length-append run.gained (waiting run), length-append p.0 y.0) in
+    let chunks : length (text_put run) ≡ 4096 * (length run.gained / 4096 + 1) = omega (arith, ap length gained, length-append p.0 y.0) in
+    let passes : length (text_so_far at) < length (text_put run) = omega (arith, ap length p.2.1, length-append p.0 x.middle.waiting) in
     let text_more : (text_put run) ++ (drop y.2 x.more ++ beyond.0) ≡ text_so_far longest.1 =
     sym (append_assoc (text_put run) (drop y.2 x.more) beyond.0) ∙ ap (λ v. (v ++ drop y.2 x.more) ++ beyond.0) all ∙ ap (λ v. v ++ beyond.0) (append_assoc (text_so_far at) (take y.2 x.more) (drop y.2 x.more) ∙ ap (λ v. text_so_far at ++ v) (take-append-drop y.2 x.more) ∙ x.text_is) ∙ beyond.1 in
     let comes : Comes run b.packets (length be) to = record { within = omega (arith, ap length payload_is, length-append be more); spelt = rw (ap (take (length be)) payload_is ∙ take-append_seam be more) spelt } in
@@ -155,26 +110,26 @@ broken run q k at stop side writer x holds gained all =
       fault_is = refl;
       written_is = refl;
       begins = text_more;
-      needed = inr (last.before, last.last, early.0, early.1, last.split, early.2, chunks, omega (arith, short, passes));
-      failed = subst (Rose run.given.before.writer.failures) (sym (y.9 ∙ ap one_more p.4) ∙ writer.failures) (rose run.given.before.writer.failures);
-      kept = (length be, to, comes, rw side.description (kept_at run.given.after.areas.description to.tokens to.at (drop (length be) payload) holds.bytes));
+      needed = inr (last.before, last.last, early.0, early.1, last.split, early.2, chunks, omega arith);
+      failed = subst (Rose run.given.before.writer.failures) (sym (cc) ∙ writer.failures) (rose _);
+      kept = (length be, to, comes, kept_at run.given.after.areas.description to.tokens to.at (drop (length be) payload) holds.bytes);
     }
 
 -- ---- a run that read the whole response
 
 -- the whole message was read: it is an accepted response
-record WholeMessage (run : Run) (q : Seen) (area : Space) (tokens : List Token) : Type 0 where
+record WholeMessage (run : Run) (tokens : List Token) : Type 0 where
   packets : List Packet
   stands : Packets run packets
-  accepted : Accepted run.given.charset run.given.before.areas.limits.packet_size run.given.before.areas.limits.column_room run.given.before.areas.limits.max_wire tokens packets run.input
+  accepted : Accepted run.given.charset (limits run).packet_size (limits run).column_room (limits run).max_wire tokens packets run.input
   leads : ReadsPart run packets (length (payload_of packets)) (after_tokens tokens)
   spelt : Spelt (grammar run) response_start (payload_of packets) (after_tokens tokens)
   kept : IsKept run.given.after.areas.description.bytes tokens (after_tokens tokens).at (drop (length (payload_of packets)) (payload_of packets))
 
-whole_message_of : (run : Run) (q : Seen) (area : Space) (old new : Held) → ReaderSide run q area → (x : ReadsWhole (grammar run) response_start (start run) q old new area) → WholeMessage run q area x.tokens
-whole_message_of run q area old new side x =
-    let size = run.given.before.areas.limits.packet_size in
-    let limit = run.given.before.areas.limits.max_wire in
+whole_message_of : (run : Run) {q : Seen} {old new : Held} → ReaderSide run q → (x : ReadsWhole (grammar run) response_start (start run) q old new run.given.after.areas.description) → WholeMessage run x.tokens
+whole_message_of run {q = q} side x =
+    let size = (limits run).packet_size in
+    let limit = (limits run).max_wire in
     let m = over_front size limit run.given.before.reader.failures run.input run.left q x.bytes (length x.bytes + 1) side.bytes side.left x.takes x.over in
     grind (arith, over_front, payload_bytes, AreBytes-front, response_is_spelt, append-nil, longest_cut, kept_at)
 
@@ -183,25 +138,25 @@ text_after_tokens tokens = append-nil (text tokens)
 
 -- all of a payload
 take_payload : (l : List ℕ) → take (length l) l ≡ l
-take_payload l = ap (λ v. take (length l) v) (sym (append-nil l)) ∙ take-append_seam l []
+take_payload l = cc (append-nil l, take-append_seam l [])
 
 -- the last delivery failed
-failed_at_end : (run : Run) (q : Seen) (tokens : List Token) → WholeMessage run q run.given.after.areas.description tokens → text_put run ≡ text tokens → FailsToWrite run.given → StopsInText run WriteFailed (length run.gained)
-failed_at_end run q tokens w same fails = grind (arith, append-nil, take_payload, text_after_tokens)
+failed_at_end : (run : Run) (tokens : List Token) → WholeMessage run tokens → text_put run ≡ text tokens → FailsToWrite run.given → StopsInText run WriteFailed (length run.gained)
+failed_at_end run tokens w same fails = grind (arith, append-nil, take_payload, text_after_tokens)
 
 -- ---- what an export answers
 
 -- the payload of a reader that told its bytes begins with them
 begins_run : (given : Given) (input : List ℕ) → given.before.reader.bytes ≡ Some input → begun_at given ≡ start (run_of given input [] [])
-begins_run given input e = ap (λ i. begun (limits_of given).packet_size (limits_of given).max_wire i given.before.reader.failures) e
+begins_run given input e = cc
 
 -- where its reader stands
-reader_side : (given : Given) (input left gained : List ℕ) (q : Seen) → AreBytes input → q.left ≡ Some left → IsReader given q → ReaderSide (run_of given input left gained) q given.after.areas.description
-reader_side given input left gained q are ql reader = record { bytes = are; left = ql; failures = reader.failures; description = refl }
+reader_side : (given : Given) (input left gained : List ℕ) (q : Seen) → AreBytes input → q.left ≡ Some left → IsReader given q → ReaderSide (run_of given input left gained) q
+reader_side given input left gained q are ql reader = record { bytes = are; left = ql; failures = reader.failures }
 
 -- all of the text was put, where the whole response was read
 whole_puts : (g : Grammar Part Fault) (a q : Seen) (h k : Held) (area : Space) → (x : ReadsWhole g response_start a q h k area) → Puts h k (text x.tokens)
-whole_puts g a q h k area x = subst (Puts h k) (x.puts.1 ∙ text_after_tokens x.tokens) x.puts.2
+whole_puts g a q h k area x = rw (x.puts.1 ∙ text_after_tokens x.tokens) at x.puts.2
 
 -- what is told of a stop, with the sink left in this state
 abbrev StopTold : Given → (input left : List ℕ) → Stop → Held → Type 0
@@ -211,21 +166,21 @@ module _ (given : Given) (input left : List ℕ) (q : Seen) (stop : Stop) (are :
   -- the payload stopped
   stop_reading : (middle l : Held) → IsWriter given l → StopsInReading (grammar_of given) response_start (start (run_of given input left [])) q 0 (fresh_at given) middle given.after.areas.description stop → Tidied middle l → StopTold given input left stop l
   stop_reading middle l writer y t =
-      let p = subst (Puts (fresh_at given) middle) y.puts.1 y.puts.2 in
-      let d = sends given middle l (text_so_far y.at) [] t.0 writer p t.1 in
+      let p = rw y.puts.1 at y.puts.2 in
+      let d = sends _ _ l _ _ _ writer p t.1 in
       let run = run_of given input left d.gained in
-      let side = reader_side given input left d.gained q are ql reader in
-      let stops : Stops run stop.fault stop.place = reading_stops run q given.after.areas.description y.at stop side y.stops y.holds (d.all ∙ append-nil (text_so_far y.at)) in (
+      let side = reader_side _ _ _ _ q are ql reader in
+      let stops = reading_stops run side y.stops y.holds (d.all ∙ append-nil (text_so_far y.at)) in (
         d.gained,
         d.has,
         record {
           stop = stops;
-          written = exact run l.delivered d.delivered (fits run stop.fault stop.place are stops);
-          unwritten = ap length writer.waiting;
+          written = exact run l.delivered d.delivered (fits _ _ _ are stops);
+          unwritten = cc;
           no_notice = none;
           none_waits = λ calm. elim t.2 [
             | inl x ↦ sym writer.waiting ∙ x.0
-            | inr x ↦ absurd (calm (subst (Rose given.before.writer.failures) writer.failures (subst (λ n. Rose n l.failures) p.4 x)))
+            | inr x ↦ absurd (calm (rw writer.failures at (subst (λ n. Rose n l.failures) p.4 x)))
           ];
         },
       )
@@ -242,34 +197,34 @@ module _ (given : Given) (input left : List ℕ) (q : Seen) (stop : Stop) (are :
   stop_writing : (k : Held) → IsWriter given k → StopsInWriting (grammar_of given) response_start (start (run_of given input left [])) q (fresh_at given) k given.after.areas.description stop → StopTold given input left stop k
   stop_writing k writer y =
       let x = y.breaks in
-      let d = sends given x.middle k (text_so_far y.at) (take x.breaks.2 x.more) x.breaks.0 writer (subst (Puts (fresh_at given) x.middle) x.puts.1 x.puts.2) x.breaks.3 in
-      in_text k d.gained writer d.has d.delivered (broken (run_of given input left d.gained) q k y.at stop (reader_side given input left d.gained q are ql reader) writer x y.holds refl d.all) x.breaks.8
+      let d = sends _ _ k _ _ _ writer (rw x.puts.1 at x.puts.2) x.breaks.3 in
+      in_text k _ writer d.has d.delivered (broken _ q k _ _ (reader_side _ _ _ _ q are ql reader) writer x y.holds refl d.all) x.breaks.8
 
   -- the last delivery failed
   stop_at_end : (k : Held) → IsWriter given k → StopsAtEnd (grammar_of given) response_start (start (run_of given input left [])) q (fresh_at given) k given.after.areas.description stop → StopTold given input left stop k
   stop_at_end k writer y =
       let p = whole_puts (grammar_of given) (start (run_of given input left [])) q (fresh_at given) y.middle given.after.areas.description y.whole in
-      let d = sends given y.middle k (text y.whole.tokens) [] y.fails.0 writer p y.fails.1 in
+      let d = sends _ _ k (text y.whole.tokens) [] _ writer p y.fails.1 in
       let run = run_of given input left d.gained in
-      let whole = whole_message_of run q given.after.areas.description (fresh_at given) y.middle (reader_side given input left d.gained q are ql reader) y.whole in
-      let rises : FailsToWrite given = subst (Rose given.before.writer.failures) (sym (y.fails.3 ∙ ap one_more p.4) ∙ writer.failures) (rose given.before.writer.failures) in
-      in_text k d.gained writer d.has d.delivered (failed_at_end run q y.whole.tokens whole (d.all ∙ append-nil (text y.whole.tokens)) rises) y.fails.2
+      let whole = whole_message_of run (reader_side given input left d.gained q are ql reader) y.whole in
+      let rises = subst (Rose given.before.writer.failures) (cc) (rose _) in
+      in_text k _ writer d.has d.delivered (failed_at_end _ y.whole.tokens whole (simp (d.all, append-nil)) rises) y.fails.2
 
   -- each of these
   stopped_of : (k l : Held) (failed : Bool) → IsWriter given l → RunStops (grammar_of given) response_start (start (run_of given input left [])) q 0 (fresh_at given) k given.after.areas.description failed stop → (failed ≡ false → Tidied k l) → (failed ≡ true → l ≡ k) → StopTold given input left stop l
   stopped_of k l failed writer (inl (inl y)) tidy same = stop_reading k l writer y.0 (tidy y.1)
-  stopped_of k l failed writer (inl (inr y)) tidy same = subst (StopTold given input left stop) (sym (same y.1)) (stop_writing k (subst (IsWriter given) (same y.1) writer) y.0)
-  stopped_of k l failed writer (inr y) tidy same = subst (StopTold given input left stop) (sym (same y.1)) (stop_at_end k (subst (IsWriter given) (same y.1) writer) y.0)
+  stopped_of k l failed writer (inl (inr y)) tidy same = rw (same y.1) (stop_writing k (subst (IsWriter given) (same y.1) writer) y.0)
+  stopped_of k l failed writer (inr y) tidy same = rw (same y.1) (stop_at_end k (subst (IsWriter given) (same y.1) writer) y.0)
 
   -- the bound on its descriptions
   stop_bounded : (gained : List ℕ) (k : Held) (failed : Bool) → RunStops (grammar_of given) response_start (start (run_of given input left [])) q 0 (fresh_at given) k given.after.areas.description failed stop → Bounded (run_of given input left gained)
-  stop_bounded gained k failed (inl (inl y)) = let run = run_of given input left gained in bounded run y.0.at are (reached_stopped run q y.0.at stop are ql y.0.stops) y.0.holds.peak
+  stop_bounded gained k failed (inl (inl y)) = let run = run_of given input left gained in bounded _ _ are (reached_stopped run q _ _ are ql y.0.stops) y.0.holds.peak
   stop_bounded gained k failed (inl (inr y)) =
       let run = run_of given input left gained in
-      bounded run ((grammar run).add y.0.at y.0.breaks.element) are (reached_broken run q (fresh_at given) k given.after.areas.description stop y.0 are ql) y.0.holds.peak
+      bounded _ _ are (reached_broken run q (fresh_at given) k given.after.areas.description stop y.0 are ql) y.0.holds.peak
   stop_bounded gained k failed (inr y) =
       let run = run_of given input left gained in
-      bounded run (after_tokens y.0.whole.tokens) are (reached_whole run q (fresh_at given) y.0.middle given.after.areas.description y.0.whole are ql) y.0.whole.holds.peak
+      bounded _ _ are (reached_whole run q (fresh_at given) y.0.middle given.after.areas.description y.0.whole are ql) y.0.whole.holds.peak
 
 -- what a run that stopped read
 stops_read : (g : Grammar Part Fault) (a q : Seen) (h k : Held) (area : Space) (failed : Bool) (stop : Stop) → RunStops g response_start a q 0 h k area failed stop → (read : List ℕ) × Consumes a.left q.left read
@@ -278,14 +233,13 @@ stops_read g a q h k area failed stop h8 = grind arith
 pub stop_tells : (given : Given) (stopped : Stopped) → StopsExport given stopped → Tells given (Err stopped)
 unfolding Tells
 stop_tells given stopped x = λ input are e.
-    let area = given.after.areas.description in
-    let stops = subst (λ (a : Seen). RunStops (grammar_of given) response_start a x.seen 0 (fresh_at given) x.middle area x.failed x.stop) (begins_run given input e) x.stops in
-    let read = stops_read (grammar_of given) (start (run_of given input [] [])) x.seen (fresh_at given) x.middle area x.failed x.stop stops in
-    let left = known_left input read.0 x.seen.left read.1 in
-    let all = stopped_of given input left.0 x.seen x.stop are left.1 x.reader x.notice x.middle x.held x.failed x.writer stops x.tidied x.same in
-    let most = stop_bounded given input left.0 x.seen x.stop are left.1 x.reader x.notice all.0 x.middle x.failed stops in
-    let outcome = subst (AfterStop (run_of given input left.0 all.0)) (sym x.stopped_is) all.2 in
-    (left.0, all.0, sym x.reader.left ∙ left.1, all.1, record { outcome = outcome; bounded = most }, outcome_succeeds (run_of given input left.0 all.0) (Err stopped) outcome)
+    let stops = rw (begins_run given input e) at x.stops in
+    let read = stops_read _ _ _ _ _ _ _ _ stops in
+    let left = known_left _ _ _ read.1 in
+    let all = stopped_of _ _ _ _ _ are left.1 x.reader x.notice _ _ _ x.writer stops x.tidied x.same in
+    let most = stop_bounded _ _ _ _ _ are left.1 x.reader x.notice _ _ _ stops in
+    let outcome = rw (← x.stopped_is) at all.2 in
+    (left.0, all.0, cc, all.1, record { outcome = outcome; bounded = most }, outcome_succeeds _ _ outcome)
 
 pub report_tells : (given : Given) (report : Report) → Reports given report → Tells given (Ok report)
 unfolding Tells
@@ -298,19 +252,19 @@ report_tells given report x = λ input are e.
     let p = whole_puts (grammar_of given) (start (run_of given input [] [])) x.seen (fresh_at given) y.middle area y.whole in
     let d = sends given y.middle x.held (text tokens) [] y.finishes.0 x.writer p y.finishes.1 in
     let run = run_of given input left.0 d.gained in
-    let whole = whole_message_of run x.seen area (fresh_at given) y.middle (reader_side given input left.0 d.gained x.seen are left.1 x.reader) y.whole in
-    let empty : waiting run ≡ [] = sym x.writer.waiting ∙ y.finishes.2 in
-    let same : text_put run ≡ text tokens = d.all ∙ append-nil (text tokens) in
+    let whole = whole_message_of run (reader_side given input left.0 d.gained x.seen are left.1 x.reader) y.whole in
+    let empty = sym x.writer.waiting ∙ y.finishes.2 in
+    let same = d.all ∙ append-nil (text tokens) in
     let gained = sym (append-nil run.gained) ∙ ap (λ w. run.gained ++ w) (sym empty) ∙ same in
     let few = fits_at run whole.packets left.0 (length (payload_of whole.packets)) (after_tokens tokens) (length (text_put run)) are whole.stands.begin whole.stands.within
-    (subst (λ v. Spelt (grammar run) response_start v (after_tokens tokens)) (sym (take_payload (payload_of whole.packets))) whole.spelt) (omega (arith, ap length same, ap length (text_after_tokens tokens))) in
-    let written : x.held.delivered ≡ length (text tokens) = exact run x.held.delivered d.delivered few ∙ ap length gained in
+    (rw (take_payload (payload_of whole.packets)) whole.spelt) (omega (arith, ap length same, ap length (text_after_tokens tokens))) in
+    let written = exact run x.held.delivered d.delivered few ∙ ap length gained in
     let outcome : Reported run report = record {
       tokens = tokens;
       packets = whole.packets;
       accepted = whole.accepted;
       stands = whole.stands;
-      report_is = y.report_is ∙ ap (λ n. record (report_of tokens) { written = n }) written;
+      report_is = cc;
       written = gained;
       none_waits = empty;
       notice = z.1;
@@ -318,4 +272,4 @@ report_tells given report x = λ input are e.
       no_failure = no_failure given report x;
     } in
     let most = bounded run (after_tokens tokens) are (reached_whole run x.seen (fresh_at given) y.middle area y.whole are left.1) y.whole.holds.peak in
-    (left.0, d.gained, sym x.reader.left ∙ left.1, d.has, record { outcome = outcome; bounded = most }, outcome_succeeds run (Ok report) outcome)
+    (left.0, d.gained, cc, d.has, record { outcome = outcome; bounded = most }, outcome_succeeds run (Ok report) outcome)

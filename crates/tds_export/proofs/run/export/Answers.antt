@@ -1,7 +1,5 @@
 use Rattle.tds_export.proofs.Words.{Given, Reports, Space, StopsExport, ap, arith, held, moment, refl, rules, seen, ◌≡◌}
-use Rattle.tds_export.proofs.DeviceFaults.{blamed, no_failure}
-use Rattle.tds_export.proofs.Endings.{exports, rooms, stops_export}
-use Rattle.tds_export.proofs.ToldAnswers.{report_tells, stop_tells}
+use Rattle.tds_export.proofs.{DeviceFaults.blamed, DeviceFaults.no_failure, Endings.exports, Endings.rooms, Endings.stops_export, ToldAnswers.report_tells, ToldAnswers.stop_tells}
 use Rattle.tds_export.proofs.run.export.Given.{Over}
 use Rattle.tds_export.proofs.run.export.Goals as goal
 

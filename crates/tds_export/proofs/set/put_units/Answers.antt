@@ -15,19 +15,16 @@ returns-in-Err g c = search (
 
 pub stop_in-requires-in-Err-end : goal.stop_in-requires-in-Err-end
 stop_in-requires-in-Err-end g c =
-    end_stopped c.in-Err-end.fault c.new-joiner.result.kept c.end.new.self.kept c.push.new.self.kept (held g.W.Write.contents c.args.sink.now) (held g.W.Write.contents c.end.new.sink) (held g.W.Write.contents c.push.new.sink) c.push.new.sink.failed c.args.units.now
-    c.new-joiner.ensures.withheld c.requires.even c.in_default.ensures.gives c.in-Err-end.ensures.gives
+    end_stopped c.new-joiner.ensures.withheld c.requires.even c.in_default.ensures.gives c.in-Err-end.fault c.end.new.self.kept (held g.W.Write.contents c.end.new.sink) c.push.new.sink.failed c.in-Err-end.ensures.gives
 
 pub returns-in-Ok : goal.returns-in-Ok
 returns-in-Ok g c = search (
   rules,
-  end_puts c.new-joiner.result.kept c.end.new.self.kept c.push.new.self.kept (held g.W.Write.contents c.args.sink.now) (held g.W.Write.contents c.end.new.sink) (held g.W.Write.contents c.push.new.sink) c.args.units.now
-      c.new-joiner.ensures.withheld c.requires.even c.in_default.ensures.gives c.in-Ok.ensures.gives,
+  end_puts c.new-joiner.ensures.withheld c.requires.even c.in_default.ensures.gives c.in-Ok.ensures.gives,
 )
 
 pub returns-in-Err-end : goal.returns-in-Err-end
 returns-in-Err-end g c = search (
   rules,
-  end_breaks c.in-Err-end.fault c.stop_in-in-Err-end.result c.new-joiner.result.kept c.end.new.self.kept c.push.new.self.kept (held g.W.Write.contents c.args.sink.now) (held g.W.Write.contents c.end.new.sink) (held g.W.Write.contents c.push.new.sink) c.push.new.sink.failed c.args.units.now
-      c.new-joiner.ensures.withheld c.in_default.ensures.failed c.requires.even c.in_default.ensures.gives c.in-Err-end.ensures.gives c.stop_in-in-Err-end.ensures,
+  end_breaks c.new-joiner.ensures.withheld c.requires.even c.in_default.ensures.gives c.in-Err-end.fault c.stop_in-in-Err-end.result c.end.new.self.kept (held g.W.Write.contents c.end.new.sink) c.push.new.sink.failed c.in_default.ensures.failed c.in-Err-end.ensures.gives c.stop_in-in-Err-end.ensures,
 )

@@ -1,7 +1,5 @@
 use Rattle.tds_export.proofs.Words.{length, passed, refl, rules, ◌≡◌}
-use Rattle.tds_export.proofs.TokenSteps.{done_reads, stops_first}
-use Rattle.tds_export.proofs.Cuts.{fill_cut}
-use Rattle.tds_export.proofs.StepReads.{step_read}
+use Rattle.tds_export.proofs.{TokenSteps.done_reads, TokenSteps.stops_first, Cuts.fill_cut, StepReads.step_read}
 use Rattle.tds_export.proofs.exporter.Exporter.done.Goals as goal
 
 pub returns-in_err-fill : goal.returns-in_err-fill

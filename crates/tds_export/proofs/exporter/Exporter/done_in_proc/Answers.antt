@@ -1,7 +1,5 @@
 use Rattle.tds_export.proofs.Words.{passed, refl, rules}
-use Rattle.tds_export.proofs.TokenSteps.{done_in_proc_reads, stops_first}
-use Rattle.tds_export.proofs.Cuts.{part_cut}
-use Rattle.tds_export.proofs.StepReads.{step_read}
+use Rattle.tds_export.proofs.{TokenSteps.done_in_proc_reads, TokenSteps.stops_first, Cuts.part_cut, StepReads.step_read}
 use Rattle.tds_export.proofs.exporter.Exporter.done_in_proc.Goals as goal
 
 pub returns-in_err-pass : goal.returns-in_err-pass

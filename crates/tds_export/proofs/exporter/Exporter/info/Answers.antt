@@ -1,6 +1,5 @@
 use Rattle.tds_export.proofs.Words.{AnInfo, passed, refl, rules}
-use Rattle.tds_export.proofs.NoticeSteps.{info_reads, notice_stops}
-use Rattle.tds_export.proofs.StepReads.{step_read}
+use Rattle.tds_export.proofs.{NoticeSteps.info_reads, NoticeSteps.notice_stops, StepReads.step_read}
 use Rattle.tds_export.proofs.exporter.Exporter.info.Goals as goal
 
 pub returns-in_err-take_notice : goal.returns-in_err-take_notice

@@ -1,10 +1,6 @@
 use Rattle.tds_export.proofs.Words.{AStatus, List, Progress, ReturnStatus, Some, Token, Tracks, TracksBefore, [], ap, arith, cast_signed, cast_unsigned, length, little, little_number, passed, refl, rules, signed, sym, w32, ℕ, ℤ, ◌++◌, ◌+◌, ◌∙◌, ◌∷◌, ◌≡◌}
-use Rattle.tds_export.proofs.ResponseLaws.{described_after-append}
+use Rattle.tds_export.proofs.{ResponseLaws.described_after-append, Cuts.fill_cut, TokenSteps.fixed_reads, TokenSteps.stops_first, NoticeReading.signed_is, StepReads.step_read}
 use Rattle.tds_export.proofs.TokenLaws.{encoded_after-append, is_final-snoc, same_first, status_after-append, uncounted}
-use Rattle.tds_export.proofs.Cuts.{fill_cut}
-use Rattle.tds_export.proofs.TokenSteps.{fixed_reads, stops_first}
-use Rattle.tds_export.proofs.NoticeReading.{signed_is}
-use Rattle.tds_export.proofs.StepReads.{step_read}
 use Rattle.tds_export.proofs.exporter.Exporter.return_status.Goals as goal
 
 tracks_status : (s : Progress) (ts : List Token) (n : ℕ) (status : ℤ) → status ≡ signed n → TracksBefore s ts → Tracks (record s { report = record s.report { return_status = Some status } }) (ts ++ ReturnStatus n ∷ [])

@@ -1,6 +1,5 @@
 use Rattle.tds_export.proofs.Words.{passed, rules}
-use Rattle.tds_export.proofs.ReturnSteps.{return_reads, return_stops}
-use Rattle.tds_export.proofs.StepReads.{step_read}
+use Rattle.tds_export.proofs.{ReturnSteps.return_reads, ReturnSteps.return_stops, StepReads.step_read}
 use Rattle.tds_export.proofs.exporter.Exporter.return_value.Goals as goal
 
 pub returns-in_err-pass_return : goal.returns-in_err-pass_return

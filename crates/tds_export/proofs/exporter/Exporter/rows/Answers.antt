@@ -1,6 +1,5 @@
 use Rattle.tds_export.proofs.Words.{PlainRow, ap, columns_of, passed, rules, ◌∙◌}
-use Rattle.tds_export.proofs.RowRuns.{rows_read, rows_stop}
-use Rattle.tds_export.proofs.StepReads.{step_read}
+use Rattle.tds_export.proofs.{RowRuns.rows_read, RowRuns.rows_stop, StepReads.step_read}
 use Rattle.tds_export.proofs.exporter.Exporter.rows.Goals as goal
 
 pub returns-in_err-count : goal.returns-in_err-count

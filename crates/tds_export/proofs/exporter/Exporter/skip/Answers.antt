@@ -1,8 +1,5 @@
 use Rattle.tds_export.proofs.Words.{length, passed, refl, rules, ◌∙◌, ◌≡◌}
-use Rattle.tds_export.proofs.StepReads.{begun_in}
-use Rattle.tds_export.proofs.Cuts.{fill_cut}
-use Rattle.tds_export.proofs.Bodies.{quiet_reads, quiet_stops}
-use Rattle.tds_export.proofs.TokenSteps.{stops_first}
+use Rattle.tds_export.proofs.{StepReads.begun_in, Cuts.fill_cut, Bodies.quiet_reads, Bodies.quiet_stops, TokenSteps.stops_first}
 use Rattle.tds_export.proofs.exporter.Exporter.skip.Goals as goal
 
 pub returns-in_err-fill-clause-gives : goal.returns-in_err-fill-clause-gives
