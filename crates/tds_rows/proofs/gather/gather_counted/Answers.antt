@@ -7,12 +7,6 @@ returns-in_err-take_into-clause-gives g c =
     let e = c.in_err-take_into.ensures.gives c.requires.gathering.payload.going in
     passed _ _ _ _ c.from_residual.ensures.1 (cell_cut {n = 1} e.part e.own refl refl refl e.fewer e.ends e.stop_is)
 
-pub returns-then-n-eq0-clause-gives : goal.returns-then-n-eq0-clause-gives
-returns-then-n-eq0-clause-gives g c =
-    let x = c.in_ok-take_into.ensures.gives in
-    let taken = length_taken c.requires.gathering.empty (ap (λ l. get_or l 0 0) (sym c.bytes.ensures.value)) x in
-    rw taken.0 (null_gathers c.requires.counted refl c.if-n-eq0.true taken.1 x.between c.in_ok-take_into.ensures.place)
-
 pub returns-then-not-length_allowed-clause-gives : goal.returns-then-not-length_allowed-clause-gives
 returns-then-not-length_allowed-clause-gives g c =
     let x = c.in_ok-take_into.ensures.gives in
