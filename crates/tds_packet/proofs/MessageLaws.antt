@@ -1,5 +1,5 @@
 -- An input begins with one message at most.
-use Rattle.tds_packet.proofs.Words.{◌≡◌, ℕ, ◌≤◌, List, [], ◌∷◌, ◌++◌, length, append-nil, arith, length-append, flat_map-append, Spelt, Packet, wire_of, AreMessage, Message, AfterLast, WirePart, no_wire, wire}
+use Rattle.tds_packet.proofs.Words.{common_steps, ◌≡◌, ℕ, ◌≤◌, List, [], ◌∷◌, ◌++◌, length, append-nil, arith, length-append, flat_map-append, Spelt, Packet, wire_of, AreMessage, Message, AfterLast, WirePart, no_wire, wire}
 use Rattle.tds_packet.proofs.{Feeding.Reading, Feeding.feed_all, ElementLaws.feed-Spelt, ElementLaws.feed_all-append, ElementLaws.feed_part, PacketLaws.before_packet, PacketLaws.one_is_read, PacketLaws.packet_is_read}
 
 module _ (size limit : ℕ) where
@@ -17,8 +17,8 @@ module _ (size limit : ℕ) where
   -- and nothing after it
   pub read_to_end : (packets : List Packet) (w more : List ℕ) → Message size limit packets w → feed_all (wire size limit) (Reading no_wire []) (w ++ more) ≡ Reading (after_packets packets) more
   read_to_end packets w more m =
-      let read = feed-Spelt (wire size limit) no_wire w (after_packets packets) (rw m.spelt at (message_is_read [] packets m.each (rw m.spelt m.within))) in
-      rw (feed_all-append (wire size limit) (Reading no_wire []) w more, read, feed_part (wire size limit) (after_packets packets) [] more (λ k a b q. omega arith))
+      let read = feed-Spelt _ no_wire w _ (rw m.spelt at (message_is_read [] packets m.each (rw m.spelt m.within))) in
+      rw (feed_all-append, read, feed_part (wire size limit) (after_packets packets) [] more (λ k a b q. omega arith))
 
   -- no input begins with two messages
   pub one_message : (a b : List Packet) (w v x y : List ℕ) → Message size limit a w → Message size limit b v → w ++ x ≡ v ++ y → a ≡ b
