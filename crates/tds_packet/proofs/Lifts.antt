@@ -1,5 +1,5 @@
 -- What is read inside a greater grammar.
-use Rattle.tds_packet.proofs.Words.{common_steps, ◌≡◌, ◌∙◌, inl, inr, ℕ, ◌<◌, List, [], ◌∷◌, ◌++◌, length, sym, ap, arith, append_assoc, append-nil, concat, Fault, Stop, Grammar, IsNext, Leads, Spelt, Seen, Reads, StopsReading}
+use Rattle.tds_packet.proofs.Words.{◌≡◌, ◌∙◌, inl, inr, ℕ, ◌<◌, List, [], ◌∷◌, ◌++◌, length, sym, ap, arith, append_assoc, append-nil, concat, Fault, Stop, Grammar, IsNext, Leads, Spelt, Seen, Reads, StopsReading}
 use Rattle.tds_packet.proofs.ElementLaws.{Inside, Inside-Spelt, Spelt-append, Spelt-none, Spelt-one}
 
 -- a state with a next element has some bytes to come

@@ -1,5 +1,5 @@
 -- Where a payload stops that hands out nothing.
-use Rattle.tds_packet.proofs.Words.{common_steps, PayloadOf, ◌≡◌, ◌∙◌, ℕ, ◌+◌, List, [], ◌++◌, length, Option, None, inl, inr, sym, ap, arith, length-append, add-zero, MessageEnded, ReadFailed, Payload, Stop, seen, Ends, Seen, began_at}
+use Rattle.tds_packet.proofs.Words.{PayloadOf, ◌≡◌, ◌∙◌, ℕ, ◌+◌, List, [], length, Option, None, inl, inr, sym, ap, arith, length-append, add-zero, MessageEnded, Payload, Stop, seen, Ends, Seen, began_at}
 use Rattle.tds_packet.proofs.WireFaults.{seen_keeps}
 
 -- where a payload stops that had not, and hands out nothing, the message ends at its place if it does

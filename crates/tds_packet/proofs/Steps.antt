@@ -1,5 +1,5 @@
 -- Calls that read by a grammar, one after another.
-use Rattle.tds_packet.proofs.Words.{common_steps, ◌≡◌, ◌∙◌, inl, inr, ℕ, ◌+◌, ◌<◌, List, [], ◌++◌, length, ap, arith, append_assoc, append-nil, length-append, Option, Some, Fault, MessageEnded, Payload, Stop, Grammar, IsNext, Seen, Takes, Ends, IsBetween, began_at, Reads, RefusesNext, StopsReading, IsCutStop}
+use Rattle.tds_packet.proofs.Words.{◌≡◌, ◌∙◌, inl, inr, ℕ, ◌+◌, ◌<◌, List, [], ◌++◌, length, ap, arith, append_assoc, append-nil, length-append, Option, Some, Fault, MessageEnded, Payload, Stop, Grammar, IsNext, Seen, Takes, Ends, IsBetween, began_at, Reads, RefusesNext, StopsReading, IsCutStop}
 use Rattle.tds_packet.proofs.{ElementLaws.Spelt-none, ElementLaws.Spelt-append, ElementLaws.Spelt-one, Futures.Takes-none, Futures.Takes-trans, Futures.Ends-after}
 
 -- bytes taken by two calls

@@ -9,11 +9,11 @@ laid_all charset n f is k d here = grind (arith, common_steps, get_or-replicate,
 
 -- one more form of many
 pub laid_set : (charset : Charset) (forms : List Form) (k : ℕ) (f : Form) → AreLaidOut charset forms → k < length forms → IsLaidOut charset f.kind f.layout → AreLaidOut charset (slice_set forms k f)
-laid_set charset forms k f all within is j d here = go (j == k) refl
+laid_set charset forms k f all within is j d here = go _ refl
   where
     go : (b : Bool) → (j == k) ≡ b → IsLaidOut charset (get_or (slice_set forms k f) j d).kind (get_or (slice_set forms k f) j d).layout
-    go true e = subst (λ (g : Form). IsLaidOut charset g.kind g.layout) (sym (get_or-set_at forms k j f d (eq_true j k e) within)) is
-    go false e = subst (λ (g : Form). IsLaidOut charset g.kind g.layout) (sym (get_or-set_other forms k j f d (eq_false j k e))) (all j d (omega (arith, here, length-set forms k f)))
+    go true e = rw (get_or-set_at forms k j f d (eq_true j k e) within) is
+    go false e = rw (get_or-set_other forms k j f d (eq_false j k e)) (all j d (omega (arith, length-set forms k f)))
 
 -- ---- a value that is there
 
