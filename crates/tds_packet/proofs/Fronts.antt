@@ -24,8 +24,7 @@ pub takes_begins : (size limit f : ℕ) (input rest : List ℕ) (q : Seen) (byte
     → BeginsMessage size limit input rest (bytes ++ (q.future []).bytes)
 takes_begins size limit f input rest q bytes n are left t b =
     let split = rw left at t.1.0 in
-    let now = rw append-nil at (t.1.1 []) in
-    rw split (all_packets size limit t.0 rest (bytes ++ (q.future []).bytes) q.wire _ (rw now at (front_message size limit t.0 (AreBytes-front t.0 rest (rw split at are)))) refl b.0 b.1 (omega arith))
+    rw split (all_packets size limit t.0 rest (bytes ++ (q.future []).bytes) q.wire _ (rw (rw append-nil at (t.1.1 [])) at (front_message size limit t.0 (AreBytes-front t.0 rest (rw split at are)))) refl b.0 b.1 (omega arith))
 
 -- a read failed after these packets, all that what was read has whole, and the header after them wasn't refused
 pub record FailsAfterPackets (size limit : ℕ) (input rest : List ℕ) (packets : List Packet) : Type 0 where
@@ -60,8 +59,7 @@ pub ends_front : (size limit f : ℕ) (input rest : List ℕ) (q : Seen) (payloa
 ends_front size limit f input rest q payload stop are left (inl x) = grind (arith, front_message size limit input are)
 ends_front size limit f input rest q payload stop are left (inr (inl x)) = grind (arith, append-nil, front_message size limit input are)
 ends_front size limit f input rest q payload stop are left (inr (inr x)) =
-    let split = rw left at x.1 in
-    grind (arith, append_assoc, front_message size limit x.0 (AreBytes-front x.0 rest (rw split at are)))
+    grind (arith, append_assoc, front_message size limit x.0 (AreBytes-front x.0 rest (rw (rw left at x.1) at are)))
 
 -- a message of which all was handed out
 pub over_front : (size limit f : ℕ) (input rest : List ℕ) (q : Seen) (bytes : List ℕ) (n : ℕ) → AreBytes input → q.left ≡ Some rest → Takes (begun size limit (Some input) f) q bytes n → (o : IsOver q)

@@ -78,8 +78,7 @@ module _ (size limit : ℕ) where
       → Spelt (wire size limit) (before_packet done) (wire_of (p ∷ packets)) (record { packets = done ++ p ∷ packets; place = place })
   one_is_read done p packets place h f more =
       let long : length (wire_of (done ++ p ∷ packets)) ≡ length (wire_of done) + (packet_length p + length (wire_of packets)) = simp (flat_map-append, length-append) (omega arith) in
-      let one = rw h.1 at (packet_is_read done p h.0 (omega arith)) in
-      Spelt-append _ _ _ _ _ _ one (rw append_assoc at (more (rw append_assoc f)))
+      Spelt-append _ _ _ _ _ _ (rw h.1 at (packet_is_read done p h.0 (omega arith))) (rw append_assoc at (more (rw append_assoc f)))
 
   -- packets before the last are read
   pub before_are_read : (done packets : List Packet) → AreBefore size packets → length (wire_of (done ++ packets)) ≤ limit → Spelt (wire size limit) (before_packet done) (wire_of packets) (before_packet (done ++ packets))

@@ -1,5 +1,5 @@
 -- Where a call stops with the fault of a device, that device failed in it.
-use Rattle.tds_rows.proofs.Words.{common_steps, arith, ◌≡◌, ◌∙◌, ◌⊎◌, inl, inr, ℕ, Bool, false, List, sym, ap, subst, Result, Err, Option, Some, None, IfErr, ⊤, one_more, Fault, ReadFailed, WriteFailed, Stop, seen, Seen, ends_blame, JoinFault, Sink, EndsBy, Pushes, Breaks, Held, PutsPiece, Blames, Failures, StopBlames, failures_with, CutsNumber, RefusesNumber, chunk_length_fault, join_stop, short_fault, total_fault}
+use Rattle.tds_rows.proofs.Words.{common_steps, arith, ◌≡◌, ◌∙◌, ◌⊎◌, inl, inr, ℕ, Bool, false, List, sym, ap, Result, Err, Option, Some, None, IfErr, ⊤, one_more, Fault, ReadFailed, WriteFailed, Stop, seen, Seen, ends_blame, JoinFault, Sink, EndsBy, Pushes, Breaks, Held, PutsPiece, Blames, Failures, StopBlames, failures_with, CutsNumber, RefusesNumber, chunk_length_fault, join_stop, short_fault, total_fault}
 use Rattle.tds_packet.specs.declared.payload.Payload.{Payload}
 
 pub same_failures : (a b c d : ℕ) → a ≡ c → b ≡ d → ◌≡◌ {A = Failures} (record { reads = a; writes = b }) (record { reads = c; writes = d })

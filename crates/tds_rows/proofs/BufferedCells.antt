@@ -1,5 +1,5 @@
 -- Cells whose bytes lie together, and the room that a sink lends for their text.
-use Rattle.tds_rows.proofs.Words.{common_steps, ◌≡◌, ◌≢◌, ◌∙◌, ℕ, ◌+◌, ◌-◌, ◌<◌, ◌≤◌, Bool, true, false, List, [], ◌++◌, length, take, drop, Result, Ok, Err, MatchResult, inr, refl, sym, ap, arith, ◌∷◌, length-take, length-drop, None, Some, Option, ◌==◌, ◌||◌, is_ok, slice_index, ne_eqb, Kind, IntN, ScalarValue, fixed_length, is_length_allowed, is_scalar, read_of, BadValueLength, Stop, Seen, Takes, IsBetween, choose_false, Spelt-none, Spelt-one, null_field, in_line, overwritten, Sink, Breaks, Held, IsWriting, Puts, PutsPiece, held, spare_before, spare_written, Charset, CellPart, Null, ScalarBytes, ScalarCell, ScalarLength, WholeCell, cell, cell_start, shape, unless, value_part, IsScalarLeft, IsValueText, length_after, start_after, value_length, value_start, WritesCell, take-add, HasInt4, int4_kind}
+use Rattle.tds_rows.proofs.Words.{common_steps, ◌≡◌, ◌≢◌, ◌∙◌, ℕ, ◌+◌, ◌-◌, ◌<◌, ◌≤◌, Bool, true, false, List, [], ◌++◌, length, take, drop, Result, Ok, Err, MatchResult, inr, refl, sym, ap, arith, ◌∷◌, length-take, length-drop, None, Some, Option, ◌||◌, is_ok, slice_index, ne_eqb, Kind, IntN, ScalarValue, fixed_length, is_length_allowed, is_scalar, read_of, BadValueLength, Stop, Seen, Takes, IsBetween, choose_false, Spelt-none, Spelt-one, null_field, in_line, overwritten, Sink, Breaks, Held, IsWriting, Puts, PutsPiece, held, spare_before, spare_written, Charset, CellPart, Null, ScalarBytes, ScalarCell, ScalarLength, cell, cell_start, shape, unless, value_part, IsScalarLeft, IsValueText, length_after, start_after, value_length, value_start, WritesCell, take-add, HasInt4, int4_kind}
 use Rattle.tds_rows.proofs.{CellSteps.fixed_some, CellSteps.scalar_shape, RowSteps.ReadsCell, RowSteps.at_once_breaks, RowSteps.at_once_streams, CellWords.PutsCell, CellWords.StopsCell}
 
 -- a value that is read has a length that is allowed
@@ -75,8 +75,7 @@ module _ (charset : Charset) (kind : Kind) (column : ℕ) (last : Bool) (bytes t
           rw (scalar_shape, e, whole) (fixed_written column kind m last bytes text (omega arith) (omega arith) (rw (none, all) at is))
       go None e =
           let one = at ∙ ap start_after e in
-          let first = sym (ap (λ o. length_after o bytes) e) ∙ sym many in
-          rw (scalar_shape, e, one) (counted_written column kind n last bytes text first some (omega arith) (rw one at is))
+          rw (scalar_shape, e, one) (counted_written column kind n last bytes text (sym (ap (λ o. length_after o bytes) e) ∙ sym many) some (omega arith) (rw one at is))
 
 -- a whole number of four bytes there
 pub int4_cell : (charset : Charset) (start column : ℕ) (last : Bool) (bytes text : List ℕ) → HasInt4 (int4_kind start) start bytes → IsValueText (IntN 4) column last (take 4 (drop start bytes)) text

@@ -1,5 +1,5 @@
 -- What a cell's spelling is read as.
-use Rattle.tds_rows.proofs.Words.{common_steps, ◌≡◌, ◌⊎◌, ℕ, suc, ◌+◌, ◌-◌, ◌/◌, ◌%◌, ◌<◌, ◌≤◌, Bool, true, List, [], ◌∷◌, ◌++◌, length, replicate, refl, sym, ◌∙◌, ap, subst, inl, inr, append_assoc, append-nil, arith, rules, length-append, Ok, Option, Some, None, ◌==◌, ◌&&◌, ◌||◌, nat_le, nat_lt, is_ok, if◌then◌else◌, concat, nat_tests, ne_eqb, and_from, or_left, or_right, Kind, Short, Chunked, ScalarValue, little, is_length_allowed, read_of, Conversion, unit, is_fit, is_begun, fit_units, fit_begins, Spelt, Fault, BadValue, BadValueLength, BadText, OddText, PlpLength, Spelt-step, Spelt-append, Cell, Null, ScalarCell, DataCell, Shape, FixedShape, CountedShape, LongShape, SpellsChunk, SpellsChunks, SpellsChunked, SpellsShort, SpellsCell, ScalarBytes, ScalarLength, ShortLength, ShortData, Total, ChunkLength, ChunkData, WholeCell, cell_start, cell, unless, within_total, is_total, end_of_chunks, value_part, known_total, unknown_total, null_total, choose_false, choose_true, test_lt, little-two}
+use Rattle.tds_rows.proofs.Words.{common_steps, ◌≡◌, ◌⊎◌, ℕ, suc, ◌+◌, ◌-◌, ◌/◌, ◌%◌, ◌<◌, ◌≤◌, Bool, true, List, [], ◌∷◌, ◌++◌, length, refl, sym, ◌∙◌, ap, subst, inl, inr, append_assoc, append-nil, arith, rules, length-append, Ok, Option, Some, None, ◌==◌, ◌||◌, nat_le, nat_lt, is_ok, if◌then◌else◌, concat, nat_tests, ne_eqb, and_from, or_left, or_right, Kind, Short, Chunked, ScalarValue, little, is_length_allowed, read_of, Conversion, unit, is_fit, fit_units, fit_begins, Spelt, Fault, BadValue, PlpLength, Spelt-step, Spelt-append, Cell, Null, ScalarCell, DataCell, Shape, FixedShape, CountedShape, LongShape, SpellsChunk, SpellsChunks, SpellsChunked, SpellsShort, SpellsCell, ScalarBytes, ScalarLength, ShortLength, ShortData, Total, ChunkLength, ChunkData, WholeCell, cell_start, cell, unless, within_total, is_total, end_of_chunks, value_part, known_total, unknown_total, null_total, choose_false, choose_true, test_lt, little-two}
 
 -- a fixed shape has bytes
 abbrev pub HasBytes : Shape → Type 0
@@ -32,11 +32,10 @@ module _ (column : ℕ) where
   short_data c d x [] h = Spelt-step _ _ _ _ (omega arith) refl (unless_true _ _ (and_from _ _ (fit_begins c _ [] (ap (is_fit c) (append-nil _) ∙ h)) h)) refl
   short_data c d x (y ∷ ys) h =
       let k : is_fit c _ ≡ true = rw append_assoc h in
-      let more = short_data c (d ++ x ∷ []) y ys k in
       let one = Spelt-step _ _ _ _ (omega arith) refl
       (unless_true _ _ (and_from _ _ (fit_begins c _ _ k) (or_left (nat_lt 0 (suc (length ys))) (is_fit c (d ++ x ∷ [])) (test_lt 0 (suc (length ys)) (omega arith))))) (search rules) in
       Spelt-append _ _ _ _ _ _ one
-      (subst (λ v. Spelt (cell column) (ShortData c (length ys) (d ++ x ∷ [])) (y ∷ ys) (WholeCell (DataCell c v))) (append_assoc d _ _) more)
+      (subst (λ v. Spelt (cell column) (ShortData c (length ys) (d ++ x ∷ [])) (y ∷ ys) (WholeCell (DataCell c v))) (append_assoc d _ _) (short_data c (d ++ x ∷ []) y ys k))
 
   short_length : (c : Conversion) (n : ℕ) → n < 65535 → n % unit c ≡ 0 → Spelt (cell column) (ShortLength c) (n % 256 ∷ n / 256 ∷ []) (if n == 0 then WholeCell (DataCell c []) else ShortData c (n - 1) [])
   short_length c n less even =
@@ -48,9 +47,8 @@ module _ (column : ℕ) where
   short_cell : (c : Conversion) (d bytes : List ℕ) → is_fit c d ≡ true → SpellsShort d bytes → Spelt (cell column) (ShortLength c) bytes (WholeCell (DataCell c d))
   short_cell c [] bytes h s = rw s.counted (short_length c 0 (omega arith) (grind arith))
   short_cell c (x ∷ xs) bytes h s =
-      let e = fit_units c _ h in
       let to = choose_false _ _ _ (ne_eqb (length (x ∷ xs)) 0 (λ q. omega arith)) ∙ ap (λ k. ShortData c k []) (omega arith) in
-      let head = subst (λ v. Spelt (cell column) (ShortLength c) (length (x ∷ xs) % 256 ∷ length (x ∷ xs) / 256 ∷ []) v) to (short_length c _ s.least e) in
+      let head = subst (λ v. Spelt (cell column) (ShortLength c) (length (x ∷ xs) % 256 ∷ length (x ∷ xs) / 256 ∷ []) v) to (short_length c _ s.least (fit_units c _ h)) in
       rw s.counted (Spelt-append _ _ _ _ _ _ head (short_data c [] x xs h))
 
   -- the data of a chunk, byte by byte
@@ -73,10 +71,9 @@ module _ (column : ℕ) where
   -- the chunks and the terminator
   chunks_cell : (c : Conversion) (total : Option ℕ) (d : List ℕ) (ds : List (List ℕ)) (bytes : List ℕ) → ((n : ℕ) → n ≤ length (d ++ concat ds) → within_total total n ≡ true) → is_total total (length (d ++ concat ds)) ≡ true → is_fit c (d ++ concat ds) ≡ true → SpellsChunks ds bytes → Spelt (cell column) (ChunkLength c total d) bytes (WholeCell (DataCell c (d ++ concat ds)))
   chunks_cell c total d [] bytes w t f s =
-      let whole = rw append-nil at t in
       let fit = rw append-nil at f in
       let end =
-      choose_true _ _ _ whole
+      choose_true _ _ _ (rw append-nil at t)
       ∙ choose_true _ _ _ (ap (λ n. n == 0) (fit_units c d fit)) ∙ unless_true _ _ fit in
       rw (s, append-nil) (Spelt-step _ _ _ _ (omega arith) refl end refl)
   chunks_cell c total d (x ∷ xs) bytes w t f s =
@@ -96,9 +93,8 @@ module _ (column : ℕ) where
     where
       from : (t : Option ℕ) → known_total (little s.total) ≡ t → little s.total < null_total → (nat_le unknown_total (little s.total) || (little s.total % unit c == 0)) ≡ true → ((n : ℕ) → n ≤ length d → within_total t n ≡ true) → is_total t (length d) ≡ true → Spelt (cell column) (Total c) (s.total ++ s.rest) (WholeCell (DataCell c d))
       from t known less even within whole =
-          let head = rw known at (total_cell c s.total s.eight less even) in
           let more = rw s.all at (chunks_cell c t [] s.chunks s.rest (rw s.all within) (rw s.all whole) (rw s.all f) s.each) in
-          Spelt-append _ _ s.total _ s.rest _ head more
+          Spelt-append _ _ s.total _ s.rest _ (rw known at (total_cell c s.total s.eight less even)) more
 
       go : (little s.total ≡ unknown_total) ⊎ ((little s.total ≡ length d) × (length d < unknown_total)) → Spelt (cell column) (Total c) (s.total ++ s.rest) (WholeCell (DataCell c d))
       go (inl u) = from None (ap known_total u) (omega arith) (rw u) (λ n h. refl) refl

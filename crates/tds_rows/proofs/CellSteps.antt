@@ -1,5 +1,5 @@
 -- The cells of scalar kinds, as they are read.
-use Rattle.tds_rows.proofs.Words.{common_steps, ◌≡◌, ◌≢◌, ◌∙◌, ℕ, ◌+◌, ◌<◌, true, false, List, [], ◌∷◌, ◌++◌, length, take, drop, refl, sym, ap, subst, arith, Result, Ok, Err, MatchResult, Option, Some, None, ◌==◌, ◌||◌, is_ok, slice_index, if◌then◌else◌, ne_eqb, take_all, Kind, fixed_length, is_length_allowed, is_scalar, read_of, Space, appended, BadValue, BadValueLength, MessageEnded, Stop, Seen, Takes, Ends, IsBetween, began_at, choose_false, began_is_cut, cut_at_once, reads_one, refused_at_once, stops_after, takes_both, EndsInto, TakesInto, Charset, CellPart, Null, ScalarBytes, ScalarLength, WholeCell, cell, cell_end, cell_size, cell_start, field_so_far, shape, shape_of_length, unless, GathersCell, IsScalarLeft, StallsCell, length_after, start_after, value_bytes, value_start, Payload}
+use Rattle.tds_rows.proofs.Words.{common_steps, ◌≡◌, ◌≢◌, ◌∙◌, ℕ, ◌+◌, ◌<◌, true, false, List, [], ◌∷◌, ◌++◌, length, take, drop, refl, sym, ap, subst, arith, Result, Ok, Err, MatchResult, Option, Some, None, ◌||◌, is_ok, slice_index, if◌then◌else◌, ne_eqb, take_all, Kind, fixed_length, is_length_allowed, is_scalar, read_of, Space, appended, BadValue, BadValueLength, MessageEnded, Stop, Seen, Takes, Ends, IsBetween, began_at, choose_false, began_is_cut, cut_at_once, reads_one, refused_at_once, stops_after, takes_both, EndsInto, TakesInto, Charset, CellPart, ScalarBytes, ScalarLength, cell, cell_end, cell_size, cell_start, field_so_far, shape, shape_of_length, unless, GathersCell, IsScalarLeft, StallsCell, length_after, start_after, value_bytes, value_start, Payload}
 
 pub scalar_shape : (charset : Charset) (kind : Kind) → is_scalar kind ≡ true → shape charset kind ≡ shape_of_length (fixed_length kind)
 scalar_shape charset kind h = grind (arith, common_steps)
@@ -44,19 +44,16 @@ fixed_gathers {column = column} {n = n} {place = place} {kind = kind} {a = a} {b
 module _ {column n place : ℕ} {kind : Kind} {a b : Seen} where
   pub length_refused : n ≢ 0 → is_length_allowed kind n ≡ false → Takes a b (n ∷ []) 1 → IsBetween b → StallsCell (ScalarLength kind) column a b place (record { fault = BadValueLength column; place = Payload place })
   length_refused some bad takes between =
-      let no = ap (λ v. v || is_length_allowed kind n) (ne_eqb n 0 some) ∙ bad in
       record {
         at = ScalarLength kind;
-        stops = refused_at_once _ _ a b place (n ∷ []) _ (omega arith) refl (ap (λ v. unless v (BadValueLength column)) no) takes between;
+        stops = refused_at_once _ _ a b place (n ∷ []) _ (omega arith) refl (ap (λ v. unless v (BadValueLength column)) (ap (λ v. v || is_length_allowed kind n) (ne_eqb n 0 some) ∙ bad)) takes between;
         quiet = refl;
       }
 
   -- where the value stops after a length that is allowed, the cell does
   length_then : {d : Seen} {middle : ℕ} {stop : Stop} → n ≢ 0 → is_length_allowed kind n ≡ true → Takes a b (n ∷ []) 1 → middle ≡ place + 1 → StallsCell (ScalarBytes kind n) column b d middle stop → StallsCell (ScalarLength kind) column a d place stop
   length_then some good takes at x =
-      let yes = ap (λ v. v || is_length_allowed kind n) (ne_eqb n 0 some) ∙ good in
-      let to = choose_false _ _ _ (ne_eqb n 0 some) in
-      let p = reads_one _ _ a b (n ∷ []) _ (record { some = omega arith; whole = refl; free = ap (λ v. unless v (BadValueLength column)) yes }) takes to in
+      let p = reads_one _ _ a b (n ∷ []) _ (record { some = omega arith; whole = refl; free = ap (λ v. unless v (BadValueLength column)) (ap (λ v. v || is_length_allowed kind n) (ne_eqb n 0 some) ∙ good) }) takes (choose_false _ _ _ (ne_eqb n 0 some)) in
       record { at = x.at; stops = stops_after _ _ _ a b _ place x.at _ p (rw at at x.stops); quiet = x.quiet }
 
 -- NULL was read
@@ -102,8 +99,7 @@ pub counted_taken : {U : Type 0} → (result : Result U Stop) (stopped : Option 
     → MatchResult result (λ _. TakesInto b d before after n) (λ stop. stopped ≡ None → EndsInto b d before after middle n stop)
     → MatchResult result (λ _. GathersCell kind (ScalarLength kind) column a d place place' after.bytes) (λ stop. StallsCell (ScalarLength kind) column a d place stop)
 counted_taken (Ok u) stopped column kind n a b d place middle place' before after is first some good takes at going there x =
-    let bytes = ap (λ s. s.bytes) x.stands ∙ ap (λ l. l ++ x.element) first in
-    rw bytes (counted_gathers b _ is some good takes at x.whole x.takes x.between there)
+    rw (ap (λ s. s.bytes) x.stands ∙ ap (λ l. l ++ x.element) first) (counted_gathers b _ is some good takes at x.whole x.takes x.between there)
 counted_taken (Err stop) stopped column kind n a b d place middle place' before after is first some good takes at going there x =
     let e = x going in
     length_then some good takes at (cell_cut e.part e.own refl refl refl e.fewer e.ends e.stop_is)

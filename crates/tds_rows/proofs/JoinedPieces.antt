@@ -103,9 +103,8 @@ good_within begins rest text old new h i failed piece fault x = grind arith
 module _ (c : Conversion) (content : List ℕ) (begun : BeginsData c content) where
   added_none : added_text c content [] ≡ []
   added_none =
-      let e = emit (conversion_rest c) (conversion_text c) in
       append_cancel_left _ _ []
-      (sym ((joins_by_name c).emits content [] (subst (BeginsData c) (sym (append-nil content)) begun)) ∙ ap e (append-nil content) ∙ sym (append-nil _))
+      (sym ((joins_by_name c).emits content [] (subst (BeginsData c) (sym (append-nil content)) begun)) ∙ ap (emit (conversion_rest c) (conversion_text c)) (append-nil content) ∙ sym (append-nil _))
 
   added_both : (more piece : List ℕ) → BeginsData c ((content ++ more) ++ piece) → added_text c content more ++ added_text c (content ++ more) piece ≡ added_text c content (more ++ piece)
   added_both more piece all =
@@ -133,7 +132,6 @@ module _ (c : Conversion) (content : List ℕ) (begun : BeginsData c content) wh
   fills_more : {kept more : List ℕ} {n : ℕ} {p q r : At} → length r.held.waiting < 4096 → r.held.delivered ≤ 2 ^ 64 - 1 → FillsData c content p.seen q.seen p.place q.place p.held q.held more → (x : TakesData c (content ++ more) kept q.seen r.seen q.place r.place q.held r.held n)
       → FillsData c content p.seen r.seen p.place r.place p.held r.held (more ++ x.piece)
   fills_more {more = more} {p = p} {q = q} {r = r} few delivered y x =
-      let some = x.some in
       record {
         takes = takes_both p.seen q.seen r.seen more x.piece y.takes (Takes-more q.seen r.seen x.piece 1 _ (omega arith) x.takes);
         between = x.between;

@@ -1,5 +1,5 @@
 -- Values in chunks: the chunks one after another, and the terminator.
-use Rattle.tds_rows.proofs.Words.{common_steps, ◌≡◌, ◌≢◌, ◌∙◌, inl, inr, ℕ, ◌+◌, ◌-◌, ◌^◌, ◌<◌, ◌≤◌, Bool, List, [], ◌++◌, length, refl, ap, arith, append-nil, length-append, Option, None, ne_eqb, Stop, Seen, choose_false, BeginsData, Conversion, IsFit, conversion_rest, is_quoted, unit, after_comma, Held, Puts, fit_by_test, Puts-none, ChunkLength, cell, PutsField, StopsField, cell_so_far, EndsData, ReadsNumber, StopsEnding, chunk_length_fault, ending, opening}
+use Rattle.tds_rows.proofs.Words.{◌≡◌, ◌≢◌, ◌∙◌, inl, inr, ℕ, ◌+◌, ◌-◌, ◌^◌, ◌<◌, ◌≤◌, Bool, List, [], ◌++◌, length, refl, ap, arith, append-nil, length-append, Option, None, Stop, Seen, BeginsData, Conversion, IsFit, conversion_rest, is_quoted, unit, after_comma, Held, Puts, fit_by_test, Puts-none, ChunkLength, cell, PutsField, StopsField, cell_so_far, EndsData, ReadsNumber, StopsEnding, chunk_length_fault, ending, opening}
 use Rattle.tds_rows.proofs.{LongSteps.chunk_holds, LongSteps.ending_text, LongSteps.ends_path, LongValues.field_of, LongValues.next_breaks, LongValues.next_path, LongValues.none_begins, LongValues.open_none, LongValues.reading_stops, Numbers.chunk_end, Numbers.chunk_start, Numbers.chunk_unfit, Paths.At, Paths.Path, Paths.path_both, Paths.path_none, Paths.path_stops, CellWords.chunk_left}
 
 -- the text that comes with the total
@@ -43,9 +43,8 @@ module _ {column : ℕ} {last : Bool} {c : Conversion} {total : Option ℕ} {kep
   -- one chunk more was read
   pub streamed_more : {kept' : List ℕ} {r : At} → n ≢ 0 → q.held.delivered ≤ 2 ^ 64 - 1 → r.held.delivered ≤ 2 ^ 64 - 1 → EndsData c x.content kept' d r.seen there r.place q.held r.held n → Streamed column last c total kept' (sum + n) p r
   streamed_more {r = r} some delivered most z =
-      let all = (x.content ++ z.front) ++ z.takes.piece in
       record {
-        content = all;
+        content = (x.content ++ z.front) ++ z.takes.piece;
         counted = omega (arith, length-append (x.content ++ z.front) z.takes.piece, length-append x.content z.front);
         begun = z.takes.begun;
         kept_is = z.takes.kept_is;

@@ -1,5 +1,5 @@
 -- Long values, in the grammar of a cell: the text of its parts, and the pieces of its content.
-use Rattle.tds_rows.proofs.Words.{common_steps, ◌≡◌, ◌∙◌, ◌⊎◌, inl, inr, ℕ, suc, ◌+◌, ◌-◌, ◌^◌, ◌<◌, ◌≤◌, Bool, true, false, List, [], ◌∷◌, ◌++◌, length, refl, sym, ap, subst, arith, append_assoc, append-nil, length-append, Option, Some, None, ◌&&◌, ◌||◌, nat_lt, and_from, cases_lt, ne_eqb, or_left, or_right, append_cancel_left, BadText, MessageEnded, Stop, Spelt, Seen, Takes, IsBetween, choose_false, test_lt, Spelt-none, Spelt-append, Spelt-step, Takes-more, began_is_cut, cut_at_once, BeginsData, Conversion, conversion_rest, conversion_text, is_begun, is_fit, is_quoted, closing, long_field, open_field, emit, after_comma, end_after, in_line, Breaks, Held, Puts, StopsStreaming, open_grows, open_closes, unfit_adds_none, begun_by_test, joins_by_name, breaks_somewhere, Breaks-after, Breaks-longer, Puts-none, Puts-trans, CellPart, ShortData, cell, cell_add, cell_end, cell_fault, cell_size, field_so_far, unless, cell_so_far, BreaksData, CutsData, EndsData, FillsData, RefusesData, StopsData, StopsFilling, added_text, ending, nil_of_length, Payload}
+use Rattle.tds_rows.proofs.Words.{common_steps, ◌≡◌, ◌∙◌, ◌⊎◌, inl, inr, ℕ, suc, ◌+◌, ◌-◌, ◌^◌, ◌<◌, ◌≤◌, Bool, true, false, List, [], ◌∷◌, ◌++◌, length, refl, sym, ap, subst, arith, append_assoc, append-nil, length-append, Option, Some, None, ◌&&◌, ◌||◌, nat_lt, and_from, cases_lt, ne_eqb, or_left, or_right, append_cancel_left, BadText, MessageEnded, Stop, Spelt, Seen, Takes, IsBetween, choose_false, test_lt, Spelt-append, Spelt-step, Takes-more, began_is_cut, cut_at_once, BeginsData, Conversion, conversion_rest, conversion_text, is_begun, is_fit, is_quoted, closing, long_field, open_field, emit, after_comma, end_after, in_line, Breaks, Held, Puts, StopsStreaming, open_grows, open_closes, unfit_adds_none, begun_by_test, joins_by_name, breaks_somewhere, Breaks-after, Breaks-longer, Puts-none, Puts-trans, CellPart, ShortData, cell, cell_add, cell_end, cell_fault, cell_size, field_so_far, unless, cell_so_far, BreaksData, CutsData, EndsData, FillsData, RefusesData, StopsData, StopsFilling, added_text, ending, nil_of_length, Payload}
 use Rattle.tds_rows.proofs.{Paths.At, Paths.Path, Paths.path_both, Paths.path_stops, NullTexts.line_grows, NullTexts.opened_text, LineTexts.after_append, CellLaws.unless_true, CellWords.chunk_left, CellWords.short_left}
 
 -- ---- content, byte by byte
@@ -36,9 +36,8 @@ module _ {column : ℕ} {c : Conversion} {state : ℕ → List ℕ → CellPart}
       let next : m ≡ suc k = omega arith in
       let regroup = sym (append_assoc d _ xs) in
       let more_begun = subst (BeginsData c) regroup begun in
-      let begun_one = (begun_by_test c _).1 ((joins_by_name c).front _ xs more_begun) in
       let good_one : k ≡ 0 → Good _ = λ none. subst (λ l. Good (d ++ x ∷ l)) (nil_of_length xs (omega arith)) (good (omega arith) (omega arith)) in
-      let one = Spelt-step _ _ _ _ (omega arith) (sym (holds.size k d)) (holds.free k d x begun_one good_one) (holds.add k d x) in
+      let one = Spelt-step _ _ _ _ (omega arith) (sym (holds.size k d)) (holds.free k d x ((begun_by_test c _).1 ((joins_by_name c).front _ xs more_begun)) good_one) (holds.add k d x) in
       let more = content_spelt (d ++ x ∷ []) xs k r refl more_begun (λ none some. subst Good regroup (good none (omega arith))) in
       rw (next, regroup) (Spelt-append _ _ _ _ xs _ one more)
 
@@ -75,16 +74,13 @@ module _ {column : ℕ} {c : Conversion} {state : ℕ → List ℕ → CellPart}
   adds_none : (d p : List ℕ) (x : ℕ) → BeginsData c (d ++ (p ++ x ∷ [])) → emit (conversion_rest c) (conversion_text c) ((d ++ p) ++ x ∷ []) ≡ emit (conversion_rest c) (conversion_text c) (d ++ p) → added_text c d (p ++ x ∷ []) ≡ added_text c d p
   adds_none d p x begun same =
       let laws = joins_by_name c in
-      let e = emit (conversion_rest c) (conversion_text c) in
       let regroup = sym (append_assoc d p _) in
-      let front = laws.front _ _ (subst (BeginsData c) regroup begun) in
-      append_cancel_left _ _ _ (sym (laws.emits d _ begun) ∙ ap e regroup ∙ same ∙ laws.emits d p front)
+      append_cancel_left _ _ _ (sym (laws.emits d _ begun) ∙ ap (emit (conversion_rest c) (conversion_text c)) regroup ∙ same ∙ laws.emits d p (laws.front _ _ (subst (BeginsData c) regroup begun)))
 
   -- the byte after some that are good is refused
   byte_refused : {a b : Seen} {h i : Held} {m : ℕ} (d good ahead : List ℕ) (y r place : ℕ) → m ≡ length good + suc r → BeginsData c (d ++ good) → cell_fault column (state (suc r) (d ++ good)) (y ∷ []) ≡ Some (BadText column) → Takes a b (good ++ y ∷ ahead) 1 → IsBetween b → Puts h i (added_text c d good)
       → StopsStreaming (cell column) (cell_so_far column last) (state m d) a b place h i false (record { fault = BadText column; place = Payload (place + length good) })
   byte_refused {a = a} {m = m} d good ahead y r place is begun bad takes between puts =
-      let all = (good ++ y ∷ []) ++ ahead in
       let next : suc (length good + r) ≡ m = omega arith in
       record {
         at = state _ _;
@@ -99,7 +95,7 @@ module _ {column : ℕ} {c : Conversion} {state : ℕ → List ℕ → CellPart}
                 some = omega arith;
                 whole = sym (holds.size r _);
                 first = bad;
-                takes = Takes-more a _ all 1 _ (omega (arith, length-append good (y ∷ []))) (rw append_assoc takes);
+                takes = Takes-more a _ ((good ++ y ∷ []) ++ ahead) 1 _ (omega (arith, length-append good (y ∷ []))) (rw append_assoc takes);
                 between = between;
               },
               refl,
@@ -142,8 +138,7 @@ module _ {column : ℕ} {c : Conversion} {state : ℕ → List ℕ → CellPart}
               broken good ahead _ _ stop (content_spelt d good _ 0 (omega arith) begun (λ _ _. fine)) takes between (text_closed d good w.0 r begun w.1) (Breaks-longer h i _ w.0 stop breaks))
           | inr none ↦
               (let front = (joins_by_name c).front _ _ (subst (BeginsData c) same begun) in
-              let adds = adds_none d p x begun none in
-              broken p _ _ _ stop (front_spelt d p 0 (omega (arith, length-append p (x ∷ []))) front) (rw append_assoc at takes) between (text_grown d p r 0 front) (rw adds at breaks))
+              broken p _ _ _ stop (front_spelt d p 0 (omega (arith, length-append p (x ∷ []))) front) (rw append_assoc at takes) between (text_grown d p r 0 front) (rw (adds_none d p x begun none) at breaks))
         ]
 
     piece_broken : (stop : Stop) → BreaksData c d (suc r) a b h i stop → StopsStreaming (cell column) (cell_so_far column last) (state (suc r) d) a b place h i true stop
@@ -164,7 +159,6 @@ module _ {column : ℕ} {c : Conversion} {state : ℕ → List ℕ → CellPart}
   -- the content stopped in one of its pieces
   pub filling_stops : {d : List ℕ} {m : ℕ} {p : At} {b : Seen} {i : Held} {failed : Bool} {stop : Stop} → StopsFilling c d column m p.seen b p.place p.held i failed stop → StopsStreaming (cell column) (cell_so_far column last) (state m d) p.seen b p.place p.held i failed stop
   filling_stops {m = m} x =
-      let fewer = x.fewer in
       let r = m - length x.front - 1 in
       let left : m - length x.front ≡ suc r = omega arith in
       path_stops (fills_path m r (omega arith) x.fills) (piece_stops _ _ _ _ x.there _ _ x.fills.few x.fills.delivered _ _ (rw left at x.stops))
@@ -212,7 +206,6 @@ module _ {column : ℕ} {c : Conversion} {state : ℕ → List ℕ → CellPart}
     pub ends_refused : ((e : List ℕ) (y : ℕ) → is_fit c (e ++ y ∷ []) ≡ false → cell_fault column (state 1 e) (y ∷ []) ≡ Some (BadText column)) → is_fit c all_content ≡ false
         → StopsStreaming (cell column) (cell_so_far column last) (state m d) p.seen q.seen p.place p.held q.held false (record { fault = BadText column; place = Payload (q.place - 1) })
     ends_refused bad unfit =
-        let some = x.takes.some in
         let s = snoc_of _ (omega arith) in
         let e = d ++ x.front in
         let f = s.0 in

@@ -1,5 +1,5 @@
 -- Long values, element after element: their lengths, the content between, and the end.
-use Rattle.tds_rows.proofs.Words.{common_steps, ◌≡◌, ◌∙◌, inl, inr, ℕ, zero, suc, ◌-◌, ◌^◌, ◌<◌, ◌≤◌, Bool, true, false, List, [], ◌∷◌, ◌++◌, length, sym, ap, arith, append-nil, Result, Ok, Err, MatchResult, subst, Option, drop-nil, take-nil, Stop, StopsReading, Seen, Takes, Spelt-one, Spelt-none, BeginsData, Conversion, HexDigits, IsFit, Utf16Text, Utf8Text, Windows1252Text, conversion_rest, conversion_text, is_quoted, open_field, emit, after_comma, binary_mark, in_line, null_field, quote, Sink, Breaks, Held, IsWriting, Puts, PutsPiece, held, begun_by_test, fit_begins, fit_by_test, no_data_is_fit, hex-nil, Breaks-after, Puts-none, Puts-trans, Breaks-longer, text_nil, Cell, CellPart, Null, ShortLength, WholeCell, cell, PutsField, StopsField, cell_so_far, EndsData, StopsEnding, ending, opening}
+use Rattle.tds_rows.proofs.Words.{common_steps, ◌≡◌, ◌∙◌, inl, inr, ℕ, zero, suc, ◌-◌, ◌^◌, ◌<◌, ◌≤◌, Bool, true, false, List, [], ◌∷◌, ◌++◌, length, sym, ap, arith, append-nil, Result, Ok, Err, MatchResult, Option, drop-nil, take-nil, Stop, StopsReading, Seen, Spelt-one, Spelt-none, BeginsData, Conversion, HexDigits, IsFit, Utf16Text, Utf8Text, Windows1252Text, conversion_rest, conversion_text, is_quoted, open_field, emit, after_comma, binary_mark, in_line, null_field, quote, Sink, Breaks, Held, IsWriting, Puts, PutsPiece, held, begun_by_test, fit_begins, fit_by_test, no_data_is_fit, hex-nil, Breaks-after, Puts-none, Puts-trans, Breaks-longer, text_nil, Cell, CellPart, Null, ShortLength, WholeCell, cell, PutsField, StopsField, cell_so_far, EndsData, StopsEnding, ending, opening}
 use Rattle.tds_rows.proofs.{LongSteps.ending_text, LongSteps.ends_break, LongSteps.ends_path, LongSteps.ends_refused, LongSteps.short_holds, LongSteps.short_refused, LongSteps.text_at, Numbers.Next, Paths.At, Paths.Path, Paths.path_both, Paths.path_of, Paths.streams_of, CellWords.short_left}
 
 -- ---- no content

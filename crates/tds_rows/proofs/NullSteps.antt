@@ -1,6 +1,6 @@
 -- Rows with NULLs by their bit, column after column, as they are read and their text is put.
-use Rattle.tds_rows.proofs.Words.{append-nil, common_steps, ◌≡◌, ◌∙◌, inl, inr, ℕ, ◌+◌, ◌-◌, ◌^◌, ◌<◌, ◌≤◌, Bool, true, false, List, [], ◌∷◌, ◌++◌, length, refl, sym, ap, subst, arith, length-append, map, Some, Fault, MessageEnded, Stop, Grammar, IsNext, Ends, IsBetween, Seen, Takes, began_at, Inside-Spelt, next_inside, next_some, stops_inside, began_is_cut, cut_at_once, Column, in_line, joined, null_field, Breaks, Held, Puts, BreaksStreaming, StopsStreaming, Nears, added_between, last_read, nears_after, nears_breaks, nears_done, nears_from, nears_inside, nears_put, tail_after, Breaks-longer, Puts-none, Charset, Cell, CellPart, Null, WholeCell, cell, cell_add, cell_size, cell_start, field, shape, cell_so_far, Bitmap, InCell, RowPart, bit, bitmap_length, marked, nbc_row_start, next_cell, row, row_so_far, row_start, with_cell, stops_size, ReadsRow, RowStops, Writes}
-use Rattle.tds_rows.proofs.{NullTexts.begun_text, NullTexts.coming, NullTexts.ends, NullTexts.line_grows, NullTexts.nulls_ahead, NullTexts.nulls_text, NullTexts.part_text, NullTexts.rest_of, RowLaws.begins_open, RowLaws.cell_in_row, RowLaws.shape-HasBytes, Paths.At, Paths.Path, Paths.path_both, Paths.path_map, Paths.path_none, Paths.path_of, Paths.path_stops, Paths.streams_of, Paths.writes_inside, RowSteps.PutsAt, RowSteps.StopsAt, RowSteps.cell_some, RowSteps.same_end, CellWords.StopsCell}
+use Rattle.tds_rows.proofs.Words.{append-nil, common_steps, ◌≡◌, ◌∙◌, inl, inr, ℕ, ◌+◌, ◌-◌, ◌^◌, ◌<◌, ◌≤◌, Bool, true, false, List, [], ◌∷◌, ◌++◌, length, refl, sym, ap, arith, length-append, map, Some, Fault, MessageEnded, Stop, Grammar, IsNext, Ends, IsBetween, Seen, Takes, began_at, Inside-Spelt, next_inside, next_some, stops_inside, began_is_cut, cut_at_once, Column, in_line, joined, null_field, Breaks, Held, Puts, BreaksStreaming, StopsStreaming, Nears, added_between, last_read, nears_after, nears_breaks, nears_done, nears_from, nears_inside, nears_put, tail_after, Breaks-longer, Puts-none, Charset, Cell, CellPart, Null, WholeCell, cell, cell_add, cell_size, cell_start, field, shape, cell_so_far, Bitmap, InCell, RowPart, bit, bitmap_length, marked, nbc_row_start, next_cell, row, row_so_far, row_start, with_cell, stops_size, ReadsRow, RowStops, Writes}
+use Rattle.tds_rows.proofs.{NullTexts.begun_text, NullTexts.coming, NullTexts.ends, NullTexts.line_grows, NullTexts.nulls_ahead, NullTexts.nulls_text, NullTexts.part_text, NullTexts.rest_of, RowLaws.begins_open, RowLaws.cell_in_row, Paths.At, Paths.Path, Paths.path_both, Paths.path_map, Paths.path_none, Paths.path_of, Paths.path_stops, Paths.streams_of, Paths.writes_inside, RowSteps.PutsAt, RowSteps.StopsAt, RowSteps.cell_some, RowSteps.same_end, CellWords.StopsCell}
 
 -- ---- a cell in its row, with the NULLs after it
 
@@ -49,14 +49,12 @@ module _ (charset : Charset) (cells : List Cell) (ks : List (Column × Bool)) wh
   stops_there : (from : CellPart) (b d : Seen) (place : ℕ) (i j : Held) (failed : Bool) (stop : Stop) → 0 < cell_size from → StopsStreaming small text from b d place i j failed stop → StopsStreaming big row_so_far (up from) b d place i j failed stop
   stops_there from b d place i j failed stop some x =
       let is = cell_in_row charset cells ks in
-      let begun = begun_text charset cells ks in
-      let grows = line_grows (length cells) (ends ks) in
       record {
         at = up x.at;
         cause = elim x.cause [
           | inl y ↦ inl (
             stops_inside small big up is from b d place x.at stop ((same_end charset cells ks) x.at (stops_size small from b d place x.at stop y.0)) y.0,
-            (y.1.0, added_between small big up is text row_so_far front begun grows from x.at y.1.0 some (stops_size small from b d place x.at stop y.0) y.1.1, y.1.2),
+            (y.1.0, added_between small big up is text row_so_far front (begun_text charset cells ks) (line_grows (length cells) (ends ks)) from x.at y.1.0 some (stops_size small from b d place x.at stop y.0) y.1.1, y.1.2),
             y.2,
           )
           | inr y ↦ inr (breaks_there from x.at b d i j stop some y.0, y.1)
@@ -96,12 +94,11 @@ all_ahead charset (c ∷ cs) nulls some = nulls_text charset [] ((c, nulls 0) �
 pub bitmap_nears : {charset : Charset} {p : At} {b : Seen} {place' : ℕ} (columns : List Column) (bitmap : List ℕ) → 0 < length columns → length bitmap ≡ bitmap_length (length columns) → Takes p.seen b bitmap (length bitmap) → IsBetween b → length p.held.waiting < 4096 → p.held.delivered ≤ 2 ^ 64 - 1
     → place' ≡ p.place + length bitmap → NearsCells charset (nbc_row_start columns) (marked columns (bit bitmap) 0) p (record { seen = b; place = place'; held = p.held }) 0
 bitmap_nears {p = p} columns bitmap some whole takes between few d at =
-    let begun = streams_of (path_none {p = p} d) in
     let next : IsNext _ _ bitmap = record { some = omega arith; whole = whole; free = refl } in
     record {
       cells = [];
       counted = refl;
-      nears = nears_from _ _ _ _ p.seen p.seen _ p.held p.held bitmap _ begun next takes between few d (all_ahead _ columns _ some);
+      nears = nears_from _ _ _ _ p.seen p.seen _ p.held p.held bitmap _ (streams_of (path_none {p = p} d)) next takes between few d (all_ahead _ columns _ some);
       place_is = at;
     }
 
@@ -160,12 +157,11 @@ module _ {charset : Charset} {start : RowPart} {c : Column} {ks : List (Column �
       let whole =
       nears_inside _ _ _ (cell_in_row charset x.cells ks) _ _ _ (begun_text charset x.cells ks) (line_grows n (ends ks)) begin _ _ _ _ _ tail z.streams some between few (part_text charset x.cells ks (WholeCell z.value)) in
       let begun = rw (sym (begins_open charset x.cells ks c.kind (shape charset c.kind))) at x.path in
-      let parts = (last_read _ begin _ _ _ some).joined in
       let near : NearsCells charset start ks p r _ = record {
         cells = x.cells ++ z.value ∷ [];
         counted = length-append x.cells _;
         nears = nears_after _ _ start _ p.seen q.seen r.seen p.held q.held r.held _ tail (streams_of begun) whole;
-        place_is = further begun.bytes _ _ _ p.place q.place r.place parts begun.place_is z.place_is;
+        place_is = further begun.bytes _ _ _ p.place q.place r.place ((last_read _ begin _ _ _ some).joined) begun.place_is z.place_is;
       } in
       rw x.counted at near
 

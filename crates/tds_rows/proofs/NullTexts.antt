@@ -1,6 +1,6 @@
 -- Columns that are NULL by their bit: their text stands after that of the element that is read before them.
-use Rattle.tds_rows.proofs.Words.{common_steps, ◌≡◌, ◌∙◌, ℕ, ◌+◌, ◌<◌, Bool, true, false, List, [], ◌∷◌, ◌++◌, length, refl, sym, ap, arith, append_assoc, append-nil, length-append, Option, Some, None, map, IsNext, next_some, Column, open_field, after_comma, end_after, in_line, joined, line, null_field, Charset, Cell, CellPart, ChunkData, ChunkLength, Null, ShortData, WholeCell, cell, cell_add, cell_size, field, field_so_far, cell_so_far, is_last_column, opened, RowPart, marked, next_cell, row_so_far, with_cell}
-use Rattle.tds_rows.proofs.{GrowingTexts.Grows, GrowingTexts.OptionGrows, GrowingTexts.cell_grows, GrowingTexts.grows_all, GrowingTexts.grows_same, GrowingTexts.grows_trans, GrowingTexts.grows_under, RowSteps.cell_more, RowSteps.fields_more, RowSteps.start_quiet}
+use Rattle.tds_rows.proofs.Words.{common_steps, ◌≡◌, ◌∙◌, ℕ, ◌+◌, ◌<◌, Bool, true, false, List, [], ◌∷◌, ◌++◌, length, refl, sym, ap, arith, append_assoc, append-nil, length-append, Option, Some, None, map, IsNext, next_some, Column, end_after, in_line, joined, null_field, Charset, Cell, CellPart, ChunkData, ChunkLength, Null, ShortData, WholeCell, cell, cell_add, cell_size, field, field_so_far, cell_so_far, is_last_column, opened, RowPart, marked, next_cell, row_so_far, with_cell}
+use Rattle.tds_rows.proofs.{GrowingTexts.Grows, GrowingTexts.OptionGrows, GrowingTexts.cell_grows, GrowingTexts.grows_all, GrowingTexts.grows_same, GrowingTexts.grows_trans, GrowingTexts.grows_under, RowSteps.cell_more, RowSteps.fields_more}
 
 -- whether no column follows
 abbrev pub ends : List (Column × Bool) → Bool
@@ -64,9 +64,7 @@ module _ (column : ℕ) (last : Bool) where
   -- each element of a cell adds to its text in its line
   pub line_grows : (p : CellPart) (e : List ℕ) → IsNext (cell column) p e → Grows (cell_so_far column last p) (cell_so_far column last (cell_add p e))
   line_grows p e n =
-      let here = opened column _ in
-      let there = cell_so_far column last _ in
-      rw (opened_text p (next_some _ p e n)) at (grows_trans here (opened column _) there (opened_grows _ _ (cell_grows column p e n)) (opened_to _))
+      rw (opened_text p (next_some _ p e n)) at (grows_trans (opened column _) (opened column _) (cell_so_far column last _) (opened_grows _ _ (cell_grows column p e n)) (opened_to _))
 
 -- ---- a cell in its row, with the NULLs after it
 

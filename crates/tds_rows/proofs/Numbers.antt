@@ -1,5 +1,5 @@
 -- The numbers of a long value, its length or total and those of its chunks, as elements of its cell: how each is judged, and where it leads.
-use Rattle.tds_rows.proofs.Words.{common_steps, ◌≡◌, ◌≢◌, ◌∙◌, ◌⊎◌, inl, inr, ℕ, ◌+◌, ◌<◌, true, false, List, [], length, refl, sym, ap, subst, arith, Option, Some, None, ◌==◌, ne_eqb, nat_tests, little, Fault, BadText, MessageEnded, Stop, IsNext, StopsReading, IsBetween, Seen, Takes, choose_false, choose_true, began_is_cut, cut_at_once, refused_at_once, Conversion, is_fit, unit, CellPart, ChunkLength, DataCell, Null, ShortLength, Total, WholeCell, cell, cell_add, cell_end, cell_fault, cell_size, known_total, null_total, unless, CutsNumber, ReadsNumber, RefusesNumber, chunk_length_fault, short_fault, short_length, total_fault, total_of, Payload}
+use Rattle.tds_rows.proofs.Words.{common_steps, ◌≡◌, ◌≢◌, ◌∙◌, ◌⊎◌, inl, inr, ℕ, ◌+◌, ◌<◌, true, false, List, [], length, refl, sym, ap, subst, arith, Option, Some, None, ◌==◌, ne_eqb, little, Fault, BadText, MessageEnded, Stop, IsNext, StopsReading, IsBetween, Seen, Takes, choose_false, choose_true, began_is_cut, cut_at_once, refused_at_once, Conversion, is_fit, unit, CellPart, ChunkLength, DataCell, Null, ShortLength, Total, WholeCell, cell, cell_add, cell_end, cell_fault, cell_size, known_total, null_total, unless, CutsNumber, ReadsNumber, RefusesNumber, chunk_length_fault, short_fault, short_length, total_fault, total_of, Payload}
 use Rattle.tds_rows.proofs.{CellLaws.unless_true, CellWords.chunk_left, CellWords.short_left}
 
 -- An element of a cell was read, which leads from one state to another.
@@ -54,15 +54,11 @@ module _ (column : ℕ) (c : Conversion) (size : ℕ) (unit_is : size ≡ unit c
   module _ {a b : Seen} {place place' : ℕ} {answer : Option (Option ℕ)} (x : (n : ℕ) × ReadsNumber 8 a b place place' n × (total_fault column size n ≡ None) × (answer ≡ total_of n)) where
     pub total_none : answer ≡ None → Next column (Total c) a b place place' (WholeCell Null)
     total_none is =
-        let told = sym is ∙ x.3 in
         let null : x.0 ≡ null_total = grind arith in
         next_by (omega arith) refl x.1 (total_same _ x.0 x.1.number ∙ x.2) (choose_true _ _ _ (ap (λ m. m == null_total) (x.1.number ∙ null)))
 
     pub total_start : {t : Option ℕ} → answer ≡ Some t → Next column (Total c) a b place place' (ChunkLength c t [])
     total_start {t} is =
-        let told = sym is ∙ x.3 in
-        let some : x.0 ≢ null_total = λ e. grind arith in
-        let known : known_total x.0 ≡ t = grind arith in
         let to : cell_add (Total c) _ ≡ ChunkLength c t [] = let number = x.1.number in grind arith in
         next_by (omega arith) refl x.1 (total_same _ x.0 x.1.number ∙ x.2) to
 

@@ -1,5 +1,5 @@
 -- The value of a RETURNVALUE, as it is passed over.
-use Rattle.tds_rows.proofs.Words.{common_steps, ◌≡◌, ◌∙◌, ◌⊎◌, inl, inr, ℕ, zero, suc, ◌+◌, ◌-◌, ◌%◌, ◌<◌, ◌≤◌, Bool, true, List, [], ◌++◌, length, refl, sym, ap, subst, arith, append-nil, length-append, Option, is_ok, Kind, Binary, Narrow, Wide, Reach, is_scalar, read_of, Stop, Spelt, Seen, Takes, IsBetween, began_at, Spelt-append, Spelt-one, Ends-after, Takes-none, Takes-trans, add_none, began_is_cut, reads_both, reads_none, stops_after, BeginsData, Conversion, HexDigits, Utf16Text, Windows1252Text, Charset, Cell, CellPart, ChunkLength, DataCell, LongShape, ShortLength, WholeCell, cell_end, cell_start, return_charset, shape, GathersCell, StallsCell, scalar_size, value_bytes, value_length, value_start, WritesCell, return_column, AnyData, CutsPassing, IsGoodValue, PassesCell, PassesData, StepsOver, StopsPassing, return_cell, begun_by_test, take_all}
+use Rattle.tds_rows.proofs.Words.{◌≡◌, ◌∙◌, ◌⊎◌, inl, inr, ℕ, zero, ◌+◌, ◌-◌, ◌%◌, ◌<◌, ◌≤◌, Bool, true, List, [], ◌++◌, length, refl, sym, ap, subst, arith, append-nil, length-append, Option, is_ok, Kind, Binary, Narrow, Wide, Reach, is_scalar, read_of, Stop, Spelt, Seen, Takes, IsBetween, began_at, Spelt-append, Spelt-one, Ends-after, Takes-none, Takes-trans, add_none, began_is_cut, reads_both, reads_none, stops_after, BeginsData, Conversion, Charset, Cell, CellPart, ChunkLength, DataCell, LongShape, ShortLength, WholeCell, cell_start, return_charset, shape, GathersCell, StallsCell, scalar_size, value_bytes, value_length, value_start, WritesCell, return_column, AnyData, CutsPassing, IsGoodValue, PassesCell, PassesData, StepsOver, StopsPassing, return_cell, begun_by_test, take_all}
 use Rattle.tds_rows.proofs.{BufferedCells.null_cell, BufferedCells.value_cell, LongSteps.HoldsContent, LongSteps.chunk_holds, LongSteps.content_spelt, LongSteps.short_holds, CellMeaning.is_ok_value, CellWords.chunk_left, CellWords.short_left}
 
 -- ---- elements
@@ -35,7 +35,6 @@ module _ {c : Conversion} {state : ℕ → List ℕ → CellPart} {Good : List �
   -- the payload stopped in it
   data_stops : {m : ℕ} {a b : Seen} {place : ℕ} {stop : Stop} (d : List ℕ) → CutsPassing m a b place stop → StopsPassing (state m d) a b place stop
   data_stops {m = m} {place = place} d x =
-      let r = m - length x.bytes - 1 in
       let at = state _ _ in
       record {
         at = at;
@@ -47,7 +46,7 @@ module _ {c : Conversion} {state : ℕ → List ℕ → CellPart} {Good : List �
             cut = omega arith;
             own = x.own;
             ends = rw (sym (append-nil x.bytes)) at x.ends;
-            stop_is = began_is_cut (place + length x.bytes) _ x.own _ (holds.end r _) x.stop_is;
+            stop_is = began_is_cut (place + length x.bytes) _ x.own _ (holds.end (m - length x.bytes - 1) _) x.stop_is;
           });
         };
       }

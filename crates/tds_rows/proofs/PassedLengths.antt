@@ -1,6 +1,6 @@
 -- Lengths and totals of the value of a RETURNVALUE, as it is passed over.
-use Rattle.tds_rows.proofs.Words.{common_steps, ◌≡◌, ◌≢◌, ◌∙◌, ℕ, ◌%◌, List, length, sym, ap, subst, arith, Option, Some, None, ◌==◌, if◌then◌else◌, OddText, PlpLength, Seen, eq_true, or_cases, Conversion, CellPart, ChunkLength, DataCell, WholeCell, is_total, unless, ReadsNumber, chunk_length_fault, short_fault, short_length, return_column, AnyData, StepsOver, return_cell, reads_one}
-use Rattle.tds_rows.proofs.{CellMeaning.unless_none, Numbers.Next, Numbers.chunk_end, Numbers.chunk_start, CellWords.chunk_left}
+use Rattle.tds_rows.proofs.Words.{◌≡◌, ◌≢◌, ◌∙◌, ℕ, ◌%◌, List, length, sym, ap, subst, arith, Option, Some, None, Seen, eq_true, Conversion, CellPart, ChunkLength, DataCell, WholeCell, ReadsNumber, chunk_length_fault, short_fault, short_length, return_column, AnyData, StepsOver, return_cell, reads_one}
+use Rattle.tds_rows.proofs.{Numbers.Next, Numbers.chunk_end, Numbers.chunk_start, CellWords.chunk_left}
 
 -- an element was read that leads on
 pub steps_of : {s t : CellPart} {a b : Seen} {place place' : ℕ} → Next return_column s a b place place' t → StepsOver s t a b place place'
@@ -16,9 +16,7 @@ module _ {c : Conversion} {size : ℕ} (any : AnyData c size) where
     pub end_steps : k ≡ 0 → StepsOver (ChunkLength c total content) (WholeCell (DataCell c content)) a b place place'
     end_steps zero =
         let none = sym is ∙ zero in
-        let last = subst (λ m. chunk_length_fault return_column size total sum m ≡ None) none free in
-        let even = eq_true _ 0 (grind arith) in
-        steps_of (chunk_end _ c size (sym any.unit_is) total content sum counted x free none (any.fit content (ap (λ m. m % size) counted ∙ even)))
+        steps_of (chunk_end _ c size (sym any.unit_is) total content sum counted x free none (any.fit content (ap (λ m. m % size) counted ∙ (eq_true _ 0 (grind arith)))))
 
     -- the length of a chunk was read
     pub chunk_steps : k ≢ 0 → StepsOver (ChunkLength c total content) (chunk_left c total k content) a b place place'

@@ -1,5 +1,5 @@
 -- The cells of a row, as they are read one after another and their text is put.
-use Rattle.tds_rows.proofs.Words.{common_steps, ◌≡◌, ◌∙◌, ℕ, ◌+◌, ◌^◌, ◌-◌, ◌<◌, ◌≤◌, Bool, false, List, [], ◌∷◌, ◌++◌, length, sym, ap, subst, arith, append-nil, length-append, None, map, length-map, map-append, Kind, Stop, IsNext, Leads, Spelt, concat, IsBetween, Seen, Takes, Spelt-append, Spelt-one, Column, joined, after_comma, in_line, Breaks, Held, Puts, BreaksStreaming, PutsText, StopsStreaming, Streams, Puts-none, Charset, Cell, CellPart, Shape, WholeCell, cell, cell_add, cell_end, cell_size, cell_start, field, field_so_far, shape, row, with_cell, StallsCell, cell_so_far}
+use Rattle.tds_rows.proofs.Words.{common_steps, ◌≡◌, ◌∙◌, ℕ, ◌+◌, ◌^◌, ◌-◌, ◌<◌, ◌≤◌, Bool, false, List, [], ◌∷◌, ◌++◌, length, sym, ap, arith, append-nil, length-append, None, map, length-map, map-append, Kind, Stop, IsNext, Leads, Spelt, concat, IsBetween, Seen, Takes, Spelt-append, Spelt-one, Column, joined, after_comma, in_line, Breaks, Held, Puts, BreaksStreaming, PutsText, StopsStreaming, Streams, Puts-none, Charset, Cell, CellPart, Shape, WholeCell, cell, cell_add, cell_end, cell_size, cell_start, field, field_so_far, row, with_cell, StallsCell, cell_so_far}
 use Rattle.tds_rows.proofs.{Paths.At, LineTexts.joined_snoc, CellWords.PutsCell, CellWords.StopsCell}
 
 -- A cell was read, of those whose text comes with the last element alone, and this is its text in its line.

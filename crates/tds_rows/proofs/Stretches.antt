@@ -1,5 +1,5 @@
 -- Runs over the cells of a row: before the first, one alone, one run after another, and one over columns that aren't NULL by their bit.
-use Rattle.tds_rows.proofs.Words.{common_steps, inl, inr, ◌≡◌, ◌∙◌, ℕ, zero, suc, ◌+◌, ◌-◌, ◌≤◌, ◌<◌, Bool, false, List, [], ◌++◌, length, take, drop, refl, sym, ap, subst, arith, append_assoc, append-nil, add-zero, Column, Charset, Ahead, Table, is_last_column, EndsLeft, RunsMarked, WritesColumn, WritesMarked, WritesNext, RunEnds, TakesColumn, Kind}
+use Rattle.tds_rows.proofs.Words.{inl, inr, ◌≡◌, ◌∙◌, ℕ, zero, suc, ◌+◌, ◌-◌, ◌≤◌, ◌<◌, Bool, false, List, [], ◌++◌, length, take, drop, refl, sym, ap, subst, arith, append_assoc, append-nil, add-zero, Column, Charset, Ahead, Table, is_last_column, EndsLeft, RunsMarked, WritesColumn, WritesMarked, WritesNext, RunEnds, TakesColumn, Kind}
 use Rattle.tds_rows.proofs.RunSteps.{made_more, used_more}
 
 -- no column is NULL by its bit
@@ -29,8 +29,7 @@ module _ (charset : Charset) (columns : List Column) where
   marked_clear nulls from zero bytes text clear x = x
   marked_clear nulls from (suc n) bytes text clear x =
       let last = x.7 in
-      let is = clear (from + n) (omega arith) (omega arith) in
-      let writes = subst (λ e. WritesNext charset e last.column.kind (from + n) (is_last_column last.left) x.1 x.3) (sym is) last.writes in
+      let writes = subst (λ e. WritesNext charset e last.column.kind (from + n) (is_last_column last.left) x.1 x.3) (sym (clear (from + n) (omega arith) (omega arith))) last.writes in
       let one : WritesColumn charset columns nulls (from + n) x.1 x.3 = record { column = last.column; left = last.left; next = last.next; writes = writes } in
       (x.0, x.1, x.2, x.3, x.4, x.5, marked_clear nulls from n x.0 x.2 (λ k least most. clear k least (omega arith)) x.6, one)
 

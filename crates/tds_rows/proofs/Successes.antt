@@ -1,7 +1,7 @@
 -- A call that reads what comes whole stops only where a device fails.
-use Rattle.tds_rows.proofs.Words.{common_steps, ◌≡◌, ◌∙◌, inl, inr, ℕ, ◌+◌, ◌<◌, Bool, List, [], ◌∷◌, ◌++◌, length, take, refl, sym, ap, subst, arith, append_assoc, append-nil, length-append, Result, Ok, Err, Option, Some, None, if◌then◌else◌, take-append_seam, nat_tests, Consumes, Rose, one_more, Fault, RefusedToken, Stop, Coming, before, Grammar, IsRefused, Longest, Spelt, CutsNext, RefusesNext, StopsReading, Ends, Seen, Inside-Spelt, Spelt-append, longest_at, longest_cut, longest_refused, no_further, one_longest, stops_inside, stops_after, Column, return_column, Sink, Conversion, Held, StopsStreaming, stops_size, Kind, Reach, Short, Chunked, Charset, Cell, CellPart, LongShape, SpellsCell, WholeCell, cell, cell_start, long_start, return_charset, shape, FieldPut, cell_so_far, CellPassed, return_cell, RowPut, RowsRead, RowsStop, RowPart, RowToken, SpellsRowAs, WholeRow, row, row_so_far, token_byte, token_start, RowsPart, rows, rows_start, BeginNoRow, Brings, ReadsOn, SpellsRows, SucceedsOn, length-take-le}
+use Rattle.tds_rows.proofs.Words.{◌≡◌, ◌∙◌, inl, inr, ℕ, ◌+◌, ◌<◌, Bool, List, [], ◌∷◌, ◌++◌, length, take, refl, sym, ap, subst, arith, append_assoc, append-nil, length-append, Result, Ok, Err, Option, Some, None, if◌then◌else◌, take-append_seam, nat_tests, Consumes, Rose, one_more, Fault, RefusedToken, Stop, before, Grammar, IsRefused, Longest, Spelt, CutsNext, RefusesNext, StopsReading, Ends, Seen, Inside-Spelt, Spelt-append, longest_at, longest_cut, longest_refused, no_further, one_longest, stops_inside, stops_after, Column, Sink, Conversion, Held, StopsStreaming, stops_size, Kind, Reach, Short, Chunked, Charset, Cell, CellPart, LongShape, SpellsCell, WholeCell, cell, cell_start, long_start, return_charset, shape, FieldPut, CellPassed, RowPut, RowsRead, RowsStop, RowPart, RowToken, SpellsRowAs, WholeRow, row, row_so_far, token_byte, token_start, RowsPart, rows, BeginNoRow, Brings, ReadsOn, SpellsRows, SucceedsOn, length-take-le}
 use Rattle.tds_packet.specs.declared.payload.Payload.{Payload}
-use Rattle.tds_rows.proofs.{CellLaws.cell_is_read, RowLaws.nbc_row_is_read, RowLaws.row_is_read, RowLaws.shape-HasBytes, RowLaws.some_bitmap, RunSteps.row_among_rows, RunSteps.row_token}
+use Rattle.tds_rows.proofs.{CellLaws.cell_is_read, RowLaws.nbc_row_is_read, RowLaws.row_is_read, RowLaws.shape-HasBytes, RunSteps.row_among_rows, RunSteps.row_token}
 
 -- a call that fails raises the count
 pub rose : (f : ℕ) → Rose f (one_more f)
@@ -64,8 +64,7 @@ none_stops g text from to front more brings spelt none reads writes x = elim x.c
   | inl y ↦ none_stops_reading g from to front more brings spelt none reads y.0
   | inr y ↦
       (let z = y.0 in
-      let same = z.puts.2.4 in
-      writes (subst (Rose _) (sym (z.breaks.9 ∙ ap one_more same)) (rose _)))
+      writes (subst (Rose _) (sym (z.breaks.9 ∙ ap one_more z.puts.2.4)) (rose _)))
 ]
 
 -- ---- the calls
@@ -113,12 +112,10 @@ module _ (token : RowToken) (charset : Charset) (columns : List Column) (some_co
   rows_are_read before first (next ∷ later) bytes h =
       let byte = token_byte token in
       let from = begun_after before in
-      let whole = among before _ in
       let there = begun_after (before ++ first ∷ []) in
       let t = rows_are_read (before ++ first ∷ []) next later h.1 h.4 in
-      let one = Spelt-append all_rows from h.0 whole (byte ∷ []) there (row_of_rows before first h.0 h.3) (row_token token charset columns before first some_columns).spelt in
-      let two = Spelt-append all_rows from _ there h.1 _ one t.2 in
-      (t.0, t.1, subst (λ v. Spelt all_rows from v (among t.0 (WholeRow t.1))) (append_assoc h.0 (byte ∷ []) h.1 ∙ sym h.2) two)
+      let one = Spelt-append all_rows from h.0 (among before _) (byte ∷ []) there (row_of_rows before first h.0 h.3) (row_token token charset columns before first some_columns).spelt in
+      (t.0, t.1, subst (λ v. Spelt all_rows from v (among t.0 (WholeRow t.1))) (append_assoc h.0 (byte ∷ []) h.1 ∙ sym h.2) (Spelt-append all_rows from _ there h.1 _ one t.2))
 
   -- where no row follows, the last one is the end
   pub longest_rows : (from : RowsPart) (earlier : List (List Cell)) (last : List Cell) (front more : List ℕ) → Spelt all_rows from front (among earlier (WholeRow last)) → BeginNoRow token more
@@ -132,18 +129,15 @@ module _ (token : RowToken) (charset : Charset) (columns : List Column) (some_co
   rows_stop_not {place = place} {stop = stop} first later front more brings spelt none reads writes x = elim x.stops.cause [
     | inl y ↦
         (let t = rows_are_read [] first later front spelt in
-        let there = longest_rows _ t.0 t.1 front more t.2 none in
         let at = x.stops.at in
         let some = stops_size _ x.part x.middle _ (place + length _) at stop y.0 in
         let among_rows = stops_inside _ all_rows _ (row_among_rows token charset columns _) x.part x.middle _ (place + length _) at stop (grind arith) y.0 in
         let all = stops_after all_rows _ _ _ x.middle _ place _ stop (record { bytes = x.streams.bytes; spelt = x.streams.spelt; takes = x.streams.takes }) among_rows in
-        let same = stopped_there all_rows _ _ _ _ front more brings there reads place _ stop all in
-        let last = ap (λ p. p.at) same in
-        omega (arith, ap (row charset).size last))
+        let same = stopped_there all_rows _ _ _ _ front more brings (longest_rows _ t.0 t.1 front more t.2 none) reads place _ stop all in
+        omega (arith, ap (row charset).size (ap (λ p. p.at) same)))
     | inr y ↦
         (let z = y.0 in
-        let same = z.puts.2.4 ∙ x.streams.puts.2.4 in
-        writes (subst (Rose _) (sym (z.breaks.9 ∙ ap one_more same)) (rose _)))
+        writes (subst (Rose _) (sym (z.breaks.9 ∙ ap one_more (z.puts.2.4 ∙ x.streams.puts.2.4))) (rose _)))
   ]
 
   pub rows_succeed : {R W : Type 0} (remaining : R → Option (List ℕ)) (contents : W → Option (List ℕ)) (old new : Payload R) (before after : Sink W) (result : Result ℕ Stop) (first : List Cell) (later : List (List Cell)) (bytes more : List ℕ)

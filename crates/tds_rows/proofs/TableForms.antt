@@ -1,5 +1,5 @@
 -- The forms of the next columns of a row, as a table gives them.
-use Rattle.tds_rows.proofs.Words.{common_steps, ◌≡◌, ◌∙◌, inl, inr, ℕ, ◌+◌, ◌<◌, ◌≤◌, Bool, false, List, ◌∷◌, length, take, drop, get_or, refl, sym, ap, arith, ◌⊎◌, ◌==◌, ◌&&◌, map, drop-map, drop-take, drop_more, get_or-drop, get_or-take, length-take-le, take-map, length-drop, take-take, Column, Form, CELL_ROOM, FormsRun, Ahead, Table, IsLeft, FirstLeft, FirstWritten, FormsWritten, AreLaidOut, RunsMarked, OneWritten, AreAhead, IsAhead, Knows, NextColumn, kinds, nat_tests}
+use Rattle.tds_rows.proofs.Words.{common_steps, ◌≡◌, ◌∙◌, inl, inr, ℕ, ◌+◌, ◌<◌, ◌≤◌, Bool, false, List, ◌∷◌, length, take, drop, get_or, refl, sym, ap, arith, ◌⊎◌, ◌==◌, ◌&&◌, map, drop-map, drop-take, drop_more, length-take-le, take-map, length-drop, take-take, Column, Form, CELL_ROOM, FormsRun, Ahead, Table, IsLeft, FirstLeft, FirstWritten, FormsWritten, AreLaidOut, RunsMarked, OneWritten, AreAhead, IsAhead, Knows, NextColumn, kinds, nat_tests}
 use Rattle.tds_rows.proofs.{FormSteps.some_first, TableRuns.one_next}
 
 -- those that a table knows, from a place in a row on
@@ -60,5 +60,4 @@ module _ (table : Table) (from : Ahead) (end : ℕ) (forms : List Form) (within 
   first_left bytes room x columns column left knows is step =
       let first = some_first forms ahead.some in
       let n = first_next first.0 first.1 first.2 columns knows is in
-      let kind_is = n.kind ∙ ap (λ r. (get_or r 0 column).kind) (sym n.next ∙ step) in
-      elim (x first.0 first.1 first.2) [ inl few ↦ inl few | inr y ↦ inr (refl, rw kind_is at y) ]
+      elim (x first.0 first.1 first.2) [ inl few ↦ inl few | inr y ↦ inr (refl, rw (n.kind ∙ ap (λ r. (get_or r 0 column).kind) (sym n.next ∙ step)) at y) ]

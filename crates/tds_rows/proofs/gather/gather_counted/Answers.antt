@@ -1,5 +1,5 @@
 use Rattle.tds_rows.proofs.Words.{◌∙◌, get_or, refl, sym, ap, passed}
-use Rattle.tds_rows.proofs.CellSteps.{cell_cut, counted_taken, length_refused, length_taken, null_gathers}
+use Rattle.tds_rows.proofs.CellSteps.{cell_cut, counted_taken, length_refused, length_taken}
 use Rattle.tds_rows.proofs.gather.gather_counted.Goals as goal
 
 pub returns-in_err-take_into-clause-gives : goal.returns-in_err-take_into-clause-gives

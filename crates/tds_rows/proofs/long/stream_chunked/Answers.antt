@@ -1,5 +1,5 @@
 use Rattle.tds_rows.proofs.Words.{◌∙◌, [], append-nil, refl, passed, MatchResult-weaker, total_fault}
-use Rattle.tds_rows.proofs.Blames.{blames_after, length_blames, piece_blames, read_stops, same_failures, total_none as total_blames, write_stops}
+use Rattle.tds_rows.proofs.Blames.{length_blames, read_stops, total_none as total_blames}
 use Rattle.tds_rows.proofs.{LongChunks.total_text, LongValues.field_puts, LongValues.next_breaks, LongValues.next_path, LongValues.null_puts, LongValues.reading_stops, Numbers.total_none, Numbers.total_start, Numbers.total_stops, Paths.path_stops}
 use Rattle.tds_rows.proofs.long.stream_chunked.Goals as goal
 

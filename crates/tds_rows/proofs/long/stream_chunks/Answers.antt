@@ -1,5 +1,5 @@
 use Rattle.tds_rows.proofs.Words.{◌≡◌, ◌∙◌, arith, refl, rules, sym, MatchResult-weaker, passed, chunk_length_fault}
-use Rattle.tds_rows.proofs.{LongChunks.chunk_path, LongChunks.chunks_end_stops, LongChunks.chunks_whole, LongChunks.streamed_more, LongChunks.streamed_none, LongSteps.chunk_holds, LongSteps.filling_stops, Numbers.chunk_stops, Paths.path_stops, LongValues.reading_stops, LongValues.rest_none, Blames.blames_after, Blames.chunk_none, Blames.length_blames, Blames.read_stops, Blames.same_failures, Blames.stops_after}
+use Rattle.tds_rows.proofs.{LongChunks.chunk_path, LongChunks.chunks_end_stops, LongChunks.chunks_whole, LongChunks.streamed_more, LongChunks.streamed_none, LongSteps.chunk_holds, LongSteps.filling_stops, Numbers.chunk_stops, Paths.path_stops, LongValues.reading_stops, LongValues.rest_none, Blames.chunk_none, Blames.length_blames, Blames.read_stops, Blames.same_failures, Blames.stops_after}
 use Rattle.tds_rows.proofs.long.stream_chunks.Goals as goal
 
 pub loop-n-init : goal.loop-n-init

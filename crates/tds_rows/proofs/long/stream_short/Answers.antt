@@ -1,5 +1,5 @@
 use Rattle.tds_rows.proofs.Words.{◌∙◌, ◌<◌, ◌++◌, ℕ, [], List, arith, refl, rules, sym, MatchResult-weaker, passed, short_fault}
-use Rattle.tds_rows.proofs.Blames.{blames_after, length_blames, piece_blames, read_stops, same_failures, short_none as short_blames, stops_after, write_stops}
+use Rattle.tds_rows.proofs.Blames.{length_blames, read_stops, short_none as short_blames}
 use Rattle.tds_rows.proofs.{LongValues.empty_puts, LongValues.empty_stops, LongValues.field_puts, LongValues.next_breaks, LongValues.next_path, LongValues.none_begins, LongValues.null_puts, LongValues.reading_stops, LongValues.rest_none, LongValues.short_end_stops, LongValues.short_open, LongValues.short_text, LongValues.short_whole, LongSteps.filling_stops, LongSteps.short_holds, Numbers.short_none, Numbers.short_start, Numbers.short_stops, Paths.path_stops}
 use Rattle.tds_rows.proofs.long.stream_short.Goals as goal
 

@@ -1,4 +1,4 @@
-use Rattle.tds_rows.proofs.{Successes.field_succeeds, Successes.long_is_read, Blames.reads_named, Blames.writes_named}
+use Rattle.tds_rows.proofs.{Successes.field_succeeds, Successes.long_is_read}
 use Rattle.tds_rows.proofs.long.stream_value.Goals as goal
 
 pub returns-clause-succeeds : goal.returns-clause-succeeds

@@ -1,5 +1,5 @@
 use Rattle.tds_rows.proofs.Words.{◌∙◌, arith, refl, rules, passed, between_of}
-use Rattle.tds_rows.proofs.{JoinedPieces.filled_ends, JoinedPieces.filled_more, JoinedPieces.filled_none, JoinedPieces.filled_stops, Blames.stops_after}
+use Rattle.tds_rows.proofs.{JoinedPieces.filled_more, JoinedPieces.filled_none, JoinedPieces.filled_stops}
 use Rattle.tds_rows.proofs.long.data.push_data.Goals as goal
 
 pub loop-left-init : goal.loop-left-init

@@ -1,5 +1,5 @@
-use Rattle.tds_rows.proofs.Words.{inl, refl, arith, seen, passed, at_err, at_ok, stops_here, held, ends_blame}
-use Rattle.tds_rows.proofs.{JoinedPieces.good_within, JoinedPieces.piece_taken, JoinedPieces.push_stops, Blames.push_blames, Blames.read_stops, Blames.same_failures}
+use Rattle.tds_rows.proofs.Words.{inl, refl, arith, seen, passed, at_err, at_ok, stops_here, ends_blame}
+use Rattle.tds_rows.proofs.{JoinedPieces.piece_taken, JoinedPieces.push_stops, Blames.read_stops}
 use Rattle.tds_rows.proofs.long.data.push_piece.Goals as goal
 
 pub returns-in_err-piece-clause-gives : goal.returns-in_err-piece-clause-gives

@@ -1,5 +1,4 @@
-use Rattle.tds_rows.proofs.Words.{refl}
-use Rattle.tds_rows.proofs.{JoinedPieces.end_puts, JoinedPieces.end_stops, JoinedPieces.end_whole, Blames.blames_after, Blames.end_blames, Blames.piece_blames, Blames.same_failures}
+use Rattle.tds_rows.proofs.{JoinedPieces.end_puts, JoinedPieces.end_stops, JoinedPieces.end_whole}
 use Rattle.tds_rows.proofs.long.data.put_end.Goals as goal
 
 pub returns-in-Ok-clause-gives : goal.returns-in-Ok-clause-gives
