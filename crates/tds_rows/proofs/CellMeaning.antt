@@ -1,5 +1,5 @@
 -- What the bytes that lead to a part of a cell spell.
-use Rattle.tds_rows.proofs.Words.{common_steps, ◌≡◌, ℕ, ◌+◌, ◌/◌, ◌%◌, ◌^◌, ◌<◌, Bool, true, List, [], ◌∷◌, ◌++◌, length, replicate, refl, sym, ◌∙◌, ap, subst, append_assoc, append-nil, arith, length-append, Result, Ok, Option, Some, None, ◌==◌, ◌&&◌, ◌||◌, nat_lt, is_ok, slice_index, if◌then◌else◌, concat, concat-append, Kind, Short, Chunked, ScalarValue, ValueFault, little, is_length_allowed, read_of, Conversion, is_fit, is_begun, no_data_is_fit, AreBytes, Spelt, IsNext, Spelt-induct, AreBytes-front, AreBytes-back, Fault, PlpLength, Cell, Null, ScalarCell, Shape, FixedShape, CountedShape, LongShape, SpellsChunk, SpellsChunks, SpellsCell, CellPart, ScalarBytes, ScalarLength, ShortLength, ShortData, Total, ChunkLength, ChunkData, WholeCell, cell_start, cell_add, cell, unless, within_total, is_total, end_of_chunks, chunk_fault, value_part, known_total, null_total, choose, eq_true, eq_false, one_byte, two_bytes}
+use Rattle.tds_rows.proofs.Words.{common_steps, ◌≡◌, ℕ, ◌+◌, ◌/◌, ◌%◌, ◌^◌, ◌<◌, Bool, true, List, [], ◌∷◌, ◌++◌, length, replicate, refl, sym, ◌∙◌, ap, append_assoc, append-nil, arith, length-append, Result, Ok, Option, Some, None, ◌==◌, ◌&&◌, ◌||◌, nat_lt, is_ok, slice_index, if◌then◌else◌, concat, concat-append, Kind, Short, Chunked, ScalarValue, ValueFault, little, is_length_allowed, read_of, Conversion, is_fit, is_begun, no_data_is_fit, AreBytes, Spelt, IsNext, Spelt-induct, AreBytes-front, AreBytes-back, Fault, PlpLength, Cell, Null, ScalarCell, Shape, FixedShape, CountedShape, LongShape, SpellsChunk, SpellsChunks, SpellsCell, CellPart, ScalarBytes, ScalarLength, ShortLength, ShortData, Total, ChunkLength, ChunkData, WholeCell, cell_start, cell_add, cell, unless, within_total, end_of_chunks, chunk_fault, value_part, known_total, null_total, choose, eq_true, eq_false, one_byte, two_bytes}
 
 -- a test that gave no fault passed
 pub unless_none : (b : Bool) (f : Fault) → unless b f ≡ None → b ≡ true

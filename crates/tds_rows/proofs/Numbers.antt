@@ -1,5 +1,5 @@
 -- The numbers of a long value, its length or total and those of its chunks, as elements of its cell: how each is judged, and where it leads.
-use Rattle.tds_rows.proofs.Words.{common_steps, ◌≡◌, ◌≢◌, ◌∙◌, ◌⊎◌, inl, inr, ℕ, ◌+◌, ◌<◌, true, false, List, [], length, refl, sym, ap, subst, arith, Option, Some, None, ◌==◌, ne_eqb, little, Fault, BadText, MessageEnded, Stop, IsNext, StopsReading, IsBetween, Seen, Takes, choose_false, choose_true, began_is_cut, cut_at_once, refused_at_once, Conversion, is_fit, unit, CellPart, ChunkLength, DataCell, Null, ShortLength, Total, WholeCell, cell, cell_add, cell_end, cell_fault, cell_size, known_total, null_total, unless, CutsNumber, ReadsNumber, RefusesNumber, chunk_length_fault, short_fault, short_length, total_fault, total_of, Payload}
+use Rattle.tds_rows.proofs.Words.{common_steps, ◌≡◌, ◌≢◌, ◌∙◌, ◌⊎◌, inl, inr, ℕ, ◌+◌, ◌<◌, true, false, List, [], length, refl, sym, ap, subst, arith, Option, Some, None, ◌==◌, ne_eqb, little, Fault, BadText, MessageEnded, Stop, IsNext, StopsReading, IsBetween, Seen, Takes, choose_false, choose_true, began_is_cut, cut_at_once, refused_at_once, Conversion, is_fit, unit, CellPart, ChunkLength, DataCell, Null, ShortLength, Total, WholeCell, cell, cell_add, cell_end, cell_fault, cell_size, null_total, unless, CutsNumber, ReadsNumber, RefusesNumber, chunk_length_fault, short_fault, short_length, total_fault, total_of, Payload}
 use Rattle.tds_rows.proofs.{CellLaws.unless_true, CellWords.chunk_left, CellWords.short_left}
 
 -- An element of a cell was read, which leads from one state to another.

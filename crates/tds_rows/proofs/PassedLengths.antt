@@ -1,5 +1,5 @@
 -- Lengths and totals of the value of a RETURNVALUE, as it is passed over.
-use Rattle.tds_rows.proofs.Words.{◌≡◌, ◌≢◌, ◌∙◌, ℕ, ◌%◌, List, length, sym, ap, subst, arith, Option, Some, None, Seen, eq_true, Conversion, CellPart, ChunkLength, DataCell, WholeCell, ReadsNumber, chunk_length_fault, short_fault, short_length, return_column, AnyData, StepsOver, return_cell, reads_one}
+use Rattle.tds_rows.proofs.Words.{◌≡◌, ◌≢◌, ◌∙◌, ℕ, ◌%◌, List, length, sym, ap, arith, Option, Some, None, Seen, eq_true, Conversion, CellPart, ChunkLength, DataCell, WholeCell, ReadsNumber, chunk_length_fault, short_fault, short_length, return_column, AnyData, StepsOver, return_cell, reads_one}
 use Rattle.tds_rows.proofs.{Numbers.Next, Numbers.chunk_end, Numbers.chunk_start, CellWords.chunk_left}
 
 -- an element was read that leads on

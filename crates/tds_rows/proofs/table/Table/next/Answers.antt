@@ -1,4 +1,4 @@
-use Rattle.tds_rows.proofs.TableSteps.{none_next, takes}
+use Rattle.tds_rows.proofs.TableSteps.{takes}
 use Rattle.tds_rows.proofs.table.Table.next.Goals as goal
 
 pub returns-clause-gives : goal.returns-clause-gives
