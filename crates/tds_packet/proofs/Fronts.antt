@@ -58,8 +58,7 @@ pub ends_front : (size limit f : ℕ) (input rest : List ℕ) (q : Seen) (payloa
     → EndsMessage size limit input rest payload f q.failures stop ⊎ StopsAfterPackets size limit input rest payload f q.failures stop
 ends_front size limit f input rest q payload stop are left (inl x) = grind (arith, front_message size limit input are)
 ends_front size limit f input rest q payload stop are left (inr (inl x)) = grind (arith, append-nil, front_message size limit input are)
-ends_front size limit f input rest q payload stop are left (inr (inr x)) =
-    grind (arith, append_assoc, front_message size limit x.0 (AreBytes-front x.0 rest (rw (rw left at x.1) at are)))
+ends_front size limit f input rest q payload stop are left (inr (inr x)) = grind (arith, append_assoc, front_message size limit x.0 (AreBytes-front x.0 rest (rw (rw left at x.1) at are)))
 
 -- a message of which all was handed out
 pub over_front : (size limit f : ℕ) (input rest : List ℕ) (q : Seen) (bytes : List ℕ) (n : ℕ) → AreBytes input → q.left ≡ Some rest → Takes (begun size limit (Some input) f) q bytes n → (o : IsOver q)

@@ -56,8 +56,7 @@ Takes-trans a b c hs bs n m le p q =
     (p.0 ++ q.0, (Consumes-trans a.left b.left c.left p.0 q.0 p.1.0 q.1.0, follows), omega (arith, length-append p.0 q.0), needs, Stays-trans _ _ _ p.0 q.0 p.4 q.4)
 
 pub Ends-after : (a b c : Seen) (hs bs : List ℕ) (n : ℕ) (e : Stop) → Takes a b hs n → Ends b c bs e → Ends a c (hs ++ bs) e
-Ends-after a b c hs bs n e p (inl y) =
-    inl (p.0 ++ y.0, Consumes-trans a.left b.left c.left p.0 y.0 p.1.0 y.1, (λ zs. rw (append_assoc, p.1.1, y.2)), Stays-trans _ _ c.failures p.0 y.0 p.4 y.3)
+Ends-after a b c hs bs n e p (inl y) = inl (p.0 ++ y.0, Consumes-trans a.left b.left c.left p.0 y.0 p.1.0 y.1, (λ zs. rw (append_assoc, p.1.1, y.2)), Stays-trans _ _ c.failures p.0 y.0 p.4 y.3)
 Ends-after a b c hs bs n e p (inr (inl y)) = grind (arith, common_steps, Consumes-trans)
 Ends-after a b c hs bs n e p (inr (inr y)) = grind (arith, common_steps, Rises-after)
 

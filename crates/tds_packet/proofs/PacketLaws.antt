@@ -38,8 +38,7 @@ module _ (size limit : ℕ) where
   wire_step packets BeforeHeader b e bytes h n =
       let good : Good size limit packets e = free_is_good size limit packets e n.whole bytes n.free in
       choose (λ w. WireMeans size limit w.packets w.place (b ++ e)) (header_length e == 8) (with_packet packets _) (record { packets = packets; place = BeforeBody e })
-      (λ z. (let eight : header_length e ≡ 8 = eq_true (header_length e) 8 z in rw h.0 (rw append-nil at (with_means packets e [] h.1 good (omega arith)))))
-      (λ z. (rw h.0 refl, h.1, good))
+      (λ z. (let eight : header_length e ≡ 8 = eq_true (header_length e) 8 z in rw h.0 (rw append-nil at (with_means packets e [] h.1 good (omega arith))))) (λ z. (rw h.0 refl, h.1, good))
   wire_step packets (BeforeBody header) b e bytes h n = grind (arith, append_assoc, with_means)
 
   -- what is read of a wire are the packets that it begins with

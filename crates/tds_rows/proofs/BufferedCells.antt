@@ -120,8 +120,7 @@ module _ (h j : Held) (room written : List ℕ) (n : ℕ) (whole : length writte
 pub put_cell : {W U : Type 0} {column place place' : ℕ} {last : Bool} {a b : Seen} {text : List ℕ} (r : Result U Stop) (charset : Charset) (kind : Kind) (contents : W → Option (List ℕ)) (old new : Sink W) → IsWriting old
     → ReadsCell (cell_start kind (shape charset kind)) column last a b place place' text → PutsPiece contents old new text r
     → MatchResult r (λ _. PutsCell charset kind column last a b place place' (held contents old) (held contents new)) (λ stop. StopsCell charset kind column last a b place (held contents old) (held contents new) new.failed stop)
-put_cell (Ok u) charset kind contents old new going y x =
-    record { value = y.value; streams = at_once_streams kind _ _ _ _ _ _ _ _ _ _ y x.gives; place_is = y.place_is }
+put_cell (Ok u) charset kind contents old new going y x = record { value = y.value; streams = at_once_streams kind _ _ _ _ _ _ _ _ _ _ y x.gives; place_is = y.place_is }
 put_cell (Err stop) charset kind contents old new going y x =
     let breaks = at_once_breaks kind _ _ _ _ _ _ _ _ _ _ stop going.ready.2 (going.ready.1 going.writing) y (x.gives going.writing) in
     record { at = y.at; cause = inr (breaks, x.failed) }

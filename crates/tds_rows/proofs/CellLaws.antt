@@ -40,8 +40,7 @@ module _ (column : ℕ) where
   short_length : (c : Conversion) (n : ℕ) → n < 65535 → n % unit c ≡ 0 → Spelt (cell column) (ShortLength c) (n % 256 ∷ n / 256 ∷ []) (if n == 0 then WholeCell (DataCell c []) else ShortData c (n - 1) [])
   short_length c n less even =
       let l = little-two n in
-      Spelt-step _ _ _ _ (omega arith) refl (unless_true _ _
-      (or_right (little (n % 256 ∷ n / 256 ∷ []) == 0xFFFF) (little (n % 256 ∷ n / 256 ∷ []) % unit c == 0) (rw l (rw even))))
+      Spelt-step _ _ _ _ (omega arith) refl (unless_true _ _ (or_right (little (n % 256 ∷ n / 256 ∷ []) == 0xFFFF) (little (n % 256 ∷ n / 256 ∷ []) % unit c == 0) (rw l (rw even))))
       (rw l (choose_false _ _ _ (ne_eqb n 0xFFFF (λ e. omega arith))))
 
   short_cell : (c : Conversion) (d bytes : List ℕ) → is_fit c d ≡ true → SpellsShort d bytes → Spelt (cell column) (ShortLength c) bytes (WholeCell (DataCell c d))

@@ -83,8 +83,7 @@ module _ (charset : Charset) where
   -- the cells to come begin
   next_grows : (cells : List Cell) (ks : List (Column × Bool)) → Grows (joined (map field cells)) (row_so_far (next_cell charset cells ks))
   next_grows cells [] = grind arith
-  next_grows cells ((k, true) ∷ ks) =
-      grows_trans _ _ _ (rw (sym (map-append field cells (Null ∷ []))) at (joined_more (map field cells) (null_field ∷ []))) (next_grows _ ks)
+  next_grows cells ((k, true) ∷ ks) = grows_trans _ _ _ (rw (sym (map-append field cells (Null ∷ []))) at (joined_more (map field cells) (null_field ∷ []))) (next_grows _ ks)
   next_grows cells ((k, false) ∷ ks) = with_field_grows _ None (field_so_far (cell_start k.kind (shape charset k.kind))) tt
 
   -- a cell in its row
@@ -100,6 +99,4 @@ module _ (charset : Charset) where
   row_grows (Bitmap columns) e n = grows_all _
   row_grows (WholeRow cells) e n = grows_same _
   row_grows (InCell cells part ks) e n =
-      grows_trans _ _ _
-      (with_field_grows _ _ _ (cell_grows _ part e (record { some = n.some; whole = n.whole; free = n.free })))
-      (with_cell_grows cells ks _)
+      grows_trans _ _ _ (with_field_grows _ _ _ (cell_grows _ part e (record { some = n.some; whole = n.whole; free = n.free }))) (with_cell_grows cells ks _)

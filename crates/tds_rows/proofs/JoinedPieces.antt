@@ -167,15 +167,7 @@ module _ {c : Conversion} {content kept : List ℕ} {p q : At} {n left : ℕ} (b
   pub filled_stops : {column : ℕ} {d : Seen} {j : Held} {failed : Bool} {stop : Stop} → 0 < left → StopsData c (content ++ x.more) column left q.seen d q.place q.held j failed stop → StopsFilling c content column n p.seen d p.place p.held j failed stop
   filled_stops {column = column} {d = d} {j = j} {failed = failed} {stop = stop} some y =
       let rest : left ≡ n - length x.more = omega (arith, x.counted) in
-      record {
-        front = x.more;
-        middle = q.seen;
-        there = q.place;
-        between = q.held;
-        fewer = omega (arith, x.counted, some);
-        fills = x.fills;
-        stops = rw (← rest) y;
-      }
+      record { front = x.more; middle = q.seen; there = q.place; between = q.held; fewer = omega (arith, x.counted, some); fills = x.fills; stops = rw (← rest) y }
 
 -- the end of content that is whole was put, or a write of it failed
 pub end_puts : {W U : Type 0} (contents : W → Option (List ℕ)) (c : Conversion) (quoted last : Bool) (content : List ℕ) (column place : ℕ) (a b d : Sink W) (r : Result U Stop)

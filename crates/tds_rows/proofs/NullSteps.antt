@@ -62,8 +62,7 @@ module _ (charset : Charset) (cells : List Cell) (ks : List (Column × Bool)) wh
       }
 
   pub marked_stops : (c : Column) (b d : Seen) (place : ℕ) (i j : Held) (failed : Bool) (stop : Stop) → StopsCell charset c.kind (length cells) (ends ks) b d place i j failed stop → RowStops charset (InCell cells (cell_start c.kind (shape charset c.kind)) ks) b d place i j failed stop
-  marked_stops c b d place i j failed stop x =
-      rw (← begins_open charset cells ks c.kind _) (stops_there _ b d place i j failed stop (grind arith) x)
+  marked_stops c b d place i j failed stop x = rw (← begins_open charset cells ks c.kind _) (stops_there _ b d place i j failed stop (grind arith) x)
 
   -- a cell in its row, with no NULL by its bit after it
   pub row_cell : (c : Column) → nulls_ahead (length cells + 1) ks ≡ [] → {bytes made : List ℕ} {v : Cell} → Writes (cell (length cells)) (cell_so_far (length cells) (ends ks)) (cell_start c.kind (shape charset c.kind)) bytes made (WholeCell v)

@@ -63,8 +63,7 @@ module _ (column : ℕ) (last : Bool) where
 
   -- each element of a cell adds to its text in its line
   pub line_grows : (p : CellPart) (e : List ℕ) → IsNext (cell column) p e → Grows (cell_so_far column last p) (cell_so_far column last (cell_add p e))
-  line_grows p e n =
-      rw (opened_text p (next_some _ p e n)) at (grows_trans (opened column _) (opened column _) (cell_so_far column last _) (opened_grows _ _ (cell_grows column p e n)) (opened_to _))
+  line_grows p e n = rw (opened_text p (next_some _ p e n)) at (grows_trans (opened column _) (opened column _) (cell_so_far column last _) (opened_grows _ _ (cell_grows column p e n)) (opened_to _))
 
 -- ---- a cell in its row, with the NULLs after it
 

@@ -22,8 +22,7 @@ number_stops {column = column} {place = place} {s = s} {a = a} {b = b} {stop = s
     let r = x.reads in
     let told = ap (λ q. record { fault = stop.fault; place = q }) (sym x.stands) in
     subst (λ t. StopsReading (cell column) s a b place s t) told (refused_at_once _ s a b place _ _ (omega arith) (r.whole ∙ sym is) (first _ x.n _ r.number x.first) r.takes r.between)
-number_stops some is end first (inr x) =
-    cut_at_once _ _ _ _ _ x.part x.own _ (let few = x.fewer in omega arith) x.ends (began_is_cut _ _ x.own _ end x.stop_is)
+number_stops some is end first (inr x) = cut_at_once _ _ _ _ _ x.part x.own _ (let few = x.fewer in omega arith) x.ends (began_is_cut _ _ x.own _ end x.stop_is)
 
 -- ---- the length of a short value
 
@@ -76,8 +75,7 @@ module _ (column : ℕ) (c : Conversion) (size : ℕ) (unit_is : size ≡ unit c
 
       -- after content that isn't, it is refused
       pub chunk_unfit : n ≡ 0 → is_fit c content ≡ false → StopsReading (cell column) (ChunkLength c total content) a b place (ChunkLength c total content) (record { fault = BadText column; place = Payload place })
-      chunk_unfit none unfit =
-          refused_at_once _ _ a b place _ _ (omega arith) x.whole (grind arith ∙ ap (λ f. unless f (BadText column)) unfit) x.takes x.between
+      chunk_unfit none unfit = refused_at_once _ _ a b place _ _ (omega arith) x.whole (grind arith ∙ ap (λ f. unless f (BadText column)) unfit) x.takes x.between
 
       -- the length of a chunk was read
       pub chunk_start : n ≢ 0 → Next column (ChunkLength c total content) a b place place' (chunk_left c total n content)

@@ -9,11 +9,7 @@ step_none : {s : CellPart} {a : Seen} {place : ℕ} → IsBetween a → StepsOve
 step_none between = record { reads = reads_none return_cell _ _; between = between; place_is = sym (add_none _) }
 
 steps_both : {s t u : CellPart} {a b d : Seen} {place middle place' : ℕ} → StepsOver s t a b place middle → StepsOver t u b d middle place' → StepsOver s u a d place place'
-steps_both x y = record {
-  reads = reads_both _ _ _ _ _ _ _ x.reads y.reads;
-  between = y.between;
-  place_is = omega (arith, length-append x.reads.bytes y.reads.bytes);
-}
+steps_both x y = record { reads = reads_both _ _ _ _ _ _ _ x.reads y.reads; between = y.between; place_is = omega (arith, length-append x.reads.bytes y.reads.bytes) }
 
 pub stops_after_steps : {s t : CellPart} {a b d : Seen} {place middle : ℕ} {stop : Stop} → StepsOver s t a b place middle → StopsPassing t b d middle stop → StopsPassing s a d place stop
 stops_after_steps x y = record { at = y.at; stops = stops_after return_cell _ _ _ _ _ _ y.at _ x.reads (rw x.place_is at y.stops) }

@@ -11,8 +11,7 @@ pub returns-then-not-length_allowed-clause-gives : goal.returns-then-not-length_
 returns-then-not-length_allowed-clause-gives g c =
     let x = c.in_ok-take_into.ensures.gives in
     let taken = length_taken c.requires.gathering.empty (ap (λ l. get_or l 0 0) (sym c.bytes.ensures.value)) x in
-    rw (c.in_payload.ensures, c.place-place.ensures)
-    (length_refused c.if-n-eq0.false (sym c.length_allowed.ensures ∙ c.if-not-length_allowed.true) taken.1 x.between)
+    rw (c.in_payload.ensures, c.place-place.ensures) (length_refused c.if-n-eq0.false (sym c.length_allowed.ensures ∙ c.if-not-length_allowed.true) taken.1 x.between)
 
 pub returns-clause-gives : goal.returns-clause-gives
 returns-clause-gives g c =
