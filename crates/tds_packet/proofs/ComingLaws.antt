@@ -1,6 +1,6 @@
 -- What comes of an input is the payload of the packets at its front.
-use Rattle.tds_packet.proofs.Words.{dec_le, common_steps, flat_map-append, ◌≡◌, ◌⊎◌, ℕ, zero, suc, ◌+◌, ◌-◌, ◌<◌, ◌≤◌, Bool, true, false, List, [], ◌∷◌, ◌++◌, length, take, drop, refl, inl, inr, append_assoc, append-nil, arith, length-append, length-drop, take-append_seam, take-append-drop, length-take-le, drop-append_seam, Option, Some, None, ◌==◌, nat_lt, nat_tests, Fault, InputEnded, Wire, AreBytes, IsRefused, Longest, Spelt, Packet, packet_bytes, wire_of, payload_of, is_last, IsPacket, WirePlace, BeforeHeader, BeforeBody, WirePart, no_wire, header_length, packet_of, header_fault, wire, wire_size, wire_end, AreBefore, Coming, FrontPacket, before, WholePacket, packet_after_header, front_packet, after_packet, message, whole_message, IsFrontMessage}
-use Rattle.tds_packet.proofs.{ElementLaws.AreBytes-back, ElementLaws.AreBytes-front, ElementLaws.Spelt-append, ElementLaws.Spelt-step, ElementLaws.longest_cut, ElementLaws.longest_refused, PacketLaws.before_are_read, PacketLaws.before_packet, PacketLaws.free_is_good, PacketLaws.last_one, PacketLaws.one_more, PacketLaws.read_front}
+use Rattle.tds_packet.proofs.Words.{dec_le, flat_map-append, ◌≡◌, ◌⊎◌, ℕ, zero, suc, ◌+◌, ◌-◌, ◌<◌, ◌≤◌, Bool, true, false, List, [], ◌∷◌, ◌++◌, length, take, drop, refl, inl, inr, append_assoc, append-nil, arith, length-append, length-drop, take-append_seam, take-append-drop, length-take-le, drop-append_seam, Option, Some, None, ◌==◌, nat_lt, Fault, Wire, AreBytes, IsRefused, Longest, Spelt, Packet, packet_bytes, wire_of, payload_of, is_last, IsPacket, WirePlace, BeforeBody, WirePart, no_wire, header_length, packet_of, header_fault, wire, wire_size, wire_end, AreBefore, Coming, FrontPacket, before, WholePacket, packet_after_header, front_packet, after_packet, message, whole_message, IsFrontMessage}
+use Rattle.tds_packet.proofs.{ElementLaws.AreBytes-back, ElementLaws.AreBytes-front, ElementLaws.Spelt-append, ElementLaws.Spelt-step, ElementLaws.longest_cut, ElementLaws.longest_refused, PacketLaws.before_are_read, PacketLaws.free_is_good, PacketLaws.last_one, PacketLaws.one_more, PacketLaws.read_front}
 
 -- what comes after these packets, by the packet that follows them
 module _ (size limit : ℕ) (packets : List Packet) where
@@ -13,9 +13,9 @@ module _ (size limit : ℕ) (packets : List Packet) where
       → c.bytes ≡ payload_of packets → c.stop ≡ record { fault = fault; place = Wire (length (wire_of packets)) } → IsFrontMessage size limit (front ++ rest) c
   stops_at front rest place fault c are each spelt cause bytes stop =
       let g = wire size limit in
-      let longest : Longest g no_wire (front ++ rest) (length front) (at place) = elim cause [ inl x ↦ longest_refused g _ front rest _ _ spelt x | inr x ↦ longest_cut g _ front rest _ spelt x.0 ] in
-      let front_is = read_front size limit (front ++ rest) (length front) (at place) are longest in
-      grind (arith, drop-append_seam front rest)
+      let longest : Longest g no_wire (front ++ rest) _ (at place) = elim cause [ inl x ↦ longest_refused g _ front rest _ _ spelt x | inr x ↦ longest_cut g _ front rest _ spelt x.0 ] in
+      let front_is = read_front size limit (front ++ rest) _ (at place) are longest in
+      grind (arith, drop-append_seam)
 
   -- what comes after these packets is the message at the front, by the packet that follows them
   abbrev Gives : ℕ → List ℕ → FrontPacket → Type 0
@@ -33,7 +33,7 @@ module _ (size limit n : ℕ) (packets : List Packet) (each : AreBefore size pac
   whole_gives p wired more last count comes are fits long limited less is =
       let joined : wire_of (packets ++ p ∷ []) ≡ wire_of packets ++ wired = simp (flat_map-append, append-nil, fits.0) in
       let bodies : payload_of (packets ++ p ∷ []) ≡ payload_of packets ++ p.body = simp (flat_map-append, append-nil) in
-      elim last as (λ t. is_last p ≡ t → Gives size limit packets n (wire_of packets ++ (wired ++ more)) (WholePacket p.body t count more)) [
+      elim last as (λ t. is_last p ≡ t → Gives size limit packets n _ (WholePacket p.body t count more)) [
         | true ↦ λ e. (let all = last_one size packets p each fits.1 e in grind (arith, append-nil, append_assoc, length-append))
         | false ↦ λ e. simp (joined, bodies, length-append, append_assoc, long) at (comes (packets ++ p ∷ []) more (rw (joined, append_assoc) are) (one_more size packets p each fits.1 e) (rw (joined, length-append, long) limited) less)
       ] is
@@ -43,39 +43,39 @@ module _ (size limit n : ℕ) (packets : List Packet) (each : AreBefore size pac
       → Gives size limit packets n (wire_of packets ++ (header ++ rest)) (packet_after_header header rest o)
   header_gives header rest (Some fault) comes are eight less is =
       let first : take 8 (header ++ rest) ≡ header = rw (← eight) (take-append_seam header rest) in
-      stops_at size limit packets (wire_of packets) (header ++ rest) BeforeHeader fault _ are each (before_are_read size limit [] packets each within)
-      (inl (record { some = omega arith; whole = omega (arith, length-append header rest); first = rw first is })) (append-nil (payload_of packets)) refl
+      stops_at size limit packets _ (header ++ rest) _ fault _ are each (before_are_read size limit [] packets each within)
+      (inl (record { some = omega arith; whole = omega (arith, length-append header rest); first = rw first is })) (append-nil _) refl
   header_gives header rest None comes are eight less free =
       let m = header_length header - 8 in
-      let good = free_is_good size limit packets header eight (AreBytes-front header rest (AreBytes-back (wire_of packets) (header ++ rest) are)) free in
+      let good = free_is_good size limit packets header eight (AreBytes-front header rest (AreBytes-back _ (header ++ rest) are)) free in
       elim (dec_le m (length rest)) [
         | yes enough ↦
-            (let test : nat_lt (length rest) m ≡ false = grind (arith, nat_tests) in
+            (let test : nat_lt (length rest) m ≡ false = grind arith in
             let body = length-take-le m rest enough in
-            let again : (packet_bytes (packet_of header (take m rest)) ≡ header ++ take m rest) × IsPacket size (packet_of header (take m rest)) = grind (arith, common_steps) in
+            let again : (packet_bytes (packet_of header (take m rest)) ≡ header ++ take m rest) × IsPacket size (packet_of header (take m rest)) = grind arith in
             let all : (header ++ take m rest) ++ drop m rest ≡ header ++ rest = rw (append_assoc, take-append-drop) in
-            rw (test, ← all) (whole_gives (packet_of header (take m rest)) (header ++ take m rest) (drop m rest) _ (header_length header) comes (rw all are) again
-            (omega (arith, length-append header (take m rest), body, good.least)) good.within (omega (arith, length-drop m rest)) refl))
+            rw (test, ← all) (whole_gives _ (header ++ take m rest) _ _ _ comes (rw all are) again
+            (omega (arith, length-append header (take m rest))) good.within (omega (arith, length-drop m rest)) refl))
         | no short ↦
-            (let test : nat_lt (length rest) m ≡ true = grind (arith, nat_tests) in
-            let off : (header_length header == 8) ≡ false = grind (arith, nat_tests) in
-            let inside = Spelt-step (wire size limit) (before_packet size limit packets) header (at size limit packets (BeforeBody header)) (omega (arith, eight)) eight free (rw off) in
-            let read = Spelt-append (wire size limit) _ _ _ _ _ (before_are_read size limit [] packets each within) inside in
-            rw (test, ← append_assoc) (stops_at size limit packets (wire_of packets ++ header) rest (BeforeBody header) InputEnded _ (rw append_assoc are) each read (inr (omega arith, refl)) (append-nil (payload_of packets)) refl))
+            (let test : nat_lt (length rest) m ≡ true = grind arith in
+            let off : (header_length header == 8) ≡ false = grind arith in
+            let inside = Spelt-step _ _ header (at size limit packets (BeforeBody header)) (omega arith) eight free (rw off) in
+            let read = Spelt-append _ _ _ _ _ _ (before_are_read size limit [] packets each within) inside in
+            rw (test, ← append_assoc) (stops_at size limit packets _ rest _ _ _ (rw append_assoc are) each read (inr (omega arith, refl)) (append-nil _) refl))
       ]
 
 -- what comes after any packets before the last is the message at the front
 comes_front : (size limit n : ℕ) → Comes size limit n
 unfolding message front_packet
-comes_front size limit zero packets rest are each within less = absurd (omega (arith, less))
+comes_front size limit zero packets rest are each within less = absurd (omega arith)
 comes_front size limit (suc n) packets rest are each within less = elim (dec_le 8 (length rest)) [
   | yes long ↦
-      (let test : nat_lt (length rest) 8 ≡ false = grind (arith, nat_tests) in
+      (let test : nat_lt (length rest) 8 ≡ false = grind arith in
       let all = take-append-drop 8 rest in
-      rw test (rw all at (header_gives size limit n packets each within (take 8 rest) (drop 8 rest) _ (comes_front size limit n) (rw all are) (length-take-le 8 rest long) (omega (arith, length-drop 8 rest)) refl)))
+      rw test (rw all at (header_gives size limit n packets each within _ (drop 8 rest) _ (comes_front size limit n) (rw all are) (length-take-le 8 rest long) (omega (arith, length-drop 8 rest)) refl)))
   | no short ↦
-      (let test : nat_lt (length rest) 8 ≡ true = grind (arith, nat_tests) in
-      rw test (stops_at size limit packets (wire_of packets) rest BeforeHeader InputEnded _ are each (before_are_read size limit [] packets each within) (inr (omega arith, refl)) (append-nil (payload_of packets)) refl))
+      (let test : nat_lt (length rest) 8 ≡ true = grind arith in
+      rw test (stops_at size limit packets _ rest _ _ _ are each (before_are_read size limit [] packets each within) (inr (omega arith, refl)) (append-nil _) refl))
 ]
 
 -- What comes of an input is the message at its front.

@@ -1,5 +1,5 @@
 -- The packets at the front of an input, and what is read of it.
-use Rattle.tds_packet.proofs.Words.{nil_from_length, common_steps, ◌≡◌, ◌∙◌, ◌⊎◌, inl, inr, ℕ, suc, zero, ◌+◌, ◌<◌, ◌≤◌, List, [], ◌∷◌, ◌++◌, length, take, Some, false, refl, sym, ap, arith, append-nil, append_assoc, length-append, take-append_seam, append_cancel_right, flat_map-append, one_more, Fault, InputEnded, MessageEnded, ReadFailed, Wire, Payload, Stop, AreBytes, Packet, packet_bytes, packet_length, is_last, header_length, wire_of, payload_of, AreBefore, AreMessage, IsPacket, WireFault, Coming, before, whole_message, IsFrontMessage, Seen, Takes, Ends, IsBetween, IsOver, begun, WholePacket, after_packet, front_packet, message}
+use Rattle.tds_packet.proofs.Words.{nil_from_length, common_steps, ◌≡◌, ◌∙◌, ◌⊎◌, inl, inr, ℕ, suc, zero, ◌+◌, ◌<◌, ◌≤◌, List, [], ◌∷◌, ◌++◌, length, take, Some, false, refl, sym, ap, arith, append-nil, append_assoc, length-append, take-append_seam, append_cancel_right, flat_map-append, one_more, Fault, InputEnded, MessageEnded, ReadFailed, Wire, Payload, Stop, AreBytes, Packet, packet_bytes, packet_length, is_last, header_length, wire_of, payload_of, AreBefore, AreMessage, IsPacket, WireFault, Coming, IsFrontMessage, Seen, Takes, Ends, IsBetween, IsOver, begun, WholePacket, after_packet, front_packet, message}
 use Rattle.tds_packet.proofs.{ElementLaws.AreBytes-front, PacketLaws.good_header, PacketLaws.header_of, ComingLaws.front_message, Joins.whole_packet}
 
 -- whole packets at the front of an input, with the rest of it after them; none but the last is marked as the last
@@ -17,15 +17,14 @@ wire_goes_on size limit input packets fault w e = grind (arith, common_steps)
 -- an input that begins with nothing but packets
 all_packets : (size limit : ℕ) (read rest payload : List ℕ) (place : ℕ) (c : Coming) → IsFrontMessage size limit read c → c.bytes ≡ payload → c.rest ≡ []
     → ((c.stop.fault ≡ MessageEnded) ⊎ (c.stop ≡ record { fault = InputEnded; place = Wire place })) → place ≡ length read → BeginsMessage size limit (read ++ rest) rest payload
-all_packets size limit read rest payload place c m b r s p = grind (arith, wire_goes_on, append-nil, length-append, nil_from_length)
+all_packets size limit read rest payload place c m b r s p = grind (arith, append-nil, length-append, nil_from_length)
 
 -- what was taken, right after a packet, came of whole packets at the front of the input
 pub takes_begins : (size limit f : ℕ) (input rest : List ℕ) (q : Seen) (bytes : List ℕ) (n : ℕ) → AreBytes input → q.left ≡ Some rest → Takes (begun size limit (Some input) f) q bytes n → IsBetween q
     → BeginsMessage size limit input rest (bytes ++ (q.future []).bytes)
 takes_begins size limit f input rest q bytes n are left t b =
-    let split : input ≡ t.0 ++ rest = rw left at t.1.0 in
-    let now : whole_message size limit t.0 ≡ before bytes (q.future []) = rw append-nil at (t.1.1 []) in
-    rw split (all_packets size limit t.0 rest (bytes ++ (q.future []).bytes) q.wire _ (rw now at (front_message size limit t.0 (AreBytes-front t.0 rest (rw split at are)))) refl b.0 b.1 (omega (arith, t.2)))
+    let split = rw left at t.1.0 in
+    rw split (all_packets size limit t.0 rest (bytes ++ (q.future []).bytes) q.wire _ (rw (rw append-nil at (t.1.1 [])) at (front_message size limit t.0 (AreBytes-front t.0 rest (rw split at are)))) refl b.0 b.1 (omega arith))
 
 -- a read failed after these packets, all that what was read has whole, and the header after them wasn't refused
 pub record FailsAfterPackets (size limit : ℕ) (input rest : List ℕ) (packets : List Packet) : Type 0 where
@@ -57,16 +56,14 @@ pub record EndsMessage (size limit : ℕ) (input rest payload : List ℕ) (failu
 -- a payload's stop, where its reader tells its bytes
 pub ends_front : (size limit f : ℕ) (input rest : List ℕ) (q : Seen) (payload : List ℕ) (stop : Stop) → AreBytes input → q.left ≡ Some rest → Ends (begun size limit (Some input) f) q payload stop
     → EndsMessage size limit input rest payload f q.failures stop ⊎ StopsAfterPackets size limit input rest payload f q.failures stop
-ends_front size limit f input rest q payload stop are left (inl x) = grind (arith, front_message size limit input are, x.2 rest)
+ends_front size limit f input rest q payload stop are left (inl x) = grind (arith, front_message size limit input are)
 ends_front size limit f input rest q payload stop are left (inr (inl x)) = grind (arith, append-nil, front_message size limit input are)
-ends_front size limit f input rest q payload stop are left (inr (inr x)) =
-    let split : input ≡ x.0 ++ rest = rw left at x.1 in
-    grind (arith, append_assoc, front_message size limit x.0 (AreBytes-front x.0 rest (rw split at are)))
+ends_front size limit f input rest q payload stop are left (inr (inr x)) = grind (arith, append_assoc, front_message size limit x.0 (AreBytes-front x.0 rest (rw (rw left at x.1) at are)))
 
 -- a message of which all was handed out
 pub over_front : (size limit f : ℕ) (input rest : List ℕ) (q : Seen) (bytes : List ℕ) (n : ℕ) → AreBytes input → q.left ≡ Some rest → Takes (begun size limit (Some input) f) q bytes n → (o : IsOver q)
     → EndsMessage size limit input rest bytes f q.failures o.0
-over_front size limit f input rest q bytes n are left t o = grind (arith, append-nil, front_message size limit input are, wire_goes_on, t.1.1 rest)
+over_front size limit f input rest q bytes n are left t o = grind (arith, append-nil, front_message size limit input are)
 
 -- these packets come before the last, and have fewer bytes of the payload
 pub record InLast (size : ℕ) (packets : List Packet) (n : ℕ) : Type 0 where
@@ -88,29 +85,29 @@ split_last size (p ∷ q ∷ ps) each some =
 front_whole : (size limit from : ℕ) (p : Packet) (more : List ℕ) → IsPacket size p → is_last p ≡ false → from + packet_length p ≤ limit → front_packet size limit from (packet_bytes p ++ more) ≡ WholePacket p.body false (packet_length p) more
 front_whole size limit from p more each last within =
     let size_is : header_length (header_of p) ≡ packet_length p = omega arith in
-    let front = whole_packet size limit from (header_of p) (record { length = header_length (header_of p); last = is_last p }) (omega (arith, each.id)) (rw (good_header size limit from p each within)) p.body more (omega (arith, size_is)) in
-    rw (append_assoc p.id p.body more) (rw (size_is, last) at front)
+    let front = whole_packet size limit from (header_of p) (record { length = header_length (header_of p); last = is_last p }) (omega arith) (rw good_header) p.body more (omega arith) in
+    rw append_assoc (rw (size_is, last) at front)
 
 -- what comes of packets none of which is the last
 message_before : (size limit n from place : ℕ) (packets : List Packet) → AreBefore size packets → from + length (wire_of packets) ≤ limit → length (wire_of packets) < n → (message size limit n from place (wire_of packets)).bytes ≡ payload_of packets
 unfolding message front_packet
-message_before size limit zero from place packets each within less = absurd (omega (arith, less))
+message_before size limit zero from place packets each within less = absurd (omega arith)
 message_before size limit (suc n) from place [] each within less = refl
 message_before size limit (suc n) from place (p ∷ ps) each within less =
-    let long : length (wire_of (p ∷ ps)) ≡ packet_length p + length (wire_of ps) = simp length-append (omega (arith, each.0.id)) in
-    ap (λ f. (after_packet (message size limit n) from place f).bytes) (front_whole size limit from p (wire_of ps) each.0 each.1 (omega (arith, long, within)))
-    ∙ ap (λ l. p.body ++ l) (message_before size limit n (from + packet_length p) (place + length p.body) ps each.2 (omega (arith, long, within)) (omega (arith, long, less)))
+    let long : length (wire_of (p ∷ ps)) ≡ packet_length p + length (wire_of ps) = simp length-append (omega arith) in
+    ap (λ f. (after_packet (message size limit n) from place f).bytes) (front_whole size limit from p _ each.0 each.1 (omega arith))
+    ∙ ap (λ l. p.body ++ l) (message_before size limit n (from + packet_length p) (place + length p.body) ps each.2 (omega arith) (omega arith))
 
 -- the packets read were needed for n bytes of the payload
 pub in_last : (size limit f n : ℕ) (input rest : List ℕ) (q : Seen) (bytes payload : List ℕ) → q.left ≡ Some rest → Takes (begun size limit (Some input) f) q bytes n
     → (p : BeginsMessage size limit input rest payload) → 0 < length payload → InLast size p.packets n
 in_last size limit f n input rest q bytes payload left t p some =
-    let filled = λ (ps : List Packet). elim ps as (λ ps. payload_of ps ≡ payload → 0 < length ps) [ [] ↦ λ e. absurd (omega (arith, some, ap length e)) | ◌∷◌ x (xs → _) ↦ λ _. omega arith ] in
-    let l = split_last size p.packets p.each (filled p.packets p.payload_is) in
-    let split : input ≡ t.0 ++ rest = rw left at t.1.0 in
-    let wires : wire_of p.packets ≡ wire_of l.0 ++ packet_bytes l.1 = ap wire_of (sym l.2) ∙ simp (flat_map-append, append-nil) in
+    let filled = λ (ps : List Packet). elim ps as (λ ps. payload_of ps ≡ payload → 0 < length ps) [ [] ↦ λ e. absurd (omega (arith, ap length e)) | ◌∷◌ x _ ↦ λ _. omega arith ] in
+    let l = split_last size _ p.each (filled _ p.payload_is) in
+    let split = rw left at t.1.0 in
+    let wires = ap wire_of (sym l.2) ∙ simp (flat_map-append, append-nil) in
     let read = append_cancel_right t.0 (wire_of l.0 ++ packet_bytes l.1) rest (sym split ∙ sym p.begin ∙ ap (λ w. w ++ rest) wires) in
     let long = length-append (wire_of l.0) (packet_bytes l.1) in
-    let come = message_before size limit (suc (length (wire_of l.0))) 0 0 l.0 l.3 (omega (arith, p.within, ap length wires, long)) (omega arith) in
-    let front : take (length (wire_of l.0)) t.0 ≡ wire_of l.0 = rw read (take-append_seam (wire_of l.0) (packet_bytes l.1)) in
-    record { before = l.0; last = l.1; split = l.2; none_last = l.3; earlier = rw (← come, ← front) (t.3 (length (wire_of l.0)) (omega (arith, ap length read, long))) }
+    let come = message_before size limit (suc (length (wire_of l.0))) 0 0 l.0 l.3 (omega (arith, ap length wires)) (omega arith) in
+    let front : take (length (wire_of l.0)) t.0 ≡ wire_of l.0 = rw read (take-append_seam _ _) in
+    record { before = l.0; last = l.1; split = l.2; none_last = l.3; earlier = rw (← come, ← front) (t.3 _ (omega (arith, ap length read))) }

@@ -1,6 +1,6 @@
 -- The parts of a packet's read, joined.
 use Rattle.tds_packet.proofs.Words.{◌≡◌, ◌∙◌, ℕ, ◌+◌, ◌-◌, ◌^◌, ◌<◌, List, [], ◌++◌, length, take, drop, Option, Ok, Err, Bool, false, refl, arith, length-append, length-take, append_assoc, drop-append_seam, take-append_seam, take-append-add, nat_tests, nat_lt, if◌then◌else◌, Consumes, Consumes-trans, dec_le, Device, Stays, Fault, InputEnded, ReadFailed, Header, header_fault, WholePacket, NoPacket, front_packet, packet_after_header, Faulted, ReadsPacket, header_of}
-use Rattle.tds_packet.proofs.Choices.{choose_true, choose_false, test_lt}
+use Rattle.tds_packet.proofs.Choices.{choose_true, test_lt}
 
 pub Stays-none : (f : ℕ) → Stays f f []
 Stays-none f = (refl, λ lt. absurd (omega (arith, lt)))
@@ -26,7 +26,7 @@ after_header size limit wire hdr ys o e f =
 
 -- a body that is whole, and one that is cut
 whole_at : (last : Bool) (len : ℕ) (bs ys : List ℕ) (n : ℕ) → n ≡ length bs → (if nat_lt (length (bs ++ ys)) n then NoPacket InputEnded [] else WholePacket (take n (bs ++ ys)) last len (drop n (bs ++ ys))) ≡ WholePacket bs last len ys
-whole_at last len bs ys n e = grind (arith, length-append, take-append_seam, drop-append_seam, choose_false, nat_tests)
+whole_at last len bs ys n e = grind (arith, length-append, take-append_seam, drop-append_seam)
 
 module _ (size limit wire : ℕ) (hdr : List ℕ) (h : Header) (eight : length hdr ≡ 8) (good : header_of size limit wire hdr ≡ Ok h) where
   -- a packet whose header says so
@@ -40,8 +40,8 @@ module _ (size limit wire : ℕ) (hdr : List ℕ) (h : Header) (eight : length h
   -- no beginning of a packet is a packet
   cut : (body : List ℕ) (j : ℕ) → length body + 8 ≡ h.length → j < length (hdr ++ body) → front_packet size limit wire (take j (hdr ++ body)) ≡ NoPacket InputEnded []
   cut body j fits lt = elim (dec_le 8 j) [
-    | yes many ↦ (let all : length hdr + (j - 8) ≡ j = omega arith in rw (← all, take-append-add) (ended_body (take (j - 8) body) (omega (arith, length-append hdr body, length-take (j - 8) body))))
-    | no few ↦ short_input size limit wire (take j (hdr ++ body)) (omega (arith, length-take j (hdr ++ body)))
+    | yes many ↦ (let all : length hdr + (j - 8) ≡ j = omega arith in rw (← all, take-append-add) (ended_body _ (omega (arith, length-append hdr body, length-take (j - 8) body))))
+    | no few ↦ short_input size limit wire _ (omega (arith, length-take j (hdr ++ body)))
   ]
 
 -- A good header was read.
@@ -61,12 +61,12 @@ module _ (size limit wire : ℕ) (old new : Device) where
 
   pub body_err : (mid : Device) (h : Header) (body : List ℕ) (e : Fault) → ReadsHeader size limit wire old mid h → length body + 8 ≡ h.length → Faulted mid new (length body) e → ReadsPacket size limit wire old new body (Err e)
   body_err mid h body InputEnded x fits r =
-      let cut_short = ended_body size limit wire x.bytes h x.eight x.good r.0.0.0 (omega (arith, r.0.0.1, fits)) in
+      let cut_short = ended_body size limit wire x.bytes h x.eight x.good r.0.0.0 (omega arith) in
       grind (arith, Consumes-trans)
   body_err mid h body ReadFailed x fits r =
-      let cut_short = ended_body size limit wire x.bytes h x.eight x.good r.0 (omega (arith, r.1, fits)) in
+      let cut_short = ended_body size limit wire x.bytes h x.eight x.good r.0 (omega arith) in
       grind (arith, Consumes-trans)
   body_err mid h body e x fits r = absurd r
 
   pub body_ok : (mid : Device) (h : Header) (body : List ℕ) → ReadsHeader size limit wire old mid h → length body + 8 ≡ h.length → Consumes mid.bytes new.bytes body → Stays mid.failures new.failures body → ReadsPacket size limit wire old new body (Ok h)
-  body_ok mid h body x fits r last = grind (arith, append_assoc, whole_packet, Consumes-trans, cut, length-append, Stays-trans)
+  body_ok mid h body x fits r last = grind (arith, append_assoc, whole_packet, Consumes-trans, cut, length-append)

@@ -35,11 +35,11 @@ module _ {S T : Type 0} (small : Grammar S Fault) (big : Grammar T Fault) (lift 
     pub to_is : big.add (lift at) element ≡ lift to
 
   last_of : (from s : S) (front : List ℕ) (e : List ℕ) (es : List (List ℕ)) (to : S) → Spelt small from front s → Leads small s (e ∷ es) to → LastInside from (front ++ concat (e ∷ es)) to
-  last_of from s front e [] to spelt leads = grind (arith, append-nil, Inside-Spelt, next_inside)
-  last_of from s front e (f ∷ es) to spelt leads = grind (arith, append_assoc, Spelt-append, Spelt-one, last_of from (small.add s e) (front ++ e) f es to (Spelt-append small from front s e (small.add s e) spelt (Spelt-one small s e leads.0)) leads.1)
+  last_of from s front e [] to spelt leads = grind (arith, append-nil, Inside-Spelt)
+  last_of from s front e (f ∷ es) to spelt leads = grind (arith, append_assoc, last_of from (small.add s e) (front ++ e) f es to (Spelt-append small from front s e _ spelt (Spelt-one small s e leads.0)) leads.1)
 
   pub last_inside : (from : S) (bytes : List ℕ) (to : S) → Spelt small from bytes to → 0 < length bytes → LastInside from bytes to
   last_inside from bytes to spelt some = rw spelt.joined at (elim spelt.elements as (λ es. concat es ≡ bytes → Leads small from es to → LastInside from (concat es) to) [
-    | [] ↦ λ e leads. absurd (omega (arith, some, ap length e))
+    | [] ↦ λ e leads. absurd (omega (arith, ap length e))
     | ◌∷◌ e (es → _) ↦ λ _ leads. last_of from from [] e es to (Spelt-none small from) leads
   ] spelt.joined spelt.leads)

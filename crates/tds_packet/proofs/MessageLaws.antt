@@ -9,16 +9,14 @@ module _ (size limit : ℕ) where
   -- a message is read to its end
   pub message_is_read : (done packets : List Packet) → AreMessage size packets → length (wire_of (done ++ packets)) ≤ limit → Spelt (wire size limit) (before_packet size limit done) (wire_of packets) (after_packets (done ++ packets))
   message_is_read done [] h f = absurd h
-  message_is_read done (p ∷ []) h f =
-      let long = simp (flat_map-append, append-nil, length-append) at f in
-      rw append-nil (rw h.1 at (packet_is_read size limit done p h.0 (omega (arith, long, h.0.id))))
+  message_is_read done (p ∷ []) h f = rw append-nil (rw h.1 at (packet_is_read size limit done p h.0 (omega (arith, simp (flat_map-append, append-nil, length-append) at f, h.0.id))))
   message_is_read done (p ∷ q ∷ packets) h f = one_is_read size limit done p (q ∷ packets) AfterLast (h.0, h.1) f (message_is_read (done ++ p ∷ []) (q ∷ packets) h.2)
 
   -- and nothing after it
   pub read_to_end : (packets : List Packet) (w more : List ℕ) → Message size limit packets w → feed_all (wire size limit) (Reading no_wire []) (w ++ more) ≡ Reading (after_packets packets) more
   read_to_end packets w more m =
-      let read = feed-Spelt (wire size limit) no_wire w (after_packets packets) (rw m.spelt at (message_is_read [] packets m.each (rw m.spelt m.within))) in
-      rw (feed_all-append (wire size limit) (Reading no_wire []) w more, read, feed_part (wire size limit) (after_packets packets) [] more (λ k a b q. omega arith))
+      let read = feed-Spelt _ no_wire w _ (rw m.spelt at (message_is_read [] packets m.each (rw m.spelt m.within))) in
+      rw (feed_all-append, read, feed_part (wire size limit) (after_packets packets) [] more (λ k a b q. omega arith))
 
   -- no input begins with two messages
   pub one_message : (a b : List Packet) (w v x y : List ℕ) → Message size limit a w → Message size limit b v → w ++ x ≡ v ++ y → a ≡ b

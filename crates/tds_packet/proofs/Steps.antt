@@ -16,7 +16,7 @@ add_none n = omega arith
 
 -- a call of many bytes and a cut element of an open description stop alike
 pub began_is_cut : (place : ℕ) (ended : Option Fault) (own stop : Stop) → ended ≡ Some MessageEnded → stop ≡ began_at place own → IsCutStop place ended own stop
-began_is_cut place ended own stop end is = grind (arith)
+began_is_cut place ended own stop end is = grind arith
 
 module _ {S : Type 0} (g : Grammar S Fault) where
   abbrev pub reads_none : (s : S) (a : Seen) → Reads g s a a s
@@ -32,15 +32,15 @@ module _ {S : Type 0} (g : Grammar S Fault) where
   -- what stops a call stops one that began before it
   pub stops_after : (s t : S) (a b c : Seen) (place : ℕ) (at : S) (stop : Stop) → (p : Reads g s a b t) → StopsReading g t b c (place + length p.bytes) at stop → StopsReading g s a c place at stop
   stops_after s t a b c place at stop p q =
-      let placed : (place + length p.bytes) + length q.bytes ≡ place + length (p.bytes ++ q.bytes) = omega (arith, length-append p.bytes q.bytes) in
+      let placed : (place + length p.bytes) + length q.bytes ≡ place + length _ = omega (arith, length-append p.bytes q.bytes) in
       record {
         bytes = p.bytes ++ q.bytes;
         spelt = Spelt-append g s p.bytes t q.bytes at p.spelt q.spelt;
         cause = elim q.cause [
           | inl x ↦
               (let r = x.0 in
-              inl (record { element = r.element; ahead = r.ahead; some = r.some; whole = r.whole; first = r.first; takes = rw (append_assoc p.bytes q.bytes r.element) (takes_ahead a b c p.bytes (q.bytes ++ r.element) r.ahead p.takes r.takes); between = r.between }, x.1 ∙ ap Payload placed))
-          | inr x ↦ inr (record { part = x.part; cut = x.cut; own = x.own; ends = rw append_assoc (Ends-after a b c p.bytes (q.bytes ++ x.part) _ x.own p.takes x.ends); stop_is = rw placed at x.stop_is })
+              inl (record { element = r.element; ahead = r.ahead; some = r.some; whole = r.whole; first = r.first; takes = rw (append_assoc p.bytes q.bytes _) (takes_ahead a b c p.bytes _ r.ahead p.takes r.takes); between = r.between }, x.1 ∙ ap Payload placed))
+          | inr x ↦ inr (record { part = x.part; cut = x.cut; own = x.own; ends = rw append_assoc (Ends-after a b c p.bytes _ _ x.own p.takes x.ends); stop_is = rw placed at x.stop_is })
         ];
       }
 

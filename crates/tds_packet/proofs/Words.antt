@@ -1,5 +1,5 @@
 -- The words that the proofs of this crate share.
-pub use Rattle.std.proofs.{Math.ListN.drop_of_length-le, Math.Nat.suc-mul, Math.Seq.take-append_seam, Math.Seq.take-append-add, Math.Seq.drop-append_seam, lemmas.Bool.eqb-false, lemmas.Bool.Decides.nat_tests, lemmas.Grind.common_steps, lemmas.Grind.flat_map-append, lemmas.List.take-append-drop, lemmas.List.append_cancel_right, lemmas.List.drop-drop, lemmas.List.nil_from_length, lemmas.List.Folds.concat-append, lemmas.Nat.div-mul-add, lemmas.Result.err_from_is_err_and, lemmas.Slice.take-put_mid}
+pub use Rattle.std.proofs.{Math.ListN.drop_of_length-le, Math.Nat.suc-mul, Math.Seq.take-append_seam, Math.Seq.take-append-add, Math.Seq.drop-append_seam, lemmas.Bool.Decides.nat_tests, lemmas.Grind.common_steps, lemmas.Grind.flat_map-append, lemmas.List.take-append-drop, lemmas.List.append_cancel_right, lemmas.List.drop-drop, lemmas.List.nil_from_length, lemmas.List.Folds.concat-append, lemmas.Nat.div-mul-add, lemmas.Result.err_from_is_err_and, lemmas.Slice.take-put_mid}
 pub use Rattle.std.proofs.Common.{◌≡◌, length, arith, ◌+◌, ◌-◌, ◌≤◌, [], refl, take, ◌++◌, ◌∙◌, rules, ℕ, ◌<◌, List, ap, sym, false, drop, inl, inr, length-append, None, append-nil, length-drop, true, ◌∷◌, append_assoc, Bool, suc, zero, Err, length-take-le, subst, ◌⊎◌, Ok, add-zero, le_refl, length-take, MatchResult, Result, min, ◌%◌, ◌*◌, ◌/◌, ◌≢◌, IfSome, add-one, map, take-add, take_all, ◌^◌}
 pub use Rattle.std.proofs.KnownBytes.{Consumes-trans, Appends-trans, Appends-kept, Appends-nil, Consumes-kept, Consumes-nil}
 pub use Rattle.std.specs.{Io.KnownBytes.Consumes, Io.KnownBytes.Appends, Io.KnownBytes.Keeps, List.concat, Result.IsErrAnd}

@@ -1,5 +1,5 @@
 -- Where a call stops with the fault of a device, that device failed in it.
-use Rattle.tds_rows.proofs.Words.{common_steps, arith, ◌≡◌, ◌∙◌, ◌⊎◌, inl, inr, ℕ, Bool, false, List, sym, ap, subst, Result, Err, Option, Some, None, IfErr, ⊤, one_more, Fault, ReadFailed, WriteFailed, Stop, seen, Seen, ends_blame, JoinFault, Sink, EndsBy, Pushes, Breaks, Held, PutsPiece, Blames, Failures, StopBlames, failures_with, CutsNumber, RefusesNumber, chunk_length_fault, join_stop, short_fault, total_fault}
+use Rattle.tds_rows.proofs.Words.{common_steps, arith, ◌≡◌, ◌∙◌, ◌⊎◌, inl, inr, ℕ, Bool, false, List, sym, ap, Result, Err, Option, Some, None, IfErr, ⊤, one_more, Fault, ReadFailed, WriteFailed, Stop, seen, Seen, ends_blame, JoinFault, Sink, EndsBy, Pushes, Breaks, Held, PutsPiece, Blames, Failures, StopBlames, failures_with, CutsNumber, RefusesNumber, chunk_length_fault, join_stop, short_fault, total_fault}
 use Rattle.tds_packet.specs.declared.payload.Payload.{Payload}
 
 pub same_failures : (a b c d : ℕ) → a ≡ c → b ≡ d → ◌≡◌ {A = Failures} (record { reads = a; writes = b }) (record { reads = c; writes = d })
@@ -7,10 +7,10 @@ same_failures a b c d e f = λ i. record { reads = e i; writes = f i }
 
 -- a call after others that had no failure
 pub blames_after : {U : Type 0} (a b c : Failures) (r : Result U Stop) → b ≡ a → Blames b c r → Blames a c r
-blames_after a b c r e h = subst (λ x. Blames x c r) e h
+blames_after a b c r e h = rw (← e) h
 
 pub stops_after : (a b c : Failures) (stop : Stop) → b ≡ a → StopBlames b c stop → StopBlames a c stop
-stops_after a b c stop e h = subst (λ x. StopBlames x c stop) e h
+stops_after a b c stop e h = rw (← e) h
 
 -- ---- the reader
 
@@ -41,7 +41,7 @@ pub length_blames : {R : Type 0} (remaining : R → Option (List ℕ)) (size : �
 length_blames remaining size fault old b stop going none (inl x) = grind arith
 length_blames remaining size fault old b stop going none (inr x) =
     let h = ends_blame remaining old b x.part x.own going x.ends in
-    let is : stop.fault ≡ x.own.fault = ap (λ (s : Stop). s.fault) x.stop_is in
+    let is = ap (λ s. s.fault) x.stop_is in
     (λ e. h.0 (sym is ∙ e), λ e. h.1 (sym is ∙ e))
 
 -- ---- the writer

@@ -1,5 +1,5 @@
 -- Cells whose bytes lie together, and the room that a sink lends for their text.
-use Rattle.tds_rows.proofs.Words.{common_steps, ◌≡◌, ◌≢◌, ◌∙◌, ℕ, ◌+◌, ◌-◌, ◌<◌, ◌≤◌, Bool, true, false, List, [], ◌++◌, length, take, drop, Result, Ok, Err, MatchResult, inr, refl, sym, ap, arith, ◌∷◌, length-take, length-drop, None, Some, Option, ◌==◌, ◌||◌, is_ok, slice_index, ne_eqb, Kind, IntN, ScalarValue, fixed_length, is_length_allowed, is_scalar, read_of, BadValueLength, Stop, Seen, Takes, IsBetween, choose_false, Spelt-none, Spelt-one, null_field, in_line, overwritten, Sink, Breaks, Held, IsWriting, Puts, PutsPiece, held, spare_before, spare_written, Charset, CellPart, Null, ScalarBytes, ScalarCell, ScalarLength, WholeCell, cell, cell_start, shape, unless, value_part, IsScalarLeft, IsValueText, length_after, start_after, value_length, value_start, WritesCell, take-add, HasInt4, int4_kind}
+use Rattle.tds_rows.proofs.Words.{common_steps, ◌≡◌, ◌≢◌, ◌∙◌, ℕ, ◌+◌, ◌-◌, ◌<◌, ◌≤◌, Bool, true, false, List, [], ◌++◌, length, take, drop, Result, Ok, Err, MatchResult, inr, refl, sym, ap, arith, ◌∷◌, length-take, length-drop, None, Some, Option, ◌||◌, is_ok, slice_index, ne_eqb, Kind, IntN, ScalarValue, fixed_length, is_length_allowed, is_scalar, read_of, BadValueLength, Stop, Seen, Takes, IsBetween, choose_false, Spelt-none, Spelt-one, null_field, in_line, overwritten, Sink, Breaks, Held, IsWriting, Puts, PutsPiece, held, spare_before, spare_written, Charset, CellPart, Null, ScalarBytes, ScalarCell, ScalarLength, cell, cell_start, shape, unless, value_part, IsScalarLeft, IsValueText, length_after, start_after, value_length, value_start, WritesCell, take-add, HasInt4, int4_kind}
 use Rattle.tds_rows.proofs.{CellSteps.fixed_some, CellSteps.scalar_shape, RowSteps.ReadsCell, RowSteps.at_once_breaks, RowSteps.at_once_streams, CellWords.PutsCell, CellWords.StopsCell}
 
 -- a value that is read has a length that is allowed
@@ -15,7 +15,7 @@ fixed_written column kind n last bytes text some within x = record {
   joined = refl;
   spelt = Spelt-none (cell column) (ScalarBytes kind n);
   next = grind (arith, common_steps);
-  whole = ap (λ r. value_part r) x.1;
+  whole = ap value_part x.1;
   quiet = refl;
   text_is = x.2;
 }
@@ -40,19 +40,19 @@ null_written column kind last bytes text within is text_is = rw (first_of bytes 
 pub counted_written : (column : ℕ) (kind : Kind) (n : ℕ) (last : Bool) (bytes text : List ℕ) → slice_index bytes 0 ≡ n → n ≢ 0 → 1 + n ≤ length bytes → IsValueText kind column last (take n (drop 1 bytes)) text
     → WritesCell (ScalarLength kind) column last (take (1 + n) bytes) text
 counted_written column kind n last bytes text is some within x =
-    let whole : length (take n (drop 1 bytes)) ≡ n = omega (arith, within, length-take n (drop 1 bytes), length-drop 1 bytes) in
-    let good : is_length_allowed kind n ≡ true = ap (is_length_allowed kind) (sym whole) ∙ read_allowed kind (take n (drop 1 bytes)) x.0 x.1 in
-    let yes : ((n == 0) || is_length_allowed kind n) ≡ true = ap (λ v. v || is_length_allowed kind n) (ne_eqb n 0 some) ∙ good in
-    let to : (cell column).add (ScalarLength kind) (n ∷ []) ≡ ScalarBytes kind n = choose_false (n == 0) (WholeCell Null) (ScalarBytes kind n) (ne_eqb n 0 some) in
+    let whole : length _ ≡ n = omega (arith, length-take n (drop 1 bytes), length-drop 1 bytes) in
+    let good = ap (is_length_allowed kind) (sym whole) ∙ read_allowed kind _ x.0 x.1 in
+    let yes = ap (λ v. v || is_length_allowed kind n) (ne_eqb n 0 some) ∙ good in
+    let to : (cell column).add (ScalarLength kind) (n ∷ []) ≡ ScalarBytes kind n = choose_false _ _ _ (ne_eqb n 0 some) in
     record {
       value = ScalarCell x.0;
       front = n ∷ [];
       at = ScalarBytes kind n;
-      element = take n (drop 1 bytes);
-      joined = sym (take-add 1 n bytes ∙ ap (λ l. l ++ take n (drop 1 bytes)) (first_of bytes n (omega (arith, within)) is));
+      element = take n _;
+      joined = sym (take-add 1 n bytes ∙ ap (λ l. l ++ take n (drop 1 bytes)) (first_of bytes n (omega arith) is));
       spelt = rw to at (Spelt-one (cell column) (ScalarLength kind) (n ∷ []) (record { some = omega arith; whole = refl; free = ap (λ v. unless v (BadValueLength column)) yes }));
-      next = grind (arith, common_steps);
-      whole = ap (λ r. value_part r) x.1;
+      next = grind arith;
+      whole = ap value_part x.1;
       quiet = refl;
       text_is = x.2;
     }
@@ -65,18 +65,17 @@ module _ (charset : Charset) (kind : Kind) (column : ℕ) (last : Bool) (bytes t
   -- a value there
   pub value_cell : (start n : ℕ) → start ≡ value_start kind → n ≡ value_length kind bytes → n ≢ 0 → start + n ≤ length bytes → IsValueText kind column last (take n (drop start bytes)) text
       → WritesCell (cell_start kind (shape charset kind)) column last (take (start + n) bytes) text
-  value_cell start n at many some within is = go (fixed_length kind) refl
+  value_cell start n at many some within is = go _ refl
     where
       go : (o : Option ℕ) → fixed_length kind ≡ o → WritesCell (cell_start kind (shape charset kind)) column last (take (start + n) bytes) text
       go (Some m) e =
-          let none : start ≡ 0 = at ∙ ap start_after e in
-          let all : n ≡ m = many ∙ ap (λ o. length_after o bytes) e in
-          let whole : start + n ≡ m = omega (arith, none, all) in
-          rw (scalar_shape charset kind scalar, e, whole) (fixed_written column kind m last bytes text (omega (arith, some, all)) (omega (arith, within, none, all)) (rw (none, all) at is))
+          let none = at ∙ ap start_after e in
+          let all = many ∙ ap (λ o. length_after o bytes) e in
+          let whole : start + n ≡ m = omega arith in
+          rw (scalar_shape, e, whole) (fixed_written column kind m last bytes text (omega arith) (omega arith) (rw (none, all) at is))
       go None e =
-          let one : start ≡ 1 = at ∙ ap start_after e in
-          let first : slice_index bytes 0 ≡ n = sym (ap (λ o. length_after o bytes) e) ∙ sym many in
-          rw (scalar_shape charset kind scalar, e, one) (counted_written column kind n last bytes text first some (omega (arith, within, one)) (rw one at is))
+          let one = at ∙ ap start_after e in
+          rw (scalar_shape, e, one) (counted_written column kind n last bytes text (sym (ap (λ o. length_after o bytes) e) ∙ sym many) some (omega arith) (rw one at is))
 
 -- a whole number of four bytes there
 pub int4_cell : (charset : Charset) (start column : ℕ) (last : Bool) (bytes text : List ℕ) → HasInt4 (int4_kind start) start bytes → IsValueText (IntN 4) column last (take 4 (drop start bytes)) text
@@ -121,8 +120,7 @@ module _ (h j : Held) (room written : List ℕ) (n : ℕ) (whole : length writte
 pub put_cell : {W U : Type 0} {column place place' : ℕ} {last : Bool} {a b : Seen} {text : List ℕ} (r : Result U Stop) (charset : Charset) (kind : Kind) (contents : W → Option (List ℕ)) (old new : Sink W) → IsWriting old
     → ReadsCell (cell_start kind (shape charset kind)) column last a b place place' text → PutsPiece contents old new text r
     → MatchResult r (λ _. PutsCell charset kind column last a b place place' (held contents old) (held contents new)) (λ stop. StopsCell charset kind column last a b place (held contents old) (held contents new) new.failed stop)
-put_cell {column = column} {place = place} {place' = place'} {last = last} {a = a} {b = b} {text = text} (Ok u) charset kind contents old new going y x =
-    record { value = y.value; streams = at_once_streams kind (shape charset kind) column last a b place place' (held contents old) (held contents new) text y x.gives; place_is = y.place_is }
-put_cell {column = column} {place = place} {place' = place'} {last = last} {a = a} {b = b} {text = text} (Err stop) charset kind contents old new going y x =
-    let breaks = at_once_breaks kind (shape charset kind) column last a b place place' (held contents old) (held contents new) text stop going.ready.2 (going.ready.1 going.writing) y (x.gives going.writing) in
+put_cell (Ok u) charset kind contents old new going y x = record { value = y.value; streams = at_once_streams kind _ _ _ _ _ _ _ _ _ _ y x.gives; place_is = y.place_is }
+put_cell (Err stop) charset kind contents old new going y x =
+    let breaks = at_once_breaks kind _ _ _ _ _ _ _ _ _ _ stop going.ready.2 (going.ready.1 going.writing) y (x.gives going.writing) in
     record { at = y.at; cause = inr (breaks, x.failed) }

@@ -1,5 +1,5 @@
 -- What a cell's spelling is read as.
-use Rattle.tds_rows.proofs.Words.{common_steps, ◌≡◌, ◌⊎◌, ℕ, suc, ◌+◌, ◌-◌, ◌/◌, ◌%◌, ◌<◌, ◌≤◌, Bool, true, List, [], ◌∷◌, ◌++◌, length, replicate, refl, sym, ◌∙◌, ap, subst, inl, inr, append_assoc, append-nil, arith, rules, length-append, Ok, Option, Some, None, ◌==◌, ◌&&◌, ◌||◌, nat_le, nat_lt, is_ok, if◌then◌else◌, concat, nat_tests, ne_eqb, and_from, or_left, or_right, Kind, Short, Chunked, ScalarValue, little, is_length_allowed, read_of, Conversion, unit, is_fit, is_begun, fit_units, fit_begins, Spelt, Fault, BadValue, BadValueLength, BadText, OddText, PlpLength, Spelt-step, Spelt-append, Cell, Null, ScalarCell, DataCell, Shape, FixedShape, CountedShape, LongShape, SpellsChunk, SpellsChunks, SpellsChunked, SpellsShort, SpellsCell, ScalarBytes, ScalarLength, ShortLength, ShortData, Total, ChunkLength, ChunkData, WholeCell, cell_start, cell, unless, within_total, is_total, end_of_chunks, value_part, known_total, unknown_total, null_total, choose_false, choose_true, test_lt, little-two}
+use Rattle.tds_rows.proofs.Words.{common_steps, ◌≡◌, ◌⊎◌, ℕ, suc, ◌+◌, ◌-◌, ◌/◌, ◌%◌, ◌<◌, ◌≤◌, Bool, true, List, [], ◌∷◌, ◌++◌, length, refl, sym, ◌∙◌, ap, subst, inl, inr, append_assoc, append-nil, arith, rules, length-append, Ok, Option, Some, None, ◌==◌, ◌||◌, nat_le, nat_lt, is_ok, if◌then◌else◌, concat, nat_tests, ne_eqb, and_from, or_left, or_right, Kind, Short, Chunked, ScalarValue, little, is_length_allowed, read_of, Conversion, unit, is_fit, fit_units, fit_begins, Spelt, Fault, BadValue, PlpLength, Spelt-step, Spelt-append, Cell, Null, ScalarCell, DataCell, Shape, FixedShape, CountedShape, LongShape, SpellsChunk, SpellsChunks, SpellsChunked, SpellsShort, SpellsCell, ScalarBytes, ScalarLength, ShortLength, ShortData, Total, ChunkLength, ChunkData, WholeCell, cell_start, cell, unless, within_total, is_total, end_of_chunks, value_part, known_total, unknown_total, null_total, choose_false, choose_true, test_lt, little-two}
 
 -- a fixed shape has bytes
 abbrev pub HasBytes : Shape → Type 0
@@ -20,71 +20,67 @@ is_total_known t = grind (arith, nat_tests)
 
 module _ (column : ℕ) where
   fixed_cell : (kind : Kind) (n : ℕ) (v : ScalarValue) (bytes : List ℕ) → 0 < n → length bytes ≡ n → read_of kind bytes ≡ Ok v → Spelt (cell column) (ScalarBytes kind n) bytes (WholeCell (ScalarCell v))
-  fixed_cell kind n v bytes some l h = Spelt-step (cell column) (ScalarBytes kind n) bytes (WholeCell (ScalarCell v)) (omega arith) l (ap (λ o. unless (is_ok o) (BadValue column)) h) (ap (λ o. value_part o) h)
+  fixed_cell kind n v bytes some l h = Spelt-step _ _ bytes _ (omega arith) l (ap (λ o. unless (is_ok o) (BadValue column)) h) (ap value_part h)
 
   counted_cell : (kind : Kind) (v : ScalarValue) (value : List ℕ) → 0 < length value → is_length_allowed kind (length value) ≡ true → read_of kind value ≡ Ok v → Spelt (cell column) (ScalarLength kind) (length value ∷ value) (WholeCell (ScalarCell v))
   counted_cell kind v value some allowed h =
-      let head : Spelt (cell column) (ScalarLength kind) (length value ∷ []) (ScalarBytes kind (length value)) = Spelt-step (cell column) (ScalarLength kind) (length value ∷ []) (ScalarBytes kind (length value)) (omega arith) refl (unless_true (length value == 0 || is_length_allowed kind (length value)) (BadValueLength column) (or_right (length value == 0) (is_length_allowed kind (length value)) allowed)) (choose_false (length value == 0) (WholeCell Null) (ScalarBytes kind (length value)) (ne_eqb (length value) 0 (λ e. omega arith))) in
+      let head : Spelt (cell column) (ScalarLength kind) (length value ∷ []) (ScalarBytes kind (length value)) = Spelt-step (cell column) (ScalarLength kind) (length value ∷ []) (ScalarBytes kind (length value)) (omega arith) refl (unless_true _ _ (or_right _ _ allowed)) (choose_false (length value == 0) (WholeCell Null) (ScalarBytes kind (length value)) (ne_eqb (length value) 0 (λ e. omega arith))) in
       Spelt-append (cell column) (ScalarLength kind) (length value ∷ []) (ScalarBytes kind (length value)) value (WholeCell (ScalarCell v)) head (fixed_cell kind (length value) v value some refl h)
 
   -- the data of a short value, byte by byte
   short_data : (c : Conversion) (d : List ℕ) (x : ℕ) (xs : List ℕ) → is_fit c (d ++ x ∷ xs) ≡ true → Spelt (cell column) (ShortData c (length xs) d) (x ∷ xs) (WholeCell (DataCell c (d ++ x ∷ xs)))
-  short_data c d x [] h = Spelt-step (cell column) (ShortData c 0 d) (x ∷ []) (WholeCell (DataCell c (d ++ x ∷ []))) (omega arith) refl (unless_true (is_begun c (d ++ x ∷ []) && (nat_lt 0 0 || is_fit c (d ++ x ∷ []))) (BadText column) (and_from (is_begun c (d ++ x ∷ [])) (nat_lt 0 0 || is_fit c (d ++ x ∷ [])) (fit_begins c (d ++ x ∷ []) [] (ap (λ v. is_fit c v) (append-nil (d ++ x ∷ [])) ∙ h)) h)) refl
+  short_data c d x [] h = Spelt-step _ _ _ _ (omega arith) refl (unless_true _ _ (and_from _ _ (fit_begins c _ [] (ap (is_fit c) (append-nil _) ∙ h)) h)) refl
   short_data c d x (y ∷ ys) h =
-      let k : is_fit c ((d ++ x ∷ []) ++ y ∷ ys) ≡ true = rw append_assoc h in
-      let more : Spelt (cell column) (ShortData c (length ys) (d ++ x ∷ [])) (y ∷ ys) (WholeCell (DataCell c ((d ++ x ∷ []) ++ y ∷ ys))) = short_data c (d ++ x ∷ []) y ys k in
-      let one : Spelt (cell column) (ShortData c (suc (length ys)) d) (x ∷ []) (ShortData c (length ys) (d ++ x ∷ [])) = Spelt-step (cell column) (ShortData c (suc (length ys)) d) (x ∷ []) (ShortData c (length ys) (d ++ x ∷ [])) (omega arith) refl
-      (unless_true (is_begun c (d ++ x ∷ []) && (nat_lt 0 (suc (length ys)) || is_fit c (d ++ x ∷ []))) (BadText column) (and_from (is_begun c (d ++ x ∷ [])) (nat_lt 0 (suc (length ys)) || is_fit c (d ++ x ∷ [])) (fit_begins c (d ++ x ∷ []) (y ∷ ys) k) (or_left (nat_lt 0 (suc (length ys))) (is_fit c (d ++ x ∷ [])) (test_lt 0 (suc (length ys)) (omega arith))))) (search rules) in
-      Spelt-append (cell column) (ShortData c (suc (length ys)) d) (x ∷ []) (ShortData c (length ys) (d ++ x ∷ [])) (y ∷ ys) (WholeCell (DataCell c (d ++ x ∷ y ∷ ys))) one
-      (subst (λ v. Spelt (cell column) (ShortData c (length ys) (d ++ x ∷ [])) (y ∷ ys) (WholeCell (DataCell c v))) (append_assoc d (x ∷ []) (y ∷ ys)) more)
+      let k : is_fit c _ ≡ true = rw append_assoc h in
+      let one = Spelt-step _ _ _ _ (omega arith) refl
+      (unless_true _ _ (and_from _ _ (fit_begins c _ _ k) (or_left (nat_lt 0 (suc (length ys))) (is_fit c (d ++ x ∷ [])) (test_lt 0 (suc (length ys)) (omega arith))))) (search rules) in
+      Spelt-append _ _ _ _ _ _ one
+      (subst (λ v. Spelt (cell column) (ShortData c (length ys) (d ++ x ∷ [])) (y ∷ ys) (WholeCell (DataCell c v))) (append_assoc d _ _) (short_data c (d ++ x ∷ []) y ys k))
 
   short_length : (c : Conversion) (n : ℕ) → n < 65535 → n % unit c ≡ 0 → Spelt (cell column) (ShortLength c) (n % 256 ∷ n / 256 ∷ []) (if n == 0 then WholeCell (DataCell c []) else ShortData c (n - 1) [])
   short_length c n less even =
-      let l : little (n % 256 ∷ n / 256 ∷ []) ≡ n = little-two n in
-      Spelt-step (cell column) _ _ _ (omega arith) refl (unless_true _ _
-      (or_right (little (n % 256 ∷ n / 256 ∷ []) == 0xFFFF) (little (n % 256 ∷ n / 256 ∷ []) % unit c == 0) (rw l (rw even refl))))
-      (rw l (choose_false _ (WholeCell Null) (if n == 0 then WholeCell (DataCell c []) else ShortData c (n - 1) []) (ne_eqb n 0xFFFF (λ e. omega arith))))
+      let l = little-two n in
+      Spelt-step _ _ _ _ (omega arith) refl (unless_true _ _ (or_right (little (n % 256 ∷ n / 256 ∷ []) == 0xFFFF) (little (n % 256 ∷ n / 256 ∷ []) % unit c == 0) (rw l (rw even))))
+      (rw l (choose_false _ _ _ (ne_eqb n 0xFFFF (λ e. omega arith))))
 
   short_cell : (c : Conversion) (d bytes : List ℕ) → is_fit c d ≡ true → SpellsShort d bytes → Spelt (cell column) (ShortLength c) bytes (WholeCell (DataCell c d))
-  short_cell c [] bytes h s = subst (λ v. Spelt (cell column) (ShortLength c) v (WholeCell (DataCell c []))) (sym s.counted) (short_length c 0 (omega arith) (grind (arith, common_steps)))
+  short_cell c [] bytes h s = rw s.counted (short_length c 0 (omega arith) (grind arith))
   short_cell c (x ∷ xs) bytes h s =
-      let e : length (x ∷ xs) % unit c ≡ 0 = fit_units c _ h in
-      let to : (if length (x ∷ xs) == 0 then WholeCell (DataCell c []) else ShortData c (length (x ∷ xs) - 1) []) ≡ ShortData c (length xs) [] = choose_false _ (WholeCell (DataCell c [])) (ShortData c (length (x ∷ xs) - 1) []) (ne_eqb (length (x ∷ xs)) 0 (λ q. omega arith)) ∙ ap (λ k. ShortData c k []) (omega arith) in
-      let head : Spelt (cell column) (ShortLength c) (length (x ∷ xs) % 256 ∷ length (x ∷ xs) / 256 ∷ []) (ShortData c (length xs) []) = subst (λ v. Spelt (cell column) (ShortLength c) (length (x ∷ xs) % 256 ∷ length (x ∷ xs) / 256 ∷ []) v) to (short_length c _ s.least e) in
-      subst (λ v. Spelt (cell column) (ShortLength c) v (WholeCell (DataCell c (x ∷ xs)))) (sym s.counted) (Spelt-append (cell column) _ _ _ _ _ head (short_data c [] x xs h))
+      let to = choose_false _ _ _ (ne_eqb (length (x ∷ xs)) 0 (λ q. omega arith)) ∙ ap (λ k. ShortData c k []) (omega arith) in
+      let head = subst (λ v. Spelt (cell column) (ShortLength c) (length (x ∷ xs) % 256 ∷ length (x ∷ xs) / 256 ∷ []) v) to (short_length c _ s.least (fit_units c _ h)) in
+      rw s.counted (Spelt-append _ _ _ _ _ _ head (short_data c [] x xs h))
 
   -- the data of a chunk, byte by byte
   chunk_data : (c : Conversion) (total : Option ℕ) (d : List ℕ) (x : ℕ) (xs more : List ℕ) → is_fit c ((d ++ x ∷ xs) ++ more) ≡ true → Spelt (cell column) (ChunkData c total (length xs) d) (x ∷ xs) (ChunkLength c total (d ++ x ∷ xs))
-  chunk_data c total d x [] more h = Spelt-step (cell column) _ _ _ (omega arith) refl (unless_true _ _ (fit_begins c _ _ h)) refl
+  chunk_data c total d x [] more h = Spelt-step _ _ _ _ (omega arith) refl (unless_true _ _ (fit_begins c _ _ h)) refl
   chunk_data c total d x (y ∷ ys) more h =
-      let k : is_fit c (((d ++ x ∷ []) ++ y ∷ ys) ++ more) ≡ true = ap (λ v. is_fit c (v ++ more)) (append_assoc d (x ∷ []) (y ∷ ys)) ∙ h in
-      let begun : is_begun c (d ++ x ∷ []) ≡ true = fit_begins c _ _ (ap (λ v. is_fit c v) (sym (append_assoc (d ++ x ∷ []) (y ∷ ys) more)) ∙ k) in
-      Spelt-append (cell column) _ _ _ _ _ (Spelt-step (cell column) _ _ _ (omega arith) refl (unless_true _ _ begun) (search rules))
-      (subst (λ v. Spelt (cell column) (ChunkData c total (length ys) (d ++ x ∷ [])) (y ∷ ys) (ChunkLength c total v)) (append_assoc d (x ∷ []) (y ∷ ys)) (chunk_data c _ _ y ys _ k))
+      let k = ap (λ v. is_fit c (v ++ more)) (append_assoc d _ _) ∙ h in
+      let begun = fit_begins c _ _ (ap (is_fit c) (sym (append_assoc (d ++ x ∷ []) _ more)) ∙ k) in
+      Spelt-append _ _ _ _ _ _ (Spelt-step _ _ _ _ (omega arith) refl (unless_true _ _ begun) (search rules))
+      (subst (λ v. Spelt (cell column) (ChunkData c total (length ys) (d ++ x ∷ [])) (y ∷ ys) (ChunkLength c total v)) (append_assoc d _ _) (chunk_data c _ _ y ys _ k))
 
   -- one chunk
   chunk_cell : (c : Conversion) (total : Option ℕ) (d content bytes more : List ℕ) → is_fit c ((d ++ content) ++ more) ≡ true → within_total total (length d + length content) ≡ true → SpellsChunk content bytes → Spelt (cell column) (ChunkLength c total d) bytes (ChunkLength c total (d ++ content))
   chunk_cell c total d [] bytes more f w s = absurd (let p : 0 < length {A = ℕ} [] = s.some in omega arith)
   chunk_cell c total d (x ∷ xs) bytes more f w s =
       let n : little s.header ≡ suc (length xs) = s.counted in
-      let head : Spelt (cell column) (ChunkLength c total d) s.header (ChunkData c total (length xs) d) = Spelt-step (cell column) (ChunkLength c total d) s.header (ChunkData c total (length xs) d) (let four : length s.header ≡ 4 = s.four in omega arith) s.four (rw n (choose_false (suc (length xs) == 0) (end_of_chunks column c total d) (unless (within_total total (length d + suc (length xs))) (PlpLength column)) (ne_eqb (suc (length xs)) 0 (λ q. omega arith)) ∙ unless_true (within_total total (length d + suc (length xs))) (PlpLength column) w)) (rw n (search rules)) in
+      let head : Spelt (cell column) (ChunkLength c total d) s.header (ChunkData c total (length xs) d) = Spelt-step (cell column) (ChunkLength c total d) s.header (ChunkData c total (length xs) d) (let four : length s.header ≡ 4 = s.four in omega arith) s.four (rw n (choose_false (suc (length xs) == 0) (end_of_chunks column c total d) (unless (within_total total (length d + suc (length xs))) (PlpLength column)) (ne_eqb _ 0 (λ q. omega arith)) ∙ unless_true _ (PlpLength column) w)) (rw n (search rules)) in
       rw (sym s.spelt) at (Spelt-append (cell column) (ChunkLength c total d) s.header (ChunkData c total (length xs) d) (x ∷ xs) (ChunkLength c total (d ++ x ∷ xs)) head (chunk_data c total d x xs more f))
 
   -- the chunks and the terminator
   chunks_cell : (c : Conversion) (total : Option ℕ) (d : List ℕ) (ds : List (List ℕ)) (bytes : List ℕ) → ((n : ℕ) → n ≤ length (d ++ concat ds) → within_total total n ≡ true) → is_total total (length (d ++ concat ds)) ≡ true → is_fit c (d ++ concat ds) ≡ true → SpellsChunks ds bytes → Spelt (cell column) (ChunkLength c total d) bytes (WholeCell (DataCell c (d ++ concat ds)))
   chunks_cell c total d [] bytes w t f s =
-      let whole : is_total total (length d) ≡ true = rw (append-nil d) at t in
-      let fit : is_fit c d ≡ true = rw (append-nil d) at f in
-      let end : end_of_chunks column c total d ≡ None =
-      choose_true _ (if length d % unit c == 0 then unless (is_fit c d) (BadText column) else Some (OddText column)) (Some (PlpLength column)) whole
-      ∙ choose_true _ (unless (is_fit c d) (BadText column)) (Some (OddText column)) (ap (λ n. n == 0) (fit_units c d fit)) ∙ unless_true _ _ fit in
-      rw (s, append-nil d) (Spelt-step (cell column) (ChunkLength c total d) (0 ∷ 0 ∷ 0 ∷ 0 ∷ []) (WholeCell (DataCell c d)) (omega arith) refl end refl)
+      let fit = rw append-nil at f in
+      let end =
+      choose_true _ _ _ (rw append-nil at t)
+      ∙ choose_true _ _ _ (ap (λ n. n == 0) (fit_units c d fit)) ∙ unless_true _ _ fit in
+      rw (s, append-nil) (Spelt-step _ _ _ _ (omega arith) refl end refl)
   chunks_cell c total d (x ∷ xs) bytes w t f s =
-      let a : (d ++ x) ++ concat xs ≡ d ++ (x ++ concat xs) = append_assoc d x (concat xs) in
-      let l : length (d ++ (x ++ concat xs)) ≡ length d + (length x + length (concat xs)) = rw length-append (rw length-append refl) in
-      let one = chunk_cell c total d x s.0 (concat xs) (rw a f) (w (length d + length x) (omega (arith, l))) s.3 in
+      let a = append_assoc d x (concat xs) in
+      let l : length (d ++ (x ++ concat xs)) ≡ length d + (length x + length (concat xs)) = rw length-append (rw length-append) in
+      let one = chunk_cell c total d x s.0 (concat xs) (rw a f) (w _ (omega arith)) s.3 in
       let more = rw a at (chunks_cell c total (d ++ x) xs s.1 (rw a w) (rw a t) (rw a f) s.4) in
-      rw s.2 (Spelt-append (cell column) (ChunkLength c total d) s.0 (ChunkLength c total (d ++ x)) s.1 (WholeCell (DataCell c (d ++ (x ++ concat xs)))) one more)
+      rw s.2 (Spelt-append _ _ s.0 _ s.1 _ one more)
 
   -- the total
   total_cell : (c : Conversion) (total : List ℕ) → length total ≡ 8 → little total < null_total → (nat_le unknown_total (little total) || (little total % unit c == 0)) ≡ true → Spelt (cell column) (Total c) total (ChunkLength c (known_total (little total)) [])
@@ -96,23 +92,22 @@ module _ (column : ℕ) where
     where
       from : (t : Option ℕ) → known_total (little s.total) ≡ t → little s.total < null_total → (nat_le unknown_total (little s.total) || (little s.total % unit c == 0)) ≡ true → ((n : ℕ) → n ≤ length d → within_total t n ≡ true) → is_total t (length d) ≡ true → Spelt (cell column) (Total c) (s.total ++ s.rest) (WholeCell (DataCell c d))
       from t known less even within whole =
-          let head = rw known at (total_cell c s.total s.eight less even) in
           let more = rw s.all at (chunks_cell c t [] s.chunks s.rest (rw s.all within) (rw s.all whole) (rw s.all f) s.each) in
-          Spelt-append (cell column) (Total c) s.total (ChunkLength c t []) s.rest (WholeCell (DataCell c d)) head more
+          Spelt-append _ _ s.total _ s.rest _ (rw known at (total_cell c s.total s.eight less even)) more
 
       go : (little s.total ≡ unknown_total) ⊎ ((little s.total ≡ length d) × (length d < unknown_total)) → Spelt (cell column) (Total c) (s.total ++ s.rest) (WholeCell (DataCell c d))
-      go (inl u) = from None (ap (λ n. known_total n) u) (omega arith) (rw u refl) (λ n h. refl) refl
+      go (inl u) = from None (ap known_total u) (omega arith) (rw u) (λ n h. refl) refl
       go (inr k) =
-          let even : (little s.total % unit c == 0) ≡ true = ap (λ n. n % unit c == 0) k.0 ∙ ap (λ n. n == 0) (fit_units c d f) in
-          from (Some (length d)) (ap (λ n. known_total n) k.0 ∙ is_known (length d) k.1) (omega arith) (or_right (nat_le unknown_total (little s.total)) (little s.total % unit c == 0) even) (within_known (length d)) (is_total_known (length d))
+          let even = ap (λ n. n % unit c == 0) k.0 ∙ ap (λ n. n == 0) (fit_units c d f) in
+          from _ (ap known_total k.0 ∙ is_known _ k.1) (omega arith) (or_right _ _ even) (within_known _) (is_total_known _)
 
   -- What spells a cell is read as that cell.
   pub cell_is_read : (kind : Kind) (sh : Shape) (x : Cell) (bytes : List ℕ) → HasBytes sh → SpellsCell kind sh x bytes → Spelt (cell column) (cell_start kind sh) bytes (WholeCell x)
   cell_is_read kind (FixedShape n) (ScalarCell v) bytes some h = fixed_cell kind n v bytes some h.0 h.1
-  cell_is_read kind CountedShape Null bytes some h = subst (λ v. Spelt (cell column) (ScalarLength kind) v (WholeCell Null)) (sym h) (Spelt-step (cell column) (ScalarLength kind) (0 ∷ []) (WholeCell Null) (omega arith) refl refl refl)
-  cell_is_read kind CountedShape (ScalarCell v) bytes some h = subst (λ b. Spelt (cell column) (ScalarLength kind) b (WholeCell (ScalarCell v))) (sym h.1) (counted_cell kind v h.0 h.2 h.3 h.4)
-  cell_is_read kind (LongShape c Short) Null bytes some h = subst (λ v. Spelt (cell column) (ShortLength c) v (WholeCell Null)) (sym h) (Spelt-step (cell column) (ShortLength c) (255 ∷ 255 ∷ []) (WholeCell Null) (omega arith) refl refl refl)
-  cell_is_read kind (LongShape c Short) (DataCell c' d) bytes some h = subst (λ v. Spelt (cell column) (ShortLength c) bytes (WholeCell (DataCell v d))) (sym h.0) (short_cell c d bytes h.1 h.2)
-  cell_is_read kind (LongShape c Chunked) Null bytes some h = subst (λ v. Spelt (cell column) (Total c) v (WholeCell Null)) (sym h) (Spelt-step (cell column) (Total c) (replicate 8 255) (WholeCell Null) (omega arith) refl refl refl)
-  cell_is_read kind (LongShape c Chunked) (DataCell c' d) bytes some h = subst (λ v. Spelt (cell column) (Total c) bytes (WholeCell (DataCell v d))) (sym h.0) (chunked_cell c d bytes h.1 h.2)
+  cell_is_read kind CountedShape Null bytes some h = rw h (Spelt-step _ _ _ _ (omega arith) refl refl refl)
+  cell_is_read kind CountedShape (ScalarCell v) bytes some h = rw h.1 (counted_cell kind v h.0 h.2 h.3 h.4)
+  cell_is_read kind (LongShape c Short) Null bytes some h = rw h (Spelt-step _ _ _ _ (omega arith) refl refl refl)
+  cell_is_read kind (LongShape c Short) (DataCell c' d) bytes some h = rw h.0 (short_cell c d bytes h.1 h.2)
+  cell_is_read kind (LongShape c Chunked) Null bytes some h = rw h (Spelt-step _ _ _ _ (omega arith) refl refl refl)
+  cell_is_read kind (LongShape c Chunked) (DataCell c' d) bytes some h = rw h.0 (chunked_cell c d bytes h.1 h.2)
   cell_is_read kind sh x bytes some h = absurd h

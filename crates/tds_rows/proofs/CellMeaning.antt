@@ -1,5 +1,5 @@
 -- What the bytes that lead to a part of a cell spell.
-use Rattle.tds_rows.proofs.Words.{common_steps, ◌≡◌, ◌≢◌, ℕ, ◌+◌, ◌-◌, ◌/◌, ◌%◌, ◌^◌, ◌<◌, Bool, true, List, [], ◌∷◌, ◌++◌, length, replicate, refl, sym, ◌∙◌, ap, subst, append_assoc, append-nil, arith, length-append, Result, Ok, Option, Some, None, ◌==◌, ◌&&◌, ◌||◌, nat_lt, is_ok, slice_index, if◌then◌else◌, concat, concat-append, nat_tests, Kind, Short, Chunked, ScalarValue, ValueFault, little, is_length_allowed, read_of, Conversion, unit, is_fit, is_begun, no_data_is_fit, AreBytes, Spelt, IsNext, Spelt-induct, AreBytes-front, AreBytes-back, Fault, BadText, OddText, PlpLength, Cell, Null, ScalarCell, DataCell, Shape, FixedShape, CountedShape, LongShape, SpellsChunk, SpellsChunks, SpellsCell, CellPart, ScalarBytes, ScalarLength, ShortLength, ShortData, Total, ChunkLength, ChunkData, WholeCell, cell_start, cell_add, cell, unless, within_total, is_total, end_of_chunks, chunk_fault, value_part, known_total, null_total, and_parts, choose, eq_true, eq_false, one_byte, two_bytes}
+use Rattle.tds_rows.proofs.Words.{common_steps, ◌≡◌, ℕ, ◌+◌, ◌/◌, ◌%◌, ◌^◌, ◌<◌, Bool, true, List, [], ◌∷◌, ◌++◌, length, replicate, refl, sym, ◌∙◌, ap, append_assoc, append-nil, arith, length-append, Result, Ok, Option, Some, None, ◌==◌, ◌&&◌, ◌||◌, nat_lt, is_ok, slice_index, if◌then◌else◌, concat, concat-append, Kind, Short, Chunked, ScalarValue, ValueFault, little, is_length_allowed, read_of, Conversion, is_fit, is_begun, no_data_is_fit, AreBytes, Spelt, IsNext, Spelt-induct, AreBytes-front, AreBytes-back, Fault, PlpLength, Cell, Null, ScalarCell, Shape, FixedShape, CountedShape, LongShape, SpellsChunk, SpellsChunks, SpellsCell, CellPart, ScalarBytes, ScalarLength, ShortLength, ShortData, Total, ChunkLength, ChunkData, WholeCell, cell_start, cell_add, cell, unless, within_total, end_of_chunks, chunk_fault, value_part, known_total, null_total, choose, eq_true, eq_false, one_byte, two_bytes}
 
 -- a test that gave no fault passed
 pub unless_none : (b : Bool) (f : Fault) → unless b f ≡ None → b ≡ true
@@ -72,63 +72,61 @@ module _ (column : ℕ) (kind : Kind) where
   value_means sh e b h k = grind (arith, common_steps, is_ok_value)
 
   short_means : (c : Conversion) (n left : ℕ) (d : List ℕ) (b : List ℕ) (x : ℕ) → n ≡ length d + (left + 1) → n < 65535 → b ≡ (n % 256 ∷ n / 256 ∷ []) ++ d → (is_begun c (d ++ x ∷ []) && (nat_lt 0 left || is_fit c (d ++ x ∷ []))) ≡ true → CellMeans kind (LongShape c Short) (cell_add (ShortData c left d) (x ∷ [])) (b ++ x ∷ [])
-  short_means c n left d b x count less is free = grind (arith, and_parts, choose, eq_false, eq_true, length-append, nat_tests)
+  short_means c n left d b x count less is free = grind (arith, length-append)
 
   chunk_means : (c : Conversion) (total : Option ℕ) (d b e : List ℕ) → length e ≡ 4 → ChunksMean total d b → chunk_fault column c total d (little e) ≡ None → CellMeans kind (LongShape c Chunked) (cell_add (ChunkLength c total d) e) (b ++ e)
   chunk_means c total d b e four m free =
-      choose (λ p. CellMeans kind (LongShape c Chunked) p (b ++ e)) (little e == 0) (WholeCell (DataCell c d)) (ChunkData c total (little e - 1) d) (λ z.
-      let zero' : little e ≡ 0 = eq_true (little e) 0 z in
-      let end : end_of_chunks column c total d ≡ None = sym (ap (λ t. (if t then end_of_chunks column c total d else unless (within_total total (length d + little e)) (PlpLength column))) z) ∙ free in
-      let g1 = guard_none (is_total total (length d)) (if length d % unit c == 0 then unless (is_fit c d) (BadText column) else Some (OddText column)) (PlpLength column) end in
-      let g2 = guard_none (length d % unit c == 0) (unless (is_fit c d) (BadText column)) (OddText column) g1.1 in
-      let whole : is_fit c d ≡ true = unless_none (is_fit c d) (BadText column) g2.1 in
-      let t : is_total (known_total (little m.first)) (length d) ≡ true = subst (λ v. is_total v (length d) ≡ true) m.total_is g1.0 in
+      choose (λ p. CellMeans kind (LongShape c Chunked) p (b ++ e)) _ _ _ (λ z.
+      let zero' = eq_true _ 0 z in
+      let end = sym (ap (λ t. (if t then end_of_chunks column c total d else unless (within_total total (length d + little e)) (PlpLength column))) z) ∙ free in
+      let g1 = guard_none _ _ _ end in
+      let whole = unless_none _ _ (guard_none _ _ _ g1.1).1 in
       let e0 : e ≡ 0 ∷ 0 ∷ 0 ∷ 0 ∷ [] = grind (arith, common_steps) in
-      (refl, whole, record { total = m.first; rest = m.rest ++ e; chunks = m.chunks; spelt = ap (λ v. v ++ e) m.spelt ∙ append_assoc m.first m.rest e; eight = m.eight; known = grind (arith, common_steps, nat_tests); each = subst (λ v. SpellsChunks m.chunks (m.rest ++ v)) (sym e0) (end_chunks m.chunks m.rest m.begun); all = m.all }))
+      (refl, whole, record { total = m.first; rest = m.rest ++ e; chunks = m.chunks; spelt = ap (λ v. v ++ e) m.spelt ∙ append_assoc m.first m.rest e; eight = m.eight; known = grind arith; each = rw e0 (end_chunks m.chunks m.rest m.begun); all = m.all }))
       (λ z.
-      let some : little e ≢ 0 = eq_false (little e) 0 z in
+      let some = eq_false _ 0 z in
       (refl, record { before = d; whole = b; chunks = m; header = e; part = []; spelt = ap (λ v. b ++ v) (sym (append-nil e)); four = four; counted = omega arith; all = sym (append-nil d) }))
 
   data_means : (c : Conversion) (total : Option ℕ) (left : ℕ) (d b : List ℕ) (x : ℕ) → ChunkMeans total left d b → CellMeans kind (LongShape c Chunked) (cell_add (ChunkData c total left d) (x ∷ [])) (b ++ x ∷ [])
   data_means c total left d b x m =
       let la : length (m.part ++ x ∷ []) ≡ length m.part + 1 = length-append m.part (x ∷ []) in
-      let counted : little m.header ≡ length m.part + (left + 1) = m.counted in
-      let spelt : b ++ x ∷ [] ≡ m.whole ++ (m.header ++ (m.part ++ x ∷ [])) = ap (λ v. v ++ x ∷ []) m.spelt ∙ append_assoc m.whole (m.header ++ m.part) (x ∷ []) ∙ ap (λ v. m.whole ++ v) (append_assoc m.header m.part (x ∷ [])) in
-      let all : d ++ x ∷ [] ≡ m.before ++ (m.part ++ x ∷ []) = ap (λ v. v ++ x ∷ []) m.all ∙ append_assoc m.before m.part (x ∷ []) in
-      choose (λ p. CellMeans kind (LongShape c Chunked) p (b ++ x ∷ [])) (left == 0) (ChunkLength c total (d ++ x ∷ [])) (ChunkData c total (left - 1) (d ++ x ∷ [])) (λ z.
-      let zero' : left ≡ 0 = eq_true left 0 z in
-      let one : SpellsChunk (m.part ++ x ∷ []) (m.header ++ (m.part ++ x ∷ [])) = record { header = m.header; spelt = refl; four = m.four; counted = omega (arith, la); some = omega (arith, la) } in (
+      let counted = m.counted in
+      let spelt = ap (λ v. v ++ x ∷ []) m.spelt ∙ append_assoc m.whole _ _ ∙ ap (λ v. m.whole ++ v) (append_assoc m.header m.part _) in
+      let all = ap (λ v. v ++ x ∷ []) m.all ∙ append_assoc m.before m.part _ in
+      choose (λ p. CellMeans kind (LongShape c Chunked) p (b ++ x ∷ [])) (left == 0) _ _ (λ z.
+      let zero' = eq_true left 0 z in
+      let one : SpellsChunk _ _ = record { header = m.header; spelt = refl; four = m.four; counted = omega arith; some = omega arith } in (
         refl,
         record {
           first = m.chunks.first;
           chunks = m.chunks.chunks ++ (m.part ++ x ∷ []) ∷ [];
           rest = m.chunks.rest ++ (m.header ++ (m.part ++ x ∷ []));
-          spelt = spelt ∙ ap (λ v. v ++ (m.header ++ (m.part ++ x ∷ []))) m.chunks.spelt ∙ append_assoc m.chunks.first m.chunks.rest (m.header ++ (m.part ++ x ∷ []));
+          spelt = spelt ∙ ap (λ v. v ++ (m.header ++ (m.part ++ x ∷ []))) m.chunks.spelt ∙ append_assoc m.chunks.first _ _;
           eight = m.chunks.eight;
           total_is = m.chunks.total_is;
           below = m.chunks.below;
-          begun = more_chunks m.chunks.chunks m.chunks.rest (m.part ++ x ∷ []) (m.header ++ (m.part ++ x ∷ [])) m.chunks.begun one;
-          all = concat-append m.chunks.chunks ((m.part ++ x ∷ []) ∷ []) ∙ ap (λ v. v ++ concat ((m.part ++ x ∷ []) ∷ [])) m.chunks.all ∙ ap (λ v. m.before ++ v) (append-nil (m.part ++ x ∷ [])) ∙ sym all;
+          begun = more_chunks _ _ _ _ m.chunks.begun one;
+          all = concat-append m.chunks.chunks _ ∙ ap (λ v. v ++ concat ((m.part ++ x ∷ []) ∷ [])) m.chunks.all ∙ ap (λ v. m.before ++ v) (append-nil _) ∙ sym all;
         },
-      )) (λ z. let some : left ≢ 0 = eq_false left 0 z in
-      (refl, record { before = m.before; whole = m.whole; chunks = m.chunks; header = m.header; part = m.part ++ x ∷ []; spelt = spelt; four = m.four; counted = omega (arith, la); all = all }))
+      )) (λ z. let some = eq_false left 0 z in
+      (refl, record { before = m.before; whole = m.whole; chunks = m.chunks; header = m.header; part = m.part ++ x ∷ []; spelt = spelt; four = m.four; counted = omega arith; all = all }))
 
   length_means : (e : List ℕ) → length e ≡ 1 → ((slice_index e 0 == 0) || is_length_allowed kind (slice_index e 0)) ≡ true → CellMeans kind CountedShape (if slice_index e 0 == 0 then WholeCell Null else ScalarBytes kind (slice_index e 0)) e
   length_means e one free = grind (arith, choose, eq_false, eq_true, one_byte)
 
   short_length_means : (c : Conversion) (e : List ℕ) → length e ≡ 2 → AreBytes e → CellMeans kind (LongShape c Short) (cell_add (ShortLength c) e) e
-  short_length_means c e two bytes = grind (arith, append-nil, choose, eq_false, eq_true, no_data_is_fit, two_bytes)
+  short_length_means c e two bytes = grind (arith, no_data_is_fit, two_bytes)
 
   total_means : (c : Conversion) (e : List ℕ) → length e ≡ 8 → AreBytes e → CellMeans kind (LongShape c Chunked) (cell_add (Total c) e) e
-  total_means c e eight bytes = grind (arith, append-nil, choose, eight_below, eight_ones, eq_false, eq_true)
+  total_means c e eight bytes = grind (arith, append-nil, eight_below, eight_ones)
 
   -- each element keeps the meaning
   pub cell_step : (sh : Shape) (p : CellPart) (b e : List ℕ) → AreBytes e → CellMeans kind sh p b → IsNext (cell column) p e → CellMeans kind sh (cell_add p e) (b ++ e)
-  cell_step sh p b e bytes h n = grind (arith, chunk_means, data_means, length_means, one_byte, short_length_means, short_means, total_means, unless_none, value_means)
+  cell_step sh p b e bytes h n = grind (arith, chunk_means, data_means, one_byte, short_length_means, short_means, total_means, unless_none, value_means)
 
 pub start_means : (kind : Kind) (sh : Shape) → CellMeans kind sh (cell_start kind sh) []
 start_means kind sh = grind arith
 
 -- What is read as a cell spells it.
 pub cell_is_spelt : (column : ℕ) (kind : Kind) (sh : Shape) (x : Cell) (bytes : List ℕ) → AreBytes bytes → Spelt (cell column) (cell_start kind sh) bytes (WholeCell x) → SpellsCell kind sh x bytes
-cell_is_spelt column kind sh x bytes are h = Spelt-induct (cell column) (λ p b. AreBytes b → CellMeans kind sh p b) (λ p b e m n all. cell_step column kind sh p b e (AreBytes-back b e all) (m (AreBytes-front b e all)) n) (cell_start kind sh) (λ _. start_means kind sh) bytes (WholeCell x) h are
+cell_is_spelt column kind sh x bytes are h = Spelt-induct _ (λ p b. AreBytes b → CellMeans kind sh p b) (λ p b e m n all. cell_step column kind sh p b e (AreBytes-back b e all) (m (AreBytes-front b e all)) n) _ (λ _. start_means kind sh) bytes _ h are

@@ -1,5 +1,5 @@
 -- The cells of scalar kinds, as they are read.
-use Rattle.tds_rows.proofs.Words.{common_steps, ◌≡◌, ◌≢◌, ◌∙◌, ℕ, ◌+◌, ◌<◌, true, false, List, [], ◌∷◌, ◌++◌, length, take, drop, refl, sym, ap, subst, arith, Result, Ok, Err, MatchResult, Option, Some, None, ◌==◌, ◌||◌, is_ok, slice_index, if◌then◌else◌, ne_eqb, take_all, Kind, fixed_length, is_length_allowed, is_scalar, read_of, Space, appended, BadValue, BadValueLength, MessageEnded, Stop, Seen, Takes, Ends, IsBetween, began_at, choose_false, began_is_cut, cut_at_once, reads_one, refused_at_once, stops_after, takes_both, EndsInto, TakesInto, Charset, CellPart, Null, ScalarBytes, ScalarLength, WholeCell, cell, cell_end, cell_size, cell_start, field_so_far, shape, shape_of_length, unless, GathersCell, IsScalarLeft, StallsCell, length_after, start_after, value_bytes, value_start, Payload}
+use Rattle.tds_rows.proofs.Words.{common_steps, ◌≡◌, ◌≢◌, ◌∙◌, ℕ, ◌+◌, ◌<◌, true, false, List, [], ◌∷◌, ◌++◌, length, take, drop, refl, sym, ap, subst, arith, Result, Ok, Err, MatchResult, Option, Some, None, ◌||◌, is_ok, slice_index, if◌then◌else◌, ne_eqb, take_all, Kind, fixed_length, is_length_allowed, is_scalar, read_of, Space, appended, BadValue, BadValueLength, MessageEnded, Stop, Seen, Takes, Ends, IsBetween, began_at, choose_false, began_is_cut, cut_at_once, reads_one, refused_at_once, stops_after, takes_both, EndsInto, TakesInto, Charset, CellPart, ScalarBytes, ScalarLength, cell, cell_end, cell_size, cell_start, field_so_far, shape, shape_of_length, unless, GathersCell, IsScalarLeft, StallsCell, length_after, start_after, value_bytes, value_start, Payload}
 
 pub scalar_shape : (charset : Charset) (kind : Kind) → is_scalar kind ≡ true → shape charset kind ≡ shape_of_length (fixed_length kind)
 scalar_shape charset kind h = grind (arith, common_steps)
@@ -10,17 +10,17 @@ fixed_some kind n h = grind (arith, common_steps)
 
 -- the next element of a cell is cut
 pub cell_cut : {column n place : ℕ} {s : CellPart} {a b : Seen} {stop : Stop} (part : List ℕ) (own : Stop) → field_so_far s ≡ None → cell_size s ≡ n → cell_end s ≡ Some MessageEnded → length part < n → Ends a b part own → stop ≡ began_at place own → StallsCell s column a b place stop
-cell_cut {column = column} {place = place} {s = s} {a = a} {b = b} {stop = stop} part own quiet size end fewer ends is = record {
+cell_cut {s = s} part own quiet size end fewer ends is = record {
   at = s;
-  stops = cut_at_once (cell column) s a b place part own stop (omega (arith, fewer, size)) ends (began_is_cut place (cell_end s) own stop end is);
+  stops = cut_at_once (cell _) s _ _ _ part own _ (omega (arith, fewer, size)) ends (began_is_cut _ (cell_end s) own _ end is);
   quiet = quiet;
 }
 
 -- a value whose bytes were read is refused
 value_stalls : {column n place : ℕ} {kind : Kind} {a b : Seen} (bytes : List ℕ) → 0 < n → length bytes ≡ n → is_ok (read_of kind bytes) ≡ false → Takes a b bytes (length bytes) → IsBetween b → StallsCell (ScalarBytes kind n) column a b place (record { fault = BadValue column; place = Payload place })
-value_stalls {column = column} {n = n} {place = place} {kind = kind} {a = a} {b = b} bytes some whole bad takes between = record {
-  at = ScalarBytes kind n;
-  stops = refused_at_once (cell column) (ScalarBytes kind n) a b place bytes (BadValue column) (omega (arith, some, whole)) whole (ap (λ v. unless v (BadValue column)) bad) takes between;
+value_stalls {column = column} bytes some whole bad takes between = record {
+  at = ScalarBytes _ _;
+  stops = refused_at_once _ _ _ _ _ bytes _ (omega arith) whole (ap (λ v. unless v (BadValue column)) bad) takes between;
   quiet = refl;
 }
 
@@ -29,13 +29,13 @@ fixed_gathers : {column n place place' : ℕ} {kind : Kind} {a b : Seen} (bytes 
 fixed_gathers {column = column} {n = n} {place = place} {kind = kind} {a = a} {b = b} bytes is whole takes between at =
     let taken = rw (sym whole) at takes in
     record {
-      whole = omega (arith, whole, ap start_after is, ap (λ o. length_after o bytes) is);
+      whole = omega (arith, ap start_after is, ap (λ o. length_after o bytes) is);
       takes = taken;
       between = between;
-      place_is = omega (arith, at, whole);
+      place_is = omega arith;
       refused = λ some bad.
-          let all : value_bytes kind bytes ≡ bytes = (λ i. take (length_after (is i) bytes) (drop (start_after (is i)) bytes)) ∙ take_all n bytes (omega (arith, whole)) in
-          subst (λ (k : ℕ). StallsCell (ScalarBytes kind n) column a b place (record { fault = BadValue column; place = Payload k })) (omega (arith, ap start_after is))
+          let all : value_bytes kind bytes ≡ bytes = (λ i. take (length_after (is i) bytes) (drop (start_after (is i)) bytes)) ∙ take_all n bytes (omega arith) in
+          subst (λ k. StallsCell (ScalarBytes kind n) column a b place (record { fault = BadValue column; place = Payload k })) (omega (arith, ap start_after is))
           (value_stalls bytes (fixed_some kind n is) whole (ap (λ l. is_ok (read_of kind l)) (sym all) ∙ bad) taken between);
     }
 
@@ -44,20 +44,17 @@ fixed_gathers {column = column} {n = n} {place = place} {kind = kind} {a = a} {b
 module _ {column n place : ℕ} {kind : Kind} {a b : Seen} where
   pub length_refused : n ≢ 0 → is_length_allowed kind n ≡ false → Takes a b (n ∷ []) 1 → IsBetween b → StallsCell (ScalarLength kind) column a b place (record { fault = BadValueLength column; place = Payload place })
   length_refused some bad takes between =
-      let no : ((n == 0) || is_length_allowed kind n) ≡ false = ap (λ v. v || is_length_allowed kind n) (ne_eqb n 0 some) ∙ bad in
       record {
         at = ScalarLength kind;
-        stops = refused_at_once (cell column) (ScalarLength kind) a b place (n ∷ []) (BadValueLength column) (omega arith) refl (ap (λ v. unless v (BadValueLength column)) no) takes between;
+        stops = refused_at_once _ _ a b place (n ∷ []) _ (omega arith) refl (ap (λ v. unless v (BadValueLength column)) (ap (λ v. v || is_length_allowed kind n) (ne_eqb n 0 some) ∙ bad)) takes between;
         quiet = refl;
       }
 
   -- where the value stops after a length that is allowed, the cell does
   length_then : {d : Seen} {middle : ℕ} {stop : Stop} → n ≢ 0 → is_length_allowed kind n ≡ true → Takes a b (n ∷ []) 1 → middle ≡ place + 1 → StallsCell (ScalarBytes kind n) column b d middle stop → StallsCell (ScalarLength kind) column a d place stop
-  length_then {d = d} {stop = stop} some good takes at x =
-      let yes : ((n == 0) || is_length_allowed kind n) ≡ true = ap (λ v. v || is_length_allowed kind n) (ne_eqb n 0 some) ∙ good in
-      let to : (cell column).add (ScalarLength kind) (n ∷ []) ≡ ScalarBytes kind n = choose_false (n == 0) (WholeCell Null) (ScalarBytes kind n) (ne_eqb n 0 some) in
-      let p = reads_one (cell column) (ScalarLength kind) a b (n ∷ []) (ScalarBytes kind n) (record { some = omega arith; whole = refl; free = ap (λ v. unless v (BadValueLength column)) yes }) takes to in
-      record { at = x.at; stops = stops_after (cell column) (ScalarLength kind) (ScalarBytes kind n) a b d place x.at stop p (rw at at x.stops); quiet = x.quiet }
+  length_then some good takes at x =
+      let p = reads_one _ _ a b (n ∷ []) _ (record { some = omega arith; whole = refl; free = ap (λ v. unless v (BadValueLength column)) (ap (λ v. v || is_length_allowed kind n) (ne_eqb n 0 some) ∙ good) }) takes (choose_false _ _ _ (ne_eqb n 0 some)) in
+      record { at = x.at; stops = stops_after _ _ _ a b _ place x.at _ p (rw at at x.stops); quiet = x.quiet }
 
 -- NULL was read
 pub null_gathers : {column place place' : ℕ} {kind : Kind} {a b : Seen} {bytes : List ℕ} → fixed_length kind ≡ None → length bytes ≡ 1 → slice_index bytes 0 ≡ 0 → Takes a b bytes (length bytes) → IsBetween b → place' ≡ place + length bytes → GathersCell kind (ScalarLength kind) column a b place place' bytes
@@ -69,14 +66,14 @@ counted_gathers : {column n place middle place' : ℕ} {kind : Kind} {a d : Seen
 counted_gathers {column = column} {n = n} {place = place} {kind = kind} {a = a} {d = d} b value is some good first at whole then_takes between there =
     let taken = rw (sym whole) at then_takes in
     record {
-      whole = omega (arith, whole, ap start_after is, ap (λ o. length_after o (n ∷ value)) is);
+      whole = omega (arith, ap start_after is, ap (λ o. length_after o (n ∷ value)) is);
       takes = takes_both a b d (n ∷ []) value first taken;
       between = between;
-      place_is = omega (arith, at, there, whole);
+      place_is = omega arith;
       refused = λ more bad.
-          let all : value_bytes kind (n ∷ value) ≡ value = (λ i. take (length_after (is i) (n ∷ value)) (drop (start_after (is i)) (n ∷ value))) ∙ take_all n value (omega (arith, whole)) in
-          subst (λ (k : ℕ). StallsCell (ScalarLength kind) column a d place (record { fault = BadValue column; place = Payload k })) (omega (arith, ap start_after is))
-          (length_then some good first refl (value_stalls value (omega (arith, some)) whole (ap (λ l. is_ok (read_of kind l)) (sym all) ∙ bad) taken between));
+          let all : value_bytes kind _ ≡ value = (λ i. take (length_after (is i) (n ∷ value)) (drop (start_after (is i)) (n ∷ value))) ∙ take_all n value (omega arith) in
+          subst (λ k. StallsCell (ScalarLength kind) column a d place (record { fault = BadValue column; place = Payload k })) (omega (arith, ap start_after is))
+          (length_then some good first refl (value_stalls value (omega arith) whole (ap (λ l. is_ok (read_of kind l)) (sym all) ∙ bad) taken between));
     }
 
 -- ---- cells that are read into an area
@@ -89,7 +86,7 @@ stands_alone before after element none is = grind (arith, common_steps)
 pub fixed_taken : {U : Type 0} → (result : Result U Stop) (stopped : Option Stop) (column : ℕ) (kind : Kind) (n : ℕ) (a b : Seen) (place place' : ℕ) (before after : Space) → fixed_length kind ≡ Some n → before.bytes ≡ [] → stopped ≡ None → place' ≡ (if is_ok result then place + n else place)
     → MatchResult result (λ _. TakesInto a b before after n) (λ stop. stopped ≡ None → EndsInto a b before after place n stop)
     → MatchResult result (λ _. GathersCell kind (ScalarBytes kind n) column a b place place' after.bytes) (λ stop. StallsCell (ScalarBytes kind n) column a b place stop)
-fixed_taken (Ok u) stopped column kind n a b place place' before after is none going at x = rw (stands_alone before after x.element none x.stands) (fixed_gathers x.element is x.whole x.takes x.between at)
+fixed_taken (Ok u) stopped column kind n a b place place' before after is none going at x = rw (stands_alone before after _ none x.stands) (fixed_gathers _ is x.whole x.takes x.between at)
 fixed_taken (Err stop) stopped column kind n a b place place' before after is none going at x = let e = x going in cell_cut e.part e.own refl refl refl e.fewer e.ends e.stop_is
 
 -- the length that an empty area got
@@ -102,8 +99,7 @@ pub counted_taken : {U : Type 0} → (result : Result U Stop) (stopped : Option 
     → MatchResult result (λ _. TakesInto b d before after n) (λ stop. stopped ≡ None → EndsInto b d before after middle n stop)
     → MatchResult result (λ _. GathersCell kind (ScalarLength kind) column a d place place' after.bytes) (λ stop. StallsCell (ScalarLength kind) column a d place stop)
 counted_taken (Ok u) stopped column kind n a b d place middle place' before after is first some good takes at going there x =
-    let bytes : after.bytes ≡ n ∷ x.element = ap (λ (s : Space). s.bytes) x.stands ∙ ap (λ l. l ++ x.element) first in
-    rw bytes (counted_gathers b x.element is some good takes at x.whole x.takes x.between there)
+    rw (ap (λ s. s.bytes) x.stands ∙ ap (λ l. l ++ x.element) first) (counted_gathers b _ is some good takes at x.whole x.takes x.between there)
 counted_taken (Err stop) stopped column kind n a b d place middle place' before after is first some good takes at going there x =
     let e = x going in
     length_then some good takes at (cell_cut e.part e.own refl refl refl e.fewer e.ends e.stop_is)

@@ -1,5 +1,5 @@
 -- What a text that grows is, and what the cells and rows that are read add to it.
-use Rattle.tds_rows.proofs.Words.{common_steps, ◌≡◌, ℕ, ◌-◌, Bool, true, false, List, [], ◌∷◌, ◌++◌, length, refl, sym, ◌∙◌, ap, subst, append_assoc, append-nil, arith, Option, Some, None, ◌==◌, ◌||◌, nat_lt, map, codes, map-append, joined, null_field, Conversion, closing, conversion_rest, conversion_text, is_fit, is_begun, is_quoted, long_field, open_field, open_closes, open_grows, begun_by_test, IsNext, and_parts, or_cases, choose, eq_true, lt_true, Column, Charset, Cell, Null, DataCell, field, shape, CellPart, ShortData, ChunkLength, ChunkData, WholeCell, cell_start, cell_add, cell, field_so_far, chunk_fault, RowPart, Bitmap, InCell, WholeRow, next_cell, with_cell, row_add, row, with_field, row_so_far}
+use Rattle.tds_rows.proofs.Words.{common_steps, ◌≡◌, ℕ, Bool, true, false, List, [], ◌∷◌, ◌++◌, refl, sym, ◌∙◌, ap, subst, append_assoc, append-nil, arith, Option, Some, None, ◌==◌, ◌||◌, nat_lt, map, codes, map-append, joined, null_field, Conversion, closing, conversion_rest, conversion_text, is_fit, is_begun, is_quoted, long_field, open_field, open_closes, open_grows, begun_by_test, IsNext, or_cases, choose, eq_true, lt_true, Column, Charset, Cell, Null, field, shape, CellPart, ShortData, ChunkLength, ChunkData, WholeCell, cell_start, cell_add, cell, field_so_far, chunk_fault, RowPart, Bitmap, InCell, WholeRow, next_cell, with_cell, row_add, row, with_field, row_so_far}
 use Rattle.tds_rows.proofs.CellMeaning.{guard_none, unless_none}
 
 -- the second text begins with the first
@@ -26,14 +26,14 @@ grows_under x a b h = (h.0, append_assoc x a h.0 ∙ ap (λ v. x ++ v) h.1)
 pub joined_more : (fs gs : List (List ℕ)) → Grows (joined fs) (joined (fs ++ gs))
 joined_more [] gs = grows_all (joined gs)
 joined_more (f ∷ []) [] = grows_same f
-joined_more (f ∷ []) (g ∷ gs) = (codes "," ++ joined (g ∷ gs), sym (append_assoc f (codes ",") (joined (g ∷ gs))))
-joined_more (f ∷ h ∷ fs) gs = grows_under (f ++ codes ",") (joined (h ∷ fs)) (joined (h ∷ (fs ++ gs))) (joined_more (h ∷ fs) gs)
+joined_more (f ∷ []) (g ∷ gs) = (codes "," ++ joined (g ∷ gs), sym (append_assoc f _ (joined (g ∷ gs))))
+joined_more (f ∷ h ∷ fs) gs = grows_under _ (joined (h ∷ fs)) (joined (h ∷ (fs ++ gs))) (joined_more (h ∷ fs) gs)
 
 -- more of the last field
 joined_last : (fs : List (List ℕ)) (a b : List ℕ) → Grows a b → Grows (joined (fs ++ a ∷ [])) (joined (fs ++ b ∷ []))
 joined_last [] a b h = h
-joined_last (f ∷ []) a b h = grows_under (f ++ codes ",") a b h
-joined_last (f ∷ g ∷ fs) a b h = grows_under (f ++ codes ",") (joined (g ∷ (fs ++ a ∷ []))) (joined (g ∷ (fs ++ b ∷ []))) (joined_last (g ∷ fs) a b h)
+joined_last (f ∷ []) a b h = grows_under _ a b h
+joined_last (f ∷ g ∷ fs) a b h = grows_under _ (joined (g ∷ (fs ++ a ∷ []))) (joined (g ∷ (fs ++ b ∷ []))) (joined_last (g ∷ fs) a b h)
 
 -- the text of a field that may not be there yet
 abbrev pub OptionGrows : Option (List ℕ) → Option (List ℕ) → Type 0
@@ -72,13 +72,9 @@ module _ (column : ℕ) where
   -- each element of a cell adds to its text
   pub cell_grows : (p : CellPart) (e : List ℕ) → IsNext (cell column) p e → OptionGrows (field_so_far p) (field_so_far (cell_add p e))
   cell_grows (WholeCell x) e n = grows_same _
-  cell_grows (ShortData c left content) e n =
-      let free = and_parts (is_begun c (content ++ e)) (nat_lt 0 left || is_fit c (content ++ e)) (unless_none _ _ n.free) in
-      let one : Grows (open_field c content) (open_field c (content ++ e)) = open_more c _ e free.0 in
-      choose (λ p. OptionGrows (Some (open_field c content)) (field_so_far p)) _ (WholeCell (DataCell c (content ++ e))) (ShortData c (left - 1) (content ++ e))
-      (λ z. grows_trans _ _ _ one (long_grows c _ (last_fit _ _ free.1 z))) (λ z. one)
-  cell_grows (ChunkLength c total content) e n = grind (arith, choose, end_fit, grows_same, long_grows)
-  cell_grows (ChunkData c total left content) e n = grind (arith, choose, open_more, unless_none)
+  cell_grows (ShortData c left content) e n = grind (arith, common_steps, unless_none, open_more, choose, grows_trans, long_grows, last_fit)
+  cell_grows (ChunkLength c total content) e n = grind (arith, grows_same, long_grows)
+  cell_grows (ChunkData c total left content) e n = grind (arith, open_more)
   cell_grows p e n = tt
 
 -- ---- a row
@@ -86,14 +82,13 @@ module _ (column : ℕ) where
 module _ (charset : Charset) where
   -- the cells to come begin
   next_grows : (cells : List Cell) (ks : List (Column × Bool)) → Grows (joined (map field cells)) (row_so_far (next_cell charset cells ks))
-  next_grows cells [] = grind (arith, common_steps)
-  next_grows cells ((k, true) ∷ ks) =
-      grows_trans _ _ _ (rw (sym (map-append field cells (Null ∷ []))) at (joined_more (map field cells) (null_field ∷ []))) (next_grows _ ks)
+  next_grows cells [] = grind arith
+  next_grows cells ((k, true) ∷ ks) = grows_trans _ _ _ (rw (sym (map-append field cells (Null ∷ []))) at (joined_more (map field cells) (null_field ∷ []))) (next_grows _ ks)
   next_grows cells ((k, false) ∷ ks) = with_field_grows _ None (field_so_far (cell_start k.kind (shape charset k.kind))) tt
 
   -- a cell in its row
   with_cell_grows : (cells : List Cell) (ks : List (Column × Bool)) (p : CellPart) → Grows (joined (with_field cells (field_so_far p))) (row_so_far (with_cell charset cells ks p))
-  with_cell_grows cells ks (WholeCell c) = subst (λ v. Grows (joined v) (row_so_far (next_cell charset (cells ++ c ∷ []) ks))) (map-append field cells (c ∷ [])) (next_grows (cells ++ c ∷ []) ks)
+  with_cell_grows cells ks (WholeCell c) = subst (λ v. Grows (joined v) (row_so_far (next_cell charset (cells ++ c ∷ []) ks))) (map-append field cells _) (next_grows (cells ++ c ∷ []) ks)
   with_cell_grows cells ks (ShortData c left content) = grows_same (joined (map field cells ++ open_field c content ∷ []))
   with_cell_grows cells ks (ChunkLength c total content) = grows_same (joined (map field cells ++ open_field c content ∷ []))
   with_cell_grows cells ks (ChunkData c total left content) = grows_same (joined (map field cells ++ open_field c content ∷ []))
@@ -104,6 +99,4 @@ module _ (charset : Charset) where
   row_grows (Bitmap columns) e n = grows_all _
   row_grows (WholeRow cells) e n = grows_same _
   row_grows (InCell cells part ks) e n =
-      grows_trans _ _ _
-      (with_field_grows _ (field_so_far part) (field_so_far (cell_add part e)) (cell_grows (length cells) part e (record { some = n.some; whole = n.whole; free = n.free })))
-      (with_cell_grows cells ks (cell_add part e))
+      grows_trans _ _ _ (with_field_grows _ _ _ (cell_grows _ part e (record { some = n.some; whole = n.whole; free = n.free }))) (with_cell_grows cells ks _)

@@ -6,7 +6,7 @@ use Rattle.tds_rows.proofs.Paths.{At}
 module _ {fit begins : List ℕ → Type 0} {rest text : List ℕ → List ℕ} {size : ℕ} {quoted : Bool} {c : Conversion} (suits : Suits fit begins rest text size quoted c) where
   module _ (content : List ℕ) {old : List ℕ} (is : old ≡ conversion_rest c content) (begun : BeginsData c content) where
     begun_with : (piece : List ℕ) → begins (old ++ piece) → BeginsData c (content ++ piece)
-    begun_with piece h = (joins_by_name c).outward content piece (subst (λ o. BeginsData c (o ++ piece)) is ((suits.begins_is (old ++ piece)).0 h))
+    begun_with piece h = (joins_by_name c).outward content piece (rw (← is) ((suits.begins_is (old ++ piece)).0 h))
 
     -- a piece was taken
     pub piece_taken : {new piece : List ℕ} {p q : At} → 0 < length piece → Takes p.seen q.seen piece 1 → IsBetween q.seen → q.place ≡ p.place + length piece → TakesPiece begins rest text old new p.held q.held piece
@@ -21,31 +21,31 @@ module _ {fit begins : List ℕ → Type 0} {rest text : List ℕ → List ℕ} 
           between = between;
           place_is = at;
           begun = all;
-          puts = subst (Puts p.held q.held) (grind (arith, common_steps)) x.put;
-          kept_is = x.withheld ∙ suits.rest_is (old ++ piece) ∙ ap (λ o. conversion_rest c (o ++ piece)) is ∙ sym ((joins_by_name c).keeps content piece all);
+          puts = subst (Puts p.held q.held) (grind arith) x.put;
+          kept_is = x.withheld ∙ suits.rest_is _ ∙ ap (λ o. conversion_rest c (o ++ piece)) is ∙ sym ((joins_by_name c).keeps content piece all);
         }
 
     -- a byte of it is bad
     pub piece_bad : {new : List ℕ} {k : ℕ} {h i : Held} (piece : List ℕ) (column most : ℕ) (a b : Seen) (place : ℕ) → length piece ≤ most → Takes a b piece 1 → IsBetween b → TakesUpTo begins rest text old new h i piece k
         → RefusesData c content column most a b place h i (record { fault = BadText column; place = Payload (place + k) })
-    piece_bad {k = k} {h = h} {i = i} piece column most a b place short takes between x =
-        let within : k < length piece = x.within in
-        let good = take k piece in
-        let bad = get_or piece k 0 in
-        let len : length good ≡ k = length-take-le k piece (omega (arith, within)) in
-        let split : piece ≡ good ++ bad ∷ drop (k + 1) piece = sym (take-append-drop k piece) ∙ ap (λ l. good ++ l) (drop_more piece k 0 within) in
+    piece_bad {h = h} piece column most a b place short takes between x =
+        let within = x.within in
+        let good = take _ piece in
+        let bad = get_or piece _ 0 in
+        let len = length-take-le _ piece (omega arith) in
+        let split = sym (take-append-drop _ piece) ∙ ap (λ l. good ++ l) (drop_more piece _ 0 within) in
         record {
           good = good;
           bad = bad;
-          ahead = drop (k + 1) piece;
-          within = omega (arith, len, within, short);
+          ahead = drop _ piece;
+          within = omega arith;
           takes = subst (λ l. Takes a b l 1) split takes;
           between = between;
           begun = begun_with good x.good.begun;
           no_text = λ so.
-              let inward : BeginsData c (conversion_rest c content ++ (good ++ bad ∷ [])) = (joins_by_name c).inward content (good ++ bad ∷ []) (subst (BeginsData c) (append_assoc content good (bad ∷ [])) so) in
-              x.bad ((suits.begins_is (old ++ take (k + 1) piece)).1 (rw (is, take_more piece k 0 within) inward));
-          puts = subst (Puts h i) (grind (arith, common_steps)) x.good.put;
+              let inward : BeginsData c _ = (joins_by_name c).inward content (good ++ bad ∷ []) (subst (BeginsData c) (append_assoc content good (bad ∷ [])) so) in
+              x.bad ((suits.begins_is _).1 (rw (is, take_more piece _ 0 within) inward));
+          puts = subst (Puts h _) (grind arith) x.good.put;
           stop_is = ap (λ n. record { fault = BadText column; place = Payload (place + n) }) (sym len);
         }
 
@@ -54,15 +54,15 @@ module _ {fit begins : List ℕ → Type 0} {rest text : List ℕ → List ℕ} 
     piece_breaks piece most a b h i stop short takes between begins_old breaks =
         let f = begun_front c old piece ((suits.begins_is old).0 begins_old) in
         let good = take f.taken piece in
-        let within : f.taken ≤ length piece = f.within in
+        let within = f.within in
         record {
           good = good;
           ahead = drop f.taken piece;
-          within = omega (arith, length-take-le f.taken piece within, within, short);
-          takes = subst (λ l. Takes a b l 1) (sym (take-append-drop f.taken piece)) takes;
+          within = omega (arith, length-take-le f.taken piece within);
+          takes = rw (take-append-drop f.taken piece) takes;
           between = between;
-          begun = (joins_by_name c).outward content good (subst (λ o. BeginsData c (o ++ good)) is f.begun);
-          breaks = subst (λ l. Breaks h i l stop) (grind (arith, common_steps) ∙ sym f.same ∙ ap (λ o. emit (conversion_rest c) (conversion_text c) (o ++ good)) is) breaks;
+          begun = (joins_by_name c).outward content good (rw (← is) f.begun);
+          breaks = subst (λ l. Breaks h i l stop) (grind arith ∙ sym f.same ∙ ap (λ o. emit (conversion_rest c) (conversion_text c) (o ++ good)) is) breaks;
         }
 
     -- the fault of a push
@@ -90,9 +90,9 @@ module _ {fit begins : List ℕ → Type 0} {rest text : List ℕ → List ℕ} 
         → StopsEnding c quoted last content column place h i after (join_stop column place fault)
     end_stops new column place unit' last h i before after (Stopped stop) going failed x =
         let breaks = subst (λ l. Breaks h i l stop) (suits.text_is old ∙ ap (conversion_text c) is) (x going).1 in
-        inl (fit_whole (x going).0, Breaks-longer h i (conversion_text c (conversion_rest c content)) (closing quoted ++ end_after last) stop breaks, failed)
+        inl (fit_whole (x going).0, Breaks-longer h i _ _ stop breaks, failed)
     end_stops new column place unit' last h i before after Odd going failed x = inr (end_part new h i x.0, x.0.put, ap (λ n. record { fault = BadText column; place = Payload n }) (omega arith), failed)
-    end_stops new column place unit' last h i before after (join_faults.BadText k) going failed x = inr (end_part new h i x.0, x.0.put, ap (λ n. record { fault = BadText column; place = Payload n }) (omega (arith, x.2)), failed)
+    end_stops new column place unit' last h i before after (join_faults.BadText k) going failed x = inr (end_part new h i x.0, x.0.put, ap (λ n. record { fault = BadText column; place = Payload n }) (omega arith), failed)
 
 -- no push says that more bytes are good than the piece has
 pub good_within : (begins : List ℕ → Type 0) (rest text : List ℕ → List ℕ) (old new : List ℕ) (h i : Held) (failed : Bool) (piece : List ℕ) (fault : JoinFault) → Pushes {U = Unit {0}} begins rest text old new h i failed piece (Err fault) → good_of fault ≤ length piece
@@ -103,17 +103,16 @@ good_within begins rest text old new h i failed piece fault x = grind arith
 module _ (c : Conversion) (content : List ℕ) (begun : BeginsData c content) where
   added_none : added_text c content [] ≡ []
   added_none =
-      let e = emit (conversion_rest c) (conversion_text c) in
-      append_cancel_left (e content) (added_text c content []) []
-      (sym ((joins_by_name c).emits content [] (subst (BeginsData c) (sym (append-nil content)) begun)) ∙ ap e (append-nil content) ∙ sym (append-nil (e content)))
+      append_cancel_left _ _ []
+      (sym ((joins_by_name c).emits content [] (subst (BeginsData c) (sym (append-nil content)) begun)) ∙ ap (emit (conversion_rest c) (conversion_text c)) (append-nil content) ∙ sym (append-nil _))
 
   added_both : (more piece : List ℕ) → BeginsData c ((content ++ more) ++ piece) → added_text c content more ++ added_text c (content ++ more) piece ≡ added_text c content (more ++ piece)
   added_both more piece all =
       let e = emit (conversion_rest c) (conversion_text c) in
       let laws = joins_by_name c in
-      let regroup : (content ++ more) ++ piece ≡ content ++ (more ++ piece) = append_assoc content more piece in
-      let front : BeginsData c (content ++ more) = laws.front (content ++ more) piece all in
-      append_cancel_left (e content) (added_text c content more ++ added_text c (content ++ more) piece) (added_text c content (more ++ piece))
+      let regroup = append_assoc content more piece in
+      let front = laws.front (content ++ more) piece all in
+      append_cancel_left _ _ _
       (sym (append_assoc (e content) (added_text c content more) (added_text c (content ++ more) piece)) ∙ ap (λ l. l ++ added_text c (content ++ more) piece) (sym (laws.emits content more front)) ∙ sym (laws.emits (content ++ more) piece all)
       ∙ ap e regroup ∙ laws.emits content (more ++ piece) (subst (BeginsData c) regroup all))
 
@@ -132,14 +131,13 @@ module _ (c : Conversion) (content : List ℕ) (begun : BeginsData c content) wh
   -- a piece more was read
   fills_more : {kept more : List ℕ} {n : ℕ} {p q r : At} → length r.held.waiting < 4096 → r.held.delivered ≤ 2 ^ 64 - 1 → FillsData c content p.seen q.seen p.place q.place p.held q.held more → (x : TakesData c (content ++ more) kept q.seen r.seen q.place r.place q.held r.held n)
       → FillsData c content p.seen r.seen p.place r.place p.held r.held (more ++ x.piece)
-  fills_more {more = more} {n = n} {p = p} {q = q} {r = r} few delivered y x =
-      let some : 0 < n = x.some in
+  fills_more {more = more} {p = p} {q = q} {r = r} few delivered y x =
       record {
-        takes = takes_both p.seen q.seen r.seen more x.piece y.takes (Takes-more q.seen r.seen x.piece 1 (length x.piece) (omega (arith, some, x.counted)) x.takes);
+        takes = takes_both p.seen q.seen r.seen more x.piece y.takes (Takes-more q.seen r.seen x.piece 1 _ (omega arith) x.takes);
         between = x.between;
-        place_is = omega (arith, y.place_is, x.place_is, x.counted, length-append more x.piece);
-        begun = rw (append_assoc content more x.piece) at x.begun;
-        puts = rw (added_both more x.piece x.begun) at (Puts-trans p.held q.held r.held (added_text c content more) (added_text c (content ++ more) x.piece) y.puts x.puts);
+        place_is = omega (arith, length-append more x.piece);
+        begun = rw append_assoc at x.begun;
+        puts = rw (added_both more x.piece x.begun) at (Puts-trans p.held q.held r.held _ _ y.puts x.puts);
         few = few;
         delivered = delivered;
       }
@@ -152,14 +150,14 @@ pub record Filled (c : Conversion) (content kept : List ℕ) (p q : At) (n left 
   pub kept_is : kept ≡ conversion_rest c (content ++ more)
 
 pub filled_none : {c : Conversion} {content kept : List ℕ} {n : ℕ} {p : At} → BeginsData c content → kept ≡ conversion_rest c content → IsBetween p.seen → length p.held.waiting < 4096 → p.held.delivered ≤ 2 ^ 64 - 1 → Filled c content kept p p n n
-filled_none {c = c} {content = content} begun is between few delivered = record { more = []; fills = fills_none c content begun between few delivered; counted = omega arith; kept_is = rw (append-nil content) is }
+filled_none begun is between few delivered = record { more = []; fills = fills_none _ _ begun between few delivered; counted = omega arith; kept_is = rw (append-nil _) is }
 
 module _ {c : Conversion} {content kept : List ℕ} {p q : At} {n left : ℕ} (begun : BeginsData c content) (x : Filled c content kept p q n left) where
   pub filled_more : {kept' : List ℕ} {r : At} (k : ℕ) → k ≤ left → length r.held.waiting < 4096 → r.held.delivered ≤ 2 ^ 64 - 1 → TakesData c (content ++ x.more) kept' q.seen r.seen q.place r.place q.held r.held k → Filled c content kept' p r n (left - k)
   filled_more k most few delivered y = record {
     more = x.more ++ y.piece;
     fills = fills_more c content begun few delivered x.fills y;
-    counted = omega (arith, x.counted, y.counted, most, length-append x.more y.piece);
+    counted = omega (arith, length-append x.more y.piece);
     kept_is = y.kept_is ∙ ap (conversion_rest c) (append_assoc content x.more y.piece);
   }
 
@@ -169,18 +167,10 @@ module _ {c : Conversion} {content kept : List ℕ} {p q : At} {n left : ℕ} (b
   pub filled_stops : {column : ℕ} {d : Seen} {j : Held} {failed : Bool} {stop : Stop} → 0 < left → StopsData c (content ++ x.more) column left q.seen d q.place q.held j failed stop → StopsFilling c content column n p.seen d p.place p.held j failed stop
   filled_stops {column = column} {d = d} {j = j} {failed = failed} {stop = stop} some y =
       let rest : left ≡ n - length x.more = omega (arith, x.counted) in
-      record {
-        front = x.more;
-        middle = q.seen;
-        there = q.place;
-        between = q.held;
-        fewer = omega (arith, x.counted, some);
-        fills = x.fills;
-        stops = subst (λ (k : ℕ). StopsData c (content ++ x.more) column k q.seen d q.place q.held j failed stop) rest y;
-      }
+      record { front = x.more; middle = q.seen; there = q.place; between = q.held; fewer = omega (arith, x.counted, some); fills = x.fills; stops = rw (← rest) y }
 
 -- the end of content that is whole was put, or a write of it failed
 pub end_puts : {W U : Type 0} (contents : W → Option (List ℕ)) (c : Conversion) (quoted last : Bool) (content : List ℕ) (column place : ℕ) (a b d : Sink W) (r : Result U Stop)
     → IsFit c content × Puts (held contents a) (held contents b) (conversion_text c (conversion_rest c content)) → b.failed ≡ false → PutsPiece contents b d (closing quoted ++ end_after last) r → EndPut contents c quoted last content column place a d r
-end_puts contents c quoted last content column place a b d (Ok u) x going y = (x.0, Puts-trans (held contents a) (held contents b) (held contents d) (conversion_text c (conversion_rest c content)) (closing quoted ++ end_after last) x.1 y.gives)
-end_puts contents c quoted last content column place a b d (Err e) x going y = inl (x.0, Breaks-after (held contents a) (held contents b) (held contents d) (conversion_text c (conversion_rest c content)) (closing quoted ++ end_after last) e x.1 (y.gives going), y.failed)
+end_puts contents c quoted last content column place a b d (Ok u) x going y = (x.0, Puts-trans _ _ _ _ _ x.1 y.gives)
+end_puts contents c quoted last content column place a b d (Err e) x going y = inl (x.0, Breaks-after _ _ _ _ _ e x.1 (y.gives going), y.failed)

@@ -1,5 +1,5 @@
 -- Cells by how their values are laid out.
-use Rattle.tds_rows.proofs.Words.{common_steps, ◌≡◌, ℕ, ◌<◌, Bool, true, false, List, length, replicate, get_or, refl, sym, subst, arith, ◌==◌, slice_set, get_or-set_at, get_or-replicate, get_or-set_other, length-replicate, length-set, Kind, Reach, is_scalar, eq_false, eq_true, Content, Conversion, Charset, Form, Layout, LongShape, shape, value_length, value_start, whole_size, AreLaidOut, HasValueAt, IsLaidOut, short_size}
+use Rattle.tds_rows.proofs.Words.{common_steps, ◌≡◌, ℕ, ◌<◌, Bool, true, false, List, length, replicate, get_or, refl, arith, ◌==◌, slice_set, get_or-set_at, get_or-replicate, get_or-set_other, length-replicate, length-set, Kind, Reach, is_scalar, eq_false, eq_true, Content, Conversion, Charset, Form, Layout, LongShape, shape, value_length, value_start, whole_size, AreLaidOut, HasValueAt, IsLaidOut, short_size}
 use Rattle.tds_rows.specs.declared.form.Layout.TheVariants.{Long}
 use Rattle.tds_rows.proofs.CellSteps.{}
 
@@ -9,11 +9,11 @@ laid_all charset n f is k d here = grind (arith, common_steps, get_or-replicate,
 
 -- one more form of many
 pub laid_set : (charset : Charset) (forms : List Form) (k : ℕ) (f : Form) → AreLaidOut charset forms → k < length forms → IsLaidOut charset f.kind f.layout → AreLaidOut charset (slice_set forms k f)
-laid_set charset forms k f all within is j d here = go (j == k) refl
+laid_set charset forms k f all within is j d here = go _ refl
   where
     go : (b : Bool) → (j == k) ≡ b → IsLaidOut charset (get_or (slice_set forms k f) j d).kind (get_or (slice_set forms k f) j d).layout
-    go true e = subst (λ (g : Form). IsLaidOut charset g.kind g.layout) (sym (get_or-set_at forms k j f d (eq_true j k e) within)) is
-    go false e = subst (λ (g : Form). IsLaidOut charset g.kind g.layout) (sym (get_or-set_other forms k j f d (eq_false j k e))) (all j d (omega (arith, here, length-set forms k f)))
+    go true e = rw (get_or-set_at forms k j f d (eq_true j k e) within) is
+    go false e = rw (get_or-set_other forms k j f d (eq_false j k e)) (all j d (omega (arith, length-set forms k f)))
 
 -- ---- a value that is there
 

@@ -12,8 +12,8 @@ after_append column a b = grind arith
 -- one field more
 pub joined_snoc : (fields : List (List ℕ)) (f : List ℕ) → joined fields ++ after_comma (length fields) f ≡ joined (fields ++ f ∷ [])
 joined_snoc [] f = refl
-joined_snoc (g ∷ []) f = sym (append_assoc g (44 ∷ []) f)
-joined_snoc (g ∷ h ∷ gs) f = grind (arith, append_assoc, after_some_column, (joined_snoc (h ∷ gs) f))
+joined_snoc (g ∷ []) f = sym (append_assoc g _ f)
+joined_snoc (g ∷ h ∷ gs) f = grind (arith, append_assoc, (joined_snoc (h ∷ gs) f))
 
 -- a field is written after its comma, and then the end of the line
 pub value_text : (start made n column : ℕ) (last : Bool) (front value rest to field : List ℕ) → start ≤ length front → made ≤ length value → take made value ≡ field → take start front ++ field ≡ after_comma column field

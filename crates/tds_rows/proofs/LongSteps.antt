@@ -1,5 +1,5 @@
 -- Long values, in the grammar of a cell: the text of its parts, and the pieces of its content.
-use Rattle.tds_rows.proofs.Words.{common_steps, ◌≡◌, ◌∙◌, ◌⊎◌, inl, inr, ℕ, suc, ◌+◌, ◌-◌, ◌^◌, ◌<◌, ◌≤◌, Bool, true, false, List, [], ◌∷◌, ◌++◌, length, refl, sym, ap, subst, arith, append_assoc, append-nil, length-append, Option, Some, None, ◌&&◌, ◌||◌, nat_lt, and_from, cases_lt, ne_eqb, or_left, or_right, append_cancel_left, BadText, MessageEnded, Stop, Spelt, Seen, Takes, IsBetween, choose_false, test_lt, Spelt-none, Spelt-append, Spelt-step, Takes-more, began_is_cut, cut_at_once, BeginsData, Conversion, conversion_rest, conversion_text, is_begun, is_fit, is_quoted, closing, long_field, open_field, emit, after_comma, end_after, in_line, Breaks, Held, Puts, StopsStreaming, open_grows, open_closes, unfit_adds_none, begun_by_test, joins_by_name, breaks_somewhere, Breaks-after, Breaks-longer, Puts-none, Puts-trans, CellPart, ShortData, cell, cell_add, cell_end, cell_fault, cell_size, field_so_far, unless, cell_so_far, BreaksData, CutsData, EndsData, FillsData, RefusesData, StopsData, StopsFilling, added_text, ending, nil_of_length, Payload}
+use Rattle.tds_rows.proofs.Words.{common_steps, ◌≡◌, ◌∙◌, ◌⊎◌, inl, inr, ℕ, suc, ◌+◌, ◌-◌, ◌^◌, ◌<◌, ◌≤◌, Bool, true, false, List, [], ◌∷◌, ◌++◌, length, refl, sym, ap, subst, arith, append_assoc, append-nil, length-append, Option, Some, None, ◌&&◌, ◌||◌, nat_lt, and_from, cases_lt, ne_eqb, or_left, or_right, append_cancel_left, BadText, MessageEnded, Stop, Spelt, Seen, Takes, IsBetween, choose_false, test_lt, Spelt-append, Spelt-step, Takes-more, began_is_cut, cut_at_once, BeginsData, Conversion, conversion_rest, conversion_text, is_begun, is_fit, is_quoted, closing, long_field, open_field, emit, after_comma, end_after, in_line, Breaks, Held, Puts, StopsStreaming, open_grows, open_closes, unfit_adds_none, begun_by_test, joins_by_name, breaks_somewhere, Breaks-after, Breaks-longer, Puts-none, Puts-trans, CellPart, ShortData, cell, cell_add, cell_end, cell_fault, cell_size, field_so_far, unless, cell_so_far, BreaksData, CutsData, EndsData, FillsData, RefusesData, StopsData, StopsFilling, added_text, ending, nil_of_length, Payload}
 use Rattle.tds_rows.proofs.{Paths.At, Paths.Path, Paths.path_both, Paths.path_stops, NullTexts.line_grows, NullTexts.opened_text, LineTexts.after_append, CellLaws.unless_true, CellWords.chunk_left, CellWords.short_left}
 
 -- ---- content, byte by byte
@@ -30,21 +30,20 @@ module _ {column : ℕ} {c : Conversion} {state : ℕ → List ℕ → CellPart}
 
   -- the bytes of some content are elements
   pub content_spelt : (d bytes : List ℕ) (m r : ℕ) → m ≡ length bytes + r → BeginsData c (d ++ bytes) → (r ≡ 0 → 0 < length bytes → Good (d ++ bytes)) → Spelt (cell column) (state m d) bytes (state r (d ++ bytes))
-  content_spelt d [] m r is begun good = grind (arith, Spelt-none, append-nil)
+  content_spelt d [] m r is begun good = grind (arith, append-nil)
   content_spelt d (x ∷ xs) m r is begun good =
-      let k : ℕ = length xs + r in
-      let next : m ≡ suc k = omega (arith, is) in
-      let regroup : d ++ x ∷ xs ≡ (d ++ x ∷ []) ++ xs = sym (append_assoc d (x ∷ []) xs) in
-      let more_begun : BeginsData c ((d ++ x ∷ []) ++ xs) = subst (BeginsData c) regroup begun in
-      let begun_one = (begun_by_test c (d ++ x ∷ [])).1 ((joins_by_name c).front (d ++ x ∷ []) xs more_begun) in
-      let good_one : k ≡ 0 → Good (d ++ x ∷ []) = λ none. subst (λ l. Good (d ++ x ∷ l)) (nil_of_length xs (omega (arith, none))) (good (omega (arith, none)) (omega arith)) in
-      let one = Spelt-step (cell column) (state (suc k) d) (x ∷ []) (state k (d ++ x ∷ [])) (omega arith) (sym (holds.size k d)) (holds.free k d x begun_one good_one) (holds.add k d x) in
+      let k = length xs + r in
+      let next : m ≡ suc k = omega arith in
+      let regroup = sym (append_assoc d _ xs) in
+      let more_begun = subst (BeginsData c) regroup begun in
+      let good_one : k ≡ 0 → Good _ = λ none. subst (λ l. Good (d ++ x ∷ l)) (nil_of_length xs (omega arith)) (good (omega arith) (omega arith)) in
+      let one = Spelt-step _ _ _ _ (omega arith) (sym (holds.size k d)) (holds.free k d x ((begun_by_test c _).1 ((joins_by_name c).front _ xs more_begun)) good_one) (holds.add k d x) in
       let more = content_spelt (d ++ x ∷ []) xs k r refl more_begun (λ none some. subst Good regroup (good none (omega arith))) in
-      rw (next, regroup) (Spelt-append (cell column) (state (suc k) d) (x ∷ []) (state k (d ++ x ∷ [])) xs (state r ((d ++ x ∷ []) ++ xs)) one more)
+      rw (next, regroup) (Spelt-append _ _ _ _ xs _ one more)
 
   -- and where more follow
   front_spelt : {m : ℕ} (d bytes : List ℕ) (r : ℕ) → m ≡ length bytes + suc r → BeginsData c (d ++ bytes) → Spelt (cell column) (state m d) bytes (state (suc r) (d ++ bytes))
-  front_spelt {m = m} d bytes r is begun = grind (arith, common_steps, bytes, content_spelt)
+  front_spelt d bytes r is begun = grind (arith, common_steps, bytes, content_spelt)
 
   -- what some content adds to the open field
   text_more : (d more : List ℕ) → BeginsData c (d ++ more) → after_comma column (open_field c d) ++ added_text c d more ≡ after_comma column (open_field c (d ++ more))
@@ -60,12 +59,12 @@ module _ {column : ℕ} {c : Conversion} {state : ℕ → List ℕ → CellPart}
 
   -- bytes were read and their text put, and more follow
   fills_path : {d more : List ℕ} {p q : At} (m r : ℕ) → m ≡ length more + suc r → FillsData c d p.seen q.seen p.place q.place p.held q.held more → Path (cell column) (cell_so_far column last) (state m d) p q (state (suc r) (d ++ more))
-  fills_path {d = d} {more = more} m r is x =
+  fills_path {more = more} m r is x =
       let next : suc (length more + r) ≡ m = omega (arith, is) in
       record {
         bytes = more;
-        made = added_text c d more;
-        writes = record { spelt = front_spelt d more r is x.begun; text_is = rw next at (text_grown d more (length more + r) r x.begun) };
+        made = added_text c _ more;
+        writes = record { spelt = front_spelt _ more r is x.begun; text_is = rw next at (text_grown _ more (length more + r) r x.begun) };
         takes = x.takes;
         puts = x.puts;
         place_is = x.place_is;
@@ -75,19 +74,16 @@ module _ {column : ℕ} {c : Conversion} {state : ℕ → List ℕ → CellPart}
   adds_none : (d p : List ℕ) (x : ℕ) → BeginsData c (d ++ (p ++ x ∷ [])) → emit (conversion_rest c) (conversion_text c) ((d ++ p) ++ x ∷ []) ≡ emit (conversion_rest c) (conversion_text c) (d ++ p) → added_text c d (p ++ x ∷ []) ≡ added_text c d p
   adds_none d p x begun same =
       let laws = joins_by_name c in
-      let e = emit (conversion_rest c) (conversion_text c) in
-      let regroup : d ++ (p ++ x ∷ []) ≡ (d ++ p) ++ x ∷ [] = sym (append_assoc d p (x ∷ [])) in
-      let front : BeginsData c (d ++ p) = laws.front (d ++ p) (x ∷ []) (subst (BeginsData c) regroup begun) in
-      append_cancel_left (e d) (added_text c d (p ++ x ∷ [])) (added_text c d p) (sym (laws.emits d (p ++ x ∷ []) begun) ∙ ap e regroup ∙ same ∙ laws.emits d p front)
+      let regroup = sym (append_assoc d p _) in
+      append_cancel_left _ _ _ (sym (laws.emits d _ begun) ∙ ap (emit (conversion_rest c) (conversion_text c)) regroup ∙ same ∙ laws.emits d p (laws.front _ _ (subst (BeginsData c) regroup begun)))
 
   -- the byte after some that are good is refused
   byte_refused : {a b : Seen} {h i : Held} {m : ℕ} (d good ahead : List ℕ) (y r place : ℕ) → m ≡ length good + suc r → BeginsData c (d ++ good) → cell_fault column (state (suc r) (d ++ good)) (y ∷ []) ≡ Some (BadText column) → Takes a b (good ++ y ∷ ahead) 1 → IsBetween b → Puts h i (added_text c d good)
       → StopsStreaming (cell column) (cell_so_far column last) (state m d) a b place h i false (record { fault = BadText column; place = Payload (place + length good) })
-  byte_refused {a = a} {b = b} {m = m} d good ahead y r place is begun bad takes between puts =
-      let all = (good ++ y ∷ []) ++ ahead in
-      let next : suc (length good + r) ≡ m = omega (arith, is) in
+  byte_refused {a = a} {m = m} d good ahead y r place is begun bad takes between puts =
+      let next : suc (length good + r) ≡ m = omega arith in
       record {
-        at = state (suc r) (d ++ good);
+        at = state _ _;
         cause = inl (
           record {
             bytes = good;
@@ -97,9 +93,9 @@ module _ {column : ℕ} {c : Conversion} {state : ℕ → List ℕ → CellPart}
                 element = y ∷ [];
                 ahead = ahead;
                 some = omega arith;
-                whole = sym (holds.size r (d ++ good));
+                whole = sym (holds.size r _);
                 first = bad;
-                takes = Takes-more a b all 1 (length (good ++ y ∷ [])) (omega (arith, length-append good (y ∷ []))) (rw (append_assoc good (y ∷ []) ahead) takes);
+                takes = Takes-more a _ ((good ++ y ∷ []) ++ ahead) 1 _ (omega (arith, length-append good (y ∷ []))) (rw append_assoc takes);
                 between = between;
               },
               refl,
@@ -113,9 +109,9 @@ module _ {column : ℕ} {c : Conversion} {state : ℕ → List ℕ → CellPart}
   module _ (d : List ℕ) (r : ℕ) (a b : Seen) (place : ℕ) (h i : Held) (few : length h.waiting < 4096) (delivered : h.delivered ≤ 2 ^ 64 - 1) where
     piece_cut : (stop : Stop) → CutsData a b place h i stop → StopsStreaming (cell column) (cell_so_far column last) (state (suc r) d) a b place h i false stop
     piece_cut stop x =
-        let at = state (suc r) d in
-        let stops = cut_at_once (cell column) at a b place [] x.own stop (omega (arith, holds.size r d)) x.ends (began_is_cut place (cell_end at) x.own stop (holds.end r d) x.stop_is) in
-        rw x.same (record { at = at; cause = inl (stops, ([], append-nil (cell_so_far column last at), Puts-none h delivered), refl) })
+        let at = state _ d in
+        let stops = cut_at_once _ at a b place [] x.own stop (omega arith) x.ends (began_is_cut place _ x.own stop (holds.end r d) x.stop_is) in
+        rw x.same (record { at = at; cause = inl (stops, ([], append-nil _, Puts-none h delivered), refl) })
 
     piece_refused : (stop : Stop) → RefusesData c d column (suc r) a b place h i stop → StopsStreaming (cell column) (cell_so_far column last) (state (suc r) d) a b place h i false stop
     piece_refused stop x =
@@ -127,33 +123,32 @@ module _ {column : ℕ} {c : Conversion} {state : ℕ → List ℕ → CellPart}
     broken : (good ahead added : List ℕ) (to : CellPart) (stop : Stop) → Spelt (cell column) (state (suc r) d) good to → Takes a b (good ++ ahead) 1 → IsBetween b → cell_so_far column last (state (suc r) d) ++ added ≡ cell_so_far column last to → Breaks h i added stop
         → StopsStreaming (cell column) (cell_so_far column last) (state (suc r) d) a b place h i true stop
     broken good ahead added to stop spelt takes between text_is breaks =
-        let x = breaks_somewhere (cell column) (cell_so_far column last) (line_grows column last) (state (suc r) d) a b h i stop between to good ahead added spelt takes few delivered text_is breaks in
+        let x = breaks_somewhere _ _ (line_grows column last) _ a b h i stop between to good ahead added spelt takes few delivered text_is breaks in
         record { at = x.0; cause = inr (x.1, refl) }
 
     piece_broken_at : (stop : Stop) (ahead p : List ℕ) (x : ℕ) → length (p ++ x ∷ []) ≡ suc r → Takes a b ((p ++ x ∷ []) ++ ahead) 1 → IsBetween b → BeginsData c (d ++ (p ++ x ∷ [])) → Breaks h i (added_text c d (p ++ x ∷ [])) stop
         → StopsStreaming (cell column) (cell_so_far column last) (state (suc r) d) a b place h i true stop
     piece_broken_at stop ahead p x all takes between begun breaks =
         let good = p ++ x ∷ [] in
-        let same : d ++ good ≡ (d ++ p) ++ x ∷ [] = sym (append_assoc d p (x ∷ [])) in
-        elim (holds.ends (d ++ p) x) [
+        let same = sym (append_assoc d p _) in
+        elim (holds.ends _ x) [
           | inl whole ↦
-              (let fine : Good (d ++ good) = subst Good (sym same) whole in
-              let w = holds.whole last (d ++ good) fine in
-              broken good ahead (added_text c d good ++ w.0) (state 0 (d ++ good)) stop (content_spelt d good (suc r) 0 (omega (arith, all)) begun (λ _ _. fine)) takes between (text_closed d good w.0 r begun w.1) (Breaks-longer h i (added_text c d good) w.0 stop breaks))
+              (let fine = subst Good (sym same) whole in
+              let w = holds.whole last _ fine in
+              broken good ahead _ _ stop (content_spelt d good _ 0 (omega arith) begun (λ _ _. fine)) takes between (text_closed d good w.0 r begun w.1) (Breaks-longer h i _ w.0 stop breaks))
           | inr none ↦
-              (let front = (joins_by_name c).front (d ++ p) (x ∷ []) (subst (BeginsData c) same begun) in
-              let adds = adds_none d p x begun none in
-              broken p (x ∷ ahead) (added_text c d p) (state 1 (d ++ p)) stop (front_spelt d p 0 (omega (arith, all, length-append p (x ∷ []))) front) (rw (append_assoc p (x ∷ []) ahead) at takes) between (text_grown d p r 0 front) (rw adds at breaks))
+              (let front = (joins_by_name c).front _ _ (subst (BeginsData c) same begun) in
+              broken p _ _ _ stop (front_spelt d p 0 (omega (arith, length-append p (x ∷ []))) front) (rw append_assoc at takes) between (text_grown d p r 0 front) (rw (adds_none d p x begun none) at breaks))
         ]
 
     piece_broken : (stop : Stop) → BreaksData c d (suc r) a b h i stop → StopsStreaming (cell column) (cell_so_far column last) (state (suc r) d) a b place h i true stop
     piece_broken stop x =
         elim (cases_lt (length x.good) (suc r)) [
-          | inl less ↦ broken x.good x.ahead _ _ stop (front_spelt d x.good (r - length x.good) (omega (arith, less)) x.begun) x.takes x.between (text_grown d x.good r (r - length x.good) x.begun) x.breaks
+          | inl less ↦ broken x.good x.ahead _ _ stop (front_spelt d x.good (r - length x.good) (omega arith) x.begun) x.takes x.between (text_grown d x.good r (r - length x.good) x.begun) x.breaks
           | inr more ↦
-              (let within : length x.good ≤ suc r = x.within in
-              let all : length x.good ≡ suc r = omega (arith, more, within) in
-              let s = snoc_of x.good (omega (arith, more)) in
+              (let within = x.within in
+              let all : length x.good ≡ suc r = omega arith in
+              let s = snoc_of x.good (omega arith) in
               piece_broken_at stop x.ahead s.0 s.1 (rw s.2 at all) (rw s.2 at x.takes) x.between (rw s.2 at x.begun) (rw s.2 at x.breaks))
         ]
 
@@ -163,11 +158,10 @@ module _ {column : ℕ} {c : Conversion} {state : ℕ → List ℕ → CellPart}
 
   -- the content stopped in one of its pieces
   pub filling_stops : {d : List ℕ} {m : ℕ} {p : At} {b : Seen} {i : Held} {failed : Bool} {stop : Stop} → StopsFilling c d column m p.seen b p.place p.held i failed stop → StopsStreaming (cell column) (cell_so_far column last) (state m d) p.seen b p.place p.held i failed stop
-  filling_stops {m = m} {b = b} {i = i} x =
-      let fewer : length x.front < m = x.fewer in
+  filling_stops {m = m} x =
       let r = m - length x.front - 1 in
-      let left : m - length x.front ≡ suc r = omega (arith, fewer) in
-      path_stops (fills_path m r (omega (arith, fewer)) x.fills) (piece_stops _ _ _ b x.there x.between i x.fills.few x.fills.delivered _ _ (rw left at x.stops))
+      let left : m - length x.front ≡ suc r = omega arith in
+      path_stops (fills_path m r (omega arith) x.fills) (piece_stops _ _ _ _ x.there _ _ x.fills.few x.fills.delivered _ _ (rw left at x.stops))
 
   -- ---- the last piece
 
@@ -191,39 +185,38 @@ module _ {column : ℕ} {c : Conversion} {state : ℕ → List ℕ → CellPart}
     -- all of it was read and its text put, and what ends it
     pub ends_path : {j : Held} (tail : List ℕ) → Good all_content → after_comma column (open_field c all_content) ++ tail ≡ cell_so_far column last (state 0 all_content) → Puts q.held j tail
         → Path (cell column) (cell_so_far column last) (state m d) p (record q { held = j }) (state 0 all_content)
-    ends_path {j = j} tail good whole puts =
+    ends_path tail good whole puts =
         path_both front_path (record {
           bytes = x.takes.piece;
-          made = added_text c (d ++ x.front) x.takes.piece ++ tail;
-          writes = record { spelt = last_spelt good; text_is = text_closed (d ++ x.front) x.takes.piece tail last_left x.takes.begun whole };
-          takes = Takes-more x.middle q.seen _ 1 _ (let some : 0 < x.last = x.takes.some in omega (arith, some, x.takes.counted)) x.takes.takes;
-          puts = Puts-trans _ q.held j _ _ x.takes.puts puts;
-          place_is = omega (arith, x.takes.place_is, x.takes.counted);
+          made = added_text c _ _ ++ tail;
+          writes = record { spelt = last_spelt good; text_is = text_closed _ _ tail _ x.takes.begun whole };
+          takes = Takes-more x.middle q.seen _ 1 _ (let some = x.takes.some in omega arith) x.takes.takes;
+          puts = Puts-trans _ q.held _ _ _ x.takes.puts puts;
+          place_is = omega arith;
         })
 
     -- a write of what ends it failed
     pub ends_break : {j : Held} {stop : Stop} (tail : List ℕ) → Good all_content → after_comma column (open_field c all_content) ++ tail ≡ cell_so_far column last (state 0 all_content) → Breaks q.held j tail stop
         → StopsStreaming (cell column) (cell_so_far column last) (state m d) p.seen q.seen p.place p.held j true stop
-    ends_break {j = j} tail good whole breaks =
+    ends_break tail good whole breaks =
         let taken = rw (sym (append-nil x.takes.piece)) at x.takes.takes in
-        path_stops front_path (broken _ _ _ q.seen x.there _ j x.fills.few x.fills.delivered _ [] _ _ _ (last_spelt good) taken x.takes.between (text_closed (d ++ x.front) x.takes.piece tail last_left x.takes.begun whole) (Breaks-after _ q.held j _ _ _ x.takes.puts breaks))
+        path_stops front_path (broken _ _ _ q.seen x.there _ _ x.fills.few x.fills.delivered _ [] _ _ _ (last_spelt good) taken x.takes.between (text_closed _ _ tail _ x.takes.begun whole) (Breaks-after _ q.held _ _ _ _ x.takes.puts breaks))
 
     -- where the content isn't whole, its last byte is refused
     pub ends_refused : ((e : List ℕ) (y : ℕ) → is_fit c (e ++ y ∷ []) ≡ false → cell_fault column (state 1 e) (y ∷ []) ≡ Some (BadText column)) → is_fit c all_content ≡ false
         → StopsStreaming (cell column) (cell_so_far column last) (state m d) p.seen q.seen p.place p.held q.held false (record { fault = BadText column; place = Payload (q.place - 1) })
     ends_refused bad unfit =
-        let some : 0 < x.last = x.takes.some in
-        let s = snoc_of x.takes.piece (omega (arith, some, x.takes.counted)) in
+        let s = snoc_of _ (omega arith) in
         let e = d ++ x.front in
         let f = s.0 in
         let y = s.1 in
-        let len : length x.takes.piece ≡ length f + 1 = ap length s.2 ∙ length-append f (y ∷ []) in
-        let same : e ++ (f ++ y ∷ []) ≡ (e ++ f) ++ y ∷ [] = sym (append_assoc e f (y ∷ [])) in
+        let len : length x.takes.piece ≡ length f + 1 = ap length s.2 ∙ length-append f _ in
+        let same : e ++ (f ++ y ∷ []) ≡ (e ++ f) ++ y ∷ [] = sym (append_assoc e f _) in
         let begun = rw s.2 at x.takes.begun in
-        let unfit_here : is_fit c ((e ++ f) ++ y ∷ []) ≡ false = rw (s.2, same) at unfit in
-        let adds = adds_none e f y begun (unfit_adds_none c (e ++ f) y unfit_here) in
-        let stands : x.there + length f ≡ q.place - 1 = omega (arith, x.takes.place_is, x.takes.counted, len) in
-        path_stops front_path (rw stands at (byte_refused {a = x.middle} {b = q.seen} {h = x.between} {i = q.held} {m = suc last_left} e f [] y 0 x.there (omega (arith, x.takes.counted, last_split, len)) ((joins_by_name c).front (e ++ f) (y ∷ []) (rw same at begun)) (bad (e ++ f) y unfit_here) (rw s.2 at x.takes.takes) x.takes.between (rw (s.2, adds) at x.takes.puts)))
+        let unfit_here = rw (s.2, same) at unfit in
+        let adds = adds_none e f y begun (unfit_adds_none c _ y unfit_here) in
+        let stands : x.there + length f ≡ q.place - 1 = omega arith in
+        path_stops front_path (rw stands at (byte_refused {a = x.middle} {h = x.between} {i = q.held} {m = suc last_left} e f [] y 0 x.there (omega (arith, x.takes.counted)) ((joins_by_name c).front _ _ (rw same at begun)) (bad _ y unfit_here) (rw s.2 at x.takes.takes) x.takes.between (rw (s.2, adds) at x.takes.puts)))
 
 -- ---- the content of a short value, and of a chunk
 
@@ -243,10 +236,10 @@ module _ (column : ℕ) (c : Conversion) where
   -- the end of a value that is whole
   pub ending_text : (last : Bool) (d : List ℕ) → is_fit c d ≡ true → after_comma column (open_field c d) ++ ending c (is_quoted c) last d ≡ in_line column last (long_field c d)
   ending_text last d fit =
-      let rest = conversion_text c (conversion_rest c d) in
-      let close = closing (is_quoted c) in
-      ap (λ l. after_comma column (open_field c d) ++ l) (sym (append_assoc rest close (end_after last))) ∙ sym (append_assoc (after_comma column (open_field c d)) (rest ++ close) (end_after last))
-      ∙ ap (λ l. l ++ end_after last) (sym (after_append column (open_field c d) (rest ++ close)) ∙ ap (after_comma column) (open_closes c d fit))
+      let rest = conversion_text c _ in
+      let close = closing _ in
+      ap (λ l. after_comma column (open_field c d) ++ l) (sym (append_assoc rest close _)) ∙ sym (append_assoc _ (rest ++ close) _)
+      ∙ ap (λ l. l ++ end_after last) (sym (after_append column _ (rest ++ close)) ∙ ap (after_comma column) (open_closes c d fit))
 
   pub short_holds : HoldsContent column c (short_left c) (λ d. is_fit c d ≡ true)
   short_holds = record {
@@ -254,10 +247,10 @@ module _ (column : ℕ) (c : Conversion) where
     end = λ r d. ap cell_end (short_next c r d);
     text = λ r d. ap field_so_far (short_next c r d);
     add = λ r d x. ap (λ s. cell_add s (x ∷ [])) (short_next c r d);
-    free = λ r d x begun fit. ap (λ s. cell_fault column s (x ∷ [])) (short_next c r d) ∙ unless_true (is_begun c (d ++ x ∷ []) && (nat_lt 0 r || is_fit c (d ++ x ∷ []))) (BadText column) (short_free r d x begun fit);
-    bad = λ r d x no. ap (λ s. cell_fault column s (x ∷ [])) (short_next c r d) ∙ begun_or (is_begun c (d ++ x ∷ []) && (nat_lt 0 r || is_fit c (d ++ x ∷ []))) (ap (λ v. v && (nat_lt 0 r || is_fit c (d ++ x ∷ []))) no);
-    ends = λ d x. fit_or_none d x (is_fit c (d ++ x ∷ [])) refl;
-    whole = λ last d fit. (ending c (is_quoted c) last d, ending_text last d fit);
+    free = λ r d x begun fit. ap (λ s. cell_fault column s (x ∷ [])) (short_next c r d) ∙ unless_true _ _ (short_free r d x begun fit);
+    bad = λ r d x no. ap (λ s. cell_fault column s (x ∷ [])) (short_next c r d) ∙ begun_or _ (ap (λ v. v && (nat_lt 0 r || is_fit c (d ++ x ∷ []))) no);
+    ends = λ d x. fit_or_none d x _ refl;
+    whole = λ last d fit. (ending c _ last d, ending_text last d fit);
   }
 
   -- where the content isn't whole, its last byte is refused
@@ -265,4 +258,4 @@ module _ (column : ℕ) (c : Conversion) where
   short_refused e y unfit = grind (arith, common_steps, short_next)
 
   pub chunk_holds : (total : Option ℕ) → HoldsContent column c (chunk_left c total) (λ _. Unit {0})
-  chunk_holds total = grind (arith, common_steps, append-nil, begun_or, choose_false, ne_eqb, unless_true)
+  chunk_holds total = grind (arith, common_steps, append-nil)

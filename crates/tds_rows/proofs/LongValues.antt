@@ -1,5 +1,5 @@
 -- Long values, element after element: their lengths, the content between, and the end.
-use Rattle.tds_rows.proofs.Words.{common_steps, ◌≡◌, ◌∙◌, inl, inr, ℕ, zero, suc, ◌-◌, ◌^◌, ◌<◌, ◌≤◌, Bool, true, false, List, [], ◌∷◌, ◌++◌, length, sym, ap, arith, append-nil, Result, Ok, Err, MatchResult, subst, Option, drop-nil, take-nil, Stop, StopsReading, Seen, Takes, Spelt-one, Spelt-none, BeginsData, Conversion, HexDigits, IsFit, Utf16Text, Utf8Text, Windows1252Text, conversion_rest, conversion_text, is_quoted, open_field, emit, after_comma, binary_mark, in_line, null_field, quote, Sink, Breaks, Held, IsWriting, Puts, PutsPiece, held, begun_by_test, fit_begins, fit_by_test, no_data_is_fit, hex-nil, Breaks-after, Puts-none, Puts-trans, Breaks-longer, text_nil, Cell, CellPart, Null, ShortLength, WholeCell, cell, PutsField, StopsField, cell_so_far, EndsData, StopsEnding, ending, opening}
+use Rattle.tds_rows.proofs.Words.{common_steps, ◌≡◌, ◌∙◌, inl, inr, ℕ, zero, suc, ◌-◌, ◌^◌, ◌<◌, ◌≤◌, Bool, true, false, List, [], ◌∷◌, ◌++◌, length, sym, ap, arith, append-nil, Result, Ok, Err, MatchResult, Option, drop-nil, take-nil, Stop, StopsReading, Seen, Spelt-one, Spelt-none, BeginsData, Conversion, HexDigits, IsFit, Utf16Text, Utf8Text, Windows1252Text, conversion_rest, conversion_text, is_quoted, open_field, emit, after_comma, binary_mark, in_line, null_field, quote, Sink, Breaks, Held, IsWriting, Puts, PutsPiece, held, begun_by_test, fit_begins, fit_by_test, no_data_is_fit, hex-nil, Breaks-after, Puts-none, Puts-trans, Breaks-longer, text_nil, Cell, CellPart, Null, ShortLength, WholeCell, cell, PutsField, StopsField, cell_so_far, EndsData, StopsEnding, ending, opening}
 use Rattle.tds_rows.proofs.{LongSteps.ending_text, LongSteps.ends_break, LongSteps.ends_path, LongSteps.ends_refused, LongSteps.short_holds, LongSteps.short_refused, LongSteps.text_at, Numbers.Next, Paths.At, Paths.Path, Paths.path_both, Paths.path_of, Paths.streams_of, CellWords.short_left}
 
 -- ---- no content
@@ -31,7 +31,7 @@ field_puts x y = field_of (path_both x (path_of y.streams y.place_is))
 
 -- the reading stopped before any text
 pub reading_stops : {column place : ℕ} {s : CellPart} {a b : Seen} {h : Held} {failed : Bool} {stop : Stop} (last : Bool) → h.delivered ≤ 2 ^ 64 - 1 → failed ≡ false → StopsReading (cell column) s a b place s stop → StopsField s column last a b place h h failed stop
-reading_stops {column = column} {s = s} {h = h} last delivered going x = record { at = s; cause = inl (x, ([], append-nil (cell_so_far column last s), Puts-none h delivered), going) }
+reading_stops {s = s} last delivered going x = record { at = s; cause = inl (x, ([], append-nil _, Puts-none _ delivered), going) }
 
 module _ {column place' : ℕ} {s t : CellPart} {p : At} {b : Seen} (last : Bool) (x : Next column s p.seen b p.place place' t) where
   -- an element was read, and its text put
@@ -40,23 +40,23 @@ module _ {column place' : ℕ} {s t : CellPart} {p : At} {b : Seen} (last : Bool
 
   -- a write of it failed
   pub next_breaks : {j : Held} {failed : Bool} {stop : Stop} (part rest : List ℕ) → length p.held.waiting < 4096 → p.held.delivered ≤ 2 ^ 64 - 1 → failed ≡ true → cell_so_far column last s ++ (part ++ rest) ≡ cell_so_far column last t → Breaks p.held j part stop → StopsField s column last p.seen b p.place p.held j failed stop
-  next_breaks {j = j} {stop = stop} part rest few delivered broken text_is breaks = record {
+  next_breaks part rest few delivered broken text_is breaks = record {
     at = s;
     cause = inr (
       record {
         bytes = [];
         element = x.element;
         ahead = [];
-        spelt = Spelt-none (cell column) s;
+        spelt = Spelt-none _ s;
         next = x.next;
-        takes = subst (λ l. Takes p.seen b l (length x.element)) (sym (append-nil x.element)) x.takes;
+        takes = rw (append-nil _) x.takes;
         between = x.between;
         middle = p.held;
         few = few;
-        puts = ([], append-nil (cell_so_far column last s), Puts-none p.held delivered);
+        puts = ([], append-nil _, Puts-none p.held delivered);
         more = part ++ rest;
         text_is = text_is ∙ ap (cell_so_far column last) (sym x.to);
-        breaks = Breaks-longer p.held j part rest stop breaks;
+        breaks = Breaks-longer p.held _ part rest _ breaks;
       },
       broken,
     );
@@ -65,9 +65,9 @@ module _ {column place' : ℕ} {s t : CellPart} {p : At} {b : Seen} (last : Bool
 -- NULL was put, or a write of it failed
 pub null_puts : {column place place' : ℕ} {s : CellPart} {a b : Seen} {W U : Type 0} (last : Bool) (contents : W → Option (List ℕ)) (h k : Sink W) (r : Result U Stop) → Next column s a b place place' (WholeCell Null) → cell_so_far column last s ≡ [] → IsWriting h → PutsPiece contents h k (in_line column last null_field) r
     → MatchResult r (λ _. PutsField s column last a b place place' (held contents h) (held contents k)) (λ stop. StopsField s column last a b place (held contents h) (held contents k) k.failed stop)
-null_puts {column = column} last contents h k (Ok u) x silent writing puts = field_of (next_path last x (in_line column last null_field) (ap (λ l. l ++ in_line column last null_field) silent) puts.gives)
+null_puts {column = column} last contents h k (Ok u) x silent writing puts = field_of (next_path last x _ (ap (λ l. l ++ in_line column last null_field) silent) puts.gives)
 null_puts {column = column} last contents h k (Err e) x silent writing puts =
-    next_breaks last x (in_line column last null_field) [] (writing.ready.1 writing.writing) writing.ready.2 puts.failed (ap (λ l. l ++ (in_line column last null_field ++ [])) silent ∙ append-nil (in_line column last null_field)) (puts.gives writing.writing)
+    next_breaks last x _ [] (writing.ready.1 writing.writing) writing.ready.2 puts.failed (ap (λ l. l ++ (in_line column last null_field ++ [])) silent ∙ append-nil _) (puts.gives writing.writing)
 
 -- ---- short values
 
@@ -80,19 +80,19 @@ module _ (column : ℕ) (last : Bool) (c : Conversion) where
   empty_open = grind (arith, common_steps, column, open_none, ending_text, no_data_is_fit)
 
   pub short_text : (n : ℕ) → (q : List ℕ) × (after_comma column (opening (is_quoted c)) ++ q ≡ cell_so_far column last (short_left c n []))
-  short_text zero = (ending c (is_quoted c) last [], empty_open)
-  short_text (suc n) = ([], append-nil (after_comma column (opening (is_quoted c))) ∙ short_open (suc n) (omega arith))
+  short_text zero = (ending c _ last [], empty_open)
+  short_text (suc n) = ([], append-nil _ ∙ short_open _ (omega arith))
 
   -- the value has no bytes, and its end was put, or that stopped
   pub empty_puts : {p : At} {b : Seen} {place' n : ℕ} {j : Held} (i : Held) → Next column (ShortLength c) p.seen b p.place place' (short_left c n []) → n ≡ 0 → Puts p.held i (after_comma column (opening (is_quoted c))) → Puts i j (ending c (is_quoted c) last [])
       → PutsField (ShortLength c) column last p.seen b p.place place' p.held j
-  empty_puts {p = p} {j = j} i x none opened ended = field_of (next_path last (rw none at x) _ empty_open (Puts-trans p.held i j _ _ opened ended))
+  empty_puts {p = p} i x none opened ended = field_of (next_path last (rw none at x) _ empty_open (Puts-trans p.held i _ _ _ opened ended))
 
   pub empty_stops : {p : At} {b : Seen} {place' n : ℕ} {j : Held} {failed : Bool} {stop : Stop} (i : Held) (there : ℕ) → Next column (ShortLength c) p.seen b p.place place' (short_left c n []) → n ≡ 0 → Puts p.held i (after_comma column (opening (is_quoted c))) → length p.held.waiting < 4096 → p.held.delivered ≤ 2 ^ 64 - 1
       → StopsEnding c (is_quoted c) last [] column there i j failed stop → StopsField (ShortLength c) column last p.seen b p.place p.held j failed stop
-  empty_stops {p = p} {j = j} {stop = stop} i there x none opened few delivered (inl y) =
-      let text = after_comma column (opening (is_quoted c)) ++ ending c (is_quoted c) last [] in
-      next_breaks last (rw none at x) text [] few delivered y.2 (append-nil text ∙ empty_open) (Breaks-after p.held i j _ _ stop opened y.1)
+  empty_stops {p = p} i there x none opened few delivered (inl y) =
+      let text = after_comma column _ ++ ending c _ last [] in
+      next_breaks last (rw none at x) text [] few delivered y.2 (append-nil text ∙ empty_open) (Breaks-after p.held i _ _ _ _ opened y.1)
   empty_stops i there x none opened few delivered (inr y) = absurd (y.0 ((fit_by_test c []).0 (no_data_is_fit c)))
 
   -- the value has some bytes: its end was put, or that stopped
@@ -104,5 +104,5 @@ module _ (column : ℕ) (last : Bool) (c : Conversion) where
     short_whole fit puts = let good = (fit_by_test c all).1 fit in field_of (ends_path last (short_holds column c) x (ending c (is_quoted c) last all) good (ending_text column c last all good) puts)
 
     pub short_end_stops : {k : Held} {failed : Bool} {stop : Stop} → StopsEnding c (is_quoted c) last all column (q.place - 1) q.held k failed stop → StopsField (short_left c n []) column last p.seen q.seen p.place p.held k failed stop
-    short_end_stops (inl z) = let good = (fit_by_test c all).1 z.0 in rw z.2 (ends_break last (short_holds column c) x (ending c (is_quoted c) last all) good (ending_text column c last all good) z.1)
-    short_end_stops (inr z) = rw (z.3, z.2, z.1) (ends_refused last (short_holds column c) x (short_refused column c) (grind (arith, common_steps, fit_by_test)))
+    short_end_stops (inl z) = let good = (fit_by_test c all).1 z.0 in rw z.2 (ends_break last (short_holds column c) x _ good (ending_text column c last all good) z.1)
+    short_end_stops (inr z) = rw (z.3, z.2, z.1) (ends_refused last (short_holds column c) x (short_refused column c) (grind (arith, fit_by_test)))

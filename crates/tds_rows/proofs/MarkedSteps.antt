@@ -4,7 +4,7 @@ use Rattle.tds_rows.proofs.{NullSteps.NearsCells, NullSteps.all_put, NullSteps.c
 
 -- text that doesn't fill the block waits
 pub all_waits : (h j : Held) (text : List ℕ) → Puts h j text → length h.waiting + length text < 4096 → length j.waiting ≡ length h.waiting + length text
-all_waits h j text puts few = omega (arith, few, puts.3, ap length puts.2.1, length-append h.waiting text, length-append puts.0 j.waiting)
+all_waits h j text puts few = omega (arith, ap length puts.2.1, length-append h.waiting text, length-append puts.0 j.waiting)
 
 -- ---- what was read and put at once could have been so one after the other
 
@@ -20,14 +20,14 @@ pub record Passes (p q : At) (bytes text : List ℕ) : Type 0 where
 -- in two parts
 passes_apart : (p q : At) (a b m n : List ℕ) → Passes p q (a ++ b) (m ++ n) → (t : At) × Passes p t a m × Passes t q b n
 passes_apart p q a b m n x =
-    let seen : Seen = record { left = q.seen.left; future = λ zs. before b (q.seen.future zs); wire = q.seen.wire; failures = q.seen.failures } in
+    let seen : Seen = record { left = q.seen.left; future = λ zs. before b _; wire = q.seen.wire; failures = q.seen.failures } in
     let f : Coming → List ℕ → Coming = λ c l. record { bytes = l; stop = c.stop; rest = c.rest } in
     let h = Puts_split p.held q.held m n x.few x.puts in
     let first : Takes p.seen seen a 0 = (x.takes.0, (x.takes.1.0, λ zs. x.takes.1.1 zs ∙ ap (f (q.seen.future zs)) (append_assoc a b (q.seen.future zs).bytes)), x.takes.2, x.takes.3, x.takes.4) in
-    let then : Takes seen q.seen b 0 = ([], (Consumes-nil q.seen.left, λ zs. refl), sym (add-zero q.seen.wire), (λ j lt. absurd (omega (arith, lt))), Stays-none q.seen.failures) in (
+    let then : Takes seen q.seen b 0 = ([], (Consumes-nil _, λ zs. refl), sym (add-zero _), (λ j lt. absurd (omega arith)), Stays-none _) in (
       record { seen = seen; place = p.place + length a; held = h.0 },
       record { takes = first; between = x.between; puts = h.2; few = h.1; delivered = x.delivered; place_is = refl },
-      record { takes = then; between = x.between; puts = h.3; few = x.few; delivered = h.4; place_is = omega (arith, x.place_is, length-append a b) },
+      record { takes = then; between = x.between; puts = h.3; few = x.few; delivered = h.4; place_is = omega (arith, length-append a b) },
     )
 
 module _ {charset : Charset} {start : RowPart} {left : List (Column × Bool)} {p q : At} {column : ℕ} where
@@ -41,8 +41,8 @@ module _ {charset : Charset} {start : RowPart} {left : List (Column × Bool)} {p
 
   -- nothing more was put
   nears_same : {j : Held} → Puts q.held j [] → NearsCells charset start left p q column → NearsCells charset start left p (record q { held = j }) column
-  nears_same {j = j} puts x =
-      let n = nears_put (row charset) row_so_far start p.seen q.seen p.held q.held j (next_cell charset x.cells left) [] (nulls_ahead column left) x.nears puts in
+  nears_same puts x =
+      let n = nears_put (row charset) row_so_far start p.seen q.seen p.held q.held _ (next_cell charset x.cells left) [] (nulls_ahead column left) x.nears puts in
       record { cells = x.cells; counted = x.counted; nears = n; place_is = x.place_is }
 
 -- ---- a row, run after run
@@ -55,14 +55,14 @@ module _ (charset : Charset) (start : RowPart) (columns : List Column) (nulls : 
   -- one column more
   column_nears : (at : ℕ) (q r : At) (bytes text : List ℕ) → WritesColumn charset columns nulls at bytes text → Passes q r bytes text → Near at q → Near (at + 1) r
   column_nears at q r bytes text w y x =
-      rw (next_column columns at w.column w.left w.next).1.1 (go (nulls at) w.writes (rw w.next at x))
+      rw (next_column columns at w.column w.left w.next).1.1 (go _ w.writes (rw w.next at x))
     where
       go : (null : Bool) → WritesNext charset null w.column.kind at (is_last_column w.left) bytes text → NearsCells charset start ((w.column, null) ∷ marked w.left nulls (at + 1)) p q at → NearsCells charset start (marked w.left nulls (at + 1)) p r (at + 1)
       go true v z =
           let y' = rw (v.0, v.1, ends_marked w.left nulls (at + 1)) at y in
           null_nears (nears_onward y' z) y'.puts
       go false v z =
-          let put = whole_puts charset w.column.kind at (is_last_column w.left) q r bytes text v (Takes-more q.seen r.seen bytes 0 (length bytes) (omega arith) y.takes) y.place_is y.puts in
+          let put = whole_puts charset _ at (is_last_column w.left) q r bytes text v (Takes-more q.seen r.seen bytes 0 _ (omega arith) y.takes) y.place_is y.puts in
           cell_nears y.between y.few (all_put refl y.delivered z) (rw (ends_marked w.left nulls (at + 1)) at put)
 
   -- so many columns more
@@ -77,4 +77,4 @@ module _ (charset : Charset) (start : RowPart) (columns : List Column) (nulls : 
 -- as many columns more as a run took
 pub run_nears : {table : Table} {columns : List Column} {nulls : ℕ → Bool} {from to : Ahead} {start : RowPart} {p q r : At} → PutsMarked table columns nulls from to q.seen r.seen q.place r.place q.held r.held → IsBetween r.seen → length r.held.waiting < 4096 → q.held.delivered ≤ 2 ^ 64 - 1
     → NearsCells table.charset start (marked (drop from.column columns) nulls from.column) p q from.column → NearsCells table.charset start (marked (drop to.column columns) nulls to.column) p r to.column
-run_nears {q = q} {r = r} x between few delivered near = grind (arith, common_steps, marked_nears)
+run_nears x between few delivered near = grind (arith, common_steps, marked_nears)

@@ -32,10 +32,10 @@ rows_row x y = rows_whole (rows_on x (path_of y.streams y.place_is))
 -- the token byte of the next row was read
 pub rows_token : {token : RowToken} {charset : Charset} {all : List Column} {a b d : Seen} {place middle count : ℕ} {h i : Held} → 0 < length all → i.delivered ≤ 2 ^ 64 - 1 → ReadsRows token charset all count a b place middle h i → Takes b d (token_byte token ∷ []) 1
     → RowsAt token charset all (record { seen = a; place = place; held = h }) (record { seen = d; place = middle + 1; held = i }) count (token_start token charset all)
-rows_token {token = token} {charset = charset} {all = all} {i = i} some delivered x takes = record {
+rows_token some delivered x takes = record {
   before = x.earlier ++ x.last ∷ [];
-  counted = omega (arith, x.counted, length-append x.earlier (x.last ∷ []));
-  path = path_both (path_of x.streams x.place_is) (record { bytes = token_byte token ∷ []; made = []; writes = row_token token charset all x.earlier x.last some; takes = takes; puts = Puts-none i delivered; place_is = refl });
+  counted = omega (arith, length-append x.earlier (x.last ∷ []));
+  path = path_both (path_of x.streams x.place_is) (record { bytes = token_byte _ ∷ []; made = []; writes = row_token _ _ _ _ x.last some; takes = takes; puts = Puts-none _ delivered; place_is = refl });
 }
 
 -- ---- ROWs, run after run and cell after cell
@@ -52,7 +52,7 @@ module _ (charset : Charset) (all : List Column) (before : List (List Cell)) whe
   rows_after_text p = grind (arith, common_steps, append_assoc, before, lines-append)
 
   rows_after : {p q : RowsPart} {bytes made : List ℕ} → Writes (rows PlainRow charset all) rows_so_far p bytes made q → Writes (rows PlainRow charset all) rows_so_far (after_rows p) bytes made (after_rows q)
-  rows_after x = writes_inside {text = rows_so_far} {whole = rows_so_far} (lines before) rows_among_rows rows_after_text x
+  rows_after x = writes_inside _ rows_among_rows rows_after_text x
 
 -- ROWs were read and their lines put, so many whole ones and the first cells of the next, whose other columns are left.
 pub record Rowing (charset : Charset) (all : List Column) (left : List (Column × Bool)) (p q : At) (column count : ℕ) : Type 0 where
@@ -67,15 +67,15 @@ module _ {charset : Charset} {all : List Column} {p q : At} {column count : ℕ}
   rowing_run x f =
       let y = f x.cells x.counted in
       let run = path_map (λ a m. rows_after charset all x.rows.before) (path_of y.streams y.place_is) in
-      let there = rw (append-nil x.rows.before, x.counted, y.counted) at run in
-      record { cells = y.more; counted = y.counted; rows = record { before = x.rows.before ++ y.before; counted = omega (arith, length-append x.rows.before y.before, x.rows.counted, y.rows_counted); path = path_both x.rows.path there } }
+      let there = rw (append-nil, x.counted, y.counted) at run in
+      record { cells = y.more; counted = y.counted; rows = record { before = x.rows.before ++ y.before; counted = omega (arith, length-append x.rows.before y.before); path = path_both x.rows.path there } }
 
   module _ {c : Column} {ks : List (Column × Bool)} where
     -- a cell
     pub rowing_cell : {r : At} → nulls_ahead (column + 1) ks ≡ [] → Rowing charset all ((c, false) ∷ ks) p q column count → PutsAt charset c.kind column (ends ks) q r → Rowing charset all ks p r (column + 1) count
     rowing_cell none x y =
         let one = cell_path charset c x.cells x.counted none y in
-        record { cells = x.cells ++ one.0 ∷ []; counted = omega (arith, x.counted, length-append x.cells (one.0 ∷ [])); rows = rows_on x.rows one.1 }
+        record { cells = x.cells ++ one.0 ∷ []; counted = omega (arith, length-append x.cells (one.0 ∷ [])); rows = rows_on x.rows one.1 }
 
     -- a cell that stopped
     pub rowing_stop : {d : Seen} {j : Held} {failed : Bool} {stop : Stop} → Rowing charset all ((c, false) ∷ ks) p q column count → StopsAt charset c.kind column (ends ks) q d j failed stop → RowsStop PlainRow charset all p.seen d p.place p.held j failed stop

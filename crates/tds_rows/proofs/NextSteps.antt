@@ -25,8 +25,8 @@ module _ {R W : Type 0} (remaining : R → Option (List ℕ)) (contents : W → 
   -- the next cell was read, or it stopped
   pub cell_read : {U : Type 0} (result : Result U Stop) → IsAhead old.table.now columns at → CellRead remaining contents at kind old new result → KindRead remaining contents at.column (ends left) taken.column.kind old new result
   cell_read result ahead x =
-      let next : IsNextKind old.table.now at kind (is_last_column (drop after.column columns)) = record { columns = columns; knows = knows; ahead = ahead; column = taken.column; rest = drop after.column columns; next = taken.next; kind = taken.kind; last = refl } in
-      rw (taken.kind, ends_marked (drop after.column columns) nulls (at.column + 1)) at (x _ next)
+      let next : IsNextKind _ at kind (is_last_column _) = record { columns = columns; knows = knows; ahead = ahead; column = taken.column; rest = drop _ columns; next = taken.next; kind = taken.kind; last = refl } in
+      rw (taken.kind, ends_marked _ nulls (at.column + 1)) at (x _ next)
 
   module _ (start : RowPart) (p : At) (in_row : IsInRow old) (before : NearsHere remaining contents columns nulls start p old at) where
     abbrev Left : Bool → Type 0

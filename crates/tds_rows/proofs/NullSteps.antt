@@ -1,6 +1,6 @@
 -- Rows with NULLs by their bit, column after column, as they are read and their text is put.
-use Rattle.tds_rows.proofs.Words.{append-nil, common_steps, ◌≡◌, ◌∙◌, inl, inr, ℕ, ◌+◌, ◌-◌, ◌^◌, ◌<◌, ◌≤◌, Bool, true, false, List, [], ◌∷◌, ◌++◌, length, refl, sym, ap, subst, arith, length-append, map, Some, Fault, MessageEnded, Stop, Grammar, IsNext, Ends, IsBetween, Seen, Takes, began_at, Inside-Spelt, next_inside, next_some, stops_inside, began_is_cut, cut_at_once, Column, in_line, joined, null_field, Breaks, Held, Puts, BreaksStreaming, StopsStreaming, Nears, added_between, last_read, nears_after, nears_breaks, nears_done, nears_from, nears_inside, nears_put, tail_after, Breaks-longer, Puts-none, Charset, Cell, CellPart, Null, WholeCell, cell, cell_add, cell_size, cell_start, field, shape, cell_so_far, Bitmap, InCell, RowPart, bit, bitmap_length, marked, nbc_row_start, next_cell, row, row_so_far, row_start, with_cell, stops_size, ReadsRow, RowStops, Writes}
-use Rattle.tds_rows.proofs.{NullTexts.begun_text, NullTexts.coming, NullTexts.ends, NullTexts.line_grows, NullTexts.nulls_ahead, NullTexts.nulls_text, NullTexts.part_text, NullTexts.rest_of, RowLaws.begins_open, RowLaws.cell_in_row, RowLaws.shape-HasBytes, Paths.At, Paths.Path, Paths.path_both, Paths.path_map, Paths.path_none, Paths.path_of, Paths.path_stops, Paths.streams_of, Paths.writes_inside, RowSteps.PutsAt, RowSteps.StopsAt, RowSteps.cell_some, RowSteps.same_end, CellWords.StopsCell}
+use Rattle.tds_rows.proofs.Words.{append-nil, common_steps, ◌≡◌, ◌∙◌, inl, inr, ℕ, ◌+◌, ◌-◌, ◌^◌, ◌<◌, ◌≤◌, Bool, true, false, List, [], ◌∷◌, ◌++◌, length, refl, sym, ap, arith, length-append, map, Some, Fault, MessageEnded, Stop, Grammar, IsNext, Ends, IsBetween, Seen, Takes, began_at, Inside-Spelt, next_inside, next_some, stops_inside, began_is_cut, cut_at_once, Column, in_line, joined, null_field, Breaks, Held, Puts, BreaksStreaming, StopsStreaming, Nears, added_between, last_read, nears_after, nears_breaks, nears_done, nears_from, nears_inside, nears_put, tail_after, Breaks-longer, Puts-none, Charset, Cell, CellPart, Null, WholeCell, cell, cell_add, cell_size, cell_start, field, shape, cell_so_far, Bitmap, InCell, RowPart, bit, bitmap_length, marked, nbc_row_start, next_cell, row, row_so_far, row_start, with_cell, stops_size, ReadsRow, RowStops, Writes}
+use Rattle.tds_rows.proofs.{NullTexts.begun_text, NullTexts.coming, NullTexts.ends, NullTexts.line_grows, NullTexts.nulls_ahead, NullTexts.nulls_text, NullTexts.part_text, NullTexts.rest_of, RowLaws.begins_open, RowLaws.cell_in_row, Paths.At, Paths.Path, Paths.path_both, Paths.path_map, Paths.path_none, Paths.path_of, Paths.path_stops, Paths.streams_of, Paths.writes_inside, RowSteps.PutsAt, RowSteps.StopsAt, RowSteps.cell_some, RowSteps.same_end, CellWords.StopsCell}
 
 -- ---- a cell in its row, with the NULLs after it
 
@@ -25,7 +25,7 @@ module _ (charset : Charset) (cells : List Cell) (ks : List (Column × Bool)) wh
   breaks_there from at b d i j stop some x =
       let is = cell_in_row charset cells ks in
       let begun = begun_text charset cells ks in
-      let grows = line_grows (length cells) (ends ks) in
+      let grows = line_grows _ (ends ks) in
       let size = next_some small at x.element x.next in
       let to = cell_add at x.element in
       let rest = rest_of charset cells ks to in
@@ -49,14 +49,12 @@ module _ (charset : Charset) (cells : List Cell) (ks : List (Column × Bool)) wh
   stops_there : (from : CellPart) (b d : Seen) (place : ℕ) (i j : Held) (failed : Bool) (stop : Stop) → 0 < cell_size from → StopsStreaming small text from b d place i j failed stop → StopsStreaming big row_so_far (up from) b d place i j failed stop
   stops_there from b d place i j failed stop some x =
       let is = cell_in_row charset cells ks in
-      let begun = begun_text charset cells ks in
-      let grows = line_grows (length cells) (ends ks) in
       record {
         at = up x.at;
         cause = elim x.cause [
           | inl y ↦ inl (
             stops_inside small big up is from b d place x.at stop ((same_end charset cells ks) x.at (stops_size small from b d place x.at stop y.0)) y.0,
-            (y.1.0, added_between small big up is text row_so_far front begun grows from x.at y.1.0 some (stops_size small from b d place x.at stop y.0) y.1.1, y.1.2),
+            (y.1.0, added_between small big up is text row_so_far front (begun_text charset cells ks) (line_grows (length cells) (ends ks)) from x.at y.1.0 some (stops_size small from b d place x.at stop y.0) y.1.1, y.1.2),
             y.2,
           )
           | inr y ↦ inr (breaks_there from x.at b d i j stop some y.0, y.1)
@@ -64,13 +62,12 @@ module _ (charset : Charset) (cells : List Cell) (ks : List (Column × Bool)) wh
       }
 
   pub marked_stops : (c : Column) (b d : Seen) (place : ℕ) (i j : Held) (failed : Bool) (stop : Stop) → StopsCell charset c.kind (length cells) (ends ks) b d place i j failed stop → RowStops charset (InCell cells (cell_start c.kind (shape charset c.kind)) ks) b d place i j failed stop
-  marked_stops c b d place i j failed stop x =
-      subst (λ v. StopsStreaming big row_so_far v b d place i j failed stop) (begins_open charset cells ks c.kind (shape charset c.kind)) (stops_there (cell_start c.kind (shape charset c.kind)) b d place i j failed stop (grind (arith, common_steps, shape-HasBytes)) x)
+  marked_stops c b d place i j failed stop x = rw (← begins_open charset cells ks c.kind _) (stops_there _ b d place i j failed stop (grind arith) x)
 
   -- a cell in its row, with no NULL by its bit after it
   pub row_cell : (c : Column) → nulls_ahead (length cells + 1) ks ≡ [] → {bytes made : List ℕ} {v : Cell} → Writes (cell (length cells)) (cell_so_far (length cells) (ends ks)) (cell_start c.kind (shape charset c.kind)) bytes made (WholeCell v)
       → Writes (row charset) row_so_far (next_cell charset cells ((c, false) ∷ ks)) bytes made (next_cell charset (cells ++ v ∷ []) ks)
-  row_cell c none x = rw (begins_open charset cells ks c.kind (shape charset c.kind)) at (writes_inside {text = text} {whole = row_so_far} front (cell_in_row charset cells ks) (grind (arith, common_steps, append-nil, part_text)) x)
+  row_cell c none x = rw begins_open at (writes_inside {whole = row_so_far} front (cell_in_row charset cells ks) (grind (arith, common_steps, append-nil, part_text)) x)
 
 -- ---- column after column
 
@@ -95,13 +92,12 @@ all_ahead charset (c ∷ cs) nulls some = nulls_text charset [] ((c, nulls 0) �
 -- the bitmap was read
 pub bitmap_nears : {charset : Charset} {p : At} {b : Seen} {place' : ℕ} (columns : List Column) (bitmap : List ℕ) → 0 < length columns → length bitmap ≡ bitmap_length (length columns) → Takes p.seen b bitmap (length bitmap) → IsBetween b → length p.held.waiting < 4096 → p.held.delivered ≤ 2 ^ 64 - 1
     → place' ≡ p.place + length bitmap → NearsCells charset (nbc_row_start columns) (marked columns (bit bitmap) 0) p (record { seen = b; place = place'; held = p.held }) 0
-bitmap_nears {charset = charset} {p = p} {b = b} columns bitmap some whole takes between few d at =
-    let begun = streams_of (path_none {g = row charset} {text = row_so_far} {s = Bitmap columns} {p = p} d) in
-    let next : IsNext (row charset) (Bitmap columns) bitmap = record { some = omega (arith, some, whole); whole = whole; free = refl } in
+bitmap_nears {p = p} columns bitmap some whole takes between few d at =
+    let next : IsNext _ _ bitmap = record { some = omega arith; whole = whole; free = refl } in
     record {
       cells = [];
       counted = refl;
-      nears = nears_from (row charset) row_so_far (Bitmap columns) (Bitmap columns) p.seen p.seen b p.held p.held bitmap (nulls_ahead 0 (marked columns (bit bitmap) 0)) begun next takes between few d (all_ahead charset columns (bit bitmap) some);
+      nears = nears_from _ _ _ _ p.seen p.seen _ p.held p.held bitmap _ (streams_of (path_none {p = p} d)) next takes between few d (all_ahead _ columns _ some);
       place_is = at;
     }
 
@@ -116,9 +112,9 @@ bitmap_cut charset columns a b place h part own stop fewer ended is d = record {
 -- a cell was read and its text put, in its row, and no NULL by its bit is after it
 pub cell_path : {ks : List (Column × Bool)} {column : ℕ} {p q : At} (charset : Charset) (c : Column) (cells : List Cell) → length cells ≡ column → nulls_ahead (column + 1) ks ≡ [] → PutsAt charset c.kind column (ends ks) p q
     → (v : Cell) × Path (row charset) row_so_far (next_cell charset cells ((c, false) ∷ ks)) p q (next_cell charset (cells ++ v ∷ []) ks)
-cell_path {ks = ks} charset c cells counted none y =
+cell_path charset c cells counted none y =
     let z = rw (sym counted) at y in
-    (z.value, path_map (λ a m. row_cell charset cells ks c (rw counted none)) (path_of z.streams z.place_is))
+    (z.value, path_map (λ a m. row_cell charset cells _ c (rw counted none)) (path_of z.streams z.place_is))
 
 further : (a b e l : List ℕ) (m n k : ℕ) → b ++ e ≡ l → n ≡ m + length a → k ≡ n + length l → k ≡ m + length ((a ++ b) ++ e)
 further a b e l m n k joined first second = grind (arith, common_steps, length-append)
@@ -126,24 +122,24 @@ further a b e l m n k joined first second = grind (arith, common_steps, length-a
 module _ {charset : Charset} {start : RowPart} {c : Column} {ks : List (Column × Bool)} {p q : At} {column : ℕ} where
   -- a NULL by its bit was put
   pub null_nears : {j : Held} → NearsCells charset start ((c, true) ∷ ks) p q column → Puts q.held j (in_line column (ends ks) null_field) → NearsCells charset start ks p (record q { held = j }) (column + 1)
-  null_nears {j = j} x puts = record {
+  null_nears x puts = record {
     cells = x.cells ++ Null ∷ [];
-    counted = omega (arith, x.counted, length-append x.cells (Null ∷ []));
-    nears = nears_put (row charset) row_so_far start p.seen q.seen p.held q.held j (next_cell charset (x.cells ++ Null ∷ []) ks) (in_line column (ends ks) null_field) (nulls_ahead (column + 1) ks) x.nears puts;
+    counted = omega (arith, length-append x.cells (Null ∷ []));
+    nears = nears_put _ _ start p.seen q.seen p.held q.held _ (next_cell charset _ ks) _ _ x.nears puts;
     place_is = x.place_is;
   }
 
   -- a write of it failed
   pub null_breaks : {j : Held} {stop : Stop} → NearsCells charset start ((c, true) ∷ ks) p q column → Breaks q.held j (in_line column (ends ks) null_field) stop → RowStops charset start p.seen q.seen p.place p.held j true stop
-  null_breaks {j = j} x breaks =
-      let broken = nears_breaks _ _ _ p.seen q.seen p.held q.held j _ _ _ _ _ x.nears refl breaks in
+  null_breaks x breaks =
+      let broken = nears_breaks _ _ _ p.seen q.seen p.held q.held _ _ _ _ _ _ x.nears refl breaks in
       record { at = broken.0; cause = inr (broken.1, refl) }
 
   -- a cell was read and its text put, and no NULL by its bit is after it
   pub cell_reads : {r : At} → nulls_ahead (column + 1) ks ≡ [] → Reads charset start ((c, false) ∷ ks) p q column → PutsAt charset c.kind column (ends ks) q r → Reads charset start ks p r (column + 1)
   cell_reads none x y =
       let one = cell_path charset c x.cells x.counted none y in
-      record { cells = x.cells ++ one.0 ∷ []; counted = omega (arith, x.counted, length-append x.cells (one.0 ∷ [])); path = path_both x.path one.1 }
+      record { cells = x.cells ++ one.0 ∷ []; counted = omega (arith, length-append x.cells (one.0 ∷ [])); path = path_both x.path one.1 }
 
   -- it stopped the row
   pub cell_stops : {d : Seen} {j : Held} {failed : Bool} {stop : Stop} → Reads charset start ((c, false) ∷ ks) p q column → StopsAt charset c.kind column (ends ks) q d j failed stop → RowStops charset start p.seen d p.place p.held j failed stop
@@ -153,19 +149,18 @@ module _ {charset : Charset} {start : RowPart} {c : Column} {ks : List (Column �
   pub cell_nears : {r : At} → IsBetween r.seen → length r.held.waiting < 4096 → Reads charset start ((c, false) ∷ ks) p q column → PutsAt charset c.kind column (ends ks) q r → NearsCells charset start ks p r (column + 1)
   cell_nears {r = r} between few x y =
       let n = length x.cells in
-      let z : PutsAt charset c.kind n (ends ks) q r = rw (sym x.counted) at y in
-      let begin = cell_start c.kind (shape charset c.kind) in
-      let tail = nulls_ahead (n + 1) ks in
-      let some : 0 < length z.streams.bytes = omega (arith, cell_some charset c.kind z, z.place_is) in
-      let whole : Nears (row charset) row_so_far (with_cell charset x.cells ks begin) q.seen r.seen q.held r.held (next_cell charset (x.cells ++ z.value ∷ []) ks) tail =
-      nears_inside (cell n) (row charset) _ (cell_in_row charset x.cells ks) _ row_so_far _ (begun_text charset x.cells ks) (line_grows n (ends ks)) begin _ _ _ _ (WholeCell z.value) tail z.streams some between few (part_text charset x.cells ks (WholeCell z.value)) in
-      let begun : Path (row charset) row_so_far start p q (with_cell charset x.cells ks begin) = rw (sym (begins_open charset x.cells ks c.kind (shape charset c.kind))) at x.path in
-      let parts = (last_read (cell n) begin z.streams.bytes (WholeCell z.value) z.streams.spelt some).joined in
-      let near : NearsCells charset start ks p r (n + 1) = record {
+      let z = rw (sym x.counted) at y in
+      let begin = cell_start c.kind _ in
+      let tail = nulls_ahead _ ks in
+      let some : 0 < length z.streams.bytes = omega (arith, cell_some) in
+      let whole =
+      nears_inside _ _ _ (cell_in_row charset x.cells ks) _ _ _ (begun_text charset x.cells ks) (line_grows n (ends ks)) begin _ _ _ _ _ tail z.streams some between few (part_text charset x.cells ks (WholeCell z.value)) in
+      let begun = rw (sym (begins_open charset x.cells ks c.kind (shape charset c.kind))) at x.path in
+      let near : NearsCells charset start ks p r _ = record {
         cells = x.cells ++ z.value ∷ [];
-        counted = length-append x.cells (z.value ∷ []);
-        nears = nears_after (row charset) row_so_far start _ p.seen q.seen r.seen p.held q.held r.held _ tail (streams_of begun) whole;
-        place_is = further begun.bytes whole.bytes whole.element z.streams.bytes p.place q.place r.place parts begun.place_is z.place_is;
+        counted = length-append x.cells _;
+        nears = nears_after _ _ start _ p.seen q.seen r.seen p.held q.held r.held _ tail (streams_of begun) whole;
+        place_is = further begun.bytes _ _ _ p.place q.place r.place ((last_read _ begin _ _ _ some).joined) begun.place_is z.place_is;
       } in
       rw x.counted at near
 
@@ -173,8 +168,8 @@ module _ {charset : Charset} {start : RowPart} {ks : List (Column × Bool)} {p q
   -- no NULL by its bit is next, so all text was put
   pub all_put : nulls_ahead column ks ≡ [] → q.held.delivered ≤ 2 ^ 64 - 1 → NearsCells charset start ks p q column → Reads charset start ks p q column
   all_put none d x =
-      let last : Puts q.held q.held (nulls_ahead column ks) = rw none (Puts-none q.held d) in
-      record { cells = x.cells; counted = x.counted; path = path_of (nears_done (row charset) row_so_far start p.seen q.seen p.held q.held q.held (next_cell charset x.cells ks) (nulls_ahead column ks) x.nears last) x.place_is }
+      let last : Puts q.held q.held _ = rw none (Puts-none q.held d) in
+      record { cells = x.cells; counted = x.counted; path = path_of (nears_done _ _ start p.seen q.seen p.held q.held q.held (next_cell charset x.cells ks) _ x.nears last) x.place_is }
 
 -- before the first column of a ROW, and after the last one of a row
 pub row_begins : {charset : Charset} {p : At} (columns : List Column) → p.held.delivered ≤ 2 ^ 64 - 1 → Reads charset (row_start charset columns) (coming columns 0) p p 0

@@ -1,6 +1,6 @@
 -- Columns that are NULL by their bit: their text stands after that of the element that is read before them.
-use Rattle.tds_rows.proofs.Words.{common_steps, ◌≡◌, ◌∙◌, ℕ, ◌+◌, ◌<◌, Bool, true, false, List, [], ◌∷◌, ◌++◌, length, refl, sym, ap, arith, append_assoc, append-nil, length-append, Option, Some, None, map, IsNext, next_some, Column, open_field, after_comma, end_after, in_line, joined, line, null_field, Charset, Cell, CellPart, ChunkData, ChunkLength, Null, ShortData, WholeCell, cell, cell_add, cell_size, field, field_so_far, cell_so_far, is_last_column, opened, RowPart, marked, next_cell, row_so_far, with_cell}
-use Rattle.tds_rows.proofs.{GrowingTexts.Grows, GrowingTexts.OptionGrows, GrowingTexts.cell_grows, GrowingTexts.grows_all, GrowingTexts.grows_same, GrowingTexts.grows_trans, GrowingTexts.grows_under, RowSteps.cell_more, RowSteps.fields_more, RowSteps.start_quiet}
+use Rattle.tds_rows.proofs.Words.{common_steps, ◌≡◌, ◌∙◌, ℕ, ◌+◌, ◌<◌, Bool, true, false, List, [], ◌∷◌, ◌++◌, length, refl, sym, ap, arith, append_assoc, append-nil, length-append, Option, Some, None, map, IsNext, next_some, Column, end_after, in_line, joined, null_field, Charset, Cell, CellPart, ChunkData, ChunkLength, Null, ShortData, WholeCell, cell, cell_add, cell_size, field, field_so_far, cell_so_far, is_last_column, opened, RowPart, marked, next_cell, row_so_far, with_cell}
+use Rattle.tds_rows.proofs.{GrowingTexts.Grows, GrowingTexts.OptionGrows, GrowingTexts.cell_grows, GrowingTexts.grows_all, GrowingTexts.grows_same, GrowingTexts.grows_trans, GrowingTexts.grows_under, RowSteps.cell_more, RowSteps.fields_more}
 
 -- whether no column follows
 abbrev pub ends : List (Column × Bool) → Bool
@@ -29,18 +29,18 @@ none_ahead (c ∷ cs) n = refl
 one_more : (cells : List Cell) (v : Cell) (ks : List (Column × Bool)) (text : List ℕ) → (joined (map field (cells ++ v ∷ [])) ++ end_after (ends ks)) ++ nulls_ahead (length (cells ++ v ∷ [])) ks ≡ text
     → (joined (map field cells) ++ in_line (length cells) (ends ks) (field v)) ++ nulls_ahead (length cells + 1) ks ≡ text
 one_more cells v ks text is =
-    let begun : joined (map field cells) ++ in_line (length cells) (ends ks) (field v) ≡ joined (map field (cells ++ v ∷ [])) ++ end_after (ends ks) =
-    sym (append_assoc (joined (map field cells)) (after_comma (length cells) (field v)) (end_after (ends ks))) ∙ ap (λ l. l ++ end_after (ends ks)) (cell_more cells v) in
-    ap (λ l. l ++ nulls_ahead (length cells + 1) ks) begun ∙ ap (λ n. (joined (map field (cells ++ v ∷ [])) ++ end_after (ends ks)) ++ nulls_ahead n ks) (sym (length-append cells (v ∷ []))) ∙ is
+    let begun =
+    sym (append_assoc (joined (map field cells)) _ _) ∙ ap (λ l. l ++ end_after (ends ks)) (cell_more cells v) in
+    ap (λ l. l ++ nulls_ahead (length cells + 1) ks) begun ∙ ap (λ n. (joined (map field (cells ++ v ∷ [])) ++ end_after (ends ks)) ++ nulls_ahead n ks) (sym (length-append cells _)) ∙ is
 
 -- a row's text so far is that of its whole cells, the end of the line where no column follows, and that of the NULLs to come
 pub nulls_text : (charset : Charset) (cells : List Cell) (ks : List (Column × Bool)) → (joined (map field cells) ++ end_after (ends ks)) ++ nulls_ahead (length cells) ks ≡ row_so_far (next_cell charset cells ks)
-nulls_text charset cells [] = append-nil (line (map field cells))
+nulls_text charset cells [] = append-nil _
 nulls_text charset cells ((k, true) ∷ ks) =
-    let tail = nulls_ahead (length cells + 1) ks in
-    ap (λ l. l ++ (in_line (length cells) (ends ks) null_field ++ tail)) (append-nil (joined (map field cells))) ∙ sym (append_assoc (joined (map field cells)) (in_line (length cells) (ends ks) null_field) tail)
-    ∙ one_more cells Null ks (row_so_far (next_cell charset (cells ++ Null ∷ []) ks)) (nulls_text charset (cells ++ Null ∷ []) ks)
-nulls_text charset cells ((k, false) ∷ ks) = grind (arith, append-nil, start_quiet)
+    let tail = nulls_ahead _ ks in
+    ap (λ l. l ++ (in_line (length cells) (ends ks) null_field ++ tail)) (append-nil (joined (map field cells))) ∙ sym (append_assoc (joined (map field cells)) _ tail)
+    ∙ one_more cells Null ks _ (nulls_text charset (cells ++ Null ∷ []) ks)
+nulls_text charset cells ((k, false) ∷ ks) = grind (arith, append-nil)
 
 -- ---- a cell's text in its line
 
@@ -55,18 +55,15 @@ module _ (column : ℕ) (last : Bool) where
   opened_text p h = grind arith
 
   opened_to : (p : CellPart) → Grows (opened column (field_so_far p)) (cell_so_far column last p)
-  opened_to (ShortData c n d) = grows_same (after_comma column (open_field c d))
-  opened_to (ChunkLength c t d) = grows_same (after_comma column (open_field c d))
-  opened_to (ChunkData c t n d) = grows_same (after_comma column (open_field c d))
-  opened_to (WholeCell v) = grind (arith, common_steps)
+  opened_to (ShortData c n d) = grows_same _
+  opened_to (ChunkLength c t d) = grows_same _
+  opened_to (ChunkData c t n d) = grows_same _
+  opened_to (WholeCell v) = grind arith
   opened_to p = grows_all []
 
   -- each element of a cell adds to its text in its line
   pub line_grows : (p : CellPart) (e : List ℕ) → IsNext (cell column) p e → Grows (cell_so_far column last p) (cell_so_far column last (cell_add p e))
-  line_grows p e n =
-      let here = opened column (field_so_far p) in
-      let there = cell_so_far column last (cell_add p e) in
-      rw (opened_text p (next_some (cell column) p e n)) at (grows_trans here (opened column (field_so_far (cell_add p e))) there (opened_grows (field_so_far p) (field_so_far (cell_add p e)) (cell_grows column p e n)) (opened_to (cell_add p e)))
+  line_grows p e n = rw (opened_text p (next_some _ p e n)) at (grows_trans (opened column _) (opened column _) (cell_so_far column last _) (opened_grows _ _ (cell_grows column p e n)) (opened_to _))
 
 -- ---- a cell in its row, with the NULLs after it
 

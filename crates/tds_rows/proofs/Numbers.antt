@@ -1,5 +1,5 @@
 -- The numbers of a long value, its length or total and those of its chunks, as elements of its cell: how each is judged, and where it leads.
-use Rattle.tds_rows.proofs.Words.{common_steps, ◌≡◌, ◌≢◌, ◌∙◌, ◌⊎◌, inl, inr, ℕ, ◌+◌, ◌<◌, true, false, List, [], length, refl, sym, ap, subst, arith, Option, Some, None, ◌==◌, ne_eqb, nat_tests, little, Fault, BadText, MessageEnded, Stop, IsNext, StopsReading, IsBetween, Seen, Takes, choose_false, choose_true, began_is_cut, cut_at_once, refused_at_once, Conversion, is_fit, unit, CellPart, ChunkLength, DataCell, Null, ShortLength, Total, WholeCell, cell, cell_add, cell_end, cell_fault, cell_size, known_total, null_total, unless, CutsNumber, ReadsNumber, RefusesNumber, chunk_length_fault, short_fault, short_length, total_fault, total_of, Payload}
+use Rattle.tds_rows.proofs.Words.{common_steps, ◌≡◌, ◌≢◌, ◌∙◌, ◌⊎◌, inl, inr, ℕ, ◌+◌, ◌<◌, true, false, List, [], length, refl, sym, ap, subst, arith, Option, Some, None, ◌==◌, ne_eqb, little, Fault, BadText, MessageEnded, Stop, IsNext, StopsReading, IsBetween, Seen, Takes, choose_false, choose_true, began_is_cut, cut_at_once, refused_at_once, Conversion, is_fit, unit, CellPart, ChunkLength, DataCell, Null, ShortLength, Total, WholeCell, cell, cell_add, cell_end, cell_fault, cell_size, null_total, unless, CutsNumber, ReadsNumber, RefusesNumber, chunk_length_fault, short_fault, short_length, total_fault, total_of, Payload}
 use Rattle.tds_rows.proofs.{CellLaws.unless_true, CellWords.chunk_left, CellWords.short_left}
 
 -- An element of a cell was read, which leads from one state to another.
@@ -20,10 +20,9 @@ number_stops : {column size place : ℕ} {s : CellPart} {fault : ℕ → Option 
     → RefusesNumber size fault a b place stop ⊎ CutsNumber size a b place stop → StopsReading (cell column) s a b place s stop
 number_stops {column = column} {place = place} {s = s} {a = a} {b = b} {stop = stop} some is end first (inl x) =
     let r = x.reads in
-    let told : record { fault = stop.fault; place = Payload place } ≡ stop = ap (λ q. record { fault = stop.fault; place = q }) (sym x.stands) in
-    subst (λ t. StopsReading (cell column) s a b place s t) told (refused_at_once (cell column) s a b place r.element stop.fault (omega (arith, r.whole, some)) (r.whole ∙ sym is) (first r.element x.n stop.fault r.number x.first) r.takes r.between)
-number_stops {column = column} {size = size} {place = place} {s = s} {a = a} {b = b} {stop = stop} some is end first (inr x) =
-    cut_at_once (cell column) s a b place x.part x.own stop (let few : length x.part < size = x.fewer in omega (arith, few, is)) x.ends (began_is_cut place (cell_end s) x.own stop end x.stop_is)
+    let told = ap (λ q. record { fault = stop.fault; place = q }) (sym x.stands) in
+    subst (λ t. StopsReading (cell column) s a b place s t) told (refused_at_once _ s a b place _ _ (omega arith) (r.whole ∙ sym is) (first _ x.n _ r.number x.first) r.takes r.between)
+number_stops some is end first (inr x) = cut_at_once _ _ _ _ _ x.part x.own _ (let few = x.fewer in omega arith) x.ends (began_is_cut _ _ x.own _ end x.stop_is)
 
 -- ---- the length of a short value
 
@@ -37,10 +36,10 @@ module _ (column : ℕ) (c : Conversion) (size : ℕ) (unit_is : size ≡ unit c
   -- as a call read it
   module _ {a b : Seen} {place place' : ℕ} {answer : Option ℕ} (x : (n : ℕ) × ReadsNumber 2 a b place place' n × (short_fault column size n ≡ None) × (answer ≡ short_length n)) where
     pub short_none : answer ≡ None → Next column (ShortLength c) a b place place' (WholeCell Null)
-    short_none is = grind (arith, common_steps, short_length, next_by, short_same, choose_true)
+    short_none is = grind arith
 
     pub short_start : {k : ℕ} → answer ≡ Some k → Next column (ShortLength c) a b place place' (short_left c k [])
-    short_start is = grind (arith, common_steps, short_length, next_by, short_same, choose_false, ne_eqb)
+    short_start is = grind arith
 
 -- ---- the total
 
@@ -54,17 +53,13 @@ module _ (column : ℕ) (c : Conversion) (size : ℕ) (unit_is : size ≡ unit c
   module _ {a b : Seen} {place place' : ℕ} {answer : Option (Option ℕ)} (x : (n : ℕ) × ReadsNumber 8 a b place place' n × (total_fault column size n ≡ None) × (answer ≡ total_of n)) where
     pub total_none : answer ≡ None → Next column (Total c) a b place place' (WholeCell Null)
     total_none is =
-        let told : None ≡ total_of x.0 = sym is ∙ x.3 in
-        let null : x.0 ≡ null_total = grind (arith, nat_tests) in
-        next_by (omega arith) refl x.1 (total_same x.1.element x.0 x.1.number ∙ x.2) (choose_true (little x.1.element == null_total) _ _ (ap (λ (m : ℕ). m == null_total) (x.1.number ∙ null)))
+        let null : x.0 ≡ null_total = grind arith in
+        next_by (omega arith) refl x.1 (total_same _ x.0 x.1.number ∙ x.2) (choose_true _ _ _ (ap (λ m. m == null_total) (x.1.number ∙ null)))
 
     pub total_start : {t : Option ℕ} → answer ≡ Some t → Next column (Total c) a b place place' (ChunkLength c t [])
     total_start {t} is =
-        let told : Some t ≡ total_of x.0 = sym is ∙ x.3 in
-        let some : x.0 ≢ null_total = λ e. grind (arith, nat_tests) in
-        let known : known_total x.0 ≡ t = grind (arith, nat_tests) in
-        let to : cell_add (Total c) x.1.element ≡ ChunkLength c t [] = let number : little x.1.element ≡ x.0 = x.1.number in grind (arith, choose_false, ne_eqb) in
-        next_by (omega arith) refl x.1 (total_same x.1.element x.0 x.1.number ∙ x.2) to
+        let to : cell_add (Total c) _ ≡ ChunkLength c t [] = let number = x.1.number in grind arith in
+        next_by (omega arith) refl x.1 (total_same _ x.0 x.1.number ∙ x.2) to
 
 -- ---- the length of a chunk
 
@@ -80,8 +75,7 @@ module _ (column : ℕ) (c : Conversion) (size : ℕ) (unit_is : size ≡ unit c
 
       -- after content that isn't, it is refused
       pub chunk_unfit : n ≡ 0 → is_fit c content ≡ false → StopsReading (cell column) (ChunkLength c total content) a b place (ChunkLength c total content) (record { fault = BadText column; place = Payload place })
-      chunk_unfit none unfit =
-          refused_at_once (cell column) (ChunkLength c total content) a b place x.element (BadText column) (omega (arith, x.whole)) x.whole (grind (arith, common_steps) ∙ ap (λ f. unless f (BadText column)) unfit) x.takes x.between
+      chunk_unfit none unfit = refused_at_once _ _ a b place _ _ (omega arith) x.whole (grind arith ∙ ap (λ f. unless f (BadText column)) unfit) x.takes x.between
 
       -- the length of a chunk was read
       pub chunk_start : n ≢ 0 → Next column (ChunkLength c total content) a b place place' (chunk_left c total n content)

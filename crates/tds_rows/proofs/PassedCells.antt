@@ -1,53 +1,48 @@
 -- The value of a RETURNVALUE, as it is passed over.
-use Rattle.tds_rows.proofs.Words.{common_steps, ◌≡◌, ◌∙◌, ◌⊎◌, inl, inr, ℕ, zero, suc, ◌+◌, ◌-◌, ◌%◌, ◌<◌, ◌≤◌, Bool, true, List, [], ◌++◌, length, refl, sym, ap, subst, arith, append-nil, length-append, Option, is_ok, Kind, Binary, Narrow, Wide, Reach, is_scalar, read_of, Stop, Spelt, Seen, Takes, IsBetween, began_at, Spelt-append, Spelt-one, Ends-after, Takes-none, Takes-trans, add_none, began_is_cut, reads_both, reads_none, stops_after, BeginsData, Conversion, HexDigits, Utf16Text, Windows1252Text, Charset, Cell, CellPart, ChunkLength, DataCell, LongShape, ShortLength, WholeCell, cell_end, cell_start, return_charset, shape, GathersCell, StallsCell, scalar_size, value_bytes, value_length, value_start, WritesCell, return_column, AnyData, CutsPassing, IsGoodValue, PassesCell, PassesData, StepsOver, StopsPassing, return_cell, begun_by_test, take_all}
+use Rattle.tds_rows.proofs.Words.{◌≡◌, ◌∙◌, ◌⊎◌, inl, inr, ℕ, zero, ◌+◌, ◌-◌, ◌%◌, ◌<◌, ◌≤◌, Bool, true, List, [], ◌++◌, length, refl, sym, ap, subst, arith, append-nil, length-append, Option, is_ok, Kind, Binary, Narrow, Wide, Reach, is_scalar, read_of, Stop, Spelt, Seen, Takes, IsBetween, began_at, Spelt-append, Spelt-one, Ends-after, Takes-none, Takes-trans, add_none, began_is_cut, reads_both, reads_none, stops_after, BeginsData, Conversion, Charset, Cell, CellPart, ChunkLength, DataCell, LongShape, ShortLength, WholeCell, cell_start, return_charset, shape, GathersCell, StallsCell, scalar_size, value_bytes, value_length, value_start, WritesCell, return_column, AnyData, CutsPassing, IsGoodValue, PassesCell, PassesData, StepsOver, StopsPassing, return_cell, begun_by_test, take_all}
 use Rattle.tds_rows.proofs.{BufferedCells.null_cell, BufferedCells.value_cell, LongSteps.HoldsContent, LongSteps.chunk_holds, LongSteps.content_spelt, LongSteps.short_holds, CellMeaning.is_ok_value, CellWords.chunk_left, CellWords.short_left}
 
 -- ---- elements
 
 -- no element was read
 step_none : {s : CellPart} {a : Seen} {place : ℕ} → IsBetween a → StepsOver s s a a place place
-step_none {s = s} {a = a} {place = place} between = record { reads = reads_none return_cell s a; between = between; place_is = sym (add_none place) }
+step_none between = record { reads = reads_none return_cell _ _; between = between; place_is = sym (add_none _) }
 
 steps_both : {s t u : CellPart} {a b d : Seen} {place middle place' : ℕ} → StepsOver s t a b place middle → StepsOver t u b d middle place' → StepsOver s u a d place place'
-steps_both {s = s} {t = t} {u = u} {a = a} {b = b} {d = d} x y = record {
-  reads = reads_both return_cell s t u a b d x.reads y.reads;
-  between = y.between;
-  place_is = omega (arith, x.place_is, y.place_is, length-append x.reads.bytes y.reads.bytes);
-}
+steps_both x y = record { reads = reads_both _ _ _ _ _ _ _ x.reads y.reads; between = y.between; place_is = omega (arith, length-append x.reads.bytes y.reads.bytes) }
 
 pub stops_after_steps : {s t : CellPart} {a b d : Seen} {place middle : ℕ} {stop : Stop} → StepsOver s t a b place middle → StopsPassing t b d middle stop → StopsPassing s a d place stop
-stops_after_steps {s = s} {t = t} {a = a} {b = b} {d = d} {place = place} {stop = stop} x y = record { at = y.at; stops = stops_after return_cell s t a b d place y.at stop x.reads (rw x.place_is at y.stops) }
+stops_after_steps x y = record { at = y.at; stops = stops_after return_cell _ _ _ _ _ _ y.at _ x.reads (rw x.place_is at y.stops) }
 
 -- ---- data, byte by byte
 
 any_begins : {c : Conversion} {size : ℕ} → AnyData c size → (bytes : List ℕ) → BeginsData c bytes
-any_begins {c = c} any bytes = (begun_by_test c bytes).0 (any.begun bytes)
+any_begins any bytes = (begun_by_test _ bytes).0 (any.begun bytes)
 
 module _ {c : Conversion} {state : ℕ → List ℕ → CellPart} {Good : List ℕ → Type 0} (holds : HoldsContent return_column c state Good) (begins : (bytes : List ℕ) → BeginsData c bytes) where
   -- all the data was handed out
   data_steps : {m : ℕ} {a b : Seen} {place place' : ℕ} (d : List ℕ) (x : PassesData m a b place place') → Good (d ++ x.bytes) → StepsOver (state m d) (state 0 (d ++ x.bytes)) a b place place'
-  data_steps {m = m} d x good = record {
-    reads = record { bytes = x.bytes; spelt = content_spelt true holds d x.bytes m 0 (omega (arith, x.counted)) (begins (d ++ x.bytes)) (λ _ _. good); takes = rw (sym x.counted) at x.takes };
+  data_steps d x good = record {
+    reads = record { bytes = x.bytes; spelt = content_spelt true holds d x.bytes _ 0 (omega arith) (begins _) (λ _ _. good); takes = rw (sym x.counted) at x.takes };
     between = x.between;
-    place_is = omega (arith, x.place_is, x.counted);
+    place_is = omega arith;
   }
 
   -- the payload stopped in it
   data_stops : {m : ℕ} {a b : Seen} {place : ℕ} {stop : Stop} (d : List ℕ) → CutsPassing m a b place stop → StopsPassing (state m d) a b place stop
-  data_stops {m = m} {a = a} {b = b} {place = place} {stop = stop} d x =
-      let r : ℕ = m - length x.bytes - 1 in
-      let at = state (suc r) (d ++ x.bytes) in
+  data_stops {m = m} {place = place} d x =
+      let at = state _ _ in
       record {
         at = at;
         stops = record {
           bytes = x.bytes;
-          spelt = content_spelt true holds d x.bytes m (suc r) (omega (arith, x.fewer)) (begins (d ++ x.bytes)) (λ none _. absurd (omega (arith, none)));
+          spelt = content_spelt true holds d x.bytes m _ (omega arith) (begins _) (λ none _. absurd (omega arith));
           cause = inr (record {
             part = [];
-            cut = omega (arith, holds.size r (d ++ x.bytes));
+            cut = omega arith;
             own = x.own;
             ends = rw (sym (append-nil x.bytes)) at x.ends;
-            stop_is = began_is_cut (place + length x.bytes) (cell_end at) x.own stop (holds.end r (d ++ x.bytes)) x.stop_is;
+            stop_is = began_is_cut (place + length x.bytes) _ x.own _ (holds.end (m - length x.bytes - 1) _) x.stop_is;
           });
         };
       }
@@ -62,22 +57,22 @@ scalar_stops charset kind a b place stop x = record { at = x.at; stops = x.stops
 written_spelt : (from : CellPart) (last : Bool) (bytes text : List ℕ) → WritesCell from return_column last bytes text → (value : Cell) × Spelt return_cell from bytes (WholeCell value)
 written_spelt from last bytes text x = (
   x.value,
-  rw x.joined at (Spelt-append return_cell from x.front x.at x.element (WholeCell x.value) x.spelt (rw x.whole at (Spelt-one return_cell x.at x.element x.next))),
+  rw x.joined at (Spelt-append _ from x.front x.at _ _ x.spelt (rw x.whole at (Spelt-one _ x.at _ x.next))),
 )
 
 -- the bytes of a scalar cell whose value isn't refused are a whole cell
 pub scalar_whole : (charset : Charset) (kind : Kind) (bytes : List ℕ) → is_scalar kind ≡ true → length bytes ≡ scalar_size kind bytes → (0 < value_length kind bytes → is_ok (read_of kind (value_bytes kind bytes)) ≡ true)
     → (value : Cell) × Spelt return_cell (cell_start kind (shape charset kind)) bytes (WholeCell value)
-scalar_whole charset kind bytes scalar whole good = go (value_length kind bytes) refl
+scalar_whole charset kind bytes scalar whole good = go _ refl
   where
     go : (n : ℕ) → value_length kind bytes ≡ n → (value : Cell) × Spelt return_cell (cell_start kind (shape charset kind)) bytes (WholeCell value)
     go zero e =
-        let x = null_cell charset kind return_column true bytes _ scalar _ refl e (omega (arith, whole)) refl in
-        rw (take_all (value_start kind + 0) bytes (omega (arith, whole, e))) at (written_spelt _ _ _ _ x)
-    go (suc n) e =
-        let v = is_ok_value (read_of kind (value_bytes kind bytes)) (good (omega (arith, e))) in
-        let x = value_cell charset kind return_column true bytes _ scalar _ _ refl refl (λ z. omega (arith, e, z)) (omega (arith, whole)) (v.0, v.1, refl) in
-        rw (take_all (value_start kind + value_length kind bytes) bytes (omega (arith, whole))) at (written_spelt _ _ _ _ x)
+        let x = null_cell charset kind _ true bytes _ scalar _ refl e (omega arith) refl in
+        rw (take_all (value_start kind + 0) bytes (omega arith)) at (written_spelt _ _ _ _ x)
+    go _ e =
+        let v = is_ok_value _ (good (omega arith)) in
+        let x = value_cell charset kind _ true bytes _ scalar _ _ refl refl (λ z. omega arith) (omega arith) (v.0, v.1, refl) in
+        rw (take_all (value_start kind + value_length kind bytes) bytes (omega arith)) at (written_spelt _ _ _ _ x)
 
 -- ---- pieces
 
@@ -89,10 +84,10 @@ passes_none n a place none between = record { bytes = []; counted = sym none; ta
 pub passes_more : (m n k : ℕ) (a b d : Seen) (place middle place' : ℕ) → k ≡ m + n → PassesData m a b place middle → PassesData n b d middle place' → PassesData k a d place place'
 passes_more m n k a b d place middle place' sum x y = record {
   bytes = x.bytes ++ y.bytes;
-  counted = omega (arith, length-append x.bytes y.bytes, x.counted, y.counted, sum);
-  takes = subst (λ (j : ℕ). Takes a d (x.bytes ++ y.bytes) j) (omega (arith, x.counted, sum)) (Takes-trans a b d x.bytes y.bytes m n (omega (arith, x.counted)) x.takes y.takes);
+  counted = omega (arith, length-append x.bytes y.bytes);
+  takes = subst (λ j. Takes a d (x.bytes ++ y.bytes) j) (omega arith) (Takes-trans a b d x.bytes y.bytes m n (omega arith) x.takes y.takes);
   between = y.between;
-  place_is = omega (arith, x.place_is, y.place_is, sum);
+  place_is = omega arith;
 }
 
 -- the payload stopped after what was passed over
@@ -100,9 +95,9 @@ pub cuts_more : (m n k : ℕ) (a b d : Seen) (place middle : ℕ) (stop : Stop) 
 cuts_more m n k a b d place middle stop sum x y = record {
   bytes = x.bytes ++ y.bytes;
   own = y.own;
-  fewer = omega (arith, length-append x.bytes y.bytes, x.counted, y.fewer, sum);
+  fewer = omega (arith, length-append x.bytes y.bytes);
   ends = Ends-after a b d x.bytes y.bytes m y.own x.takes y.ends;
-  stop_is = y.stop_is ∙ ap (λ (j : ℕ). began_at j y.own) (omega (arith, length-append x.bytes y.bytes, x.counted, x.place_is));
+  stop_is = y.stop_is ∙ ap (λ j. began_at j y.own) (omega (arith, length-append x.bytes y.bytes));
 }
 
 -- a scalar cell whose value isn't refused was read
@@ -147,8 +142,8 @@ module _ {c : Conversion} {total : Option ℕ} {sum : ℕ} {a b d : Seen} {place
     pub chunks_more : {place' : ℕ} → PassesData n d e there place' → WalksChunks c total (sum + n) a e place place'
     chunks_more z = record {
       content = x.content ++ z.bytes;
-      counted = omega (arith, length-append x.content z.bytes, x.counted, z.counted);
-      steps = steps_both (steps_both x.steps y) (data_steps (chunk_holds return_column c total) (any_begins any) x.content z tt);
+      counted = omega (arith, length-append x.content z.bytes);
+      steps = steps_both (steps_both x.steps y) (data_steps (chunk_holds _ c total) (any_begins any) _ z tt);
     }
 
     -- the data of a chunk is cut
@@ -159,9 +154,9 @@ module _ {c : Conversion} {total : Option ℕ} {sum : ℕ} {a b d : Seen} {place
 
 -- the beginning of a long value of single bytes
 pub single_start : (kind : Kind) (reach : Reach) (P : CellPart → Type 0) → (kind ≡ Binary reach) ⊎ (kind ≡ Narrow reach) → ((k : Kind) (c : Conversion) → AnyData c 1 → P (cell_start k (LongShape c reach))) → P (cell_start kind (shape return_charset kind))
-single_start kind reach P (inl is) x = subst (λ k. P (cell_start k (shape return_charset k))) (sym is) (x (Binary reach) HexDigits (grind (arith, common_steps)))
-single_start kind reach P (inr is) x = subst (λ k. P (cell_start k (shape return_charset k))) (sym is) (x (Narrow reach) Windows1252Text (grind (arith, common_steps)))
+single_start kind reach P (inl is) x = rw is (x (Binary reach) _ (grind arith))
+single_start kind reach P (inr is) x = rw is (x (Narrow reach) _ (grind arith))
 
 -- the beginning of one of units of two
 pub wide_start : (kind : Kind) (reach : Reach) (P : CellPart → Type 0) → kind ≡ Wide reach → ((k : Kind) (c : Conversion) → AnyData c 2 → P (cell_start k (LongShape c reach))) → P (cell_start kind (shape return_charset kind))
-wide_start kind reach P is x = subst (λ k. P (cell_start k (shape return_charset k))) (sym is) (x (Wide reach) Utf16Text (grind (arith, common_steps)))
+wide_start kind reach P is x = rw is (x (Wide reach) _ (grind arith))

@@ -8,11 +8,11 @@ pub writes_none : {S : Type 0} {g : Grammar S Fault} {text : S → List ℕ} {s 
 writes_none = record { spelt = Spelt-none _ _; text_is = append-nil _ }
 
 pub writes_both : {S : Type 0} {g : Grammar S Fault} {text : S → List ℕ} {s t u : S} {a b p q : List ℕ} → Writes g text s a p t → Writes g text t b q u → Writes g text s (a ++ b) (p ++ q) u
-writes_both {text = text} {s = s} {p = p} {q = q} x y = grind (arith, common_steps, Spelt-append, append_assoc)
+writes_both x y = grind (arith, common_steps, Spelt-append, append_assoc)
 
 -- a small grammar inside a big one, with a text before it
 pub writes_inside : {S T : Type 0} {small : Grammar S Fault} {big : Grammar T Fault} {lift : S → T} {text : S → List ℕ} {whole : T → List ℕ} {s t : S} {a p : List ℕ} (front : List ℕ) → Inside small big lift → ((s : S) → front ++ text s ≡ whole (lift s)) → Writes small text s a p t → Writes big whole (lift s) a p (lift t)
-writes_inside {text = text} {whole = whole} {s = s} {t = t} front is text_is x = grind (arith, common_steps, whole, Inside-Spelt, added_inside)
+writes_inside {whole = whole} front is text_is x = grind (arith, common_steps, whole, Inside-Spelt, added_inside)
 
 -- ---- from place to place
 
@@ -53,7 +53,7 @@ path_both {p = p} {q = q} {r = r} x y = record {
   writes = writes_both x.writes y.writes;
   takes = takes_both p.seen q.seen r.seen x.bytes y.bytes x.takes y.takes;
   puts = Puts-trans p.held q.held r.held x.made y.made x.puts y.puts;
-  place_is = omega (arith, x.place_is, y.place_is, length-append x.bytes y.bytes);
+  place_is = omega (arith, length-append x.bytes y.bytes);
 }
 
 -- what is known of all bytes and what they make

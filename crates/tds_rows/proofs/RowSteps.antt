@@ -1,5 +1,5 @@
 -- The cells of a row, as they are read one after another and their text is put.
-use Rattle.tds_rows.proofs.Words.{common_steps, ◌≡◌, ◌∙◌, ℕ, ◌+◌, ◌^◌, ◌-◌, ◌<◌, ◌≤◌, Bool, false, List, [], ◌∷◌, ◌++◌, length, sym, ap, subst, arith, append-nil, length-append, None, map, length-map, map-append, Kind, Stop, IsNext, Leads, Spelt, concat, IsBetween, Seen, Takes, Spelt-append, Spelt-one, Column, joined, after_comma, in_line, Breaks, Held, Puts, BreaksStreaming, PutsText, StopsStreaming, Streams, Puts-none, Charset, Cell, CellPart, Shape, WholeCell, cell, cell_add, cell_end, cell_size, cell_start, field, field_so_far, shape, row, with_cell, StallsCell, cell_so_far}
+use Rattle.tds_rows.proofs.Words.{common_steps, ◌≡◌, ◌∙◌, ℕ, ◌+◌, ◌^◌, ◌-◌, ◌<◌, ◌≤◌, Bool, false, List, [], ◌∷◌, ◌++◌, length, sym, ap, arith, append-nil, length-append, None, map, length-map, map-append, Kind, Stop, IsNext, Leads, Spelt, concat, IsBetween, Seen, Takes, Spelt-append, Spelt-one, Column, joined, after_comma, in_line, Breaks, Held, Puts, BreaksStreaming, PutsText, StopsStreaming, Streams, Puts-none, Charset, Cell, CellPart, Shape, WholeCell, cell, cell_add, cell_end, cell_size, cell_start, field, field_so_far, row, with_cell, StallsCell, cell_so_far}
 use Rattle.tds_rows.proofs.{Paths.At, LineTexts.joined_snoc, CellWords.PutsCell, CellWords.StopsCell}
 
 -- A cell was read, of those whose text comes with the last element alone, and this is its text in its line.
@@ -36,16 +36,16 @@ quiet_text column last at h = grind arith
 
 module _ (kind : Kind) (s : Shape) (column : ℕ) (last : Bool) where
   none_put : (at : CellPart) (h : Held) → field_so_far at ≡ None → h.delivered ≤ 2 ^ 64 - 1 → PutsText (cell_so_far column last) (cell_start kind s) at h h
-  none_put at h quiet d = grind (arith, common_steps, append-nil, column, quiet_text, start_quiet, Puts-none)
+  none_put at h quiet d = grind (arith, Puts-none)
 
   -- it was read, and its text put
   abbrev pub at_once_streams : (a b : Seen) (place place' : ℕ) (h i : Held) (text : List ℕ) → (r : ReadsCell (cell_start kind s) column last a b place place' text) → Puts h i text
       → Streams (cell column) (cell_so_far column last) (cell_start kind s) a b h i (WholeCell r.value)
   at_once_streams a b place place' h i text r x = record {
     bytes = r.front ++ r.element;
-    spelt = Spelt-append (cell column) (cell_start kind s) r.front r.at r.element (WholeCell r.value) r.spelt (subst (λ v. Spelt (cell column) r.at r.element v) r.whole (Spelt-one (cell column) r.at r.element r.next));
+    spelt = Spelt-append _ _ r.front r.at _ _ r.spelt (rw (← r.whole) (Spelt-one _ r.at _ r.next));
     takes = r.takes;
-    puts = (text, ap (λ l. l ++ text) (quiet_text column last (cell_start kind s) (start_quiet kind s)) ∙ r.text_is, x);
+    puts = (text, ap (λ l. l ++ text) (quiet_text column last _ (start_quiet kind s)) ∙ r.text_is, x);
   }
 
   -- it was read, and a write of its text failed
@@ -57,7 +57,7 @@ module _ (kind : Kind) (s : Shape) (column : ℕ) (last : Bool) where
     ahead = [];
     spelt = r.spelt;
     next = r.next;
-    takes = subst (λ l. Takes a b l (length (r.front ++ r.element))) (sym (append-nil (r.front ++ r.element))) r.takes;
+    takes = rw (append-nil _) r.takes;
     between = r.between;
     middle = h;
     few = few;
@@ -91,7 +91,7 @@ some_bytes column from v (e ∷ es) before h = omega (arith, h.0.some, length-ap
 
 -- a cell that was read has some bytes
 pub cell_some : {column : ℕ} {last : Bool} {p q : At} (charset : Charset) (kind : Kind) → PutsAt charset kind column last p q → p.place < q.place
-cell_some {column = column} charset kind y =
+cell_some charset kind y =
     let spelt = y.streams.spelt in
-    let some : 0 < length (concat spelt.elements) = some_bytes column (cell_start kind (shape charset kind)) y.value spelt.elements (grind (arith, common_steps)) spelt.leads in
-    omega (arith, some, y.place_is, ap length spelt.joined)
+    let some = some_bytes _ _ y.value _ (grind arith) spelt.leads in
+    omega (arith, ap length spelt.joined)

@@ -1,23 +1,23 @@
 -- Cells of short values whose bytes lie together.
-use Rattle.tds_rows.proofs.Words.{common_steps, ◌≡◌, ◌≢◌, ◌∙◌, ℕ, ◌+◌, ◌/◌, ◌%◌, ◌<◌, ◌≤◌, Bool, true, List, [], ◌∷◌, ◌++◌, length, take, drop, refl, ap, arith, length-drop, length-take-le, slice_index, Kind, Short, Conversion, is_fit, long_field, in_line, null_field, DataCell, LongShape, Null, ShortLength, SpellsShort, stated_length, WritesWhole, take-add}
+use Rattle.tds_rows.proofs.Words.{◌≡◌, ◌≢◌, ◌∙◌, ℕ, ◌+◌, ◌/◌, ◌%◌, ◌<◌, ◌≤◌, Bool, true, List, [], ◌∷◌, ◌++◌, length, take, drop, refl, ap, arith, length-drop, length-take-le, slice_index, Kind, Short, Conversion, is_fit, long_field, in_line, null_field, DataCell, LongShape, Null, ShortLength, SpellsShort, stated_length, WritesWhole, take-add}
 use Rattle.tds_rows.proofs.CellLaws.{cell_is_read}
 
 module _ (column : ℕ) (kind : Kind) (c : Conversion) (last : Bool) (bytes text : List ℕ) (within : 2 ≤ length bytes) (low : slice_index bytes 0 < 256) (high : slice_index bytes 1 < 256) where
   -- NULL
   pub short_null : stated_length bytes ≡ 65535 → text ≡ in_line column last null_field → WritesWhole (ShortLength c) column last (take 2 bytes) text
   short_null all is =
-      let a : slice_index bytes 0 ≡ 255 = omega (arith, all, low, high) in
-      let b : slice_index bytes 1 ≡ 255 = omega (arith, all, low, high) in
-      record { value = Null; spelt = cell_is_read column kind (LongShape c Short) Null (take 2 bytes) tt (grind (arith, common_steps) ∙ (λ i. a i ∷ b i ∷ [])); text_is = is }
+      let a : slice_index bytes 0 ≡ 255 = omega arith in
+      let b : slice_index bytes 1 ≡ 255 = omega arith in
+      record { value = Null; spelt = cell_is_read column kind (LongShape c Short) Null _ tt (grind arith ∙ (λ i. a i ∷ b i ∷ [])); text_is = is }
 
   -- a value
   pub short_value : (n : ℕ) → n ≡ stated_length bytes → n ≢ 65535 → 2 + n ≤ length bytes → is_fit c (take n (drop 2 bytes)) ≡ true → text ≡ in_line column last (long_field c (take n (drop 2 bytes)))
       → WritesWhole (ShortLength c) column last (take (2 + n) bytes) text
   short_value n counted some all fit is =
-      let d = take n (drop 2 bytes) in
-      let whole : length d ≡ n = length-take-le n (drop 2 bytes) (omega (arith, all, length-drop 2 bytes)) in
-      let a : slice_index bytes 0 ≡ length d % 256 = omega (arith, counted, whole, low, high) in
-      let b : slice_index bytes 1 ≡ length d / 256 = omega (arith, counted, whole, low, high) in
-      let front : take 2 bytes ≡ length d % 256 ∷ length d / 256 ∷ [] = grind (arith, common_steps) ∙ (λ i. a i ∷ b i ∷ []) in
-      let spells : SpellsShort d (take (2 + n) bytes) = record { counted = take-add 2 n bytes ∙ ap (λ l. l ++ d) front; least = omega (arith, counted, whole, low, high, some) } in
-      record { value = DataCell c d; spelt = cell_is_read column kind (LongShape c Short) (DataCell c d) (take (2 + n) bytes) tt (refl, fit, spells); text_is = is }
+      let d = take n _ in
+      let whole : length d ≡ n = length-take-le n (drop 2 bytes) (omega (arith, length-drop 2 bytes)) in
+      let a : slice_index bytes 0 ≡ length d % 256 = omega arith in
+      let b : slice_index bytes 1 ≡ length d / 256 = omega arith in
+      let front : take 2 bytes ≡ length d % 256 ∷ length d / 256 ∷ [] = grind arith ∙ (λ i. a i ∷ b i ∷ []) in
+      let spells : SpellsShort d _ = record { counted = take-add 2 n bytes ∙ ap (λ l. l ++ d) front; least = omega arith } in
+      record { value = DataCell c d; spelt = cell_is_read column kind (LongShape c Short) _ _ tt (refl, fit, spells); text_is = is }

@@ -9,10 +9,10 @@ none_null k = false
 module _ (charset : Charset) (columns : List Column) where
   -- so many columns, and then so many more
   pub marked_both : (nulls : ℕ → Bool) (from n m : ℕ) (a b p q : List ℕ) → WritesMarked charset columns nulls from n a p → WritesMarked charset columns nulls (from + n) m b q → WritesMarked charset columns nulls from (n + m) (a ++ b) (p ++ q)
-  marked_both nulls from n zero a b p q x y = grind (arith, add-zero, append-nil)
+  marked_both nulls from n zero a b p q x y = grind (arith, append-nil)
   marked_both nulls from n (suc m) a b p q x y =
       let at : (from + n) + m ≡ from + (n + m) = omega arith in
-      let counted : suc (n + m) ≡ n + suc m = omega arith in
+      let counted : suc _ ≡ n + suc m = omega arith in
       rw (sym counted) (
         a ++ y.0,
         y.1,
@@ -29,16 +29,15 @@ module _ (charset : Charset) (columns : List Column) where
   marked_clear nulls from zero bytes text clear x = x
   marked_clear nulls from (suc n) bytes text clear x =
       let last = x.7 in
-      let is : nulls (from + n) ≡ false = clear (from + n) (omega arith) (omega arith) in
-      let writes = subst (λ (e : Bool). WritesNext charset e last.column.kind (from + n) (is_last_column last.left) x.1 x.3) (sym is) last.writes in
+      let writes = subst (λ e. WritesNext charset e last.column.kind (from + n) (is_last_column last.left) x.1 x.3) (sym (clear (from + n) (omega arith) (omega arith))) last.writes in
       let one : WritesColumn charset columns nulls (from + n) x.1 x.3 = record { column = last.column; left = last.left; next = last.next; writes = writes } in
-      (x.0, x.1, x.2, x.3, x.4, x.5, marked_clear nulls from n x.0 x.2 (λ k least most. clear k least (omega (arith, most))) x.6, one)
+      (x.0, x.1, x.2, x.3, x.4, x.5, marked_clear nulls from n x.0 x.2 (λ k least most. clear k least (omega arith)) x.6, one)
 
 module _ {table : Table} {columns : List Column} {nulls : ℕ → Bool} {at : Ahead} where
   -- one cell
   pub runs_column : {after : Ahead} {kind : Kind} {last : Bool} {bytes text : List ℕ} → TakesColumn table columns at after kind → last ≡ is_last_column (drop after.column columns) → WritesNext table.charset (nulls at.column) kind at.column last bytes text → RunsMarked table columns nulls at after bytes text
-  runs_column {after = after} {bytes = bytes} {text = text} taken end cell =
-      let one : WritesColumn table.charset columns nulls at.column bytes text = record { column = taken.column; left = drop after.column columns; next = taken.next; writes = rw (taken.kind, end) at cell } in
+  runs_column {bytes = bytes} {text = text} taken end cell =
+      let one : WritesColumn _ columns nulls _ bytes text = record { column = taken.column; left = drop _ columns; next = taken.next; writes = rw (taken.kind, end) at cell } in
       record { count = 1; ahead = taken.ahead; further = taken.further; writes = ([], bytes, [], text, refl, refl, (refl, refl), rw (sym (add-zero at.column)) at one) }
 
 module _ {table : Table} {columns : List Column} {nulls : ℕ → Bool} {from to : Ahead} where
@@ -52,8 +51,8 @@ module _ {table : Table} {columns : List Column} {nulls : ℕ → Bool} {from to
   runs_more at used u made m bytes text new rest within some x y = record {
     count = x.count + y.count;
     ahead = y.ahead;
-    further = omega (arith, x.further, y.further);
-    writes = rw (used_more used u bytes, made_more made m text new rest within some) (marked_both _ _ _ _ _ _ _ _ _ _ x.writes (rw x.further at y.writes));
+    further = omega arith;
+    writes = rw (used_more, made_more) (marked_both _ _ _ _ _ _ _ _ _ _ x.writes (rw x.further at y.writes));
   }
 
 -- a run ended before a column whose bit is clear

@@ -1,7 +1,7 @@
 -- A call that reads what comes whole stops only where a device fails.
-use Rattle.tds_rows.proofs.Words.{common_steps, ◌≡◌, ◌∙◌, inl, inr, ℕ, ◌+◌, ◌<◌, Bool, List, [], ◌∷◌, ◌++◌, length, take, refl, sym, ap, subst, arith, append_assoc, append-nil, length-append, Result, Ok, Err, Option, Some, None, if◌then◌else◌, take-append_seam, nat_tests, Consumes, Rose, one_more, Fault, RefusedToken, Stop, Coming, before, Grammar, IsRefused, Longest, Spelt, CutsNext, RefusesNext, StopsReading, Ends, Seen, Inside-Spelt, Spelt-append, longest_at, longest_cut, longest_refused, no_further, one_longest, stops_inside, stops_after, Column, return_column, Sink, Conversion, Held, StopsStreaming, stops_size, Kind, Reach, Short, Chunked, Charset, Cell, CellPart, LongShape, SpellsCell, WholeCell, cell, cell_start, long_start, return_charset, shape, FieldPut, cell_so_far, CellPassed, return_cell, RowPut, RowsRead, RowsStop, RowPart, RowToken, SpellsRowAs, WholeRow, row, row_so_far, token_byte, token_start, RowsPart, rows, rows_start, BeginNoRow, Brings, ReadsOn, SpellsRows, SucceedsOn, length-take-le}
+use Rattle.tds_rows.proofs.Words.{◌≡◌, ◌∙◌, inl, inr, ℕ, ◌+◌, ◌<◌, Bool, List, [], ◌∷◌, ◌++◌, length, take, refl, sym, ap, subst, arith, append_assoc, append-nil, length-append, Result, Ok, Err, Option, Some, None, if◌then◌else◌, take-append_seam, nat_tests, Consumes, Rose, one_more, Fault, RefusedToken, Stop, before, Grammar, IsRefused, Longest, Spelt, CutsNext, RefusesNext, StopsReading, Ends, Seen, Inside-Spelt, Spelt-append, longest_at, longest_cut, longest_refused, no_further, one_longest, stops_inside, stops_after, Column, Sink, Conversion, Held, StopsStreaming, stops_size, Kind, Reach, Short, Chunked, Charset, Cell, CellPart, LongShape, SpellsCell, WholeCell, cell, cell_start, long_start, return_charset, shape, FieldPut, CellPassed, RowPut, RowsRead, RowsStop, RowPart, RowToken, SpellsRowAs, WholeRow, row, row_so_far, token_byte, token_start, RowsPart, rows, BeginNoRow, Brings, ReadsOn, SpellsRows, SucceedsOn, length-take-le}
 use Rattle.tds_packet.specs.declared.payload.Payload.{Payload}
-use Rattle.tds_rows.proofs.{CellLaws.cell_is_read, RowLaws.nbc_row_is_read, RowLaws.row_is_read, RowLaws.shape-HasBytes, RowLaws.some_bitmap, RunSteps.row_among_rows, RunSteps.row_token}
+use Rattle.tds_rows.proofs.{CellLaws.cell_is_read, RowLaws.nbc_row_is_read, RowLaws.row_is_read, RowLaws.shape-HasBytes, RunSteps.row_among_rows, RunSteps.row_token}
 
 -- a call that fails raises the count
 pub rose : (f : ℕ) → Rose f (one_more f)
@@ -21,23 +21,23 @@ module _ {S : Type 0} (g : Grammar S Fault) (from to : S) (a b : Seen) (front mo
   refused_there : (at : S) (bytes : List ℕ) (fault : Fault) → Spelt g from bytes at → RefusesNext g a b bytes at fault → at ≡ to
   refused_there at bytes fault spelt x =
       let e = x.element in
-      let some : 0 < length e = x.some in
-      let whole : length e ≡ g.size at = x.whole in
-      let c = came x.takes.0 ((bytes ++ e) ++ x.ahead) x.takes.1.0 (λ zs. ap (λ (c : Coming). c.bytes) (x.takes.1.1 zs)) in
+      let some = x.some in
+      let whole = x.whole in
+      let c = came _ ((bytes ++ e) ++ x.ahead) x.takes.1.0 (λ zs. ap (λ c. c.bytes) (x.takes.1.1 zs)) in
       let rest = e ++ (x.ahead ++ c.0) in
-      let all : front ++ more ≡ bytes ++ rest = c.1 ∙ append_assoc (bytes ++ e) x.ahead c.0 ∙ append_assoc bytes e (x.ahead ++ c.0) in
+      let all = c.1 ∙ append_assoc (bytes ++ e) x.ahead c.0 ∙ append_assoc bytes e _ in
       let refused : IsRefused g at rest fault = record {
-        some = omega (arith, some, whole);
-        whole = omega (arith, whole, length-append e (x.ahead ++ c.0));
-        first = ap (λ k. g.fault at (take k rest)) (sym whole) ∙ ap (g.fault at) (take-append_seam e (x.ahead ++ c.0)) ∙ x.first;
+        some = omega arith;
+        whole = omega (arith, length-append e (x.ahead ++ c.0));
+        first = ap (λ k. g.fault at (take k rest)) (sym whole) ∙ ap (g.fault at) (take-append_seam e _) ∙ x.first;
       } in
-      (one_longest g from (front ++ more) (length bytes) (length front) at to (subst (λ v. Longest g from v (length bytes) at) (sym all) (longest_refused g from bytes rest at fault spelt refused)) last).1
+      (one_longest g from (front ++ more) _ _ at to (subst (λ v. Longest g from v (length bytes) at) (sym all) (longest_refused g from bytes rest at fault spelt refused)) last).1
 
   cut_there : (at : S) (bytes : List ℕ) (place : ℕ) (stop : Stop) → Spelt g from bytes at → CutsNext g a b bytes place at stop → at ≡ to
-  cut_there at bytes place stop spelt x = (one_longest g from (front ++ more) (length bytes) (length front) at to (subst (λ v. Longest g from v (length bytes) at) (sym (ends x.ends)) (longest_cut g from bytes x.part at spelt x.cut)) last).1
+  cut_there at bytes place stop spelt x = (one_longest g from (front ++ more) _ _ at to (subst (λ v. Longest g from v (length bytes) at) (sym (ends x.ends)) (longest_cut g from bytes x.part at spelt x.cut)) last).1
     where
       ends : Ends a b (bytes ++ x.part) x.own → front ++ more ≡ bytes ++ x.part
-      ends y = grind (arith, append-nil, left_of, rose)
+      ends y = grind (arith, append-nil)
 
   -- a reading that stops does so at the end of what comes
   pub stopped_there : (place : ℕ) (at : S) (stop : Stop) → StopsReading g from a b place at stop → at ≡ to
@@ -46,26 +46,25 @@ module _ {S : Type 0} (g : Grammar S Fault) (from to : S) (a b : Seen) (front mo
 -- a state at which nothing follows is the end of what comes
 pub longest_end : {S : Type 0} (g : Grammar S Fault) (from to : S) (front more : List ℕ) → Spelt g from front to → g.size to ≡ 0 → Longest g from (front ++ more) (length front) to
 longest_end g from to front more spelt none = longest_at g from front more to spelt (λ d other some within k.
-    let e : take d more ≡ [] = no_further g from front to (take d more) other spelt (λ i a b. omega (arith, none)) k in
-    omega (arith, some, ap length e, length-take-le d more within))
+    let e = no_further g from front to _ other spelt (λ i a b. omega arith) k in
+    omega (arith, ap length e, length-take-le d more within))
 
 -- a call that reads whole elements to a state at which nothing follows doesn't stop in reading
 none_stops_reading : {S : Type 0} {a b : Seen} {place : ℕ} {at : S} {stop : Stop} (g : Grammar S Fault) (from to : S) (front more : List ℕ) → Brings a (front ++ more) → Spelt g from front to → g.size to ≡ 0
     → (Rose a.failures b.failures → ⊥) → StopsReading g from a b place at stop → ⊥
-none_stops_reading {a = a} {b = b} {place = place} {at = at} {stop = stop} g from to front more brings spelt none reads x =
-    let there : at ≡ to = stopped_there g from to a b front more brings (longest_end g from to front more spelt none) reads place at stop x in
-    let some : 0 < g.size at = stops_size g from a b place at stop x in
-    omega (arith, some, none, ap g.size there)
+none_stops_reading {stop = stop} g from to front more brings spelt none reads x =
+    let there = stopped_there g from to _ _ front more brings (longest_end g from to front more spelt none) reads _ _ stop x in
+    let some = stops_size g from _ _ _ _ stop x in
+    omega (arith, ap g.size there)
 
 -- a call that reads whole elements to a state at which nothing follows, and puts their text, doesn't stop
 pub none_stops : {S : Type 0} {a b : Seen} {place : ℕ} {h i : Held} {failed : Bool} {stop : Stop} (g : Grammar S Fault) (text : S → List ℕ) (from to : S) (front more : List ℕ) → Brings a (front ++ more) → Spelt g from front to → g.size to ≡ 0
     → (Rose a.failures b.failures → ⊥) → (Rose h.failures i.failures → ⊥) → StopsStreaming g text from a b place h i failed stop → ⊥
-none_stops {h = h} g text from to front more brings spelt none reads writes x = elim x.cause [
+none_stops g text from to front more brings spelt none reads writes x = elim x.cause [
   | inl y ↦ none_stops_reading g from to front more brings spelt none reads y.0
   | inr y ↦
       (let z = y.0 in
-      let same : z.middle.failures ≡ h.failures = z.puts.2.4 in
-      writes (subst (Rose h.failures) (sym (z.breaks.9 ∙ ap one_more same)) (rose h.failures)))
+      writes (subst (Rose _) (sym (z.breaks.9 ∙ ap one_more z.puts.2.4)) (rose _)))
 ]
 
 -- ---- the calls
@@ -73,19 +72,19 @@ none_stops {h = h} g text from to front more brings spelt none reads writes x = 
 pub row_succeeds : {R W U : Type 0} {start : RowPart} {cells : List Cell} {bytes : List ℕ} (remaining : R → Option (List ℕ)) (contents : W → Option (List ℕ)) (charset : Charset) (old new : Payload R) (before after : Sink W) (result : Result U Stop) (more : List ℕ)
     → RowPut remaining contents charset start old new before after result → Spelt (row charset) start bytes (WholeRow cells) → SucceedsOn remaining old new before after result (bytes ++ more)
 row_succeeds remaining contents charset old new before after (Ok x) more put spelt = λ brings reads writes. refl
-row_succeeds {start = start} {cells = cells} {bytes = bytes} remaining contents charset old new before after (Err stop) more put spelt = λ brings reads writes. absurd (none_stops (row charset) row_so_far start (WholeRow cells) bytes more brings spelt refl reads writes put)
+row_succeeds remaining contents charset old new before after (Err stop) more put spelt = λ brings reads writes. absurd (none_stops (row charset) row_so_far _ (WholeRow _) _ more brings spelt refl reads writes put)
 
 pub field_succeeds : {R W U : Type 0} {column : ℕ} {from : CellPart} {value : Cell} {bytes : List ℕ} (remaining : R → Option (List ℕ)) (contents : W → Option (List ℕ)) (last : Bool) (old new : Payload R) (before after : Sink W) (result : Result U Stop) (more : List ℕ)
     → FieldPut remaining contents from column last old new before after result → Spelt (cell column) from bytes (WholeCell value) → SucceedsOn remaining old new before after result (bytes ++ more)
 field_succeeds remaining contents last old new before after (Ok x) more put spelt = λ brings reads writes. refl
-field_succeeds {column = column} {from = from} {value = value} {bytes = bytes} remaining contents last old new before after (Err stop) more put spelt = λ brings reads writes. absurd (none_stops (cell column) (cell_so_far column last) from (WholeCell value) bytes more brings spelt refl reads writes put)
+field_succeeds remaining contents last old new before after (Err stop) more put spelt = λ brings reads writes. absurd (none_stops _ _ _ _ _ more brings spelt refl reads writes put)
 
 pub value_passes : {R U : Type 0} (remaining : R → Option (List ℕ)) (kind : Kind) (old new : Payload R) (result : Result U Stop) (value : Cell) (bytes more : List ℕ)
     → CellPassed remaining (cell_start kind (shape return_charset kind)) old new result → SpellsCell kind (shape return_charset kind) value bytes → ReadsOn remaining old new result (bytes ++ more)
 value_passes remaining kind old new (Ok x) value bytes more passed spelt = λ brings reads. refl
 value_passes remaining kind old new (Err stop) value bytes more passed spelt = λ brings reads.
-    let read = cell_is_read return_column kind (shape return_charset kind) value bytes (shape-HasBytes return_charset kind) spelt in
-    absurd (none_stops_reading return_cell (cell_start kind (shape return_charset kind)) (WholeCell value) bytes more brings read refl reads passed.stops)
+    let read = cell_is_read _ kind _ value bytes (shape-HasBytes return_charset kind) spelt in
+    absurd (none_stops_reading _ _ _ bytes more brings read refl reads passed.stops)
 
 pub long_is_read : (column : ℕ) (kind : Kind) (c : Conversion) (reach : Reach) (value : Cell) (bytes : List ℕ) → SpellsCell kind (LongShape c reach) value bytes → Spelt (cell column) (long_start c reach) bytes (WholeCell value)
 long_is_read column kind c Short value bytes h = cell_is_read column kind (LongShape c Short) value bytes tt h
@@ -104,7 +103,7 @@ module _ (token : RowToken) (charset : Charset) (columns : List Column) (some_co
   begun_after before = among before (token_start token charset columns)
 
   row_of_rows : (before : List (List Cell)) (cells : List Cell) (bytes : List ℕ) → SpellsRowAs token charset columns cells bytes → Spelt all_rows (begun_after before) bytes (among before (WholeRow cells))
-  row_of_rows before cells bytes h = Inside-Spelt (row charset) all_rows (among before) (row_among_rows token charset columns before) (token_start token charset columns) bytes (WholeRow cells) (grind (arith, common_steps, nbc_row_is_read, row_is_read, some_bitmap))
+  row_of_rows before cells bytes h = Inside-Spelt _ all_rows _ (row_among_rows token charset columns before) _ bytes _ (grind (arith, nbc_row_is_read, row_is_read))
 
   -- rows that are spelt are read as rows
   pub rows_are_read : (before : List (List Cell)) (first : List Cell) (later : List (List Cell)) (bytes : List ℕ) → SpellsRows token charset columns first later bytes
@@ -113,37 +112,32 @@ module _ (token : RowToken) (charset : Charset) (columns : List Column) (some_co
   rows_are_read before first (next ∷ later) bytes h =
       let byte = token_byte token in
       let from = begun_after before in
-      let whole = among before (WholeRow first) in
       let there = begun_after (before ++ first ∷ []) in
       let t = rows_are_read (before ++ first ∷ []) next later h.1 h.4 in
-      let one = Spelt-append all_rows from h.0 whole (byte ∷ []) there (row_of_rows before first h.0 h.3) (row_token token charset columns before first some_columns).spelt in
-      let two = Spelt-append all_rows from (h.0 ++ byte ∷ []) there h.1 (among t.0 (WholeRow t.1)) one t.2 in
-      (t.0, t.1, subst (λ v. Spelt all_rows from v (among t.0 (WholeRow t.1))) (append_assoc h.0 (byte ∷ []) h.1 ∙ sym h.2) two)
+      let one = Spelt-append all_rows from h.0 (among before _) (byte ∷ []) there (row_of_rows before first h.0 h.3) (row_token token charset columns before first some_columns).spelt in
+      (t.0, t.1, subst (λ v. Spelt all_rows from v (among t.0 (WholeRow t.1))) (append_assoc h.0 (byte ∷ []) h.1 ∙ sym h.2) (Spelt-append all_rows from _ there h.1 _ one t.2))
 
   -- where no row follows, the last one is the end
   pub longest_rows : (from : RowsPart) (earlier : List (List Cell)) (last : List Cell) (front more : List ℕ) → Spelt all_rows from front (among earlier (WholeRow last)) → BeginNoRow token more
       → Longest all_rows from (front ++ more) (length front) (among earlier (WholeRow last))
-  longest_rows from earlier last front [] spelt none = longest_cut all_rows from front [] (among earlier (WholeRow last)) spelt (omega arith)
-  longest_rows from earlier last front (byte ∷ more) spelt none = longest_refused all_rows from front (byte ∷ more) (among earlier (WholeRow last)) (RefusedToken byte) spelt
+  longest_rows from earlier last front [] spelt none = longest_cut all_rows from front [] _ spelt (omega arith)
+  longest_rows from earlier last front (byte ∷ more) spelt none = longest_refused all_rows from front (byte ∷ more) _ _ spelt
       (record { some = omega arith; whole = omega arith; first = ap (λ b. if b then None else Some (RefusedToken byte)) none })
 
   rows_stop_not : {a b : Seen} {place : ℕ} {h i : Held} {failed : Bool} {stop : Stop} (first : List Cell) (later : List (List Cell)) (front more : List ℕ) → Brings a (front ++ more) → SpellsRows token charset columns first later front → BeginNoRow token more
       → (Rose a.failures b.failures → ⊥) → (Rose h.failures i.failures → ⊥) → RowsStop token charset columns a b place h i failed stop → ⊥
-  rows_stop_not {a = a} {b = b} {place = place} {h = h} {stop = stop} first later front more brings spelt none reads writes x = elim x.stops.cause [
+  rows_stop_not {place = place} {stop = stop} first later front more brings spelt none reads writes x = elim x.stops.cause [
     | inl y ↦
         (let t = rows_are_read [] first later front spelt in
-        let there = longest_rows (rows_start token charset columns) t.0 t.1 front more t.2 none in
         let at = x.stops.at in
-        let some : 0 < (row charset).size at = stops_size (row charset) x.part x.middle b (place + length x.streams.bytes) at stop y.0 in
-        let among_rows = stops_inside (row charset) all_rows (among x.earlier) (row_among_rows token charset columns x.earlier) x.part x.middle b (place + length x.streams.bytes) at stop (grind (arith, common_steps)) y.0 in
-        let all = stops_after all_rows (rows_start token charset columns) (among x.earlier x.part) a x.middle b place (among x.earlier at) stop (record { bytes = x.streams.bytes; spelt = x.streams.spelt; takes = x.streams.takes }) among_rows in
-        let same : among x.earlier at ≡ among t.0 (WholeRow t.1) = stopped_there all_rows (rows_start token charset columns) (among t.0 (WholeRow t.1)) a b front more brings there reads place (among x.earlier at) stop all in
-        let last : at ≡ WholeRow t.1 = ap (λ (p : RowsPart). p.at) same in
-        omega (arith, some, ap (row charset).size last))
+        let some = stops_size _ x.part x.middle _ (place + length _) at stop y.0 in
+        let among_rows = stops_inside _ all_rows _ (row_among_rows token charset columns _) x.part x.middle _ (place + length _) at stop (grind arith) y.0 in
+        let all = stops_after all_rows _ _ _ x.middle _ place _ stop (record { bytes = x.streams.bytes; spelt = x.streams.spelt; takes = x.streams.takes }) among_rows in
+        let same = stopped_there all_rows _ _ _ _ front more brings (longest_rows _ t.0 t.1 front more t.2 none) reads place _ stop all in
+        omega (arith, ap (row charset).size (ap (λ p. p.at) same)))
     | inr y ↦
         (let z = y.0 in
-        let same : z.middle.failures ≡ h.failures = z.puts.2.4 ∙ x.streams.puts.2.4 in
-        writes (subst (Rose h.failures) (sym (z.breaks.9 ∙ ap one_more same)) (rose h.failures)))
+        writes (subst (Rose _) (sym (z.breaks.9 ∙ ap one_more (z.puts.2.4 ∙ x.streams.puts.2.4))) (rose _)))
   ]
 
   pub rows_succeed : {R W : Type 0} (remaining : R → Option (List ℕ)) (contents : W → Option (List ℕ)) (old new : Payload R) (before after : Sink W) (result : Result ℕ Stop) (first : List Cell) (later : List (List Cell)) (bytes more : List ℕ)

@@ -1,24 +1,24 @@
 -- The forms of the next columns of a row, as a table gives them.
-use Rattle.tds_rows.proofs.Words.{common_steps, ◌≡◌, ◌∙◌, inl, inr, ℕ, ◌+◌, ◌<◌, ◌≤◌, Bool, false, List, ◌∷◌, length, take, drop, get_or, refl, sym, ap, arith, ◌⊎◌, ◌==◌, map, drop-map, drop-take, drop_more, get_or-drop, get_or-take, length-take-le, take-map, length-drop, take-take, Column, Form, CELL_ROOM, FormsRun, Ahead, Table, IsLeft, FirstLeft, FormsWritten, AreLaidOut, RunsMarked, AreAhead, IsAhead, Knows, NextColumn, kinds, nat_tests}
+use Rattle.tds_rows.proofs.Words.{common_steps, ◌≡◌, ◌∙◌, inl, inr, ℕ, ◌+◌, ◌<◌, ◌≤◌, Bool, false, List, ◌∷◌, length, take, drop, get_or, refl, sym, ap, arith, ◌⊎◌, ◌==◌, map, drop-map, drop-take, drop_more, length-take-le, take-map, length-drop, take-take, Column, Form, CELL_ROOM, FormsRun, Ahead, Table, IsLeft, FirstLeft, FormsWritten, AreLaidOut, RunsMarked, AreAhead, IsAhead, Knows, NextColumn, kinds, nat_tests}
 use Rattle.tds_rows.proofs.FormSteps.{some_first}
 
 -- those that a table knows, from a place in a row on
 pub known_ahead : (table : Table) (at : Ahead) (end : ℕ) (n : ℕ) → AreLaidOut table.charset table.forms → table.known ≤ length table.forms → 0 < n → at.column + n ≤ end → at.column + n ≤ table.known → table.known ≤ table.count → AreAhead table at end (take n (drop at.column table.forms))
 known_ahead table at end n laid fits some within known few =
     let k = at.column in
-    let len : length (take n (drop k table.forms)) ≡ n = length-take-le n (drop k table.forms) (omega (arith, known, fits, length-drop k table.forms)) in
+    let len = length-take-le n _ (omega (arith, length-drop k table.forms)) in
     record {
-      laid = grind (arith, common_steps, get_or-drop, get_or-take, length-drop, length-take-le);
-      some = omega (arith, len, some);
-      within = omega (arith, len, within);
-      known = inl (omega (arith, len, known));
+      laid = grind (arith, common_steps);
+      some = omega arith;
+      within = omega arith;
+      known = inl (omega arith);
       next = λ columns knows ahead.
-          let first : map (λ f. f.kind) (take (k + n) table.forms) ≡ kinds (take (k + n) columns) =
-          ap (map (λ f. f.kind)) (sym (take-take (k + n) table.known table.forms known)) ∙ sym (take-map (λ f. f.kind) (k + n) (take table.known table.forms)) ∙ ap (take (k + n)) knows.first
-          ∙ take-map (λ c. c.kind) (k + n) (take table.known columns) ∙ ap kinds (take-take (k + n) table.known columns known) in
-          let forms_are : map (λ f. f.kind) (take n (drop k table.forms)) ≡ kinds (take n (drop k columns)) =
-          ap (map (λ f. f.kind)) (sym (drop-take k n table.forms)) ∙ sym (drop-map (λ f. f.kind) k (take (k + n) table.forms)) ∙ ap (drop k) first ∙ drop-map (λ c. c.kind) k (take (k + n) columns) ∙ ap kinds (drop-take k n columns) in
-          forms_are ∙ ap (λ (m : ℕ). kinds (take m (drop k columns))) (sym len);
+          let first =
+          ap (map (λ f. f.kind)) (sym (take-take _ _ _ known)) ∙ sym (take-map (λ f. f.kind) _ _) ∙ ap (take _) knows.first
+          ∙ take-map (λ c. c.kind) _ _ ∙ ap kinds (take-take _ _ columns known) in
+          let forms_are =
+          ap (map (λ f. f.kind)) (sym (drop-take k n _)) ∙ sym (drop-map (λ f. f.kind) k _) ∙ ap (drop k) first ∙ drop-map (λ c. c.kind) k _ ∙ ap kinds (drop-take k n columns) in
+          forms_are ∙ ap (λ m. kinds (take m (drop k columns))) (sym len);
     }
 
 -- no cell was written where no byte was used
@@ -46,5 +46,4 @@ module _ (table : Table) (from : Ahead) (end : ℕ) (forms : List Form) (within 
   first_left bytes room x columns column left knows is step =
       let first = some_first forms ahead.some in
       let n = first_next first.0 first.1 first.2 columns knows is in
-      let kind_is : first.0.kind ≡ column.kind = n.kind ∙ ap (λ (r : List Column). (get_or r 0 column).kind) (sym n.next ∙ step) in
-      elim (x first.0 first.1 first.2) [ inl few ↦ inl few | inr y ↦ inr (refl, rw kind_is at y) ]
+      elim (x first.0 first.1 first.2) [ inl few ↦ inl few | inr y ↦ inr (refl, rw (n.kind ∙ ap (λ r. (get_or r 0 column).kind) (sym n.next ∙ step)) at y) ]

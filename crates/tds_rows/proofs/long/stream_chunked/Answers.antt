@@ -1,5 +1,5 @@
 use Rattle.tds_rows.proofs.Words.{◌∙◌, [], append-nil, refl, passed, MatchResult-weaker, total_fault}
-use Rattle.tds_rows.proofs.Blames.{blames_after, length_blames, piece_blames, read_stops, same_failures, total_none as total_blames, write_stops}
+use Rattle.tds_rows.proofs.Blames.{length_blames, read_stops, total_none as total_blames}
 use Rattle.tds_rows.proofs.{LongChunks.total_text, LongValues.field_puts, LongValues.next_breaks, LongValues.next_path, LongValues.null_puts, LongValues.reading_stops, Numbers.total_none, Numbers.total_start, Numbers.total_stops, Paths.path_stops}
 use Rattle.tds_rows.proofs.long.stream_chunked.Goals as goal
 
@@ -29,16 +29,3 @@ pub returns-in_err-total-clause-blames : goal.returns-in_err-total-clause-blames
 returns-in_err-total-clause-blames g c =
     passed _ _ _ _ c.from_residual.ensures.1 (read_stops _ _ c.in_err-total.field-0.0
     (length_blames g.R.Read.remaining _ (total_fault c.args.column c.UNIT.result) c.args.payload.now _ _ c.requires.joining.payload.going (total_blames c.args.column c.UNIT.result) c.in_err-total.ensures.gives))
-
-pub returns-in_default-clause-blames : goal.returns-in_default-clause-blames
-returns-in_default-clause-blames g c =
-    blames_after _ _ _ c.put_null.result (same_failures _ _ _ _ c.in_ok-total.ensures.gives.1.takes.4.0 refl)
-    (piece_blames g.W.Write.contents _ c.args.sink.now c.put_null.new.sink _ c.put_null.result c.requires.joining.sink.writing c.put_null.ensures)
-
-pub returns-in_err-put_opening-clause-blames : goal.returns-in_err-put_opening-clause-blames
-returns-in_err-put_opening-clause-blames g c =
-    passed _ _ _ _ c.from_residual-in_err-put_opening.ensures.1 (write_stops _ _ _ _ _ _ refl refl (c.in_err-put_opening.ensures.gives c.requires.joining.sink.writing))
-
-pub returns-clause-blames : goal.returns-clause-blames
-returns-clause-blames g c =
-    blames_after _ _ _ c.stream_chunks.result (same_failures _ _ _ _ c.in_ok-total.ensures.gives.1.takes.4.0 c.in_ok-put_opening.ensures.gives.4) c.stream_chunks.ensures.blames

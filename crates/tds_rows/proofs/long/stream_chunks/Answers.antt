@@ -1,5 +1,5 @@
 use Rattle.tds_rows.proofs.Words.{◌≡◌, ◌∙◌, arith, refl, rules, sym, MatchResult-weaker, passed, chunk_length_fault}
-use Rattle.tds_rows.proofs.{LongChunks.chunk_path, LongChunks.chunks_end_stops, LongChunks.chunks_whole, LongChunks.streamed_more, LongChunks.streamed_none, LongSteps.chunk_holds, LongSteps.filling_stops, Numbers.chunk_stops, Paths.path_stops, LongValues.reading_stops, LongValues.rest_none, Blames.blames_after, Blames.chunk_none, Blames.length_blames, Blames.read_stops, Blames.same_failures, Blames.stops_after}
+use Rattle.tds_rows.proofs.{LongChunks.chunk_path, LongChunks.chunks_end_stops, LongChunks.chunks_whole, LongChunks.streamed_more, LongChunks.streamed_none, LongSteps.chunk_holds, LongSteps.filling_stops, Numbers.chunk_stops, Paths.path_stops, LongValues.reading_stops, LongValues.rest_none, Blames.chunk_none, Blames.length_blames, Blames.read_stops, Blames.same_failures, Blames.stops_after}
 use Rattle.tds_rows.proofs.long.stream_chunks.Goals as goal
 
 pub loop-n-init : goal.loop-n-init
@@ -70,13 +70,3 @@ returns-in_err-n-clause-blames g c =
     let stop = c.in_err-n.field-0.0 in
     passed _ _ _ _ c.from_residual.ensures.1 (stops_after _ _ _ stop l.invariant.calm (read_stops _ _ stop
     (length_blames g.R.Read.remaining _ (λ n. chunk_length_fault c.args.column c.UNIT.result c.args.total l.sum n) l.payload _ _ l.invariant.going.going (chunk_none c.args.column c.UNIT.result c.args.total l.sum) c.in_err-n.ensures.gives)))
-
-pub returns-then-n-eq0-clause-blames : goal.returns-then-n-eq0-clause-blames
-returns-then-n-eq0-clause-blames g c =
-    let p = c.read_chunk_length.new.payload in
-    blames_after _ _ _ c.put_end.result (same_failures _ _ _ _ c.in_ok-n.ensures.gives.1.takes.4.0 refl ∙ c.loop-n.invariant.calm) (c.put_end.ensures.blames p.from.now.failures)
-
-pub returns-in_err-push_data-clause-blames : goal.returns-in_err-push_data-clause-blames
-returns-in_err-push_data-clause-blames g c =
-    passed _ _ _ _ c.from_residual-in_err-push_data.ensures.1 (stops_after _ _ _
-    c.in_err-push_data.field-0.0 (same_failures _ _ _ _ c.in_ok-n.ensures.gives.1.takes.4.0 refl ∙ c.loop-n.invariant.calm) c.in_err-push_data.ensures.blames)

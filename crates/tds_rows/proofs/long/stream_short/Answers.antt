@@ -1,5 +1,5 @@
 use Rattle.tds_rows.proofs.Words.{◌∙◌, ◌<◌, ◌++◌, ℕ, [], List, arith, refl, rules, sym, MatchResult-weaker, passed, short_fault}
-use Rattle.tds_rows.proofs.Blames.{blames_after, length_blames, piece_blames, read_stops, same_failures, short_none as short_blames, stops_after, write_stops}
+use Rattle.tds_rows.proofs.Blames.{length_blames, read_stops, short_none as short_blames}
 use Rattle.tds_rows.proofs.{LongValues.empty_puts, LongValues.empty_stops, LongValues.field_puts, LongValues.next_breaks, LongValues.next_path, LongValues.none_begins, LongValues.null_puts, LongValues.reading_stops, LongValues.rest_none, LongValues.short_end_stops, LongValues.short_open, LongValues.short_text, LongValues.short_whole, LongSteps.filling_stops, LongSteps.short_holds, Numbers.short_none, Numbers.short_start, Numbers.short_stops, Paths.path_stops}
 use Rattle.tds_rows.proofs.long.stream_short.Goals as goal
 
@@ -50,28 +50,3 @@ pub returns-in_err-n-clause-blames : goal.returns-in_err-n-clause-blames
 returns-in_err-n-clause-blames g c =
     passed _ _ _ _ c.from_residual.ensures.1 (read_stops _ _ c.in_err-n.field-0.0
     (length_blames g.R.Read.remaining _ (short_fault c.args.column c.UNIT.result) c.args.payload.now _ _ c.requires.joining.payload.going (short_blames c.args.column c.UNIT.result) c.in_err-n.ensures.gives))
-
-pub returns-in_default-clause-blames : goal.returns-in_default-clause-blames
-returns-in_default-clause-blames g c =
-    blames_after _ _ _ c.put_null.result (same_failures _ _ _ _ c.in_ok-n.ensures.gives.1.takes.4.0 refl)
-    (piece_blames g.W.Write.contents _ c.args.sink.now c.put_null.new.sink _ c.put_null.result c.requires.joining.sink.writing c.put_null.ensures)
-
-pub returns-in_err-put_opening-clause-blames : goal.returns-in_err-put_opening-clause-blames
-returns-in_err-put_opening-clause-blames g c =
-    passed _ _ _ _ c.from_residual-in_err-put_opening.ensures.1 (write_stops _ _ _ _ _ _ refl refl (c.in_err-put_opening.ensures.gives c.requires.joining.sink.writing))
-
-pub returns-then-n-eq0-clause-blames : goal.returns-then-n-eq0-clause-blames
-returns-then-n-eq0-clause-blames g c =
-    blames_after _ _ _ c.put_end.result (same_failures _ _ _ _ c.in_ok-n.ensures.gives.1.takes.4.0 c.in_ok-put_opening.ensures.gives.4)
-    (c.put_end.ensures.blames c.read_short_length.new.payload.from.now.failures)
-
-pub returns-in_err-push_data-clause-blames : goal.returns-in_err-push_data-clause-blames
-returns-in_err-push_data-clause-blames g c =
-    passed _ _ _ _ c.from_residual-in_err-push_data.ensures.1 (stops_after _ _ _
-    c.in_err-push_data.field-0.0 (same_failures _ _ _ _ c.in_ok-n.ensures.gives.1.takes.4.0 c.in_ok-put_opening.ensures.gives.4) c.in_err-push_data.ensures.blames)
-
-pub returns-clause-blames : goal.returns-clause-blames
-returns-clause-blames g c =
-    let p = c.push_data.new.payload in
-    blames_after _ _ _ c.put_end-2.result
-    (c.in_ok-push_data.ensures.blames ∙ same_failures _ _ _ _ c.in_ok-n.ensures.gives.1.takes.4.0 c.in_ok-put_opening.ensures.gives.4) (c.put_end-2.ensures.blames p.from.now.failures)

@@ -1,15 +1,7 @@
-use Rattle.tds_rows.proofs.{Successes.field_succeeds, Successes.long_is_read, Blames.reads_named, Blames.writes_named}
+use Rattle.tds_rows.proofs.{Successes.field_succeeds, Successes.long_is_read}
 use Rattle.tds_rows.proofs.long.stream_value.Goals as goal
 
 pub returns-clause-succeeds : goal.returns-clause-succeeds
 returns-clause-succeeds g c = λ going writing conversion suits kind value bytes more spelt.
     field_succeeds g.R.Read.remaining g.W.Write.contents _ c.args.payload.now c.stream_long.new.payload c.args.sink.now c.stream_long.new.sink _ _
     (c.stream_long.ensures.gives conversion suits) (long_is_read _ kind _ _ _ _ spelt)
-
-pub returns-clause-failed_reads : goal.returns-clause-failed_reads
-returns-clause-failed_reads g c = λ going writing.
-    reads_named _ _ c.stream_long.result c.stream_long.ensures.blames
-
-pub returns-clause-failed_writes : goal.returns-clause-failed_writes
-returns-clause-failed_writes g c = λ going writing.
-    writes_named _ _ c.stream_long.result c.stream_long.ensures.blames

@@ -1,10 +1,6 @@
-use Rattle.tds_rows.proofs.Words.{sym, rules, passed, return_charset}
+use Rattle.tds_rows.proofs.Words.{sym, rules, return_charset}
 use Rattle.tds_rows.proofs.PassedCells.{scalar_passes, scalar_stops}
 use Rattle.tds_rows.proofs.passing.pass_scalar.Goals as goal
-
-pub returns-in_err-gather_scalar-clause-gives : goal.returns-in_err-gather_scalar-clause-gives
-returns-in_err-gather_scalar-clause-gives g c =
-    passed _ _ _ _ c.from_residual.ensures.1 (scalar_stops return_charset _ _ _ _ _ (c.in_err-gather_scalar.ensures.gives return_charset))
 
 pub is_refused-requires-clause-whole : goal.is_refused-requires-clause-whole
 is_refused-requires-clause-whole g c = rw c.bytes.ensures.value (c.in_ok-gather_scalar.ensures.gives return_charset).whole

@@ -36,9 +36,3 @@ returns-in-Err-clause-part g c = λ _.
 
 pub returns-clause-between : goal.returns-clause-between
 returns-clause-between g c = between_of g.R.Read.remaining c.loop-passed.self c.loop-passed.invariant.going
-
-pub returns-clause-place : goal.returns-clause-place
-returns-clause-place g c = search rules
-
-pub returns-clause-all : goal.returns-clause-all
-returns-clause-all g c = search rules

@@ -1,5 +1,5 @@
 use Rattle.tds_rows.proofs.Words.{◌∙◌, arith, refl, rules, passed, between_of}
-use Rattle.tds_rows.proofs.{JoinedPieces.filled_ends, JoinedPieces.filled_more, JoinedPieces.filled_none, JoinedPieces.filled_stops, Blames.stops_after}
+use Rattle.tds_rows.proofs.{JoinedPieces.filled_more, JoinedPieces.filled_none, JoinedPieces.filled_stops}
 use Rattle.tds_rows.proofs.long.data.push_data.Goals as goal
 
 pub loop-left-init : goal.loop-left-init
@@ -23,12 +23,6 @@ returns-in_err-left-clause-gives g c = λ conversion content suits is begun.
     let x = c.in_err-left.ensures.gives conversion _ suits p.kept_is p.fills.begun in
     passed _ _ _ _ c.from_residual.ensures.1 (filled_stops begun p l.invariant.some x)
 
-pub returns-then-left-eq0-clause-gives : goal.returns-then-left-eq0-clause-gives
-returns-then-left-eq0-clause-gives g c = λ conversion content suits is begun.
-    let p = c.loop-left.invariant.filled conversion content suits is begun in
-    let x = c.in_ok-left.ensures.gives conversion _ suits p.kept_is p.fills.begun in
-    filled_ends begun p _ (omega (arith, c.in_ok-left.ensures.further.within, c.if-left-eq0.true)) x
-
 pub loop-left-preserved : goal.loop-left-preserved
 loop-left-preserved g c =
     let l = c.loop-left in
@@ -47,9 +41,3 @@ loop-left-preserved g c =
           let x = done.gives conversion _ suits p.kept_is p.fills.begun in
           filled_more begun p _ done.further.within (done.leaves.sink.ready.1 done.leaves.sink.writing) done.leaves.sink.ready.2 x;
     }
-
-pub returns-in_err-left-clause-blames : goal.returns-in_err-left-clause-blames
-returns-in_err-left-clause-blames g c = passed _ _ _ _ c.from_residual.ensures.1 (stops_after _ _ _ c.in_err-left.field-0.0 c.loop-left.invariant.calm c.in_err-left.ensures.blames)
-
-pub returns-then-left-eq0-clause-blames : goal.returns-then-left-eq0-clause-blames
-returns-then-left-eq0-clause-blames g c = c.in_ok-left.ensures.blames ∙ c.loop-left.invariant.calm

@@ -1,5 +1,5 @@
-use Rattle.tds_rows.proofs.Words.{inl, refl, arith, seen, passed, at_err, at_ok, stops_here, held, ends_blame}
-use Rattle.tds_rows.proofs.{JoinedPieces.good_within, JoinedPieces.piece_taken, JoinedPieces.push_stops, Blames.push_blames, Blames.read_stops, Blames.same_failures}
+use Rattle.tds_rows.proofs.Words.{inl, refl, arith, seen, passed, at_err, at_ok, stops_here, ends_blame}
+use Rattle.tds_rows.proofs.{JoinedPieces.piece_taken, JoinedPieces.push_stops, Blames.read_stops}
 use Rattle.tds_rows.proofs.long.data.push_piece.Goals as goal
 
 pub returns-in_err-piece-clause-gives : goal.returns-in_err-piece-clause-gives
@@ -13,20 +13,6 @@ returns-in-Ok-clause-gives g c = λ conversion content suits is begun.
     let k = at_ok _ _ _ _ c.in_ok-piece.was c.piece.follows.holds-at-none.2 in
     piece_taken suits _ is begun c.in_ok-piece.ensures.len.0 k.0 k.1 k.2 c.in-Ok.ensures.gives
 
-pub returns-in-Ok-clause-further : goal.returns-in-Ok-clause-further
-returns-in-Ok-clause-further g c = record {
-  some = c.in_ok-piece.ensures.len.0;
-  within = omega (arith, c.in_ok-piece.ensures.len.1, c.min.ensures);
-  place = (at_ok _ _ _ _ c.in_ok-piece.was c.piece.follows.holds-at-none.2).2;
-}
-
-pub join_stop-requires : goal.join_stop-requires
-join_stop-requires g c =
-    let j = g.J.Joiner in
-    let sound = c.requires.joining.payload.sound in
-    let few = good_within j.begins j.rest j.text (j.withheld c.args.joiner.now) (j.withheld c.push.new.self) (held g.W.Write.contents c.args.sink.now) (held g.W.Write.contents c.push.new.sink) c.args.sink.now.failed c.in_ok-piece.piece.now c.in-Err.fault c.in-Err.ensures.gives in
-    omega (arith, few, c.in_ok-piece.ensures.len.1, c.min.ensures, c.place-place.ensures, sound.place, sound.wire, sound.limit)
-
 pub returns-in-Err-clause-gives : goal.returns-in-Err-clause-gives
 returns-in-Err-clause-gives g c = λ conversion content suits is begun.
     let k = at_ok _ _ _ _ c.in_ok-piece.was c.piece.follows.holds-at-none.2 in
@@ -38,12 +24,3 @@ returns-in_err-piece-clause-blames g c =
     let k = at_err _ _ _ _ c.in_err-piece.was c.piece.follows.holds-at-none.2 in
     passed _ _ _ _ c.from_residual.ensures.1 (read_stops _ _ c.in_err-piece.field-0.0
     (ends_blame g.R.Read.remaining c.args.payload.now (seen g.R.Read.remaining c.piece.follows.lender-at-none) _ _ c.requires.joining.payload.going k.0))
-
-pub returns-in-Ok-clause-blames : goal.returns-in-Ok-clause-blames
-returns-in-Ok-clause-blames g c = same_failures _ _ _ _ (at_ok _ _ _ _ c.in_ok-piece.was c.piece.follows.holds-at-none.2).0.4.0 c.in-Ok.ensures.gives.put.4
-
-pub returns-in-Err-clause-blames : goal.returns-in-Err-clause-blames
-returns-in-Err-clause-blames g c =
-    let j = g.J.Joiner in
-    rw (c.join_stop.ensures) (push_blames j.begins j.rest j.text (j.withheld c.args.joiner.now) (j.withheld c.push.new.self) _ _ _ c.in_ok-piece.piece.now _ _
-    _ _ c.in-Err.fault c.requires.joining.sink.writing c.in-Err.ensures.gives)

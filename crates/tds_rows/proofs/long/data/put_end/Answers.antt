@@ -1,5 +1,4 @@
-use Rattle.tds_rows.proofs.Words.{refl}
-use Rattle.tds_rows.proofs.{JoinedPieces.end_puts, JoinedPieces.end_stops, JoinedPieces.end_whole, Blames.blames_after, Blames.end_blames, Blames.piece_blames, Blames.same_failures}
+use Rattle.tds_rows.proofs.{JoinedPieces.end_puts, JoinedPieces.end_stops, JoinedPieces.end_whole}
 use Rattle.tds_rows.proofs.long.data.put_end.Goals as goal
 
 pub returns-in-Ok-clause-gives : goal.returns-in-Ok-clause-gives
@@ -10,13 +9,3 @@ returns-in-Ok-clause-gives g c = λ conversion content suits is begun.
 pub returns-in-Err-clause-gives : goal.returns-in-Err-clause-gives
 returns-in-Err-clause-gives g c = λ conversion content suits is begun.
     rw c.join_stop.ensures (end_stops suits _ is begun _ _ _ _ _ _ _ _ _ c.in-Err.fault c.requires.writing c.in-Err.ensures.failed c.in-Err.ensures.gives)
-
-pub returns-in-Ok-clause-blames : goal.returns-in-Ok-clause-blames
-returns-in-Ok-clause-blames g c = λ reads.
-    blames_after _ _ _ c.put_closing.result (same_failures _ _ _ _ refl c.in-Ok.ensures.gives.put.4)
-    (piece_blames g.W.Write.contents _ c.end.new.sink c.put_closing.new.sink _ c.put_closing.result c.in-Ok.ensures.failed c.put_closing.ensures)
-
-pub returns-in-Err-clause-blames : goal.returns-in-Err-clause-blames
-returns-in-Err-clause-blames g c = λ reads.
-    let j = g.J.Joiner in
-    rw (c.join_stop.ensures) (end_blames j.UNIT j.fit j.text (j.withheld c.args.joiner.now) (j.withheld c.end.new.self) _ _ _ _ _ _ c.in-Err.fault c.requires.writing c.in-Err.ensures.gives)

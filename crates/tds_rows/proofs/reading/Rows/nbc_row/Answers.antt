@@ -78,12 +78,3 @@ returns-in_default-clause-gives g c = λ columns known.
     let near = run_near g.R.Read.remaining g.W.Write.contents columns _ _ _ l.self run.new.self _ _ l.invariant.stays.in_row kept knows (rw c.bytes.ensures.value at run.ensures.gives) (l.invariant.reads columns knows) in
     let none = c.in_default.ensures.gives columns (rw (sym kept.same.3) at knows) near.0 in
     rw (kept.same.3 ∙ l.invariant.stays.same.3) at (row_ends (all_put refl kept.in_row.sink.ready.2 (rw none at near.1)))
-
-pub loop-form-smaller : goal.loop-form-smaller
-loop-form-smaller g c =
-    let l = c.loop-form in
-    let same = c.put_nulls-at.ensures.stays.same.3 in
-    let moved = c.in_ok-put_next.ensures.leaves.same.3 in
-    let known = l.invariant.knows in
-    let put = c.put_nulls-at.ensures.gives known.0 known.1 (l.invariant.reads known.0 known.1).0 in
-    omega (arith, put.runs.further, c.in-Some.ensures.further, c.in-Some.ensures.within, ap (λ t. t.now.count) same, ap (λ t. t.now.count) moved)

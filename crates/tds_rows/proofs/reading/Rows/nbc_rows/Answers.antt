@@ -48,9 +48,6 @@ loop-ended-preserved g c =
           rw (sym taken.1, sym c.take_token.ensures.sink) at begun);
     }
 
-pub nbc_row-requires-clause-awaits : goal.nbc_row-requires-clause-awaits
-nbc_row-requires-clause-awaits g c = search rules
-
 pub loop-ended-smaller : goal.loop-ended-smaller
 loop-ended-smaller g c =
     let l = c.loop-ended in

@@ -1,4 +1,4 @@
-use Rattle.tds_rows.proofs.Words.{◌≡◌, ◌∙◌, ◌+◌, ◌<◌, ◌≤◌, refl, ap, length, sym, take, arith, rules, length-take, buffered, seen, Takes-more, long_start, cell_start, shape, shape_of_layout, conversion_of}
+use Rattle.tds_rows.proofs.Words.{◌≡◌, ◌∙◌, ◌+◌, ◌<◌, ◌≤◌, ap, length, sym, take, arith, rules, length-take, buffered, seen, Takes-more, long_start, cell_start, shape, shape_of_layout, conversion_of}
 use Rattle.tds_rows.proofs.{RunSteps.put_whole, TableSteps.last_one}
 use Rattle.tds_rows.proofs.reading.Rows.put_cell.Goals as goal
 
@@ -15,9 +15,6 @@ returns-clause-gives g c = λ last next.
     let at : c.consume.new.self.place ≡ old.payload.now.place + length bytes = omega (arith, lies, ap (λ p. p.place) c.consume.ensures.rest, length-take n (buffered old.payload.now)) in
     let few : length old.sink.now.output.now.bytes + length text < 4096 = omega (arith, c.if-cell-room.true, c.room.ensures, length-take c.in-Some.cell.made c.write_alone.new.to) in
     put_whole c.put.result _ _ _ _ _ g.W.Write.contents old.sink.now c.put.new.self c.requires.in_row.sink (rw c.buffered-bytes.ensures at alone.writes.whole) takes at few c.put.ensures
-
-pub returns-clause-leaves : goal.returns-clause-leaves
-returns-clause-leaves g c = record { same = search rules; payload = search rules; sink = search rules; small = record { room = refl; bound = omega arith } }
 
 -- a long value is that of its kind
 pub returns-in-Long-clause-gives : goal.returns-in-Long-clause-gives

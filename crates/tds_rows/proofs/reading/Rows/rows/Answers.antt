@@ -23,8 +23,7 @@ returns-then-not-take_token-clause-gives g c = λ columns known.
     rw (sym (c.if-not-take_token.ensures.gives PlainRow refl).0, sym c.take_token.ensures.sink) at there
 
 pub returns-then-not-take_token-clause-few : goal.returns-then-not-take_token-clause-few
-returns-then-not-take_token-clause-few g c =
-    omega (arith, c.loop-form.invariant.few, c.put_run-run.ensures.few, ap (λ p. p.place) (c.if-not-take_token.ensures.gives PlainRow refl).0)
+returns-then-not-take_token-clause-few g c = omega (arith, c.loop-form.invariant.few, c.put_run-run.ensures.few, ap (λ p. p.place) (c.if-not-take_token.ensures.gives PlainRow refl).0)
 
 pub returns-then-not-take_token-clause-all : goal.returns-then-not-take_token-clause-all
 returns-then-not-take_token-clause-all g c = (c.if-not-take_token.ensures.gives PlainRow refl).1

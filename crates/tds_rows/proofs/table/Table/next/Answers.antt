@@ -1,8 +1,5 @@
-use Rattle.tds_rows.proofs.TableSteps.{none_next, takes}
+use Rattle.tds_rows.proofs.TableSteps.{takes}
 use Rattle.tds_rows.proofs.table.Table.next.Goals as goal
-
-pub returns-then-at-self-clause-gives : goal.returns-then-at-self-clause-gives
-returns-then-at-self-clause-gives c = λ columns knows ahead. none_next _ _ _ knows.counted c.if-at-self.true
 
 pub returns-clause-gives : goal.returns-clause-gives
 returns-clause-gives c = λ columns knows ahead.

@@ -1,5 +1,0 @@
-use Rattle.std.proofs.Common.{rules}
-use Rattle.tds_packet.proofs.counted.Counted.count.Goals as goal
-
-pub returns : goal.returns
-returns g c = search rules
