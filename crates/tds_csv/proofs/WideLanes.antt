@@ -1,9 +1,7 @@
 -- Units that are looked at eight at a time, lane by lane.
-use Rattle.tds_csv.proofs.Words.{take, get_or, ◌++◌, ◌≡◌, ◌∙◌, ◌+◌, ◌*◌, ◌/◌, ◌%◌, ◌^◌, ◌<◌, ℕ, Bool, not, cond, zero, suc, List, [], ◌∷◌, map, length, refl, ap, ap₂, arith, Fits, w8, w16, Each1, map-map, mask_l, top, first_set, prefix_len, sel_l}
+use Rattle.tds_csv.{proofs.{Words.{take, get_or, ◌++◌, ◌≡◌, ◌∙◌, ◌+◌, ◌*◌, ◌/◌, ◌%◌, ◌^◌, ◌<◌, ℕ, Bool, not, cond, zero, suc, List, [], ◌∷◌, map, length, refl, ap, ap₂, arith, Fits, w8, w16, Each1, map-map, mask_l, top, first_set, prefix_len, sel_l}, Masks.{run_before, same_prefix}}, specs.{Utf16.units, Wide.triples}}
 use Rattle.std.specs.Simd.Lanes.{number_l}
 use lib.Lanes.{digits_l}
-use Rattle.tds_csv.proofs.Masks.{run_before, same_prefix}
-use Rattle.tds_csv.specs.{Utf16.units, Wide.triples}
 
 -- two functions that are the same on units
 pub same_map : {f g : ℕ → ℕ} → ((u : ℕ) → u < 65536 → f u ≡ g u) → (us : List ℕ) → Each1 (Fits w16) us → map f us ≡ map g us

@@ -1,5 +1,4 @@
-use Rattle.tds_csv.proofs.{Words.{common_steps, ◌≡◌, ◌+◌, ◌-◌, ◌*◌, ◌≤◌, arith, rules, append_assoc, refl, prefix_len-le-length}, WideText.{both_halves, low_half}}
-use Rattle.tds_csv.specs.Wide.{is_long}
+use Rattle.tds_csv.{proofs.{Words.{common_steps, ◌≡◌, ◌+◌, ◌-◌, ◌*◌, ◌≤◌, arith, rules, append_assoc, refl, prefix_len-le-length}, WideText.{both_halves, low_half}}, specs.Wide.is_long}
 use Rattle.tds_csv.proofs.convert.beyond_ascii.put_long.Goals as goal
 
 pub returns-then-n-le4 : goal.returns-then-n-le4

@@ -1,6 +1,4 @@
-use Rattle.tds_csv.proofs.Words.{common_steps, ◌∙◌, get_or, arith, rules, ap₂, take, ◌∷◌, [], ◌%◌, ◌/◌, prefix_len_passes, prefix_len-le-length, common_steps, ◌<◌}
-use Rattle.tds_csv.specs.Wide.{is_short, pair, size}
-use Rattle.tds_csv.proofs.WideText.{lane_at, one_more, short_bytes, sized}
+use Rattle.tds_csv.{proofs.{Words.{common_steps, ◌∙◌, get_or, arith, rules, ap₂, take, ◌∷◌, [], ◌%◌, ◌/◌, prefix_len_passes, prefix_len-le-length, ◌<◌}, WideText.{lane_at, one_more, short_bytes, sized}}, specs.Wide.{is_short, pair, size}}
 use Rattle.tds_csv.proofs.convert.beyond_ascii.put_short.Goals as goal
 
 pub loop-i-init : goal.loop-i-init

@@ -1,7 +1,5 @@
-use Rattle.tds_csv.proofs.Words.{common_steps, ◌≡◌, ◌≢◌, ◌∙◌, ◌%◌, ◌++◌, ℕ, List, [], length, drop, sym, ap, arith, length-drop, append-nil, encode_utf8, emit, doubled}
+use Rattle.tds_csv.{proofs.{Words.{common_steps, ◌≡◌, ◌≢◌, ◌∙◌, ◌%◌, ◌++◌, ℕ, List, [], length, drop, sym, ap, arith, length-drop, append-nil, encode_utf8, emit, doubled}, Characters.doubled_length, Utf16Laws.joins_utf16, Utf16Steps.{characters_nil, nil_of_length, spells_held}}, specs.Utf16Next.LeavesRest}
 use Rattle.tds_csv.specs.Utf16 as utf16
-use Rattle.tds_csv.specs.Utf16Next.{LeavesRest}
-use Rattle.tds_csv.proofs.{Characters.doubled_length, Utf16Laws.joins_utf16, Utf16Steps.characters_nil, Utf16Steps.nil_of_length, Utf16Steps.spells_held}
 use Rattle.tds_csv.proofs.convert.utf16.convert_whole.Goals as goal
 
 -- what is left of whole data has two bytes

@@ -1,4 +1,4 @@
-use Rattle.tds_csv.proofs.{Words.{◌≡◌, ◌+◌, arith, rules}, Encoding.three_more, PlainText.upper_put, PlainText.upper_text}
+use Rattle.tds_csv.proofs.{Words.{◌≡◌, ◌+◌, arith, rules}, Encoding.three_more, PlainText.{upper_put, upper_text}}
 use Rattle.tds_csv.proofs.convert.windows_1252.put_upper.Goals as goal
 
 pub returns-clause-most : goal.returns-clause-most

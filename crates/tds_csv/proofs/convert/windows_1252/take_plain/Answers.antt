@@ -1,4 +1,4 @@
-use Rattle.tds_csv.proofs.{Words.{common_steps, ◌+◌, ◌≤◌, length, arith, rules, is_plain}, Masks.alike, Masks.run_most, PlainText.plain_lanes}
+use Rattle.tds_csv.proofs.{Words.{common_steps, ◌+◌, ◌≤◌, length, arith, rules, is_plain}, Masks.{alike, run_most}, PlainText.plain_lanes}
 use Rattle.tds_csv.proofs.convert.windows_1252.take_plain.Goals as goal
 
 pub returns-clause-taken : goal.returns-clause-taken

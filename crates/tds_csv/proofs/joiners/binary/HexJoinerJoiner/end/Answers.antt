@@ -1,4 +1,4 @@
-use Rattle.tds_csv.proofs.{Words.{refl, sym}, SingleLaws.hex-nil, Puttings.PutsPiece-none, Pushings.ends_whole, Pushings.passes}
+use Rattle.tds_csv.proofs.{Words.{refl, sym}, SingleLaws.hex-nil, Puttings.PutsPiece-none, Pushings.{ends_whole, passes}}
 use Rattle.tds_csv.proofs.joiners.binary.HexJoinerJoiner.end.Goals as goal
 
 pub returns : goal.returns

@@ -1,4 +1,4 @@
-use Rattle.tds_csv.proofs.{Words.refl, Puttings.PutsPiece-none, Pushings.ends_whole, Pushings.passes}
+use Rattle.tds_csv.proofs.{Words.refl, Puttings.PutsPiece-none, Pushings.{ends_whole, passes}}
 use Rattle.tds_csv.proofs.joiners.cp1252.Cp1252JoinerJoiner.end.Goals as goal
 
 pub returns : goal.returns

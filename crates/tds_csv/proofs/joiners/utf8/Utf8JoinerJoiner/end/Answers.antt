@@ -1,4 +1,4 @@
-use Rattle.tds_csv.proofs.{Words.{[], ap, rules, IsUtf8-nil, doubled}, Pushings.ends_whole, Pushings.passes}
+use Rattle.tds_csv.proofs.{Words.{[], ap, rules, IsUtf8-nil, doubled}, Pushings.{ends_whole, passes}}
 use Rattle.tds_csv.proofs.joiners.utf8.Utf8JoinerJoiner.end.Goals as goal
 
 pub returns : goal.returns
