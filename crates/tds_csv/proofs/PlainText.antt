@@ -1,6 +1,5 @@
 -- Bytes of Windows-1252 that stand for themselves.
-use Rattle.tds_csv.{proofs.{Words.{◌++◌, length, ◌+◌, ◌-◌, ◌/◌, ◌%◌, ◌<◌, get_or, agree_below_at, ◌≡◌, ◌∙◌, ◌≤◌, ◌∷◌, [], ℕ, List, true, refl, sym, ap, take, drop, arith, encode_utf8_all, prefix_len, nat_tests, append-nil, chunk, is_plain}, Encoding.front_written, SingleLaws.windows_1252-append, Characters.{of_one, doubled_character}, Singles.some_itself}, specs.declared.convert.windows_1252.TheConstants.UPPER}
-use Rattle.std.{proofs.{Common.nat_le, lemmas.Slice.Eq.bytes_eq-Decides}, specs.{Char.encode_utf8, Str.bytes_eq}}
+use Rattle.{tds_csv.{proofs.{Words.{◌++◌, length, ◌+◌, ◌-◌, ◌/◌, ◌%◌, ◌<◌, get_or, agree_below_at, ◌≡◌, ◌∙◌, ◌≤◌, ◌∷◌, [], ℕ, List, true, refl, sym, ap, take, drop, arith, encode_utf8_all, prefix_len, nat_tests, append-nil, chunk, is_plain}, Encoding.front_written, SingleLaws.windows_1252-append, Characters.{of_one, doubled_character}, Singles.some_itself}, specs.declared.convert.windows_1252.TheConstants.UPPER}, std.{proofs.{Common.nat_le, lemmas.Slice.Eq.bytes_eq-Decides}, specs.{Char.encode_utf8, Str.bytes_eq}}}
 use Rattle.tds_csv.specs.Windows1252 as windows_1252
 
 -- the bytes of a number, from the lowest on, as many as the highest says

@@ -10,15 +10,6 @@ pub puts_both : {S : Type 0} (text : S → List ℕ) (s t u : S) (a b c : Held) 
 puts_both text s t u a b c x y = (x.0 ++ y.0, sym (append_assoc (text s) x.0 y.0) ∙ ap (λ l. l ++ y.0) x.1 ∙ y.1, Puts-trans a b c x.0 y.0 x.2 y.2)
 
 module _ {S : Type 0} (g : Grammar S Fault) (text : S → List ℕ) where
-  -- two calls that read on
-  abbrev pub streams_both : (s t u : S) (a b c : Seen) (h i j : Held) → Streams g text s a b h i t → Streams g text t b c i j u → Streams g text s a c h j u
-  streams_both s t u a b c h i j x y = record {
-    bytes = x.bytes ++ y.bytes;
-    spelt = Spelt-append g s x.bytes t y.bytes u x.spelt y.spelt;
-    takes = takes_both a b c x.bytes y.bytes x.takes y.takes;
-    puts = puts_both text s t u h i j x.puts y.puts;
-  }
-
   -- a call that reads on, and one whose write fails
   abbrev pub breaks_after : (s t : S) (a b c : Seen) (h i j : Held) (at : S) (stop : Stop) → Streams g text s a b h i t → BreaksStreaming g text t b c i j at stop → BreaksStreaming g text s a c h j at stop
   breaks_after s t a b c h i j at stop x y = record {

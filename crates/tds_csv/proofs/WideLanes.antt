@@ -1,6 +1,5 @@
 -- Units that are looked at eight at a time, lane by lane.
-use Rattle.tds_csv.{proofs.{Words.{take, get_or, ◌++◌, ◌≡◌, ◌∙◌, ◌+◌, ◌*◌, ◌/◌, ◌%◌, ◌^◌, ◌<◌, ℕ, Bool, not, cond, zero, suc, List, [], ◌∷◌, map, length, refl, ap, ap₂, arith, Fits, w8, w16, Each1, map-map, mask_l, top, first_set, prefix_len, sel_l}, Masks.{run_before, same_prefix}}, specs.{Utf16.units, Wide.triples}}
-use Rattle.std.specs.Simd.Lanes.{number_l}
+use Rattle.{tds_csv.{proofs.{Words.{take, get_or, ◌++◌, ◌≡◌, ◌∙◌, ◌+◌, ◌*◌, ◌/◌, ◌%◌, ◌^◌, ◌<◌, ℕ, Bool, not, cond, zero, suc, List, [], ◌∷◌, map, length, refl, ap, ap₂, arith, Fits, w8, w16, Each1, map-map, mask_l, top, first_set, prefix_len, sel_l}, Masks.{run_before, same_prefix}}, specs.{Utf16.units, Wide.triples}}, std.specs.Simd.Lanes.number_l}
 use lib.Lanes.{digits_l}
 
 -- two functions that are the same on units
@@ -40,9 +39,7 @@ bytes_of_words : (n : ℕ) (xs : List ℕ) → length xs ≡ n → Each1 (λ x. 
 bytes_of_words zero [] long fits = refl
 bytes_of_words (suc n) (x ∷ xs) long fits =
     let four : 4 * suc n ≡ suc (suc (suc (suc (4 * n)))) = omega arith in
-    let small = fits.0 in
-    let more = bytes_of_words n xs (omega (arith, long)) fits.1 in
-    rw four (grind (arith, small))
+    rw four (grind (arith, fits.0, bytes_of_words n xs (omega (arith, long)) fits.1))
 bytes_of_words n xs long fits = absurd (omega arith)
 
 -- of each four the first three, and then the last
@@ -50,7 +47,7 @@ abbrev woven : List ℕ → List ℕ
 woven bs = map (λ k. get_or (bs ++ bs) k 0) (0 ∷ 1 ∷ 2 ∷ 4 ∷ 5 ∷ 6 ∷ 8 ∷ 9 ∷ 10 ∷ 12 ∷ 13 ∷ 14 ∷ 3 ∷ 7 ∷ 11 ∷ 15 ∷ [])
 
 word_fits : (u : ℕ) → u < 65536 → (word u % 256 ≡ 224 + u / 4096) × (word u / 256 % 256 ≡ 128 + u / 64 % 64) × (word u / 256 / 256 % 256 ≡ 128 + u % 64) × (word u < 4294967296)
-word_fits u small = (omega (arith, small), omega (arith, small), omega (arith, small), omega (arith, small))
+word_fits u small = grind arith
 
 pub three_each : (us ws : List ℕ) → length us ≡ 4 → Each1 (Fits w16) us → ws ≡ map word us → take 12 (woven (digits_l 256 16 (number_l 4294967296 ws))) ≡ triples us
 three_each (a ∷ b ∷ c ∷ d ∷ []) ws long fits is =

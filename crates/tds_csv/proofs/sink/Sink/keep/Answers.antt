@@ -1,7 +1,6 @@
 use Rattle.tds_csv.proofs.{Words.{◌≡◌, ◌∙◌, ◌+◌, ◌++◌, length, take, drop, ap, arith, rules, length-take-le, take-add, Space, held_before}, Sinks.block}
-use Rattle.tds_csv.proofs.sink.Sink.keep.Goals as goal
 
-pub returns : goal.returns
+pub returns : Rattle.tds_csv.proofs.sink.Sink.keep.Goals.returns
 returns g c =
     let a = held_before g.W.Write.contents c.args.self.now c.args.waiting in
     let old = c.args.self.now.output.now.bytes in
