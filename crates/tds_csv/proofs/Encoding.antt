@@ -3,23 +3,23 @@ use Rattle.tds_csv.proofs.{Words.{◌≡◌, ◌∙◌, ◌+◌, ◌≤◌, ◌�
 
 -- two bytes
 pub two_more : (t u v : List ℕ) (a b : ℕ) → u ≡ t ++ a ∷ [] → v ≡ u ++ b ∷ [] → v ≡ t ++ a ∷ b ∷ []
-two_more t u v a b eu ev = ev ∙ ap (λ s. s ++ b ∷ []) eu ∙ append_assoc t (a ∷ []) (b ∷ [])
+two_more t u v a b eu ev = simp (ev, eu, append_assoc)
 
 -- three
 pub three_more : (t u v w : List ℕ) (a b c : ℕ) → u ≡ t ++ a ∷ [] → v ≡ u ++ b ∷ [] → w ≡ v ++ c ∷ [] → w ≡ t ++ a ∷ b ∷ c ∷ []
-three_more t u v w a b c eu ev ew = ew ∙ ap (λ s. s ++ c ∷ []) (two_more t u v a b eu ev) ∙ append_assoc t (a ∷ b ∷ []) (c ∷ [])
+three_more t u v w a b c eu ev ew = simp (ew, ev, eu, append_assoc)
 
 -- four
 pub four_more : (t u v w x : List ℕ) (a b c d : ℕ) → u ≡ t ++ a ∷ [] → v ≡ u ++ b ∷ [] → w ≡ v ++ c ∷ [] → x ≡ w ++ d ∷ [] → x ≡ t ++ a ∷ b ∷ c ∷ d ∷ []
-four_more t u v w x a b c d eu ev ew ex = ex ∙ ap (λ s. s ++ d ∷ []) (three_more t u v w a b c eu ev ew) ∙ append_assoc t (a ∷ b ∷ c ∷ []) (d ∷ [])
+four_more t u v w x a b c d eu ev ew ex = simp (ex, ew, ev, eu, append_assoc)
 
 -- a character that isn't a quote is as long as it is without doubling
 pub doubled_as_long : (c k : ℕ) → 128 ≤ c → length (encode_utf8 c) ≡ k → length (doubled (encode_utf8 c)) ≡ k
-doubled_as_long c k big e = ap length (doubled_character c (λ q. omega arith)) ∙ e
+doubled_as_long c k big e = grind (arith, doubled_character)
 
 -- and it is added as it is
 pub added_doubled : (c : ℕ) (t u : List ℕ) → 128 ≤ c → u ≡ t ++ encode_utf8 c → u ≡ t ++ doubled (encode_utf8 c)
-added_doubled c t u big e = e ∙ ap (λ l. t ++ l) (sym (doubled_character c (λ q. omega arith)))
+added_doubled c t u big e = grind (arith, doubled_character)
 
 -- a beginning of what was written at a place
 pub taken_put : (i n : ℕ) (xs ys : List ℕ) → n ≤ length ys → i + length ys ≤ length xs → take (i + n) (put_chunk i xs ys) ≡ take i xs ++ take n ys

@@ -9,7 +9,7 @@ same_prefix P same (x ∷ xs) each = ap₂ (λ b n. cond b (1 + n) 0) (same x ea
 -- so many lanes come before the first whose top bit is set
 pub run_before : (bit n : ℕ) (f : ℕ → ℕ) (v : List ℕ) {z : List ℕ} → length v ≡ n → n ≤ 64 → z ≡ map f v → first_set (mask_l (map (top bit) z) % 2 ^ 64) n ≡ prefix_len (λ x. not (top bit (f x))) v
 run_before bit n f v long few lanes =
-    let stops : ℕ → Bool = λ x. top bit (f x) in
+    let stops = λ (x : ℕ). top bit (f x) in
     let mask = mask_l-mod (map stops v) 64 (omega (arith, length-map v stops, long, few)) in
     rw (lanes, map-map (top bit) f v, mask) (first_set_mask_l stops v n long few)
 

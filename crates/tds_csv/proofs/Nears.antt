@@ -66,9 +66,9 @@ module _ {S : Type 0} (g : Grammar S Fault) (text : S → List ℕ) where
   abbrev pub nears_done : (s : S) (a b : Seen) (h i j : Held) (to : S) (tail : List ℕ) → Nears g text s a b h i to tail → Puts i j tail → Streams g text s a b h j to
   nears_done s a b h i j to tail x puts = record {
     bytes = x.bytes ++ x.element;
-    spelt = Spelt-append g s x.bytes x.at x.element to x.spelt (subst (λ t. Spelt g x.at x.element t) x.to_is (Spelt-one g x.at x.element x.next));
+    spelt = Spelt-append g s x.bytes x.at x.element to x.spelt (rw x.to_is at (Spelt-one g x.at x.element x.next));
     takes = x.takes;
-    puts = puts_both text s x.at to h x.middle j x.puts (x.part ++ tail, x.text_is, Puts-trans x.middle i j x.part tail x.half puts);
+    puts = puts_both text s x.at to h x.middle j x.puts (_, x.text_is, Puts-trans x.middle i j x.part tail x.half puts);
   }
 
   -- a write of a further part failed
@@ -81,15 +81,14 @@ module _ {S : Type 0} (g : Grammar S Fault) (text : S → List ℕ) where
       ahead = [];
       spelt = x.spelt;
       next = x.next;
-      takes = subst (λ l. Takes a b l (length (x.bytes ++ x.element))) (sym (append-nil (x.bytes ++ x.element))) x.takes;
+      takes = rw append-nil x.takes;
       between = x.between;
       middle = x.middle;
       few = x.few;
       puts = x.puts;
       more = x.part ++ tail;
       text_is = x.text_is ∙ ap text (sym x.to_is);
-      breaks =
-          subst (λ l. Breaks x.middle j l stop) (append_assoc x.part p q ∙ ap (λ l. x.part ++ l) (sym parts)) (Breaks-longer x.middle j (x.part ++ p) q stop (Breaks-after x.middle i j x.part p stop x.half breaks));
+      breaks = rw (parts, ← append_assoc x.part p q) (Breaks-longer x.middle j (x.part ++ p) q stop (Breaks-after x.middle i j x.part p stop x.half breaks));
     },
   )
 
@@ -102,7 +101,7 @@ module _ {S : Type 0} (g : Grammar S Fault) (text : S → List ℕ) where
     spelt = Spelt-append g s x.bytes t y.bytes y.at x.spelt y.spelt;
     next = y.next;
     to_is = y.to_is;
-    takes = subst (λ l. Takes a c l (length l)) (sym (append_assoc x.bytes y.bytes y.element)) (takes_both a b c x.bytes (y.bytes ++ y.element) x.takes y.takes);
+    takes = rw append_assoc (takes_both a b c x.bytes (y.bytes ++ y.element) x.takes y.takes);
     between = y.between;
     middle = y.middle;
     few = y.few;
@@ -148,13 +147,13 @@ module _ {S T : Type 0} (small : Grammar S Fault) (big : Grammar T Fault) (lift 
   abbrev pub nears_inside : (from : S) (a b : Seen) (h i : Held) (to : S) (tail : List ℕ) → (x : Streams small text from a b h i to) → 0 < length x.bytes → IsBetween b → length i.waiting < 4096 → (front ++ text to) ++ tail ≡ whole (lift to)
       → Nears big whole (lift from) a b h i (lift to) tail
   nears_inside from a b h i to tail x some between few end =
-      let l : LastInside small small (λ u. u) (inside_itself small) from x.bytes to = last_read small from x.bytes to x.spelt some in
-      let begin : 0 < small.size from = first_size small from x.bytes to x.spelt some in
-      let before : (more : List ℕ) × (text from ++ more ≡ text l.at) = grown_leads small text grows from l.spelt.elements l.at l.spelt.leads in
-      let last : (more : List ℕ) × (text l.at ++ more ≡ text (small.add l.at l.element)) = grows l.at l.element l.next in
-      let closed : text l.at ++ last.0 ≡ text to = last.1 ∙ ap text l.to_is in
-      let parts : x.puts.0 ≡ before.0 ++ last.0 = append_cancel_left (text from) x.puts.0 (before.0 ++ last.0) (rw (← append_assoc (text from) before.0 last.0, before.1, closed) x.puts.1) in
-      let cut : (m : Held) × (length m.waiting < 4096) × Puts h m before.0 × Puts m i last.0 × (m.delivered ≤ 2 ^ 64 - 1) = Puts_split h i before.0 last.0 few (rw parts at x.puts.2) in
+      let l = last_read small from x.bytes to x.spelt some in
+      let begin = first_size small from x.bytes to x.spelt some in
+      let before = grown_leads small text grows from l.spelt.elements l.at l.spelt.leads in
+      let last = grows l.at l.element l.next in
+      let closed = last.1 ∙ ap text l.to_is in
+      let parts = append_cancel_left (text from) x.puts.0 (before.0 ++ last.0) (rw (← append_assoc (text from) before.0 last.0, before.1, closed) x.puts.1) in
+      let cut = Puts_split h i before.0 last.0 few (rw parts at x.puts.2) in
       record {
         bytes = l.front;
         element = l.element;
@@ -162,7 +161,7 @@ module _ {S T : Type 0} (small : Grammar S Fault) (big : Grammar T Fault) (lift 
         spelt = Inside-Spelt small big lift is from l.front l.at l.spelt;
         next = next_inside small big lift is l.at l.element l.size l.next;
         to_is = is.add l.at l.element l.size ∙ ap lift l.to_is;
-        takes = subst (λ v. Takes a b v (length v)) (sym l.joined) x.takes;
+        takes = rw l.joined x.takes;
         between = between;
         middle = cut.0;
         few = cut.1;

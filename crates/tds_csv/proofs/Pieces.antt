@@ -26,10 +26,10 @@ module _ {S : Type 0} (g : Grammar S Fault) (text : S → List ℕ) (grows : Gro
       → (to : S) × BreaksStreaming g text s a b h j to stop
   breaks_from at t [] bytes rest m added spelt leads takes puts few text_is breaks = grind (arith, common_steps, append_cancel_left, append-nil, length-append, length-take)
   breaks_from at t (e ∷ es) bytes rest m added spelt leads takes puts few text_is breaks =
-      let next : IsNext g at e = leads.0 in
-      let more : (x : List ℕ) × (text at ++ x ≡ text (g.add at e)) = grows at e next in
-      let later : (x : List ℕ) × (text (g.add at e) ++ x ≡ text t) = grown_leads g text grows (g.add at e) es t leads.1 in
-      let parts : added ≡ more.0 ++ later.0 = append_cancel_left (text at) added (more.0 ++ later.0) (rw (← append_assoc (text at) more.0 later.0, more.1, later.1) text_is) in
+      let next = leads.0 in
+      let more = grows at e next in
+      let later = grown_leads g text grows (g.add at e) es t leads.1 in
+      let parts = append_cancel_left (text at) added (more.0 ++ later.0) (rw (← append_assoc (text at) more.0 later.0, more.1, later.1) text_is) in
       let taken = rw (← append_assoc bytes e (concat es)) at takes in
       elim (Breaks_split m j more.0 later.0 stop (rw parts at breaks)) [
         | inl broken ↦ (at, breaks_here at bytes e (concat es ++ rest) m more.0 spelt next (rw (append_assoc (bytes ++ e) (concat es) rest) at taken) puts few more.1 broken)

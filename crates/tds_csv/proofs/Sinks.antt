@@ -32,5 +32,4 @@ block a m b piece r is full some x = grind (arith, append-nil, length-append, ta
 
 pub block_going : {U : Type 0} (a m b : Held) (piece : List ℕ) (r : Result U Stop) (failed : Bool) → m ≡ record a { waiting = a.waiting ++ piece } → length m.waiting ≡ 4096 → OnErr r (0 < length b.waiting)
     → MatchResult r (λ _. Sends m b) (λ e. FinishFails m b e) → MatchResult r (λ _. Puts a b piece) (λ e. failed ≡ false → Breaks a b piece e)
-block_going a m b piece (Ok u) failed is full some x = block a m b piece (Ok u) is full some x
-block_going {U = U} a m b piece (Err e) failed is full some x = λ _. block {U = U} a m b piece (Err e) is full some x
+block_going a m b piece r failed is full some x = let put = block a m b piece r is full some x in grind (arith)

@@ -9,13 +9,13 @@ total_of a b p r sent adds = sym (length-append (a.waiting ++ p) r) ∙ ap lengt
 split_at : (a b : Held) (p r sent : List ℕ) (n : ℕ) → Adds a b sent (p ++ r) → 4096 * n ≤ length sent → 4096 * n ≤ length (a.waiting ++ p) → length (a.waiting ++ p) < 4096 * (n + 1)
     → (m : Held) × (length m.waiting < 4096) × Puts a m p × Adds m b (drop (4096 * n) sent) r × (m.failures ≡ a.failures) × (m.delivered ≤ 2 ^ 64 - 1)
 split_at a b p r sent n adds enough below above =
-    let k : ℕ = 4096 * n in
-    let all : List ℕ = a.waiting ++ p in
-    let first : List ℕ = take k all in
-    let joined : all ++ r ≡ sent ++ b.waiting = append_assoc a.waiting p r ∙ adds.1 in
-    let front : take k sent ≡ first = sym (take-append-le k sent b.waiting enough) ∙ ap (take k) (sym joined) ∙ take-append-le k all r below in
-    let parts : sent ≡ first ++ drop k sent = sym (take-append-drop k sent) ∙ ap (λ l. l ++ drop k sent) front in
-    let size : length first ≡ k = length-take-le k all below in
+    let k = 4096 * n in
+    let all = a.waiting ++ p in
+    let first = take k all in
+    let joined = append_assoc a.waiting p r ∙ adds.1 in
+    let front = sym (take-append-le k sent b.waiting enough) ∙ ap (take k) (sym joined) ∙ take-append-le k all r below in
+    let parts = sym (take-append-drop k sent) ∙ ap (λ l. l ++ drop k sent) front in
+    let size = length-take-le k all below in
     let sizes : length sent ≡ length first + length (drop k sent) = omega (arith, length-drop k sent) in (
       record { had = append_known a.had first; waiting = drop k all; delivered = counted a.delivered (length first); failures = a.failures },
       omega (arith, length-drop k all),
@@ -32,7 +32,7 @@ split_at a b p r sent n adds enough below above =
 -- a piece that was put in one call could have been put in two
 pub Puts_split : (a b : Held) (p q : List ℕ) → length b.waiting < 4096 → Puts a b (p ++ q) → (m : Held) × (length m.waiting < 4096) × Puts a m p × Puts m b q × (m.delivered ≤ 2 ^ 64 - 1)
 Puts_split a b p q few x =
-    let n : ℕ = length (a.waiting ++ p) / 4096 in
+    let n = length (a.waiting ++ p) / 4096 in
     let whole : length x.0 ≡ 4096 * x.1 = x.3 in
     let total = total_of a b p q x.0 x.2 in
     let s = split_at a b p q x.0 n x.2 (omega arith) (omega arith) (omega arith) in
@@ -43,11 +43,11 @@ pub Breaks_split : (a b : Held) (p q : List ℕ) (stop : Stop) → Breaks a b (p
 Breaks_split a b p q stop x = elim (dec_le x.2 (length p)) [
   | yes le ↦ inl (x.0, x.1, x.2, subst (Adds a b x.0) (take-append-le x.2 p q le) x.3, le, x.5, x.6, x.7, x.8, x.9)
   | no above ↦
-      let i : ℕ = x.2 - length p in
-      let n : ℕ = length (a.waiting ++ p) / 4096 in
+      let i = x.2 - length p in
+      let n = length (a.waiting ++ p) / 4096 in
       let at : length p + i ≡ x.2 = omega (arith, above) in
       let fits : i ≤ length q = (let within : x.2 ≤ length (p ++ q) = x.4 in omega (arith, length-append p q)) in
-      let adds : Adds a b x.0 (p ++ take i q) = subst (Adds a b x.0) (ap (λ k. take k (p ++ q)) (sym at) ∙ take-append-add p q i) x.3 in
+      let adds = subst (Adds a b x.0) (ap (λ k. take k (p ++ q)) (sym at) ∙ take-append-add p q i) x.3 in
       let total = total_of a b p (take i q) x.0 adds in
       let size = length-take-le i q fits in
       let least : 4096 * x.1 ≤ length x.0 = x.5 in

@@ -18,7 +18,7 @@ module _ {S : Type 0} (g : Grammar S Fault) (text : S → List ℕ) where
     ahead = y.ahead;
     spelt = Spelt-append g s x.bytes t y.bytes at x.spelt y.spelt;
     next = y.next;
-    takes = subst (λ l. Takes a c (l ++ y.ahead) (length l)) (sym (append_assoc x.bytes y.bytes y.element)) (takes_ahead a b c x.bytes (y.bytes ++ y.element) y.ahead x.takes y.takes);
+    takes = rw (append_assoc x.bytes) (takes_ahead a b c x.bytes (y.bytes ++ y.element) y.ahead x.takes y.takes);
     between = y.between;
     middle = y.middle;
     few = y.few;

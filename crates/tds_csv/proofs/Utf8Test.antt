@@ -10,16 +10,16 @@ four c a b d w k l f g h s long = grind (arith, ⊎_elim, nat_tests)
 front_none : (c : ℕ) (r more tail : List ℕ) → Scalar c → Shape c → r ++ more ≡ encode_utf8 c ++ tail → length r < length (encode_utf8 c) → utf8_error_len r ≡ None
 unfolding utf8_error_len
 front_none c [] more tail k s e short = refl
-front_none c (x ∷ r) more tail k (of1 h e') e short = let n = ap length e' in absurd (omega arith)
+front_none c (x ∷ r) more tail k (of1 h e') e short = absurd (omega (arith, ap length e'))
 front_none c (x ∷ []) more tail k (of2 a b l u f s e') e short = grind (arith, length-encode, nat_tests)
-front_none c (x ∷ y ∷ r) more tail k (of2 a b l u f s e') e short = let n = ap length e' in absurd (omega arith)
+front_none c (x ∷ y ∷ r) more tail k (of2 a b l u f s e') e short = absurd (omega (arith, ap length e'))
 front_none c (x ∷ []) more tail k (of3 a b d l u f g s e') e short = grind (arith, nat_tests)
 front_none c (x ∷ y ∷ []) more tail k (of3 a b d l u f g s e') e short = grind (arith, length-encode, ⊎_elim, nat_tests)
-front_none c (x ∷ y ∷ z ∷ r) more tail k (of3 a b d l u f g s e') e short = let n = ap length e' in absurd (omega arith)
+front_none c (x ∷ y ∷ z ∷ r) more tail k (of3 a b d l u f g s e') e short = absurd (omega (arith, ap length e'))
 front_none c (x ∷ []) more tail k (of4 a b d w l u f g h s e') e short = grind (arith, ⊎_elim, nat_tests)
 front_none c (x ∷ y ∷ []) more tail k (of4 a b d w l u f g h s e') e short = grind (arith, four, length-encode, nat_tests)
 front_none c (x ∷ y ∷ z ∷ []) more tail k (of4 a b d w l u f g h s e') e short = grind (arith, four, length-encode, nat_tests)
-front_none c (x ∷ y ∷ z ∷ v ∷ r) more tail k (of4 a b d w l u f g h s e') e short = let n = ap length e' in absurd (omega arith)
+front_none c (x ∷ y ∷ z ∷ v ∷ r) more tail k (of4 a b d w l u f g h s e') e short = absurd (omega (arith, ap length e'))
 
 -- where some text begins so, std finds no fault in the rest
 pub begins_none : (bytes : List ℕ) → Begins bytes → utf8_error_len (rest bytes) ≡ None

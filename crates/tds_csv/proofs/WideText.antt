@@ -32,8 +32,8 @@ sized u = grind (arith, nat_tests)
 pub one_more : (front : List ℕ) {old new more : List ℕ} (us : List ℕ) (i : ℕ) → length us ≡ 8 → i < 8 → old ≡ front ++ encode_utf8_all (take i us) → new ≡ old ++ more → more ≡ encode_utf8 (get_or us i 0) → new ≡ front ++ encode_utf8_all (take (i + 1) us)
 one_more front us i long within before after is = grind (arith, common_steps, encode_utf8_all, take_more, encodes-append, append-nil, append_assoc)
 
-first_holds : (b : Bool) (k n : ℕ) → suc k ≤ cond b (1 + n) 0 → (b ≡ true) × (k ≤ n)
-first_holds b k n h = grind (arith)
+first_holds : {b : Bool} {k n : ℕ} → suc k ≤ cond b (1 + n) 0 → (b ≡ true) × (k ≤ n)
+first_holds h = grind (arith)
 
 -- characters of ASCII stand for themselves
 pub plain_text : (n : ℕ) (us : List ℕ) → n ≤ prefix_len is_plain us → encode_utf8_all (take n us) ≡ take n us
@@ -43,7 +43,7 @@ plain_text n us few = some_itself encode_utf8_all encodes-append is_plain refl (
 pub long_text : (n : ℕ) (us : List ℕ) → n ≤ prefix_len is_long us → Each1 (Fits w16) us → take (3 * n) (triples us) ≡ encode_utf8_all (take n us)
 long_text zero us few fits = refl
 long_text (suc n) (u ∷ us) few fits =
-    let h = first_holds (is_long u) n (prefix_len is_long us) few in
+    let h = first_holds few in
     let three : suc (suc (suc (3 * n))) ≡ 3 * suc n = omega arith in
     rw (← three) (grind (arith, nat_tests, of_three, fits.0.fits, h.0, long_text n us h.1 fits.1))
 long_text n us few fits = absurd (omega arith)
@@ -77,8 +77,7 @@ both_halves n us low high long fits few half is_low is_high =
 pub low_units : (n : ℕ) (ys : List ℕ) → n ≤ prefix_len is_plain (units ys) → take n (evens ys) ≡ take n (units ys)
 low_units zero ys few = refl
 low_units (suc n) (low ∷ high ∷ ys) few =
-    let h = first_holds (is_plain (low + 256 * high)) n (prefix_len is_plain (units ys)) few in
-    grind (arith, nat_tests, low_units n ys h.1)
+    grind (arith, nat_tests, low_units n ys (first_holds few).1)
 low_units n ys few = absurd (omega arith)
 
 length-units : (xs : List ℕ) → length (units xs) ≡ length xs / 2
@@ -95,7 +94,7 @@ module _ (q : ℕ → Bool) (single : (u : ℕ) → q u ≡ true → IsSingle u)
   leads_front zero ys more h = Leads-none
   leads_front (suc k) (low ∷ high ∷ ys) more h =
       let two : suc (suc (2 * k)) ≡ 2 * suc k = omega arith in
-      let x = first_holds (q (low + 256 * high)) k (prefix_len q (units ys)) h in
+      let x = first_holds h in
       rw (← two) (Leads-trans (leads_single low high (take (2 * k) ys ++ more) x.0) (leads_front k ys more x.1))
   leads_front k ys more h = absurd (omega arith)
 
