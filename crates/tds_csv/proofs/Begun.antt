@@ -17,8 +17,8 @@ all_begun c old piece begun = grind (arith, take_all)
 -- a byte of the piece is bad
 stopped_front : (old piece : List ℕ) (whole good : ℕ) → utf8.Begins old → StopsAt (old ++ piece) whole good → BegunFront Utf8Text old piece
 stopped_front old piece whole good begins stops =
-    let after : length old ≤ good = after_kept old piece (old ++ piece) good refl begins stops.bad in
-    let n : ℕ = good - length old in
+    let after = after_kept old piece (old ++ piece) good refl begins stops.bad in
+    let n = good - length old in
     let at : good ≡ length old + n = omega (arith, after) in
     grind (arith, after_kept, take-append-add, length-append)
 
@@ -42,11 +42,11 @@ odd_front bytes x odd = absurd (odd (omega arith))
 unfit_front : (d : List ℕ) (x : ℕ) → (IsUtf8 (d ++ x ∷ []) → ⊥) → utf8_laws.front (d ++ x ∷ []) ≡ utf8_laws.front d
 unfolding utf8_laws.front
 unfit_front d x unfit =
-    let all : List ℕ = d ++ x ∷ [] in
-    let size : length all ≡ length d + 1 = length-append d (x ∷ []) in
-    let n : ℕ = utf8_valid_len d in
-    let fits : n ≤ length d = utf8_valid_len_le d in
-    let same : take n all ≡ take n d = take-append-le n d (x ∷ []) fits in
+    let all = d ++ x ∷ [] in
+    let size = length-append d (x ∷ []) in
+    let n = utf8_valid_len d in
+    let fits = utf8_valid_len_le d in
+    let same = take-append-le n d (x ∷ []) fits in
     let longest : (m : ℕ) → n < m → m ≤ length all → IsUtf8 (take m all) → ⊥ = λ m more within u. elim (cases_lt m (length all)) [
       | inl less ↦ utf8_laws.longest_is d m more (omega arith) (rw (take-append-le m d (x ∷ []) (omega arith)) at u)
       | inr whole ↦ unfit (rw (take_all m all whole) at u)
@@ -62,7 +62,7 @@ unfit_adds_none Utf16Text d x unfit =
 unfit_adds_none Windows1252Text d x unfit = cc
 unfit_adds_none Utf8Text d x unfit =
     let same = unfit_front d x (λ u. let fit : is_fit Utf8Text (d ++ x ∷ []) ≡ true = is_utf8-from_IsUtf8 (d ++ x ∷ []) u in cc) in
-    utf8_laws.emit-front (d ++ x ∷ []) ∙ ap utf8.text same ∙ sym (utf8_laws.emit-front d)
+    rw (utf8_laws.emit-front, utf8_laws.emit-front, same) refl
 
 -- a piece grows the open field by the text of what was withheld and the piece
 pub open_grows : (c : Conversion) (d e : List ℕ) → BeginsData c (d ++ e) → open_field c d ++ emit (conversion_rest c) (conversion_text c) (conversion_rest c d ++ e) ≡ open_field c (d ++ e)

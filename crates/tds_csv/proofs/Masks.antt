@@ -26,6 +26,6 @@ run_most q d i n room = omega (arith, prefix_len-le-length q (chunk i n d), leng
 -- bytes that lie in others are the same as those
 pub alike : (bytes source : List ℕ) (at n : ℕ) → LiesIn bytes source → n ≤ 16 → at + n ≤ length bytes → take n (drop at bytes) ≡ take n (chunk at 16 source)
 alike bytes source at n lies few within =
-    let k : ℕ = length bytes - at in
-    let all : length bytes ≡ at + k = omega (arith, within) in
-    ap (λ l. take n (drop at l)) (sym lies.front) ∙ ap (λ j. take n (drop at (take j source))) all ∙ ap (take n) (drop-take at k source) ∙ take-take n k (drop at source) (omega (arith, within)) ∙ sym (take-take n 16 (drop at source) few)
+    let k = length bytes - at in
+    let all : at + k ≡ length bytes = omega (arith, within) in
+    rw (← lies.front, ← all, drop-take at k source, take-take n k (drop at source) (omega (arith, within)), take-take n 16 (drop at source) few) refl

@@ -23,7 +23,7 @@ module _ (text : List ℕ → List ℕ) (appends : (x y : List ℕ) → text (x 
   -- bytes that stand for themselves, up to the first that needn't
   module _ (q : ℕ → Bool) (empty : text [] ≡ []) (itself : (b : ℕ) → q b ≡ true → text (b ∷ []) ≡ b ∷ []) where
     some_more : (passes : Bool) (b k n : ℕ) (xs : List ℕ) → (passes ≡ true → text (b ∷ []) ≡ b ∷ []) → suc k ≤ cond passes (1 + n) 0 → (k ≤ n → text (take k xs) ≡ take k xs) → text (b ∷ take k xs) ≡ b ∷ take k xs
-    some_more true b k n xs h few e = appends (b ∷ []) (take k xs) ∙ (λ i. h refl i ++ e (omega arith) i)
+    some_more true b k n xs h few e = rw (appends (b ∷ []) (take k xs), h refl, e (omega arith)) refl
     some_more false b k n xs h few e = absurd (omega arith)
 
     -- the first of them, so many

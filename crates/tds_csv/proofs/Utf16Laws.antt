@@ -87,15 +87,14 @@ emit-front a = ap text (settled_front rest a (front a) (seam a []).whole)
 emits : (a b : List ℕ) → emit rest text (a ++ b) ≡ emit rest text a ++ emit rest text (rest a ++ b)
 unfolding starts_low
 emits a b =
-    emit-front (a ++ b) ∙ ap text (seam a b).front_is
-    ∙ text-front a (front (rest a ++ b)) (Apart-front a (units (front (rest a ++ b))) (λ h. grind (arith, high_is_not_low)))
-    ∙ sym (λ i. emit-front a i ++ emit-front (rest a ++ b) i)
+    let split = text-front a (front (rest a ++ b)) (Apart-front a (units (front (rest a ++ b))) (λ h. grind (arith, high_is_not_low))) in
+    rw (emit-front, emit-front a, emit-front (rest a ++ b), (seam a b).front_is) split
 
 ends : (a : List ℕ) → text a ≡ emit rest text a ++ text (rest a)
 unfolding starts_low
 ends a =
-    ap text (seam a []).whole ∙ text-front a (rest a) (Apart-front a (units (rest a)) (λ h. grind (arith, high_is_not_low)))
-    ∙ ap (λ t. t ++ text (rest a)) (sym (emit-front a))
+    let split = text-front a (rest a) (Apart-front a (units (rest a)) (λ h. grind (arith, high_is_not_low))) in
+    cc (emit-front a, (seam a []).whole)
 
 pub short : (a : List ℕ) → length (rest a) ≤ 3
 short a = (seam a []).few

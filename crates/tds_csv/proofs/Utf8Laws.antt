@@ -6,7 +6,7 @@ front_up_to : (bs : List ℕ) (n : ℕ) → IsUtf8 (take (valid_len_up_to bs n) 
 front_up_to bs zero = IsUtf8-nil
 front_up_to bs (suc n) =
     elim (is_utf8 (take (suc n) bs)) as (λ t. is_utf8 (take (suc n) bs) ≡ t → IsUtf8 (take (cond t (suc n) (valid_len_up_to bs n)) bs))
-    [ true ↦ λ e. IsUtf8-from_is_utf8 (take (suc n) bs) e | false ↦ λ e. front_up_to bs n ] refl
+    [ true ↦ IsUtf8-from_is_utf8 (take (suc n) bs) | false ↦ λ e. front_up_to bs n ] refl
 
 longest_up_to : (bs : List ℕ) (n m : ℕ) → valid_len_up_to bs n < m → m ≤ n → IsUtf8 (take m bs) → ⊥
 longest_up_to bs zero m below within u = omega arith
@@ -43,21 +43,13 @@ front-rest bs = sym (take-append-drop (utf8_valid_len bs) bs)
 -- what follows a text in a text is a text
 pub after_text : (w z : List ℕ) → IsUtf8 w → IsUtf8 (w ++ z) → IsUtf8 z
 after_text w z u whole =
-    let at = take_at w z (length w) refl in
-    let le : length w ≤ length (w ++ z) = omega (arith, length-append w z) in
-    let edge = IsCharBoundary-from_take (w ++ z) (length w) whole le (subst IsUtf8 (sym at) u) in
-    subst IsUtf8 (drop_at w z (length w) refl) (IsUtf8-drop (w ++ z) (length w) whole edge)
+    let edge = IsCharBoundary-from_take (w ++ z) (length w) whole (omega (arith, length-append w z)) (rw (take_at w z (length w) refl) u) in
+    rw (drop_at w z (length w) refl) at (IsUtf8-drop (w ++ z) (length w) whole edge)
 
 -- a text at the front than which no longer one stands there
 pub valid_len_is : (bs : List ℕ) (n : ℕ) → n ≤ length bs → IsUtf8 (take n bs) → ((m : ℕ) → n < m → m ≤ length bs → IsUtf8 (take m bs) → ⊥) → utf8_valid_len bs ≡ n
 unfolding front
-valid_len_is bs n within u longest = elim (cases_lt (utf8_valid_len bs) n) [
-  | inl less ↦ absurd (longest_is bs n less within u)
-  | inr most ↦ elim (cases_lt n (utf8_valid_len bs)) [
-    | inl more ↦ absurd (longest (utf8_valid_len bs) more (utf8_valid_len_le bs) (front_is bs))
-    | inr least ↦ omega arith
-  ]
-]
+valid_len_is bs n within u longest = grind (arith, longest_is bs n, longest (utf8_valid_len bs), utf8_valid_len_le, front_is bs)
 
 -- the longest text at the front, after a text
 pub valid_len-past : (w y : List ℕ) → IsUtf8 w → utf8_valid_len (w ++ y) ≡ length w + utf8_valid_len y
@@ -71,7 +63,7 @@ valid_len-past w y u =
     longest_is y n (omega arith) (omega arith) (after_text w (take n y) u (rw (split, take-append-add w y n) at whole)))
 
 pub regrouped : (a b : List ℕ) → a ++ b ≡ front a ++ (rest a ++ b)
-regrouped a b = ap (λ t. t ++ b) (front-rest a) ∙ append_assoc (front a) (rest a) b
+regrouped a b = cc (front-rest a, append_assoc (front a) (rest a) b)
 
 -- the front of two pieces, and their rest
 valid_len-append : (a b : List ℕ) → utf8_valid_len (a ++ b) ≡ length (front a) + utf8_valid_len (rest a ++ b)
@@ -91,7 +83,7 @@ pub emits : (a b : List ℕ) → emit rest text (a ++ b) ≡ emit rest text a ++
 emits a b = grind (arith, emit-front, front-append, doubled-append)
 
 ends : (a : List ℕ) → text a ≡ emit rest text a ++ text (rest a)
-ends a = ap text (front-rest a) ∙ doubled-append (front a) (rest a) ∙ ap (λ t. t ++ text (rest a)) (sym (emit-front a))
+ends a = cc (front-rest a, doubled-append (front a) (rest a), emit-front a)
 
 -- no front of the list is a text
 unfoldable pub NoText : List ℕ → Type 0
@@ -108,7 +100,7 @@ no_text bytes n some within u =
 pub begun_rest : (a : List ℕ) → (b : Begins a) → (rest a ≡ []) ⊎ ((c : ℕ) × (tail : List ℕ) × (scalar c ≡ true) × (encode_utf8 c ++ tail ≡ rest a ++ b.0) × (length (rest a) < length (encode_utf8 c)))
 unfolding NoText
 begun_rest a b =
-    let whole = after_text (front a) (rest a ++ b.0) (front_is a) (subst IsUtf8 (regrouped a b.0) b.1) in
+    let whole = after_text (front a) (rest a ++ b.0) (front_is a) (rw (← regrouped a b.0) b.1) in
     go whole.0 whole.1.0 whole.1.1
   where
     go : (cs : List ℕ) → all_scalars cs ≡ true → encode_utf8_all cs ≡ rest a ++ b.0 → (rest a ≡ []) ⊎ ((c : ℕ) × (tail : List ℕ) × (scalar c ≡ true) × (encode_utf8 c ++ tail ≡ rest a ++ b.0) × (length (rest a) < length (encode_utf8 c)))
@@ -135,9 +127,9 @@ joins_utf8 = record {
   keeps = λ a b _. rest-append a b;
   short = short;
   ends = λ bytes _. ends bytes;
-  fit_rest = λ bytes u. after_text (front bytes) (rest bytes) (front_is bytes) (subst IsUtf8 (front-rest bytes) u);
-  fit_whole = λ bytes _ u. subst IsUtf8 (sym (front-rest bytes)) (IsUtf8-append (front bytes) (rest bytes) (front_is bytes) u);
-  front = λ a b h. (b ++ h.0, subst IsUtf8 (append_assoc a b h.0) h.1);
-  inward = λ a b h. (h.0, after_text (front a) ((rest a ++ b) ++ h.0) (front_is a) (subst IsUtf8 (seam a b h.0) h.1));
-  outward = λ a b h. (h.0, subst IsUtf8 (sym (seam a b h.0)) (IsUtf8-append (front a) ((rest a ++ b) ++ h.0) (front_is a) h.1));
+  fit_rest = λ bytes u. after_text (front bytes) (rest bytes) (front_is bytes) (rw (← front-rest bytes) u);
+  fit_whole = λ bytes _ u. rw (front-rest bytes) (IsUtf8-append (front bytes) (rest bytes) (front_is bytes) u);
+  front = λ a b h. (b ++ h.0, rw (← append_assoc a b h.0) h.1);
+  inward = λ a b h. (h.0, after_text (front a) ((rest a ++ b) ++ h.0) (front_is a) (rw (← seam a b h.0) h.1));
+  outward = λ a b h. (h.0, rw (seam a b h.0) (IsUtf8-append (front a) ((rest a ++ b) ++ h.0) (front_is a) h.1));
 }
