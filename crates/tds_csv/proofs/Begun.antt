@@ -25,7 +25,7 @@ stopped_front old piece whole good begins stops =
 utf8_front : (old piece : List ℕ) (fault : Option ℕ) → utf8_error_len (utf8.rest (old ++ piece)) ≡ fault → utf8.Begins old → BegunFront Utf8Text old piece
 utf8_front old piece None is begins = all_begun Utf8Text old piece (none_begins (old ++ piece) is)
 utf8_front old piece (Some k) is begins =
-    stopped_front old piece (utf8_valid_len (old ++ piece)) _ begins (stops_at (old ++ piece) (utf8_valid_len (old ++ piece)) k refl is)
+    stopped_front old piece (utf8_valid_len (old ++ piece)) _ begins (stops_at (old ++ piece) (utf8_valid_len (old ++ piece)) k _ refl is refl)
 
 -- after data that begins, the first bytes of any piece begin too and fix all the text that the piece fixes
 pub begun_front : (c : Conversion) (old piece : List ℕ) → BeginsData c old → BegunFront c old piece
@@ -57,11 +57,11 @@ unfit_front d x unfit =
 pub unfit_adds_none : (c : Conversion) (d : List ℕ) (x : ℕ) → is_fit c (d ++ x ∷ []) ≡ false → emit (conversion_rest c) (conversion_text c) (d ++ x ∷ []) ≡ emit (conversion_rest c) (conversion_text c) d
 unfit_adds_none HexDigits d x unfit = cc
 unfit_adds_none Utf16Text d x unfit =
-    let same = odd_front d x (λ e. let fit : is_fit Utf16Text (d ++ x ∷ []) ≡ true = (fit_by_test Utf16Text (d ++ x ∷ [])).1 e in cc) in
+    let same = odd_front d x (λ e. cc ((fit_by_test Utf16Text (d ++ x ∷ [])).1 e)) in
     rw (utf16_laws.emit-front, utf16_laws.emit-front, same) refl
 unfit_adds_none Windows1252Text d x unfit = cc
 unfit_adds_none Utf8Text d x unfit =
-    let same = unfit_front d x (λ u. let fit : is_fit Utf8Text (d ++ x ∷ []) ≡ true = is_utf8-from_IsUtf8 (d ++ x ∷ []) u in cc) in
+    let same = unfit_front d x (λ u. cc (is_utf8-from_IsUtf8 (d ++ x ∷ []) u)) in
     rw (utf8_laws.emit-front, utf8_laws.emit-front, same) refl
 
 -- a piece grows the open field by the text of what was withheld and the piece

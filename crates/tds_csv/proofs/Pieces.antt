@@ -2,25 +2,6 @@
 use Rattle.{tds_csv.proofs.{Words.{length-take, common_steps, ◌≡◌, inl, inr, ℕ, ◌-◌, ◌^◌, ◌<◌, ◌≤◌, List, [], ◌∷◌, ◌++◌, length, sym, subst, arith, append_assoc, append-nil, length-append, concat, append_cancel_left, Fault, Stop, Grammar, IsNext, Spelt, Seen, Takes, IsBetween, Spelt-append, Spelt-none, Spelt-one, Takes-more, Held, Breaks, BreaksStreaming, PutsText}, Sinks.Puts-none, Streams.puts_both, Splits.Breaks_split, Nears.{Grows, grown_leads}}, tds_packet.specs.Elements.Leads}
 
 module _ {S : Type 0} (g : Grammar S Fault) (text : S → List ℕ) (grows : Grows g text) (s : S) (a b : Seen) (h j : Held) (stop : Stop) (between : IsBetween b) where
-  -- a write failed in the text of this element, and so much of the piece lies ahead
-  breaks_here : (at : S) (bytes element ahead : List ℕ) (m : Held) (more : List ℕ) → Spelt g s bytes at → IsNext g at element → Takes a b ((bytes ++ element) ++ ahead) 1 → PutsText text s at h m → length m.waiting < 4096 → text at ++ more ≡ text (g.add at element) → Breaks m j more stop
-      → BreaksStreaming g text s a b h j at stop
-  breaks_here at bytes element ahead m more spelt next takes puts few text_is breaks = record {
-    bytes = bytes;
-    element = element;
-    ahead = ahead;
-    spelt = spelt;
-    next = next;
-    takes = Takes-more a b ((bytes ++ element) ++ ahead) 1 (length (bytes ++ element)) (let some : 0 < length element = next.some in omega (arith, length-append bytes element)) takes;
-    between = between;
-    middle = m;
-    few = few;
-    puts = puts;
-    more = more;
-    text_is = text_is;
-    breaks = breaks;
-  }
-
   -- the elements from a state on, before which all was put
   breaks_from : (at t : S) (es : List (List ℕ)) (bytes rest : List ℕ) (m : Held) (added : List ℕ) → Spelt g s bytes at → Leads g at es t → Takes a b ((bytes ++ concat es) ++ rest) 1 → PutsText text s at h m → length m.waiting < 4096 → text at ++ added ≡ text t → Breaks m j added stop
       → (to : S) × BreaksStreaming g text s a b h j to stop
@@ -32,7 +13,24 @@ module _ {S : Type 0} (g : Grammar S Fault) (text : S → List ℕ) (grows : Gro
       let parts = append_cancel_left (text at) added (more.0 ++ later.0) (rw (← append_assoc (text at) more.0 later.0, more.1, later.1) text_is) in
       let taken = rw (← append_assoc bytes e (concat es)) at takes in
       elim (Breaks_split m j more.0 later.0 stop (rw parts at breaks)) [
-        | inl broken ↦ (at, breaks_here at bytes e (concat es ++ rest) m more.0 spelt next (rw (append_assoc (bytes ++ e) (concat es) rest) at taken) puts few more.1 broken)
+        | inl broken ↦ (
+            at,
+            record {
+              bytes = bytes;
+              element = e;
+              ahead = concat es ++ rest;
+              spelt = spelt;
+              next = next;
+              takes = Takes-more a b _ 1 (length (bytes ++ e)) (omega (arith, length-append bytes e, next.some)) (rw (append_assoc (bytes ++ e) (concat es) rest) at taken);
+              between = between;
+              middle = m;
+              few = few;
+              puts = puts;
+              more = more.0;
+              text_is = more.1;
+              breaks = broken;
+            },
+          )
         | inr x ↦
             breaks_from (g.add at e) t es (bytes ++ e) rest x.0 later.0 (Spelt-append g s bytes at e (g.add at e) spelt (Spelt-one g at e next)) leads.1 taken (puts_both text s at (g.add at e) h m x.0 puts (more.0, more.1, x.2)) x.1 later.1 x.3
       ]

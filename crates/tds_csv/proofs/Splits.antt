@@ -46,7 +46,7 @@ Breaks_split a b p q stop x = elim (dec_le x.2 (length p)) [
       let i = x.2 - length p in
       let n = length (a.waiting ++ p) / 4096 in
       let at : length p + i ≡ x.2 = omega (arith, above) in
-      let fits : i ≤ length q = (let within : x.2 ≤ length (p ++ q) = x.4 in omega (arith, length-append p q)) in
+      let fits : i ≤ length q = omega (arith, length-append p q, x.4) in
       let adds = subst (Adds a b x.0) (ap (λ k. take k (p ++ q)) (sym at) ∙ take-append-add p q i) x.3 in
       let total = total_of a b p (take i q) x.0 adds in
       let size = length-take-le i q fits in

@@ -1,5 +1,5 @@
 -- The laws of UTF-8 in pieces.
-use Rattle.{tds_csv.{proofs.{Words.{◌≡◌, ℕ, zero, suc, ◌+◌, ◌-◌, ◌≤◌, ◌<◌, true, false, cond, List, [], ◌∷◌, ◌++◌, length, take, refl, sym, ap, subst, ◌∙◌, arith, IsUtf8, encode_utf8, encode_utf8_all, append_assoc, length-append, take_at, drop_at, length-take-le, take-append-drop, take-append-le, IsUtf8-append, IsUtf8-nil, IsUtf8-drop, IsUtf8-encode, IsCharBoundary-from_take, is_utf8-from_IsUtf8, IsUtf8-from_is_utf8, utf8_valid_len_le, length-encode, len_utf8_bounds, and_parts, cases_lt, is_utf8, all_scalars, scalar, valid_len_up_to, JoinsPieces, emit, drop-append-add, inl, inr, nil_from_length, take-append-add, ◌⊎◌}, JoiningLemmas.{doubled-append, settled_front}}, specs.Utf8.{IsFit, Begins, rest, text}}, std.specs.Str.Lossy.utf8_valid_len}
+use Rattle.{tds_csv.{proofs.{Words.{◌≡◌, ℕ, zero, suc, ◌+◌, ◌-◌, ◌≤◌, ◌<◌, true, false, cond, List, [], ◌∷◌, ◌++◌, length, take, refl, sym, ap, subst, ◌∙◌, arith, IsUtf8, encode_utf8, encode_utf8_all, append_assoc, length-append, length-drop, take_at, drop_at, length-take-le, take-append-drop, take-append-le, IsUtf8-append, IsUtf8-nil, IsUtf8-drop, IsUtf8-encode, IsCharBoundary-from_take, is_utf8-from_IsUtf8, IsUtf8-from_is_utf8, utf8_valid_len_le, length-encode, len_utf8_bounds, and_parts, cases_lt, is_utf8, all_scalars, scalar, valid_len_up_to, JoinsPieces, emit, drop-append-add, inl, inr, nil_from_length, take-append-add, ◌⊎◌}, JoiningLemmas.{doubled-append, settled_front}}, specs.Utf8.{IsFit, Begins, rest, text}}, std.specs.Str.Lossy.utf8_valid_len}
 
 -- what is found going down is UTF-8, and nothing longer is
 front_up_to : (bs : List ℕ) (n : ℕ) → IsUtf8 (take (valid_len_up_to bs n) bs)
@@ -85,6 +85,10 @@ emits a b = grind (arith, emit-front, front-append, doubled-append)
 ends : (a : List ℕ) → text a ≡ emit rest text a ++ text (rest a)
 ends a = cc (front-rest a, doubled-append (front a) (rest a), emit-front a)
 
+-- the first bytes, the whole characters among them
+pub take-front : (bytes : List ℕ) (n : ℕ) → take (utf8_valid_len bytes + n) bytes ≡ front bytes ++ take n (rest bytes)
+take-front bytes n = let all = take-append-add (front bytes) (rest bytes) n in rw (length-front bytes, ← front-rest bytes) at all
+
 -- no front of the list is a text
 unfoldable pub NoText : List ℕ → Type 0
 NoText r = (n : ℕ) → 0 < n → n ≤ length r → IsUtf8 (take n r) → ⊥
@@ -93,17 +97,20 @@ NoText r = (n : ℕ) → 0 < n → n ≤ length r → IsUtf8 (take n r) → ⊥
 pub no_text : (bytes : List ℕ) → NoText (rest bytes)
 unfolding NoText
 no_text bytes n some within u =
-    let cut : take (length (front bytes) + n) bytes ≡ front bytes ++ take n (rest bytes) = ap (take (length (front bytes) + n)) (front-rest bytes) ∙ take-append-add (front bytes) (rest bytes) n in
-    longest_is bytes (length (front bytes) + n) (omega (arith, length-front bytes)) (omega (arith, ap length (front-rest bytes), length-append (front bytes) (rest bytes))) (rw cut (IsUtf8-append (front bytes) (take n (rest bytes)) (front_is bytes) u))
+    longest_is bytes (utf8_valid_len bytes + n) (omega arith) (omega (arith, length-drop (utf8_valid_len bytes) bytes)) (rw take-front (IsUtf8-append (front bytes) (take n (rest bytes)) (front_is bytes) u))
 
--- the rest of what begins a text is empty, or a beginning of a character
-pub begun_rest : (a : List ℕ) → (b : Begins a) → (rest a ≡ []) ⊎ ((c : ℕ) × (tail : List ℕ) × (scalar c ≡ true) × (encode_utf8 c ++ tail ≡ rest a ++ b.0) × (length (rest a) < length (encode_utf8 c)))
+-- the list is empty, or a beginning of a character, as what follows shows
+abbrev IsBegun : List ℕ → List ℕ → Type 0
+IsBegun r more = (r ≡ []) ⊎ ((c : ℕ) × (tail : List ℕ) × (scalar c ≡ true) × (encode_utf8 c ++ tail ≡ r ++ more) × (length r < length (encode_utf8 c)))
+
+-- the rest of what begins a text is so
+pub begun_rest : (a : List ℕ) → (b : Begins a) → IsBegun (rest a) b.0
 unfolding NoText
 begun_rest a b =
     let whole = after_text (front a) (rest a ++ b.0) (front_is a) (rw (← regrouped a b.0) b.1) in
     go whole.0 whole.1.0 whole.1.1
   where
-    go : (cs : List ℕ) → all_scalars cs ≡ true → encode_utf8_all cs ≡ rest a ++ b.0 → (rest a ≡ []) ⊎ ((c : ℕ) × (tail : List ℕ) × (scalar c ≡ true) × (encode_utf8 c ++ tail ≡ rest a ++ b.0) × (length (rest a) < length (encode_utf8 c)))
+    go : (cs : List ℕ) → all_scalars cs ≡ true → encode_utf8_all cs ≡ rest a ++ b.0 → IsBegun (rest a) b.0
     go [] valid e = inl (nil_from_length (rest a) (omega (arith, ap length e, length-append (rest a) b.0)))
     go (c ∷ cs) valid e = elim (cases_lt (length (rest a)) (length (encode_utf8 c))) [
       | inl less ↦ inr (c, encode_utf8_all cs, (and_parts (scalar c) (all_scalars cs) valid).0, e, less)

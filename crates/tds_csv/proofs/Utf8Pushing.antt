@@ -46,17 +46,11 @@ halves kept part more is =
 pub rest_begins : {new : List ℕ} (bytes : List ℕ) → new ≡ rest bytes → Begins bytes → Begins new
 rest_begins bytes is begun = rw (is, ← append-nil (rest bytes)) (joins_utf8.inward bytes [] (rw append-nil begun))
 
--- what is withheld ends the piece
-kept_ends : (kept part mid : List ℕ) → mid ≡ rest (kept ++ part) → length mid ≤ length part → drop (length part - length mid) part ≡ mid
-kept_ends kept part mid is le =
-    let whole : utf8_valid_len (kept ++ part) ≡ length kept + (length part - length mid) =
-    omega (arith, ap length is, length-drop (utf8_valid_len (kept ++ part)) (kept ++ part), length-append kept part, utf8_valid_len_le (kept ++ part)) in
-    sym (is ∙ ap (λ n. drop n (kept ++ part)) whole ∙ drop-append-add kept part (length part - length mid))
-
 -- what is withheld, and the rest of a piece whose first bytes were taken
 kept_tail : (kept part more mid : List ℕ) (at : ℕ) → mid ≡ rest (kept ++ part) → at + length mid ≡ length part → take (length (part ++ more) - at) (drop at (part ++ more)) ≡ mid ++ more
 kept_tail kept part more mid at is e =
-    let ends : drop at part ≡ mid = ap (λ n. drop n part) {y = length part - length mid} (omega arith) ∙ kept_ends kept part mid is (omega arith) in
+    let whole : utf8_valid_len (kept ++ part) ≡ length kept + at = omega (arith, ap length is, length-drop (utf8_valid_len (kept ++ part)) (kept ++ part), length-append kept part, utf8_valid_len_le (kept ++ part)) in
+    let ends = sym (is ∙ ap (λ n. drop n (kept ++ part)) whole ∙ drop-append-add kept part at) in
     rw (take_all (length (part ++ more) - at) (drop at (part ++ more)) (omega (arith, length-drop at (part ++ more))), drop-append-le at part more (omega arith), ends) refl
 
 module _ {kept mid new : List ℕ} {a b d : Held} {part : List ℕ} (x : TakesPiece Begins rest text kept mid a b part) where

@@ -28,6 +28,9 @@ lane_at f us {i = i} is long within = rw is (get_or-map f us i 0 0 (omega (arith
 pub sized : (u : ℕ) → (1 ≤ size u) × (size u ≤ 2)
 sized u = grind (arith, nat_tests)
 
+pub sized_at : (us : List ℕ) {lanes : List ℕ} {i : ℕ} → lanes ≡ map size us → length us ≡ 8 → i < 8 → (1 ≤ get_or lanes i 0) × (get_or lanes i 0 ≤ 2)
+sized_at us {i = i} is long within = rw (lane_at size us is long within) (sized (get_or us i 0))
+
 -- the text of the first units, and of one more
 pub one_more : (front : List ℕ) {old new more : List ℕ} (us : List ℕ) (i : ℕ) → length us ≡ 8 → i < 8 → old ≡ front ++ encode_utf8_all (take i us) → new ≡ old ++ more → more ≡ encode_utf8 (get_or us i 0) → new ≡ front ++ encode_utf8_all (take (i + 1) us)
 one_more front us i long within before after is = grind (arith, common_steps, encode_utf8_all, take_more, encodes-append, append-nil, append_assoc)

@@ -1,14 +1,14 @@
-use Rattle.tds_csv.{proofs.{Words.{common_steps, ◌∙◌, get_or, arith, rules, ap₂, take, ◌∷◌, [], ◌%◌, ◌/◌, prefix_len_passes, prefix_len-le-length, ◌<◌}, WideText.{lane_at, one_more, short_bytes, sized}}, specs.Wide.{is_short, pair, size}}
+use Rattle.tds_csv.{proofs.{Words.{common_steps, ◌∙◌, get_or, arith, rules, ap₂, take, ◌∷◌, [], ◌%◌, ◌/◌, prefix_len_passes, prefix_len-le-length, ◌<◌}, WideText.{lane_at, one_more, short_bytes, sized, sized_at}}, specs.Wide.{is_short, pair, size}}
 use Rattle.tds_csv.proofs.convert.beyond_ascii.put_short.Goals as goal
 
 pub loop-i-init : goal.loop-i-init
 loop-i-init c = let few = prefix_len-le-length is_short c.args.units in grind (arith, common_steps)
 
 pub put_pair-made-requires-clause-some : goal.put_pair-made-requires-clause-some
-put_pair-made-requires-clause-some c = rw (lane_at size c.args.units {i = c.loop-i.i} c.sizes-sizes.ensures c.fits-units.0 (omega (arith, c.loop-i-test.true, c.loop-i.invariant.few))) (sized (get_or c.args.units c.loop-i.i 0)).0
+put_pair-made-requires-clause-some c = (sized_at c.args.units {i = c.loop-i.i} c.sizes-sizes.ensures c.fits-units.0 (omega (arith, c.loop-i-test.true, c.loop-i.invariant.few))).0
 
 pub put_pair-made-requires-clause-most : goal.put_pair-made-requires-clause-most
-put_pair-made-requires-clause-most c = rw (lane_at size c.args.units {i = c.loop-i.i} c.sizes-sizes.ensures c.fits-units.0 (omega (arith, c.loop-i-test.true, c.loop-i.invariant.few))) (sized (get_or c.args.units c.loop-i.i 0)).1
+put_pair-made-requires-clause-most c = (sized_at c.args.units {i = c.loop-i.i} c.sizes-sizes.ensures c.fits-units.0 (omega (arith, c.loop-i-test.true, c.loop-i.invariant.few))).1
 
 pub loop-i-preserved : goal.loop-i-preserved
 loop-i-preserved c =
