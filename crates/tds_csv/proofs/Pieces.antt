@@ -8,11 +8,11 @@ module _ {S : Type 0} (g : Grammar S Fault) (text : S → List ℕ) (grows : Gro
   breaks_from at t [] bytes rest m added spelt leads takes puts few text_is breaks = grind (arith, common_steps, append_cancel_left, append-nil, length-append, length-take)
   breaks_from at t (e ∷ es) bytes rest m added spelt leads takes puts few text_is breaks =
       let next = leads.0 in
-      let more = grows at e next in
-      let later = grown_leads g text grows (g.add at e) es t leads.1 in
+      let more = grows _ _ next in
+      let later = grown_leads _ text grows _ _ _ leads.1 in
       let parts = append_cancel_left (text at) added (more.0 ++ later.0) (rw (← append_assoc (text at) more.0 later.0, more.1, later.1) text_is) in
       let taken = rw (← append_assoc bytes e (concat es)) at takes in
-      elim (Breaks_split m j more.0 later.0 stop (rw parts at breaks)) [
+      elim (Breaks_split _ _ more.0 later.0 _ (rw parts at breaks)) [
         | inl broken ↦ (
             at,
             record {
@@ -32,7 +32,7 @@ module _ {S : Type 0} (g : Grammar S Fault) (text : S → List ℕ) (grows : Gro
             },
           )
         | inr x ↦
-            breaks_from (g.add at e) t es (bytes ++ e) rest x.0 later.0 (Spelt-append g s bytes at e (g.add at e) spelt (Spelt-one g at e next)) leads.1 taken (puts_both text s at (g.add at e) h m x.0 puts (more.0, more.1, x.2)) x.1 later.1 x.3
+            breaks_from (g.add at e) t es (bytes ++ e) rest x.0 later.0 (Spelt-append _ _ _ _ _ _ spelt (Spelt-one _ _ _ next)) leads.1 taken (puts_both text _ _ _ _ _ _ puts (more.0, more.1, x.2)) x.1 later.1 x.3
       ]
 
   -- a piece was read at once, and a write of its text failed: it failed in that of one of its elements

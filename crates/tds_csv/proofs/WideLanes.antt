@@ -56,5 +56,5 @@ three_each (a ∷ b ∷ c ∷ d ∷ []) ws long fits is =
     let fc = word_fits c fits.1.1.0.fits in
     let fd = word_fits d fits.1.1.1.0.fits in
     let all = ap (λ l. digits_l 256 16 (number_l 4294967296 l)) is ∙ bytes_of_words 4 (map word (a ∷ b ∷ c ∷ d ∷ [])) refl (fa.3, (fb.3, (fc.3, (fd.3, tt)))) in
-    ap (λ bs. take 12 (woven bs)) all ∙ (λ i. fa.0 i ∷ fa.1 i ∷ fa.2 i ∷ fb.0 i ∷ fb.1 i ∷ fb.2 i ∷ fc.0 i ∷ fc.1 i ∷ fc.2 i ∷ fd.0 i ∷ fd.1 i ∷ fd.2 i ∷ [])
+    ap (λ bs. take 12 (woven bs)) all ∙ (cc)
 three_each us ws long fits is = absurd (omega arith)
