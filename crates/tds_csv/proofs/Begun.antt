@@ -19,7 +19,7 @@ stopped_front : (old piece : List ℕ) (whole good : ℕ) → utf8.Begins old �
 stopped_front old piece whole good begins stops =
     let after = after_kept old piece (old ++ piece) good refl begins stops.bad in
     let n = good - length old in
-    let at : good ≡ length old + n = omega (arith, after) in
+    let at : good ≡ length old + n = omega arith in
     grind (arith, after_kept, take-append-add, length-append)
 
 utf8_front : (old piece : List ℕ) (fault : Option ℕ) → utf8_error_len (utf8.rest (old ++ piece)) ≡ fault → utf8.Begins old → BegunFront Utf8Text old piece
@@ -35,7 +35,7 @@ begun_front c old piece begins = grind (arith, utf8_front, take_all)
 odd_front : (d : List ℕ) (x : ℕ) → (length (d ++ x ∷ []) % 2 ≡ 0 → ⊥) → utf16_laws.front (d ++ x ∷ []) ≡ utf16_laws.front d
 odd_front [] x odd = refl
 odd_front (low ∷ high ∷ []) x odd = refl
-odd_front (low ∷ high ∷ low' ∷ high' ∷ bytes) x odd = ap (λ l. low ∷ high ∷ l) (odd_front (low' ∷ high' ∷ bytes) x (λ e. odd (omega (arith, e))))
+odd_front (low ∷ high ∷ low' ∷ high' ∷ bytes) x odd = ap (λ l. low ∷ high ∷ l) (odd_front (low' ∷ high' ∷ bytes) x (λ e. odd (omega arith)))
 odd_front bytes x odd = absurd (odd (omega arith))
 
 -- a byte after which no character ends completes none

@@ -10,7 +10,7 @@ same_prefix P same (x ∷ xs) each = ap₂ (λ b n. cond b (1 + n) 0) (same x ea
 pub run_before : (bit n : ℕ) (f : ℕ → ℕ) (v : List ℕ) {z : List ℕ} → length v ≡ n → n ≤ 64 → z ≡ map f v → first_set (mask_l (map (top bit) z) % 2 ^ 64) n ≡ prefix_len (λ x. not (top bit (f x))) v
 run_before bit n f v long few lanes =
     let stops = λ (x : ℕ). top bit (f x) in
-    let mask = mask_l-mod (map stops v) 64 (omega (arith, length-map v stops, long, few)) in
+    let mask = mask_l-mod (map stops v) 64 (omega (arith, length-map v stops)) in
     rw (lanes, map-map (top bit) f v, mask) (first_set_mask_l stops v n long few)
 
 -- a lane stops just where q fails
@@ -27,5 +27,5 @@ run_most q d i n room = omega (arith, prefix_len-le-length q (chunk i n d), leng
 pub alike : (bytes source : List ℕ) (at n : ℕ) → LiesIn bytes source → n ≤ 16 → at + n ≤ length bytes → take n (drop at bytes) ≡ take n (chunk at 16 source)
 alike bytes source at n lies few within =
     let k = length bytes - at in
-    let all : at + k ≡ length bytes = omega (arith, within) in
-    rw (← lies.front, ← all, drop-take at k source, take-take n k (drop at source) (omega (arith, within)), take-take n 16 (drop at source) few) refl
+    let all : at + k ≡ length bytes = omega arith in
+    rw (← lies.front, ← all, drop-take at k source, take-take n k (drop at source) (omega arith), take-take n 16 (drop at source) few) refl

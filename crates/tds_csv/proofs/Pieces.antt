@@ -32,11 +32,11 @@ module _ {S : Type 0} (g : Grammar S Fault) (text : S → List ℕ) (grows : Gro
             },
           )
         | inr x ↦
-            breaks_from (g.add at e) t es (bytes ++ e) rest x.0 later.0 (Spelt-append _ _ _ _ _ _ spelt (Spelt-one _ _ _ next)) leads.1 taken (puts_both text _ _ _ _ _ _ puts (more.0, more.1, x.2)) x.1 later.1 x.3
+            breaks_from (g.add at e) t es _ rest _ _ (Spelt-append _ _ _ _ _ _ spelt (Spelt-one _ _ _ next)) leads.1 taken (puts_both text _ _ _ _ _ _ puts (more.0, more.1, x.2)) x.1 later.1 x.3
       ]
 
   -- a piece was read at once, and a write of its text failed: it failed in that of one of its elements
   pub breaks_somewhere : (t : S) (piece rest : List ℕ) (added : List ℕ) → Spelt g s piece t → Takes a b (piece ++ rest) 1 → length h.waiting < 4096 → h.delivered ≤ 2 ^ 64 - 1 → text s ++ added ≡ text t → Breaks h j added stop
       → (at : S) × BreaksStreaming g text s a b h j at stop
   breaks_somewhere t piece rest added spelt takes few delivered text_is breaks =
-      breaks_from s t spelt.elements [] rest h added (Spelt-none g s) spelt.leads (subst (λ l. Takes a b (l ++ rest) 1) (sym spelt.joined) takes) ([], append-nil (text s), Puts-none h delivered) few text_is breaks
+      breaks_from _ t _ [] rest h added (Spelt-none g s) spelt.leads (rw spelt.joined takes) ([], append-nil (text s), Puts-none h delivered) few text_is breaks

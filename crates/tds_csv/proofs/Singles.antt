@@ -34,4 +34,4 @@ module _ (text : List ℕ → List ℕ) (appends : (x y : List ℕ) → text (x 
 
     -- those that were found among the next 16
     pub lanes_itself : (bytes : List ℕ) (at n : ℕ) → n ≤ 16 → n ≡ prefix_len q (chunk at 16 bytes) → take n (chunk at 16 bytes) ≡ text (take n (drop at bytes))
-    lanes_itself bytes at n few e = sym (some_itself n (chunk at 16 bytes) (omega (arith, e))) ∙ ap text (take-take n 16 (drop at bytes) few)
+    lanes_itself bytes at n few e = sym (some_itself n (chunk at 16 bytes) (omega arith)) ∙ ap text (take-take n 16 (drop at bytes) few)

@@ -19,7 +19,7 @@ split_at a b p r sent n adds enough below above =
     let sizes : length sent ≡ length first + length (drop k sent) = omega (arith, length-drop k sent) in (
       record { had = append_known a.had first; waiting = drop k all; delivered = counted a.delivered (length first); failures = a.failures },
       omega (arith, length-drop k all),
-      (first, n, (grind (arith), sym (take-append-drop k all), refl), size, refl),
+      (first, n, (grind arith, sym (take-append-drop k all), refl), size, refl),
       (
         (let all_sent : Appends a.had b.had (first ++ drop k sent) = subst (Appends a.had b.had) parts adds.0 in grind (arith, append_assoc)),
         sym (drop-append-le k all r below) ∙ ap (drop k) joined ∙ drop-append-le k sent b.waiting enough,
@@ -45,7 +45,7 @@ Breaks_split a b p q stop x = elim (dec_le x.2 (length p)) [
   | no above ↦
       let i = x.2 - length p in
       let n = length (a.waiting ++ p) / 4096 in
-      let at : length p + i ≡ x.2 = omega (arith, above) in
+      let at : length p + i ≡ x.2 = omega arith in
       let fits : i ≤ length q = omega (arith, length-append p q, x.4) in
       let adds = subst (Adds a b x.0) (ap (λ k. take k (p ++ q)) (sym at) ∙ take-append-add p q i) x.3 in
       let total = total_of a b p (take i q) x.0 adds in

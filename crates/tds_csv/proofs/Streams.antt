@@ -3,7 +3,7 @@ use Rattle.tds_csv.proofs.{Words.{◌≡◌, ◌∙◌, inl, inr, ℕ, ◌+◌, 
 
 -- a state where a reading stops has a next element
 pub stops_size : {S : Type 0} (g : Grammar S Fault) (from : S) (a b : Seen) (place : ℕ) (at : S) (stop : Stop) → StopsReading g from a b place at stop → 0 < g.size at
-stops_size g from a b place at stop r = grind (arith)
+stops_size g from a b place at stop r = grind arith
 
 -- the text between three states, put by two calls
 pub puts_both : {S : Type 0} (text : S → List ℕ) (s t u : S) (a b c : Held) → PutsText text s t a b → PutsText text t u b c → PutsText text s u a c

@@ -18,14 +18,14 @@ Apart (u ∷ []) vs = (is_high_surrogate u && starts_low vs) ≡ false
 Apart (u ∷ v ∷ us) vs = Apart (v ∷ us) vs
 
 Apart-tail : (v : ℕ) (us vs : List ℕ) → Apart (v ∷ us) vs → Apart us vs
-Apart-tail v us vs h = grind (arith)
+Apart-tail v us vs h = grind arith
 
 -- the characters of units that are cut where no pair lies
 pub chars-apart : (us vs : List ℕ) → Apart us vs → utf16_chars (us ++ vs) ≡ utf16_chars us ++ utf16_chars vs
 unfolding utf16_chars starts_low
 chars-apart [] vs h = refl
 chars-apart (u ∷ []) [] h = refl
-chars-apart (u ∷ []) (v ∷ vs) h = grind (arith)
+chars-apart (u ∷ []) (v ∷ vs) h = grind arith
 chars-apart (u ∷ v ∷ us) vs h = grind (arith, Apart-tail, chars-apart us vs (Apart-tail v us vs h), chars-apart (v ∷ us) vs h)
 
 pub high_is_not_low : (u : ℕ) → is_high_surrogate u ≡ true → is_low_surrogate u ≡ false
@@ -41,10 +41,10 @@ front (low ∷ high ∷ low' ∷ high' ∷ bytes) = low ∷ high ∷ front (low'
 
 -- a unit that is no high surrogate is settled, whatever follows
 pub front_step : (low high : ℕ) (bytes : List ℕ) → is_high low high ≡ false → front (low ∷ high ∷ bytes) ≡ low ∷ high ∷ front bytes
-front_step low high bytes h = grind (arith)
+front_step low high bytes h = grind arith
 
 pub rest_step : (low high : ℕ) (bytes : List ℕ) → is_high low high ≡ false → rest (low ∷ high ∷ bytes) ≡ rest bytes
-rest_step low high bytes h = grind (arith)
+rest_step low high bytes h = grind arith
 
 -- bytes and what follows them, seen from the bytes that are withheld
 record Seam (a b : List ℕ) : Type 0 where
@@ -56,11 +56,11 @@ record Seam (a b : List ℕ) : Type 0 where
   few : length (rest a) ≤ 3
 
 seam : (a b : List ℕ) → Seam a b
-seam [] b = grind (arith)
-seam (odd ∷ []) b = grind (arith)
+seam [] b = grind arith
+seam (odd ∷ []) b = grind arith
 seam (low ∷ high ∷ []) b = grind (arith, front_step, rest_step)
 seam (low ∷ high ∷ odd ∷ []) b = grind (arith, front_step, rest_step)
-seam (low ∷ high ∷ low' ∷ high' ∷ bytes) b = let more = seam (low' ∷ high' ∷ bytes) b in grind (arith)
+seam (low ∷ high ∷ low' ∷ high' ∷ bytes) b = let more = seam (low' ∷ high' ∷ bytes) b in grind arith
 
 -- one unit before the front of what follows it
 Apart-cons : (u : ℕ) (a : List ℕ) (low high : ℕ) (vs : List ℕ) → (starts_high (units (rest (low ∷ high ∷ a))) ≡ true → starts_low vs ≡ false) → Apart (units (front (low ∷ high ∷ a))) vs → Apart (u ∷ units (front (low ∷ high ∷ a))) vs
@@ -70,8 +70,8 @@ Apart-cons u a low high vs f h = grind (arith, and_right)
 Apart-front : (a vs : List ℕ) → (starts_high (units (rest a)) ≡ true → starts_low vs ≡ false) → Apart (units (front a)) vs
 Apart-front [] vs f = tt
 Apart-front (odd ∷ []) vs f = tt
-Apart-front (low ∷ high ∷ []) vs f = grind (arith)
-Apart-front (low ∷ high ∷ odd ∷ []) vs f = grind (arith)
+Apart-front (low ∷ high ∷ []) vs f = grind arith
+Apart-front (low ∷ high ∷ odd ∷ []) vs f = grind arith
 Apart-front (low ∷ high ∷ low' ∷ high' ∷ bytes) vs f = grind (arith, Apart-cons, Apart-front (low' ∷ high' ∷ bytes) vs f)
 
 -- the text of units is that of both parts where no pair lies across

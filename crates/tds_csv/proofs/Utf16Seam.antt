@@ -19,7 +19,7 @@ none_leads piece none = rw none (Leads-after [] piece)
 
 -- some bytes are withheld
 seam_some : (kept piece : List ℕ) → 0 < length kept → seam kept piece ≡ kept ++ take 3 piece
-seam_some kept piece some = grind (arith)
+seam_some kept piece some = grind arith
 
 pub some_leads : {kept own : List ℕ} (piece bytes : List ℕ) (used : ℕ) → kept ≡ own → 0 < length kept → 3 ≤ length piece → bytes ≡ kept ++ take 3 piece → LeavesRest bytes 0 used → Leads rest text (own ++ piece) (drop (used - length kept) piece) (emit rest text (seam own piece))
 some_leads {kept = kept} piece bytes used same some long is left =

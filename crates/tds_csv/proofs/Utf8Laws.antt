@@ -34,11 +34,11 @@ longest_is bs m below within u = longest_up_to bs (length bs) m below within u
 
 pub length-front : (bs : List ℕ) → length (front bs) ≡ utf8_valid_len bs
 unfolding front
-length-front bs = length-take-le (utf8_valid_len bs) bs (utf8_valid_len_le bs)
+length-front bs = length-take-le _ bs (utf8_valid_len_le bs)
 
 pub front-rest : (bs : List ℕ) → bs ≡ front bs ++ rest bs
 unfolding front
-front-rest bs = sym (take-append-drop (utf8_valid_len bs) bs)
+front-rest bs = sym (take-append-drop _ bs)
 
 -- what follows a text in a text is a text
 pub after_text : (w z : List ℕ) → IsUtf8 w → IsUtf8 (w ++ z) → IsUtf8 z

@@ -23,17 +23,17 @@ record Good (r : List ℕ) (j : ℕ) : Type 0 where
 -- the number of good bytes of four or more, by the tests of three
 by_tests : (f s n : Bool) (k : ℕ) (P : ℕ → Type 0) → cond f (cond s (cond n (Some 3) (Some 2)) (Some 1)) (Some 1) ≡ Some k
     → (f ≡ false → P 0) → (f ≡ true → s ≡ false → P 1) → (f ≡ true → s ≡ true → n ≡ false → P 2) → (f ≡ true → s ≡ true → n ≡ true → P 3) → P (cond f k 0)
-by_tests f s n k P e none one two three = grind (arith)
+by_tests f s n k P e none one two three = grind arith
 
 -- the number of good bytes, from the fault
 good_of : (r : List ℕ) (k : ℕ) → utf8_error_len r ≡ Some k → Good r (cond (is_first (get_or r 0 0)) k 0)
 unfolding utf8_error_len
 good_of [] k e = cc
-good_of (x ∷ []) k e = grind (arith)
+good_of (x ∷ []) k e = grind arith
 good_of (x ∷ y ∷ []) k e = grind (arith, common_steps)
 good_of (x ∷ y ∷ z ∷ []) k e = grind (arith, common_steps)
 good_of (x ∷ y ∷ z ∷ w ∷ t) k e =
-    by_tests (is_first x) (is_second x y) (is_next z) k (Good (x ∷ y ∷ z ∷ w ∷ t)) (sym (fault_four x y z w t) ∙ e) (λ f. grind (arith)) (λ f s. grind (arith)) (λ f s n. grind (arith)) (λ f s n. grind (arith, nat_eq, nat_tests, nat_lt))
+    by_tests (is_first x) (is_second x y) (is_next z) k (Good (x ∷ y ∷ z ∷ w ∷ t)) (sym (fault_four x y z w t) ∙ e) (λ f. grind arith) (λ f s. grind arith) (λ f s n. grind arith) (λ f s n. grind (arith, nat_eq, nat_tests, nat_lt))
 
 -- a part of what has no text at its front has none either
 rest_part : (r : List ℕ) (j : ℕ) → NoText r → j ≤ length r → rest (take j r) ≡ take j r

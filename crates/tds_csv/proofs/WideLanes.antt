@@ -39,7 +39,7 @@ bytes_of_words : (n : ℕ) (xs : List ℕ) → length xs ≡ n → Each1 (λ x. 
 bytes_of_words zero [] long fits = refl
 bytes_of_words (suc n) (x ∷ xs) long fits =
     let four : 4 * suc n ≡ suc (suc (suc (suc (4 * n)))) = omega arith in
-    rw four (grind (arith, fits.0, bytes_of_words n xs (omega (arith, long)) fits.1))
+    rw four (grind (arith, fits.0, bytes_of_words n xs (omega arith) fits.1))
 bytes_of_words n xs long fits = absurd (omega arith)
 
 -- of each four the first three, and then the last

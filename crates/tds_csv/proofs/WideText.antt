@@ -22,7 +22,7 @@ short_bytes u h = grind (arith, nat_tests, of_one, of_two)
 
 -- a lane of units
 pub lane_at : (f : ℕ → ℕ) (us : List ℕ) {lanes : List ℕ} {i : ℕ} → lanes ≡ map f us → length us ≡ 8 → i < 8 → get_or lanes i 0 ≡ f (get_or us i 0)
-lane_at f us {i = i} is long within = rw is (get_or-map f us i 0 0 (omega (arith, long, within)))
+lane_at f us {i = i} is long within = rw is (get_or-map f us i 0 0 (omega arith))
 
 -- a short character has one byte or two
 pub sized : (u : ℕ) → (1 ≤ size u) × (size u ≤ 2)
@@ -36,7 +36,7 @@ pub one_more : (front : List ℕ) {old new more : List ℕ} (us : List ℕ) (i :
 one_more front us i long within before after is = grind (arith, common_steps, encode_utf8_all, take_more, encodes-append, append-nil, append_assoc)
 
 first_holds : {b : Bool} {k n : ℕ} → suc k ≤ cond b (1 + n) 0 → (b ≡ true) × (k ≤ n)
-first_holds h = grind (arith)
+first_holds h = grind arith
 
 -- characters of ASCII stand for themselves
 pub plain_text : (n : ℕ) (us : List ℕ) → n ≤ prefix_len is_plain us → encode_utf8_all (take n us) ≡ take n us
@@ -66,14 +66,14 @@ same_front k n xs ys few e = sym (take-take k n xs few) ∙ ap (take k) e ∙ ta
 
 -- at most four long characters are in the first half
 pub low_half : (n : ℕ) (us low : List ℕ) → length us ≡ 8 → Each1 (Fits w16) us → n ≤ prefix_len is_long us → n ≤ 4 → take 12 low ≡ triples (quad us 0) → take (3 * n) low ≡ encode_utf8_all (take n us)
-low_half n us low long fits few half is = same_front (3 * n) 12 low (triples us) (omega (arith, half)) (is ∙ (halved us long).0) ∙ long_text n us few fits
+low_half n us low long fits few half is = same_front (3 * n) 12 _ _ (omega arith) (is ∙ (halved us long).0) ∙ long_text n us few fits
 
 -- and more are in both
 pub both_halves : (n : ℕ) (us low high : List ℕ) → length us ≡ 8 → Each1 (Fits w16) us → n ≤ prefix_len is_long us → 4 ≤ n → take 12 low ≡ triples (quad us 0) → take 12 high ≡ triples (quad us 4) → take 12 low ++ take (3 * (n - 4)) high ≡ encode_utf8_all (take n us)
 both_halves n us low high long fits few half is_low is_high =
     let h = halved us long in
-    let back = same_front (3 * (n - 4)) 12 high (drop 12 (triples us)) (omega (arith, long, few, prefix_len-le-length is_long us)) (is_high ∙ h.1) in
-    let all : 12 + 3 * (n - 4) ≡ 3 * n = omega (arith, half) in
+    let back = same_front (3 * (n - 4)) 12 _ _ (omega (arith, prefix_len-le-length is_long us)) (is_high ∙ h.1) in
+    let all : 12 + 3 * (n - 4) ≡ 3 * n = omega arith in
     rw (is_low ∙ h.0, back, ← take-add 12 (3 * (n - 4)) (triples us), all) (long_text n us few fits)
 
 -- the low bytes of characters of ASCII are their units
@@ -84,9 +84,9 @@ low_units (suc n) (low ∷ high ∷ ys) few =
 low_units n ys few = absurd (omega arith)
 
 length-units : (xs : List ℕ) → length (units xs) ≡ length xs / 2
-length-units [] = grind (arith)
-length-units (low ∷ []) = grind (arith)
-length-units (low ∷ high ∷ xs) = let more = length-units xs in grind (arith)
+length-units [] = grind arith
+length-units (low ∷ []) = grind arith
+length-units (low ∷ high ∷ xs) = let more = length-units xs in grind arith
 
 module _ (q : ℕ → Bool) (single : (u : ℕ) → q u ≡ true → IsSingle u) where
   leads_single : (low high : ℕ) (more : List ℕ) → q (low + 256 * high) ≡ true → Leads rest text (low ∷ high ∷ more) more (encode_utf8 (low + 256 * high))
@@ -107,7 +107,7 @@ module _ (q : ℕ → Bool) (single : (u : ℕ) → q u ≡ true → IsSingle u)
   units_more {bytes} {source} {us} {at = at} n lies room is few within small written before =
       let ys = chunk at 16 source in
       let eight : length us ≡ 8 = omega (arith, ap length is, length-units ys, length-chunk at 16 source room) in
-      let same = alike bytes source at (2 * n) lies (omega (arith, eight, few, prefix_len-le-length q us)) within in
+      let same = alike bytes source at (2 * n) lies (omega (arith, prefix_len-le-length q us)) within in
       let next = rw (← same, take-append-drop, drop-drop (2 * n) at bytes, ← is) at (leads_front n ys (drop (2 * n) (drop at bytes)) (rw is at few)) in
       record { within = within; room = omega (arith, before.room); leads = rw written (Leads-trans before.leads next) }
 

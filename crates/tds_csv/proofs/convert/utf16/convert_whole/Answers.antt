@@ -10,8 +10,8 @@ two_left bytes used whole leaves some = grind (arith, common_steps, joins_utf16,
 left_text : (bytes tail : List ℕ) → tail ≡ utf16.rest bytes → length tail ≡ 2 → utf16.text tail ≡ doubled (encode_utf8 0xFFFD)
 left_text bytes tail is two =
     let again = rw (append-nil, append-nil, ← is) at (joins_utf16.keeps bytes [] tt) in
-    let none : drop 2 tail ≡ [] = nil_of_length (drop 2 tail) (omega (arith, length-drop 2 tail, two)) in
-    ap doubled (spells_held tail (omega (arith, two)) (ap (λ n. n % 2) two) (sym again) ∙ ap (λ l. encode_utf8 0xFFFD ++ utf16.characters l) none ∙ ap (λ l. encode_utf8 0xFFFD ++ l) characters_nil ∙ append-nil (encode_utf8 0xFFFD))
+    let none : drop 2 tail ≡ [] = nil_of_length (drop 2 tail) (omega (arith, length-drop 2 tail)) in
+    ap doubled (spells_held tail (omega arith) (ap (λ n. n % 2) two) (sym again) ∙ ap (λ l. encode_utf8 0xFFFD ++ utf16.characters l) none ∙ ap (λ l. encode_utf8 0xFFFD ++ l) characters_nil ∙ append-nil (encode_utf8 0xFFFD))
 
 -- so the text of whole data ends with it
 ended : (bytes tail : List ℕ) → length bytes % 2 ≡ 0 → tail ≡ utf16.rest bytes → length tail ≡ 2 → utf16.text bytes ≡ emit utf16.rest utf16.text bytes ++ doubled (encode_utf8 0xFFFD)
