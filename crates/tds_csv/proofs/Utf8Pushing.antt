@@ -27,9 +27,9 @@ after_kept kept piece bytes k is begun bad = elim (cases_lt k (length kept)) [
 ]
 
 -- bytes that are withheld, and a piece, taken as one
-up_to_seam : (kept piece bytes new : List ℕ) (a b : Held) (k : ℕ) → bytes ≡ kept ++ piece → Begins kept → TakesUpTo Begins rest text [] new a b bytes k → TakesUpTo Begins rest text kept new a b piece (k - length kept)
-up_to_seam kept piece bytes new a b k is begun x =
-    let past = after_kept kept piece bytes k is begun x.bad in
+up_to_seam : {kept piece bytes new : List ℕ} {a b : Held} {k : ℕ} → bytes ≡ kept ++ piece → Begins kept → TakesUpTo Begins rest text [] new a b bytes k → TakesUpTo Begins rest text kept new a b piece (k - length kept)
+up_to_seam {kept} {k = k} is begun x =
+    let past = after_kept _ _ _ _ is begun x.bad in
     let j = k - length kept in
     let split : k ≡ length kept + j = omega arith in
     let after : k + 1 ≡ length kept + (j + 1) = omega arith in
@@ -77,10 +77,8 @@ up_to_first n k long x = grind (arith, length-take-le, take-take)
 
 module _ {W U : Type 0} {contents : W → Option (List ℕ)} {a b : Sink W} {kept new : List ℕ} where
   -- bytes that are withheld, and a piece, taken as one up to a bad byte
-  pub pushes_seam : (piece bytes : List ℕ) (k : ℕ) → bytes ≡ kept ++ piece → Begins kept → PushesPiece {U = U} contents Begins rest text [] new a b bytes (Err (BadText k)) → PushesPiece {U = U} contents Begins rest text kept new a b piece (Err (BadText (k - length kept)))
-  pushes_seam piece bytes k is begun x =
-      let found = up_to_seam kept piece bytes new (held contents a) (held contents b) k is begun x.gives in
-      record { ready = x.ready; same = x.same; failed = x.failed; gives = found; begun = x.begun; again = λ failed. absurd (cc ((x.again failed).0)) }
+  pub pushes_seam : {piece bytes : List ℕ} {k : ℕ} → bytes ≡ kept ++ piece → Begins kept → PushesPiece {U = U} contents Begins rest text [] new a b bytes (Err (BadText k)) → PushesPiece {U = U} contents Begins rest text kept new a b piece (Err (BadText (k - length kept)))
+  pushes_seam is begun x = record { ready = x.ready; same = x.same; failed = x.failed; gives = up_to_seam is begun x.gives; begun = x.begun; again = λ failed. absurd (cc ((x.again failed).0)) }
 
   -- a push of the first bytes of a piece failed
   first_gives : (piece : List ℕ) (n : ℕ) (e : JoinFault) → n ≤ length piece → PushesPiece {U = U} contents Begins rest text kept new a b (take n piece) (Err e) → Pushes {U = U} Begins rest text kept new (held contents a) (held contents b) a.failed piece (Err e)
@@ -91,8 +89,8 @@ module _ {W U : Type 0} {contents : W → Option (List ℕ)} {a b : Sink W} {kep
   first_gives piece n (BadText k) long x = up_to_first n k long x.gives
 
   -- and `?` passed its error on
-  pub pushes_passed : (piece : List ℕ) (n : ℕ) {e : JoinFault} {r : Result U JoinFault} → n ≤ length piece → IsErrAnd r (λ fault. fault ≡ e) → PushesPiece {U = U} contents Begins rest text kept new a b (take n piece) (Err e) → PushesPiece contents Begins rest text kept new a b piece r
-  pushes_passed piece n {e = e} {r = r} long is x = grind (arith, common_steps, err_from_is_err_and, first_gives)
+  pub pushes_passed : {piece : List ℕ} {n : ℕ} {e : JoinFault} {r : Result U JoinFault} → n ≤ length piece → IsErrAnd r (λ fault. fault ≡ e) → PushesPiece {U = U} contents Begins rest text kept new a b (take n piece) (Err e) → PushesPiece contents Begins rest text kept new a b piece r
+  pushes_passed long is x = grind (arith, common_steps, err_from_is_err_and, first_gives)
 
 module _ {W U V : Type 0} {contents : W → Option (List ℕ)} {a b d : Sink W} {kept mid new part : List ℕ} {u : U} (more : List ℕ) (at : ℕ) (le : at + length mid ≡ length part) (x : PushesPiece contents Begins rest text kept mid a b part (Ok u)) where
   -- the first bytes of a piece were taken, and then what was withheld was pushed with the others
@@ -101,20 +99,20 @@ module _ {W U V : Type 0} {contents : W → Option (List ℕ)} {a b d : Sink W} 
   both_give (Err (Stopped stop)) y = λ _. rw (halves kept part more x.gives.withheld).0 (Breaks-after _ _ _ _ _ _ x.gives.put (y.gives x.failed))
   both_give (Err Odd) y = y.gives
   both_give (Err (BadText k)) y =
-      let past = after_kept mid more (mid ++ more) k refl x.begun y.gives.bad in
+      let past = after_kept mid more _ k refl x.begun y.gives.bad in
       let n = k - length mid in
       let here : length mid + n ≡ k = omega arith in
       let there : length part + n ≡ at + k = omega arith in
       rw (← there) (up_to_both x.gives more n (rw here y.gives))
 
   pushes_both : {r : Result V JoinFault} → PushesPiece contents Begins rest text [] new b d (mid ++ more) r → PushesPiece contents Begins rest text kept new a d (part ++ more) (moved_by at r)
-  pushes_both {r = r} y = grind (arith, common_steps, both_give)
+  pushes_both y = grind (arith, common_steps, both_give)
 
 -- the first three bytes of a piece were taken, and then what was withheld was pushed with the others
-pub pushes_long : {W U V : Type 0} {contents : W → Option (List ℕ)} {a b d : Sink W} {kept mid new : List ℕ} {u : U} {r : Result V JoinFault} (piece held' : List ℕ) → 3 ≤ length piece → held' ≡ mid → length mid ≤ 3
+pub pushes_long : {W U V : Type 0} {contents : W → Option (List ℕ)} {a b d : Sink W} {kept mid new : List ℕ} {u : U} {r : Result V JoinFault} {piece held' : List ℕ} → 3 ≤ length piece → held' ≡ mid → length mid ≤ 3
     → PushesPiece contents Begins rest text kept mid a b (take 3 piece) (Ok u) → PushesPiece contents Begins rest text [] new b d (take (length piece - (3 - length held')) (drop (3 - length held') piece)) r
     → PushesPiece contents Begins rest text kept new a d piece (moved_by (3 - length held') r)
-pushes_long {kept = kept} {mid = mid} piece held' long same le x y =
+pushes_long {kept = kept} {mid = mid} {piece = piece} {held' = held'} long same le x y =
     let at = 3 - length held' in
     let whole : at + length mid ≡ length (take 3 piece) = omega (arith, ap length same, length-take-le 3 piece long) in
     let tail = rw take-append-drop at (kept_tail kept (take 3 piece) (drop 3 piece) mid at x.gives.withheld whole) in

@@ -5,7 +5,7 @@ pub returns-then-scan-bytes : goal.returns-then-scan-bytes
 returns-then-scan-bytes g c =
     let seen = held g.W.Write.contents in
     let taken : TakesUpTo Begins rest text [] c.extend.new.self (seen c.args.sink.now) (seen c.put_whole.new.sink) c.args.bytes.now c.in_ok-scan.scan.good = search rules in
-    pushes_up_to c.in_ok-scan.scan.good c.requires.writing.writing (rest_begins _ taken.good.withheld taken.good.begun) taken c.in_ok-scan.ensures.puts
+    pushes_up_to c.requires.writing.writing (rest_begins _ taken.good.withheld taken.good.begun) taken c.in_ok-scan.ensures.puts
 
 pub returns : goal.returns
 returns g c =
