@@ -7,4 +7,4 @@ returns-clause-taken c = grind (arith, common_steps, run_most, plain_lanes, alik
 pub put_bytes-requires-clause-within : goal.put_bytes-requires-clause-within
 put_bytes-requires-clause-within c =
     let room : c.args.at + 16 ≤ length c.args.source.now = search (arith, rules) in
-    omega (arith, run_most is_plain c.args.source.now c.args.at 16 room, c.plain_run.ensures)
+    omega (arith, run_most is_plain c.args.source.now c.args.at 16 room)
