@@ -21,7 +21,7 @@ module _ {S : Type 0} (g : Grammar S Fault) (text : S → List ℕ) (grows : Gro
               ahead = concat es ++ rest;
               spelt = spelt;
               next = next;
-              takes = Takes-more a b _ 1 (length (bytes ++ e)) (omega (arith, length-append bytes e, next.some)) (rw (append_assoc (bytes ++ e) (concat es) rest) at taken);
+              takes = Takes-more a b _ 1 (length (bytes ++ e)) (omega (arith, length-append bytes e)) (rw (append_assoc (bytes ++ e) (concat es) rest) at taken);
               between = between;
               middle = m;
               few = few;

@@ -14,13 +14,13 @@ pub Puts-none : (a : Held) → a.delivered ≤ 2 ^ 64 - 1 → Puts a a []
 Puts-none a h = ([], 0, (Appends-nil a.had, append-nil a.waiting, counted-none a.delivered h), refl, refl)
 
 pub Puts-trans : (a b c : Held) (p q : List ℕ) → Puts a b p → Puts b c q → Puts a c (p ++ q)
-Puts-trans a b c p q x y = (x.0 ++ y.0, x.1 + y.1, Adds-trans a b c _ _ _ _ x.2 y.2, omega (arith, length-append x.0 y.0, x.3, y.3), y.4 ∙ x.4)
+Puts-trans a b c p q x y = (x.0 ++ y.0, x.1 + y.1, Adds-trans a b c _ _ _ _ x.2 y.2, omega (arith, length-append x.0 y.0), y.4 ∙ x.4)
 
 pub Breaks-after : (a b c : Held) (p q : List ℕ) (e : Stop) → Puts a b p → Breaks b c q e → Breaks a c (p ++ q) e
 Breaks-after a b c p q e x y =
     let len = length-append x.0 y.0 in
     let adds = rw (← take-append-add p q y.2) at (Adds-trans a b c _ _ p (take y.2 q) x.2 y.3) in
-    (x.0 ++ y.0, x.1 + y.1, length p + y.2, adds, omega (arith, length-append p q, y.4), omega (arith, x.3, y.5), omega (arith, x.3, y.6), omega (arith, x.3, y.7), y.8, y.9 ∙ ap one_more x.4)
+    (x.0 ++ y.0, x.1 + y.1, length p + y.2, adds, omega (arith, length-append p q), omega arith, omega arith, omega arith, y.8, y.9 ∙ ap one_more x.4)
 
 pub Breaks-longer : (a b : Held) (p more : List ℕ) (e : Stop) → Breaks a b p e → Breaks a b (p ++ more) e
 Breaks-longer a b p more e x = grind (arith, take-append-le, length-append)

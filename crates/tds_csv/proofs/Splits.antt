@@ -46,7 +46,7 @@ Breaks_split a b p q stop x = elim (dec_le x.2 (length p)) [
       let i = x.2 - length p in
       let n = length (a.waiting ++ p) / 4096 in
       let at : length p + i ≡ x.2 = omega arith in
-      let fits : i ≤ length q = omega (arith, length-append p q, x.4) in
+      let fits : i ≤ length q = omega (arith, length-append p q) in
       let adds = subst (Adds a b x.0) (ap (λ k. take k (p ++ q)) (sym at) ∙ take-append-add p q i) x.3 in
       let total = total_of a b p (take i q) x.0 adds in
       let size = length-take-le i q fits in
@@ -54,5 +54,5 @@ Breaks_split a b p q stop x = elim (dec_le x.2 (length p)) [
       let full : length x.0 + length b.waiting ≡ 4096 * (x.1 + 1) = x.7 in
       let s = split_at a b p (take i q) x.0 n adds (omega arith) (omega arith) (omega arith) in
       let left = length-drop (4096 * n) x.0 in
-      inr (s.0, s.1, s.2, (drop (4096 * n) x.0, x.1 - n, i, s.3, fits, omega arith, omega (arith, x.6), omega arith, x.8, x.9 ∙ ap one_more (sym s.4)), s.5)
+      inr (s.0, s.1, s.2, (drop (4096 * n) x.0, x.1 - n, i, s.3, fits, omega arith, omega arith, omega arith, x.8, x.9 ∙ ap one_more (sym s.4)), s.5)
 ]

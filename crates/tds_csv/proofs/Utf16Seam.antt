@@ -24,7 +24,7 @@ seam_some kept piece some = grind arith
 pub some_leads : {kept own : List ℕ} (piece bytes : List ℕ) (used : ℕ) → kept ≡ own → 0 < length kept → 3 ≤ length piece → bytes ≡ kept ++ take 3 piece → LeavesRest bytes 0 used → Leads rest text (own ++ piece) (drop (used - length kept) piece) (emit rest text (seam own piece))
 some_leads {kept = kept} piece bytes used same some long is left =
     let three : length (take 3 piece) ≡ 3 = length-take-le 3 piece long in
-    let past : length kept ≤ used = omega (arith, left.most, three, ap length is, length-append kept (take 3 piece)) in
+    let past : length kept ≤ used = omega (arith, ap length is, length-append kept (take 3 piece)) in
     rw (← same, seam_some kept piece some, ← is) (Leads-seam joins_utf16 kept piece bytes 3 used is tt past left.within left.rest)
 
 -- what stands after the bytes that were used is withheld

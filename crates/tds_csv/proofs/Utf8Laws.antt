@@ -121,7 +121,7 @@ begun_rest a b =
     ]
 
 short : (a : List ℕ) → Begins a → length (rest a) ≤ 3
-short a begins = elim (begun_rest a begins) [ inl none ↦ omega (arith, ap length none) | inr part ↦ omega (arith, part.4, length-encode part.0, len_utf8_bounds part.0) ]
+short a begins = elim (begun_rest a begins) [ inl none ↦ omega (arith, ap length none) | inr part ↦ omega (arith, length-encode part.0, len_utf8_bounds part.0) ]
 
 -- what follows, seen from the front
 seam : (a b more : List ℕ) → (a ++ b) ++ more ≡ front a ++ ((rest a ++ b) ++ more)

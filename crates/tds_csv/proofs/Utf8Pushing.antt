@@ -66,7 +66,7 @@ module _ {kept mid new : List ℕ} {a b d : Held} {part : List ℕ} (x : TakesPi
       let h = halves kept part (take (n + 1) more) x.withheld in
       let next : (part : List ℕ) → take ((length part + n) + 1) (part ++ more) ≡ part ++ take (n + 1) more = λ part. ap (λ k. take k (part ++ more)) {y = length part + (n + 1)} (omega arith) ∙ take-append-add part more (n + 1) in
       record {
-        within = omega (arith, y.within, length-append mid more, length-append part more);
+        within = omega (arith, length-append mid more, length-append part more);
         good = rw (take-append-add part more n) (takes_both (take n more) (rw (take-append-add mid more n) at y.good));
         bad = λ begun. y.bad (rw (next mid) (h.2.0 (rw (next part) at begun)));
       }

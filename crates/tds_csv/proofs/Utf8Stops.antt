@@ -53,8 +53,8 @@ stops bytes k e =
     let v = utf8_valid_len bytes in
     let j = cond (is_first (get_or (rest bytes) 0 0)) k 0 in
     let good = good_of (rest bytes) k e in
-    let part = rest_after bytes j (omega (arith, good.within)) in
-    let next : rest (take ((v + j) + 1) bytes) ≡ take (j + 1) (rest bytes) = ap (λ n. rest (take n bytes)) {y = v + (j + 1)} (omega arith) ∙ rest_after bytes (j + 1) (omega (arith, good.within)) in
+    let part = rest_after bytes j (omega arith) in
+    let next : rest (take ((v + j) + 1) bytes) ≡ take (j + 1) (rest bytes) = ap (λ n. rest (take n bytes)) {y = v + (j + 1)} (omega arith) ∙ rest_after bytes (j + 1) (omega arith) in
     let cut = take-front bytes j ∙ ap (λ l. front bytes ++ l) (sym part) in
     grind (arith, front, front-rest, length-drop, utf8_valid_len_le, none_begins, begins_none, settled_front, emit-front)
 

@@ -109,7 +109,7 @@ module _ (q : ℕ → Bool) (single : (u : ℕ) → q u ≡ true → IsSingle u)
       let eight : length us ≡ 8 = omega (arith, ap length is, length-units ys, length-chunk at 16 source room) in
       let same = alike bytes source at (2 * n) lies (omega (arith, prefix_len-le-length q us)) within in
       let next = rw (← same, take-append-drop, drop-drop (2 * n) at bytes, ← is) at (leads_front n ys (drop (2 * n) (drop at bytes)) (rw is at few)) in
-      record { within = within; room = omega (arith, before.room); leads = rw written (Leads-trans before.leads next) }
+      record { within = within; room = omega arith; leads = rw written (Leads-trans before.leads next) }
 
 -- all the bytes are a source of their own
 pub lies_itself : (bytes : List ℕ) → LiesIn bytes bytes
@@ -121,4 +121,4 @@ pub plain_more : {bytes source old new : List ℕ} {at made : ℕ} (n : ℕ) →
 plain_more {source = source} {old = old} {new = new} {at = at} {made = made} n lies room few most within long written before =
     let ys = chunk at 16 source in
     let low = take-take n 8 (evens ys) most ∙ low_units n ys few ∙ sym (plain_text n (units ys) few) in
-    units_more is_plain plain_single n lies room refl few within (omega arith) (rw (← low) (front_written old new _ made n 8 most (omega (arith, before.room, before.within)) written)) before
+    units_more is_plain plain_single n lies room refl few within (omega arith) (rw (← low) (front_written old new _ made n 8 most (omega arith) written)) before

@@ -25,7 +25,7 @@ loop-i-preserved c =
     record {
       few = c.loop-i.invariant.few;
       within = omega arith;
-      most = omega (arith, put.end, size_is, (sized u).1, c.loop-i.invariant.most);
+      most = omega (arith, (sized u).1);
       room = search rules;
       written = one_more (take c.args.from c.args.to.now) us i n few c.loop-i.invariant.written put.written bytes;
     }
