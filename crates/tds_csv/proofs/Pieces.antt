@@ -7,8 +7,7 @@ module _ {S : Type 0} (g : Grammar S Fault) (text : S → List ℕ) (grows : Gro
       → (to : S) × BreaksStreaming g text s a b h j to stop
   breaks_from at t [] bytes rest m added spelt leads takes puts few text_is breaks = grind (arith, common_steps, append_cancel_left, append-nil, length-append, length-take)
   breaks_from at t (e ∷ es) bytes rest m added spelt leads takes puts few text_is breaks =
-      let next = leads.0 in
-      let more = grows _ _ next in
+      let more = grows _ _ leads.0 in
       let later = grown_leads _ text grows _ _ _ leads.1 in
       let parts = append_cancel_left (text at) added (more.0 ++ later.0) (rw (← append_assoc (text at) more.0 later.0, more.1, later.1) text_is) in
       let taken = rw (← append_assoc bytes e (concat es)) at takes in
@@ -20,7 +19,7 @@ module _ {S : Type 0} (g : Grammar S Fault) (text : S → List ℕ) (grows : Gro
               element = e;
               ahead = concat es ++ rest;
               spelt = spelt;
-              next = next;
+              next = leads.0;
               takes = Takes-more a b _ 1 (length (bytes ++ e)) (omega (arith, length-append bytes e)) (rw (append_assoc (bytes ++ e) (concat es) rest) at taken);
               between = between;
               middle = m;
@@ -32,7 +31,7 @@ module _ {S : Type 0} (g : Grammar S Fault) (text : S → List ℕ) (grows : Gro
             },
           )
         | inr x ↦
-            breaks_from (g.add at e) t es _ rest _ _ (Spelt-append _ _ _ _ _ _ spelt (Spelt-one _ _ _ next)) leads.1 taken (puts_both text _ _ _ _ _ _ puts (more.0, more.1, x.2)) x.1 later.1 x.3
+            breaks_from (g.add at e) t es _ rest _ _ (Spelt-append _ _ _ _ _ _ spelt (Spelt-one _ _ _ leads.0)) leads.1 taken (puts_both text _ _ _ _ _ _ puts (more.0, more.1, x.2)) x.1 later.1 x.3
       ]
 
   -- a piece was read at once, and a write of its text failed: it failed in that of one of its elements

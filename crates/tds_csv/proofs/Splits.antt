@@ -33,7 +33,6 @@ split_at a b p r sent n adds enough below above =
 pub Puts_split : (a b : Held) (p q : List ℕ) → length b.waiting < 4096 → Puts a b (p ++ q) → (m : Held) × (length m.waiting < 4096) × Puts a m p × Puts m b q × (m.delivered ≤ 2 ^ 64 - 1)
 Puts_split a b p q few x =
     let n = length (a.waiting ++ p) / 4096 in
-    let whole : length x.0 ≡ 4096 * x.1 = x.3 in
     let total = total_of a b p q x.0 x.2 in
     let s = split_at a b p q x.0 n x.2 (omega arith) (omega arith) (omega arith) in
     (s.0, s.1, s.2, (drop (4096 * n) x.0, x.1 - n, s.3, omega (arith, length-drop (4096 * n) x.0), x.4 ∙ sym s.4), s.5)
@@ -50,8 +49,6 @@ Breaks_split a b p q stop x = elim (dec_le x.2 (length p)) [
       let adds = subst (Adds a b x.0) (ap (λ k. take k (p ++ q)) (sym at) ∙ take-append-add p q i) x.3 in
       let total = total_of a b p (take i q) x.0 adds in
       let size = length-take-le i q fits in
-      let least : 4096 * x.1 ≤ length x.0 = x.5 in
-      let full : length x.0 + length b.waiting ≡ 4096 * (x.1 + 1) = x.7 in
       let s = split_at a b p (take i q) x.0 n adds (omega arith) (omega arith) (omega arith) in
       let left = length-drop (4096 * n) x.0 in
       inr (s.0, s.1, s.2, (drop (4096 * n) x.0, x.1 - n, i, s.3, fits, omega arith, omega arith, omega arith, x.8, x.9 ∙ ap one_more (sym s.4)), s.5)

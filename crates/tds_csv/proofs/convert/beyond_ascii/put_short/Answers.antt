@@ -21,11 +21,10 @@ loop-i-preserved c =
     let size_is = lane_at size us c.sizes-sizes.ensures n few in
     let short = prefix_len_passes is_short us i 0 (omega arith) in
     let bytes = ap₂ (λ s p. take s (p % 256 ∷ p / 256 ∷ [])) size_is pair_is ∙ short_bytes u short in
-    let put = c.put_pair-made.ensures in
     record {
       few = c.loop-i.invariant.few;
       within = omega arith;
       most = omega (arith, (sized u).1);
       room = search rules;
-      written = one_more (take c.args.from c.args.to.now) us i n few c.loop-i.invariant.written put.written bytes;
+      written = one_more (take c.args.from c.args.to.now) us i n few c.loop-i.invariant.written c.put_pair-made.ensures.written bytes;
     }
