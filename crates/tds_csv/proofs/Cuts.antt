@@ -3,10 +3,10 @@ use Rattle.tds_csv.proofs.{Words.{common_steps, ◌≡◌, ◌∙◌, ℕ, ◌+�
 
 -- a beginning of a character is no text
 part_is_no_text : (c n : ℕ) → 0 < n → n < length (encode_utf8 c) → IsUtf8 (take n (encode_utf8 c)) → ⊥
-part_is_no_text c n some short ([], u) = let e = ap length u.1 in let len = length-take-le n (encode_utf8 c) (omega arith) in omega arith
+part_is_no_text c n some short ([], u) = omega (arith, ap length u.1, length-take-le n (encode_utf8 c) (omega arith))
 part_is_no_text c n some short (d ∷ cs, u) =
     let whole : encode_utf8 c ++ [] ≡ encode_utf8 d ++ (encode_utf8_all cs ++ drop n (encode_utf8 c)) =
-    append-nil (encode_utf8 c) ∙ sym (take-append-drop n (encode_utf8 c)) ∙ ap (λ l. l ++ drop n (encode_utf8 c)) (sym u.1) ∙ append_assoc (encode_utf8 d) (encode_utf8_all cs) (drop n (encode_utf8 c)) in
+    cc (append-nil (encode_utf8 c), take-append-drop n (encode_utf8 c), u.1, append_assoc (encode_utf8 d) (encode_utf8_all cs) (drop n (encode_utf8 c))) in
     grind (arith, encode_utf8_all, append-nil, take-append-drop, append_assoc, encode_same, length-append, length-drop)
 
 part_has_none : (c k : ℕ) → k < length (encode_utf8 c) → utf8_valid_len (take k (encode_utf8 c)) ≡ 0

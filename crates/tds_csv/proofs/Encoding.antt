@@ -29,4 +29,4 @@ taken_put i n xs ys within room = grind (arith, length-take-le, put_chunk_is, ta
 pub front_written : (old new bytes : List ℕ) (at n m : ℕ) → n ≤ m → at ≤ length old → take (at + m) new ≡ take at old ++ bytes → take (at + n) new ≡ take at old ++ take n bytes
 front_written old new bytes at n m few within written =
     let place : at + n ≡ length (take at old) + n = omega (arith, length-take-le at old within) in
-    sym (take-take (at + n) (at + m) new (omega arith)) ∙ ap (take (at + n)) written ∙ ap (λ j. take j (take at old ++ bytes)) place ∙ take-append-add (take at old) bytes n
+    rw (← take-take (at + n) (at + m) new (omega arith), written, place) (take-append-add (take at old) bytes n)

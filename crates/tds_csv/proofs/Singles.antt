@@ -3,7 +3,7 @@ use Rattle.tds_csv.proofs.{Words.{◌≡◌, ◌∙◌, ◌+◌, ◌≤◌, ℕ,
 
 module _ (text : List ℕ → List ℕ) (appends : (x y : List ℕ) → text (x ++ y) ≡ text x ++ text y) where
   runs : (t e : ℕ) (xs : List ℕ) → t ≤ e → text (take t xs) ++ text (take (e - t) (drop t xs)) ≡ text (take e xs)
-  runs t e xs h = sym (appends (take t xs) (take (e - t) (drop t xs))) ∙ ap text (sym (take-add t (e - t) xs) ∙ ap (λ k. take k xs) {y = e} (omega arith))
+  runs t e xs h = let end : t + (e - t) ≡ e = omega arith in rw (← appends (take t xs) (take (e - t) (drop t xs)), ← take-add t (e - t) xs, end) refl
 
   module _ {W U V : Type 0} {contents : W → Option (List ℕ)} {a b d : Sink W} {u : U} (t e : ℕ) (xs : List ℕ) (h : t ≤ e) (p : PutsPiece contents a b (text (take t xs)) (Ok u)) where
     -- one more run was put

@@ -116,7 +116,7 @@ begun_rest a b =
       | inl less ↦ inr (c, encode_utf8_all cs, (and_parts (scalar c) (all_scalars cs) valid).0, e, less)
       | inr more ↦
           let k = length (encode_utf8 c) in
-          let found : take k (rest a) ≡ encode_utf8 c = sym (take-append-le k (rest a) b.0 more) ∙ ap (take k) (sym e) ∙ take_at (encode_utf8 c) (encode_utf8_all cs) k refl in
+          let found : take k (rest a) ≡ encode_utf8 c = rw (← take-append-le k (rest a) b.0 more, ← e) (take_at (encode_utf8 c) (encode_utf8_all cs) k refl) in
           absurd (no_text a k (omega (arith, length-encode c, len_utf8_bounds c)) more (rw found (IsUtf8-encode c (and_parts (scalar c) (all_scalars cs) valid).0)))
     ]
 

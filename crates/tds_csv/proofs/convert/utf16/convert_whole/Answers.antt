@@ -11,11 +11,11 @@ left_text : (bytes tail : List ℕ) → tail ≡ utf16.rest bytes → length tai
 left_text bytes tail is two =
     let again = rw (append-nil, append-nil, ← is) at (joins_utf16.keeps bytes [] tt) in
     let none : drop 2 tail ≡ [] = nil_of_length (drop 2 tail) (omega (arith, length-drop 2 tail)) in
-    ap doubled (spells_held tail (omega arith) (ap (λ n. n % 2) two) (sym again) ∙ ap (λ l. encode_utf8 0xFFFD ++ utf16.characters l) none ∙ ap (λ l. encode_utf8 0xFFFD ++ l) characters_nil ∙ append-nil (encode_utf8 0xFFFD))
+    ap doubled (rw (none, characters_nil, append-nil) at (spells_held tail (omega arith) (ap (λ n. n % 2) two) (sym again)))
 
 -- so the text of whole data ends with it
 ended : (bytes tail : List ℕ) → length bytes % 2 ≡ 0 → tail ≡ utf16.rest bytes → length tail ≡ 2 → utf16.text bytes ≡ emit utf16.rest utf16.text bytes ++ doubled (encode_utf8 0xFFFD)
-ended bytes tail whole is two = joins_utf16.ends bytes whole ∙ ap (λ l. emit utf16.rest utf16.text bytes ++ l) (ap utf16.text (sym is) ∙ left_text bytes tail is two)
+ended bytes tail whole is two = cc (joins_utf16.ends bytes whole, left_text bytes tail is two)
 
 pub returns-clause-short : goal.returns-clause-short
 returns-clause-short c = grind (arith, common_steps, doubled_length, two_left, length-drop)

@@ -14,4 +14,4 @@ pub returns : goal.returns
 returns c =
     let tail = drop c.loop-at.at c.args.units.now in
     let over : tail ≡ [] = nil_of_length tail (omega (arith, length-drop c.loop-at.at c.args.units.now)) in
-    stays_whole c.loop-at.invariant.added (ap utf16.characters over ∙ characters_nil)
+    stays_whole c.loop-at.invariant.added (rw over characters_nil)
