@@ -1,5 +1,5 @@
 -- Bytes that were written to a place, one after the other or many at once.
-use Rattle.tds_csv.proofs.{Words.{◌≡◌, ◌∙◌, ◌+◌, ◌≤◌, ◌∷◌, ◌++◌, [], ℕ, List, length, take, ap, sym, append_assoc, arith, length-take-le, put_chunk_is, take-append-add, put_chunk, take-append-le, take-take, encode_utf8, doubled}, Characters.doubled_character}
+use Rattle.tds_csv.proofs.{Words.{◌≡◌, ◌+◌, ◌≤◌, ◌∷◌, ◌++◌, [], ℕ, List, length, take, append_assoc, arith, length-take-le, put_chunk_is, take-append-add, put_chunk, take-append-le, take-take, encode_utf8, doubled}, Characters.doubled_character}
 
 -- two bytes
 pub two_more : (t u v : List ℕ) (a b : ℕ) → u ≡ t ++ a ∷ [] → v ≡ u ++ b ∷ [] → v ≡ t ++ a ∷ b ∷ []

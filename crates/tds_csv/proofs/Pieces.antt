@@ -1,5 +1,5 @@
 -- A piece that was lent is many elements: where a write of their text fails, it fails in that of one of them.
-use Rattle.{tds_csv.proofs.{Words.{length-take, common_steps, ◌≡◌, inl, inr, ℕ, ◌-◌, ◌^◌, ◌<◌, ◌≤◌, List, [], ◌∷◌, ◌++◌, length, sym, subst, arith, append_assoc, append-nil, length-append, concat, append_cancel_left, Fault, Stop, Grammar, IsNext, Spelt, Seen, Takes, IsBetween, Spelt-append, Spelt-none, Spelt-one, Takes-more, Held, Breaks, BreaksStreaming, PutsText}, Sinks.Puts-none, Streams.puts_both, Splits.Breaks_split, Nears.{Grows, grown_leads}}, tds_packet.specs.Elements.Leads}
+use Rattle.{tds_csv.proofs.{Words.{length-take, common_steps, ◌≡◌, inl, inr, ℕ, ◌-◌, ◌^◌, ◌<◌, ◌≤◌, List, [], ◌∷◌, ◌++◌, length, arith, append_assoc, append-nil, length-append, concat, append_cancel_left, Fault, Stop, Grammar, Spelt, Seen, Takes, IsBetween, Spelt-append, Spelt-none, Spelt-one, Takes-more, Held, Breaks, BreaksStreaming, PutsText}, Sinks.Puts-none, Streams.puts_both, Splits.Breaks_split, Nears.{Grows, grown_leads}}, tds_packet.specs.Elements.Leads}
 
 module _ {S : Type 0} (g : Grammar S Fault) (text : S → List ℕ) (grows : Grows g text) (s : S) (a b : Seen) (h j : Held) (stop : Stop) (between : IsBetween b) where
   -- the elements from a state on, before which all was put
@@ -13,23 +13,23 @@ module _ {S : Type 0} (g : Grammar S Fault) (text : S → List ℕ) (grows : Gro
       let taken = rw (← append_assoc bytes e (concat es)) at takes in
       elim (Breaks_split _ _ more.0 later.0 _ (rw parts at breaks)) [
         | inl broken ↦ (
-            at,
-            record {
-              bytes = bytes;
-              element = e;
-              ahead = concat es ++ rest;
-              spelt = spelt;
-              next = leads.0;
-              takes = Takes-more a b _ 1 (length (bytes ++ e)) (omega (arith, length-append bytes e)) (rw (append_assoc (bytes ++ e) (concat es) rest) at taken);
-              between = between;
-              middle = m;
-              few = few;
-              puts = puts;
-              more = more.0;
-              text_is = more.1;
-              breaks = broken;
-            },
-          )
+          at,
+          record {
+            bytes = bytes;
+            element = e;
+            ahead = concat es ++ rest;
+            spelt = spelt;
+            next = leads.0;
+            takes = Takes-more a b _ 1 (length (bytes ++ e)) (omega (arith, length-append bytes e)) (rw (append_assoc (bytes ++ e) (concat es) rest) at taken);
+            between = between;
+            middle = m;
+            few = few;
+            puts = puts;
+            more = more.0;
+            text_is = more.1;
+            breaks = broken;
+          },
+        )
         | inr x ↦
             breaks_from (g.add at e) t es _ rest _ _ (Spelt-append _ _ _ _ _ _ spelt (Spelt-one _ _ _ leads.0)) leads.1 taken (puts_both text _ _ _ _ _ _ puts (more.0, more.1, x.2)) x.1 later.1 x.3
       ]

@@ -1,5 +1,5 @@
 -- What was put into a sink, call after call.
-use Rattle.tds_csv.proofs.Words.{◌≡◌, ◌∙◌, Bool, false, ℕ, ◌+◌, ◌-◌, ◌^◌, ◌<◌, ◌≤◌, List, [], ◌++◌, length, Result, Ok, Err, OnErr, MatchResult, refl, arith, append-nil, append_assoc, length-append, le_refl, take_all, take-append-add, take-append-le, Appends-nil, Appends-trans, counted, Stop, Held, Adds, Puts, Breaks, Sends, FinishFails, ap, one_more, take}
+use Rattle.tds_csv.proofs.Words.{◌≡◌, ◌∙◌, Bool, false, ℕ, ◌+◌, ◌-◌, ◌^◌, ◌<◌, ◌≤◌, List, [], ◌++◌, length, Result, OnErr, MatchResult, refl, arith, append-nil, append_assoc, length-append, le_refl, take_all, take-append-add, take-append-le, Appends-nil, Appends-trans, counted, Stop, Held, Adds, Puts, Breaks, Sends, FinishFails, ap, one_more, take}
 
 pub counted-none : (n : ℕ) → n ≤ 2 ^ 64 - 1 → n ≡ counted n 0
 counted-none n h = omega arith

@@ -1,5 +1,5 @@
 -- The laws of UTF-8 in pieces.
-use Rattle.{tds_csv.{proofs.{Words.{◌≡◌, ℕ, zero, suc, ◌+◌, ◌-◌, ◌≤◌, ◌<◌, true, false, cond, List, [], ◌∷◌, ◌++◌, length, take, refl, sym, ap, subst, ◌∙◌, arith, IsUtf8, encode_utf8, encode_utf8_all, append_assoc, length-append, length-drop, take_at, drop_at, length-take-le, take-append-drop, take-append-le, IsUtf8-append, IsUtf8-nil, IsUtf8-drop, IsUtf8-encode, IsCharBoundary-from_take, is_utf8-from_IsUtf8, IsUtf8-from_is_utf8, utf8_valid_len_le, length-encode, len_utf8_bounds, and_parts, cases_lt, is_utf8, all_scalars, scalar, valid_len_up_to, JoinsPieces, emit, drop-append-add, inl, inr, nil_from_length, take-append-add, ◌⊎◌}, JoiningLemmas.{doubled-append, settled_front}}, specs.Utf8.{IsFit, Begins, rest, text}}, std.specs.Str.Lossy.utf8_valid_len}
+use Rattle.{tds_csv.{proofs.{Words.{◌≡◌, ℕ, zero, suc, ◌+◌, ◌-◌, ◌≤◌, ◌<◌, true, false, cond, List, [], ◌∷◌, ◌++◌, length, take, refl, sym, ap, ◌∙◌, arith, IsUtf8, encode_utf8, encode_utf8_all, append_assoc, length-append, length-drop, take_at, drop_at, length-take-le, take-append-drop, take-append-le, IsUtf8-append, IsUtf8-nil, IsUtf8-drop, IsUtf8-encode, IsCharBoundary-from_take, is_utf8-from_IsUtf8, IsUtf8-from_is_utf8, utf8_valid_len_le, length-encode, len_utf8_bounds, and_parts, cases_lt, is_utf8, all_scalars, scalar, valid_len_up_to, JoinsPieces, emit, drop-append-add, inl, inr, nil_from_length, take-append-add, ◌⊎◌}, JoiningLemmas.{doubled-append, settled_front}}, specs.Utf8.{IsFit, Begins, rest, text}}, std.specs.Str.Lossy.utf8_valid_len}
 
 -- what is found going down is UTF-8, and nothing longer is
 front_up_to : (bs : List ℕ) (n : ℕ) → IsUtf8 (take (valid_len_up_to bs n) bs)

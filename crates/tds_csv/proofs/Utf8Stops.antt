@@ -1,5 +1,5 @@
 -- The first byte with which bytes stop beginning a text, from what std says of them.
-use Rattle.{tds_csv.{proofs.{Words.{common_steps, get_or-drop, ◌≡◌, ◌∙◌, ℕ, ◌+◌, ◌<◌, ◌≤◌, Bool, true, false, cond, nat_lt, nat_eq, List, [], ◌∷◌, ◌++◌, length, get_or, take, drop, Some, None, sym, ap, arith, length-drop, length-take-le, nat_tests, drop_of_length-le, utf8_valid_len-IsUtf8, is_in_range, utf8_valid_len, second_byte_min, second_byte_max, utf8_valid_len_le, take-take, StopsAt, take-append-add, IsUtf8-nil, refl}, JoiningLemmas.settled_front, Utf8Laws.{front, front_is, front-rest, take-front, rest-append, emit-front, NoText, no_text, valid_len_is}, Utf8Test.{begins_none, none_begins}}, specs.Utf8.rest}, std.specs.Str.Lossy.utf8_error_len}
+use Rattle.{tds_csv.{proofs.{Words.{common_steps, get_or-drop, ◌≡◌, ◌∙◌, ℕ, ◌+◌, ◌<◌, ◌≤◌, Bool, true, false, cond, nat_lt, nat_eq, List, [], ◌∷◌, ◌++◌, length, get_or, take, drop, Some, None, sym, ap, arith, length-drop, length-take-le, nat_tests, drop_of_length-le, utf8_valid_len-IsUtf8, is_in_range, utf8_valid_len, second_byte_min, second_byte_max, utf8_valid_len_le, take-take, StopsAt, IsUtf8-nil, refl}, JoiningLemmas.settled_front, Utf8Laws.{front, front_is, front-rest, take-front, rest-append, emit-front, NoText, no_text, valid_len_is}, Utf8Test.{begins_none, none_begins}}, specs.Utf8.rest}, std.specs.Str.Lossy.utf8_error_len}
 
 abbrev is_first : ℕ → Bool
 is_first x = is_in_range 0xC2 0xF4 x

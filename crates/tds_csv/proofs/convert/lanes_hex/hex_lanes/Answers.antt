@@ -1,4 +1,4 @@
-use Rattle.tds_csv.proofs.{Words.{◌≡◌, ◌∙◌, ◌/◌, ◌%◌, ◌<◌, map, length, ap, ap₂, subst, sym, arith, zip2_splat, Each2-splat, Each1-all, length-map, Each1, digit}, HexLanes.{high_small, low_small, woven, woven_digits}}
+use Rattle.tds_csv.proofs.{Words.{◌∙◌, ◌/◌, ◌%◌, map, ap, ap₂, arith, zip2_splat, Each2-splat, Each1-all, length-map, digit}, HexLanes.{high_small, low_small, woven, woven_digits}}
 use Rattle.tds_csv.proofs.convert.lanes_hex.hex_lanes.Goals as goal
 
 pub nonzero_div-bytes : goal.nonzero_div-bytes

@@ -1,4 +1,4 @@
-use Rattle.tds_csv.{proofs.{Words.{common_steps, ◌≡◌, ◌≢◌, ◌∙◌, ◌%◌, ◌++◌, ℕ, List, [], length, drop, sym, ap, arith, length-drop, append-nil, encode_utf8, emit, doubled}, Characters.doubled_length, Utf16Laws.joins_utf16, Utf16Steps.{characters_nil, nil_of_length, spells_held}}, specs.Utf16Next.LeavesRest}
+use Rattle.tds_csv.{proofs.{Words.{common_steps, ◌≡◌, ◌≢◌, ◌%◌, ◌++◌, ℕ, List, [], length, drop, sym, ap, arith, length-drop, append-nil, encode_utf8, emit, doubled}, Characters.doubled_length, Utf16Laws.joins_utf16, Utf16Steps.{characters_nil, nil_of_length, spells_held}}, specs.Utf16Next.LeavesRest}
 use Rattle.tds_csv.specs.Utf16 as utf16
 use Rattle.tds_csv.proofs.convert.utf16.convert_whole.Goals as goal
 

@@ -1,4 +1,4 @@
-use Rattle.tds_csv.proofs.{Words.{length-drop, common_steps, ◌≡◌, ◌∙◌, ◌+◌, ℕ, List, cond, drop, get_or, Some, sym, ap, subst, arith, get_or-drop, utf8_valid_len-IsUtf8, is_in_range, utf8_error_len, utf8_valid_len, StopsAt}, Utf8Pushing.is_scan, Utf8Test.none_begins, Utf8Stops.stops_at}
+use Rattle.tds_csv.proofs.{Words.{length-drop, common_steps, ◌∙◌, drop, sym, ap, arith, utf8_valid_len-IsUtf8, utf8_error_len}, Utf8Pushing.is_scan, Utf8Test.none_begins, Utf8Stops.stops_at}
 use Rattle.tds_csv.proofs.convert.utf8.scan_text.Goals as goal
 
 pub returns-in-Ok-clause-text : goal.returns-in-Ok-clause-text

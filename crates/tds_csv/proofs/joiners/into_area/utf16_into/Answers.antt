@@ -1,5 +1,4 @@
-use Rattle.tds_csv.proofs.{Words.{◌≡◌, ◌∙◌, [], drop, ap, arith, common_steps, length-drop, encode_utf8}, Cuts.{added_more, stays_cut, stays_whole}, Utf16Steps.{characters_nil, nil_of_length}}
-use Rattle.tds_csv.specs.Utf16 as utf16
+use Rattle.tds_csv.proofs.{Words.{◌≡◌, ◌∙◌, [], drop, arith, common_steps, length-drop, encode_utf8}, Cuts.{added_more, stays_cut, stays_whole}, Utf16Steps.{characters_nil, nil_of_length}}
 use Rattle.tds_csv.proofs.joiners.into_area.utf16_into.Goals as goal
 
 pub returns-in-Err : goal.returns-in-Err
