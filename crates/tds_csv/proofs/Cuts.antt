@@ -12,7 +12,7 @@ part_is_no_text c n some short (d ∷ cs, u) =
 part_has_none : (c k : ℕ) → k < length (encode_utf8 c) → utf8_valid_len (take k (encode_utf8 c)) ≡ 0
 part_has_none c k short =
     let len = length-take-le k (encode_utf8 c) (omega arith) in
-    valid_len_is (take k (encode_utf8 c)) 0 (omega arith) IsUtf8-nil (λ m some within u. part_is_no_text c m some (omega arith) (rw (take-take m k (encode_utf8 c) (omega arith)) at u))
+    valid_len_is _ 0 (omega arith) IsUtf8-nil (λ m some within u. part_is_no_text c m some (omega arith) (rw (take-take m k (encode_utf8 c) (omega arith)) at u))
 
 -- the next character doesn't fit
 pub cut_before : (room c : ℕ) (out more : List ℕ) → IsUtf8 out → length out ≤ room → room < length out + length (encode_utf8 c) → whole_within room (out ++ (encode_utf8 c ++ more)) ≡ out

@@ -23,9 +23,7 @@ upper_text b low high is =
 -- three bytes were written, and so many of them are that text
 pub upper_put : (b at : ℕ) {w : ℕ} (old new : List ℕ) → 128 ≤ b → b < 256 → w ≡ get_or UPPER (b - 128) 0 → at ≤ length old → take (at + 3) new ≡ take at old ++ (w % 256) ∷ (w / 256 % 256) ∷ (w / 65536 % 256) ∷ []
     → take (at + w / 16777216) new ≡ take at old ++ windows_1252.text (b ∷ [])
-upper_put b at {w} old new low high is within written =
-    let t = upper_text b low high is in
-    rw (← t.0) (front_written old new _ at (w / 16777216) 3 t.1 within written)
+upper_put b at {w} old new low high is within written = let t = upper_text b low high is in rw (← t.0) (front_written old new _ at (w / 16777216) 3 t.1 within written)
 
 -- some of the bytes that were found among the next 16 of a source
 pub plain_lanes : (source bytes : List ℕ) (at n : ℕ) → n ≤ 16 → n ≤ prefix_len is_plain (chunk at 16 source) → take n (drop at bytes) ≡ take n (chunk at 16 source) → take n (chunk at 16 source) ≡ windows_1252.text (take n (drop at bytes))

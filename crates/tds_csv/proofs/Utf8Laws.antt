@@ -67,7 +67,7 @@ regrouped a b = cc (front-rest a, append_assoc (front a) (rest a) b)
 
 -- the front of two pieces, and their rest
 valid_len-append : (a b : List ℕ) → utf8_valid_len (a ++ b) ≡ length (front a) + utf8_valid_len (rest a ++ b)
-valid_len-append a b = ap utf8_valid_len (regrouped a b) ∙ valid_len-past (front a) (rest a ++ b) (front_is a)
+valid_len-append a b = rw regrouped (valid_len-past (front a) (rest a ++ b) (front_is a))
 
 front-append : (a b : List ℕ) → front (a ++ b) ≡ front a ++ front (rest a ++ b)
 unfolding front
