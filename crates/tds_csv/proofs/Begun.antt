@@ -25,7 +25,7 @@ stopped_front old piece whole good begins stops =
 utf8_front : (old piece : List ℕ) (fault : Option ℕ) → utf8_error_len (utf8.rest (old ++ piece)) ≡ fault → utf8.Begins old → BegunFront Utf8Text old piece
 utf8_front old piece None is begins = all_begun Utf8Text old piece (none_begins (old ++ piece) is)
 utf8_front old piece (Some k) is begins =
-    stopped_front old piece (utf8_valid_len (old ++ piece)) _ begins (stops_at (old ++ piece) (utf8_valid_len (old ++ piece)) k _ refl is refl)
+    stopped_front old piece _ _ begins (stops_at (old ++ piece) _ k _ refl is refl)
 
 -- after data that begins, the first bytes of any piece begin too and fix all the text that the piece fixes
 pub begun_front : (c : Conversion) (old piece : List ℕ) → BeginsData c old → BegunFront c old piece
