@@ -9,7 +9,7 @@ returns-in-Ok-clause-scan c = grind (arith, common_steps, is_scan, utf8_valid_le
 
 pub returns-in-Some-clause-scan : goal.returns-in-Some-clause-scan
 returns-in-Some-clause-scan c =
-    let s = stops_at c.args.bytes.now c.valid_up_to-whole.result c.in-Some.len c.good_of.result (c.valid_up_to-whole.ensures ∙ c.in-Err.ensures.valid_len)
+    let s = stops_at c.args.bytes.now _ c.in-Some.len _ (c.valid_up_to-whole.ensures ∙ c.in-Err.ensures.valid_len)
     (ap (λ n. utf8_error_len (drop n c.args.bytes.now)) c.valid_up_to-whole.ensures ∙ sym c.in-Err.ensures.fault ∙ sym c.in-Some.ensures) c.good_of.ensures in
     grind (arith, common_steps, is_scan)
 
