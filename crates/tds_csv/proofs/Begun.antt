@@ -1,7 +1,6 @@
 -- The text of data that is still open, by the name of its conversion.
-use Rattle.tds_csv.proofs.Words.{◌≡◌, ◌∙◌, inl, inr, ℕ, ◌+◌, ◌-◌, ◌<◌, ◌≤◌, ◌%◌, true, false, List, [], ◌∷◌, ◌++◌, length, take, Option, Some, None, refl, sym, ap, arith, append_assoc, append-nil, length-append, IsUtf8, cases_lt, take-append-le, take_all, is_utf8-from_IsUtf8, utf8_valid_len_le, take-append-add, utf8_error_len, utf8_valid_len, emit, StopsAt, Conversion, HexDigits, Utf16Text, Windows1252Text, Utf8Text, BeginsData, conversion_rest, conversion_text, is_fit, is_quoted, long_field, open_field, closing}
+use Rattle.tds_csv.proofs.{Words.{◌≡◌, inl, inr, ℕ, ◌+◌, ◌-◌, ◌<◌, ◌≤◌, ◌%◌, true, false, List, [], ◌∷◌, ◌++◌, length, take, Option, Some, None, refl, ap, arith, append_assoc, append-nil, length-append, IsUtf8, cases_lt, take-append-le, take_all, is_utf8-from_IsUtf8, utf8_valid_len_le, take-append-add, utf8_error_len, utf8_valid_len, emit, StopsAt, Conversion, HexDigits, Utf16Text, Windows1252Text, Utf8Text, BeginsData, conversion_rest, conversion_text, is_fit, is_quoted, long_field, open_field, closing}, ConversionLaws.{fit_by_test, joins_by_name}, Utf8Pushing.after_kept, Utf8Stops.stops_at, Utf8Test.none_begins}
 use Rattle.tds_csv.specs.Utf8 as utf8
-use Rattle.tds_csv.proofs.{ConversionLaws.fit_by_test, ConversionLaws.joins_by_name, Utf8Pushing.after_kept, Utf8Stops.stops_at, Utf8Test.none_begins}
 use Rattle.tds_csv.proofs.Utf16Laws as utf16_laws
 use Rattle.tds_csv.proofs.Utf8Laws as utf8_laws
 
@@ -18,15 +17,15 @@ all_begun c old piece begun = grind (arith, take_all)
 -- a byte of the piece is bad
 stopped_front : (old piece : List ℕ) (whole good : ℕ) → utf8.Begins old → StopsAt (old ++ piece) whole good → BegunFront Utf8Text old piece
 stopped_front old piece whole good begins stops =
-    let after : length old ≤ good = after_kept old piece (old ++ piece) good refl begins stops.bad in
-    let n : ℕ = good - length old in
-    let at : good ≡ length old + n = omega (arith, after) in
+    let after = after_kept old piece (old ++ piece) good refl begins stops.bad in
+    let n = good - length old in
+    let at : good ≡ length old + n = omega arith in
     grind (arith, after_kept, take-append-add, length-append)
 
 utf8_front : (old piece : List ℕ) (fault : Option ℕ) → utf8_error_len (utf8.rest (old ++ piece)) ≡ fault → utf8.Begins old → BegunFront Utf8Text old piece
 utf8_front old piece None is begins = all_begun Utf8Text old piece (none_begins (old ++ piece) is)
 utf8_front old piece (Some k) is begins =
-    stopped_front old piece (utf8_valid_len (old ++ piece)) _ begins (stops_at (old ++ piece) (utf8_valid_len (old ++ piece)) k refl is)
+    stopped_front old piece _ _ begins (stops_at (old ++ piece) _ k _ refl is refl)
 
 -- after data that begins, the first bytes of any piece begin too and fix all the text that the piece fixes
 pub begun_front : (c : Conversion) (old piece : List ℕ) → BeginsData c old → BegunFront c old piece
@@ -36,18 +35,18 @@ begun_front c old piece begins = grind (arith, utf8_front, take_all)
 odd_front : (d : List ℕ) (x : ℕ) → (length (d ++ x ∷ []) % 2 ≡ 0 → ⊥) → utf16_laws.front (d ++ x ∷ []) ≡ utf16_laws.front d
 odd_front [] x odd = refl
 odd_front (low ∷ high ∷ []) x odd = refl
-odd_front (low ∷ high ∷ low' ∷ high' ∷ bytes) x odd = ap (λ l. low ∷ high ∷ l) (odd_front (low' ∷ high' ∷ bytes) x (λ e. odd (omega (arith, e))))
+odd_front (low ∷ high ∷ low' ∷ high' ∷ bytes) x odd = ap (λ l. low ∷ high ∷ l) (odd_front (low' ∷ high' ∷ bytes) x (λ e. odd (omega arith)))
 odd_front bytes x odd = absurd (odd (omega arith))
 
 -- a byte after which no character ends completes none
 unfit_front : (d : List ℕ) (x : ℕ) → (IsUtf8 (d ++ x ∷ []) → ⊥) → utf8_laws.front (d ++ x ∷ []) ≡ utf8_laws.front d
 unfolding utf8_laws.front
 unfit_front d x unfit =
-    let all : List ℕ = d ++ x ∷ [] in
-    let size : length all ≡ length d + 1 = length-append d (x ∷ []) in
-    let n : ℕ = utf8_valid_len d in
-    let fits : n ≤ length d = utf8_valid_len_le d in
-    let same : take n all ≡ take n d = take-append-le n d (x ∷ []) fits in
+    let all = d ++ x ∷ [] in
+    let size = length-append d (x ∷ []) in
+    let n = utf8_valid_len d in
+    let fits = utf8_valid_len_le d in
+    let same = take-append-le n d (x ∷ []) fits in
     let longest : (m : ℕ) → n < m → m ≤ length all → IsUtf8 (take m all) → ⊥ = λ m more within u. elim (cases_lt m (length all)) [
       | inl less ↦ utf8_laws.longest_is d m more (omega arith) (rw (take-append-le m d (x ∷ []) (omega arith)) at u)
       | inr whole ↦ unfit (rw (take_all m all whole) at u)
@@ -58,12 +57,12 @@ unfit_front d x unfit =
 pub unfit_adds_none : (c : Conversion) (d : List ℕ) (x : ℕ) → is_fit c (d ++ x ∷ []) ≡ false → emit (conversion_rest c) (conversion_text c) (d ++ x ∷ []) ≡ emit (conversion_rest c) (conversion_text c) d
 unfit_adds_none HexDigits d x unfit = cc
 unfit_adds_none Utf16Text d x unfit =
-    let same = odd_front d x (λ e. let fit : is_fit Utf16Text (d ++ x ∷ []) ≡ true = (fit_by_test Utf16Text (d ++ x ∷ [])).1 e in cc) in
+    let same = odd_front d x (λ e. cc ((fit_by_test Utf16Text (d ++ x ∷ [])).1 e)) in
     rw (utf16_laws.emit-front, utf16_laws.emit-front, same) refl
 unfit_adds_none Windows1252Text d x unfit = cc
 unfit_adds_none Utf8Text d x unfit =
-    let same = unfit_front d x (λ u. let fit : is_fit Utf8Text (d ++ x ∷ []) ≡ true = is_utf8-from_IsUtf8 (d ++ x ∷ []) u in cc) in
-    utf8_laws.emit-front (d ++ x ∷ []) ∙ ap utf8.text same ∙ sym (utf8_laws.emit-front d)
+    let same = unfit_front d x (λ u. cc (is_utf8-from_IsUtf8 (d ++ x ∷ []) u)) in
+    rw (utf8_laws.emit-front, utf8_laws.emit-front, same) refl
 
 -- a piece grows the open field by the text of what was withheld and the piece
 pub open_grows : (c : Conversion) (d e : List ℕ) → BeginsData c (d ++ e) → open_field c d ++ emit (conversion_rest c) (conversion_text c) (conversion_rest c d ++ e) ≡ open_field c (d ++ e)

@@ -1,19 +1,18 @@
 -- Text that is cut to a room, a character after the other.
-use Rattle.tds_csv.proofs.Words.{common_steps, ◌≡◌, ◌∙◌, ℕ, ◌+◌, ◌-◌, ◌<◌, ◌≤◌, List, [], ◌∷◌, ◌++◌, length, take, drop, sym, ap, arith, IsUtf8, append_assoc, append-nil, length-append, length-drop, length-take-le, encode_utf8_all, encode_utf8, utf8_valid_len, take-append-drop, take-take, take-append-le, take_all, take_at, take-append-add, encode_same, utf8_valid_len-IsUtf8, Space, appended, whole_within, IsUtf8-append, IsUtf8-encode, IsScalar, scalar, IsUtf8-nil}
-use Rattle.tds_csv.proofs.Utf8Laws.{valid_len-past, valid_len_is}
+use Rattle.tds_csv.proofs.{Words.{common_steps, ◌≡◌, ℕ, ◌+◌, ◌-◌, ◌<◌, ◌≤◌, List, [], ◌∷◌, ◌++◌, length, take, drop, ap, arith, IsUtf8, append_assoc, append-nil, length-append, length-drop, length-take-le, encode_utf8_all, encode_utf8, utf8_valid_len, take-append-drop, take-take, take-append-le, take_all, take_at, take-append-add, encode_same, utf8_valid_len-IsUtf8, Space, appended, whole_within, IsUtf8-append, IsUtf8-encode, IsScalar, scalar, IsUtf8-nil}, Utf8Laws.{valid_len-past, valid_len_is}}
 
 -- a beginning of a character is no text
 part_is_no_text : (c n : ℕ) → 0 < n → n < length (encode_utf8 c) → IsUtf8 (take n (encode_utf8 c)) → ⊥
-part_is_no_text c n some short ([], u) = let e = ap length u.1 in let len = length-take-le n (encode_utf8 c) (omega arith) in omega arith
+part_is_no_text c n some short ([], u) = omega (arith, ap length u.1, length-take-le n (encode_utf8 c) (omega arith))
 part_is_no_text c n some short (d ∷ cs, u) =
     let whole : encode_utf8 c ++ [] ≡ encode_utf8 d ++ (encode_utf8_all cs ++ drop n (encode_utf8 c)) =
-    append-nil (encode_utf8 c) ∙ sym (take-append-drop n (encode_utf8 c)) ∙ ap (λ l. l ++ drop n (encode_utf8 c)) (sym u.1) ∙ append_assoc (encode_utf8 d) (encode_utf8_all cs) (drop n (encode_utf8 c)) in
+    cc (append-nil (encode_utf8 c), take-append-drop n (encode_utf8 c), u.1, append_assoc (encode_utf8 d) (encode_utf8_all cs) (drop n (encode_utf8 c))) in
     grind (arith, encode_utf8_all, append-nil, take-append-drop, append_assoc, encode_same, length-append, length-drop)
 
 part_has_none : (c k : ℕ) → k < length (encode_utf8 c) → utf8_valid_len (take k (encode_utf8 c)) ≡ 0
 part_has_none c k short =
     let len = length-take-le k (encode_utf8 c) (omega arith) in
-    valid_len_is (take k (encode_utf8 c)) 0 (omega arith) IsUtf8-nil (λ m some within u. part_is_no_text c m some (omega arith) (rw (take-take m k (encode_utf8 c) (omega arith)) at u))
+    valid_len_is _ 0 (omega arith) IsUtf8-nil (λ m some within u. part_is_no_text c m some (omega arith) (rw (take-take m k (encode_utf8 c) (omega arith)) at u))
 
 -- the next character doesn't fit
 pub cut_before : (room c : ℕ) (out more : List ℕ) → IsUtf8 out → length out ≤ room → room < length out + length (encode_utf8 c) → whole_within room (out ++ (encode_utf8 c ++ more)) ≡ out

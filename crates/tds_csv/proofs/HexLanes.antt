@@ -1,6 +1,5 @@
 -- Hexadecimal digits that are looked up 16 at a time.
-use Rattle.tds_csv.proofs.Words.{◌≡◌, ℕ, ◌+◌, ◌/◌, ◌%◌, ◌<◌, ◌≤◌, suc, List, [], ◌∷◌, ◌++◌, map, length, get_or, refl, arith, w8, Fits, nat_tests, swz_l, Each1, lower_digits, encode_lower, digit}
-use Rattle.hex.specs.Hex.{encode_with}
+use Rattle.{tds_csv.proofs.Words.{◌≡◌, ℕ, ◌+◌, ◌/◌, ◌%◌, ◌<◌, ◌≤◌, suc, List, [], ◌∷◌, ◌++◌, map, length, get_or, refl, arith, w8, Fits, nat_tests, swz_l, Each1, lower_digits, encode_lower, digit}, hex.specs.Hex.encode_with}
 
 pub looked_up : (i : ℕ) (js : List ℕ) → i + length js ≤ 16 → Each1 (λ j. j < 16) js → swz_l w8 16 lower_digits i js ≡ map digit js
 looked_up i [] few small = refl

@@ -1,6 +1,5 @@
 -- The fixed text of some bytes, put a part after the other.
-use Rattle.tds_csv.proofs.Words.{◌≡◌, ◌+◌, ◌-◌, ◌≤◌, ℕ, List, [], ◌++◌, length, take, drop, Option, Result, Ok, Err, refl, sym, subst, arith, append_assoc, take-append-drop, drop-append-add, drop-drop, drop-append-le, Stop, JoinsPieces, Leads, emit, Sink, PutsPiece}
-use Rattle.tds_csv.proofs.Puttings.{PutsPiece-longer, PutsPiece-trans}
+use Rattle.tds_csv.proofs.{Words.{◌≡◌, ◌+◌, ◌-◌, ◌≤◌, ℕ, List, [], ◌++◌, length, take, drop, Option, Result, Ok, Err, refl, sym, subst, arith, append_assoc, take-append-drop, drop-append-add, drop-drop, drop-append-le, Stop, JoinsPieces, Leads, emit, Sink, PutsPiece}, Puttings.{PutsPiece-longer, PutsPiece-trans}}
 
 module _ {rest text : List ℕ → List ℕ} where
   pub Leads-none : {xs : List ℕ} → Leads rest text xs xs []
@@ -20,7 +19,7 @@ module _ {rest text : List ℕ → List ℕ} where
 
 -- nothing is fixed where all is withheld
 pub emit_held : (rest text : List ℕ → List ℕ) (xs : List ℕ) → text [] ≡ [] → rest xs ≡ xs → emit rest text xs ≡ []
-emit_held rest text xs empty e = grind (arith)
+emit_held rest text xs empty e = grind arith
 
 module _ {rest text : List ℕ → List ℕ} {fit begins : List ℕ → Type 0} (laws : JoinsPieces fit begins rest text) where
   -- a first chunk, and what follows it
@@ -37,7 +36,7 @@ module _ {rest text : List ℕ → List ℕ} {fit begins : List ℕ → Type 0} 
 
   -- one more chunk, whose rest begins after so many bytes
   pub Leads-next : (xs : List ℕ) (at n used : ℕ) → begins (drop at xs) → used ≤ length (take n (drop at xs)) → drop used (take n (drop at xs)) ≡ rest (take n (drop at xs)) → Leads rest text (drop at xs) (drop (at + used) xs) (emit rest text (take n (drop at xs)))
-  Leads-next xs at n used h le e = rw (← drop-drop used at xs) (Leads-from (drop at xs) (take n (drop at xs)) (drop n (drop at xs)) used (sym (take-append-drop n (drop at xs))) h le e)
+  Leads-next xs at n used h le e = rw (← drop-drop used at xs) (Leads-from (drop at xs) _ _ used (sym (take-append-drop n (drop at xs))) h le e)
 
   -- withheld bytes with the first ones of a piece are the first chunk of both
   pub Leads-seam-front : (kept piece : List ℕ) (n : ℕ) → begins (kept ++ piece) → Leads rest text (kept ++ piece) (rest (kept ++ take n piece) ++ drop n piece) (emit rest text (kept ++ take n piece))
@@ -47,4 +46,4 @@ module _ {rest text : List ℕ → List ℕ} {fit begins : List ℕ → Type 0} 
   pub Leads-seam : (kept piece bytes : List ℕ) (n used : ℕ) → bytes ≡ kept ++ take n piece → begins (kept ++ piece) → length kept ≤ used → used ≤ length bytes → drop used bytes ≡ rest bytes → Leads rest text (kept ++ piece) (drop (used - length kept) piece) (emit rest text bytes)
   Leads-seam kept piece bytes n used is h past within e =
       let split : length kept + (used - length kept) ≡ used = omega arith in
-      rw (← drop-append-add kept piece (used - length kept), split) (Leads-from (kept ++ piece) bytes (drop n piece) used (rw (is, append_assoc, take-append-drop)) h within e)
+      rw (← drop-append-add kept piece (used - length kept), split) (Leads-from _ bytes (drop n piece) used (rw (is, append_assoc, take-append-drop)) h within e)

@@ -1,5 +1,5 @@
 -- From the mask of one load to the bytes before the first that stops.
-use Rattle.tds_csv.proofs.Words.{◌≡◌, ℕ, ◌+◌, ◌%◌, ◌^◌, ◌≤◌, Bool, true, not, cond, ◌-◌, List, [], ◌∷◌, map, length, take, drop, get_or, Fits, w8, refl, sym, ap, ap₂, ◌∙◌, arith, agree_below, agree_below_at, map-map, mask_l-mod, length-chunk, chunk-fits, first_set_mask_l, drop-take, length-map, take-take, prefix_len, prefix_len-le-length, Each1, chunk, mask_l, top, LiesIn, first_set}
+use Rattle.tds_csv.proofs.Words.{◌≡◌, ℕ, ◌+◌, ◌%◌, ◌^◌, ◌≤◌, Bool, true, not, cond, ◌-◌, List, [], ◌∷◌, map, length, take, drop, get_or, Fits, w8, refl, ap₂, ◌∙◌, arith, agree_below, agree_below_at, map-map, mask_l-mod, length-chunk, chunk-fits, first_set_mask_l, drop-take, length-map, take-take, prefix_len, prefix_len-le-length, Each1, chunk, mask_l, top, LiesIn, first_set}
 
 -- two tests that are the same on what lists hold
 pub same_prefix : (P : ℕ → Type 0) {p q : ℕ → Bool} → ((x : ℕ) → P x → p x ≡ q x) → (xs : List ℕ) → Each1 P xs → prefix_len p xs ≡ prefix_len q xs
@@ -9,8 +9,8 @@ same_prefix P same (x ∷ xs) each = ap₂ (λ b n. cond b (1 + n) 0) (same x ea
 -- so many lanes come before the first whose top bit is set
 pub run_before : (bit n : ℕ) (f : ℕ → ℕ) (v : List ℕ) {z : List ℕ} → length v ≡ n → n ≤ 64 → z ≡ map f v → first_set (mask_l (map (top bit) z) % 2 ^ 64) n ≡ prefix_len (λ x. not (top bit (f x))) v
 run_before bit n f v long few lanes =
-    let stops : ℕ → Bool = λ x. top bit (f x) in
-    let mask = mask_l-mod (map stops v) 64 (omega (arith, length-map v stops, long, few)) in
+    let stops = λ (x : ℕ). top bit (f x) in
+    let mask = mask_l-mod (map stops v) 64 (omega (arith, length-map v stops)) in
     rw (lanes, map-map (top bit) f v, mask) (first_set_mask_l stops v n long few)
 
 -- a lane stops just where q fails
@@ -26,6 +26,6 @@ run_most q d i n room = omega (arith, prefix_len-le-length q (chunk i n d), leng
 -- bytes that lie in others are the same as those
 pub alike : (bytes source : List ℕ) (at n : ℕ) → LiesIn bytes source → n ≤ 16 → at + n ≤ length bytes → take n (drop at bytes) ≡ take n (chunk at 16 source)
 alike bytes source at n lies few within =
-    let k : ℕ = length bytes - at in
-    let all : length bytes ≡ at + k = omega (arith, within) in
-    ap (λ l. take n (drop at l)) (sym lies.front) ∙ ap (λ j. take n (drop at (take j source))) all ∙ ap (take n) (drop-take at k source) ∙ take-take n k (drop at source) (omega (arith, within)) ∙ sym (take-take n 16 (drop at source) few)
+    let k = length bytes - at in
+    let all : at + k ≡ length bytes = omega arith in
+    rw (← lies.front, ← all, drop-take at k source, take-take n k (drop at source) (omega arith), take-take n 16 (drop at source) few) refl

@@ -1,7 +1,5 @@
 -- Calls that put the text of an element part after part.
-use Rattle.tds_csv.proofs.Words.{◌≡◌, ◌∙◌, ℕ, ◌-◌, ◌^◌, ◌<◌, ◌≤◌, List, [], ◌∷◌, ◌++◌, length, refl, sym, ap, subst, arith, append_assoc, append-nil, concat, append_cancel_left, Fault, Stop, Grammar, IsNext, Spelt, Seen, Takes, IsBetween, Inside, Inside-Spelt, Spelt-append, Spelt-one, LastInside, last_inside, next_inside, next_some, takes_both, Held, Puts, Breaks, BreaksStreaming, PutsText, Streams}
-use Rattle.tds_packet.specs.Elements.{Leads}
-use Rattle.tds_csv.proofs.{Sinks.Breaks-after, Sinks.Breaks-longer, Sinks.Puts-none, Sinks.Puts-trans, Streams.puts_both, Splits.Puts_split}
+use Rattle.{tds_csv.proofs.{Words.{◌≡◌, ◌∙◌, ℕ, ◌-◌, ◌^◌, ◌<◌, ◌≤◌, List, [], ◌∷◌, ◌++◌, length, refl, sym, ap, arith, append_assoc, append-nil, concat, append_cancel_left, Fault, Stop, Grammar, IsNext, Spelt, Seen, Takes, IsBetween, Inside, Inside-Spelt, Spelt-append, Spelt-one, LastInside, last_inside, next_inside, next_some, takes_both, Held, Puts, Breaks, BreaksStreaming, PutsText, Streams}, Sinks.{Breaks-after, Breaks-longer, Puts-none, Puts-trans}, Streams.puts_both, Splits.Puts_split}, tds_packet.specs.Elements.Leads}
 
 -- Whole elements were read, which lead from one state to another. The text of all but the last was put, and that of the last but for its tail.
 pub record Nears {S : Type 0} (g : Grammar S Fault) (text : S → List ℕ) (from : S) (old new : Seen) (before after : Held) (to : S) (tail : List ℕ) : Type 0 where
@@ -35,7 +33,7 @@ module _ {S : Type 0} (g : Grammar S Fault) (text : S → List ℕ) where
     spelt = x.spelt;
     next = next;
     to_is = refl;
-    takes = takes_both a b c x.bytes element x.takes takes;
+    takes = takes_both a b c _ _ x.takes takes;
     between = between;
     middle = i;
     few = few;
@@ -61,16 +59,16 @@ module _ {S : Type 0} (g : Grammar S Fault) (text : S → List ℕ) where
     puts = x.puts;
     part = x.part ++ p;
     text_is = ap (λ l. text x.at ++ l) (append_assoc x.part p q) ∙ x.text_is;
-    half = Puts-trans x.middle i j x.part p x.half puts;
+    half = Puts-trans _ _ _ _ _ x.half puts;
   }
 
   -- all was put
   abbrev pub nears_done : (s : S) (a b : Seen) (h i j : Held) (to : S) (tail : List ℕ) → Nears g text s a b h i to tail → Puts i j tail → Streams g text s a b h j to
   nears_done s a b h i j to tail x puts = record {
     bytes = x.bytes ++ x.element;
-    spelt = Spelt-append g s x.bytes x.at x.element to x.spelt (subst (λ t. Spelt g x.at x.element t) x.to_is (Spelt-one g x.at x.element x.next));
+    spelt = Spelt-append _ _ _ _ _ _ x.spelt (rw x.to_is at (Spelt-one _ _ _ x.next));
     takes = x.takes;
-    puts = puts_both text s x.at to h x.middle j x.puts (x.part ++ tail, x.text_is, Puts-trans x.middle i j x.part tail x.half puts);
+    puts = puts_both text _ _ _ _ _ _ x.puts (_, x.text_is, Puts-trans _ _ _ _ _ x.half puts);
   }
 
   -- a write of a further part failed
@@ -83,15 +81,14 @@ module _ {S : Type 0} (g : Grammar S Fault) (text : S → List ℕ) where
       ahead = [];
       spelt = x.spelt;
       next = x.next;
-      takes = subst (λ l. Takes a b l (length (x.bytes ++ x.element))) (sym (append-nil (x.bytes ++ x.element))) x.takes;
+      takes = rw append-nil x.takes;
       between = x.between;
       middle = x.middle;
       few = x.few;
       puts = x.puts;
       more = x.part ++ tail;
       text_is = x.text_is ∙ ap text (sym x.to_is);
-      breaks =
-          subst (λ l. Breaks x.middle j l stop) (append_assoc x.part p q ∙ ap (λ l. x.part ++ l) (sym parts)) (Breaks-longer x.middle j (x.part ++ p) q stop (Breaks-after x.middle i j x.part p stop x.half breaks));
+      breaks = rw (parts, ← append_assoc x.part p q) (Breaks-longer _ _ _ q _ (Breaks-after _ _ _ _ _ _ x.half breaks));
     },
   )
 
@@ -101,14 +98,14 @@ module _ {S : Type 0} (g : Grammar S Fault) (text : S → List ℕ) where
     bytes = x.bytes ++ y.bytes;
     element = y.element;
     at = y.at;
-    spelt = Spelt-append g s x.bytes t y.bytes y.at x.spelt y.spelt;
+    spelt = Spelt-append _ _ _ _ _ _ x.spelt y.spelt;
     next = y.next;
     to_is = y.to_is;
-    takes = subst (λ l. Takes a c l (length l)) (sym (append_assoc x.bytes y.bytes y.element)) (takes_both a b c x.bytes (y.bytes ++ y.element) x.takes y.takes);
+    takes = rw append_assoc (takes_both a b c _ _ x.takes y.takes);
     between = y.between;
     middle = y.middle;
     few = y.few;
-    puts = puts_both text s t y.at h i y.middle x.puts y.puts;
+    puts = puts_both text _ _ _ _ _ _ x.puts y.puts;
     part = y.part;
     text_is = y.text_is;
     half = y.half;
@@ -126,7 +123,7 @@ module _ {S : Type 0} (g : Grammar S Fault) where
     where
       go : (es : List (List ℕ)) → concat es ≡ bytes → Leads g s es t → 0 < g.size s
       go [] joined leads = absurd (let z : length bytes ≡ 0 = ap length (sym joined) in omega arith)
-      go (e ∷ es) joined leads = next_some g s e leads.0
+      go (e ∷ es) joined leads = next_some _ _ _ leads.0
 
   -- a grammar is inside itself
   pub inside_itself : Inside g g (λ s. s)
@@ -134,7 +131,7 @@ module _ {S : Type 0} (g : Grammar S Fault) where
 
   -- the last element of what was read
   pub last_read : (s : S) (bytes : List ℕ) (t : S) → Spelt g s bytes t → 0 < length bytes → LastInside g g (λ u. u) inside_itself s bytes t
-  last_read s bytes t spelt some = last_inside g g (λ u. u) inside_itself s bytes t spelt some
+  last_read s bytes t spelt some = last_inside _ _ _ inside_itself _ _ _ spelt some
 
 -- A small grammar inside a big one, whose text is that of the small one after a text that stands before it, where the small one has a next element.
 module _ {S T : Type 0} (small : Grammar S Fault) (big : Grammar T Fault) (lift : S → T) (is : Inside small big lift) (text : S → List ℕ) (whole : T → List ℕ) (front : List ℕ) (text_is : (s : S) → 0 < small.size s → front ++ text s ≡ whole (lift s)) (grows : Grows small text) where
@@ -150,21 +147,21 @@ module _ {S T : Type 0} (small : Grammar S Fault) (big : Grammar T Fault) (lift 
   abbrev pub nears_inside : (from : S) (a b : Seen) (h i : Held) (to : S) (tail : List ℕ) → (x : Streams small text from a b h i to) → 0 < length x.bytes → IsBetween b → length i.waiting < 4096 → (front ++ text to) ++ tail ≡ whole (lift to)
       → Nears big whole (lift from) a b h i (lift to) tail
   nears_inside from a b h i to tail x some between few end =
-      let l : LastInside small small (λ u. u) (inside_itself small) from x.bytes to = last_read small from x.bytes to x.spelt some in
-      let begin : 0 < small.size from = first_size small from x.bytes to x.spelt some in
-      let before : (more : List ℕ) × (text from ++ more ≡ text l.at) = grown_leads small text grows from l.spelt.elements l.at l.spelt.leads in
-      let last : (more : List ℕ) × (text l.at ++ more ≡ text (small.add l.at l.element)) = grows l.at l.element l.next in
-      let closed : text l.at ++ last.0 ≡ text to = last.1 ∙ ap text l.to_is in
-      let parts : x.puts.0 ≡ before.0 ++ last.0 = append_cancel_left (text from) x.puts.0 (before.0 ++ last.0) (rw (← append_assoc (text from) before.0 last.0, before.1, closed) x.puts.1) in
-      let cut : (m : Held) × (length m.waiting < 4096) × Puts h m before.0 × Puts m i last.0 × (m.delivered ≤ 2 ^ 64 - 1) = Puts_split h i before.0 last.0 few (rw parts at x.puts.2) in
+      let l = last_read _ _ _ _ x.spelt some in
+      let begin = first_size _ _ _ _ x.spelt some in
+      let before = grown_leads _ text grows _ _ _ l.spelt.leads in
+      let last = grows _ _ l.next in
+      let closed = last.1 ∙ ap text l.to_is in
+      let parts = append_cancel_left (text from) x.puts.0 (before.0 ++ last.0) (rw (← append_assoc (text from) before.0 last.0, before.1, closed) x.puts.1) in
+      let cut = Puts_split h i before.0 last.0 few (rw parts at x.puts.2) in
       record {
         bytes = l.front;
         element = l.element;
         at = lift l.at;
-        spelt = Inside-Spelt small big lift is from l.front l.at l.spelt;
-        next = next_inside small big lift is l.at l.element l.size l.next;
+        spelt = Inside-Spelt _ _ _ is _ _ _ l.spelt;
+        next = next_inside _ _ _ is _ _ l.size l.next;
         to_is = is.add l.at l.element l.size ∙ ap lift l.to_is;
-        takes = subst (λ v. Takes a b v (length v)) (sym l.joined) x.takes;
+        takes = rw l.joined x.takes;
         between = between;
         middle = cut.0;
         few = cut.1;

@@ -1,46 +1,41 @@
 -- A piece that was lent is many elements: where a write of their text fails, it fails in that of one of them.
-use Rattle.tds_csv.proofs.Words.{length-take, common_steps, ◌≡◌, inl, inr, ℕ, ◌-◌, ◌^◌, ◌<◌, ◌≤◌, List, [], ◌∷◌, ◌++◌, length, sym, subst, arith, append_assoc, append-nil, length-append, concat, append_cancel_left, Fault, Stop, Grammar, IsNext, Spelt, Seen, Takes, IsBetween, Spelt-append, Spelt-none, Spelt-one, Takes-more, Held, Breaks, BreaksStreaming, PutsText}
-use Rattle.tds_packet.specs.Elements.{Leads}
-use Rattle.tds_csv.proofs.{Sinks.Puts-none, Streams.puts_both, Splits.Breaks_split, Nears.Grows, Nears.grown_leads}
+use Rattle.{tds_csv.proofs.{Words.{length-take, common_steps, ◌≡◌, inl, inr, ℕ, ◌-◌, ◌^◌, ◌<◌, ◌≤◌, List, [], ◌∷◌, ◌++◌, length, arith, append_assoc, append-nil, length-append, concat, append_cancel_left, Fault, Stop, Grammar, Spelt, Seen, Takes, IsBetween, Spelt-append, Spelt-none, Spelt-one, Takes-more, Held, Breaks, BreaksStreaming, PutsText}, Sinks.Puts-none, Streams.puts_both, Splits.Breaks_split, Nears.{Grows, grown_leads}}, tds_packet.specs.Elements.Leads}
 
 module _ {S : Type 0} (g : Grammar S Fault) (text : S → List ℕ) (grows : Grows g text) (s : S) (a b : Seen) (h j : Held) (stop : Stop) (between : IsBetween b) where
-  -- a write failed in the text of this element, and so much of the piece lies ahead
-  breaks_here : (at : S) (bytes element ahead : List ℕ) (m : Held) (more : List ℕ) → Spelt g s bytes at → IsNext g at element → Takes a b ((bytes ++ element) ++ ahead) 1 → PutsText text s at h m → length m.waiting < 4096 → text at ++ more ≡ text (g.add at element) → Breaks m j more stop
-      → BreaksStreaming g text s a b h j at stop
-  breaks_here at bytes element ahead m more spelt next takes puts few text_is breaks = record {
-    bytes = bytes;
-    element = element;
-    ahead = ahead;
-    spelt = spelt;
-    next = next;
-    takes = Takes-more a b ((bytes ++ element) ++ ahead) 1 (length (bytes ++ element)) (let some : 0 < length element = next.some in omega (arith, length-append bytes element)) takes;
-    between = between;
-    middle = m;
-    few = few;
-    puts = puts;
-    more = more;
-    text_is = text_is;
-    breaks = breaks;
-  }
-
   -- the elements from a state on, before which all was put
   breaks_from : (at t : S) (es : List (List ℕ)) (bytes rest : List ℕ) (m : Held) (added : List ℕ) → Spelt g s bytes at → Leads g at es t → Takes a b ((bytes ++ concat es) ++ rest) 1 → PutsText text s at h m → length m.waiting < 4096 → text at ++ added ≡ text t → Breaks m j added stop
       → (to : S) × BreaksStreaming g text s a b h j to stop
   breaks_from at t [] bytes rest m added spelt leads takes puts few text_is breaks = grind (arith, common_steps, append_cancel_left, append-nil, length-append, length-take)
   breaks_from at t (e ∷ es) bytes rest m added spelt leads takes puts few text_is breaks =
-      let next : IsNext g at e = leads.0 in
-      let more : (x : List ℕ) × (text at ++ x ≡ text (g.add at e)) = grows at e next in
-      let later : (x : List ℕ) × (text (g.add at e) ++ x ≡ text t) = grown_leads g text grows (g.add at e) es t leads.1 in
-      let parts : added ≡ more.0 ++ later.0 = append_cancel_left (text at) added (more.0 ++ later.0) (rw (← append_assoc (text at) more.0 later.0, more.1, later.1) text_is) in
+      let more = grows _ _ leads.0 in
+      let later = grown_leads _ text grows _ _ _ leads.1 in
+      let parts = append_cancel_left (text at) added (more.0 ++ later.0) (rw (← append_assoc (text at) more.0 later.0, more.1, later.1) text_is) in
       let taken = rw (← append_assoc bytes e (concat es)) at takes in
-      elim (Breaks_split m j more.0 later.0 stop (rw parts at breaks)) [
-        | inl broken ↦ (at, breaks_here at bytes e (concat es ++ rest) m more.0 spelt next (rw (append_assoc (bytes ++ e) (concat es) rest) at taken) puts few more.1 broken)
+      elim (Breaks_split _ _ more.0 later.0 _ (rw parts at breaks)) [
+        | inl broken ↦ (
+          at,
+          record {
+            bytes = bytes;
+            element = e;
+            ahead = concat es ++ rest;
+            spelt = spelt;
+            next = leads.0;
+            takes = Takes-more a b _ 1 (length (bytes ++ e)) (omega (arith, length-append bytes e)) (rw (append_assoc (bytes ++ e) (concat es) rest) at taken);
+            between = between;
+            middle = m;
+            few = few;
+            puts = puts;
+            more = more.0;
+            text_is = more.1;
+            breaks = broken;
+          },
+        )
         | inr x ↦
-            breaks_from (g.add at e) t es (bytes ++ e) rest x.0 later.0 (Spelt-append g s bytes at e (g.add at e) spelt (Spelt-one g at e next)) leads.1 taken (puts_both text s at (g.add at e) h m x.0 puts (more.0, more.1, x.2)) x.1 later.1 x.3
+            breaks_from (g.add at e) t es _ rest _ _ (Spelt-append _ _ _ _ _ _ spelt (Spelt-one _ _ _ leads.0)) leads.1 taken (puts_both text _ _ _ _ _ _ puts (more.0, more.1, x.2)) x.1 later.1 x.3
       ]
 
   -- a piece was read at once, and a write of its text failed: it failed in that of one of its elements
   pub breaks_somewhere : (t : S) (piece rest : List ℕ) (added : List ℕ) → Spelt g s piece t → Takes a b (piece ++ rest) 1 → length h.waiting < 4096 → h.delivered ≤ 2 ^ 64 - 1 → text s ++ added ≡ text t → Breaks h j added stop
       → (at : S) × BreaksStreaming g text s a b h j at stop
   breaks_somewhere t piece rest added spelt takes few delivered text_is breaks =
-      breaks_from s t spelt.elements [] rest h added (Spelt-none g s) spelt.leads (subst (λ l. Takes a b (l ++ rest) 1) (sym spelt.joined) takes) ([], append-nil (text s), Puts-none h delivered) few text_is breaks
+      breaks_from _ t _ [] rest h added (Spelt-none g s) spelt.leads (rw spelt.joined takes) ([], append-nil (text s), Puts-none h delivered) few text_is breaks

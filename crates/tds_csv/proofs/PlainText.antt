@@ -1,9 +1,6 @@
 -- Bytes of Windows-1252 that stand for themselves.
-use Rattle.tds_csv.proofs.Words.{◌++◌, length, ◌+◌, ◌-◌, ◌/◌, ◌%◌, ◌<◌, get_or, agree_below_at, ◌≡◌, ◌∙◌, ◌≤◌, ◌∷◌, [], ℕ, List, true, refl, sym, ap, take, drop, arith, encode_utf8_all, prefix_len, nat_tests, append-nil, chunk, is_plain}
-use Rattle.std.{proofs.{Common.nat_le, lemmas.Slice.Eq.bytes_eq-Decides}, specs.{Char.encode_utf8, Str.bytes_eq}}
-use Rattle.tds_csv.specs.declared.convert.windows_1252.TheConstants.{UPPER}
+use Rattle.{tds_csv.{proofs.{Words.{◌++◌, length, ◌+◌, ◌-◌, ◌/◌, ◌%◌, ◌<◌, get_or, agree_below_at, ◌≡◌, ◌∙◌, ◌≤◌, ◌∷◌, [], ℕ, List, true, refl, sym, ap, take, drop, arith, encode_utf8_all, prefix_len, nat_tests, append-nil, chunk, is_plain}, Encoding.front_written, SingleLaws.windows_1252-append, Characters.{of_one, doubled_character}, Singles.some_itself}, specs.declared.convert.windows_1252.TheConstants.UPPER}, std.{proofs.{Common.nat_le, lemmas.Slice.Eq.bytes_eq-Decides}, specs.{Char.encode_utf8, Str.bytes_eq}}}
 use Rattle.tds_csv.specs.Windows1252 as windows_1252
-use Rattle.tds_csv.proofs.{Encoding.front_written, SingleLaws.windows_1252-append, Characters.of_one, Characters.doubled_character, Singles.some_itself}
 
 -- the bytes of a number, from the lowest on, as many as the highest says
 abbrev pub bytes_of : ℕ → List ℕ
@@ -26,9 +23,7 @@ upper_text b low high is =
 -- three bytes were written, and so many of them are that text
 pub upper_put : (b at : ℕ) {w : ℕ} (old new : List ℕ) → 128 ≤ b → b < 256 → w ≡ get_or UPPER (b - 128) 0 → at ≤ length old → take (at + 3) new ≡ take at old ++ (w % 256) ∷ (w / 256 % 256) ∷ (w / 65536 % 256) ∷ []
     → take (at + w / 16777216) new ≡ take at old ++ windows_1252.text (b ∷ [])
-upper_put b at {w} old new low high is within written =
-    let t = upper_text b low high is in
-    rw (← t.0) (front_written old new _ at (w / 16777216) 3 t.1 within written)
+upper_put b at {w} old new low high is within written = let t = upper_text b low high is in rw (← t.0) (front_written old new _ at (w / 16777216) 3 t.1 within written)
 
 -- some of the bytes that were found among the next 16 of a source
 pub plain_lanes : (source bytes : List ℕ) (at n : ℕ) → n ≤ 16 → n ≤ prefix_len is_plain (chunk at 16 source) → take n (drop at bytes) ≡ take n (chunk at 16 source) → take n (chunk at 16 source) ≡ windows_1252.text (take n (drop at bytes))

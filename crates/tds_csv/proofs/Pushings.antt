@@ -12,8 +12,8 @@ module _ {W U V : Type 0} {contents : W → Option (List ℕ)} {begins : List �
   pushes_taken going whole begun is withheld x = grind (arith, common_steps)
 
   -- the good bytes before a bad one were put
-  pub pushes_up_to : {u : U} (k : ℕ) → a.failed ≡ false → begins new → TakesUpTo begins rest text old new (held contents a) (held contents b) piece k → PutsPiece contents a b p (Ok u) → PushesPiece {U = V} contents begins rest text old new a b piece (Err (BadText k))
-  pushes_up_to k going begun found x = grind (arith, common_steps)
+  pub pushes_up_to : {u : U} {k : ℕ} → a.failed ≡ false → begins new → TakesUpTo begins rest text old new (held contents a) (held contents b) piece k → PutsPiece contents a b p (Ok u) → PushesPiece {U = V} contents begins rest text old new a b piece (Err (BadText k))
+  pushes_up_to going begun found x = grind (arith, common_steps)
 
   -- a write failed
   pub pushes_stopped : {e : Stop} {r : Result V JoinFault} → a.failed ≡ false → begins new → p ≡ emit rest text (old ++ piece) → PutsPiece {U = U} contents a b p (Err e) → IsErrAnd r (λ fault. fault ≡ Stopped e) → PushesPiece contents begins rest text old new a b piece r

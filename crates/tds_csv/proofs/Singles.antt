@@ -1,10 +1,9 @@
 -- Data whose bytes each stand alone, put a run after the other.
-use Rattle.tds_csv.proofs.Words.{◌≡◌, ◌∙◌, ◌+◌, ◌≤◌, ℕ, zero, suc, ◌-◌, Bool, true, false, cond, List, [], ◌∷◌, ◌++◌, take, drop, Option, Result, Ok, Err, refl, sym, ap, subst, arith, prefix_len, IsErrAnd, take-append-drop, take-take, take-add, chunk, Stop, Sink, PutsPiece}
-use Rattle.tds_csv.proofs.Puttings.{PutsPiece-passed, PutsPiece-trans}
+use Rattle.tds_csv.proofs.{Words.{◌≡◌, ◌∙◌, ◌+◌, ◌≤◌, ℕ, zero, suc, ◌-◌, Bool, true, false, cond, List, [], ◌∷◌, ◌++◌, take, drop, Option, Result, Ok, Err, refl, sym, ap, subst, arith, prefix_len, IsErrAnd, take-append-drop, take-take, take-add, chunk, Stop, Sink, PutsPiece}, Puttings.{PutsPiece-passed, PutsPiece-trans}}
 
 module _ (text : List ℕ → List ℕ) (appends : (x y : List ℕ) → text (x ++ y) ≡ text x ++ text y) where
   runs : (t e : ℕ) (xs : List ℕ) → t ≤ e → text (take t xs) ++ text (take (e - t) (drop t xs)) ≡ text (take e xs)
-  runs t e xs h = sym (appends (take t xs) (take (e - t) (drop t xs))) ∙ ap text (sym (take-add t (e - t) xs) ∙ ap (λ k. take k xs) {y = e} (omega arith))
+  runs t e xs h = let end : t + (e - t) ≡ e = omega arith in rw (← appends (take t xs) (take (e - t) (drop t xs)), ← take-add t (e - t) xs, end) refl
 
   module _ {W U V : Type 0} {contents : W → Option (List ℕ)} {a b d : Sink W} {u : U} (t e : ℕ) (xs : List ℕ) (h : t ≤ e) (p : PutsPiece contents a b (text (take t xs)) (Ok u)) where
     -- one more run was put
@@ -24,7 +23,7 @@ module _ (text : List ℕ → List ℕ) (appends : (x y : List ℕ) → text (x 
   -- bytes that stand for themselves, up to the first that needn't
   module _ (q : ℕ → Bool) (empty : text [] ≡ []) (itself : (b : ℕ) → q b ≡ true → text (b ∷ []) ≡ b ∷ []) where
     some_more : (passes : Bool) (b k n : ℕ) (xs : List ℕ) → (passes ≡ true → text (b ∷ []) ≡ b ∷ []) → suc k ≤ cond passes (1 + n) 0 → (k ≤ n → text (take k xs) ≡ take k xs) → text (b ∷ take k xs) ≡ b ∷ take k xs
-    some_more true b k n xs h few e = appends (b ∷ []) (take k xs) ∙ (λ i. h refl i ++ e (omega arith) i)
+    some_more true b k n xs h few e = rw (appends (b ∷ []) (take k xs), h refl, e (omega arith)) refl
     some_more false b k n xs h few e = absurd (omega arith)
 
     -- the first of them, so many
@@ -35,4 +34,4 @@ module _ (text : List ℕ → List ℕ) (appends : (x y : List ℕ) → text (x 
 
     -- those that were found among the next 16
     pub lanes_itself : (bytes : List ℕ) (at n : ℕ) → n ≤ 16 → n ≡ prefix_len q (chunk at 16 bytes) → take n (chunk at 16 bytes) ≡ text (take n (drop at bytes))
-    lanes_itself bytes at n few e = sym (some_itself n (chunk at 16 bytes) (omega (arith, e))) ∙ ap text (take-take n 16 (drop at bytes) few)
+    lanes_itself bytes at n few e = sym (some_itself n (chunk at 16 bytes) (omega arith)) ∙ ap text (take-take n 16 (drop at bytes) few)

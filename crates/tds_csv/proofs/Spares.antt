@@ -1,5 +1,5 @@
 -- Bytes that were written into the room of a sink.
-use Rattle.tds_csv.proofs.Words.{◌≡◌, ◌∙◌, ℕ, List, ◌++◌, length, take, drop, ap, arith, length-append, take-append_seam, drop-append_seam, overwritten, overwritten_all, false, Option, Ok, Err, KeepsPiece, PutsPiece, Sink, Stop, with_spare}
+use Rattle.tds_csv.proofs.Words.{common_steps, ◌≡◌, ◌∙◌, ℕ, List, ◌++◌, length, take, drop, ap, arith, length-append, take-append_seam, drop-append_seam, overwritten, overwritten_all, false, Option, Ok, Err, KeepsPiece, PutsPiece, Sink, Stop, with_spare}
 
 -- all the room that was lent was written over
 pub spare_bytes : (bytes lent written : List ℕ) → length written ≡ length lent → overwritten (length bytes) written (bytes ++ lent) ≡ bytes ++ written
@@ -20,7 +20,7 @@ spared bytes room written waiting whole at = rw at (spare_before bytes room writ
 -- what is written into the room that a sink lends, and kept, was put
 module _ {W U V : Type 0} {contents : W → Option (List ℕ)} {new : Sink W} {made : ℕ} {text : List ℕ} (sink : Sink W) (room written : List ℕ) (waiting : ℕ) (whole : length written ≡ length room) (at : waiting ≡ length sink.output.now.bytes) (going : sink.failed ≡ false) (is : take made written ≡ text) where
   pub kept_puts : {u : U} {v : V} → KeepsPiece contents (with_spare sink room written) new waiting made (Ok u) → PutsPiece contents sink new text (Ok v)
-  kept_puts x = let s = spared sink.output.now.bytes room written waiting whole at in record { ready = x.ready; same = x.same; failed = x.failed; gives = rw (s.0, s.1, is) at x.gives; again = λ failed. absurd (cc (failed, going)) }
+  kept_puts x = grind (arith, common_steps, spared)
 
   pub kept_breaks : {e : Stop} → KeepsPiece {U = U} contents (with_spare sink room written) new waiting made (Err e) → PutsPiece {U = V} contents sink new text (Err e)
   kept_breaks x = let s = spared sink.output.now.bytes room written waiting whole at in record { ready = x.ready; same = x.same; failed = x.failed; gives = λ _. rw (s.0, s.1, is) at x.gives; again = λ failed. absurd (cc (failed, going)) }

@@ -1,6 +1,5 @@
 -- A text that is put in one call could have been put in two.
-use Rattle.tds_csv.proofs.Words.{◌≡◌, ◌∙◌, ◌⊎◌, inl, inr, ℕ, ◌+◌, ◌-◌, ◌*◌, ◌^◌, ◌<◌, ◌≤◌, List, ◌++◌, length, take, drop, refl, sym, ap, subst, arith, append_assoc, length-append, length-drop, ◌/◌, length-take-le, take-append-drop, take-append-le, drop-append-le, take-append-add, Appends, append_known, dec_le, counted, one_more, Stop, Held, Adds, Puts, Breaks}
-use Rattle.tds_csv.proofs.Sinks.{counted-twice}
+use Rattle.tds_csv.proofs.{Words.{◌≡◌, ◌∙◌, ◌⊎◌, inl, inr, ℕ, ◌+◌, ◌-◌, ◌*◌, ◌^◌, ◌<◌, ◌≤◌, List, ◌++◌, length, take, drop, refl, sym, ap, subst, arith, append_assoc, length-append, length-drop, ◌/◌, length-take-le, take-append-drop, take-append-le, drop-append-le, take-append-add, Appends, append_known, dec_le, counted, one_more, Stop, Held, Adds, Puts, Breaks}, Sinks.counted-twice}
 
 -- what waits and a piece is what is delivered and then waits
 total_of : (a b : Held) (p r sent : List ℕ) → Adds a b sent (p ++ r) → length (a.waiting ++ p) + length r ≡ length sent + length b.waiting
@@ -10,17 +9,17 @@ total_of a b p r sent adds = sym (length-append (a.waiting ++ p) r) ∙ ap lengt
 split_at : (a b : Held) (p r sent : List ℕ) (n : ℕ) → Adds a b sent (p ++ r) → 4096 * n ≤ length sent → 4096 * n ≤ length (a.waiting ++ p) → length (a.waiting ++ p) < 4096 * (n + 1)
     → (m : Held) × (length m.waiting < 4096) × Puts a m p × Adds m b (drop (4096 * n) sent) r × (m.failures ≡ a.failures) × (m.delivered ≤ 2 ^ 64 - 1)
 split_at a b p r sent n adds enough below above =
-    let k : ℕ = 4096 * n in
-    let all : List ℕ = a.waiting ++ p in
-    let first : List ℕ = take k all in
-    let joined : all ++ r ≡ sent ++ b.waiting = append_assoc a.waiting p r ∙ adds.1 in
-    let front : take k sent ≡ first = sym (take-append-le k sent b.waiting enough) ∙ ap (take k) (sym joined) ∙ take-append-le k all r below in
-    let parts : sent ≡ first ++ drop k sent = sym (take-append-drop k sent) ∙ ap (λ l. l ++ drop k sent) front in
-    let size : length first ≡ k = length-take-le k all below in
+    let k = 4096 * n in
+    let all = a.waiting ++ p in
+    let first = take k all in
+    let joined = append_assoc a.waiting p r ∙ adds.1 in
+    let front : take k sent ≡ first = rw (← take-append-le k sent b.waiting enough, ← joined) (take-append-le k all r below) in
+    let parts = sym (take-append-drop k sent) ∙ ap (λ l. l ++ drop k sent) front in
+    let size = length-take-le k all below in
     let sizes : length sent ≡ length first + length (drop k sent) = omega (arith, length-drop k sent) in (
       record { had = append_known a.had first; waiting = drop k all; delivered = counted a.delivered (length first); failures = a.failures },
       omega (arith, length-drop k all),
-      (first, n, (grind (arith), sym (take-append-drop k all), refl), size, refl),
+      (first, n, (grind arith, sym (take-append-drop k all), refl), size, refl),
       (
         (let all_sent : Appends a.had b.had (first ++ drop k sent) = subst (Appends a.had b.had) parts adds.0 in grind (arith, append_assoc)),
         sym (drop-append-le k all r below) ∙ ap (drop k) joined ∙ drop-append-le k sent b.waiting enough,
@@ -33,8 +32,7 @@ split_at a b p r sent n adds enough below above =
 -- a piece that was put in one call could have been put in two
 pub Puts_split : (a b : Held) (p q : List ℕ) → length b.waiting < 4096 → Puts a b (p ++ q) → (m : Held) × (length m.waiting < 4096) × Puts a m p × Puts m b q × (m.delivered ≤ 2 ^ 64 - 1)
 Puts_split a b p q few x =
-    let n : ℕ = length (a.waiting ++ p) / 4096 in
-    let whole : length x.0 ≡ 4096 * x.1 = x.3 in
+    let n = length (a.waiting ++ p) / 4096 in
     let total = total_of a b p q x.0 x.2 in
     let s = split_at a b p q x.0 n x.2 (omega arith) (omega arith) (omega arith) in
     (s.0, s.1, s.2, (drop (4096 * n) x.0, x.1 - n, s.3, omega (arith, length-drop (4096 * n) x.0), x.4 ∙ sym s.4), s.5)
@@ -44,16 +42,14 @@ pub Breaks_split : (a b : Held) (p q : List ℕ) (stop : Stop) → Breaks a b (p
 Breaks_split a b p q stop x = elim (dec_le x.2 (length p)) [
   | yes le ↦ inl (x.0, x.1, x.2, subst (Adds a b x.0) (take-append-le x.2 p q le) x.3, le, x.5, x.6, x.7, x.8, x.9)
   | no above ↦
-      let i : ℕ = x.2 - length p in
-      let n : ℕ = length (a.waiting ++ p) / 4096 in
-      let at : length p + i ≡ x.2 = omega (arith, above) in
-      let fits : i ≤ length q = (let within : x.2 ≤ length (p ++ q) = x.4 in omega (arith, length-append p q)) in
-      let adds : Adds a b x.0 (p ++ take i q) = subst (Adds a b x.0) (ap (λ k. take k (p ++ q)) (sym at) ∙ take-append-add p q i) x.3 in
+      let i = x.2 - length p in
+      let n = length (a.waiting ++ p) / 4096 in
+      let at : length p + i ≡ x.2 = omega arith in
+      let fits : i ≤ length q = omega (arith, length-append p q) in
+      let adds = subst (Adds a b x.0) (ap (λ k. take k (p ++ q)) (sym at) ∙ take-append-add p q i) x.3 in
       let total = total_of a b p (take i q) x.0 adds in
       let size = length-take-le i q fits in
-      let least : 4096 * x.1 ≤ length x.0 = x.5 in
-      let full : length x.0 + length b.waiting ≡ 4096 * (x.1 + 1) = x.7 in
       let s = split_at a b p (take i q) x.0 n adds (omega arith) (omega arith) (omega arith) in
       let left = length-drop (4096 * n) x.0 in
-      inr (s.0, s.1, s.2, (drop (4096 * n) x.0, x.1 - n, i, s.3, fits, omega arith, omega (arith, x.6), omega arith, x.8, x.9 ∙ ap one_more (sym s.4)), s.5)
+      inr (s.0, s.1, s.2, (drop (4096 * n) x.0, x.1 - n, i, s.3, fits, omega arith, omega arith, omega arith, x.8, x.9 ∙ ap one_more (sym s.4)), s.5)
 ]

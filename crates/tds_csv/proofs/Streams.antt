@@ -1,38 +1,28 @@
 -- Calls that read by a grammar and put the text of what they read: one after another, and inside a greater grammar.
-use Rattle.tds_csv.proofs.Words.{◌≡◌, ◌∙◌, inl, inr, ℕ, ◌+◌, ◌<◌, Bool, List, ◌++◌, length, sym, ap, subst, arith, append_assoc, Fault, Stop, Grammar, Seen, Takes, Inside, Inside-Spelt, Spelt-append, StopsReading, next_inside, next_some, stops_after, takes_ahead, takes_both, Held, BreaksStreaming, PutsText, StopsStreaming, Streams}
-use Rattle.tds_csv.proofs.Sinks.{Puts-trans}
+use Rattle.tds_csv.proofs.{Words.{◌≡◌, ◌∙◌, inl, inr, ℕ, ◌+◌, ◌<◌, Bool, List, ◌++◌, length, sym, ap, arith, append_assoc, Fault, Stop, Grammar, Seen, Inside, Inside-Spelt, Spelt-append, StopsReading, next_inside, next_some, stops_after, takes_ahead, Held, BreaksStreaming, PutsText, StopsStreaming, Streams}, Sinks.Puts-trans}
 
 -- a state where a reading stops has a next element
 pub stops_size : {S : Type 0} (g : Grammar S Fault) (from : S) (a b : Seen) (place : ℕ) (at : S) (stop : Stop) → StopsReading g from a b place at stop → 0 < g.size at
-stops_size g from a b place at stop r = grind (arith)
+stops_size g from a b place at stop r = grind arith
 
 -- the text between three states, put by two calls
 pub puts_both : {S : Type 0} (text : S → List ℕ) (s t u : S) (a b c : Held) → PutsText text s t a b → PutsText text t u b c → PutsText text s u a c
-puts_both text s t u a b c x y = (x.0 ++ y.0, sym (append_assoc (text s) x.0 y.0) ∙ ap (λ l. l ++ y.0) x.1 ∙ y.1, Puts-trans a b c x.0 y.0 x.2 y.2)
+puts_both text s t u a b c x y = (x.0 ++ y.0, sym (append_assoc (text s) x.0 y.0) ∙ ap (λ l. l ++ y.0) x.1 ∙ y.1, Puts-trans _ _ _ _ _ x.2 y.2)
 
 module _ {S : Type 0} (g : Grammar S Fault) (text : S → List ℕ) where
-  -- two calls that read on
-  abbrev pub streams_both : (s t u : S) (a b c : Seen) (h i j : Held) → Streams g text s a b h i t → Streams g text t b c i j u → Streams g text s a c h j u
-  streams_both s t u a b c h i j x y = record {
-    bytes = x.bytes ++ y.bytes;
-    spelt = Spelt-append g s x.bytes t y.bytes u x.spelt y.spelt;
-    takes = takes_both a b c x.bytes y.bytes x.takes y.takes;
-    puts = puts_both text s t u h i j x.puts y.puts;
-  }
-
   -- a call that reads on, and one whose write fails
   abbrev pub breaks_after : (s t : S) (a b c : Seen) (h i j : Held) (at : S) (stop : Stop) → Streams g text s a b h i t → BreaksStreaming g text t b c i j at stop → BreaksStreaming g text s a c h j at stop
   breaks_after s t a b c h i j at stop x y = record {
     bytes = x.bytes ++ y.bytes;
     element = y.element;
     ahead = y.ahead;
-    spelt = Spelt-append g s x.bytes t y.bytes at x.spelt y.spelt;
+    spelt = Spelt-append _ _ _ _ _ _ x.spelt y.spelt;
     next = y.next;
-    takes = subst (λ l. Takes a c (l ++ y.ahead) (length l)) (sym (append_assoc x.bytes y.bytes y.element)) (takes_ahead a b c x.bytes (y.bytes ++ y.element) y.ahead x.takes y.takes);
+    takes = rw (append_assoc x.bytes) (takes_ahead a b c _ _ _ x.takes y.takes);
     between = y.between;
     middle = y.middle;
     few = y.few;
-    puts = puts_both text s t at h i y.middle x.puts y.puts;
+    puts = puts_both text _ _ _ _ _ _ x.puts y.puts;
     more = y.more;
     text_is = y.text_is;
     breaks = y.breaks;
@@ -44,8 +34,8 @@ module _ {S : Type 0} (g : Grammar S Fault) (text : S → List ℕ) where
   streaming_after s t a b c h i j place failed stop x y = record {
     at = y.at;
     cause = elim y.cause [
-      | inl z ↦ inl (stops_after g s t a b c place y.at stop (record { bytes = x.bytes; spelt = x.spelt; takes = x.takes }) z.0, puts_both text s t y.at h i j x.puts z.1, z.2)
-      | inr z ↦ inr (breaks_after g text s t a b c h i j y.at stop x z.0, z.1)
+      | inl z ↦ inl (stops_after g s t a b c place y.at stop (record { bytes = x.bytes; spelt = x.spelt; takes = x.takes }) z.0, puts_both text _ _ _ _ _ _ x.puts z.1, z.2)
+      | inr z ↦ inr (breaks_after _ _ _ _ _ _ _ _ _ _ _ _ x z.0, z.1)
     ];
   }
 
@@ -65,14 +55,14 @@ module _ {S T : Type 0} (small : Grammar S Fault) (big : Grammar T Fault) (lift 
     bytes = x.bytes;
     element = x.element;
     ahead = x.ahead;
-    spelt = Inside-Spelt small big lift is from x.bytes at x.spelt;
-    next = next_inside small big lift is at x.element (next_some small at x.element x.next) x.next;
+    spelt = Inside-Spelt _ _ _ is _ _ _ x.spelt;
+    next = next_inside _ _ _ is _ _ (next_some _ _ _ x.next) x.next;
     takes = x.takes;
     between = x.between;
     middle = x.middle;
     few = x.few;
     puts = puts_inside from at h x.middle x.puts;
     more = x.more;
-    text_is = added_inside at (small.add at x.element) x.more x.text_is ∙ ap whole (sym (is.add at x.element (next_some small at x.element x.next)));
+    text_is = added_inside at (small.add at x.element) x.more x.text_is ∙ ap whole (sym (is.add at x.element (next_some _ _ _ x.next)));
     breaks = x.breaks;
   }

@@ -1,6 +1,5 @@
 -- Bytes without a quote.
-use Rattle.tds_csv.proofs.Words.{◌≡◌, ◌≤◌, ℕ, List, refl, take, drop, arith, prefix_len, nat_tests, chunk, doubled, is_unquoted}
-use Rattle.tds_csv.proofs.{JoiningLemmas.doubled-append, Singles.lanes_itself}
+use Rattle.tds_csv.proofs.{Words.{◌≡◌, ◌≤◌, ℕ, List, refl, take, drop, arith, prefix_len, nat_tests, chunk, doubled, is_unquoted}, JoiningLemmas.doubled-append, Singles.lanes_itself}
 
 -- those that were found among the next 16
 pub unquoted_lanes : (bytes : List ℕ) (at n : ℕ) → n ≤ 16 → n ≡ prefix_len is_unquoted (chunk at 16 bytes) → take n (chunk at 16 bytes) ≡ doubled (take n (drop at bytes))

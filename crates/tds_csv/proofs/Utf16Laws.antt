@@ -1,8 +1,5 @@
 -- The laws of UTF-16 in pieces.
-use Rattle.tds_csv.proofs.Words.{common_steps, ◌≡◌, ℕ, ◌%◌, ◌≤◌, ◌&&◌, Bool, true, false, cond, List, [], ◌∷◌, ◌++◌, length, refl, sym, ap, ◌∙◌, arith, encode_utf8_all, unwrap_or, ⊤, map-append, length-append, encodes-append, and_right, nat_tests, utf16_lossy_chars, is_high_surrogate, is_low_surrogate, JoinsPieces, emit, doubled}
-use Rattle.std.specs.Char.Utf16.{utf16_chars}
-use Rattle.tds_csv.specs.Utf16.{units, is_high, IsFit, text, rest}
-use Rattle.tds_csv.proofs.JoiningLemmas.{doubled-append, settled_front}
+use Rattle.{tds_csv.{proofs.{Words.{common_steps, ◌≡◌, ℕ, ◌%◌, ◌≤◌, ◌&&◌, Bool, true, false, cond, List, [], ◌∷◌, ◌++◌, length, refl, ap, ◌∙◌, arith, encode_utf8_all, unwrap_or, ⊤, map-append, length-append, encodes-append, and_right, nat_tests, utf16_lossy_chars, is_high_surrogate, is_low_surrogate, JoinsPieces, emit, doubled}, JoiningLemmas.{doubled-append, settled_front}}, specs.Utf16.{units, is_high, IsFit, text, rest}}, std.specs.Char.Utf16.utf16_chars}
 
 -- the first unit is a low surrogate
 unfoldable pub starts_low : List ℕ → Bool
@@ -21,14 +18,14 @@ Apart (u ∷ []) vs = (is_high_surrogate u && starts_low vs) ≡ false
 Apart (u ∷ v ∷ us) vs = Apart (v ∷ us) vs
 
 Apart-tail : (v : ℕ) (us vs : List ℕ) → Apart (v ∷ us) vs → Apart us vs
-Apart-tail v us vs h = grind (arith)
+Apart-tail v us vs h = grind arith
 
 -- the characters of units that are cut where no pair lies
 pub chars-apart : (us vs : List ℕ) → Apart us vs → utf16_chars (us ++ vs) ≡ utf16_chars us ++ utf16_chars vs
 unfolding utf16_chars starts_low
 chars-apart [] vs h = refl
 chars-apart (u ∷ []) [] h = refl
-chars-apart (u ∷ []) (v ∷ vs) h = grind (arith)
+chars-apart (u ∷ []) (v ∷ vs) h = grind arith
 chars-apart (u ∷ v ∷ us) vs h = grind (arith, Apart-tail, chars-apart us vs (Apart-tail v us vs h), chars-apart (v ∷ us) vs h)
 
 pub high_is_not_low : (u : ℕ) → is_high_surrogate u ≡ true → is_low_surrogate u ≡ false
@@ -44,10 +41,10 @@ front (low ∷ high ∷ low' ∷ high' ∷ bytes) = low ∷ high ∷ front (low'
 
 -- a unit that is no high surrogate is settled, whatever follows
 pub front_step : (low high : ℕ) (bytes : List ℕ) → is_high low high ≡ false → front (low ∷ high ∷ bytes) ≡ low ∷ high ∷ front bytes
-front_step low high bytes h = grind (arith)
+front_step low high bytes h = grind arith
 
 pub rest_step : (low high : ℕ) (bytes : List ℕ) → is_high low high ≡ false → rest (low ∷ high ∷ bytes) ≡ rest bytes
-rest_step low high bytes h = grind (arith)
+rest_step low high bytes h = grind arith
 
 -- bytes and what follows them, seen from the bytes that are withheld
 record Seam (a b : List ℕ) : Type 0 where
@@ -59,11 +56,11 @@ record Seam (a b : List ℕ) : Type 0 where
   few : length (rest a) ≤ 3
 
 seam : (a b : List ℕ) → Seam a b
-seam [] b = grind (arith)
-seam (odd ∷ []) b = grind (arith)
+seam [] b = grind arith
+seam (odd ∷ []) b = grind arith
 seam (low ∷ high ∷ []) b = grind (arith, front_step, rest_step)
 seam (low ∷ high ∷ odd ∷ []) b = grind (arith, front_step, rest_step)
-seam (low ∷ high ∷ low' ∷ high' ∷ bytes) b = let more = seam (low' ∷ high' ∷ bytes) b in grind (arith)
+seam (low ∷ high ∷ low' ∷ high' ∷ bytes) b = let more = seam (low' ∷ high' ∷ bytes) b in grind arith
 
 -- one unit before the front of what follows it
 Apart-cons : (u : ℕ) (a : List ℕ) (low high : ℕ) (vs : List ℕ) → (starts_high (units (rest (low ∷ high ∷ a))) ≡ true → starts_low vs ≡ false) → Apart (units (front (low ∷ high ∷ a))) vs → Apart (u ∷ units (front (low ∷ high ∷ a))) vs
@@ -73,8 +70,8 @@ Apart-cons u a low high vs f h = grind (arith, and_right)
 Apart-front : (a vs : List ℕ) → (starts_high (units (rest a)) ≡ true → starts_low vs ≡ false) → Apart (units (front a)) vs
 Apart-front [] vs f = tt
 Apart-front (odd ∷ []) vs f = tt
-Apart-front (low ∷ high ∷ []) vs f = grind (arith)
-Apart-front (low ∷ high ∷ odd ∷ []) vs f = grind (arith)
+Apart-front (low ∷ high ∷ []) vs f = grind arith
+Apart-front (low ∷ high ∷ odd ∷ []) vs f = grind arith
 Apart-front (low ∷ high ∷ low' ∷ high' ∷ bytes) vs f = grind (arith, Apart-cons, Apart-front (low' ∷ high' ∷ bytes) vs f)
 
 -- the text of units is that of both parts where no pair lies across
@@ -90,15 +87,14 @@ emit-front a = ap text (settled_front rest a (front a) (seam a []).whole)
 emits : (a b : List ℕ) → emit rest text (a ++ b) ≡ emit rest text a ++ emit rest text (rest a ++ b)
 unfolding starts_low
 emits a b =
-    emit-front (a ++ b) ∙ ap text (seam a b).front_is
-    ∙ text-front a (front (rest a ++ b)) (Apart-front a (units (front (rest a ++ b))) (λ h. grind (arith, high_is_not_low)))
-    ∙ sym (λ i. emit-front a i ++ emit-front (rest a ++ b) i)
+    let split = text-front a (front (rest a ++ b)) (Apart-front a (units (front (rest a ++ b))) (λ h. grind (arith, high_is_not_low))) in
+    rw (emit-front, emit-front a, emit-front (rest a ++ b), (seam a b).front_is) split
 
 ends : (a : List ℕ) → text a ≡ emit rest text a ++ text (rest a)
 unfolding starts_low
 ends a =
-    ap text (seam a []).whole ∙ text-front a (rest a) (Apart-front a (units (rest a)) (λ h. grind (arith, high_is_not_low)))
-    ∙ ap (λ t. t ++ text (rest a)) (sym (emit-front a))
+    let split = text-front a (rest a) (Apart-front a (units (rest a)) (λ h. grind (arith, high_is_not_low))) in
+    cc (emit-front a, (seam a []).whole)
 
 pub short : (a : List ℕ) → length (rest a) ≤ 3
 short a = (seam a []).few

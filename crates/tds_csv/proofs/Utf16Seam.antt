@@ -1,7 +1,5 @@
 -- Withheld bytes of text in UTF-16, with the first ones of a piece.
-use Rattle.tds_csv.proofs.Words.{◌≡◌, ◌-◌, ◌<◌, ◌≤◌, ℕ, Option, Ok, List, [], ◌∷◌, ◌++◌, length, take, drop, arith, length-append, length-drop, length-take-le, take_all, ap, Leads, emit, Sink, IsWriting, PutsPiece}
-use Rattle.tds_csv.specs.{Utf16.{rest, text}, Utf16Next.{LeavesRest, seam}}
-use Rattle.tds_csv.proofs.{Utf16Laws.joins_utf16, Leading.Leads-none, Leading.Leads-seam, Leading.Leads-seam-front, Puttings.PutsPiece-none, Utf16Steps.text_nil}
+use Rattle.tds_csv.{proofs.{Words.{◌≡◌, ◌-◌, ◌<◌, ◌≤◌, ℕ, Option, Ok, List, [], ◌∷◌, ◌++◌, length, take, drop, arith, length-append, length-drop, length-take-le, take_all, ap, Leads, emit, Sink, IsWriting, PutsPiece}, Utf16Laws.joins_utf16, Leading.{Leads-none, Leads-seam, Leads-seam-front}, Puttings.PutsPiece-none, Utf16Steps.text_nil}, specs.{Utf16.{rest, text}, Utf16Next.{LeavesRest, seam}}}
 
 -- where the text goes on after that of the seam
 abbrev pub after : List ℕ → List ℕ → List ℕ
@@ -21,12 +19,12 @@ none_leads piece none = rw none (Leads-after [] piece)
 
 -- some bytes are withheld
 seam_some : (kept piece : List ℕ) → 0 < length kept → seam kept piece ≡ kept ++ take 3 piece
-seam_some kept piece some = grind (arith)
+seam_some kept piece some = grind arith
 
 pub some_leads : {kept own : List ℕ} (piece bytes : List ℕ) (used : ℕ) → kept ≡ own → 0 < length kept → 3 ≤ length piece → bytes ≡ kept ++ take 3 piece → LeavesRest bytes 0 used → Leads rest text (own ++ piece) (drop (used - length kept) piece) (emit rest text (seam own piece))
 some_leads {kept = kept} piece bytes used same some long is left =
     let three : length (take 3 piece) ≡ 3 = length-take-le 3 piece long in
-    let past : length kept ≤ used = omega (arith, left.most, three, ap length is, length-append kept (take 3 piece)) in
+    let past : length kept ≤ used = omega (arith, ap length is, length-append kept (take 3 piece)) in
     rw (← same, seam_some kept piece some, ← is) (Leads-seam joins_utf16 kept piece bytes 3 used is tt past left.within left.rest)
 
 -- what stands after the bytes that were used is withheld

@@ -1,8 +1,5 @@
 -- One character after the other of text in UTF-16.
-use Rattle.tds_csv.proofs.Words.{◌⊎◌, inl, ◌≡◌, ◌∙◌, ◌&&◌, ◌+◌, ◌*◌, ◌<◌, ◌≤◌, ◌%◌, ℕ, true, false, List, [], ◌∷◌, ◌++◌, length, map, drop, get_or, refl, ap, arith, encode_utf8_all, unwrap_or, drop_more, and_right, nat_tests, encode_utf8, utf16_lossy_chars, is_high_surrogate, is_low_surrogate, surrogate_pair_char, lone_unit_char, emit, doubled, length-drop, nil_from_length}
-use Rattle.std.specs.Char.Utf16.{utf16_chars}
-use Rattle.tds_csv.specs.{Utf16.{units, is_high, characters, rest, text}, Utf16Next.IsNext}
-use Rattle.tds_csv.proofs.{Utf16Laws.starts_low, Utf16Laws.chars-apart, Utf16Laws.front, Utf16Laws.front_step, Utf16Laws.rest_step, Utf16Laws.emit-front, Utf16Laws.short, JoiningLemmas.doubled-append}
+use Rattle.{tds_csv.{proofs.{Words.{◌⊎◌, inl, ◌≡◌, ◌&&◌, ◌+◌, ◌*◌, ◌<◌, ◌≤◌, ◌%◌, ℕ, true, false, List, [], ◌∷◌, ◌++◌, length, map, drop, get_or, refl, ap, arith, encode_utf8_all, unwrap_or, drop_more, and_right, nat_tests, encode_utf8, utf16_lossy_chars, is_high_surrogate, is_low_surrogate, surrogate_pair_char, lone_unit_char, emit, doubled, length-drop, nil_from_length}, Utf16Laws.{starts_low, chars-apart, front, front_step, rest_step, emit-front, short}, JoiningLemmas.doubled-append}, specs.{Utf16.{units, is_high, characters, rest, text}, Utf16Next.IsNext}}, std.specs.Char.Utf16.utf16_chars}
 
 pub text_nil : text [] ≡ []
 unfolding utf16_chars
@@ -13,7 +10,7 @@ unfolding utf16_chars
 characters_nil = refl
 
 pub nil_of_length : (xs : List ℕ) → length xs ≡ 0 → xs ≡ []
-nil_of_length xs e = nil_from_length xs e
+nil_of_length = nil_from_length
 
 -- a unit that isn't the first of a pair
 chars_one : (u : ℕ) (us : List ℕ) → (is_high_surrogate u && starts_low us) ≡ false → utf16_lossy_chars (u ∷ us) ≡ unwrap_or (lone_unit_char u) 0xFFFD ∷ utf16_lossy_chars us
@@ -51,7 +48,7 @@ pub next_alone : (low high low' high' : ℕ) (bytes : List ℕ) → is_high low 
 unfolding starts_low
 next_alone low high low' high' bytes h l =
     let lone = lone_half (low + 256 * high) (inl h) in
-    let first : starts_low (units (front (low' ∷ high' ∷ bytes))) ≡ false = grind (arith) in
+    let first : starts_low (units (front (low' ∷ high' ∷ bytes))) ≡ false = grind arith in
     record {
       emits = emits_by (low ∷ high ∷ low' ∷ high' ∷ bytes) (low' ∷ high' ∷ bytes) 0xFFFD (spells_one low high (front (low' ∷ high' ∷ bytes)) 0xFFFD lone (λ _. first));
       keeps = refl;
@@ -76,7 +73,7 @@ spells_held xs some whole e = grind (arith, short, lone_half, nat_tests, and_rig
 
 -- a high surrogate stays before what is no whole unit
 held_high : (low high : ℕ) (more : List ℕ) → length more < 2 → is_high low high ≡ true → rest (low ∷ high ∷ more) ≡ low ∷ high ∷ more
-held_high low high more few h = grind (arith)
+held_high low high more few h = grind arith
 
 -- the bytes from a place on, the first ones named
 pub drop_two : (xs : List ℕ) (i : ℕ) → i + 1 < length xs → drop i xs ≡ get_or xs i 0 ∷ get_or xs (i + 1) 0 ∷ drop (i + 2) xs
@@ -88,17 +85,17 @@ drop_four xs i h = grind (arith, drop_two)
 -- ---- the steps from a place on, by the units that stand there
 
 pub held_at : (xs : List ℕ) (i : ℕ) {u : ℕ} → i + 1 < length xs → length xs < i + 4 → u ≡ get_or xs i 0 + 256 * get_or xs (i + 1) 0 → is_high_surrogate u ≡ true → rest (drop i xs) ≡ drop i xs
-held_at xs i within few is h = rw (drop_two xs i within) (held_high (get_or xs i 0) (get_or xs (i + 1) 0) (drop (i + 2) xs) (omega (arith, length-drop (i + 2) xs)) (rw is at h))
+held_at xs i within few is h = rw drop_two (held_high (get_or xs i 0) (get_or xs (i + 1) 0) (drop (i + 2) xs) (omega (arith, length-drop (i + 2) xs)) (rw is at h))
 
 pub one_at : (xs : List ℕ) (i : ℕ) {u code : ℕ} → i + 1 < length xs → u ≡ get_or xs i 0 + 256 * get_or xs (i + 1) 0 → is_high_surrogate u ≡ false → unwrap_or (lone_unit_char u) 0xFFFD ≡ code → IsNext (drop i xs) code 2
-one_at xs i {code = code} within is h e = rw (drop_two xs i within) (next_one (get_or xs i 0) (get_or xs (i + 1) 0) (drop (i + 2) xs) code (rw is at h) (rw is at e))
+one_at xs i within is h e = rw drop_two (next_one _ _ _ _ (rw is at h) (rw is at e))
 
 module _ (xs : List ℕ) (i : ℕ) {u v : ℕ} (within : i + 3 < length xs) (first : u ≡ get_or xs i 0 + 256 * get_or xs (i + 1) 0) (second : v ≡ get_or xs (i + 2) 0 + 256 * get_or xs (i + 2 + 1) 0) (high : is_high_surrogate u ≡ true) where
   second_is : v ≡ get_or xs (i + 2) 0 + 256 * get_or xs (i + 3) 0
-  second_is = second ∙ ap (λ k. get_or xs (i + 2) 0 + 256 * get_or xs k 0) {x = i + 2 + 1} {y = i + 3} (omega arith)
+  second_is = grind arith
 
   pub alone_at : is_low_surrogate v ≡ false → IsNext (drop i xs) 0xFFFD 2
-  alone_at low = rw (drop_four xs i within) (next_alone (get_or xs i 0) (get_or xs (i + 1) 0) (get_or xs (i + 2) 0) (get_or xs (i + 3) 0) (drop (i + 4) xs) (rw first at high) (rw second_is at low))
+  alone_at low = rw drop_four (next_alone _ _ _ _ _ (rw first at high) (rw second_is at low))
 
   pub pair_at : is_low_surrogate v ≡ true → IsNext (drop i xs) (surrogate_pair_char u v) 4
-  pair_at low = rw (drop_four xs i within, first, second_is) (next_pair (get_or xs i 0) (get_or xs (i + 1) 0) (get_or xs (i + 2) 0) (get_or xs (i + 3) 0) (drop (i + 4) xs) (rw first at high) (rw second_is at low))
+  pair_at low = rw (drop_four, first, second_is) (next_pair _ _ _ _ _ (rw first at high) (rw second_is at low))

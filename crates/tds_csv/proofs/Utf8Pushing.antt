@@ -1,7 +1,5 @@
 -- Pieces of text in UTF-8, one after the other.
-use Rattle.tds_csv.proofs.Words.{common_steps, ◌≡◌, ◌∙◌, ◌↔◌, ℕ, ◌+◌, ◌-◌, ◌<◌, ◌≤◌, List, [], ◌++◌, length, take, drop, inl, inr, Option, Result, Ok, Err, refl, sym, ap, arith, append_assoc, append-nil, length-append, length-drop, length-take-le, cases_lt, take-append-drop, take-take, take-append-le, drop-append-le, take_all, drop-append-add, take-append-add, utf8_valid_len, utf8_valid_len_le, emit, IsErrAnd, err_from_is_err_and, JoinFault, Stopped, Odd, BadText, Sink, Pushes, PushesPiece, TakesPiece, TakesUpTo, Held, held, IsScan, StopsAt}
-use Rattle.tds_csv.specs.Utf8.{Begins, rest, text}
-use Rattle.tds_csv.proofs.{Utf8Laws.joins_utf8, Utf8Laws.emits, Utf8Laws.rest-append, Sinks.Puts-trans, Sinks.Breaks-after, Sinks.Breaks-longer}
+use Rattle.tds_csv.{proofs.{Words.{common_steps, ◌≡◌, ◌∙◌, ◌↔◌, ℕ, ◌+◌, ◌-◌, ◌<◌, ◌≤◌, List, [], ◌++◌, length, take, drop, inl, inr, Option, Result, Ok, Err, refl, sym, ap, arith, append_assoc, append-nil, length-append, length-drop, length-take-le, cases_lt, take-append-drop, take-take, take-append-le, drop-append-le, take_all, drop-append-add, take-append-add, utf8_valid_len, utf8_valid_len_le, emit, IsErrAnd, err_from_is_err_and, JoinFault, Stopped, Odd, BadText, Sink, Pushes, PushesPiece, TakesPiece, TakesUpTo, Held, held, IsScan, StopsAt}, Utf8Laws.{joins_utf8, emits, rest-append}, Sinks.{Puts-trans, Breaks-after, Breaks-longer}}, specs.Utf8.{Begins, rest, text}}
 
 -- the answer of a push, by where its piece begins in another one
 abbrev pub moved_by : {V : Type 0} → ℕ → Result V JoinFault → Result V JoinFault
@@ -29,9 +27,9 @@ after_kept kept piece bytes k is begun bad = elim (cases_lt k (length kept)) [
 ]
 
 -- bytes that are withheld, and a piece, taken as one
-up_to_seam : (kept piece bytes new : List ℕ) (a b : Held) (k : ℕ) → bytes ≡ kept ++ piece → Begins kept → TakesUpTo Begins rest text [] new a b bytes k → TakesUpTo Begins rest text kept new a b piece (k - length kept)
-up_to_seam kept piece bytes new a b k is begun x =
-    let past = after_kept kept piece bytes k is begun x.bad in
+up_to_seam : {kept piece bytes new : List ℕ} {a b : Held} {k : ℕ} → bytes ≡ kept ++ piece → Begins kept → TakesUpTo Begins rest text [] new a b bytes k → TakesUpTo Begins rest text kept new a b piece (k - length kept)
+up_to_seam {kept} {k = k} is begun x =
+    let past = after_kept _ _ _ _ is begun x.bad in
     let j = k - length kept in
     let split : k ≡ length kept + j = omega arith in
     let after : k + 1 ≡ length kept + (j + 1) = omega arith in
@@ -48,17 +46,11 @@ halves kept part more is =
 pub rest_begins : {new : List ℕ} (bytes : List ℕ) → new ≡ rest bytes → Begins bytes → Begins new
 rest_begins bytes is begun = rw (is, ← append-nil (rest bytes)) (joins_utf8.inward bytes [] (rw append-nil begun))
 
--- what is withheld ends the piece
-kept_ends : (kept part mid : List ℕ) → mid ≡ rest (kept ++ part) → length mid ≤ length part → drop (length part - length mid) part ≡ mid
-kept_ends kept part mid is le =
-    let whole : utf8_valid_len (kept ++ part) ≡ length kept + (length part - length mid) =
-    omega (arith, ap length is, length-drop (utf8_valid_len (kept ++ part)) (kept ++ part), length-append kept part, utf8_valid_len_le (kept ++ part)) in
-    sym (is ∙ ap (λ n. drop n (kept ++ part)) whole ∙ drop-append-add kept part (length part - length mid))
-
 -- what is withheld, and the rest of a piece whose first bytes were taken
 kept_tail : (kept part more mid : List ℕ) (at : ℕ) → mid ≡ rest (kept ++ part) → at + length mid ≡ length part → take (length (part ++ more) - at) (drop at (part ++ more)) ≡ mid ++ more
 kept_tail kept part more mid at is e =
-    let ends : drop at part ≡ mid = ap (λ n. drop n part) {y = length part - length mid} (omega arith) ∙ kept_ends kept part mid is (omega arith) in
+    let whole : utf8_valid_len (kept ++ part) ≡ length kept + at = omega (arith, ap length is, length-drop (utf8_valid_len (kept ++ part)) (kept ++ part), length-append kept part, utf8_valid_len_le (kept ++ part)) in
+    let ends = sym (is ∙ ap (λ n. drop n (kept ++ part)) whole ∙ drop-append-add kept part at) in
     rw (take_all (length (part ++ more) - at) (drop at (part ++ more)) (omega (arith, length-drop at (part ++ more))), drop-append-le at part more (omega arith), ends) refl
 
 module _ {kept mid new : List ℕ} {a b d : Held} {part : List ℕ} (x : TakesPiece Begins rest text kept mid a b part) where
@@ -74,7 +66,7 @@ module _ {kept mid new : List ℕ} {a b d : Held} {part : List ℕ} (x : TakesPi
       let h = halves kept part (take (n + 1) more) x.withheld in
       let next : (part : List ℕ) → take ((length part + n) + 1) (part ++ more) ≡ part ++ take (n + 1) more = λ part. ap (λ k. take k (part ++ more)) {y = length part + (n + 1)} (omega arith) ∙ take-append-add part more (n + 1) in
       record {
-        within = omega (arith, y.within, length-append mid more, length-append part more);
+        within = omega (arith, length-append mid more, length-append part more);
         good = rw (take-append-add part more n) (takes_both (take n more) (rw (take-append-add mid more n) at y.good));
         bad = λ begun. y.bad (rw (next mid) (h.2.0 (rw (next part) at begun)));
       }
@@ -85,10 +77,8 @@ up_to_first n k long x = grind (arith, length-take-le, take-take)
 
 module _ {W U : Type 0} {contents : W → Option (List ℕ)} {a b : Sink W} {kept new : List ℕ} where
   -- bytes that are withheld, and a piece, taken as one up to a bad byte
-  pub pushes_seam : (piece bytes : List ℕ) (k : ℕ) → bytes ≡ kept ++ piece → Begins kept → PushesPiece {U = U} contents Begins rest text [] new a b bytes (Err (BadText k)) → PushesPiece {U = U} contents Begins rest text kept new a b piece (Err (BadText (k - length kept)))
-  pushes_seam piece bytes k is begun x =
-      let found = up_to_seam kept piece bytes new (held contents a) (held contents b) k is begun x.gives in
-      record { ready = x.ready; same = x.same; failed = x.failed; gives = found; begun = x.begun; again = λ failed. absurd (cc ((x.again failed).0)) }
+  pub pushes_seam : {piece bytes : List ℕ} {k : ℕ} → bytes ≡ kept ++ piece → Begins kept → PushesPiece {U = U} contents Begins rest text [] new a b bytes (Err (BadText k)) → PushesPiece {U = U} contents Begins rest text kept new a b piece (Err (BadText (k - length kept)))
+  pushes_seam is begun x = record { ready = x.ready; same = x.same; failed = x.failed; gives = up_to_seam is begun x.gives; begun = x.begun; again = λ failed. absurd (cc ((x.again failed).0)) }
 
   -- a push of the first bytes of a piece failed
   first_gives : (piece : List ℕ) (n : ℕ) (e : JoinFault) → n ≤ length piece → PushesPiece {U = U} contents Begins rest text kept new a b (take n piece) (Err e) → Pushes {U = U} Begins rest text kept new (held contents a) (held contents b) a.failed piece (Err e)
@@ -99,8 +89,8 @@ module _ {W U : Type 0} {contents : W → Option (List ℕ)} {a b : Sink W} {kep
   first_gives piece n (BadText k) long x = up_to_first n k long x.gives
 
   -- and `?` passed its error on
-  pub pushes_passed : (piece : List ℕ) (n : ℕ) {e : JoinFault} {r : Result U JoinFault} → n ≤ length piece → IsErrAnd r (λ fault. fault ≡ e) → PushesPiece {U = U} contents Begins rest text kept new a b (take n piece) (Err e) → PushesPiece contents Begins rest text kept new a b piece r
-  pushes_passed piece n {e = e} {r = r} long is x = grind (arith, common_steps, err_from_is_err_and, first_gives)
+  pub pushes_passed : {piece : List ℕ} {n : ℕ} {e : JoinFault} {r : Result U JoinFault} → n ≤ length piece → IsErrAnd r (λ fault. fault ≡ e) → PushesPiece {U = U} contents Begins rest text kept new a b (take n piece) (Err e) → PushesPiece contents Begins rest text kept new a b piece r
+  pushes_passed long is x = grind (arith, common_steps, err_from_is_err_and, first_gives)
 
 module _ {W U V : Type 0} {contents : W → Option (List ℕ)} {a b d : Sink W} {kept mid new part : List ℕ} {u : U} (more : List ℕ) (at : ℕ) (le : at + length mid ≡ length part) (x : PushesPiece contents Begins rest text kept mid a b part (Ok u)) where
   -- the first bytes of a piece were taken, and then what was withheld was pushed with the others
@@ -109,20 +99,20 @@ module _ {W U V : Type 0} {contents : W → Option (List ℕ)} {a b d : Sink W} 
   both_give (Err (Stopped stop)) y = λ _. rw (halves kept part more x.gives.withheld).0 (Breaks-after _ _ _ _ _ _ x.gives.put (y.gives x.failed))
   both_give (Err Odd) y = y.gives
   both_give (Err (BadText k)) y =
-      let past = after_kept mid more (mid ++ more) k refl x.begun y.gives.bad in
+      let past = after_kept mid more _ k refl x.begun y.gives.bad in
       let n = k - length mid in
       let here : length mid + n ≡ k = omega arith in
       let there : length part + n ≡ at + k = omega arith in
       rw (← there) (up_to_both x.gives more n (rw here y.gives))
 
   pushes_both : {r : Result V JoinFault} → PushesPiece contents Begins rest text [] new b d (mid ++ more) r → PushesPiece contents Begins rest text kept new a d (part ++ more) (moved_by at r)
-  pushes_both {r = r} y = grind (arith, common_steps, both_give)
+  pushes_both y = grind (arith, common_steps, both_give)
 
 -- the first three bytes of a piece were taken, and then what was withheld was pushed with the others
-pub pushes_long : {W U V : Type 0} {contents : W → Option (List ℕ)} {a b d : Sink W} {kept mid new : List ℕ} {u : U} {r : Result V JoinFault} (piece held' : List ℕ) → 3 ≤ length piece → held' ≡ mid → length mid ≤ 3
+pub pushes_long : {W U V : Type 0} {contents : W → Option (List ℕ)} {a b d : Sink W} {kept mid new : List ℕ} {u : U} {r : Result V JoinFault} {piece held' : List ℕ} → 3 ≤ length piece → held' ≡ mid → length mid ≤ 3
     → PushesPiece contents Begins rest text kept mid a b (take 3 piece) (Ok u) → PushesPiece contents Begins rest text [] new b d (take (length piece - (3 - length held')) (drop (3 - length held') piece)) r
     → PushesPiece contents Begins rest text kept new a d piece (moved_by (3 - length held') r)
-pushes_long {kept = kept} {mid = mid} piece held' long same le x y =
+pushes_long {kept = kept} {mid = mid} {piece = piece} {held' = held'} long same le x y =
     let at = 3 - length held' in
     let whole : at + length mid ≡ length (take 3 piece) = omega (arith, ap length same, length-take-le 3 piece long) in
     let tail = rw take-append-drop at (kept_tail kept (take 3 piece) (drop 3 piece) mid at x.gives.withheld whole) in

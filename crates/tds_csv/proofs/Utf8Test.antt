@@ -1,8 +1,5 @@
 -- Whether bytes begin a text: std's test of what follows the last whole character.
-use Rattle.tds_csv.proofs.Words.{◌≡◌, ℕ, ◌+◌, ◌*◌, ◌≤◌, ◌<◌, inl, inr, ⊎_elim, List, [], ◌∷◌, ◌++◌, length, None, refl, sym, ap, arith, IsUtf8, encode_utf8, len_utf8, second_byte_min, second_byte_max, cases_lt, nat_tests, length-encode, Scalar, Follows, Shape, of1, of2, of3, of4, shape, IsUtf8-append, IsUtf8-nil, scalar_cases, of_two, of_three, of_four}
-use Rattle.std.specs.Str.Lossy.{utf8_error_len}
-use Rattle.tds_csv.specs.Utf8.{Begins, rest}
-use Rattle.tds_csv.proofs.Utf8Laws.{front, front_is, regrouped, begun_rest, NoText, no_text}
+use Rattle.{tds_csv.{proofs.{Words.{◌≡◌, ℕ, ◌+◌, ◌*◌, ◌≤◌, ◌<◌, inl, inr, ⊎_elim, List, [], ◌∷◌, ◌++◌, length, None, refl, sym, ap, arith, IsUtf8, encode_utf8, len_utf8, second_byte_min, second_byte_max, cases_lt, nat_tests, length-encode, Scalar, Follows, Shape, of1, of2, of3, of4, shape, IsUtf8-append, IsUtf8-nil, scalar_cases, of_two, of_three, of_four}, Utf8Laws.{front, front_is, regrouped, begun_rest, NoText, no_text}}, specs.Utf8.{Begins, rest}}, std.specs.Str.Lossy.utf8_error_len}
 
 -- the first two bytes of a character of four
 four : (c a b d w : ℕ) → Scalar c → 240 ≤ a → Follows b → Follows d → Follows w → c + 63447168 ≡ a * 262144 + b * 4096 + d * 64 + w → 4 ≤ len_utf8 c
@@ -13,16 +10,16 @@ four c a b d w k l f g h s long = grind (arith, ⊎_elim, nat_tests)
 front_none : (c : ℕ) (r more tail : List ℕ) → Scalar c → Shape c → r ++ more ≡ encode_utf8 c ++ tail → length r < length (encode_utf8 c) → utf8_error_len r ≡ None
 unfolding utf8_error_len
 front_none c [] more tail k s e short = refl
-front_none c (x ∷ r) more tail k (of1 h e') e short = let n = ap length e' in absurd (omega arith)
+front_none c (x ∷ r) more tail k (of1 h e') e short = absurd (omega (arith, ap length e'))
 front_none c (x ∷ []) more tail k (of2 a b l u f s e') e short = grind (arith, length-encode, nat_tests)
-front_none c (x ∷ y ∷ r) more tail k (of2 a b l u f s e') e short = let n = ap length e' in absurd (omega arith)
+front_none c (x ∷ y ∷ r) more tail k (of2 a b l u f s e') e short = absurd (omega (arith, ap length e'))
 front_none c (x ∷ []) more tail k (of3 a b d l u f g s e') e short = grind (arith, nat_tests)
 front_none c (x ∷ y ∷ []) more tail k (of3 a b d l u f g s e') e short = grind (arith, length-encode, ⊎_elim, nat_tests)
-front_none c (x ∷ y ∷ z ∷ r) more tail k (of3 a b d l u f g s e') e short = let n = ap length e' in absurd (omega arith)
+front_none c (x ∷ y ∷ z ∷ r) more tail k (of3 a b d l u f g s e') e short = absurd (omega (arith, ap length e'))
 front_none c (x ∷ []) more tail k (of4 a b d w l u f g h s e') e short = grind (arith, ⊎_elim, nat_tests)
 front_none c (x ∷ y ∷ []) more tail k (of4 a b d w l u f g h s e') e short = grind (arith, four, length-encode, nat_tests)
 front_none c (x ∷ y ∷ z ∷ []) more tail k (of4 a b d w l u f g h s e') e short = grind (arith, four, length-encode, nat_tests)
-front_none c (x ∷ y ∷ z ∷ v ∷ r) more tail k (of4 a b d w l u f g h s e') e short = let n = ap length e' in absurd (omega arith)
+front_none c (x ∷ y ∷ z ∷ v ∷ r) more tail k (of4 a b d w l u f g h s e') e short = absurd (omega (arith, ap length e'))
 
 -- where some text begins so, std finds no fault in the rest
 pub begins_none : (bytes : List ℕ) → Begins bytes → utf8_error_len (rest bytes) ≡ None

@@ -1,9 +1,6 @@
 -- Units that are looked at eight at a time, lane by lane.
-use Rattle.tds_csv.proofs.Words.{take, get_or, ◌++◌, ◌≡◌, ◌∙◌, ◌+◌, ◌*◌, ◌/◌, ◌%◌, ◌^◌, ◌<◌, ℕ, Bool, not, cond, zero, suc, List, [], ◌∷◌, map, length, refl, ap, ap₂, arith, Fits, w8, w16, Each1, map-map, mask_l, top, first_set, prefix_len, sel_l}
-use Rattle.std.specs.Simd.Lanes.{number_l}
+use Rattle.{tds_csv.{proofs.{Words.{take, get_or, ◌++◌, ◌≡◌, ◌∙◌, ◌+◌, ◌*◌, ◌/◌, ◌%◌, ◌^◌, ◌<◌, ℕ, Bool, not, cond, zero, suc, List, [], ◌∷◌, map, length, refl, ap, ap₂, arith, Fits, w8, w16, Each1, map-map, mask_l, top, first_set, prefix_len, sel_l}, Masks.{run_before, same_prefix}}, specs.{Utf16.units, Wide.triples}}, std.specs.Simd.Lanes.number_l}
 use lib.Lanes.{digits_l}
-use Rattle.tds_csv.proofs.Masks.{run_before, same_prefix}
-use Rattle.tds_csv.specs.{Utf16.units, Wide.triples}
 
 -- two functions that are the same on units
 pub same_map : {f g : ℕ → ℕ} → ((u : ℕ) → u < 65536 → f u ≡ g u) → (us : List ℕ) → Each1 (Fits w16) us → map f us ≡ map g us
@@ -42,9 +39,7 @@ bytes_of_words : (n : ℕ) (xs : List ℕ) → length xs ≡ n → Each1 (λ x. 
 bytes_of_words zero [] long fits = refl
 bytes_of_words (suc n) (x ∷ xs) long fits =
     let four : 4 * suc n ≡ suc (suc (suc (suc (4 * n)))) = omega arith in
-    let small = fits.0 in
-    let more = bytes_of_words n xs (omega (arith, long)) fits.1 in
-    rw four (grind (arith, small))
+    rw four (grind (arith, fits.0, bytes_of_words n xs (omega arith) fits.1))
 bytes_of_words n xs long fits = absurd (omega arith)
 
 -- of each four the first three, and then the last
@@ -52,7 +47,7 @@ abbrev woven : List ℕ → List ℕ
 woven bs = map (λ k. get_or (bs ++ bs) k 0) (0 ∷ 1 ∷ 2 ∷ 4 ∷ 5 ∷ 6 ∷ 8 ∷ 9 ∷ 10 ∷ 12 ∷ 13 ∷ 14 ∷ 3 ∷ 7 ∷ 11 ∷ 15 ∷ [])
 
 word_fits : (u : ℕ) → u < 65536 → (word u % 256 ≡ 224 + u / 4096) × (word u / 256 % 256 ≡ 128 + u / 64 % 64) × (word u / 256 / 256 % 256 ≡ 128 + u % 64) × (word u < 4294967296)
-word_fits u small = (omega (arith, small), omega (arith, small), omega (arith, small), omega (arith, small))
+word_fits u small = grind arith
 
 pub three_each : (us ws : List ℕ) → length us ≡ 4 → Each1 (Fits w16) us → ws ≡ map word us → take 12 (woven (digits_l 256 16 (number_l 4294967296 ws))) ≡ triples us
 three_each (a ∷ b ∷ c ∷ d ∷ []) ws long fits is =
@@ -61,5 +56,5 @@ three_each (a ∷ b ∷ c ∷ d ∷ []) ws long fits is =
     let fc = word_fits c fits.1.1.0.fits in
     let fd = word_fits d fits.1.1.1.0.fits in
     let all = ap (λ l. digits_l 256 16 (number_l 4294967296 l)) is ∙ bytes_of_words 4 (map word (a ∷ b ∷ c ∷ d ∷ [])) refl (fa.3, (fb.3, (fc.3, (fd.3, tt)))) in
-    ap (λ bs. take 12 (woven bs)) all ∙ (λ i. fa.0 i ∷ fa.1 i ∷ fa.2 i ∷ fb.0 i ∷ fb.1 i ∷ fb.2 i ∷ fc.0 i ∷ fc.1 i ∷ fc.2 i ∷ fd.0 i ∷ fd.1 i ∷ fd.2 i ∷ [])
+    ap (λ bs. take 12 (woven bs)) all ∙ (cc)
 three_each us ws long fits is = absurd (omega arith)

@@ -1,7 +1,5 @@
 -- The text of units that are characters of at most three bytes.
-use Rattle.tds_csv.proofs.Words.{common_steps, le_refl, take_all, ◌-◌, take-add, take-take, is_plain, evens, length-chunk, refl, LiesIn, chunk, drop-drop, Bool, Each1, Fits, Leads, List, [], ap, append-nil, append_assoc, arith, cond, doubled, drop, encode_utf8, encode_utf8_all, encodes-append, false, get_or, get_or-map, is_high_surrogate, is_low_surrogate, length, map, nat_tests, prefix_len, prefix_len-le-length, suc, sym, take, take-append-drop, take_more, true, w16, zero, ℕ, ◌%◌, ◌*◌, ◌++◌, ◌+◌, ◌/◌, ◌<◌, ◌∙◌, ◌∷◌, ◌≡◌, ◌≤◌}
-use Rattle.tds_csv.specs.{Utf16.{units, rest, text}, Utf16Next.Converts, Wide.{is_short, is_long, pair, size, triples}}
-use Rattle.tds_csv.proofs.{Encoding.front_written, Singles.some_itself, Masks.alike, Characters.of_one, Characters.of_two, Characters.of_three, Characters.doubled_character, Leading.Leads-none, Leading.Leads-trans, Utf16Steps.next_one, Utf16Steps.lone_other}
+use Rattle.tds_csv.{proofs.{Words.{common_steps, le_refl, take_all, ◌-◌, take-add, take-take, is_plain, evens, length-chunk, refl, LiesIn, chunk, drop-drop, Bool, Each1, Fits, Leads, List, [], ap, append-nil, append_assoc, arith, cond, doubled, drop, encode_utf8, encode_utf8_all, encodes-append, false, get_or, get_or-map, is_high_surrogate, is_low_surrogate, length, map, nat_tests, prefix_len, prefix_len-le-length, suc, sym, take, take-append-drop, take_more, true, w16, zero, ℕ, ◌%◌, ◌*◌, ◌++◌, ◌+◌, ◌/◌, ◌<◌, ◌∙◌, ◌∷◌, ◌≡◌, ◌≤◌}, Encoding.front_written, Singles.some_itself, Masks.alike, Characters.{of_one, of_two, of_three, doubled_character}, Leading.{Leads-none, Leads-trans}, Utf16Steps.{next_one, lone_other}}, specs.{Utf16.{units, rest, text}, Utf16Next.Converts, Wide.{is_short, is_long, pair, size, triples}}}
 
 -- a character of its own that isn't a quote
 pub record IsSingle (u : ℕ) : Type 0 where
@@ -24,18 +22,21 @@ short_bytes u h = grind (arith, nat_tests, of_one, of_two)
 
 -- a lane of units
 pub lane_at : (f : ℕ → ℕ) (us : List ℕ) {lanes : List ℕ} {i : ℕ} → lanes ≡ map f us → length us ≡ 8 → i < 8 → get_or lanes i 0 ≡ f (get_or us i 0)
-lane_at f us {i = i} is long within = rw is (get_or-map f us i 0 0 (omega (arith, long, within)))
+lane_at f us {i = i} is long within = rw is (get_or-map f us i 0 0 (omega arith))
 
 -- a short character has one byte or two
 pub sized : (u : ℕ) → (1 ≤ size u) × (size u ≤ 2)
 sized u = grind (arith, nat_tests)
 
+pub sized_at : (us : List ℕ) {lanes : List ℕ} {i : ℕ} → lanes ≡ map size us → length us ≡ 8 → i < 8 → (1 ≤ get_or lanes i 0) × (get_or lanes i 0 ≤ 2)
+sized_at us {i = i} is long within = rw (lane_at size us is long within) (sized (get_or us i 0))
+
 -- the text of the first units, and of one more
 pub one_more : (front : List ℕ) {old new more : List ℕ} (us : List ℕ) (i : ℕ) → length us ≡ 8 → i < 8 → old ≡ front ++ encode_utf8_all (take i us) → new ≡ old ++ more → more ≡ encode_utf8 (get_or us i 0) → new ≡ front ++ encode_utf8_all (take (i + 1) us)
 one_more front us i long within before after is = grind (arith, common_steps, encode_utf8_all, take_more, encodes-append, append-nil, append_assoc)
 
-first_holds : (b : Bool) (k n : ℕ) → suc k ≤ cond b (1 + n) 0 → (b ≡ true) × (k ≤ n)
-first_holds b k n h = grind (arith)
+first_holds : {b : Bool} {k n : ℕ} → suc k ≤ cond b (1 + n) 0 → (b ≡ true) × (k ≤ n)
+first_holds h = grind arith
 
 -- characters of ASCII stand for themselves
 pub plain_text : (n : ℕ) (us : List ℕ) → n ≤ prefix_len is_plain us → encode_utf8_all (take n us) ≡ take n us
@@ -45,7 +46,7 @@ plain_text n us few = some_itself encode_utf8_all encodes-append is_plain refl (
 pub long_text : (n : ℕ) (us : List ℕ) → n ≤ prefix_len is_long us → Each1 (Fits w16) us → take (3 * n) (triples us) ≡ encode_utf8_all (take n us)
 long_text zero us few fits = refl
 long_text (suc n) (u ∷ us) few fits =
-    let h = first_holds (is_long u) n (prefix_len is_long us) few in
+    let h = first_holds few in
     let three : suc (suc (suc (3 * n))) ≡ 3 * suc n = omega arith in
     rw (← three) (grind (arith, nat_tests, of_three, fits.0.fits, h.0, long_text n us h.1 fits.1))
 long_text n us few fits = absurd (omega arith)
@@ -65,28 +66,27 @@ same_front k n xs ys few e = sym (take-take k n xs few) ∙ ap (take k) e ∙ ta
 
 -- at most four long characters are in the first half
 pub low_half : (n : ℕ) (us low : List ℕ) → length us ≡ 8 → Each1 (Fits w16) us → n ≤ prefix_len is_long us → n ≤ 4 → take 12 low ≡ triples (quad us 0) → take (3 * n) low ≡ encode_utf8_all (take n us)
-low_half n us low long fits few half is = same_front (3 * n) 12 low (triples us) (omega (arith, half)) (is ∙ (halved us long).0) ∙ long_text n us few fits
+low_half n us low long fits few half is = same_front (3 * n) 12 _ _ (omega arith) (is ∙ (halved us long).0) ∙ long_text n us few fits
 
 -- and more are in both
 pub both_halves : (n : ℕ) (us low high : List ℕ) → length us ≡ 8 → Each1 (Fits w16) us → n ≤ prefix_len is_long us → 4 ≤ n → take 12 low ≡ triples (quad us 0) → take 12 high ≡ triples (quad us 4) → take 12 low ++ take (3 * (n - 4)) high ≡ encode_utf8_all (take n us)
 both_halves n us low high long fits few half is_low is_high =
     let h = halved us long in
-    let back = same_front (3 * (n - 4)) 12 high (drop 12 (triples us)) (omega (arith, long, few, prefix_len-le-length is_long us)) (is_high ∙ h.1) in
-    let all : 12 + 3 * (n - 4) ≡ 3 * n = omega (arith, half) in
+    let back = same_front (3 * (n - 4)) 12 _ _ (omega (arith, prefix_len-le-length is_long us)) (is_high ∙ h.1) in
+    let all : 12 + 3 * (n - 4) ≡ 3 * n = omega arith in
     rw (is_low ∙ h.0, back, ← take-add 12 (3 * (n - 4)) (triples us), all) (long_text n us few fits)
 
 -- the low bytes of characters of ASCII are their units
 pub low_units : (n : ℕ) (ys : List ℕ) → n ≤ prefix_len is_plain (units ys) → take n (evens ys) ≡ take n (units ys)
 low_units zero ys few = refl
 low_units (suc n) (low ∷ high ∷ ys) few =
-    let h = first_holds (is_plain (low + 256 * high)) n (prefix_len is_plain (units ys)) few in
-    grind (arith, nat_tests, low_units n ys h.1)
+    grind (arith, nat_tests, low_units n ys (first_holds few).1)
 low_units n ys few = absurd (omega arith)
 
 length-units : (xs : List ℕ) → length (units xs) ≡ length xs / 2
-length-units [] = grind (arith)
-length-units (low ∷ []) = grind (arith)
-length-units (low ∷ high ∷ xs) = let more = length-units xs in grind (arith)
+length-units [] = grind arith
+length-units (low ∷ []) = grind arith
+length-units (low ∷ high ∷ xs) = let more = length-units xs in grind arith
 
 module _ (q : ℕ → Bool) (single : (u : ℕ) → q u ≡ true → IsSingle u) where
   leads_single : (low high : ℕ) (more : List ℕ) → q (low + 256 * high) ≡ true → Leads rest text (low ∷ high ∷ more) more (encode_utf8 (low + 256 * high))
@@ -97,7 +97,7 @@ module _ (q : ℕ → Bool) (single : (u : ℕ) → q u ≡ true → IsSingle u)
   leads_front zero ys more h = Leads-none
   leads_front (suc k) (low ∷ high ∷ ys) more h =
       let two : suc (suc (2 * k)) ≡ 2 * suc k = omega arith in
-      let x = first_holds (q (low + 256 * high)) k (prefix_len q (units ys)) h in
+      let x = first_holds h in
       rw (← two) (Leads-trans (leads_single low high (take (2 * k) ys ++ more) x.0) (leads_front k ys more x.1))
   leads_front k ys more h = absurd (omega arith)
 
@@ -107,9 +107,9 @@ module _ (q : ℕ → Bool) (single : (u : ℕ) → q u ≡ true → IsSingle u)
   units_more {bytes} {source} {us} {at = at} n lies room is few within small written before =
       let ys = chunk at 16 source in
       let eight : length us ≡ 8 = omega (arith, ap length is, length-units ys, length-chunk at 16 source room) in
-      let same = alike bytes source at (2 * n) lies (omega (arith, eight, few, prefix_len-le-length q us)) within in
+      let same = alike bytes source at (2 * n) lies (omega (arith, prefix_len-le-length q us)) within in
       let next = rw (← same, take-append-drop, drop-drop (2 * n) at bytes, ← is) at (leads_front n ys (drop (2 * n) (drop at bytes)) (rw is at few)) in
-      record { within = within; room = omega (arith, before.room); leads = rw written (Leads-trans before.leads next) }
+      record { within = within; room = omega arith; leads = rw written (Leads-trans before.leads next) }
 
 -- all the bytes are a source of their own
 pub lies_itself : (bytes : List ℕ) → LiesIn bytes bytes
@@ -121,4 +121,4 @@ pub plain_more : {bytes source old new : List ℕ} {at made : ℕ} (n : ℕ) →
 plain_more {source = source} {old = old} {new = new} {at = at} {made = made} n lies room few most within long written before =
     let ys = chunk at 16 source in
     let low = take-take n 8 (evens ys) most ∙ low_units n ys few ∙ sym (plain_text n (units ys) few) in
-    units_more is_plain plain_single n lies room refl few within (omega arith) (rw (← low) (front_written old new _ made n 8 most (omega (arith, before.room, before.within)) written)) before
+    units_more is_plain plain_single n lies room refl few within (omega arith) (rw (← low) (front_written old new _ made n 8 most (omega arith) written)) before

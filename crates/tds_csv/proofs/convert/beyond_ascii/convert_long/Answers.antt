@@ -3,16 +3,12 @@ use Rattle.tds_csv.proofs.convert.beyond_ascii.convert_long.Goals as goal
 
 pub loop-at-preserved : goal.loop-at-preserved
 loop-at-preserved c =
-    let now = c.loop-at.invariant.now in
-    let put = c.put_long-in-loop-at.ensures in
     record {
-      more = omega (arith, c.loop-at.invariant.more);
+      more = omega arith;
       long = search rules;
-      now = units_more is_long long_single 8 c.requires.inside (search (arith, rules)) c.units_at-units.ensures (omega (arith, c.long_units.ensures, c.min-n.ensures, c.if-n-lt-UNITS.false)) (omega (arith, now.within, c.min-n.ensures, c.if-n-lt-UNITS.false)) (omega arith) put now;
+      now = units_more is_long long_single 8 c.requires.inside (search (arith, rules)) c.units_at-units.ensures (omega arith) (omega arith) (omega arith) c.put_long-in-loop-at.ensures c.loop-at.invariant.now;
     }
 
 pub returns-then-n-lt-UNITS-clause-after : goal.returns-then-n-lt-UNITS-clause-after
 returns-then-n-lt-UNITS-clause-after c =
-    let now = c.loop-at.invariant.now in
-    let put = c.put_long.ensures in
-    units_more is_long long_single c.min-n.result c.requires.inside (search (arith, rules)) c.units_at-units.ensures (omega (arith, c.long_units.ensures, c.min-n.ensures)) (omega (arith, now.within, c.min-n.ensures)) (omega arith) put now
+    units_more is_long long_single c.min-n.result c.requires.inside (search (arith, rules)) c.units_at-units.ensures (omega arith) (omega arith) (omega arith) c.put_long.ensures c.loop-at.invariant.now

@@ -1,7 +1,6 @@
 use Rattle.tds_csv.proofs.{Words.{◌∙◌, arith, nat_tests, map-id, sym, zip2_of_maps, splat_is_map}, WideLanes.{same_map, chosen}}
-use Rattle.tds_csv.proofs.convert.beyond_ascii.sizes.Goals as goal
 
-pub returns : goal.returns
+pub returns : Rattle.tds_csv.proofs.convert.beyond_ascii.sizes.Goals.returns
 returns c =
     let us = c.args.units in
     let n = c.fits-units.0 in

@@ -8,8 +8,8 @@ loop-at-preserved-then-at-bytes c =
 
 pub loop-at-preserved : goal.loop-at-preserved
 loop-at-preserved c =
-    record { within = c.take_unquoted-n.ensures.within; long = search rules; room = omega (arith, c.loop-at.invariant.room); text = text_taken doubled doubled-append c.args.bytes.now c.loop-at.at c.take_unquoted-n.result c.take_unquoted-n.ensures.taken c.loop-at.invariant.text }
+    record { within = c.take_unquoted-n.ensures.within; long = search rules; room = omega arith; text = text_taken doubled doubled-append c.args.bytes.now c.loop-at.at c.take_unquoted-n.result c.take_unquoted-n.ensures.taken c.loop-at.invariant.text }
 
 pub loop-at-preserved-then-n-eq-LANES : goal.loop-at-preserved-then-n-eq-LANES
 loop-at-preserved-then-n-eq-LANES c =
-    record { within = c.take_unquoted-n.ensures.within; long = search rules; room = omega (arith, c.loop-at.invariant.room); text = text_taken doubled doubled-append c.args.bytes.now c.loop-at.at c.take_unquoted-n.result c.take_unquoted-n.ensures.taken c.loop-at.invariant.text }
+    record { within = c.take_unquoted-n.ensures.within; long = search rules; room = omega arith; text = text_taken doubled doubled-append c.args.bytes.now c.loop-at.at c.take_unquoted-n.result c.take_unquoted-n.ensures.taken c.loop-at.invariant.text }

@@ -1,7 +1,6 @@
 use Rattle.tds_csv.proofs.{Words.{◌∙◌, leb, cond, bit_or, refl, zip2_splat, length-chunk, chunk, is_plain, map-id, splat_is_map, sym, zip2_of_maps}, Masks.run_in}
-use Rattle.tds_csv.proofs.convert.lanes.plain_run.Goals as goal
 
-pub returns : goal.returns
+pub returns : Rattle.tds_csv.proofs.convert.lanes.plain_run.Goals.returns
 returns c =
     let v = chunk c.args.at 16 c.args.bytes.now in
     let long = length-chunk c.args.at 16 c.args.bytes.now c.requires in

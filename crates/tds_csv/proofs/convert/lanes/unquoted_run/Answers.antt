@@ -1,7 +1,6 @@
 use Rattle.tds_csv.proofs.{Words.{◌∙◌, refl, zip2_splat, length-chunk, chunk, is_unquoted}, Masks.run_in}
-use Rattle.tds_csv.proofs.convert.lanes.unquoted_run.Goals as goal
 
-pub returns : goal.returns
+pub returns : Rattle.tds_csv.proofs.convert.lanes.unquoted_run.Goals.returns
 returns c =
     let v = chunk c.args.at 16 c.args.bytes.now in
     let long = length-chunk c.args.at 16 c.args.bytes.now c.requires in

@@ -2,7 +2,7 @@ use Rattle.tds_csv.proofs.{Words.{refl, arith, w8, SwzOk-from_below}, HexLanes.l
 use Rattle.tds_csv.proofs.convert.lanes_hex.digits.Goals as goal
 
 pub swizzle : goal.swizzle
-swizzle c = SwzOk-from_below w8 16 1 16 0 c.args.numbers refl (omega (arith, c.requires.few)) c.requires.small
+swizzle c = SwzOk-from_below w8 16 1 16 0 c.args.numbers refl (omega arith) c.requires.small
 
 pub returns : goal.returns
-returns c = looked_up 0 c.args.numbers (omega (arith, c.requires.few)) c.requires.small
+returns c = looked_up 0 c.args.numbers (omega arith) c.requires.small

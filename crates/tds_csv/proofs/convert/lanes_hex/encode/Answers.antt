@@ -1,5 +1,4 @@
-use Rattle.tds_csv.proofs.Words.{common_steps, ◌≡◌, ◌*◌, ◌-◌, ◌≤◌, ℕ, List, length, take, drop, arith, append_assoc, length-drop, take-append-drop, length-put_chunk, take_more_put_chunk, append-nil, take_all, put_mid, post_of, put_chunk, chunk, take-add, encode_lower, lower_digits, refl}
-use Rattle.tds_csv.proofs.{Utf16Steps.nil_of_length, SingleLaws.hex-append, SingleLaws.hex-nil}
+use Rattle.tds_csv.proofs.{Words.{common_steps, ◌≡◌, ◌*◌, ◌-◌, ◌≤◌, ℕ, List, length, take, drop, arith, append_assoc, length-drop, take-append-drop, length-put_chunk, take_more_put_chunk, append-nil, take_all, put_mid, post_of, put_chunk, chunk, take-add, encode_lower, lower_digits, refl}, Utf16Steps.nil_of_length, SingleLaws.{hex-append, hex-nil}}
 use Rattle.tds_csv.proofs.convert.lanes_hex.encode.Goals as goal
 
 pub loop-at-init : goal.loop-at-init

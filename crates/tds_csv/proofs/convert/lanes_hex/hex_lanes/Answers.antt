@@ -1,28 +1,21 @@
-use Rattle.tds_csv.proofs.Words.{◌≡◌, ◌∙◌, ◌/◌, ◌%◌, ◌<◌, map, length, ap, ap₂, subst, sym, arith, zip2_splat, Each2-splat, Each1-all, length-map, Each1, digit}
-use Rattle.tds_csv.proofs.HexLanes.{high_small, low_small, woven, woven_digits}
+use Rattle.tds_csv.proofs.{Words.{◌∙◌, ◌/◌, ◌%◌, map, ap, ap₂, arith, zip2_splat, Each2-splat, Each1-all, length-map, digit}, HexLanes.{high_small, low_small, woven, woven_digits}}
 use Rattle.tds_csv.proofs.convert.lanes_hex.hex_lanes.Goals as goal
 
 pub nonzero_div-bytes : goal.nonzero_div-bytes
 nonzero_div-bytes c = Each2-splat _ c.args.bytes 16 16 (Each1-all _ (λ x. omega arith) c.args.bytes)
 
-pub digits-high-requires-clause-few : goal.digits-high-requires-clause-few
-digits-high-requires-clause-few c = ap length (zip2_splat _ c.args.bytes 16 16 c.requires) ∙ length-map c.args.bytes _ ∙ c.requires
-
-pub digits-high-requires-clause-small : goal.digits-high-requires-clause-small
-digits-high-requires-clause-small c = subst (Each1 (λ x. x < 16)) (sym (zip2_splat _ c.args.bytes 16 16 c.requires)) (high_small c.args.bytes c.fits-bytes.1)
+pub digits-high-requires : goal.digits-high-requires
+digits-high-requires c = rw (zip2_splat ◌/◌ c.args.bytes 16 16 c.requires) (record { few = length-map c.args.bytes _ ∙ c.requires; small = high_small c.args.bytes c.fits-bytes.1 })
 
 pub nonzero_rem-bytes : goal.nonzero_rem-bytes
 nonzero_rem-bytes c = Each2-splat _ c.args.bytes 16 16 (Each1-all _ (λ x. omega arith) c.args.bytes)
 
-pub digits-low-requires-clause-few : goal.digits-low-requires-clause-few
-digits-low-requires-clause-few c = ap length (zip2_splat _ c.args.bytes 16 16 c.requires) ∙ length-map c.args.bytes _ ∙ c.requires
-
-pub digits-low-requires-clause-small : goal.digits-low-requires-clause-small
-digits-low-requires-clause-small c = subst (Each1 (λ x. x < 16)) (sym (zip2_splat _ c.args.bytes 16 16 c.requires)) (low_small c.args.bytes)
+pub digits-low-requires : goal.digits-low-requires
+digits-low-requires c = rw (zip2_splat ◌%◌ c.args.bytes 16 16 c.requires) (record { few = length-map c.args.bytes _ ∙ c.requires; small = low_small c.args.bytes })
 
 pub returns-clause-digits : goal.returns-clause-digits
 returns-clause-digits c =
     let v = c.args.bytes in
-    let high : c.digits-high.result ≡ map digit (map (λ x. x / 16) v) = c.digits-high.ensures ∙ ap (map digit) (zip2_splat _ v 16 16 c.requires) in
-    let low : c.digits-low.result ≡ map digit (map (λ x. x % 16) v) = c.digits-low.ensures ∙ ap (map digit) (zip2_splat _ v 16 16 c.requires) in
+    let high = c.digits-high.ensures ∙ ap (map digit) (zip2_splat _ v 16 16 c.requires) in
+    let low = c.digits-low.ensures ∙ ap (map digit) (zip2_splat _ v 16 16 c.requires) in
     ap₂ woven high low ∙ woven_digits v c.requires

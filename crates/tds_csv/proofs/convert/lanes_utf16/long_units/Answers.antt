@@ -1,7 +1,6 @@
 use Rattle.tds_csv.{proofs.{Words.{◌∙◌, arith, nat_tests, map-id, sym, zip2_of_maps, splat_is_map}, WideLanes.units_before}, specs.Wide.is_long}
-use Rattle.tds_csv.proofs.convert.lanes_utf16.long_units.Goals as goal
 
-pub returns : goal.returns
+pub returns : Rattle.tds_csv.proofs.convert.lanes_utf16.long_units.Goals.returns
 returns c =
     let us = c.args.units in
     let long = c.fits-units.0 in

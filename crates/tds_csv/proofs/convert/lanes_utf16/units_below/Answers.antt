@@ -1,8 +1,6 @@
-use Rattle.tds_csv.proofs.{Words.{◌∙◌, ◌≡◌, ℕ, map, replicate, bit_or, cond, leb, eqb, arith, nat_tests, map-id, sym, zip2_of_maps, splat_is_map}, WideLanes.units_before}
-use Rattle.tds_csv.specs.Plain.{is_below}
-use Rattle.tds_csv.proofs.convert.lanes_utf16.units_below.Goals as goal
+use Rattle.tds_csv.{proofs.{Words.{◌∙◌, ◌≡◌, ℕ, map, replicate, bit_or, cond, leb, eqb, arith, nat_tests, map-id, sym, zip2_of_maps, splat_is_map}, WideLanes.units_before}, specs.Plain.is_below}
 
-pub returns : goal.returns
+pub returns : Rattle.tds_csv.proofs.convert.lanes_utf16.units_below.Goals.returns
 returns c =
     let us = c.args.units in
     let long = c.fits-units.0 in

@@ -1,8 +1,7 @@
 use Rattle.tds_csv.proofs.{Words.{◌∙◌, ◌++◌, ◌%◌, drop, ap, arith, length-drop, drop-drop, encode_utf8}, Utf16Steps.spells_held}
 use Rattle.tds_csv.specs.Utf16 as utf16
-use Rattle.tds_csv.proofs.convert.utf16.character_at.Goals as goal
 
-pub returns-in-None-clause-spells : goal.returns-in-None-clause-spells
+pub returns-in-None-clause-spells : Rattle.tds_csv.proofs.convert.utf16.character_at.Goals.returns-in-None-clause-spells
 returns-in-None-clause-spells c =
     let xs = drop c.args.at c.args.bytes.now in
     let len = length-drop c.args.at c.args.bytes.now in

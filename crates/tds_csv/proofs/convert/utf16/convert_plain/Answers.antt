@@ -5,20 +5,18 @@ pub returns-then-n-lt-UNITS-clause-after : goal.returns-then-n-lt-UNITS-clause-a
 returns-then-n-lt-UNITS-clause-after c =
     let n = c.put_plain-n.ensures in
     let room = c.loop-at-test.true in
-    plain_more c.put_plain-n.result (lies_itself c.args.bytes.now) (omega (arith, room)) (omega (arith, n.plain)) n.most (omega (arith, room, n.most)) c.loop-at.invariant.long n.written c.loop-at.invariant.now
+    plain_more c.put_plain-n.result (lies_itself c.args.bytes.now) (omega arith) (omega arith) n.most (omega arith) c.loop-at.invariant.long n.written c.loop-at.invariant.now
 
 pub loop-at-preserved : goal.loop-at-preserved
 loop-at-preserved c =
-    let n = c.put_plain-n.ensures in
     let room = c.loop-at-test.true in
     record {
-      more = omega (arith, c.loop-at.invariant.more);
+      more = omega arith;
       long = search rules;
-      now = plain_more 8 (lies_itself c.args.bytes.now) (omega (arith, room)) (omega (arith, n.plain, c.if-n-lt-UNITS.false)) (omega arith) (omega (arith, room)) c.loop-at.invariant.long n.written c.loop-at.invariant.now;
+      now = plain_more 8 (lies_itself c.args.bytes.now) (omega arith) (omega arith) (omega arith) (omega arith) c.loop-at.invariant.long c.put_plain-n.ensures.written c.loop-at.invariant.now;
     }
 
 pub returns-clause-after : goal.returns-clause-after
 returns-clause-after c =
-    let n = c.put_plain.ensures in
     let min = c.min-n.ensures in
-    plain_more c.min-n.result c.requires.inside (search (arith, rules)) (omega (arith, n.plain, min)) (omega (arith, n.most, min)) (omega (arith, c.loop-at.invariant.now.within, min)) c.loop-at.invariant.long n.written c.loop-at.invariant.now
+    plain_more c.min-n.result c.requires.inside (search (arith, rules)) (omega arith) (omega arith) (omega arith) c.loop-at.invariant.long c.put_plain.ensures.written c.loop-at.invariant.now

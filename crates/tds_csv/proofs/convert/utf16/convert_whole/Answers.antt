@@ -1,7 +1,5 @@
-use Rattle.tds_csv.proofs.Words.{common_steps, ◌≡◌, ◌≢◌, ◌∙◌, ◌%◌, ◌++◌, ℕ, List, [], length, drop, sym, ap, arith, length-drop, append-nil, encode_utf8, emit, doubled}
+use Rattle.tds_csv.{proofs.{Words.{common_steps, ◌≡◌, ◌≢◌, ◌%◌, ◌++◌, ℕ, List, [], length, drop, sym, ap, arith, length-drop, append-nil, encode_utf8, emit, doubled}, Characters.doubled_length, Utf16Laws.joins_utf16, Utf16Steps.{characters_nil, nil_of_length, spells_held}}, specs.Utf16Next.LeavesRest}
 use Rattle.tds_csv.specs.Utf16 as utf16
-use Rattle.tds_csv.specs.Utf16Next.{LeavesRest}
-use Rattle.tds_csv.proofs.{Characters.doubled_length, Utf16Laws.joins_utf16, Utf16Steps.characters_nil, Utf16Steps.nil_of_length, Utf16Steps.spells_held}
 use Rattle.tds_csv.proofs.convert.utf16.convert_whole.Goals as goal
 
 -- what is left of whole data has two bytes
@@ -12,12 +10,12 @@ two_left bytes used whole leaves some = grind (arith, common_steps, joins_utf16,
 left_text : (bytes tail : List ℕ) → tail ≡ utf16.rest bytes → length tail ≡ 2 → utf16.text tail ≡ doubled (encode_utf8 0xFFFD)
 left_text bytes tail is two =
     let again = rw (append-nil, append-nil, ← is) at (joins_utf16.keeps bytes [] tt) in
-    let none : drop 2 tail ≡ [] = nil_of_length (drop 2 tail) (omega (arith, length-drop 2 tail, two)) in
-    ap doubled (spells_held tail (omega (arith, two)) (ap (λ n. n % 2) two) (sym again) ∙ ap (λ l. encode_utf8 0xFFFD ++ utf16.characters l) none ∙ ap (λ l. encode_utf8 0xFFFD ++ l) characters_nil ∙ append-nil (encode_utf8 0xFFFD))
+    let none : drop 2 tail ≡ [] = nil_of_length (drop 2 tail) (omega (arith, length-drop 2 tail)) in
+    ap doubled (rw (none, characters_nil, append-nil) at (spells_held tail (omega arith) (ap (λ n. n % 2) two) (sym again)))
 
 -- so the text of whole data ends with it
 ended : (bytes tail : List ℕ) → length bytes % 2 ≡ 0 → tail ≡ utf16.rest bytes → length tail ≡ 2 → utf16.text bytes ≡ emit utf16.rest utf16.text bytes ++ doubled (encode_utf8 0xFFFD)
-ended bytes tail whole is two = joins_utf16.ends bytes whole ∙ ap (λ l. emit utf16.rest utf16.text bytes ++ l) (ap utf16.text (sym is) ∙ left_text bytes tail is two)
+ended bytes tail whole is two = cc (joins_utf16.ends bytes whole, left_text bytes tail is two)
 
 pub returns-clause-short : goal.returns-clause-short
 returns-clause-short c = grind (arith, common_steps, doubled_length, two_left, length-drop)

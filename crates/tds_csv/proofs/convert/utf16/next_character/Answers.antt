@@ -2,7 +2,7 @@ use Rattle.tds_csv.proofs.{Words.{inr, sym, arith, length-drop}, Utf16Steps.{alo
 use Rattle.tds_csv.proofs.convert.utf16.next_character.Goals as goal
 
 pub returns-then-bytes-at-lt2-clause-gives : goal.returns-then-bytes-at-lt2-clause-gives
-returns-then-bytes-at-lt2-clause-gives c = let left = length-drop c.args.at c.args.bytes.now in grind (arith)
+returns-then-bytes-at-lt2-clause-gives c = let left = length-drop c.args.at c.args.bytes.now in grind arith
 
 pub returns-then-is_low-clause-gives : goal.returns-then-is_low-clause-gives
 returns-then-is_low-clause-gives c = one_at c.args.bytes.now c.args.at (omega arith) c.unit-first.ensures.value (sym c.if-not-is_high.ensures) (lone_half c.unit-first.result (inr (sym c.if-is_low.ensures)))

@@ -1,5 +1,4 @@
-use Rattle.tds_csv.proofs.Words.{length-drop, common_steps, ◌≡◌, ◌∙◌, ◌+◌, ℕ, List, cond, drop, get_or, Some, sym, ap, subst, arith, get_or-drop, utf8_valid_len-IsUtf8, is_in_range, utf8_error_len, utf8_valid_len, StopsAt}
-use Rattle.tds_csv.proofs.{Utf8Pushing.is_scan, Utf8Test.none_begins, Utf8Stops.stops_at}
+use Rattle.tds_csv.proofs.{Words.{length-drop, common_steps, ◌∙◌, drop, sym, ap, arith, utf8_valid_len-IsUtf8, utf8_error_len}, Utf8Pushing.is_scan, Utf8Test.none_begins, Utf8Stops.stops_at}
 use Rattle.tds_csv.proofs.convert.utf8.scan_text.Goals as goal
 
 pub returns-in-Ok-clause-text : goal.returns-in-Ok-clause-text
@@ -8,20 +7,11 @@ returns-in-Ok-clause-text c = grind (arith, common_steps, length-drop, utf8_vali
 pub returns-in-Ok-clause-scan : goal.returns-in-Ok-clause-scan
 returns-in-Ok-clause-scan c = grind (arith, common_steps, is_scan, utf8_valid_len-IsUtf8)
 
-stops : (bytes : List ℕ) (whole len j : ℕ) → whole ≡ utf8_valid_len bytes → utf8_error_len (drop whole bytes) ≡ Some len → j ≡ cond (is_in_range 0xC2 0xF4 (get_or bytes whole 0)) len 0
-    → StopsAt bytes whole (whole + j)
-stops bytes whole len j is fault e =
-    let first : get_or (drop whole bytes) 0 0 ≡ get_or bytes whole 0 = get_or-drop whole bytes 0 0 ∙ ap (λ n. get_or bytes n 0) {x = whole + 0} {y = whole} (omega arith) in
-    subst (λ k. StopsAt bytes whole (whole + k)) (ap (λ x. cond (is_in_range 0xC2 0xF4 x) len 0) first ∙ sym e) (stops_at bytes whole len is fault)
-
 pub returns-in-Some-clause-scan : goal.returns-in-Some-clause-scan
 returns-in-Some-clause-scan c =
-    let bytes = c.args.bytes.now in
-    let whole = c.valid_up_to-whole.result in
-    let good = c.good_of.result in
-    let s = stops bytes whole c.in-Some.len good (c.valid_up_to-whole.ensures ∙ c.in-Err.ensures.valid_len)
-    (ap (λ n. utf8_error_len (drop n bytes)) c.valid_up_to-whole.ensures ∙ sym c.in-Err.ensures.fault ∙ sym c.in-Some.ensures) c.good_of.ensures in
-    grind (arith, common_steps, stops, is_scan)
+    let s = stops_at c.args.bytes.now _ c.in-Some.len _ (c.valid_up_to-whole.ensures ∙ c.in-Err.ensures.valid_len)
+    (ap (λ n. utf8_error_len (drop n c.args.bytes.now)) c.valid_up_to-whole.ensures ∙ sym c.in-Err.ensures.fault ∙ sym c.in-Some.ensures) c.good_of.ensures in
+    grind (arith, common_steps, is_scan)
 
 pub returns-in-None-clause-scan : goal.returns-in-None-clause-scan
 returns-in-None-clause-scan c = grind (arith, common_steps, is_scan, none_begins)

@@ -4,8 +4,8 @@ use Rattle.tds_csv.proofs.convert.windows_1252.convert.Goals as goal
 
 pub convert_by_hand-made-requires-clause-before : goal.convert_by_hand-made-requires-clause-before
 convert_by_hand-made-requires-clause-before c =
-    record { room = omega (arith, c.loop-at.invariant.room); text = text_taken windows_1252.text windows_1252-append c.args.bytes.now c.loop-at.at c.take_plain-n.result c.take_plain-n.ensures.taken c.loop-at.invariant.text }
+    record { room = omega arith; text = text_taken windows_1252.text windows_1252-append _ _ _ c.take_plain-n.ensures.taken c.loop-at.invariant.text }
 
 pub loop-at-preserved-then-n-eq-LANES : goal.loop-at-preserved-then-n-eq-LANES
 loop-at-preserved-then-n-eq-LANES c =
-    record { within = c.take_plain-n.ensures.within; long = search rules; room = omega (arith, c.loop-at.invariant.room); text = text_taken windows_1252.text windows_1252-append c.args.bytes.now c.loop-at.at c.take_plain-n.result c.take_plain-n.ensures.taken c.loop-at.invariant.text }
+    record { within = c.take_plain-n.ensures.within; long = search rules; room = omega arith; text = text_taken windows_1252.text windows_1252-append _ _ _ c.take_plain-n.ensures.taken c.loop-at.invariant.text }

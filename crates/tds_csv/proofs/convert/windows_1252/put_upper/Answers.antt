@@ -1,4 +1,4 @@
-use Rattle.tds_csv.proofs.{Words.{◌≡◌, ◌+◌, arith, rules}, Encoding.three_more, PlainText.upper_put, PlainText.upper_text}
+use Rattle.tds_csv.proofs.{Words.{◌≡◌, ◌+◌, arith, rules}, Encoding.three_more, PlainText.{upper_put, upper_text}}
 use Rattle.tds_csv.proofs.convert.windows_1252.put_upper.Goals as goal
 
 pub returns-clause-most : goal.returns-clause-most
@@ -7,6 +7,6 @@ returns-clause-most c = omega (arith, (upper_text c.args.byte c.requires.upper c
 pub returns-clause-written : goal.returns-clause-written
 returns-clause-written c =
     let w = c.upper-text.result in
-    let end : c.put_byte.result ≡ c.args.at + 3 = omega (arith, c.put_byte-second.ensures.end, c.put_byte-third.ensures.end, c.put_byte.ensures.end) in
+    let end : c.put_byte.result ≡ c.args.at + 3 = omega arith in
     let all = three_more _ _ _ _ _ _ _ c.put_byte-second.ensures.written c.put_byte-third.ensures.written c.put_byte.ensures.written in
     upper_put c.args.byte c.args.at c.args.to.now c.put_byte.new.to c.requires.upper c.ranges.byte.fits c.upper-text.ensures (search (arith, rules)) (rw end at all)

@@ -1,4 +1,4 @@
-use Rattle.tds_csv.proofs.{Words.{common_steps, ◌+◌, ◌≤◌, length, arith, rules, is_plain}, Masks.alike, Masks.run_most, PlainText.plain_lanes}
+use Rattle.tds_csv.proofs.{Words.{common_steps, ◌+◌, ◌≤◌, length, arith, rules, is_plain}, Masks.{alike, run_most}, PlainText.plain_lanes}
 use Rattle.tds_csv.proofs.convert.windows_1252.take_plain.Goals as goal
 
 pub returns-clause-taken : goal.returns-clause-taken
@@ -7,4 +7,4 @@ returns-clause-taken c = grind (arith, common_steps, run_most, plain_lanes, alik
 pub put_bytes-requires-clause-within : goal.put_bytes-requires-clause-within
 put_bytes-requires-clause-within c =
     let room : c.args.at + 16 ≤ length c.args.source.now = search (arith, rules) in
-    omega (arith, run_most is_plain c.args.source.now c.args.at 16 room, c.plain_run.ensures)
+    omega (arith, run_most is_plain c.args.source.now c.args.at 16 room)

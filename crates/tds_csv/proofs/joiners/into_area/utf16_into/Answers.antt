@@ -1,6 +1,4 @@
-use Rattle.tds_csv.proofs.Words.{◌≡◌, ◌∙◌, [], drop, ap, arith, common_steps, length-drop, encode_utf8}
-use Rattle.tds_csv.specs.Utf16 as utf16
-use Rattle.tds_csv.proofs.{Cuts.added_more, Cuts.stays_cut, Cuts.stays_whole, Utf16Steps.characters_nil, Utf16Steps.nil_of_length}
+use Rattle.tds_csv.proofs.{Words.{◌≡◌, ◌∙◌, [], drop, arith, common_steps, length-drop, encode_utf8}, Cuts.{added_more, stays_cut, stays_whole}, Utf16Steps.{characters_nil, nil_of_length}}
 use Rattle.tds_csv.proofs.joiners.into_area.utf16_into.Goals as goal
 
 pub returns-in-Err : goal.returns-in-Err
@@ -15,4 +13,4 @@ pub returns : goal.returns
 returns c =
     let tail = drop c.loop-at.at c.args.units.now in
     let over : tail ≡ [] = nil_of_length tail (omega (arith, length-drop c.loop-at.at c.args.units.now)) in
-    stays_whole c.loop-at.invariant.added (ap utf16.characters over ∙ characters_nil)
+    stays_whole c.loop-at.invariant.added (rw over characters_nil)

@@ -1,4 +1,2 @@
-use Rattle.tds_csv.proofs.sink.Sink.comma.Goals as goal
-
-pub returns : goal.returns
+pub returns : Rattle.tds_csv.proofs.sink.Sink.comma.Goals.returns
 returns g c = c.put.ensures

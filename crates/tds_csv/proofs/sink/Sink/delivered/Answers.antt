@@ -1,5 +1,4 @@
 use Rattle.tds_csv.proofs.Words.{refl}
-use Rattle.tds_csv.proofs.sink.Sink.delivered.Goals as goal
 
-pub returns : goal.returns
+pub returns : Rattle.tds_csv.proofs.sink.Sink.delivered.Goals.returns
 returns g c = refl

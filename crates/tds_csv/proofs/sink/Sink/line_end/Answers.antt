@@ -1,4 +1,2 @@
-use Rattle.tds_csv.proofs.sink.Sink.line_end.Goals as goal
-
-pub returns : goal.returns
+pub returns : Rattle.tds_csv.proofs.sink.Sink.line_end.Goals.returns
 returns g c = c.put.ensures

@@ -1,4 +1,2 @@
-use Rattle.tds_csv.proofs.sink.Sink.open_binary.Goals as goal
-
-pub returns : goal.returns
+pub returns : Rattle.tds_csv.proofs.sink.Sink.open_binary.Goals.returns
 returns g c = c.put.ensures

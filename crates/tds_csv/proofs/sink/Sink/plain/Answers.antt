@@ -1,4 +1,2 @@
-use Rattle.tds_csv.proofs.sink.Sink.plain.Goals as goal
-
-pub returns : goal.returns
+pub returns : Rattle.tds_csv.proofs.sink.Sink.plain.Goals.returns
 returns g c = c.put.ensures

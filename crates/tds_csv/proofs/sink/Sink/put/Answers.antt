@@ -12,4 +12,4 @@ loop-taken-preserved g c = record {
 }
 
 pub returns : goal.returns
-returns g c = rw (take_all c.loop-taken.taken c.args.piece.now (omega (arith, c.loop-taken-test.false))) at c.loop-taken.invariant.puts
+returns g c = rw (take_all c.loop-taken.taken c.args.piece.now (omega arith)) at c.loop-taken.invariant.puts

@@ -1,5 +1,4 @@
 use Rattle.tds_csv.proofs.Words.{length, ap}
-use Rattle.tds_csv.proofs.sink.Sink.waiting.Goals as goal
 
-pub returns : goal.returns
+pub returns : Rattle.tds_csv.proofs.sink.Sink.waiting.Goals.returns
 returns g c = ap length c.bytes.ensures.value

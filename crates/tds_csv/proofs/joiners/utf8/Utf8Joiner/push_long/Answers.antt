@@ -2,17 +2,17 @@ use Rattle.tds_csv.proofs.Utf8Pushing.{pushes_long, pushes_passed}
 use Rattle.tds_csv.proofs.joiners.utf8.Utf8Joiner.push_long.Goals as goal
 
 pub returns-in_err-push_short : goal.returns-in_err-push_short
-returns-in_err-push_short g c = pushes_passed c.args.piece.now 3 c.requires.long c.from_residual.ensures.1 c.in_err-push_short.ensures
+returns-in_err-push_short g c = pushes_passed c.requires.long c.from_residual.ensures.1 c.in_err-push_short.ensures
 
 pub returns-in-Ok : goal.returns-in-Ok
-returns-in-Ok g c = pushes_long c.args.piece.now c.bytes.result.now c.requires.long c.bytes.ensures.value c.bytes.ensures.fits c.in_ok-push_short.ensures c.in-Ok.ensures
+returns-in-Ok g c = pushes_long c.requires.long c.bytes.ensures.value c.bytes.ensures.fits c.in_ok-push_short.ensures c.in-Ok.ensures
 
 pub returns-in-Err-BadText : goal.returns-in-Err-BadText
 returns-in-Err-BadText g c =
     let found = rw c.in-Err-BadText.field-0-is at c.in-Err-BadText.ensures in
-    pushes_long c.args.piece.now c.bytes.result.now c.requires.long c.bytes.ensures.value c.bytes.ensures.fits c.in_ok-push_short.ensures found
+    pushes_long c.requires.long c.bytes.ensures.value c.bytes.ensures.fits c.in_ok-push_short.ensures found
 
 pub returns-in-Err-Stopped : goal.returns-in-Err-Stopped
 returns-in-Err-Stopped g c =
     let found = rw c.in-Err-Stopped.field-0-is at c.in-Err-Stopped.ensures in
-    pushes_long c.args.piece.now c.bytes.result.now c.requires.long c.bytes.ensures.value c.bytes.ensures.fits c.in_ok-push_short.ensures found
+    pushes_long c.requires.long c.bytes.ensures.value c.bytes.ensures.fits c.in_ok-push_short.ensures found
