@@ -19,14 +19,15 @@ rows_begin = record { used = omega arith; made = omega arith; few = omega arith;
 
 -- one row more, after its token byte
 pub row_begun : {table : Table} {from start : Ahead} {bytes to : List ℕ} {run : RowsRun} → 0 < table.count → true ≡ (run.ahead.column == table.count) → run.used < length bytes → get_or bytes run.used 0 ≡ 0xD1 → start.column ≡ 0
-    → ((columns : List Column) → Knows table columns → IsAhead table columns start) → RowsSoFar table from bytes to run → RowsSoFar table from bytes to (record { used = run.used + 1; made = run.made; rows = run.rows + 1; ahead = start })
+    → ((columns : List Column) → Knows table columns → IsAhead table columns run.ahead → IsAhead table columns start) → RowsSoFar table from bytes to run → RowsSoFar table from bytes to (record { used = run.used + 1; made = run.made; rows = run.rows + 1; ahead = start })
 row_begun {bytes = bytes} {run = run} some at within byte first ahead x = record {
   used = omega (arith, within);
   made = x.made;
   few = omega (arith, x.few);
   writes = λ columns knows is.
+      let y = x.writes columns knows is in
       let none = at_end columns run.ahead.column _ knows.counted (sym at) in
-      (ahead columns knows, λ charset cells set counted. rw first (rows_onward run.used bytes (omega (arith, some, knows.counted)) none within byte ((x.writes columns knows is).1 charset cells set counted)));
+      (ahead columns knows y.0, λ charset cells set counted. rw first (rows_onward run.used bytes (omega (arith, some, knows.counted)) none within byte (y.1 charset cells set counted)));
 }
 
 -- more cells of the last row, in the bytes that are left and after what was made

@@ -220,20 +220,22 @@ fn run_known<'a>(table: &Table<'a>, from: Ahead<'a>, bytes: &[u8], to: &mut [u8]
             }
             used += 1;
             rows += 1;
-            ahead = table.start();
+            table.rewind(&mut ahead);
             continue;
         }
         let end = table.count();
         let Some(forms) = (&*table).forms(ahead, end) else {
             break;
         };
-        let cells = run_along(table, ahead, end, forms, &bytes[used..], &mut to[made..]);
-        if cells.used == 0 {
+        let ends = ahead.column as usize + forms.len() == end as usize;
+        let (rest, room) = (&bytes[used..], &mut to[made..]);
+        let run = run_forms(forms, table.charset, ahead.column, ends, rest, room);
+        if run.cells == 0 {
             break;
         }
-        used += cells.used;
-        made += cells.made;
-        ahead = cells.ahead;
+        used += run.used;
+        made += run.made;
+        table.pass(&mut ahead, run.cells);
     }
     RowsRun {
         used,

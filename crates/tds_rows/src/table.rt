@@ -175,6 +175,28 @@ impl<'a> Table<'a> {
         at.column += cells as u16;
     }
 
+    /// Steps over the next `cells` cells, which the table knows.
+    #[inline(always)]
+    pub(crate) fn pass(&self, at: &mut Ahead<'a>, cells: usize)
+        requires known { at.old.column + cells ≤ self.now.known }
+        ensures further { at.new.column ≡ at.old.column + cells }
+        ensures gives { (columns : List spec.Column) → Knows self.now columns → IsAhead self.now columns at.old →
+            IsAhead self.now columns at.new }
+    {
+        at.column += cells as u16;
+    }
+
+    /// Steps back to the place before the first cell of a row, all of whose columns the table knows.
+    #[inline(always)]
+    pub(crate) fn rewind(&self, at: &mut Ahead<'a>)
+        requires all { self.now.known ≡ self.now.count }
+        ensures first { at.new.column ≡ 0 }
+        ensures gives { (columns : List spec.Column) → Knows self.now columns → IsAhead self.now columns at.old →
+            IsAhead self.now columns at.new }
+    {
+        at.column = 0;
+    }
+
     /// What the next cell needs, and the place after it. `None` at the row's end.
     pub(crate) fn next(&self, at: Ahead<'a>) -> Option<(Form, Ahead<'a>)>
         ensures further { IfSome result (λ taken. at.entry.column < taken.1.column) }

@@ -2,8 +2,8 @@ use Rattle.tds_rows.proofs.Words.{◌-◌, length}
 use Rattle.tds_rows.proofs.TableRuns.{RowsSoFar}
 use Rattle.tds_rows.proofs.run.run_known.Given as goal
 
-abbrev pub invariant-loop-ahead : goal.invariant-loop-ahead
-invariant-loop-ahead l = RowsSoFar l.fn.table l.fn.from l.fn.bytes l.to (record { used = l.used; made = l.made; rows = l.rows; ahead = l.ahead })
+abbrev pub invariant-loop-used : goal.invariant-loop-used
+invariant-loop-used l = RowsSoFar l.fn.table l.fn.from l.fn.bytes l.to (record { used = l.used; made = l.made; rows = l.rows; ahead = l.ahead })
 
-abbrev pub decreases-loop-ahead : goal.decreases-loop-ahead
-decreases-loop-ahead l = length l.fn.bytes - l.used
+abbrev pub decreases-loop-used : goal.decreases-loop-used
+decreases-loop-used l = length l.fn.bytes - l.used

@@ -6,7 +6,7 @@ pub loop-made-init : goal.loop-made-init
 loop-made-init c = rows_begin
 
 pub loop-made-preserved-then-is_end : goal.loop-made-preserved-then-is_end
-loop-made-preserved-then-is_end c = row_begun c.requires.some (sym c.if-is_end.true ∙ c.is_end.ensures) (search (arith, rules)) c.if-bytes-used.false c.start-ahead.ensures.first c.start-ahead.ensures.ahead c.loop-made.invariant
+loop-made-preserved-then-is_end c = row_begun c.requires.some (sym c.if-is_end.true ∙ c.is_end.ensures) (search (arith, rules)) c.if-bytes-used.false c.start-ahead.ensures.first (λ columns knows is. c.start-ahead.ensures.ahead columns knows) c.loop-made.invariant
 
 pub loop-made-preserved : goal.loop-made-preserved
 loop-made-preserved c =

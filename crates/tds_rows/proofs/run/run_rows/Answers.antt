@@ -13,7 +13,7 @@ loop-ahead-init c = elim c.if-table.branch [
 ]
 
 pub loop-ahead-preserved-then-is_end : goal.loop-ahead-preserved-then-is_end
-loop-ahead-preserved-then-is_end c = row_begun c.requires (sym c.if-is_end.true ∙ c.is_end.ensures) (search (arith, rules)) c.if-bytes-used.false c.start-ahead.ensures.first c.start-ahead.ensures.ahead c.loop-ahead.invariant
+loop-ahead-preserved-then-is_end c = row_begun c.requires (sym c.if-is_end.true ∙ c.is_end.ensures) (search (arith, rules)) c.if-bytes-used.false c.start-ahead.ensures.first (λ columns knows is. c.start-ahead.ensures.ahead columns knows) c.loop-ahead.invariant
 
 pub loop-ahead-preserved : goal.loop-ahead-preserved
 loop-ahead-preserved c = rows_more _ _ (omega (arith, c.if-cells-eq0.false)) (search (arith, rules)) (search (arith, rules)) c.run_cells-cells.ensures.gives c.loop-ahead.invariant
