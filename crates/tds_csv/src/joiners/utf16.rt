@@ -59,7 +59,8 @@ fn put_from<W: Write>(bytes: &[u8], from: usize, sink: &mut Sink<'_, W>) -> Resu
 {
     let mut at = from;
     loop {
-        let end = bytes.len().min(at + 2 * units_within(sink.room(), CHUNK / 2));
+        let units = units_within(sink.room(), CHUNK / 2);
+        let end = bytes.len().min(at + 2 * units);
         at += put_chunk(&bytes[at..end], &bytes[at..], sink)?;
         if end == bytes.len() {
             return Ok(at);
