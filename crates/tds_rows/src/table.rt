@@ -198,6 +198,7 @@ impl<'a> Table<'a> {
     }
 
     /// What the next cell needs, and the place after it. `None` at the row's end.
+    #[inline(always)]
     pub(crate) fn next(&self, at: Ahead<'a>) -> Option<(Form, Ahead<'a>)>
         ensures further { IfSome result (λ taken. at.entry.column < taken.1.column) }
         ensures within { IfSome result (λ taken. taken.1.column ≤ self.now.count) }
