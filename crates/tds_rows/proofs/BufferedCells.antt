@@ -40,7 +40,7 @@ null_written column kind last bytes text within is text_is = rw (first_of bytes 
 pub counted_written : (column : ℕ) (kind : Kind) (n : ℕ) (last : Bool) (bytes text : List ℕ) → slice_index bytes 0 ≡ n → n ≢ 0 → 1 + n ≤ length bytes → IsValueText kind column last (take n (drop 1 bytes)) text
     → WritesCell (ScalarLength kind) column last (take (1 + n) bytes) text
 counted_written column kind n last bytes text is some within x =
-    let whole = length-take-le n (drop 1 bytes) (omega (arith, length-drop 1 bytes)) in
+    let whole = length-take-le n (drop 1 bytes) (grind (arith, length-drop)) in
     let good = ap (is_length_allowed kind) (sym whole) ∙ read_allowed kind _ x.0 x.1 in
     let yes = ap (λ v. v || is_length_allowed kind n) (ne_eqb n 0 some) ∙ good in
     let to : (cell column).add (ScalarLength kind) (n ∷ []) ≡ ScalarBytes kind n = choose_false _ _ _ (ne_eqb n 0 some) in
