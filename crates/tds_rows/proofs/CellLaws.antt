@@ -31,9 +31,10 @@ module _ (column : ℕ) where
   short_data : (c : Conversion) (d : List ℕ) (x : ℕ) (xs : List ℕ) → is_fit c (d ++ x ∷ xs) ≡ true → Spelt (cell column) (ShortData c (length xs) d) (x ∷ xs) (WholeCell (DataCell c (d ++ x ∷ xs)))
   short_data c d x [] h = Spelt-step _ _ _ _ (omega arith) refl (unless_true _ _ (and_from _ _ (fit_begins c _ [] (ap (is_fit c) (append-nil _) ∙ h)) h)) refl
   short_data c d x (y ∷ ys) h =
+      let left = or_left _ _ (test_lt 0 (suc (length ys)) (omega arith)) in
       let k : is_fit c _ ≡ true = rw append_assoc h in
       let one = Spelt-step _ _ _ _ (omega arith) refl
-      (unless_true _ _ (and_from _ _ (fit_begins c _ _ k) (or_left (nat_lt 0 (suc (length ys))) (is_fit c (d ++ x ∷ [])) (test_lt 0 (suc (length ys)) (omega arith))))) (search rules) in
+      (unless_true _ _ (and_from _ _ (fit_begins c _ _ k) left)) (search rules) in
       Spelt-append _ _ _ _ _ _ one
       (subst (λ v. Spelt (cell column) (ShortData c (length ys) (d ++ x ∷ [])) (y ∷ ys) (WholeCell (DataCell c v))) (append_assoc d _ _) (short_data c (d ++ x ∷ []) y ys k))
 

@@ -79,10 +79,8 @@ module _ (column : ℕ) (kind : Kind) where
       choose (λ p. CellMeans kind (LongShape c Chunked) p (b ++ e)) _ _ _ (λ z.
       let zero' = eq_true _ 0 z in
       let end = sym (ap (λ t. (if t then end_of_chunks column c total d else unless (within_total total (length d + little e)) (PlpLength column))) z) ∙ free in
-      let g1 = guard_none _ _ _ end in
-      let whole = unless_none _ _ (guard_none _ _ _ g1.1).1 in
       let e0 : e ≡ 0 ∷ 0 ∷ 0 ∷ 0 ∷ [] = grind (arith, common_steps) in
-      (refl, whole, record { total = m.first; rest = m.rest ++ e; chunks = m.chunks; spelt = ap (λ v. v ++ e) m.spelt ∙ append_assoc m.first m.rest e; eight = m.eight; known = grind arith; each = rw e0 (end_chunks m.chunks m.rest m.begun); all = m.all }))
+      (refl, unless_none _ _ (guard_none _ _ _ (guard_none _ _ _ end).1).1, record { total = m.first; rest = m.rest ++ e; chunks = m.chunks; spelt = ap (λ v. v ++ e) m.spelt ∙ append_assoc m.first m.rest e; eight = m.eight; known = grind arith; each = rw e0 (end_chunks m.chunks m.rest m.begun); all = m.all }))
       (λ z.
       let some = eq_false _ 0 z in
       (refl, record { before = d; whole = b; chunks = m; header = e; part = []; spelt = ap (λ v. b ++ v) (sym (append-nil e)); four = four; counted = omega arith; all = sym (append-nil d) }))

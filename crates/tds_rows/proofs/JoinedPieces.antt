@@ -28,11 +28,11 @@ module _ {fit begins : List ℕ → Type 0} {rest text : List ℕ → List ℕ} 
     -- a byte of it is bad
     pub piece_bad : {new : List ℕ} {k : ℕ} {h i : Held} (piece : List ℕ) (column most : ℕ) (a b : Seen) (place : ℕ) → length piece ≤ most → Takes a b piece 1 → IsBetween b → TakesUpTo begins rest text old new h i piece k
         → RefusesData c content column most a b place h i (record { fault = BadText column; place = Payload (place + k) })
-    piece_bad {h = h} piece column most a b place short takes between x =
+    piece_bad {k = k} {h = h} piece column most a b place short takes between x =
         let within = x.within in
+        let len = length-take-le k piece (omega arith) in
         let good = take _ piece in
         let bad = get_or piece _ 0 in
-        let len = length-take-le _ piece (omega arith) in
         let split = sym (take-append-drop _ piece) ∙ ap (λ l. good ++ l) (drop_more piece _ 0 within) in
         record {
           good = good;

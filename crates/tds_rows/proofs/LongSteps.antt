@@ -34,11 +34,11 @@ module _ {column : ℕ} {c : Conversion} {state : ℕ → List ℕ → CellPart}
   content_spelt d (x ∷ xs) m r is begun good =
       let k = length xs + r in
       let next : m ≡ suc k = omega arith in
+      let good_one : k ≡ 0 → Good _ = λ none. subst (λ l. Good (d ++ x ∷ l)) (nil_of_length xs (omega arith)) (good (omega arith) (omega arith)) in
       let regroup = sym (append_assoc d _ xs) in
       let more_begun = subst (BeginsData c) regroup begun in
-      let good_one : k ≡ 0 → Good _ = λ none. subst (λ l. Good (d ++ x ∷ l)) (nil_of_length xs (omega arith)) (good (omega arith) (omega arith)) in
-      let one = Spelt-step _ _ _ _ (omega arith) (sym (holds.size k d)) (holds.free k d x ((begun_by_test c _).1 ((joins_by_name c).front _ xs more_begun)) good_one) (holds.add k d x) in
       let more = content_spelt (d ++ x ∷ []) xs k r refl more_begun (λ none some. subst Good regroup (good none (omega arith))) in
+      let one = Spelt-step _ _ _ _ (omega arith) (sym (holds.size k d)) (holds.free k d x ((begun_by_test c _).1 ((joins_by_name c).front _ xs more_begun)) good_one) (holds.add k d x) in
       rw (next, regroup) (Spelt-append _ _ _ _ xs _ one more)
 
   -- and where more follow

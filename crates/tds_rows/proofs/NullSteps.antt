@@ -150,9 +150,9 @@ module _ {charset : Charset} {start : RowPart} {c : Column} {ks : List (Column Ã
   cell_nears {r = r} between few x y =
       let n = length x.cells in
       let z = rw (sym x.counted) at y in
+      let some : 0 < length z.streams.bytes = omega (arith, cell_some) in
       let begin = cell_start c.kind _ in
       let tail = nulls_ahead _ ks in
-      let some : 0 < length z.streams.bytes = omega (arith, cell_some) in
       let whole =
       nears_inside _ _ _ (cell_in_row charset x.cells ks) _ _ _ (begun_text charset x.cells ks) (line_grows n (ends ks)) begin _ _ _ _ _ tail z.streams some between few (part_text charset x.cells ks (WholeCell z.value)) in
       let begun = rw (sym (begins_open charset x.cells ks c.kind (shape charset c.kind))) at x.path in

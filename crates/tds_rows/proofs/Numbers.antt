@@ -20,8 +20,8 @@ number_stops : {column size place : ℕ} {s : CellPart} {fault : ℕ → Option 
     → RefusesNumber size fault a b place stop ⊎ CutsNumber size a b place stop → StopsReading (cell column) s a b place s stop
 number_stops {column = column} {place = place} {s = s} {a = a} {b = b} {stop = stop} some is end first (inl x) =
     let r = x.reads in
-    let told = ap (λ q. record { fault = stop.fault; place = q }) (sym x.stands) in
-    subst (λ t. StopsReading (cell column) s a b place s t) told (refused_at_once _ s a b place _ _ (omega arith) (r.whole ∙ sym is) (first _ x.n _ r.number x.first) r.takes r.between)
+    subst (λ t. StopsReading (cell column) s a b place s t) (ap (λ q. record { fault = stop.fault; place = q }) (sym x.stands))
+    (refused_at_once _ s a b place _ _ (omega arith) (r.whole ∙ sym is) (first _ x.n _ r.number x.first) r.takes r.between)
 number_stops some is end first (inr x) = cut_at_once _ _ _ _ _ x.part x.own _ (let few = x.fewer in omega arith) x.ends (began_is_cut _ _ x.own _ end x.stop_is)
 
 -- ---- the length of a short value
@@ -58,8 +58,7 @@ module _ (column : ℕ) (c : Conversion) (size : ℕ) (unit_is : size ≡ unit c
 
     pub total_start : {t : Option ℕ} → answer ≡ Some t → Next column (Total c) a b place place' (ChunkLength c t [])
     total_start {t} is =
-        let to : cell_add (Total c) _ ≡ ChunkLength c t [] = let number = x.1.number in grind arith in
-        next_by (omega arith) refl x.1 (total_same _ x.0 x.1.number ∙ x.2) to
+        next_by (omega arith) refl x.1 (total_same _ x.0 x.1.number ∙ x.2) (let number = x.1.number in grind arith)
 
 -- ---- the length of a chunk
 

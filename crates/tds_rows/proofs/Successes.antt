@@ -131,7 +131,7 @@ module _ (token : RowToken) (charset : Charset) (columns : List Column) (some_co
         (let t = rows_are_read [] first later front spelt in
         let at = x.stops.at in
         let some = stops_size _ x.part x.middle _ (place + length _) at stop y.0 in
-        let among_rows = stops_inside _ all_rows _ (row_among_rows token charset columns _) x.part x.middle _ (place + length _) at stop (grind arith) y.0 in
+        let among_rows = stops_inside _ all_rows _ (row_among_rows token charset columns x.earlier) x.part x.middle _ (place + length _) at stop (grind arith) y.0 in
         let all = stops_after all_rows _ _ _ x.middle _ place _ stop (record { bytes = x.streams.bytes; spelt = x.streams.spelt; takes = x.streams.takes }) among_rows in
         let same = stopped_there all_rows _ _ _ _ front more brings (longest_rows _ t.0 t.1 front more t.2 none) reads place _ stop all in
         omega (arith, ap (row charset).size (ap (λ p. p.at) same)))

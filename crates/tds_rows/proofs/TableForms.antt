@@ -6,7 +6,7 @@ use Rattle.tds_rows.proofs.FormSteps.{some_first}
 pub known_ahead : (table : Table) (at : Ahead) (end : ℕ) (n : ℕ) → AreLaidOut table.charset table.forms → table.known ≤ length table.forms → 0 < n → at.column + n ≤ end → at.column + n ≤ table.known → table.known ≤ table.count → AreAhead table at end (take n (drop at.column table.forms))
 known_ahead table at end n laid fits some within known few =
     let k = at.column in
-    let len = length-take-le n _ (omega (arith, length-drop k table.forms)) in
+    let len = length-take-le n (drop k table.forms) (grind (arith, length-drop)) in
     record {
       laid = grind (arith, common_steps);
       some = omega arith;
