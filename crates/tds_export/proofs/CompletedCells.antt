@@ -89,9 +89,9 @@ module _ (column : ℕ) where
       (DataCell c (content ++ 0 ∷ []), spelt_one (omega arith) refl (rw (plain_begun c (content ++ 0 ∷ []) plain, fit) refl) refl)
   short_ends c (suc left) content (plain, even) =
       let to : cell_add (ShortData c (suc left) content) (0 ∷ []) ≡ ShortData c left (content ++ 0 ∷ []) = grind (arith, nat_tests) in
-      let one = spelt_one (omega arith) refl (rw (plain_begun c (content ++ 0 ∷ []) plain, test_lt 0 (suc left) (omega arith)) refl) to in
       let same : length (content ++ 0 ∷ []) + (left + 1) ≡ length content + (suc left + 1) = omega (arith, length-append content (0 ∷ [])) in
       let more = short_ends c left (content ++ 0 ∷ []) (plain, cc) in
+      let one = spelt_one (omega arith) refl (rw (plain_begun c (content ++ 0 ∷ []) plain, test_lt 0 (suc left) (omega arith)) refl) to in
       (more.0, rw (← zeros_next left) (spelt_both one more.1))
 
   -- the rest of a chunk

@@ -77,8 +77,7 @@ module _ (room : ℕ) where
 
   count_ends : (bytes : List ℕ) (count : ℕ) (cols : List Column) (kind : Kind) (n : ℕ) → n ≡ count - (length cols + 1) → length cols < count → length bytes + (1 + 8 * n) ≤ room → Ends room (InColumn bytes count cols (NameCount kind)) (0 ∷ int_columns n)
   count_ends bytes count cols kind n is fewer fits =
-      let free = fits_in _ _ _ (omega arith) in
-      then_ends {e = 0 ∷ []} (spelt_one (omega arith) refl free refl) (column_ends _ _ _ _ n (omega arith) (omega (arith, length-append bytes (0 ∷ []))))
+      then_ends {e = 0 ∷ []} (spelt_one (omega arith) refl (fits_in _ _ _ (omega arith)) refl) (column_ends _ _ _ _ n (omega arith) (omega (arith, length-append bytes (0 ∷ []))))
 
   info_ends : (bytes : List ℕ) (count : ℕ) (cols : List Column) (byte : ℕ) (n : ℕ) → n ≡ count - (length cols + 1) → length cols < count → PlaceReached room bytes n (ColumnInfo byte) → Ends room (InColumn bytes count cols (ColumnInfo byte)) (least_info byte ++ (0 ∷ int_columns n))
   info_ends bytes count cols byte n is fewer (m, known, some, fits) =

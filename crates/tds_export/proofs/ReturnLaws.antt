@@ -24,8 +24,8 @@ return_name_is_read units (x ∷ xs) l = grind (arith, Spelt-step, choose_false,
 
 front_is_read : (name front : List ℕ) → SpellsReturnName name front → Spelt return_value ReturnOrdinal front (ReturnHead name)
 front_is_read name front h =
-    let one = spelt_one (omega arith) h.two refl refl in
     let next : Spelt return_value ReturnNameCount (h.units ∷ []) (with_return_units h.units) = spelt_one (omega arith) refl refl refl in
+    let one = spelt_one (omega arith) h.two refl refl in
     rw h.spelt (spelt_both one (spelt_both next (return_name_is_read _ _ h.counted)))
 
 head_is_read : (name ignored : List ℕ) (byte n : ℕ) → length ignored ≡ 7 → rest_length byte ≡ Some n → Spelt return_value (ReturnHead name) (ignored ++ byte ∷ []) (with_return_type name byte n)
@@ -79,7 +79,7 @@ type_begins : (name : List ℕ) (byte n : ℕ) (b front ignored : List ℕ) → 
 type_begins name byte n b front ignored spelt named seven known =
     choose (λ p. ReturnMeans p b) _ _ _
     (λ z.
-    let k = bare_type _ (cc (eq_true n 0 z)) in
+    let k = bare_type _ (rw (eq_true n 0 z) at known) in
     value_begins _ _ _ b _ _ _ k.1 spelt named seven k.1)
     (λ z. (front, ignored, spelt, named, seven, n, known))
 

@@ -41,9 +41,8 @@ module _ (charset : Charset) (room : ℕ) {p q : ℕ} {a b c : Seen} {h k : Held
   pub stops_end : {failed : Bool} → failed ≡ false → k.delivered ≤ 2 ^ 64 - 1 → s.is_final ≡ false → StepStops (response charset room) response_start a c p h k area failed (record { fault = EndWithoutDone; place = Payload q })
   stops_end going d open_end =
       let stop : Stop = record { fault = EndWithoutDone; place = Payload q } in
-      let over = inl ([], Consumes-nil c.left, o.2, Stays-none _) in
-      let is = inl (o.1, (EndWithoutDone, rw (← x.tracks.final, open_end) refl, refl)) in
-      stops_further x.streams x.place_is (stops_quietly refl x.holds d going (cut_at_once (response charset room) (after_tokens x.tokens) b c q [] o.0 stop (omega arith) (Ends-after b c c [] [] 1 o.0 t over) is))
+      stops_further x.streams x.place_is (stops_quietly refl x.holds d going (cut_at_once (response charset room) (after_tokens x.tokens) b c q [] o.0 stop (omega arith)
+      (Ends-after b c c [] [] 1 o.0 t (inl ([], Consumes-nil c.left, o.2, Stays-none _))) (inl (o.1, (EndWithoutDone, rw (← x.tracks.final, open_end) refl, refl)))))
 
   abbrev reads_whole : s.is_final ≡ true → ReadsWhole (response charset room) response_start a c h k area
   reads_whole final = record {

@@ -152,10 +152,9 @@ module _ (charset : Charset) {room place : ℕ} {tokens : List Token} {s : Progr
   pub none_reads : {place' : ℕ} → Describes room BeforeCount a b place place' old_area.peak area NoDescription → (x : ReadsTokens (response charset room) (in_metadata tokens) tokens a b place place' sink sink (record s { described = false }) area) × IsNoted notice (tokens ++ x.more)
   none_reads x =
       let r = reads_inside _ _ (with_described tokens) (description_in_response _ _ _) _ a b _ x.reads in
-      let same = ap (λ l. l ++ []) (simp (text_after-snoc, append-nil)) in
       quietly begun refl (record {
         more = NoMetadata ∷ [];
-        streams = record { bytes = r.bytes; spelt = r.spelt; takes = r.takes; puts = same_text (in_metadata tokens) (with_token tokens NoMetadata) _ same begun.delivered };
+        streams = record { bytes = r.bytes; spelt = r.spelt; takes = r.takes; puts = same_text (in_metadata tokens) (with_token tokens NoMetadata) _ (simp (text_after-snoc, append-nil)) begun.delivered };
         place_is = x.place_is;
         tracks = tracks_none s _ begun.tracks;
         holds = record { bytes = cc (encoded_after-append [] tokens (NoMetadata ∷ [])); peak = omega (arith, greatest_span-append tokens (NoMetadata ∷ [])) };
