@@ -1,5 +1,5 @@
 -- What a cell's spelling is read as.
-use Rattle.tds_rows.proofs.Words.{common_steps, ◌≡◌, ◌⊎◌, ℕ, suc, ◌+◌, ◌-◌, ◌/◌, ◌%◌, ◌<◌, ◌≤◌, Bool, true, List, [], ◌∷◌, ◌++◌, length, refl, sym, ◌∙◌, ap, subst, inl, inr, append_assoc, append-nil, arith, rules, length-append, Ok, Option, Some, None, ◌==◌, ◌||◌, nat_le, nat_lt, is_ok, if◌then◌else◌, concat, nat_tests, ne_eqb, and_from, or_left, or_right, Kind, Short, Chunked, ScalarValue, little, is_length_allowed, read_of, Conversion, unit, is_fit, fit_units, fit_begins, Spelt, Fault, BadValue, PlpLength, Spelt-step, Spelt-append, Cell, Null, ScalarCell, DataCell, Shape, FixedShape, CountedShape, LongShape, SpellsChunk, SpellsChunks, SpellsChunked, SpellsShort, SpellsCell, ScalarBytes, ScalarLength, ShortLength, ShortData, Total, ChunkLength, ChunkData, WholeCell, cell_start, cell, unless, within_total, is_total, end_of_chunks, value_part, known_total, unknown_total, null_total, choose_false, choose_true, test_lt, little-two}
+use Rattle.tds_rows.proofs.Words.{common_steps, ◌≡◌, ◌⊎◌, ℕ, suc, ◌+◌, ◌-◌, ◌/◌, ◌%◌, ◌<◌, ◌≤◌, Bool, true, List, [], ◌∷◌, ◌++◌, length, refl, sym, ◌∙◌, ap, subst, inl, inr, append_assoc, append-nil, arith, rules, length-append, Ok, Option, Some, None, ◌==◌, ◌||◌, nat_le, is_ok, if◌then◌else◌, concat, nat_tests, ne_eqb, and_from, or_left, or_right, Kind, Short, Chunked, ScalarValue, little, is_length_allowed, read_of, Conversion, unit, is_fit, fit_units, fit_begins, Spelt, Fault, BadValue, PlpLength, Spelt-step, Spelt-append, Cell, Null, ScalarCell, DataCell, Shape, FixedShape, CountedShape, LongShape, SpellsChunk, SpellsChunks, SpellsChunked, SpellsShort, SpellsCell, ScalarBytes, ScalarLength, ShortLength, ShortData, Total, ChunkLength, ChunkData, WholeCell, cell_start, cell, unless, within_total, is_total, end_of_chunks, value_part, known_total, unknown_total, null_total, choose_false, choose_true, test_lt, little-two}
 
 -- a fixed shape has bytes
 abbrev pub HasBytes : Shape → Type 0

@@ -23,6 +23,10 @@ pub record Knows (table : Table) (columns : List Column) : Type 0 where
 abbrev pub KnowsSome : Table → Type 0
 KnowsSome table = (columns : List Column) × Knows table columns × (0 < table.count)
 
+-- The table knows all columns, one at least.
+abbrev pub KnowsAll : Table → Type 0
+KnowsAll table = (table.known ≡ table.count) × (0 < table.count)
+
 -- The place is one in a row of these columns: its walk is over those ahead that the table doesn't know.
 pub record IsAhead (table : Table) (columns : List Column) (at : Ahead) : Type 0 where
   pub counted : at.column ≤ length columns

@@ -3,7 +3,7 @@ ghost use Rattle.std.specs.Prelude.{◌≡◌, ◌+◌, ◌-◌, ◌<◌, ◌≤
 ghost use Rattle.tds_rows.specs.declared.run.fields.TheConstants.{CELL_ROOM};
 ghost use Rattle.tds_rows.specs.Layouts.{IsLaidOut};
 ghost use Rattle.tds_rows.specs.Runs.{AloneWritten, CellsWritten, RowsWritten, RunEnds, StaysWithin};
-ghost use Rattle.tds_rows.specs.Tables.{AreAhead};
+ghost use Rattle.tds_rows.specs.Tables.{AreAhead, KnowsAll};
 
 use crate::form::Form;
 use crate::run::buffered::{INT4_SIZE, int4_at};
@@ -201,8 +201,7 @@ fn run_numbers<'a>(table: &Table<'a>, from: Ahead<'a>, bytes: &[u8], to: &mut [u
 // chunks and have room, over the ends of rows.
 #[inline(never)]
 fn run_known<'a>(table: &Table<'a>, from: Ahead<'a>, bytes: &[u8], to: &mut [u8]) -> RowsRun<'a>
-    requires some { 0 < table.now.count }
-    requires known { table.now.known ≡ table.now.count }
+    requires { KnowsAll table.now }
     ensures used { result.used ≤ length bytes.now }
     ensures made { result.made ≤ length to.old }
     ensures few { result.rows ≤ result.used }

@@ -7,7 +7,7 @@ pub loop-used-init : goal.loop-used-init
 loop-used-init c = rows_begin
 
 pub loop-used-preserved-then-is_end : goal.loop-used-preserved-then-is_end
-loop-used-preserved-then-is_end c = row_begun c.requires.some (sym c.if-is_end.true ∙ c.is_end.ensures) (search (arith, rules)) c.if-bytes-used.false c.rewind.ensures.first c.rewind.ensures.gives c.loop-used.invariant
+loop-used-preserved-then-is_end c = row_begun c.requires.1 (sym c.if-is_end.true ∙ c.is_end.ensures) (search (arith, rules)) c.if-bytes-used.false c.rewind.ensures.first c.rewind.ensures.gives c.loop-used.invariant
 
 pub loop-used-preserved : goal.loop-used-preserved
 loop-used-preserved c =
