@@ -1,5 +1,5 @@
 -- Bytes that were written to a place, one after the other or many at once.
-use Rattle.tds_csv.proofs.{Words.{◌≡◌, ◌+◌, ◌≤◌, ◌∷◌, ◌++◌, [], ℕ, List, length, take, append_assoc, arith, length-take-le, put_chunk_is, take-append-add, put_chunk, take-append-le, take-take, encode_utf8, doubled}, Characters.doubled_character}
+use Rattle.tds_csv.proofs.{Words.{◌≡◌, ◌+◌, ◌≤◌, ◌∷◌, ◌++◌, [], ℕ, List, length, take, append_assoc, arith, length-take-le, take-append-add, take-take, encode_utf8, doubled}, Characters.doubled_character}
 
 -- two bytes
 pub two_more : (t u v : List ℕ) (a b : ℕ) → u ≡ t ++ a ∷ [] → v ≡ u ++ b ∷ [] → v ≡ t ++ a ∷ b ∷ []
@@ -20,10 +20,6 @@ doubled_as_long c k big e = grind (arith, doubled_character)
 -- and it is added as it is
 pub added_doubled : (c : ℕ) (t u : List ℕ) → 128 ≤ c → u ≡ t ++ encode_utf8 c → u ≡ t ++ doubled (encode_utf8 c)
 added_doubled c t u big e = grind (arith, doubled_character)
-
--- a beginning of what was written at a place
-pub taken_put : (i n : ℕ) (xs ys : List ℕ) → n ≤ length ys → i + length ys ≤ length xs → take (i + n) (put_chunk i xs ys) ≡ take i xs ++ take n ys
-taken_put i n xs ys within room = grind (arith, length-take-le, put_chunk_is, take-append-add, take-append-le)
 
 -- the first of some bytes that were written to a place
 pub front_written : (old new bytes : List ℕ) (at n m : ℕ) → n ≤ m → at ≤ length old → take (at + m) new ≡ take at old ++ bytes → take (at + n) new ≡ take at old ++ take n bytes

@@ -11,7 +11,6 @@ pub mod Spares
 pub mod Sinks
 pub mod Singles
 pub mod Masks
-pub mod HexLanes
 pub mod PlainText
 pub mod Unquoted
 pub mod Encoding

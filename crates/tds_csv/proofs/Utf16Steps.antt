@@ -1,5 +1,5 @@
 -- One character after the other of text in UTF-16.
-use Rattle.{tds_csv.{proofs.{Words.{◌⊎◌, inl, ◌≡◌, ◌&&◌, ◌+◌, ◌*◌, ◌<◌, ◌≤◌, ◌%◌, ℕ, true, false, List, [], ◌∷◌, ◌++◌, length, map, drop, get_or, refl, ap, arith, encode_utf8_all, unwrap_or, drop_more, and_right, nat_tests, encode_utf8, utf16_lossy_chars, is_high_surrogate, is_low_surrogate, surrogate_pair_char, lone_unit_char, emit, doubled, length-drop, nil_from_length}, Utf16Laws.{starts_low, chars-apart, front, front_step, rest_step, emit-front, short}, JoiningLemmas.doubled-append}, specs.{Utf16.{units, is_high, characters, rest, text}, Utf16Next.IsNext}}, std.specs.Char.Utf16.utf16_chars}
+use Rattle.{tds_csv.{proofs.{Words.{◌⊎◌, inl, ◌≡◌, ◌&&◌, ◌||◌, or-false, ◌+◌, ◌*◌, ◌<◌, ◌≤◌, ◌%◌, ℕ, true, false, List, [], ◌∷◌, ◌++◌, length, map, drop, get_or, refl, ap, arith, encode_utf8_all, unwrap_or, drop_more, and_right, nat_tests, encode_utf8, utf16_lossy_chars, is_high_surrogate, is_low_surrogate, surrogate_pair_char, lone_unit_char, emit, doubled, length-drop, nil_from_length}, Utf16Laws.{starts_low, chars-apart, front, front_step, rest_step, emit-front, short}, JoiningLemmas.doubled-append}, specs.{Utf16.{units, is_high, characters, rest, text}, Utf16Next.IsNext}}, std.specs.Char.Utf16.utf16_chars}
 
 pub text_nil : text [] ≡ []
 unfolding utf16_chars
@@ -42,6 +42,14 @@ lone_other u h l = grind (arith, nat_tests)
 
 pub lone_half : (u : ℕ) → (is_high_surrogate u ≡ true) ⊎ (is_low_surrogate u ≡ true) → unwrap_or (lone_unit_char u) 0xFFFD ≡ 0xFFFD
 lone_half u h = grind (arith, nat_tests)
+
+-- a surrogate that is no low one
+pub high_half : (u : ℕ) → (is_high_surrogate u || is_low_surrogate u) ≡ true → is_low_surrogate u ≡ false → is_high_surrogate u ≡ true
+high_half u some low = grind (arith, or-false)
+
+-- a low surrogate is no high one
+pub not_high : (u : ℕ) → is_low_surrogate u ≡ true → is_high_surrogate u ≡ false
+not_high u low = grind (arith, nat_tests)
 
 -- a high surrogate before a unit that is no low one
 pub next_alone : (low high low' high' : ℕ) (bytes : List ℕ) → is_high low high ≡ true → is_low_surrogate (low' + 256 * high') ≡ false → IsNext (low ∷ high ∷ low' ∷ high' ∷ bytes) 0xFFFD 2

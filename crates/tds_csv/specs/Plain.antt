@@ -1,7 +1,5 @@
 -- Bytes that are looked at 16 at a time.
 use Rattle.std.specs.Prelude.{◌≡◌, ℕ, ◌≤◌, ◌==◌, ◌&&◌, Bool, not, nat_lt, if◌then◌else◌, List, [], ◌∷◌, length, take}
-use Rattle.std.specs.Prelude.{slice_index}
-use Rattle.hex.specs.Hex.{lower_digits}
 use Rattle.tds_csv.specs.Quoting.{quote}
 use lib.Count.{count_trailing_zeros}
 
@@ -26,10 +24,6 @@ abbrev pub evens : List ℕ → List ℕ
 evens [] = []
 evens (low ∷ []) = []
 evens (low ∷ high ∷ bytes) = low ∷ evens bytes
-
--- the hexadecimal digit of a number below 16
-abbrev pub digit : ℕ → ℕ
-digit n = slice_index lower_digits n
 
 -- The bytes lie at the front of these, after which others may lie.
 pub record LiesIn (bytes source : List ℕ) : Type 0 where

@@ -14,6 +14,7 @@ ghost use Rattle.tds_rows.specs.Successes.{BeginNoRow, SpellsRows, SucceedsOn};
 ghost use Rattle.tds_rows.specs.Tables.{Knows, KnowsSome};
 
 use crate::reading::Rows;
+use crate::run::fields::CELL_ROOM;
 use crate::run::{ROW, RowsRun, run_rows};
 use crate::table::{Ahead, Table};
 use std::io::{Read, Write};
@@ -36,6 +37,14 @@ impl<'r, 't, 'p, 's, 'c, R: Read, W: Write> Rows<'r, 't, 'p, 's, 'c, R, W> {
     {
         let waiting = self.sink.waiting() as usize;
         let room = self.sink.room() - 1;
+        if room < CELL_ROOM {
+            return RowsRun {
+                used: 0,
+                made: 0,
+                rows: 0,
+                ahead: from,
+            };
+        }
         let run = run_rows(
             self.table,
             from,

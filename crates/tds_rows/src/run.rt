@@ -246,14 +246,15 @@ fn run_known<'a>(table: &Table<'a>, from: Ahead<'a>, bytes: &[u8], to: &mut [u8]
 
 // Writes cell after cell, as far as they are whole in these bytes, aren't in chunks and have room, over the
 // ends of rows: after a whole row it goes on if the byte of the next ROW follows.
-#[inline(never)]
+#[inline(always)]
 pub(crate) fn run_rows<'a>(
     table: &Table<'a>,
     from: Ahead<'a>,
     bytes: &[u8],
     to: &mut [u8],
 ) -> RowsRun<'a>
-    requires { 0 < table.now.count }
+    requires some { 0 < table.now.count }
+    requires room { CELL_ROOM ≤ length to.old }
     ensures used { result.used ≤ length bytes.now }
     ensures made { result.made ≤ length to.old }
     ensures few { result.rows ≤ result.used }
@@ -266,9 +267,6 @@ pub(crate) fn run_rows<'a>(
         rows: 0,
         ahead: from,
     };
-    if to.len() < CELL_ROOM {
-        return none;
-    }
     if table.knows_all() && !table.only_numbers {
         return run_known(table, from, bytes, to);
     }

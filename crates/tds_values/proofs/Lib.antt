@@ -1,5 +1,6 @@
 pub mod CalendarLemmas
 pub mod DigitLemmas
+pub mod LaneLemmas
 pub mod JiffDates
 pub mod Joining
 pub mod LocalLemmas

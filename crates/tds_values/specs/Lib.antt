@@ -1,5 +1,4 @@
 pub mod Calendar
-pub mod Hex
 pub mod Kind
 pub mod LocalTime
 pub mod Numbers

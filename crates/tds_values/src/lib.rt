@@ -18,13 +18,14 @@
 //!
 //! `kind.rt` has the kinds, `scalar.rt` the values and what is refused, `write.rt` the text of each kind and
 //! `text.rt` that of each value. Below them are `numbers.rt`, `wide.rt` (decimals of up to 128 bits), `moments.rt`,
-//! `guid.rt` and `digits.rt`. What a value and its text are is in `specs/Scalar` and `specs/ScalarText`.
+//! `guid.rt`, `lanes.rt` and `digits.rt`. What a value and its text are is in `specs/Scalar` and `specs/ScalarText`.
 #![tactic(auto)]
 
 mod charset;
 mod digits;
 mod guid;
 mod kind;
+mod lanes;
 mod laws;
 mod moments;
 mod numbers;
@@ -37,6 +38,7 @@ mod write;
 
 pub use charset::Charset;
 pub use kind::{Kind, Reach};
+pub use lanes::hex_lanes;
 pub use laws::{one_date, one_type_info, short_texts};
 pub use plain::{ScalarText, scalar_text, text_room};
 pub use scalar::{Scalar, ScalarValue, ValueFault, read_scalar};

@@ -128,7 +128,7 @@ pub(crate) fn put_doubled(to: &mut [u8], at: usize, byte: u8) -> usize
 
 // Writes the first `n` of eight bytes.
 #[inline(always)]
-#[tactic(auto, using(crate::proofs::Encoding::taken_put))]
+#[tactic(auto, using(tds_values::proofs::LaneLemmas::taken_put))]
 pub(crate) fn put_lanes(to: &mut [u8], at: usize, lanes: u8x8, n: usize)
     requires lanes { length lanes ≡ UNITS }
     requires within { n ≤ UNITS }
@@ -140,7 +140,7 @@ pub(crate) fn put_lanes(to: &mut [u8], at: usize, lanes: u8x8, n: usize)
 
 // Writes the first `n` of sixteen bytes.
 #[inline(always)]
-#[tactic(auto, using(crate::proofs::Encoding::taken_put))]
+#[tactic(auto, using(tds_values::proofs::LaneLemmas::taken_put))]
 pub(crate) fn put_bytes(to: &mut [u8], at: usize, lanes: u8x16, n: usize)
     requires lanes { length lanes ≡ LANES }
     requires within { n ≤ LANES }

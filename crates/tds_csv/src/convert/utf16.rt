@@ -1,5 +1,5 @@
 // Characters of text in UTF-16.
-ghost use Rattle.std.specs.Prelude.{◌≡◌, ◌+◌, ◌-◌, ◌*◌, ◌<◌, ◌≤◌, ◌%◌, ◌++◌, length, take, drop, slice_index, MatchOption, IfSome, IsTrue};
+ghost use Rattle.std.specs.Prelude.{◌≡◌, ◌||◌, ◌+◌, ◌-◌, ◌*◌, ◌<◌, ◌≤◌, ◌%◌, ◌++◌, length, take, drop, slice_index, MatchOption, IfSome, IsTrue};
 ghost use Rattle.std.specs.Char.{encode_utf8};
 ghost use Rattle.std.specs.Char.Utf16.{is_high_surrogate, is_low_surrogate};
 ghost use Rattle.tds_csv.specs.Joining.{emit};
@@ -28,11 +28,11 @@ fn unit(bytes: &[u8], at: usize) -> u32
     u32::from(bytes[at]) + 256 * u32::from(bytes[at + 1])
 }
 
-// Whether a unit is a high surrogate, the first of a pair.
-fn is_high(unit: u32) -> bool
-    ensures { result ≡ is_high_surrogate unit }
+// Whether a unit is a surrogate, one half of a pair.
+fn is_surrogate(unit: u32) -> bool
+    ensures { result ≡ (is_high_surrogate unit || is_low_surrogate unit) }
 {
-    0xD800 <= unit && unit < 0xDC00
+    0xD800 <= unit && unit < 0xE000
 }
 
 // Whether a unit is a low surrogate, the second of a pair.
@@ -55,9 +55,17 @@ pub(crate) fn next_character(bytes: &[u8], at: usize) -> Option<Character>
         return None;
     }
     let first = unit(bytes, at);
-    if !is_high(first) {
-        let code = if is_low(first) { 0xFFFD } else { first };
-        return Some(Character { code, len: 2 });
+    if !is_surrogate(first) {
+        return Some(Character {
+            code: first,
+            len: 2,
+        });
+    }
+    if is_low(first) {
+        return Some(Character {
+            code: 0xFFFD,
+            len: 2,
+        });
     }
     if bytes.len() - at < 4 {
         return None;

@@ -3,9 +3,6 @@ use Rattle.tds_rows.proofs.run.run_rows.Goals.{then-table, else-table, then-is_e
 use Rattle.tds_rows.proofs.{RunSteps.made_same, TableRuns.row_begun, TableRuns.rows_begin, TableRuns.rows_more, TableSteps.at_end, TableSteps.not_end}
 use Rattle.tds_rows.proofs.run.run_rows.Goals as goal
 
-pub returns-then-to-lt-CELL_ROOM-clause-gives : goal.returns-then-to-lt-CELL_ROOM-clause-gives
-returns-then-to-lt-CELL_ROOM-clause-gives c = (rows_begin {bytes = c.args.bytes.now} {to = c.args.to.now}).writes
-
 pub loop-ahead-init : goal.loop-ahead-init
 loop-ahead-init c = elim c.if-table.branch [
   | then-table w ↦ rw (w.numbers-is, w.to-is) (record { used = w.run_numbers-numbers.ensures.used; made = search (arith, rules); few = w.run_numbers-numbers.ensures.few; writes = w.run_numbers-numbers.ensures.gives })
@@ -13,7 +10,7 @@ loop-ahead-init c = elim c.if-table.branch [
 ]
 
 pub loop-ahead-preserved-then-is_end : goal.loop-ahead-preserved-then-is_end
-loop-ahead-preserved-then-is_end c = row_begun c.requires (sym c.if-is_end.true ∙ c.is_end.ensures) (search (arith, rules)) c.if-bytes-used.false c.start-ahead.ensures.first (λ columns knows is. c.start-ahead.ensures.ahead columns knows) c.loop-ahead.invariant
+loop-ahead-preserved-then-is_end c = row_begun c.requires.some (sym c.if-is_end.true ∙ c.is_end.ensures) (search (arith, rules)) c.if-bytes-used.false c.start-ahead.ensures.first (λ columns knows is. c.start-ahead.ensures.ahead columns knows) c.loop-ahead.invariant
 
 pub loop-ahead-preserved : goal.loop-ahead-preserved
 loop-ahead-preserved c = rows_more _ _ (omega (arith, c.if-cells-eq0.false)) (search (arith, rules)) (search (arith, rules)) c.run_cells-cells.ensures.gives c.loop-ahead.invariant

@@ -1,6 +1,20 @@
-use Rattle.tds_rows.proofs.Words.{◌≡◌, ap, ◌+◌, ◌≤◌, Ok, length, take, arith, rules, length-take, buffered, seen, Takes-more}
-use Rattle.tds_rows.proofs.BufferedCells.{kept_text}
+use Rattle.tds_rows.proofs.Words.{[], refl, ◌≡◌, ap, ◌+◌, ◌≤◌, Ok, length, take, arith, rules, length-take, buffered, seen, Takes-more}
+use Rattle.tds_rows.proofs.{BufferedCells.kept_text, Paths.here, Paths.path_none, Paths.streams_of}
 use Rattle.tds_rows.proofs.reading.Rows.put_run.Goals as goal
+
+pub returns-then-room-lt-CELL_ROOM-clause-gives : goal.returns-then-room-lt-CELL_ROOM-clause-gives
+returns-then-room-lt-CELL_ROOM-clause-gives g c = λ columns knows ahead. (
+  ahead,
+  λ charset cells set is.
+      record {
+        before = [];
+        more = cells;
+        rows_counted = refl;
+        counted = is;
+        streams = streams_of (path_none {p = here g.R.Read.remaining g.W.Write.contents c.args.self.now} c.requires.in_row.sink.ready.2);
+        place_is = omega arith;
+      },
+)
 
 pub returns-clause-gives : goal.returns-clause-gives
 returns-clause-gives g c = λ columns knows ahead.

@@ -1,5 +1,5 @@
-use Rattle.tds_csv.proofs.{Words.{◌∙◌, ◌/◌, ◌%◌, map, ap, ap₂, arith, zip2_splat, Each2-splat, Each1-all, length-map, digit}, HexLanes.{high_small, low_small, woven, woven_digits}}
-use Rattle.tds_csv.proofs.convert.lanes_hex.hex_lanes.Goals as goal
+use Rattle.tds_values.proofs.{Words.{◌∙◌, ◌/◌, ◌%◌, map, ap, ap₂, arith, zip2_splat, Each2-splat, Each1-all, length-map, slice_index, lower_digits}, LaneLemmas.{high_small, low_small, woven, woven_digits}}
+use Rattle.tds_values.proofs.lanes.hex_lanes.Goals as goal
 
 pub nonzero_div-bytes : goal.nonzero_div-bytes
 nonzero_div-bytes c = Each2-splat _ c.args.bytes 16 16 (Each1-all _ (λ x. omega arith) c.args.bytes)
@@ -16,6 +16,6 @@ digits-low-requires c = rw (zip2_splat ◌%◌ c.args.bytes 16 16 c.requires) (r
 pub returns-clause-digits : goal.returns-clause-digits
 returns-clause-digits c =
     let v = c.args.bytes in
-    let high = c.digits-high.ensures ∙ ap (map digit) (zip2_splat _ v 16 16 c.requires) in
-    let low = c.digits-low.ensures ∙ ap (map digit) (zip2_splat _ v 16 16 c.requires) in
+    let high = c.digits-high.ensures ∙ ap (map (slice_index lower_digits)) (zip2_splat _ v 16 16 c.requires) in
+    let low = c.digits-low.ensures ∙ ap (map (slice_index lower_digits)) (zip2_splat _ v 16 16 c.requires) in
     ap₂ woven high low ∙ woven_digits v c.requires
