@@ -1,5 +1,5 @@
 -- Texts that are written to the notes one after the other.
-use Rattle.{std.{proofs.{Common.{◌≡◌, ◌≢◌, ◌∙◌, arith, ℕ, List, [], ◌∷◌, ◌++◌, Option, Result, Ok, Err, refl, sym, ap, subst, append_assoc, append-nil}, KnownBytes.{Appends-nil, Appends-trans}, lemmas.Bool.ne_eqb}, specs.{Prelude.{false, codes, decimal, if◌then◌else◌, ◌==◌}, Io.KnownBytes.Appends, List.concat}}, tds_meter.specs.Counts.Rose, tds_packet.specs.declared.counted.Counted.Counted, tds_replay.specs.{declared.pieces.Unsaid.Unsaid, Lines.values_line, Saying.{Says, WritesText}}}
+use Rattle.{std.{proofs.{Common.{◌≡◌, ◌≢◌, ◌∙◌, ℕ, List, [], ◌∷◌, ◌++◌, Option, Result, Ok, Err, refl, append_assoc, append-nil}, KnownBytes.{Appends-nil, Appends-trans}, lemmas.Bool.ne_eqb}, specs.{Prelude.{codes, decimal}, List.concat}}, tds_packet.specs.declared.counted.Counted.Counted, tds_replay.specs.{declared.pieces.Unsaid.Unsaid, Lines.values_line, Saying.{Says, WritesText}}}
 
 -- a text was written, and then another, or not
 pub says_then : {N U : Type 0} (contents : N → Option (List ℕ)) (old mid new : Counted N) (a b : List ℕ) → WritesText contents old mid a → (r : Result U Unsaid) → Says contents mid new b r → Says contents old new (a ++ b) r

@@ -1,4 +1,3 @@
-use Rattle.std.proofs.Common.{rules}
 use Rattle.tds_replay.proofs.status.Status.number.Goals as goal
 
 pub returns-in-BadDevice : goal.returns-in-BadDevice
