@@ -1,20 +1,6 @@
 -- What the parser found, and the answer to it.
-use Rattle.std.proofs.Common.{◌≡◌, ◌∙◌, ◌||◌, Bool, List, [], ◌∷◌, true, false, not, true≢false, Result, Ok, Err, IfOk, IfErr, IsErrAnd, inl, inr, refl, sym, ap, subst, codes}
-use Rattle.std.specs.List.{list_any}
-use Rattle.std.specs.Prelude.{◌⊎◌}
-use Rattle.clap.specs.Words.{App, FailsBy, IsAmong, Text, HasMatchesOf, fault_of, is_simple_and_free, kind_of, subcommand_rows_of}
-use Rattle.clap.specs.declared.error.Error.{Error}
-use Rattle.clap.specs.declared.error.kind.ErrorKind.{ErrorKind}
+use Rattle.{std.{proofs.Common.{◌≡◌, ◌∙◌, ◌||◌, Bool, List, [], ◌∷◌, true, false, not, true≢false, Result, Ok, Err, IfOk, IfErr, IsErrAnd, inl, inr, refl, sym, ap, codes}, specs.{List.list_any, Prelude.◌⊎◌}}, clap.{specs.{Words.{App, FailsBy, IsAmong, Text, HasMatchesOf, fault_of, is_simple_and_free, kind_of, subcommand_rows_of}, declared.{error.{Error.Error, kind.ErrorKind.ErrorKind}, parser.matches.ArgMatches.ArgMatches}}, proofs.{OnLiterals.clap_on_literals, WalkLemmas.both}}, tds_arguments.specs.{CommandLine.{Answers, IsProgram, Kept, MakesJob, program_app}, Jobs.IsInRange, declared.{job.Job.Job, usage.Usage.{Usage, TheVariants.{Help, OutOfMemory, Refused}}}, Usages.{IsRefusal, IsUsageAt, IsUsageOf, asks_for_help}}}
 use Rattle.clap.specs.declared.error.kind.ErrorKind.TheVariants as kind
-use Rattle.clap.specs.declared.parser.matches.ArgMatches.{ArgMatches}
-use Rattle.clap.proofs.OnLiterals.{clap_on_literals}
-use Rattle.clap.proofs.WalkLemmas.{both}
-use Rattle.tds_arguments.specs.CommandLine.{Answers, IsProgram, Kept, MakesJob, program_app}
-use Rattle.tds_arguments.specs.Jobs.{IsInRange}
-use Rattle.tds_arguments.specs.declared.job.Job.{Job}
-use Rattle.tds_arguments.specs.declared.usage.Usage.{Usage}
-use Rattle.tds_arguments.specs.declared.usage.Usage.TheVariants.{Help, OutOfMemory, Refused}
-use Rattle.tds_arguments.specs.Usages.{IsRefusal, IsUsageAt, IsUsageOf, asks_for_help}
 
 -- the command line is one of which the parser's matches and faults are known
 simple : (of_export of_check : Kept) → is_simple_and_free (program_app of_export of_check) ≡ true
@@ -22,10 +8,10 @@ unfolding clap_on_literals
 simple of_export of_check = refl
 
 pub is_known : (app : App) → IsProgram app → is_simple_and_free app ≡ true
-is_known app p = ap is_simple_and_free p.4 ∙ simple p.0 p.1
+is_known app p = rw p.4 (simple p.0 p.1)
 
 -- without memory for the command line there is no job
-abbrev some_names : Kept
+abbrev pub some_names : Kept
 some_names = record { ref_ptr = (0, 0); now = record { ref_ptr = (0, 0); now = codes "windows-1252" } ∷ record { ref_ptr = (0, 0); now = codes "utf-8" } ∷ [] }
 
 pub without_memory : (arguments : List Text) (answer : Result Job Usage) → IsErrAnd answer (λ usage. usage ≡ OutOfMemory) → Answers arguments answer
@@ -33,7 +19,7 @@ without_memory arguments (Ok job) none = absurd none
 without_memory arguments (Err usage) is = record {
   app = program_app some_names some_names;
   is_program = (some_names, some_names, refl, refl, refl);
-  gives = (inl is, subst (IsUsageAt (fault_of (program_app some_names some_names) arguments)) (sym is) tt);
+  gives = (inl is, rw is tt);
 }
 
 or_true : (a b : Bool) → b ≡ true → (a || b) ≡ true
@@ -61,11 +47,11 @@ module _ (app : App) (arguments : List Text) (program : IsProgram app) where
   pub refused : (error : Error) (usage : Usage) → FailsBy {T = ArgMatches} (fault_of app arguments) (Err error) → IsUsageOf (kind_of error) usage → Answers arguments (Err usage)
   refused error usage (inl memory) of =
       let is = no_memory (kind_of error) usage memory of in
-      record { app = app; is_program = program; gives = (inl is, subst (IsUsageAt (fault_of app arguments)) (sym is) tt) }
+      record { app = app; is_program = program; gives = (inl is, rw is tt) }
   refused error usage (inr among) of = record {
     app = app;
     is_program = program;
-    gives = (inr (λ job m. subst (λ kinds. IsAmong (kind_of error) kinds) m.fits among), at_fault (kind_of error) (fault_of app arguments) usage among of);
+    gives = (inr (λ job m. rw m.fits at among), at_fault (kind_of error) (fault_of app arguments) usage among of);
   }
 
   -- arguments that fit and are refused for their numbers
@@ -79,8 +65,8 @@ module _ (app : App) (arguments : List Text) (program : IsProgram app) where
       → IfErr answer (λ usage. (usage ≡ OutOfMemory) ⊎ ((job : Job) → IsInRange job → MakesJob (subcommand_rows_of matches) job → ⊥)) → Answers arguments answer
   found matches (Ok job) fits has range makes refusal err =
       let same = (has (both _ _ (is_known app program)).0).1 in
-      record { app = app; is_program = program; gives = record { fits = fits; makes = subst (λ o. MakesJob o job) same makes; in_range = range } }
+      record { app = app; is_program = program; gives = record { fits = fits; makes = rw same at makes; in_range = range } }
   found matches (Err usage) fits has range makes refusal (inl memory) = record { app = app; is_program = program; gives = (inl memory, fitting usage fits refusal) }
   found matches (Err usage) fits has range makes refusal (inr none) =
       let same = (has (both _ _ (is_known app program)).0).1 in
-      record { app = app; is_program = program; gives = (inr (λ job m. none job m.in_range (subst (λ o. MakesJob o job) (sym same) m.makes)), fitting usage fits refusal) }
+      record { app = app; is_program = program; gives = (inr (λ job m. none job m.in_range (rw same m.makes)), fitting usage fits refusal) }

@@ -36,20 +36,21 @@ count_free : (room n : ℕ) (bytes : List ℕ) → 0 < n → n < 65535 → 2 + 8
 count_free room n bytes some most fits = grind (arith, ne_eqb, nat_tests, at_column)
 
 module _ (room : ℕ) where
-  -- up to the name's count
-  head_is_read : (b : List ℕ) (count : ℕ) (cols : List Column) (ignored : List ℕ) (byte : ℕ) (n : ℕ) → length ignored ≡ 6 → rest_length byte ≡ Some n → ((length b + 7) + ((n + 1) + 8 * (count - (length cols + 1)))) ≤ room → Spelt (description room) (InColumn b count cols ColumnHead) (ignored ++ byte ∷ []) (with_type (b ++ (ignored ++ byte ∷ [])) count cols byte n)
-  head_is_read b count cols ignored byte n six rest fits = grind (arith, Spelt-step, nat_tests, get_or-append_seam, length-append)
+  module _ (b : List ℕ) (count : ℕ) (cols : List Column) where
+    -- up to the name's count
+    head_is_read : (ignored : List ℕ) (byte n : ℕ) → length ignored ≡ 6 → rest_length byte ≡ Some n → ((length b + 7) + ((n + 1) + 8 * (count - (length cols + 1)))) ≤ room → Spelt (description room) (InColumn b count cols ColumnHead) (ignored ++ byte ∷ []) (with_type (b ++ (ignored ++ byte ∷ [])) count cols byte n)
+    head_is_read ignored byte n six rest fits = grind (arith, Spelt-step, nat_tests, get_or-append_seam, length-append)
 
-  info_is_read : (b : List ℕ) (count : ℕ) (cols : List Column) (byte : ℕ) (rest : List ℕ) (kind : Kind) → rest_length byte ≡ Some (length rest) → kind_of (byte ∷ rest) ≡ Some kind → Spelt (description room) (with_type b count cols byte (length rest)) rest (InColumn (b ++ rest) count cols (NameCount kind))
-  info_is_read b count cols byte [] kind n k = grind (arith, Spelt-none, append-nil)
-  info_is_read b count cols byte (x ∷ xs) kind n k = grind (arith, Spelt-step, choose_false, ne_eqb)
+    info_is_read : (byte : ℕ) (rest : List ℕ) (kind : Kind) → rest_length byte ≡ Some (length rest) → kind_of (byte ∷ rest) ≡ Some kind → Spelt (description room) (with_type b count cols byte (length rest)) rest (InColumn (b ++ rest) count cols (NameCount kind))
+    info_is_read byte [] kind n k = grind (arith, Spelt-none, append-nil)
+    info_is_read byte (x ∷ xs) kind n k = grind (arith, Spelt-step, choose_false, ne_eqb)
 
-  units_are_read : (b : List ℕ) (count : ℕ) (cols : List Column) (kind : Kind) (units : ℕ) → (length b + 1) + (2 * units + 8 * (count - (length cols + 1))) ≤ room → Spelt (description room) (InColumn b count cols (NameCount kind)) (units ∷ []) (with_units (b ++ units ∷ []) count cols kind units)
-  units_are_read b count cols kind units fits = grind (arith, Spelt-step, nat_tests)
+    units_are_read : (kind : Kind) (units : ℕ) → (length b + 1) + (2 * units + 8 * (count - (length cols + 1))) ≤ room → Spelt (description room) (InColumn b count cols (NameCount kind)) (units ∷ []) (with_units (b ++ units ∷ []) count cols kind units)
+    units_are_read kind units fits = grind (arith, Spelt-step, nat_tests)
 
-  name_is_read : (b : List ℕ) (count : ℕ) (cols : List Column) (kind : Kind) (units : ℕ) (name : List ℕ) → length name ≡ 2 * units → Spelt (description room) (with_units b count cols kind units) name (with_column (b ++ name) count cols (record { kind = kind; name = name }))
-  name_is_read b count cols kind units [] l = grind (arith, Spelt-none, append-nil, choose_true, nat_tests)
-  name_is_read b count cols kind units (x ∷ xs) l = grind (arith, Spelt-step, choose_false, ne_eqb)
+    name_is_read : (kind : Kind) (units : ℕ) (name : List ℕ) → length name ≡ 2 * units → Spelt (description room) (with_units b count cols kind units) name (with_column (b ++ name) count cols (record { kind = kind; name = name }))
+    name_is_read kind units [] l = grind (arith, Spelt-none, append-nil, choose_true, nat_tests)
+    name_is_read kind units (x ∷ xs) l = grind (arith, Spelt-step, choose_false, ne_eqb)
 
   -- what spells a column is read as it
   column_is_read : (b : List ℕ) (count : ℕ) (cols : List Column) (c : Column) (bytes : List ℕ) → (length b + length bytes) + 8 * (count - (length cols + 1)) ≤ room → SpellsColumn c bytes → Spelt (description room) (InColumn b count cols ColumnHead) bytes (with_column (b ++ bytes) count cols c)

@@ -1,6 +1,5 @@
 -- What the bytes that lead to a part of a description spell.
-use Rattle.tds_columns.proofs.Words.{too_long, Option, Fault, first_of_two, is_some, BadTypeInfo, true, if◌then◌else◌, ◌≡◌, ◌≢◌, ℕ, ◌+◌, ◌*◌, ◌/◌, ◌%◌, ◌<◌, ◌≤◌, List, [], ◌∷◌, ◌++◌, length, refl, sym, ◌∙◌, ap, append_assoc, append-nil, arith, length-append, length-take-le, take, Some, None, slice_index, unwrap_or, nat_tests, ne_eqb, Kind, IsTypeInfo, rest_length, bare_type, AreBytes, IsNext, Column, SpellsColumn, SpellsColumns, SpellsDescription, ColumnPlace, ColumnHead, ColumnInfo, NameCount, NameUnits, DescriptionPart, BeforeCount, NoDescription, InColumn, WholeDescription, with_column, with_type, with_units, add_described, type_fault, count_fault, description, choose, choose_false, eq_true, eq_false, is_some_value}
-use Rattle.tds_columns.proofs.ByteLemmas.{last_of, two_bytes}
+use Rattle.tds_columns.proofs.{Words.{◌==◌, too_long, Option, Fault, first_of_two, is_some, BadTypeInfo, true, if◌then◌else◌, ◌≡◌, ◌≢◌, ℕ, ◌+◌, ◌*◌, ◌/◌, ◌%◌, ◌<◌, ◌≤◌, List, [], ◌∷◌, ◌++◌, length, refl, sym, ◌∙◌, ap, append_assoc, append-nil, arith, length-append, length-take-le, Some, None, slice_index, nat_tests, ne_eqb, Kind, IsTypeInfo, rest_length, bare_type, AreBytes, IsNext, Column, SpellsColumn, SpellsColumns, SpellsDescription, ColumnPlace, ColumnHead, ColumnInfo, NameCount, NameUnits, DescriptionPart, BeforeCount, NoDescription, InColumn, WholeDescription, with_column, with_units, add_described, type_fault, count_fault, description, choose, choose_false, eq_true, eq_false, is_some_value}, ByteLemmas.{last_of, two_bytes}}
 
 pub not_long : (room so_far least : ℕ) → too_long room so_far least ≡ None → so_far + least ≤ room
 not_long room so_far least h = grind (arith, nat_tests)
@@ -54,22 +53,22 @@ longer : (b e one front part : List ℕ) → b ≡ one ++ (front ++ part) → b 
 longer b e one front part h = rw h (simp append_assoc)
 
 module _ (room : ℕ) where
-  -- a whole column
-  with_means : (bytes : List ℕ) (count : ℕ) (cols : List Column) (c : Column) (b front part : List ℕ) → bytes ≡ b → 0 < count → count < 65535 → b ≡ (count % 256 ∷ count / 256 ∷ []) ++ (front ++ part) → SpellsColumns cols front → length cols < count → SpellsColumn c part → length b ≤ room → DescribedMeans room (with_column bytes count cols c) b
-  with_means bytes count cols c b front part same some most spelt whole fewer col fits =
-      let la = length-append cols (c ∷ []) in
-      let each = one_more_column cols front c part whole col in
-      grind (arith, choose, eq_true, eq_false, append-nil)
+  module _ {have : List ℕ} {count : ℕ} {cols : List Column} {place : ColumnPlace} {b : List ℕ} (h : WithinMeans room have count cols place b) (e : List ℕ) where
+    -- a whole column
+    with_means : (c : Column) → SpellsColumn c (h.part ++ e) → length (b ++ e) ≤ room → DescribedMeans room (with_column (have ++ e) count cols c) (b ++ e)
+    with_means c col fits =
+        let spelt = longer b e (count % 256 ∷ count / 256 ∷ []) h.front h.part h.spelt in
+        let la = length-append cols (c ∷ []) in
+        let each = one_more_column cols h.front c (h.part ++ e) h.whole col in
+        grind (arith, choose, eq_true, eq_false, append-nil)
 
-  -- a type byte
-  type_means : (bytes : List ℕ) (count : ℕ) (cols : List Column) (byte : ℕ) (b front ignored : List ℕ) → bytes ≡ b → 0 < count → count < 65535 → b ≡ (count % 256 ∷ count / 256 ∷ []) ++ (front ++ (ignored ++ byte ∷ [])) → SpellsColumns cols front → length cols < count → length ignored ≡ 6 → type_fault (length cols) byte (rest_length byte) ≡ None → DescribedMeans room (with_type bytes count cols byte (unwrap_or (rest_length byte) 0)) b
-  type_means bytes count cols byte b front ignored same some most spelt whole fewer six free = grind (arith, bare_type, choose, eq_true)
-
-  units_step : (have : List ℕ) (count : ℕ) (cols : List Column) (kind : Kind) (b e : List ℕ) → AreBytes e → WithinMeans room have count cols (NameCount kind) b → IsNext (description room) (InColumn have count cols (NameCount kind)) e → DescribedMeans room (with_units (have ++ e) count cols kind (slice_index e 0)) (b ++ e)
+  units_step : (have : List ℕ) (count : ℕ) (cols : List Column) (kind : Kind) (b e : List ℕ) → AreBytes e → (h : WithinMeans room have count cols (NameCount kind) b) → IsNext (description room) (InColumn have count cols (NameCount kind)) e → DescribedMeans room (with_units (have ++ e) count cols kind (slice_index e 0)) (b ++ e)
   units_step have count cols kind b e bytes h n =
-      let one : e ≡ slice_index e 0 ∷ [] = last_of 0 e n.whole in
+      let one = last_of 0 e n.whole in
       let spelt = longer b e (count % 256 ∷ count / 256 ∷ []) h.front h.part h.spelt in
-      grind (arith, length-append, nat_tests, DescribedMeans, eq_true, with_means)
+      choose (λ s. DescribedMeans room s (b ++ e)) (slice_index e 0 == 0) _ _
+      (λ z. grind (arith, length-append, eq_true, (with_means h e (record { kind = kind; name = [] }))))
+      (λ z. grind (arith, length-append, nat_tests))
 
   -- each element keeps the meaning
   pub described_step : (d : DescriptionPart) (b e : List ℕ) → AreBytes e → DescribedMeans room d b → IsNext (description room) d e → DescribedMeans room (add_described d e) (b ++ e)
@@ -78,9 +77,10 @@ module _ (room : ℕ) where
       rw h (grind (arith, choose, eq_false, eq_true, not_zero))
   described_step (InColumn have count cols ColumnHead) b e bytes h n =
       let spelt = rw h.begun at (longer b e (count % 256 ∷ count / 256 ∷ []) h.front h.part h.spelt) in
-      let free : type_fault (length cols) (slice_index e 6) (rest_length (slice_index e 6)) ≡ None = grind (arith, n.free) in
-      type_means (have ++ e) count cols (slice_index e 6) (b ++ e) h.front (take 6 e) (rw h.same) h.some h.most (rw (← last_of 6 e n.whole) spelt) h.whole h.fewer (length-take-le 6 e (omega (arith, n.whole))) free
+      let one = last_of 6 e n.whole in
+      let six = length-take-le 6 e (omega (arith, n.whole)) in
+      grind (arith, bare_type, choose, eq_true, n.free)
   described_step (InColumn have count cols (ColumnInfo byte)) b e bytes h n = grind (arith, append_assoc, is_some_value, longer)
   described_step (InColumn have count cols (NameCount kind)) b e bytes h n = units_step have count cols kind b e bytes h n
-  described_step (InColumn have count cols (NameUnits kind m)) b e bytes h n = grind (arith, append_assoc, length-append, longer, with_means)
+  described_step (InColumn have count cols (NameUnits kind m)) b e bytes h n = grind (arith, append_assoc, length-append, (with_means h e))
   described_step d b e bytes h n = absurd (omega (arith, n.some, n.whole))

@@ -15,17 +15,17 @@ module _ {S : Type 0} {g : Grammar S Fault} {s : S} {a b : Seen} {before after :
   cut_into e size end = cut_at_once g s a b _ e.part e.own _ (rw size e.fewer) e.ends (began_is_cut _ (g.end_fault s) e.own _ end e.stop_is)
 
 -- an area that grew is cut back
-pub shrunk : (before : Space) (element : List ℕ) (after cut : Space) (start n : ℕ) → after ≡ appended before element → length element ≡ n → start ≡ length before.bytes → cut ≡ holding after (take start after.bytes) → (cut.bytes ≡ before.bytes) × (cut.peak ≡ max before.peak (length before.bytes + n))
-shrunk before element after cut start n stands whole at is = rw (is, at, stands, ← whole) (grind (arith, common_steps))
+pub shrunk : (before : Space) (element : List ℕ) {after cut : Space} {start n : ℕ} → after ≡ appended before element → length element ≡ n → start ≡ length before.bytes → cut ≡ holding after (take start after.bytes) → (cut.bytes ≡ before.bytes) × (cut.peak ≡ max before.peak (length before.bytes + n))
+shrunk before element stands whole at is = rw (is, at, stands, ← whole) (grind (arith, common_steps))
 
 module _ {a b : Seen} {before after : Space} {n : ℕ} where
   -- what stands in the area after what it had
-  pub element_at : (e : TakesInto a b before after n) (bytes : List ℕ) (start : ℕ) → bytes ≡ after.bytes → start ≡ length before.bytes → take (length bytes - start) (drop start bytes) ≡ e.element
-  element_at e bytes start same at = rw (same, at, e.stands) (grind (arith, common_steps))
+  pub element_at : {bytes : List ℕ} {start : ℕ} (e : TakesInto a b before after n) → bytes ≡ after.bytes → start ≡ length before.bytes → take (length bytes - start) (drop start bytes) ≡ e.element
+  element_at e same at = rw (same, at, e.stands) (grind (arith, common_steps))
 
   -- a byte of it
-  pub byte_at : (e : TakesInto a b before after n) (bytes : List ℕ) (place k : ℕ) → bytes ≡ after.bytes → place ≡ length before.bytes + k → slice_index bytes place ≡ slice_index e.element k
-  byte_at e bytes place k same at = rw (same, at, e.stands) (grind (arith, common_steps))
+  pub byte_at : {bytes : List ℕ} {start : ℕ} (e : TakesInto a b before after n) (k : ℕ) → bytes ≡ after.bytes → start ≡ length before.bytes → slice_index bytes (start + k) ≡ slice_index e.element k
+  byte_at e k same at = rw (same, at, e.stands) (grind (arith, common_steps))
 
   -- the area's bytes then
   pub length_into : TakesInto a b before after n → length after.bytes ≡ length before.bytes + n

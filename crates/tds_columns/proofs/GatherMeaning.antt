@@ -1,7 +1,5 @@
 -- What a description that was read spells.
-use Rattle.tds_columns.proofs.Words.{◌≡◌, ◌∙◌, inl, inr, ℕ, ◌<◌, List, [], ◌∷◌, ◌++◌, length, refl, arith, little_number, bare_type, Space, Stop, AreBytes, IsNext, Spelt, Seen, Takes, choose, eq_true, is_some_value, Spelt-induct, AreBytes-front, AreBytes-back, Column, DescriptionPart, BeforeCount, NoDescription, WholeDescription, SpellsDescription, add_described, description, description_bytes, described_size, TakesInto, Describes, GatherStops, StopsDescribing}
-use Rattle.tds_columns.proofs.ByteLemmas.{two_bytes}
-use Rattle.tds_columns.proofs.ColumnMeaning.{DescribedMeans, described_step}
+use Rattle.tds_columns.proofs.{Words.{◌≡◌, ◌∙◌, inl, inr, ℕ, ◌<◌, List, [], ◌∷◌, length, refl, arith, little_number, bare_type, Space, Stop, AreBytes, Spelt, Seen, Takes, choose, eq_true, is_some_value, Spelt-induct, AreBytes-front, AreBytes-back, Column, DescriptionPart, BeforeCount, NoDescription, WholeDescription, SpellsDescription, description, description_bytes, described_size, TakesInto, Describes, GatherStops, StopsDescribing}, ByteLemmas.two_bytes, ColumnMeaning.{DescribedMeans, described_step}}
 
 -- the bytes that are kept are those read
 abbrev pub Keeps : DescriptionPart → List ℕ → Type 0
@@ -9,11 +7,8 @@ Keeps NoDescription b = Unit {0}
 Keeps d b = description_bytes d ≡ b
 
 module _ (room : ℕ) where
-  keeps_step : (d : DescriptionPart) (b e : List ℕ) → Keeps d b → IsNext (description room) d e → Keeps (add_described d e) (b ++ e)
-  keeps_step d b e h n = grind (arith, bare_type, choose, eq_true, is_some_value)
-
   pub kept_bytes : (d : DescriptionPart) (bytes : List ℕ) → Spelt (description room) BeforeCount bytes d → Keeps d bytes
-  kept_bytes d bytes h = Spelt-induct (description room) Keeps keeps_step BeforeCount refl bytes d h
+  kept_bytes d bytes h = Spelt-induct (description room) Keeps (λ d b e h n. grind (arith, bare_type, choose, eq_true, is_some_value)) BeforeCount refl bytes d h
 
   -- what is read has its meaning
   pub described_means : (d : DescriptionPart) (bytes : List ℕ) → AreBytes bytes → Spelt (description room) BeforeCount bytes d → DescribedMeans room d bytes

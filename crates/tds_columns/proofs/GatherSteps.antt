@@ -1,6 +1,5 @@
 -- The elements of a description, as they are read into its area.
-use Rattle.tds_columns.proofs.Words.{BeforeCount, count_fault, with_count, holding, ◌≡◌, ◌≢◌, ◌∙◌, ℕ, ◌+◌, ◌<◌, ◌≤◌, List, [], length, max, refl, sym, ap, arith, le_refl, length-append, Some, None, Option, Result, Ok, Err, MatchResult, is_ok, if◌then◌else◌, little_number, little, Kind, bare_type, Space, Fault, MessageEnded, Payload, Stop, IsNext, Seen, choose, eq_true, is_some_value, reads_both, stops_after, Column, NameUnits, DescriptionPart, InColumn, add_described, description, description_bytes, described_end, described_fault, described_size, span, with_column, TakesInto, EndsInto, Describes, StopsDescribing}
-use Rattle.tds_columns.proofs.ElementSteps.{cut_into, reads_into, refused_into, shrunk}
+use Rattle.tds_columns.proofs.{Words.{BeforeCount, count_fault, with_count, holding, ◌≡◌, ◌≢◌, ◌∙◌, ℕ, ◌+◌, ◌<◌, ◌≤◌, List, [], length, take, refl, sym, ap, arith, le_refl, length-append, Some, None, Option, Result, Ok, Err, MatchResult, is_ok, if◌then◌else◌, little_number, little, Kind, bare_type, Space, Fault, MessageEnded, Payload, Stop, IsNext, Seen, choose, eq_true, is_some_value, reads_both, stops_after, Column, NameUnits, DescriptionPart, InColumn, add_described, description, description_bytes, described_end, described_fault, described_size, span, with_column, TakesInto, EndsInto, Describes, StopsDescribing}, ElementSteps.{cut_into, reads_into, refused_into, shrunk}}
 
 -- a state that something follows
 open_state : (s : DescriptionPart) (n : ℕ) → described_size s ≡ n → 0 < n → (described_end s ≡ Some MessageEnded) × (span s ≡ length (description_bytes s) + n)
@@ -27,9 +26,10 @@ module _ {room : ℕ} {s : DescriptionPart} {a b : Seen} {before after : Space} 
       record { reads = reads_into t some size free leads; place_is = rw t.whole at; kept = bytes; bound = rw (peak, t.stands) (omega (arith, length-append before.bytes t.element, t.whole, within, ap length had)); further = omega (arith, within, o.1) }
 
   -- the next element is read whole, and refused
-  pub description_refused : {cut : Space} {place n : ℕ} {fault : Fault} (t : TakesInto a b before after n) → 0 < n → described_size s ≡ n → described_fault room s t.element ≡ Some fault → before.bytes ≡ description_bytes s → (cut.bytes ≡ before.bytes) × (cut.peak ≡ max before.peak (length before.bytes + n))
+  pub description_refused : {cut : Space} {place n start : ℕ} {fault : Fault} (t : TakesInto a b before after n) → 0 < n → described_size s ≡ n → described_fault room s t.element ≡ Some fault → before.bytes ≡ description_bytes s → start ≡ length before.bytes → cut ≡ holding after (take start after.bytes)
       → StopsDescribing room s a b place before.peak cut (record { fault = fault; place = Payload place })
-  description_refused {n = n} t some size first kept cut =
+  description_refused {n = n} t some size first kept at is =
+      let cut = shrunk before t.element t.stands t.whole at is in
       record { at = s; stops = refused_into t some size first; kept = cut.0 ∙ kept; bound = omega (arith, cut.1, (open_state s n size some).1, ap length kept); further = le_refl (span s) }
 
 module _ {room : ℕ} {s t : DescriptionPart} {a b c : Seen} {p q k : ℕ} {middle after : Space} where
@@ -67,4 +67,4 @@ module _ {room count : ℕ} {a b : Seen} {before after kept : Space} {place : �
   count_read free leads at peak bytes = description_read t (omega arith) refl (rw ((count_is t none).1, ← number) free) (rw ((count_is t none).1, ← number, ← (count_is t none).0) leads) at none peak bytes
 
   pub count_refused : {fault : Fault} → count_fault room count ≡ Some fault → kept ≡ holding after [] → StopsDescribing room BeforeCount a b place before.peak kept (record { fault = fault; place = Payload place })
-  count_refused why clear = description_refused t (omega arith) refl (rw ((count_is t none).1, ← number) why) none (shrunk before t.element after kept 0 2 t.stands t.whole (omega (arith, ap length none)) clear)
+  count_refused why clear = description_refused {start = 0} t (omega arith) refl (rw ((count_is t none).1, ← number) why) none (rw none) clear

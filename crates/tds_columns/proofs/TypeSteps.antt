@@ -1,6 +1,5 @@
 -- The type of a returned value, as it is read.
-use Rattle.tds_columns.proofs.Words.{◌≡◌, ◌≢◌, ℕ, ◌+◌, ◌-◌, ◌≤◌, List, [], ◌∷◌, length, arith, Some, None, ◌==◌, slice_index, ne_eqb, Kind, rest_length, kind_of, bare_type, nil_from_length, Space, Stop, Seen, Takes, Reads, StopsReading, choose, choose_false, eq_false, eq_true, Spelt-none, TakesInto, KnownType, StopsType, TypeHead, TypeRest, WereTaken, returned_type, with_known, with_type_byte, reads_both, reads_one, stops_after}
-use Rattle.tds_columns.proofs.ElementSteps.{reads_into}
+use Rattle.tds_columns.proofs.{Words.{◌≡◌, ◌≢◌, ℕ, ◌+◌, ◌-◌, ◌≤◌, List, [], ◌∷◌, length, arith, Some, None, ◌==◌, slice_index, ne_eqb, Kind, rest_length, kind_of, bare_type, nil_from_length, Space, Stop, Seen, Takes, Reads, StopsReading, choose, choose_false, eq_false, eq_true, Spelt-none, TakesInto, KnownType, StopsType, TypeHead, TypeRest, WereTaken, returned_type, with_known, with_type_byte, reads_both, reads_one, stops_after}, ElementSteps.reads_into}
 
 pub no_kind : (byte : ℕ) {rest : ℕ} (element : List ℕ) → rest_length byte ≡ Some rest → length element ≡ rest → kind_of (byte ∷ element) ≡ None → rest ≢ 0
 no_kind byte element known len none z = grind (arith, bare_type, nil_from_length)
@@ -8,7 +7,7 @@ no_kind byte element known len none z = grind (arith, bare_type, nil_from_length
 module _ {o a : Seen} (head : List ℕ) (taken : WereTaken o a head) (eight : length head ≡ 8) (rest : ℕ) (known : rest_length (slice_index head 7) ≡ Some rest) where
   -- the eight bytes were taken, and lead to this state
   abbrev head_read : Reads returned_type TypeHead o a (with_type_byte (slice_index head 7) rest)
-  head_read = reads_one returned_type TypeHead o a head (with_type_byte (slice_index head 7) rest) (record { some = omega (arith, eight); whole = eight; free = rw known }) (rw eight taken.0) (rw known)
+  head_read = reads_one returned_type TypeHead o a head _ (record { some = omega (arith, eight); whole = eight; free = rw known }) (rw eight taken.0) (rw known)
 
   -- a stop after the eight bytes
   pub stops_after_steps : {b : Seen} {place : ℕ} {stop : Stop} → rest ≢ 0 → 8 ≤ place → StopsReading returned_type (TypeRest (slice_index head 7)) a b place (TypeRest (slice_index head 7)) stop → StopsType o b (place - 8) stop

@@ -1,9 +1,5 @@
 -- A list whose first items are taken away in place.
-use Rattle.std.proofs.Common.{◌≡◌, ◌∙◌, ◌-◌, ◌+◌, ◌≤◌, ℕ, List, length, take, drop, ap, sym, arith, zero-add, length-drop}
-use Rattle.std.specs.List.{copy_within}
-use Rattle.std.proofs.lemmas.List.{drop-take}
-use Rattle.std.proofs.lemmas.List.Edits.{take-paste}
-use Rattle.tds_meter.specs.Space.{Space, holding}
+use Rattle.{std.{proofs.{Common.{◌≡◌, ◌∙◌, ◌-◌, ◌+◌, ◌≤◌, ℕ, List, length, take, drop, ap, sym, arith, zero-add, length-drop}, lemmas.List.{drop-take, Edits.take-paste}}, specs.List.copy_within}, tds_meter.specs.Space.{Space, holding}}
 
 -- what stood after the first n of a front stands at the start
 shifted : (n len : ℕ) (old new : List ℕ) → n ≤ len → len ≤ length old → new ≡ copy_within old n len 0 → take (len - n) new ≡ drop n (take len old)
@@ -16,7 +12,4 @@ shifted n len old new le within moved =
 
 -- so it is in an area whose bytes are the front of a store
 pub front-dropped : (s : Space) (n len room size peak : ℕ) (old new : List ℕ) → n ≤ len → len ≤ length old → new ≡ copy_within old n len 0 → size ≡ room → record { bytes = take len old; room = room; peak = peak } ≡ s → record { bytes = take (len - n) new; room = size; peak = peak } ≡ holding s (drop n s.bytes)
-front-dropped s n len room size peak old new le within moved same is =
-    ap (λ bytes. record { bytes = bytes; room = size; peak = peak }) (shifted n len old new le within moved)
-    ∙ ap (λ room. record { bytes = drop n (take len old); room = room; peak = peak }) same
-    ∙ ap (λ (s : Space). holding s (drop n s.bytes)) is
+front-dropped s n len room size peak old new le within moved same is = rw (shifted n len old new le within moved, same, ← is)

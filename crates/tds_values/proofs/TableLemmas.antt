@@ -11,7 +11,7 @@ pair_at p h =
     (each_below (λ p. get_or PAIRS (p * 2) 0) (λ p. 48 + p / 10) 100 refl p h, each_below (λ p. get_or PAIRS (p * 2 + 1) 0) (λ p. 48 + p % 10) 100 refl p h)
 
 pub word_at : (p : ℕ) → p < 100 → get_or WORDS p 0 ≡ 48 + p / 10 + 256 * (48 + p % 10)
-word_at p h = each_below (λ p. get_or WORDS p 0) (λ p. 48 + p / 10 + 256 * (48 + p % 10)) 100 refl p h
+word_at = each_below _ _ 100 refl
 
 -- the two hexadecimal digits of a byte
 pub hex_at : (b : ℕ) → b < 256 → (slice_index lower_digits (b / 16) ≡ hex_digit lower (b / 16 % 16)) × (slice_index lower_digits (b % 16) ≡ hex_digit lower (b % 16))

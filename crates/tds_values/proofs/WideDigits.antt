@@ -1,18 +1,9 @@
 -- Forty digits of a number, and its text in them.
-use Rattle.tds_values.proofs.Words.{◌≡◌, inl, inr, ℕ, zero, suc, ◌+◌, ◌-◌, ◌*◌, ◌/◌, ◌%◌, ◌^◌, ◌<◌, ◌≤◌, List, [], ◌∷◌, ◌++◌, take, drop, length, get_or, refl, sym, ap, ◌∙◌, arith, false, append_assoc, cases_lt, ⊎_elim, decimal, nat_tests, div-eq_of_lt, le-div, div-le_self, div_below, drop-take, take-take, one-le-pow, pow-succ', pow-add, cond}
-use Rattle.std.proofs.Common.{take_all}
-use Rattle.std.proofs.Math.Seq.{drop-append-add}
-use Rattle.std.proofs.lemmas.List.{take-append-le}
-use Rattle.std.specs.List.{prefix_len}
-use Rattle.tds_values.specs.ScalarText.{last_digits, is_zero}
-use Rattle.tds_values.proofs.{DigitLemmas.decimal_last, DigitLemmas.last_digits-add, DigitLemmas.last_digits_after, TextLengths.length-last_digits}
+use Rattle.{tds_values.{proofs.{Words.{◌≡◌, inl, inr, ℕ, zero, suc, ◌+◌, ◌-◌, ◌/◌, ◌%◌, ◌^◌, ◌<◌, ◌≤◌, List, [], ◌∷◌, ◌++◌, take, drop, length, get_or, refl, sym, ap, ◌∙◌, arith, false, append_assoc, cases_lt, ⊎_elim, decimal, nat_tests, div-eq_of_lt, le-div, div-le_self, div_below, drop-take, take-take, one-le-pow, pow-succ', pow-add, cond}, DigitLemmas.{decimal_last, last_digits-add, last_digits-mod}, TextLengths.length-last_digits}, specs.ScalarText.{last_digits, is_zero}}, std.{proofs.{Common.take_all, Math.Seq.drop-append-add, lemmas.List.take-append-le}, specs.List.prefix_len}}
 
 -- eight more digits after some
 eight_more : (k n : ℕ) {m g : ℕ} (t : List ℕ) {x y : List ℕ} → m ≡ n / 10 ^ 8 → g ≡ n % 10 ^ 8 → x ≡ t ++ last_digits k m → y ≡ x ++ last_digits 8 g → y ≡ t ++ last_digits (k + 8) n
-eight_more k n {m} {g} t em eg ex ey =
-    let less : k + 8 - 8 ≡ k = omega arith in
-    let all : last_digits (k + 8) n ≡ last_digits k (n / 10 ^ 8) ++ last_digits 8 (n % 10 ^ 8) = last_digits_after (k + 8) 8 n (omega arith) ∙ ap (λ j. last_digits j (n / 10 ^ 8) ++ last_digits 8 (n % 10 ^ 8)) less in
-    rw (ey, ex, em, eg, append_assoc, ← all) refl
+eight_more k n t em eg ex ey = rw (ey, ex, em, eg, append_assoc, last_digits-mod 8 n, ← last_digits-add k 8 n)
 
 -- five groups of eight digits, one after the other
 pub forty : (n : ℕ) {gs t1 t2 t3 t4 t5 : List ℕ} → gs ≡ n / 10 ^ 32 ∷ n / 10 ^ 24 % 10 ^ 8 ∷ n / 10 ^ 16 % 10 ^ 8 ∷ n / 10 ^ 8 % 10 ^ 8 ∷ n % 10 ^ 8 ∷ [] → t1 ≡ last_digits 8 (get_or gs 0 0)
@@ -25,7 +16,7 @@ forty n is a b c d e =
 
 -- a digit more in front
 one_more : (k n : ℕ) → last_digits (suc k) n ≡ (48 + n / 10 ^ k % 10) ∷ last_digits k n
-one_more k n = let e : suc k ≡ 1 + k = omega arith in ap (λ j. last_digits j n) e ∙ last_digits-add 1 k n
+one_more k n = grind (arith, (last_digits-add 1 k n))
 
 -- the text of a number is what follows the zeros before its digits, of which the last stays
 pub after_zeros : (k n : ℕ) → n < 10 ^ suc k → n < 10 ^ 64 → drop (prefix_len is_zero (take k (last_digits (suc k) n))) (last_digits (suc k) n) ≡ decimal n
@@ -47,13 +38,12 @@ after_zeros (suc k) n small fits =
 
 -- of forty digits those before the point and those after it
 split : (n scale k : ℕ) → suc k + scale ≡ 40 → last_digits 40 n ≡ last_digits (suc k) (n / 10 ^ scale) ++ last_digits scale n
-split n scale k e = ap (λ j. last_digits j n) (sym e) ∙ last_digits-add (suc k) scale n
+split n scale k e = rw e at (last_digits-add (suc k) scale n)
 
 whole_fits : (n scale k : ℕ) → n < 2 ^ 128 → suc k + scale ≡ 40 → (n / 10 ^ scale < 10 ^ suc k) × (n / 10 ^ scale < 10 ^ 64)
 whole_fits n scale k fits e =
-    let power : 10 ^ 40 ≡ 10 ^ suc k * 10 ^ scale = ap (λ j. 10 ^ j) (sym e) ∙ pow-add 10 (suc k) scale in
-    let low = div_below n (10 ^ scale) (10 ^ suc k) (one-le-pow scale 10 (omega arith)) (omega (arith, power)) in
-    (low, omega (arith, div-le_self n (10 ^ scale)))
+    let power = rw e at (pow-add 10 (suc k) scale) in
+    (div_below n (10 ^ scale) (10 ^ suc k) (one-le-pow scale 10 (omega arith)) (omega arith), omega (arith, div-le_self n (10 ^ scale)))
 
 -- the text before the point
 pub whole_part : (n scale : ℕ) {ds : List ℕ} {first : ℕ} → n < 2 ^ 128 → scale ≤ 38 → ds ≡ last_digits 40 n → first ≤ 40 - scale - 1 → first ≡ prefix_len is_zero (take (40 - scale - 1) ds) → take (40 - scale - first) (drop first ds) ≡ decimal (n / 10 ^ scale)
@@ -62,13 +52,11 @@ whole_part n scale {ds} {first} fits small is few zeros =
     let w = n / 10 ^ scale in
     let e : suc k + scale ≡ 40 = omega arith in
     let long = length-last_digits (suc k) w in
-    let front : take (suc k) ds ≡ last_digits (suc k) w = ap (take (suc k)) (is ∙ split n scale k e) ∙ take-append-le (suc k) (last_digits (suc k) w) (last_digits scale n) (omega (arith, long)) ∙ take_all (suc k) (last_digits (suc k) w) (omega (arith, long)) in
-    let some : take k ds ≡ take k (last_digits (suc k) w) = sym (take-take k (suc k) ds (omega arith)) ∙ ap (take k) front in
-    let point : 40 - scale ≡ first + (40 - scale - first) = omega arith in
-    let same : suc k ≡ 40 - scale = omega arith in
-    let parts : take (40 - scale - first) (drop first ds) ≡ drop first (take (suc k) ds) = sym (drop-take first (40 - scale - first) ds) ∙ ap (λ j. drop first (take j ds)) (sym point ∙ sym same) in
+    let front : take (suc k) ds ≡ last_digits (suc k) w = rw (is ∙ split n scale k e, take-append-le (suc k) (last_digits (suc k) w) (last_digits scale n) (omega arith)) (take_all (suc k) (last_digits (suc k) w) (omega arith)) in
+    let some = rw front at (take-take k (suc k) ds (omega arith)) in
+    let point : first + (40 - scale - first) ≡ suc k = omega arith in
     let bounds = whole_fits n scale k fits e in
-    parts ∙ ap (drop first) front ∙ ap (λ j. drop j (last_digits (suc k) w)) (zeros ∙ ap (prefix_len is_zero) some) ∙ after_zeros k w bounds.0 bounds.1
+    rw (← drop-take first (40 - scale - first) ds, point, front, zeros, ← some) (after_zeros k w bounds.0 bounds.1)
 
 -- and the digits after it
 pub fraction_part : (n scale : ℕ) {ds : List ℕ} → scale ≤ 38 → ds ≡ last_digits 40 n → drop (40 - scale) ds ≡ last_digits scale n

@@ -1,6 +1,5 @@
 -- What the bytes of a kind spell is written, or its fault answered.
-use Rattle.tds_values.proofs.Words.{Result, ◌≡◌, ℕ, ◌/◌, ◌%◌, ◌^◌, ◌≤◌, List, ◌++◌, nat_lt, ℤ, codes, Some, Ok, arith, one-le-pow, div_below, le-div, IfOk, ScalarValue, text_of, seconds_text, fraction_text, date_and_time, offset_text, local_seconds, ValueFault, is_time, IsText, IsWritten}
-use Rattle.tds_values.proofs.LocalLemmas.{units_of_seconds, text_of_seconds}
+use Rattle.tds_values.proofs.{Words.{Result, ◌≡◌, ℕ, ◌/◌, ◌%◌, ◌^◌, ◌≤◌, List, ◌++◌, nat_lt, ℤ, codes, Some, Ok, arith, one-le-pow, div_below, le-div, IfOk, ScalarValue, text_of, seconds_text, fraction_text, date_and_time, offset_text, local_seconds, ValueFault, is_time, IsText, IsWritten}, LocalLemmas.{units_of_seconds, text_of_seconds}}
 use Rattle.tds_values.specs.declared.scalar.ScalarValue.TheVariants as values
 
 -- whole seconds tell whether they lie in a day

@@ -1,5 +1,4 @@
 use Rattle.std.proofs.Common.{rules}
-use Rattle.tds_arguments.proofs.options.packet_size.Goals as goal
 
-pub returns : goal.returns
+pub returns : Rattle.tds_arguments.proofs.options.packet_size.Goals.returns
 returns c = search rules

@@ -1,10 +1,6 @@
-use Rattle.std.proofs.lemmas.Result.{IfOk-weaker}
-use Rattle.clap.specs.Words.{App, with_rule}
-use Rattle.tds_arguments.specs.CommandLine.{charset_rule, file_rule, limited_app}
-use Rattle.tds_arguments.proofs.Commands.{argument_then}
-use Rattle.tds_arguments.proofs.options.reading.Goals as goal
+use Rattle.{std.proofs.lemmas.Result.IfOk-weaker, clap.specs.Words.{App, with_rule}, tds_arguments.{specs.CommandLine.{charset_rule, file_rule, limited_app}, proofs.Commands.argument_then}}
 
-pub returns : goal.returns
+pub returns : Rattle.tds_arguments.proofs.options.reading.Goals.returns
 returns c =
     let limited : App = limited_app c.args.name.now in
     let charset = c.charset.ensures in

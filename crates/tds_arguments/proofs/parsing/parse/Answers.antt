@@ -1,6 +1,4 @@
-use Rattle.std.proofs.Common.{map, string_bytes}
-use Rattle.clap.specs.Words.{app_of}
-use Rattle.tds_arguments.proofs.Found.{found, is_known, refused, without_memory}
+use Rattle.{std.proofs.Common.{map, string_bytes}, clap.specs.Words.app_of, tds_arguments.proofs.Found.{found, is_known, refused, without_memory}}
 use Rattle.tds_arguments.proofs.parsing.parse.Goals as goal
 
 pub returns-in_err-program-clause-answers : goal.returns-in_err-program-clause-answers

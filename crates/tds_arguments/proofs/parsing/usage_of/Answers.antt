@@ -1,5 +1,4 @@
 use Rattle.std.proofs.Common.{rules}
-use Rattle.tds_arguments.proofs.parsing.usage_of.Goals as goal
 
-pub returns-in_default-kind : goal.returns-in_default-kind
+pub returns-in_default-kind : Rattle.tds_arguments.proofs.parsing.usage_of.Goals.returns-in_default-kind
 returns-in_default-kind c = search rules

@@ -1,7 +1,4 @@
-use Rattle.tds_columns.proofs.Words.{WholeDescription}
-use Rattle.tds_columns.proofs.ColumnLaws.{description_is_read}
-use Rattle.tds_columns.proofs.GatherMeaning.{described_means}
-use Rattle.tds_columns.proofs.laws.read_as_spelt.Goals as goal
+use Rattle.tds_columns.proofs.{Words.WholeDescription, ColumnLaws.description_is_read, GatherMeaning.described_means}
 
-pub returns : goal.returns
-returns c = λ room columns bytes are. (λ h. description_is_read room columns bytes h, λ k. (described_means room (WholeDescription bytes columns) bytes are k).1)
+pub returns : Rattle.tds_columns.proofs.laws.read_as_spelt.Goals.returns
+returns c = λ room columns bytes are. (description_is_read room columns bytes, λ k. (described_means room (WholeDescription bytes columns) bytes are k).1)

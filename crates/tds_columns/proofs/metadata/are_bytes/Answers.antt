@@ -1,10 +1,8 @@
-use Rattle.std.proofs.Common.{◌<◌, ℕ, suc, List, [], ◌∷◌, slice_index}
-use Rattle.tds_packet.specs.Elements.{AreBytes}
-use Rattle.tds_columns.proofs.metadata.are_bytes.Goals as goal
+use Rattle.{std.proofs.Common.{◌<◌, ℕ, suc, List, [], ◌∷◌, slice_index}, tds_packet.specs.Elements.AreBytes}
 
 each : (xs : List ℕ) → ((i : ℕ) → slice_index xs i < 256) → AreBytes xs
 each [] h = tt
 each (x ∷ xs) h = (h 0, each xs (λ i. h (suc i)))
 
-pub returns : goal.returns
+pub returns : Rattle.tds_columns.proofs.metadata.are_bytes.Goals.returns
 returns c = each c.args.bytes.now (λ i. (c.type_inv.bytes i).fits)

@@ -1,6 +1,4 @@
-use Rattle.tds_columns.proofs.Words.{◌∙◌, Space, ap, rules, passed}
-use Rattle.tds_columns.proofs.GatherSteps.{describes_both, stops_describing_after}
-use Rattle.tds_columns.proofs.GatherMeaning.{gather_stops, gathers}
+use Rattle.tds_columns.proofs.{Words.{◌∙◌, Space, ap, rules, passed}, GatherSteps.{describes_both, stops_describing_after}, GatherMeaning.{gather_stops, gathers}}
 use Rattle.tds_columns.proofs.metadata.gather.Goals as goal
 
 pub returns-in_default-clause-gives : goal.returns-in_default-clause-gives

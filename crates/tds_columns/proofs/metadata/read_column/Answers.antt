@@ -1,5 +1,4 @@
-use Rattle.tds_columns.proofs.GatherSteps.{part_after}
-use Rattle.tds_columns.proofs.Words.{passed}
+use Rattle.tds_columns.proofs.{GatherSteps.part_after, Words.passed}
 use Rattle.tds_columns.proofs.metadata.read_column.Goals as goal
 
 pub returns-in_err-read_type-clause-gives : goal.returns-in_err-read_type-clause-gives

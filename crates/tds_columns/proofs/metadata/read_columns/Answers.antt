@@ -1,6 +1,4 @@
-use Rattle.tds_columns.proofs.Words.{◌≡◌, ◌∙◌, [], ◌∷◌, ◌++◌, length, refl, arith, rules, le_refl, length-append, ◌==◌, nat_tests, choose_true, passed, reads_none}
-use Rattle.tds_columns.proofs.ColumnLaws.{at_column}
-use Rattle.tds_columns.proofs.GatherSteps.{describes_both, stops_describing_after}
+use Rattle.tds_columns.proofs.{Words.{◌≡◌, ◌∙◌, [], ◌∷◌, ◌++◌, length, refl, arith, rules, le_refl, length-append, ◌==◌, nat_tests, choose_true, passed, reads_none}, ColumnLaws.at_column, GatherSteps.{describes_both, stops_describing_after}}
 use Rattle.tds_columns.proofs.metadata.read_columns.Goals as goal
 
 pub columns-init : goal.columns-init

@@ -1,8 +1,6 @@
-use Rattle.tds_columns.proofs.Words.{◌≡◌, ◌-◌, ◌+◌, ◌*◌, ◌≤◌, List, [], length, IsOnSame, IsGoing, seen, Column, ColumnHead, InColumn, Describes}
-use Rattle.tds_columns.proofs.ColumnLaws.{after_columns}
-use Rattle.tds_columns.proofs.metadata.read_columns.Given as goal
+use Rattle.tds_columns.proofs.{Words.{◌≡◌, ◌-◌, ◌+◌, ◌*◌, ◌≤◌, List, [], length, IsOnSame, IsGoing, seen, Column, ColumnHead, InColumn, Describes}, ColumnLaws.after_columns}
 
-abbrev pub invariant-columns : goal.invariant-columns
+abbrev pub invariant-columns : Rattle.tds_columns.proofs.metadata.read_columns.Given.invariant-columns
 invariant-columns g l = record {
   going : IsGoing l.payload;
   same : IsOnSame l.initial.payload l.payload;

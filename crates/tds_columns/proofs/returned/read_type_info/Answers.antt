@@ -1,6 +1,4 @@
-use Rattle.tds_columns.proofs.Words.{◌≡◌, ◌∙◌, ◌∷◌, refl, sym, rules, arith, slice_index, None, kind_of, passed, refused_at_once, TypeHead, returned_type}
-use Rattle.tds_columns.proofs.ElementSteps.{shrunk, cut_into, element_at, refused_into}
-use Rattle.tds_columns.proofs.TypeSteps.{no_kind, stops_after_steps, type_whole}
+use Rattle.tds_columns.proofs.{Words.{◌≡◌, ◌∙◌, ◌∷◌, refl, sym, rules, arith, slice_index, None, kind_of, passed, refused_at_once, TypeHead, returned_type}, ElementSteps.{shrunk, cut_into, element_at, refused_into}, TypeSteps.{no_kind, stops_after_steps, type_whole}}
 use Rattle.tds_columns.proofs.returned.read_type_info.Goals as goal
 
 pub returns-in-Err-clause-gives : goal.returns-in-Err-clause-gives
@@ -17,26 +15,26 @@ returns-in_err-take_into-clause-gives g c = λ before taken.
 pub returns-in-Some-clause-kind : goal.returns-in-Some-clause-kind
 returns-in-Some-clause-kind g c =
     let t = c.in_ok-take_into.ensures.gives in
-    let same = element_at t c.bytes-2.result.now 8 c.bytes-2.ensures.value (sym c.requires.head.eight) in
+    let same = element_at t c.bytes-2.ensures.value (sym c.requires.head.eight) in
     record { rest = t.element; info = rw (← same, ← c.bytes.ensures.value) (sym c.kind_of.ensures ∙ c.in-Some.is); takes = rw t.whole t.takes; place_is = rw t.whole c.in_ok-take_into.ensures.place }
 
 pub returns-in-Some-clause-gives : goal.returns-in-Some-clause-gives
 returns-in-Some-clause-gives g c = λ before taken.
     let t = c.in_ok-take_into.ensures.gives in
-    let same = element_at t c.bytes-2.result.now 8 c.bytes-2.ensures.value (sym c.requires.head.eight) in
+    let same = element_at t c.bytes-2.ensures.value (sym c.requires.head.eight) in
     type_whole c.args.small.now.bytes taken c.requires.head.eight c.in-Ok.rest (rw c.bytes.ensures.value at c.in-Ok.ensures.gives) t (rw (same, c.bytes.ensures.value) at (sym c.kind_of.ensures ∙ c.in-Some.is))
 
 pub returns-in-None-clause-area : goal.returns-in-None-clause-area
 returns-in-None-clause-area g c =
     let t = c.in_ok-take_into.ensures.gives in
-    let kept = shrunk _ t.element _ c.truncate.new.self 8 _ t.stands t.whole (sym c.requires.head.eight) c.truncate.ensures in
+    let kept = shrunk _ t.element t.stands t.whole (sym c.requires.head.eight) c.truncate.ensures in
     record { room = search rules; bound = omega (arith, kept.1, c.requires.head.eight, c.in-Ok.ensures.bound); kept = kept.0 }
 
 pub returns-in-None-clause-gives : goal.returns-in-None-clause-gives
 returns-in-None-clause-gives g c = λ before taken.
     let t = c.in_ok-take_into.ensures.gives in
     let known = rw c.bytes.ensures.value at c.in-Ok.ensures.gives in
-    let same = element_at t c.bytes-2.result.now 8 c.bytes-2.ensures.value (sym c.requires.head.eight) in
+    let same = element_at t c.bytes-2.ensures.value (sym c.requires.head.eight) in
     let none : kind_of (slice_index c.args.small.now.bytes 7 ∷ t.element) ≡ None = rw (same, c.bytes.ensures.value) at (sym c.kind_of.ensures ∙ c.in-None.is) in
     let some = no_kind (slice_index c.args.small.now.bytes 7) t.element known t.whole none in
     rw (c.in_payload-in-None.ensures, c.place-place.ensures) (stops_after_steps c.args.small.now.bytes taken c.requires.head.eight c.in-Ok.rest known some c.requires.head.place (refused_into t (omega (arith, some)) (rw known) (rw none)))

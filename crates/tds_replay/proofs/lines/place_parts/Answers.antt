@@ -1,5 +1,4 @@
 use Rattle.std.proofs.Common.{rules}
-use Rattle.tds_replay.proofs.lines.place_parts.Goals as goal
 
-pub returns-in-Wire-clause-unit : goal.returns-in-Wire-clause-unit
+pub returns-in-Wire-clause-unit : Rattle.tds_replay.proofs.lines.place_parts.Goals.returns-in-Wire-clause-unit
 returns-in-Wire-clause-unit c = search rules

@@ -1,7 +1,4 @@
-use Rattle.std.proofs.Common.{ap, rules, SFits, w32}
-use Rattle.std.proofs.lemmas.Int.{to_z-of_z}
-use Rattle.tds_replay.specs.Lines.{error_line}
-use Rattle.tds_replay.proofs.Sayings.{nothing_said}
+use Rattle.{std.proofs.{Common.{ap, rules, SFits, w32}, lemmas.Int.to_z-of_z}, tds_replay.{specs.Lines.error_line, proofs.Sayings.nothing_said}}
 use Rattle.tds_replay.proofs.lines.say_error.Goals as goal
 
 pub returns-in_default : goal.returns-in_default

@@ -1,5 +1,4 @@
-use Rattle.std.proofs.Common.{sym}
-use Rattle.tds_replay.proofs.Sayings.{nothing_said, no_values, says_as, some_values}
+use Rattle.{std.proofs.Common.sym, tds_replay.proofs.Sayings.{nothing_said, no_values, says_as, some_values}}
 use Rattle.tds_replay.proofs.lines.say_values.Goals as goal
 
 pub returns-then-values-eq0 : goal.returns-then-values-eq0

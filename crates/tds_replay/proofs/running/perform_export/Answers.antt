@@ -1,7 +1,6 @@
 use Rattle.std.proofs.Common.{inl}
-use Rattle.tds_replay.proofs.running.perform_export.Goals as goal
 
-pub returns-clause-performs : goal.returns-clause-performs
+pub returns-clause-performs : Rattle.tds_replay.proofs.running.perform_export.Goals.returns-clause-performs
 returns-clause-performs g c = inl (record {
   areas = c.in-Ok.areas;
   areas' = c.run_export.new.areas;

@@ -1,5 +1,4 @@
-use Rattle.std.proofs.Common.{arith, rules}
-use Rattle.std.proofs.lemmas.Bool.Decides.{nat_tests}
+use Rattle.std.proofs.{Common.{arith, rules}, lemmas.Bool.Decides.nat_tests}
 use Rattle.tds_replay.proofs.running.run_export.Goals as goal
 
 pub say_answer-requires : goal.say_answer-requires
@@ -7,12 +6,7 @@ say_answer-requires g c = grind (arith, nat_tests, c.error_text.ensures.value, c
 
 pub returns : goal.returns
 returns g c = record {
-  kept = record {
-    intact = c.export-answer.ensures.intact;
-    limits_are = c.export-answer.ensures.limits;
-    restarts = c.export-answer.ensures.restarts;
-    bound = c.export-answer.ensures.bound;
-  };
+  kept = search;
   answer = c.export-answer.result;
   exports = c.export-answer.ensures.exports;
   status_is = c.status_of.ensures;

@@ -1,6 +1,4 @@
-use Rattle.tds_values.proofs.Words.{◌≡◌, ℕ, zero, suc, refl, ◌+◌, ◌-◌, ◌*◌, ◌/◌, ◌^◌, List, ◌++◌, take, length, arith, pow-succ', pow-add, take-append-add, take-take, length-take-le, bytes_low_first, last_digits}
-use Rattle.tds_values.proofs.WordLemmas.{bytes_of, shifted_digits, take-bytes_of, whole_word, word_of}
-use Rattle.tds_values.proofs.digits.put_after.Goals as goal
+use Rattle.tds_values.proofs.{Words.{◌≡◌, ℕ, zero, suc, refl, ◌+◌, ◌-◌, ◌*◌, ◌/◌, ◌^◌, List, ◌++◌, take, length, arith, pow-succ', pow-add, take-append-add, take-take, length-take-le, bytes_low_first, last_digits}, WordLemmas.{bytes_of, shifted_digits, take-bytes_of, whole_word, word_of}}
 
 eighth_power : (k : ℕ) → 2 ^ (8 * k) ≡ 256 ^ k
 eighth_power zero = refl
@@ -14,6 +12,6 @@ after xs new at j k m n long em e =
     let f = rw (whole_word, eighth_power) at e in
     cc (take-take (at + k) (at + m) new (omega arith), take-append-add xs (bytes_of m w) k, take-bytes_of j k w, shifted_digits j k n)
 
-pub returns-clause-written : goal.returns-clause-written
+pub returns-clause-written : Rattle.tds_values.proofs.digits.put_after.Goals.returns-clause-written
 returns-clause-written c =
     grind (arith, (after (take c.args.at c.args.to.now) c.put_word.new.to c.args.at c.args.skipped (8 - c.args.skipped) 8 c.args.n), length-take-le)

@@ -1,5 +1,4 @@
 use Rattle.tds_values.proofs.Words.{arith}
-use Rattle.tds_values.proofs.digits.put_tail.Goals as goal
 
-pub returns-clause-written : goal.returns-clause-written
+pub returns-clause-written : Rattle.tds_values.proofs.digits.put_tail.Goals.returns-clause-written
 returns-clause-written c = grind arith

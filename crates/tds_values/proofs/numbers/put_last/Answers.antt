@@ -1,5 +1,4 @@
-use Rattle.tds_values.proofs.Words.{◌-◌, ◌/◌, arith, append_assoc}
-use Rattle.tds_values.proofs.DigitLemmas.{last_digits-below, last_digits_after}
+use Rattle.tds_values.proofs.{Words.{◌-◌, ◌/◌, arith, append_assoc}, DigitLemmas.{last_digits-below, last_digits_after}}
 use Rattle.tds_values.proofs.numbers.put_last.Goals as goal
 
 pub returns-then-k-le8-clause-written : goal.returns-then-k-le8-clause-written

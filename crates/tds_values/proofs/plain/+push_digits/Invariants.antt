@@ -1,4 +1,2 @@
-use Rattle.tds_values.proofs.plain.+push_digits.Given as goal
-
-abbrev pub decreases-push_digits : goal.decreases-push_digits
+abbrev pub decreases-push_digits : Rattle.tds_values.proofs.plain.+push_digits.Given.decreases-push_digits
 decreases-push_digits l = l.k

@@ -1,5 +1,4 @@
-use Rattle.tds_values.proofs.Words.{arith, common_steps, to_z-of_z}
-use Rattle.tds_values.proofs.{LocalLemmas.local_by_seconds, WrittenLemmas.local_spelt}
+use Rattle.tds_values.proofs.{Words.{arith, common_steps, to_z-of_z}, LocalLemmas.local_by_seconds, WrittenLemmas.local_spelt}
 use Rattle.tds_values.proofs.plain.push_date_time_offset.Goals as goal
 
 pub unreachable-requires : goal.unreachable-requires

@@ -1,5 +1,4 @@
-use Rattle.tds_values.proofs.Words.{arith, one-le-pow, pow-le-pow_right}
-use Rattle.tds_values.proofs.TextLengths.{length-whole}
+use Rattle.tds_values.proofs.{Words.{arith, one-le-pow, pow-le-pow_right}, TextLengths.length-whole}
 use Rattle.tds_values.proofs.plain.push_whole.Goals as goal
 
 pub pow-requires : goal.pow-requires

@@ -1,5 +1,4 @@
-use Rattle.tds_values.proofs.Words.{length, ap, arith, common_steps}
-use Rattle.tds_values.proofs.{TextLengths.length-whole, TextLengths.length-last_digits, WideDigits.fraction_part, WideDigits.whole_part}
+use Rattle.tds_values.proofs.{Words.{length, ap, arith, common_steps}, TextLengths.{length-whole, length-last_digits}, WideDigits.{fraction_part, whole_part}}
 use Rattle.tds_values.proofs.wide.put_wide_decimal.Goals as goal
 
 pub returns-then-scale-eq0-clause-written : goal.returns-then-scale-eq0-clause-written

@@ -1,6 +1,4 @@
-use Rattle.tds_values.proofs.Words.{◌≡◌, ◌+◌, ◌-◌, ◌≤◌, take, drop}
-use Rattle.std.specs.List.{prefix_len}
-use Rattle.tds_values.specs.ScalarText.{is_zero}
+use Rattle.{tds_values.{proofs.Words.{◌≡◌, ◌+◌, ◌-◌, ◌≤◌, take, drop}, specs.ScalarText.is_zero}, std.specs.List.prefix_len}
 use Rattle.tds_values.proofs.wide.zeros.Given as goal
 
 -- so many are zeros

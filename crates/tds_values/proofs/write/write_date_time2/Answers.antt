@@ -1,5 +1,4 @@
-use Rattle.tds_values.proofs.Words.{arith}
-use Rattle.tds_values.proofs.WrittenLemmas.{time_by_seconds}
+use Rattle.tds_values.proofs.{Words.arith, WrittenLemmas.time_by_seconds}
 use Rattle.tds_values.proofs.write.write_date_time2.Goals as goal
 
 pub returns-then-seconds-ge-SECONDS_A_DAY : goal.returns-then-seconds-ge-SECONDS_A_DAY

@@ -1,5 +1,4 @@
 use Rattle.tds_values.proofs.Words.{rules}
-use Rattle.tds_values.proofs.write.write_int4.Goals as goal
 
-pub returns-clause-text : goal.returns-clause-text
+pub returns-clause-text : Rattle.tds_values.proofs.write.write_int4.Goals.returns-clause-text
 returns-clause-text c = search rules

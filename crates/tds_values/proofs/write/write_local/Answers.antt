@@ -1,5 +1,4 @@
-use Rattle.tds_values.proofs.Words.{arith}
-use Rattle.tds_values.proofs.{LocalLemmas.local_by_seconds, WrittenLemmas.local_spelt, WrittenLemmas.time_by_seconds}
+use Rattle.tds_values.proofs.{Words.arith, LocalLemmas.local_by_seconds, WrittenLemmas.{local_spelt, time_by_seconds}}
 use Rattle.tds_values.proofs.write.write_local.Goals as goal
 
 pub returns-in_default : goal.returns-in_default

@@ -1,5 +1,4 @@
 use Rattle.std.proofs.Common.{rules}
-use Rattle.tds_arguments.proofs.parsing.Given.check_job.Goals as goal
 
-pub returns-clause-job : goal.returns-clause-job
+pub returns-clause-job : Rattle.tds_arguments.proofs.parsing.Given.check_job.Goals.returns-clause-job
 returns-clause-job c = search rules

@@ -1,6 +1,4 @@
-use Rattle.std.proofs.Common.{◌∙◌, ℕ, List, Some, ap, codes}
-use Rattle.clap.specs.Words.{found_of}
-use Rattle.clap.proofs.WalkLemmas.{first_value-rows}
+use Rattle.{std.proofs.Common.{◌∙◌, ℕ, List, Some, ap, codes}, clap.{specs.Words.found_of, proofs.WalkLemmas.first_value-rows}}
 use Rattle.tds_arguments.proofs.parsing.Given.file.Goals as goal
 
 pub returns-in_ok-from_str-in-Some : goal.returns-in_ok-from_str-in-Some

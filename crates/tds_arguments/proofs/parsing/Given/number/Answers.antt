@@ -1,33 +1,25 @@
-use Rattle.std.proofs.Common.{◌≡◌, ◌≢◌, ◌∙◌, ◌==◌, ℕ, List, Option, true, false, subst, arith, inl, inr, slice_index}
-use Rattle.std.proofs.lemmas.Bool.Decides.{nat_tests}
-use Rattle.clap.specs.Words.{found_of}
-use Rattle.clap.proofs.WalkLemmas.{first_value-rows}
-use Rattle.tds_arguments.specs.Jobs.{IsReadAs, IsUnread}
+use Rattle.{std.proofs.{Common.{◌≡◌, ◌≢◌, ◌==◌, true, false, arith, inl, inr, slice_index}, lemmas.Bool.Decides.nat_tests}, clap.{proofs.WalkLemmas.first_value-rows}}
 use Rattle.tds_arguments.proofs.parsing.Given.number.Goals as goal
 
 pub returns-in_default-clause-err : goal.returns-in_default-clause-err
 returns-in_default-clause-err g c =
-    let value = c.in_default.ensures ∙ first_value-rows (found_of c.args.self.now.matches.now) c.args.option.now in
-    subst (λ (o : Option (List ℕ)). IsUnread g.T.FromStr.from_str_gives o) value tt
+    rw (← first_value-rows, ← c.in_default.ensures) tt
 
 pub returns-then-starts_with-clause-err : goal.returns-then-starts_with-clause-err
 returns-then-starts_with-clause-err g c =
     let text = c.in-Some.text.now in
-    let value = c.in-Some.ensures ∙ first_value-rows (found_of c.args.self.now.matches.now) c.args.option.now in
     let byte : true ≡ (slice_index text 0 == 43) = c.if-starts_with.ensures.byte (omega arith) (omega arith) (λ w o h. h) in
     let plus : slice_index text 0 ≡ 43 = grind (arith, nat_tests, byte) in
-    subst (λ (o : Option (List ℕ)). IsUnread g.T.FromStr.from_str_gives o) value (inl plus)
+    rw (← first_value-rows, ← c.in-Some.ensures) (inl plus)
 
 pub returns-in-Ok-clause-ok : goal.returns-in-Ok-clause-ok
 returns-in-Ok-clause-ok g c =
     let text = c.in-Some.text.now in
-    let value = c.in-Some.ensures ∙ first_value-rows (found_of c.args.self.now.matches.now) c.args.option.now in
     let byte : false ≡ (slice_index text 0 == 43) = c.if-starts_with.ensures.byte (omega arith) (omega arith) (λ w o h. h) in
     let plus : slice_index text 0 ≢ 43 = grind (arith, nat_tests, byte) in
-    subst (λ (o : Option (List ℕ)). IsReadAs g.T.FromStr.from_str_gives o c.in-Ok.number) value (plus, c.in-Ok.ensures.value)
+    rw (← first_value-rows, ← c.in-Some.ensures) (plus, c.in-Ok.ensures.value)
 
 pub returns-clause-err : goal.returns-clause-err
 returns-clause-err g c =
     let text = c.in-Some.text.now in
-    let value = c.in-Some.ensures ∙ first_value-rows (found_of c.args.self.now.matches.now) c.args.option.now in
-    subst (λ (o : Option (List ℕ)). IsUnread g.T.FromStr.from_str_gives o) value (inr (c.in-Err.field-0, c.in-Err.ensures.value))
+    rw (← first_value-rows, ← c.in-Some.ensures) (inr (c.in-Err.field-0, c.in-Err.ensures.value))

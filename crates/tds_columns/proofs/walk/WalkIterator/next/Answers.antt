@@ -1,5 +1,4 @@
-use Rattle.tds_columns.proofs.Words.{◌≡◌, ◌≢◌, ◌-◌, ℕ, List, true, drop, arith, and_parts, are_columns, column_size}
-use Rattle.tds_columns.proofs.ViewLaws.{all_after, length_columns}
+use Rattle.tds_columns.proofs.{Words.{◌≡◌, ◌≢◌, ◌-◌, ℕ, List, true, drop, arith, and_parts, are_columns, column_size}, ViewLaws.{all_after, length_columns}}
 use Rattle.tds_columns.proofs.walk.WalkIterator.next.Goals as goal
 
 -- the columns after the first

@@ -1,5 +1,4 @@
 use Rattle.std.proofs.Common.{rules}
-use Rattle.tds_meter.proofs.area.Area.append.Goals as goal
 
-pub returns-then-piece-free-clause-full : goal.returns-then-piece-free-clause-full
+pub returns-then-piece-free-clause-full : Rattle.tds_meter.proofs.area.Area.append.Goals.returns-then-piece-free-clause-full
 returns-then-piece-free-clause-full c = search rules

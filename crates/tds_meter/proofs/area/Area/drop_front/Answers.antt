@@ -1,10 +1,7 @@
-use Rattle.std.proofs.Common.{◌≤◌, length, ap, arith, vec_len, length-take-le}
-use Rattle.tds_meter.specs.Space.{Space}
-use Rattle.tds_meter.proofs.Shifting.{front-dropped}
-use Rattle.tds_meter.proofs.area.Area.drop_front.Goals as goal
+use Rattle.{std.proofs.Common.{◌≤◌, length, ap, arith, vec_len, length-take-le}, tds_meter.{specs.Space.Space, proofs.Shifting.front-dropped}}
 
 -- the bytes after the first n stand at the front of the store
-pub returns : goal.returns
+pub returns : Rattle.tds_meter.proofs.area.Area.drop_front.Goals.returns
 returns c =
     let n = c.args.n in
     let len = c.self.inside.len in

@@ -1,5 +1,4 @@
 use Rattle.std.proofs.Common.{rules}
-use Rattle.tds_meter.proofs.area.Area.extend.Goals as goal
 
-pub returns-then-n-free-clause-full : goal.returns-then-n-free-clause-full
+pub returns-then-n-free-clause-full : Rattle.tds_meter.proofs.area.Area.extend.Goals.returns-then-n-free-clause-full
 returns-then-n-free-clause-full c = search rules

@@ -1,5 +1,4 @@
 use Rattle.std.proofs.Common.{rules}
-use Rattle.tds_meter.proofs.area.Area.is_empty.Goals as goal
 
-pub returns : goal.returns
+pub returns : Rattle.tds_meter.proofs.area.Area.is_empty.Goals.returns
 returns c = search rules

@@ -1,5 +1,4 @@
 use Rattle.std.proofs.Common.{rules}
-use Rattle.tds_meter.proofs.area.Area.new.Goals as goal
 
-pub returns-in-Ok : goal.returns-in-Ok
+pub returns-in-Ok : Rattle.tds_meter.proofs.area.Area.new.Goals.returns-in-Ok
 returns-in-Ok c = search rules

@@ -1,5 +1,4 @@
 use Rattle.std.proofs.Common.{rules}
-use Rattle.tds_meter.proofs.area.Area.peak.Goals as goal
 
-pub returns-clause-value : goal.returns-clause-value
+pub returns-clause-value : Rattle.tds_meter.proofs.area.Area.peak.Goals.returns-clause-value
 returns-clause-value c = search rules

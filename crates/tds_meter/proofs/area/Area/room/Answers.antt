@@ -1,5 +1,2 @@
-use Rattle.std.proofs.Common.{rules}
-use Rattle.tds_meter.proofs.area.Area.room.Goals as goal
-
-pub returns : goal.returns
-returns c = search rules
+pub returns : Rattle.tds_meter.proofs.area.Area.room.Goals.returns
+returns c = search

@@ -1,5 +1,4 @@
 use Rattle.std.proofs.Common.{rules}
-use Rattle.tds_meter.proofs.areas.Areas.held.Goals as goal
 
-pub returns : goal.returns
+pub returns : Rattle.tds_meter.proofs.areas.Areas.held.Goals.returns
 returns c = search rules

@@ -1,5 +1,4 @@
 use Rattle.std.proofs.Common.{rules}
-use Rattle.tds_meter.proofs.areas.Areas.new.Goals as goal
 
-pub returns-clause-intact : goal.returns-clause-intact
+pub returns-clause-intact : Rattle.tds_meter.proofs.areas.Areas.new.Goals.returns-clause-intact
 returns-clause-intact c = search rules

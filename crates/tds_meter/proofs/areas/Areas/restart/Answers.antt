@@ -1,8 +1,7 @@
-use Rattle.std.proofs.Common.{rules}
 use Rattle.tds_meter.proofs.areas.Areas.restart.Goals as goal
 
 pub returns-clause-emptied : goal.returns-clause-emptied
-returns-clause-emptied c = search rules
+returns-clause-emptied c = search
 
 pub returns-clause-restarts : goal.returns-clause-restarts
-returns-clause-restarts c = search rules
+returns-clause-restarts c = search

@@ -1,5 +1,2 @@
-use Rattle.std.proofs.Common.{rules}
-use Rattle.tds_meter.proofs.areas.Areas.waiting.Goals as goal
-
-pub returns : goal.returns
-returns c = search rules
+pub returns : Rattle.tds_meter.proofs.areas.Areas.waiting.Goals.returns
+returns c = search

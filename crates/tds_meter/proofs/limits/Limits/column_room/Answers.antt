@@ -1,5 +1,2 @@
-use Rattle.std.proofs.Common.{refl}
-use Rattle.tds_meter.proofs.limits.Limits.column_room.Goals as goal
-
-pub returns : goal.returns
-returns c = refl
+pub returns : Rattle.tds_meter.proofs.limits.Limits.column_room.Goals.returns
+returns c = search

@@ -1,5 +1,4 @@
 use Rattle.tds_values.proofs.Words.{rules}
-use Rattle.tds_values.proofs.kind.Kind.is_scalar.Goals as goal
 
-pub returns : goal.returns
+pub returns : Rattle.tds_values.proofs.kind.Kind.is_scalar.Goals.returns
 returns c = search rules
