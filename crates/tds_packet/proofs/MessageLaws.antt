@@ -1,6 +1,5 @@
 -- An input begins with one message at most.
-use Rattle.tds_packet.proofs.Words.{◌≡◌, ℕ, ◌≤◌, List, [], ◌∷◌, ◌++◌, length, append-nil, arith, length-append, flat_map-append, Spelt, Packet, wire_of, AreMessage, Message, AfterLast, WirePart, no_wire, wire}
-use Rattle.tds_packet.proofs.{Feeding.Reading, Feeding.feed_all, ElementLaws.feed-Spelt, ElementLaws.feed_all-append, ElementLaws.feed_part, PacketLaws.before_packet, PacketLaws.one_is_read, PacketLaws.packet_is_read}
+use Rattle.tds_packet.proofs.{Words.{◌≡◌, ℕ, ◌≤◌, List, [], ◌∷◌, ◌++◌, length, append-nil, arith, length-append, flat_map-append, Spelt, Packet, wire_of, AreMessage, Message, AfterLast, WirePart, no_wire, wire}, Feeding.{Reading, feed_all}, ElementLaws.{feed-Spelt, feed_all-append, feed_part}, PacketLaws.{before_packet, one_is_read, packet_is_read}}
 
 module _ (size limit : ℕ) where
   abbrev pub after_packets : List Packet → WirePart

@@ -1,6 +1,5 @@
 -- What the wire's grammar reads are the packets that the input begins with.
-use Rattle.tds_packet.proofs.Words.{wire_add, ◌≡◌, ℕ, ◌+◌, ◌-◌, ◌/◌, ◌%◌, ◌≤◌, true, false, List, [], ◌∷◌, ◌++◌, length, take, drop, refl, sym, ◌∙◌, ap, inl, inr, append_assoc, append-nil, arith, length-append, ◌⊎◌, take-append-drop, length-take-le, take-append_seam, None, ◌==◌, slice_index, if◌then◌else◌, nat_tests, flat_map-append, AreBytes, Spelt, IsNext, Longest, Packet, packet_length, packet_bytes, wire_of, is_last, IsPacket, AreBefore, AreMessage, IsNextPacket, Front, WirePlace, BeforeHeader, BeforeBody, AfterLast, WirePart, no_wire, header_length, packet_of, with_packet, header_fault, wire}
-use Rattle.tds_packet.proofs.{ElementLaws.Spelt-step, ElementLaws.Spelt-append, ElementLaws.Spelt-none, ElementLaws.Spelt-induct, ElementLaws.AreBytes-front, ElementLaws.AreBytes-back, ElementLaws.one_state, Choices.choose, Choices.eq_true}
+use Rattle.tds_packet.proofs.{Words.{wire_add, ◌≡◌, ℕ, ◌+◌, ◌-◌, ◌/◌, ◌%◌, ◌≤◌, true, false, List, [], ◌∷◌, ◌++◌, length, take, drop, refl, sym, ◌∙◌, ap, inl, inr, append_assoc, append-nil, arith, length-append, ◌⊎◌, take-append-drop, length-take-le, take-append_seam, None, ◌==◌, slice_index, if◌then◌else◌, nat_tests, flat_map-append, AreBytes, Spelt, IsNext, Longest, Packet, packet_length, packet_bytes, wire_of, is_last, IsPacket, AreBefore, AreMessage, IsNextPacket, Front, WirePlace, BeforeHeader, BeforeBody, AfterLast, WirePart, no_wire, header_length, packet_of, with_packet, header_fault, wire}, ElementLaws.{Spelt-step, Spelt-append, Spelt-none, Spelt-induct, AreBytes-front, AreBytes-back, one_state}, Choices.{choose, eq_true}}
 
 pub one_more : (size : ℕ) (ps : List Packet) (p : Packet) → AreBefore size ps → IsPacket size p → is_last p ≡ false → AreBefore size (ps ++ p ∷ [])
 one_more size [] p h i l = (i, l, tt)

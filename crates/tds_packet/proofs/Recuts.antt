@@ -1,6 +1,5 @@
 -- A payload on its way into packets of one size.
-use Rattle.tds_packet.proofs.Words.{PayloadOf, ◌≡◌, ◌∙◌, inl, inr, ℕ, zero, suc, ◌+◌, ◌-◌, ◌*◌, ◌<◌, ◌≤◌, Bool, true, false, List, [], ◌∷◌, ◌++◌, length, drop, Option, None, refl, ap, arith, append-nil, length-append, length-drop, take_all, le_refl, add-one, div-mul-add, flat_map-append, Appends-nil, Appends-trans, Appends-kept, drop-append_seam, suc-mul, Result, Ok, Err, IsTrue, ◌^◌, Keeps, take-append-le, drop-append-le, one_more, Counted, Recut, RecutStop, MessageEnded, Stop, Written, coming_of, Packet, packet_bytes, wire_of, buffered, seen, Cuts, Flushes, Gains, StopsInput, StopsOutput, WritesPacket, Gathers, cut_packet, first_packets, before_last, packets_before, Ends, IsBetween, IsNotOver, IsOver, Seen, Takes}
-use Rattle.tds_packet.proofs.{PayloadLaws.ends_there, Futures.Ends-after, Futures.Takes-more, Futures.Takes-none, Futures.Takes-trans}
+use Rattle.tds_packet.proofs.{Words.{PayloadOf, ◌≡◌, ◌∙◌, inl, inr, ℕ, zero, suc, ◌+◌, ◌-◌, ◌*◌, ◌<◌, ◌≤◌, Bool, true, false, List, [], ◌∷◌, ◌++◌, length, drop, Option, None, refl, ap, arith, append-nil, length-append, length-drop, take_all, le_refl, add-one, div-mul-add, flat_map-append, Appends-nil, Appends-trans, Appends-kept, drop-append_seam, suc-mul, Result, Ok, Err, IsTrue, ◌^◌, Keeps, take-append-le, drop-append-le, one_more, Counted, Recut, RecutStop, MessageEnded, Stop, Written, coming_of, Packet, packet_bytes, wire_of, buffered, seen, Cuts, Flushes, Gains, StopsInput, StopsOutput, WritesPacket, Gathers, cut_packet, first_packets, before_last, packets_before, Ends, IsBetween, IsNotOver, IsOver, Seen, Takes}, PayloadLaws.ends_there, Futures.{Ends-after, Takes-more, Takes-none, Takes-trans}}
 
 -- what was gathered, and bytes after it
 pub joined : (a b c : Seen) (hs bs : List ℕ) (n : ℕ) → n ≤ length bs + 1 → Takes a b hs (length hs + 1) → Takes b c bs n → Takes a c (hs ++ bs) (length (hs ++ bs) + 1)
