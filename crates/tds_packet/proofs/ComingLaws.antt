@@ -32,7 +32,7 @@ module _ (size limit n : ℕ) (packets : List Packet) (each : AreBefore size pac
   whole_gives p wired more last count comes are fits long limited less is =
       let joined : wire_of (packets ++ p ∷ []) ≡ wire_of packets ++ wired = simp (flat_map-append, append-nil, fits.0) in
       let bodies : payload_of (packets ++ p ∷ []) ≡ payload_of packets ++ p.body = simp (flat_map-append, append-nil) in
-      elim last as (λ t. is_last p ≡ t → Gives size limit packets n _ (WholePacket p.body t count more)) [
+      elim last as (λ t. is_last p ≡ t → Gives _ _ _ n _ (WholePacket p.body t count more)) [
         | true ↦ λ e. (let all = last_one size packets p each fits.1 e in grind (arith, append-nil, append_assoc, length-append))
         | false ↦ λ e. simp (joined, bodies, length-append, append_assoc, long) at (comes (packets ++ p ∷ []) more (rw (joined, append_assoc) are) (one_more size packets p each fits.1 e) (rw (joined, length-append, long) limited) less)
       ] is
@@ -79,4 +79,4 @@ comes_front size limit (suc n) packets rest are each within less = elim (dec_le 
 
 -- What comes of an input is the message at its front.
 pub front_message : (size limit : ℕ) (input : List ℕ) → AreBytes input → IsFrontMessage size limit input (whole_message size limit input)
-front_message size limit input are = comes_front size limit (suc (length input)) [] input are tt (omega arith) (omega arith)
+front_message size limit input are = comes_front _ _ _ [] input are tt (omega arith) (omega arith)

@@ -23,7 +23,7 @@ pub takes_begins : (size limit f : ℕ) (input rest : List ℕ) (q : Seen) (byte
     → BeginsMessage size limit input rest (bytes ++ (q.future []).bytes)
 takes_begins size limit f input rest q bytes n are left t b =
     let split = rw left at t.1.0 in
-    rw split (all_packets size limit t.0 rest (bytes ++ (q.future []).bytes) q.wire _ (rw (rw append-nil at (t.1.1 [])) at (front_message size limit t.0 (AreBytes-front t.0 rest (rw split at are)))) refl b.0 b.1 (omega arith))
+    rw split (all_packets _ _ _ _ _ _ _ (rw (rw append-nil at (t.1.1 [])) at (front_message size limit t.0 (AreBytes-front t.0 rest (rw split at are)))) refl b.0 b.1 (omega arith))
 
 -- a read failed after these packets, all that what was read has whole, and the header after them wasn't refused
 pub record FailsAfterPackets (size limit : ℕ) (input rest : List ℕ) (packets : List Packet) : Type 0 where
