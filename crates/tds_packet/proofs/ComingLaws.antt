@@ -1,6 +1,5 @@
 -- What comes of an input is the payload of the packets at its front.
-use Rattle.tds_packet.proofs.Words.{dec_le, flat_map-append, ◌≡◌, ◌⊎◌, ℕ, zero, suc, ◌+◌, ◌-◌, ◌<◌, ◌≤◌, Bool, true, false, List, [], ◌∷◌, ◌++◌, length, take, drop, refl, inl, inr, append_assoc, append-nil, arith, length-append, length-drop, take-append_seam, take-append-drop, length-take-le, drop-append_seam, Option, Some, None, ◌==◌, nat_lt, Fault, Wire, AreBytes, IsRefused, Longest, Spelt, Packet, packet_bytes, wire_of, payload_of, is_last, IsPacket, WirePlace, BeforeBody, WirePart, no_wire, header_length, packet_of, header_fault, wire, wire_size, wire_end, AreBefore, Coming, FrontPacket, before, WholePacket, packet_after_header, front_packet, after_packet, message, whole_message, IsFrontMessage}
-use Rattle.tds_packet.proofs.{ElementLaws.AreBytes-back, ElementLaws.AreBytes-front, ElementLaws.Spelt-append, ElementLaws.Spelt-step, ElementLaws.longest_cut, ElementLaws.longest_refused, PacketLaws.before_are_read, PacketLaws.free_is_good, PacketLaws.last_one, PacketLaws.one_more, PacketLaws.read_front}
+use Rattle.tds_packet.proofs.{Words.{dec_le, flat_map-append, ◌≡◌, ◌⊎◌, ℕ, zero, suc, ◌+◌, ◌-◌, ◌<◌, ◌≤◌, Bool, true, false, List, [], ◌∷◌, ◌++◌, length, take, drop, refl, inl, inr, append_assoc, append-nil, arith, length-append, length-drop, take-append_seam, take-append-drop, length-take-le, drop-append_seam, Option, Some, None, ◌==◌, nat_lt, Fault, Wire, AreBytes, IsRefused, Longest, Spelt, Packet, packet_bytes, wire_of, payload_of, is_last, IsPacket, WirePlace, BeforeBody, WirePart, no_wire, header_length, packet_of, header_fault, wire, wire_size, wire_end, AreBefore, Coming, FrontPacket, before, WholePacket, packet_after_header, front_packet, after_packet, message, whole_message, IsFrontMessage}, ElementLaws.{AreBytes-back, AreBytes-front, Spelt-append, Spelt-step, longest_cut, longest_refused}, PacketLaws.{before_are_read, free_is_good, last_one, one_more, read_front}}
 
 -- what comes after these packets, by the packet that follows them
 module _ (size limit : ℕ) (packets : List Packet) where
@@ -33,7 +32,7 @@ module _ (size limit n : ℕ) (packets : List Packet) (each : AreBefore size pac
   whole_gives p wired more last count comes are fits long limited less is =
       let joined : wire_of (packets ++ p ∷ []) ≡ wire_of packets ++ wired = simp (flat_map-append, append-nil, fits.0) in
       let bodies : payload_of (packets ++ p ∷ []) ≡ payload_of packets ++ p.body = simp (flat_map-append, append-nil) in
-      elim last as (λ t. is_last p ≡ t → Gives size limit packets n _ (WholePacket p.body t count more)) [
+      elim last as (λ t. is_last p ≡ t → Gives _ _ _ n _ (WholePacket p.body t count more)) [
         | true ↦ λ e. (let all = last_one size packets p each fits.1 e in grind (arith, append-nil, append_assoc, length-append))
         | false ↦ λ e. simp (joined, bodies, length-append, append_assoc, long) at (comes (packets ++ p ∷ []) more (rw (joined, append_assoc) are) (one_more size packets p each fits.1 e) (rw (joined, length-append, long) limited) less)
       ] is
@@ -80,4 +79,4 @@ comes_front size limit (suc n) packets rest are each within less = elim (dec_le 
 
 -- What comes of an input is the message at its front.
 pub front_message : (size limit : ℕ) (input : List ℕ) → AreBytes input → IsFrontMessage size limit input (whole_message size limit input)
-front_message size limit input are = comes_front size limit (suc (length input)) [] input are tt (omega arith) (omega arith)
+front_message size limit input are = comes_front _ _ _ [] input are tt (omega arith) (omega arith)

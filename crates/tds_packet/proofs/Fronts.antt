@@ -1,6 +1,5 @@
 -- The packets at the front of an input, and what is read of it.
-use Rattle.tds_packet.proofs.Words.{nil_from_length, common_steps, ◌≡◌, ◌∙◌, ◌⊎◌, inl, inr, ℕ, suc, zero, ◌+◌, ◌<◌, ◌≤◌, List, [], ◌∷◌, ◌++◌, length, take, Some, false, refl, sym, ap, arith, append-nil, append_assoc, length-append, take-append_seam, append_cancel_right, flat_map-append, one_more, Fault, InputEnded, MessageEnded, ReadFailed, Wire, Payload, Stop, AreBytes, Packet, packet_bytes, packet_length, is_last, header_length, wire_of, payload_of, AreBefore, AreMessage, IsPacket, WireFault, Coming, IsFrontMessage, Seen, Takes, Ends, IsBetween, IsOver, begun, WholePacket, after_packet, front_packet, message}
-use Rattle.tds_packet.proofs.{ElementLaws.AreBytes-front, PacketLaws.good_header, PacketLaws.header_of, ComingLaws.front_message, Joins.whole_packet}
+use Rattle.tds_packet.proofs.{Words.{nil_from_length, common_steps, ◌≡◌, ◌∙◌, ◌⊎◌, inl, inr, ℕ, suc, zero, ◌+◌, ◌<◌, ◌≤◌, List, [], ◌∷◌, ◌++◌, length, take, Some, false, refl, sym, ap, arith, append-nil, append_assoc, length-append, take-append_seam, append_cancel_right, flat_map-append, one_more, Fault, InputEnded, MessageEnded, ReadFailed, Wire, Payload, Stop, AreBytes, Packet, packet_bytes, packet_length, is_last, header_length, wire_of, payload_of, AreBefore, AreMessage, IsPacket, WireFault, Coming, IsFrontMessage, Seen, Takes, Ends, IsBetween, IsOver, begun, WholePacket, after_packet, front_packet, message}, ElementLaws.AreBytes-front, PacketLaws.{good_header, header_of}, ComingLaws.front_message, Joins.whole_packet}
 
 -- whole packets at the front of an input, with the rest of it after them; none but the last is marked as the last
 pub record BeginsMessage (size limit : ℕ) (input rest payload : List ℕ) : Type 0 where
@@ -24,7 +23,7 @@ pub takes_begins : (size limit f : ℕ) (input rest : List ℕ) (q : Seen) (byte
     → BeginsMessage size limit input rest (bytes ++ (q.future []).bytes)
 takes_begins size limit f input rest q bytes n are left t b =
     let split = rw left at t.1.0 in
-    rw split (all_packets size limit t.0 rest (bytes ++ (q.future []).bytes) q.wire _ (rw (rw append-nil at (t.1.1 [])) at (front_message size limit t.0 (AreBytes-front t.0 rest (rw split at are)))) refl b.0 b.1 (omega arith))
+    rw split (all_packets _ _ _ _ _ _ _ (rw (rw append-nil at (t.1.1 [])) at (front_message size limit t.0 (AreBytes-front t.0 rest (rw split at are)))) refl b.0 b.1 (omega arith))
 
 -- a read failed after these packets, all that what was read has whole, and the header after them wasn't refused
 pub record FailsAfterPackets (size limit : ℕ) (input rest : List ℕ) (packets : List Packet) : Type 0 where

@@ -1,6 +1,5 @@
 -- What is still to come, along a payload's steps.
-use Rattle.tds_packet.proofs.Words.{PayloadOf, dec_le, common_steps, ◌≡◌, inl, inr, ℕ, suc, zero, ◌+◌, ◌-◌, ◌<◌, ◌≤◌, List, [], ◌++◌, length, take, Option, Some, None, Ok, Err, Bool, true, false, refl, sym, arith, append_assoc, length-append, length-drop, add-zero, nat_tests, take-append-drop, drop-drop, Consumes-nil, Consumes-trans, take-append-add, take-append-le, Fault, MessageEnded, Wire, Payload, Stop, Header, FrontPacket, WholePacket, Coming, before, front_packet, after_packet, message, coming_of, ReadsPacket, Seen, Takes, Needs, Ends, IsOver, IsNotOver, NeedsPacket, buffered, further, seen, device, length-take-le, drop_of_length-le}
-use Rattle.tds_packet.proofs.Joins.{Rises-after, Stays-none, Stays-trans}
+use Rattle.tds_packet.proofs.{Words.{PayloadOf, dec_le, common_steps, ◌≡◌, inl, inr, ℕ, suc, zero, ◌+◌, ◌-◌, ◌<◌, ◌≤◌, List, [], ◌++◌, length, take, Option, Some, None, Ok, Err, Bool, true, false, refl, sym, arith, append_assoc, length-append, length-drop, add-zero, nat_tests, take-append-drop, drop-drop, Consumes-nil, Consumes-trans, take-append-add, take-append-le, Fault, MessageEnded, Wire, Payload, Stop, Header, FrontPacket, WholePacket, Coming, before, front_packet, after_packet, message, coming_of, ReadsPacket, Seen, Takes, Needs, Ends, IsOver, IsNotOver, NeedsPacket, buffered, further, seen, device, length-take-le, drop_of_length-le}, Joins.{Rises-after, Stays-none, Stays-trans}}
 
 rest_shorter : (room max wire : ℕ) (xs body rest : List ℕ) (last : Bool) (n : ℕ) → front_packet room max wire xs ≡ WholePacket body last n rest → length rest < length xs
 unfolding front_packet
@@ -41,7 +40,7 @@ pub Takes-none : (a : Seen) (n : ℕ) → Takes a a [] n
 Takes-none a n = grind (arith, common_steps, Consumes-nil, add-zero, Stays-none)
 
 pub Takes-more : (a b : Seen) (hs : List ℕ) (n m : ℕ) → n ≤ m → Takes a b hs n → Takes a b hs m
-Takes-more a b hs n m le p = (p.0, p.1, p.2, (λ j lt. omega (arith, p.3 j lt, le)), p.4)
+Takes-more a b hs n m le p = grind (arith, common_steps)
 
 needs_joined : (a b : Seen) (r s hs : List ℕ) (n m j : ℕ) → n ≤ length hs + m → Needs a r n → Needs b s m → ((zs : List ℕ) → a.future (r ++ zs) ≡ before hs (b.future zs)) → j < length (r ++ s) → length (a.future (take j (r ++ s))).bytes < length hs + m
 needs_joined a b r s hs n m j le p q f lt = elim (dec_le (length r) j) [
@@ -52,7 +51,7 @@ needs_joined a b r s hs n m j le p q f lt = elim (dec_le (length r) j) [
 pub Takes-trans : (a b c : Seen) (hs bs : List ℕ) (n m : ℕ) → n ≤ length hs + m → Takes a b hs n → Takes b c bs m → Takes a c (hs ++ bs) (length hs + m)
 Takes-trans a b c hs bs n m le p q =
     let follows : (zs : List ℕ) → a.future _ ≡ before (hs ++ bs) (c.future zs) = λ zs. rw (append_assoc, p.1.1, q.1.1, append_assoc) in
-    let needs = λ (j : ℕ) (lt : j < length _). needs_joined a b p.0 q.0 hs n m j le p.3 q.3 p.1.1 lt in
+    let needs = λ (j : ℕ) (lt : j < length _). needs_joined a b _ _ _ n m j le p.3 q.3 p.1.1 lt in
     (p.0 ++ q.0, (Consumes-trans a.left b.left c.left p.0 q.0 p.1.0 q.1.0, follows), omega (arith, length-append p.0 q.0), needs, Stays-trans _ _ _ p.0 q.0 p.4 q.4)
 
 pub Ends-after : (a b c : Seen) (hs bs : List ℕ) (n : ℕ) (e : Stop) → Takes a b hs n → Ends b c bs e → Ends a c (hs ++ bs) e

@@ -1,12 +1,11 @@
 -- The parts of a packet's read, joined.
-use Rattle.tds_packet.proofs.Words.{◌≡◌, ◌∙◌, ℕ, ◌+◌, ◌-◌, ◌^◌, ◌<◌, List, [], ◌++◌, length, take, drop, Option, Ok, Err, Bool, false, refl, arith, length-append, length-take, append_assoc, drop-append_seam, take-append_seam, take-append-add, nat_tests, nat_lt, if◌then◌else◌, Consumes, Consumes-trans, dec_le, Device, Stays, Fault, InputEnded, ReadFailed, Header, header_fault, WholePacket, NoPacket, front_packet, packet_after_header, Faulted, ReadsPacket, header_of}
-use Rattle.tds_packet.proofs.Choices.{choose_true, test_lt}
+use Rattle.tds_packet.proofs.{Words.{common_steps, ◌≡◌, ◌∙◌, ℕ, ◌+◌, ◌-◌, ◌^◌, ◌<◌, List, [], ◌++◌, length, take, drop, Option, Ok, Err, Bool, false, refl, arith, length-append, length-take, append_assoc, drop-append_seam, take-append_seam, take-append-add, nat_tests, nat_lt, if◌then◌else◌, Consumes, Consumes-trans, dec_le, Device, Stays, Fault, InputEnded, ReadFailed, Header, header_fault, WholePacket, NoPacket, front_packet, packet_after_header, Faulted, ReadsPacket, header_of}, Choices.{choose_true, test_lt}}
 
 pub Stays-none : (f : ℕ) → Stays f f []
 Stays-none f = (refl, λ lt. absurd (omega (arith, lt)))
 
 pub Stays-trans : (f g h : ℕ) (r s : List ℕ) → Stays f g r → Stays g h s → Stays f h (r ++ s)
-Stays-trans f g h r s p q = (q.0 ∙ p.0, grind (arith, length-append r s, p.0, p.1, q.1))
+Stays-trans f g h r s p q = grind (arith, common_steps, length-append)
 
 -- bytes moved before a call that failed, and in it
 pub Rises-after : (f g : ℕ) (r s : List ℕ) → Stays f g r → (0 < length s → g < 2 ^ 64 - 1) → 0 < length (r ++ s) → f < 2 ^ 64 - 1
@@ -41,7 +40,7 @@ module _ (size limit wire : ℕ) (hdr : List ℕ) (h : Header) (eight : length h
   cut : (body : List ℕ) (j : ℕ) → length body + 8 ≡ h.length → j < length (hdr ++ body) → front_packet size limit wire (take j (hdr ++ body)) ≡ NoPacket InputEnded []
   cut body j fits lt = elim (dec_le 8 j) [
     | yes many ↦ (let all : length hdr + (j - 8) ≡ j = omega arith in rw (← all, take-append-add) (ended_body _ (omega (arith, length-append hdr body, length-take (j - 8) body))))
-    | no few ↦ short_input size limit wire _ (omega (arith, length-take j (hdr ++ body)))
+    | no few ↦ short_input _ _ _ _ (omega (arith, length-take j (hdr ++ body)))
   ]
 
 -- A good header was read.

@@ -1,6 +1,5 @@
 -- What is read inside a greater grammar.
-use Rattle.tds_packet.proofs.Words.{◌≡◌, ◌∙◌, inl, inr, ℕ, ◌<◌, List, [], ◌∷◌, ◌++◌, length, sym, ap, arith, append_assoc, append-nil, concat, Fault, Stop, Grammar, IsNext, Leads, Spelt, Seen, Reads, StopsReading}
-use Rattle.tds_packet.proofs.ElementLaws.{Inside, Inside-Spelt, Spelt-append, Spelt-none, Spelt-one}
+use Rattle.tds_packet.proofs.{Words.{common_steps, ◌≡◌, ◌∙◌, inl, inr, ℕ, ◌<◌, List, [], ◌∷◌, ◌++◌, length, sym, ap, arith, append_assoc, append-nil, concat, Fault, Stop, Grammar, IsNext, Leads, Spelt, Seen, Reads, StopsReading}, ElementLaws.{Inside, Inside-Spelt, Spelt-append, Spelt-none, Spelt-one}}
 
 -- a state with a next element has some bytes to come
 pub next_some : {S : Type 0} (g : Grammar S Fault) (s : S) (element : List ℕ) → IsNext g s element → 0 < g.size s
@@ -9,7 +8,7 @@ next_some g s element n = omega (arith, n.some, n.whole)
 module _ {S T : Type 0} (small : Grammar S Fault) (big : Grammar T Fault) (lift : S → T) (is : Inside small big lift) where
   -- an element of the smaller grammar is one of the greater
   pub next_inside : (s : S) (element : List ℕ) → 0 < small.size s → IsNext small s element → IsNext big (lift s) element
-  next_inside s element some n = record { some = n.some; whole = n.whole ∙ sym (is.size s some); free = is.fault s element some ∙ n.free }
+  next_inside s element some n = grind (arith, common_steps)
 
   -- what is read by the smaller grammar is read by the greater
   abbrev pub reads_inside : (from : S) (a b : Seen) (to : S) → Reads small from a b to → Reads big (lift from) a b (lift to)
@@ -41,5 +40,5 @@ module _ {S T : Type 0} (small : Grammar S Fault) (big : Grammar T Fault) (lift 
   pub last_inside : (from : S) (bytes : List ℕ) (to : S) → Spelt small from bytes to → 0 < length bytes → LastInside from bytes to
   last_inside from bytes to spelt some = rw spelt.joined at (elim spelt.elements as (λ es. concat es ≡ bytes → Leads small from es to → LastInside from (concat es) to) [
     | [] ↦ λ e leads. absurd (omega (arith, ap length e))
-    | ◌∷◌ e (es → _) ↦ λ _ leads. last_of from from [] e es to (Spelt-none small from) leads
+    | ◌∷◌ e (es → _) ↦ λ _ leads. last_of _ _ _ e _ _ (Spelt-none small from) leads
   ] spelt.joined spelt.leads)

@@ -1,6 +1,5 @@
 -- What the wire's grammar reads are the packets that the input begins with.
-use Rattle.tds_packet.proofs.Words.{wire_add, ◌≡◌, ℕ, ◌+◌, ◌-◌, ◌/◌, ◌%◌, ◌≤◌, true, false, List, [], ◌∷◌, ◌++◌, length, take, drop, refl, sym, ◌∙◌, ap, inl, inr, append_assoc, append-nil, arith, length-append, ◌⊎◌, take-append-drop, length-take-le, take-append_seam, None, ◌==◌, slice_index, if◌then◌else◌, nat_tests, flat_map-append, AreBytes, Spelt, IsNext, Longest, Packet, packet_length, packet_bytes, wire_of, is_last, IsPacket, AreBefore, AreMessage, IsNextPacket, Front, WirePlace, BeforeHeader, BeforeBody, AfterLast, WirePart, no_wire, header_length, packet_of, with_packet, header_fault, wire}
-use Rattle.tds_packet.proofs.{ElementLaws.Spelt-step, ElementLaws.Spelt-append, ElementLaws.Spelt-none, ElementLaws.Spelt-induct, ElementLaws.AreBytes-front, ElementLaws.AreBytes-back, ElementLaws.one_state, Choices.choose, Choices.eq_true}
+use Rattle.tds_packet.proofs.{Words.{wire_add, ◌≡◌, ℕ, ◌+◌, ◌-◌, ◌/◌, ◌%◌, ◌≤◌, true, false, List, [], ◌∷◌, ◌++◌, length, take, drop, refl, sym, ◌∙◌, ap, inl, inr, append_assoc, append-nil, arith, length-append, ◌⊎◌, take-append-drop, length-take-le, take-append_seam, None, ◌==◌, slice_index, if◌then◌else◌, nat_tests, flat_map-append, AreBytes, Spelt, IsNext, Longest, Packet, packet_length, packet_bytes, wire_of, is_last, IsPacket, AreBefore, AreMessage, IsNextPacket, Front, WirePlace, BeforeHeader, BeforeBody, AfterLast, WirePart, no_wire, header_length, packet_of, with_packet, header_fault, wire}, ElementLaws.{Spelt-step, Spelt-append, Spelt-none, Spelt-induct, AreBytes-front, AreBytes-back, one_state}, Choices.{choose, eq_true}}
 
 pub one_more : (size : ℕ) (ps : List Packet) (p : Packet) → AreBefore size ps → IsPacket size p → is_last p ≡ false → AreBefore size (ps ++ p ∷ [])
 one_more size [] p h i l = (i, l, tt)
@@ -43,7 +42,7 @@ module _ (size limit : ℕ) where
 
   -- what is read of a wire are the packets that it begins with
   pub wire_is_spelt : (bytes : List ℕ) (w : WirePart) → AreBytes bytes → Spelt (wire size limit) no_wire bytes w → WireMeans size limit w.packets w.place bytes
-  wire_is_spelt bytes w are h = Spelt-induct _ (λ q b. AreBytes b → WireMeans size limit q.packets q.place b) (λ q b e k n t. wire_step _ q.place b e (AreBytes-back b e t) (k (AreBytes-front b e t)) n) no_wire (λ t. (refl, tt, omega arith)) bytes w h are
+  wire_is_spelt bytes w are h = Spelt-induct _ (λ q b. AreBytes b → WireMeans size limit q.packets q.place b) (λ q b e k n t. wire_step _ _ b e (AreBytes-back b e t) (k (AreBytes-front b e t)) n) no_wire (λ t. (refl, tt, omega arith)) bytes w h are
 
 -- the header of a packet
 abbrev pub header_of : Packet → List ℕ
@@ -82,7 +81,7 @@ module _ (size limit : ℕ) where
   -- packets before the last are read
   pub before_are_read : (done packets : List Packet) → AreBefore size packets → length (wire_of (done ++ packets)) ≤ limit → Spelt (wire size limit) (before_packet done) (wire_of packets) (before_packet (done ++ packets))
   before_are_read done [] h f = rw append-nil (Spelt-none _ _)
-  before_are_read done (p ∷ packets) h f = one_is_read done p packets _ (h.0, h.1) f (before_are_read (done ++ p ∷ []) packets h.2)
+  before_are_read done (p ∷ packets) h f = one_is_read _ p _ _ (h.0, h.1) f (before_are_read _ _ h.2)
 
   -- the packet that follows would be read too
   no_next : (input : List ℕ) (taken : ℕ) (packets : List Packet) (place : WirePlace) (header : List ℕ) → Longest (wire size limit) no_wire input taken (record { packets = packets; place = place }) → AreBefore size packets → take taken input ≡ wire_of packets ++ header
@@ -92,7 +91,7 @@ module _ (size limit : ℕ) where
       let front : take (length all) input ≡ all = rw f.spelt (take-append_seam all f.more) in
       let long = length-append (wire_of packets) (packet_bytes next) in
       let size_is : length (packet_bytes next) ≡ packet_length next = omega (arith, length-append next.id next.body) in
-      let read = Spelt-append _ _ _ _ _ _ (before_are_read [] packets before (omega arith)) (packet_is_read packets next f.rules (omega arith)) in
+      let read = Spelt-append _ _ _ _ _ _ (before_are_read _ _ before (omega arith)) (packet_is_read _ _ f.rules (omega arith)) in
       let within = l.longest (length all) (with_packet packets next) (omega (arith, ap length f.spelt, length-append all f.more)) (rw front read) in
       let counted = sym (length-take-le taken input l.within) ∙ ap length is ∙ length-append _ header in
       let one : length all ≡ taken → place ≡ (if is_last next then AfterLast else BeforeHeader) = λ same. ap (λ w. w.place) (one_state _ no_wire _ _ (with_packet packets next) l.spelt (rw (← same, front) read)) in

@@ -1,6 +1,5 @@
 -- A payload on its way into packets of one size.
-use Rattle.tds_packet.proofs.Words.{PayloadOf, ◌≡◌, ◌∙◌, inl, inr, ℕ, zero, suc, ◌+◌, ◌-◌, ◌*◌, ◌<◌, ◌≤◌, Bool, true, false, List, [], ◌∷◌, ◌++◌, length, drop, Option, None, refl, ap, arith, append-nil, length-append, length-drop, take_all, le_refl, add-one, div-mul-add, flat_map-append, Appends-nil, Appends-trans, Appends-kept, drop-append_seam, suc-mul, Result, Ok, Err, IsTrue, ◌^◌, Keeps, take-append-le, drop-append-le, one_more, Counted, Recut, RecutStop, MessageEnded, Stop, Written, coming_of, Packet, packet_bytes, wire_of, buffered, seen, Cuts, Flushes, Gains, StopsInput, StopsOutput, WritesPacket, Gathers, cut_packet, first_packets, before_last, packets_before, Ends, IsBetween, IsNotOver, IsOver, Seen, Takes}
-use Rattle.tds_packet.proofs.{PayloadLaws.ends_there, Futures.Ends-after, Futures.Takes-more, Futures.Takes-none, Futures.Takes-trans}
+use Rattle.tds_packet.proofs.{Words.{common_steps, PayloadOf, ◌≡◌, ◌∙◌, inl, inr, ℕ, zero, suc, ◌+◌, ◌-◌, ◌*◌, ◌<◌, ◌≤◌, Bool, true, false, List, [], ◌∷◌, ◌++◌, length, drop, Option, None, refl, ap, arith, append-nil, length-append, length-drop, take_all, le_refl, add-one, div-mul-add, flat_map-append, Appends-nil, Appends-trans, Appends-kept, drop-append_seam, suc-mul, Result, Ok, Err, IsTrue, ◌^◌, Keeps, take-append-le, drop-append-le, one_more, Counted, Recut, RecutStop, MessageEnded, Stop, Written, coming_of, Packet, packet_bytes, wire_of, buffered, seen, Cuts, Flushes, Gains, StopsInput, StopsOutput, WritesPacket, Gathers, cut_packet, first_packets, before_last, packets_before, Ends, IsBetween, IsNotOver, IsOver, Seen, Takes}, PayloadLaws.ends_there, Futures.{Ends-after, Takes-more, Takes-none, Takes-trans}}
 
 -- what was gathered, and bytes after it
 pub joined : (a b c : Seen) (hs bs : List ℕ) (n : ℕ) → n ≤ length bs + 1 → Takes a b hs (length hs + 1) → Takes b c bs n → Takes a c (hs ++ bs) (length (hs ++ bs) + 1)
@@ -28,7 +27,7 @@ module _ {R : Type 0} (remaining : R → Option (List ℕ)) (o s t : PayloadOf R
     -- the packet is full, or no byte is left
     pub gathered_ok : (last : Bool) → IsBetween (seen remaining t) → (IsTrue last → IsOver (seen remaining t)) → (last ≡ false → (length packet ≡ room) × (0 < length (buffered t)) × IsNotOver (seen remaining t))
         → Gathers remaining o t room packet (Ok last)
-    gathered_ok last between over full = record { header = x.header; fits = x.fits; gives = asked q; over = over; full = full; between = between; place = stays ∙ x.place; goes_on = tt }
+    gathered_ok last between over full = grind (arith, common_steps, asked)
 
     -- bytes that lay ready were taken
     pub gathered_more : (d : PayloadOf R) (piece : List ℕ) → Takes (seen remaining t) (seen remaining d) piece 0 → d.place ≡ t.place + length piece → length packet + length piece ≤ room → Gathering remaining o d room (packet ++ piece)
@@ -101,13 +100,13 @@ module _ {R W : Type 0} {remaining : R → Option (List ℕ)} {contents : W → 
     (x : Cutting remaining contents (room - 8) a s old mid done) (going : s.stopped ≡ None) (large : 8 < room) where
   next_parts : {r : Result Bool Stop} → Gathers remaining s t room packet r → let all = x.payload ++ drop 8 packet in
       (before_last (room - 8) (length all) ≡ done.packets) × (packets_before (room - 8) all ≡ first_packets (room - 8) done.packets x.payload) × (drop (done.packets * (room - 8)) all ≡ drop 8 packet)
-  next_parts {r = r} made = parts (room - 8) done.packets x.payload (drop 8 packet) x.whole (omega (arith, made.fits, length-drop 8 packet)) (omega (arith, large)) (λ h. some_ready remaining s t room packet r made going large (x.more h))
+  next_parts {r = r} made = parts _ _ _ _ x.whole (omega (arith, made.fits, length-drop 8 packet)) (omega (arith, large)) (λ h. some_ready _ s t _ _ r made going large (x.more h))
 
   next_takes : {last : Bool} → Gathers remaining s t room packet (Ok last) → Takes a (seen remaining t) (x.payload ++ drop 8 packet) (length (x.payload ++ drop 8 packet) + 1)
-  next_takes made = joined a (seen remaining s) (seen remaining t) x.payload (drop 8 packet) (length (drop 8 packet) + 1) (le_refl _) x.takes made.gives
+  next_takes made = joined a _ _ _ _ _ (le_refl _) x.takes made.gives
 
   next_full : {last : Bool} → Gathers remaining s t room packet (Ok last) → last ≡ false → length (x.payload ++ drop 8 packet) ≡ (done.packets + 1) * (room - 8)
-  next_full made e = rw (length-append, add-one, suc-mul) (omega (arith, x.whole, length-drop 8 packet, (made.full e).0))
+  next_full made e = grind (arith, common_steps, length-append, suc-mul)
 
   -- a full packet was written
   pub cut_more : {new : Counted W} {last : Bool} (more : Written) → last ≡ false → Gathers remaining s t room packet (Ok last)
@@ -152,7 +151,7 @@ module _ {R W : Type 0} {remaining : R → Option (List ℕ)} {contents : W → 
   cut_finished new sent all total (Err stop) test made et writes flushes =
       let bytes = packet_bytes (cut_packet done.packets true (drop 8 packet)) in
       let wrote = Appends-kept (contents mid.device) (contents sent.device) (contents new.device) bytes writes.0 flushes.0 in
-      inr (cut_broken true stop test made (bytes, [], append-nil bytes, wrote, rw writes.1 at flushes.1.0, rw (← writes.2) flushes.1.1))
+      inr (cut_broken _ _ test made (bytes, [], append-nil bytes, wrote, rw writes.1 at flushes.1.0, rw (← writes.2) flushes.1.1))
 
   -- the input stopped, and the writer was flushed
   pub cut_stopped : {new : Counted W} {stop : Stop} (flushed : Bool) → Gathers remaining s t room packet (Err stop) → Keeps (contents mid.device) (contents new.device)

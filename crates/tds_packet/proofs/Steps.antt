@@ -1,6 +1,5 @@
 -- Calls that read by a grammar, one after another.
-use Rattle.tds_packet.proofs.Words.{◌≡◌, ◌∙◌, inl, inr, ℕ, ◌+◌, ◌<◌, List, [], ◌++◌, length, ap, arith, append_assoc, append-nil, length-append, Option, Some, Fault, MessageEnded, Payload, Stop, Grammar, IsNext, Seen, Takes, Ends, IsBetween, began_at, Reads, RefusesNext, StopsReading, IsCutStop}
-use Rattle.tds_packet.proofs.{ElementLaws.Spelt-none, ElementLaws.Spelt-append, ElementLaws.Spelt-one, Futures.Takes-none, Futures.Takes-trans, Futures.Ends-after}
+use Rattle.tds_packet.proofs.{Words.{◌≡◌, ◌∙◌, inl, inr, ℕ, ◌+◌, ◌<◌, List, [], ◌++◌, length, ap, arith, append_assoc, append-nil, length-append, Option, Some, Fault, MessageEnded, Payload, Stop, Grammar, IsNext, Seen, Takes, Ends, IsBetween, began_at, Reads, RefusesNext, StopsReading, IsCutStop}, ElementLaws.{Spelt-none, Spelt-append, Spelt-one}, Futures.{Takes-none, Takes-trans, Ends-after}}
 
 -- bytes taken by two calls
 pub takes_both : (a b c : Seen) (xs ys : List ℕ) → Takes a b xs (length xs) → Takes b c ys (length ys) → Takes a c (xs ++ ys) (length (xs ++ ys))
@@ -27,7 +26,7 @@ module _ {S : Type 0} (g : Grammar S Fault) where
   reads_one s a b element t next takes to = record { bytes = element; spelt = rw to at (Spelt-one g s element next); takes = takes }
 
   abbrev pub reads_both : (s t u : S) (a b c : Seen) → Reads g s a b t → Reads g t b c u → Reads g s a c u
-  reads_both s t u a b c p q = record { bytes = p.bytes ++ q.bytes; spelt = Spelt-append g s p.bytes t q.bytes u p.spelt q.spelt; takes = takes_both a b c p.bytes q.bytes p.takes q.takes }
+  reads_both s t u a b c p q = record { bytes = p.bytes ++ q.bytes; spelt = Spelt-append g s p.bytes t q.bytes u p.spelt q.spelt; takes = takes_both a b c _ _ p.takes q.takes }
 
   -- what stops a call stops one that began before it
   pub stops_after : (s t : S) (a b c : Seen) (place : ℕ) (at : S) (stop : Stop) → (p : Reads g s a b t) → StopsReading g t b c (place + length p.bytes) at stop → StopsReading g s a c place at stop
@@ -39,7 +38,7 @@ module _ {S : Type 0} (g : Grammar S Fault) where
         cause = elim q.cause [
           | inl x ↦
               (let r = x.0 in
-              inl (record { element = r.element; ahead = r.ahead; some = r.some; whole = r.whole; first = r.first; takes = rw (append_assoc p.bytes q.bytes _) (takes_ahead a b c p.bytes _ r.ahead p.takes r.takes); between = r.between }, x.1 ∙ ap Payload placed))
+              inl (record { element = r.element; ahead = r.ahead; some = r.some; whole = r.whole; first = r.first; takes = rw (append_assoc p.bytes q.bytes _) (takes_ahead a b c _ _ _ p.takes r.takes); between = r.between }, x.1 ∙ ap Payload placed))
           | inr x ↦ inr (record { part = x.part; cut = x.cut; own = x.own; ends = rw append_assoc (Ends-after a b c p.bytes _ _ x.own p.takes x.ends); stop_is = rw placed at x.stop_is })
         ];
       }

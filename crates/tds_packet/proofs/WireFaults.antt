@@ -17,9 +17,7 @@ module _ (P : ℕ → Coming → Type 0) (ended : (place : ℕ) (rest : List ℕ
     (faulty : (wire place : ℕ) (fault : Fault) (rest : List ℕ) → IsOfWire fault × (fault ≡ MessageEnded → ⊥) → P place (stopped_at fault (Wire wire) rest))
     (more : (place : ℕ) (body : List ℕ) (c : Coming) → P (place + length body) c → P place (before body c)) where
   packet_keeps : (next : ℕ → ℕ → List ℕ → Coming) (wire place : ℕ) (p : FrontPacket) → ((rest : List ℕ) (fault : Fault) → p ≡ NoPacket fault rest → IsOfWire fault × (fault ≡ MessageEnded → ⊥)) → ((w q : ℕ) (l : List ℕ) → P q (next w q l)) → P place (after_packet next wire place p)
-  packet_keeps next wire place (WholePacket body true n rest) h k = more place body _ (ended (place + length body) rest)
-  packet_keeps next wire place (WholePacket body false n rest) h k = more place body _ (k _ (place + length body) rest)
-  packet_keeps next wire place (NoPacket fault rest) h k = faulty wire place fault rest (h rest fault refl)
+  packet_keeps next wire place p h k = grind (arith, common_steps)
 
   message_keeps : (size limit fuel wire place : ℕ) (input : List ℕ) → P place (message size limit fuel wire place input)
   unfolding message

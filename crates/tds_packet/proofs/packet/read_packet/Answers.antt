@@ -1,5 +1,4 @@
-use Rattle.tds_packet.proofs.Words.{sym, rules, arith, device, ReadsPacket}
-use Rattle.tds_packet.proofs.{Joins.fill_err, Joins.header_err, Joins.body_err, Joins.body_ok, Passing.passed_on}
+use Rattle.tds_packet.proofs.{Words.{sym, rules, arith, device, ReadsPacket}, Joins.{fill_err, header_err, body_err, body_ok}, Passing.passed_on}
 use Rattle.tds_packet.proofs.packet.read_packet.Goals as goal
 
 pub returns-in_err-fill-clause-read : goal.returns-in_err-fill-clause-read

@@ -1,5 +1,4 @@
-use Rattle.tds_packet.proofs.Words.{cut_packet, ◌+◌, packet_bytes, common_steps, ◌≡◌, ◌∙◌, inr, inl, ◌-◌, true, false, drop, length, sym, ap, rules, arith, length-drop, seen, Cuts}
-use Rattle.tds_packet.proofs.{Passing.passed_on, Recuts.cut_broken, Recuts.cut_finished, Recuts.cut_more, Recuts.cut_none, Recuts.cut_stopped}
+use Rattle.tds_packet.proofs.{Words.{cut_packet, ◌+◌, packet_bytes, common_steps, ◌≡◌, ◌∙◌, inr, inl, ◌-◌, true, false, drop, length, sym, ap, rules, arith, length-drop, seen, Cuts}, Passing.passed_on, Recuts.{cut_broken, cut_finished, cut_more, cut_none, cut_stopped}}
 use Rattle.tds_packet.proofs.recutting.cut.Goals as goal
 
 pub loop-to-init : goal.loop-to-init

@@ -1,5 +1,4 @@
-use Rattle.tds_packet.proofs.Words.{◌≡◌, ◌-◌, ◌*◌, ◌≤◌, IsGoing, IsOnSame, seen}
-use Rattle.tds_packet.proofs.Recuts.{Cutting}
+use Rattle.tds_packet.proofs.{Words.{◌≡◌, ◌-◌, ◌*◌, ◌≤◌, IsGoing, IsOnSame, seen}, Recuts.Cutting}
 use Rattle.tds_packet.proofs.recutting.cut.Given as goal
 
 abbrev pub invariant-loop-to : goal.invariant-loop-to

@@ -1,5 +1,4 @@
-use Rattle.tds_packet.proofs.Words.{◌≡◌, ◌∙◌, ◌+◌, ◌-◌, ◌++◌, false, true, length, take, min, rules, arith, length-take-le, common_steps, buffered, Gathers}
-use Rattle.tds_packet.proofs.{Passing.passed_on, Recuts.gathered_err, Recuts.gathered_more, Recuts.gathered_ok}
+use Rattle.tds_packet.proofs.{Words.{◌≡◌, ◌∙◌, ◌+◌, ◌-◌, ◌++◌, false, true, length, take, min, rules, arith, length-take-le, common_steps, buffered, Gathers}, Passing.passed_on, Recuts.{gathered_err, gathered_more, gathered_ok}}
 use Rattle.tds_packet.proofs.recutting.gather.Goals as goal
 
 pub returns-in_err-at_end-clause-body : goal.returns-in_err-at_end-clause-body

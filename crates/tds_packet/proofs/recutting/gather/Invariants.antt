@@ -1,5 +1,4 @@
-use Rattle.tds_packet.proofs.Words.{◌≡◌, ◌-◌, length, IsGoing, IsOnSame}
-use Rattle.tds_packet.proofs.Recuts.{Gathering}
+use Rattle.tds_packet.proofs.{Words.{◌≡◌, ◌-◌, length, IsGoing, IsOnSame}, Recuts.Gathering}
 use Rattle.tds_packet.proofs.recutting.gather.Given as goal
 
 abbrev pub invariant-loop-payload : goal.invariant-loop-payload

@@ -1,5 +1,4 @@
-use Rattle.std.proofs.Common.{◌+◌, refl, rules}
-use Rattle.tds_packet.proofs.Futures.{advance_ok, advance_err}
+use Rattle.{std.proofs.Common.{◌+◌, refl, rules}, tds_packet.proofs.Futures.{advance_ok, advance_err}}
 use Rattle.tds_packet.proofs.payload.Payload.advance.Goals as goal
 
 pub returns-in-Ok-clause-gives : goal.returns-in-Ok-clause-gives

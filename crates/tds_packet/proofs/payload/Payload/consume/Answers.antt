@@ -1,5 +1,4 @@
-use Rattle.tds_packet.proofs.Words.{refl, further}
-use Rattle.tds_packet.proofs.PayloadLaws.{between_of, pass_takes}
+use Rattle.tds_packet.proofs.{Words.{refl, further}, PayloadLaws.{between_of, pass_takes}}
 use Rattle.tds_packet.proofs.payload.Payload.consume.Goals as goal
 
 pub returns-clause-gives : goal.returns-clause-gives

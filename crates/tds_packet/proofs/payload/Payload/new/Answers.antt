@@ -1,5 +1,4 @@
-use Rattle.tds_packet.proofs.Words.{coming_of, false, None, refl, rules}
-use Rattle.tds_packet.proofs.PayloadLaws.{between_of}
+use Rattle.tds_packet.proofs.{Words.{coming_of, false, None, refl, rules}, PayloadLaws.between_of}
 use Rattle.tds_packet.proofs.payload.Payload.new.Goals as goal
 
 pub returns-clause-begun : goal.returns-clause-begun

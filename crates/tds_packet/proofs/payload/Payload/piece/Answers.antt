@@ -1,5 +1,4 @@
-use Rattle.tds_packet.proofs.Words.{◌≡◌, [], ◌+◌, ◌-◌, ◌≤◌, length, take, min, refl, arith, rules, length-take-le, length-drop, le_refl, seen, buffered, further}
-use Rattle.tds_packet.proofs.{Futures.Takes-trans, Futures.further_takes, PayloadLaws.between_of, PayloadLaws.not_again}
+use Rattle.tds_packet.proofs.{Words.{◌≡◌, [], ◌+◌, ◌-◌, ◌≤◌, length, take, min, refl, arith, rules, length-take-le, length-drop, le_refl, seen, buffered, further}, Futures.{Takes-trans, further_takes}, PayloadLaws.{between_of, not_again}}
 use Rattle.tds_packet.proofs.payload.Payload.piece.Goals as goal
 
 pub returns : goal.returns

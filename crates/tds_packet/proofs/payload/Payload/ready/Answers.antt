@@ -1,5 +1,4 @@
-use Rattle.tds_packet.proofs.Words.{◌≡◌, ◌∙◌, [], length, drop, ap, rules, arith, le_refl, drop_of_length-le, seen}
-use Rattle.tds_packet.proofs.{Futures.stopped_ends, Futures.ended_ends, Futures.Takes-trans, PayloadLaws.ends_there, Passing.passed}
+use Rattle.tds_packet.proofs.{Words.{◌≡◌, ◌∙◌, [], length, drop, ap, rules, arith, le_refl, drop_of_length-le, seen}, Futures.{stopped_ends, ended_ends, Takes-trans}, PayloadLaws.ends_there, Passing.passed}
 use Rattle.tds_packet.proofs.payload.Payload.ready.Goals as goal
 
 pub returns-in-Some-clause-gives : goal.returns-in-Some-clause-gives
