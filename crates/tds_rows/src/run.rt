@@ -55,7 +55,7 @@ fn run_along<'a>(
     ensures ends { result.used ≡ 0 → RunEnds table.now from.entry bytes.now (length to.old) }
     ensures gives { CellsWritten table.now from.entry bytes.now to.new result }
 {
-    let ends = from.column as usize + forms.len() == table.count() as usize;
+    let ends = table.ends_after(from, forms);
     let run = run_forms(forms, table.charset, from.column, ends, bytes, to);
     let mut ahead = from;
     table.step(&mut ahead, run.cells);
@@ -226,7 +226,7 @@ fn run_known<'a>(table: &Table<'a>, from: Ahead<'a>, bytes: &[u8], to: &mut [u8]
         let Some(forms) = (&*table).forms(ahead, end) else {
             break;
         };
-        let ends = ahead.column as usize + forms.len() == end as usize;
+        let ends = table.ends_after(ahead, forms);
         let (rest, room) = (&bytes[used..], &mut to[made..]);
         let run = run_forms(forms, table.charset, ahead.column, ends, rest, room);
         if run.cells == 0 {

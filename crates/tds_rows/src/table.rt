@@ -127,8 +127,8 @@ impl<'a> Table<'a> {
         self.known == self.count as usize
     }
 
-    /// What the next cells need, up to the column `end`, as far as the table knows it. `None` if it doesn't know
-    /// the next one, or that is none before `end`.
+    /// What the next cells need, as far as the table knows it, up to column `end` at most. `None` if the table doesn't
+    /// know the next one, or if that comes at `end` or later.
     #[inline(always)]
     pub(crate) fn forms(&self, at: Ahead<'a>, end: u16) -> Option<&[Form]>
         requires { end ≤ self.now.count }
@@ -158,6 +158,14 @@ impl<'a> Table<'a> {
         ensures { result ≡ (at.entry.column + 1 == self.now.count) }
     {
         at.column + 1 == self.count
+    }
+
+    /// Whether the row ends after the cells of the next forms.
+    #[inline(always)]
+    pub(crate) fn ends_after(&self, at: Ahead<'a>, forms: &[Form]) -> bool
+        ensures { result ≡ (at.entry.column + length forms.now == self.now.count) }
+    {
+        at.column as usize + forms.len() == self.count as usize
     }
 
     /// Steps over the next `cells` cells, which the table knows or which are at most one.
