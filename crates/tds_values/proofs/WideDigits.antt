@@ -1,5 +1,5 @@
 -- Forty digits of a number, and its text in them.
-use Rattle.{tds_values.{proofs.{Words.{◌≡◌, inl, inr, ℕ, zero, suc, ◌+◌, ◌-◌, ◌/◌, ◌%◌, ◌^◌, ◌<◌, ◌≤◌, List, [], ◌∷◌, ◌++◌, take, drop, length, get_or, refl, sym, ap, ◌∙◌, arith, false, append_assoc, cases_lt, ⊎_elim, decimal, nat_tests, div-eq_of_lt, le-div, div-le_self, div_below, drop-take, take-take, one-le-pow, pow-succ', pow-add, cond}, DigitLemmas.{decimal_last, last_digits-add, last_digits-mod}, TextLengths.length-last_digits}, specs.ScalarText.{last_digits, is_zero}}, std.{proofs.{Common.take_all, Math.Seq.drop-append-add, lemmas.List.take-append-le}, specs.List.prefix_len}}
+use Rattle.{tds_values.{proofs.{Words.{◌≡◌, inl, inr, ℕ, zero, suc, ◌+◌, ◌-◌, ◌/◌, ◌%◌, ◌^◌, ◌<◌, ◌≤◌, List, [], ◌∷◌, ◌++◌, take, drop, length, get_or, refl, sym, ap, ◌∙◌, arith, false, append_assoc, cases_lt, ⊎_elim, decimal, nat_tests, div-eq_of_lt, le-div, div_below, drop-take, take-take, one-le-pow, pow-add, cond}, DigitLemmas.{decimal_last, last_digits-add, last_digits-mod}, TextLengths.length-last_digits}, specs.ScalarText.{last_digits, is_zero}}, std.{proofs.{Common.take_all, Math.Seq.drop-append-add, lemmas.List.take-append-le}, specs.List.prefix_len}}
 
 -- eight more digits after some
 eight_more : (k n : ℕ) {m g : ℕ} (t : List ℕ) {x y : List ℕ} → m ≡ n / 10 ^ 8 → g ≡ n % 10 ^ 8 → x ≡ t ++ last_digits k m → y ≡ x ++ last_digits 8 g → y ≡ t ++ last_digits (k + 8) n
