@@ -56,11 +56,11 @@ module _ (room : ℕ) where
   column_is_read : (b : List ℕ) (count : ℕ) (cols : List Column) (c : Column) (bytes : List ℕ) → (length b + length bytes) + 8 * (count - (length cols + 1)) ≤ room → SpellsColumn c bytes → Spelt (description room) (InColumn b count cols ColumnHead) bytes (with_column (b ++ bytes) count cols c)
   column_is_read b count cols c bytes fits h =
       let type = byte_and_rest c.kind h.info h.kind in
-      let head : List ℕ = h.ignored ++ type.byte ∷ [] in
+      let head = h.ignored ++ type.byte ∷ [] in
       let li : length h.info ≡ 1 + length type.rest = omega (arith, ap length type.spelt) in
       let l = length-SpellsColumn c bytes h in
       let l2 : length ((b ++ head) ++ type.rest) ≡ length b + (7 + length type.rest) = simp length-append (omega (arith, h.six)) in
-      let one = head_is_read b count cols h.ignored type.byte (length type.rest) h.six type.whole (omega (arith, l, li, fits)) in
+      let one = head_is_read b count cols h.ignored type.byte _ h.six type.whole (omega (arith, l, li, fits)) in
       let two = info_is_read (b ++ head) count cols type.byte type.rest c.kind type.whole type.allowed in
       let three = units_are_read ((b ++ head) ++ type.rest) count cols c.kind h.units (omega (arith, l, li, l2, h.counted, fits)) in
       let four = name_is_read (((b ++ head) ++ type.rest) ++ h.units ∷ []) count cols c.kind h.units c.name h.counted in
@@ -81,8 +81,8 @@ module _ (room : ℕ) where
   -- What spells a description is read as it.
   pub description_is_read : (cs : List Column) (bytes : List ℕ) → SpellsDescription room cs bytes → Spelt (description room) BeforeCount bytes (WholeDescription bytes cs)
   description_is_read cs bytes h =
-      let n : ℕ = length cs in
-      let count : List ℕ = n % 256 ∷ n / 256 ∷ [] in
+      let n = length cs in
+      let count = n % 256 ∷ n / 256 ∷ [] in
       let two : little count ≡ n = omega arith in
       let la : length bytes ≡ 2 + length h.rest = rw h.spelt (omega arith) in
       let free = count_free room n count h.some h.most (omega (arith, la, h.within, least-SpellsColumns cs h.rest h.each)) in

@@ -16,8 +16,8 @@ Front c size bytes = (column_size bytes ≡ size) × (column_at bytes ≡ c) × 
 
 laid : (c : Column) (front ignored info rest more : List ℕ) (byte units : ℕ) → front ≡ (ignored ++ info) ++ units ∷ c.name → info ≡ byte ∷ rest → length ignored ≡ 6 → rest_length byte ≡ Some (length rest) → kind_of (byte ∷ rest) ≡ Some c.kind → length c.name ≡ 2 * units → Front c (length front) (front ++ more)
 laid c front ignored info rest more byte units spelt split six known kind counted =
-    let tail : List ℕ = c.name ++ more in
-    let bytes : List ℕ = ignored ++ byte ∷ (rest ++ units ∷ tail) in
+    let tail = c.name ++ more in
+    let bytes = ignored ++ byte ∷ (rest ++ units ∷ tail) in
     let head : length (ignored ++ byte ∷ rest) ≡ 7 + length rest = omega (arith, length-append ignored (byte ∷ rest), six) in
     let at6 = item ignored (rest ++ units ∷ tail) byte 6 (sym six) in
     let info_is : take (1 + length rest) (drop 6 bytes) ≡ byte ∷ rest = rw (parted ignored (byte ∷ (rest ++ units ∷ tail)) 6 (sym six)).0 (parted (byte ∷ rest) (units ∷ tail) (1 + length rest) (omega arith)).1 in

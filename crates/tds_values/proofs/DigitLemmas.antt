@@ -45,7 +45,7 @@ decimal_last zero n low fits small = grind (arith, decimal_digit)
 decimal_last (suc k) n (inl none) fits small = absurd (omega arith)
 decimal_last (suc k) n (inr low) fits small =
     let l = large k n low in
-    rw (decimal_step_wide n l.0 small, decimal_last k (n / 10) (inr l.1) (omega (arith, pow-succ' 10 (suc k))) (omega arith))
+    rw (decimal_step_wide n l.0 small, decimal_last k (n / 10) (inr l.1) (omega arith) (omega arith))
 
 -- eight digits after the text of the rest
 pub decimal_eight : (n : ℕ) → 100000000 ≤ n → n < 10 ^ 64 → decimal n ≡ decimal (n / 100000000) ++ last_digits 8 (n % 100000000)

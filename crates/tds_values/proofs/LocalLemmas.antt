@@ -38,6 +38,6 @@ day_parts p l f small =
 pub text_of_seconds : (scale l units : ℕ)
     → local_text scale (l * 10 ^ scale + units % 10 ^ scale) ≡ date_and_time (l / 86400) (seconds_text (l % 86400) ++ fraction_text scale units)
 text_of_seconds scale l units =
-    let small : units % 10 ^ scale < 10 ^ scale = mod_below units (10 ^ scale) (one-le-pow scale 10 (omega arith)) in
+    let small = mod_below units (10 ^ scale) (one-le-pow scale 10 (omega arith)) in
     let p = day_parts (10 ^ scale) l (units % 10 ^ scale) small in
     rw (p.0, p.1, div-mul-add (l % 86400) (10 ^ scale) (units % 10 ^ scale) small, fraction-above scale (l % 86400) (units % 10 ^ scale), last_digits-mod scale units)

@@ -16,5 +16,5 @@ length-integer : (n : ℤ) → unsigned_abs n < 2 ^ 64 → length (signed_decima
 length-integer n h = grind (arith, (length-decimal-le 20))
 
 pub length-text_of : (value : ScalarValue) → IsTrue (is_in_range value) → FitsWidths value → length (text_of value) ≤ 41
-length-text_of (values.Money amount) h fits = grind (arith, (length-whole (unsigned_abs amount) 4), length-append, length-last_digits)
+length-text_of (values.Money amount) h fits = grind (arith, (length-whole (unsigned_abs amount) 4), length-append)
 length-text_of value h fits = grind (arith, nat_tests, length-integer, length-whole, by_index_length, length-append, length-last_digits)

@@ -1,5 +1,5 @@
 -- Forty digits of a number, and its text in them.
-use Rattle.{tds_values.{proofs.{Words.{◌≡◌, inl, inr, ℕ, zero, suc, ◌+◌, ◌-◌, ◌/◌, ◌%◌, ◌^◌, ◌<◌, ◌≤◌, List, [], ◌∷◌, ◌++◌, take, drop, length, get_or, refl, sym, ap, ◌∙◌, arith, false, append_assoc, cases_lt, ⊎_elim, decimal, nat_tests, div-eq_of_lt, le-div, div-le_self, div_below, drop-take, take-take, one-le-pow, pow-succ', pow-add, cond}, DigitLemmas.{decimal_last, last_digits-add, last_digits-mod}, TextLengths.length-last_digits}, specs.ScalarText.{last_digits, is_zero}}, std.{proofs.{Common.take_all, Math.Seq.drop-append-add, lemmas.List.take-append-le}, specs.List.prefix_len}}
+use Rattle.{tds_values.{proofs.{Words.{◌≡◌, inl, inr, ℕ, zero, suc, ◌+◌, ◌-◌, ◌/◌, ◌%◌, ◌^◌, ◌<◌, ◌≤◌, List, [], ◌∷◌, ◌++◌, take, drop, length, get_or, refl, sym, ap, ◌∙◌, arith, false, append_assoc, cases_lt, ⊎_elim, decimal, nat_tests, div-eq_of_lt, le-div, div_below, drop-take, take-take, one-le-pow, pow-add, cond}, DigitLemmas.{decimal_last, last_digits-add, last_digits-mod}, TextLengths.length-last_digits}, specs.ScalarText.{last_digits, is_zero}}, std.{proofs.{Common.take_all, Math.Seq.drop-append-add, lemmas.List.take-append-le}, specs.List.prefix_len}}
 
 -- eight more digits after some
 eight_more : (k n : ℕ) {m g : ℕ} (t : List ℕ) {x y : List ℕ} → m ≡ n / 10 ^ 8 → g ≡ n % 10 ^ 8 → x ≡ t ++ last_digits k m → y ≡ x ++ last_digits 8 g → y ≡ t ++ last_digits (k + 8) n
@@ -29,7 +29,7 @@ after_zeros (suc k) n small fits =
     rw (one_more (suc k) n, none) (ap (λ j. drop j (48 ∷ last_digits (suc k) n)) e ∙ after_zeros k n less fits))
     (λ more. let positive : 1 ≤ 10 ^ suc k = one-le-pow (suc k) 10 (omega arith) in
     let some : 1 ≤ n / 10 ^ suc k = le-div 1 n (10 ^ suc k) positive (omega arith) in
-    let few : n / 10 ^ suc k < 10 = div_below n (10 ^ suc k) 10 positive (omega (arith, small, pow-succ' 10 (suc k))) in
+    let few : n / 10 ^ suc k < 10 = div_below n (10 ^ suc k) 10 positive (omega arith) in
     let digit : is_zero (48 + n / 10 ^ suc k % 10) ≡ false = grind (arith, nat_tests) in
     let text = sym (decimal_last (suc k) n (inr more) small fits) in
     ap (λ d. drop (prefix_len is_zero (take (suc k) d)) (last_digits (suc (suc k)) n)) (one_more (suc k) n)
@@ -43,7 +43,7 @@ split n scale k e = rw e at (last_digits-add (suc k) scale n)
 whole_fits : (n scale k : ℕ) → n < 2 ^ 128 → suc k + scale ≡ 40 → (n / 10 ^ scale < 10 ^ suc k) × (n / 10 ^ scale < 10 ^ 64)
 whole_fits n scale k fits e =
     let power = rw e at (pow-add 10 (suc k) scale) in
-    (div_below n (10 ^ scale) (10 ^ suc k) (one-le-pow scale 10 (omega arith)) (omega arith), omega (arith, div-le_self n (10 ^ scale)))
+    (div_below n _ (10 ^ suc k) (one-le-pow scale 10 (omega arith)) (omega arith), omega arith)
 
 -- the text before the point
 pub whole_part : (n scale : ℕ) {ds : List ℕ} {first : ℕ} → n < 2 ^ 128 → scale ≤ 38 → ds ≡ last_digits 40 n → first ≤ 40 - scale - 1 → first ≡ prefix_len is_zero (take (40 - scale - 1) ds) → take (40 - scale - first) (drop first ds) ≡ decimal (n / 10 ^ scale)

@@ -13,7 +13,7 @@ bytes_of (suc k) n = n % 256 ∷ bytes_of k (n / 256)
 
 digits_are_bytes : (k n : ℕ) → All (λ b. b < 256) (last_digits k n)
 digits_are_bytes zero n = All-nil (λ b. b < 256)
-digits_are_bytes (suc k) n = All-push (λ b. b < 256) (last_digits k (n / 10)) (48 + n % 10) (digits_are_bytes k (n / 10)) (omega arith)
+digits_are_bytes (suc k) n = All-push (λ b. b < 256) _ (48 + n % 10) (digits_are_bytes k (n / 10)) (omega arith)
 
 -- the low bytes of a number give back what it was made of
 bytes_of-word_of : (xs : List ℕ) → All (λ b. b < 256) xs → bytes_of (length xs) (word_of xs) ≡ xs
@@ -26,7 +26,7 @@ word_of-shift [] ys h = omega arith
 word_of-shift (x ∷ xs) ys h =
     let b : x < 256 = All-head (λ b. b < 256) x xs h in
     let high : (x + 256 * word_of (xs ++ ys)) / 256 ≡ word_of (xs ++ ys) = omega arith in
-    rw (pow-succ' 256 (length xs), ← div-div-eq-div-mul (x + 256 * word_of (xs ++ ys)) 256 (256 ^ length xs), high) (word_of-shift xs ys (All-tail (λ b. b < 256) x xs h))
+    rw (pow-succ' 256 (length xs), ← div-div-eq-div-mul _ 256 (256 ^ length xs), high) (word_of-shift xs ys (All-tail (λ b. b < 256) x xs h))
 
 shifted : (xs ys : List ℕ) → All (λ b. b < 256) xs → All (λ b. b < 256) ys → bytes_of (length ys) (word_of (xs ++ ys) / 256 ^ length xs) ≡ ys
 shifted xs ys h g = rw (word_of-shift xs ys h) (bytes_of-word_of ys g)

@@ -20,7 +20,7 @@ word_values (suc k) n =
 
 step : (bit t a : ℕ) → (bit ≡ 0 → t < a) → under bit t < suc a
 step zero t a h = let g = h refl in omega arith
-step (suc bit) t a h = omega arith
+step _ t a h = omega arith
 
 -- below a set digit none counts
 low_bit : (a r d m : ℕ) → 0 < d → d < 2 ^ a → count_trailing_zeros (a + r) (d + 2 ^ a * m) < a
@@ -69,5 +69,5 @@ needless (suc k) n h =
 pub zeros_of : (n w : ℕ) → n < 100000000 → w ≡ word_of (last_digits 8 n)
     → let t = count_trailing_zeros 64 (w - 2319406791620833328) / 8 in (t ≤ 7) × ((n < 10 ^ (8 - t)) × ((t ≡ 7) ⊎ (10 ^ (7 - t) ≤ n)))
 zeros_of n w h e =
-    let values : w - 2319406791620833328 ≡ values_of 7 n = omega (arith, e, word_values 7 n) in
+    let values : w - 2319406791620833328 ≡ values_of 7 n = omega arith in
     rw values (needless 7 n h)

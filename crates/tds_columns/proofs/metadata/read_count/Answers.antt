@@ -1,4 +1,4 @@
-use Rattle.tds_columns.proofs.{Words.{sym, little_number, Space, ◌≡◌, ◌∙◌, refl, ap, arith, rules, length, Some, None, ne_eqb, count_fault, choose_false, passed}, ColumnMeaning.{not_zero, room_for}, ElementSteps.length_into, GatherSteps.{count_read, count_refused, description_cut}, GatherMeaning.gathers_none}
+use Rattle.tds_columns.proofs.{Words.{sym, little_number, ◌≡◌, ◌∙◌, refl, ap, arith, rules, length, Some, None, ne_eqb, count_fault, choose_false, passed}, ColumnMeaning.{not_zero, room_for}, ElementSteps.length_into, GatherSteps.{count_read, count_refused, description_cut}, GatherMeaning.gathers_none}
 use Rattle.tds_columns.proofs.metadata.read_count.Goals as goal
 
 pub returns-in_err-take_into-clause-gives : goal.returns-in_err-take_into-clause-gives
@@ -8,7 +8,7 @@ pub returns-then-count-clause-gives : goal.returns-then-count-clause-gives
 returns-then-count-clause-gives g c =
     let t = c.in_ok-take_into.ensures.gives in
     let all : little_number 2 c.take_into.new.area.bytes ≡ 0xFFFF = search rules in
-    (count_read t c.requires.empty (sym all) refl refl c.in_ok-take_into.ensures.place (ap (λ (s : Space). s.peak) c.clear.ensures.value) (ap (λ (s : Space). s.bytes) c.clear.ensures.value), gathers_none c.requires.empty t (search rules) all)
+    (count_read t c.requires.empty (sym all) refl refl c.in_ok-take_into.ensures.place (rw c.clear.ensures.value) (rw c.clear.ensures.value), gathers_none c.requires.empty t (search rules) all)
 
 pub returns-in-None-clause-gives : goal.returns-in-None-clause-gives
 returns-in-None-clause-gives g c =
