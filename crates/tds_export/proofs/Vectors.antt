@@ -1,8 +1,8 @@
 -- Worked payloads.
 use Rattle.tds_export.proofs.Words.{BadNotice, BadText, BadTypeInfo, BadValue, BadValueLength, Charset, DescriptionTooLong, EndWithoutDone, Fault, Flt8, FltN, List, MessageEnded, NoColumns, None, OddText, Option, Part, PlpLength, RefusedColumn, RefusedToken, RowWithoutColumns, Some, UnknownType, Utf8, Windows1252, [], chars, date_of, digits, encode_utf8, encode_with, fault_of, how_many, is_return, is_utf8, length, map, named_kind, read, refl, refused_kind, replicate, response, response_start, rest_length, rest_of, rows, state_of, text_so_far, utf16_chars, utf8_error_len, utf8_valid_len, uuid_on_literals, ℕ, ◌++◌, ◌-◌, ◌∷◌, ◌≡◌}
 use Rattle.tds_packet.proofs.Feeding.{Progress}
-use Rattle.std.specs.Prelude.{codes, nat_lt, ◌*◌, if◌then◌else◌}
-use Prim.Native.String.{String}
+use Rattle.std.specs.Prelude.{codes}
+use Rattle.tds_values.proofs.HexTexts.{hex}
 
 -- how far a payload is read, its text so far, and its fault where the message ends there
 abbrev pub Answer : Type 0
@@ -22,19 +22,6 @@ HaveAnswers charset room rows = map (λ row. answer charset room row.0) rows ≡
 abbrev pub beginnings : List ℕ → List (List ℕ)
 beginnings [] = [] ∷ []
 beginnings (x ∷ xs) = [] ∷ map (λ front. x ∷ front) (beginnings xs)
-
--- bytes, each by two hexadecimal digits, with a space between two of them
-abbrev digit : ℕ → ℕ
-digit code = if nat_lt code 58 then code - 48 else code - 55
-
-abbrev bytes_of : List ℕ → List ℕ
-bytes_of [] = []
-bytes_of (high ∷ []) = []
-bytes_of (high ∷ low ∷ []) = 16 * digit high + digit low ∷ []
-bytes_of (high ∷ low ∷ space ∷ text) = 16 * digit high + digit low ∷ bytes_of text
-
-abbrev pub hex : String → List ℕ
-hex text = bytes_of (codes text)
 
 -- responses
 whole_responses : HaveAnswers Windows1252 1048576 (

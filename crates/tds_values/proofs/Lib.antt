@@ -1,6 +1,7 @@
 pub mod CalendarLemmas
 pub mod DigitLemmas
 pub mod LaneLemmas
+pub mod HexTexts
 pub mod JiffDates
 pub mod Joining
 pub mod LocalLemmas
